@@ -1,0 +1,208 @@
+ghost use Rattle.std.specs.Prelude.{◌≡◌, ◌+◌, ◌<◌, ◌≤◌, ℕ, [], ◌∷◌, ◌++◌, length, OnOk, OnErr, IfSome, IfNone, IsOkUnless, Some, None, option_map, slice_get, string_bytes, IsTrue, ◌↔◌, vec_len, vec_capacity, is_some};
+ghost use Rattle.std.specs.Prelude.{take, drop};
+ghost use Rattle.std.specs.List.{list_all};
+ghost use Rattle.fx_base.specs.Catalogue.{name_byte, bytes_at, name_at, size_at, FileEntry};
+ghost use Rattle.fx_base.specs.AddFault.{fault_of, has_name};
+ghost use Rattle.fx_base.specs.declared.catalogue.AddFault.TheVariants.{NoMemory};
+
+use crate::mark::Mark;
+use crate::open_file::OpenFile;
+use std::alloc::{AllocFailed, Global};
+use std::marker::Model;
+
+/// How many entries a catalogue may have.
+const MOST_ENTRIES: usize = 256;
+
+/// How many bytes a name may have.
+const LONGEST_NAME: usize = 32;
+
+/// How many bytes an entry may have.
+const LONGEST_ENTRY: usize = 4096;
+
+/// Why a file was not added, in the order in which the faults are looked for (this project's own).
+#[derive(Clone, Copy, Debug, PartialEq, Eq)]
+pub enum AddFault {
+    /// The catalogue has 256 entries.
+    TooMany,
+    /// The name has no bytes.
+    EmptyName,
+    /// The name has a byte that is no ASCII letter, digit, `.`, `_` or `-`, or more than 32 bytes.
+    BadName,
+    /// An entry has this name already.
+    SameName,
+    /// There are more than 4,096 bytes.
+    TooLong,
+    /// The memory for one more entry was refused.
+    NoMemory,
+}
+
+impl<T: Drop> From<AllocFailed<T>> for AddFault {
+    ghost from_gives = { λ _ e. e ≡ NoMemory };
+
+    fn from(_refused: AllocFailed<T>) -> AddFault {
+        AddFault::NoMemory
+    }
+}
+
+// A file that can be opened.
+#[derive(Debug, Drop)]
+struct Entry {
+    name: String,
+    bytes: Vec<u8>,
+}
+
+/// The files that can be opened: at most 256 entries, each a name of its own and at most 4,096 bytes. An entry keeps
+/// its place, from 0, and its bytes never change (this project's own; a kernel has a file system here).
+#[derive(Debug, Drop)]
+pub struct Catalogue {
+    entries: Vec<Entry>,
+}
+
+impl Model for Catalogue {
+    ghost use Rattle.std.specs.Prelude.{List};
+    ghost use Rattle.fx_base.specs.Catalogue.{FileEntry, IsCatalogue};
+
+    ghost Value = { List FileEntry };
+
+    ghost use Rattle.fx_base.specs.CatalogueView.{entries_of};
+
+    ghost view = { λ catalogue. entries_of catalogue.entries.items };
+
+    ghost invariant = { λ catalogue. IsCatalogue (entries_of catalogue.entries.items) };
+}
+
+fn is_name_byte(b: u8) -> bool
+    ensures { result ≡ name_byte b }
+{
+    matches!(b, b'a'..=b'z' | b'A'..=b'Z' | b'0'..=b'9' | b'.' | b'_' | b'-')
+}
+
+fn is_name_text(bytes: &[u8]) -> bool
+    ensures { result ≡ list_all name_byte bytes.now }
+{
+    bytes.iter().all(|b| is_name_byte(*b))
+}
+
+impl Catalogue {
+    /// A catalogue without entries. It takes no memory.
+    pub fn new(alloc: Global) -> Catalogue
+        ensures { result ≡ [] }
+    {
+        Catalogue {
+            entries: Vec::new(alloc),
+        }
+    }
+
+    /// How many entries there are, at most 256.
+    pub fn len(&self) -> u32
+        ensures value { result ≡ length self.now }
+        ensures few { result ≤ 256 }
+    {
+        self.entries.len() as u32
+    }
+
+    /// Whether there are no entries.
+    pub fn is_empty(&self) -> bool
+        ensures { IsTrue result ↔ (self.now ≡ []) }
+    {
+        self.entries.is_empty()
+    }
+
+    /// The entry with this name, from 0, or `None` where no entry has it. It looks at each entry in turn.
+    pub fn find(&self, name: &str) -> Option<u8>
+        ensures found { IfSome result (λ entry. name_at self.now entry ≡ Some name.now) }
+        ensures inside { IfSome result (λ entry. entry < length self.now) }
+        ensures variant { is_some result ≡ has_name name.now self.now }
+    {
+        for (i, e) in self.entries.iter().enumerate() {
+            if e.name.as_str() == name {
+                return Some(i as u8);
+            }
+        }
+        None
+    }
+
+    /// The name of an entry.
+    pub fn name_of(&self, entry: u8) -> &str
+        requires { entry < length self.now }
+        ensures { name_at self.now entry ≡ Some result.now }
+    {
+        self.entries[entry as usize].name.as_str()
+    }
+
+    /// How many bytes an entry has, at most 4,096.
+    pub fn size_of(&self, entry: u8) -> u32
+        requires { entry < length self.now }
+        ensures value { size_at self.now entry ≡ Some result }
+        ensures small { result ≤ 4096 }
+    {
+        self.entries[entry as usize].bytes.len() as u32
+    }
+
+    /// Opens an entry: a new open file, with this mark (openat(2), read only).
+    pub fn open(&self, entry: u8, mark: Mark) -> OpenFile
+        requires { entry < length self.now }
+        ensures entry { result.entry ≡ entry }
+        ensures mark { result.mark ≡ mark }
+    {
+        OpenFile::new(mark, entry)
+    }
+
+    /// Appends the bytes of an entry from place `off` on, `len` of them or as many as there are, and gives their
+    /// number (read(2)). Past the last entry there are none. The caller has reserved room for `len` more bytes, so it
+    /// takes no memory.
+    pub fn read_into(&self, entry: u8, off: u32, len: u32, into: &mut Vec<u8>) -> u32
+        requires { vec_len into.old + len ≤ vec_capacity into.old }
+        ensures bytes { into.new.items ≡ into.old.items ++ bytes_at self.now entry off len }
+        ensures count { result ≡ length (bytes_at self.now entry off len) }
+        ensures bound { result ≤ len }
+    {
+        let Some(e) = self.entries.get(entry as usize) else {
+            return 0;
+        };
+        let part = part(e.bytes.as_slice(), off as usize, len as usize);
+        into.extend_from_slice(part).unwrap();
+        part.len() as u32
+    }
+
+    /// Adds an entry at the end.
+    ///
+    /// # Errors
+    /// The first fault that applies, in the order of [`AddFault`]. The catalogue is then as before, and the name and
+    /// the bytes are given up.
+    pub fn add(&mut self, name: String, bytes: Vec<u8>) -> Result<(), AddFault>
+        ensures fault { IfSome (fault_of self.old (string_bytes name) bytes.items) (λ fault. result ≡ Err fault) }
+        ensures only_fault { IfNone (fault_of self.old (string_bytes name) bytes.items) (IsOkUnless result AddFault.NoMemory) }
+        ensures ok { OnOk result (self.new ≡ self.old ++ record { name = string_bytes name; bytes = bytes.items } ∷ []) }
+        ensures err { OnErr result (self.new ≡ self.old) }
+    {
+        if self.entries.len() >= MOST_ENTRIES {
+            return Err(AddFault::TooMany);
+        }
+        if name.is_empty() {
+            return Err(AddFault::EmptyName);
+        }
+        if !is_name_text(name.as_bytes()) || name.len() > LONGEST_NAME {
+            return Err(AddFault::BadName);
+        }
+        if self.find(name.as_str()).is_some() {
+            return Err(AddFault::SameName);
+        }
+        if bytes.len() > LONGEST_ENTRY {
+            return Err(AddFault::TooLong);
+        }
+        self.entries.push(Entry { name, bytes })?;
+        Ok(())
+    }
+}
+
+// The part of the bytes from a place on, of at most so many.
+fn part(bytes: &[u8], off: usize, len: usize) -> &[u8]
+    ensures { result.now ≡ take len (drop off bytes.now) }
+{
+    if off >= bytes.len() {
+        return &bytes[..0];
+    }
+    let rest = &bytes[off..];
+    if len < rest.len() { &rest[..len] } else { rest }
+}

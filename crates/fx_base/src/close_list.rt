@@ -1,0 +1,71 @@
+ghost use Rattle.std.specs.Prelude.{◌≡◌, ◌+◌, ◌-◌, ◌<◌, [], ◌∷◌, ◌++◌, IfOk, IsPermutation};
+ghost use Rattle.fx_base.specs.CloseList.{IsInOrderOfMark};
+
+use crate::no_memory::NoMemory;
+use crate::open_file::{Closed, OpenFile};
+use std::alloc::Global;
+use std::marker::Model;
+
+/// The files that were closed, in order, with room that was made earlier for more. Contracts see `files` and `room`.
+#[derive(Debug, Drop)]
+pub struct CloseList {
+    files: Vec<Closed>,
+    room: u32,
+}
+
+impl Model for CloseList {
+    ghost use Rattle.std.specs.Prelude.{◌+◌, ◌≤◌, vec_len, vec_capacity};
+    ghost use Rattle.fx_base.specs.Closes.{Closes};
+
+    ghost Value = { Closes };
+
+    ghost view = { λ list. record { files = list.files.items; room = list.room } };
+
+    ghost invariant = { λ list. vec_len list.files + list.room ≤ vec_capacity list.files };
+}
+
+impl CloseList {
+    /// An empty list with room for `n` files. It takes the memory of all of them now.
+    ///
+    /// # Errors
+    /// `NoMemory` where that memory is refused.
+    pub fn with_room(alloc: Global, n: u32) -> Result<CloseList, NoMemory>
+        ensures { IfOk result (λ list. list ≡ record { files = []; room = n }) }
+    {
+        let files = Vec::with_capacity(alloc, n as usize)?;
+        Ok(CloseList { files, room: n })
+    }
+
+    /// For how many more files there is room.
+    pub fn room(&self) -> u32
+        ensures { result ≡ self.now.room }
+    {
+        self.room
+    }
+
+    /// The files, in the order of the list.
+    pub fn files(&self) -> &[Closed]
+        ensures { result.now ≡ self.now.files }
+    {
+        self.files.as_slice()
+    }
+
+    /// Closes a file: it goes to the end of the list and takes one of the room. It takes no memory.
+    pub fn close(&mut self, file: OpenFile)
+        requires { 0 < self.old.room }
+        ensures files { self.new.files ≡ self.old.files ++ file ∷ [] }
+        ensures room { self.new.room + 1 ≡ self.old.room }
+    {
+        self.files.push(file.close()).unwrap();
+        self.room -= 1;
+    }
+
+    /// Orders the files by mark, in place. It takes no memory, and the room stays.
+    pub fn sort(&mut self)
+        ensures same_files { IsPermutation self.old.files self.new.files }
+        ensures in_order { IsInOrderOfMark self.new.files }
+        ensures room { self.new.room ≡ self.old.room }
+    {
+        self.files.sort_unstable_by_key(|file| file.mark);
+    }
+}

@@ -1,0 +1,17 @@
+//! What every crate of the file table speaks of: error numbers, marks of open files, open files, the catalogue of
+//! files that can be opened, and lists of closes.
+#![tactic(auto)]
+
+mod catalogue;
+mod close_list;
+mod errno;
+mod mark;
+mod no_memory;
+mod open_file;
+
+pub use catalogue::{AddFault, Catalogue};
+pub use close_list::CloseList;
+pub use errno::Errno;
+pub use mark::Mark;
+pub use no_memory::NoMemory;
+pub use open_file::{Closed, OpenFile};

@@ -1,0 +1,64 @@
+ghost use Rattle.std.specs.Prelude.{◌≡◌};
+
+use crate::mark::Mark;
+use std::marker::Model;
+
+/// What a list of closes says of a file: which installation it was, and the catalogue entry that it was opened from.
+#[derive(Clone, Copy, Debug, PartialEq, Eq)]
+pub struct Closed {
+    /// The installation.
+    pub mark: Mark,
+    /// The catalogue entry, from 0.
+    pub entry: u8,
+}
+
+/// An open file. It is no `Drop`: a program that lets one go without closing or discarding it is not accepted.
+/// Contracts see it as what its close will say (this project's own; a kernel has a `struct file` here).
+pub struct OpenFile {
+    mark: Mark,
+    entry: u8,
+}
+
+impl Model for OpenFile {
+    ghost use Rattle.fx_base.specs.declared.open_file.Closed.{Closed};
+
+    ghost Value = { Closed };
+
+    ghost view = { λ file. record { mark = file.mark; entry = file.entry } };
+}
+
+impl OpenFile {
+    pub(crate) fn new(mark: Mark, entry: u8) -> OpenFile
+        ensures mark { result.mark ≡ mark }
+        ensures entry { result.entry ≡ entry }
+    {
+        OpenFile { mark, entry }
+    }
+
+    /// Which installation the file is of.
+    pub fn mark(&self) -> Mark
+        ensures { result ≡ self.now.mark }
+    {
+        self.mark
+    }
+
+    /// The catalogue entry that the file was opened from, from 0.
+    pub fn entry(&self) -> u8
+        ensures { result ≡ self.now.entry }
+    {
+        self.entry
+    }
+
+    /// Spends a file that no list shall name: an open that was refused, or a file of an abandoned table.
+    pub fn discard(self) {
+        let OpenFile { mark: _, entry: _ } = self;
+    }
+
+    // Spends a file, for a list that names it.
+    pub(crate) fn close(self) -> Closed
+        ensures { result ≡ self }
+    {
+        let OpenFile { mark, entry } = self;
+        Closed { mark, entry }
+    }
+}
