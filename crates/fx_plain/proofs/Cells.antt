@@ -1,0 +1,41 @@
+-- Functions of a place, where one place of a list was written.
+use Rattle.std.proofs.Common.{◌≡◌, ◌≢◌, ℕ, ◌<◌, Bool, true, false, List, length, refl, sym, ap, ◌∙◌, slice_index_or, slice_set, ◌==◌, if◌then◌else◌, inl, inr}
+use Rattle.std.proofs.lemmas.List.{get_or-set_same, get_or-set_other}
+use Rattle.std.proofs.lemmas.Bool.{eqb-true, cases_lt}
+use Rattle.std.proofs.Math.ListN.{get_or-eq_default}
+use Rattle.std.proofs.lemmas.Bool.Decides.{not_from_Decides, Decides-eqb}
+use Rattle.fx_plain.specs.Step.{changed_at}
+
+-- either two numbers are equal, and the test says so, or they are not
+pub by_equality : (q k : ℕ) (P : Bool → Type 0) → (q ≡ k → P true) → (q ≢ k → P false) → P (q == k)
+by_equality q k P same other =
+    elim (q == k) as (λ b. (q == k) ≡ b → P b) [
+      | true ↦ λ e. same (eqb-true q k e)
+      | false ↦ λ e. other (not_from_Decides _ (Decides-eqb q k) e)
+    ] refl
+
+module _ {X Y : Type 0} (g : ℕ → X → Y) (xs : List X) (k : ℕ) (v d : X) (inside : k < length xs) where
+  read_written : (q : ℕ) → g q (slice_index_or (slice_set xs k v) q d) ≡ changed_at (λ p. g p (slice_index_or xs p d)) k (g k v) q
+  read_written q = by_equality q k (λ b. g q (slice_index_or (slice_set xs k v) q d) ≡ if b then g k v else g q (slice_index_or xs q d))
+      (λ same. rw (same, get_or-set_same xs k v d inside) refl)
+      (λ other. ap (g q) (get_or-set_other xs k q v d other))
+
+  -- what is read is changed at the place that was written
+  pub written : (λ q. g q (slice_index_or (slice_set xs k v) q d)) ≡ changed_at (λ p. g p (slice_index_or xs p d)) k (g k v)
+  written = λ i q. read_written q i
+
+module _ {Y : Type 0} (f : ℕ → Y) (k : ℕ) where
+  same_again : (v : Y) → v ≡ f k → (q : ℕ) → changed_at f k v q ≡ f q
+  same_again v is q = by_equality q k (λ b. (if b then v else f q) ≡ f q) (λ same. is ∙ ap f (sym same)) (λ other. refl)
+
+  -- to write the same value again changes nothing
+  pub unchanged : (v : Y) → v ≡ f k → changed_at f k v ≡ f
+  unchanged v is = λ i q. same_again v is q i
+
+-- a place that does not read as the default is inside
+pub inside_of : {X : Type 0} (xs : List X) (k : ℕ) (d : X) → slice_index_or xs k d ≢ d → k < length xs
+inside_of xs k d differs = elim (cases_lt k (length xs)) [ inl lt ↦ lt | inr le ↦ absurd (differs (get_or-eq_default xs d le)) ]
+
+-- a change that a second one at the same place covers
+pub covered : {Y : Type 0} (f : ℕ → Y) (j k : ℕ) (x y z : Y) → x ≡ f j → changed_at (changed_at f j x) k y ≡ changed_at f k y
+covered f j k x y z is = ap (λ g. changed_at g k y) (unchanged f j x is)

@@ -1,0 +1,176 @@
+-- What contracts see of a table: lists. `state_of` is its state, `leaving` says which removed files wait for their
+-- retirement, and `numbers_of` how many numbers were prepared.
+use Rattle.std.specs.Prelude.{◌≡◌, ℕ, ◌+◌, ◌<◌, ◌≤◌, ◌^◌, Bool, true, false, List, length, Option, Some, None, slice_index, slice_index_or, slice_set, nat_lt, if◌then◌else◌}
+use Rattle.fx_base.specs.declared.open_file.Closed.{Closed}
+use Rattle.fx_plain.specs.State.{State}
+use Rattle.fx_plain.specs.Totals.{total}
+use Rattle.fx_plain.specs.declared.event.File.{File}
+use Rattle.fx_plain.specs.declared.node.Node.{Node}
+pub use Rattle.fx_plain.specs.declared.node.Node.TheVariants.{Fresh, At, Leaving, Retired, Gone}
+
+pub record Contents : Type 0 where
+  -- the number of the file at each slot
+  pub slots : List (Option ℕ)
+  pub range : ℕ × ℕ
+  -- by number, where each file stands, and its holds
+  pub nodes : List Node
+  pub holds : List ℕ
+  -- how many numbers were prepared
+  pub numbers : ℕ
+
+abbrev pub slot_at : List (Option ℕ) → ℕ → Option ℕ
+slot_at slots slot = slice_index_or slots slot None
+
+abbrev pub node_at : List Node → ℕ → Node
+node_at nodes number = slice_index_or nodes number Gone
+
+-- the file of a number that stands at a slot
+abbrev pub placed_at : ℕ → Node → Option File
+placed_at number Fresh = None
+placed_at number (At slot file) = Some (record { number = number; identity = file })
+placed_at number (Leaving file) = None
+placed_at number (Retired file) = None
+placed_at number Gone = None
+
+-- the file of a number that was removed
+abbrev pub removed_at : ℕ → Node → Option File
+removed_at number Fresh = None
+removed_at number (At slot file) = None
+removed_at number (Leaving file) = Some (record { number = number; identity = file })
+removed_at number (Retired file) = Some (record { number = number; identity = file })
+removed_at number Gone = None
+
+abbrev pub is_fresh : Node → Bool
+is_fresh Fresh = true
+is_fresh (At slot file) = false
+is_fresh (Leaving file) = false
+is_fresh (Retired file) = false
+is_fresh Gone = false
+
+abbrev pub is_leaving : Node → Bool
+is_leaving Fresh = false
+is_leaving (At slot file) = false
+is_leaving (Leaving file) = true
+is_leaving (Retired file) = false
+is_leaving Gone = false
+
+abbrev pub is_retired : Node → Bool
+is_retired Fresh = false
+is_retired (At slot file) = false
+is_retired (Leaving file) = false
+is_retired (Retired file) = true
+is_retired Gone = false
+
+-- the file that a slot names
+abbrev pub file_at : List Node → Option ℕ → Option File
+file_at nodes None = None
+file_at nodes (Some number) = placed_at number (node_at nodes number)
+
+abbrev pub state_of : Contents → State
+state_of c = record {
+  size = length c.slots;
+  range = c.range;
+  at = λ slot. file_at c.nodes (slot_at c.slots slot);
+  removed = λ number. removed_at number (node_at c.nodes number);
+  holds = λ number. slice_index c.holds number;
+  fresh = λ number. is_fresh (node_at c.nodes number);
+}
+
+-- by number, whether a file was removed and isn't yet retired
+abbrev pub leaving : Contents → ℕ → Bool
+leaving c number = is_leaving (node_at c.nodes number)
+
+abbrev pub numbers_of : Contents → ℕ
+numbers_of c = c.numbers
+
+-- a slot and the node of its number name each other
+abbrev pub AllPlaced : List (Option ℕ) → List Node → Type 0
+AllPlaced slots nodes = (slot number : ℕ) → slot_at slots slot ≡ Some number → (file : Closed) × (node_at nodes number ≡ At slot file)
+
+-- what every table keeps
+pub record IsTable (c : Contents) : Type 0 where
+  pub few_slots : length c.slots ≤ 256
+  pub range_inside : c.range.0 + c.range.1 ≤ length c.slots
+  pub few_nodes : length c.nodes < 2 ^ 32
+  pub same_numbers : length c.holds ≡ length c.nodes
+  pub placed : AllPlaced c.slots c.nodes
+  -- a retired file that nobody holds is closed
+  pub held : (number : ℕ) → is_retired (node_at c.nodes number) ≡ true → 0 < slice_index c.holds number
+
+abbrev pub filled : Option ℕ → ℕ
+filled None = 0
+filled (Some number) = 1
+
+-- whether a removed file is there, as a count
+abbrev pub opened : Node → ℕ
+opened Fresh = 0
+opened (At slot file) = 0
+opened (Leaving file) = 1
+opened (Retired file) = 1
+opened Gone = 0
+
+abbrev pub itself : ℕ → ℕ
+itself n = n
+
+-- the counts that a table keeps beside its lists: full slots, holds, and removed files
+pub record IsCounted (c : Contents) (full held removed : ℕ) : Type 0 where
+  pub full_slots : full ≡ total filled c.slots
+  pub all_holds : held ≡ total itself c.holds
+  pub all_removed : removed ≡ total opened c.nodes
+
+-- a node whose file left its slot
+abbrev pub left : Node → Node
+left Fresh = Fresh
+left (At slot file) = Leaving file
+left (Leaving file) = Leaving file
+left (Retired file) = Retired file
+left Gone = Gone
+
+-- a node whose file was retired
+abbrev pub retired : Node → Node
+retired Fresh = Fresh
+retired (At slot file) = At slot file
+retired (Leaving file) = Retired file
+retired (Retired file) = Retired file
+retired Gone = Gone
+
+-- the file of a node, wherever it stands
+abbrev pub file_in : Node → Option Closed
+file_in Fresh = None
+file_in (At slot file) = Some file
+file_in (Leaving file) = Some file
+file_in (Retired file) = Some file
+file_in Gone = None
+
+-- a node as passes begin, for the file that was at a slot
+abbrev pub moved_node : Option Closed → ℕ → Node
+moved_node None slot = Gone
+moved_node (Some file) slot = At slot file
+
+abbrev pub file_named : List Node → Option ℕ → Option Closed
+file_named nodes None = None
+file_named nodes (Some number) = file_in (node_at nodes number)
+
+-- the node of each number, as passes begin
+abbrev pub opening_node : List (Option ℕ) → List Node → ℕ → ℕ → Node
+opening_node slots nodes numbers number =
+    if nat_lt number (length slots) then moved_node (file_named nodes (slot_at slots number)) number
+    else if nat_lt number numbers then Fresh
+    else Gone
+
+-- a slot as passes begin: the number of its file is its own
+abbrev pub opening_slot : Option ℕ → ℕ → Option ℕ
+opening_slot None slot = None
+opening_slot (Some number) slot = Some slot
+
+-- the nodes, without the file that a slot names
+abbrev pub without : List Node → Option ℕ → List Node
+without nodes None = nodes
+without nodes (Some number) = slice_set nodes number Gone
+
+-- the node may have lost a file that stood at a slot, and no other one
+pub record SameButPlaced (old new : Node) : Type 0 where
+  pub same_fresh : is_fresh new ≡ is_fresh old
+  pub same_leaving : is_leaving new ≡ is_leaving old
+  pub same_retired : is_retired new ≡ is_retired old
+  pub same_removed : (number : ℕ) → removed_at number new ≡ removed_at number old

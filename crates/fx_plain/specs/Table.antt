@@ -1,0 +1,40 @@
+-- What the calls of a table answer.
+use Rattle.std.specs.Prelude.{◌≡◌, ℕ, ◌+◌, ◌<◌, ◌^◌, ◌==◌, not, ◌&&◌, Bool, true, if◌then◌else◌, List, Option, Some, None, option_map, IfSome}
+use Rattle.fx_base.specs.declared.open_file.Closed.{Closed}
+use Rattle.fx_plain.specs.State.{State}
+use Rattle.fx_plain.specs.Step.{changed_at}
+use Rattle.fx_plain.specs.Contents.{Contents, state_of, leaving, numbers_of}
+use Rattle.fx_plain.specs.declared.event.File.{File}
+
+abbrev pub identity_of : Option File → Option Closed
+identity_of found = option_map (λ f. f.identity) found
+
+abbrev pub number_of : Option File → Option ℕ
+number_of found = option_map (λ f. f.number) found
+
+-- a file under a number
+abbrev pub numbered : ℕ → Closed → File
+numbered number file = record { number = number; identity = file }
+
+-- the file that a release closes: a retired one whose last hold it was
+abbrev pub closed_by_release : Contents → ℕ → Option File
+closed_by_release c number = if (state_of c).holds number == 1 && not (leaving c number) then (state_of c).removed number else None
+
+-- the file that a retirement closes: one that nobody holds
+abbrev pub closed_by_retirement : Contents → ℕ → Option File
+closed_by_retirement c number = if (state_of c).holds number == 0 then (state_of c).removed number else None
+
+-- one more hold of the file at a slot still fits
+abbrev pub HasRoomForHold : State → ℕ → Type 0
+HasRoomForHold st slot = IfSome (st.at slot) (λ f. st.holds f.number + 1 < 2 ^ 32)
+
+-- by number, whether a removed file is leaving, with one more
+abbrev pub more_leaving : (ℕ → Bool) → Option File → ℕ → Bool
+more_leaving leaving None = leaving
+more_leaving leaving (Some f) = changed_at leaving f.number true
+
+-- the table has this allocation range, and is else as before
+pub record SetsRange (old new : Contents) (off len : ℕ) : Type 0 where
+  pub state : state_of new ≡ record (state_of old) { range = (off, len) }
+  pub same_leaving : leaving new ≡ leaving old
+  pub same_numbers : numbers_of new ≡ numbers_of old

@@ -1,0 +1,9 @@
+//! The model of a file table, and the file table of one thread, which meets it call by call.
+#![tactic(auto)]
+
+mod event;
+mod node;
+mod table;
+
+pub use event::{Action, Event, File};
+pub use table::{BadRange, PlainTable};

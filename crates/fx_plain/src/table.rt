@@ -1,0 +1,201 @@
+ghost use Rattle.std.specs.Prelude.{◌≡◌, ◌+◌, ◌<◌, ◌≤◌, ◌↔◌, ℕ, length, true, option_map, IfOk, IsTrue, IsOk, OnOk, OnErr};
+ghost use Rattle.fx_plain.specs.State.{vacant, IsSettled, files_of};
+ghost use Rattle.fx_plain.specs.Contents.{state_of, leaving, numbers_of, IsTable};
+ghost use Rattle.fx_plain.specs.Table.{SetsRange};
+
+mod holds;
+mod life;
+mod slots;
+
+use crate::node::{Node, file_in, is_fresh, is_leaving};
+use fx_base::{Mark, NoMemory};
+use std::alloc::Global;
+use std::marker::Model;
+
+/// The range is not within the table (EINVAL; io_uring_register(2), "IORING_REGISTER_FILE_ALLOC_RANGE").
+#[derive(Clone, Copy, Debug, PartialEq, Eq)]
+pub struct BadRange;
+
+/// The file table of one thread: slots, each empty or with one open file, an allocation range, and the files that
+/// were removed and are not closed yet. It is no `Drop`: a program that lets one go without closing its files is not
+/// accepted.
+///
+/// Each file has a number of its own from [`PlainTable::prepare`] on. A file that was removed is *leaving* until it is
+/// retired, and comes out to be closed once it is retired and nobody holds it. Contracts see the state of the model by
+/// `state_of`, which files are leaving by `leaving`, and how many numbers there are by `numbers_of`.
+pub struct PlainTable {
+    // The number of the file at each slot.
+    slots: Vec<Option<u32>>,
+    range_start: u32,
+    range_len: u32,
+    // By number, where each file stands, and its holds.
+    nodes: Vec<Node>,
+    holds: Vec<u32>,
+    numbers: u32,
+    // Full slots, holds and removed files, counted so that no test has to go over the lists.
+    full: u32,
+    held: u64,
+    removed: u32,
+}
+
+impl Model for PlainTable {
+    ghost use Rattle.fx_plain.specs.Contents.{Contents, IsTable, IsCounted};
+
+    ghost Value = { Contents };
+
+    ghost view = { λ t. record { slots = t.slots.items; range = (t.range_start, t.range_len); nodes = t.nodes.items; holds = t.holds.items; numbers = t.numbers } };
+
+    ghost invariant = { λ t.
+        IsTable (record { slots = t.slots.items; range = (t.range_start, t.range_len); nodes = t.nodes.items; holds = t.holds.items; numbers = t.numbers })
+        × IsCounted (record { slots = t.slots.items; range = (t.range_start, t.range_len); nodes = t.nodes.items; holds = t.holds.items; numbers = t.numbers }) t.full t.held t.removed };
+}
+
+impl PlainTable {
+    /// A table without slots. It takes no memory.
+    pub fn none(alloc: Global) -> PlainTable
+        ensures state { state_of result ≡ vacant 0 }
+        ensures numbers { numbers_of result ≡ 0 }
+    {
+        PlainTable {
+            slots: Vec::new(alloc),
+            range_start: 0,
+            range_len: 0,
+            nodes: Vec::new(alloc),
+            holds: Vec::new(alloc),
+            numbers: 0,
+            full: 0,
+            held: 0,
+            removed: 0,
+        }
+    }
+
+    /// A table of `n` empty slots, 1 to 256, all of them in the allocation range (io_uring_register_files(3),
+    /// `io_uring_register_files_sparse`).
+    ///
+    /// # Errors
+    /// `NoMemory` where the memory of the slots is refused.
+    pub fn sparse(alloc: Global, n: u32) -> Result<PlainTable, NoMemory>
+        requires some { 1 ≤ n }
+        requires few { n ≤ 256 }
+        ensures state { IfOk result (λ table. state_of table ≡ vacant n) }
+        ensures numbers { IfOk result (λ table. numbers_of table ≡ n) }
+    {
+        let slots = vec![in alloc; None; n as usize]?;
+        Ok(PlainTable {
+            slots,
+            range_start: 0,
+            range_len: n,
+            nodes: Vec::new(alloc),
+            holds: Vec::new(alloc),
+            numbers: n,
+            full: 0,
+            held: 0,
+            removed: 0,
+        })
+    }
+
+    /// How many slots there are, at most 256.
+    pub fn size(&self) -> u32
+        ensures value { result ≡ (state_of self.now).size }
+        ensures few { result ≤ 256 }
+        ensures sound { IsTable self.now }
+    {
+        self.slots.len() as u32
+    }
+
+    /// The allocation range: the first slot and the number of slots. It is within the table.
+    pub fn range(&self) -> (u32, u32)
+        ensures value { result ≡ (state_of self.now).range }
+        ensures inside { (state_of self.now).range.0 + (state_of self.now).range.1 ≤ (state_of self.now).size }
+    {
+        (self.range_start, self.range_len)
+    }
+
+    /// Sets the allocation range (io_uring_register(2), "IORING_REGISTER_FILE_ALLOC_RANGE"). Length 0 is permitted.
+    ///
+    /// # Errors
+    /// `BadRange` where `off + len`, as whole numbers, is above the size. The range is then as before.
+    pub fn set_range(&mut self, off: u32, len: u32) -> Result<(), BadRange>
+        ensures accepted { IsOk result ↔ (off + len ≤ (state_of self.old).size) }
+        ensures ok { OnOk result (SetsRange self.old self.new off len) }
+        ensures err { OnErr result (self.new ≡ self.old) }
+    {
+        if off as u64 + len as u64 > self.slots.len() as u64 {
+            return Err(BadRange);
+        }
+        self.range_start = off;
+        self.range_len = len;
+        Ok(())
+    }
+
+    /// How many slots of the whole table have a file.
+    pub fn full(&self) -> u32
+        ensures { result ≡ length (files_of (state_of self.now)) }
+    {
+        self.full
+    }
+
+    /// The mark of the file at a slot, or `None` where the slot is empty.
+    pub fn mark_at(&self, slot: u32) -> Option<Mark>
+        requires { slot < (state_of self.now).size }
+        ensures { result ≡ option_map (λ f. f.identity.mark) ((state_of self.now).at slot) }
+    {
+        let number = self.slots[slot as usize]?;
+        let file = file_in(&self.nodes[number as usize])?;
+        Some(file.mark())
+    }
+
+    /// The catalogue entry of the file at a slot, or `None` where the slot is empty.
+    pub fn entry_at(&self, slot: u32) -> Option<u8>
+        requires { slot < (state_of self.now).size }
+        ensures { result ≡ option_map (λ f. f.identity.entry) ((state_of self.now).at slot) }
+    {
+        let number = self.slots[slot as usize]?;
+        let file = file_in(&self.nodes[number as usize])?;
+        Some(file.entry())
+    }
+
+    /// How many numbers were prepared, or the size before the first preparation.
+    pub fn numbers(&self) -> u32
+        ensures { result ≡ numbers_of self.now }
+    {
+        self.numbers
+    }
+
+    /// Whether no file has had the number, and one may get it.
+    pub fn is_fresh(&self, number: u32) -> bool
+        ensures { result ≡ (state_of self.now).fresh number }
+    {
+        match self.nodes.get(number as usize) {
+            Some(node) => is_fresh(node),
+            None => false,
+        }
+    }
+
+    /// Whether the file of the number has a hold.
+    pub fn is_held(&self, number: u32) -> bool
+        ensures { IsTrue result ↔ (0 < (state_of self.now).holds number) }
+    {
+        match self.holds.get(number as usize) {
+            Some(holds) => *holds > 0,
+            None => false,
+        }
+    }
+
+    /// Whether the file of the number was removed and is not retired yet.
+    pub fn is_leaving(&self, number: u32) -> bool
+        ensures { result ≡ leaving self.now number }
+    {
+        match self.nodes.get(number as usize) {
+            Some(node) => is_leaving(node),
+            None => false,
+        }
+    }
+
+    /// Whether no file has a hold and each removed file is closed.
+    pub fn is_settled(&self) -> bool
+        ensures { IsTrue result ↔ IsSettled (state_of self.now) }
+    {
+        self.held == 0 && self.removed == 0
+    }
+}

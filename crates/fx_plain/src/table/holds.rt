@@ -1,0 +1,74 @@
+//! Look-ups, their releases, and the retirement of removed files.
+ghost use Rattle.std.specs.Prelude.{◌≡◌, ◌<◌, ℕ, [], true, false, option_map};
+ghost use Rattle.fx_plain.specs.declared.event.File.{File};
+ghost use Rattle.fx_plain.specs.declared.event.Action.TheVariants.{Look, Release};
+ghost use Rattle.fx_plain.specs.Step.{Steps, changed_at};
+ghost use Rattle.fx_plain.specs.History.{Leads, close_of, ◌▷◌, ◌▷▷◌};
+ghost use Rattle.fx_plain.specs.Contents.{state_of, leaving, numbers_of};
+ghost use Rattle.fx_plain.specs.Table.{identity_of, closed_by_release, closed_by_retirement, HasRoomForHold};
+
+use crate::node::{add_hold, end_hold, file_in, is_retired, retire, take_file};
+use crate::table::PlainTable;
+use fx_base::OpenFile;
+
+impl PlainTable {
+    /// Looks a slot up: the number and the catalogue entry of the file there, which has one more hold, or `None`
+    /// where the slot is empty (io_uring_enter(2), "IOSQE_FIXED_FILE").
+    ///
+    /// The caller knows that one more hold of the file fits 32 bits, as where [`PlainTable::is_settled`], and also
+    /// where at most 16 passes have at most one hold each.
+    pub fn look(&mut self, slot: u32) -> Option<(u32, u8)>
+        requires slot { slot < (state_of self.old).size }
+        requires room { HasRoomForHold (state_of self.old) slot }
+        ensures answer { result ≡ option_map (λ f. (f.number, f.identity.entry)) ((state_of self.old).at slot) }
+        ensures step { Steps (state_of self.old) (Look slot ((state_of self.old).at slot)) (state_of self.new) }
+        ensures leaving { leaving self.new ≡ leaving self.old }
+        ensures numbers { numbers_of self.new ≡ numbers_of self.old }
+    {
+        let number = self.slots[slot as usize]?;
+        let entry = file_in(&self.nodes[number as usize])?.entry();
+        add_hold(&mut self.holds, number as usize);
+        self.held += 1;
+        Some((number, entry))
+    }
+
+    /// Gives a hold of the file with this number up. The file comes out, to be closed, where it was retired and this
+    /// was its last hold.
+    pub fn release(&mut self, number: u32) -> Option<OpenFile>
+        requires { 0 < (state_of self.old).holds number }
+        ensures answer { result ≡ identity_of (closed_by_release self.old number) }
+        ensures steps { (f : File) → f.number ≡ number → Leads (state_of self.old) ([] ▷ Release f ▷▷ close_of (closed_by_release self.old number)) (state_of self.new) }
+        ensures leaving { leaving self.new ≡ leaving self.old }
+        ensures numbers { numbers_of self.new ≡ numbers_of self.old }
+    {
+        let n = number as usize;
+        let left = end_hold(&mut self.holds, n);
+        self.held -= 1;
+        if left != 0 {
+            return None;
+        }
+        if !is_retired(&self.nodes[n]) {
+            return None;
+        }
+        self.removed -= 1;
+        take_file(&mut self.nodes, n)
+    }
+
+    /// Retires a removed file: from now on its last release closes it. The file comes out, to be closed, where nobody
+    /// holds it now.
+    pub fn retire(&mut self, number: u32) -> Option<OpenFile>
+        requires { leaving self.old number ≡ true }
+        ensures answer { result ≡ identity_of (closed_by_retirement self.old number) }
+        ensures steps { Leads (state_of self.old) (close_of (closed_by_retirement self.old number)) (state_of self.new) }
+        ensures leaving { leaving self.new ≡ changed_at (leaving self.old) number false }
+        ensures numbers { numbers_of self.new ≡ numbers_of self.old }
+    {
+        let n = number as usize;
+        if self.holds[n] == 0 {
+            self.removed -= 1;
+            return take_file(&mut self.nodes, n);
+        }
+        retire(&mut self.nodes, n);
+        None
+    }
+}

@@ -1,0 +1,172 @@
+//! How a table is prepared for passes, emptied and given up.
+ghost use Rattle.std.specs.Prelude.{◌≡◌, ◌≤◌, ◌<◌, ◌+◌, ℕ, [], ◌++◌, ◌-◌, ◌^◌, ◌∷◌, length, OnOk, OnErr, IfOk, IfSome, replicate, vec_len, vec_capacity, slice_set};
+ghost use Rattle.std.specs.Option.{option_to_list};
+ghost use Rattle.fx_plain.specs.State.{vacant, opening, IsSettled, files_of, files_in_order};
+ghost use Rattle.fx_plain.specs.Totals.{total};
+ghost use Rattle.fx_plain.specs.Contents.{state_of, numbers_of, slot_at, node_at, moved_node, file_named, without, opening_slot, file_at, AllPlaced, SameButPlaced, filled, opened, Fresh};
+
+use crate::node::{Node, spend_nodes, take_file};
+use crate::table::PlainTable;
+use fx_base::{CloseList, NoMemory};
+use std::alloc::Global;
+use std::mem;
+
+impl PlainTable {
+    /// Makes a settled table ready for passes: the file at a slot gets the slot's number, and the numbers from the
+    /// size up to `numbers - 1` are fresh. It takes the memory of all numbers now (this project's own).
+    ///
+    /// # Errors
+    /// `NoMemory` where that memory is refused. The table is then as before.
+    pub fn prepare(&mut self, numbers: u32) -> Result<(), NoMemory>
+        requires settled { IsSettled (state_of self.old) }
+        requires numbers { (state_of self.old).size ≤ numbers }
+        ensures ok { OnOk result (state_of self.new ≡ opening (state_of self.old) numbers) }
+        ensures numbers { OnOk result (numbers_of self.new ≡ numbers) }
+        ensures err { OnErr result (self.new ≡ self.old) }
+    {
+        let alloc = *self.nodes.allocator();
+        let holds = zeros(alloc, numbers)?;
+        let mut nodes = Vec::with_capacity(alloc, numbers as usize)?;
+        renumber(&mut self.slots, &mut self.nodes, &mut nodes);
+        add_fresh(&mut nodes, numbers);
+        spend_nodes(mem::replace(&mut self.nodes, nodes));
+        self.holds = holds;
+        self.numbers = numbers;
+        Ok(())
+    }
+
+    /// Closes all files, in order of slot, and leaves no slot. It takes no memory: the list has room already.
+    pub fn empty_into(&mut self, closes: &mut CloseList)
+        requires settled { IsSettled (state_of self.old) }
+        requires room { length (files_of (state_of self.old)) ≤ closes.old.room }
+        ensures files { closes.new.files ≡ closes.old.files ++ files_of (state_of self.old) }
+        ensures room { closes.new.room + length (files_of (state_of self.old)) ≡ closes.old.room }
+        ensures empty { state_of self.new ≡ record (vacant 0) { fresh = (state_of self.old).fresh } }
+        ensures numbers { numbers_of self.new ≡ numbers_of self.old }
+    {
+        close_all(&self.slots, &mut self.nodes, closes);
+        self.slots.clear();
+        self.range_start = 0;
+        self.range_len = 0;
+        self.full = 0;
+    }
+
+    /// Spends a settled table that has no files.
+    pub fn dismiss(self)
+        requires settled { IsSettled (state_of self) }
+        requires empty { files_of (state_of self) ≡ [] }
+    {
+        self.abandon();
+    }
+
+    /// Lets every file of the table go without a list. It is the way out after a fault, and takes no memory.
+    pub fn abandon(self) {
+        let PlainTable {
+            slots: _,
+            range_start: _,
+            range_len: _,
+            nodes,
+            holds: _,
+            numbers: _,
+            full: _,
+            held: _,
+            removed: _,
+        } = self;
+        spend_nodes(nodes);
+    }
+}
+
+fn zeros(alloc: Global, n: u32) -> Result<Vec<u32>, NoMemory>
+    ensures { IfOk result (λ zeros. zeros.items ≡ replicate n 0) }
+{
+    Ok(vec![in alloc; 0; n as usize]?)
+}
+
+// Appends a value for which there is room.
+fn push_within<T>(items: &mut Vec<T>, item: T)
+    requires { vec_len items.old < vec_capacity items.old }
+    ensures items { items.new.items ≡ items.old.items ++ item ∷ [] }
+    ensures capacity { vec_capacity items.old ≤ vec_capacity items.new }
+{
+    match items.push(item) {
+        Ok(()) => {}
+        Err(_refused) => unreachable!(),
+    }
+}
+
+// Takes the file of a slot out of its node, to stand in the node of the slot's own number.
+fn move_file(slots: &mut Vec<Option<u32>>, nodes: &mut Vec<Node>, slot: usize) -> Node
+    requires slot { (slot < vec_len slots.old) × (slot < 2 ^ 32) }
+    requires inside { IfSome (slot_at slots.old.items slot) (λ n. n < vec_len nodes.old) }
+    ensures node { result ≡ moved_node (file_named nodes.old.items (slot_at slots.old.items slot)) slot }
+    ensures slots { slots.new.items ≡ slice_set slots.old.items slot (opening_slot (slot_at slots.old.items slot) slot) }
+    ensures nodes { nodes.new.items ≡ without nodes.old.items (slot_at slots.old.items slot) }
+{
+    let Some(number) = slots[slot] else {
+        return Node::Gone;
+    };
+    slots[slot] = Some(slot as u32);
+    match take_file(nodes, number as usize) {
+        Some(file) => Node::At(slot as u32, file),
+        None => Node::Gone,
+    }
+}
+
+// Each file that stands at a slot moves to the node of the slot's own number.
+fn renumber(slots: &mut Vec<Option<u32>>, nodes: &mut Vec<Node>, moved: &mut Vec<Node>)
+    requires few { vec_len slots.old ≤ 256 }
+    requires placed { AllPlaced slots.old.items nodes.old.items }
+    requires room { (moved.old.items ≡ []) × (vec_len slots.old ≤ vec_capacity moved.old) }
+    ensures len { vec_len slots.new ≡ vec_len slots.old }
+    ensures count { vec_len moved.new ≡ vec_len slots.old }
+    ensures capacity { vec_capacity moved.old ≤ vec_capacity moved.new }
+    ensures slots { (slot : ℕ) → slot < vec_len slots.old → slot_at slots.new.items slot ≡ opening_slot (slot_at slots.old.items slot) slot }
+    ensures moved { (slot : ℕ) → slot < vec_len slots.old → node_at moved.new.items slot ≡ moved_node (file_named nodes.old.items (slot_at slots.old.items slot)) slot }
+    ensures full { total filled slots.new.items ≡ total filled slots.old.items }
+{
+    for slot in 0..slots.len() {
+        let node = move_file(slots, nodes, slot);
+        push_within(moved, node);
+    }
+}
+
+// Fresh nodes up to so many.
+fn add_fresh(nodes: &mut Vec<Node>, numbers: u32)
+    requires room { (vec_len nodes.old ≤ numbers) × (numbers ≤ vec_capacity nodes.old) }
+    ensures { nodes.new.items ≡ nodes.old.items ++ replicate (numbers - vec_len nodes.old) Fresh }
+{
+    for _ in nodes.len()..numbers as usize {
+        push_within(nodes, Node::Fresh);
+    }
+}
+
+// Closes the file that a slot names.
+fn close_file(slot: Option<u32>, nodes: &mut Vec<Node>, closes: &mut CloseList)
+    requires inside { IfSome slot (λ n. n < vec_len nodes.old) }
+    requires room { length (option_to_list (file_named nodes.old.items slot)) ≤ closes.old.room }
+    ensures files { closes.new.files ≡ closes.old.files ++ option_to_list (file_named nodes.old.items slot) }
+    ensures room { closes.new.room + length (option_to_list (file_named nodes.old.items slot)) ≡ closes.old.room }
+    ensures nodes { nodes.new.items ≡ without nodes.old.items slot }
+{
+    let Some(number) = slot else {
+        return;
+    };
+    if let Some(file) = take_file(nodes, number as usize) {
+        closes.close(file);
+    }
+}
+
+// Closes the files of all slots, in order.
+fn close_all(slots: &Vec<Option<u32>>, nodes: &mut Vec<Node>, closes: &mut CloseList)
+    requires placed { AllPlaced slots.now.items nodes.old.items }
+    requires room { length (files_in_order (λ slot. file_at nodes.old.items (slot_at slots.now.items slot)) (length slots.now.items)) ≤ closes.old.room }
+    ensures files { closes.new.files ≡ closes.old.files ++ files_in_order (λ slot. file_at nodes.old.items (slot_at slots.now.items slot)) (length slots.now.items) }
+    ensures room { closes.new.room + length (files_in_order (λ slot. file_at nodes.old.items (slot_at slots.now.items slot)) (length slots.now.items)) ≡ closes.old.room }
+    ensures len { vec_len nodes.new ≡ vec_len nodes.old }
+    ensures nodes { (number : ℕ) → SameButPlaced (node_at nodes.old.items number) (node_at nodes.new.items number) }
+    ensures opened { total opened nodes.new.items ≡ total opened nodes.old.items }
+{
+    for slot in 0..slots.len() {
+        close_file(slots[slot], nodes, closes);
+    }
+}

@@ -1,0 +1,103 @@
+//! Installations and removals.
+ghost use Rattle.std.specs.Prelude.{◌≡◌, ◌<◌, ℕ, true, None, IfOk, IfErr, IfSome, IfNone, OnErr};
+ghost use Rattle.fx_plain.specs.declared.event.Action.TheVariants.{Put, Clear, Take, Allocate, Full};
+ghost use Rattle.fx_plain.specs.State.{IsInRange};
+ghost use Rattle.fx_plain.specs.Step.{Steps, Allows};
+ghost use Rattle.fx_plain.specs.Contents.{state_of, leaving, numbers_of};
+ghost use Rattle.fx_plain.specs.Table.{number_of, numbered, more_leaving};
+
+use crate::node::{Node, leave, set_node};
+use crate::table::PlainTable;
+use fx_base::OpenFile;
+
+impl PlainTable {
+    /// Installs a file at a slot, under a number that no file has had. The answer is the number of the file that it
+    /// replaced, which is leaving from now on (io_uring_prep_openat(3), `io_uring_prep_openat_direct`).
+    pub fn put(&mut self, slot: u32, number: u32, file: OpenFile) -> Option<u32>
+        requires slot { slot < (state_of self.old).size }
+        requires fresh { (state_of self.old).fresh number ≡ true }
+        ensures answer { result ≡ number_of ((state_of self.old).at slot) }
+        ensures step { Steps (state_of self.old) (Put slot (numbered number file) ((state_of self.old).at slot)) (state_of self.new) }
+        ensures leaving { leaving self.new ≡ more_leaving (leaving self.old) ((state_of self.old).at slot) }
+        ensures numbers { numbers_of self.new ≡ numbers_of self.old }
+    {
+        set_node(&mut self.nodes, number as usize, Node::At(slot, file));
+        let replaced = self.slots[slot as usize];
+        self.slots[slot as usize] = Some(number);
+        match replaced {
+            None => {
+                self.full += 1;
+                None
+            }
+            Some(old) => {
+                leave(&mut self.nodes, old as usize);
+                self.removed += 1;
+                Some(old)
+            }
+        }
+    }
+
+    /// Installs a file at a free slot of the allocation range, under a number that no file has had. The answer is the
+    /// slot (io_uring_prep_openat(3), "IORING_FILE_INDEX_ALLOC").
+    ///
+    /// # Errors
+    /// The file comes back where every slot of the range has a file (ENFILE). The table is then as before, and the
+    /// number stays fresh.
+    pub fn put_any(&mut self, number: u32, file: OpenFile) -> Result<u32, OpenFile>
+        requires { (state_of self.old).fresh number ≡ true }
+        ensures ok { IfOk result (λ slot. Steps (state_of self.old) (Allocate slot (numbered number file)) (state_of self.new)) }
+        ensures full { OnErr result (Allows (state_of self.old) Full) }
+        ensures refused { IfErr result (λ back. back ≡ file) }
+        ensures err { OnErr result (self.new ≡ self.old) }
+        ensures leaving { leaving self.new ≡ leaving self.old }
+        ensures numbers { numbers_of self.new ≡ numbers_of self.old }
+    {
+        let Some(slot) = self.free_slot() else {
+            return Err(file);
+        };
+        let _none = self.put(slot, number, file);
+        Ok(slot)
+    }
+
+    // The first free slot of the allocation range.
+    fn free_slot(&self) -> Option<u32>
+        ensures found { IfSome result (λ slot. (slot < (state_of self.now).size) × IsInRange (state_of self.now) slot × ((state_of self.now).at slot ≡ None)) }
+        ensures full { IfNone result (Allows (state_of self.now) Full) }
+    {
+        for slot in self.range_start..self.range_start + self.range_len {
+            if self.slots[slot as usize].is_none() {
+                return Some(slot);
+            }
+        }
+        None
+    }
+
+    /// Empties a slot for an update. The answer is the number of the file that was there, which is leaving from now on
+    /// (io_uring_register(2), "IORING_REGISTER_FILES_UPDATE", an entry of -1).
+    pub fn clear(&mut self, slot: u32) -> Option<u32>
+        requires { slot < (state_of self.old).size }
+        ensures answer { result ≡ number_of ((state_of self.old).at slot) }
+        ensures step { Steps (state_of self.old) (Clear slot ((state_of self.old).at slot)) (state_of self.new) }
+        ensures leaving { leaving self.new ≡ more_leaving (leaving self.old) ((state_of self.old).at slot) }
+        ensures numbers { numbers_of self.new ≡ numbers_of self.old }
+    {
+        self.take(slot)
+    }
+
+    /// Empties a slot for a close. The answer is the number of the file that was there, which is leaving from now on
+    /// (io_uring_prep_close(3), `io_uring_prep_close_direct`).
+    pub fn take(&mut self, slot: u32) -> Option<u32>
+        requires { slot < (state_of self.old).size }
+        ensures answer { result ≡ number_of ((state_of self.old).at slot) }
+        ensures step { Steps (state_of self.old) (Take slot ((state_of self.old).at slot)) (state_of self.new) }
+        ensures leaving { leaving self.new ≡ more_leaving (leaving self.old) ((state_of self.old).at slot) }
+        ensures numbers { numbers_of self.new ≡ numbers_of self.old }
+    {
+        let number = self.slots[slot as usize]?;
+        self.slots[slot as usize] = None;
+        self.full -= 1;
+        leave(&mut self.nodes, number as usize);
+        self.removed += 1;
+        Some(number)
+    }
+}
