@@ -1,0 +1,44 @@
+-- A request, without where it lies in memory.
+use Rattle.std.specs.Prelude.{ℕ, ℤ, Bool, ◌==◌, List, map, string_bytes}
+use Rattle.std.specs.Int.RustNames.{bit_and}
+use Rattle.fx_chain.specs.declared.flags.SqeFlags.{SqeFlags}
+use Rattle.fx_chain.specs.declared.request.Op.{Op}
+use Rattle.fx_chain.specs.declared.request.Op.TheVariants.{Open, Read, Close, Update}
+use Rattle.fx_chain.specs.declared.request.Request.{Request}
+use Rattle.fx_chain.specs.declared.request.Target.{Target}
+
+pub data Operation : Type 0 where
+  -- the name, and where the file goes
+  Opens : List ℕ → Target → Operation
+  -- the slot, the first byte and the number of bytes
+  Reads : ℕ → ℕ → ℕ → Operation
+  -- the slot
+  Closes : ℕ → Operation
+  -- the first slot, and the list
+  Updates : ℕ → List ℤ → Operation
+
+abbrev pub operation_of : Op → Operation
+operation_of (Open name target) = Opens (string_bytes name) target
+operation_of (Read slot off len) = Reads slot off len
+operation_of (Close slot) = Closes slot
+operation_of (Update off list) = Updates off list.items
+
+-- the request names its file by a slot
+abbrev pub is_fixed : SqeFlags → Bool
+is_fixed flags = bit_and flags.0 1 == 1
+
+-- the next request waits for this one
+abbrev pub is_link : SqeFlags → Bool
+is_link flags = bit_and flags.0 4 == 4
+
+-- what is asked
+pub record Asked : Type 0 where
+  pub operation : Operation
+  pub fixed : Bool
+  pub links : Bool
+
+abbrev pub asked_of : Request → Asked
+asked_of request = record { operation = operation_of request.op; fixed = is_fixed request.flags; links = is_link request.flags }
+
+abbrev pub all_asked : List Request → List Asked
+all_asked requests = map asked_of requests
