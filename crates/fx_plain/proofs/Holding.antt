@@ -1,18 +1,16 @@
 -- A file gets a hold, loses one, or is retired.
-use Rattle.std.proofs.Common.{◌≡◌, ◌≢◌, ℕ, ◌+◌, ◌-◌, ◌*◌, ◌<◌, ◌≤◌, ◌^◌, ◌==◌, ◌&&◌, not, Bool, true, false, if◌then◌else◌, List, [], length, refl, sym, ap, subst, ◌∙◌, slice_index, slice_index_or, slice_set, Option, Some, None, IfSome, arith}
+use Rattle.std.proofs.Common.{◌≡◌, ◌≢◌, ℕ, ◌+◌, ◌-◌, ◌<◌, ◌≤◌, ◌^◌, ◌==◌, ◌&&◌, not, Bool, true, false, if◌then◌else◌, List, [], length, refl, sym, ap, subst, ◌∙◌, slice_index, slice_index_or, slice_set, Option, Some, None, IfSome, arith}
 use Rattle.std.proofs.lemmas.List.{length-set, get_or-set_same, get_or-set_other, get_or_default}
 use Rattle.fx_base.specs.declared.open_file.Closed.{Closed}
 use Rattle.fx_plain.specs.declared.event.File.{File}
-use Rattle.fx_plain.specs.declared.event.Action.TheVariants.{Look, Release, Close}
-use Rattle.fx_plain.specs.State.{State}
+use Rattle.fx_plain.specs.declared.event.Action.TheVariants.{Look, Release}
 use Rattle.fx_plain.specs.Step.{Steps, changed_at, after}
 use Rattle.fx_plain.specs.History.{Leads, close_of, ◌▷◌, ◌▷▷◌}
-use Rattle.fx_plain.specs.Contents.{Contents, IsTable, IsCounted, state_of, slot_at, node_at, file_at, placed_at, leaving, removed_at, is_fresh, is_leaving, is_retired, file_in, retired, opened, itself, Fresh, At, Leaving, Retired, Gone}
+use Rattle.fx_plain.specs.Contents.{Contents, IsTable, IsCounted, state_of, slot_at, node_at, file_at, placed_at, leaving, removed_at, is_fresh, is_leaving, is_retired, file_in, retired, opened, itself, At, Leaving, Retired, Gone}
 use Rattle.fx_plain.specs.Table.{numbered, identity_of, closed_by_release, closed_by_retirement, HasRoomForHold}
-use Rattle.fx_plain.specs.Totals.{total}
 use Rattle.fx_plain.specs.declared.node.Node.{Node}
 use Rattle.fx_plain.proofs.Cells.{by_equality, unchanged, written, inside_of}
-use Rattle.fx_plain.proofs.TotalLemmas.{total_set, total_below, total_le, total_one}
+use Rattle.fx_plain.proofs.TotalLemmas.{total_set, total_below, total_one}
 use Rattle.fx_plain.proofs.Writes.{IsOff, inside_of-At, inside_of-Leaving, inside_of-Retired, leaving_is, retired_is, state_of-holds, state_of-nodes, leaving-nodes, same_file}
 
 -- the file at a slot
@@ -136,9 +134,9 @@ module _ (c : Contents) (n : ℕ) (t : IsTable c) (going : leaving c n ≡ true)
         tt,
         state_of-nodes c n (retired (node_at c.nodes n)) t node_inside off
             ∙ λ i. record (state_of c) {
-          removed = unchanged (state_of c).removed n (removed_at n (retired (node_at c.nodes n))) (ap (λ (x : Node). removed_at n (retired x)) was_leaving.1 ∙ sym (ap (removed_at n) was_leaving.1)) i;
-          fresh = unchanged (state_of c).fresh n (is_fresh (retired (node_at c.nodes n))) (ap (λ (x : Node). is_fresh (retired x)) was_leaving.1 ∙ sym (ap is_fresh was_leaving.1)) i;
-        },
+              removed = unchanged (state_of c).removed n (removed_at n (retired (node_at c.nodes n))) (ap (λ (x : Node). removed_at n (retired x)) was_leaving.1 ∙ sym (ap (removed_at n) was_leaving.1)) i;
+              fresh = unchanged (state_of c).fresh n (is_fresh (retired (node_at c.nodes n))) (ap (λ (x : Node). is_fresh (retired x)) was_leaving.1 ∙ sym (ap is_fresh was_leaving.1)) i;
+            },
       )
 
   pub none_closed : slice_index c.holds n ≢ 0 → identity_of (closed_by_retirement c n) ≡ None

@@ -4,3 +4,6 @@ pub mod Writes
 pub mod Removals
 pub mod Holding
 pub mod Settled
+pub mod Moving
+pub mod Emptying
+pub mod Opening

@@ -1,10 +1,9 @@
 -- A file leaves its slot, and another one may come in its place.
-use Rattle.std.proofs.Common.{◌≡◌, ◌≢◌, ℕ, ◌+◌, ◌-◌, ◌<◌, ◌≤◌, Bool, true, false, if◌then◌else◌, List, length, refl, sym, ap, subst, ◌∙◌, slice_index, slice_index_or, slice_set, ◌^◌, Option, Some, None, arith}
+use Rattle.std.proofs.Common.{◌≡◌, ◌≢◌, ℕ, ◌+◌, ◌-◌, ◌<◌, ◌≤◌, Bool, true, false, if◌then◌else◌, List, length, refl, sym, ap, subst, ◌∙◌, slice_index_or, slice_set, ◌^◌, Option, Some, None, arith}
 use Rattle.std.proofs.lemmas.List.{length-set, get_or-set_same, get_or-set_other, get_or_default}
 use Rattle.fx_base.specs.declared.open_file.Closed.{Closed}
 use Rattle.fx_plain.specs.declared.event.File.{File}
-use Rattle.fx_plain.specs.declared.event.Action.TheVariants.{Put, Clear, Take, Allocate}
-use Rattle.fx_plain.specs.State.{State, IsInRange}
+use Rattle.fx_plain.specs.declared.event.Action.TheVariants.{Put, Take}
 use Rattle.fx_plain.specs.Step.{Steps, changed_at, with_removed}
 use Rattle.fx_plain.specs.Contents.{Contents, IsTable, IsCounted, AllPlaced, state_of, slot_at, node_at, file_at, placed_at, leaving, removed_at, is_fresh, is_leaving, is_retired, left, filled, opened, Fresh, At, Leaving, Retired, Gone}
 use Rattle.fx_plain.specs.Table.{numbered, more_leaving}
@@ -12,7 +11,7 @@ use Rattle.fx_plain.specs.Totals.{total}
 use Rattle.fx_plain.specs.declared.node.Node.{Node}
 use Rattle.fx_plain.proofs.Cells.{by_equality, written, unchanged}
 use Rattle.fx_plain.proofs.TotalLemmas.{total_set, total_le}
-use Rattle.fx_plain.proofs.Writes.{inside_of-At, inside_of-Fresh, inside_of-Retired, fresh_is}
+use Rattle.fx_plain.proofs.Writes.{inside_of-At, inside_of-Fresh, fresh_is}
 
 abbrev pub removed_of : List Node → ℕ → Option File
 removed_of nodes n = removed_at n (node_at nodes n)
@@ -169,12 +168,15 @@ module _ (c : Contents) (slot n : ℕ) (file : Closed) (t : IsTable c) (inside :
       (written removed_at c.nodes n (At slot file) Gone n_inside ∙ unchanged (state_of c).removed n None (ap (removed_at n) (sym (fresh_is _ fresh))))
 
   pub put_steps : Steps (state_of c) (Put slot (numbered n file) ((state_of c).at slot)) (state_of (put_at c slot n file))
-  put_steps = ((inside, fresh, refl), λ i. record (state_of c) {
-    size = length-set c.slots slot (Some n) i;
-    at = λ u. put_at_at u i;
-    removed = put_removed i;
-    fresh = (fresh-gave_way with_file (slot_at c.slots slot) slot (still_names (slot_at c.slots slot) refl) ∙ written (λ q node. is_fresh node) c.nodes n (At slot file) Gone n_inside) i;
-  })
+  put_steps = (
+    (inside, fresh, refl),
+    λ i. record (state_of c) {
+      size = length-set c.slots slot (Some n) i;
+      at = λ u. put_at_at u i;
+      removed = put_removed i;
+      fresh = (fresh-gave_way with_file (slot_at c.slots slot) slot (still_names (slot_at c.slots slot) refl) ∙ written (λ q node. is_fresh node) c.nodes n (At slot file) Gone n_inside) i;
+    },
+  )
 
   pub put_leaving : leaving (put_at c slot n file) ≡ more_leaving (leaving c) ((state_of c).at slot)
   put_leaving =
@@ -203,9 +205,11 @@ module _ (c : Contents) (slot n : ℕ) (file : Closed) (t : IsTable c) (inside :
         (file, ap (node_at (gave_way with_file (slot_at c.slots slot))) (sym is) ∙ put_here ∙ ap (λ (s : ℕ). At s file) (sym same)))
         (λ apart at.
         let at_u : slot_at c.slots u ≡ Some m = sym (get_or-set_other c.slots slot u (Some n) None apart) ∙ at in
-        let there = t.placed u m at_u in
-        (there.0, node_else with_file (slot_at c.slots slot) m (λ old was. other_number c.slots c.nodes slot u old m t.placed apart was at_u)
-            ∙ get_or-set_other c.nodes n m (At slot file) Gone (fresh_number c u m n t fresh at_u) ∙ there.1));
+        let there = t.placed u m at_u in (
+          there.0,
+          node_else with_file (slot_at c.slots slot) m (λ old was. other_number c.slots c.nodes slot u old m t.placed apart was at_u)
+              ∙ get_or-set_other c.nodes n m (At slot file) Gone (fresh_number c u m n t fresh at_u) ∙ there.1,
+        ));
     held = λ m is. t.held m (put_retired m is);
   }
 

@@ -1,8 +1,6 @@
 -- What the counts of a table say of its state.
-use Rattle.std.proofs.Common.{◌≡◌, ℕ, zero, suc, ◌+◌, ◌<◌, ◌≤◌, ◌==◌, nat_eq, IsTrue, Bool, true, false, List, [], ◌∷◌, ◌++◌, length, length-append, replicate, refl, sym, ap, subst, ◌∙◌, slice_index, slice_index_or, Option, Some, None, IsSome, arith}
-use Rattle.fx_base.specs.declared.open_file.Closed.{Closed}
-use Rattle.fx_plain.specs.declared.event.File.{File}
-use Rattle.fx_plain.specs.State.{State, IsSettled, files_in_order, files_of, listed}
+use Rattle.std.proofs.Common.{◌≡◌, ℕ, zero, suc, ◌+◌, ◌≤◌, true, false, List, [], ◌∷◌, length, length-append, replicate, refl, sym, ap, subst, ◌∙◌, Option, Some, None, IsSome, arith}
+use Rattle.fx_plain.specs.State.{IsSettled, files_in_order, files_of, listed}
 use Rattle.fx_plain.specs.Contents.{Contents, IsTable, IsCounted, state_of, slot_at, node_at, file_at, placed_at, removed_at, filled, opened, itself, Fresh, At, Leaving, Retired, Gone}
 use Rattle.fx_plain.specs.Totals.{total}
 use Rattle.fx_plain.specs.declared.node.Node.{Node}

@@ -1,5 +1,5 @@
 -- Totals over lists, where one element is written.
-use Rattle.std.proofs.Common.{◌≡◌, ℕ, zero, suc, ◌+◌, ◌*◌, ◌<◌, ◌≤◌, List, [], ◌∷◌, ◌++◌, length, refl, slice_index_or, slice_set, replicate, All, arith}
+use Rattle.std.proofs.Common.{◌≡◌, ℕ, zero, suc, ◌+◌, ◌*◌, ◌<◌, ◌≤◌, List, [], ◌∷◌, ◌++◌, length, refl, slice_index_or, slice_set, replicate, arith}
 use Rattle.fx_plain.specs.Totals.{total}
 
 -- one element counts as the new one, and the others as before

@@ -1,9 +1,7 @@
 -- What is read of a table after one of its lists was written at one place.
-use Rattle.std.proofs.Common.{◌≡◌, ◌≢◌, ℕ, ◌+◌, ◌<◌, Bool, true, false, List, length, refl, sym, ap, ◌∙◌, slice_index, slice_set, Option, Some, None, arith}
-use Rattle.std.proofs.lemmas.List.{length-set, get_or-set_same, get_or-set_other}
+use Rattle.std.proofs.Common.{◌≡◌, ◌≢◌, ℕ, ◌<◌, true, List, length, refl, sym, ap, ◌∙◌, slice_set, Option, Some, None}
+use Rattle.std.proofs.lemmas.List.{get_or-set_other}
 use Rattle.fx_base.specs.declared.open_file.Closed.{Closed}
-use Rattle.fx_plain.specs.declared.event.File.{File}
-use Rattle.fx_plain.specs.State.{State}
 use Rattle.fx_plain.specs.Step.{changed_at}
 use Rattle.fx_plain.specs.Contents.{Contents, IsTable, state_of, slot_at, node_at, file_at, placed_at, leaving, removed_at, is_fresh, is_leaving, is_retired, Fresh, At, Leaving, Retired, Gone}
 use Rattle.fx_plain.specs.declared.node.Node.{Node}

@@ -1,4 +1,4 @@
-use Rattle.std.proofs.Common.{rules, sym, ap, ◌∙◌, ◌≡◌, ◌<◌, Option, Some, None, length, option_map, arith}
+use Rattle.std.proofs.Common.{rules, sym, ap, ◌∙◌, ◌<◌, Option, Some, None, length, option_map, arith}
 use Rattle.fx_plain.specs.declared.event.File.{File}
 use Rattle.fx_plain.specs.Contents.{Contents, state_of}
 use Rattle.fx_plain.specs.contracts.table.PlainTable.{the_view}

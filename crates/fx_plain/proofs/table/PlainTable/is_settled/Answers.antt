@@ -1,4 +1,4 @@
-use Rattle.std.proofs.Common.{◌≡◌, sym, subst, ◌∙◌, ap, nat_eq, eq-eqb, IsTrue}
+use Rattle.std.proofs.Common.{sym, subst, eq-eqb}
 use Rattle.std.proofs.lemmas.Bool.{eqb-true}
 use Rattle.fx_plain.specs.State.{IsSettled}
 use Rattle.fx_plain.specs.Contents.{Contents, state_of}

@@ -1,4 +1,4 @@
-use Rattle.std.proofs.Common.{rules, sym, ap, ◌∙◌, ◌≡◌, ◌<◌, ◌+◌, Some, None, length, subst, List, ℕ, arith}
+use Rattle.std.proofs.Common.{rules, sym, ◌<◌, ◌+◌, Some, None, length, subst, arith}
 use Rattle.fx_plain.specs.declared.event.Action.TheVariants.{Look}
 use Rattle.fx_plain.specs.Step.{Steps}
 use Rattle.fx_plain.specs.Contents.{Contents, IsTable, IsCounted, state_of}

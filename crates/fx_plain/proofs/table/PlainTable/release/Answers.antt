@@ -1,12 +1,12 @@
-use Rattle.std.proofs.Common.{rules, sym, ap, ◌∙◌, ◌≡◌, ◌≢◌, ◌<◌, ◌-◌, ◌+◌, [], true, false, length, subst, slice_index, arith}
+use Rattle.std.proofs.Common.{rules, sym, ap, ◌∙◌, ◌≡◌, ◌<◌, ◌-◌, [], true, false, length, subst, slice_index, arith}
 use Rattle.std.proofs.lemmas.List.{get_or_default}
 use Rattle.fx_plain.specs.declared.event.Action.TheVariants.{Release}
 use Rattle.fx_plain.specs.History.{Leads, close_of, ◌▷◌, ◌▷▷◌}
-use Rattle.fx_plain.specs.Contents.{Contents, IsTable, IsCounted, state_of, leaving, node_at, is_retired, Gone}
-use Rattle.fx_plain.specs.Table.{closed_by_release, identity_of}
+use Rattle.fx_plain.specs.Contents.{Contents, IsTable, IsCounted, state_of, node_at, is_retired, Gone}
+use Rattle.fx_plain.specs.Table.{closed_by_release}
 use Rattle.fx_plain.specs.contracts.table.PlainTable.{the_view}
 use Rattle.fx_plain.proofs.Removals.{carried}
-use Rattle.fx_plain.proofs.Holding.{with_holds, less_inside, less_counted, more_keeps, open_keeps, let_go_steps, let_go_keeps, let_go_counted, let_go_leaving, let_go_answers}
+use Rattle.fx_plain.proofs.Holding.{with_holds, less_inside, less_counted, more_keeps, open_keeps, let_go_steps, let_go_keeps, let_go_counted}
 use Rattle.fx_plain.proofs.table.PlainTable.release.Goals as goal
 
 pub overflow_sub-self : goal.overflow_sub-self

@@ -1,12 +1,12 @@
-use Rattle.std.proofs.Common.{rules, sym, ap, ◌∙◌, ◌≡◌, ◌≢◌, ◌<◌, ◌-◌, true, false, length, subst, slice_index, arith}
+use Rattle.std.proofs.Common.{rules, sym, ◌∙◌, ◌≡◌, ◌≢◌, ◌-◌, true, false, subst, slice_index}
 use Rattle.std.proofs.lemmas.List.{get_or_default}
 use Rattle.fx_plain.specs.Step.{changed_at}
 use Rattle.fx_plain.specs.History.{Leads, close_of}
 use Rattle.fx_plain.specs.Contents.{Contents, IsTable, IsCounted, state_of, leaving}
-use Rattle.fx_plain.specs.Table.{closed_by_retirement, identity_of}
+use Rattle.fx_plain.specs.Table.{closed_by_retirement}
 use Rattle.fx_plain.specs.contracts.table.PlainTable.{the_view}
 use Rattle.fx_plain.proofs.Removals.{carried}
-use Rattle.fx_plain.proofs.Holding.{with_nodes, retire_inside, retire_closes, retire_answers, retire_waits, none_closed, closed_leaving, retired_leaving, retire_close_keeps, retire_wait_keeps}
+use Rattle.fx_plain.proofs.Holding.{with_nodes, retire_inside, retire_closes, retire_waits, closed_leaving, retired_leaving, retire_close_keeps, retire_wait_keeps}
 use Rattle.fx_plain.proofs.table.PlainTable.retire.Goals as goal
 
 pub overflow_sub-self : goal.overflow_sub-self

@@ -1,7 +1,7 @@
 use Rattle.std.proofs.Common.{rules, sym, ◌≡◌, ◌<◌, Some, None, subst, length, ◌+◌, ◌-◌, arith}
 use Rattle.fx_plain.specs.declared.event.Action.TheVariants.{Take}
 use Rattle.fx_plain.specs.Step.{Steps}
-use Rattle.fx_plain.specs.Contents.{Contents, IsTable, IsCounted, state_of, leaving, slot_at}
+use Rattle.fx_plain.specs.Contents.{Contents, IsTable, IsCounted, state_of, leaving}
 use Rattle.fx_plain.specs.Table.{more_leaving}
 use Rattle.fx_plain.specs.contracts.table.PlainTable.{the_view}
 use Rattle.fx_plain.proofs.Writes.{inside_of-At}
