@@ -1,1 +1,3 @@
 pub mod Cells
+pub mod Sums
+pub mod Holders
