@@ -11,15 +11,8 @@ use Rattle.fx_plain.specs.declared.event.Event.{Event}
 use Rattle.fx_plain.specs.declared.event.Action.{Action}
 use Rattle.fx_plain.specs.declared.event.Action.TheVariants.{Look, Release, Put, Clear, Take, Allocate, Full, Close}
 use Rattle.fx_plain.proofs.Cells.{by_equality}
+use Rattle.fx_plain.proofs.Named.{named, named_itself}
 use Rattle.fx_plain.proofs.Sums.{sum_below, same_below, changed_below, sum_grows, sum_zero, term_below}
-
--- whether it is a file of the number, as a count
-abbrev pub named : ℕ → Option File → ℕ
-named n None = 0
-named n (Some f) = if f.number == n then 1 else 0
-
-named_itself : (f : File) → named f.number (Some f) ≡ 1
-named_itself f = by_equality f.number f.number (λ b. ◌≡◌ {A = ℕ} (if b then 1 else 0) 1) (λ _. refl) (λ apart. absurd (apart refl))
 
 -- the holds of a number that an action takes, and those that it gives up
 abbrev taken : ℕ → Action → ℕ

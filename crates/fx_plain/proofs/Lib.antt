@@ -1,3 +1,5 @@
 pub mod Cells
 pub mod Sums
+pub mod Named
 pub mod Holders
+pub mod Tallies
