@@ -3,3 +3,4 @@ pub mod Sums
 pub mod Named
 pub mod Holders
 pub mod Tallies
+pub mod Followed

@@ -43,7 +43,7 @@ placed_change n at slot size x lt =
         changed_below (λ s. named n (at s)) (λ s. named n (changed_at at slot x s)) slot (λ k apart. ap (named n) (changed_off at slot k x apart)) size lt in
     e ∙ ap (λ (y : Option File). placed n at size + named n y) (changed_there at slot slot x refl)
 
-placed_one : (n : ℕ) (at : ℕ → Option File) (slot size : ℕ) → slot < size → named n (at slot) ≤ placed n at size
+pub placed_one : (n : ℕ) (at : ℕ → Option File) (slot size : ℕ) → slot < size → named n (at slot) ≤ placed n at size
 placed_one n at slot size lt = term_below (λ s. named n (at s)) size slot lt
 
 -- a fresh number is used up
