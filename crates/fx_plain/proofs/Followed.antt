@@ -1,5 +1,5 @@
 -- A file from its slot to its close.
-use Rattle.std.proofs.Common.{◌≡◌, ◌≢◌, ◌⊎◌, ℕ, ◌+◌, ◌<◌, ◌≤◌, Bool, true, false, List, [], ◌∷◌, ◌++◌, map, length, refl, sym, ap, subst, ◌∙◌, Option, Some, None, if◌then◌else◌, arith, inl, inr}
+use Rattle.std.proofs.Common.{◌≡◌, ◌⊎◌, ℕ, ◌+◌, ◌<◌, ◌≤◌, Bool, true, false, List, [], ◌∷◌, ◌++◌, map, length, refl, sym, ap, subst, ◌∙◌, Option, Some, None, if◌then◌else◌, arith, inl, inr}
 use Rattle.fx_plain.specs.State.{State, IsSettled}
 use Rattle.fx_plain.specs.Step.{Allows, after, changed_at, with_removed}
 use Rattle.fx_plain.specs.History.{state_after, AllowsAll, action_of}
@@ -11,7 +11,7 @@ use Rattle.fx_plain.specs.declared.event.Action.TheVariants.{Look, Release, Put,
 use Rattle.fx_plain.proofs.Cells.{by_equality}
 use Rattle.fx_plain.proofs.Named.{named, named_itself, named_same, named_file}
 use Rattle.fx_plain.proofs.Sums.{term_found}
-use Rattle.fx_plain.proofs.Tallies.{bit, present, placed, placed_one, tally, changed_there, changed_off, tally_after, tally_all, tally_start}
+use Rattle.fx_plain.proofs.Tallies.{bit, present, placed, placed_one, tally, changed_there, tally_after, tally_all, tally_start}
 
 -- no other file has the file's number
 record IsOnly (f : File) (st : State) : Type 0 where
@@ -128,7 +128,7 @@ followed_after f st closed a before may = record {
   used = used_after st a f.number before.used;
   only = only_after f st a before.used before.only may;
   one_of = moved_on f (tally f.number st) (tally f.number (after st a)) closed (closed_of f.number a) before.one_of
-    (tally_after st a f.number may (few_there f (tally f.number st) closed before.one_of)) (only_close f st a before.only may);
+      (tally_after st a f.number may (few_there f (tally f.number st) closed before.one_of)) (only_close f st a before.only may);
 }
 
 followed_from_start : (f : File) (st : State) → IsStart st → IsAtSlot st f → IsFollowed f st []

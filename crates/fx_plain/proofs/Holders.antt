@@ -1,7 +1,6 @@
 -- While a pass releases nothing, the file that it looked up keeps a hold.
-use Rattle.std.proofs.Common.{◌≡◌, ◌≢◌, ℕ, zero, suc, ◌+◌, ◌-◌, ◌<◌, ◌≤◌, ◌==◌, Bool, true, false, List, [], ◌∷◌, ◌++◌, map, filter, refl, sym, ap, subst, ◌∙◌, Option, Some, None, if◌then◌else◌, arith, inl, inr}
+use Rattle.std.proofs.Common.{◌≡◌, ◌≢◌, ℕ, suc, ◌+◌, ◌-◌, ◌<◌, ◌≤◌, ◌==◌, List, [], ◌∷◌, ◌++◌, map, refl, sym, ap, subst, ◌∙◌, Option, Some, None, if◌then◌else◌, arith, inl, inr}
 use Rattle.std.proofs.lemmas.Bool.{cases_lt}
-use Rattle.fx_base.specs.declared.open_file.Closed.{Closed}
 use Rattle.fx_plain.specs.State.{State}
 use Rattle.fx_plain.specs.Step.{Allows, after, changed_at}
 use Rattle.fx_plain.specs.History.{state_after, AllowsAll, action_of, held_after, held_by, ReleasesItsOwn, AllReleaseTheirOwn, part_of_pass}
@@ -12,7 +11,7 @@ use Rattle.fx_plain.specs.declared.event.Action.{Action}
 use Rattle.fx_plain.specs.declared.event.Action.TheVariants.{Look, Release, Put, Clear, Take, Allocate, Full, Close}
 use Rattle.fx_plain.proofs.Cells.{by_equality}
 use Rattle.fx_plain.proofs.Named.{named, named_itself}
-use Rattle.fx_plain.proofs.Sums.{sum_below, same_below, changed_below, sum_grows, sum_zero, term_below}
+use Rattle.fx_plain.proofs.Sums.{sum_below, same_below, changed_below, sum_grows, sum_zero}
 
 -- the holds of a number that an action takes, and those that it gives up
 abbrev taken : ℕ → Action → ℕ
@@ -63,10 +62,12 @@ pub record IsCovered (claims : ℕ → ℕ) (holds : ℕ) : Type 0 where
 -- one pass claims more or less
 covered_after : (claims others : ℕ → ℕ) (q holds left up down : ℕ) → ((k : ℕ) → k ≢ q → others k ≡ claims k)
     → others q + down ≤ claims q + up → left + down ≡ holds + up → IsCovered claims holds → IsCovered others left
-covered_after claims others q holds left up down off here now cover = record { below = λ bound. elim (cases_lt q bound) [
+covered_after claims others q holds left up down off here now cover = record {
+  below = λ bound. elim (cases_lt q bound) [
     | inl lt ↦ let e = changed_below claims others q off bound lt in let le = cover.below bound in omega arith
     | inr ge ↦ let e = same_below claims others q off bound ge in let more = sum_grows claims bound q ge in let le : claims q + sum_below claims q ≤ holds = cover.below (suc q) in omega arith
-  ] }
+  ];
+}
 
 -- what a pass holds of a number
 abbrev holding : ℕ → List Event → ℕ → ℕ
@@ -95,7 +96,7 @@ covered start (e ∷ h) n may own =
     let st = state_after start (map action_of h) in
     let change : holding n (e ∷ h) e.pass + given n e.action ≤ holding n h e.pass + taken n e.action = rw (own_held e h) (own_change n (held_by h e.pass) e.action own.1) in
     covered_after (holding n h) (holding n (e ∷ h)) e.pass (st.holds n) ((after st e.action).holds n) (taken n e.action) (given n e.action)
-      (other_holds n e h) change (holds_after st e.action n may.1) (covered start h n may.0 own.0)
+    (other_holds n e h) change (holds_after st e.action n may.1) (covered start h n may.0 own.0)
 
 given_none : (n : ℕ) (a : Action) → released_by a ≡ [] → given n a ≡ 0
 given_none n (Look slot found) is = refl
@@ -132,12 +133,12 @@ kept start h (e ∷ since) p n cover may own is =
     let st = state_after start (map action_of all) in
     let (before, now) = kept_on p e since is in
     let change : keeping p n (e ∷ all) e.pass + given n e.action ≤ keeping p n all e.pass + taken n e.action =
-        by_equality e.pass p (λ b. (if b then 1 else holding n (e ∷ all) e.pass) + given n e.action ≤ (if b then 1 else holding n all e.pass) + taken n e.action)
-          (λ same. let none_given = given_none n e.action (now same) in omega arith)
-          (λ _. rw (own_held e all) (own_change n (held_by all e.pass) e.action own.1)) in
+    by_equality e.pass p (λ b. (if b then 1 else holding n (e ∷ all) e.pass) + given n e.action ≤ (if b then 1 else holding n all e.pass) + taken n e.action)
+    (λ same. let none_given = given_none n e.action (now same) in omega arith)
+    (λ _. rw (own_held e all) (own_change n (held_by all e.pass) e.action own.1)) in
     covered_after (keeping p n all) (keeping p n (e ∷ all)) e.pass (st.holds n) ((after st e.action).holds n) (taken n e.action) (given n e.action)
-      (λ k apart. ap (λ (x : ℕ). if k == p then 1 else x) (other_holds n e all k apart)) change (holds_after st e.action n may.1)
-      (kept start h since p n cover may.0 own.0 before)
+    (λ k apart. ap (λ (x : ℕ). if k == p then 1 else x) (other_holds n e all k apart)) change (holds_after st e.action n may.1)
+    (kept start h since p n cover may.0 own.0 before)
 
 -- a number with a hold isn't closed
 no_close : (st : State) (a : Action) (n : ℕ) → Allows st a → 0 < st.holds n → closed_of n a ≡ []
@@ -178,7 +179,7 @@ looked before look slot f holds is cover =
     let found : held_by h look.pass ≡ Some f = own_held look before ∙ ap (held_after (held_by before look.pass)) is in
     let one : holding n h look.pass ≡ 1 = ap (named n) found ∙ named_itself f in
     let agree : (k : ℕ) → holding n h k ≡ keeping look.pass n h k =
-        λ k. by_equality k look.pass (λ b. holding n h k ≡ (if b then 1 else holding n h k)) (λ same. ap (holding n h) same ∙ one) (λ _. refl) in
+    λ k. by_equality k look.pass (λ b. holding n h k ≡ (if b then 1 else holding n h k)) (λ same. ap (holding n h) same ∙ one) (λ _. refl) in
     subst (λ (claims : ℕ → ℕ). IsCovered claims holds) (λ i k. agree k i) cover
 
 allowed_before : (start : State) (h others : List Event) → AllowsAll start (map action_of (others ++ h)) → AllowsAll start (map action_of h)

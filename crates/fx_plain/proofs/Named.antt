@@ -1,5 +1,5 @@
 -- Whether a file has a number, as a count.
-use Rattle.std.proofs.Common.{◌≡◌, ◌≢◌, ℕ, ◌+◌, ◌<◌, ◌≤◌, ◌==◌, Bool, true, false, refl, sym, ap, ◌∙◌, Option, Some, None, if◌then◌else◌, arith}
+use Rattle.std.proofs.Common.{◌≡◌, ◌≢◌, ℕ, ◌<◌, ◌≤◌, ◌==◌, refl, Option, Some, None, if◌then◌else◌, arith}
 use Rattle.fx_plain.specs.declared.event.File.{File}
 use Rattle.fx_plain.proofs.Cells.{by_equality}
 

@@ -1,5 +1,5 @@
 -- Sums of a function over the numbers below a bound.
-use Rattle.std.proofs.Common.{◌≡◌, ◌≢◌, ◌⊎◌, ℕ, zero, suc, ◌+◌, ◌<◌, ◌≤◌, refl, ap, arith, inl, inr, ◌∙◌, sym}
+use Rattle.std.proofs.Common.{◌≡◌, ◌≢◌, ℕ, zero, suc, ◌+◌, ◌<◌, ◌≤◌, refl, ap, arith, inl, inr}
 use Rattle.std.proofs.lemmas.Bool.{cases_lt}
 use Rattle.fx_plain.proofs.Cells.{by_equality}
 
@@ -41,9 +41,9 @@ module _ (f : ℕ → ℕ) where
   sum_one zero small single = omega arith
   sum_one (suc n) small single = elim (cases_lt 0 (f n)) [
     | inl here ↦ let rest : sum_below f n ≡ 0 = sum_zero n (λ k lt. elim (cases_lt 0 (f k)) [
-        | inl there ↦ let e = single k n (omega arith) (omega arith) there here in absurd (omega arith)
-        | inr no_term ↦ omega arith
-      ]) in let one_term = small n in omega arith
+      | inl there ↦ let e = single k n (omega arith) (omega arith) there here in absurd (omega arith)
+      | inr no_term ↦ omega arith
+    ]) in let one_term = small n in omega arith
     | inr no_term ↦ let rest = sum_one n small (λ j k below_j below_k. single j k (omega arith) (omega arith)) in omega arith
   ]
 

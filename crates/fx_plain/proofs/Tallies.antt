@@ -1,7 +1,7 @@
 -- Each number is fresh, or at a slot, or removed, or closed, and passes from one to the next.
-use Rattle.std.proofs.Common.{◌≡◌, ◌≢◌, ℕ, ◌+◌, ◌-◌, ◌<◌, ◌≤◌, ◌==◌, Bool, true, false, List, [], ◌∷◌, ◌++◌, map, length, refl, sym, ap, ◌∙◌, Option, Some, None, if◌then◌else◌, arith, inl, inr, length-append}
+use Rattle.std.proofs.Common.{◌≡◌, ◌≢◌, ℕ, ◌+◌, ◌<◌, ◌≤◌, Bool, true, false, List, [], ◌∷◌, map, length, refl, sym, ap, ◌∙◌, Option, Some, None, if◌then◌else◌, arith, inl, inr, length-append}
 use Rattle.std.proofs.lemmas.Bool.{cases_lt}
-use Rattle.fx_plain.specs.State.{State, IsSettled}
+use Rattle.fx_plain.specs.State.{State}
 use Rattle.fx_plain.specs.Step.{Allows, after, changed_at, with_removed}
 use Rattle.fx_plain.specs.History.{state_after, AllowsAll, action_of}
 use Rattle.fx_plain.specs.Laws.{IsStart, if_numbered, closed_of, closes_of}
@@ -40,7 +40,7 @@ placed_change : (n : ℕ) (at : ℕ → Option File) (slot size : ℕ) (x : Opti
     → placed n (changed_at at slot x) size + named n (at slot) ≡ placed n at size + named n x
 placed_change n at slot size x lt =
     let e : placed n (changed_at at slot x) size + named n (at slot) ≡ placed n at size + named n (changed_at at slot x slot) =
-        changed_below (λ s. named n (at s)) (λ s. named n (changed_at at slot x s)) slot (λ k apart. ap (named n) (changed_off at slot k x apart)) size lt in
+    changed_below (λ s. named n (at s)) (λ s. named n (changed_at at slot x s)) slot (λ k apart. ap (named n) (changed_off at slot k x apart)) size lt in
     e ∙ ap (λ (y : Option File). placed n at size + named n y) (changed_there at slot slot x refl)
 
 pub placed_one : (n : ℕ) (at : ℕ → Option File) (slot size : ℕ) → slot < size → named n (at slot) ≤ placed n at size
@@ -109,16 +109,16 @@ tally_all start (e ∷ h) n few may =
 -- a fresh number is at no slot, at the start
 none_placed : (st : State) (n : ℕ) → IsStart st → st.fresh n ≡ true → placed n st.at st.size ≡ 0
 none_placed st n start fresh = sum_zero (λ slot. named n (st.at slot)) st.size (λ slot lt. elim (cases_lt 0 (named n (st.at slot))) [
-    | inl some_there ↦ let (f, is, same) = named_file n (st.at slot) some_there in let clash : false ≡ true = sym (start.used slot f lt is) ∙ ap st.fresh same ∙ fresh in cc
-    | inr no_file ↦ omega arith
-  ])
+  | inl some_there ↦ let (f, is, same) = named_file n (st.at slot) some_there in let clash : false ≡ true = sym (start.used slot f lt is) ∙ ap st.fresh same ∙ fresh in cc
+  | inr no_file ↦ omega arith
+])
 
 -- at the start each number is once in a table at most
 pub tally_start : (st : State) (n : ℕ) → IsStart st → tally n st ≤ 1
 tally_start st n start =
     let closed : present (st.removed n) ≡ 0 = ap present (start.settled.closed n) in
     let single : placed n st.at st.size ≤ 1 = sum_one (λ slot. named n (st.at slot)) st.size (λ slot. named_at_most_one n (st.at slot))
-        (λ j k below_j below_k at_j at_k. let (f, is_f, same_f) = named_file n (st.at j) at_j in let (g, is_g, same_g) = named_file n (st.at k) at_k in start.distinct j k f g below_j below_k is_f is_g (same_f ∙ sym same_g)) in
+    (λ j k below_j below_k at_j at_k. let (f, is_f, same_f) = named_file n (st.at j) at_j in let (g, is_g, same_g) = named_file n (st.at k) at_k in start.distinct j k f g below_j below_k is_f is_g (same_f ∙ sym same_g)) in
     elim (st.fresh n) as (λ b. st.fresh n ≡ b → bit b + placed n st.at st.size + present (st.removed n) ≤ 1) [
       | true ↦ λ fresh. let no_slot = none_placed st n start fresh in omega arith
       | false ↦ λ fresh. omega arith
