@@ -1,6 +1,11 @@
 pub mod Cells
+pub mod TotalLemmas
+pub mod Writes
+pub mod Removals
+pub mod Holding
+pub mod Settled
 pub mod Sums
 pub mod Named
-pub mod Holders
-pub mod Tallies
-pub mod Followed
+pub mod LawHolds
+pub mod LawTallies
+pub mod LawFiles

@@ -1,4 +1,4 @@
-use Rattle.fx_plain.proofs.Tallies.{closed_at_most_once}
+use Rattle.fx_plain.proofs.LawTallies.{closed_at_most_once}
 use Rattle.fx_plain.proofs.laws.closed_at_most_once.Goals as goal
 
 pub returns : goal.returns

@@ -1,4 +1,4 @@
-use Rattle.fx_plain.proofs.Followed.{every_removed_file_is_closed}
+use Rattle.fx_plain.proofs.LawFiles.{every_removed_file_is_closed}
 use Rattle.fx_plain.proofs.laws.every_removed_file_is_closed.Goals as goal
 
 pub returns : goal.returns

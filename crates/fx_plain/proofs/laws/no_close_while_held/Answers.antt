@@ -1,4 +1,4 @@
-use Rattle.fx_plain.proofs.Holders.{no_close_while_held}
+use Rattle.fx_plain.proofs.LawHolds.{no_close_while_held}
 use Rattle.fx_plain.proofs.laws.no_close_while_held.Goals as goal
 
 pub returns : goal.returns

@@ -11,7 +11,7 @@ use Rattle.fx_plain.specs.declared.event.Action.TheVariants.{Look, Release, Put,
 use Rattle.fx_plain.proofs.Cells.{by_equality}
 use Rattle.fx_plain.proofs.Named.{named, named_itself, named_same, named_file}
 use Rattle.fx_plain.proofs.Sums.{term_found}
-use Rattle.fx_plain.proofs.Tallies.{bit, present, placed, placed_one, tally, changed_there, tally_after, tally_all, tally_start}
+use Rattle.fx_plain.proofs.LawTallies.{bit, present, placed, placed_one, tally, changed_there, tally_after, tally_all, tally_start}
 
 -- no other file has the file's number
 record IsOnly (f : File) (st : State) : Type 0 where
