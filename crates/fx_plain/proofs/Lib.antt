@@ -7,3 +7,8 @@ pub mod Settled
 pub mod Moving
 pub mod Emptying
 pub mod Opening
+pub mod Sums
+pub mod Named
+pub mod LawHolds
+pub mod LawTallies
+pub mod LawFiles
