@@ -59,7 +59,7 @@ fine chains members installs r none =
       not_last = λ zero_is. elim (and_cases (members == 0) (chains == 1023) f.0) [ inl differs ↦ absurd (eqb-false members 0 differs zero_is) | inr differs ↦ eqb-false chains 1023 differs ];
     }
 
-all_installs-push : (xs : List Asked) (r : Asked) → all_installs (xs ++ r ∷ []) ≡ all_installs xs + installs_of r.operation
+pub all_installs-push : (xs : List Asked) (r : Asked) → all_installs (xs ++ r ∷ []) ≡ all_installs xs + installs_of r.operation
 all_installs-push xs r = sum_by-append (λ request. installs_of request.operation) xs (r ∷ []) ∙ omega arith
 
 abbrev pub chains_after : ℕ → ℕ → ℕ

@@ -6,7 +6,7 @@ use Rattle.std.proofs.lemmas.Bool.{and_right, cases_Bool, ne_eqb}
 use Rattle.std.proofs.lemmas.List.Sums.{AllPass-from_list_all, list_all-from_AllPass}
 use Rattle.std.proofs.lemmas.List.Elements.{All-nil, All-cons, All-head, All-tail}
 use Rattle.fx_chain.specs.Operation.{Asked}
-use Rattle.fx_chain.specs.Runs.{but_last, is_over, AreRuns, in_front, runs_of, open_run}
+use Rattle.fx_chain.specs.Runs.{but_last, is_over, AreRuns, AreTheOnlyRuns, in_front, runs_of, open_run}
 
 -- what each request does that is a member of a run and not its last
 abbrev pub AllLink : List Asked → Type 0
@@ -104,6 +104,9 @@ parted (run ∷ next ∷ runs) some linked over =
 -- there are no other runs
 pub only_runs : (requests : List Asked) (runs : List (List Asked)) → AreRuns requests runs → runs ≡ runs_of requests
 only_runs requests runs are = sym (parted runs are.not_empty are.linked are.over) ∙ ap runs_of are.whole
+
+pub the_only_runs : (requests : List Asked) → AreTheOnlyRuns requests (runs_of requests)
+the_only_runs requests = record { are = are_runs requests; only = only_runs requests }
 
 pub AllLink-test : (requests : List Asked) → AllLink requests → list_all (λ r. r.links) requests ≡ true
 AllLink-test requests link = list_all-from_AllPass (λ r. r.links) requests link

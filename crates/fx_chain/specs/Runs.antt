@@ -23,6 +23,11 @@ pub record AreRuns (requests : List Asked) (runs : List (List Asked)) : Type 0 w
   pub linked : All (λ run. All (λ request. request.links ≡ true) (but_last run)) runs
   pub over : All (λ run. is_over run ≡ true) (but_last runs)
 
+-- the one way to part the list so
+pub record AreTheOnlyRuns (requests : List Asked) (runs : List (List Asked)) : Type 0 where
+  pub are : AreRuns requests runs
+  pub only : (others : List (List Asked)) → AreRuns requests others → others ≡ runs
+
 -- a request in front of the first run, or a run alone where there is none
 abbrev pub in_front : Asked → List (List Asked) → List (List Asked)
 in_front request [] = (request ∷ []) ∷ []

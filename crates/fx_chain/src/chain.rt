@@ -1,8 +1,8 @@
-ghost use Rattle.std.specs.Prelude.{◌≡◌, List, All, IfOk};
+ghost use Rattle.std.specs.Prelude.{◌≡◌, All, IfOk};
 ghost use Rattle.fx_chain.specs.Accepted.{IsAccepted, IsChain};
 ghost use Rattle.fx_chain.specs.Chains.{chains_of};
-ghost use Rattle.fx_chain.specs.Operation.{Asked, all_asked};
-ghost use Rattle.fx_chain.specs.Runs.{AreRuns, runs_of};
+ghost use Rattle.fx_chain.specs.Operation.{all_asked};
+ghost use Rattle.fx_chain.specs.Runs.{AreTheOnlyRuns, runs_of};
 
 use crate::request::Request;
 use fx_base::NoMemory;
@@ -24,8 +24,7 @@ pub struct Chain {
 pub fn cut(alloc: Global, requests: &[Request]) -> Result<Vec<Chain>, NoMemory>
     requires { IsAccepted (all_asked requests.now) }
     ensures chains { IfOk result (λ chains. chains.items ≡ chains_of (runs_of (all_asked requests.now))) }
-    ensures runs { AreRuns (all_asked requests.now) (runs_of (all_asked requests.now)) }
-    ensures no_other_runs { (runs : List (List Asked)) → AreRuns (all_asked requests.now) runs → runs ≡ runs_of (all_asked requests.now) }
+    ensures runs { AreTheOnlyRuns (all_asked requests.now) (runs_of (all_asked requests.now)) }
     ensures within { IfOk result (λ chains. All (IsChain (all_asked requests.now)) chains.items) }
 {
     let mut chains = Vec::new(alloc);
