@@ -1,0 +1,51 @@
+use Rattle.std.proofs.Common.{ℕ, Vec, Global, ◌≡◌, ◌+◌, ◌-◌, ◌<◌, ◌≤◌, ◌⊎◌, inl, inr, length, true, false, All, List, ◌∷◌, ◌++◌, [], refl, sym, ap, ◌∙◌, subst, arith, rules}
+use Rattle.std.proofs.lemmas.Bool.{not-true, not-false}
+use Rattle.fx_chain.specs.Accepted.{IsAccepted, IsChain}
+use Rattle.fx_chain.specs.Chains.{chains_of}
+use Rattle.fx_chain.specs.Operation.{asked_of, all_asked}
+use Rattle.fx_chain.specs.Runs.{runs_of}
+use Rattle.fx_chain.specs.declared.chain.Chain.{Chain}
+use Rattle.fx_chain.proofs.Accepted.{accepted-length}
+use Rattle.fx_chain.proofs.Chains.{accepted-chains}
+use Rattle.fx_chain.proofs.Cutting.{IsCut, cut_none, cut_ends, cut_goes_on, cut_all}
+use Rattle.fx_chain.proofs.Runs.{the_only_runs}
+use Rattle.fx_chain.proofs.chain.cut.Goals as goal
+use Rattle.fx_chain.proofs.chain.cut.Goals.{then-not-links+in_ok-push, then-not-links-via-then-not-links, then-not-links-via-else-not-links+then-i-requests, else-not-links+else-i-requests}
+
+pub loop-i-init : goal.loop-i-init
+loop-i-init c = subst (λ (made : List Chain). IsCut c.args.requests.now made 0 0) (sym c.new-chains.ensures.items) (cut_none c.args.requests.now c.requires)
+
+pub loop-i-preserved : goal.loop-i-preserved
+loop-i-preserved c =
+    let i = c.loop-i.i in
+    let x = c.index-requests-i.result in
+    let requests = c.args.requests.now in
+    let begun = c.loop-i.invariant.begun in
+    let so : IsCut requests c.loop-i.chains.items c.loop-i.first i = c.loop-i.invariant in
+    elim c.if-not-links.branch [
+      | then-not-links+in_ok-push w ↦
+          let last : ((asked_of x).links ≡ false) ⊎ (length requests ≤ i + 1) = elim w.then-not-links.branch [
+            | then-not-links-via-then-not-links v ↦ inl (sym c.links.ensures ∙ v.if-not-links.true)
+            | then-not-links-via-else-not-links+then-i-requests v ↦ inr (omega arith)
+          ] in
+          let items : c.if-not-links.chains.items ≡ c.loop-i.chains.items ++ record { first = c.loop-i.first; len = i + 1 - c.loop-i.first } ∷ [] = ap (λ (v : Vec Chain Global). v.items) w.chains-is ∙ w.in_ok-push.ensures.items in
+          subst (λ (made : List Chain). IsCut requests made c.if-not-links.first (i + 1)) (sym items)
+          (subst (λ (n : ℕ). IsCut requests (c.loop-i.chains.items ++ record { first = c.loop-i.first; len = i + 1 - c.loop-i.first } ∷ []) n (i + 1)) (sym w.first-is)
+          (cut_ends requests c.loop-i.first i x begun c.loop-i-test.true c.index-requests-i.is c.loop-i.chains.items so last))
+      | else-not-links+else-i-requests w ↦
+          let links : (asked_of x).links ≡ true = sym c.links.ensures ∙ w.if-not-links.false in
+          subst (λ (made : List Chain). IsCut requests made c.if-not-links.first (i + 1)) (sym (ap (λ (v : Vec Chain Global). v.items) w.chains-is))
+          (subst (λ (n : ℕ). IsCut requests c.loop-i.chains.items n (i + 1)) (sym w.first-is)
+          (cut_goes_on requests c.loop-i.first i x begun c.loop-i-test.true c.index-requests-i.is c.loop-i.chains.items so links (omega arith)))
+    ]
+
+pub returns-in_err-push-clause-runs : goal.returns-in_err-push-clause-runs
+returns-in_err-push-clause-runs c = the_only_runs (all_asked c.args.requests.now)
+
+pub returns-clause-runs : goal.returns-clause-runs
+returns-clause-runs c = the_only_runs (all_asked c.args.requests.now)
+
+pub returns-clause-within : goal.returns-clause-within
+returns-clause-within c =
+    let asked = all_asked c.args.requests.now in
+    subst (All (IsChain asked)) (sym (cut_all c.args.requests.now c.loop-i.chains.items c.loop-i.first c.loop-i.i c.loop-i.invariant (omega arith))) (accepted-chains asked c.requires)

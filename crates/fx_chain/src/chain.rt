@@ -1,0 +1,43 @@
+ghost use Rattle.std.specs.Prelude.{◌≡◌, All, IfOk};
+ghost use Rattle.fx_chain.specs.Accepted.{IsAccepted, IsChain};
+ghost use Rattle.fx_chain.specs.Chains.{chains_of};
+ghost use Rattle.fx_chain.specs.Operation.{all_asked};
+ghost use Rattle.fx_chain.specs.Runs.{AreTheOnlyRuns, runs_of};
+
+use crate::request::Request;
+use fx_base::NoMemory;
+use std::alloc::Global;
+
+/// The members of a submission that are linked with each other (io_uring_enter(2), "IOSQE_IO_LINK").
+#[derive(Clone, Copy, Debug, PartialEq, Eq)]
+pub struct Chain {
+    /// How many requests stand before its first member, at most 16,352.
+    pub first: u32,
+    /// How many members it has, from 1 to 16.
+    pub len: u32,
+}
+
+/// The chains of a submission that [`crate::check`] accepts, in order.
+///
+/// # Errors
+/// `NoMemory` where the memory for the list of chains is refused.
+pub fn cut(alloc: Global, requests: &[Request]) -> Result<Vec<Chain>, NoMemory>
+    requires { IsAccepted (all_asked requests.now) }
+    ensures chains { IfOk result (λ chains. chains.items ≡ chains_of (runs_of (all_asked requests.now))) }
+    ensures runs { AreTheOnlyRuns (all_asked requests.now) (runs_of (all_asked requests.now)) }
+    ensures within { IfOk result (λ chains. All (IsChain (all_asked requests.now)) chains.items) }
+{
+    let mut chains = Vec::new(alloc);
+    let mut first = 0;
+    for (i, request) in requests.iter().enumerate() {
+        if !request.links() || i + 1 == requests.len() {
+            let len = i + 1 - first;
+            chains.push(Chain {
+                first: first as u32,
+                len: len as u32,
+            })?;
+            first = i + 1;
+        }
+    }
+    Ok(chains)
+}
