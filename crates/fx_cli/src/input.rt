@@ -1,5 +1,4 @@
-ghost use Rattle.std.specs.Prelude.{◌≡◌, IfOk, IfErr, IfSome, take, ◌⊎◌};
-ghost use Rattle.fx_cli.specs.declared.fault.FirstFault.TheVariants.{NoMemory};
+ghost use Rattle.std.specs.Prelude.{◌≡◌, IfOk, IfSome, take};
 
 use crate::fault::FirstFault;
 use std::alloc::Global;
@@ -10,6 +9,17 @@ const MOST_TURNS: u32 = 8_388_608;
 
 /// How many bytes are kept: one more than a script may have.
 const MOST_BYTES: usize = 4_194_305;
+
+// The first bytes, at most so many.
+fn front(bytes: &[u8], most: usize) -> &[u8]
+    ensures { result.now ≡ take most bytes.now }
+{
+    if most < bytes.len() {
+        &bytes[..most]
+    } else {
+        bytes
+    }
+}
 
 /// Reads to the end, and keeps the first 4,194,305 bytes, so that a script that is too long is known to be (this
 /// project's own).
@@ -30,7 +40,7 @@ pub fn read_all<R: Read>(alloc: Global, reader: &mut R) -> Result<Vec<u8>, First
             return Ok(input);
         }
         let room = MOST_BYTES - input.len();
-        input.extend_from_slice(&buffer[..n.min(room)])?;
+        input.extend_from_slice(front(&buffer[..n], room))?;
     }
     Err(FirstFault::Read)
 }

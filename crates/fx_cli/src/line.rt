@@ -283,7 +283,7 @@ fn by_words(alloc: Global, words: &[&str]) -> Result<Option<Line>, AllocError>
         "sparse" => sparse(alloc, words),
         "range" => range(alloc, words),
         "submit" => Ok(submit(words)),
-        command => request_line(alloc, command, words),
+        _ => request_line(alloc, command, words),
     }
 }
 
