@@ -4,3 +4,5 @@ pub mod Refusal
 pub mod Script
 pub mod ScriptView
 pub mod Text
+pub mod Performs
+pub mod Entries

@@ -7,7 +7,12 @@ mod input;
 mod line;
 mod list;
 mod number;
+
+mod perform;
+mod removal;
 mod script;
+mod supply;
 mod text;
+mod update;
 
 fn main(rt: HostRuntime) {}
