@@ -46,7 +46,7 @@ fits requests before (x ∷ xs) later is accepted closed some linked =
     let split = but_last-last x xs in
     let front = but_last (x ∷ xs) in
     let whole : requests ≡ (before ++ front) ++ split.0 ∷ later =
-        is ∙ ap (λ ys. before ++ (ys ++ later)) split.1 ∙ ap (λ ys. before ++ ys) (append_assoc front (split.0 ∷ []) later) ∙ sym (append_assoc before front (split.0 ∷ later)) in
+    is ∙ ap (λ ys. before ++ (ys ++ later)) split.1 ∙ ap (λ ys. before ++ ys) (append_assoc front (split.0 ∷ []) later) ∙ sym (append_assoc before front (split.0 ∷ later)) in
     let p : Passes (before ++ front) split.0 = passes_at [] (before ++ front) split.0 later counts_none (subst IsAccepted whole accepted) in
     subst Fits (sym split.1) (fits_at before front split.0 closed linked p)
 
@@ -83,9 +83,9 @@ all_chains requests before (run ∷ next ∷ runs) is accepted closed some linke
     All-cons (IsChain requests) (record { first = length before; len = length run }) (chains_from (length before + length run) (next ∷ runs))
     (chain_of_run requests before run (flat_map (λ y. y) (next ∷ runs)) is accepted closed (All-head HasMembers run (next ∷ runs) some) (All-head IsLinked run (next ∷ runs) linked))
     (subst (λ (n : ℕ). All (IsChain requests) (chains_from n (next ∷ runs))) (length-append before run)
-      (all_chains requests (before ++ run) (next ∷ runs) (is ∙ sym (append_assoc before run (flat_map (λ y. y) (next ∷ runs)))) accepted
-        (IsClosed-append before run (All-head IsOver run (but_last (next ∷ runs)) over))
-        (All-tail HasMembers run (next ∷ runs) some) (All-tail IsLinked run (next ∷ runs) linked) (All-tail IsOver run (but_last (next ∷ runs)) over)))
+    (all_chains requests (before ++ run) (next ∷ runs) (is ∙ sym (append_assoc before run (flat_map (λ y. y) (next ∷ runs)))) accepted
+    (IsClosed-append before run (All-head IsOver run (but_last (next ∷ runs)) over))
+    (All-tail HasMembers run (next ∷ runs) some) (All-tail IsLinked run (next ∷ runs) linked) (All-tail IsOver run (but_last (next ∷ runs)) over)))
 
 -- each chain of a submission without a fault stands in it and is short
 pub accepted-chains : (requests : List Asked) → IsAccepted requests → All (IsChain requests) (chains_of (runs_of requests))

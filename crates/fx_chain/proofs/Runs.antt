@@ -93,7 +93,6 @@ first_run (x ∷ y ∷ run) rest linked over =
     runs_link x (y ∷ run ++ rest) (All-head Links x (but_last (y ∷ run)) linked)
     ∙ ap (in_front x) (first_run (y ∷ run) rest (All-tail Links x (but_last (y ∷ run)) linked) over)
 
-
 parted : (runs : List (List Asked)) → All HasMembers runs → All IsLinked runs → All IsOver (but_last runs) → runs_of (flat_map (λ run. run) runs) ≡ runs
 parted [] some linked over = refl
 parted (run ∷ []) some linked over = ap runs_of (append-nil run) ∙ one_run run (All-head HasMembers run [] some) (All-head IsLinked run [] linked)
@@ -174,7 +173,7 @@ has_length x xs = ne_eqb (length (x ∷ xs)) 0 (λ none. absurd (omega arith))
 open_run-cons : (x y : Asked) (ys : List Asked) → (length (open_run (x ∷ y ∷ ys)) == 0) ≡ (length (open_run (y ∷ ys)) == 0)
 open_run-cons x y ys = elim (cases_Bool (list_all (λ r. r.links) (x ∷ y ∷ ys))) [
   | inl all ↦ let rest : AllLink (y ∷ ys) = All-tail Links x (y ∷ ys) (test-AllLink (x ∷ y ∷ ys) all) in
-        ap (λ (zs : List Asked). length zs == 0) (open_run-all (x ∷ y ∷ ys) (test-AllLink (x ∷ y ∷ ys) all)) ∙ has_length x (y ∷ ys) ∙ sym (has_length y ys) ∙ sym (ap (λ (zs : List Asked). length zs == 0) (open_run-all (y ∷ ys) rest))
+      ap (λ (zs : List Asked). length zs == 0) (open_run-all (x ∷ y ∷ ys) (test-AllLink (x ∷ y ∷ ys) all)) ∙ has_length x (y ∷ ys) ∙ sym (has_length y ys) ∙ sym (ap (λ (zs : List Asked). length zs == 0) (open_run-all (y ∷ ys) rest))
   | inr not_all ↦ ap (λ (b : Bool). length (if b then x ∷ y ∷ ys else open_run (y ∷ ys)) == 0) not_all
 ]
 

@@ -1,4 +1,5 @@
 ghost use Rattle.std.specs.Prelude.{◌≡◌, ◌+◌, ◌*◌, ◌<◌, ◌≤◌, length, IfSome, IfNone, IfOk, IfErr, Ok, Err, if◌then◌else◌, ◌==◌};
+ghost use Rattle.fx_chain.specs.Accepted.{IsAccepted};
 ghost use Rattle.fx_chain.specs.Faults.{fault_after, fault_of};
 ghost use Rattle.fx_chain.specs.Operation.{all_asked, asked_of};
 ghost use Rattle.fx_chain.specs.Runs.{runs_of};
@@ -58,6 +59,7 @@ struct Count {
 pub fn check(requests: &[Request]) -> Result<u32, CutFault>
     ensures fault { IfSome (fault_of (all_asked requests.now)) (λ fault. result ≡ Err fault) }
     ensures chains { IfNone (fault_of (all_asked requests.now)) (result ≡ Ok (length (runs_of (all_asked requests.now)))) }
+    ensures accepted { IfOk result (λ chains. IsAccepted (all_asked requests.now)) }
     ensures few { IfOk result (λ chains. chains ≤ 1023) }
     ensures place { IfErr result (λ fault. (0 < fault.at) × (fault.at ≤ length requests.now) × (fault.at ≤ 1023 * 16 + 1)) }
 {

@@ -14,3 +14,6 @@ pub use fault::{CutFault, CutKind, check};
 pub use file_index::target;
 pub use flags::SqeFlags;
 pub use request::{Op, Request, Target};
+
+#[cfg(test)]
+mod tests;
