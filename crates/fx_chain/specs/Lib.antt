@@ -5,3 +5,6 @@ pub mod Operation
 pub mod Runs
 pub mod Target
 pub mod Weights
+pub mod Completed
+pub mod Answers
+pub mod Explains

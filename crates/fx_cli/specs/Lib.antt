@@ -1,0 +1,6 @@
+pub mod Instruction
+pub mod Reading
+pub mod Refusal
+pub mod Script
+pub mod ScriptView
+pub mod Text

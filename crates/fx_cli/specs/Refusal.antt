@@ -1,0 +1,10 @@
+-- How the reader of scripts refuses (this project's own).
+use Rattle.fx_cli.specs.declared.fault.FirstFault.{FirstFault}
+use Rattle.fx_cli.specs.declared.fault.FirstFault.TheVariants.{Read, Script, Write, NoMemory}
+
+-- want of memory, or Script, and then for this reason
+abbrev pub IsRefusal : FirstFault → Type 0 → Type 0
+IsRefusal Read why = ⊥
+IsRefusal Script why = why
+IsRefusal Write why = ⊥
+IsRefusal NoMemory why = Unit {0}

@@ -1,0 +1,53 @@
+-- The printed lines (this project's own).
+use Rattle.std.specs.Prelude.{ℕ, ℤ, List, [], ◌++◌, codes, decimal, length, ◌==◌, if◌then◌else◌, unwrap_or}
+use Rattle.std.specs.Fmt.{signed_decimal}
+use Rattle.std.specs.List.{flat_map}
+use Rattle.hex.specs.Hex.{encode_lower}
+use Rattle.fx_base.specs.declared.mark.Mark.{Mark}
+use Rattle.fx_base.specs.declared.mark.Mark.TheVariants.{Registered, Submitted}
+use Rattle.fx_base.specs.declared.open_file.Closed.{Closed}
+use Rattle.fx_base.specs.Catalogue.{FileEntry, name_at}
+use Rattle.fx_chain.specs.declared.completion.Place.{Place}
+use Rattle.fx_chain.specs.declared.completion.Completion.{Completion}
+
+-- `sparse RES`
+abbrev pub sparse_line : ℤ → List ℕ
+sparse_line res = codes "sparse " ++ (signed_decimal res ++ codes "\n")
+
+-- `range RES`
+abbrev pub range_line : ℤ → List ℕ
+range_line res = codes "range " ++ (signed_decimal res ++ codes "\n")
+
+-- a space and the bytes, in lower case hexadecimal, where a read gave some
+abbrev pub got_text : List ℕ → List ℕ
+got_text got = if length got == 0 then [] else codes " " ++ encode_lower got
+
+-- `S.C.M RES`, and the bytes of a read
+abbrev pub completion_line : Place → ℤ → List ℕ → List ℕ
+completion_line place res got =
+    decimal place.submission ++ (codes "." ++ (decimal place.chain ++ (codes "." ++ (decimal place.member ++ (codes " " ++ (signed_decimal res ++ (got_text got ++ codes "\n")))))))
+
+-- a line for each completion
+abbrev pub completion_lines : List Completion → List ℕ
+completion_lines completions = flat_map (λ c. completion_line c.place c.res c.got.items) completions
+
+-- `rK.I` for a registered file, `S.C.M.E` for a submitted one
+abbrev pub mark_text : Mark → List ℕ
+mark_text (Registered k i) = codes "r" ++ (decimal k ++ (codes "." ++ decimal i))
+mark_text (Submitted s c m e) = decimal s ++ (codes "." ++ (decimal c ++ (codes "." ++ (decimal m ++ (codes "." ++ decimal e)))))
+
+-- `closed MARK NAME`
+abbrev pub closed_line : Mark → List ℕ → List ℕ
+closed_line mark name = codes "closed " ++ (mark_text mark ++ (codes " " ++ (name ++ codes "\n")))
+
+-- the name of an entry
+abbrev pub name_of : List FileEntry → ℕ → List ℕ
+name_of catalogue entry = unwrap_or (name_at catalogue entry) []
+
+-- a line for each closed file
+abbrev pub closed_lines : List FileEntry → List Closed → List ℕ
+closed_lines catalogue files = flat_map (λ file. closed_line file.mark (name_of catalogue file.entry)) files
+
+-- `teardown` and a line for each file that was left, where files were left
+abbrev pub teardown_text : List FileEntry → List Closed → List ℕ
+teardown_text catalogue files = if length files == 0 then [] else codes "teardown\n" ++ closed_lines catalogue files
