@@ -1,5 +1,5 @@
 -- The chains of a submission without a fault: where each stands, and what it keeps to.
-use Rattle.std.proofs.Common.{◌≡◌, inl, inr, ℕ, ◌+◌, ◌*◌, ◌<◌, ◌≤◌, ◌⊎◌, List, [], ◌∷◌, ◌++◌, length, take, drop, refl, sym, ap, ◌∙◌, All, subst, arith}
+use Rattle.std.proofs.Common.{◌≡◌, inl, inr, ℕ, ◌+◌, ◌*◌, ◌<◌, ◌≤◌, ◌⊎◌, List, [], ◌∷◌, ◌++◌, length, map, take, drop, refl, sym, ap, ◌∙◌, All, subst, arith}
 use Rattle.std.specs.List.{flat_map}
 use Rattle.std.proofs.lemmas.List.{append-nil, append_assoc, length-append, take_at, drop_at}
 use Rattle.std.proofs.lemmas.List.Elements.{All-nil, All-cons, All-head, All-tail, All-take, All-drop}
@@ -92,3 +92,14 @@ pub accepted-chains : (requests : List Asked) → IsAccepted requests → All (I
 accepted-chains requests accepted =
     let are = are_runs requests in
     all_chains requests [] (runs_of requests) (sym are.whole) accepted (inl refl) are.not_empty are.linked are.over
+
+-- the members of the chains are the runs
+map-members_of : (requests before : List Asked) (runs : List (List Asked)) → requests ≡ before ++ flat_map (λ run. run) runs → map (members_of requests) (chains_from (length before) runs) ≡ runs
+map-members_of requests before [] is = refl
+map-members_of requests before (run ∷ runs) is =
+    ap (λ xs. xs ∷ map (members_of requests) (chains_from (length before + length run) runs)) (members_of-run requests before run (flat_map (λ y. y) runs) is)
+    ∙ ap (λ n. run ∷ map (members_of requests) (chains_from n runs)) (sym (length-append before run))
+    ∙ ap (λ rs. run ∷ rs) (map-members_of requests (before ++ run) runs (is ∙ sym (append_assoc before run (flat_map (λ y. y) runs))))
+
+pub members-are-runs : (requests : List Asked) → map (members_of requests) (chains_of (runs_of requests)) ≡ runs_of requests
+members-are-runs requests = map-members_of requests [] (runs_of requests) (sym (are_runs requests).whole)

@@ -151,7 +151,7 @@ in_front-some x [] = omega arith
 in_front-some x (run ∷ runs) = omega arith
 
 -- no list has no runs but the empty one
-runs-some : (x : Asked) (xs : List Asked) → 0 < length (runs_of (x ∷ xs))
+pub runs-some : (x : Asked) (xs : List Asked) → 0 < length (runs_of (x ∷ xs))
 runs-some x xs = elim (x.links) as (λ b. 0 < length (if b then in_front x (runs_of xs) else (x ∷ []) ∷ runs_of xs)) [ true ↦ in_front-some x (runs_of xs) | false ↦ omega arith ]
 
 in_front-length : (x : Asked) (runs : List (List Asked)) → 0 < length runs → length (in_front x runs) ≡ length runs

@@ -6,6 +6,7 @@ mod completion;
 mod fault;
 mod file_index;
 mod flags;
+pub mod laws;
 mod request;
 
 pub use chain::{Chain, cut};
