@@ -19,3 +19,7 @@ weight_of (Updates off list) = length list
 -- how many files some requests install together
 abbrev pub all_installs : List Asked → ℕ
 all_installs requests = sum_by (λ request. installs_of request.operation) requests
+
+-- how many files some requests may close together
+abbrev pub all_weights : List Asked → ℕ
+all_weights requests = sum_by (λ request. weight_of request.operation) requests

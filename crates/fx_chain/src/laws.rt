@@ -13,5 +13,6 @@ pub fn runs_are_the_only_ones()
 /// What a fault is told from, the requests at the end of those in front that all link, are the members of the
 /// request's own run in front of it.
 pub fn each_request_stands_in_its_run()
-    ensures { (front : List Asked) (request : Asked) (behind : List Asked) → StandsIn front request (runs_of (front ++ request ∷ behind)) }
+    ensures { (front : List Asked) (request : Asked) (behind : List Asked)
+        → StandsIn front request (runs_of (front ++ request ∷ behind)) }
 {}
