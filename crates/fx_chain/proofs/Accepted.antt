@@ -1,24 +1,19 @@
 -- What a submission without a fault keeps to.
-use Rattle.std.proofs.Common.{◌≡◌, inl, inr, ℕ, ◌+◌, ◌*◌, ◌<◌, ◌≤◌, ◌⊎◌, List, [], ◌∷◌, ◌++◌, length, take, drop, refl, sym, ap, ◌∙◌, All, subst, arith, Option, Some, None}
-use Rattle.std.specs.List.{flat_map}
+use Rattle.std.proofs.Common.{◌≡◌, ℕ, ◌+◌, ◌*◌, ◌≤◌, List, [], ◌∷◌, ◌++◌, length, refl, sym, ap, ◌∙◌, All, subst, arith, Option, Some, None}
 use Rattle.std.specs.List.{filter}
 use Rattle.std.specs.Prelude.{ℤ, pos, int_le, Bool, true, false, cond}
 use Rattle.std.proofs.lemmas.Bool.{ltb-false}
 use Rattle.std.proofs.lemmas.List.Sums.{sum_by-cons}
-use Rattle.std.proofs.lemmas.List.{append-nil, append_assoc, length-append, take_at, drop_at}
-use Rattle.std.proofs.lemmas.List.Elements.{All-nil, All-cons, All-head, All-tail, All-append}
-use Rattle.fx_chain.specs.Accepted.{IsAccepted, IsWithinLimits, IsShortRun, IsChain, members_of}
-use Rattle.fx_chain.specs.Chains.{chains_from, chains_of}
+use Rattle.std.proofs.lemmas.List.{append-nil, append_assoc}
+use Rattle.std.proofs.lemmas.List.Elements.{All-nil, All-cons, All-head, All-tail}
+use Rattle.fx_chain.specs.Accepted.{IsAccepted, IsWithinLimits}
 use Rattle.fx_chain.specs.Operation.{Operation, Opens, Reads, Closes, Updates, Asked}
-use Rattle.fx_chain.specs.Runs.{but_last, runs_of, open_run}
-use Rattle.fx_chain.specs.Weights.{installs_of, weight_of, all_installs, all_weights}
-use Rattle.fx_chain.specs.Faults.{fault_after, fault_behind, first_fault, fault_of, or_later, is_long_read, is_long_update}
-use Rattle.fx_chain.specs.declared.chain.Chain.{Chain}
+use Rattle.fx_chain.specs.Runs.{runs_of}
+use Rattle.fx_chain.specs.Weights.{installs_of, weight_of, all_weights}
+use Rattle.fx_chain.specs.Faults.{fault_behind, first_fault, or_later, is_long_read, is_long_update}
 use Rattle.fx_chain.specs.declared.fault.CutKind.{CutKind}
 use Rattle.fx_chain.specs.declared.fault.CutFault.{CutFault}
-use Rattle.fx_chain.proofs.Counted.{IsCounted, IsFine, counted_none, counted_step, fault_behind-counted, fine, chains_after, or_none, all_installs-push}
-use Rattle.fx_chain.proofs.Runs.{AllLink, IsLinked, IsOver, HasMembers, are_runs}
-use Rattle.fx_chain.proofs.Splits.{IsClosed, IsClosed-append, but_last-last, open_run-closed}
+use Rattle.fx_chain.proofs.Counted.{IsCounted, IsFine, counted_none, counted_step, fault_behind-counted, fine, chains_after, or_none}
 
 or_later-none : (at : ℕ) (k : Option CutKind) (later : Option CutFault) → or_later at k later ≡ None → (k ≡ None) × (later ≡ None)
 or_later-none at None later none = (refl, none)

@@ -1,15 +1,13 @@
 -- The chains of a submission without a fault: where each stands, and what it keeps to.
-use Rattle.std.proofs.Common.{◌≡◌, inl, inr, ℕ, ◌+◌, ◌*◌, ◌<◌, ◌≤◌, ◌⊎◌, List, [], ◌∷◌, ◌++◌, length, map, take, drop, refl, sym, ap, ◌∙◌, All, subst, arith}
+use Rattle.std.proofs.Common.{◌≡◌, inl, ℕ, ◌+◌, ◌≤◌, List, [], ◌∷◌, ◌++◌, length, map, take, drop, refl, sym, ap, ◌∙◌, All, subst, arith}
 use Rattle.std.specs.List.{flat_map}
-use Rattle.std.proofs.lemmas.List.{append-nil, append_assoc, length-append, take_at, drop_at}
+use Rattle.std.proofs.lemmas.List.{append_assoc, length-append, take_at, drop_at}
 use Rattle.std.proofs.lemmas.List.Elements.{All-nil, All-cons, All-head, All-tail, All-take, All-drop}
 use Rattle.fx_chain.specs.Accepted.{IsAccepted, IsWithinLimits, IsShortRun, IsChain, members_of}
 use Rattle.fx_chain.specs.Chains.{chains_from, chains_of}
 use Rattle.fx_chain.specs.Operation.{Asked}
 use Rattle.fx_chain.specs.Runs.{but_last, runs_of, open_run}
-use Rattle.fx_chain.specs.Weights.{installs_of, all_installs}
-use Rattle.fx_chain.specs.Faults.{first_fault}
-use Rattle.fx_chain.specs.declared.chain.Chain.{Chain}
+use Rattle.fx_chain.specs.Weights.{all_installs}
 use Rattle.fx_chain.proofs.Accepted.{Passes, counts_none, passes_at, accepted-each}
 use Rattle.fx_chain.proofs.Counted.{all_installs-push}
 use Rattle.fx_chain.proofs.Runs.{AllLink, IsLinked, IsOver, HasMembers, are_runs}

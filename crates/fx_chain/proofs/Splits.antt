@@ -1,12 +1,12 @@
 -- A run and its last request, and the open run behind runs that are over.
-use Rattle.std.proofs.Common.{◌≡◌, inl, inr, ℕ, ◌+◌, ◌<◌, ◌≤◌, ◌⊎◌, Bool, true, false, not, ◌&&◌, if◌then◌else◌, List, [], ◌∷◌, ◌++◌, length, refl, sym, ap, ◌∙◌, All, subst, arith}
+use Rattle.std.proofs.Common.{◌≡◌, inl, inr, ◌<◌, ◌⊎◌, Bool, true, false, not, ◌&&◌, if◌then◌else◌, List, [], ◌∷◌, ◌++◌, length, refl, sym, ap, ◌∙◌, subst, arith}
 use Rattle.std.specs.List.{list_all}
 use Rattle.std.proofs.lemmas.Bool.{and_right, and_from, both_ways, cases_Bool, not-true}
 use Rattle.std.proofs.lemmas.List.Elements.{All-nil, All-head, All-tail}
 use Rattle.std.proofs.lemmas.List.{append-nil, append_assoc}
 use Rattle.fx_chain.specs.Operation.{Asked}
 use Rattle.fx_chain.specs.Runs.{but_last, is_over, in_front, runs_of, open_run, StandsIn}
-use Rattle.fx_chain.proofs.Runs.{AllLink, IsLinked, IsOver, HasMembers, Links, open_run-all, AllLink-test, test-AllLink, runs_link, runs_end, runs-some}
+use Rattle.fx_chain.proofs.Runs.{AllLink, IsOver, Links, open_run-all, AllLink-test, test-AllLink, runs_link, runs_end, runs-some}
 
 -- a list is all but its last element, and then that one
 pub but_last-last : {X : Type 0} (x : X) (xs : List X) → (last : X) × (x ∷ xs ≡ but_last (x ∷ xs) ++ last ∷ [])

@@ -1,5 +1,5 @@
 -- The runs of a submission: the requests that are linked with each other (io_uring_enter(2), "IOSQE_IO_LINK").
-use Rattle.std.specs.Prelude.{◌≡◌, ℕ, ◌<◌, Bool, true, false, not, List, [], ◌∷◌, ◌++◌, length, All, flat_map, if◌then◌else◌}
+use Rattle.std.specs.Prelude.{◌≡◌, ◌<◌, Bool, true, false, not, List, [], ◌∷◌, ◌++◌, length, All, flat_map, if◌then◌else◌}
 use Rattle.std.specs.List.{list_all}
 use Rattle.fx_chain.specs.Operation.{Asked}
 

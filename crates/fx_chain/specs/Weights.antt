@@ -1,5 +1,5 @@
 -- What a request needs at most: numbers for the files that it installs, and room for those that it closes.
-use Rattle.std.specs.Prelude.{ℕ, ◌+◌, ℤ, pos, int_le, List, length, filter, sum_by}
+use Rattle.std.specs.Prelude.{ℕ, pos, int_le, List, length, filter, sum_by}
 use Rattle.fx_chain.specs.Operation.{Operation, Opens, Reads, Closes, Updates, Asked}
 
 -- how many files a request installs

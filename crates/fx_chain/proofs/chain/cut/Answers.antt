@@ -1,8 +1,7 @@
-use Rattle.std.proofs.Common.{ℕ, Vec, Global, ◌≡◌, ◌+◌, ◌-◌, ◌<◌, ◌≤◌, ◌⊎◌, inl, inr, length, map, true, false, All, List, ◌∷◌, ◌++◌, [], refl, sym, ap, ◌∙◌, subst, arith, rules}
+use Rattle.std.proofs.Common.{ℕ, Vec, Global, ◌≡◌, ◌+◌, ◌-◌, ◌≤◌, ◌⊎◌, inl, inr, length, map, true, false, All, List, ◌∷◌, ◌++◌, [], sym, ap, ◌∙◌, subst, arith}
 use Rattle.std.proofs.lemmas.List.{length-map}
 use Rattle.std.proofs.lemmas.List.Elements.{All-weaker}
-use Rattle.std.proofs.lemmas.Bool.{not-true, not-false}
-use Rattle.fx_chain.specs.Accepted.{IsAccepted, IsChain, members_of}
+use Rattle.fx_chain.specs.Accepted.{IsChain, members_of}
 use Rattle.fx_chain.specs.Chains.{chains_of}
 use Rattle.fx_chain.specs.Operation.{asked_of, all_asked}
 use Rattle.fx_chain.specs.Runs.{runs_of}
