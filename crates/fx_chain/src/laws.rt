@@ -1,7 +1,8 @@
-//! Laws of runs, over lists of requests alone. Each is the contract of a function that does nothing (this project's
-//! own).
+//! Laws of runs and faults, over lists of requests alone. Each is the contract of a function that does nothing (this
+//! project's own).
 
-ghost use Rattle.std.specs.Prelude.{List, ◌∷◌, ◌++◌};
+ghost use Rattle.std.specs.Prelude.{List, ◌∷◌, ◌++◌, MatchOption};
+ghost use Rattle.fx_chain.specs.Faults.{HasNoFault, IsFirstFault, fault_of};
 ghost use Rattle.fx_chain.specs.Operation.{Asked};
 ghost use Rattle.fx_chain.specs.Runs.{AreTheOnlyRuns, StandsIn, runs_of};
 
@@ -15,4 +16,10 @@ pub fn runs_are_the_only_ones()
 pub fn each_request_stands_in_its_run()
     ensures { (front : List Asked) (request : Asked) (behind : List Asked)
         → StandsIn front request (runs_of (front ++ request ∷ behind)) }
+{}
+
+/// The fault of a submission is that of its first request with a fault. Where it has none, no request has one.
+pub fn fault_is_the_first()
+    ensures { (requests : List Asked)
+        → MatchOption (fault_of requests) (HasNoFault requests) (IsFirstFault requests) }
 {}
