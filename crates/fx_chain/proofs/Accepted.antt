@@ -1,20 +1,19 @@
 -- What a submission without a fault keeps to.
-use Rattle.std.proofs.Common.{◌≡◌, inl, inr, ℕ, ◌+◌, ◌*◌, ◌<◌, ◌≤◌, ◌⊎◌, List, [], ◌∷◌, ◌++◌, length, take, drop, refl, sym, ap, ◌∙◌, All, subst, arith, Option, Some, None}
-use Rattle.std.specs.List.{flat_map}
-use Rattle.std.proofs.lemmas.List.{append-nil, append_assoc, length-append, take_at, drop_at}
-use Rattle.std.proofs.lemmas.List.Elements.{All-nil, All-cons, All-head, All-tail, All-append}
-use Rattle.fx_chain.specs.Accepted.{IsAccepted, IsWithinLimits, IsShortRun, IsChain, members_of}
-use Rattle.fx_chain.specs.Chains.{chains_from, chains_of}
-use Rattle.fx_chain.specs.Operation.{Asked}
-use Rattle.fx_chain.specs.Runs.{but_last, runs_of, open_run}
-use Rattle.fx_chain.specs.Weights.{installs_of, all_installs}
-use Rattle.fx_chain.specs.Faults.{fault_after, fault_behind, first_fault, fault_of, or_later}
-use Rattle.fx_chain.specs.declared.chain.Chain.{Chain}
+use Rattle.std.proofs.Common.{◌≡◌, ℕ, ◌+◌, ◌*◌, ◌≤◌, List, [], ◌∷◌, ◌++◌, length, refl, sym, ap, ◌∙◌, All, subst, arith, Option, Some, None}
+use Rattle.std.specs.List.{filter}
+use Rattle.std.specs.Prelude.{ℤ, pos, int_le, Bool, true, false, cond}
+use Rattle.std.proofs.lemmas.Bool.{ltb-false}
+use Rattle.std.proofs.lemmas.List.Sums.{sum_by-cons}
+use Rattle.std.proofs.lemmas.List.{append-nil, append_assoc}
+use Rattle.std.proofs.lemmas.List.Elements.{All-nil, All-cons, All-head, All-tail}
+use Rattle.fx_chain.specs.Accepted.{IsAccepted, IsWithinLimits}
+use Rattle.fx_chain.specs.Operation.{Operation, Opens, Reads, Closes, Updates, Asked}
+use Rattle.fx_chain.specs.Runs.{runs_of}
+use Rattle.fx_chain.specs.Weights.{installs_of, weight_of, all_weights}
+use Rattle.fx_chain.specs.Faults.{fault_behind, first_fault, or_later, is_long_read, is_long_update}
 use Rattle.fx_chain.specs.declared.fault.CutKind.{CutKind}
 use Rattle.fx_chain.specs.declared.fault.CutFault.{CutFault}
-use Rattle.fx_chain.proofs.Counted.{IsCounted, IsFine, counted_none, counted_step, fault_behind-counted, fine, chains_after, or_none, all_installs-push}
-use Rattle.fx_chain.proofs.Runs.{AllLink, IsLinked, IsOver, HasMembers, are_runs}
-use Rattle.fx_chain.proofs.Splits.{IsClosed, IsClosed-append, but_last-last, open_run-closed}
+use Rattle.fx_chain.proofs.Counted.{IsCounted, IsFine, counted_none, counted_step, fault_behind-counted, fine, chains_after, or_none}
 
 or_later-none : (at : ℕ) (k : Option CutKind) (later : Option CutFault) → or_later at k later ≡ None → (k ≡ None) × (later ≡ None)
 or_later-none at None later none = (refl, none)
@@ -80,3 +79,34 @@ within_limits front (x ∷ behind) counts none =
 -- no request passes a limit of its own
 pub accepted-each : (requests : List Asked) → IsAccepted requests → All IsWithinLimits requests
 accepted-each requests accepted = within_limits [] requests counts_none accepted
+
+-- what the limits say of one operation
+pub read-short : (r : Asked) (slot off len : ℕ) → r.operation ≡ Reads slot off len → IsWithinLimits r → len ≤ 4096
+read-short r slot off len is fine_r = ltb-false 4096 len (ap is_long_read (sym is) ∙ fine_r.read)
+
+pub update-short : (r : Asked) (off : ℕ) (list : List ℤ) → r.operation ≡ Updates off list → IsWithinLimits r → length list ≤ 16
+update-short r off list is fine_r = ltb-false 16 (length list) (ap is_long_update (sym is) ∙ fine_r.update)
+
+filter-length : {X : Type 0} (p : X → Bool) (xs : List X) → length (filter p xs) ≤ length xs
+filter-length p [] = omega arith
+filter-length p (x ∷ xs) = let le = filter-length p xs in elim (p x) as (λ b. length (cond b (x ∷ filter p xs) (filter p xs)) ≤ length (x ∷ xs)) [ true ↦ omega arith | false ↦ omega arith ]
+
+-- a request within its limits closes and installs at most 16 files
+weight-small-of : (o : Operation) → is_long_update o ≡ false → (weight_of o ≤ 16) × (installs_of o ≤ 16)
+weight-small-of (Opens name target) short = (omega arith, omega arith)
+weight-small-of (Reads slot off len) short = (omega arith, omega arith)
+weight-small-of (Closes slot) short = (omega arith, omega arith)
+weight-small-of (Updates off list) short = let le = ltb-false 16 (length list) short in let few = filter-length (λ entry. int_le (pos 0) entry) list in (le, omega arith)
+
+pub weight-small : (r : Asked) → IsWithinLimits r → weight_of r.operation ≤ 16
+weight-small r fine_r = (weight-small-of r.operation fine_r.update).0
+
+pub installs-small : (r : Asked) → IsWithinLimits r → installs_of r.operation ≤ 16
+installs-small r fine_r = (weight-small-of r.operation fine_r.update).1
+
+pub all_weights-small : (requests : List Asked) → All IsWithinLimits requests → all_weights requests ≤ 16 * length requests
+all_weights-small [] within = omega arith
+all_weights-small (r ∷ rs) within =
+    let one = weight-small r (All-head IsWithinLimits r rs within) in
+    let more = all_weights-small rs (All-tail IsWithinLimits r rs within) in
+    rw (sum_by-cons (λ request. weight_of request.operation) r rs) (omega arith)

@@ -1,15 +1,13 @@
 -- The chains of a submission without a fault: where each stands, and what it keeps to.
-use Rattle.std.proofs.Common.{◌≡◌, inl, inr, ℕ, ◌+◌, ◌*◌, ◌<◌, ◌≤◌, ◌⊎◌, List, [], ◌∷◌, ◌++◌, length, take, drop, refl, sym, ap, ◌∙◌, All, subst, arith}
+use Rattle.std.proofs.Common.{◌≡◌, inl, ℕ, ◌+◌, ◌≤◌, List, [], ◌∷◌, ◌++◌, length, map, take, drop, refl, sym, ap, ◌∙◌, All, subst, arith}
 use Rattle.std.specs.List.{flat_map}
-use Rattle.std.proofs.lemmas.List.{append-nil, append_assoc, length-append, take_at, drop_at}
+use Rattle.std.proofs.lemmas.List.{append_assoc, length-append, take_at, drop_at}
 use Rattle.std.proofs.lemmas.List.Elements.{All-nil, All-cons, All-head, All-tail, All-take, All-drop}
 use Rattle.fx_chain.specs.Accepted.{IsAccepted, IsWithinLimits, IsShortRun, IsChain, members_of}
 use Rattle.fx_chain.specs.Chains.{chains_from, chains_of}
 use Rattle.fx_chain.specs.Operation.{Asked}
 use Rattle.fx_chain.specs.Runs.{but_last, runs_of, open_run}
-use Rattle.fx_chain.specs.Weights.{installs_of, all_installs}
-use Rattle.fx_chain.specs.Faults.{first_fault}
-use Rattle.fx_chain.specs.declared.chain.Chain.{Chain}
+use Rattle.fx_chain.specs.Weights.{all_installs}
 use Rattle.fx_chain.proofs.Accepted.{Passes, counts_none, passes_at, accepted-each}
 use Rattle.fx_chain.proofs.Counted.{all_installs-push}
 use Rattle.fx_chain.proofs.Runs.{AllLink, IsLinked, IsOver, HasMembers, are_runs}
@@ -46,7 +44,7 @@ fits requests before (x ∷ xs) later is accepted closed some linked =
     let split = but_last-last x xs in
     let front = but_last (x ∷ xs) in
     let whole : requests ≡ (before ++ front) ++ split.0 ∷ later =
-        is ∙ ap (λ ys. before ++ (ys ++ later)) split.1 ∙ ap (λ ys. before ++ ys) (append_assoc front (split.0 ∷ []) later) ∙ sym (append_assoc before front (split.0 ∷ later)) in
+    is ∙ ap (λ ys. before ++ (ys ++ later)) split.1 ∙ ap (λ ys. before ++ ys) (append_assoc front (split.0 ∷ []) later) ∙ sym (append_assoc before front (split.0 ∷ later)) in
     let p : Passes (before ++ front) split.0 = passes_at [] (before ++ front) split.0 later counts_none (subst IsAccepted whole accepted) in
     subst Fits (sym split.1) (fits_at before front split.0 closed linked p)
 
@@ -83,12 +81,23 @@ all_chains requests before (run ∷ next ∷ runs) is accepted closed some linke
     All-cons (IsChain requests) (record { first = length before; len = length run }) (chains_from (length before + length run) (next ∷ runs))
     (chain_of_run requests before run (flat_map (λ y. y) (next ∷ runs)) is accepted closed (All-head HasMembers run (next ∷ runs) some) (All-head IsLinked run (next ∷ runs) linked))
     (subst (λ (n : ℕ). All (IsChain requests) (chains_from n (next ∷ runs))) (length-append before run)
-      (all_chains requests (before ++ run) (next ∷ runs) (is ∙ sym (append_assoc before run (flat_map (λ y. y) (next ∷ runs)))) accepted
-        (IsClosed-append before run (All-head IsOver run (but_last (next ∷ runs)) over))
-        (All-tail HasMembers run (next ∷ runs) some) (All-tail IsLinked run (next ∷ runs) linked) (All-tail IsOver run (but_last (next ∷ runs)) over)))
+    (all_chains requests (before ++ run) (next ∷ runs) (is ∙ sym (append_assoc before run (flat_map (λ y. y) (next ∷ runs)))) accepted
+    (IsClosed-append before run (All-head IsOver run (but_last (next ∷ runs)) over))
+    (All-tail HasMembers run (next ∷ runs) some) (All-tail IsLinked run (next ∷ runs) linked) (All-tail IsOver run (but_last (next ∷ runs)) over)))
 
 -- each chain of a submission without a fault stands in it and is short
 pub accepted-chains : (requests : List Asked) → IsAccepted requests → All (IsChain requests) (chains_of (runs_of requests))
 accepted-chains requests accepted =
     let are = are_runs requests in
     all_chains requests [] (runs_of requests) (sym are.whole) accepted (inl refl) are.not_empty are.linked are.over
+
+-- the members of the chains are the runs
+map-members_of : (requests before : List Asked) (runs : List (List Asked)) → requests ≡ before ++ flat_map (λ run. run) runs → map (members_of requests) (chains_from (length before) runs) ≡ runs
+map-members_of requests before [] is = refl
+map-members_of requests before (run ∷ runs) is =
+    ap (λ xs. xs ∷ map (members_of requests) (chains_from (length before + length run) runs)) (members_of-run requests before run (flat_map (λ y. y) runs) is)
+    ∙ ap (λ n. run ∷ map (members_of requests) (chains_from n runs)) (sym (length-append before run))
+    ∙ ap (λ rs. run ∷ rs) (map-members_of requests (before ++ run) runs (is ∙ sym (append_assoc before run (flat_map (λ y. y) runs))))
+
+pub members-are-runs : (requests : List Asked) → map (members_of requests) (chains_of (runs_of requests)) ≡ runs_of requests
+members-are-runs requests = map-members_of requests [] (runs_of requests) (sym (are_runs requests).whole)

@@ -1,13 +1,12 @@
 -- What `check` keeps of the requests that it has seen.
-use Rattle.std.proofs.Common.{◌≡◌, ◌≢◌, inl, inr, ℕ, ◌+◌, ◌*◌, ◌<◌, ◌≤◌, ◌==◌, nat_lt, Bool, true, false, not, ◌&&◌, if◌then◌else◌, List, [], ◌∷◌, ◌++◌, length, refl, sym, ap, ◌∙◌, All, subst, arith, Option, Some, None}
-use Rattle.std.specs.List.{sum_by}
+use Rattle.std.proofs.Common.{◌≡◌, ◌≢◌, inl, inr, ℕ, ◌+◌, ◌*◌, ◌<◌, ◌≤◌, ◌==◌, nat_lt, Bool, true, false, ◌&&◌, if◌then◌else◌, List, [], ◌∷◌, ◌++◌, length, refl, sym, ap, ◌∙◌, subst, arith, Option, Some, None}
 use Rattle.std.proofs.lemmas.Bool.{cases_Bool, eqb-false, ltb-false, and_cases, eq-eqb, ne_eqb, cases_eq}
 use Rattle.std.proofs.lemmas.List.{length-append}
 use Rattle.std.proofs.lemmas.List.Sums.{sum_by-append}
 use Rattle.fx_chain.specs.Operation.{Asked}
 use Rattle.fx_chain.specs.Runs.{runs_of, open_run}
 use Rattle.fx_chain.specs.Weights.{installs_of, all_installs}
-use Rattle.fx_chain.specs.Faults.{fault_after, fault_behind, first_fault, fault_of, has_bad_flags, is_long_read, is_long_update, or_later}
+use Rattle.fx_chain.specs.Faults.{fault_after, fault_behind, first_fault, has_bad_flags, is_long_read, is_long_update, or_later}
 use Rattle.fx_chain.specs.declared.fault.CutKind.{CutKind}
 use Rattle.fx_chain.specs.declared.fault.CutKind.TheVariants.{BadFlags, LongRead, LongUpdate, ChainTooLong, TooManyFiles, TooManyChains}
 use Rattle.fx_chain.proofs.Runs.{runs-push, open_run-push, open_run-over}

@@ -1,11 +1,11 @@
 -- What `cut` keeps of the requests that it has seen.
-use Rattle.std.proofs.Common.{◌≡◌, ◌≢◌, inl, inr, ℕ, ◌+◌, ◌-◌, ◌<◌, ◌≤◌, ◌⊎◌, true, false, List, [], ◌∷◌, ◌++◌, length, map, take, drop, slice_index_or, refl, sym, ap, ◌∙◌, All, subst, arith}
+use Rattle.std.proofs.Common.{◌≡◌, inl, inr, ℕ, ◌+◌, ◌-◌, ◌<◌, ◌≤◌, ◌⊎◌, true, false, List, [], ◌∷◌, ◌++◌, length, take, drop, slice_index_or, refl, sym, ap, ◌∙◌, subst, arith}
 use Rattle.std.proofs.lemmas.List.{append-nil, append_assoc, map-append, take-append-drop, drop-drop, get_or-drop, length-drop, length-map, length-take-le}
 use Rattle.std.proofs.lemmas.List.Elements.{All-nil, All-push}
 use Rattle.fx_chain.specs.Accepted.{IsAccepted}
 use Rattle.fx_chain.specs.Chains.{chains_from, chains_of}
 use Rattle.fx_chain.specs.Operation.{Asked, asked_of, all_asked}
-use Rattle.fx_chain.specs.Runs.{but_last, is_over, runs_of}
+use Rattle.fx_chain.specs.Runs.{is_over, runs_of}
 use Rattle.fx_chain.specs.declared.chain.Chain.{Chain}
 use Rattle.fx_chain.specs.declared.request.Request.{Request}
 use Rattle.fx_chain.proofs.Accepted.{accepted-length}

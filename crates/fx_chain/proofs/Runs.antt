@@ -1,5 +1,5 @@
 -- The runs of a list are the one way to part it, and how they grow with one more request.
-use Rattle.std.proofs.Common.{◌≡◌, ◌≢◌, inl, inr, ℕ, ◌+◌, ◌<◌, ◌≤◌, ◌==◌, Bool, true, false, not, ◌&&◌, if◌then◌else◌, List, [], ◌∷◌, ◌++◌, length, refl, sym, ap, ◌∙◌, All, subst, arith}
+use Rattle.std.proofs.Common.{◌≡◌, inl, inr, ℕ, ◌+◌, ◌<◌, ◌==◌, Bool, true, false, not, ◌&&◌, if◌then◌else◌, List, [], ◌∷◌, ◌++◌, length, refl, sym, ap, ◌∙◌, All, arith}
 use Rattle.std.specs.List.{list_all, flat_map}
 use Rattle.std.proofs.lemmas.List.{append-nil}
 use Rattle.std.proofs.lemmas.Bool.{and_right, cases_Bool, ne_eqb}
@@ -93,7 +93,6 @@ first_run (x ∷ y ∷ run) rest linked over =
     runs_link x (y ∷ run ++ rest) (All-head Links x (but_last (y ∷ run)) linked)
     ∙ ap (in_front x) (first_run (y ∷ run) rest (All-tail Links x (but_last (y ∷ run)) linked) over)
 
-
 parted : (runs : List (List Asked)) → All HasMembers runs → All IsLinked runs → All IsOver (but_last runs) → runs_of (flat_map (λ run. run) runs) ≡ runs
 parted [] some linked over = refl
 parted (run ∷ []) some linked over = ap runs_of (append-nil run) ∙ one_run run (All-head HasMembers run [] some) (All-head IsLinked run [] linked)
@@ -152,7 +151,7 @@ in_front-some x [] = omega arith
 in_front-some x (run ∷ runs) = omega arith
 
 -- no list has no runs but the empty one
-runs-some : (x : Asked) (xs : List Asked) → 0 < length (runs_of (x ∷ xs))
+pub runs-some : (x : Asked) (xs : List Asked) → 0 < length (runs_of (x ∷ xs))
 runs-some x xs = elim (x.links) as (λ b. 0 < length (if b then in_front x (runs_of xs) else (x ∷ []) ∷ runs_of xs)) [ true ↦ in_front-some x (runs_of xs) | false ↦ omega arith ]
 
 in_front-length : (x : Asked) (runs : List (List Asked)) → 0 < length runs → length (in_front x runs) ≡ length runs
@@ -174,7 +173,7 @@ has_length x xs = ne_eqb (length (x ∷ xs)) 0 (λ none. absurd (omega arith))
 open_run-cons : (x y : Asked) (ys : List Asked) → (length (open_run (x ∷ y ∷ ys)) == 0) ≡ (length (open_run (y ∷ ys)) == 0)
 open_run-cons x y ys = elim (cases_Bool (list_all (λ r. r.links) (x ∷ y ∷ ys))) [
   | inl all ↦ let rest : AllLink (y ∷ ys) = All-tail Links x (y ∷ ys) (test-AllLink (x ∷ y ∷ ys) all) in
-        ap (λ (zs : List Asked). length zs == 0) (open_run-all (x ∷ y ∷ ys) (test-AllLink (x ∷ y ∷ ys) all)) ∙ has_length x (y ∷ ys) ∙ sym (has_length y ys) ∙ sym (ap (λ (zs : List Asked). length zs == 0) (open_run-all (y ∷ ys) rest))
+      ap (λ (zs : List Asked). length zs == 0) (open_run-all (x ∷ y ∷ ys) (test-AllLink (x ∷ y ∷ ys) all)) ∙ has_length x (y ∷ ys) ∙ sym (has_length y ys) ∙ sym (ap (λ (zs : List Asked). length zs == 0) (open_run-all (y ∷ ys) rest))
   | inr not_all ↦ ap (λ (b : Bool). length (if b then x ∷ y ∷ ys else open_run (y ∷ ys)) == 0) not_all
 ]
 

@@ -1,5 +1,5 @@
 -- What a submission is refused for (the limits are this project's own).
-use Rattle.std.specs.Prelude.{◌≡◌, ℕ, ◌+◌, ◌==◌, nat_lt, Bool, true, false, not, ◌&&◌, List, [], ◌∷◌, ◌++◌, length, Option, Some, None, if◌then◌else◌}
+use Rattle.std.specs.Prelude.{◌≡◌, ℕ, ◌+◌, ◌==◌, nat_lt, Bool, false, not, ◌&&◌, List, [], ◌∷◌, ◌++◌, length, Option, Some, None, if◌then◌else◌}
 use Rattle.fx_chain.specs.Operation.{Operation, Opens, Reads, Closes, Updates, Asked}
 use Rattle.fx_chain.specs.Runs.{runs_of, open_run}
 use Rattle.fx_chain.specs.Weights.{installs_of, all_installs}
@@ -7,7 +7,7 @@ use Rattle.fx_chain.specs.declared.fault.CutKind.{CutKind}
 use Rattle.fx_chain.specs.declared.fault.CutKind.TheVariants.{BadFlags, LongRead, LongUpdate, ChainTooLong, TooManyFiles, TooManyChains}
 use Rattle.fx_chain.specs.declared.fault.CutFault.{CutFault}
 
--- a read names its file by a slot, and no other request does
+-- whether the flags don't fit: a read names its file by a slot, and no other request does
 abbrev pub has_bad_flags : Operation → Bool → Bool
 has_bad_flags (Opens name target) fixed = fixed
 has_bad_flags (Reads slot off len) fixed = not fixed
@@ -26,8 +26,8 @@ is_long_update (Reads slot off len) = false
 is_long_update (Closes slot) = false
 is_long_update (Updates off list) = nat_lt 16 (length list)
 
--- the first fault of a request that so many runs stand in front of, or begin there, and so many members of its own run
--- with so many installs
+-- the first fault of a request: `runs` is the number of runs that the requests in front of it make, `members` that of
+-- the members of its own run in front of it, and `installs` that of the files which those members install
 abbrev pub fault_after : ℕ → ℕ → ℕ → Asked → Option CutKind
 fault_after runs members installs request =
     if has_bad_flags request.operation request.fixed then Some BadFlags
@@ -55,3 +55,17 @@ first_fault front (request ∷ behind) = or_later (length front + 1) (fault_behi
 -- the first request with a fault, its place counted from 1
 abbrev pub fault_of : List Asked → Option CutFault
 fault_of requests = first_fault [] requests
+
+-- no request has a fault behind those in front of it
+abbrev pub HasNoFault : List Asked → Type 0
+HasNoFault requests = (front : List Asked) (request : Asked) (behind : List Asked) → requests ≡ front ++ request ∷ behind → fault_behind front request ≡ None
+
+-- a request with a fault, and no request in front of it has one
+pub record IsFirstFault (requests : List Asked) (fault : CutFault) : Type 0 where
+  pub front : List Asked
+  pub request : Asked
+  pub behind : List Asked
+  pub parts : requests ≡ front ++ request ∷ behind
+  pub place : fault.at ≡ length front + 1
+  pub kind : fault_behind front request ≡ Some fault.kind
+  pub none_in_front : HasNoFault front

@@ -1,5 +1,5 @@
 -- The runs of a submission: the requests that are linked with each other (io_uring_enter(2), "IOSQE_IO_LINK").
-use Rattle.std.specs.Prelude.{◌≡◌, ℕ, ◌<◌, Bool, true, false, not, List, [], ◌∷◌, length, All, flat_map, if◌then◌else◌}
+use Rattle.std.specs.Prelude.{◌≡◌, ◌<◌, Bool, true, false, not, List, [], ◌∷◌, ◌++◌, length, All, flat_map, if◌then◌else◌}
 use Rattle.std.specs.List.{list_all}
 use Rattle.fx_chain.specs.Operation.{Asked}
 
@@ -42,3 +42,13 @@ runs_of (request ∷ requests) = if request.links then in_front request (runs_of
 abbrev pub open_run : List Asked → List Asked
 open_run [] = []
 open_run (request ∷ requests) = if list_all (λ r. r.links) (request ∷ requests) then request ∷ requests else open_run requests
+
+-- a request stands in its own run behind the open run of the requests in front of it
+pub record StandsIn (front : List Asked) (request : Asked) (runs : List (List Asked)) : Type 0 where
+  -- the runs in front of its own, the members behind it, and the runs behind its own
+  pub earlier : List (List Asked)
+  pub rest : List Asked
+  pub later : List (List Asked)
+  pub parts : runs ≡ earlier ++ (open_run front ++ request ∷ rest) ∷ later
+  -- where it begins its run, the runs of the requests in front are those in front of its own
+  pub begins : open_run front ≡ [] → earlier ≡ runs_of front

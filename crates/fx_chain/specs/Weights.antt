@@ -1,5 +1,5 @@
 -- What a request needs at most: numbers for the files that it installs, and room for those that it closes.
-use Rattle.std.specs.Prelude.{ℕ, ◌+◌, ℤ, pos, int_le, List, length, filter, sum_by}
+use Rattle.std.specs.Prelude.{ℕ, pos, int_le, List, length, filter, sum_by}
 use Rattle.fx_chain.specs.Operation.{Operation, Opens, Reads, Closes, Updates, Asked}
 
 -- how many files a request installs
@@ -19,3 +19,7 @@ weight_of (Updates off list) = length list
 -- how many files some requests install together
 abbrev pub all_installs : List Asked → ℕ
 all_installs requests = sum_by (λ request. installs_of request.operation) requests
+
+-- how many files some requests may close together
+abbrev pub all_weights : List Asked → ℕ
+all_weights requests = sum_by (λ request. weight_of request.operation) requests

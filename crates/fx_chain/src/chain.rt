@@ -1,8 +1,8 @@
-ghost use Rattle.std.specs.Prelude.{◌≡◌, All, IfOk};
-ghost use Rattle.fx_chain.specs.Accepted.{IsAccepted, IsChain};
+ghost use Rattle.std.specs.Prelude.{◌≡◌, ◌+◌, ◌≤◌, length, map, All, IfOk, vec_len};
+ghost use Rattle.fx_chain.specs.Accepted.{IsAccepted, IsChain, members_of};
 ghost use Rattle.fx_chain.specs.Chains.{chains_of};
 ghost use Rattle.fx_chain.specs.Operation.{all_asked};
-ghost use Rattle.fx_chain.specs.Runs.{AreTheOnlyRuns, runs_of};
+ghost use Rattle.fx_chain.specs.Runs.{runs_of};
 
 use crate::request::Request;
 use fx_base::NoMemory;
@@ -24,7 +24,10 @@ pub struct Chain {
 pub fn cut(alloc: Global, requests: &[Request]) -> Result<Vec<Chain>, NoMemory>
     requires { IsAccepted (all_asked requests.now) }
     ensures chains { IfOk result (λ chains. chains.items ≡ chains_of (runs_of (all_asked requests.now))) }
-    ensures runs { AreTheOnlyRuns (all_asked requests.now) (runs_of (all_asked requests.now)) }
+    ensures members { IfOk result (λ chains. map (members_of (all_asked requests.now)) chains.items
+        ≡ runs_of (all_asked requests.now)) }
+    ensures inside { IfOk result (λ chains. All (λ chain. chain.first + chain.len ≤ length requests.now) chains.items) }
+    ensures few { IfOk result (λ chains. vec_len chains ≤ 1023) }
     ensures within { IfOk result (λ chains. All (IsChain (all_asked requests.now)) chains.items) }
 {
     let mut chains = Vec::new(alloc);

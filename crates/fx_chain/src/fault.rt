@@ -1,4 +1,5 @@
 ghost use Rattle.std.specs.Prelude.{◌≡◌, ◌+◌, ◌*◌, ◌<◌, ◌≤◌, length, IfSome, IfNone, IfOk, IfErr, Ok, Err, if◌then◌else◌, ◌==◌};
+ghost use Rattle.fx_chain.specs.Accepted.{IsAccepted};
 ghost use Rattle.fx_chain.specs.Faults.{fault_after, fault_of};
 ghost use Rattle.fx_chain.specs.Operation.{all_asked, asked_of};
 ghost use Rattle.fx_chain.specs.Runs.{runs_of};
@@ -57,9 +58,12 @@ struct Count {
 /// most 16,369, however long the submission is.
 pub fn check(requests: &[Request]) -> Result<u32, CutFault>
     ensures fault { IfSome (fault_of (all_asked requests.now)) (λ fault. result ≡ Err fault) }
-    ensures chains { IfNone (fault_of (all_asked requests.now)) (result ≡ Ok (length (runs_of (all_asked requests.now)))) }
+    ensures chains { IfNone (fault_of (all_asked requests.now))
+        (result ≡ Ok (length (runs_of (all_asked requests.now)))) }
+    ensures accepted { IfOk result (λ chains. IsAccepted (all_asked requests.now)) }
     ensures few { IfOk result (λ chains. chains ≤ 1023) }
-    ensures place { IfErr result (λ fault. (0 < fault.at) × (fault.at ≤ length requests.now) × (fault.at ≤ 1023 * 16 + 1)) }
+    ensures place { IfErr result (λ fault. (0 < fault.at) × (fault.at ≤ length requests.now)) }
+    ensures early { IfErr result (λ fault. fault.at ≤ 1023 * 16 + 1) }
 {
     let mut count = Count {
         chains: 0,
@@ -112,7 +116,8 @@ impl Count {
         requires installs { self.old.installs + installs_of (asked_of request.now).operation ≤ 64 }
         ensures chains { self.new.chains ≡ if self.old.members == 0 then self.old.chains + 1 else self.old.chains }
         ensures members { self.new.members ≡ if (asked_of request.now).links then self.old.members + 1 else 0 }
-        ensures installs { self.new.installs ≡ if (asked_of request.now).links then self.old.installs + installs_of (asked_of request.now).operation else 0 }
+        ensures installs { self.new.installs ≡ if (asked_of request.now).links
+            then self.old.installs + installs_of (asked_of request.now).operation else 0 }
     {
         if self.members == 0 {
             self.chains += 1;

@@ -6,6 +6,7 @@ mod completion;
 mod fault;
 mod file_index;
 mod flags;
+pub mod laws;
 mod request;
 
 pub use chain::{Chain, cut};
@@ -14,3 +15,6 @@ pub use fault::{CutFault, CutKind, check};
 pub use file_index::target;
 pub use flags::SqeFlags;
 pub use request::{Op, Request, Target};
+
+#[cfg(test)]
+mod tests;

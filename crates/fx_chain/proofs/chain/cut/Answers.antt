@@ -1,14 +1,14 @@
-use Rattle.std.proofs.Common.{ℕ, Vec, Global, ◌≡◌, ◌+◌, ◌-◌, ◌<◌, ◌≤◌, ◌⊎◌, inl, inr, length, true, false, All, List, ◌∷◌, ◌++◌, [], refl, sym, ap, ◌∙◌, subst, arith, rules}
-use Rattle.std.proofs.lemmas.Bool.{not-true, not-false}
-use Rattle.fx_chain.specs.Accepted.{IsAccepted, IsChain}
+use Rattle.std.proofs.Common.{ℕ, Vec, Global, ◌≡◌, ◌+◌, ◌-◌, ◌≤◌, ◌⊎◌, inl, inr, length, map, true, false, All, List, ◌∷◌, ◌++◌, [], sym, ap, ◌∙◌, subst, arith}
+use Rattle.std.proofs.lemmas.List.{length-map}
+use Rattle.std.proofs.lemmas.List.Elements.{All-weaker}
+use Rattle.fx_chain.specs.Accepted.{IsChain, members_of}
 use Rattle.fx_chain.specs.Chains.{chains_of}
 use Rattle.fx_chain.specs.Operation.{asked_of, all_asked}
 use Rattle.fx_chain.specs.Runs.{runs_of}
 use Rattle.fx_chain.specs.declared.chain.Chain.{Chain}
-use Rattle.fx_chain.proofs.Accepted.{accepted-length}
-use Rattle.fx_chain.proofs.Chains.{accepted-chains}
+use Rattle.fx_chain.proofs.Accepted.{accepted-runs}
+use Rattle.fx_chain.proofs.Chains.{accepted-chains, members-are-runs}
 use Rattle.fx_chain.proofs.Cutting.{IsCut, cut_none, cut_ends, cut_goes_on, cut_all}
-use Rattle.fx_chain.proofs.Runs.{the_only_runs}
 use Rattle.fx_chain.proofs.chain.cut.Goals as goal
 use Rattle.fx_chain.proofs.chain.cut.Goals.{then-not-links+in_ok-push, then-not-links-via-then-not-links, then-not-links-via-else-not-links+then-i-requests, else-not-links+else-i-requests}
 
@@ -39,13 +39,28 @@ loop-i-preserved c =
           (cut_goes_on requests c.loop-i.first i x begun c.loop-i-test.true c.index-requests-i.is c.loop-i.chains.items so links (omega arith)))
     ]
 
-pub returns-in_err-push-clause-runs : goal.returns-in_err-push-clause-runs
-returns-in_err-push-clause-runs c = the_only_runs (all_asked c.args.requests.now)
-
-pub returns-clause-runs : goal.returns-clause-runs
-returns-clause-runs c = the_only_runs (all_asked c.args.requests.now)
+pub returns-clause-members : goal.returns-clause-members
+returns-clause-members c =
+    let asked = all_asked c.args.requests.now in
+    ap (λ made. map (members_of asked) made) (cut_all c.args.requests.now c.loop-i.chains.items c.loop-i.first c.loop-i.i c.loop-i.invariant (omega arith)) ∙ members-are-runs asked
 
 pub returns-clause-within : goal.returns-clause-within
 returns-clause-within c =
     let asked = all_asked c.args.requests.now in
     subst (All (IsChain asked)) (sym (cut_all c.args.requests.now c.loop-i.chains.items c.loop-i.first c.loop-i.i c.loop-i.invariant (omega arith))) (accepted-chains asked c.requires)
+
+pub returns-clause-inside : goal.returns-clause-inside
+returns-clause-inside c =
+    let asked = all_asked c.args.requests.now in
+    let same : length asked ≡ length c.args.requests.now = length-map c.args.requests.now asked_of in
+    let each : All (IsChain asked) c.loop-i.chains.items = subst (All (IsChain asked)) (sym (cut_all c.args.requests.now c.loop-i.chains.items c.loop-i.first c.loop-i.i c.loop-i.invariant (omega arith))) (accepted-chains asked c.requires) in
+    All-weaker (IsChain asked) (λ (chain : Chain). chain.first + chain.len ≤ length c.args.requests.now) (λ chain is. let in_asked = is.inside in omega arith) c.loop-i.chains.items each
+
+pub returns-clause-few : goal.returns-clause-few
+returns-clause-few c =
+    let asked = all_asked c.args.requests.now in
+    let made : c.loop-i.chains.items ≡ chains_of (runs_of asked) = cut_all c.args.requests.now c.loop-i.chains.items c.loop-i.first c.loop-i.i c.loop-i.invariant (omega arith) in
+    let same : length c.loop-i.chains.items ≡ length (runs_of asked) = sym (length-map c.loop-i.chains.items (members_of asked)) ∙ ap (λ xs. length (map (members_of asked) xs)) made ∙ ap length (members-are-runs asked) in
+    let few : length (runs_of asked) ≤ 1023 = accepted-runs asked c.requires in
+    let len = c.loop-i.chains.ok.0 in
+    omega arith
