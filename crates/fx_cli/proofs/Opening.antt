@@ -1,6 +1,9 @@
 -- What a request of each kind does, by the removals and look-ups that it makes.
-use Rattle.std.proofs.Common.{◌≡◌, ◌≢◌, ℕ, ◌+◌, ◌-◌, ◌<◌, ◌≤◌, ◌^◌, Bool, true, false, List, [], ◌∷◌, ◌++◌, length, refl, sym, ap, subst, ◌∙◌, Option, Some, None, option_map, is_some, if◌then◌else◌, inl, inr, ◌==◌, nat_le, pos, negsuc, not, ◌&&◌, arith}
+use Rattle.std.proofs.Common.{◌≡◌, ◌≢◌, ℕ, ◌+◌, ◌-◌, ◌<◌, ◌≤◌, ◌^◌, Bool, true, false, List, [], ◌∷◌, ◌++◌, length, refl, sym, ap, subst, ◌∙◌, Option, Some, None, option_map, is_some, if◌then◌else◌, inl, inr, ◌==◌, nat_le, pos, negsuc, ℤ, not, ◌&&◌, ◌||◌, arith}
 use Rattle.std.proofs.lemmas.List.{append-nil}
+use Rattle.std.proofs.lemmas.Bool.{le-ltb}
+use Rattle.std.specs.Bool.{MatchBool}
+use Rattle.std.specs.List.{list_any}
 use Rattle.fx_base.specs.Closes.{Closes}
 use Rattle.fx_base.specs.Catalogue.{FileEntry, bytes_at}
 use Rattle.fx_base.specs.declared.mark.Mark.{Mark}
@@ -16,7 +19,7 @@ use Rattle.fx_plain.specs.History.{Leads, state_after, closes_in, close_of, ◌�
 use Rattle.fx_plain.specs.Contents.{Contents, state_of, leaving}
 use Rattle.fx_plain.specs.Table.{numbered, closed_by_release}
 use Rattle.fx_plain.proofs.Cells.{by_equality}
-use Rattle.fx_chain.specs.Answers.{OpensAt, ReadsFrom, Empties, AppliesEntry, installed}
+use Rattle.fx_chain.specs.Answers.{OpensAt, ReadsFrom, Empties, AppliesEntry, AppliesList, UpdatesFrom, is_bad_entry, installed}
 use Rattle.fx_chain.specs.Completed.{Completed, completed, refusal}
 use Rattle.fx_chain.specs.declared.completion.Place.{Place}
 use Rattle.fx_chain.specs.declared.request.Target.TheVariants.{Slot, Any}
@@ -121,3 +124,31 @@ module _ (first new : State) (place : Place) (before closed : Closes) (in_list s
 
   pub applies_clear : ClosesUp first (Clear slot (first.at slot)) (first.at slot) new before closed → DidSo first new before closed (λ events. AppliesEntry place in_list slot (negsuc 0) events)
   applies_clear up = ([] ▷ Clear slot (first.at slot) ▷▷ close_of (first.at slot), up.did, (first.at slot, may_close ([] ▷ Clear slot (first.at slot)) (first.at slot)))
+
+list_known : (a b : Bool) (P Q : Type 0) → a ≡ false → b ≡ false → Q → MatchBool (a || b) P Q
+list_known a b P Q first second q = subst (λ (z : Bool). MatchBool z P Q) (sym (ap (λ (z : Bool × Bool). z.0 || z.1) (λ i. (first i, second i)))) q
+
+test_known : (b : Bool) (P Q : Type 0) → b ≡ false → Q → MatchBool b P Q
+test_known b P Q is q = subst (λ (z : Bool). MatchBool z P Q) (sym is) q
+
+test_holds : (b : Bool) (P Q : Type 0) → b ≡ true → P → MatchBool b P Q
+test_holds b P Q is p = subst (λ (z : Bool). MatchBool z P Q) (sym is) p
+
+length_known : (n : ℕ) → n ≢ 0 → (n == 0) ≡ false
+length_known n some_there = by_equality n 0 (λ b. b ≡ false) (λ is. absurd (some_there is)) (λ _. refl)
+
+module _ (entries : ℕ) (first new : State) (place : Place) (off : ℕ) (list : List ℤ) (c : Completed) (before closed : Closes) (some_slots : first.size ≢ 0) (some_entries : length list ≢ 0) (inside : off + length list ≤ first.size) where
+  pub updates_list : list_any (is_bad_entry entries) list ≡ false → DidSo first new before closed (λ events. AppliesList place 0 off list events) → c ≡ completed place (pos (length list)) []
+      → DidSo first new before closed (λ events. UpdatesFrom entries first.size place off list events c)
+  updates_list good did answered = (
+    did.0,
+    did.1,
+    size_known first.size _ _ some_slots (list_known _ _ _ _ (length_known (length list) some_entries) (le-ltb first.size (off + length list) inside) (test_known _ _ _ good (did.2, answered))),
+  )
+
+  pub updates_none : list_any (is_bad_entry entries) list ≡ true → new ≡ first → closed ≡ before → c ≡ refusal place EBADF → DidSo first new before closed (λ events. UpdatesFrom entries first.size place off list events c)
+  updates_none bad same same_closes answered = (
+    [],
+    record { leads = (tt, same); files = ap (λ (k : Closes). k.files) same_closes ∙ sym (append-nil before.files) },
+    size_known first.size _ _ some_slots (list_known _ _ _ _ (length_known (length list) some_entries) (le-ltb first.size (off + length list) inside) (test_holds _ _ _ bad (refl, answered))),
+  )

@@ -25,6 +25,18 @@ fn is_bad_entry(entries: u32, entry: i32) -> bool
     entry as u32 >= entries
 }
 
+// Whether a list has such an entry.
+fn has_bad_entry(entries: u32, list: &[i32]) -> bool
+    ensures { result ≡ list_any (is_bad_entry entries) list.now }
+{
+    for entry in list {
+        if is_bad_entry(entries, *entry) {
+            return true;
+        }
+    }
+    false
+}
+
 // Applies one entry: -1 empties its slot, -2 leaves it, and every other one installs that catalogue entry.
 fn apply_entry(
     table: &mut PlainTable,
@@ -124,7 +136,7 @@ pub(crate) fn update(
         return refusal(alloc, place, Errno::EINVAL);
     }
     let entries = catalogue.len();
-    if list.iter().any(|entry| is_bad_entry(entries, *entry)) {
+    if has_bad_entry(entries, list) {
         return refusal(alloc, place, Errno::EBADF);
     }
     apply_list(table, catalogue, place, off, list, numbers, closes);
