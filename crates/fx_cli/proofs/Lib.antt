@@ -6,3 +6,4 @@ pub mod Performing
 pub mod Opening
 pub mod EntryKinds
 pub mod Goings
+pub mod ChainGoings

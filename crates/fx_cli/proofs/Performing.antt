@@ -101,3 +101,12 @@ size_known size P Q some_slots q = by_equality size 0 (λ b. MatchBool b P Q) (�
 
 pub slot_known : (size slot : ℕ) (P Q : Type 0) → slot < size → Q → MatchBool (nat_le size slot) P Q
 slot_known size slot P Q inside q = subst (λ b. MatchBool b P Q) (sym (lt-leb size slot inside)) q
+
+-- a table whose files and fresh numbers are as before
+pub same_rests : (entries next last : ℕ) (first new : State) (closes : Closes) → IsAtRest entries first closes next last → IsSettled new → new.at ≡ first.at → new.fresh ≡ first.fresh → IsAtRest entries new closes next last
+same_rests entries next last first new closes rest settled at fresh = record {
+  settled = settled;
+  at_slots = λ u f is. rest.at_slots u f (sym (ap (λ (a : ℕ → Option File). a u) at) ∙ is);
+  closed = rest.closed;
+  fresh = λ n low high. ap (λ (g : ℕ → Bool). g n) fresh ∙ rest.fresh n low high;
+}

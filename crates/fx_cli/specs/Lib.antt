@@ -6,3 +6,4 @@ pub mod ScriptView
 pub mod Text
 pub mod Performs
 pub mod Entries
+pub mod Played

@@ -1,6 +1,7 @@
 //! The program `fixfiles`: reads a script and plays it.
 #![tactic(auto)]
 
+mod chains;
 mod command;
 mod fault;
 mod input;

@@ -1,18 +1,22 @@
 //! Requests on a table that one thread has: each answers as the kernel would, and closes at once what it removed.
-ghost use Rattle.std.specs.Prelude.{◌≡◌, ℕ, ◌+◌, ◌<◌, ◌≤◌, ◌^◌, length, [], pos};
+ghost use Rattle.std.specs.Prelude.{◌≡◌, ℕ, ◌+◌, ◌<◌, ◌≤◌, ◌^◌, length, [], pos, false};
 ghost use Rattle.fx_base.specs.Closes.{Closes};
 ghost use Rattle.fx_base.specs.declared.mark.Mark.TheVariants.{Submitted};
 ghost use Rattle.fx_plain.specs.State.{IsSettled};
 ghost use Rattle.fx_plain.specs.Contents.{state_of};
-ghost use Rattle.fx_chain.specs.Answers.{OpensAt, ReadsFrom, Empties};
+ghost use Rattle.fx_chain.specs.Answers.{Answers, OpensAt, ReadsFrom, Empties};
 ghost use Rattle.fx_chain.specs.Completed.{completed_of, completed, refusal, negated};
+ghost use Rattle.fx_chain.specs.Faults.{is_long_read, is_long_update};
+ghost use Rattle.fx_chain.specs.Operation.{operation_of, Opens};
+ghost use Rattle.fx_chain.specs.Weights.{installs_of, weight_of};
 ghost use Rattle.fx_chain.specs.declared.request.Target.TheVariants.{Slot, Any};
 ghost use Rattle.fx_cli.specs.Performs.{IsAtRest, DidSo, Used};
 
 use crate::removal::{close_slot, replace_slot};
 use crate::supply::Numbers;
+use crate::update::update;
 use fx_base::{Catalogue, CloseList, Errno, Mark};
-use fx_chain::{Completion, Place};
+use fx_chain::{Completion, Op, Place, Target};
 use fx_plain::PlainTable;
 use std::alloc::Global;
 
@@ -180,4 +184,64 @@ fn close(
         return refusal(alloc, place, Errno::EBADF);
     }
     done(alloc, place, 0)
+}
+
+// Opens the catalogue entry of a name.
+fn open(
+    alloc: Global,
+    table: &mut PlainTable,
+    catalogue: &Catalogue,
+    place: Place,
+    name: &str,
+    target: Target,
+    numbers: &mut Numbers,
+    closes: &mut CloseList,
+) -> Completion
+    requires rest { IsAtRest (length catalogue.now) (state_of table.old) closes.old numbers.old.next numbers.old.last }
+    requires number { numbers.old.next < numbers.old.last }
+    requires room { 0 < closes.old.room }
+    ensures steps { DidSo (state_of table.old) (state_of table.new) closes.old closes.new (λ events. Answers catalogue.now (state_of table.old).size place (Opens name.now target) events (completed_of result)) }
+    ensures rest { IsAtRest (length catalogue.now) (state_of table.new) closes.new numbers.new.next numbers.new.last }
+    ensures used { Used closes.old closes.new numbers.old.next numbers.new.next numbers.old.last numbers.new.last 1 1 }
+{
+    let Some(entry) = catalogue.find(name) else {
+        return refusal(alloc, place, Errno::ENOENT);
+    };
+    match target {
+        Target::Slot(slot) => {
+            open_slot(alloc, table, catalogue, place, entry, slot, numbers, closes)
+        }
+        Target::Any => open_any(alloc, table, catalogue, place, entry, numbers, closes),
+    }
+}
+
+/// Performs a request at its place on a settled table: the completion, and what it removed goes to the closes. A read
+/// asks for at most 4,096 bytes, and an update has at most 16 entries.
+pub(crate) fn perform(
+    alloc: Global,
+    table: &mut PlainTable,
+    catalogue: &Catalogue,
+    place: Place,
+    op: &Op,
+    numbers: &mut Numbers,
+    closes: &mut CloseList,
+) -> Completion
+    requires rest { IsAtRest (length catalogue.now) (state_of table.old) closes.old numbers.old.next numbers.old.last }
+    requires limits { (is_long_read (operation_of op.now) ≡ false) × (is_long_update (operation_of op.now) ≡ false) }
+    requires numbers { numbers.old.next + installs_of (operation_of op.now) ≤ numbers.old.last }
+    requires room { weight_of (operation_of op.now) ≤ closes.old.room }
+    ensures steps { DidSo (state_of table.old) (state_of table.new) closes.old closes.new (λ events. Answers catalogue.now (state_of table.old).size place (operation_of op.now) events (completed_of result)) }
+    ensures rest { IsAtRest (length catalogue.now) (state_of table.new) closes.new numbers.new.next numbers.new.last }
+    ensures used { Used closes.old closes.new numbers.old.next numbers.new.next numbers.old.last numbers.new.last (weight_of (operation_of op.now)) (installs_of (operation_of op.now)) }
+{
+    match op {
+        Op::Open { name, target } => {
+            open(alloc, table, catalogue, place, name.as_str(), *target, numbers, closes)
+        }
+        Op::Read { slot, off, len } => read(alloc, table, catalogue, place, *slot, *off, *len),
+        Op::Close { slot } => close(alloc, table, place, *slot, closes),
+        Op::Update { off, list } => {
+            update(alloc, table, catalogue, place, *off, list.as_slice(), numbers, closes)
+        }
+    }
 }
