@@ -1,9 +1,10 @@
 -- A chain goes on by one member, and a submission by one chain.
 use Rattle.std.proofs.Common.{◌≡◌, ℕ, ◌+◌, ◌<◌, ◌≤◌, Bool, true, false, List, [], ◌∷◌, ◌++◌, length, refl, sym, ap, subst, ◌∙◌, append_assoc, drop, take, map, All, slice_index_or, arith}
-use Rattle.std.proofs.lemmas.List.{append-nil, map-append, drop-map, length-map, get_or-map}
+use Rattle.std.proofs.lemmas.List.{append-nil, map-append, drop-map, length-map, get_or-map, length-drop, drop-drop}
 use Rattle.std.proofs.lemmas.List.Elements.{All-get_or}
 use Rattle.std.proofs.lemmas.List.Sums.{sum_by-cons}
 use Rattle.std.specs.Bool.{MatchBool}
+use Rattle.fx_base.specs.declared.errno.Errno.TheVariants.{ECANCELED}
 use Rattle.fx_base.specs.Catalogue.{FileEntry}
 use Rattle.fx_base.specs.Closes.{Closes}
 use Rattle.fx_plain.specs.declared.event.Action.{Action}
@@ -11,7 +12,7 @@ use Rattle.fx_plain.specs.State.{State}
 use Rattle.fx_plain.specs.History.{◌▷▷◌}
 use Rattle.fx_chain.specs.Accepted.{IsWithinLimits}
 use Rattle.fx_chain.specs.Answers.{Answers}
-use Rattle.fx_chain.specs.Completed.{Completed, completed_of, all_completed, next_member}
+use Rattle.fx_chain.specs.Completed.{Completed, completed_of, all_completed, next_member, refusal}
 use Rattle.fx_chain.specs.Explains.{Explains, ExplainsRuns, canceled, severs, operations_in, first_member}
 use Rattle.fx_chain.specs.Operation.{Operation, Asked, asked_of, all_asked}
 use Rattle.fx_chain.specs.Weights.{installs_of, weight_of, all_installs, all_weights}
@@ -83,3 +84,22 @@ operations_from requests i = drop-map (λ (r : Asked). r.operation) i (all_asked
 -- the place behind a member is that of the next one
 pub next_place : (submission chain i : ℕ) → next_member (record { submission = submission; chain = chain; member = i + 1 }) ≡ member_at (first_member submission chain) (i + 1)
 next_place submission chain i = λ k. record { submission = submission; chain = chain; member = (let e : (i + 1) + 1 ≡ 1 + (i + 1) = omega arith in e) k }
+
+canceled_front : (place : Place) (operations : List Operation) → 0 < length operations → canceled place operations ≡ refusal place ECANCELED ∷ canceled (next_member place) (drop 1 operations)
+canceled_front place [] some_left = absurd (omega arith)
+canceled_front place (operation ∷ operations) some_left = refl
+
+-- one member more is canceled
+pub canceled_next : (submission chain i : ℕ) (requests : List Request) → i < length requests → canceled (member_at (first_member submission chain) i) (operations_in (asked_from requests i))
+    ≡ refusal (record { submission = submission; chain = chain; member = i + 1 }) ECANCELED ∷ canceled (member_at (first_member submission chain) (i + 1)) (operations_in (asked_from requests (i + 1)))
+canceled_next submission chain i requests inside =
+    let all : List Operation = operations_in (all_asked requests) in
+    let here : operations_in (asked_from requests i) ≡ drop i (operations_in (all_asked requests)) = sym (operations_from requests i) in
+    let len : length (operations_in (all_asked requests)) ≡ length requests = length-map (all_asked requests) (λ (r : Asked). r.operation) ∙ length-map requests asked_of in
+    let some_left : 0 < length (operations_in (asked_from requests i)) = let l = ap length here in let d = length-drop i (operations_in (all_asked requests)) in omega arith in
+    let rest : drop 1 (operations_in (asked_from requests i)) ≡ operations_in (asked_from requests (i + 1)) =
+    ap (drop 1) here ∙ drop-drop 1 i (operations_in (all_asked requests)) ∙ operations_from requests (i + 1) in
+    let place_is : member_at (first_member submission chain) i ≡ record { submission = submission; chain = chain; member = i + 1 } = λ k. record { submission = submission; chain = chain; member = (let e : 1 + i ≡ i + 1 = omega arith in e) k } in
+    canceled_front (member_at (first_member submission chain) i) (operations_in (asked_from requests i)) some_left
+    ∙ (λ k. refusal (place_is k) ECANCELED ∷ canceled (next_member (place_is k)) (rest k))
+    ∙ ap (λ (place : Place). refusal (record { submission = submission; chain = chain; member = i + 1 }) ECANCELED ∷ canceled place (operations_in (asked_from requests (i + 1)))) (next_place submission chain i)

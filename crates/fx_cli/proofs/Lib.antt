@@ -7,3 +7,4 @@ pub mod Opening
 pub mod EntryKinds
 pub mod Goings
 pub mod ChainGoings
+pub mod RunGoings
