@@ -1,3 +1,6 @@
+pub mod Commands
 pub mod Lists
 pub mod Numbers
+pub mod Tests
 pub mod Turns
+pub mod Words

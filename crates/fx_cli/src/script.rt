@@ -1,9 +1,8 @@
-ghost use Rattle.std.specs.Prelude.{◌≡◌, ◌<◌, ◌≤◌, ◌+◌, ◌^◌, IfOk, IfErr, OnOk, map, string_bytes, Some, None, vec_len, nat_le, ◌&&◌};
-ghost use Rattle.std.specs.List.{list_all};
+ghost use Rattle.std.specs.Prelude.{◌≡◌, ◌<◌, ◌≤◌, ◌+◌, ◌^◌, IfOk, IfErr, OnOk, map, string_bytes, Some, None, vec_len};
 ghost use Rattle.fx_cli.specs.Instruction.{instructions_of};
 ghost use Rattle.fx_cli.specs.Reading.{after_line, after_text};
 ghost use Rattle.fx_cli.specs.Refusal.{IsRefusal};
-ghost use Rattle.fx_cli.specs.Script.{FileLine, IsScript, IsNoScript, is_skipped, is_text, lines};
+ghost use Rattle.fx_cli.specs.Script.{FileLine, IsScript, IsNoScript, is_printable, is_skipped, is_text, lines};
 ghost use Rattle.fx_cli.specs.ScriptView.{progress_of, view_of};
 
 use crate::command::{Command, Script};
@@ -26,7 +25,7 @@ fn lines(alloc: Global, text: &str) -> Result<Vec<&str>, AllocError>
 }
 
 fn is_printable(bytes: &[u8]) -> bool
-    ensures { result ≡ list_all (λ b. nat_le 32 b && nat_le b 126) bytes.now }
+    ensures { result ≡ is_printable bytes.now }
 {
     bytes.iter().all(|b| matches!(*b, 32..=126))
 }
