@@ -1,5 +1,6 @@
 use Rattle.std.proofs.Common.{rules, ◌≡◌, ◌≤◌, ◌<◌, ◌+◌, sym, ap, ◌∙◌, subst, refl, ℕ, List, [], length, map, drop, slice_index_or, Bor, arith}
 use Rattle.std.proofs.lemmas.List.{length-map}
+use Rattle.std.proofs.lemmas.Result.{err_from_is_err_and}
 use Rattle.fx_chain.specs.Operation.{all_asked}
 use Rattle.fx_cli.specs.Reading.{after_texts, nothing}
 use Rattle.fx_cli.specs.Script.{lines}
@@ -9,7 +10,7 @@ use Rattle.fx_cli.proofs.Texts.{no_text, refused_text, refused_for, left_pending
 use Rattle.fx_cli.proofs.script.read_script.Goals as goal
 
 pub returns-in_default-clause-fault : goal.returns-in_default-clause-fault
-returns-in_default-clause-fault c = no_text c.args.bytes.now ?
+returns-in_default-clause-fault c = no_text c.args.bytes.now c.in_default.ensures.cases.0
 
 pub returns-in_err-take_text-clause-fault : goal.returns-in_err-take_text-clause-fault
 returns-in_err-take_text-clause-fault c =
@@ -19,7 +20,8 @@ returns-in_err-take_text-clause-fault c =
     let text : List ℕ = (slice_index_or items c.loop-line.line-index (record { ref_ptr = (0, 0); now = [] })).now in
     let texts : List (List ℕ) = map (λ x. x.now) (drop (c.loop-line.line-index + 1) items) in
     let left = subst (λ (ts : List (List ℕ)). after_texts p ts ≡ after_texts nothing (lines c.args.bytes.now)) first c.loop-line.invariant.left in
-    refused_for ? ? ? (refused_text c.args.bytes.now p text texts left) ?
+    let passed = err_from_is_err_and c.from_residual-in_err-take_text.result c.from_residual-in_err-take_text.ensures.1 in
+    rw (passed.1, passed.2) (refused_for _ _ _ (refused_text c.args.bytes.now p text texts left) c.in_err-take_text.ensures.refused)
 
 pub returns-then-not-is_empty-clause-fault : goal.returns-then-not-is_empty-clause-fault
 returns-then-not-is_empty-clause-fault c =
