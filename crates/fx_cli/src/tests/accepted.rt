@@ -38,20 +38,18 @@ fn scripts_without_a_fault(rt: HostRuntime) -> Result<(), Fail> {
 #[test]
 fn every_request_as_it_is_written(rt: HostRuntime) -> Result<(), Fail> {
     let text = "open a.txt at 3 link\nopen b.txt any\nread 1 2 3 link\nclose 4\nupdate 5 0,-1,-2\nsubmit\n";
-    let Ok(script) = read_script(rt.alloc(), text.as_bytes()) else {
-        return Err(Fail);
-    };
+    let script = read_script(rt.alloc(), text.as_bytes())?;
     let [Command::Submit(requests)] = script.commands.as_slice() else {
-        return Err(Fail);
+        panic!(rt; "other commands: {script:?}");
     };
     let [at, any, read, close, update] = requests.as_slice() else {
-        return Err(Fail);
+        panic!(rt; "other requests: {requests:?}");
     };
     assert!(rt; matches!(&at.op, Op::Open { name, target: Target::Slot(3) } if name.as_str() == "a.txt"));
     assert!(rt; matches!(&any.op, Op::Open { name, target: Target::Any } if name.as_str() == "b.txt"));
     assert!(rt; matches!(&read.op, Op::Read { slot: 1, off: 2, len: 3 }));
     assert!(rt; matches!(&close.op, Op::Close { slot: 4 }));
-    assert!(rt; matches!(&update.op, Op::Update { off: 5, list } if list.as_slice() == [0, -1, -2]));
+    assert!(rt; matches!(&update.op, Op::Update { off: 5, list } if list.as_slice() == [0, -1, -2].as_slice()));
     assert_eq!(rt; at.flags.bits(), 4);
     assert_eq!(rt; any.flags.bits(), 0);
     assert_eq!(rt; read.flags.bits(), 5);
@@ -62,9 +60,7 @@ fn every_request_as_it_is_written(rt: HostRuntime) -> Result<(), Fail> {
 
 #[test]
 fn bytes_of_either_case(rt: HostRuntime) -> Result<(), Fail> {
-    let Ok(script) = read_script(rt.alloc(), b"file a 4A4b\n".as_slice()) else {
-        return Err(Fail);
-    };
+    let script = read_script(rt.alloc(), b"file a 4A4b\n".as_slice())?;
     let mut bytes = Vec::with_capacity(rt.alloc(), 8)?;
     assert_eq!(rt; script.catalogue.read_into(0, 0, 8, &mut bytes), 2);
     assert_eq!(rt; bytes.as_slice(), b"JK".as_slice());
