@@ -46,15 +46,15 @@ fn is_skipped(line: &str) -> bool
 // Takes a file, which may stand in front of all commands and requests alone.
 fn take_file(
     script: &mut Script,
-    pending: &[Request],
+    waiting: &[Request],
     name: String,
     bytes: Vec<u8>,
 ) -> Result<(), FirstFault>
-    ensures taken { OnOk result (after_line (progress_of script.old pending.now) (FileLine (string_bytes name) bytes.items) ≡ Some (progress_of script.new pending.now)) }
-    ensures refused { IfErr result (λ fault. IsRefusal fault (after_line (progress_of script.old pending.now) (FileLine (string_bytes name) bytes.items) ≡ None)) }
+    ensures taken { OnOk result (after_line (progress_of script.old waiting.now) (FileLine (string_bytes name) bytes.items) ≡ Some (progress_of script.new waiting.now)) }
+    ensures refused { IfErr result (λ fault. IsRefusal fault (after_line (progress_of script.old waiting.now) (FileLine (string_bytes name) bytes.items) ≡ None)) }
     ensures commands { script.new.commands ≡ script.old.commands }
 {
-    if !pending.is_empty() {
+    if !waiting.is_empty() {
         return Err(FirstFault::Script);
     }
     if !script.commands.is_empty() {
