@@ -9,7 +9,7 @@ use Rattle.fx_chain.specs.declared.request.Target.TheVariants.{Slot, Any}
 use Rattle.fx_chain.specs.Operation.{Operation, Opens, Reads, Closes, Updates, Asked}
 use Rattle.fx_cli.specs.Script.{Line, FileLine, SparseLine, RangeLine, RequestLine, SubmitLine, IsLine, IsOperation, is_name, is_read, link_words, largest}
 use Rattle.fx_cli.specs.Reading.{word, ◌>>=◌, number_of, hex_of, entries_of, list_of, link_of, asked_with, file_of, sparse_of, range_of, submit_of, open_of, open_at_of, open_any_of, read_of, close_of, update_of, request_of, line_of}
-use Rattle.fx_cli.proofs.Tests.{and_left, and_right, if_true, either_if, found_if, found_then, found_map, some_same, le_of, bytes_of, bytes_differ}
+use Rattle.fx_cli.proofs.Found.{and_left, and_right, if_true, either_if, found_if, found_then, found_map, some_same, le_of, bytes_of, bytes_differ}
 use Rattle.fx_cli.proofs.Numbers.{number_found, number_is}
 use Rattle.fx_cli.proofs.Words.{first_1, first_2, first_3, first_4, no_more, eq_of, link_is, hex_is, hex_was, entries_are, entries_found}
 

@@ -1,7 +1,7 @@
 pub mod Commands
+pub mod Found
 pub mod Lists
 pub mod Numbers
-pub mod Tests
 pub mod Texts
 pub mod Turns
 pub mod Words

@@ -13,7 +13,7 @@ use lib.Signed.{mag}
 use mir.Syntax.{Width, w32}
 use Rattle.fx_cli.specs.Script.{largest, is_entry}
 use Rattle.fx_cli.specs.Reading.{number_of, entry_of}
-use Rattle.fx_cli.proofs.Tests.{and_left, and_right, and_true, not_true, if_true, refused_if, found_if, some_same, le_of, lt_of, le_test, bytes_of, bytes_test}
+use Rattle.fx_cli.proofs.Found.{and_left, and_right, and_true, not_true, if_true, refused_if, found_if, some_same, le_of, lt_of, le_test, bytes_of, bytes_test}
 
 not_number : (text : List ℕ) → ((n : ℕ) → n ≤ largest → text ≡ decimal n → ⊥) → None ≡ number_of text
 not_number text never = sym (refused_if (nat_le (digits_value 10 text) largest && bytes_eq text (decimal (digits_value 10 text))) (digits_value 10 text)
@@ -37,7 +37,7 @@ number_found n small =
     let value : digits_value 10 (decimal n) ≡ n = (decimal_is_IsNumeral n (omega arith)).1 in
     let written : decimal n ≡ decimal (digits_value 10 (decimal n)) = ap decimal (sym value) in
     if_true (nat_le (digits_value 10 (decimal n)) largest && bytes_eq (decimal n) (decimal (digits_value 10 (decimal n)))) (Some (digits_value 10 (decimal n))) None
-      (and_true _ _ (le_test (digits_value 10 (decimal n)) largest (omega arith)) (bytes_test _ _ written)) ∙ ap Some value
+    (and_true _ _ (le_test (digits_value 10 (decimal n)) largest (omega arith)) (bytes_test _ _ written)) ∙ ap Some value
 
 -- what is found is the number that the text writes
 pub number_is : (text : List ℕ) (n : ℕ) → number_of text ≡ Some n → (text ≡ decimal n) × (n ≤ largest)
@@ -73,9 +73,10 @@ unparsed_entry text e r parses refused = not_entry text (λ z small is. let fits
 unsigned : (n : ℕ) → n < 2 ^ 64 → (starts_with_minus (decimal n) ≡ false) × (without_leading_plus (decimal n) ≡ decimal n)
 unsigned n small =
     let numeral = (decimal_is_IsNumeral n small).0 in
-    let range = digit_at (decimal n) 0 numeral.1 numeral.0 in
-    (not_true _ (λ is. let minus : get_or (decimal n) 0 0 ≡ 45 = grind (arith, nat_tests) in absurd (omega (arith, range))),
-     without_leading_plus_none (decimal n) (λ plus. absurd (omega (arith, range))))
+    let range = digit_at (decimal n) 0 numeral.1 numeral.0 in (
+      not_true _ (λ is. let minus : get_or (decimal n) 0 0 ≡ 45 = grind (arith, nat_tests) in absurd (omega (arith, range))),
+      without_leading_plus_none (decimal n) (λ plus. absurd (omega (arith, range))),
+    )
 
 signed_value : (z : ℤ) → IsEntry z → signed_digits_value 10 (signed_decimal z) ≡ z
 unfolding IsEntry
@@ -94,7 +95,7 @@ entry_found z good =
     let value : signed_digits_value 10 (signed_decimal z) ≡ z = signed_value z (entry_is z good) in
     let written : signed_decimal z ≡ signed_decimal (signed_digits_value 10 (signed_decimal z)) = ap signed_decimal (sym value) in
     if_true (is_entry (signed_digits_value 10 (signed_decimal z)) && bytes_eq (signed_decimal z) (signed_decimal (signed_digits_value 10 (signed_decimal z)))) (Some (signed_digits_value 10 (signed_decimal z))) None
-      (and_true _ _ (ap is_entry value ∙ good) (bytes_test _ _ written)) ∙ ap Some value
+    (and_true _ _ (ap is_entry value ∙ good) (bytes_test _ _ written)) ∙ ap Some value
 
 -- what is found is the entry that the text writes
 pub entry_was : (text : List ℕ) (z : ℤ) → entry_of text ≡ Some z → (text ≡ signed_decimal z) × (is_entry z ≡ true)

@@ -19,7 +19,7 @@ use Rattle.fx_cli.specs.Script.{Line, IsLine, Progress, TakesText, ReadsTo, IsSc
 use Rattle.fx_cli.specs.Reading.{◌>>=◌, line_of, after_line, after_text, after_texts, nothing}
 use Rattle.fx_cli.specs.declared.fault.FirstFault.{FirstFault}
 use Rattle.fx_cli.specs.declared.fault.FirstFault.TheVariants.{Read, Script, Write, NoMemory}
-use Rattle.fx_cli.proofs.Tests.{and_left, and_right, and_true, if_true, found_if, found_then, some_same, le_of}
+use Rattle.fx_cli.proofs.Found.{and_left, and_right, and_true, if_true, found_if, found_then, some_same, le_of}
 use Rattle.fx_cli.proofs.Words.{eq_of}
 use Rattle.fx_cli.proofs.Commands.{line_found, line_is}
 
@@ -90,8 +90,11 @@ no_line texts i is = ap (λ (n : ℕ). map (λ (l : Bor (List ℕ)). l.now) (dro
 
 -- all lines were taken, and no request is left: a script
 pub all_taken : (bytes : List ℕ) (p : Progress) → length bytes ≤ 4194304 → after_texts p [] ≡ after_texts nothing (lines bytes) → p.pending ≡ [] → IsScript bytes p.catalogue p.commands
-all_taken bytes p short left none = (short, texts_are nothing (lines bytes) (record { catalogue = p.catalogue; pending = []; commands = p.commands })
-    (sym left ∙ ap (λ (xs : List Asked). Some (record { catalogue = p.catalogue; pending = xs; commands = p.commands })) none))
+all_taken bytes p short left none = (
+  short,
+  texts_are nothing (lines bytes) (record { catalogue = p.catalogue; pending = []; commands = p.commands })
+      (sym left ∙ ap (λ (xs : List Asked). Some (record { catalogue = p.catalogue; pending = xs; commands = p.commands })) none),
+)
 
 -- the bytes of a script are ASCII
 all_printable : (p : Progress) (texts : List (List ℕ)) (q : Progress) → ReadsTo p texts q → list_all is_printable texts ≡ true

@@ -11,7 +11,7 @@ use Rattle.hex.specs.Hex.{decode_of}
 use Rattle.hex.specs.declared.error.FromHexError.{FromHexError}
 use Rattle.fx_cli.specs.Script.{IsHex, is_entry, link_words}
 use Rattle.fx_cli.specs.Reading.{word, hex_of, hex_found, entry_of, entries_of, link_of, ◌>>=◌}
-use Rattle.fx_cli.proofs.Tests.{and_left, and_right, and_true, if_true, if_false, either_if, found_if, found_then, found_map, some_same, bytes_of, bytes_test, bytes_differ}
+use Rattle.fx_cli.proofs.Found.{and_left, and_right, and_true, if_true, if_false, either_if, found_if, found_then, found_map, some_same, bytes_of, bytes_test, bytes_differ}
 use Rattle.fx_cli.proofs.Numbers.{entry_found, entry_was}
 
 -- the first words of a line that has so many
@@ -61,9 +61,9 @@ pub hex_is : (text bytes : List ℕ) → hex_of text ≡ Some bytes → IsHex te
 hex_is text bytes is = elim (either_if (bytes_eq text (codes "-")) (Some []) _ (Some bytes) is) [
   | inl dash ↦ inl (bytes_of text (codes "-") dash.0, sym (some_same _ _ dash.1))
   | inr digits ↦ (elim (either_if (length text == 0) None _ (Some bytes) digits.1) [
-      | inl empty ↦ absurd (none_some bytes empty.1)
-      | inr found ↦ let some = found.0 in inr (grind (arith, nat_tests), decoded (decode_of text) bytes found.1)
-    ])
+    | inl empty ↦ absurd (none_some bytes empty.1)
+    | inr found ↦ let some = found.0 in inr (grind (arith, nat_tests), decoded (decode_of text) bytes found.1)
+  ])
 ]
 
 pub hex_was : (text bytes : List ℕ) → IsHex text bytes → hex_of text ≡ Some bytes
@@ -82,7 +82,7 @@ entries_are (t ∷ ts) list is =
     let entry = entry_was t first.0 first.1 in
     let more = entries_are ts others.0 others.1 in
     subst (λ (l : List ℤ). (list_all is_entry l ≡ true) × (t ∷ ts ≡ map signed_decimal l)) others.2
-      (and_true _ _ entry.1 more.0, ap (λ (x : List ℕ). x ∷ ts) entry.0 ∙ ap (λ (xs : List (List ℕ)). signed_decimal first.0 ∷ xs) more.1)
+    (and_true _ _ entry.1 more.0, ap (λ (x : List ℕ). x ∷ ts) entry.0 ∙ ap (λ (xs : List (List ℕ)). signed_decimal first.0 ∷ xs) more.1)
 
 pub entries_found : (list : List ℤ) → list_all is_entry list ≡ true → entries_of (map signed_decimal list) ≡ Some list
 entries_found [] good = refl

@@ -19,7 +19,11 @@ fn scripts_without_a_fault(rt: HostRuntime) -> Result<(), Fail> {
         ("file abcdefghijklmnopqrstuvwxyz-._012 00\n", 1, 0),
         ("sparse 0\nsparse 2147483647\n", 0, 2),
         ("range 0 0\nrange 2147483647 2147483647\n", 0, 2),
-        ("open nobody at 2147483647\nopen nobody any link\nsubmit\n", 0, 1),
+        (
+            "open nobody at 2147483647\nopen nobody any link\nsubmit\n",
+            0,
+            1,
+        ),
         ("read 0 0 4097 link\nclose 0 link\nsubmit\nsparse 1\n", 0, 2),
         ("update 0 0,-1,-2,2147483647,-2147483647\nsubmit\n", 0, 1),
         ("# ~ !\nsparse 1", 0, 1),
@@ -37,7 +41,8 @@ fn scripts_without_a_fault(rt: HostRuntime) -> Result<(), Fail> {
 
 #[test]
 fn every_request_as_it_is_written(rt: HostRuntime) -> Result<(), Fail> {
-    let text = "open a.txt at 3 link\nopen b.txt any\nread 1 2 3 link\nclose 4\nupdate 5 0,-1,-2\nsubmit\n";
+    let text =
+        "open a.txt at 3 link\nopen b.txt any\nread 1 2 3 link\nclose 4\nupdate 5 0,-1,-2\nsubmit\n";
     let script = read_script(rt.alloc(), text.as_bytes())?;
     let [Command::Submit(requests)] = script.commands.as_slice() else {
         panic!(rt; "other commands: {script:?}");
@@ -45,11 +50,26 @@ fn every_request_as_it_is_written(rt: HostRuntime) -> Result<(), Fail> {
     let [at, any, read, close, update] = requests.as_slice() else {
         panic!(rt; "other requests: {requests:?}");
     };
-    assert!(rt; matches!(&at.op, Op::Open { name, target: Target::Slot(3) } if name.as_str() == "a.txt"));
-    assert!(rt; matches!(&any.op, Op::Open { name, target: Target::Any } if name.as_str() == "b.txt"));
-    assert!(rt; matches!(&read.op, Op::Read { slot: 1, off: 2, len: 3 }));
+    assert!(rt;
+        matches!(&at.op, Op::Open { name, target: Target::Slot(3) } if name.as_str() == "a.txt")
+    );
+    assert!(rt;
+        matches!(&any.op, Op::Open { name, target: Target::Any } if name.as_str() == "b.txt")
+    );
+    assert!(rt;
+        matches!(
+            &read.op,
+            Op::Read {
+                slot: 1,
+                off: 2,
+                len: 3
+            }
+        )
+    );
     assert!(rt; matches!(&close.op, Op::Close { slot: 4 }));
-    assert!(rt; matches!(&update.op, Op::Update { off: 5, list } if list.as_slice() == [0, -1, -2].as_slice()));
+    assert!(rt;
+        matches!(&update.op, Op::Update { off: 5, list } if list.as_slice() == [0, -1, -2].as_slice())
+    );
     assert_eq!(rt; at.flags.bits(), 4);
     assert_eq!(rt; any.flags.bits(), 0);
     assert_eq!(rt; read.flags.bits(), 5);

@@ -1,3 +1,5 @@
+ghost use Rattle.std.specs.Prelude.{◌<◌, All, IsTrue, length};
+
 use crate::fault::{FirstFault, message, status};
 use crate::text::{
     closed_line, closed_lines, completion_line, completion_lines, range_line, refused_line,
@@ -8,12 +10,7 @@ use fx_chain::{Completion, CutFault, CutKind, Place};
 use std::alloc::{AllocError, Global};
 use std::test::Fail;
 
-fn completion(
-    alloc: Global,
-    member: u32,
-    res: i32,
-    got: &[u8],
-) -> Result<Completion, AllocError> {
+fn completion(alloc: Global, member: u32, res: i32, got: &[u8]) -> Result<Completion, AllocError> {
     let mut bytes = Vec::new(alloc);
     bytes.extend_from_slice(got)?;
     let place = Place {
@@ -35,6 +32,14 @@ fn catalogue(alloc: Global) -> Result<Catalogue, AllocError> {
         return Err(AllocError);
     };
     Ok(catalogue)
+}
+
+fn all_inside(catalogue: &Catalogue, files: &[Closed]) -> bool
+    ensures { IsTrue result → All (λ file. file.entry < length catalogue.now) files.now }
+{
+    files
+        .iter()
+        .all(|file| (file.entry as u32) < catalogue.len())
 }
 
 const REGISTERED: Closed = Closed {
@@ -65,9 +70,15 @@ fn results_of_registrations(rt: HostRuntime) -> Result<(), Fail> {
 fn completions(rt: HostRuntime) -> Result<(), Fail> {
     let alloc = rt.alloc();
     let read = completion(alloc, 1, 5, b"he\x0a\xffo".as_slice())?;
-    assert_eq!(rt; completion_line(alloc, &read)?.as_str(), "1.2.1 5 68650aff6f\n");
+    assert_eq!(rt;
+        completion_line(alloc, &read)?.as_str(),
+        "1.2.1 5 68650aff6f\n"
+    );
     let canceled = completion(alloc, 16, -125, b"".as_slice())?;
-    assert_eq!(rt; completion_line(alloc, &canceled)?.as_str(), "1.2.16 -125\n");
+    assert_eq!(rt;
+        completion_line(alloc, &canceled)?.as_str(),
+        "1.2.16 -125\n"
+    );
     let both = [read, canceled];
     assert_eq!(rt;
         completion_lines(alloc, both.as_slice())?.as_str(),
@@ -80,8 +91,12 @@ fn completions(rt: HostRuntime) -> Result<(), Fail> {
 fn closed_files(rt: HostRuntime) -> Result<(), Fail> {
     let alloc = rt.alloc();
     let catalogue = catalogue(alloc)?;
-    assert_eq!(rt; closed_line(alloc, REGISTERED.mark, "b")?.as_str(), "closed r1.2 b\n");
+    assert_eq!(rt;
+        closed_line(alloc, REGISTERED.mark, "b")?.as_str(),
+        "closed r1.2 b\n"
+    );
     let files = [REGISTERED, SUBMITTED];
+    assert!(rt; all_inside(&catalogue, files.as_slice()));
     assert_eq!(rt;
         closed_lines(alloc, &catalogue, files.as_slice())?.as_str(),
         "closed r1.2 a.txt\nclosed 2.1.2.0 a.txt\n"
@@ -90,7 +105,12 @@ fn closed_files(rt: HostRuntime) -> Result<(), Fail> {
         teardown_text(alloc, &catalogue, files.as_slice())?.as_str(),
         "teardown\nclosed r1.2 a.txt\nclosed 2.1.2.0 a.txt\n"
     );
-    assert_eq!(rt; teardown_text(alloc, &catalogue, &[])?.as_str(), "");
+    let none: [Closed; 0] = [];
+    assert!(rt; all_inside(&catalogue, none.as_slice()));
+    assert_eq!(rt;
+        teardown_text(alloc, &catalogue, none.as_slice())?.as_str(),
+        ""
+    );
     Ok(())
 }
 
@@ -100,12 +120,27 @@ fn refused_submissions(rt: HostRuntime) -> Result<(), Fail> {
         (CutKind::BadFlags, 1, "submit refused bad-flags 1\n"),
         (CutKind::LongRead, 1, "submit refused long-read 1\n"),
         (CutKind::LongUpdate, 1, "submit refused long-update 1\n"),
-        (CutKind::ChainTooLong, 17, "submit refused chain-too-long 17\n"),
-        (CutKind::TooManyFiles, 5, "submit refused too-many-files 5\n"),
-        (CutKind::TooManyChains, 1024, "submit refused too-many-chains 1024\n"),
+        (
+            CutKind::ChainTooLong,
+            17,
+            "submit refused chain-too-long 17\n",
+        ),
+        (
+            CutKind::TooManyFiles,
+            5,
+            "submit refused too-many-files 5\n",
+        ),
+        (
+            CutKind::TooManyChains,
+            1024,
+            "submit refused too-many-chains 1024\n",
+        ),
     ];
     for (kind, at, line) in rows {
-        assert_eq!(rt; refused_line(rt.alloc(), CutFault { at, kind })?.as_str(), line);
+        assert_eq!(rt;
+            refused_line(rt.alloc(), CutFault { at, kind })?.as_str(),
+            line
+        );
     }
     Ok(())
 }

@@ -12,6 +12,6 @@ reading-preserved g c =
     let grown : c.extend_from_slice.new.self.items ≡ c.reading.input.items ++ take (4194305 - length c.reading.input.items) (take c.in-Ok.n c.read.new.buf) = search rules in
     record {
       kept = one_read 4194305 c.in-Ok.n (g.R.Read.remaining c.args.reader.now) (g.R.Read.remaining c.reading.reader) (g.R.Read.remaining c.read.new.self)
-        c.reading.input.items c.extend_from_slice.new.self.items c.read.new.buf c.reading.invariant.kept c.in-Ok.ensures.bytes.0 grown;
+          c.reading.input.items c.extend_from_slice.new.self.items c.read.new.buf c.reading.invariant.kept c.in-Ok.ensures.bytes.0 grown;
       few = few_kept 4194305 c.reading.input.items c.extend_from_slice.new.self.items (take c.in-Ok.n c.read.new.buf) c.reading.invariant.few grown;
     }

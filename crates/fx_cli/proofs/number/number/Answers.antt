@@ -1,6 +1,6 @@
 use Rattle.std.proofs.Common.{rules, ◌≡◌, sym, ◌∙◌, decimal}
 use Rattle.fx_cli.proofs.Numbers.{unparsed, too_large, otherwise_written}
-use Rattle.fx_cli.proofs.Tests.{differ_by_test}
+use Rattle.fx_cli.proofs.Found.{differ_by_test}
 use Rattle.fx_cli.proofs.number.number.Goals as goal
 
 pub returns-in_default : goal.returns-in_default
