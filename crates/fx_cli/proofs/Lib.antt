@@ -1,5 +1,8 @@
+pub mod Commands
+pub mod Found
 pub mod Lists
 pub mod Numbers
+pub mod Texts
 pub mod Turns
 pub mod Removing
 pub mod Performing
@@ -8,3 +11,4 @@ pub mod EntryKinds
 pub mod Goings
 pub mod ChainGoings
 pub mod RunGoings
+pub mod Words

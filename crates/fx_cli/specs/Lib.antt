@@ -1,3 +1,4 @@
+pub mod Faults
 pub mod Instruction
 pub mod Reading
 pub mod Refusal

@@ -1,5 +1,5 @@
 -- How the reader finds what a script says, part by part. What it finds is told by `Script`.
-use Rattle.std.specs.Prelude.{ℕ, ◌+◌, ◌==◌, nat_le, Bool, true, false, not, ◌&&◌, ℤ, pos, negsuc, int_le, List, [], ◌∷◌, length, drop, codes, decimal, Option, Some, None, option_map, Result, Ok, Err, if◌then◌else◌, slice_index_or}
+use Rattle.std.specs.Prelude.{ℕ, ◌==◌, nat_le, Bool, true, false, not, ◌&&◌, ℤ, List, [], ◌∷◌, length, drop, codes, decimal, Option, Some, None, option_map, Result, Ok, Err, if◌then◌else◌, slice_index_or}
 use Rattle.std.specs.Fmt.{signed_decimal}
 use Rattle.std.specs.List.{slice_split}
 use Rattle.std.specs.Str.{bytes_eq}
@@ -8,7 +8,7 @@ use Rattle.hex.specs.Hex.{decode_of}
 use Rattle.hex.specs.declared.error.FromHexError.{FromHexError}
 use Rattle.fx_chain.specs.declared.request.Target.TheVariants.{Slot, Any}
 use Rattle.fx_chain.specs.Operation.{Operation, Opens, Reads, Closes, Updates, Asked}
-use Rattle.fx_cli.specs.Script.{Line, FileLine, SparseLine, RangeLine, RequestLine, SubmitLine, Progress, largest, is_name, is_read, is_skipped, is_text, may_stand, with_line, words}
+use Rattle.fx_cli.specs.Script.{Line, FileLine, SparseLine, RangeLine, RequestLine, SubmitLine, Progress, largest, is_name, is_entry, is_read, is_skipped, is_text, may_stand, with_line, words}
 
 -- the word at a place
 abbrev pub word : List (List ℕ) → ℕ → List ℕ
@@ -23,10 +23,6 @@ Some x >>= f = f x
 -- a number, if the word is the text of one
 abbrev pub number_of : List ℕ → Option ℕ
 number_of text = if nat_le (digits_value 10 text) largest && bytes_eq text (decimal (digits_value 10 text)) then Some (digits_value 10 text) else None
-
-abbrev pub is_entry : ℤ → Bool
-is_entry (pos n) = nat_le n largest
-is_entry (negsuc n) = nat_le (n + 1) largest
 
 -- an entry of a list, if the text is one
 abbrev pub entry_of : List ℕ → Option ℤ

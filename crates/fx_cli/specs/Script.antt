@@ -1,5 +1,5 @@
 -- The scripts: which bytes are one, and what it says (this project's own).
-use Rattle.std.specs.Prelude.{◌≡◌, ◌⊎◌, ℕ, ◌≤◌, ◌<◌, ◌==◌, nat_le, Bool, true, false, not, ◌&&◌, ◌||◌, IsTrue, ℤ, pos, negsuc, List, [], ◌∷◌, ◌++◌, length, map, All, codes, decimal, Ok, is_none, slice_index}
+use Rattle.std.specs.Prelude.{◌≡◌, ◌⊎◌, ℕ, ◌≤◌, ◌<◌, ◌==◌, nat_le, nat_lt, Bool, true, false, not, ◌&&◌, ◌||◌, IsTrue, ℤ, pos, negsuc, List, [], ◌∷◌, ◌++◌, length, map, codes, decimal, Ok, is_none, slice_index}
 use Rattle.std.specs.Bool.{MatchBool}
 use Rattle.std.specs.Fmt.{signed_decimal}
 use Rattle.std.specs.List.{slice_split, list_all}
@@ -18,9 +18,12 @@ lines bytes = slice_split (λ b. b == 10) bytes
 abbrev pub words : List ℕ → List (List ℕ)
 words line = slice_split (λ b. b == 32) line
 
+abbrev pub is_printable : List ℕ → Bool
+is_printable line = list_all (λ b. nat_le 32 b && nat_le b 126) line
+
 -- at most 10,000 bytes, each of them printable
 abbrev pub is_text : List ℕ → Bool
-is_text line = nat_le (length line) 10000 && list_all (λ b. nat_le 32 b && nat_le b 126) line
+is_text line = nat_le (length line) 10000 && is_printable line
 
 -- a line of no bytes, or one that begins with #
 abbrev pub is_skipped : List ℕ → Bool
@@ -39,13 +42,13 @@ abbrev pub IsHex : List ℕ → List ℕ → Type 0
 IsHex word bytes = ((word ≡ codes "-") × (bytes ≡ [])) ⊎ ((0 < length word) × (decode_of word ≡ Ok bytes))
 
 -- a number, or `-` and a number other than 0
-abbrev pub IsEntry : ℤ → Type 0
-IsEntry (pos n) = n ≤ largest
-IsEntry (negsuc n) = n < largest
+abbrev pub is_entry : ℤ → Bool
+is_entry (pos n) = nat_le n largest
+is_entry (negsuc n) = nat_lt n largest
 
 -- entries, parted by single commas
 abbrev pub IsList : List ℕ → List ℤ → Type 0
-IsList word list = All IsEntry list × (slice_split (λ b. b == 44) word ≡ map signed_decimal list)
+IsList word list = IsTrue (list_all is_entry list) × (slice_split (λ b. b == 44) word ≡ map signed_decimal list)
 
 abbrev pub link_words : Bool → List (List ℕ)
 link_words true = codes "link" ∷ []

@@ -7,8 +7,10 @@ use Rattle.fx_base.specs.declared.mark.Mark.{Mark}
 use Rattle.fx_base.specs.declared.mark.Mark.TheVariants.{Registered, Submitted}
 use Rattle.fx_base.specs.declared.open_file.Closed.{Closed}
 use Rattle.fx_base.specs.Catalogue.{FileEntry, name_at}
-use Rattle.fx_chain.specs.declared.completion.Place.{Place}
-use Rattle.fx_chain.specs.declared.completion.Completion.{Completion}
+use Rattle.fx_chain.specs.declared.fault.CutFault.{CutFault}
+use Rattle.fx_chain.specs.declared.fault.CutKind.{CutKind}
+use Rattle.fx_chain.specs.declared.fault.CutKind.TheVariants.{BadFlags, LongRead, LongUpdate, ChainTooLong, TooManyFiles, TooManyChains}
+use Rattle.fx_chain.specs.Completed.{Completed}
 
 -- `sparse RES`
 abbrev pub sparse_line : ℤ → List ℕ
@@ -23,13 +25,25 @@ abbrev pub got_text : List ℕ → List ℕ
 got_text got = if length got == 0 then [] else codes " " ++ encode_lower got
 
 -- `S.C.M RES`, and the bytes of a read
-abbrev pub completion_line : Place → ℤ → List ℕ → List ℕ
-completion_line place res got =
-    decimal place.submission ++ (codes "." ++ (decimal place.chain ++ (codes "." ++ (decimal place.member ++ (codes " " ++ (signed_decimal res ++ (got_text got ++ codes "\n")))))))
+abbrev pub completion_line : Completed → List ℕ
+completion_line c =
+    decimal c.place.submission ++ (codes "." ++ (decimal c.place.chain ++ (codes "." ++ (decimal c.place.member ++ (codes " " ++ (signed_decimal c.res ++ (got_text c.got ++ codes "\n")))))))
 
 -- a line for each completion
-abbrev pub completion_lines : List Completion → List ℕ
-completion_lines completions = flat_map (λ c. completion_line c.place c.res c.got.items) completions
+abbrev pub completion_lines : List Completed → List ℕ
+completion_lines completions = flat_map completion_line completions
+
+abbrev pub kind_name : CutKind → List ℕ
+kind_name BadFlags = codes "bad-flags"
+kind_name LongRead = codes "long-read"
+kind_name LongUpdate = codes "long-update"
+kind_name ChainTooLong = codes "chain-too-long"
+kind_name TooManyFiles = codes "too-many-files"
+kind_name TooManyChains = codes "too-many-chains"
+
+-- `submit refused NAME AT`
+abbrev pub refused_line : CutFault → List ℕ
+refused_line fault = codes "submit refused " ++ (kind_name fault.kind ++ (codes " " ++ (decimal fault.at ++ codes "\n")))
 
 -- `rK.I` for a registered file, `S.C.M.E` for a submitted one
 abbrev pub mark_text : Mark → List ℕ

@@ -1,4 +1,5 @@
 ghost use Rattle.std.specs.Prelude.{◌≡◌};
+ghost use Rattle.fx_cli.specs.Faults.{message_of, status_of};
 ghost use Rattle.fx_cli.specs.declared.fault.FirstFault.TheVariants.{NoMemory};
 
 use fx_base::NoMemory;
@@ -15,6 +16,29 @@ pub enum FirstFault {
     Write,
     /// There was no memory.
     NoMemory,
+}
+
+/// What the program prints to standard error for a fault, without the end of the line (this project's own).
+pub fn message(fault: FirstFault) -> &'static str
+    ensures { result.now ≡ message_of fault }
+{
+    match fault {
+        FirstFault::Read => "fixfiles: read failed",
+        FirstFault::Script => "fixfiles: bad script",
+        FirstFault::Write => "fixfiles: write failed",
+        FirstFault::NoMemory => "fixfiles: out of memory",
+    }
+}
+
+/// The exit status of the program for a fault (this project's own).
+pub fn status(fault: FirstFault) -> u8
+    ensures { result ≡ status_of fault }
+{
+    match fault {
+        FirstFault::Script => 3,
+        FirstFault::Read | FirstFault::Write => 4,
+        FirstFault::NoMemory => 5,
+    }
 }
 
 impl From<AllocError> for FirstFault {

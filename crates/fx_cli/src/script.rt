@@ -1,9 +1,8 @@
-ghost use Rattle.std.specs.Prelude.{◌≡◌, ◌<◌, ◌≤◌, ◌+◌, ◌^◌, IfOk, IfErr, OnOk, map, string_bytes, Some, None, vec_len, nat_le, ◌&&◌};
-ghost use Rattle.std.specs.List.{list_all};
+ghost use Rattle.std.specs.Prelude.{◌≡◌, ◌<◌, ◌≤◌, ◌+◌, ◌^◌, IfOk, IfErr, OnOk, map, string_bytes, Some, None, vec_len};
 ghost use Rattle.fx_cli.specs.Instruction.{instructions_of};
 ghost use Rattle.fx_cli.specs.Reading.{after_line, after_text};
 ghost use Rattle.fx_cli.specs.Refusal.{IsRefusal};
-ghost use Rattle.fx_cli.specs.Script.{FileLine, IsScript, IsNoScript, is_skipped, is_text, lines};
+ghost use Rattle.fx_cli.specs.Script.{FileLine, IsScript, IsNoScript, is_printable, is_skipped, is_text, lines};
 ghost use Rattle.fx_cli.specs.ScriptView.{progress_of, view_of};
 
 use crate::command::{Command, Script};
@@ -26,7 +25,7 @@ fn lines(alloc: Global, text: &str) -> Result<Vec<&str>, AllocError>
 }
 
 fn is_printable(bytes: &[u8]) -> bool
-    ensures { result ≡ list_all (λ b. nat_le 32 b && nat_le b 126) bytes.now }
+    ensures { result ≡ is_printable bytes.now }
 {
     bytes.iter().all(|b| matches!(*b, 32..=126))
 }
@@ -47,15 +46,15 @@ fn is_skipped(line: &str) -> bool
 // Takes a file, which may stand in front of all commands and requests alone.
 fn take_file(
     script: &mut Script,
-    pending: &[Request],
+    waiting: &[Request],
     name: String,
     bytes: Vec<u8>,
 ) -> Result<(), FirstFault>
-    ensures taken { OnOk result (after_line (progress_of script.old pending.now) (FileLine (string_bytes name) bytes.items) ≡ Some (progress_of script.new pending.now)) }
-    ensures refused { IfErr result (λ fault. IsRefusal fault (after_line (progress_of script.old pending.now) (FileLine (string_bytes name) bytes.items) ≡ None)) }
+    ensures taken { OnOk result (after_line (progress_of script.old waiting.now) (FileLine (string_bytes name) bytes.items) ≡ Some (progress_of script.new waiting.now)) }
+    ensures refused { IfErr result (λ fault. IsRefusal fault (after_line (progress_of script.old waiting.now) (FileLine (string_bytes name) bytes.items) ≡ None)) }
     ensures commands { script.new.commands ≡ script.old.commands }
 {
-    if !pending.is_empty() {
+    if !waiting.is_empty() {
         return Err(FirstFault::Script);
     }
     if !script.commands.is_empty() {

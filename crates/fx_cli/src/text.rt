@@ -1,11 +1,15 @@
 ghost use Rattle.std.specs.Prelude.{◌≡◌, ◌<◌, IfOk, All, length, string_bytes};
-ghost use Rattle.fx_cli.specs.Text.{sparse_line, range_line, got_text, completion_line, completion_lines, closed_line, closed_lines, teardown_text};
+ghost use Rattle.fx_chain.specs.Completed.{completed_of, all_completed};
+ghost use Rattle.fx_cli.specs.Text.{kind_name, refused_line, sparse_line, range_line, got_text, completion_line, completion_lines, closed_line, closed_lines, teardown_text};
 
 use fx_base::{Catalogue, Closed, Mark};
-use fx_chain::Completion;
+use fx_chain::{Completion, CutFault, CutKind};
 use std::alloc::{AllocError, Global};
 
 /// The line of a registration of empty slots: `sparse` and its result, 0 or a negated error (this project's own).
+///
+/// # Errors
+/// `AllocError` where memory is refused.
 pub fn sparse_line(alloc: Global, res: i32) -> Result<String, AllocError>
     ensures { IfOk result (λ text. string_bytes text ≡ sparse_line res) }
 {
@@ -13,6 +17,9 @@ pub fn sparse_line(alloc: Global, res: i32) -> Result<String, AllocError>
 }
 
 /// The line of a change of the allocation range: `range` and its result, 0 or a negated error (this project's own).
+///
+/// # Errors
+/// `AllocError` where memory is refused.
 pub fn range_line(alloc: Global, res: i32) -> Result<String, AllocError>
     ensures { IfOk result (λ text. string_bytes text ≡ range_line res) }
 {
@@ -32,8 +39,11 @@ fn got_text(alloc: Global, got: &[u8]) -> Result<String, AllocError>
 
 /// The line of a completion: its submission, chain and member, its result, and the bytes of a read in lower case
 /// hexadecimal (this project's own).
+///
+/// # Errors
+/// `AllocError` where memory is refused.
 pub fn completion_line(alloc: Global, completion: &Completion) -> Result<String, AllocError>
-    ensures { IfOk result (λ text. string_bytes text ≡ completion_line completion.now.place completion.now.res completion.now.got.items) }
+    ensures { IfOk result (λ text. string_bytes text ≡ completion_line (completed_of completion.now)) }
 {
     let submission = completion.place.submission;
     let chain = completion.place.chain;
@@ -44,8 +54,11 @@ pub fn completion_line(alloc: Global, completion: &Completion) -> Result<String,
 }
 
 /// A line for each completion, in their order (this project's own).
+///
+/// # Errors
+/// `AllocError` where memory is refused.
 pub fn completion_lines(alloc: Global, completions: &[Completion]) -> Result<String, AllocError>
-    ensures { IfOk result (λ text. string_bytes text ≡ completion_lines completions.now) }
+    ensures { IfOk result (λ text. string_bytes text ≡ completion_lines (all_completed completions.now)) }
 {
     let mut text = String::new(alloc);
     for completion in completions {
@@ -54,7 +67,37 @@ pub fn completion_lines(alloc: Global, completions: &[Completion]) -> Result<Str
     Ok(text)
 }
 
+// The name of a fault of a submission.
+fn kind_name(kind: CutKind) -> &'static str
+    ensures { result.now ≡ kind_name kind }
+{
+    match kind {
+        CutKind::BadFlags => "bad-flags",
+        CutKind::LongRead => "long-read",
+        CutKind::LongUpdate => "long-update",
+        CutKind::ChainTooLong => "chain-too-long",
+        CutKind::TooManyFiles => "too-many-files",
+        CutKind::TooManyChains => "too-many-chains",
+    }
+}
+
+/// The line of a refused submission: the name of the fault, and the place of its request, from 1 (this project's
+/// own).
+///
+/// # Errors
+/// `AllocError` where memory is refused.
+pub fn refused_line(alloc: Global, fault: CutFault) -> Result<String, AllocError>
+    ensures { IfOk result (λ text. string_bytes text ≡ refused_line fault) }
+{
+    let name = kind_name(fault.kind);
+    let at = fault.at;
+    format!(in alloc; "submit refused {name} {at}\n")
+}
+
 /// The line of a closed file: its mark, `rK.I` or `S.C.M.E`, and its name (this project's own).
+///
+/// # Errors
+/// `AllocError` where memory is refused.
 pub fn closed_line(alloc: Global, mark: Mark, name: &str) -> Result<String, AllocError>
     ensures { IfOk result (λ text. string_bytes text ≡ closed_line mark name.now) }
 {
@@ -70,6 +113,9 @@ pub fn closed_line(alloc: Global, mark: Mark, name: &str) -> Result<String, Allo
 }
 
 /// A line for each closed file, in their order (this project's own). Each entry is in the catalogue.
+///
+/// # Errors
+/// `AllocError` where memory is refused.
 pub fn closed_lines(
     alloc: Global,
     catalogue: &Catalogue,
@@ -88,6 +134,9 @@ pub fn closed_lines(
 
 /// The lines of the end of a script: `teardown` and a line for each file that was left in the table, in their order,
 /// or no line where none was left (this project's own). Each entry is in the catalogue.
+///
+/// # Errors
+/// `AllocError` where memory is refused.
 pub fn teardown_text(
     alloc: Global,
     catalogue: &Catalogue,

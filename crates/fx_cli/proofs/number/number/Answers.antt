@@ -1,5 +1,6 @@
 use Rattle.std.proofs.Common.{rules, ◌≡◌, sym, ◌∙◌, decimal}
-use Rattle.fx_cli.proofs.Numbers.{unparsed, too_large, otherwise_written, differs}
+use Rattle.fx_cli.proofs.Numbers.{unparsed, too_large, otherwise_written}
+use Rattle.fx_cli.proofs.Found.{differ_by_test}
 use Rattle.fx_cli.proofs.number.number.Goals as goal
 
 pub returns-in_default : goal.returns-in_default
@@ -11,4 +12,4 @@ returns-then-n-gt-LARGEST c = too_large c.args.word.now c.in-Ok.n c.parse.result
 pub returns-then-ne : goal.returns-then-ne
 returns-then-ne c =
     let shown : c.as_str.result.now ≡ decimal c.in-Ok.n = search rules in
-    otherwise_written c.args.word.now c.in-Ok.n c.parse.result c.parse.ensures.value.0 c.in-Ok.is (λ is. differs c.as_str.result.now c.args.word.now c.if-ne.ensures (shown ∙ sym is))
+    otherwise_written c.args.word.now c.in-Ok.n c.parse.result c.parse.ensures.value.0 c.in-Ok.is (λ is. differ_by_test c.as_str.result.now c.args.word.now c.if-ne.ensures (shown ∙ sym is))
