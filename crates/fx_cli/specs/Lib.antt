@@ -8,3 +8,5 @@ pub mod Text
 pub mod Performs
 pub mod Entries
 pub mod Played
+pub mod Play
+pub mod Run

@@ -3,6 +3,7 @@
 
 mod chains;
 mod command;
+
 mod fault;
 mod first;
 mod input;
@@ -11,6 +12,7 @@ mod list;
 mod number;
 
 mod perform;
+mod play;
 mod removal;
 mod script;
 mod supply;
