@@ -86,7 +86,11 @@ fn names_and_bytes_have_their_limits(rt: HostRuntime) -> Result<(), Fail> {
         ("", 4097, Err(AddFault::EmptyName)),
         ("a b", 4097, Err(AddFault::BadName)),
         ("a/b", 0, Err(AddFault::BadName)),
-        ("abcdefghijklmnopqrstuvwxyzABCDEFG", 0, Err(AddFault::BadName)),
+        (
+            "abcdefghijklmnopqrstuvwxyzABCDEFG",
+            0,
+            Err(AddFault::BadName),
+        ),
         ("b.txt", 4097, Err(AddFault::SameName)),
         ("c.txt", 4097, Err(AddFault::TooLong)),
         ("abcdefghijklmnopqrstuvwxyzABCDEF", 4096, Ok(())),
@@ -94,7 +98,11 @@ fn names_and_bytes_have_their_limits(rt: HostRuntime) -> Result<(), Fail> {
         ("-", 0, Ok(())),
     ] {
         let bytes = vec![in rt.alloc(); 7; size]?;
-        assert_eq!(rt; catalogue.add(String::from_str(rt.alloc(), name)?, bytes), answer, "{name}");
+        assert_eq!(rt;
+            catalogue.add(String::from_str(rt.alloc(), name)?, bytes),
+            answer,
+            "{name}"
+        );
     }
     assert_eq!(rt; catalogue.len(), 5);
     Ok(())
@@ -119,15 +127,42 @@ fn a_catalogue_has_256_entries(rt: HostRuntime) -> Result<(), Fail> {
 fn closes_are_in_order_of_mark(rt: HostRuntime) -> Result<(), Fail> {
     let first = Mark::Registered { k: 1, i: 7 };
     let second = Mark::Registered { k: 2, i: 0 };
-    let third = Mark::Submitted { submission: 1, chain: 1, member: 2, entry: 9 };
-    let fourth = Mark::Submitted { submission: 1, chain: 2, member: 1, entry: 3 };
-    let fifth = Mark::Submitted { submission: 1, chain: 2, member: 1, entry: 4 };
-    let sixth = Mark::Submitted { submission: 2, chain: 1, member: 1, entry: 0 };
+    let third = Mark::Submitted {
+        submission: 1,
+        chain: 1,
+        member: 2,
+        entry: 9,
+    };
+    let fourth = Mark::Submitted {
+        submission: 1,
+        chain: 2,
+        member: 1,
+        entry: 3,
+    };
+    let fifth = Mark::Submitted {
+        submission: 1,
+        chain: 2,
+        member: 1,
+        entry: 4,
+    };
+    let sixth = Mark::Submitted {
+        submission: 2,
+        chain: 1,
+        member: 1,
+        entry: 0,
+    };
     let catalogue = two_files(rt.alloc())?;
     let mut list = CloseList::with_room(rt.alloc(), 7)?;
     assert_eq!(rt; list.room(), 7);
     assert_eq!(rt; catalogue.len(), 2);
-    for (entry, mark) in [(1, sixth), (0, third), (0, second), (1, fifth), (1, first), (0, fourth)] {
+    for (entry, mark) in [
+        (1, sixth),
+        (0, third),
+        (0, second),
+        (1, fifth),
+        (1, first),
+        (0, fourth),
+    ] {
         let file = catalogue.open(entry, mark);
         assert_eq!(rt; file.entry(), entry);
         assert_eq!(rt; file.mark(), mark);
@@ -136,12 +171,30 @@ fn closes_are_in_order_of_mark(rt: HostRuntime) -> Result<(), Fail> {
     }
     list.sort();
     let want = [
-        Closed { mark: first, entry: 1 },
-        Closed { mark: second, entry: 0 },
-        Closed { mark: third, entry: 0 },
-        Closed { mark: fourth, entry: 0 },
-        Closed { mark: fifth, entry: 1 },
-        Closed { mark: sixth, entry: 1 },
+        Closed {
+            mark: first,
+            entry: 1,
+        },
+        Closed {
+            mark: second,
+            entry: 0,
+        },
+        Closed {
+            mark: third,
+            entry: 0,
+        },
+        Closed {
+            mark: fourth,
+            entry: 0,
+        },
+        Closed {
+            mark: fifth,
+            entry: 1,
+        },
+        Closed {
+            mark: sixth,
+            entry: 1,
+        },
     ];
     assert_eq!(rt; list.files(), want.as_slice());
     assert_eq!(rt; list.room(), 1);
