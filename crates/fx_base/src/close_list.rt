@@ -26,7 +26,7 @@ impl Model for CloseList {
 }
 
 impl CloseList {
-    /// An empty list with room for `n` files, 0 or more. It takes the memory of all of them now.
+    /// An empty list with room for `n` files. It takes the memory of all of them now.
     ///
     /// # Errors
     /// `NoMemory` where that memory is refused.
@@ -62,7 +62,7 @@ impl CloseList {
         self.room -= 1;
     }
 
-    /// Orders the files by mark, in place. It takes no memory, and the room stays.
+    /// Orders the files by mark, in place. It takes no memory, and the room stays (this project's own).
     pub fn sort(&mut self)
         ensures same_files { IsPermutation self.old.files self.new.files }
         ensures in_order { IsInOrderOfMark self.new.files }
