@@ -1,5 +1,4 @@
 //! Each public call once with ample memory, and each refusal once. The values were worked out by hand.
-ghost use Rattle.std.specs.Prelude.{◌≡◌, length, IfOk};
 
 use crate::{AddFault, Catalogue, CloseList, Closed, Errno, Mark};
 use std::alloc::Global;
