@@ -3,7 +3,7 @@
 SCRIPT ?= examples/open_read_close.script
 
 .DEFAULT_GOAL := help
-.PHONY: help run try test examples must-spend layout bench gate clean
+.PHONY: help run try test examples compare must-spend layout bench gate clean
 .NOTPARALLEL:
 
 help:
@@ -12,6 +12,7 @@ help:
 	@echo 'make try          plays a script in seconds, by a run that proves nothing'
 	@echo 'make test         runs everything that must hold'
 	@echo 'make examples     plays every example on the built program'
+	@echo 'make compare      plays random scripts on the built program and on a second, unproved one'
 	@echo 'make must-spend   shows that a program that loses a file is refused'
 	@echo 'make layout       looks at the files of the repository'
 	@echo 'make bench        times the largest submission and a tenth of it'
@@ -31,6 +32,10 @@ test:
 examples:
 	@scripts/build-program
 	@scripts/check-examples bin/fixfiles
+
+compare:
+	@scripts/build-program
+	@scripts/compare bin/fixfiles
 
 must-spend:
 	@scripts/check-must-spend
