@@ -1,14 +1,14 @@
 -- What the player keeps from request to request.
-use Rattle.std.proofs.Common.{◌≡◌, ◌≢◌, ℕ, ◌+◌, ◌<◌, ◌≤◌, Bool, true, false, List, [], ◌∷◌, ◌++◌, All, length, refl, sym, ap, subst, ◌∙◌, Option, Some, None, if◌then◌else◌, inl, inr, ◌==◌, nat_le, arith, slice_index_or}
+use Rattle.std.proofs.Common.{◌≡◌, ◌≢◌, ℕ, ◌+◌, ◌<◌, ◌≤◌, Bool, true, false, List, [], ◌∷◌, ◌++◌, All, length, refl, sym, ap, subst, ◌∙◌, Option, Some, None, if◌then◌else◌, not, ◌&&◌, inl, inr, ◌==◌, nat_le, arith, slice_index_or}
 use Rattle.std.specs.Bool.{MatchBool}
 use Rattle.std.proofs.lemmas.List.Elements.{All-append}
-use Rattle.std.proofs.lemmas.Bool.{lt-leb}
+use Rattle.std.proofs.lemmas.Bool.{lt-leb, le-ltb, lt-ltb}
 use Rattle.fx_base.specs.Closes.{Closes}
 use Rattle.fx_base.specs.declared.open_file.Closed.{Closed}
 use Rattle.fx_plain.specs.declared.event.File.{File}
 use Rattle.fx_plain.specs.declared.event.Action.{Action}
 use Rattle.fx_plain.specs.declared.event.Action.TheVariants.{Look, Release, Put, Clear, Take, Allocate, Close}
-use Rattle.fx_plain.specs.State.{State, IsSettled, listed}
+use Rattle.fx_plain.specs.State.{State, IsSettled, listed, opening, renumbered}
 use Rattle.fx_plain.specs.Step.{Steps, after, changed_at}
 use Rattle.fx_plain.specs.History.{Leads, state_after, closes_in, closed_by, close_of, ◌▷◌, ◌▷▷◌}
 use Rattle.fx_plain.proofs.Cells.{by_equality}
@@ -109,4 +109,17 @@ same_rests entries next last first new closes rest settled at fresh = record {
   at_slots = λ u f is. rest.at_slots u f (sym (ap (λ (a : ℕ → Option File). a u) at) ∙ is);
   closed = rest.closed;
   fresh = λ n low high. ap (λ (g : ℕ → Bool). g n) fresh ∙ rest.fresh n low high;
+}
+
+renumbered_entries : (entries slot : ℕ) (x : Option File) → ((f : File) → x ≡ Some f → f.identity.entry < entries) → (f : File) → renumbered x slot ≡ Some f → f.identity.entry < entries
+renumbered_entries entries slot None has f is = cc
+renumbered_entries entries slot (Some g) has f is = let same : record g { number = slot } ≡ f = cc in subst (λ (h : File). h.identity.entry < entries) same (has g refl)
+
+-- a table that was prepared is at rest, and its numbers from 256 on are fresh
+pub opening_rests : (entries numbers : ℕ) (st new : State) (closes : Closes) → HasEntries entries st → st.size ≤ 256 → closes.files ≡ [] → new ≡ opening st numbers → IsAtRest entries new closes 256 numbers
+opening_rests entries numbers st new closes has few none_closed is = record {
+  settled = subst IsSettled (sym is) (record { unheld = λ _. refl; closed = λ _. refl });
+  at_slots = λ slot f there. renumbered_entries entries slot (st.at slot) (has slot) f (sym (ap (λ (s : State). s.at slot) is) ∙ there);
+  closed = subst (AreEntries entries) (sym none_closed) (λ k d inside. absurd (omega arith));
+  fresh = λ n low high. ap (λ (s : State). s.fresh n) is ∙ ap (λ (b : Bool × Bool). not b.0 && b.1) (λ i. (le-ltb n st.size (omega arith) i, lt-ltb n numbers high i));
 }
