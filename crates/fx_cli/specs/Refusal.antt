@@ -1,4 +1,5 @@
--- How the reader of scripts refuses (this project's own).
+-- How the reader of scripts and the player refuse (this project's own).
+use Rattle.std.specs.Prelude.{◌≡◌}
 use Rattle.fx_cli.specs.declared.fault.FirstFault.{FirstFault}
 use Rattle.fx_cli.specs.declared.fault.FirstFault.TheVariants.{Read, Script, Write, NoMemory}
 
@@ -8,3 +9,7 @@ IsRefusal Read why = ⊥
 IsRefusal Script why = why
 IsRefusal Write why = ⊥
 IsRefusal NoMemory why = Unit {0}
+
+-- memory was refused
+abbrev pub IsWantOfMemory : FirstFault → Type 0
+IsWantOfMemory fault = fault ≡ NoMemory
