@@ -1,4 +1,4 @@
--- How the reader of scripts refuses (this project's own).
+-- How the reader of input and of scripts refuses (this project's own).
 use Rattle.fx_cli.specs.declared.fault.FirstFault.{FirstFault}
 use Rattle.fx_cli.specs.declared.fault.FirstFault.TheVariants.{Read, Script, Write, NoMemory}
 
@@ -8,3 +8,10 @@ IsRefusal Read why = ⊥
 IsRefusal Script why = why
 IsRefusal Write why = ⊥
 IsRefusal NoMemory why = Unit {0}
+
+-- the input did not come to its end: a read failed or there were too many, or there was no memory
+abbrev pub IsReadFault : FirstFault → Type 0
+IsReadFault Read = Unit {0}
+IsReadFault Script = ⊥
+IsReadFault Write = ⊥
+IsReadFault NoMemory = Unit {0}
