@@ -78,20 +78,32 @@ abbrev pub is_bad_entry : ℕ → ℤ → Bool
 is_bad_entry entries (pos entry) = nat_le entries entry
 is_bad_entry entries (negsuc n) = nat_lt 1 n
 
+-- a read of some bytes at a slot
+abbrev pub ReadsFrom : List FileEntry → ℕ → Place → ℕ → ℕ → ℕ → List Action → Completed → Type 0
+ReadsFrom catalogue size place slot off len events c =
+    MatchBool (nat_le size slot) (Refuses place EBADF events c)
+    (((0 < len) × Refuses place ENOMEM events c) ⊎ ReadsAt catalogue place slot off len events c)
+
+-- a close of a slot
+abbrev pub Empties : ℕ → Place → ℕ → List Action → Completed → Type 0
+Empties size place slot events c =
+    MatchBool (size == 0) (Refuses place ENXIO events c)
+    (MatchBool (nat_le size slot) (Refuses place EINVAL events c) (TakesAt place slot events c))
+
+-- an update of the slots from one on
+abbrev pub UpdatesFrom : ℕ → ℕ → Place → ℕ → List ℤ → List Action → Completed → Type 0
+UpdatesFrom entries size place off list events c =
+    MatchBool (size == 0) (Refuses place ENXIO events c)
+    (MatchBool (length list == 0 || nat_lt size (off + length list)) (Refuses place EINVAL events c)
+    (MatchBool (list_any (is_bad_entry entries) list) (Refuses place EBADF events c)
+    (AppliesList place 0 off list events × (c ≡ completed place (pos (length list)) []))))
+
 -- the request may answer so, having made these steps
 abbrev pub Answers : List FileEntry → ℕ → Place → Operation → List Action → Completed → Type 0
 Answers catalogue size place (Opens name target) events c =
     MatchBool (has_name name catalogue)
     ((entry : ℕ) × (name_at catalogue entry ≡ Some name) × OpensAt size place entry target events c)
     (Refuses place ENOENT events c)
-Answers catalogue size place (Reads slot off len) events c =
-    MatchBool (nat_le size slot) (Refuses place EBADF events c)
-    (((0 < len) × Refuses place ENOMEM events c) ⊎ ReadsAt catalogue place slot off len events c)
-Answers catalogue size place (Closes slot) events c =
-    MatchBool (size == 0) (Refuses place ENXIO events c)
-    (MatchBool (nat_le size slot) (Refuses place EINVAL events c) (TakesAt place slot events c))
-Answers catalogue size place (Updates off list) events c =
-    MatchBool (size == 0) (Refuses place ENXIO events c)
-    (MatchBool (length list == 0 || nat_lt size (off + length list)) (Refuses place EINVAL events c)
-    (MatchBool (list_any (is_bad_entry (length catalogue)) list) (Refuses place EBADF events c)
-    (AppliesList place 0 off list events × (c ≡ completed place (pos (length list)) []))))
+Answers catalogue size place (Reads slot off len) events c = ReadsFrom catalogue size place slot off len events c
+Answers catalogue size place (Closes slot) events c = Empties size place slot events c
+Answers catalogue size place (Updates off list) events c = UpdatesFrom (length catalogue) size place off list events c

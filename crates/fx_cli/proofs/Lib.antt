@@ -4,4 +4,11 @@ pub mod Lists
 pub mod Numbers
 pub mod Texts
 pub mod Turns
+pub mod Removing
+pub mod Performing
+pub mod Opening
+pub mod EntryKinds
+pub mod Goings
+pub mod ChainGoings
+pub mod RunGoings
 pub mod Words

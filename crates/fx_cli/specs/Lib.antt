@@ -5,3 +5,8 @@ pub mod Refusal
 pub mod Script
 pub mod ScriptView
 pub mod Text
+pub mod Performs
+pub mod Entries
+pub mod Played
+pub mod Play
+pub mod Run

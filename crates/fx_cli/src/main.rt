@@ -1,15 +1,23 @@
 //! The program `fixfiles`: reads a script from standard input and plays it.
 #![tactic(auto)]
 
+mod chains;
 mod command;
+
 mod fault;
 mod first;
 mod input;
 mod line;
 mod list;
 mod number;
+
+mod perform;
+mod play;
+mod removal;
 mod script;
+mod supply;
 mod text;
+mod update;
 
 use fault::{message, status};
 use first::run;
