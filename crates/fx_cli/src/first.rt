@@ -1,12 +1,12 @@
 //! A run of the program: a script is read, and its commands are played.
-ghost use Rattle.std.specs.Prelude.{◌≡◌, ◌+◌, ◌≤◌, ◌<◌, ◌^◌, ◌⊎◌, ℕ, List, IfErr, IfSome, OnOk, length};
+ghost use Rattle.std.specs.Prelude.{◌≡◌, ◌+◌, ◌≤◌, ◌<◌, ◌^◌, ℕ, List, IfErr, IfSome, OnOk, length};
 ghost use Rattle.std.specs.Io.KnownBytes.{Appends};
 ghost use Rattle.fx_plain.specs.State.{IsSettled, vacant};
 ghost use Rattle.fx_plain.specs.Contents.{state_of};
 ghost use Rattle.fx_cli.specs.Instruction.{instructions_of};
 ghost use Rattle.fx_cli.specs.Play.{Plays, start};
 ghost use Rattle.fx_cli.specs.Run.{IsFault, IsRun};
-ghost use Rattle.fx_cli.specs.Refusal.{IsWantOfMemory};
+ghost use Rattle.fx_cli.specs.Refusal.{IsPlayFault};
 ghost use Rattle.fx_cli.specs.declared.fault.FirstFault.TheVariants.{Write};
 
 use crate::command::Command;
@@ -39,7 +39,7 @@ fn play_all<W: Write>(
     requires empty { state_of table.old ≡ vacant 0 }
     requires few { length commands.now ≤ 4194305 }
     ensures played { OnOk result ((text : List ℕ) × Plays catalogue.now start (instructions_of commands.now) text × Appends (W.contents writer.old) (W.contents writer.new) text) }
-    ensures fault { IfErr result (λ fault. IsWantOfMemory fault ⊎ (fault ≡ Write)) }
+    ensures fault { IfErr result IsPlayFault }
     ensures settled { IsSettled (state_of table.new) }
     ensures empty { OnOk result ((state_of table.new).size ≡ 0) }
 {
