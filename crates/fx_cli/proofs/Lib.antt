@@ -6,6 +6,7 @@ pub mod Texts
 pub mod Turns
 pub mod Removing
 pub mod Performing
+pub mod PlaySteps
 pub mod Opening
 pub mod EntryKinds
 pub mod Goings
