@@ -12,4 +12,5 @@ pub mod EntryKinds
 pub mod Goings
 pub mod ChainGoings
 pub mod RunGoings
+pub mod WholeRuns
 pub mod Words

@@ -49,7 +49,8 @@ fn play_all<W: Write>(
         write_text(writer, text.as_str())?;
     }
     let text = teardown(alloc, table, catalogue)?;
-    write_text(writer, text.as_str())
+    write_text(writer, text.as_str())?;
+    Ok(())
 }
 
 /// Reads a script to its end, plays its commands one after another from a ring without a table, and writes the text
