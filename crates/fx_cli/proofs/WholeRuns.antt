@@ -1,5 +1,5 @@
 -- What is known of the input by the bytes of it that were kept.
-use Rattle.std.proofs.Common.{◌≡◌, ℕ, List, Option, Some, None, refl, sym, subst, take, IfSome}
+use Rattle.std.proofs.Common.{◌≡◌, ℕ, List, Option, Some, None, refl, subst, take, IfSome}
 use Rattle.std.specs.Io.KnownBytes.{Appends}
 use Rattle.fx_base.specs.Catalogue.{FileEntry}
 use Rattle.fx_cli.specs.Instruction.{Instruction}

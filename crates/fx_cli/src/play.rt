@@ -14,7 +14,9 @@ use crate::chains::play_chains;
 use crate::command::Command;
 use crate::fault::FirstFault;
 use crate::perform::negated;
-use crate::text::{closed_lines, completion_lines, range_line, refused_line, sparse_line, teardown_text};
+use crate::text::{
+    closed_lines, completion_lines, range_line, refused_line, sparse_line, teardown_text,
+};
 use fx_base::{Catalogue, CloseList, Errno, NoMemory};
 use fx_chain::{Request, check, cut};
 use fx_plain::{BadRange, PlainTable};

@@ -1,10 +1,10 @@
-use Rattle.std.proofs.Common.{rules, refl, subst, sym, ap, ◌∙◌, ℕ, ◌≡◌, ◌+◌, ◌≤◌, List, Some, None, map, drop, length, arith, string_bytes}
+use Rattle.std.proofs.Common.{rules, refl, subst, sym, ap, ◌∙◌, ℕ, ◌≡◌, ◌+◌, List, Some, None, drop, length, arith, string_bytes}
 use Rattle.std.specs.Io.KnownBytes.{Appends}
 use Rattle.fx_plain.specs.State.{State, IsSettled, vacant}
 use Rattle.fx_plain.specs.Contents.{state_of}
 use Rattle.fx_cli.specs.Instruction.{Instruction, instruction_of, instructions_of}
 use Rattle.fx_cli.specs.Performs.{HasEntries}
-use Rattle.fx_cli.specs.Play.{CommandAnswers, start, world}
+use Rattle.fx_cli.specs.Play.{start, world}
 use Rattle.fx_cli.proofs.PlaySteps.{PlaysOn, begins, one_more, ends, front_instruction, no_instruction}
 use Rattle.fx_cli.proofs.first.play_all.Goals as goal
 

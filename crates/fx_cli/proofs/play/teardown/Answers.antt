@@ -1,4 +1,4 @@
-use Rattle.std.proofs.Common.{rules, ◌≡◌, ◌<◌, [], sym, ap, subst, ◌∙◌, length}
+use Rattle.std.proofs.Common.{rules, ◌≡◌, ◌<◌, sym, subst, length}
 use Rattle.std.proofs.lemmas.List.Sorted.{All-permutation}
 use Rattle.fx_plain.specs.State.{files_of}
 use Rattle.fx_plain.specs.Contents.{state_of}
@@ -10,9 +10,9 @@ pub teardown_text-requires : goal.teardown_text-requires
 teardown_text-requires c =
     let all : c.empty_into.new.closes.files ≡ files_of (state_of c.args.table.now) = search rules in
     let given : AreEntries (length c.args.catalogue.now) c.empty_into.new.closes.files =
-        subst (AreEntries (length c.args.catalogue.now)) (sym all) (entries_of (length c.args.catalogue.now) (state_of c.args.table.now) c.requires.entries) in
+    subst (AreEntries (length c.args.catalogue.now)) (sym all) (entries_of (length c.args.catalogue.now) (state_of c.args.table.now) c.requires.entries) in
     let sorted : AreEntries (length c.args.catalogue.now) c.sort.new.self.files =
-        All-permutation (λ file. file.entry < length c.args.catalogue.now) c.empty_into.new.closes.files c.sort.new.self.files c.sort.ensures.same_files given in
+    All-permutation (λ file. file.entry < length c.args.catalogue.now) c.empty_into.new.closes.files c.sort.new.self.files c.sort.ensures.same_files given in
     subst (AreEntries (length c.args.catalogue.now)) (sym c.files.ensures) sorted
 
 pub returns-in_err-teardown_text-clause-settled : goal.returns-in_err-teardown_text-clause-settled
