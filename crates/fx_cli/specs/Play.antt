@@ -88,7 +88,7 @@ abbrev pub PlaysPart : List FileEntry → World → List Instruction → List �
 PlaysPart catalogue world [] text = text ≡ []
 PlaysPart catalogue world (instruction ∷ instructions) text =
     (text ≡ []) ⊎ ((next : World) × (line : List ℕ) × (others : List ℕ) × CommandAnswers catalogue world instruction next line
-        × (text ≡ line ++ others) × PlaysPart catalogue next instructions others)
+    × (text ≡ line ++ others) × PlaysPart catalogue next instructions others)
 
 -- no table, and no submission yet
 abbrev pub start : World

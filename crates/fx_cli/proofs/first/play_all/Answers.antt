@@ -45,13 +45,13 @@ pub returns-in_err-text-clause-fault : goal.returns-in_err-text-clause-fault
 returns-in_err-text-clause-fault g c =
     let passed = err_from_is_err_and c.from_residual.result c.from_residual.ensures.1 in
     rw (passed.1, passed.2) (ends_early c.in_err-text.field-0.0 c.args.catalogue.now (instructions_of c.args.commands.now) (world (state_of c.loop-command.table) c.loop-command.submissions)
-        (instructions_of (drop c.loop-command.command-index c.args.commands.now)) (g.W.Write.contents c.args.writer.now) (g.W.Write.contents c.loop-command.writer) c.loop-command.invariant.plays c.in_err-text.ensures.fault)
+    (instructions_of (drop c.loop-command.command-index c.args.commands.now)) (g.W.Write.contents c.args.writer.now) (g.W.Write.contents c.loop-command.writer) c.loop-command.invariant.plays c.in_err-text.ensures.fault)
 
 pub returns-in_err-text-2-clause-fault : goal.returns-in_err-text-2-clause-fault
 returns-in_err-text-2-clause-fault g c =
     let passed = err_from_is_err_and c.from_residual-in_err-text-2.result c.from_residual-in_err-text-2.ensures.1 in
     rw (passed.1, passed.2) (ends_early c.in_err-text-2.field-0.0 c.args.catalogue.now (instructions_of c.args.commands.now) (world (state_of c.loop-command.table) c.loop-command.submissions)
-        (instructions_of (drop c.loop-command.command-index c.args.commands.now)) (g.W.Write.contents c.args.writer.now) (g.W.Write.contents c.loop-command.writer) c.loop-command.invariant.plays c.in_err-text-2.ensures.fault)
+    (instructions_of (drop c.loop-command.command-index c.args.commands.now)) (g.W.Write.contents c.args.writer.now) (g.W.Write.contents c.loop-command.writer) c.loop-command.invariant.plays c.in_err-text-2.ensures.fault)
 
 pub returns-clause-played : goal.returns-clause-played
 returns-clause-played g c =
