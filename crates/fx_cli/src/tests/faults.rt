@@ -1,12 +1,12 @@
 // Runs that do not come to their end, by what the reader or the writer does, and what was written until then.
 use crate::fault::FirstFault;
 use crate::first::run;
-use std::alloc::{AllocError, Global};
+use std::alloc::Global;
 use std::io;
 use std::io::{ErrorKind, Read, Write};
 use std::test::Fail;
 
-// A reader that gives at most so many bytes at a read, and fails the read of this number, counted from 0.
+// A reader that gives at most so many bytes at a read, and fails after so many reads.
 #[derive(Drop)]
 struct Failing<'a> {
     left: &'a [u8],
@@ -24,6 +24,23 @@ impl<'a> Read for Failing<'a> {
         buf[..count].copy_from_slice(&self.left[..count]);
         self.left = &self.left[count..];
         Ok(count)
+    }
+}
+
+// A reader of so many empty lines, one at a read.
+#[derive(Drop)]
+struct EmptyLines(u32);
+
+impl Read for EmptyLines {
+    fn read(&mut self, buf: &mut [u8]) -> io::Result<usize> {
+        match (self.0.checked_sub(1), buf) {
+            (Some(left), [first, ..]) => {
+                self.0 = left;
+                *first = b'\n';
+                Ok(1)
+            }
+            _ => Ok(0),
+        }
     }
 }
 
@@ -112,6 +129,27 @@ fn a_reader_that_fails_behind_a_bad_line(rt: HostRuntime) -> Result<(), Fail> {
         Err(FirstFault::Read)
     );
     assert_eq!(rt; written.len(), 0);
+    Ok(())
+}
+
+#[test]
+fn a_reader_that_comes_to_no_end(rt: HostRuntime) -> Result<(), Fail> {
+    // The end is the last read that is made; or it would be the next, and then what was read is not looked at.
+    let readers = [
+        (8_388_607, FirstFault::Script),
+        (8_388_608, FirstFault::Read),
+    ];
+    for (lines, fault) in readers {
+        let mut reader = EmptyLines(lines);
+        let mut written = Vec::new(rt.alloc());
+        assert_eq!(rt;
+            run(rt.alloc(), &mut reader, &mut written),
+            Err(fault),
+            "{lines}"
+        );
+        assert_eq!(rt; reader.0, 0, "{lines}");
+        assert_eq!(rt; written.len(), 0, "{lines}");
+    }
     Ok(())
 }
 
