@@ -1,7 +1,6 @@
 -- A chain goes on by one member, and a submission by one chain.
-use Rattle.std.proofs.Common.{◌≡◌, ℕ, ◌+◌, ◌<◌, ◌≤◌, Bool, true, false, List, [], ◌∷◌, ◌++◌, length, refl, sym, ap, subst, ◌∙◌, append_assoc, drop, take, map, All, slice_index_or, arith}
+use Rattle.std.proofs.Common.{◌≡◌, ℕ, ◌+◌, ◌<◌, Bool, true, false, List, [], ◌∷◌, ◌++◌, length, refl, sym, ap, subst, ◌∙◌, append_assoc, drop, All, slice_index_or, arith}
 use Rattle.std.proofs.lemmas.List.{append-nil, map-append, drop-map, length-map, get_or-map, length-drop, drop-drop}
-use Rattle.std.proofs.lemmas.List.Elements.{All-get_or}
 use Rattle.std.proofs.lemmas.List.Sums.{sum_by-cons}
 use Rattle.std.specs.Bool.{MatchBool}
 use Rattle.fx_base.specs.declared.errno.Errno.TheVariants.{ECANCELED}
@@ -13,7 +12,7 @@ use Rattle.fx_plain.specs.History.{◌▷▷◌}
 use Rattle.fx_chain.specs.Accepted.{IsWithinLimits}
 use Rattle.fx_chain.specs.Answers.{Answers}
 use Rattle.fx_chain.specs.Completed.{Completed, completed_of, all_completed, next_member, refusal}
-use Rattle.fx_chain.specs.Explains.{Explains, ExplainsRuns, canceled, severs, operations_in, first_member}
+use Rattle.fx_chain.specs.Explains.{Explains, canceled, severs, operations_in, first_member}
 use Rattle.fx_chain.specs.Operation.{Operation, Asked, asked_of, all_asked}
 use Rattle.fx_chain.specs.Weights.{installs_of, weight_of, all_installs, all_weights}
 use Rattle.fx_chain.specs.declared.completion.Completion.{Completion}
@@ -21,7 +20,7 @@ use Rattle.fx_chain.specs.declared.completion.Place.{Place}
 use Rattle.fx_chain.specs.declared.request.Request.{Request}
 use Rattle.fx_chain.proofs.Asking.{asked_rest}
 use Rattle.fx_cli.specs.Performs.{Did, DidSo}
-use Rattle.fx_cli.specs.Played.{member_at, DidMembers}
+use Rattle.fx_cli.specs.Played.{member_at}
 use Rattle.fx_cli.proofs.Goings.{did_then, did_nothing}
 
 test_known : (b : Bool) (P Q : Type 0) → b ≡ false → Q → MatchBool b P Q

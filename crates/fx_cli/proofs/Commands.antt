@@ -1,15 +1,15 @@
 -- What a line says, as it is told and as it is found.
-use Rattle.std.proofs.Common.{◌≡◌, ◌≤◌, ◌⊎◌, inl, inr, ℕ, Bool, true, false, List, [], ◌∷◌, length, map, drop, refl, sym, ap, subst, ◌∙◌, Bor, slice_index_or, Option, Some, None, arith, codes, decimal, if◌then◌else◌}
+use Rattle.std.proofs.Common.{◌≡◌, ◌≤◌, inl, inr, ℕ, Bool, true, false, List, [], ◌∷◌, length, map, drop, refl, sym, ap, subst, ◌∙◌, Bor, slice_index_or, Option, Some, None, arith, codes, decimal, if◌then◌else◌}
 use Rattle.std.specs.Prelude.{option_map, ◌==◌, nat_le, ◌&&◌}
 use Rattle.std.specs.List.{slice_split}
 use Rattle.std.specs.Str.{bytes_eq}
 use Rattle.std.proofs.lemmas.Bool.Decides.{nat_tests}
 use lib.IntN.{ℤ}
 use Rattle.fx_chain.specs.declared.request.Target.TheVariants.{Slot, Any}
-use Rattle.fx_chain.specs.Operation.{Operation, Opens, Reads, Closes, Updates, Asked}
-use Rattle.fx_cli.specs.Script.{Line, FileLine, SparseLine, RangeLine, RequestLine, SubmitLine, IsLine, IsOperation, is_name, is_read, link_words, largest}
+use Rattle.fx_chain.specs.Operation.{Operation, Opens, Reads, Closes, Updates}
+use Rattle.fx_cli.specs.Script.{Line, FileLine, SparseLine, RangeLine, RequestLine, SubmitLine, IsLine, IsOperation, is_name, link_words, largest}
 use Rattle.fx_cli.specs.Reading.{word, ◌>>=◌, number_of, hex_of, entries_of, list_of, link_of, asked_with, file_of, sparse_of, range_of, submit_of, open_of, open_at_of, open_any_of, read_of, close_of, update_of, request_of, line_of}
-use Rattle.fx_cli.proofs.Found.{and_left, and_right, if_true, either_if, found_if, found_then, found_map, some_same, le_of, bytes_of, bytes_differ}
+use Rattle.fx_cli.proofs.Found.{and_right, if_true, either_if, found_if, found_then, found_map, some_same, le_of, bytes_of, bytes_differ}
 use Rattle.fx_cli.proofs.Numbers.{number_found, number_is}
 use Rattle.fx_cli.proofs.Words.{first_1, first_2, first_3, first_4, no_more, eq_of, link_is, hex_is, hex_was, entries_are, entries_found}
 
@@ -70,17 +70,17 @@ file_is : (ws : List (List ℕ)) (line : Line) → word ws 0 ≡ codes "file" �
 file_is ws line first is =
     let found = found_if (length ws == 3) (option_map (FileLine (word ws 1)) (hex_of (word ws 2))) line is in
     let bytes = found_map (hex_of (word ws 2)) (FileLine (word ws 1)) line found.1 in
-    let three : length ws ≡ 3 = eq_of _ _ found.0 in
+    let three : length ws ≡ 3 = eq_of (length ws) 3 found.0 in
     let words = first_3 ws (omega arith) in
     let last = no_more ws 3 three in
-    subst (IsLine ws) bytes.2 (word ws 2, hex_is _ _ bytes.1, cc)
+    subst (IsLine ws) bytes.2 (word ws 2, hex_is (word ws 2) bytes.0 bytes.1, cc)
 
 sparse_is : (ws : List (List ℕ)) (line : Line) → word ws 0 ≡ codes "sparse" → sparse_of ws ≡ Some line → IsLine ws line
 sparse_is ws line first is =
     let found = found_if (length ws == 2) (option_map SparseLine (number_of (word ws 1))) line is in
     let n = found_map (number_of (word ws 1)) SparseLine line found.1 in
-    let text = number_is _ _ n.1 in
-    let two : length ws ≡ 2 = eq_of _ _ found.0 in
+    let text = number_is (word ws 1) n.0 n.1 in
+    let two : length ws ≡ 2 = eq_of (length ws) 2 found.0 in
     let words = first_2 ws (omega arith) in
     let last = no_more ws 2 two in
     let written : word ws 1 ≡ decimal n.0 = text.0 in
@@ -91,9 +91,9 @@ range_is ws line first is =
     let found = found_if (length ws == 3) (number_of (word ws 1) >>= (λ off. option_map (RangeLine off) (number_of (word ws 2)))) line is in
     let off = found_then (number_of (word ws 1)) (λ off. option_map (RangeLine off) (number_of (word ws 2))) line found.1 in
     let len = found_map (number_of (word ws 2)) (RangeLine off.0) line off.2 in
-    let off_text = number_is _ _ off.1 in
-    let len_text = number_is _ _ len.1 in
-    let three : length ws ≡ 3 = eq_of _ _ found.0 in
+    let off_text = number_is (word ws 1) off.0 off.1 in
+    let len_text = number_is (word ws 2) len.0 len.1 in
+    let three : length ws ≡ 3 = eq_of (length ws) 3 found.0 in
     let words = first_3 ws (omega arith) in
     let last = no_more ws 3 three in
     let off_written : word ws 1 ≡ decimal off.0 = off_text.0 in
@@ -103,37 +103,37 @@ range_is ws line first is =
 submit_is : (ws : List (List ℕ)) (line : Line) → word ws 0 ≡ codes "submit" → submit_of ws ≡ Some line → IsLine ws line
 submit_is ws line first is =
     let found = found_if (length ws == 1) (Some SubmitLine) line is in
-    let one : length ws ≡ 1 = eq_of _ _ found.0 in
+    let one : length ws ≡ 1 = eq_of (length ws) 1 found.0 in
     let words = first_1 ws (omega arith) in
     let last = no_more ws 1 one in
-    subst (IsLine ws) (some_same _ _ found.1) cc
+    subst (IsLine ws) (some_same SubmitLine line found.1) cc
 
 open_at_is : (ws : List (List ℕ)) (line : Line) → word ws 0 ≡ codes "open" → is_name (word ws 1) ≡ true → word ws 2 ≡ codes "at" → open_at_of ws ≡ Some line → IsLine ws line
 open_at_is ws line first name place is =
     let found = found_if (nat_le 4 (length ws)) (link_of (drop 4 ws) >>= (λ links. number_of (word ws 3) >>= (λ slot. Some (asked_with links (Opens (word ws 1) (Slot slot)))))) line is in
     let links = found_then (link_of (drop 4 ws)) (λ links. number_of (word ws 3) >>= (λ slot. Some (asked_with links (Opens (word ws 1) (Slot slot))))) line found.1 in
     let slot = found_then (number_of (word ws 3)) (λ slot. Some (asked_with links.0 (Opens (word ws 1) (Slot slot)))) line links.2 in
-    let text = number_is _ _ slot.1 in
-    let words = first_4 ws (le_of _ _ found.0) in
-    let tail : drop 4 ws ≡ link_words links.0 = link_is _ _ links.1 in
+    let text = number_is (word ws 3) slot.0 slot.1 in
+    let words = first_4 ws (le_of 4 (length ws) found.0) in
+    let tail : drop 4 ws ≡ link_words links.0 = link_is (drop 4 ws) links.0 links.1 in
     let written : word ws 3 ≡ decimal slot.0 = text.0 in
-    subst (IsLine ws) (some_same _ _ slot.2) (refl, (name, text.1, cc))
+    subst (IsLine ws) (some_same (asked_with links.0 (Opens (word ws 1) (Slot slot.0))) line slot.2) (refl, (name, text.1, cc))
 
 open_any_is : (ws : List (List ℕ)) (line : Line) → word ws 0 ≡ codes "open" → is_name (word ws 1) ≡ true → word ws 2 ≡ codes "any" → open_any_of ws ≡ Some line → IsLine ws line
 open_any_is ws line first name place is =
     let found = found_if (nat_le 3 (length ws)) (option_map (λ links. asked_with links (Opens (word ws 1) Any)) (link_of (drop 3 ws))) line is in
     let links = found_map (link_of (drop 3 ws)) (λ links. asked_with links (Opens (word ws 1) Any)) line found.1 in
-    let words = first_3 ws (le_of _ _ found.0) in
-    let tail : drop 3 ws ≡ link_words links.0 = link_is _ _ links.1 in
+    let words = first_3 ws (le_of 3 (length ws) found.0) in
+    let tail : drop 3 ws ≡ link_words links.0 = link_is (drop 3 ws) links.0 links.1 in
     subst (IsLine ws) links.2 (refl, (name, cc))
 
 open_is : (ws : List (List ℕ)) (line : Line) → word ws 0 ≡ codes "open" → open_of ws ≡ Some line → IsLine ws line
 open_is ws line first is =
     let found = found_if (nat_le 3 (length ws) && is_name (word ws 1)) _ line is in
-    let name = and_right _ _ found.0 in
+    let name = and_right (nat_le 3 (length ws)) (is_name (word ws 1)) found.0 in
     elim (either_if (bytes_eq (word ws 2) (codes "at")) (open_at_of ws) _ (Some line) found.1) [
-      | inl at ↦ open_at_is ws line first name (bytes_of _ _ at.0) at.1
-      | inr other ↦ let any = found_if (bytes_eq (word ws 2) (codes "any")) (open_any_of ws) line other.1 in open_any_is ws line first name (bytes_of _ _ any.0) any.1
+      | inl at ↦ open_at_is ws line first name (bytes_of (word ws 2) (codes "at") at.0) at.1
+      | inr other ↦ let any = found_if (bytes_eq (word ws 2) (codes "any")) (open_any_of ws) line other.1 in open_any_is ws line first name (bytes_of (word ws 2) (codes "any") any.0) any.1
     ]
 
 read_is : (ws : List (List ℕ)) (line : Line) → word ws 0 ≡ codes "read" → read_of ws ≡ Some line → IsLine ws line
@@ -143,26 +143,26 @@ read_is ws line first is =
     let slot = found_then (number_of (word ws 1)) (λ slot. number_of (word ws 2) >>= (λ off. number_of (word ws 3) >>= (λ len. Some (asked_with links.0 (Reads slot off len))))) line links.2 in
     let off = found_then (number_of (word ws 2)) (λ off. number_of (word ws 3) >>= (λ len. Some (asked_with links.0 (Reads slot.0 off len)))) line slot.2 in
     let len = found_then (number_of (word ws 3)) (λ len. Some (asked_with links.0 (Reads slot.0 off.0 len))) line off.2 in
-    let slot_text = number_is _ _ slot.1 in
-    let off_text = number_is _ _ off.1 in
-    let len_text = number_is _ _ len.1 in
-    let words = first_4 ws (le_of _ _ found.0) in
-    let tail : drop 4 ws ≡ link_words links.0 = link_is _ _ links.1 in
+    let slot_text = number_is (word ws 1) slot.0 slot.1 in
+    let off_text = number_is (word ws 2) off.0 off.1 in
+    let len_text = number_is (word ws 3) len.0 len.1 in
+    let words = first_4 ws (le_of 4 (length ws) found.0) in
+    let tail : drop 4 ws ≡ link_words links.0 = link_is (drop 4 ws) links.0 links.1 in
     let slot_written : word ws 1 ≡ decimal slot.0 = slot_text.0 in
     let off_written : word ws 2 ≡ decimal off.0 = off_text.0 in
     let len_written : word ws 3 ≡ decimal len.0 = len_text.0 in
-    subst (IsLine ws) (some_same _ _ len.2) (refl, (slot_text.1, off_text.1, len_text.1, cc))
+    subst (IsLine ws) (some_same (asked_with links.0 (Reads slot.0 off.0 len.0)) line len.2) (refl, (slot_text.1, off_text.1, len_text.1, cc))
 
 close_is : (ws : List (List ℕ)) (line : Line) → word ws 0 ≡ codes "close" → close_of ws ≡ Some line → IsLine ws line
 close_is ws line first is =
     let found = found_if (nat_le 2 (length ws)) (link_of (drop 2 ws) >>= (λ links. number_of (word ws 1) >>= (λ slot. Some (asked_with links (Closes slot))))) line is in
     let links = found_then (link_of (drop 2 ws)) (λ links. number_of (word ws 1) >>= (λ slot. Some (asked_with links (Closes slot)))) line found.1 in
     let slot = found_then (number_of (word ws 1)) (λ slot. Some (asked_with links.0 (Closes slot))) line links.2 in
-    let text = number_is _ _ slot.1 in
-    let words = first_2 ws (le_of _ _ found.0) in
-    let tail : drop 2 ws ≡ link_words links.0 = link_is _ _ links.1 in
+    let text = number_is (word ws 1) slot.0 slot.1 in
+    let words = first_2 ws (le_of 2 (length ws) found.0) in
+    let tail : drop 2 ws ≡ link_words links.0 = link_is (drop 2 ws) links.0 links.1 in
     let written : word ws 1 ≡ decimal slot.0 = text.0 in
-    subst (IsLine ws) (some_same _ _ slot.2) (refl, (text.1, cc))
+    subst (IsLine ws) (some_same (asked_with links.0 (Closes slot.0)) line slot.2) (refl, (text.1, cc))
 
 update_is : (ws : List (List ℕ)) (line : Line) → word ws 0 ≡ codes "update" → update_of ws ≡ Some line → IsLine ws line
 update_is ws line first is =
@@ -170,21 +170,21 @@ update_is ws line first is =
     let links = found_then (link_of (drop 3 ws)) (λ links. number_of (word ws 1) >>= (λ off. list_of (word ws 2) >>= (λ list. Some (asked_with links (Updates off list))))) line found.1 in
     let off = found_then (number_of (word ws 1)) (λ off. list_of (word ws 2) >>= (λ list. Some (asked_with links.0 (Updates off list)))) line links.2 in
     let list = found_then (list_of (word ws 2)) (λ list. Some (asked_with links.0 (Updates off.0 list))) line off.2 in
-    let text = number_is _ _ off.1 in
+    let text = number_is (word ws 1) off.0 off.1 in
     let entries = entries_are (slice_split (λ b. b == 44) (word ws 2)) list.0 list.1 in
-    let words = first_3 ws (le_of _ _ found.0) in
-    let tail : drop 3 ws ≡ link_words links.0 = link_is _ _ links.1 in
+    let words = first_3 ws (le_of 3 (length ws) found.0) in
+    let tail : drop 3 ws ≡ link_words links.0 = link_is (drop 3 ws) links.0 links.1 in
     let written : word ws 1 ≡ decimal off.0 = text.0 in
-    subst (IsLine ws) (some_same _ _ list.2) (refl, (word ws 2, text.1, (entries.0, entries.1), cc))
+    subst (IsLine ws) (some_same (asked_with links.0 (Updates off.0 list.0)) line list.2) (refl, (word ws 2, text.1, (entries.0, entries.1), cc))
 
 request_is : (ws : List (List ℕ)) (line : Line) → request_of (word ws 0) ws ≡ Some line → IsLine ws line
 request_is ws line is = elim (either_if (bytes_eq (word ws 0) (codes "open")) (open_of ws) _ (Some line) is) [
-  | inl found ↦ open_is ws line (bytes_of _ _ found.0) found.1
+  | inl found ↦ open_is ws line (bytes_of (word ws 0) (codes "open") found.0) found.1
   | inr one ↦ (elim (either_if (bytes_eq (word ws 0) (codes "read")) (read_of ws) _ (Some line) one.1) [
-    | inl found ↦ read_is ws line (bytes_of _ _ found.0) found.1
+    | inl found ↦ read_is ws line (bytes_of (word ws 0) (codes "read") found.0) found.1
     | inr two ↦ (elim (either_if (bytes_eq (word ws 0) (codes "close")) (close_of ws) _ (Some line) two.1) [
-      | inl found ↦ close_is ws line (bytes_of _ _ found.0) found.1
-      | inr three ↦ let found = found_if (bytes_eq (word ws 0) (codes "update")) (update_of ws) line three.1 in update_is ws line (bytes_of _ _ found.0) found.1
+      | inl found ↦ close_is ws line (bytes_of (word ws 0) (codes "close") found.0) found.1
+      | inr three ↦ let found = found_if (bytes_eq (word ws 0) (codes "update")) (update_of ws) line three.1 in update_is ws line (bytes_of (word ws 0) (codes "update") found.0) found.1
     ])
   ])
 ]
@@ -196,13 +196,13 @@ pub line_is : (ws : List (List ℕ)) (line : Line) → line_of ws ≡ Some line 
 line_is ws line is = elim (either_if (length ws == 0) None _ (Some line) is) [
   | inl empty ↦ absurd (none_some line empty.1)
   | inr some ↦ (elim (either_if (bytes_eq (word ws 0) (codes "file")) (file_of ws) _ (Some line) some.1) [
-    | inl found ↦ file_is ws line (bytes_of _ _ found.0) found.1
+    | inl found ↦ file_is ws line (bytes_of (word ws 0) (codes "file") found.0) found.1
     | inr one ↦ (elim (either_if (bytes_eq (word ws 0) (codes "sparse")) (sparse_of ws) _ (Some line) one.1) [
-      | inl found ↦ sparse_is ws line (bytes_of _ _ found.0) found.1
+      | inl found ↦ sparse_is ws line (bytes_of (word ws 0) (codes "sparse") found.0) found.1
       | inr two ↦ (elim (either_if (bytes_eq (word ws 0) (codes "range")) (range_of ws) _ (Some line) two.1) [
-        | inl found ↦ range_is ws line (bytes_of _ _ found.0) found.1
+        | inl found ↦ range_is ws line (bytes_of (word ws 0) (codes "range") found.0) found.1
         | inr three ↦ (elim (either_if (bytes_eq (word ws 0) (codes "submit")) (submit_of ws) _ (Some line) three.1) [
-          | inl found ↦ submit_is ws line (bytes_of _ _ found.0) found.1
+          | inl found ↦ submit_is ws line (bytes_of (word ws 0) (codes "submit") found.0) found.1
           | inr four ↦ request_is ws line four.1
         ])
       ])

@@ -1,12 +1,8 @@
 -- The entries of an update, by their sign.
-use Rattle.std.proofs.Common.{◌≡◌, ℕ, zero, suc, ◌+◌, ◌-◌, ◌<◌, ◌≤◌, Bool, true, false, if◌then◌else◌, ◌||◌, ℤ, pos, negsuc, int_le, int_lt, List, [], ◌∷◌, length, filter, drop, refl, sym, ap, subst, ◌∙◌, Option, slice_index_or, arith, nat_abs, to_z, of_z, w32, FitsSigned, add-one}
-use Rattle.std.proofs.lemmas.Int.{to_z-of_z}
+use Rattle.std.proofs.Common.{◌≡◌, ℕ, zero, suc, ◌+◌, ◌<◌, Bool, true, false, if◌then◌else◌, ◌||◌, ℤ, pos, negsuc, int_le, int_lt, List, [], ◌∷◌, length, filter, refl, sym, ap, ◌∙◌, slice_index_or, arith, nat_abs}
 use Rattle.std.proofs.lemmas.Bool.{ltb-true, le-leb}
-use Rattle.std.proofs.Math.Seq.{drop-cons}
 use Rattle.std.specs.List.{list_any}
-use Rattle.fx_plain.specs.declared.event.Action.{Action}
-use Rattle.fx_chain.specs.Answers.{AppliesEntry, is_bad_entry}
-use Rattle.fx_chain.specs.declared.completion.Place.{Place}
+use Rattle.fx_chain.specs.Answers.{is_bad_entry}
 use Rattle.fx_cli.specs.Entries.{entry_installs, list_installs}
 
 -- an entry of 0 or more is the number that it reads as

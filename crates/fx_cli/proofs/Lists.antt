@@ -1,7 +1,7 @@
 -- Lists that are walked from the front.
-use Rattle.std.proofs.Common.{◌≡◌, ℕ, ◌+◌, ◌<◌, List, [], ◌∷◌, ◌++◌, length, refl, sym, ap, ◌∙◌, append_assoc, map, drop, slice_index_or, add-one, Bor, arith, Option, Some, None}
+use Rattle.std.proofs.Common.{◌≡◌, ℕ, ◌+◌, ◌<◌, List, [], ◌∷◌, ◌++◌, length, refl, sym, ap, ◌∙◌, append_assoc, map, drop, slice_index_or, add-one, Bor, Option, Some, None}
 use Rattle.std.specs.Prelude.{option_map, ℤ}
-use Rattle.std.proofs.Math.Seq.{drop-cons, drop-length}
+use Rattle.std.proofs.Math.Seq.{drop-cons}
 use Rattle.fx_cli.specs.Reading.{entry_of, entries_of, ◌>>=◌}
 
 -- the texts from a place on begin with the one there

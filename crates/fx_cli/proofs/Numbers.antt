@@ -1,5 +1,5 @@
 -- Numbers and entries, and their texts.
-use Rattle.std.proofs.Common.{◌≡◌, ◌≤◌, ◌<◌, ◌^◌, ◌+◌, ℕ, suc, Bool, true, false, ◌&&◌, nat_le, List, [], ◌∷◌, get_or, drop, refl, sym, ap, subst, ◌∙◌, Option, Some, None, Result, Ok, Err, decimal, arith, if◌then◌else◌}
+use Rattle.std.proofs.Common.{◌≡◌, ◌≤◌, ◌<◌, ◌^◌, ℕ, suc, Bool, true, false, ◌&&◌, nat_le, List, get_or, drop, sym, ap, ◌∙◌, Some, None, Result, Ok, Err, decimal, arith, if◌then◌else◌}
 use Rattle.std.proofs.lemmas.Fmt.{parse-decimal, parse-signed_decimal, decimal_is_IsNumeral}
 use Rattle.std.proofs.lemmas.Str.Parse.{digit_at, without_leading_plus_none}
 use Rattle.std.proofs.lemmas.Bool.Decides.{nat_tests}
@@ -10,7 +10,7 @@ use Rattle.std.specs.Int.RustNames.{FitsSigned}
 use Rattle.std.proofs.Math.IntN.{neg_ℤ}
 use lib.IntN.{ℤ, pos, negsuc}
 use lib.Signed.{mag}
-use mir.Syntax.{Width, w32}
+use mir.Syntax.{w32}
 use Rattle.fx_cli.specs.Script.{largest, is_entry}
 use Rattle.fx_cli.specs.Reading.{number_of, entry_of}
 use Rattle.fx_cli.proofs.Found.{and_left, and_right, and_true, not_true, if_true, refused_if, found_if, some_same, le_of, lt_of, le_test, bytes_of, bytes_test}

@@ -1,5 +1,5 @@
 -- What a request of each kind does, by the removals and look-ups that it makes.
-use Rattle.std.proofs.Common.{◌≡◌, ◌≢◌, ℕ, ◌+◌, ◌-◌, ◌<◌, ◌≤◌, ◌^◌, Bool, true, false, List, [], ◌∷◌, ◌++◌, length, refl, sym, ap, subst, ◌∙◌, Option, Some, None, option_map, is_some, if◌then◌else◌, inl, inr, ◌==◌, nat_le, pos, negsuc, ℤ, not, ◌&&◌, ◌||◌, arith}
+use Rattle.std.proofs.Common.{◌≡◌, ◌≢◌, ℕ, ◌+◌, ◌-◌, ◌<◌, ◌≤◌, Bool, true, false, List, [], length, refl, sym, ap, subst, ◌∙◌, Option, Some, None, option_map, is_some, if◌then◌else◌, inl, inr, ◌==◌, pos, negsuc, ℤ, not, ◌&&◌, ◌||◌, arith}
 use Rattle.std.proofs.lemmas.List.{append-nil}
 use Rattle.std.proofs.lemmas.Bool.{le-ltb}
 use Rattle.std.specs.Bool.{MatchBool}
@@ -11,11 +11,10 @@ use Rattle.fx_base.specs.declared.mark.Mark.TheVariants.{Submitted}
 use Rattle.fx_base.specs.declared.open_file.Closed.{Closed}
 use Rattle.fx_base.specs.declared.errno.Errno.TheVariants.{EBADF, ENFILE}
 use Rattle.fx_plain.specs.declared.event.File.{File}
-use Rattle.fx_plain.specs.declared.event.Action.{Action}
 use Rattle.fx_plain.specs.declared.event.Action.TheVariants.{Look, Release, Put, Clear, Take, Allocate, Full, Close}
 use Rattle.fx_plain.specs.State.{State, IsSettled}
 use Rattle.fx_plain.specs.Step.{Steps, Allows, after, changed_at}
-use Rattle.fx_plain.specs.History.{Leads, state_after, closes_in, close_of, ◌▷◌, ◌▷▷◌}
+use Rattle.fx_plain.specs.History.{Leads, close_of, ◌▷◌, ◌▷▷◌}
 use Rattle.fx_plain.specs.Contents.{Contents, state_of, leaving}
 use Rattle.fx_plain.specs.Table.{numbered, closed_by_release}
 use Rattle.fx_plain.proofs.Cells.{by_equality}
@@ -23,7 +22,7 @@ use Rattle.fx_chain.specs.Answers.{OpensAt, ReadsFrom, Empties, AppliesEntry, Ap
 use Rattle.fx_chain.specs.Completed.{Completed, completed, refusal}
 use Rattle.fx_chain.specs.declared.completion.Place.{Place}
 use Rattle.fx_chain.specs.declared.request.Target.TheVariants.{Slot, Any}
-use Rattle.fx_cli.specs.Performs.{ClosesUp, Did, DidSo}
+use Rattle.fx_cli.specs.Performs.{ClosesUp, DidSo}
 use Rattle.fx_cli.proofs.Removing.{changed_same, changed_other}
 use Rattle.fx_cli.proofs.Performing.{may_close, size_known, slot_known}
 

@@ -1,5 +1,5 @@
 -- What the player keeps from request to request.
-use Rattle.std.proofs.Common.{◌≡◌, ◌≢◌, ℕ, ◌+◌, ◌<◌, ◌≤◌, Bool, true, false, List, [], ◌∷◌, ◌++◌, All, length, refl, sym, ap, subst, ◌∙◌, Option, Some, None, if◌then◌else◌, not, ◌&&◌, inl, inr, ◌==◌, nat_le, arith, slice_index_or}
+use Rattle.std.proofs.Common.{◌≡◌, ◌≢◌, ℕ, zero, suc, ◌+◌, ◌<◌, ◌≤◌, Bool, true, false, List, [], ◌∷◌, ◌++◌, refl, sym, ap, subst, ◌∙◌, Option, Some, None, if◌then◌else◌, not, ◌&&◌, inr, ◌==◌, nat_le, arith, slice_index_or}
 use Rattle.std.specs.Bool.{MatchBool}
 use Rattle.std.proofs.lemmas.List.Elements.{All-append}
 use Rattle.std.proofs.lemmas.Bool.{lt-leb, le-ltb, lt-ltb}
@@ -7,13 +7,13 @@ use Rattle.fx_base.specs.Closes.{Closes}
 use Rattle.fx_base.specs.declared.open_file.Closed.{Closed}
 use Rattle.fx_plain.specs.declared.event.File.{File}
 use Rattle.fx_plain.specs.declared.event.Action.{Action}
-use Rattle.fx_plain.specs.declared.event.Action.TheVariants.{Look, Release, Put, Clear, Take, Allocate, Close}
-use Rattle.fx_plain.specs.State.{State, IsSettled, listed, opening, renumbered}
+use Rattle.fx_plain.specs.declared.event.Action.TheVariants.{Put, Clear, Take, Allocate}
+use Rattle.fx_plain.specs.State.{State, IsSettled, files_in_order, files_of, listed, opening, renumbered, vacant}
 use Rattle.fx_plain.specs.Step.{Steps, after, changed_at}
-use Rattle.fx_plain.specs.History.{Leads, state_after, closes_in, closed_by, close_of, ◌▷◌, ◌▷▷◌}
+use Rattle.fx_plain.specs.History.{state_after, closes_in, closed_by, close_of, ◌▷◌, ◌▷▷◌}
 use Rattle.fx_plain.proofs.Cells.{by_equality}
 use Rattle.fx_chain.specs.Answers.{MayClose}
-use Rattle.fx_cli.specs.Performs.{ClosesUp, Did, IsAtRest, HasEntries, AreEntries, AreFresh}
+use Rattle.fx_cli.specs.Performs.{ClosesUp, IsAtRest, HasEntries, AreEntries, AreFresh}
 use Rattle.fx_cli.proofs.Removing.{changed_other}
 
 closed_at : (first : State) (action : Action) (x : Option File) → (state_after first ([] ▷ action ▷▷ close_of x)).at ≡ (after first action).at
@@ -123,3 +123,14 @@ opening_rests entries numbers st new closes has few none_closed is = record {
   closed = subst (AreEntries entries) (sym none_closed) (λ k d inside. absurd (omega arith));
   fresh = λ n low high. ap (λ (s : State). s.fresh n) is ∙ ap (λ (b : Bool × Bool). not b.0 && b.1) (λ i. (le-ltb n st.size (omega arith) i, lt-ltb n numbers high i));
 }
+
+-- the files of a table are of the catalogue, where those at its slots are
+entries_in_order : (entries : ℕ) (first : State) → HasEntries entries first → (n : ℕ) → AreEntries entries (files_in_order first.at n)
+entries_in_order entries first has zero = λ k d inside. absurd (omega arith)
+entries_in_order entries first has (suc n) = All-append (λ (file : Closed). file.entry < entries) (files_in_order first.at n) (listed (first.at n)) (entries_in_order entries first has n) (listed_entries entries first n has (first.at n) refl)
+
+pub entries_of : (entries : ℕ) (first : State) → HasEntries entries first → AreEntries entries (files_of first)
+entries_of entries first has = entries_in_order entries first has first.size
+
+pub settled_emptied : (first : State) (fresh : ℕ → Bool) → first ≡ record (vacant 0) { fresh = fresh } → IsSettled first
+settled_emptied first fresh is = subst IsSettled (sym is) (record { unheld = λ _. refl; closed = λ _. refl })

@@ -1,17 +1,17 @@
 -- A file is removed from a settled table, and closed at once.
-use Rattle.std.proofs.Common.{◌≡◌, ◌≢◌, ℕ, ◌+◌, ◌<◌, ◌≤◌, Bool, true, false, List, [], ◌∷◌, ◌++◌, refl, sym, ap, subst, ◌∙◌, Option, Some, None, if◌then◌else◌, arith}
+use Rattle.std.proofs.Common.{◌≡◌, ◌≢◌, ℕ, ◌+◌, ◌≤◌, Bool, true, List, [], ◌++◌, refl, sym, ap, subst, ◌∙◌, Option, Some, None, if◌then◌else◌}
 use Rattle.fx_base.specs.Closes.{Closes}
 use Rattle.fx_base.specs.declared.open_file.Closed.{Closed}
 use Rattle.fx_plain.specs.declared.event.File.{File}
 use Rattle.fx_plain.specs.declared.event.Action.{Action}
-use Rattle.fx_plain.specs.declared.event.Action.TheVariants.{Put, Clear, Take, Close}
-use Rattle.fx_plain.specs.State.{State, IsSettled, listed}
-use Rattle.fx_plain.specs.Step.{Steps, Allows, after, changed_at, with_removed}
-use Rattle.fx_plain.specs.History.{Leads, closes_in, closed_by, close_of, ◌▷◌, ◌▷▷◌}
+use Rattle.fx_plain.specs.declared.event.Action.TheVariants.{Put, Clear, Take}
+use Rattle.fx_plain.specs.State.{State, IsSettled}
+use Rattle.fx_plain.specs.Step.{Steps, after, changed_at, with_removed}
+use Rattle.fx_plain.specs.History.{Leads, closes_in, closed_by, close_of, ◌▷◌}
 use Rattle.fx_plain.specs.Table.{number_of, more_leaving}
 use Rattle.fx_plain.proofs.Cells.{by_equality}
 use Rattle.fx_plain.proofs.Leading.{leads_then, closes_in-then}
-use Rattle.fx_cli.specs.Performs.{ClosesUp, Did, CanRetire, closes_of_removed}
+use Rattle.fx_cli.specs.Performs.{ClosesUp, CanRetire, closes_of_removed}
 
 pub changed_same : {X : Type 0} (f : ℕ → X) (k : ℕ) (v : X) → changed_at f k v k ≡ v
 changed_same f k v = by_equality k k (λ b. (if b then v else f k) ≡ v) (λ _. refl) (λ other. absurd (other refl))

@@ -1,14 +1,13 @@
 -- The lines of a script, one after another.
-use Rattle.std.proofs.Common.{◌≡◌, ◌≤◌, ◌<◌, ◌+◌, ℕ, Bool, true, false, List, [], ◌∷◌, length, map, drop, refl, sym, ap, subst, ◌∙◌, Option, Some, None, arith, Bor}
-use Rattle.std.specs.Prelude.{◌==◌, ◌&&◌, nat_le, if◌then◌else◌, cond, IsAscii, IsUtf8}
+use Rattle.std.proofs.Common.{◌≡◌, ◌≤◌, ◌<◌, ℕ, Bool, true, false, List, [], ◌∷◌, length, map, drop, take, refl, sym, ap, subst, ◌∙◌, Option, Some, None, arith, Bor}
+use Rattle.std.specs.Prelude.{◌==◌, ◌&&◌, nat_le, if◌then◌else◌, IsAscii, IsUtf8}
 use Rattle.std.specs.Bool.{MatchBool}
 use Rattle.std.specs.List.{list_all, slice_split, onto_first, count_by}
-use Rattle.std.proofs.lemmas.Bool.Decides.{nat_tests}
 use Rattle.std.proofs.lemmas.Str.{IsUtf8-from_ascii}
 use Rattle.std.proofs.lemmas.Str.Ascii.{IsAscii-nil, IsAscii-cons}
 use Rattle.std.proofs.lemmas.List.Splits.{length-slice_split}
 use Rattle.std.proofs.lemmas.List.Sums.{count_by-le-length}
-use Rattle.std.proofs.lemmas.List.{length-map}
+use Rattle.std.proofs.lemmas.List.{length-map, length-take, take_all}
 use Rattle.std.proofs.Math.Seq.{drop-length}
 use Rattle.fx_base.specs.Catalogue.{FileEntry}
 use Rattle.fx_chain.specs.Operation.{Asked, all_asked, asked_of}
@@ -133,3 +132,17 @@ refused_for NoMemory p q follows why = tt
 -- there are few lines
 pub few_lines : (bytes : List ℕ) → length bytes ≤ 4194304 → length (lines bytes) ≤ 4194305
 few_lines bytes short = let some : count_by (λ b. b == 10) bytes ≤ length bytes = count_by-le-length (λ b. b == 10) bytes in omega (arith, length-slice_split (λ b. b == 10) bytes)
+
+-- a script is known by the bytes of it that are kept, and so is that there is none
+kept_whole : (bytes : List ℕ) → length (take 4194305 bytes) ≤ 4194304 → take 4194305 bytes ≡ bytes
+kept_whole bytes short = take_all 4194305 bytes (omega (arith, length-take 4194305 bytes))
+
+pub kept_script : (bytes : List ℕ) (catalogue : List FileEntry) (commands : List Instruction) → IsScript (take 4194305 bytes) catalogue commands → IsScript bytes catalogue commands
+kept_script bytes catalogue commands script = subst (λ (bs : List ℕ). IsScript bs catalogue commands) (kept_whole bytes script.0) script
+
+kept_short : (n : ℕ) → n ≤ 4194304 → n ≤ 4194305
+kept_short n short = omega arith
+
+pub kept_no_script : (bytes : List ℕ) → IsNoScript (take 4194305 bytes) → IsNoScript bytes
+kept_no_script bytes none = λ catalogue commands script.
+    none catalogue commands (subst (λ (bs : List ℕ). IsScript bs catalogue commands) (sym (take_all 4194305 bytes (kept_short (length bytes) script.0))) script)

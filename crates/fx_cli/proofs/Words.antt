@@ -1,6 +1,6 @@
 -- The words of a line: their number, hexadecimal bytes, lists and links.
-use Rattle.std.proofs.Common.{◌≡◌, ◌⊎◌, inl, inr, ℕ, suc, ◌+◌, ◌≤◌, ◌<◌, Bool, true, false, List, [], ◌∷◌, length, map, drop, refl, sym, ap, subst, ◌∙◌, Option, Some, None, Result, Ok, Err, codes, arith}
-use Rattle.std.specs.Prelude.{option_map, ◌==◌, nat_le, ◌&&◌}
+use Rattle.std.proofs.Common.{◌≡◌, inl, inr, ℕ, ◌≤◌, Bool, true, false, List, [], ◌∷◌, length, map, drop, refl, sym, ap, subst, ◌∙◌, Option, Some, None, Result, Ok, Err, codes, arith}
+use Rattle.std.specs.Prelude.{option_map, ◌==◌, ◌&&◌}
 use Rattle.std.specs.List.{list_all}
 use Rattle.std.specs.Fmt.{signed_decimal}
 use Rattle.std.specs.Str.{bytes_eq}
@@ -11,7 +11,7 @@ use Rattle.hex.specs.Hex.{decode_of}
 use Rattle.hex.specs.declared.error.FromHexError.{FromHexError}
 use Rattle.fx_cli.specs.Script.{IsHex, is_entry, link_words}
 use Rattle.fx_cli.specs.Reading.{word, hex_of, hex_found, entry_of, entries_of, link_of, ◌>>=◌}
-use Rattle.fx_cli.proofs.Found.{and_left, and_right, and_true, if_true, if_false, either_if, found_if, found_then, found_map, some_same, bytes_of, bytes_test, bytes_differ}
+use Rattle.fx_cli.proofs.Found.{and_left, and_right, and_true, if_false, either_if, found_if, found_then, found_map, some_same, bytes_of, bytes_differ}
 use Rattle.fx_cli.proofs.Numbers.{entry_found, entry_was}
 
 -- the first words of a line that has so many

@@ -1,5 +1,5 @@
 -- How many files the entries of an update install.
-use Rattle.std.specs.Prelude.{ℕ, ◌+◌, ℤ, pos, negsuc, int_le, List, length, filter}
+use Rattle.std.specs.Prelude.{ℕ, ℤ, pos, negsuc, int_le, List, length, filter}
 
 -- each entry of 0 or more
 abbrev pub entry_installs : ℤ → ℕ

@@ -55,6 +55,9 @@ pub record World : Type 0 where
   pub table : State
   pub submissions : ℕ
 
+abbrev pub world : State → ℕ → World
+world table submissions = record { table = table; submissions = submissions }
+
 -- a command may lead from one world to another, and print this
 abbrev pub CommandAnswers : List FileEntry → World → Instruction → World → List ℕ → Type 0
 CommandAnswers catalogue old (MakesSparse n) new text =
@@ -82,4 +85,4 @@ Plays catalogue world (instruction ∷ instructions) text =
 
 -- no table, and no submission yet
 abbrev pub start : World
-start = record { table = vacant 0; submissions = 0 }
+start = world (vacant 0) 0

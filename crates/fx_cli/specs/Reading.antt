@@ -1,5 +1,5 @@
 -- How the reader finds what a script says, part by part. What it finds is told by `Script`.
-use Rattle.std.specs.Prelude.{ℕ, ◌==◌, nat_le, Bool, true, false, not, ◌&&◌, ℤ, List, [], ◌∷◌, length, drop, codes, decimal, Option, Some, None, option_map, Result, Ok, Err, if◌then◌else◌, slice_index_or}
+use Rattle.std.specs.Prelude.{ℕ, ◌==◌, nat_le, Bool, true, false, ◌&&◌, ℤ, List, [], ◌∷◌, length, drop, codes, decimal, Option, Some, None, option_map, Result, Ok, Err, if◌then◌else◌, slice_index_or}
 use Rattle.std.specs.Fmt.{signed_decimal}
 use Rattle.std.specs.List.{slice_split}
 use Rattle.std.specs.Str.{bytes_eq}
@@ -7,7 +7,7 @@ use Rattle.std.specs.Str.Parse.{digits_value, signed_digits_value}
 use Rattle.hex.specs.Hex.{decode_of}
 use Rattle.hex.specs.declared.error.FromHexError.{FromHexError}
 use Rattle.fx_chain.specs.declared.request.Target.TheVariants.{Slot, Any}
-use Rattle.fx_chain.specs.Operation.{Operation, Opens, Reads, Closes, Updates, Asked}
+use Rattle.fx_chain.specs.Operation.{Operation, Opens, Reads, Closes, Updates}
 use Rattle.fx_cli.specs.Script.{Line, FileLine, SparseLine, RangeLine, RequestLine, SubmitLine, Progress, largest, is_name, is_entry, is_read, is_skipped, is_text, may_stand, with_line, words}
 
 -- the word at a place

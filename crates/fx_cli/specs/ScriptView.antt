@@ -1,6 +1,5 @@
 -- What the reader has of a script, without where it lies in memory.
 use Rattle.std.specs.Prelude.{List, string_bytes}
-use Rattle.fx_base.specs.Catalogue.{FileEntry}
 use Rattle.fx_chain.specs.Operation.{asked_of, all_asked}
 use Rattle.fx_chain.specs.declared.request.Request.{Request as ARequest}
 use Rattle.fx_cli.specs.Instruction.{instructions_of}

@@ -1,4 +1,5 @@
-ghost use Rattle.std.specs.Prelude.{◌≡◌, IfOk, IfSome, take};
+ghost use Rattle.std.specs.Prelude.{◌≡◌, IfOk, IfErr, IfSome, take};
+ghost use Rattle.fx_cli.specs.Refusal.{IsReadFault};
 
 use crate::fault::FirstFault;
 use std::alloc::Global;
@@ -28,7 +29,8 @@ fn front(bytes: &[u8], most: usize) -> &[u8]
 /// `Read` where a read fails, an interrupted one too, or where the end has not come after 8,388,608 reads. `NoMemory`
 /// where memory is refused.
 pub fn read_all<R: Read>(alloc: Global, reader: &mut R) -> Result<Vec<u8>, FirstFault>
-    ensures { IfOk result (λ input. IfSome (R.remaining reader.old) (λ bytes. input.items ≡ take 4194305 bytes)) }
+    ensures fault { IfErr result (λ fault. IsReadFault fault) }
+    ensures kept { IfOk result (λ input. IfSome (R.remaining reader.old) (λ bytes. input.items ≡ take 4194305 bytes)) }
 {
     let mut input = Vec::new(alloc);
     let mut buffer = [0u8; 4096];

@@ -3,14 +3,12 @@
 
 mod chains;
 mod command;
-
 mod fault;
 mod first;
 mod input;
 mod line;
 mod list;
 mod number;
-
 mod perform;
 mod play;
 mod removal;

@@ -236,12 +236,30 @@ pub(crate) fn perform(
 {
     match op {
         Op::Open { name, target } => {
-            open(alloc, table, catalogue, place, name.as_str(), *target, numbers, closes)
+            open(
+                alloc,
+                table,
+                catalogue,
+                place,
+                name.as_str(),
+                *target,
+                numbers,
+                closes,
+            )
         }
         Op::Read { slot, off, len } => read(alloc, table, catalogue, place, *slot, *off, *len),
         Op::Close { slot } => close(alloc, table, place, *slot, closes),
         Op::Update { off, list } => {
-            update(alloc, table, catalogue, place, *off, list.as_slice(), numbers, closes)
+            update(
+                alloc,
+                table,
+                catalogue,
+                place,
+                *off,
+                list.as_slice(),
+                numbers,
+                closes,
+            )
         }
     }
 }

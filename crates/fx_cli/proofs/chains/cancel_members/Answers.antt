@@ -1,4 +1,4 @@
-use Rattle.std.proofs.Common.{rules, ◌≡◌, ◌++◌, ◌∷◌, [], List, sym, ap, ◌∙◌, append_assoc, ◌+◌}
+use Rattle.std.proofs.Common.{rules, ◌++◌, ◌∷◌, [], List, sym, ap, ◌∙◌, append_assoc, ◌+◌}
 use Rattle.fx_chain.specs.Completed.{Completed, completed_of, all_completed}
 use Rattle.fx_chain.specs.Explains.{canceled, operations_in, first_member}
 use Rattle.fx_cli.specs.Played.{member_at}

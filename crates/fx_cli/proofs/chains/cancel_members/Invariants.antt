@@ -1,4 +1,4 @@
-use Rattle.std.proofs.Common.{◌≡◌, ◌≤◌, ◌+◌, ◌++◌, length, vec_len, vec_capacity}
+use Rattle.std.proofs.Common.{◌≡◌, ◌≤◌, ◌+◌, ◌++◌, vec_len, vec_capacity}
 use Rattle.fx_chain.specs.Completed.{all_completed}
 use Rattle.fx_chain.specs.Explains.{canceled, operations_in, first_member}
 use Rattle.fx_cli.specs.Played.{member_at}

@@ -1,9 +1,8 @@
-use Rattle.std.proofs.Common.{rules, refl, ◌≡◌, ◌≤◌, ◌<◌, ◌+◌, ◌*◌, ◌++◌, ◌∷◌, [], ℕ, List, All, sym, ap, subst, ◌∙◌, drop, length, slice_index_or, arith}
+use Rattle.std.proofs.Common.{rules, refl, ◌≡◌, ◌≤◌, ◌+◌, ◌*◌, ◌∷◌, ℕ, List, sym, ap, subst, ◌∙◌, drop, length, slice_index_or, arith}
 use Rattle.std.proofs.lemmas.List.{get_or_default, length-map}
 use Rattle.std.proofs.lemmas.List.Elements.{All-get_or}
 use Rattle.fx_plain.specs.Contents.{state_of}
-use Rattle.fx_plain.specs.Totals.{total}
-use Rattle.fx_chain.specs.Accepted.{IsChain, IsShortRun, members_of}
+use Rattle.fx_chain.specs.Accepted.{members_of}
 use Rattle.fx_chain.specs.Completed.{Completed, all_completed}
 use Rattle.fx_chain.specs.Explains.{Explains, operations_in, first_member}
 use Rattle.fx_chain.specs.Operation.{Asked, asked_of, all_asked}

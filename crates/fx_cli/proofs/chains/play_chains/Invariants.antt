@@ -1,5 +1,4 @@
 use Rattle.std.proofs.Common.{◌≡◌, ◌≤◌, ◌+◌, ◌*◌, drop, length, vec_len, vec_capacity}
-use Rattle.fx_plain.specs.State.{State}
 use Rattle.fx_plain.specs.Contents.{state_of}
 use Rattle.fx_plain.specs.Totals.{total}
 use Rattle.fx_chain.specs.Completed.{all_completed}

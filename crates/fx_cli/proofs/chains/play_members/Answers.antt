@@ -2,7 +2,7 @@ use Rattle.std.proofs.Common.{rules, ◌≡◌, ℕ, ◌+◌, ◌<◌, ◌≤◌
 use Rattle.std.proofs.lemmas.List.{append-nil}
 use Rattle.fx_plain.specs.Contents.{state_of}
 use Rattle.fx_chain.specs.Answers.{Answers}
-use Rattle.fx_chain.specs.Completed.{Completed, completed_of, all_completed, next_member}
+use Rattle.fx_chain.specs.Completed.{Completed, completed_of, all_completed}
 use Rattle.fx_chain.specs.Explains.{Explains, canceled, severs, operations_in, first_member}
 use Rattle.fx_chain.specs.Operation.{Operation, asked_of, all_asked}
 use Rattle.fx_chain.specs.declared.completion.Place.{Place}
@@ -34,15 +34,14 @@ returns-then-is_last-clause-steps c =
     completed_more c.loop-i.completions.items c.push.new.self.items c.perform-completion.result (search rules) ∙ ap (λ (cs : List Completed). cs ++ completed_of c.perform-completion.result ∷ []) i.goes.1
     ∙ append_assoc (all_completed c.args.completions.now.items) i.goes.0 (completed_of c.perform-completion.result ∷ []) in
     let goes : MembersOn c.args.catalogue.now (state_of c.args.table.now).size (first_member c.args.submission c.args.chain) (operations_in (all_asked c.args.requests.now)) (state_of c.args.table.now) c.args.closes.now
-        (record { submission = c.args.submission; chain = c.args.chain; member = c.loop-i.i + 1 }) ((asked_of c.index-requests-i.result).operation ∷ operations_in (asked_from c.args.requests.now (c.loop-i.i + 1))) (state_of c.loop-i.table) c.loop-i.closes i.goes.0 =
+    (record { submission = c.args.submission; chain = c.args.chain; member = c.loop-i.i + 1 }) ((asked_of c.index-requests-i.result).operation ∷ operations_in (asked_from c.args.requests.now (c.loop-i.i + 1))) (state_of c.loop-i.table) c.loop-i.closes i.goes.0 =
     subst (λ (left : List Operation). MembersOn c.args.catalogue.now (state_of c.args.table.now).size (first_member c.args.submission c.args.chain) (operations_in (all_asked c.args.requests.now)) (state_of c.args.table.now) c.args.closes.now
-        (record { submission = c.args.submission; chain = c.args.chain; member = c.loop-i.i + 1 }) left (state_of c.loop-i.table) c.loop-i.closes i.goes.0) front i.goes.2 in
+    (record { submission = c.args.submission; chain = c.args.chain; member = c.loop-i.i + 1 }) left (state_of c.loop-i.table) c.loop-i.closes i.goes.0) front i.goes.2 in
     let own : DidSo (state_of c.loop-i.table) (state_of c.perform-completion.new.table) c.loop-i.closes c.perform-completion.new.closes (λ events. Answers c.args.catalogue.now (state_of c.args.table.now).size (record { submission = c.args.submission; chain = c.args.chain; member = c.loop-i.i + 1 }) (asked_of c.index-requests-i.result).operation events (completed_of c.perform-completion.result)) =
     subst (λ (n : ℕ). DidSo (state_of c.loop-i.table) (state_of c.perform-completion.new.table) c.loop-i.closes c.perform-completion.new.closes (λ events. Answers c.args.catalogue.now n (record { submission = c.args.submission; chain = c.args.chain; member = c.loop-i.i + 1 }) (asked_of c.index-requests-i.result).operation events (completed_of c.perform-completion.result))) i.size c.perform-completion.ensures.steps in
     let ends : severs (asked_of c.index-requests-i.result).operation (completed_of c.perform-completion.result) ≡ true = search rules in
     let left : drop (c.loop-i.i + 1) (operations_in (all_asked c.args.requests.now)) ≡ operations_in (asked_from c.args.requests.now (c.loop-i.i + 1)) = operations_from c.args.requests.now (c.loop-i.i + 1) in
-    let stopped = members_stop c.args.catalogue.now (state_of c.args.table.now).size (first_member c.args.submission c.args.chain) (operations_in (all_asked c.args.requests.now)) (state_of c.args.table.now) c.args.closes.now (record { submission = c.args.submission; chain = c.args.chain; member = c.loop-i.i + 1 }) (asked_of c.index-requests-i.result).operation (operations_in (asked_from c.args.requests.now (c.loop-i.i + 1))) (state_of c.loop-i.table) (state_of c.perform-completion.new.table) c.loop-i.closes c.perform-completion.new.closes i.goes.0 (completed_of c.perform-completion.result) goes own ends in
-    (
+    let stopped = members_stop c.args.catalogue.now (state_of c.args.table.now).size (first_member c.args.submission c.args.chain) (operations_in (all_asked c.args.requests.now)) (state_of c.args.table.now) c.args.closes.now (record { submission = c.args.submission; chain = c.args.chain; member = c.loop-i.i + 1 }) (asked_of c.index-requests-i.result).operation (operations_in (asked_from c.args.requests.now (c.loop-i.i + 1))) (state_of c.loop-i.table) (state_of c.perform-completion.new.table) c.loop-i.closes c.perform-completion.new.closes i.goes.0 (completed_of c.perform-completion.result) goes own ends in (
       i.goes.0 ++ completed_of c.perform-completion.result ∷ [],
       pushed,
       subst (λ (x : Place × List Operation). DidSo (state_of c.args.table.now) (state_of c.perform-completion.new.table) c.args.closes.now c.perform-completion.new.closes
@@ -60,9 +59,9 @@ loop-i-preserved c =
     completed_more c.loop-i.completions.items c.push.new.self.items c.perform-completion.result (search rules) ∙ ap (λ (cs : List Completed). cs ++ completed_of c.perform-completion.result ∷ []) i.goes.1
     ∙ append_assoc (all_completed c.args.completions.now.items) i.goes.0 (completed_of c.perform-completion.result ∷ []) in
     let goes : MembersOn c.args.catalogue.now (state_of c.args.table.now).size (first_member c.args.submission c.args.chain) (operations_in (all_asked c.args.requests.now)) (state_of c.args.table.now) c.args.closes.now
-        (record { submission = c.args.submission; chain = c.args.chain; member = c.loop-i.i + 1 }) ((asked_of c.index-requests-i.result).operation ∷ operations_in (asked_from c.args.requests.now (c.loop-i.i + 1))) (state_of c.loop-i.table) c.loop-i.closes i.goes.0 =
+    (record { submission = c.args.submission; chain = c.args.chain; member = c.loop-i.i + 1 }) ((asked_of c.index-requests-i.result).operation ∷ operations_in (asked_from c.args.requests.now (c.loop-i.i + 1))) (state_of c.loop-i.table) c.loop-i.closes i.goes.0 =
     subst (λ (left : List Operation). MembersOn c.args.catalogue.now (state_of c.args.table.now).size (first_member c.args.submission c.args.chain) (operations_in (all_asked c.args.requests.now)) (state_of c.args.table.now) c.args.closes.now
-        (record { submission = c.args.submission; chain = c.args.chain; member = c.loop-i.i + 1 }) left (state_of c.loop-i.table) c.loop-i.closes i.goes.0) front i.goes.2 in
+    (record { submission = c.args.submission; chain = c.args.chain; member = c.loop-i.i + 1 }) left (state_of c.loop-i.table) c.loop-i.closes i.goes.0) front i.goes.2 in
     let own : DidSo (state_of c.loop-i.table) (state_of c.perform-completion.new.table) c.loop-i.closes c.perform-completion.new.closes (λ events. Answers c.args.catalogue.now (state_of c.args.table.now).size (record { submission = c.args.submission; chain = c.args.chain; member = c.loop-i.i + 1 }) (asked_of c.index-requests-i.result).operation events (completed_of c.perform-completion.result)) =
     subst (λ (n : ℕ). DidSo (state_of c.loop-i.table) (state_of c.perform-completion.new.table) c.loop-i.closes c.perform-completion.new.closes (λ events. Answers c.args.catalogue.now n (record { submission = c.args.submission; chain = c.args.chain; member = c.loop-i.i + 1 }) (asked_of c.index-requests-i.result).operation events (completed_of c.perform-completion.result))) i.size c.perform-completion.ensures.steps in
     let goes_on : severs (asked_of c.index-requests-i.result).operation (completed_of c.perform-completion.result) ≡ false = search rules in
@@ -90,7 +89,7 @@ returns-clause-steps c =
     let whole : length c.args.requests.now ≤ c.loop-i.i = search rules in
     let nothing : operations_in (asked_from c.args.requests.now c.loop-i.i) ≡ [] = ap operations_in (asked_none c.args.requests.now c.loop-i.i whole) in
     let goes = subst (λ (left : List Operation). MembersOn c.args.catalogue.now (state_of c.args.table.now).size (first_member c.args.submission c.args.chain) (operations_in (all_asked c.args.requests.now)) (state_of c.args.table.now) c.args.closes.now
-        (record { submission = c.args.submission; chain = c.args.chain; member = c.loop-i.i + 1 }) left (state_of c.loop-i.table) c.loop-i.closes i.goes.0) nothing i.goes.2 in
+    (record { submission = c.args.submission; chain = c.args.chain; member = c.loop-i.i + 1 }) left (state_of c.loop-i.table) c.loop-i.closes i.goes.0) nothing i.goes.2 in
     let ended = members_end c.args.catalogue.now (state_of c.args.table.now).size (first_member c.args.submission c.args.chain) (operations_in (all_asked c.args.requests.now)) (state_of c.args.table.now) c.args.closes.now (record { submission = c.args.submission; chain = c.args.chain; member = c.loop-i.i + 1 }) (state_of c.loop-i.table) c.loop-i.closes i.goes.0 goes in
     let none_left : drop (length c.args.requests.now) (operations_in (all_asked c.args.requests.now)) ≡ [] = operations_from c.args.requests.now (length c.args.requests.now) ∙ ap operations_in (asked_none c.args.requests.now (length c.args.requests.now) (omega arith)) in
     let same : i.goes.0 ≡ i.goes.0 ++ canceled (member_at (first_member c.args.submission c.args.chain) (length c.args.requests.now)) (drop (length c.args.requests.now) (operations_in (all_asked c.args.requests.now))) =

@@ -2,8 +2,8 @@ use Rattle.std.proofs.Common.{rules, ◌≡◌, ◌++◌, ◌-◌, length, take}
 use Rattle.fx_cli.proofs.Turns.{one_read, at_end, few_kept}
 use Rattle.fx_cli.proofs.input.read_all.Goals as goal
 
-pub returns-then-n-eq0 : goal.returns-then-n-eq0
-returns-then-n-eq0 g c =
+pub returns-then-n-eq0-clause-kept : goal.returns-then-n-eq0-clause-kept
+returns-then-n-eq0-clause-kept g c =
     at_end 4194305 (g.R.Read.remaining c.args.reader.now) (g.R.Read.remaining c.reading.reader) (g.R.Read.remaining c.read.new.self) c.reading.input.items c.in-Ok.n c.read.new.buf
     c.reading.invariant.kept c.in-Ok.ensures.bytes.0 c.if-n-eq0.true (c.in-Ok.ensures.bytes.1 c.if-n-eq0.true (search rules))
 

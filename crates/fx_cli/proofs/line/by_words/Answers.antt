@@ -1,4 +1,4 @@
-use Rattle.std.proofs.Common.{sym, subst, ◌≡◌, map, []}
+use Rattle.std.proofs.Common.{sym, subst, ◌≡◌, []}
 use Rattle.std.specs.Prelude.{IfOk, Option, option_map}
 use Rattle.fx_cli.specs.Script.{Line}
 use Rattle.fx_cli.specs.ScriptView.{view_of}

@@ -1,7 +1,7 @@
-use Rattle.std.proofs.Common.{rules, ◌≡◌, ◌≢◌, ◌<◌, ℕ, sym, ap, subst, ◌∙◌, length}
+use Rattle.std.proofs.Common.{rules, ◌<◌, ℕ, sym, ap, subst, length}
 use Rattle.fx_plain.specs.declared.event.Action.TheVariants.{Allocate}
 use Rattle.fx_plain.specs.Step.{Steps}
-use Rattle.fx_plain.specs.Contents.{Contents, state_of}
+use Rattle.fx_plain.specs.Contents.{state_of}
 use Rattle.fx_plain.specs.Table.{numbered}
 use Rattle.fx_chain.specs.Completed.{completed_of}
 use Rattle.fx_cli.specs.Performs.{IsAtRest}

@@ -1,10 +1,8 @@
-use Rattle.std.proofs.Common.{rules, ◌≡◌, ◌≢◌, ◌<◌, ℕ, sym, ap, subst, ◌∙◌, length}
-use Rattle.fx_base.specs.declared.open_file.Closed.{Closed}
+use Rattle.std.proofs.Common.{rules, ◌<◌, ℕ, sym, subst, length}
 use Rattle.fx_plain.specs.declared.event.Action.TheVariants.{Put}
 use Rattle.fx_plain.specs.Contents.{state_of}
 use Rattle.fx_plain.specs.Table.{numbered}
 use Rattle.fx_chain.specs.Completed.{completed_of}
-use Rattle.fx_chain.specs.Answers.{installed}
 use Rattle.fx_cli.specs.Performs.{ClosesUp, IsAtRest}
 use Rattle.fx_cli.proofs.Performing.{put_rests}
 use Rattle.fx_cli.proofs.Opening.{opens_slot, installed_is}

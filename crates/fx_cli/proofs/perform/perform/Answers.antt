@@ -1,5 +1,4 @@
-use Rattle.std.proofs.Common.{ℕ, Bool, Option, sym, ap, subst, ◌∙◌, length}
-use Rattle.fx_plain.specs.declared.event.File.{File}
+use Rattle.std.proofs.Common.{sym, subst, length}
 use Rattle.fx_plain.specs.Contents.{state_of}
 use Rattle.fx_chain.specs.Answers.{Answers}
 use Rattle.fx_chain.specs.Completed.{completed_of}

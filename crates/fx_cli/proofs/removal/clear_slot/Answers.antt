@@ -3,7 +3,6 @@ use Rattle.fx_plain.specs.declared.event.File.{File}
 use Rattle.fx_plain.specs.declared.event.Action.TheVariants.{Clear}
 use Rattle.fx_plain.specs.State.{State}
 use Rattle.fx_plain.specs.Contents.{state_of, leaving}
-use Rattle.fx_plain.specs.Table.{numbered}
 use Rattle.fx_cli.proofs.Removing.{closes_up, can_retire, clear_removes}
 use Rattle.fx_cli.proofs.removal.clear_slot.Goals as goal
 

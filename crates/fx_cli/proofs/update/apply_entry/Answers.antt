@@ -1,9 +1,8 @@
 use Rattle.std.proofs.Common.{rules, ◌≡◌, ◌<◌, ℕ, ℤ, true, false, pos, negsuc, int_le, int_lt, nat_abs, to_z, of_z, w32, sym, ap, subst, ◌∙◌, length}
 use Rattle.std.proofs.lemmas.Int.{to_z-of_z}
-use Rattle.fx_plain.specs.declared.event.Action.TheVariants.{Put, Clear}
+use Rattle.fx_plain.specs.declared.event.Action.TheVariants.{Put}
 use Rattle.fx_plain.specs.Contents.{state_of}
 use Rattle.fx_plain.specs.Table.{numbered}
-use Rattle.fx_plain.specs.History.{close_of, ◌▷◌, ◌▷▷◌}
 use Rattle.fx_chain.specs.Answers.{AppliesEntry}
 use Rattle.fx_cli.specs.Performs.{ClosesUp, IsAtRest, DidSo}
 use Rattle.fx_cli.proofs.EntryKinds.{unsigned, minus_one}

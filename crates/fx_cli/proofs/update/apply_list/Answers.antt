@@ -1,7 +1,6 @@
-use Rattle.std.proofs.Common.{rules, ◌≡◌, ◌≤◌, ◌+◌, ◌∷◌, ℤ, List, pos, to_z, of_z, w32, slice_index_or, sym, ap, subst, ◌∙◌, drop, suc, add-one, arith}
+use Rattle.std.proofs.Common.{rules, ◌≡◌, ◌+◌, ℤ, pos, to_z, of_z, w32, slice_index_or, ap, subst, ◌∙◌, drop, suc, add-one, arith}
 use Rattle.std.proofs.lemmas.List.{get_or_default}
 use Rattle.std.proofs.Math.Seq.{drop-cons}
-use Rattle.fx_plain.specs.State.{State}
 use Rattle.fx_plain.specs.Contents.{state_of}
 use Rattle.fx_chain.specs.Answers.{AppliesEntry}
 use Rattle.fx_cli.specs.Entries.{entry_installs, list_installs}

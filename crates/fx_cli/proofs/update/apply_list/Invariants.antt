@@ -1,5 +1,4 @@
 use Rattle.std.proofs.Common.{◌≡◌, ◌≤◌, ◌+◌, drop, length}
-use Rattle.fx_plain.specs.State.{State}
 use Rattle.fx_plain.specs.Contents.{state_of}
 use Rattle.fx_cli.specs.Entries.{list_installs}
 use Rattle.fx_cli.specs.Performs.{IsAtRest}

@@ -1,4 +1,4 @@
-use Rattle.std.proofs.Common.{rules, ◌≡◌, ◌≢◌, ◌≤◌, ◌+◌, true, false, length, refl, sym, ◌∙◌}
+use Rattle.std.proofs.Common.{rules, ◌≡◌, true, false, length, refl}
 use Rattle.std.specs.List.{list_any}
 use Rattle.fx_plain.specs.Contents.{state_of}
 use Rattle.fx_chain.specs.Answers.{is_bad_entry}
