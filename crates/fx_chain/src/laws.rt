@@ -3,6 +3,7 @@
 
 ghost use Rattle.std.specs.Prelude.{List, ◌∷◌, ◌++◌, MatchOption};
 ghost use Rattle.fx_chain.specs.Faults.{HasNoFault, IsFirstFault, fault_of};
+ghost use Rattle.fx_chain.specs.Legal.{ExplainedRunsAreLegal};
 ghost use Rattle.fx_chain.specs.Operation.{Asked};
 ghost use Rattle.fx_chain.specs.Runs.{AreTheOnlyRuns, StandsIn, runs_of};
 
@@ -22,4 +23,10 @@ pub fn each_request_stands_in_its_run()
 pub fn fault_is_the_first()
     ensures { (requests : List Asked)
         → MatchOption (fault_of requests) (HasNoFault requests) (IsFirstFault requests) }
+{}
+
+/// The steps that explain the chains of a submission are a legal history of one pass. So the laws of histories hold of
+/// every submission that is played.
+pub fn explained_runs_are_legal()
+    ensures { ExplainedRunsAreLegal }
 {}
