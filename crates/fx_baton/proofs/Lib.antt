@@ -1,0 +1,6 @@
+pub mod Histories
+pub mod Keeping
+pub mod Grabbing
+pub mod Giving
+pub mod Seats
+pub mod Opening
