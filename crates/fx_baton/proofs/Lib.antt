@@ -4,3 +4,4 @@ pub mod Grabbing
 pub mod Giving
 pub mod Seats
 pub mod Opening
+pub mod Files
