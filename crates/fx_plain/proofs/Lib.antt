@@ -1,1 +1,14 @@
 pub mod Cells
+pub mod TotalLemmas
+pub mod Writes
+pub mod Removals
+pub mod Holding
+pub mod Settled
+pub mod Moving
+pub mod Emptying
+pub mod Opening
+pub mod Sums
+pub mod Named
+pub mod LawHolds
+pub mod LawTallies
+pub mod LawFiles

@@ -116,6 +116,7 @@ itself n = n
 pub record IsCounted (c : Contents) (full held removed : ℕ) : Type 0 where
   pub full_slots : full ≡ total filled c.slots
   pub all_holds : held ≡ total itself c.holds
+  pub small_holds : (number : ℕ) → slice_index c.holds number < 2 ^ 32
   pub all_removed : removed ≡ total opened c.nodes
 
 -- a node whose file left its slot

@@ -1,5 +1,5 @@
 -- Histories of a file table. The newest event stands first, and `h ▷ e` is the history `h` and then the event `e`.
-use Rattle.std.specs.Prelude.{◌≡◌, ℕ, ◌==◌, Bool, if◌then◌else◌, List, [], ◌∷◌, ◌++◌, map, filter, Option, Some, None}
+use Rattle.std.specs.Prelude.{◌≡◌, ℕ, ◌==◌, if◌then◌else◌, List, [], ◌∷◌, ◌++◌, map, filter, Option, Some, None}
 use Rattle.fx_base.specs.declared.open_file.Closed.{Closed}
 use Rattle.fx_plain.specs.State.{State}
 use Rattle.fx_plain.specs.Step.{Allows, after}
@@ -9,13 +9,11 @@ use Rattle.fx_plain.specs.declared.event.Action.{Action}
 use Rattle.fx_plain.specs.declared.event.Action.TheVariants.{Look, Release, Put, Clear, Take, Allocate, Full, Close}
 
 infixl 50 ◌▷◌
-
 -- the history, and then one more
 abbrev pub ◌▷◌ : {X : Type 0} → List X → X → List X
 h ▷ e = e ∷ h
 
 infixl 50 ◌▷▷◌
-
 -- the history, and then all of another
 abbrev pub ◌▷▷◌ : {X : Type 0} → List X → List X → List X
 h ▷▷ more = more ++ h

@@ -4,3 +4,4 @@ pub mod History
 pub mod Totals
 pub mod Contents
 pub mod Table
+pub mod Laws

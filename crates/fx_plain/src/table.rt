@@ -141,8 +141,10 @@ impl PlainTable {
         ensures { result ≡ option_map (λ f. f.identity.mark) ((state_of self.now).at slot) }
     {
         let number = self.slots[slot as usize]?;
-        let file = file_in(&self.nodes[number as usize])?;
-        Some(file.mark())
+        match file_in(&self.nodes[number as usize]) {
+            Some(file) => Some(file.mark()),
+            None => None,
+        }
     }
 
     /// The catalogue entry of the file at a slot, or `None` where the slot is empty.
@@ -151,8 +153,10 @@ impl PlainTable {
         ensures { result ≡ option_map (λ f. f.identity.entry) ((state_of self.now).at slot) }
     {
         let number = self.slots[slot as usize]?;
-        let file = file_in(&self.nodes[number as usize])?;
-        Some(file.entry())
+        match file_in(&self.nodes[number as usize]) {
+            Some(file) => Some(file.entry()),
+            None => None,
+        }
     }
 
     /// How many numbers were prepared, or the size before the first preparation.

@@ -7,7 +7,7 @@ ghost use Rattle.fx_plain.specs.History.{Leads, close_of, ◌▷◌, ◌▷▷�
 ghost use Rattle.fx_plain.specs.Contents.{state_of, leaving, numbers_of};
 ghost use Rattle.fx_plain.specs.Table.{identity_of, closed_by_release, closed_by_retirement, HasRoomForHold};
 
-use crate::node::{add_hold, end_hold, file_in, is_retired, retire, take_file};
+use crate::node::{add_hold, end_hold, is_retired, retire, take_file};
 use crate::table::PlainTable;
 use fx_base::OpenFile;
 
@@ -26,7 +26,7 @@ impl PlainTable {
         ensures numbers { numbers_of self.new ≡ numbers_of self.old }
     {
         let number = self.slots[slot as usize]?;
-        let entry = file_in(&self.nodes[number as usize])?.entry();
+        let entry = self.entry_at(slot)?;
         add_hold(&mut self.holds, number as usize);
         self.held += 1;
         Some((number, entry))

@@ -86,6 +86,7 @@ fn zeros(alloc: Global, n: u32) -> Result<Vec<u32>, NoMemory>
 fn push_within<T>(items: &mut Vec<T>, item: T)
     requires { vec_len items.old < vec_capacity items.old }
     ensures items { items.new.items ≡ items.old.items ++ item ∷ [] }
+    ensures len { vec_len items.new ≡ vec_len items.old + 1 }
     ensures capacity { vec_capacity items.old ≤ vec_capacity items.new }
 {
     match items.push(item) {

@@ -1,0 +1,90 @@
+-- What the counts of a table say of its state.
+use Rattle.std.proofs.Common.{◌≡◌, ℕ, zero, suc, ◌+◌, ◌≤◌, true, false, List, [], ◌∷◌, length, length-append, replicate, refl, sym, ap, subst, ◌∙◌, Option, Some, None, IsSome, arith}
+use Rattle.fx_plain.specs.State.{IsSettled, files_in_order, files_of, listed}
+use Rattle.fx_plain.specs.Contents.{Contents, IsTable, IsCounted, state_of, slot_at, node_at, file_at, placed_at, removed_at, filled, opened, itself, Fresh, At, Leaving, Retired, Gone}
+use Rattle.fx_plain.specs.Totals.{total}
+use Rattle.fx_plain.specs.declared.node.Node.{Node}
+use Rattle.fx_plain.proofs.TotalLemmas.{total_nothing, nothing_of-total, total-replicate}
+
+not_opened : (n : ℕ) (node : Node) → opened node ≡ 0 → removed_at n node ≡ None
+not_opened n Fresh is = refl
+not_opened n (At slot file) is = refl
+not_opened n (Leaving file) is = absurd (omega arith)
+not_opened n (Retired file) is = absurd (omega arith)
+not_opened n Gone is = refl
+
+not_removed : (n : ℕ) (node : Node) → removed_at n node ≡ None → opened node ≡ 0
+not_removed n Fresh is = refl
+not_removed n (At slot file) is = refl
+not_removed n (Leaving file) is = cc
+not_removed n (Retired file) is = cc
+not_removed n Gone is = refl
+
+-- a table without holds and removed files is settled
+pub settled_by_counts : (c : Contents) (full held removed : ℕ) → IsCounted c full held removed → held ≡ 0 → removed ≡ 0 → IsSettled (state_of c)
+settled_by_counts c full held removed k no_holds none_removed = record {
+  unheld = λ n. nothing_of-total itself c.holds 0 refl (sym k.all_holds ∙ no_holds) n;
+  closed = λ n. not_opened n (node_at c.nodes n) (nothing_of-total opened c.nodes Gone refl (sym k.all_removed ∙ none_removed) n);
+}
+
+pub no_holds : (c : Contents) (full held removed : ℕ) → IsCounted c full held removed → IsSettled (state_of c) → held ≡ 0
+no_holds c full held removed k s = k.all_holds ∙ total_nothing itself c.holds 0 refl s.unheld
+
+pub none_removed : (c : Contents) (full held removed : ℕ) → IsCounted c full held removed → IsSettled (state_of c) → removed ≡ 0
+none_removed c full held removed k s = k.all_removed ∙ total_nothing opened c.nodes Gone refl (λ n. not_removed n (node_at c.nodes n) (s.closed n))
+
+-- the sum of the first so many
+abbrev upto : (ℕ → ℕ) → ℕ → ℕ
+upto f zero = 0
+upto f (suc n) = upto f n + f n
+
+upto_front : (f : ℕ → ℕ) (n : ℕ) → upto f (suc n) ≡ f 0 + upto (λ i. f (suc i)) n
+upto_front f zero = omega arith
+upto_front f (suc n) = let rest = upto_front f n in omega arith
+
+total_upto : (xs : List (Option ℕ)) → total filled xs ≡ upto (λ i. filled (slot_at xs i)) (length xs)
+total_upto [] = refl
+total_upto (x ∷ xs) = let rest = total_upto xs in let front = upto_front (λ i. filled (slot_at (x ∷ xs) i)) (length xs) in omega arith
+
+-- what a slot names stands there
+one_file : (c : Contents) (slot : ℕ) → IsTable c → (x : Option ℕ) → slot_at c.slots slot ≡ x → length (listed (file_at c.nodes x)) ≡ filled x
+one_file c slot t None is = refl
+one_file c slot t (Some n) is = ap (λ (node : Node). length (listed (placed_at n node))) (t.placed slot n is).1
+
+files_upto : (c : Contents) → IsTable c → (n : ℕ) → length (files_in_order (state_of c).at n) ≡ upto (λ i. filled (slot_at c.slots i)) n
+files_upto c t zero = refl
+files_upto c t (suc n) =
+    let rest = files_upto c t n in
+    let one = one_file c n t (slot_at c.slots n) refl in
+    let both = length-append (files_in_order (state_of c).at n) (listed ((state_of c).at n)) in omega arith
+
+-- the files of a table are as many as its full slots
+pub length-files_of : (c : Contents) → IsTable c → length (files_of (state_of c)) ≡ total filled c.slots
+length-files_of c t = files_upto c t (length c.slots) ∙ sym (total_upto c.slots)
+
+pub slot_at-replicate : (n i : ℕ) → slot_at (replicate n None) i ≡ None
+slot_at-replicate zero i = refl
+slot_at-replicate (suc n) zero = refl
+slot_at-replicate (suc n) (suc i) = slot_at-replicate n i
+
+-- a table of empty slots
+pub sparse_keeps : (slots : List (Option ℕ)) (n : ℕ) (nodes : List Node) (holds : List ℕ) → slots ≡ replicate n None → n ≤ 256 → nodes ≡ [] → holds ≡ [] → length slots ≡ n
+    → IsTable (record { slots = slots; range = (0, n); nodes = nodes; holds = holds; numbers = n }) × IsCounted (record { slots = slots; range = (0, n); nodes = nodes; holds = holds; numbers = n }) 0 0 0
+sparse_keeps slots n nodes holds slots_are few no_nodes no_hold len =
+    subst (λ (x : List (Option ℕ) × List Node × List ℕ). IsTable (record { slots = x.0; range = (0, n); nodes = x.1; holds = x.2; numbers = n }) × IsCounted (record { slots = x.0; range = (0, n); nodes = x.1; holds = x.2; numbers = n }) 0 0 0)
+    (λ i. (sym slots_are i, sym no_nodes i, sym no_hold i)) (
+      record {
+        few_slots = let l : length (replicate n None) ≡ n = sym (ap length slots_are) ∙ len in omega arith;
+        range_inside = let l : length (replicate n None) ≡ n = sym (ap length slots_are) ∙ len in omega arith;
+        few_nodes = omega arith;
+        same_numbers = refl;
+        placed = λ slot number is. let e : Some number ≡ None = sym is ∙ slot_at-replicate n slot in cc;
+        held = λ number is. let e : false ≡ true = is in cc;
+      },
+      record { full_slots = sym (total-replicate filled n None refl); all_holds = refl; small_holds = λ number. omega arith; all_removed = refl },
+    )
+
+-- a slot that names a number has a file
+pub some_file : (c : Contents) (slot : ℕ) → IsTable c → (x : Option ℕ) → slot_at c.slots slot ≡ x → IsSome x → IsSome (file_at c.nodes x)
+some_file c slot t None is some_number = absurd (cc some_number)
+some_file c slot t (Some n) is some_number = subst (λ (node : Node). IsSome (placed_at n node)) (sym (t.placed slot n is).1) refl

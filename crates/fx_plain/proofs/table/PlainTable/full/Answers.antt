@@ -1,0 +1,10 @@
+use Rattle.std.proofs.Common.{sym, ap, ◌∙◌, length}
+use Rattle.fx_plain.specs.State.{files_of}
+use Rattle.fx_plain.specs.Contents.{Contents, state_of}
+use Rattle.fx_plain.specs.contracts.table.PlainTable.{the_view}
+use Rattle.fx_plain.proofs.Settled.{length-files_of}
+use Rattle.fx_plain.proofs.table.PlainTable.full.Goals as goal
+
+pub returns : goal.returns
+returns c =
+    c.self.invariant.1.full_slots ∙ sym (length-files_of (the_view c.self.inside) c.self.invariant.0) ∙ ap (λ (k : Contents). length (files_of (state_of k))) c.self.view_is

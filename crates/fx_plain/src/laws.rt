@@ -1,0 +1,25 @@
+//! Laws of histories, over the steps of the model and legal histories alone. Each is the contract of a function that
+//! does nothing (this project's own).
+
+ghost use Rattle.fx_plain.specs.Laws.{NoCloseWhileHeld, ClosedAtMostOnce, EveryRemovedFileIsClosed, OpeningIsStart};
+
+/// A file that a pass looked up is not closed before the pass releases it.
+pub fn no_close_while_held()
+    ensures { NoCloseWhileHeld }
+{}
+
+/// A file is closed at most once.
+pub fn closed_at_most_once()
+    ensures { ClosedAtMostOnce }
+{}
+
+/// Once nobody holds a file and none waits for its close, each file that was at a slot at the start or was installed
+/// since is still at a slot and was never closed, or is at no slot and was closed once.
+pub fn every_removed_file_is_closed()
+    ensures { EveryRemovedFileIsClosed }
+{}
+
+/// The state that passes begin with is one from which the laws above speak.
+pub fn opening_is_start()
+    ensures { OpeningIsStart }
+{}
