@@ -5,3 +5,4 @@ pub mod Giving
 pub mod Seats
 pub mod Opening
 pub mod Files
+pub mod Turns
