@@ -6,3 +6,4 @@ pub mod Seats
 pub mod Opening
 pub mod Files
 pub mod Turns
+pub mod Taking

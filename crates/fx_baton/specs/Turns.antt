@@ -10,11 +10,10 @@ use Rattle.fx_plain.specs.declared.event.Action.TheVariants.{Look, Release, Put,
 use Rattle.fx_table.specs.Calls.{Use, nothing, one_look, one_number}
 use Rattle.fx_table.specs.declared.values.Doing.{Doing}
 use Rattle.fx_table.specs.declared.values.Doing.TheVariants.{Idle, Holding, Retiring}
-use Rattle.fx_baton.specs.declared.view.Log.{Log}
-use Rattle.fx_baton.specs.declared.view.View.{View}
 use Rattle.fx_baton.specs.declared.view.Call.{Call}
 use Rattle.fx_baton.specs.declared.view.Call.TheVariants.{Look as LookCall, Release as ReleaseCall, Put as PutCall, Allocate as AllocateCall, Full as FullCall, Clear as ClearCall, Take as TakeCall, Retire as RetireCall}
-use Rattle.fx_baton.specs.Rule.{empty_table}
+use Rattle.fx_baton.specs.declared.view.Log.{Log}
+use Rattle.fx_baton.specs.Rule.{Sat, Knows, empty_table}
 
 -- an action and its author
 abbrev pub by : ℕ → ℕ → Action → Event
@@ -78,13 +77,13 @@ use_of (ClearCall slot) = nothing
 use_of (TakeCall slot) = nothing
 use_of RetireCall = nothing
 
-abbrev pub pass_of : List Log → ℕ
-pass_of [] = 0
-pass_of (x ∷ xs) = x.number
+-- the events of a call
+abbrev pub events_of : Contents → ℕ → ℕ → Doing → Call → List Event
+events_of c pass chain doing call = map (by pass chain) (actions_of c doing call)
 
--- the events of a call of the table that the seat has
-abbrev pub events_of : View → ℕ → Call → List Event
-events_of v chain call = map (by (pass_of v.logs) chain) (actions_of (table_in v.taken) v.doing call)
-
-abbrev pub doing_after : View → Call → Doing
-doing_after v call = doing_of (table_in v.taken) call
+-- the seat with the log x has taken the table c, and has seen the whole history
+pub record HasTaken (m : Sat) (x : Log) (c : Contents) (m' : Sat) : Type 0 where
+  pub history : List Event
+  pub knows : Knows m.0 x c history
+  pub view : m'.0 ≡ record m.0 { logs = record x { front = history } ∷ []; taken = Some c }
+  pub slots : m'.1 ≡ (0, None) ∷ []
