@@ -7,3 +7,4 @@ pub mod Opening
 pub mod Files
 pub mod Turns
 pub mod Taking
+pub mod Passing
