@@ -76,3 +76,46 @@ impl BatonTable {
         self.table.shared.store::<Give<U>>(seat, 0, 1);
     }
 }
+
+impl BatonTable {
+    // A pass takes the table.
+    pub(crate) fn borrow<R: Wait>(&self, rt: &R, pass: &mut BatonPass) -> PlainTable
+        requires fits { IsPassOf self.now.table.shared.table_id self.now.table.shared.key pass.old }
+        ensures has { HasTable self.now.table.shared.table_id self.now.table.shared.key result pass.new }
+        ensures saw { Saw (view_of pass.old) (view_of pass.new) }
+    {
+        self.grab(rt, &mut pass.seat)
+    }
+
+    // A pass puts the table back behind a call of it.
+    pub(crate) fn give_back(
+        &self,
+        pass: &mut BatonPass,
+        plain: PlainTable,
+        call: Call,
+        idle: bool,
+    )
+        requires turn { (c : Contents) × (h : HasTable self.now.table.shared.table_id self.now.table.shared.key c pass.old) × IsTurn pass.old.seat.me.0 h.seated.log c plain (events_of c pass.old.number pass.old.chain pass.old.seat.me.0.doing call) (doing_of c call) × (idle ≡ is_idle (doing_of c call)) }
+        requires left { ((use_of call).numbers ≤ pass.old.numbers_left) × ((use_of call).looks ≤ pass.old.looks_left) }
+        requires uses { UsesNext (view_of pass.old) call }
+        ensures fits { IsPassOf self.now.table.shared.table_id self.now.table.shared.key pass.new }
+        ensures adds { (c : Contents) → pass.old.seat.me.0.taken ≡ Some c → Adds (opening_of self.now.table.shared.key) (view_of pass.old) (actions_of c pass.old.seat.me.0.doing call) (doing_of c call) (use_of call) (view_of pass.new) }
+    {
+        let (numbers, looks) = used(call);
+        self.give::<Brand>(&mut pass.seat, plain, pass.number, pass.chain, call);
+        pass.numbers_left -= numbers;
+        pass.looks_left -= looks;
+        pass.idle = idle;
+    }
+}
+
+// How many numbers and look-ups a call uses up.
+fn used(call: Call) -> (u32, u32)
+    ensures { result ≡ ((use_of call).numbers, (use_of call).looks) }
+{
+    match call {
+        Call::Look(_) => (0, 1),
+        Call::Put(_, _, _) | Call::Allocate(_, _, _) => (1, 0),
+        Call::Release | Call::Full | Call::Clear(_) | Call::Take(_) | Call::Retire => (0, 0),
+    }
+}
