@@ -8,3 +8,5 @@ pub mod Files
 pub mod Turns
 pub mod Taking
 pub mod Passing
+pub mod Calling
+pub mod Finishing

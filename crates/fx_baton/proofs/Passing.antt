@@ -218,6 +218,10 @@ module _ (id : TableId) (k : Start) (c : Contents) (p : BatonPass) (has : HasTab
     looks_left = looks_used;
   }
 
+  -- the front leads to the state of the table that was put back
+  pub ends_as : state_at (opening_of k) (view_of gave).front ≡ state_of d
+  ends_as = ap (state_at (opening_of k)) front_after ∙ sym (subst (λ (z : Start). IsLegal (begin_of z) (es ++ before.front) (state_of d)) has.seated.start turn.legal).leads.1
+
 -- a pass that saw more, and then did something, did it behind what it had seen at first
 pub saw_adds : (k : Start) (u v w : PassView) (actions : List Action) (doing : Doing) (used : Use) → Saw u v → Adds (opening_of k) v actions doing used w → Adds (opening_of k) u actions doing used w
 saw_adds k u v w actions doing used s a =

@@ -1,5 +1,6 @@
 ghost use Rattle.std.specs.Prelude.{◌≡◌, ℕ, ◌≤◌, ◌∷◌, [], None, Some};
-ghost use Rattle.fx_plain.specs.Contents.{Contents, IsTable};
+ghost use Rattle.fx_plain.specs.Contents.{Contents, state_of};
+ghost use Rattle.fx_table.specs.Opening.{state_at, size_of, range_of};
 ghost use Rattle.fx_table.specs.Calls.{Adds};
 ghost use Rattle.fx_baton.specs.declared.view.Log.{Log};
 ghost use Rattle.fx_baton.specs.Rule.{opening_of, given, IsTurn, Knows};
@@ -28,6 +29,7 @@ pub struct BatonTable {
     pub(crate) range_len: u32,
     pub ghost counts: { (table.shared.table_id.words ≡ 1) × (table.shared.table_id.slots ≡ 1) },
     pub ghost key: { (chains ≡ table.shared.key.chains) × (passes ≡ table.shared.key.passes) },
+    pub ghost shape: { (size ≡ size_of (opening_of table.shared.key)) × ((range_start, range_len) ≡ range_of (opening_of table.shared.key)) × (size ≤ 256) },
     pub ghost bounds: { (chains ≤ 1023) × (1 ≤ passes) × (passes ≤ 16) },
 }
 
@@ -100,6 +102,7 @@ impl BatonTable {
         requires uses { UsesNext (view_of pass.old) call }
         ensures fits { IsPassOf self.now.table.shared.table_id self.now.table.shared.key pass.new }
         ensures adds { (c : Contents) → pass.old.seat.me.0.taken ≡ Some c → Adds (opening_of self.now.table.shared.key) (view_of pass.old) (actions_of c pass.old.seat.me.0.doing call) (doing_of c call) (use_of call) (view_of pass.new) }
+        ensures end { state_at (opening_of self.now.table.shared.key) (view_of pass.new).front ≡ state_of plain }
     {
         let (numbers, looks) = used(call);
         self.give::<Brand>(&mut pass.seat, plain, pass.number, pass.chain, call);
