@@ -1,6 +1,6 @@
 -- What a pass needs for each call of the table that it has, and what it has to show behind it.
 use Rattle.std.proofs.Common.{◌≡◌, ◌≢◌, ℕ, zero, suc, ◌+◌, ◌-◌, ◌*◌, ◌/◌, ◌%◌, ◌<◌, ◌≤◌, ◌^◌, Bool, true, false, List, [], ◌∷◌, ◌++◌, map, sym, refl, ap, ◌∙◌, subst, arith, eqb, eq-eqb, is_none}
-use Rattle.std.specs.Prelude.{Option, Some, None, option_map, IfSome, nat_lt}
+use Rattle.std.specs.Prelude.{Option, Some, None, option_map, IfSome, nat_lt, is_some, not}
 use Rattle.std.proofs.lemmas.Nat.{mod-mul-add}
 use Rattle.std.proofs.lemmas.Bool.{ltb-true}
 use Rattle.atomic_table.specs.Seated.{TableId}
@@ -179,6 +179,13 @@ module _ (id : TableId) (k : Start) (c : Contents) (p : BatonPass) (has : HasTab
 -- what answers tell of the file at a slot
 abbrev shown : File → ℕ × ℕ
 shown f = (f.number, f.identity.entry)
+
+-- whether an answer is None
+pub flag_is : {X : Type 0} (x : Option X) (b : Bool) → is_some x ≡ not b → b ≡ is_none x
+flag_is None true e = refl
+flag_is None false e = let differ : false ≡ true = e in absurd (cc differ)
+flag_is (Some x) true e = let differ : true ≡ false = e in absurd (cc differ)
+flag_is (Some x) false e = refl
 
 pub look_idle : (o : Option File) (found : Option (ℕ × ℕ)) → found ≡ option_map shown o → is_none found ≡ is_idle (holds_now o)
 look_idle None found e = ap is_none e

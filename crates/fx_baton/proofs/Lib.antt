@@ -10,3 +10,4 @@ pub mod Taking
 pub mod Passing
 pub mod Calling
 pub mod Finishing
+pub mod Dealing

@@ -1,7 +1,7 @@
 use Rattle.std.proofs.Common.{ℕ, ◌<◌, sym, ◌∙◌, subst}
 use Rattle.fx_plain.specs.Contents.{state_of}
 use Rattle.fx_baton.specs.Passes.{view_of}
-use Rattle.fx_baton.proofs.Calling.{size_is, look_gives, look_idle, looked_empty, looked_file, same_doing}
+use Rattle.fx_baton.proofs.Calling.{size_is, flag_is, look_gives, look_idle, looked_empty, looked_file, same_doing}
 use Rattle.fx_baton.proofs.calls.BatonTableFileTable.look.Goals as goal
 
 pub look-found-requires-clause-slot : goal.look-found-requires-clause-slot
@@ -19,7 +19,7 @@ give_back-requires-clause-turn g c =
     let s = c.borrow-plain.ensures.saw in
     let idle = same_doing u v s ∙ c.requires.idle in
     let l = c.look-found.ensures in
-    (plain, has, look_gives id k plain p has idle c.args.slot c.look-found.new.self l.step l.leaving, c.is_none.ensures ∙ look_idle ((state_of plain).at c.args.slot) c.look-found.result l.answer)
+    (plain, has, look_gives id k plain p has idle c.args.slot c.look-found.new.self l.step l.leaving, flag_is c.look-found.result c.is_none.result c.is_none.ensures ∙ look_idle ((state_of plain).at c.args.slot) c.look-found.result l.answer)
 
 pub returns-in-None-clause-looked : goal.returns-in-None-clause-looked
 returns-in-None-clause-looked g c =
