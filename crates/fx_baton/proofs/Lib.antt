@@ -11,3 +11,5 @@ pub mod Passing
 pub mod Calling
 pub mod Finishing
 pub mod Dealing
+pub mod Shares
+pub mod Closing

@@ -7,13 +7,14 @@ use lib.ListN.{get_elem?}
 use Rattle.std.proofs.lemmas.Bool.{lt-ltb, ltb-true}
 use Rattle.std.specs.Prelude.{Option, Some, None, nat_lt, not, ◌&&◌}
 use Rattle.atomic_table.specs.Table.{opening as table_opening}
-use Rattle.fx_plain.specs.State.{State, opening}
+use Rattle.fx_plain.specs.State.{State, opening, renumbered, IsSettled}
 use Rattle.fx_plain.specs.Contents.{Contents, state_of, leaving, IsTable, is_leaving, node_at, removed_at}
 use Rattle.fx_plain.specs.declared.node.Node.{Node}
 use Rattle.fx_plain.specs.declared.node.Node.TheVariants.{Fresh, At, Leaving, Retired, Gone}
 use Rattle.fx_plain.specs.declared.event.File.{File}
 use Rattle.fx_table.specs.Lists.{Has, bit}
-use Rattle.fx_table.specs.Opening.{start_of, numbers_for}
+use Rattle.fx_plain.specs.Table.{identity_of}
+use Rattle.fx_table.specs.Opening.{start_of, numbers_for, HasSameFiles}
 use Rattle.fx_table.specs.declared.values.Doing.{Doing}
 use Rattle.fx_table.specs.declared.values.Doing.TheVariants.{Idle}
 use Rattle.fx_baton.specs.declared.view.Log.{Log}
@@ -64,6 +65,20 @@ new_is q (suc n) x h = ⊎_elim (λ e. e ∙ ap new_log (ap (λ (z : Log). z.num
 single_at : {A : Type 0} (v : A) (i : ℕ) (u : A) → get_elem? (v ∷ []) i ≡ some u → v ≡ u
 single_at v zero u e = some-injective v u e
 single_at v (suc i) u e = absurd (some-ne-none u (sym e))
+
+-- a table that was prepared has the same files, and is settled
+renumbered_identity : (o : Option File) (slot : ℕ) → identity_of (renumbered o slot) ≡ identity_of o
+renumbered_identity None slot = refl
+renumbered_identity (Some f) slot = refl
+
+pub same_files : (st now : State) (n : ℕ) → now ≡ opening st n → HasSameFiles st now
+same_files st now n e = subst (HasSameFiles st) (sym e) record { size = refl; range = refl; files = λ slot. renumbered_identity (st.at slot) slot }
+
+pub opens_settled : (st now : State) (n : ℕ) → now ≡ opening st n → IsSettled now
+opens_settled st now n e = subst IsSettled (sym e) record { unheld = λ m. refl; closed = λ m. refl }
+
+pub only_one : (c d : Contents) → Some c ∷ [] ≡ Some d ∷ [] → c ≡ d
+only_one c d e = let both : Some c ≡ Some d = cc in cc both
 
 -- a table without removed files has none that is leaving
 not_leaving : (number : ℕ) (node : Node) → removed_at number node ≡ None → is_leaving node ≡ false

@@ -57,9 +57,9 @@ impl BatonTable {
         };
         let size = plain.size();
         let (range_start, range_len) = plain.range();
-        if plain.prepare(256 + 64 * chains).is_err() {
+        let Ok(()) = plain.prepare(256 + 64 * chains) else {
             return Err((plain, NoMemory));
-        }
+        };
         let Ok(mut slots) = Vec::with_capacity(alloc, 1) else {
             return Err((plain, NoMemory));
         };
