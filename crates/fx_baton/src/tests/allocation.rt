@@ -3,9 +3,30 @@ ghost use Rattle.std.specs.Prelude.{◌≡◌, All};
 
 use super::{closed, empty_table, opened, two_names, two_passes};
 use crate::BatonTable;
-use fx_base::Mark;
+use fx_base::{Mark, OpenFile};
 use fx_table::FileTable;
+use std::process::Abort;
+use std::sync::Wait;
 use std::test::Fail;
+
+// A file is put into a free slot, which is this one.
+fn put_at<T: FileTable, R: Wait + Abort>(
+    rt: &R,
+    table: &T,
+    pass: &mut T::Pass,
+    file: OpenFile,
+    slot: u32,
+)
+    requires { T.fits table.now pass.old }
+    ensures { T.fits table.now pass.new }
+{
+    assert!(rt; table.is_idle(pass));
+    assert!(rt; 0 < table.numbers_left(pass));
+    match table.put_any(rt, pass, file) {
+        Ok(at) => assert_eq!(rt; at, slot),
+        Err(_file) => panic!(rt; "a free slot"),
+    }
+}
 
 #[test]
 fn full_range_and_freed_slot(rt: HostRuntime) -> Result<(), Fail> {
@@ -18,14 +39,8 @@ fn full_range_and_freed_slot(rt: HostRuntime) -> Result<(), Fail> {
             assert!(rt; table.size() == 2 && table.range() == (0, 2));
             assert!(rt; table.is_idle(&b));
             assert!(rt; table.draw(&mut b) == Some(1));
-            for slot in 0..2u32 {
-                assert!(rt; table.is_idle(&b));
-                assert!(rt; 0 < table.numbers_left(&b));
-                match table.put_any(&rt, &mut b, opened(&rt, &catalogue, 0, 1, slot)) {
-                    Ok(at) => assert_eq!(rt; at, slot),
-                    Err(_file) => panic!(&rt; "a free slot"),
-                }
-            }
+            put_at(&rt, &table, &mut b, opened(&rt, &catalogue, 0, 1, 0), 0);
+            put_at(&rt, &table, &mut b, opened(&rt, &catalogue, 0, 1, 1), 1);
             assert!(rt; table.is_idle(&b));
             assert!(rt; 0 < table.numbers_left(&b));
             match table.put_any(&rt, &mut b, opened(&rt, &catalogue, 1, 1, 2)) {
@@ -47,12 +62,7 @@ fn full_range_and_freed_slot(rt: HostRuntime) -> Result<(), Fail> {
             };
             assert!(rt; file.mark() == Mark::Registered { k: 1, i: 1 });
             file.discard();
-            assert!(rt; table.is_idle(&b));
-            assert!(rt; 0 < table.numbers_left(&b));
-            match table.put_any(&rt, &mut b, opened(&rt, &catalogue, 1, 1, 3)) {
-                Ok(at) => assert_eq!(rt; at, 1),
-                Err(_file) => panic!(&rt; "a free slot"),
-            }
+            put_at(&rt, &table, &mut b, opened(&rt, &catalogue, 1, 1, 3), 1);
             assert!(rt; table.is_idle(&b));
             assert!(rt; 1 < table.size());
             let Ok(hold) = table.look(&rt, &mut b, 1) else {

@@ -2,7 +2,7 @@
 ghost use Rattle.std.specs.Prelude.{◌≡◌, ◌<◌, [], length, All};
 ghost use Rattle.fx_table.specs.Pass.{IsIdle};
 
-use super::{empty_table, opened, two_names};
+use super::{closed, empty_table, opened, two_names, two_passes};
 use crate::BatonTable;
 use fx_base::{Catalogue, CloseList, Closed, Mark};
 use fx_plain::PlainTable;
@@ -145,9 +145,36 @@ fn two_threads_lose_no_file(rt: HostRuntime) -> Result<(), Fail> {
     let plain = empty_table(&rt, rt.alloc(), 4);
     match BatonTable::open(rt.alloc(), plain, 20, 2) {
         Err((plain, _)) => plain.abandon(),
-        Ok((table, mut passes)) => run_two(&rt, rt.alloc(), table, passes, &catalogue),
+        Ok((table, passes)) => run_two(&rt, rt.alloc(), table, passes, &catalogue),
     }
     Ok(())
+}
+
+// The same for a list of workers.
+fn work_crew<T: FileTable, R: Threads + Wait + Abort + Sync>(
+    rt: &R,
+    table: &T,
+    catalogue: &Catalogue,
+    workers: &mut Vec<Worker<T::Pass>>,
+)
+    requires some { 0 < length workers.old.items }
+    requires fits { All (λ w. T.fits table.now w.pass) workers.old.items }
+    ensures fits { All (λ w. T.fits table.now w.pass) workers.new.items }
+{
+    work_all(rt, table, catalogue, workers.as_mut_slice());
+}
+
+fn new_worker<P, R: Abort>(rt: &R, alloc: Global, pass: P, number: u32) -> Worker<P>
+    ensures { result.pass ≡ pass }
+{
+    let Ok(closes) = CloseList::with_room(alloc, 4 * ROUNDS) else {
+        panic!(rt; "a list")
+    };
+    Worker {
+        pass,
+        number,
+        closes,
+    }
 }
 
 fn run_two<T: FileTable, R: Threads + Wait + Abort + Sync>(
@@ -160,36 +187,47 @@ fn run_two<T: FileTable, R: Threads + Wait + Abort + Sync>(
     requires fits { All (λ p. T.fits table p) passes.items }
     requires two { (T.opening table).passes ≡ 2 }
 {
+    let (first, second) = two_passes(rt, &table, &mut passes);
     let Ok(mut workers) = Vec::with_capacity(alloc, 2) else {
         panic!(rt; "a list of workers")
     };
-    for number in 0..2u32 {
-        let Some(pass) = passes.pop() else {
-            panic!(rt; "a pass")
-        };
-        let Ok(closes) = CloseList::with_room(alloc, 4 * ROUNDS) else {
-            panic!(rt; "a list")
-        };
-        match workers.push(Worker { pass, number, closes }) {
-            Ok(()) => {}
-            Err(_refused) => panic!(rt; "room for a worker"),
-        }
+    match workers.push(new_worker(rt, alloc, first, 0)) {
+        Ok(()) => {}
+        Err(_refused) => panic!(rt; "room for a worker"),
     }
-    assert!(rt; passes.is_empty());
-    work_all(rt, &table, catalogue, workers.as_mut_slice());
-    let Some(Worker { pass: second, number: _, closes: of_second }) = workers.pop() else {
+    match workers.push(new_worker(rt, alloc, second, 1)) {
+        Ok(()) => {}
+        Err(_refused) => panic!(rt; "room for a worker"),
+    }
+    work_crew(rt, &table, catalogue, &mut workers);
+    let Some(Worker {
+        pass: second,
+        number: _,
+        closes: of_second,
+    }) = workers.pop()
+    else {
         panic!(rt; "a worker")
     };
-    let Some(Worker { pass: first, number: _, closes: of_first }) = workers.pop() else {
+    let Some(Worker {
+        pass: first,
+        number: _,
+        closes: of_first,
+    }) = workers.pop()
+    else {
         panic!(rt; "a worker")
     };
     assert!(rt; workers.is_empty());
     workers.destroy_empty();
-    let left = left_in(rt, alloc, super::closed(rt, table, passes, first, second));
+    let left = left_in(rt, alloc, closed(rt, table, passes, first, second));
+    each_once(rt, of_first.files(), of_second.files(), left.files());
+}
+
+// Each file that went in is in one of the lists, once.
+fn each_once<R: Abort>(rt: &R, first: &[Closed], second: &[Closed], left: &[Closed]) {
     for k in 0..2u32 {
         for i in 0..ROUNDS {
-            let out = count_of(of_first.files(), k, i).wrapping_add(count_of(of_second.files(), k, i));
-            assert_eq!(rt; out.wrapping_add(count_of(left.files(), k, i)), 1);
+            let out = count_of(first, k, i).wrapping_add(count_of(second, k, i));
+            assert_eq!(rt; out.wrapping_add(count_of(left, k, i)), 1);
         }
     }
 }

@@ -3,6 +3,7 @@
 ghost use Rattle.std.specs.Prelude.{◌≡◌, All, [], IfOk};
 ghost use Rattle.fx_plain.specs.State.{IsSettled};
 ghost use Rattle.fx_plain.specs.Contents.{state_of};
+ghost use Rattle.fx_table.specs.Pass.{IsHoldOf, IsRetiredOf};
 
 use super::{closed, empty_table, opened, two_names, two_passes};
 use crate::BatonTable;
@@ -19,6 +20,7 @@ fn one_file<R: Abort>(rt: &R, alloc: Global, catalogue: &Catalogue) -> PlainTabl
     ensures { IsSettled (state_of result) }
 {
     let mut plain = empty_table(rt, alloc, 1);
+    assert!(rt; plain.size() <= 2);
     let Ok(()) = plain.prepare(2) else {
         panic!(rt; "two numbers")
     };
@@ -40,7 +42,7 @@ fn held<T: FileTable, R: Wait + Abort>(
 ) -> Hold
     requires { T.fits table.now pass.old }
     ensures fits { T.fits table.now pass.new }
-    ensures held { Rattle.fx_table.specs.Pass.IsHoldOf (T.view pass.new) result }
+    ensures held { IsHoldOf (T.view pass.new) result }
 {
     assert!(rt; table.is_idle(pass));
     assert!(rt; 0 < table.size());
@@ -61,7 +63,7 @@ fn replaced<T: FileTable, R: Wait + Abort>(
 ) -> Retired
     requires { T.fits table.now pass.old }
     ensures fits { T.fits table.now pass.new }
-    ensures removed { Rattle.fx_table.specs.Pass.IsRetiredOf (T.view pass.new) result }
+    ensures removed { IsRetiredOf (T.view pass.new) result }
 {
     assert!(rt; table.is_idle(pass));
     let Some(1) = table.draw(pass) else {
