@@ -1,36 +1,33 @@
 -- What a pass needs for each call of the table that it has, and what it has to show behind it.
-use Rattle.std.proofs.Common.{◌≡◌, ◌≢◌, ℕ, zero, suc, ◌+◌, ◌-◌, ◌*◌, ◌/◌, ◌%◌, ◌<◌, ◌≤◌, ◌^◌, Bool, true, false, List, [], ◌∷◌, ◌++◌, map, sym, refl, ap, ◌∙◌, subst, arith, eqb, eq-eqb, is_none}
+use Rattle.std.proofs.Common.{◌≡◌, ℕ, zero, suc, ◌+◌, ◌-◌, ◌*◌, ◌/◌, ◌%◌, ◌<◌, ◌≤◌, ◌^◌, Bool, true, false, List, [], ◌∷◌, map, sym, refl, ap, ◌∙◌, subst, arith, eqb, eq-eqb, is_none}
 use Rattle.std.specs.Prelude.{Option, Some, None, option_map, IfSome, nat_lt, is_some, not}
 use Rattle.std.proofs.lemmas.Nat.{mod-mul-add}
 use Rattle.std.proofs.lemmas.Bool.{ltb-true}
 use Rattle.atomic_table.specs.Seated.{TableId}
 use Rattle.fx_base.specs.declared.open_file.Closed.{Closed}
 use Rattle.fx_plain.specs.State.{State}
-use Rattle.fx_plain.specs.Step.{Steps, Allows, after, changed_at, with_removed}
+use Rattle.fx_plain.specs.Step.{Steps, Allows, after, changed_at}
 use Rattle.fx_plain.specs.Contents.{Contents, state_of, leaving}
-use Rattle.fx_plain.specs.History.{Leads, state_after, IsLegal, action_of, close_of, ◌▷◌, ◌▷▷◌}
+use Rattle.fx_plain.specs.History.{Leads, state_after, action_of, close_of, ◌▷◌, ◌▷▷◌}
 use Rattle.fx_plain.specs.Table.{numbered, identity_of, number_of, more_leaving, closed_by_release, closed_by_retirement, HasRoomForHold}
 use Rattle.fx_plain.specs.declared.event.File.{File}
-use Rattle.fx_plain.specs.declared.event.Event.{Event}
 use Rattle.fx_plain.specs.declared.event.Action.{Action}
 use Rattle.fx_plain.specs.declared.event.Action.TheVariants.{Look, Release, Put, Clear, Take, Allocate, Full, Close}
 use Rattle.fx_table.specs.Lists.{bit}
-use Rattle.fx_table.specs.Opening.{Opening, numbers_for, size_of, state_at}
+use Rattle.fx_table.specs.Opening.{Opening, size_of, state_at}
 use Rattle.fx_table.specs.Pass.{PassView, hold_of, retired_of, next_number}
-use Rattle.fx_table.specs.Calls.{Use, Adds, nothing, one_look, one_number, IsHandedOut, Releases, Retires, new_file, Placed, Cleared}
+use Rattle.fx_table.specs.Calls.{Use, Adds, nothing, one_look, one_number, Releases, Retires, new_file, Placed, Cleared}
 use Rattle.fx_table.specs.declared.values.Doing.{Doing}
 use Rattle.fx_table.specs.declared.values.Doing.TheVariants.{Idle, Holding, Retiring}
-use Rattle.fx_table.specs.declared.values.Hold.{Hold}
 use Rattle.fx_table.specs.declared.values.Retired.{Retired}
 use Rattle.fx_baton.specs.declared.view.Log.{Log}
 use Rattle.fx_baton.specs.declared.view.View.{View}
 use Rattle.fx_baton.specs.declared.view.Start.{Start}
 use Rattle.fx_baton.specs.declared.view.Call.TheVariants.{Look as LookCall, Release as ReleaseCall, Put as PutCall, Allocate as AllocateCall, Full as FullCall, Clear as ClearCall, Take as TakeCall, Retire as RetireCall}
 use Rattle.fx_baton.specs.declared.pass.BatonPass.{BatonPass}
-use Rattle.fx_baton.specs.Rule.{opening_of, begin_of, once, owner, holding, retiring, held_file, file_of, next_of, IsTurn}
-use Rattle.fx_baton.specs.Turns.{by, holds_now, retires_now, release_in, retirement_in, actions_of, doing_of, use_of, events_of}
-use Rattle.fx_baton.specs.Passes.{view_of, share, last_of_share, is_idle, IsSeated, HasTable, Saw, UsesNext}
-use Rattle.fx_baton.proofs.Files.{some_file, none_file, removed_file}
+use Rattle.fx_baton.specs.Rule.{opening_of, begin_of, once, owner, holding, retiring, next_of, IsTurn}
+use Rattle.fx_baton.specs.Turns.{by, holds_now, retires_now, release_in, retirement_in, actions_of, doing_of, events_of}
+use Rattle.fx_baton.specs.Passes.{view_of, last_of_share, is_idle, HasTable, Saw}
 use Rattle.fx_baton.proofs.Keeping.{bit_is}
 use Rattle.fx_baton.proofs.Turns.{look_turn, put_turn, clear_turn, take_turn, allocate_turn, full_turn, let_go_turn, out_is, retire_turn, came_out, is_held}
 use Rattle.fx_baton.proofs.Passing.{saw_adds}
@@ -101,7 +98,7 @@ module _ (id : TableId) (k : Start) (c : Contents) (p : BatonPass) (has : HasTab
         let same : view.start.passes ≡ p.step = ap (λ (z : Start). z.passes) has.seated.start ∙ sym has.seated.step in
         let high : p.number ≤ p.step = subst (λ (n : ℕ). p.number ≤ n) (sym has.seated.step) r.1 in
         ap (λ (n : ℕ). owner n next) same ∙ (ap (λ (m : ℕ). owner p.step ((256 + 64 * m) - p.numbers_left)) e
-            ∙ (next_owner p.step p.number count r.0 high p.numbers_left some_left has.seated.few_left ∙ sym has.seated.number))
+        ∙ (next_owner p.step p.number count r.0 high p.numbers_left some_left has.seated.few_left ∙ sym has.seated.number))
 
     pub its_own : owner view.start.passes next ≡ log.number
     its_own = next_is p.count has.seated.chain

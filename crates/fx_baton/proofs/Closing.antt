@@ -1,10 +1,10 @@
 -- When all passes have come back, one history stands behind them.
-use Rattle.std.proofs.Common.{◌≡◌, ◌≢◌, ℕ, zero, suc, ◌+◌, ◌-◌, ◌*◌, ◌/◌, ◌%◌, ◌<◌, ◌≤◌, Bool, true, false, List, [], ◌∷◌, ◌++◌, map, length, reverse, sym, refl, ap, ◌∙◌, subst, arith, eqb, eq-eqb, ne_eqb, mul-le-mul_right, lt_of_not-le, div-add-mod', mod-lt, inl, inr, ⊎_elim, length-append}
+use Rattle.std.proofs.Common.{◌≡◌, ◌≢◌, ℕ, ◌+◌, ◌-◌, ◌*◌, ◌/◌, ◌%◌, ◌<◌, ◌≤◌, true, false, List, [], ◌∷◌, map, length, reverse, sym, refl, ap, ◌∙◌, subst, arith, eqb, ne_eqb, mul-le-mul_right, lt_of_not-le, div-add-mod', mod-lt, inl, inr, ⊎_elim, length-append}
 use mathlib.Core.Logic.{dite}
 use native.Mathlib.Decide.{ℕ_discrete}
 use mathlib.Core.Option.{some, some-injective}
 use lib.ListN.{get_elem?}
-use Rattle.std.specs.Prelude.{Option, Some, None}
+use Rattle.std.specs.Prelude.{Some, None}
 use Rattle.std.proofs.lemmas.List.{length-reverse}
 use Rattle.atomic_table.specs.Seated.{TableId}
 use Rattle.fx_plain.specs.State.{State, IsSettled}
@@ -12,7 +12,7 @@ use Rattle.fx_plain.specs.Totals.{total}
 use Rattle.fx_plain.specs.Contents.{Contents, state_of, leaving, node_at, removed_at, is_retired, is_leaving}
 use Rattle.fx_plain.specs.declared.node.Node.{Node}
 use Rattle.fx_plain.specs.declared.node.Node.TheVariants.{Fresh, At, Leaving, Retired, Gone}
-use Rattle.fx_plain.specs.History.{IsLegal, IsSeenBy, part_of_pass}
+use Rattle.fx_plain.specs.History.{IsSeenBy, part_of_pass}
 use Rattle.fx_plain.specs.declared.event.Event.{Event}
 use Rattle.fx_table.specs.Lists.{Has, bit, times}
 use Rattle.fx_table.specs.Opening.{state_at, HasSameFiles}
@@ -20,13 +20,13 @@ use Rattle.fx_table.specs.Pass.{PassView}
 use Rattle.fx_table.specs.Closing.{Closes}
 use Rattle.fx_table.specs.declared.values.Doing.TheVariants.{Idle}
 use Rattle.fx_table.proofs.Members.{has_append, has_left, has_right, has_map, has_map_of, has_reverse, has_reversed}
-use Rattle.fx_table.proofs.Totals.{total_two, total_le, total_only, total_map, total_append}
+use Rattle.fx_table.proofs.Totals.{total_two, total_only, total_map, total_append}
 use Rattle.fx_baton.specs.declared.view.Log.{Log}
 use Rattle.fx_baton.specs.declared.view.View.{View}
 use Rattle.fx_baton.specs.declared.view.Start.{Start}
 use Rattle.fx_baton.specs.declared.pass.BatonPass.{BatonPass}
-use Rattle.fx_baton.specs.Rule.{Shared, opening_of, begin_of, logs_of, once, holding, retiring, IsLog, IsView, IsHome, IsAway, IsKept}
-use Rattle.fx_baton.specs.Passes.{first_front, first_own, share, last_of_share, view_of, IsPassOf}
+use Rattle.fx_baton.specs.Rule.{Shared, opening_of, logs_of, once, holding, retiring, IsLog, IsHome, IsAway, IsKept}
+use Rattle.fx_baton.specs.Passes.{first_front, first_own, share, view_of, IsPassOf}
 use Rattle.fx_baton.specs.Lives.{logs_in}
 use Rattle.fx_baton.proofs.Opening.{once_in}
 use Rattle.fx_baton.proofs.Keeping.{once_small}
@@ -189,7 +189,7 @@ module _ (id : TableId) (k : Start) where
             let s = (f p (inl refl)).seated in
             let a = once_range k.passes p.number s.in_range in
             let t : times c (share p.number p.step p.count) ≤ bit (eqb p.number (pass_for k.passes c)) =
-                subst (λ (n : ℕ). times c (share p.number n p.count) ≤ bit (eqb p.number (pass_for k.passes c))) (sym s.step) (share_times p.number k.passes p.count c a.0 a.1) in
+            subst (λ (n : ℕ). times c (share p.number n p.count) ≤ bit (eqb p.number (pass_for k.passes c))) (sym s.step) (share_times p.number k.passes p.count c a.0 a.1) in
             let r = total_few qs (λ z h. f z (inr h)) in
             omega (arith, t, r)
 

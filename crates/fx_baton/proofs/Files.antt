@@ -1,16 +1,14 @@
 -- Where files are, before and after an action.
-use Rattle.std.proofs.Common.{◌≡◌, ◌≢◌, ℕ, zero, suc, ◌+◌, Bool, true, false, List, sym, refl, ap, ◌∙◌, subst, arith, eqb, eq-eqb, ne_eqb, ◌⊎◌, inl, inr, ⊎_elim}
+use Rattle.std.proofs.Common.{◌≡◌, ◌≢◌, ℕ, true, false, List, sym, refl, ap, ◌∙◌, subst, eq-eqb, ne_eqb, ◌⊎◌, inl, inr, ⊎_elim}
 use mathlib.Core.Logic.{dite}
 use native.Mathlib.Decide.{ℕ_discrete}
 use Rattle.std.specs.Prelude.{Option, Some, None}
-use Rattle.fx_base.specs.declared.open_file.Closed.{Closed}
 use Rattle.fx_plain.specs.State.{State}
 use Rattle.fx_plain.specs.Step.{changed_at, with_removed}
 use Rattle.fx_plain.specs.Contents.{Contents, state_of, leaving, is_leaving, IsTable, node_at, slot_at, placed_at, removed_at, file_at}
 use Rattle.fx_plain.specs.declared.node.Node.{Node}
-use Rattle.fx_plain.specs.declared.node.Node.TheVariants.{Fresh, At, Leaving, Retired, Gone}
+use Rattle.fx_plain.specs.declared.node.Node.TheVariants.{At}
 use Rattle.fx_plain.specs.declared.event.File.{File}
-use Rattle.fx_table.specs.Lists.{bit}
 use Rattle.fx_baton.specs.Rule.{HasFile}
 
 pub changed_here : {X : Type 0} (f : ℕ → X) (place : ℕ) (x : X) (k : ℕ) → k ≡ place → changed_at f place x k ≡ x
@@ -73,8 +71,8 @@ module _ (s : State) (slot : ℕ) (new found : Option File) (is : found ≡ s.at
   pub still_there : (f : File) → HasFile s f → ((k : ℕ) × (changed_at s.at slot new k ≡ Some f)) ⊎ (with_removed s.removed found f.number ≡ Some f)
   still_there f there = ⊎_elim
       (λ p. dite (ℕ_discrete p.0 slot)
-          (λ e. inr (at_slot f found (is ∙ (ap s.at (sym e) ∙ p.1))))
-          (λ n. inl (p.0, changed_else s.at slot new p.0 n ∙ p.1)))
+      (λ e. inr (at_slot f found (is ∙ (ap s.at (sym e) ∙ p.1))))
+      (λ n. inl (p.0, changed_else s.at slot new p.0 n ∙ p.1)))
       (λ out. inr (out_still f out found refl)) there
 
   pub now_removed : (f : File) → found ≡ Some f → with_removed s.removed found f.number ≡ Some f

@@ -1,16 +1,15 @@
 -- A seat with one pass that has the table may give it back.
-use Rattle.std.proofs.Common.{◌≡◌, ◌≢◌, ℕ, ◌+◌, ◌<◌, ◌≤◌, Bool, true, false, List, [], ◌∷◌, ◌++◌, map, length, set, get_or, sym, refl, ap, ◌∙◌, subst, arith, eqb, inl, inr, ⊎_elim, ◌⊎◌}
+use Rattle.std.proofs.Common.{◌≡◌, ◌≢◌, ℕ, ◌+◌, ◌<◌, true, List, [], ◌∷◌, ◌++◌, map, set, sym, refl, ap, ◌∙◌, subst, eqb, inl, inr, ⊎_elim, ◌⊎◌}
 use Rattle.std.proofs.lemmas.List.{length-map}
 use mathlib.Core.Logic.{dite}
 use native.Mathlib.Decide.{ℕ_discrete}
 use mathlib.Core.Option.{some, none, some-injective}
 use lib.ListN.{get_elem?}
-use Rattle.std.specs.Prelude.{Option, Some, None}
-use Rattle.atomic_table.specs.Table.{Me, step, gives, Allows}
+use Rattle.std.specs.Prelude.{Some, None}
+use Rattle.atomic_table.specs.Table.{step, gives, Allows}
 use Rattle.atomic_table.proofs.Lists.{at_set}
 use Rattle.fx_plain.specs.Contents.{Contents, state_of, leaving, IsTable}
-use Rattle.fx_plain.specs.History.{IsLegal, IsSeenBy, part_of_pass, held_by, ◌▷▷◌}
-use Rattle.fx_plain.specs.declared.event.File.{File}
+use Rattle.fx_plain.specs.History.{IsLegal, IsSeenBy, held_by, ◌▷▷◌}
 use Rattle.fx_plain.specs.declared.event.Event.{Event}
 use Rattle.fx_table.specs.Lists.{Has, bit}
 use Rattle.fx_table.specs.declared.values.Doing.{Doing}
@@ -18,7 +17,7 @@ use Rattle.fx_table.proofs.Calls.{seen_again}
 use Rattle.fx_baton.specs.declared.view.Log.{Log}
 use Rattle.fx_baton.specs.declared.view.View.{View}
 use Rattle.fx_baton.specs.declared.view.Start.{Start}
-use Rattle.fx_baton.specs.Rule.{Shared, Sat, begin_of, logs_of, holding, retiring, HasFile, owner, AreFresh, IsLog, IsView, IsHome, IsAway, IsKept, did, given, Gives, IsTurn}
+use Rattle.fx_baton.specs.Rule.{Shared, Sat, begin_of, logs_of, holding, retiring, HasFile, owner, AreFresh, IsLog, IsHome, IsAway, IsKept, did, given, Gives, IsTurn}
 use Rattle.fx_baton.proofs.Histories.{part_mine}
 use Rattle.fx_baton.proofs.Keeping.{Turns, keeps_rule}
 use Rattle.fx_baton.proofs.Grabbing.{only_log, has_one, not_empty, started}

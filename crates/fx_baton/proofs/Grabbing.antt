@@ -1,13 +1,13 @@
 -- A seat with one pass may try the word, and take the table where it is at home.
-use Rattle.std.proofs.Common.{◌≡◌, ◌≢◌, ℕ, zero, suc, ◌+◌, ◌<◌, ◌≤◌, ◌==◌, Bool, true, false, List, [], ◌∷◌, length, set, get_or, sym, refl, ap, ◌∙◌, subst, arith, eqb, inl, inr, ⊎_elim}
-use mathlib.Core.Option.{some, none, some-injective, some-ne-none}
+use Rattle.std.proofs.Common.{◌≡◌, ℕ, zero, suc, ◌≤◌, ◌==◌, Bool, true, false, List, [], ◌∷◌, length, set, get_or, sym, refl, ap, ◌∙◌, subst, arith, eqb, inl, inr, ⊎_elim}
+use mathlib.Core.Option.{some, none, some-ne-none}
 use prog.Atomic.{either}
 use lib.ListN.{get_elem?}
 use Rattle.std.specs.Prelude.{Option, Some, None}
-use Rattle.atomic_table.specs.Table.{Me, step, takes, keeps, Allows}
+use Rattle.atomic_table.specs.Table.{step, takes, keeps, Allows}
 use Rattle.atomic_table.proofs.Lists.{set_else, set_again}
-use Rattle.fx_plain.specs.Contents.{Contents, state_of, leaving}
-use Rattle.fx_plain.specs.History.{IsLegal, held_by}
+use Rattle.fx_plain.specs.Contents.{Contents, state_of}
+use Rattle.fx_plain.specs.History.{IsLegal}
 use Rattle.fx_plain.specs.declared.event.Event.{Event}
 use Rattle.fx_table.specs.Lists.{Has, bit}
 use Rattle.fx_table.specs.declared.values.Doing.{Doing}
@@ -124,7 +124,7 @@ module _ (k : Start) (id : ℕ) (v : View) (x : Log) (one : v.logs ≡ x ∷ [])
   pub grab_keeps : v.taken ≡ None → Allows (IsKept k) 1 id (v, []) 0 (λ n. either (n == 1) 0 n) (Grabs (step 1 0 1 0 none) (v, []))
   grab_keeps free s r wide at small = ⊎_elim
       (λ (home : IsHome r.contents s).
-        let word : get_or s.words 0 0 ≡ 1 = ap (λ (l : List ℕ). get_or l 0 0) home.0 in (
+      let word : get_or s.words 0 0 ≡ 1 = ap (λ (l : List ℕ). get_or l 0 0) home.0 in (
         taken s r at,
         takes 0 (Some r.contents),
         ap (λ l. get_elem? l 0) home.1,
@@ -142,7 +142,7 @@ module _ (k : Start) (id : ℕ) (v : View) (x : Log) (one : v.logs ≡ x ∷ [])
         ),
       ))
       (λ (away : IsAway r.contents r.history s).
-        let word : get_or s.words 0 0 ≡ 0 = ap (λ (l : List ℕ). get_or l 0 0) away.words in (
+      let word : get_or s.words 0 0 ≡ 0 = ap (λ (l : List ℕ). get_or l 0 0) away.words in (
         v,
         keeps,
         tt,

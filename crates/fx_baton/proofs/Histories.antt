@@ -1,5 +1,5 @@
 -- Histories that go on.
-use Rattle.std.proofs.Common.{◌≡◌, ◌≢◌, ℕ, Bool, true, false, cond, List, [], ◌∷◌, ◌++◌, map, sym, refl, ap, ◌∙◌, subst, eqb, eq-eqb, ne_eqb, inl, inr, append-nil}
+use Rattle.std.proofs.Common.{◌≡◌, ◌≢◌, ℕ, Bool, true, false, cond, List, [], ◌∷◌, ◌++◌, map, sym, refl, ap, ◌∙◌, subst, eq-eqb, ne_eqb, inl, inr}
 use Rattle.std.specs.Prelude.{filter}
 use mathlib.Core.List.{map-append}
 use Rattle.fx_plain.specs.State.{State}

@@ -1,17 +1,15 @@
 -- A step of one seat keeps the rule.
-use Rattle.std.proofs.Common.{◌≡◌, ◌≢◌, ℕ, zero, suc, ◌+◌, ◌<◌, ◌≤◌, true, false, List, [], ◌∷◌, ◌++◌, length, set, sym, refl, ap, ◌∙◌, subst, arith, eqb, eq-eqb, ◌⊎◌, inl, inr, ⊎_elim, nat_lt}
+use Rattle.std.proofs.Common.{◌≡◌, ◌≢◌, ℕ, zero, suc, ◌+◌, ◌<◌, ◌≤◌, true, false, List, [], ◌∷◌, length, set, sym, refl, ap, ◌∙◌, subst, arith, eqb, eq-eqb, ◌⊎◌, inl, inr, ⊎_elim, nat_lt}
 use mathlib.Core.Option.{some}
 use lib.ListN.{get_elem?}
 use Rattle.std.specs.Prelude.{Option, Some, None}
 use Rattle.atomic_table.proofs.Lists.{at_set, set_else}
-use Rattle.fx_plain.specs.State.{State}
 use Rattle.fx_plain.specs.Totals.{total}
 use Rattle.fx_plain.specs.Contents.{Contents, state_of, leaving, IsTable}
-use Rattle.fx_plain.specs.History.{IsLegal, IsSeenBy, ◌▷▷◌}
+use Rattle.fx_plain.specs.History.{IsLegal, ◌▷▷◌}
 use Rattle.fx_plain.specs.declared.event.File.{File}
 use Rattle.fx_plain.specs.declared.event.Event.{Event}
 use Rattle.fx_table.specs.Lists.{Has, bit}
-use Rattle.fx_table.specs.Opening.{numbers_for}
 use Rattle.fx_table.specs.declared.values.Doing.{Doing}
 use Rattle.fx_table.specs.declared.values.Doing.TheVariants.{Idle, Holding, Retiring}
 use Rattle.fx_table.proofs.Calls.{seen_further}
@@ -20,7 +18,7 @@ use Rattle.fx_table.proofs.Totals.{total_set, total_at, total_two}
 use Rattle.fx_baton.specs.declared.view.Log.{Log}
 use Rattle.fx_baton.specs.declared.view.View.{View}
 use Rattle.fx_baton.specs.declared.view.Start.{Start}
-use Rattle.fx_baton.specs.Rule.{Shared, begin_of, logs_of, once, held_file, file_of, holding, retiring, HasFile, owner, next_of, AreFresh, IsLog, IsView, IsHome, IsAway, IsKept}
+use Rattle.fx_baton.specs.Rule.{Shared, begin_of, logs_of, once, file_of, holding, retiring, HasFile, owner, IsLog, IsView, IsHome, IsAway, IsKept}
 use Rattle.fx_baton.proofs.Histories.{part_other, held_other}
 
 -- a pass with the number is counted
@@ -100,9 +98,9 @@ module _ (k : Start) (s : Shared) (r : IsKept k s) (id : ℕ) (v : View) (at : g
     still_there i u n e f is =
         let here : get_elem? (set s.views id w) i ≡ some u = set_else s.views id i w n ∙ e in
         t.files f ((r.views i u e).file f is) (⊎_elim
-            (λ one. inl (let a = total_at (λ (z : View). holding f.number z.doing) (set s.views id w) i u here in let b = total_held f.number in omega arith))
-            (λ one. inr (bit_is (leaving c f.number) (let a = total_at (λ (z : View). retiring f.number z.doing) (set s.views id w) i u here in let b = total_leaves f.number in omega arith)))
-            (counted u.doing f is))
+        (λ one. inl (let a = total_at (λ (z : View). holding f.number z.doing) (set s.views id w) i u here in let b = total_held f.number in omega arith))
+        (λ one. inr (bit_is (leaving c f.number) (let a = total_at (λ (z : View). retiring f.number z.doing) (set s.views id w) i u here in let b = total_leaves f.number in omega arith)))
+        (counted u.doing f is))
 
     author : once k.passes t.log.number ≡ 1
     author =

@@ -1,5 +1,5 @@
 -- The rule holds when the table is opened.
-use Rattle.std.proofs.Common.{◌≡◌, ◌≢◌, ℕ, zero, suc, ◌+◌, ◌-◌, ◌*◌, ◌<◌, ◌≤◌, Bool, true, false, List, [], ◌∷◌, length, sym, refl, ap, ◌∙◌, subst, arith, eqb, eq-eqb, ne_eqb, inl, inr, ⊎_elim}
+use Rattle.std.proofs.Common.{◌≡◌, ℕ, zero, suc, ◌+◌, ◌<◌, ◌≤◌, true, false, List, [], ◌∷◌, length, sym, refl, ap, ◌∙◌, subst, arith, eqb, eq-eqb, ne_eqb, inl, inr, ⊎_elim}
 use mathlib.Core.Logic.{dite}
 use native.Mathlib.Decide.{ℕ_discrete, dec_lt}
 use mathlib.Core.Option.{some, some-injective, some-ne-none}
@@ -8,19 +8,18 @@ use Rattle.std.proofs.lemmas.Bool.{lt-ltb, ltb-true}
 use Rattle.std.specs.Prelude.{Option, Some, None, nat_lt, not, ◌&&◌}
 use Rattle.atomic_table.specs.Table.{opening as table_opening}
 use Rattle.fx_plain.specs.State.{State, opening, renumbered, IsSettled}
-use Rattle.fx_plain.specs.Contents.{Contents, state_of, leaving, IsTable, is_leaving, node_at, removed_at}
+use Rattle.fx_plain.specs.Contents.{Contents, state_of, IsTable, is_leaving, node_at, removed_at}
 use Rattle.fx_plain.specs.declared.node.Node.{Node}
 use Rattle.fx_plain.specs.declared.node.Node.TheVariants.{Fresh, At, Leaving, Retired, Gone}
 use Rattle.fx_plain.specs.declared.event.File.{File}
 use Rattle.fx_table.specs.Lists.{Has, bit}
 use Rattle.fx_plain.specs.Table.{identity_of}
-use Rattle.fx_table.specs.Opening.{start_of, numbers_for, HasSameFiles}
-use Rattle.fx_table.specs.declared.values.Doing.{Doing}
+use Rattle.fx_table.specs.Opening.{numbers_for, HasSameFiles}
 use Rattle.fx_table.specs.declared.values.Doing.TheVariants.{Idle}
 use Rattle.fx_baton.specs.declared.view.Log.{Log}
 use Rattle.fx_baton.specs.declared.view.View.{View}
 use Rattle.fx_baton.specs.declared.view.Start.{Start}
-use Rattle.fx_baton.specs.Rule.{IsKept, IsLog, IsView, AreFresh, begin_of, first_view, new_logs, new_log, logs_of, once, file_of}
+use Rattle.fx_baton.specs.Rule.{IsKept, IsLog, IsView, AreFresh, begin_of, first_view, new_logs, new_log, logs_of, once}
 
 logs_below : (p q n : ℕ) → p < q → logs_of p (new_logs q n) ≡ 0
 logs_below p q zero l = refl

@@ -1,17 +1,17 @@
 -- A pass that takes the table, and one that puts it back.
-use Rattle.std.proofs.Common.{◌≡◌, ℕ, zero, suc, ◌+◌, ◌-◌, ◌*◌, ◌<◌, ◌≤◌, Bool, List, [], ◌∷◌, ◌++◌, map, sym, refl, ap, ◌∙◌, subst, arith}
+use Rattle.std.proofs.Common.{◌≡◌, ℕ, ◌+◌, ◌-◌, ◌*◌, ◌≤◌, Bool, List, [], ◌∷◌, ◌++◌, map, sym, refl, ap, ◌∙◌, subst, arith}
 use Rattle.std.specs.Prelude.{Option, Some, None}
 use Rattle.atomic_table.specs.Seated.{TableId}
 use Rattle.atomic_table.specs.declared.shared.Seat.{Seat}
 use Rattle.fx_plain.specs.State.{State}
-use Rattle.fx_plain.specs.Contents.{Contents, state_of, IsTable}
-use Rattle.fx_plain.specs.History.{IsLegal, IsSeenBy, part_of_pass, held_by, close_of, ◌▷▷◌}
+use Rattle.fx_plain.specs.Contents.{Contents, state_of}
+use Rattle.fx_plain.specs.History.{IsLegal, IsSeenBy, part_of_pass, close_of}
 use Rattle.fx_plain.specs.Table.{closed_by_release, closed_by_retirement}
 use Rattle.fx_plain.specs.declared.event.File.{File}
 use Rattle.fx_plain.specs.declared.event.Event.{Event}
 use Rattle.fx_plain.specs.declared.event.Action.{Action}
-use Rattle.fx_table.specs.Opening.{start_of, state_at}
-use Rattle.fx_table.specs.Pass.{PassView, IsFront, next_number}
+use Rattle.fx_table.specs.Opening.{state_at}
+use Rattle.fx_table.specs.Pass.{PassView, IsFront}
 use Rattle.fx_table.specs.Calls.{Use, Adds}
 use Rattle.fx_table.specs.declared.values.Doing.{Doing}
 use Rattle.fx_table.specs.declared.values.Doing.TheVariants.{Idle, Holding, Retiring}
@@ -23,8 +23,8 @@ use Rattle.fx_baton.specs.declared.view.Call.{Call}
 use Rattle.fx_baton.specs.declared.view.Call.TheVariants.{Look as LookCall, Release as ReleaseCall, Put as PutCall, Allocate as AllocateCall, Full as FullCall, Clear as ClearCall, Take as TakeCall, Retire as RetireCall}
 use Rattle.fx_baton.specs.declared.pass.BatonPass.{BatonPass}
 use Rattle.fx_baton.specs.Rule.{Sat, opening_of, begin_of, next_of, Knows, did, given, IsTurn}
-use Rattle.fx_baton.specs.Turns.{HasTaken, by, actions_of, doing_of, use_of, events_of, release_in, retirement_in}
-use Rattle.fx_baton.specs.Passes.{first_front, first_own, view_of, is_idle, IsSeated, IsPassOf, HasTable, Saw, UsesNext}
+use Rattle.fx_baton.specs.Turns.{HasTaken, by, actions_of, doing_of, use_of, events_of}
+use Rattle.fx_baton.specs.Passes.{first_front, first_own, view_of, is_idle, IsPassOf, HasTable, Saw, UsesNext}
 use Rattle.fx_baton.proofs.Histories.{part_mine}
 
 -- a legal history leads to the state at its end

@@ -6,7 +6,7 @@ use Rattle.std.specs.Prelude.{Some, None}
 use Rattle.atomic_table.specs.Table.{Splits, Joins}
 use Rattle.atomic_table.proofs.Lists.{at_set, set_else, at_snoc, at_longer}
 use Rattle.fx_plain.specs.Totals.{total}
-use Rattle.fx_plain.specs.Contents.{Contents, state_of, leaving}
+use Rattle.fx_plain.specs.Contents.{Contents}
 use Rattle.fx_plain.specs.declared.event.File.{File}
 use Rattle.fx_plain.specs.declared.event.Event.{Event}
 use Rattle.fx_table.specs.Lists.{Has}
@@ -17,7 +17,7 @@ use Rattle.fx_table.proofs.Totals.{total_set, total_append}
 use Rattle.fx_baton.specs.declared.view.Log.{Log}
 use Rattle.fx_baton.specs.declared.view.View.{View}
 use Rattle.fx_baton.specs.declared.view.Start.{Start}
-use Rattle.fx_baton.specs.Rule.{Shared, logs_of, holding, retiring, file_of, HasFile, IsLog, IsView, IsHome, IsAway, IsKept, rest_of, first_of, without_first, first_alone, together, spent}
+use Rattle.fx_baton.specs.Rule.{Shared, logs_of, holding, retiring, file_of, IsLog, IsView, IsHome, IsAway, IsKept, rest_of, first_of, without_first, first_alone, together, spent}
 
 none_is : (c : Contents) → None ≡ Some c → ⊥
 none_is c e = cc
@@ -83,20 +83,20 @@ module _ (k : Start) (id : ℕ) (v : View) (idle : v.doing ≡ Idle) (free : v.t
         place = ⊎_elim
             (λ (home : IsHome r.contents s). inl (home.0, home.1, at_parts (λ z. z.taken ≡ None) s free free (λ i u _ e. home.2 i u e)))
             (λ (away : IsAway r.contents r.history s).
-              let apart : away.holder ≢ id = λ e. none_is r.contents (sym free ∙ (ap (λ (z : View). z.taken) (some-injective v away.view (sym at ∙ (ap (get_elem? s.views) (sym e) ∙ away.at))) ∙ away.took)) in
-              inr record {
-                words = away.words;
-                homes = away.homes;
-                holder = away.holder;
-                view = away.view;
-                at = at_longer (set s.views id (without_first v)) (first_alone v ∷ []) away.holder away.view (set_else s.views id away.holder (without_first v) apart ∙ away.at);
-                took = away.took;
-                whole = away.whole;
-                others = λ i u n e. ⊎_elim
-                    (λ m. ⊎_elim (λ (q : (i ≡ id) × (without_first v ≡ u)). ap (λ (z : View). z.taken) (sym q.1) ∙ free) (λ (q : (i ≢ id) × (get_elem? s.views i ≡ some u)). away.others i u n q.1) (at_set s.views id i (without_first v) u m))
-                    (λ m. ap (λ (z : View). z.taken) (sym m) ∙ free)
-                    (at_snoc (set s.views id (without_first v)) (first_alone v) u i e);
-              })
+            let apart : away.holder ≢ id = λ e. none_is r.contents (sym free ∙ (ap (λ (z : View). z.taken) (some-injective v away.view (sym at ∙ (ap (get_elem? s.views) (sym e) ∙ away.at))) ∙ away.took)) in
+            inr record {
+              words = away.words;
+              homes = away.homes;
+              holder = away.holder;
+              view = away.view;
+              at = at_longer (set s.views id (without_first v)) (first_alone v ∷ []) away.holder away.view (set_else s.views id away.holder (without_first v) apart ∙ away.at);
+              took = away.took;
+              whole = away.whole;
+              others = λ i u n e. ⊎_elim
+                  (λ m. ⊎_elim (λ (q : (i ≡ id) × (without_first v ≡ u)). ap (λ (z : View). z.taken) (sym q.1) ∙ free) (λ (q : (i ≢ id) × (get_elem? s.views i ≡ some u)). away.others i u n q.1) (at_set s.views id i (without_first v) u m))
+                  (λ m. ap (λ (z : View). z.taken) (sym m) ∙ free)
+                  (at_snoc (set s.views id (without_first v)) (first_alone v) u i e);
+            })
             r.place;
         views = at_parts (IsView k r.history r.contents) s
             (part_view k r.history r.contents v (without_first v) idle idle free (λ x h. mine.logs x (has_rest v.logs x h)) (start_of_part rest_of refl))

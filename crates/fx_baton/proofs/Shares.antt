@@ -1,7 +1,7 @@
 -- The chains that passes draw: no chain is drawn twice, and none is left out.
 use Rattle.std.proofs.Common.{◌≡◌, ◌≢◌, ℕ, zero, suc, ◌+◌, ◌-◌, ◌*◌, ◌/◌, ◌%◌, ◌<◌, ◌≤◌, List, [], ◌∷◌, ◌++◌, map, length, reverse, sym, refl, ap, ◌∙◌, subst, arith, eqb, eq-eqb, ne_eqb, mul-le-mul_right, inl, inr, ⊎_elim}
 use mathlib.Core.Logic.{dite}
-use native.Mathlib.Decide.{ℕ_discrete, dec_le}
+use native.Mathlib.Decide.{ℕ_discrete}
 use Rattle.std.proofs.lemmas.Nat.{mod-mul-add}
 use Rattle.std.proofs.lemmas.List.{reverse-append}
 use Rattle.fx_plain.specs.Totals.{total}

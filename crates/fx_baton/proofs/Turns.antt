@@ -1,25 +1,22 @@
 -- What each call of the plain table is as a turn.
-use Rattle.std.proofs.Common.{◌≡◌, ◌≢◌, ℕ, zero, suc, ◌+◌, ◌-◌, ◌*◌, ◌/◌, ◌%◌, ◌<◌, ◌≤◌, Bool, true, false, List, [], ◌∷◌, ◌++◌, map, sym, refl, ap, ◌∙◌, subst, arith, eqb, eq-eqb, ne_eqb, ◌⊎◌, inl, inr, ⊎_elim}
+use Rattle.std.proofs.Common.{◌≡◌, ◌≢◌, ℕ, ◌+◌, ◌-◌, ◌<◌, ◌≤◌, Bool, true, false, List, [], ◌∷◌, map, sym, refl, ap, ◌∙◌, subst, arith, eqb, eq-eqb, ne_eqb, ◌⊎◌, inl, inr, ⊎_elim}
 use mathlib.Core.Logic.{dite}
 use native.Mathlib.Decide.{ℕ_discrete}
 use Rattle.std.specs.Prelude.{Option, Some, None, not, ◌&&◌, ◌==◌, if◌then◌else◌}
-use Rattle.fx_base.specs.declared.open_file.Closed.{Closed}
 use Rattle.fx_plain.specs.State.{State}
-use Rattle.fx_plain.specs.Step.{Allows, Steps, after, changed_at, with_removed}
-use Rattle.fx_plain.specs.Contents.{Contents, state_of, leaving, IsTable}
-use Rattle.fx_plain.specs.History.{Leads, AllowsAll, state_after, IsLegal, ReleasesItsOwn, AllReleaseTheirOwn, action_of, held_after, held_by, close_of, ◌▷◌, ◌▷▷◌}
-use Rattle.fx_plain.specs.Table.{numbered, more_leaving, closed_by_release, closed_by_retirement}
+use Rattle.fx_plain.specs.Step.{Steps, changed_at, with_removed}
+use Rattle.fx_plain.specs.Contents.{Contents, state_of, leaving}
+use Rattle.fx_plain.specs.History.{Leads, IsLegal, ReleasesItsOwn, held_by, close_of, ◌▷◌, ◌▷▷◌}
+use Rattle.fx_plain.specs.Table.{more_leaving, closed_by_release, closed_by_retirement}
 use Rattle.fx_plain.specs.declared.event.File.{File}
 use Rattle.fx_plain.specs.declared.event.Event.{Event}
 use Rattle.fx_plain.specs.declared.event.Action.{Action}
 use Rattle.fx_plain.specs.declared.event.Action.TheVariants.{Look, Release, Put, Clear, Take, Allocate, Full, Close}
 use Rattle.fx_table.specs.Lists.{Has, bit}
-use Rattle.fx_table.specs.Opening.{numbers_for}
-use Rattle.fx_table.specs.declared.values.Doing.{Doing}
 use Rattle.fx_table.specs.declared.values.Doing.TheVariants.{Idle, Holding, Retiring}
 use Rattle.fx_baton.specs.declared.view.Log.{Log}
 use Rattle.fx_baton.specs.declared.view.View.{View}
-use Rattle.fx_baton.specs.Rule.{begin_of, held_file, file_of, holding, retiring, HasFile, owner, next_of, AreFresh, Knows, IsTurn, did}
+use Rattle.fx_baton.specs.Rule.{begin_of, held_file, file_of, holding, retiring, HasFile, owner, next_of, AreFresh, Knows, IsTurn}
 use Rattle.fx_baton.specs.Turns.{by, holds_now, retires_now}
 use Rattle.fx_baton.proofs.Histories.{legal_append, held_mine}
 use Rattle.fx_baton.proofs.Files.{changed_here, changed_else, some_file, none_file, stays_put, apart_from, leaving_file, removed_file, still_there, now_removed, not_closed}
@@ -119,8 +116,8 @@ module _ (v : View) (x : Log) (c d : Contents) (chain : ℕ) (known : Knows v x 
         let b = ap (retiring n) idle in
         let before : bit (leaving c f.number) ≡ 0 = ap bit (stays_put c known.sound slot f (sym is)) in
         dite (ℕ_discrete n f.number)
-          (λ e. let p = ap bit (changed_here (leaving c) f.number true n e) in let q = ap (λ (m : ℕ). bit (leaving c m)) e in let r = number_is f n (sym e) in omega arith)
-          (λ e. let p = ap bit (changed_else (leaving c) f.number true n e) in let r = number_not f n (λ i. e (sym i)) in omega arith)
+        (λ e. let p = ap bit (changed_here (leaving c) f.number true n e) in let q = ap (λ (m : ℕ). bit (leaving c m)) e in let r = number_is f n (sym e) in omega arith)
+        (λ e. let p = ap bit (changed_else (leaving c) f.number true n e) in let r = number_not f n (λ i. e (sym i)) in omega arith)
 
     no_holds_more : (o : Option File) → ((n : ℕ) → (state_of d).holds n ≡ (state_of c).holds n) → (n : ℕ) → (state_of d).holds n + holding n v.doing ≡ (state_of c).holds n + holding n (retires_now o)
     no_holds_more o same n = let a = same n in let b = ap (holding n) idle in let r = retires_holding n o in omega arith
@@ -130,7 +127,7 @@ module _ (v : View) (x : Log) (c d : Contents) (chain : ℕ) (known : Knows v x 
       files_stay : (f : File) → HasFile (state_of c) f → HasFile (state_of d) f
       files_stay f there =
           subst (λ (z : (ℕ → Option File) × (ℕ → Option File)). ((k : ℕ) × (z.0 k ≡ Some f)) ⊎ (z.1 f.number ≡ Some f)) (λ i. (sym at i, sym removed i))
-              (still_there (state_of c) slot new found is (apart_from c known.sound slot found is) f there)
+          (still_there (state_of c) slot new found is (apart_from c known.sound slot found is) f there)
 
       file_removed : (f : File) → file_of (retires_now found) ≡ Some f → HasFile (state_of d) f
       file_removed f e = inr (ap (λ (z : ℕ → Option File). z f.number) removed ∙ now_removed (state_of c) slot new found is (apart_from c known.sound slot found is) f (retires_file found f e))
@@ -243,12 +240,12 @@ module _ (v : View) (x : Log) (c d : Contents) (chain : ℕ) (known : Knows v x 
       leaves = leaves_same leaves;
       files = λ g i stays. dite (ℕ_discrete g.number f.number)
           (λ e. absurd (⊎_elim
-              (λ (some_holds : 0 < (state_of d).holds g.number).
-                let a : (state_of d).holds f.number ≡ changed_at (state_of c).holds f.number ((state_of c).holds f.number - 1) f.number = ap (λ (s : State). s.holds f.number) leads.1 in
-                let b : changed_at (state_of c).holds f.number ((state_of c).holds f.number - 1) f.number ≡ 0 = leads.0.1.1 in
-                let q = ap (state_of d).holds e in omega (arith, a, b, q, some_holds))
-              (λ leaving_still. true_not_false (sym leaving_still ∙ (ap (λ (z : ℕ → Bool). z g.number) leaves ∙ (ap (leaving c) e ∙ retired))))
-              stays))
+          (λ (some_holds : 0 < (state_of d).holds g.number).
+          let a : (state_of d).holds f.number ≡ changed_at (state_of c).holds f.number ((state_of c).holds f.number - 1) f.number = ap (λ (s : State). s.holds f.number) leads.1 in
+          let b : changed_at (state_of c).holds f.number ((state_of c).holds f.number - 1) f.number ≡ 0 = leads.0.1.1 in
+          let q = ap (state_of d).holds e in omega (arith, a, b, q, some_holds))
+          (λ leaving_still. true_not_false (sym leaving_still ∙ (ap (λ (z : ℕ → Bool). z g.number) leaves ∙ (ap (leaving c) e ∙ retired))))
+          stays))
           (λ other. subst (λ (s : State). HasFile s g) (sym leads.1) (not_closed (state_of c) f g other i));
       now = held_mine x.number chain (Close f) (x.front ▷▷ done ([] ▷ Release f)) ∙ held_mine x.number chain (Release f) x.front;
       file = λ g e. absurd (none_file g e);
@@ -289,8 +286,8 @@ module _ (v : View) (x : Log) (c d : Contents) (chain : ℕ) (known : Knows v x 
         let b : retiring n v.doing ≡ bit (eqb f.number n) = ap (retiring n) removes in
         let before = ap bit is_leaving_now in
         dite (ℕ_discrete n f.number)
-          (λ e. let p = ap bit (changed_here (leaving c) f.number false n e) in let q = ap (λ (m : ℕ). bit (leaving c m)) e in let r = number_is f n (sym e) in omega arith)
-          (λ e. let p = ap bit (changed_else (leaving c) f.number false n e) in let r = number_not f n (λ i. e (sym i)) in omega arith)
+        (λ e. let p = ap bit (changed_here (leaving c) f.number false n e) in let q = ap (λ (m : ℕ). bit (leaving c m)) e in let r = number_is f n (sym e) in omega arith)
+        (λ e. let p = ap bit (changed_else (leaving c) f.number false n e) in let r = number_not f n (λ i. e (sym i)) in omega arith)
 
     no_holds_change : ((n : ℕ) → (state_of d).holds n ≡ (state_of c).holds n) → (n : ℕ) → (state_of d).holds n + holding n v.doing ≡ (state_of c).holds n + holding n Idle
     no_holds_change same n = let a = same n in let b = ap (holding n) removes in omega arith
@@ -316,12 +313,12 @@ module _ (v : View) (x : Log) (c d : Contents) (chain : ℕ) (known : Knows v x 
       leaves = leaves_less leaves;
       files = λ g i stays. dite (ℕ_discrete g.number f.number)
           (λ e. absurd (⊎_elim
-              (λ (some_holds : 0 < (state_of d).holds g.number).
-                let a : (state_of d).holds f.number ≡ (state_of c).holds f.number = ap (λ (s : State). s.holds f.number) leads.1 in
-                let b : (state_of c).holds f.number ≡ 0 = leads.0.1.1 in
-                let q = ap (state_of d).holds e in omega (arith, a, b, q, some_holds))
-              (λ leaving_still. true_not_false (sym leaving_still ∙ (ap (λ (z : ℕ → Bool). z g.number) leaves ∙ changed_here (leaving c) f.number false g.number e)))
-              stays))
+          (λ (some_holds : 0 < (state_of d).holds g.number).
+          let a : (state_of d).holds f.number ≡ (state_of c).holds f.number = ap (λ (s : State). s.holds f.number) leads.1 in
+          let b : (state_of c).holds f.number ≡ 0 = leads.0.1.1 in
+          let q = ap (state_of d).holds e in omega (arith, a, b, q, some_holds))
+          (λ leaving_still. true_not_false (sym leaving_still ∙ (ap (λ (z : ℕ → Bool). z g.number) leaves ∙ changed_here (leaving c) f.number false g.number e)))
+          stays))
           (λ other. subst (λ (s : State). HasFile s g) (sym leads.1) (not_closed (state_of c) f g other i));
       now = held_mine x.number chain (Close f) x.front ∙ held_nothing;
       file = λ g e. absurd (none_file g e);

@@ -1,5 +1,5 @@
 -- Passes as they are dealt out and gathered.
-use Rattle.std.specs.Prelude.{◌≡◌, ℕ, ◌+◌, ◌-◌, List, [], ◌∷◌, ◌++◌, Option, None}
+use Rattle.std.specs.Prelude.{◌≡◌, ℕ, ◌+◌, ◌-◌, List, [], ◌∷◌, ◌++◌, None}
 use Rattle.atomic_table.specs.Seated.{TableId}
 use lib.ListN.{get_elem?}
 use mathlib.Core.Option.{some}

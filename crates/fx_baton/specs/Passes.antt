@@ -1,5 +1,5 @@
 -- A pass of the table behind one word, as all shared tables show it.
-use Rattle.std.specs.Prelude.{◌≡◌, ℕ, zero, suc, ◌+◌, ◌*◌, ◌<◌, ◌≤◌, Bool, true, false, List, [], ◌∷◌, Option, Some, None}
+use Rattle.std.specs.Prelude.{◌≡◌, ℕ, zero, suc, ◌+◌, ◌*◌, ◌<◌, ◌≤◌, Bool, true, false, List, [], ◌∷◌, Some, None}
 use Rattle.atomic_table.specs.Seated.{TableId}
 use Rattle.fx_plain.specs.Contents.{Contents}
 use Rattle.fx_plain.specs.History.{IsSeenBy, ◌▷◌}
@@ -8,7 +8,6 @@ use Rattle.fx_table.specs.Pass.{PassView, IsFront, next_number}
 use Rattle.fx_table.specs.declared.values.Doing.{Doing}
 use Rattle.fx_table.specs.declared.values.Doing.TheVariants.{Idle, Holding, Retiring}
 use Rattle.fx_baton.specs.declared.view.Log.{Log}
-use Rattle.fx_baton.specs.declared.view.View.{View}
 use Rattle.fx_baton.specs.declared.view.Start.{Start}
 use Rattle.fx_baton.specs.declared.view.Call.{Call}
 use Rattle.fx_baton.specs.declared.view.Call.TheVariants.{Look as LookCall, Release as ReleaseCall, Put as PutCall, Allocate as AllocateCall, Full as FullCall, Clear as ClearCall, Take as TakeCall, Retire as RetireCall}

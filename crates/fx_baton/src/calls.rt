@@ -99,12 +99,7 @@ impl FileTable for BatonTable {
         Some(next)
     }
 
-    fn look<R: Wait>(
-        &self,
-        rt: &R,
-        pass: &mut BatonPass,
-        slot: u32,
-    ) -> Result<Hold, LookFault> {
+    fn look<R: Wait>(&self, rt: &R, pass: &mut BatonPass, slot: u32) -> Result<Hold, LookFault> {
         if pass.looks_left == 0 {
             return Err(LookFault::Spent);
         }
@@ -175,12 +170,7 @@ impl FileTable for BatonTable {
         retired(removed, entry)
     }
 
-    fn take<R: Wait>(
-        &self,
-        rt: &R,
-        pass: &mut BatonPass,
-        slot: u32,
-    ) -> Result<Retired, Empty> {
+    fn take<R: Wait>(&self, rt: &R, pass: &mut BatonPass, slot: u32) -> Result<Retired, Empty> {
         let mut plain = self.borrow(rt, pass);
         let entry = plain.entry_at(slot);
         let removed = plain.take(slot);

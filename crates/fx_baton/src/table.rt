@@ -90,13 +90,7 @@ impl BatonTable {
     }
 
     // A pass puts the table back behind a call of it.
-    pub(crate) fn give_back(
-        &self,
-        pass: &mut BatonPass,
-        plain: PlainTable,
-        call: Call,
-        idle: bool,
-    )
+    pub(crate) fn give_back(&self, pass: &mut BatonPass, plain: PlainTable, call: Call, idle: bool)
         requires turn { (c : Contents) × (h : HasTable self.now.table.shared.table_id self.now.table.shared.key c pass.old) × IsTurn pass.old.seat.me.0 h.seated.log c plain (events_of c pass.old.number pass.old.chain pass.old.seat.me.0.doing call) (doing_of c call) × (idle ≡ is_idle (doing_of c call)) }
         requires left { ((use_of call).numbers ≤ pass.old.numbers_left) × ((use_of call).looks ≤ pass.old.looks_left) }
         requires uses { UsesNext (view_of pass.old) call }

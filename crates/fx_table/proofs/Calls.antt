@@ -1,5 +1,5 @@
 -- Two calls in a row.
-use Rattle.std.proofs.Common.{◌≡◌, ℕ, ◌+◌, List, [], ◌++◌, map, sym, refl, ap, ◌∙◌, append_assoc, arith}
+use Rattle.std.proofs.Common.{ℕ, List, [], ◌++◌, map, sym, refl, ap, ◌∙◌, append_assoc, arith}
 use mathlib.Core.List.{map-append}
 use Rattle.fx_plain.specs.declared.event.Event.{Event}
 use Rattle.fx_plain.specs.declared.event.Action.{Action}

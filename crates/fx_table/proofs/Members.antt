@@ -1,5 +1,5 @@
 -- What stands in a list.
-use Rattle.std.proofs.Common.{◌≡◌, ℕ, ◌<◌, Bool, true, false, cond, List, [], ◌∷◌, ◌++◌, map, length, reverse, sym, refl, ap, ◌∙◌, subst, suc, zero, arith, ◌⊎◌, inl, inr, ⊎_elim}
+use Rattle.std.proofs.Common.{◌≡◌, ℕ, ◌<◌, List, [], ◌∷◌, ◌++◌, map, length, reverse, sym, refl, ap, subst, suc, zero, arith, ◌⊎◌, inl, inr, ⊎_elim}
 use Rattle.std.specs.Prelude.{All, slice_index_or}
 use Rattle.std.proofs.lemmas.List.{reverse-append}
 use Rattle.fx_table.specs.Lists.{Has}

@@ -3,7 +3,7 @@ use Rattle.std.specs.Prelude.{◌≡◌, ℕ, zero, suc, ◌+◌, ◌-◌, ◌*�
 use Rattle.fx_plain.specs.declared.event.File.{File}
 use Rattle.fx_plain.specs.declared.event.Event.{Event}
 use Rattle.fx_plain.specs.declared.event.Action.{Action}
-use Rattle.fx_plain.specs.History.{IsLegal, part_of_pass, ◌▷◌}
+use Rattle.fx_plain.specs.History.{IsLegal, part_of_pass}
 use Rattle.fx_table.specs.Opening.{Opening, start_of, state_at}
 use Rattle.fx_table.specs.declared.values.Doing.{Doing}
 use Rattle.fx_table.specs.declared.values.Doing.TheVariants.{Idle, Holding, Retiring}

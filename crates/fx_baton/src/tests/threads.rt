@@ -200,19 +200,23 @@ fn run_two<T: FileTable, R: Threads + Wait + Abort + Sync>(
         Err(_refused) => panic!(rt; "room for a worker"),
     }
     work_crew(rt, &table, catalogue, &mut workers);
-    let Some(Worker {
-        pass: second,
-        number: _,
-        closes: of_second,
-    }) = workers.pop()
+    let Some(
+        Worker {
+            pass: second,
+            number: _,
+            closes: of_second,
+        },
+    ) = workers.pop()
     else {
         panic!(rt; "a worker")
     };
-    let Some(Worker {
-        pass: first,
-        number: _,
-        closes: of_first,
-    }) = workers.pop()
+    let Some(
+        Worker {
+            pass: first,
+            number: _,
+            closes: of_first,
+        },
+    ) = workers.pop()
     else {
         panic!(rt; "a worker")
     };

@@ -1,14 +1,7 @@
-use Rattle.std.proofs.Common.{◌≡◌, ℕ, ◌<◌, sym, ap, ◌∙◌, subst, arith}
-use Rattle.fx_base.specs.declared.open_file.Closed.{Closed}
-use Rattle.fx_plain.specs.Step.{Steps}
+use Rattle.std.proofs.Common.{ℕ, ◌<◌, sym, ◌∙◌, subst}
 use Rattle.fx_plain.specs.Contents.{state_of}
-use Rattle.fx_plain.specs.Table.{numbered}
-use Rattle.fx_plain.specs.declared.event.Action.TheVariants.{Put, Take}
-use Rattle.fx_plain.specs.History.{◌▷◌}
-use Rattle.std.specs.Prelude.{[]}
-use Rattle.fx_table.specs.Calls.{nothing}
 use Rattle.fx_baton.specs.Passes.{view_of}
-use Rattle.fx_baton.proofs.Calling.{size_is, flag_is, next_fresh, put_gives, clear_gives, take_gives, replaced_idle, placed_so, cleared_so, removed_none, removed_some, same_doing, same_next, same_left}
+use Rattle.fx_baton.proofs.Calling.{size_is, flag_is, clear_gives, replaced_idle, cleared_so, same_doing}
 use Rattle.fx_baton.proofs.calls.BatonTableFileTable.clear.Goals as goal
 
 pub entry_at-entry-requires : goal.entry_at-entry-requires

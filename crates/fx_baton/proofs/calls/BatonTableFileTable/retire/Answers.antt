@@ -1,6 +1,4 @@
-use Rattle.std.proofs.Common.{◌≡◌, ℕ, refl, sym, ap, ◌∙◌, subst, Bool, false}
-use Rattle.std.specs.Prelude.{Option}
-use Rattle.fx_base.specs.declared.open_file.Closed.{Closed}
+use Rattle.std.proofs.Common.{◌≡◌, ℕ, refl, ap, ◌∙◌, subst, false}
 use Rattle.fx_plain.specs.Step.{changed_at}
 use Rattle.fx_plain.specs.Contents.{state_of, leaving}
 use Rattle.fx_plain.specs.History.{Leads, close_of}
@@ -11,7 +9,7 @@ use Rattle.fx_table.specs.declared.values.Retired.{Retired}
 use Rattle.fx_baton.specs.Rule.{opening_of}
 use Rattle.fx_baton.specs.Turns.{retirement_in}
 use Rattle.fx_baton.specs.Passes.{view_of}
-use Rattle.fx_baton.proofs.Calling.{leaves_now, retire_gives, retires_so, same_doing}
+use Rattle.fx_baton.proofs.Calling.{retire_gives, retires_so, same_doing}
 use Rattle.fx_baton.proofs.Passing.{saw_adds}
 use Rattle.fx_baton.proofs.calls.BatonTableFileTable.retire.Goals as goal
 

@@ -1,10 +1,9 @@
-use Rattle.std.proofs.Common.{◌≡◌, ◌<◌, List, [], ◌∷◌, ◌++◌, map, reverse, sym, ◌∙◌, ap, subst, arith}
+use Rattle.std.proofs.Common.{◌≡◌, List, [], ◌∷◌, ◌++◌, map, reverse, sym, ◌∙◌, ap, subst, arith}
 use Rattle.std.proofs.lemmas.List.{reverse-append}
 use Rattle.fx_plain.specs.Contents.{Contents}
 use Rattle.fx_table.specs.Closing.{Closes}
 use Rattle.fx_table.proofs.Members.{all_has}
 use Rattle.fx_baton.specs.declared.pass.BatonPass.{BatonPass}
-use Rattle.fx_baton.specs.declared.view.Log.{Log}
 use Rattle.fx_baton.specs.Rule.{opening_of}
 use Rattle.fx_baton.specs.Passes.{view_of, IsPassOf}
 use Rattle.fx_baton.specs.Lives.{logs_in}

@@ -1,4 +1,4 @@
-use Rattle.std.proofs.Common.{◌≡◌, ℕ, ◌+◌, ◌-◌, ◌≤◌, List, [], ◌∷◌, ◌++◌, sym, ◌∙◌, ap, subst, arith, length, length-append, map}
+use Rattle.std.proofs.Common.{◌≡◌, ◌+◌, ◌-◌, ◌≤◌, List, [], ◌∷◌, ◌++◌, sym, ◌∙◌, ap, subst, arith, length, length-append, map}
 use Rattle.std.specs.Prelude.{All}
 use Rattle.std.proofs.lemmas.List.Elements.{All-append}
 use mathlib.Core.List.{map-append}
@@ -8,7 +8,6 @@ use Rattle.fx_baton.specs.declared.view.View.{View}
 use Rattle.fx_baton.specs.declared.pass.BatonPass.{BatonPass}
 use Rattle.fx_baton.specs.Rule.{Sat, without_first, first_alone}
 use Rattle.fx_baton.specs.Passes.{view_of, IsPassOf}
-use Rattle.fx_baton.specs.Lives.{dealt}
 use Rattle.fx_baton.proofs.Dealing.{rest_is_dealt, last_is_dealt, one_more, is_pass, is_new}
 use Rattle.fx_baton.proofs.Seats.{may_split}
 use Rattle.fx_baton.proofs.table.BatonTable.deal.Goals as goal

@@ -1,8 +1,7 @@
-use Rattle.std.proofs.Common.{◌≡◌, ℕ, ◌+◌, ◌*◌, sym, ◌∙◌, ap, subst, List, [], ◌∷◌, ◌++◌}
-use Rattle.std.specs.Prelude.{Option, Some}
-use Rattle.fx_plain.specs.State.{State, IsSettled, opening}
+use Rattle.std.proofs.Common.{◌≡◌, ◌+◌, ◌*◌, sym, ◌∙◌, ap, [], ◌∷◌, ◌++◌}
+use Rattle.std.specs.Prelude.{Some}
+use Rattle.fx_plain.specs.State.{opening}
 use Rattle.fx_plain.specs.Contents.{Contents, state_of}
-use Rattle.fx_table.specs.Opening.{HasSameFiles}
 use Rattle.fx_baton.proofs.Opening.{opens, same_files, opens_settled, only_one}
 use Rattle.fx_baton.proofs.table.BatonTable.start.Goals as goal
 
@@ -16,8 +15,8 @@ pub new-requires : goal.new-requires
 new-requires c =
     let is : c.of.result.value ≡ c.args.plain = c.of.ensures in
     opens record { plain = c.of.result; chains = c.args.chains; passes = c.args.passes } c.prepare.new.self
-        (c.in-Ok.ensures.ok ∙ ap (λ (z : Contents). opening (state_of z) (256 + 64 * c.args.chains)) (sym is)) c.size-prepared.ensures.sound c.requires.passes.1 _
-        (c.in-Ok-push.ensures.items ∙ (λ i. c.in-Ok-with_capacity.ensures.items i ++ Some c.prepare.new.self ∷ []))
+    (c.in-Ok.ensures.ok ∙ ap (λ (z : Contents). opening (state_of z) (256 + 64 * c.args.chains)) (sym is)) c.size-prepared.ensures.sound c.requires.passes.1 _
+    (c.in-Ok-push.ensures.items ∙ (λ i. c.in-Ok-with_capacity.ensures.items i ++ Some c.prepare.new.self ∷ []))
 
 pub returns-clause-files : goal.returns-clause-files
 returns-clause-files c =
