@@ -34,6 +34,21 @@ fn back(mut slots: Vec<Option<PlainTable>>) -> PlainTable
     }
 }
 
+// A list with the table in it.
+fn in_list(alloc: Global, plain: PlainTable) -> Result<Vec<Option<PlainTable>>, PlainTable>
+    ensures ok { IfOk result (λ list. list.items ≡ Some plain ∷ []) }
+    ensures refused { IfErr result (λ back. back ≡ plain) }
+{
+    let Ok(mut slots) = Vec::with_capacity(alloc, 1) else {
+        return Err(plain);
+    };
+    match slots.push(Some(plain)) {
+        Ok(()) => {}
+        Err(_refused) => unreachable!(),
+    }
+    Ok(slots)
+}
+
 impl BatonTable {
     // The shared table, and a seat with all passes.
     pub(crate) fn start(
@@ -60,14 +75,11 @@ impl BatonTable {
         let Ok(()) = plain.prepare(256 + 64 * chains) else {
             return Err((plain, NoMemory));
         };
-        let Ok(mut slots) = Vec::with_capacity(alloc, 1) else {
-            return Err((plain, NoMemory));
-        };
         let _prepared = plain.size();
-        match slots.push(Some(plain)) {
-            Ok(()) => {}
-            Err(_refused) => unreachable!(),
-        }
+        let slots = match in_list(alloc, plain) {
+            Ok(slots) => slots,
+            Err(plain) => return Err((plain, NoMemory)),
+        };
         match Table::new(alloc, &[1], slots, &key) {
             Ok((table, seat)) => Ok((
                 BatonTable {

@@ -3,6 +3,7 @@ ghost use Rattle.std.specs.Prelude.{◌≡◌, All};
 
 use super::{empty_table, opened, two_names};
 use crate::BatonTable;
+use fx_base::OpenFile;
 use fx_table::{FileTable, LookFault};
 use std::process::Abort;
 use std::sync::Wait;
@@ -24,6 +25,26 @@ fn look_all<T: FileTable, R: Wait + Abort>(rt: &R, table: &T, pass: &mut T::Pass
     }
 }
 
+// No look-up is left, and a file can still be put into the slot.
+fn is_spent<T: FileTable, R: Wait + Abort>(rt: &R, table: &T, pass: &mut T::Pass, file: OpenFile)
+    requires { T.fits table.now pass.old }
+    ensures { T.fits table.now pass.new }
+{
+    assert_eq!(rt; table.looks_left(pass), 0);
+    assert!(rt; table.is_idle(pass));
+    assert!(rt; 0 < table.size());
+    match table.look(rt, pass, 0) {
+        Err(fault) => assert_eq!(rt; fault, LookFault::Spent),
+        Ok(_hold) => panic!(rt; "no look-up is left"),
+    }
+    assert!(rt; table.is_idle(pass));
+    assert!(rt; 0 < table.numbers_left(pass));
+    match table.put(rt, pass, 0, file) {
+        None => {}
+        Some(_retired) => panic!(rt; "an empty slot"),
+    }
+}
+
 #[test]
 fn all_looks_spent(rt: HostRuntime) -> Result<(), Fail> {
     let catalogue = two_names(rt.alloc())?;
@@ -38,19 +59,7 @@ fn all_looks_spent(rt: HostRuntime) -> Result<(), Fail> {
             assert!(rt; table.draw(&mut pass) == Some(1));
             assert_eq!(rt; table.looks_left(&pass), 1048576);
             look_all(&rt, &table, &mut pass);
-            assert_eq!(rt; table.looks_left(&pass), 0);
-            assert!(rt; table.is_idle(&pass));
-            assert!(rt; 0 < table.size());
-            match table.look(&rt, &mut pass, 0) {
-                Err(fault) => assert_eq!(rt; fault, LookFault::Spent),
-                Ok(_hold) => panic!(&rt; "no look-up is left"),
-            }
-            assert!(rt; table.is_idle(&pass));
-            assert!(rt; 0 < table.numbers_left(&pass));
-            match table.put(&rt, &mut pass, 0, opened(&rt, &catalogue, 0, 1, 0)) {
-                None => {}
-                Some(_retired) => panic!(&rt; "an empty slot"),
-            }
+            is_spent(&rt, &table, &mut pass, opened(&rt, &catalogue, 0, 1, 0));
             assert!(rt; table.is_idle(&pass));
             match passes.push(pass) {
                 Ok(()) => {}

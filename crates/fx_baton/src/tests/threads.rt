@@ -177,6 +177,29 @@ fn new_worker<P, R: Abort>(rt: &R, alloc: Global, pass: P, number: u32) -> Worke
     }
 }
 
+// The last worker's pass, and what was handed out to it.
+fn last_of<T: FileTable, R: Abort>(
+    rt: &R,
+    table: &T,
+    workers: &mut Vec<Worker<T::Pass>>,
+) -> (T::Pass, CloseList)
+    requires { All (λ w. T.fits table.now w.pass) workers.old.items }
+    ensures pass { T.fits table.now result.0 }
+    ensures others { All (λ w. T.fits table.now w.pass) workers.new.items }
+{
+    let Some(
+        Worker {
+            pass,
+            number: _,
+            closes,
+        },
+    ) = workers.pop()
+    else {
+        panic!(rt; "a worker")
+    };
+    (pass, closes)
+}
+
 fn run_two<T: FileTable, R: Threads + Wait + Abort + Sync>(
     rt: &R,
     alloc: Global,
