@@ -84,7 +84,7 @@ fn is_name_text(bytes: &[u8]) -> bool
 }
 
 impl Catalogue {
-    /// A catalogue without entries. It takes no memory.
+    /// A catalogue without entries. It takes no memory (this project's own).
     pub fn new(alloc: Global) -> Catalogue
         ensures { result ≡ [] }
     {
@@ -122,7 +122,8 @@ impl Catalogue {
         None
     }
 
-    /// The name of an entry.
+    /// The name of an entry, 1 to 32 bytes. The caller knows that there is such an entry, as one that
+    /// [`Catalogue::find`] gave or one below [`Catalogue::len`].
     pub fn name_of(&self, entry: u8) -> &str
         requires { entry < length self.now }
         ensures { name_at self.now entry ≡ Some result.now }
@@ -130,7 +131,7 @@ impl Catalogue {
         self.entries[entry as usize].name.as_str()
     }
 
-    /// How many bytes an entry has, at most 4,096.
+    /// How many bytes an entry has, at most 4,096. The caller knows that there is such an entry.
     pub fn size_of(&self, entry: u8) -> u32
         requires { entry < length self.now }
         ensures value { size_at self.now entry ≡ Some result }
@@ -139,7 +140,8 @@ impl Catalogue {
         self.entries[entry as usize].bytes.len() as u32
     }
 
-    /// Opens an entry: a new open file, with this mark (openat(2), read only).
+    /// Opens an entry: a new open file, with this mark (openat(2), read only). The caller knows that there is such an
+    /// entry.
     pub fn open(&self, entry: u8, mark: Mark) -> OpenFile
         requires { entry < length self.now }
         ensures entry { result.entry ≡ entry }
@@ -150,12 +152,13 @@ impl Catalogue {
 
     /// Appends the bytes of an entry from place `off` on, `len` of them or as many as there are, and gives their
     /// number (read(2)). Past the last entry there are none. The caller has reserved room for `len` more bytes, so it
-    /// takes no memory.
+    /// takes no memory, and room that isn't used stays.
     pub fn read_into(&self, entry: u8, off: u32, len: u32, into: &mut Vec<u8>) -> u32
         requires { vec_len into.old + len ≤ vec_capacity into.old }
         ensures bytes { into.new.items ≡ into.old.items ++ bytes_at self.now entry off len }
         ensures count { result ≡ length (bytes_at self.now entry off len) }
         ensures bound { result ≤ len }
+        ensures capacity { vec_capacity into.old ≤ vec_capacity into.new }
     {
         let Some(e) = self.entries.get(entry as usize) else {
             return 0;
@@ -165,7 +168,7 @@ impl Catalogue {
         part.len() as u32
     }
 
-    /// Adds an entry at the end.
+    /// Adds an entry at the end. The others keep their places (this project's own).
     ///
     /// # Errors
     /// The first fault that applies, in the order of [`AddFault`]. The catalogue is then as before, and the name and

@@ -6,7 +6,8 @@ use crate::open_file::{Closed, OpenFile};
 use std::alloc::Global;
 use std::marker::Model;
 
-/// The files that were closed, in order, with room that was made earlier for more. Contracts see `files` and `room`.
+/// The files that were closed, in order, with room that was made earlier for more (this project's own: a kernel's
+/// close leaves no list). Contracts see the files as `files` and the number that still fits as `room`.
 #[derive(Debug, Drop)]
 pub struct CloseList {
     files: Vec<Closed>,
@@ -36,21 +37,22 @@ impl CloseList {
         Ok(CloseList { files, room: n })
     }
 
-    /// For how many more files there is room.
+    /// For how many more files there is room: those that the list was made for, less those that it has.
     pub fn room(&self) -> u32
         ensures { result ≡ self.now.room }
     {
         self.room
     }
 
-    /// The files, in the order of the list.
+    /// The files, in the order in which they were closed, or in that of the last [`CloseList::sort`].
     pub fn files(&self) -> &[Closed]
         ensures { result.now ≡ self.now.files }
     {
         self.files.as_slice()
     }
 
-    /// Closes a file: it goes to the end of the list and takes one of the room. It takes no memory.
+    /// Closes a file (close(2)): it goes to the end of the list and takes one of the room. The caller has seen that
+    /// there is room, so it takes no memory.
     pub fn close(&mut self, file: OpenFile)
         requires { 0 < self.old.room }
         ensures files { self.new.files ≡ self.old.files ++ file ∷ [] }
@@ -60,7 +62,7 @@ impl CloseList {
         self.room -= 1;
     }
 
-    /// Orders the files by mark, in place. It takes no memory, and the room stays.
+    /// Orders the files by mark, in place. It takes no memory, and the room stays (this project's own).
     pub fn sort(&mut self)
         ensures same_files { IsPermutation self.old.files self.new.files }
         ensures in_order { IsInOrderOfMark self.new.files }

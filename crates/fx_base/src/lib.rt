@@ -8,6 +8,8 @@ mod errno;
 mod mark;
 mod no_memory;
 mod open_file;
+#[cfg(test)]
+mod tests;
 
 pub use catalogue::{AddFault, Catalogue};
 pub use close_list::CloseList;

@@ -1,1 +1,10 @@
+pub mod Accepted
+pub mod Chains
+pub mod Faults
 pub mod Operation
+pub mod Runs
+pub mod Target
+pub mod Weights
+pub mod Completed
+pub mod Answers
+pub mod Explains

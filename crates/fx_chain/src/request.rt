@@ -1,4 +1,16 @@
+ghost use Rattle.std.specs.Prelude.{◌≡◌, length, filter, pos, int_le};
+ghost use Rattle.fx_chain.specs.Faults.{has_bad_flags, is_long_read, is_long_update};
+ghost use Rattle.fx_chain.specs.Operation.{asked_of, operation_of, is_link};
+ghost use Rattle.fx_chain.specs.Weights.{installs_of, weight_of};
+
 use crate::flags::SqeFlags;
+use bitflags::Flags;
+
+/// How many bytes a read may ask for.
+const MOST_BYTES: u32 = 4096;
+
+/// How many entries an update may have.
+const MOST_ENTRIES: usize = 16;
 
 /// Where an open installs its file (io_uring_prep_openat(3), "file_index").
 #[derive(Clone, Copy, Debug, PartialEq, Eq)]
@@ -50,4 +62,82 @@ pub struct Request {
     pub op: Op,
     /// Its flags.
     pub flags: SqeFlags,
+}
+
+impl Request {
+    /// How many files the request installs: 1 for an open, the number of entries that are 0 or more for an update,
+    /// and else 0 (this project's own; each takes a number of the table).
+    pub fn installs(&self) -> usize
+        ensures { result ≡ installs_of (operation_of self.now.op) }
+    {
+        match &self.op {
+            Op::Open { name: _, target: _ } => 1,
+            Op::Update { off: _, list } => installing(list.as_slice()),
+            _ => 0,
+        }
+    }
+
+    /// How many files the request may close: the length of the list for an update, and else 1 (this project's own;
+    /// each takes one of the room in a list of closes).
+    pub fn weight(&self) -> usize
+        ensures { result ≡ weight_of (operation_of self.now.op) }
+    {
+        match &self.op {
+            Op::Update { off: _, list } => list.len(),
+            _ => 1,
+        }
+    }
+
+    /// Whether the next request starts only after this one has completed (io_uring_enter(2), "IOSQE_IO_LINK").
+    pub fn links(&self) -> bool
+        ensures { result ≡ is_link self.now.flags }
+    {
+        self.flags.contains(SqeFlags::IO_LINK)
+    }
+
+    // A read without FIXED_FILE, or another request with it.
+    pub(crate) fn has_bad_flags(&self) -> bool
+        ensures { result ≡ has_bad_flags (operation_of self.now.op) (asked_of self.now).fixed }
+    {
+        let fixed = self.flags.contains(SqeFlags::FIXED_FILE);
+        match self.op {
+            Op::Read {
+                slot: _,
+                off: _,
+                len: _,
+            } => !fixed,
+            _ => fixed,
+        }
+    }
+
+    // A read of more than 4,096 bytes.
+    pub(crate) fn is_long_read(&self) -> bool
+        ensures { result ≡ is_long_read (operation_of self.now.op) }
+    {
+        match self.op {
+            Op::Read {
+                slot: _,
+                off: _,
+                len,
+            } => len > MOST_BYTES,
+            _ => false,
+        }
+    }
+
+    // An update of more than 16 entries.
+    pub(crate) fn is_long_update(&self) -> bool
+        ensures { result ≡ is_long_update (operation_of self.now.op) }
+    {
+        match &self.op {
+            Op::Update { off: _, list } => list.len() > MOST_ENTRIES,
+            _ => false,
+        }
+    }
+}
+
+// How many entries install a file.
+fn installing(list: &[i32]) -> usize
+    ensures { result ≡ length (filter (λ entry. int_le (pos 0) entry) list.now) }
+{
+    list.iter().filter(|entry| **entry >= 0).count()
 }

@@ -1,4 +1,5 @@
 pub mod Cells
+pub mod Leading
 pub mod TotalLemmas
 pub mod Writes
 pub mod Removals

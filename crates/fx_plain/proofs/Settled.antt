@@ -1,8 +1,10 @@
 -- What the counts of a table say of its state.
-use Rattle.std.proofs.Common.{◌≡◌, ℕ, zero, suc, ◌+◌, ◌≤◌, true, false, List, [], ◌∷◌, length, length-append, replicate, refl, sym, ap, subst, ◌∙◌, Option, Some, None, IsSome, arith}
-use Rattle.fx_plain.specs.State.{IsSettled, files_in_order, files_of, listed}
+use Rattle.std.proofs.Common.{◌≡◌, ℕ, zero, suc, ◌+◌, ◌<◌, ◌≤◌, ◌^◌, true, false, List, [], ◌∷◌, length, length-append, replicate, refl, sym, ap, subst, ◌∙◌, Option, Some, None, IsSome, IfSome, arith}
+use Rattle.fx_plain.specs.State.{State, IsSettled, files_in_order, files_of, listed}
 use Rattle.fx_plain.specs.Contents.{Contents, IsTable, IsCounted, state_of, slot_at, node_at, file_at, placed_at, removed_at, filled, opened, itself, Fresh, At, Leaving, Retired, Gone}
 use Rattle.fx_plain.specs.Totals.{total}
+use Rattle.fx_plain.specs.Table.{HasRoomForHold}
+use Rattle.fx_plain.specs.declared.event.File.{File}
 use Rattle.fx_plain.specs.declared.node.Node.{Node}
 use Rattle.fx_plain.proofs.TotalLemmas.{total_nothing, nothing_of-total, total-replicate}
 
@@ -88,3 +90,11 @@ sparse_keeps slots n nodes holds slots_are few no_nodes no_hold len =
 pub some_file : (c : Contents) (slot : ℕ) → IsTable c → (x : Option ℕ) → slot_at c.slots slot ≡ x → IsSome x → IsSome (file_at c.nodes x)
 some_file c slot t None is some_number = absurd (cc some_number)
 some_file c slot t (Some n) is some_number = subst (λ (node : Node). IsSome (placed_at n node)) (sym (t.placed slot n is).1) refl
+
+fits_unheld : (st : State) → IsSettled st → (found : Option File) → IfSome found (λ f. st.holds f.number + 1 < 2 ^ 32)
+fits_unheld st settled None = tt
+fits_unheld st settled (Some f) = let unheld = settled.unheld f.number in omega arith
+
+-- in a settled state one more hold fits
+pub settled_has_room : (st : State) → IsSettled st → (slot : ℕ) → HasRoomForHold st slot
+settled_has_room st settled slot = fits_unheld st settled (st.at slot)

@@ -5,6 +5,8 @@ mod event;
 pub mod laws;
 mod node;
 mod table;
+#[cfg(test)]
+mod tests;
 
 pub use event::{Action, Event, File};
 pub use table::{BadRange, PlainTable};

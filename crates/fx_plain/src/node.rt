@@ -60,16 +60,14 @@ pub(crate) fn set_node(nodes: &mut Vec<Node>, number: usize, node: Node)
     requires { number < vec_len nodes.old }
     ensures { nodes.new.items ≡ slice_set nodes.old.items number node }
 {
-    let _none = spend_node(put_in(nodes, number, node));
+    spend_node(put_in(nodes, number, node));
 }
 
-fn spend_node(node: Node) -> bool {
+// Lets the file of a node go, if it has one.
+fn spend_node(node: Node) {
     match node {
-        Node::At(_, file) | Node::Leaving(file) | Node::Retired(file) => {
-            file.discard();
-            true
-        }
-        Node::Fresh | Node::Gone => false,
+        Node::At(_, file) | Node::Leaving(file) | Node::Retired(file) => file.discard(),
+        Node::Fresh | Node::Gone => {}
     }
 }
 
@@ -124,7 +122,7 @@ fn retired(node: Node) -> Node
 // Lets every file of the nodes go.
 pub(crate) fn spend_nodes(mut nodes: Vec<Node>) {
     while let Some(node) = nodes.pop() {
-        let _had_file = spend_node(node);
+        spend_node(node);
     }
     nodes.destroy_empty();
 }

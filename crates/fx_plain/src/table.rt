@@ -18,11 +18,12 @@ pub struct BadRange;
 
 /// The file table of one thread: slots, each empty or with one open file, an allocation range, and the files that
 /// were removed and are not closed yet. It is no `Drop`: a program that lets one go without closing its files is not
-/// accepted.
+/// accepted. Slots count from 0, and a call that names a slot asks that it is below [`PlainTable::size`].
 ///
 /// Each file has a number of its own from [`PlainTable::prepare`] on. A file that was removed is *leaving* until it is
-/// retired, and comes out to be closed once it is retired and nobody holds it. Contracts see the state of the model by
-/// `state_of`, which files are leaving by `leaving`, and how many numbers there are by `numbers_of`.
+/// retired, and comes out to be closed once it is retired and nobody holds it. Numbers, holds and retirement are this
+/// project's own. Contracts see the state of the model by `state_of`, which files are leaving by `leaving`, and how
+/// many numbers there are by `numbers_of`.
 pub struct PlainTable {
     // The number of the file at each slot.
     slots: Vec<Option<u32>>,
@@ -51,7 +52,7 @@ impl Model for PlainTable {
 }
 
 impl PlainTable {
-    /// A table without slots. It takes no memory.
+    /// A table without slots, whose allocation range is empty: what a ring has before a registration. It takes no memory.
     pub fn none(alloc: Global) -> PlainTable
         ensures state { state_of result ≡ vacant 0 }
         ensures numbers { numbers_of result ≡ 0 }
@@ -103,7 +104,8 @@ impl PlainTable {
         self.slots.len() as u32
     }
 
-    /// The allocation range: the first slot and the number of slots. It is within the table.
+    /// The allocation range: the first slot and the number of slots. It is within the table (io_uring_register(2),
+    /// "IORING_REGISTER_FILE_ALLOC_RANGE").
     pub fn range(&self) -> (u32, u32)
         ensures value { result ≡ (state_of self.now).range }
         ensures inside { (state_of self.now).range.0 + (state_of self.now).range.1 ≤ (state_of self.now).size }
@@ -112,9 +114,10 @@ impl PlainTable {
     }
 
     /// Sets the allocation range (io_uring_register(2), "IORING_REGISTER_FILE_ALLOC_RANGE"). Length 0 is permitted.
+    /// Nothing else changes.
     ///
     /// # Errors
-    /// `BadRange` where `off + len`, as whole numbers, is above the size. The range is then as before.
+    /// `BadRange` where `off + len`, as whole numbers, is above the size. The table is then as before.
     pub fn set_range(&mut self, off: u32, len: u32) -> Result<(), BadRange>
         ensures accepted { IsOk result ↔ (off + len ≤ (state_of self.old).size) }
         ensures ok { OnOk result (SetsRange self.old self.new off len) }
@@ -128,7 +131,7 @@ impl PlainTable {
         Ok(())
     }
 
-    /// How many slots of the whole table have a file.
+    /// How many slots have a file, whether they are in the allocation range or not.
     pub fn full(&self) -> u32
         ensures { result ≡ length (files_of (state_of self.now)) }
     {
@@ -166,7 +169,7 @@ impl PlainTable {
         self.numbers
     }
 
-    /// Whether no file has had the number, and one may get it.
+    /// Whether no file has had the number, and one may get it. A number that was not prepared is not fresh.
     pub fn is_fresh(&self, number: u32) -> bool
         ensures { result ≡ (state_of self.now).fresh number }
     {
@@ -176,7 +179,7 @@ impl PlainTable {
         }
     }
 
-    /// Whether the file of the number has a hold.
+    /// Whether the file of the number has a hold. It may be at a slot or removed.
     pub fn is_held(&self, number: u32) -> bool
         ensures { IsTrue result ↔ (0 < (state_of self.now).holds number) }
     {

@@ -33,7 +33,7 @@ impl PlainTable {
     }
 
     /// Gives a hold of the file with this number up. The file comes out, to be closed, where it was retired and this
-    /// was its last hold.
+    /// was its last hold. The caller knows that the file has a hold, as where [`PlainTable::is_held`].
     pub fn release(&mut self, number: u32) -> Option<OpenFile>
         requires { 0 < (state_of self.old).holds number }
         ensures answer { result ≡ identity_of (closed_by_release self.old number) }
@@ -55,7 +55,8 @@ impl PlainTable {
     }
 
     /// Retires a removed file: from now on its last release closes it. The file comes out, to be closed, where nobody
-    /// holds it now.
+    /// holds it now. The caller knows that the file is leaving, as one whose number a removal gave and as where
+    /// [`PlainTable::is_leaving`].
     pub fn retire(&mut self, number: u32) -> Option<OpenFile>
         requires { leaving self.old number ≡ true }
         ensures answer { result ≡ identity_of (closed_by_retirement self.old number) }

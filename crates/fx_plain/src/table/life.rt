@@ -13,7 +13,8 @@ use std::mem;
 
 impl PlainTable {
     /// Makes a settled table ready for passes: the file at a slot gets the slot's number, and the numbers from the
-    /// size up to `numbers - 1` are fresh. It takes the memory of all numbers now (this project's own).
+    /// size up to `numbers - 1` are fresh. Files, size and range stay. It takes the memory of all numbers now, under 64
+    /// bytes for each (this project's own).
     ///
     /// # Errors
     /// `NoMemory` where that memory is refused. The table is then as before.
@@ -35,7 +36,9 @@ impl PlainTable {
         Ok(())
     }
 
-    /// Closes all files, in order of slot, and leaves no slot. It takes no memory: the list has room already.
+    /// Closes all files of a settled table, in order of slot. No slot is left, the allocation range is empty, and how
+    /// many numbers were prepared stays. It takes no memory: the list has room already (io_uring_register(2),
+    /// "IORING_UNREGISTER_FILES").
     pub fn empty_into(&mut self, closes: &mut CloseList)
         requires settled { IsSettled (state_of self.old) }
         requires room { length (files_of (state_of self.old)) ≤ closes.old.room }
@@ -51,7 +54,7 @@ impl PlainTable {
         self.full = 0;
     }
 
-    /// Spends a settled table that has no files.
+    /// Spends a settled table that has no file (this project's own).
     pub fn dismiss(self)
         requires settled { IsSettled (state_of self) }
         requires empty { files_of (state_of self) ≡ [] }
@@ -59,7 +62,8 @@ impl PlainTable {
         self.abandon();
     }
 
-    /// Lets every file of the table go without a list. It is the way out after a fault, and takes no memory.
+    /// Lets every file of the table go without a list. It is the way out after a fault, and takes no memory (this
+    /// project's own).
     pub fn abandon(self) {
         let PlainTable {
             slots: _,

@@ -11,8 +11,9 @@ use crate::table::PlainTable;
 use fx_base::OpenFile;
 
 impl PlainTable {
-    /// Installs a file at a slot, under a number that no file has had. The answer is the number of the file that it
-    /// replaced, which is leaving from now on (io_uring_prep_openat(3), `io_uring_prep_openat_direct`).
+    /// Installs a file at a slot, under a number that is fresh. The answer is the number of the file that it replaced,
+    /// which is leaving from now on, or `None` where the slot was empty (io_uring_prep_openat(3),
+    /// `io_uring_prep_openat_direct`).
     pub fn put(&mut self, slot: u32, number: u32, file: OpenFile) -> Option<u32>
         requires slot { slot < (state_of self.old).size }
         requires fresh { (state_of self.old).fresh number ≡ true }
@@ -37,8 +38,8 @@ impl PlainTable {
         }
     }
 
-    /// Installs a file at a free slot of the allocation range, under a number that no file has had. The answer is the
-    /// slot (io_uring_prep_openat(3), "IORING_FILE_INDEX_ALLOC").
+    /// Installs a file at a free slot of the allocation range, under a number that is fresh. The answer is the slot; it
+    /// is the first free one, which no contract promises (io_uring_prep_openat(3), "IORING_FILE_INDEX_ALLOC").
     ///
     /// # Errors
     /// The file comes back where every slot of the range has a file (ENFILE). The table is then as before, and the
@@ -72,8 +73,8 @@ impl PlainTable {
         None
     }
 
-    /// Empties a slot for an update. The answer is the number of the file that was there, which is leaving from now on
-    /// (io_uring_register(2), "IORING_REGISTER_FILES_UPDATE", an entry of -1).
+    /// Empties a slot for an update. The answer is the number of the file that was there, which is leaving from now
+    /// on, or `None` where the slot was empty (io_uring_register(2), "IORING_REGISTER_FILES_UPDATE", an entry of -1).
     pub fn clear(&mut self, slot: u32) -> Option<u32>
         requires { slot < (state_of self.old).size }
         ensures answer { result ≡ number_of ((state_of self.old).at slot) }
@@ -84,8 +85,8 @@ impl PlainTable {
         self.take(slot)
     }
 
-    /// Empties a slot for a close. The answer is the number of the file that was there, which is leaving from now on
-    /// (io_uring_prep_close(3), `io_uring_prep_close_direct`).
+    /// Empties a slot for a close. The answer is the number of the file that was there, which is leaving from now on,
+    /// or `None` where the slot was empty (io_uring_prep_close(3), `io_uring_prep_close_direct`).
     pub fn take(&mut self, slot: u32) -> Option<u32>
         requires { slot < (state_of self.old).size }
         ensures answer { result ≡ number_of ((state_of self.old).at slot) }

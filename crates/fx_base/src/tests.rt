@@ -1,0 +1,212 @@
+//! Each public call once with ample memory, and each refusal once. The values were worked out by hand.
+
+use crate::{AddFault, Catalogue, CloseList, Closed, Errno, Mark};
+use std::alloc::Global;
+use std::test::Fail;
+
+// `a.txt`, which is `hello`, and `b.txt`, which is `hi`.
+fn two_files(alloc: Global) -> Result<Catalogue, Fail> {
+    let mut catalogue = Catalogue::new(alloc);
+    catalogue.add(String::from_str(alloc, "a.txt")?, b"hello".to_vec(alloc)?)?;
+    catalogue.add(String::from_str(alloc, "b.txt")?, b"hi".to_vec(alloc)?)?;
+    Ok(catalogue)
+}
+
+#[test]
+fn error_numbers_are_those_of_linux(rt: HostRuntime) {
+    for (error, number) in [
+        (Errno::ENOENT, 2),
+        (Errno::ENXIO, 6),
+        (Errno::EBADF, 9),
+        (Errno::EAGAIN, 11),
+        (Errno::ENOMEM, 12),
+        (Errno::EBUSY, 16),
+        (Errno::EINVAL, 22),
+        (Errno::ENFILE, 23),
+        (Errno::EMFILE, 24),
+        (Errno::ECANCELED, 125),
+    ] {
+        assert_eq!(rt; error.code(), number, "{error:?}");
+    }
+}
+
+#[test]
+fn entries_keep_their_names_and_sizes(rt: HostRuntime) -> Result<(), Fail> {
+    assert!(rt; Catalogue::new(rt.alloc()).is_empty());
+    let catalogue = two_files(rt.alloc())?;
+    assert!(rt; !catalogue.is_empty());
+    assert_eq!(rt; catalogue.len(), 2);
+    for (entry, name, size) in [(0, "a.txt", 5), (1, "b.txt", 2)] {
+        assert_eq!(rt; catalogue.find(name), Some(entry));
+        assert!(rt; (entry as u32) < catalogue.len());
+        assert_eq!(rt; catalogue.name_of(entry), name);
+        assert_eq!(rt; catalogue.size_of(entry), size);
+    }
+    assert_eq!(rt; catalogue.find("c.txt"), None);
+    Ok(())
+}
+
+#[test]
+fn reads_end_with_the_entry(rt: HostRuntime) -> Result<(), Fail> {
+    let catalogue = two_files(rt.alloc())?;
+    for (entry, off, len, want) in [
+        (0, 0, 5, "hello"),
+        (0, 0, 6, "hello"),
+        (0, 1, 3, "ell"),
+        (0, 3, 4096, "lo"),
+        (0, 5, 1, ""),
+        (0, 4_294_967_295, 4096, ""),
+        (0, 0, 0, ""),
+        (1, 0, 2, "hi"),
+        (2, 0, 4, ""),
+    ] {
+        let mut into = Vec::with_capacity(rt.alloc(), len as usize)?;
+        let count = catalogue.read_into(entry, off, len, &mut into);
+        assert_eq!(rt; into.as_slice(), want.as_bytes(), "{entry} {off} {len}");
+        assert_eq!(rt; count as usize, want.len(), "{entry} {off} {len}");
+    }
+    Ok(())
+}
+
+#[test]
+fn reads_append(rt: HostRuntime) -> Result<(), Fail> {
+    let catalogue = two_files(rt.alloc())?;
+    let mut into = Vec::with_capacity(rt.alloc(), 6)?;
+    assert_eq!(rt; catalogue.read_into(1, 0, 2, &mut into), 2);
+    assert_eq!(rt; catalogue.read_into(0, 0, 4, &mut into), 4);
+    assert_eq!(rt; into.as_slice(), b"hihell".as_slice());
+    Ok(())
+}
+
+#[test]
+fn names_and_bytes_have_their_limits(rt: HostRuntime) -> Result<(), Fail> {
+    let mut catalogue = two_files(rt.alloc())?;
+    for (name, size, answer) in [
+        ("", 4097, Err(AddFault::EmptyName)),
+        ("a b", 4097, Err(AddFault::BadName)),
+        ("a/b", 0, Err(AddFault::BadName)),
+        (
+            "abcdefghijklmnopqrstuvwxyzABCDEFG",
+            0,
+            Err(AddFault::BadName),
+        ),
+        ("b.txt", 4097, Err(AddFault::SameName)),
+        ("c.txt", 4097, Err(AddFault::TooLong)),
+        ("abcdefghijklmnopqrstuvwxyzABCDEF", 4096, Ok(())),
+        ("GHIJKLMNOPQRSTUVWXYZ0123456789._", 4096, Ok(())),
+        ("-", 0, Ok(())),
+    ] {
+        let bytes = vec![in rt.alloc(); 7; size]?;
+        assert_eq!(rt;
+            catalogue.add(String::from_str(rt.alloc(), name)?, bytes),
+            answer,
+            "{name}"
+        );
+    }
+    assert_eq!(rt; catalogue.len(), 5);
+    Ok(())
+}
+
+#[test]
+fn a_catalogue_has_256_entries(rt: HostRuntime) -> Result<(), Fail> {
+    let mut catalogue = Catalogue::new(rt.alloc());
+    for i in 0u32..256 {
+        catalogue.add(format!(in rt.alloc(); "{i}")?, Vec::new(rt.alloc()))?;
+    }
+    assert_eq!(rt; catalogue.find("255"), Some(255));
+    for name in ["256", "", "a b", "7"] {
+        let refused = catalogue.add(String::from_str(rt.alloc(), name)?, Vec::new(rt.alloc()));
+        assert_eq!(rt; refused, Err(AddFault::TooMany), "{name}");
+    }
+    assert_eq!(rt; catalogue.len(), 256);
+    Ok(())
+}
+
+#[test]
+fn closes_are_in_order_of_mark(rt: HostRuntime) -> Result<(), Fail> {
+    let first = Mark::Registered { k: 1, i: 7 };
+    let second = Mark::Registered { k: 2, i: 0 };
+    let third = Mark::Submitted {
+        submission: 1,
+        chain: 1,
+        member: 2,
+        entry: 9,
+    };
+    let fourth = Mark::Submitted {
+        submission: 1,
+        chain: 2,
+        member: 1,
+        entry: 3,
+    };
+    let fifth = Mark::Submitted {
+        submission: 1,
+        chain: 2,
+        member: 1,
+        entry: 4,
+    };
+    let sixth = Mark::Submitted {
+        submission: 2,
+        chain: 1,
+        member: 1,
+        entry: 0,
+    };
+    let catalogue = two_files(rt.alloc())?;
+    let mut list = CloseList::with_room(rt.alloc(), 7)?;
+    assert_eq!(rt; list.room(), 7);
+    assert_eq!(rt; catalogue.len(), 2);
+    for (entry, mark) in [
+        (1, sixth),
+        (0, third),
+        (0, second),
+        (1, fifth),
+        (1, first),
+        (0, fourth),
+    ] {
+        let file = catalogue.open(entry, mark);
+        assert_eq!(rt; file.entry(), entry);
+        assert_eq!(rt; file.mark(), mark);
+        assert!(rt; list.room() > 0);
+        list.close(file);
+    }
+    list.sort();
+    let want = [
+        Closed {
+            mark: first,
+            entry: 1,
+        },
+        Closed {
+            mark: second,
+            entry: 0,
+        },
+        Closed {
+            mark: third,
+            entry: 0,
+        },
+        Closed {
+            mark: fourth,
+            entry: 0,
+        },
+        Closed {
+            mark: fifth,
+            entry: 1,
+        },
+        Closed {
+            mark: sixth,
+            entry: 1,
+        },
+    ];
+    assert_eq!(rt; list.files(), want.as_slice());
+    assert_eq!(rt; list.room(), 1);
+    Ok(())
+}
+
+#[test]
+fn a_discarded_file_is_in_no_list(rt: HostRuntime) -> Result<(), Fail> {
+    let catalogue = two_files(rt.alloc())?;
+    let list = CloseList::with_room(rt.alloc(), 1)?;
+    assert_eq!(rt; catalogue.len(), 2);
+    catalogue.open(1, Mark::Registered { k: 1, i: 0 }).discard();
+    assert_eq!(rt; list.room(), 1);
+    assert_eq!(rt; list.files().len(), 0);
+    Ok(())
+}

@@ -1,0 +1,203 @@
+-- The runs of a list are the one way to part it, and how they grow with one more request.
+use Rattle.std.proofs.Common.{◌≡◌, inl, inr, ℕ, ◌+◌, ◌<◌, ◌==◌, Bool, true, false, not, ◌&&◌, if◌then◌else◌, List, [], ◌∷◌, ◌++◌, length, refl, sym, ap, ◌∙◌, All, arith}
+use Rattle.std.specs.List.{list_all, flat_map}
+use Rattle.std.proofs.lemmas.List.{append-nil}
+use Rattle.std.proofs.lemmas.Bool.{and_right, cases_Bool, ne_eqb}
+use Rattle.std.proofs.lemmas.List.Sums.{AllPass-from_list_all, list_all-from_AllPass}
+use Rattle.std.proofs.lemmas.List.Elements.{All-nil, All-cons, All-head, All-tail}
+use Rattle.fx_chain.specs.Operation.{Asked}
+use Rattle.fx_chain.specs.Runs.{but_last, is_over, AreRuns, AreTheOnlyRuns, in_front, runs_of, open_run}
+
+-- what each request does that is a member of a run and not its last
+abbrev pub AllLink : List Asked → Type 0
+AllLink requests = All (λ request. request.links ≡ true) requests
+
+-- a run: all but the last request link with the next one
+abbrev pub IsLinked : List Asked → Type 0
+IsLinked run = AllLink (but_last run)
+
+abbrev pub HasMembers : List Asked → Type 0
+HasMembers run = 0 < length run
+
+abbrev pub IsOver : List Asked → Type 0
+IsOver run = is_over run ≡ true
+
+abbrev pub Links : Asked → Type 0
+Links request = request.links ≡ true
+
+pub runs_link : (r : Asked) (rs : List Asked) → r.links ≡ true → runs_of (r ∷ rs) ≡ in_front r (runs_of rs)
+runs_link r rs links = ap (λ (b : Bool). if b then in_front r (runs_of rs) else (r ∷ []) ∷ runs_of rs) links
+
+pub runs_end : (r : Asked) (rs : List Asked) → r.links ≡ false → runs_of (r ∷ rs) ≡ (r ∷ []) ∷ runs_of rs
+runs_end r rs ends = ap (λ (b : Bool). if b then in_front r (runs_of rs) else (r ∷ []) ∷ runs_of rs) ends
+
+pub runs_one : (r : Asked) → runs_of (r ∷ []) ≡ (r ∷ []) ∷ []
+runs_one r = elim (r.links) as (λ b. (if b then (r ∷ []) ∷ [] else (r ∷ []) ∷ []) ≡ (r ∷ []) ∷ []) [ true ↦ refl | false ↦ refl ]
+
+-- a linked request in front of runs
+linked_step : (r : Asked) (rs : List Asked) (runs : List (List Asked)) → r.links ≡ true → AreRuns rs runs → AreRuns (r ∷ rs) (in_front r runs)
+linked_step r rs [] links are = record {
+  whole = ap (λ xs. r ∷ xs) are.whole;
+  not_empty = All-cons HasMembers (r ∷ []) [] (omega arith) (All-nil _);
+  linked = All-cons IsLinked (r ∷ []) [] (All-nil _) (All-nil _);
+  over = All-nil _;
+}
+linked_step r rs ([] ∷ runs) links are = let no : 0 < 0 = All-head HasMembers [] runs are.not_empty in absurd (omega arith)
+linked_step r rs ((x ∷ xs) ∷ []) links are = record {
+  whole = ap (λ ys. r ∷ ys) are.whole;
+  not_empty = All-cons HasMembers (r ∷ x ∷ xs) [] (omega arith) (All-nil _);
+  linked = All-cons IsLinked (r ∷ x ∷ xs) [] (All-cons Links r (but_last (x ∷ xs)) links (All-head IsLinked (x ∷ xs) [] are.linked)) (All-nil _);
+  over = All-nil _;
+}
+linked_step r rs ((x ∷ xs) ∷ run ∷ runs) links are = record {
+  whole = ap (λ ys. r ∷ ys) are.whole;
+  not_empty = All-cons HasMembers (r ∷ x ∷ xs) (run ∷ runs) (omega arith) (All-tail HasMembers (x ∷ xs) (run ∷ runs) are.not_empty);
+  linked = All-cons IsLinked (r ∷ x ∷ xs) (run ∷ runs) (All-cons Links r (but_last (x ∷ xs)) links (All-head IsLinked (x ∷ xs) (run ∷ runs) are.linked)) (All-tail IsLinked (x ∷ xs) (run ∷ runs) are.linked);
+  over = All-cons IsOver (r ∷ x ∷ xs) (but_last (run ∷ runs)) (All-head IsOver (x ∷ xs) (but_last (run ∷ runs)) are.over) (All-tail IsOver (x ∷ xs) (but_last (run ∷ runs)) are.over);
+}
+
+over_step : (r : Asked) (runs : List (List Asked)) → r.links ≡ false → All IsOver (but_last runs) → All IsOver (but_last ((r ∷ []) ∷ runs))
+over_step r [] ends over = All-nil _
+over_step r (run ∷ runs) ends over = All-cons IsOver (r ∷ []) (but_last (run ∷ runs)) (ap not ends) over
+
+-- a run of one request in front of runs
+ended_step : (r : Asked) (rs : List Asked) (runs : List (List Asked)) → r.links ≡ false → AreRuns rs runs → AreRuns (r ∷ rs) ((r ∷ []) ∷ runs)
+ended_step r rs runs ends are = record {
+  whole = ap (λ ys. r ∷ ys) are.whole;
+  not_empty = All-cons HasMembers (r ∷ []) runs (omega arith) are.not_empty;
+  linked = All-cons IsLinked (r ∷ []) runs (All-nil _) are.linked;
+  over = over_step r runs ends are.over;
+}
+
+-- the runs of a list are runs
+pub are_runs : (requests : List Asked) → AreRuns requests (runs_of requests)
+are_runs [] = record { whole = refl; not_empty = All-nil _; linked = All-nil _; over = All-nil _ }
+are_runs (r ∷ rs) = elim (r.links) as (λ b. r.links ≡ b → AreRuns (r ∷ rs) (if b then in_front r (runs_of rs) else (r ∷ []) ∷ runs_of rs)) [
+  | true ↦ λ links. linked_step r rs (runs_of rs) links (are_runs rs)
+  | false ↦ λ ends. ended_step r rs (runs_of rs) ends (are_runs rs)
+] refl
+
+-- a linked list is one run
+pub one_run : (run : List Asked) → 0 < length run → IsLinked run → runs_of run ≡ run ∷ []
+one_run [] some linked = absurd (omega arith)
+one_run (x ∷ []) some linked = runs_one x
+one_run (x ∷ y ∷ run) some linked =
+    runs_link x (y ∷ run) (All-head Links x (but_last (y ∷ run)) linked)
+    ∙ ap (in_front x) (one_run (y ∷ run) (omega arith) (All-tail Links x (but_last (y ∷ run)) linked))
+
+-- a run that is over is the first run
+pub first_run : (run rest : List Asked) → IsLinked run → is_over run ≡ true → runs_of (run ++ rest) ≡ run ∷ runs_of rest
+first_run [] rest linked over = cc
+first_run (x ∷ []) rest linked over = let ends : x.links ≡ false = elim (x.links) as (λ b. not b ≡ true → b ≡ false) [ true ↦ λ e. sym e | false ↦ λ e. refl ] over in runs_end x rest ends
+first_run (x ∷ y ∷ run) rest linked over =
+    runs_link x (y ∷ run ++ rest) (All-head Links x (but_last (y ∷ run)) linked)
+    ∙ ap (in_front x) (first_run (y ∷ run) rest (All-tail Links x (but_last (y ∷ run)) linked) over)
+
+parted : (runs : List (List Asked)) → All HasMembers runs → All IsLinked runs → All IsOver (but_last runs) → runs_of (flat_map (λ run. run) runs) ≡ runs
+parted [] some linked over = refl
+parted (run ∷ []) some linked over = ap runs_of (append-nil run) ∙ one_run run (All-head HasMembers run [] some) (All-head IsLinked run [] linked)
+parted (run ∷ next ∷ runs) some linked over =
+    first_run run (flat_map (λ y. y) (next ∷ runs)) (All-head IsLinked run (next ∷ runs) linked) (All-head IsOver run (but_last (next ∷ runs)) over)
+    ∙ ap (λ ys. run ∷ ys) (parted (next ∷ runs) (All-tail HasMembers run (next ∷ runs) some) (All-tail IsLinked run (next ∷ runs) linked) (All-tail IsOver run (but_last (next ∷ runs)) over))
+
+-- there are no other runs
+pub only_runs : (requests : List Asked) (runs : List (List Asked)) → AreRuns requests runs → runs ≡ runs_of requests
+only_runs requests runs are = sym (parted runs are.not_empty are.linked are.over) ∙ ap runs_of are.whole
+
+pub the_only_runs : (requests : List Asked) → AreTheOnlyRuns requests (runs_of requests)
+the_only_runs requests = record { are = are_runs requests; only = only_runs requests }
+
+pub AllLink-test : (requests : List Asked) → AllLink requests → list_all (λ r. r.links) requests ≡ true
+AllLink-test requests link = list_all-from_AllPass (λ r. r.links) requests link
+
+pub test-AllLink : (requests : List Asked) → list_all (λ r. r.links) requests ≡ true → AllLink requests
+test-AllLink requests test = AllPass-from_list_all (λ r. r.links) requests test
+
+pub open_run-all : (requests : List Asked) → AllLink requests → open_run requests ≡ requests
+open_run-all [] link = refl
+open_run-all (r ∷ rs) link = ap (λ (b : Bool). if b then r ∷ rs else open_run rs) (AllLink-test (r ∷ rs) link)
+
+-- a list with a request that doesn't link does not link
+list_all-end : (xs : List Asked) (r : Asked) (rest : List Asked) → r.links ≡ false → list_all (λ y. y.links) (xs ++ r ∷ rest) ≡ false
+list_all-end [] r rest ends = ap (λ (b : Bool). b && list_all (λ y. y.links) rest) ends
+list_all-end (x ∷ xs) r rest ends = and_right x.links (list_all (λ y. y.links) (xs ++ r ∷ rest)) (list_all-end xs r rest ends)
+
+-- what stands in front of the end of a run is no part of the open run
+pub open_run-end : (xs : List Asked) (r : Asked) (rest : List Asked) → r.links ≡ false → AllLink rest → open_run (xs ++ r ∷ rest) ≡ rest
+open_run-end [] r rest ends link = ap (λ (b : Bool). if b then r ∷ rest else open_run rest) (list_all-end [] r rest ends) ∙ open_run-all rest link
+open_run-end (x ∷ xs) r rest ends link = ap (λ (b : Bool). if b then x ∷ xs ++ r ∷ rest else open_run (xs ++ r ∷ rest)) (list_all-end (x ∷ xs) r rest ends) ∙ open_run-end xs r rest ends link
+
+-- the open run goes on with a request that links
+list_all-push : (xs : List Asked) (r : Asked) → r.links ≡ true → list_all (λ y. y.links) (xs ++ r ∷ []) ≡ list_all (λ y. y.links) xs
+list_all-push [] r links = ap (λ (b : Bool). b && true) links
+list_all-push (x ∷ xs) r links = ap (λ (b : Bool). x.links && b) (list_all-push xs r links)
+
+cond-push : (b : Bool) (xs ys : List Asked) (r : Asked) → (if b then xs else ys) ++ r ∷ [] ≡ if b then xs ++ r ∷ [] else ys ++ r ∷ []
+cond-push true xs ys r = refl
+cond-push false xs ys r = refl
+
+pub open_run-push : (front : List Asked) (r : Asked) → r.links ≡ true → open_run (front ++ r ∷ []) ≡ open_run front ++ r ∷ []
+open_run-push [] r links = open_run-all (r ∷ []) (All-cons Links r [] links (All-nil Links))
+open_run-push (x ∷ front) r links =
+    ap (λ (b : Bool). if b then x ∷ front ++ r ∷ [] else open_run (front ++ r ∷ [])) (list_all-push (x ∷ front) r links)
+    ∙ ap (λ (ys : List Asked). if list_all (λ y. y.links) (x ∷ front) then x ∷ front ++ r ∷ [] else ys) (open_run-push front r links)
+    ∙ sym (cond-push (list_all (λ y. y.links) (x ∷ front)) (x ∷ front) (open_run front) r)
+
+pub open_run-over : (front : List Asked) (r : Asked) → r.links ≡ false → open_run (front ++ r ∷ []) ≡ []
+open_run-over front r ends = open_run-end front r [] ends (All-nil Links)
+
+in_front-some : (x : Asked) (runs : List (List Asked)) → 0 < length (in_front x runs)
+in_front-some x [] = omega arith
+in_front-some x (run ∷ runs) = omega arith
+
+-- no list has no runs but the empty one
+pub runs-some : (x : Asked) (xs : List Asked) → 0 < length (runs_of (x ∷ xs))
+runs-some x xs = elim (x.links) as (λ b. 0 < length (if b then in_front x (runs_of xs) else (x ∷ []) ∷ runs_of xs)) [ true ↦ in_front-some x (runs_of xs) | false ↦ omega arith ]
+
+in_front-length : (x : Asked) (runs : List (List Asked)) → 0 < length runs → length (in_front x runs) ≡ length runs
+in_front-length x [] some = absurd (omega arith)
+in_front-length x (run ∷ runs) some = refl
+
+-- a request begins a run where no run is open
+runs-push_link : (x : Asked) (xs : List Asked) → x.links ≡ true → 0 < length xs → length (runs_of (x ∷ xs)) ≡ length (runs_of xs)
+runs-push_link x [] links some = absurd (omega arith)
+runs-push_link x (y ∷ ys) links some = ap length (runs_link x (y ∷ ys) links) ∙ in_front-length x (runs_of (y ∷ ys)) (runs-some y ys)
+
+runs-push_end : (x : Asked) (xs : List Asked) → x.links ≡ false → length (runs_of (x ∷ xs)) ≡ length (runs_of xs) + 1
+runs-push_end x xs ends = ap length (runs_end x xs ends) ∙ omega arith
+
+has_length : (x : Asked) (xs : List Asked) → (length (x ∷ xs) == 0) ≡ false
+has_length x xs = ne_eqb (length (x ∷ xs)) 0 (λ none. absurd (omega arith))
+
+-- whether a run is open is told behind the first request, where there are more
+open_run-cons : (x y : Asked) (ys : List Asked) → (length (open_run (x ∷ y ∷ ys)) == 0) ≡ (length (open_run (y ∷ ys)) == 0)
+open_run-cons x y ys = elim (cases_Bool (list_all (λ r. r.links) (x ∷ y ∷ ys))) [
+  | inl all ↦ let rest : AllLink (y ∷ ys) = All-tail Links x (y ∷ ys) (test-AllLink (x ∷ y ∷ ys) all) in
+      ap (λ (zs : List Asked). length zs == 0) (open_run-all (x ∷ y ∷ ys) (test-AllLink (x ∷ y ∷ ys) all)) ∙ has_length x (y ∷ ys) ∙ sym (has_length y ys) ∙ sym (ap (λ (zs : List Asked). length zs == 0) (open_run-all (y ∷ ys) rest))
+  | inr not_all ↦ ap (λ (b : Bool). length (if b then x ∷ y ∷ ys else open_run (y ∷ ys)) == 0) not_all
+]
+
+abbrev counted : Bool → ℕ → ℕ
+counted none n = if none then n + 1 else n
+
+counted-suc : (b : Bool) (n : ℕ) → counted b n + 1 ≡ counted b (n + 1)
+counted-suc true n = refl
+counted-suc false n = refl
+
+pub runs-push : (front : List Asked) (r : Asked) → length (runs_of (front ++ r ∷ [])) ≡ if length (open_run front) == 0 then length (runs_of front) + 1 else length (runs_of front)
+runs-push [] r = ap length (runs_one r)
+runs-push (x ∷ []) r = elim (cases_Bool x.links) [
+  | inl links ↦ runs-push_link x (r ∷ []) links (omega arith) ∙ ap length (runs_one r)
+      ∙ sym (ap (λ (zs : List Asked). counted (length zs == 0) (length (runs_of (x ∷ [])))) (open_run-all (x ∷ []) (All-cons Links x [] links (All-nil Links))) ∙ ap length (runs_one x))
+  | inr ends ↦ runs-push_end x (r ∷ []) ends ∙ ap (λ n. n + 1) (ap length (runs_one r))
+      ∙ sym (ap (λ (zs : List Asked). counted (length zs == 0) (length (runs_of (x ∷ [])))) (open_run-over [] x ends) ∙ ap (λ n. n + 1) (ap length (runs_one x)))
+]
+runs-push (x ∷ y ∷ ys) r = elim (cases_Bool x.links) [
+  | inl links ↦ runs-push_link x (y ∷ ys ++ r ∷ []) links (omega arith) ∙ runs-push (y ∷ ys) r
+      ∙ ap (λ (b : Bool). counted b (length (runs_of (y ∷ ys)))) (sym (open_run-cons x y ys))
+      ∙ ap (λ (n : ℕ). counted (length (open_run (x ∷ y ∷ ys)) == 0) n) (sym (runs-push_link x (y ∷ ys) links (omega arith)))
+  | inr ends ↦ runs-push_end x (y ∷ ys ++ r ∷ []) ends ∙ ap (λ n. n + 1) (runs-push (y ∷ ys) r)
+      ∙ counted-suc (length (open_run (y ∷ ys)) == 0) (length (runs_of (y ∷ ys)))
+      ∙ ap (λ (b : Bool). counted b (length (runs_of (y ∷ ys)) + 1)) (sym (open_run-cons x y ys))
+      ∙ ap (λ (n : ℕ). counted (length (open_run (x ∷ y ∷ ys)) == 0) n) (sym (runs-push_end x (y ∷ ys) ends))
+]

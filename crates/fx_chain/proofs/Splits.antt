@@ -1,0 +1,145 @@
+-- A run and its last request, and the open run behind runs that are over.
+use Rattle.std.proofs.Common.{◌≡◌, inl, inr, ◌<◌, ◌⊎◌, Bool, true, false, not, ◌&&◌, if◌then◌else◌, List, [], ◌∷◌, ◌++◌, length, refl, sym, ap, ◌∙◌, subst, arith}
+use Rattle.std.specs.List.{list_all}
+use Rattle.std.proofs.lemmas.Bool.{and_right, and_from, both_ways, cases_Bool, not-true}
+use Rattle.std.proofs.lemmas.List.Elements.{All-nil, All-head, All-tail}
+use Rattle.std.proofs.lemmas.List.{append-nil, append_assoc}
+use Rattle.fx_chain.specs.Operation.{Asked}
+use Rattle.fx_chain.specs.Runs.{but_last, is_over, in_front, runs_of, open_run, StandsIn}
+use Rattle.fx_chain.proofs.Runs.{AllLink, IsOver, Links, open_run-all, AllLink-test, test-AllLink, runs_link, runs_end, runs-some}
+
+-- a list is all but its last element, and then that one
+pub but_last-last : {X : Type 0} (x : X) (xs : List X) → (last : X) × (x ∷ xs ≡ but_last (x ∷ xs) ++ last ∷ [])
+but_last-last x [] = (x, refl)
+but_last-last x (y ∷ ys) = let rest = but_last-last y ys in (rest.0, ap (λ zs. x ∷ zs) rest.1)
+
+pub but_last-push : {X : Type 0} (xs : List X) (y : X) → but_last (xs ++ y ∷ []) ≡ xs
+but_last-push [] y = refl
+but_last-push (x ∷ []) y = refl
+but_last-push (x ∷ z ∷ zs) y = ap (λ ws. x ∷ ws) (but_last-push (z ∷ zs) y)
+
+pub is_over-push : (xs : List Asked) (r : Asked) → r.links ≡ false → is_over (xs ++ r ∷ []) ≡ true
+is_over-push [] r ends = ap not ends
+is_over-push (x ∷ []) r ends = ap not ends
+is_over-push (x ∷ y ∷ ys) r ends = is_over-push (y ∷ ys) r ends
+
+pub is_over-append : (front run : List Asked) → is_over run ≡ true → is_over (front ++ run) ≡ true
+is_over-append [] run over = over
+is_over-append (x ∷ []) [] over = cc
+is_over-append (x ∷ []) (y ∷ ys) over = over
+is_over-append (x ∷ y ∷ ys) run over = is_over-append (y ∷ ys) run over
+
+-- a run that is over has a request that doesn't link
+list_all-over : (run rest : List Asked) → is_over run ≡ true → list_all (λ r. r.links) (run ++ rest) ≡ false
+list_all-over [] rest over = cc
+list_all-over (x ∷ []) rest over = ap (λ b. b && list_all (λ r. r.links) rest) (not-true x.links over)
+list_all-over (x ∷ y ∷ run) rest over = and_right x.links _ (list_all-over (y ∷ run) rest over)
+
+-- the open run stands behind each run that is over
+open_run-skip : (run rest : List Asked) → is_over run ≡ true → open_run (run ++ rest) ≡ open_run rest
+open_run-skip [] rest over = cc
+open_run-skip (x ∷ []) rest over = ap (λ (b : Bool). if b then x ∷ rest else open_run rest) (list_all-over (x ∷ []) rest over)
+open_run-skip (x ∷ y ∷ run) rest over = ap (λ (b : Bool). if b then x ∷ y ∷ run ++ rest else open_run (y ∷ run ++ rest)) (list_all-over (x ∷ y ∷ run) rest over) ∙ open_run-skip (y ∷ run) rest over
+
+-- no run is open
+abbrev pub IsClosed : List Asked → Type 0
+IsClosed front = (front ≡ []) ⊎ IsOver front
+
+pub IsClosed-append : (front run : List Asked) → IsOver run → IsClosed (front ++ run)
+IsClosed-append front run over = inr (is_over-append front run over)
+
+pub open_run-closed : (front run : List Asked) → IsClosed front → AllLink run → open_run (front ++ run) ≡ run
+open_run-closed front run closed link = elim closed [
+  | inl none ↦ ap (λ (xs : List Asked). open_run (xs ++ run)) none ∙ open_run-all run link
+  | inr over ↦ open_run-skip front run over ∙ open_run-all run link
+]
+
+-- the runs of a list whose last request doesn't link are the first runs of a longer list
+in_front-append : (x : Asked) (runs more : List (List Asked)) → 0 < length runs → in_front x (runs ++ more) ≡ in_front x runs ++ more
+in_front-append x [] more some = absurd (omega arith)
+in_front-append x (run ∷ runs) more some = refl
+
+pub runs_of-append : (front rest : List Asked) → is_over front ≡ true → runs_of (front ++ rest) ≡ runs_of front ++ runs_of rest
+runs_of-append [] rest over = cc
+runs_of-append (x ∷ []) rest over = let ends : x.links ≡ false = not-true x.links over in runs_end x rest ends ∙ ap (λ runs. runs ++ runs_of rest) (sym (runs_end x [] ends))
+runs_of-append (x ∷ y ∷ ys) rest over = elim (cases_Bool x.links) [
+  | inl links ↦ runs_link x (y ∷ ys ++ rest) links ∙ ap (in_front x) (runs_of-append (y ∷ ys) rest over)
+      ∙ in_front-append x (runs_of (y ∷ ys)) (runs_of rest) (runs-some y ys) ∙ ap (λ runs. runs ++ runs_of rest) (sym (runs_link x (y ∷ ys) links))
+  | inr ends ↦ runs_end x (y ∷ ys ++ rest) ends ∙ ap (λ runs. (x ∷ []) ∷ runs) (runs_of-append (y ∷ ys) rest over) ∙ ap (λ runs. runs ++ runs_of rest) (sym (runs_end x (y ∷ ys) ends))
+]
+
+-- a list is what is over, and then its open run
+record Ends (front : List Asked) : Type 0 where
+  pub closed : List Asked
+  pub parts : front ≡ closed ++ open_run front
+  pub is_closed : IsClosed closed
+  pub linked : AllLink (open_run front)
+
+one_more : (x : Asked) (xs closed : List Asked) → list_all (λ r. r.links) (x ∷ xs) ≡ false → xs ≡ closed ++ open_run xs → IsClosed closed → AllLink (open_run xs) → IsClosed (x ∷ closed)
+one_more x xs closed differs parts is_closed linked = elim is_closed [
+  | inl none ↦
+      let all : xs ≡ open_run xs = parts ∙ ap (λ ys. ys ++ open_run xs) none in
+      let link : list_all (λ r. r.links) xs ≡ true = AllLink-test xs (subst AllLink (sym all) linked) in
+      let ends : x.links ≡ false = elim (cases_Bool x.links) [
+        | inl links ↦ absurd (both_ways _ differs (and_from x.links (list_all (λ r. r.links) xs) links link))
+        | inr ends ↦ ends
+      ] in
+      inr (ap (λ ys. is_over (x ∷ ys)) none ∙ ap not ends)
+  | inr over ↦ inr (is_over-append (x ∷ []) closed over)
+]
+
+ends_of : (front : List Asked) → Ends front
+ends_of [] = record { closed = []; parts = refl; is_closed = inl refl; linked = All-nil Links }
+ends_of (x ∷ xs) = elim (cases_Bool (list_all (λ r. r.links) (x ∷ xs))) [
+  | inl all ↦
+      let link : AllLink (x ∷ xs) = test-AllLink (x ∷ xs) all in
+      let open_is : open_run (x ∷ xs) ≡ x ∷ xs = open_run-all (x ∷ xs) link in
+      record { closed = []; parts = sym open_is; is_closed = inl refl; linked = subst AllLink (sym open_is) link }
+  | inr differs ↦
+      let rest = ends_of xs in
+      let open_is : open_run (x ∷ xs) ≡ open_run xs = ap (λ (b : Bool). if b then x ∷ xs else open_run xs) differs in
+      record {
+        closed = x ∷ rest.closed;
+        parts = ap (λ ys. x ∷ ys) rest.parts ∙ ap (λ ys. x ∷ rest.closed ++ ys) (sym open_is);
+        is_closed = one_more x xs rest.closed differs rest.parts rest.is_closed rest.linked;
+        linked = subst AllLink (sym open_is) rest.linked;
+      }
+]
+
+-- the first run of a list goes on behind requests that link
+record Begins (run : List Asked) (r : Asked) (behind : List Asked) : Type 0 where
+  pub rest : List Asked
+  pub later : List (List Asked)
+  pub parts : runs_of (run ++ r ∷ behind) ≡ (run ++ r ∷ rest) ∷ later
+
+begins_one : (r : Asked) (runs : List (List Asked)) → (rest : List Asked) × (later : List (List Asked)) × (in_front r runs ≡ (r ∷ rest) ∷ later)
+begins_one r [] = ([], [], refl)
+begins_one r (run ∷ runs) = (run, runs, refl)
+
+begins_at : (run : List Asked) (r : Asked) (behind : List Asked) → AllLink run → Begins run r behind
+begins_at [] r behind linked = elim (cases_Bool r.links) [
+  | inl links ↦ let one = begins_one r (runs_of behind) in record { rest = one.0; later = one.1; parts = runs_link r behind links ∙ one.2 }
+  | inr ends ↦ record { rest = []; later = runs_of behind; parts = runs_end r behind ends }
+]
+begins_at (x ∷ run) r behind linked =
+    let next = begins_at run r behind (All-tail Links x run linked) in
+    record { rest = next.rest; later = next.later; parts = runs_link x (run ++ r ∷ behind) (All-head Links x run linked) ∙ ap (in_front x) next.parts }
+
+runs_of-closed : (front rest : List Asked) → IsClosed front → runs_of (front ++ rest) ≡ runs_of front ++ runs_of rest
+runs_of-closed front rest closed = elim closed [
+  | inl none ↦ ap (λ xs. runs_of (xs ++ rest)) none ∙ ap (λ xs. runs_of xs ++ runs_of rest) (sym none)
+  | inr over ↦ runs_of-append front rest over
+]
+
+pub stands_in : (front : List Asked) (r : Asked) (behind : List Asked) → StandsIn front r (runs_of (front ++ r ∷ behind))
+stands_in front r behind =
+    let e = ends_of front in
+    let b = begins_at (open_run front) r behind e.linked in
+    record {
+      earlier = runs_of e.closed;
+      rest = b.rest;
+      later = b.later;
+      parts = ap (λ xs. runs_of (xs ++ r ∷ behind)) e.parts ∙ ap runs_of (append_assoc e.closed (open_run front) (r ∷ behind))
+          ∙ runs_of-closed e.closed (open_run front ++ r ∷ behind) e.is_closed ∙ ap (λ runs. runs_of e.closed ++ runs) b.parts;
+      begins = λ none. ap runs_of (sym (e.parts ∙ ap (λ xs. e.closed ++ xs) none ∙ append-nil e.closed));
+    }

@@ -1,0 +1,5 @@
+use Rattle.fx_chain.proofs.First.{the_first_fault}
+use Rattle.fx_chain.proofs.laws.fault_is_the_first.Goals as goal
+
+pub returns : goal.returns
+returns c = the_first_fault

@@ -1,0 +1,109 @@
+-- What a request may answer, by the steps that it made on a table of some size. Of the cases of a request the first one
+-- that applies counts (io_uring_enter(2), io_uring_prep_openat(3), io_uring_prep_close(3),
+-- io_uring_register_files(3); the order of the cases is this project's own).
+use Rattle.std.specs.Prelude.{◌≡◌, ◌⊎◌, ℕ, zero, suc, ◌+◌, ◌<◌, ℤ, pos, negsuc, ◌==◌, ◌||◌, nat_le, nat_lt, Bool, true, false, List, [], ◌∷◌, length, Option, Some, None}
+use Rattle.std.specs.Bool.{MatchBool}
+use Rattle.std.specs.List.{list_any}
+use Rattle.fx_base.specs.declared.errno.Errno.{Errno}
+use Rattle.fx_base.specs.declared.errno.Errno.TheVariants.{ENOENT, ENXIO, EBADF, ENOMEM, EINVAL, ENFILE}
+use Rattle.fx_base.specs.declared.mark.Mark.TheVariants.{Submitted}
+use Rattle.fx_base.specs.declared.open_file.Closed.{Closed}
+use Rattle.fx_base.specs.Catalogue.{FileEntry, name_at, bytes_at}
+use Rattle.fx_base.specs.AddFault.{has_name}
+use Rattle.fx_plain.specs.declared.event.File.{File}
+use Rattle.fx_plain.specs.declared.event.Action.{Action}
+use Rattle.fx_plain.specs.declared.event.Action.TheVariants.{Look, Release, Put, Clear, Take, Allocate, Full, Close}
+use Rattle.fx_plain.specs.History.{◌▷◌, ◌▷▷◌}
+use Rattle.fx_chain.specs.Completed.{Completed, completed, refusal}
+use Rattle.fx_chain.specs.Operation.{Operation, Opens, Reads, Closes, Updates}
+use Rattle.fx_chain.specs.declared.completion.Place.{Place}
+use Rattle.fx_chain.specs.declared.request.Target.{Target}
+use Rattle.fx_chain.specs.declared.request.Target.TheVariants.{Slot, Any}
+
+-- what a file is that a request installs: the place in the list is that of an update's entry, and 0 for an open
+abbrev pub installed : Place → ℕ → ℕ → Closed
+installed place in_list entry = record { mark = Submitted place.submission place.chain place.member in_list; entry = entry }
+
+-- the request makes no step and fails
+abbrev pub Refuses : Place → Errno → List Action → Completed → Type 0
+Refuses place errno events c = (events ≡ []) × (c ≡ refusal place errno)
+
+-- behind these steps the file that was removed may be closed at once, or it is closed later
+abbrev pub MayClose : List Action → Option File → List Action → Type 0
+MayClose steps None events = events ≡ steps
+MayClose steps (Some removed) events = (events ≡ steps) ⊎ (events ≡ steps ▷ Close removed)
+
+-- an open of a catalogue entry
+abbrev pub OpensAt : ℕ → Place → ℕ → Target → List Action → Completed → Type 0
+OpensAt size place entry (Slot slot) events c =
+    MatchBool (size == 0) (Refuses place ENXIO events c)
+    (MatchBool (nat_le size slot) (Refuses place EINVAL events c)
+    ((f : File) × (replaced : Option File) × (f.identity ≡ installed place 0 entry)
+    × MayClose ([] ▷ Put slot f replaced) replaced events × (c ≡ completed place (pos 0) [])))
+OpensAt size place entry Any events c =
+    MatchBool (size == 0) (Refuses place ENFILE events c)
+    (((slot : ℕ) × (f : File) × (f.identity ≡ installed place 0 entry) × (events ≡ [] ▷ Allocate slot f) × (c ≡ completed place (pos slot) []))
+    ⊎ ((events ≡ [] ▷ Full) × (c ≡ refusal place ENFILE)))
+
+-- a look-up at a slot, and the bytes of the file that it found
+abbrev pub ReadsAt : List FileEntry → Place → ℕ → ℕ → ℕ → List Action → Completed → Type 0
+ReadsAt catalogue place slot off len events c =
+    ((events ≡ [] ▷ Look slot None) × (c ≡ refusal place EBADF))
+    ⊎ ((f : File) × MayClose ([] ▷ Look slot (Some f) ▷ Release f) (Some f) events
+    × (c ≡ completed place (pos (length (bytes_at catalogue f.identity.entry off len))) (bytes_at catalogue f.identity.entry off len)))
+
+-- a removal at a slot
+abbrev pub TakesAt : Place → ℕ → List Action → Completed → Type 0
+TakesAt place slot events c =
+    ((events ≡ [] ▷ Take slot None) × (c ≡ refusal place EBADF))
+    ⊎ ((removed : File) × MayClose ([] ▷ Take slot (Some removed)) (Some removed) events × (c ≡ completed place (pos 0) []))
+
+-- one entry of an update: its place in the list, and its slot. -1 empties the slot, another number of 0 or more installs
+-- that catalogue entry, and the others leave the slot
+abbrev pub AppliesEntry : Place → ℕ → ℕ → ℤ → List Action → Type 0
+AppliesEntry place in_list slot (pos entry) events =
+    (f : File) × (replaced : Option File) × (f.identity ≡ installed place in_list entry) × MayClose ([] ▷ Put slot f replaced) replaced events
+AppliesEntry place in_list slot (negsuc zero) events = (removed : Option File) × MayClose ([] ▷ Clear slot removed) removed events
+AppliesEntry place in_list slot (negsuc (suc n)) events = events ≡ []
+
+-- the entries of an update from a place in its list on, one after another
+abbrev pub AppliesList : Place → ℕ → ℕ → List ℤ → List Action → Type 0
+AppliesList place in_list slot [] events = events ≡ []
+AppliesList place in_list slot (entry ∷ list) events =
+    (own : List Action) × (others : List Action) × (events ≡ own ▷▷ others)
+    × AppliesEntry place in_list slot entry own × AppliesList place (in_list + 1) (slot + 1) list others
+
+-- an entry that is below -2 or past the catalogue
+abbrev pub is_bad_entry : ℕ → ℤ → Bool
+is_bad_entry entries (pos entry) = nat_le entries entry
+is_bad_entry entries (negsuc n) = nat_lt 1 n
+
+-- a read of some bytes at a slot
+abbrev pub ReadsFrom : List FileEntry → ℕ → Place → ℕ → ℕ → ℕ → List Action → Completed → Type 0
+ReadsFrom catalogue size place slot off len events c =
+    MatchBool (nat_le size slot) (Refuses place EBADF events c)
+    (((0 < len) × Refuses place ENOMEM events c) ⊎ ReadsAt catalogue place slot off len events c)
+
+-- a close of a slot
+abbrev pub Empties : ℕ → Place → ℕ → List Action → Completed → Type 0
+Empties size place slot events c =
+    MatchBool (size == 0) (Refuses place ENXIO events c)
+    (MatchBool (nat_le size slot) (Refuses place EINVAL events c) (TakesAt place slot events c))
+
+-- an update of the slots from one on
+abbrev pub UpdatesFrom : ℕ → ℕ → Place → ℕ → List ℤ → List Action → Completed → Type 0
+UpdatesFrom entries size place off list events c =
+    MatchBool (size == 0) (Refuses place ENXIO events c)
+    (MatchBool (length list == 0 || nat_lt size (off + length list)) (Refuses place EINVAL events c)
+    (MatchBool (list_any (is_bad_entry entries) list) (Refuses place EBADF events c)
+    (AppliesList place 0 off list events × (c ≡ completed place (pos (length list)) []))))
+
+-- the request may answer so, having made these steps
+abbrev pub Answers : List FileEntry → ℕ → Place → Operation → List Action → Completed → Type 0
+Answers catalogue size place (Opens name target) events c =
+    MatchBool (has_name name catalogue)
+    ((entry : ℕ) × (name_at catalogue entry ≡ Some name) × OpensAt size place entry target events c)
+    (Refuses place ENOENT events c)
+Answers catalogue size place (Reads slot off len) events c = ReadsFrom catalogue size place slot off len events c
+Answers catalogue size place (Closes slot) events c = Empties size place slot events c
+Answers catalogue size place (Updates off list) events c = UpdatesFrom (length catalogue) size place off list events c

@@ -1,0 +1,71 @@
+-- What a submission is refused for (the limits are this project's own).
+use Rattle.std.specs.Prelude.{◌≡◌, ℕ, ◌+◌, ◌==◌, nat_lt, Bool, false, not, ◌&&◌, List, [], ◌∷◌, ◌++◌, length, Option, Some, None, if◌then◌else◌}
+use Rattle.fx_chain.specs.Operation.{Operation, Opens, Reads, Closes, Updates, Asked}
+use Rattle.fx_chain.specs.Runs.{runs_of, open_run}
+use Rattle.fx_chain.specs.Weights.{installs_of, all_installs}
+use Rattle.fx_chain.specs.declared.fault.CutKind.{CutKind}
+use Rattle.fx_chain.specs.declared.fault.CutKind.TheVariants.{BadFlags, LongRead, LongUpdate, ChainTooLong, TooManyFiles, TooManyChains}
+use Rattle.fx_chain.specs.declared.fault.CutFault.{CutFault}
+
+-- whether the flags don't fit: a read names its file by a slot, and no other request does
+abbrev pub has_bad_flags : Operation → Bool → Bool
+has_bad_flags (Opens name target) fixed = fixed
+has_bad_flags (Reads slot off len) fixed = not fixed
+has_bad_flags (Closes slot) fixed = fixed
+has_bad_flags (Updates off list) fixed = fixed
+
+abbrev pub is_long_read : Operation → Bool
+is_long_read (Opens name target) = false
+is_long_read (Reads slot off len) = nat_lt 4096 len
+is_long_read (Closes slot) = false
+is_long_read (Updates off list) = false
+
+abbrev pub is_long_update : Operation → Bool
+is_long_update (Opens name target) = false
+is_long_update (Reads slot off len) = false
+is_long_update (Closes slot) = false
+is_long_update (Updates off list) = nat_lt 16 (length list)
+
+-- the first fault of a request: `runs` is the number of runs that the requests in front of it make, `members` that of
+-- the members of its own run in front of it, and `installs` that of the files which those members install
+abbrev pub fault_after : ℕ → ℕ → ℕ → Asked → Option CutKind
+fault_after runs members installs request =
+    if has_bad_flags request.operation request.fixed then Some BadFlags
+    else if is_long_read request.operation then Some LongRead
+    else if is_long_update request.operation then Some LongUpdate
+    else if members == 16 then Some ChainTooLong
+    else if nat_lt 64 (installs + installs_of request.operation) then Some TooManyFiles
+    else if members == 0 && runs == 1023 then Some TooManyChains
+    else None
+
+-- the fault of a request behind those in front of it
+abbrev pub fault_behind : List Asked → Asked → Option CutKind
+fault_behind front request = fault_after (length (runs_of front)) (length (open_run front)) (all_installs (open_run front)) request
+
+-- a fault at this place, or else what comes later
+abbrev pub or_later : ℕ → Option CutKind → Option CutFault → Option CutFault
+or_later at None later = later
+or_later at (Some kind) later = Some (record { at = at; kind = kind })
+
+-- the first request with a fault, of those behind the ones in front
+abbrev pub first_fault : List Asked → List Asked → Option CutFault
+first_fault front [] = None
+first_fault front (request ∷ behind) = or_later (length front + 1) (fault_behind front request) (first_fault (front ++ request ∷ []) behind)
+
+-- the first request with a fault, its place counted from 1
+abbrev pub fault_of : List Asked → Option CutFault
+fault_of requests = first_fault [] requests
+
+-- no request has a fault behind those in front of it
+abbrev pub HasNoFault : List Asked → Type 0
+HasNoFault requests = (front : List Asked) (request : Asked) (behind : List Asked) → requests ≡ front ++ request ∷ behind → fault_behind front request ≡ None
+
+-- a request with a fault, and no request in front of it has one
+pub record IsFirstFault (requests : List Asked) (fault : CutFault) : Type 0 where
+  pub front : List Asked
+  pub request : Asked
+  pub behind : List Asked
+  pub parts : requests ≡ front ++ request ∷ behind
+  pub place : fault.at ≡ length front + 1
+  pub kind : fault_behind front request ≡ Some fault.kind
+  pub none_in_front : HasNoFault front

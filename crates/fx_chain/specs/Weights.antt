@@ -1,0 +1,25 @@
+-- What a request needs at most: numbers for the files that it installs, and room for those that it closes.
+use Rattle.std.specs.Prelude.{ℕ, pos, int_le, List, length, filter, sum_by}
+use Rattle.fx_chain.specs.Operation.{Operation, Opens, Reads, Closes, Updates, Asked}
+
+-- how many files a request installs
+abbrev pub installs_of : Operation → ℕ
+installs_of (Opens name target) = 1
+installs_of (Reads slot off len) = 0
+installs_of (Closes slot) = 0
+installs_of (Updates off list) = length (filter (λ entry. int_le (pos 0) entry) list)
+
+-- how many files a request may close
+abbrev pub weight_of : Operation → ℕ
+weight_of (Opens name target) = 1
+weight_of (Reads slot off len) = 1
+weight_of (Closes slot) = 1
+weight_of (Updates off list) = length list
+
+-- how many files some requests install together
+abbrev pub all_installs : List Asked → ℕ
+all_installs requests = sum_by (λ request. installs_of request.operation) requests
+
+-- how many files some requests may close together
+abbrev pub all_weights : List Asked → ℕ
+all_weights requests = sum_by (λ request. weight_of request.operation) requests

@@ -1,0 +1,46 @@
+ghost use Rattle.std.specs.Prelude.{◌≡◌, ◌+◌, ◌≤◌, length, map, All, IfOk, vec_len};
+ghost use Rattle.fx_chain.specs.Accepted.{IsAccepted, IsChain, members_of};
+ghost use Rattle.fx_chain.specs.Chains.{chains_of};
+ghost use Rattle.fx_chain.specs.Operation.{all_asked};
+ghost use Rattle.fx_chain.specs.Runs.{runs_of};
+
+use crate::request::Request;
+use fx_base::NoMemory;
+use std::alloc::Global;
+
+/// The members of a submission that are linked with each other (io_uring_enter(2), "IOSQE_IO_LINK").
+#[derive(Clone, Copy, Debug, PartialEq, Eq)]
+pub struct Chain {
+    /// How many requests stand before its first member, at most 16,352.
+    pub first: u32,
+    /// How many members it has, from 1 to 16.
+    pub len: u32,
+}
+
+/// The chains of a submission that [`crate::check`] accepts, in order.
+///
+/// # Errors
+/// `NoMemory` where the memory for the list of chains is refused.
+pub fn cut(alloc: Global, requests: &[Request]) -> Result<Vec<Chain>, NoMemory>
+    requires { IsAccepted (all_asked requests.now) }
+    ensures chains { IfOk result (λ chains. chains.items ≡ chains_of (runs_of (all_asked requests.now))) }
+    ensures members { IfOk result (λ chains. map (members_of (all_asked requests.now)) chains.items
+        ≡ runs_of (all_asked requests.now)) }
+    ensures inside { IfOk result (λ chains. All (λ chain. chain.first + chain.len ≤ length requests.now) chains.items) }
+    ensures few { IfOk result (λ chains. vec_len chains ≤ 1023) }
+    ensures within { IfOk result (λ chains. All (IsChain (all_asked requests.now)) chains.items) }
+{
+    let mut chains = Vec::new(alloc);
+    let mut first = 0;
+    for (i, request) in requests.iter().enumerate() {
+        if !request.links() || i + 1 == requests.len() {
+            let len = i + 1 - first;
+            chains.push(Chain {
+                first: first as u32,
+                len: len as u32,
+            })?;
+            first = i + 1;
+        }
+    }
+    Ok(chains)
+}

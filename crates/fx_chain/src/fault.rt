@@ -1,0 +1,133 @@
+ghost use Rattle.std.specs.Prelude.{◌≡◌, ◌+◌, ◌*◌, ◌<◌, ◌≤◌, length, IfSome, IfNone, IfOk, IfErr, Ok, Err, if◌then◌else◌, ◌==◌};
+ghost use Rattle.fx_chain.specs.Accepted.{IsAccepted};
+ghost use Rattle.fx_chain.specs.Faults.{fault_after, fault_of};
+ghost use Rattle.fx_chain.specs.Operation.{all_asked, asked_of};
+ghost use Rattle.fx_chain.specs.Runs.{runs_of};
+ghost use Rattle.fx_chain.specs.Weights.{installs_of};
+
+use crate::request::Request;
+
+/// How many members a chain may have.
+const MOST_MEMBERS: u32 = 16;
+
+/// How many files a chain may install.
+const MOST_INSTALLS: u32 = 64;
+
+/// How many chains a submission may have.
+const MOST_CHAINS: u32 = 1023;
+
+/// Why a submission is refused, in the order in which the faults of one request are looked for (this project's own).
+#[derive(Clone, Copy, Debug, PartialEq, Eq)]
+pub enum CutKind {
+    /// A read without FIXED_FILE, or another request with it.
+    BadFlags,
+    /// A read of more than 4,096 bytes.
+    LongRead,
+    /// An update of more than 16 entries.
+    LongUpdate,
+    /// The seventeenth member of a chain.
+    ChainTooLong,
+    /// With this request its chain installs more than 64 files.
+    TooManyFiles,
+    /// The first member of the 1,024th chain.
+    TooManyChains,
+}
+
+/// The first request of a submission that has a fault.
+#[derive(Clone, Copy, Debug, PartialEq, Eq)]
+pub struct CutFault {
+    /// Its place in the submission, from 1.
+    pub at: u32,
+    /// Its first fault.
+    pub kind: CutKind,
+}
+
+// The chains that have begun, and the members and installs of the one that the next request goes on with.
+#[derive(Clone, Copy, Debug)]
+struct Count {
+    chains: u32,
+    members: u32,
+    installs: u32,
+}
+
+/// The number of chains of a submission, from 0 to 1,023. A request with IO_LINK is in one chain with the next one
+/// (io_uring_enter(2), "IOSQE_IO_LINK").
+///
+/// # Errors
+/// The first request with a fault, and its first fault in the order of [`CutKind`]. The place of that request is at
+/// most 16,369, however long the submission is.
+pub fn check(requests: &[Request]) -> Result<u32, CutFault>
+    ensures fault { IfSome (fault_of (all_asked requests.now)) (λ fault. result ≡ Err fault) }
+    ensures chains { IfNone (fault_of (all_asked requests.now))
+        (result ≡ Ok (length (runs_of (all_asked requests.now)))) }
+    ensures accepted { IfOk result (λ chains. IsAccepted (all_asked requests.now)) }
+    ensures few { IfOk result (λ chains. chains ≤ 1023) }
+    ensures place { IfErr result (λ fault. (0 < fault.at) × (fault.at ≤ length requests.now)) }
+    ensures early { IfErr result (λ fault. fault.at ≤ 1023 * 16 + 1) }
+{
+    let mut count = Count {
+        chains: 0,
+        members: 0,
+        installs: 0,
+    };
+    for (i, request) in requests.iter().enumerate() {
+        if let Some(kind) = count.fault(request) {
+            return Err(CutFault {
+                at: i as u32 + 1,
+                kind,
+            });
+        }
+        count.add(request);
+    }
+    Ok(count.chains)
+}
+
+impl Count {
+    // The first fault of the next request.
+    fn fault(&self, request: &Request) -> Option<CutKind>
+        requires { self.now.installs ≤ 64 }
+        ensures { result ≡ fault_after self.now.chains self.now.members self.now.installs (asked_of request.now) }
+    {
+        if request.has_bad_flags() {
+            return Some(CutKind::BadFlags);
+        }
+        if request.is_long_read() {
+            return Some(CutKind::LongRead);
+        }
+        if request.is_long_update() {
+            return Some(CutKind::LongUpdate);
+        }
+        if self.members == MOST_MEMBERS {
+            return Some(CutKind::ChainTooLong);
+        }
+        if request.installs() > (MOST_INSTALLS - self.installs) as usize {
+            return Some(CutKind::TooManyFiles);
+        }
+        if self.members == 0 && self.chains == MOST_CHAINS {
+            return Some(CutKind::TooManyChains);
+        }
+        None
+    }
+
+    // The next request is counted.
+    fn add(&mut self, request: &Request)
+        requires chains { self.old.chains ≤ 1023 }
+        requires members { self.old.members ≤ 16 }
+        requires installs { self.old.installs + installs_of (asked_of request.now).operation ≤ 64 }
+        ensures chains { self.new.chains ≡ if self.old.members == 0 then self.old.chains + 1 else self.old.chains }
+        ensures members { self.new.members ≡ if (asked_of request.now).links then self.old.members + 1 else 0 }
+        ensures installs { self.new.installs ≡ if (asked_of request.now).links
+            then self.old.installs + installs_of (asked_of request.now).operation else 0 }
+    {
+        if self.members == 0 {
+            self.chains += 1;
+        }
+        if request.links() {
+            self.members += 1;
+            self.installs += request.installs() as u32;
+        } else {
+            self.members = 0;
+            self.installs = 0;
+        }
+    }
+}

@@ -1,0 +1,16 @@
+pub mod Commands
+pub mod Found
+pub mod Lists
+pub mod Numbers
+pub mod Texts
+pub mod Turns
+pub mod Removing
+pub mod Performing
+pub mod PlaySteps
+pub mod Opening
+pub mod EntryKinds
+pub mod Goings
+pub mod ChainGoings
+pub mod RunGoings
+pub mod WholeRuns
+pub mod Words

@@ -1,0 +1,12 @@
+pub mod Faults
+pub mod Instruction
+pub mod Reading
+pub mod Refusal
+pub mod Script
+pub mod ScriptView
+pub mod Text
+pub mod Performs
+pub mod Entries
+pub mod Played
+pub mod Play
+pub mod Run

@@ -1,0 +1,3 @@
+mod accepted;
+mod lines;
+mod refused;

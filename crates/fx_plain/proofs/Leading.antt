@@ -1,0 +1,39 @@
+-- Histories that go on from one another.
+use Rattle.std.proofs.Common.{◌≡◌, ℕ, List, [], ◌∷◌, ◌++◌, refl, sym, ap, subst, ◌∙◌, append_assoc, Option, Some, None}
+use Rattle.std.proofs.lemmas.List.{append-nil}
+use Rattle.fx_base.specs.declared.open_file.Closed.{Closed}
+use Rattle.fx_plain.specs.declared.event.Action.{Action}
+use Rattle.fx_plain.specs.declared.event.Action.TheVariants.{Look, Release, Put, Clear, Take, Allocate, Full, Close}
+use Rattle.fx_plain.specs.State.{State}
+use Rattle.fx_plain.specs.Step.{Allows, after}
+use Rattle.fx_plain.specs.History.{◌▷▷◌, Leads, AllowsAll, state_after, closes_in, closed_by}
+
+-- one history goes on where another ended
+pub leads_then : (first mid last : State) (h more : List Action) → Leads first h mid → Leads mid more last → Leads first (h ▷▷ more) last
+leads_then first mid last h [] lead next = (lead.0, next.1 ∙ lead.1)
+leads_then first mid last h (action ∷ more) lead next =
+    let before = leads_then first mid (state_after mid more) h more lead (next.0.0, refl) in
+    ((before.0, subst (λ (st : State). Allows st action) before.1 next.0.1), next.1 ∙ ap (λ (st : State). after st action) before.1)
+
+pub closes_in-then : (h more : List Action) → closes_in (h ▷▷ more) ≡ closes_in h ++ closes_in more
+closes_in-then h [] = sym (append-nil (closes_in h))
+closes_in-then h (action ∷ more) = ap (λ (files : List Closed). files ++ closed_by action) (closes_in-then h more) ∙ append_assoc (closes_in h) (closes_in more) (closed_by action)
+
+same_size_after : (st : State) (action : Action) → (after st action).size ≡ st.size
+same_size_after st (Look slot None) = refl
+same_size_after st (Look slot (Some f)) = refl
+same_size_after st (Release f) = refl
+same_size_after st (Put slot f x) = refl
+same_size_after st (Clear slot x) = refl
+same_size_after st (Take slot x) = refl
+same_size_after st (Allocate slot f) = refl
+same_size_after st Full = refl
+same_size_after st (Close f) = refl
+
+state_size : (st : State) (h : List Action) → (state_after st h).size ≡ st.size
+state_size st [] = refl
+state_size st (action ∷ h) = same_size_after (state_after st h) action ∙ state_size st h
+
+-- no history changes the size of a table
+pub same_size : (first last : State) (h : List Action) → Leads first h last → last.size ≡ first.size
+same_size first last h lead = ap (λ (st : State). st.size) lead.1 ∙ state_size first h
