@@ -18,8 +18,9 @@ use std::sync::Wait;
 use std::thread;
 
 /// A file table that threads share, behind one word: whoever exchanges the word has the whole table of one thread,
-/// and puts it back behind its call. A pass that waits for the table yields its thread. It is no `Drop`: a program
-/// that lets one go is not accepted (this project's own).
+/// and puts it back behind its call. A pass that waits for the table yields its thread. Pass p of n draws the chains
+/// p, p + n, p + 2n and so on, and the takes of a removed file are 0. It is no `Drop`: a program that lets one go is not
+/// accepted (this project's own).
 pub struct BatonTable {
     pub(crate) table: Table<Option<PlainTable>, View, Start, OneHistory, Global>,
     pub(crate) chains: u32,
