@@ -12,7 +12,7 @@ help:
 	@echo 'make try          plays a script in seconds, by a run that proves nothing'
 	@echo 'make test         runs everything that must hold'
 	@echo 'make examples     plays every example on the built program'
-	@echo 'make compare      plays random scripts on the built program and on a second, unproved one'
+	@echo 'make compare      plays random scripts and the largest submissions on the built program and on a second, unproved one'
 	@echo 'make must-spend   shows that a program that loses a file is refused'
 	@echo 'make layout       looks at the files of the repository'
 	@echo 'make bench        times the largest submission and a tenth of it'

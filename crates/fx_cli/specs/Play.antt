@@ -83,6 +83,13 @@ Plays catalogue world (instruction ∷ instructions) text =
     (next : World) × (line : List ℕ) × (others : List ℕ) × CommandAnswers catalogue world instruction next line
     × (text ≡ line ++ others) × Plays catalogue next instructions others
 
+-- the first commands may print this from a world on, one after another
+abbrev pub PlaysPart : List FileEntry → World → List Instruction → List ℕ → Type 0
+PlaysPart catalogue world [] text = text ≡ []
+PlaysPart catalogue world (instruction ∷ instructions) text =
+    (text ≡ []) ⊎ ((next : World) × (line : List ℕ) × (others : List ℕ) × CommandAnswers catalogue world instruction next line
+    × (text ≡ line ++ others) × PlaysPart catalogue next instructions others)
+
 -- no table, and no submission yet
 abbrev pub start : World
 start = world (vacant 0) 0

@@ -22,10 +22,3 @@ IsWantOfMemory Read = ⊥
 IsWantOfMemory Script = ⊥
 IsWantOfMemory Write = ⊥
 IsWantOfMemory NoMemory = Unit {0}
-
--- a write failed, or memory was refused
-abbrev pub IsPlayFault : FirstFault → Type 0
-IsPlayFault Read = ⊥
-IsPlayFault Script = ⊥
-IsPlayFault Write = Unit {0}
-IsPlayFault NoMemory = Unit {0}

@@ -5,8 +5,7 @@ ghost use Rattle.fx_plain.specs.State.{IsSettled, vacant};
 ghost use Rattle.fx_plain.specs.Contents.{state_of};
 ghost use Rattle.fx_cli.specs.Instruction.{instructions_of};
 ghost use Rattle.fx_cli.specs.Play.{Plays, start};
-ghost use Rattle.fx_cli.specs.Run.{IsFault, IsRun};
-ghost use Rattle.fx_cli.specs.Refusal.{IsPlayFault};
+ghost use Rattle.fx_cli.specs.Run.{IsFault, IsPlayFault, IsRun};
 ghost use Rattle.fx_cli.specs.declared.fault.FirstFault.TheVariants.{Write};
 
 use crate::command::Command;
@@ -39,7 +38,7 @@ fn play_all<W: Write>(
     requires empty { state_of table.old ≡ vacant 0 }
     requires few { length commands.now ≤ 4194305 }
     ensures played { OnOk result ((text : List ℕ) × Plays catalogue.now start (instructions_of commands.now) text × Appends (W.contents writer.old) (W.contents writer.new) text) }
-    ensures fault { IfErr result IsPlayFault }
+    ensures fault { IfErr result (λ fault. IsPlayFault fault catalogue.now (instructions_of commands.now) (W.contents writer.old) (W.contents writer.new)) }
     ensures settled { IsSettled (state_of table.new) }
     ensures empty { OnOk result ((state_of table.new).size ≡ 0) }
 {
@@ -58,7 +57,8 @@ fn play_all<W: Write>(
 ///
 /// # Errors
 /// `Read` where a read fails or the end does not come, and `Script` where the input is no script: nothing is written
-/// then. `Write` where a write fails, and `NoMemory` where memory is refused: what was written stays.
+/// then. `Write` where a write fails: how much of its text went out is not known. `NoMemory` where memory is refused:
+/// what was written then is what the commands before print.
 pub fn run<R: Read, W: Write>(
     alloc: Global,
     reader: &mut R,

@@ -250,16 +250,8 @@ pub(crate) fn perform(
         Op::Read { slot, off, len } => read(alloc, table, catalogue, place, *slot, *off, *len),
         Op::Close { slot } => close(alloc, table, place, *slot, closes),
         Op::Update { off, list } => {
-            update(
-                alloc,
-                table,
-                catalogue,
-                place,
-                *off,
-                list.as_slice(),
-                numbers,
-                closes,
-            )
+            let (off, list) = (*off, list.as_slice());
+            update(alloc, table, catalogue, place, off, list, numbers, closes)
         }
     }
 }

@@ -1,3 +1,7 @@
 mod accepted;
+mod faults;
 mod lines;
 mod refused;
+mod registrations;
+mod runs;
+mod unsubmitted;

@@ -1,11 +1,12 @@
 use Rattle.std.proofs.Common.{rules, refl, subst, sym, ap, ◌∙◌, ℕ, ◌≡◌, ◌+◌, List, Some, None, drop, length, arith, string_bytes}
+use Rattle.std.proofs.lemmas.Result.{err_from_is_err_and}
 use Rattle.std.specs.Io.KnownBytes.{Appends}
 use Rattle.fx_plain.specs.State.{State, IsSettled, vacant}
 use Rattle.fx_plain.specs.Contents.{state_of}
 use Rattle.fx_cli.specs.Instruction.{Instruction, instruction_of, instructions_of}
 use Rattle.fx_cli.specs.Performs.{HasEntries}
 use Rattle.fx_cli.specs.Play.{start, world}
-use Rattle.fx_cli.proofs.PlaySteps.{PlaysOn, begins, one_more, ends, front_instruction, no_instruction}
+use Rattle.fx_cli.proofs.PlaySteps.{PlaysOn, begins, one_more, ends, ends_early, front_instruction, no_instruction}
 use Rattle.fx_cli.proofs.first.play_all.Goals as goal
 
 settled_vacant : IsSettled (vacant 0)
@@ -39,6 +40,18 @@ loop-command-preserved g c =
           (string_bytes c.in_ok-text.text) c.in_ok-text.ensures.answers
           (subst (Appends (g.W.Write.contents c.loop-command.writer) (g.W.Write.contents c.write_text.new.writer)) text c.in_ok-write_text.ensures.written);
     }
+
+pub returns-in_err-text-clause-fault : goal.returns-in_err-text-clause-fault
+returns-in_err-text-clause-fault g c =
+    let passed = err_from_is_err_and c.from_residual.result c.from_residual.ensures.1 in
+    rw (passed.1, passed.2) (ends_early c.in_err-text.field-0.0 c.args.catalogue.now (instructions_of c.args.commands.now) (world (state_of c.loop-command.table) c.loop-command.submissions)
+    (instructions_of (drop c.loop-command.command-index c.args.commands.now)) (g.W.Write.contents c.args.writer.now) (g.W.Write.contents c.loop-command.writer) c.loop-command.invariant.plays c.in_err-text.ensures.fault)
+
+pub returns-in_err-text-2-clause-fault : goal.returns-in_err-text-2-clause-fault
+returns-in_err-text-2-clause-fault g c =
+    let passed = err_from_is_err_and c.from_residual-in_err-text-2.result c.from_residual-in_err-text-2.ensures.1 in
+    rw (passed.1, passed.2) (ends_early c.in_err-text-2.field-0.0 c.args.catalogue.now (instructions_of c.args.commands.now) (world (state_of c.loop-command.table) c.loop-command.submissions)
+    (instructions_of (drop c.loop-command.command-index c.args.commands.now)) (g.W.Write.contents c.args.writer.now) (g.W.Write.contents c.loop-command.writer) c.loop-command.invariant.plays c.in_err-text-2.ensures.fault)
 
 pub returns-clause-played : goal.returns-clause-played
 returns-clause-played g c =
