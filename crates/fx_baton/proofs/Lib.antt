@@ -1,0 +1,15 @@
+pub mod Histories
+pub mod Keeping
+pub mod Grabbing
+pub mod Giving
+pub mod Seats
+pub mod Opening
+pub mod Files
+pub mod Turns
+pub mod Taking
+pub mod Passing
+pub mod Calling
+pub mod Finishing
+pub mod Dealing
+pub mod Shares
+pub mod Closing

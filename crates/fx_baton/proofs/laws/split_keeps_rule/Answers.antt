@@ -1,0 +1,5 @@
+use Rattle.fx_baton.proofs.Seats.{may_split}
+use Rattle.fx_baton.proofs.laws.split_keeps_rule.Goals as goal
+
+pub returns : goal.returns
+returns c = may_split

@@ -1,0 +1,5 @@
+pub mod Rule
+pub mod Laws
+pub mod Turns
+pub mod Passes
+pub mod Lives

@@ -1,0 +1,89 @@
+-- What one turn at the table adds.
+use Rattle.std.specs.Prelude.{◌≡◌, ℕ, List, [], ◌∷◌, map, Option, Some, None}
+use Rattle.fx_plain.specs.Contents.{Contents, state_of}
+use Rattle.fx_plain.specs.History.{close_of, ◌▷◌, ◌▷▷◌}
+use Rattle.fx_plain.specs.Table.{numbered, closed_by_release, closed_by_retirement}
+use Rattle.fx_plain.specs.declared.event.File.{File}
+use Rattle.fx_plain.specs.declared.event.Event.{Event}
+use Rattle.fx_plain.specs.declared.event.Action.{Action}
+use Rattle.fx_plain.specs.declared.event.Action.TheVariants.{Look, Release, Put, Clear, Take, Allocate, Full}
+use Rattle.fx_table.specs.Calls.{Use, nothing, one_look, one_number}
+use Rattle.fx_table.specs.declared.values.Doing.{Doing}
+use Rattle.fx_table.specs.declared.values.Doing.TheVariants.{Idle, Holding, Retiring}
+use Rattle.fx_baton.specs.declared.view.Call.{Call}
+use Rattle.fx_baton.specs.declared.view.Call.TheVariants.{Look as LookCall, Release as ReleaseCall, Put as PutCall, Allocate as AllocateCall, Full as FullCall, Clear as ClearCall, Take as TakeCall, Retire as RetireCall}
+use Rattle.fx_baton.specs.declared.view.Log.{Log}
+use Rattle.fx_baton.specs.Rule.{Sat, Knows, empty_table}
+
+-- an action and its author
+abbrev pub by : ℕ → ℕ → Action → Event
+by pass chain action = record { pass = pass; chain = chain; action = action }
+
+-- the table as the seat has it
+abbrev pub table_in : Option Contents → Contents
+table_in None = empty_table
+table_in (Some c) = c
+
+-- what a pass does that found this file, and one that removed it
+abbrev pub holds_now : Option File → Doing
+holds_now None = Idle
+holds_now (Some f) = Holding f
+
+abbrev pub retires_now : Option File → Doing
+retires_now None = Idle
+retires_now (Some f) = Retiring f 0
+
+-- a release and a retirement, and the close of the file that comes out
+abbrev pub release_in : Contents → Doing → List Action
+release_in c Idle = []
+release_in c (Holding f) = [] ▷ Release f ▷▷ close_of (closed_by_release c f.number)
+release_in c (Retiring f takes) = []
+
+abbrev pub retirement_in : Contents → Doing → List Action
+retirement_in c Idle = []
+retirement_in c (Holding f) = []
+retirement_in c (Retiring f takes) = close_of (closed_by_retirement c f.number)
+
+-- the actions of a call of the table c, by a pass that did this before
+abbrev pub actions_of : Contents → Doing → Call → List Action
+actions_of c doing (LookCall slot) = [] ▷ Look slot ((state_of c).at slot)
+actions_of c doing ReleaseCall = release_in c doing
+actions_of c doing (PutCall slot number file) = [] ▷ Put slot (numbered number file) ((state_of c).at slot)
+actions_of c doing (AllocateCall slot number file) = [] ▷ Allocate slot (numbered number file)
+actions_of c doing FullCall = [] ▷ Full
+actions_of c doing (ClearCall slot) = [] ▷ Clear slot ((state_of c).at slot)
+actions_of c doing (TakeCall slot) = [] ▷ Take slot ((state_of c).at slot)
+actions_of c doing RetireCall = retirement_in c doing
+
+-- what the pass does afterwards
+abbrev pub doing_of : Contents → Call → Doing
+doing_of c (LookCall slot) = holds_now ((state_of c).at slot)
+doing_of c ReleaseCall = Idle
+doing_of c (PutCall slot number file) = retires_now ((state_of c).at slot)
+doing_of c (AllocateCall slot number file) = Idle
+doing_of c FullCall = Idle
+doing_of c (ClearCall slot) = retires_now ((state_of c).at slot)
+doing_of c (TakeCall slot) = retires_now ((state_of c).at slot)
+doing_of c RetireCall = Idle
+
+-- what a call uses up
+abbrev pub use_of : Call → Use
+use_of (LookCall slot) = one_look
+use_of ReleaseCall = nothing
+use_of (PutCall slot number file) = one_number
+use_of (AllocateCall slot number file) = one_number
+use_of FullCall = nothing
+use_of (ClearCall slot) = nothing
+use_of (TakeCall slot) = nothing
+use_of RetireCall = nothing
+
+-- the events of a call
+abbrev pub events_of : Contents → ℕ → ℕ → Doing → Call → List Event
+events_of c pass chain doing call = map (by pass chain) (actions_of c doing call)
+
+-- the seat with the log x has taken the table c, and has seen the whole history
+pub record HasTaken (m : Sat) (x : Log) (c : Contents) (m' : Sat) : Type 0 where
+  pub history : List Event
+  pub knows : Knows m.0 x c history
+  pub view : m'.0 ≡ record m.0 { logs = record x { front = history } ∷ []; taken = Some c }
+  pub slots : m'.1 ≡ (0, None) ∷ []

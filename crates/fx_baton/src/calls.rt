@@ -1,0 +1,229 @@
+//! The table behind one word is a shared table.
+ghost use Rattle.std.specs.Prelude.{◌≡◌, Option, length, map, option_map, All};
+ghost use Rattle.fx_plain.specs.declared.event.File.{File};
+ghost use Rattle.fx_plain.specs.Table.{number_of};
+ghost use Rattle.fx_table.specs.declared.values.Doing.TheVariants.{Idle};
+ghost use Rattle.fx_table.specs.Pass.{retired_of, next_number};
+ghost use Rattle.fx_table.specs.Closing.{Closes};
+ghost use Rattle.fx_baton.specs.Rule.{opening_of};
+ghost use Rattle.fx_baton.specs.Passes.{view_of, IsPassOf};
+
+use crate::pass::BatonPass;
+use crate::table::BatonTable;
+use crate::view::Call;
+use fx_base::{Closed, NoMemory, OpenFile};
+use fx_plain::PlainTable;
+use fx_table::{Empty, FileTable, Hold, LookFault, Retired};
+use std::alloc::Global;
+use std::sync::Wait;
+
+impl FileTable for BatonTable {
+    ghost use Rattle.fx_baton.specs.Rule.{opening_of};
+    ghost use Rattle.fx_baton.specs.Passes.{view_of, IsPassOf};
+
+    type Pass = BatonPass;
+
+    ghost opening = { λ t. opening_of t.table.shared.key };
+
+    ghost fits = { λ t p. IsPassOf t.table.shared.table_id t.table.shared.key p };
+
+    ghost view = { λ p. view_of p };
+
+    fn open(
+        alloc: Global,
+        plain: PlainTable,
+        chains: u32,
+        passes: u32,
+    ) -> Result<(BatonTable, Vec<BatonPass>), (PlainTable, NoMemory)> {
+        let Ok(mut list) = Vec::with_capacity(alloc, passes as usize) else {
+            return Err((plain, NoMemory));
+        };
+        match BatonTable::start(alloc, plain, chains, passes) {
+            Ok((table, seat)) => {
+                table.deal(seat, &mut list);
+                Ok((table, list))
+            }
+            Err(refused) => {
+                list.destroy_empty();
+                Err(refused)
+            }
+        }
+    }
+
+    fn close(self, passes: Vec<BatonPass>) -> PlainTable
+        requires all { length passes.items ≡ self.table.shared.key.passes }
+        requires fits { All (IsPassOf self.table.shared.table_id self.table.shared.key) passes.items }
+        requires idle { All (λ p. p.seat.me.0.doing ≡ Idle) passes.items }
+        ensures { Closes (opening_of self.table.shared.key) (map view_of passes.items) result }
+    {
+        self.close_all(passes)
+    }
+
+    fn size(&self) -> u32 {
+        self.size
+    }
+
+    fn range(&self) -> (u32, u32) {
+        (self.range_start, self.range_len)
+    }
+
+    fn is_idle(&self, pass: &BatonPass) -> bool {
+        pass.idle
+    }
+
+    fn looks_left(&self, pass: &BatonPass) -> u32 {
+        pass.looks_left
+    }
+
+    fn numbers_left(&self, pass: &BatonPass) -> u32 {
+        pass.numbers_left
+    }
+
+    // Pass p of n has the chains p, p + n, p + 2n and so on.
+    fn draw(&self, pass: &mut BatonPass) -> Option<u32> {
+        if pass.told {
+            return None;
+        }
+        let next = if pass.count == 0 {
+            pass.number
+        } else {
+            pass.chain + pass.step
+        };
+        if next > self.chains {
+            pass.told = true;
+            return None;
+        }
+        pass.chain = next;
+        pass.count += 1;
+        pass.numbers_left = 64;
+        Some(next)
+    }
+
+    fn look<R: Wait>(&self, rt: &R, pass: &mut BatonPass, slot: u32) -> Result<Hold, LookFault> {
+        if pass.looks_left == 0 {
+            return Err(LookFault::Spent);
+        }
+        let mut plain = self.borrow(rt, pass);
+        let found = plain.look(slot);
+        self.give_back(pass, plain, Call::Look(slot), found.is_none());
+        match found {
+            None => Err(LookFault::Empty),
+            Some((node, entry)) => Ok(Hold { node, entry }),
+        }
+    }
+
+    fn release<R: Wait>(&self, rt: &R, pass: &mut BatonPass, hold: Hold) -> Option<OpenFile> {
+        let Hold { node, entry: _ } = hold;
+        let mut plain = self.borrow(rt, pass);
+        let closed = plain.release(node);
+        self.give_back(pass, plain, Call::Release, true);
+        closed
+    }
+
+    fn put<R: Wait>(
+        &self,
+        rt: &R,
+        pass: &mut BatonPass,
+        slot: u32,
+        file: OpenFile,
+    ) -> Option<Retired> {
+        let number = self.next_number(pass);
+        let identity = identity_of(&file);
+        let mut plain = self.borrow(rt, pass);
+        let entry = plain.entry_at(slot);
+        let replaced = plain.put(slot, number, file);
+        self.give_back(
+            pass,
+            plain,
+            Call::Put(slot, number, identity),
+            replaced.is_none(),
+        );
+        retired(replaced, entry)
+    }
+
+    fn put_any<R: Wait>(
+        &self,
+        rt: &R,
+        pass: &mut BatonPass,
+        file: OpenFile,
+    ) -> Result<u32, OpenFile> {
+        let number = self.next_number(pass);
+        let identity = identity_of(&file);
+        let mut plain = self.borrow(rt, pass);
+        match plain.put_any(number, file) {
+            Ok(slot) => {
+                self.give_back(pass, plain, Call::Allocate(slot, number, identity), true);
+                Ok(slot)
+            }
+            Err(refused) => {
+                self.give_back(pass, plain, Call::Full, true);
+                Err(refused)
+            }
+        }
+    }
+
+    fn clear<R: Wait>(&self, rt: &R, pass: &mut BatonPass, slot: u32) -> Option<Retired> {
+        let mut plain = self.borrow(rt, pass);
+        let entry = plain.entry_at(slot);
+        let removed = plain.clear(slot);
+        self.give_back(pass, plain, Call::Clear(slot), removed.is_none());
+        retired(removed, entry)
+    }
+
+    fn take<R: Wait>(&self, rt: &R, pass: &mut BatonPass, slot: u32) -> Result<Retired, Empty> {
+        let mut plain = self.borrow(rt, pass);
+        let entry = plain.entry_at(slot);
+        let removed = plain.take(slot);
+        self.give_back(pass, plain, Call::Take(slot), removed.is_none());
+        match retired(removed, entry) {
+            Some(removed) => Ok(removed),
+            None => Err(Empty),
+        }
+    }
+
+    fn retire<R: Wait>(&self, rt: &R, pass: &mut BatonPass, retired: Retired) -> Option<OpenFile> {
+        let Retired {
+            node,
+            entry: _,
+            takes: _,
+        } = retired;
+        let mut plain = self.borrow(rt, pass);
+        let closed = plain.retire(node);
+        self.give_back(pass, plain, Call::Retire, true);
+        closed
+    }
+}
+
+impl BatonTable {
+    // The number that the pass's next installation uses.
+    fn next_number(&self, pass: &BatonPass) -> u32
+        requires { IsPassOf self.now.table.shared.table_id self.now.table.shared.key pass.now }
+        ensures { result ≡ next_number (view_of pass.now) }
+    {
+        256 + 64 * pass.chain - pass.numbers_left
+    }
+}
+
+// What the file's close will say.
+fn identity_of(file: &OpenFile) -> Closed
+    ensures { result ≡ file.now }
+{
+    Closed {
+        mark: file.mark(),
+        entry: file.entry(),
+    }
+}
+
+// The file that was removed from a slot, if there was one.
+fn retired(node: Option<u32>, entry: Option<u8>) -> Option<Retired>
+    ensures { (found : Option File) → node ≡ number_of found → entry ≡ option_map (λ f. f.identity.entry) found → result ≡ option_map (λ f. retired_of f 0) found }
+{
+    match (node, entry) {
+        (Some(node), Some(entry)) => Some(Retired {
+            node,
+            entry,
+            takes: 0,
+        }),
+        _ => None,
+    }
+}

@@ -1,0 +1,81 @@
+//! The rule of the table behind one word, and its four kinds of step.
+use crate::view::{Start, View};
+use atomic_table::{Join, Play, Split, TableRule};
+use fx_plain::PlainTable;
+use std::marker::{Brand, PhantomData};
+
+/// The rule: one legal history stands behind the table and all passes. The word is 1 while the table is at home, and
+/// 0 while one pass has it.
+pub struct OneHistory;
+
+impl TableRule<Option<PlainTable>, View, Start> for OneHistory {
+    ghost use Rattle.fx_baton.specs.Rule.{IsKept, first_view};
+
+    ghost holds = { IsKept };
+
+    ghost first = { first_view };
+}
+
+/// Split: the first pass of a seat goes to a seat of its own.
+pub struct Deal;
+
+impl Split<View> for Deal {
+    ghost use Rattle.fx_baton.specs.Rule.{without_first, first_alone};
+
+    ghost left = { without_first };
+
+    ghost right = { first_alone };
+}
+
+/// Join: a seat takes in the passes of another.
+pub struct Gather;
+
+impl Join<View> for Gather {
+    ghost use Rattle.fx_baton.specs.Rule.{together, spent};
+
+    ghost both = { together };
+
+    ghost spent = { spent };
+}
+
+/// Grab: the word is tried, and the table taken where it was at home.
+pub struct Grab;
+
+impl Play<Option<PlainTable>, View> for Grab {
+    ghost use Rattle.fx_baton.specs.Rule.{Grabs};
+
+    ghost then = { Grabs };
+}
+
+/// What a pass did while it had the table, for contracts alone.
+pub trait Turn {
+    ghost use Rattle.std.specs.Prelude.{List};
+    ghost use Rattle.fx_plain.specs.declared.event.Event.{Event};
+    ghost use Rattle.fx_table.specs.declared.values.Doing.{Doing};
+
+    // What it did, the newest event first.
+    ghost events: { List Event };
+
+    // What it does from now on.
+    ghost doing: { Doing };
+}
+
+impl Turn for Brand {
+    ghost use Rattle.std.specs.Prelude.{[]};
+    ghost use Rattle.fx_table.specs.declared.values.Doing.TheVariants.{Idle};
+
+    ghost events = { [] };
+
+    ghost doing = { Idle };
+}
+
+/// Give: the table goes home, and what the pass did stands in the history.
+pub struct Give<U> {
+    turn: PhantomData<U>,
+}
+
+impl<U: Turn> Play<Option<PlainTable>, View> for Give<U> {
+    ghost use Rattle.fx_baton.specs.Rule.{Gives};
+
+    ghost then = { Gives U.events U.doing };
+}

@@ -1,0 +1,95 @@
+//! What no clause says: that the calls succeed, and that two threads get on beside each other.
+ghost use Rattle.std.specs.Prelude.{◌≡◌, ◌+◌, ◌∷◌, [], length, All, IfOk};
+ghost use Rattle.fx_plain.specs.State.{IsSettled};
+ghost use Rattle.fx_plain.specs.Contents.{state_of};
+ghost use Rattle.fx_table.specs.Pass.{IsIdle};
+
+mod allocation;
+mod spent;
+mod threads;
+mod turns;
+
+use fx_base::{Catalogue, Mark, OpenFile};
+use fx_plain::PlainTable;
+use fx_table::FileTable;
+use std::alloc::{AllocError, Global};
+use std::process::Abort;
+
+// A catalogue of two entries.
+fn two_names(alloc: Global) -> Result<Catalogue, AllocError> {
+    let mut catalogue = Catalogue::new(alloc);
+    let first = String::from_str(alloc, "first.txt")?;
+    let Ok(()) = catalogue.add(first, Vec::new(alloc)) else {
+        return Err(AllocError);
+    };
+    let second = String::from_str(alloc, "second.txt")?;
+    let Ok(()) = catalogue.add(second, Vec::new(alloc)) else {
+        return Err(AllocError);
+    };
+    Ok(catalogue)
+}
+
+// The i-th file of the k-th list.
+fn opened<R: Abort>(rt: &R, catalogue: &Catalogue, entry: u8, k: u32, i: u32) -> OpenFile {
+    assert!(rt; (entry as u32) < catalogue.len());
+    catalogue.open(entry, Mark::Registered { k, i })
+}
+
+// A table of so many empty slots.
+fn empty_table<R: Abort>(rt: &R, alloc: Global, size: u32) -> PlainTable
+    ensures { IsSettled (state_of result) }
+{
+    assert!(rt; 1 <= size && size <= 256);
+    let Ok(plain) = PlainTable::sparse(alloc, size) else {
+        panic!(rt; "a table")
+    };
+    assert!(rt; plain.is_settled());
+    plain
+}
+
+// The two passes of a table, which leave the list empty.
+fn two_passes<T: FileTable, R: Abort>(
+    rt: &R,
+    table: &T,
+    passes: &mut Vec<T::Pass>,
+) -> (T::Pass, T::Pass)
+    requires { All (λ p. T.fits table.now p) passes.old.items }
+    ensures first { T.fits table.now result.0 }
+    ensures second { T.fits table.now result.1 }
+    ensures list { passes.new.items ≡ [] }
+{
+    let Some(second) = passes.pop() else {
+        panic!(rt; "a second pass")
+    };
+    let Some(first) = passes.pop() else {
+        panic!(rt; "a first pass")
+    };
+    assert!(rt; passes.is_empty());
+    (first, second)
+}
+
+// The table of one thread, when both passes have come back.
+fn closed<T: FileTable, R: Abort>(
+    rt: &R,
+    table: T,
+    mut passes: Vec<T::Pass>,
+    first: T::Pass,
+    second: T::Pass,
+) -> PlainTable
+    requires empty { passes.items ≡ [] }
+    requires two { (T.opening table).passes ≡ 2 }
+    requires first { T.fits table first }
+    requires second { T.fits table second }
+{
+    assert!(rt; table.is_idle(&first));
+    assert!(rt; table.is_idle(&second));
+    match passes.push(first) {
+        Ok(()) => {}
+        Err(_refused) => panic!(rt; "room for the first pass"),
+    }
+    match passes.push(second) {
+        Ok(()) => {}
+        Err(_refused) => panic!(rt; "room for the second pass"),
+    }
+    table.close(passes)
+}

@@ -1,0 +1,50 @@
+-- Two calls in a row.
+use Rattle.std.proofs.Common.{ℕ, List, [], ◌++◌, map, sym, refl, ap, ◌∙◌, append_assoc, arith}
+use mathlib.Core.List.{map-append}
+use Rattle.fx_plain.specs.declared.event.Event.{Event}
+use Rattle.fx_plain.specs.declared.event.Action.{Action}
+use Rattle.fx_plain.specs.History.{IsSeenBy, ◌▷▷◌}
+use Rattle.fx_table.specs.declared.values.Doing.{Doing}
+use Rattle.fx_table.specs.Opening.{Opening}
+use Rattle.fx_table.specs.Pass.{PassView, IsFront, event_of}
+use Rattle.fx_table.specs.Calls.{Use, Adds, nothing, both}
+
+pub seen_again : (h : List Event) → IsSeenBy h h
+seen_again h = ([], refl)
+
+pub seen_further : (f g h : List Event) → IsSeenBy f g → IsSeenBy g h → IsSeenBy f h
+seen_further f g h a b = (b.0 ++ a.0, b.1 ∙ (ap (λ (x : List Event). b.0 ++ x) a.1 ∙ sym (append_assoc b.0 a.0 f)))
+
+-- a pass that does nothing has added nothing
+pub adds_nothing : (o : Opening) (v : PassView) → IsFront o v → Adds o v [] v.doing nothing v
+adds_nothing o v front = record {
+  seen = seen_again v.front;
+  front = front;
+  own = refl;
+  now = refl;
+  number = refl;
+  chain = refl;
+  drawn = refl;
+  told = refl;
+  numbers_left = omega arith;
+  looks_left = omega arith;
+}
+
+-- two calls in a row add what both add
+pub adds_then : (o : Opening) (u v w : PassView) (xs ys : List Action) (d e : Doing) (a b : Use) → Adds o u xs d a v → Adds o v ys e b w → Adds o u (xs ▷▷ ys) e (both a b) w
+adds_then o u v w xs ys d e a b one two = record {
+  seen = seen_further u.front v.front w.front one.seen two.seen;
+  front = two.front;
+  own = two.own
+      ∙ (ap (λ (l : List Event). map (event_of v) ys ++ l) one.own
+      ∙ (ap (λ (z : ℕ × ℕ). map (λ action. record { pass = z.0; chain = z.1; action = action }) ys ++ (map (event_of u) xs ++ u.own)) (λ i. (one.number i, one.chain i))
+      ∙ (sym (append_assoc (map (event_of u) ys) (map (event_of u) xs) u.own)
+      ∙ ap (λ (l : List Event). l ++ u.own) (sym (map-append (event_of u) ys xs)))));
+  now = two.now;
+  number = two.number ∙ one.number;
+  chain = two.chain ∙ one.chain;
+  drawn = two.drawn ∙ one.drawn;
+  told = two.told ∙ one.told;
+  numbers_left = let p = one.numbers_left in let q = two.numbers_left in omega arith;
+  looks_left = let p = one.looks_left in let q = two.looks_left in omega arith;
+}

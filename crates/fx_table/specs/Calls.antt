@@ -1,0 +1,97 @@
+-- What each call of a shared table adds to its pass.
+use Rattle.std.specs.Prelude.{◌≡◌, ℕ, ◌+◌, ◌<◌, ◌≤◌, true, false, List, [], map, Option, Some, None, Result, Ok, Err}
+use Rattle.fx_base.specs.declared.open_file.Closed.{Closed}
+use Rattle.fx_plain.specs.declared.event.File.{File}
+use Rattle.fx_plain.specs.declared.event.Action.{Action}
+use Rattle.fx_plain.specs.declared.event.Action.TheVariants.{Look, Release, Put, Clear, Take, Allocate, Full, Close}
+use Rattle.fx_plain.specs.History.{IsSeenBy, ◌▷◌, ◌▷▷◌}
+use Rattle.fx_plain.specs.Table.{numbered}
+use Rattle.fx_table.specs.Opening.{Opening, size_of, state_at}
+use Rattle.fx_table.specs.Pass.{PassView, IsFront, event_of, next_number, hold_of, retired_of}
+use Rattle.fx_table.specs.declared.values.Doing.{Doing}
+use Rattle.fx_table.specs.declared.values.Doing.TheVariants.{Idle, Holding, Retiring}
+use Rattle.fx_table.specs.declared.values.Hold.{Hold}
+use Rattle.fx_table.specs.declared.values.Retired.{Retired}
+use Rattle.fx_table.specs.declared.values.Empty.{Empty}
+use Rattle.fx_table.specs.declared.values.LookFault.{LookFault}
+use Rattle.fx_table.specs.declared.values.LookFault.TheVariants.{Spent, Empty as EmptySlot}
+
+-- what calls use up
+pub record Use : Type 0 where
+  pub numbers : ℕ
+  pub looks : ℕ
+
+abbrev pub nothing : Use
+nothing = record { numbers = 0; looks = 0 }
+
+abbrev pub one_look : Use
+one_look = record { numbers = 0; looks = 1 }
+
+abbrev pub one_number : Use
+one_number = record { numbers = 1; looks = 0 }
+
+abbrev pub both : Use → Use → Use
+both a b = record { numbers = a.numbers + b.numbers; looks = a.looks + b.looks }
+
+-- The pass saw more of the history and took these actions, whatever others did between. Now it does `doing`
+pub record Adds (o : Opening) (v : PassView) (actions : List Action) (doing : Doing) (used : Use) (w : PassView) : Type 0 where
+  pub seen : IsSeenBy v.front w.front
+  pub front : IsFront o w
+  pub own : w.own ≡ v.own ▷▷ map (event_of v) actions
+  pub now : w.doing ≡ doing
+  pub number : w.number ≡ v.number
+  pub chain : w.chain ≡ v.chain
+  pub drawn : w.drawn ≡ v.drawn
+  pub told : w.told ≡ v.told
+  pub numbers_left : w.numbers_left + used.numbers ≡ v.numbers_left
+  pub looks_left : w.looks_left + used.looks ≡ v.looks_left
+
+-- the file that a call hands out to be closed
+abbrev pub IsHandedOut : File → Closed → Type 0
+IsHandedOut f file = file ≡ f.identity
+
+-- a draw takes no action: the pass has a later chain, with all 64 numbers of it, or is told that there are no more
+abbrev pub Draws : Opening → PassView → Option ℕ → PassView → Type 0
+Draws o v None w = w ≡ record v { told = true }
+Draws o v (Some c) w = (v.told ≡ false) × (v.chain < c) × (c ≤ o.chains) × (w ≡ record v { chain = c; drawn = v.drawn ▷ c; numbers_left = 64 })
+
+abbrev pub Looked : Opening → PassView → ℕ → Result Hold LookFault → PassView → Type 0
+Looked o v slot (Ok hold) w = (f : File) × (hold ≡ hold_of f) × Adds o v ([] ▷ Look slot (Some f)) (Holding f) one_look w
+Looked o v slot (Err Spent) w = (v.looks_left ≡ 0) × (w ≡ v)
+Looked o v slot (Err EmptySlot) w = Adds o v ([] ▷ Look slot None) Idle one_look w
+
+-- what the pass held is `f`
+abbrev pub Releases : Opening → PassView → File → Option Closed → PassView → Type 0
+Releases o v f None w = Adds o v ([] ▷ Release f) Idle nothing w
+Releases o v f (Some file) w = IsHandedOut f file × Adds o v ([] ▷ Release f ▷ Close f) Idle nothing w
+
+abbrev pub Released : Opening → PassView → Hold → Option Closed → PassView → Type 0
+Released o v hold result w = (f : File) × (v.doing ≡ Holding f) × (hold ≡ hold_of f) × Releases o v f result w
+
+-- a new file has the pass's next number
+abbrev pub new_file : PassView → Closed → File
+new_file v file = numbered (next_number v) file
+
+abbrev pub Placed : Opening → PassView → ℕ → Closed → Option Retired → PassView → Type 0
+Placed o v slot file None w = Adds o v ([] ▷ Put slot (new_file v file) None) Idle one_number w
+Placed o v slot file (Some x) w = (f : File) × (x ≡ retired_of f x.takes) × Adds o v ([] ▷ Put slot (new_file v file) (Some f)) (Retiring f x.takes) one_number w
+
+abbrev pub Allocated : Opening → PassView → Closed → Result ℕ Closed → PassView → Type 0
+Allocated o v file (Ok slot) w = (slot < size_of o) × Adds o v ([] ▷ Allocate slot (new_file v file)) Idle one_number w
+Allocated o v file (Err back) w = (back ≡ file) × Adds o v ([] ▷ Full) Idle nothing w
+
+abbrev pub Cleared : Opening → PassView → ℕ → Option Retired → PassView → Type 0
+Cleared o v slot None w = Adds o v ([] ▷ Clear slot None) Idle nothing w
+Cleared o v slot (Some x) w = (f : File) × (x ≡ retired_of f x.takes) × Adds o v ([] ▷ Clear slot (Some f)) (Retiring f x.takes) nothing w
+
+abbrev pub Taken : Opening → PassView → ℕ → Result Retired Empty → PassView → Type 0
+Taken o v slot (Err _) w = Adds o v ([] ▷ Take slot None) Idle nothing w
+Taken o v slot (Ok x) w = (f : File) × (x ≡ retired_of f x.takes) × Adds o v ([] ▷ Take slot (Some f)) (Retiring f x.takes) nothing w
+
+-- what the pass removed is `f`: some pass holds it still, at the end of what was seen, or it is closed
+abbrev pub Retires : Opening → PassView → File → Option Closed → PassView → Type 0
+Retires o v f None w = (0 < (state_at o w.front).holds f.number) × Adds o v [] Idle nothing w
+Retires o v f (Some file) w = IsHandedOut f file × Adds o v ([] ▷ Close f) Idle nothing w
+
+abbrev pub HasRetired : Opening → PassView → Retired → Option Closed → PassView → Type 0
+HasRetired o v retired result w = (f : File) × (takes : ℕ) × (v.doing ≡ Retiring f takes) × (retired ≡ retired_of f takes) × Retires o v f result w

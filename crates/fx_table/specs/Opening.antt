@@ -1,0 +1,38 @@
+-- What a shared table begins with, and the states that histories lead to from there.
+use Rattle.std.specs.Prelude.{◌≡◌, ℕ, ◌+◌, ◌*◌, List, map}
+use Rattle.fx_plain.specs.State.{State, opening}
+use Rattle.fx_plain.specs.Contents.{Contents, state_of}
+use Rattle.fx_plain.specs.History.{state_after, action_of}
+use Rattle.fx_plain.specs.Table.{identity_of}
+use Rattle.fx_plain.specs.declared.event.Event.{Event}
+
+pub record Opening : Type 0 where
+  -- the table that was opened
+  pub contents : Contents
+  -- how many chains there are, from 1
+  pub chains : ℕ
+  -- how many passes there are, from 1
+  pub passes : ℕ
+
+-- how many file numbers there are: 256 for the files that were there, and 64 for each chain
+abbrev pub numbers_for : ℕ → ℕ
+numbers_for chains = 256 + 64 * chains
+
+abbrev pub start_of : Opening → State
+start_of o = opening (state_of o.contents) (numbers_for o.chains)
+
+abbrev pub size_of : Opening → ℕ
+size_of o = (state_of o.contents).size
+
+abbrev pub range_of : Opening → ℕ × ℕ
+range_of o = (state_of o.contents).range
+
+-- the state to which a history leads
+abbrev pub state_at : Opening → List Event → State
+state_at o h = state_after (start_of o) (map action_of h)
+
+-- the same slots, range and files, their numbers aside
+pub record HasSameFiles (one other : State) : Type 0 where
+  pub size : other.size ≡ one.size
+  pub range : other.range ≡ one.range
+  pub files : (slot : ℕ) → identity_of (other.at slot) ≡ identity_of (one.at slot)

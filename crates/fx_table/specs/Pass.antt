@@ -1,0 +1,71 @@
+-- A pass as contracts see it.
+use Rattle.std.specs.Prelude.{◌≡◌, ℕ, zero, suc, ◌+◌, ◌-◌, ◌*◌, ◌^◌, Bool, false, List, [], ◌∷◌}
+use Rattle.fx_plain.specs.declared.event.File.{File}
+use Rattle.fx_plain.specs.declared.event.Event.{Event}
+use Rattle.fx_plain.specs.declared.event.Action.{Action}
+use Rattle.fx_plain.specs.History.{IsLegal, part_of_pass}
+use Rattle.fx_table.specs.Opening.{Opening, start_of, state_at}
+use Rattle.fx_table.specs.declared.values.Doing.{Doing}
+use Rattle.fx_table.specs.declared.values.Doing.TheVariants.{Idle, Holding, Retiring}
+use Rattle.fx_table.specs.declared.values.Hold.{Hold}
+use Rattle.fx_table.specs.declared.values.Retired.{Retired}
+
+pub record PassView : Type 0 where
+  pub number : ℕ
+  -- the history that the pass has seen
+  pub front : List Event
+  -- what the pass has done
+  pub own : List Event
+  -- the chain that the pass drew last, or 0
+  pub chain : ℕ
+  -- all chains that the pass drew
+  pub drawn : List ℕ
+  -- whether a draw has answered that there are no more chains
+  pub told : Bool
+  -- how many file numbers of the chain are left to the pass
+  pub numbers_left : ℕ
+  pub looks_left : ℕ
+  pub doing : Doing
+
+abbrev pub IsIdle : PassView → Type 0
+IsIdle v = v.doing ≡ Idle
+
+-- a pass that has seen and done nothing
+abbrev pub new_pass : ℕ → PassView
+new_pass number = record { number = number; front = []; own = []; chain = 0; drawn = []; told = false; numbers_left = 0; looks_left = 2 ^ 20; doing = Idle }
+
+-- the passes from a number on
+abbrev pub new_passes_from : ℕ → ℕ → List PassView
+new_passes_from first zero = []
+new_passes_from first (suc n) = new_pass first ∷ new_passes_from (first + 1) n
+
+-- so many passes, numbered from 1
+abbrev pub new_passes : ℕ → List PassView
+new_passes n = new_passes_from 1 n
+
+-- the number that the pass's next installation uses: a chain's 64 numbers are used in their order
+abbrev pub next_number : PassView → ℕ
+next_number v = (256 + 64 * v.chain) - v.numbers_left
+
+-- an action of the pass
+abbrev pub event_of : PassView → Action → Event
+event_of v action = record { pass = v.number; chain = v.chain; action = action }
+
+-- the front is legal, and its events of this pass are the pass's own
+pub record IsFront (o : Opening) (v : PassView) : Type 0 where
+  pub legal : IsLegal (start_of o) v.front (state_at o v.front)
+  pub mine : part_of_pass v.number v.front ≡ v.own
+
+abbrev pub hold_of : File → Hold
+hold_of f = record { node = f.number; entry = f.identity.entry }
+
+abbrev pub retired_of : File → ℕ → Retired
+retired_of f takes = record { node = f.number; entry = f.identity.entry; takes = takes }
+
+-- the hold is that of the file that the pass looked up
+abbrev pub IsHoldOf : PassView → Hold → Type 0
+IsHoldOf v hold = (f : File) × (v.doing ≡ Holding f) × (hold ≡ hold_of f)
+
+-- the value is that of the file that the pass removed
+abbrev pub IsRetiredOf : PassView → Retired → Type 0
+IsRetiredOf v retired = (f : File) × (takes : ℕ) × (v.doing ≡ Retiring f takes) × (retired ≡ retired_of f takes)

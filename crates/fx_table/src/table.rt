@@ -1,0 +1,178 @@
+ghost use Rattle.std.specs.Prelude.{◌≡◌, ℕ, ◌<◌, ◌≤◌, ◌↔◌, map, length, All, IfOk, IfErr, IsTrue};
+ghost use Rattle.fx_plain.specs.State.{IsSettled};
+ghost use Rattle.fx_plain.specs.Contents.{state_of};
+ghost use Rattle.fx_table.specs.Opening.{Opening, size_of, range_of, HasSameFiles};
+ghost use Rattle.fx_table.specs.Pass.{PassView, IsIdle, IsFront, IsHoldOf, IsRetiredOf, new_passes};
+ghost use Rattle.fx_table.specs.Calls.{Draws, Looked, Released, Placed, Allocated, Cleared, Taken, HasRetired};
+ghost use Rattle.fx_table.specs.Closing.{Closes};
+
+use crate::values::{Empty, Hold, LookFault, Retired};
+use fx_base::{NoMemory, OpenFile};
+use fx_plain::PlainTable;
+use std::alloc::Global;
+use std::sync::Wait;
+
+/// A file table that threads share, each by a pass of its own (this project's own).
+///
+/// A pass is idle, holding between `look` and `release`, or retiring between a removal and `retire`. It has a *front*,
+/// the history that it has seen, and its *own* events, what it has done; contracts alone see them. Each call goes on
+/// from the front before it, and adds to the pass's own events what its clause names.
+///
+/// Slots are below `size()`. A pass is used with the table whose `open` gave it.
+pub trait FileTable: Sync {
+    /// What a thread uses the table with.
+    type Pass: Send;
+
+    // What the table was opened with.
+    ghost opening: { Self → Opening };
+
+    // The pass is one that this table gave.
+    ghost fits: { Self → Self.Pass → Type 0 };
+
+    // What the pass has seen and done.
+    ghost view: { Self.Pass → PassView };
+
+    /// Shares a settled table between `passes` passes, 1 to 16, which play `chains` chains, at most 1,023. The file at
+    /// slot `s` has number `s`, and chain `c` has the numbers from `256 + 64 * (c - 1)` to `256 + 64 * (c - 1) + 63`.
+    /// The passes are numbered from 1, in the list's order.
+    ///
+    /// # Errors
+    /// `NoMemory` where memory is refused. The table comes back with its files, size and range.
+    fn open(
+        alloc: Global,
+        plain: PlainTable,
+        chains: u32,
+        passes: u32,
+    ) -> Result<(Self, Vec<Self::Pass>), (PlainTable, NoMemory)>
+        requires settled { IsSettled (state_of plain) }
+        requires chains { chains ≤ 1023 }
+        requires passes { (1 ≤ passes) × (passes ≤ 16) }
+        ensures opened { IfOk result (λ t. opening t.0 ≡ record { contents = plain; chains = chains; passes = passes }) }
+        ensures fits { IfOk result (λ t. All (fits t.0) t.1.items) }
+        ensures new { IfOk result (λ t. map (λ p. view p) t.1.items ≡ new_passes passes) }
+        ensures files { IfErr result (λ e. HasSameFiles (state_of plain) (state_of e.0)) }
+        ensures refused { IfErr result (λ e. IsSettled (state_of e.0)) };
+
+    /// Makes a table of one thread of it again, when all passes have come back, each of them idle.
+    fn close(self, passes: Vec<Self::Pass>) -> PlainTable
+        requires all { length passes.items ≡ (opening self).passes }
+        requires fits { All (fits self) passes.items }
+        requires idle { All (λ p. IsIdle (view p)) passes.items }
+        ensures { Closes (opening self) (map (λ p. view p) passes.items) result };
+
+    /// How many slots there are, at most 256.
+    fn size(&self) -> u32
+        ensures value { result ≡ size_of (opening self.now) }
+        ensures few { result ≤ 256 };
+
+    /// The allocation range: the first slot and the number of slots.
+    fn range(&self) -> (u32, u32)
+        ensures { result ≡ range_of (opening self.now) };
+
+    /// Whether the pass does nothing now. Its front is legal, as it is behind each call.
+    fn is_idle(&self, pass: &Self::Pass) -> bool
+        requires { fits self.now pass.now }
+        ensures value { IsTrue result ↔ IsIdle (view pass.now) }
+        ensures front { IsFront (opening self.now) (view pass.now) };
+
+    /// How many look-ups are left to the pass, of 1,048,576 at first.
+    fn looks_left(&self, pass: &Self::Pass) -> u32
+        requires { fits self.now pass.now }
+        ensures { result ≡ (view pass.now).looks_left };
+
+    /// How many files the pass can install before it draws again: 0 before the first draw, and 64 after each draw that
+    /// gives a chain.
+    fn numbers_left(&self, pass: &Self::Pass) -> u32
+        requires { fits self.now pass.now }
+        ensures { result ≡ (view pass.now).numbers_left };
+
+    /// The pass's next chain, or `None` where there are no more. The chains of a pass rise, and no chain is given
+    /// twice. After `None` a pass is answered `None`.
+    fn draw(&self, pass: &mut Self::Pass) -> Option<u32>
+        requires fits { fits self.now pass.old }
+        requires idle { IsIdle (view pass.old) }
+        ensures fits { fits self.now pass.new }
+        ensures drawn { Draws (opening self.now) (view pass.old) result (view pass.new) };
+
+    /// Looks a slot up. The file there has one more hold until the pass releases it (io_uring_enter(2),
+    /// "IOSQE_FIXED_FILE").
+    ///
+    /// # Errors
+    /// `Spent` where the pass has no look-ups left, and nothing is done. `Empty` where the slot has no file. Every
+    /// look-up but one that answers `Spent` uses one of the pass's look-ups.
+    fn look<R: Wait>(&self, rt: &R, pass: &mut Self::Pass, slot: u32) -> Result<Hold, LookFault>
+        requires fits { fits self.now pass.old }
+        requires idle { IsIdle (view pass.old) }
+        requires slot { slot < size_of (opening self.now) }
+        ensures fits { fits self.now pass.new }
+        ensures looked { Looked (opening self.now) (view pass.old) slot result (view pass.new) };
+
+    /// Gives the pass's hold up. The file comes out, to be closed, where it was retired and this was its last hold.
+    fn release<R: Wait>(&self, rt: &R, pass: &mut Self::Pass, hold: Hold) -> Option<OpenFile>
+        requires fits { fits self.now pass.old }
+        requires held { IsHoldOf (view pass.old) hold }
+        ensures fits { fits self.now pass.new }
+        ensures released { Released (opening self.now) (view pass.old) hold result (view pass.new) };
+
+    /// Installs a file at a slot, under the pass's next number. The file that it replaced is to be retired
+    /// (io_uring_prep_openat(3), `io_uring_prep_openat_direct`).
+    fn put<R: Wait>(
+        &self,
+        rt: &R,
+        pass: &mut Self::Pass,
+        slot: u32,
+        file: OpenFile,
+    ) -> Option<Retired>
+        requires fits { fits self.now pass.old }
+        requires idle { IsIdle (view pass.old) }
+        requires slot { slot < size_of (opening self.now) }
+        requires numbers { 0 < (view pass.old).numbers_left }
+        ensures fits { fits self.now pass.new }
+        ensures placed { Placed (opening self.now) (view pass.old) slot file result (view pass.new) };
+
+    /// Installs a file at a free slot of the allocation range, under the pass's next number. The answer is the slot
+    /// (io_uring_prep_openat(3), "IORING_FILE_INDEX_ALLOC").
+    ///
+    /// # Errors
+    /// The file comes back where every slot of the range has a file (ENFILE). It costs no number.
+    fn put_any<R: Wait>(
+        &self,
+        rt: &R,
+        pass: &mut Self::Pass,
+        file: OpenFile,
+    ) -> Result<u32, OpenFile>
+        requires fits { fits self.now pass.old }
+        requires idle { IsIdle (view pass.old) }
+        requires numbers { 0 < (view pass.old).numbers_left }
+        ensures fits { fits self.now pass.new }
+        ensures allocated { Allocated (opening self.now) (view pass.old) file result (view pass.new) };
+
+    /// Empties a slot for an update. The file that was there is to be retired (io_uring_register(2),
+    /// "IORING_REGISTER_FILES_UPDATE", an entry of -1).
+    fn clear<R: Wait>(&self, rt: &R, pass: &mut Self::Pass, slot: u32) -> Option<Retired>
+        requires fits { fits self.now pass.old }
+        requires idle { IsIdle (view pass.old) }
+        requires slot { slot < size_of (opening self.now) }
+        ensures fits { fits self.now pass.new }
+        ensures cleared { Cleared (opening self.now) (view pass.old) slot result (view pass.new) };
+
+    /// Empties a slot for a close. The file that was there is to be retired (io_uring_prep_close(3),
+    /// `io_uring_prep_close_direct`).
+    ///
+    /// # Errors
+    /// `Empty` where the slot has no file.
+    fn take<R: Wait>(&self, rt: &R, pass: &mut Self::Pass, slot: u32) -> Result<Retired, Empty>
+        requires fits { fits self.now pass.old }
+        requires idle { IsIdle (view pass.old) }
+        requires slot { slot < size_of (opening self.now) }
+        ensures fits { fits self.now pass.new }
+        ensures taken { Taken (opening self.now) (view pass.old) slot result (view pass.new) };
+
+    /// Retires the file that the pass removed. The file comes out, to be closed, where nobody holds it now; else its
+    /// last release hands it out.
+    fn retire<R: Wait>(&self, rt: &R, pass: &mut Self::Pass, retired: Retired) -> Option<OpenFile>
+        requires fits { fits self.now pass.old }
+        requires removed { IsRetiredOf (view pass.old) retired }
+        ensures fits { fits self.now pass.new }
+        ensures retired { HasRetired (opening self.now) (view pass.old) retired result (view pass.new) };
+}
