@@ -1,8 +1,8 @@
 -- Each release of a played submission stands right behind the look-up that found its file.
-use Rattle.std.proofs.Common.{◌≡◌, ◌⊎◌, ℕ, zero, suc, ◌+◌, ◌<◌, ◌==◌, ◌||◌, nat_le, nat_lt, ℤ, pos, negsuc, Bool, true, false, List, [], ◌∷◌, ◌++◌, map, length, refl, sym, ap, subst, Option, Some, None, inl, inr}
+use Rattle.std.proofs.Common.{◌≡◌, ℕ, zero, suc, ◌+◌, ◌==◌, ◌||◌, nat_le, nat_lt, ℤ, pos, negsuc, Bool, true, false, List, [], ◌∷◌, ◌++◌, map, length, refl, sym, ap, subst, Option, Some, None, inl, inr}
 use Rattle.std.specs.Bool.{MatchBool}
 use Rattle.std.specs.List.{list_any}
-use Rattle.fx_base.specs.Catalogue.{FileEntry, name_at}
+use Rattle.fx_base.specs.Catalogue.{FileEntry}
 use Rattle.fx_base.specs.AddFault.{has_name}
 use Rattle.fx_base.specs.declared.errno.Errno.{Errno}
 use Rattle.fx_base.specs.declared.errno.Errno.TheVariants.{ENOENT, ENXIO, EBADF, ENOMEM, EINVAL, ENFILE}
@@ -10,7 +10,7 @@ use Rattle.fx_plain.specs.declared.event.File.{File}
 use Rattle.fx_plain.specs.declared.event.Action.{Action}
 use Rattle.fx_plain.specs.declared.event.Action.TheVariants.{Look, Release, Put, Clear, Take, Allocate, Full, Close}
 use Rattle.fx_plain.specs.State.{State}
-use Rattle.fx_plain.specs.History.{Leads, IsLegal, action_of, held_by, ReleasesItsOwn, AllReleaseTheirOwn, ◌▷◌, ◌▷▷◌}
+use Rattle.fx_plain.specs.History.{Leads, IsLegal, action_of, held_by, ReleasesItsOwn, AllReleaseTheirOwn, ◌▷◌}
 use Rattle.fx_chain.specs.Answers.{Refuses, MayClose, OpensAt, ReadsAt, ReadsFrom, TakesAt, Empties, AppliesEntry, AppliesList, UpdatesFrom, Answers, is_bad_entry}
 use Rattle.fx_chain.specs.Completed.{Completed, next_member}
 use Rattle.fx_chain.specs.Explains.{Explains, ExplainsRuns, severs, operations_in, first_member}
@@ -52,7 +52,7 @@ all_behind own (action ∷ h) first second = (all_behind own h first second.0, b
 may_close_behind : (steps : List Action) (removed : Option File) (events : List Action) → MayClose steps removed events → AreBehindLooks steps → AreBehindLooks events
 may_close_behind steps None events is behind = subst AreBehindLooks (sym is) behind
 may_close_behind steps (Some f) events closes behind = elim closes [
-  inl is ↦ subst AreBehindLooks (sym is) behind
+  | inl is ↦ subst AreBehindLooks (sym is) behind
   | inr is ↦ subst AreBehindLooks (sym is) (behind, tt)
 ]
 
@@ -71,13 +71,13 @@ opens_behind size place entry (Slot slot) events c opens =
 opens_behind size place entry Any events c opens =
     matched (size == 0) _ _ (AreBehindLooks events) (refused_behind place ENFILE events c)
     (λ x. elim x [
-      inl y ↦ subst AreBehindLooks (sym y.3) (tt, tt)
-    | inr y ↦ subst AreBehindLooks (sym y.0) (tt, tt)
+      | inl y ↦ subst AreBehindLooks (sym y.3) (tt, tt)
+      | inr y ↦ subst AreBehindLooks (sym y.0) (tt, tt)
     ]) opens
 
 reads_behind : (catalogue : List FileEntry) (place : Place) (slot off len : ℕ) (events : List Action) (c : Completed) → ReadsAt catalogue place slot off len events c → AreBehindLooks events
 reads_behind catalogue place slot off len events c reads = elim reads [
-  inl x ↦ subst AreBehindLooks (sym x.0) (tt, tt)
+  | inl x ↦ subst AreBehindLooks (sym x.0) (tt, tt)
   | inr x ↦ may_close_behind ([] ▷ Look slot (Some x.0) ▷ Release x.0) (Some x.0) events x.1 ((tt, tt), (slot, [], refl))
 ]
 
@@ -85,13 +85,13 @@ reads_from_behind : (catalogue : List FileEntry) (size : ℕ) (place : Place) (s
 reads_from_behind catalogue size place slot off len events c reads =
     matched (nat_le size slot) _ _ (AreBehindLooks events) (refused_behind place EBADF events c)
     (λ x. elim x [
-      inl y ↦ refused_behind place ENOMEM events c y.1
-    | inr y ↦ reads_behind catalogue place slot off len events c y
+      | inl y ↦ refused_behind place ENOMEM events c y.1
+      | inr y ↦ reads_behind catalogue place slot off len events c y
     ]) reads
 
 takes_behind : (place : Place) (slot : ℕ) (events : List Action) (c : Completed) → TakesAt place slot events c → AreBehindLooks events
 takes_behind place slot events c takes = elim takes [
-  inl x ↦ subst AreBehindLooks (sym x.0) (tt, tt)
+  | inl x ↦ subst AreBehindLooks (sym x.0) (tt, tt)
   | inr x ↦ may_close_behind ([] ▷ Take slot (Some x.0)) (Some x.0) events x.1 (tt, tt)
 ]
 
@@ -134,7 +134,7 @@ runs_behind : (catalogue : List FileEntry) (size submission chain : ℕ) (runs :
 runs_behind catalogue size submission chain [] events completions x = subst AreBehindLooks (sym x.0) tt
 runs_behind catalogue size submission chain (run ∷ runs) events completions x =
     subst AreBehindLooks (sym x.4) (all_behind x.0 x.1 (explained_behind catalogue size (first_member submission chain) (operations_in run) x.0 x.2 x.6)
-        (runs_behind catalogue size submission (chain + 1) runs x.1 x.3 x.7))
+    (runs_behind catalogue size submission (chain + 1) runs x.1 x.3 x.7))
 
 own_release : (h : List Action) (action : Action) → IsBehindLook h action → ReleasesItsOwn (held_by (by_one_pass h) 1) action
 own_release h (Look slot found) is = tt

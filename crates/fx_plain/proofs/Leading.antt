@@ -1,12 +1,12 @@
 -- Histories that go on from one another.
-use Rattle.std.proofs.Common.{◌≡◌, ℕ, List, [], ◌∷◌, ◌++◌, refl, sym, ap, subst, ◌∙◌, append_assoc, Option, Some, None}
+use Rattle.std.proofs.Common.{◌≡◌, List, [], ◌∷◌, ◌++◌, refl, sym, ap, subst, ◌∙◌, append_assoc, Some, None}
 use Rattle.std.proofs.lemmas.List.{append-nil}
 use Rattle.fx_base.specs.declared.open_file.Closed.{Closed}
 use Rattle.fx_plain.specs.declared.event.Action.{Action}
 use Rattle.fx_plain.specs.declared.event.Action.TheVariants.{Look, Release, Put, Clear, Take, Allocate, Full, Close}
 use Rattle.fx_plain.specs.State.{State}
 use Rattle.fx_plain.specs.Step.{Allows, after}
-use Rattle.fx_plain.specs.History.{◌▷▷◌, Leads, AllowsAll, state_after, closes_in, closed_by}
+use Rattle.fx_plain.specs.History.{◌▷▷◌, Leads, state_after, closes_in, closed_by}
 
 -- one history goes on where another ended
 pub leads_then : (first mid last : State) (h more : List Action) → Leads first h mid → Leads mid more last → Leads first (h ▷▷ more) last

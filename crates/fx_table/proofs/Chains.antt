@@ -1,5 +1,5 @@
 -- A chain has one pass.
-use Rattle.std.proofs.Common.{◌≡◌, ◌≢◌, ℕ, ◌+◌, ◌≤◌, List, [], ◌∷◌, sym, refl, ap, ◌∙◌, arith, eqb, eq-eqb, inl, inr, ⊎_elim}
+use Rattle.std.proofs.Common.{◌≡◌, ℕ, ◌≤◌, List, [], ◌∷◌, sym, ap, ◌∙◌, arith, eqb, eq-eqb, ⊎_elim}
 use Rattle.fx_plain.specs.Totals.{total}
 use Rattle.fx_table.specs.Lists.{Has, bit, times}
 use Rattle.fx_table.specs.Pass.{PassView}
@@ -22,8 +22,8 @@ pub one_pass : (c : ℕ) (vs : List PassView) → total (λ v. times c v.drawn) 
 one_pass c [] few v w h i d e = absurd h
 one_pass c (u ∷ vs) few v w h i d e = ⊎_elim
     (λ (is : v ≡ u). ⊎_elim
-        (λ (same : w ≡ u). is ∙ sym same)
-        (λ t. absurd (let a : times c v.drawn ≡ times c u.drawn = ap (λ (z : PassView). times c z.drawn) is in let b = times_some c v.drawn d in let r = drawn_some c vs w t e in omega arith)) i)
+    (λ (same : w ≡ u). is ∙ sym same)
+    (λ t. absurd (let a : times c v.drawn ≡ times c u.drawn = ap (λ (z : PassView). times c z.drawn) is in let b = times_some c v.drawn d in let r = drawn_some c vs w t e in omega arith)) i)
     (λ s. ⊎_elim
-        (λ (same : w ≡ u). absurd (let a : times c w.drawn ≡ times c u.drawn = ap (λ (z : PassView). times c z.drawn) same in let b = times_some c w.drawn e in let r = drawn_some c vs v s d in omega arith))
-        (λ t. one_pass c vs (omega arith) v w s t d e) i) h
+    (λ (same : w ≡ u). absurd (let a : times c w.drawn ≡ times c u.drawn = ap (λ (z : PassView). times c z.drawn) same in let b = times_some c w.drawn e in let r = drawn_some c vs v s d in omega arith))
+    (λ t. one_pass c vs (omega arith) v w s t d e) i) h
