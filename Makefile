@@ -3,7 +3,7 @@
 SCRIPT ?= examples/open_read_close.script
 
 .DEFAULT_GOAL := help
-.PHONY: help run try test examples compare must-spend layout bench gate clean
+.PHONY: help run try test examples compare must-spend wrong-bodies layout bench gate clean
 .NOTPARALLEL:
 
 help:
@@ -14,6 +14,7 @@ help:
 	@echo 'make examples     plays every example on the built program'
 	@echo 'make compare      plays random scripts and the largest submissions on the built program and on a second, unproved one'
 	@echo 'make must-spend   shows that a program that loses a file is refused'
+	@echo 'make wrong-bodies tries the wrong bodies for which the gate has no time'
 	@echo 'make layout       looks at the files of the repository'
 	@echo 'make bench        times the largest submission and a tenth of it'
 	@echo 'make gate         proves and tests all crates from nothing'
@@ -39,6 +40,9 @@ compare:
 
 must-spend:
 	@scripts/check-must-spend
+
+wrong-bodies:
+	@scripts/wrong-bodies $(CRATES)
 
 layout:
 	@scripts/check-layout
