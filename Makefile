@@ -17,7 +17,7 @@ help:
 	@echo 'make must-spend   shows that a program that loses a file is refused'
 	@echo 'make wrong-bodies tries the wrong bodies for which the gate has no time'
 	@echo 'make layout       looks at the files of the repository'
-	@echo 'make bench        times the largest submission and a tenth of it'
+	@echo 'make bench        times what scripts do beside a plain program that does the same'
 	@echo 'make gate         proves and tests all crates from nothing'
 	@echo 'make clean        removes what was built; what was proved is kept'
 
