@@ -2,8 +2,10 @@
 #![tactic(auto)]
 
 mod event;
+mod hold_list;
 pub mod laws;
 mod node;
+mod node_list;
 mod table;
 #[cfg(test)]
 mod tests;

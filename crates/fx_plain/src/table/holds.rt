@@ -7,7 +7,6 @@ ghost use Rattle.fx_plain.specs.History.{Leads, close_of, ◌▷◌, ◌▷▷�
 ghost use Rattle.fx_plain.specs.Contents.{state_of, leaving, numbers_of};
 ghost use Rattle.fx_plain.specs.Table.{identity_of, closed_by_release, closed_by_retirement, HasRoomForHold};
 
-use crate::node::{add_hold, end_hold, is_retired, retire, take_file};
 use crate::table::PlainTable;
 use fx_base::OpenFile;
 
@@ -27,7 +26,7 @@ impl PlainTable {
     {
         let number = self.slots[slot as usize]?;
         let entry = self.entry_at(slot)?;
-        add_hold(&mut self.holds, number as usize);
+        self.holds.add_hold(number);
         self.held += 1;
         Some((number, entry))
     }
@@ -41,17 +40,16 @@ impl PlainTable {
         ensures leaving { leaving self.new ≡ leaving self.old }
         ensures numbers { numbers_of self.new ≡ numbers_of self.old }
     {
-        let n = number as usize;
-        let left = end_hold(&mut self.holds, n);
+        let left = self.holds.end_hold(number);
         self.held -= 1;
         if left != 0 {
             return None;
         }
-        if !is_retired(&self.nodes[n]) {
+        if !self.nodes.is_retired(number) {
             return None;
         }
         self.removed -= 1;
-        take_file(&mut self.nodes, n)
+        self.nodes.take_file(number)
     }
 
     /// Retires a removed file: from now on its last release closes it. The file comes out, to be closed, where nobody
@@ -64,12 +62,11 @@ impl PlainTable {
         ensures leaving { leaving self.new ≡ changed_at (leaving self.old) number false }
         ensures numbers { numbers_of self.new ≡ numbers_of self.old }
     {
-        let n = number as usize;
-        if self.holds[n] == 0 {
+        if self.holds.of(number) == 0 {
             self.removed -= 1;
-            return take_file(&mut self.nodes, n);
+            return self.nodes.take_file(number);
         }
-        retire(&mut self.nodes, n);
+        self.nodes.retire(number);
         None
     }
 }

@@ -6,7 +6,7 @@ ghost use Rattle.fx_plain.specs.Step.{Steps, Allows};
 ghost use Rattle.fx_plain.specs.Contents.{state_of, leaving, numbers_of};
 ghost use Rattle.fx_plain.specs.Table.{number_of, numbered, more_leaving};
 
-use crate::node::{Node, leave, set_node};
+use crate::node::Node;
 use crate::table::PlainTable;
 use fx_base::OpenFile;
 
@@ -22,7 +22,7 @@ impl PlainTable {
         ensures leaving { leaving self.new ≡ more_leaving (leaving self.old) ((state_of self.old).at slot) }
         ensures numbers { numbers_of self.new ≡ numbers_of self.old }
     {
-        set_node(&mut self.nodes, number as usize, Node::At(slot, file));
+        self.nodes.set_node(number, Node::At(slot, file));
         let replaced = self.slots[slot as usize];
         self.slots[slot as usize] = Some(number);
         match replaced {
@@ -31,7 +31,7 @@ impl PlainTable {
                 None
             }
             Some(old) => {
-                leave(&mut self.nodes, old as usize);
+                self.nodes.leave(old);
                 self.removed += 1;
                 Some(old)
             }
@@ -97,7 +97,7 @@ impl PlainTable {
         let number = self.slots[slot as usize]?;
         self.slots[slot as usize] = None;
         self.full -= 1;
-        leave(&mut self.nodes, number as usize);
+        self.nodes.leave(number);
         self.removed += 1;
         Some(number)
     }
