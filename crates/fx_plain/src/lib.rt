@@ -11,4 +11,4 @@ mod table;
 mod tests;
 
 pub use event::{Action, Event, File};
-pub use table::{BadRange, PlainTable};
+pub use table::{BadRange, MOST_SLOTS, PlainTable};

@@ -13,6 +13,9 @@ use fx_base::{Closed, Mark, NoMemory};
 use std::alloc::Global;
 use std::marker::Model;
 
+/// How many slots a table may have.
+pub const MOST_SLOTS: u32 = 256;
+
 /// The range is not within the table (EINVAL; io_uring_register(2), "IORING_REGISTER_FILE_ALLOC_RANGE").
 #[derive(Clone, Copy, Debug, PartialEq, Eq)]
 pub struct BadRange;
@@ -53,7 +56,7 @@ impl Model for PlainTable {
 }
 
 impl PlainTable {
-    /// A table without slots, whose allocation range is empty: what a ring has before a registration. It takes no memory.
+    /// A table without slots, whose allocation range is empty: what a ring has before a registration.
     pub fn none(alloc: Global) -> PlainTable
         ensures state { state_of result ≡ vacant 0 }
         ensures numbers { numbers_of result ≡ 0 }
@@ -78,7 +81,7 @@ impl PlainTable {
     /// `NoMemory` where the memory of the slots is refused.
     pub fn sparse(alloc: Global, n: u32) -> Result<PlainTable, NoMemory>
         requires some { 1 ≤ n }
-        requires few { n ≤ 256 }
+        requires few { n ≤ MOST_SLOTS }
         ensures state { IfOk result (λ table. state_of table ≡ vacant n) }
         ensures numbers { IfOk result (λ table. numbers_of table ≡ n) }
     {
@@ -99,7 +102,7 @@ impl PlainTable {
     /// How many slots there are, at most 256.
     pub fn size(&self) -> u32
         ensures value { result ≡ (state_of self.now).size }
-        ensures few { result ≤ 256 }
+        ensures few { result ≤ MOST_SLOTS }
         ensures sound { IsTable self.now }
     {
         self.slots.len() as u32

@@ -4,7 +4,7 @@ ghost use Rattle.fx_plain.specs.declared.event.File.{File};
 ghost use Rattle.fx_plain.specs.declared.event.Action.TheVariants.{Look, Release};
 ghost use Rattle.fx_plain.specs.Step.{Steps, changed_at};
 ghost use Rattle.fx_plain.specs.History.{Leads, close_of, ◌▷◌, ◌▷▷◌};
-ghost use Rattle.fx_plain.specs.Contents.{state_of, leaving, numbers_of};
+ghost use Rattle.fx_plain.specs.Contents.{state_of, leaving, numbers_of, IsTable};
 ghost use Rattle.fx_plain.specs.Table.{identity_of, closed_by_release, closed_by_retirement, HasRoomForHold};
 
 use crate::table::PlainTable;
@@ -23,6 +23,7 @@ impl PlainTable {
         ensures step { Steps (state_of self.old) (Look slot ((state_of self.old).at slot)) (state_of self.new) }
         ensures leaving { leaving self.new ≡ leaving self.old }
         ensures numbers { numbers_of self.new ≡ numbers_of self.old }
+        ensures sound { IsTable self.new }
     {
         let number = self.slots[slot as usize]?;
         let entry = self.entry_at(slot)?;
@@ -39,6 +40,7 @@ impl PlainTable {
         ensures steps { (f : File) → f.number ≡ number → Leads (state_of self.old) ([] ▷ Release f ▷▷ close_of (closed_by_release self.old number)) (state_of self.new) }
         ensures leaving { leaving self.new ≡ leaving self.old }
         ensures numbers { numbers_of self.new ≡ numbers_of self.old }
+        ensures sound { IsTable self.new }
     {
         let left = self.holds.end_hold(number);
         self.held -= 1;
@@ -61,6 +63,7 @@ impl PlainTable {
         ensures steps { Leads (state_of self.old) (close_of (closed_by_retirement self.old number)) (state_of self.new) }
         ensures leaving { leaving self.new ≡ changed_at (leaving self.old) number false }
         ensures numbers { numbers_of self.new ≡ numbers_of self.old }
+        ensures sound { IsTable self.new }
     {
         if self.holds.of(number) == 0 {
             self.removed -= 1;

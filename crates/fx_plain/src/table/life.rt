@@ -3,7 +3,7 @@ ghost use Rattle.std.specs.Prelude.{◌≡◌, ◌≤◌, ◌<◌, ◌+◌, ℕ,
 ghost use Rattle.std.specs.Option.{option_to_list};
 ghost use Rattle.fx_plain.specs.State.{vacant, opening, IsSettled, files_of, files_in_order};
 ghost use Rattle.fx_plain.specs.Totals.{total};
-ghost use Rattle.fx_plain.specs.Contents.{state_of, numbers_of, slot_at, node_at, moved_node, file_in, file_named, nodes_without, opening_slot, file_at, AllPlaced, SameButPlaced, file_count_of, removed_count_of};
+ghost use Rattle.fx_plain.specs.Contents.{state_of, numbers_of, IsTable, slot_at, node_at, moved_node, file_in, file_named, nodes_without, opening_slot, file_at, AllPlaced, SameButPlaced, file_count_of, removed_count_of};
 
 use crate::hold_list::HoldList;
 use crate::node::Node;
@@ -25,6 +25,7 @@ impl PlainTable {
         requires numbers { (state_of self.old).size ≤ numbers }
         ensures ok { OnOk result (state_of self.new ≡ opening (state_of self.old) numbers) }
         ensures numbers { OnOk result (numbers_of self.new ≡ numbers) }
+        ensures sound { IsTable self.new }
         ensures err { OnErr result (self.new ≡ self.old) }
     {
         let alloc = self.nodes.allocator();
@@ -39,7 +40,7 @@ impl PlainTable {
     }
 
     /// Closes all files of a settled table, in order of slot. No slot is left, the allocation range is empty, and how
-    /// many numbers were prepared stays. It takes no memory: the list has room already (io_uring_register(2),
+    /// many numbers were prepared stays. It can't fail for want of memory: the list has room already (io_uring_register(2),
     /// "IORING_UNREGISTER_FILES").
     pub fn empty_into(&mut self, closes: &mut CloseList)
         requires settled { IsSettled (state_of self.old) }
@@ -64,7 +65,7 @@ impl PlainTable {
         self.abandon();
     }
 
-    /// Lets every file of the table go without a list. It is the way out after a fault, and takes no memory (this
+    /// Lets every file of the table go without a list. It is the way out after a fault, and can't fail for want of memory (this
     /// project's own).
     pub fn abandon(self) {
         let PlainTable {
@@ -102,7 +103,7 @@ fn move_file(slots: &mut Vec<Option<u32>>, nodes: &mut NodeList, slot: usize) ->
 
 // Each file that stands at a slot moves to the node of the slot's own number.
 fn renumber(slots: &mut Vec<Option<u32>>, nodes: &mut NodeList, moved: &mut Vec<Node>)
-    requires few { vec_len slots.old ≤ 256 }
+    requires few { vec_len slots.old < 2 ^ 32 }
     requires placed { AllPlaced slots.old.items nodes.old }
     requires room { (moved.old.items ≡ []) × (vec_len slots.old ≤ vec_capacity moved.old) }
     ensures len { vec_len slots.new ≡ vec_len slots.old }

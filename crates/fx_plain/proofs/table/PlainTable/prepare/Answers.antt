@@ -44,3 +44,6 @@ returns-clause-ok c =
     ≡ prepared (the_view c.self.inside) c.renumber.new.slots.items c.renumber.new.moved.items c.args.numbers c.self.invariant.0 enough few same_len size named filed =
     λ i. record { slots = c.renumber.new.slots.items; range = (c.self.inside.range_start, c.self.inside.range_len); nodes = nodes_are i; holds = c.in_ok-holds.ensures i; numbers = c.args.numbers } in
     ap state_of same ∙ state_of-prepared (the_view c.self.inside) c.renumber.new.slots.items c.renumber.new.moved.items c.args.numbers c.self.invariant.0 enough few same_len size named filed ∙ ap (λ (k : Contents). opening (state_of k) c.args.numbers) c.self.view_is
+
+pub returns-clause-sound : goal.returns-clause-sound
+returns-clause-sound c = (invariant_of-self c).0

@@ -81,3 +81,9 @@ returns-in-Some-clause-leaving c =
     let at = seen_at c.self.inside.slots.items c.args.slot None c.index-replaced.result.now (Some c.in-Some.old) inside c.index-replaced.ensures c.in-Some.is in
     carried (λ k m. leaving m ≡ more_leaving (leaving k) ((state_of k).at c.args.slot)) c.self.view_is
     (as_put_over (the_view c.self.inside) c.args.slot c.args.number c.args.file c.self.invariant.0 inside fresh c.in-Some.old c.set_node.new.self c.leave.new.self at c.set_node.ensures c.leave.ensures) (put_leaving (the_view c.self.inside) c.args.slot c.args.number c.args.file c.self.invariant.0 inside fresh)
+
+pub returns-in-None-clause-sound : goal.returns-in-None-clause-sound
+returns-in-None-clause-sound c = (invariant_of-self c).0
+
+pub returns-in-Some-clause-sound : goal.returns-in-Some-clause-sound
+returns-in-Some-clause-sound c = (invariant_of-self-in-Some c).0

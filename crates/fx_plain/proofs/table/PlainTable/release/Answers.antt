@@ -72,3 +72,6 @@ returns-clause-leaving c =
     let last : slice_index c.self.inside.holds c.args.number ≡ 1 = let left = c.end_hold-left.ensures.left in let zero_left = c.if-left-ne0.false in omega arith in
     carried (λ k m. leaving m ≡ leaving k) c.self.view_is (λ i. record (the_view c.self.inside) { holds = c.end_hold-left.ensures.after i; nodes = c.take_file.ensures.after i })
     (let_go_leaving (the_view c.self.inside) c.args.number c.self.invariant.0 some_hold last closed)
+
+pub returns-clause-sound : goal.returns-clause-sound
+returns-clause-sound c = (invariant_of-self-2 c).0

@@ -58,3 +58,6 @@ pub retire-requires : goal.retire-requires
 retire-requires c =
     let going : leaving (the_view c.self.inside) c.args.number ≡ true = search rules in
     has_file-leaving (node_at c.self.inside.nodes c.args.number) going
+
+pub returns-then-of-eq0-clause-sound : goal.returns-then-of-eq0-clause-sound
+returns-then-of-eq0-clause-sound c = (invariant_of-self c).0

@@ -51,3 +51,6 @@ returns-clause-leaving c =
     carried (λ k m. leaving m ≡ more_leaving (leaving k) ((state_of k).at c.args.slot)) c.self.view_is
     (as_taken (the_view c.self.inside) c.args.slot c.in_ok-number.number c.leave.new.self at c.leave.ensures)
     (take_leaving (the_view c.self.inside) c.args.slot c.self.invariant.0)
+
+pub returns-clause-sound : goal.returns-clause-sound
+returns-clause-sound c = (invariant_of-self c).0
