@@ -1,19 +1,26 @@
 # Plays and tests fixfiles. `make` alone says what there is.
 
+# The path of a script goes to the commands by the environment alone, so that it may have any characters.
 SCRIPT ?= examples/open_read_close.script
+export SCRIPT
+
+ifeq ($(wildcard scripts/need-script),)
+$(error Call make in the folder of this Makefile: make -C '$(patsubst %/,%,$(dir $(abspath $(lastword $(MAKEFILE_LIST)))))')
+endif
 
 .DEFAULT_GOAL := help
-.PHONY: help run try test examples limits compare must-spend wrong-bodies layout bench gate clean
+.PHONY: help run try test examples limits compare mistakes must-spend wrong-bodies layout bench gate clean
 .NOTPARALLEL:
 
 help:
-	@echo 'make run          builds the program at bin/fixfiles and plays $(SCRIPT)'
+	@echo 'make run          builds the program at bin/fixfiles and plays examples/open_read_close.script'
 	@echo 'make run SCRIPT=path    plays another script'
 	@echo 'make try          plays a script in seconds, by a run that proves nothing'
 	@echo 'make test         runs everything that must hold'
 	@echo 'make examples     plays every example on the built program'
 	@echo 'make limits       plays scripts at the limits of the language and the table, and measures the memory that they take'
 	@echo 'make compare      plays random scripts and the largest submissions on the built program and on a second, unproved one'
+	@echo 'make mistakes     makes the mistakes that a user may make, and wants each answered'
 	@echo 'make must-spend   shows that a program that loses a file is refused'
 	@echo 'make wrong-bodies tries the wrong bodies for which the gate has no time'
 	@echo 'make layout       looks at the files of the repository'
@@ -22,11 +29,10 @@ help:
 	@echo 'make clean        removes what was built; what was proved is kept'
 
 run:
-	@scripts/build-program
-	@bin/fixfiles < '$(SCRIPT)'
+	@scripts/run-script
 
 try:
-	@scripts/try-script '$(SCRIPT)'
+	@scripts/try-script
 
 test:
 	@scripts/test
@@ -42,6 +48,9 @@ limits:
 compare:
 	@scripts/build-program
 	@scripts/compare bin/fixfiles
+
+mistakes:
+	@scripts/check-mistakes
 
 must-spend:
 	@scripts/check-must-spend
