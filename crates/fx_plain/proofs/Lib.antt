@@ -13,3 +13,4 @@ pub mod Named
 pub mod LawHolds
 pub mod LawTallies
 pub mod LawFiles
+pub mod FilesWereInstalled
