@@ -29,6 +29,8 @@ help:
 	@echo 'make bench        times what scripts do beside a plain program that does the same'
 	@echo 'make gate         proves and tests all crates from nothing'
 	@echo 'make clean        removes what was built; what was proved is kept'
+	@echo 'make kernel       plays a script on the io_uring of this machine'
+	@echo 'make agree        compares that kernel with the model on every example and 500 random scripts'
 
 run:
 	@scripts/run-script
@@ -79,3 +81,12 @@ gate:
 
 clean:
 	@rm -rf bin build
+
+.PHONY: kernel agree
+
+kernel: export SCRIPT := $(SCRIPT)
+kernel:
+	@scripts/play-on-kernel "$$SCRIPT"
+
+agree:
+	@scripts/agree
