@@ -1,3 +1,4 @@
+pub mod ReservedLists
 pub mod Cells
 pub mod Leading
 pub mod TotalLemmas
