@@ -1,1 +1,9 @@
-
+pub mod Places
+pub mod Histories
+pub mod Frames
+pub mod Keeping
+pub mod Unchanged
+pub mod NodeSteps
+pub mod Births
+pub mod Retirements
+pub mod Releases
