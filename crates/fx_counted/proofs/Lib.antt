@@ -7,3 +7,5 @@ pub mod NodeSteps
 pub mod Births
 pub mod Retirements
 pub mod Releases
+pub mod SlotSteps
+pub mod LookUps
