@@ -9,3 +9,6 @@ pub mod Retirements
 pub mod Releases
 pub mod SlotSteps
 pub mod LookUps
+pub mod FullSlots
+pub mod Swaps
+pub mod Changes
