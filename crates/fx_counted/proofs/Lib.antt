@@ -12,3 +12,5 @@ pub mod LookUps
 pub mod FullSlots
 pub mod Swaps
 pub mod Changes
+pub mod Calm
+pub mod ControlSteps
