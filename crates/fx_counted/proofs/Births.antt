@@ -1,5 +1,5 @@
 -- A birth keeps the rule, and so does a rest.
-use Rattle.std.proofs.Common.{◌≡◌, ◌≢◌, ℕ, ◌+◌, ◌-◌, ◌*◌, ◌<◌, ◌≤◌, List, [], ◌∷◌, set, get_or, length, sym, refl, ap, ◌∙◌, subst, arith, length-set, Option, Some, None, ◌⊎◌, inl, inr, ⊎_elim}
+use Rattle.std.proofs.Common.{◌≡◌, ◌≢◌, ℕ, ◌+◌, ◌<◌, ◌≤◌, List, [], ◌∷◌, set, length, sym, refl, ap, ◌∙◌, subst, arith, length-set, Option, Some, None, ◌⊎◌, inr, ⊎_elim}
 use mathlib.Core.Logic.{dite}
 use mathlib.Core.Option.{some, none}
 use native.Mathlib.Decide.{ℕ_discrete}
@@ -11,22 +11,19 @@ use Rattle.fx_plain.specs.declared.event.File.{File}
 use Rattle.fx_plain.specs.Step.{changed_at}
 use Rattle.fx_table.specs.Calls.{nothing}
 use Rattle.fx_table.specs.Pass.{next_number}
-use Rattle.fx_table.specs.Lists.{bit}
 use Rattle.fx_words.specs.Words.{born}
-use Rattle.fx_counted.specs.Agrees.{Home, NodeAgrees, OwnerAgrees, WorkAgrees, PlacesNext, LogAgrees, Agrees}
-use Rattle.fx_counted.specs.Laws.{HasPass, word_of, place_of, BirthsKeep, RestsKeep}
-use Rattle.fx_counted.specs.Layout.{node_place, home_place}
-use Rattle.fx_counted.specs.Passes.{Shared, first_log, pass_of, Sat, opening_of, slots_of, IsNumber, state_after_all, chain_in, end_in, next_in, held_in, placing, held_of, holding}
-use Rattle.fx_counted.specs.Phases.{Phase, unborn, spare, placed, seated, emptied, closed, owner, file_in}
+use Rattle.fx_counted.specs.Agrees.{Home, NodeAgrees, OwnerAgrees, WorkAgrees, PlacesNext, Agrees}
+use Rattle.fx_counted.specs.Laws.{word_of, place_of, BirthsKeep, RestsKeep}
+use Rattle.fx_counted.specs.Passes.{Shared, first_log, pass_of, Sat, IsNumber, state_after_all, end_in, next_in, held_in, placing, held_of, holding}
+use Rattle.fx_counted.specs.Phases.{Phase, unborn, spare, placed, emptied, closed, owner, file_in}
 use Rattle.fx_counted.specs.Tells.{Stepped, Births, Rests}
 use Rattle.fx_counted.specs.declared.view.Log.{Log}
 use Rattle.fx_counted.specs.declared.view.Start.{Start}
 use Rattle.fx_counted.specs.declared.view.View.{View}
-use Rattle.fx_counted.specs.declared.view.Work.{Work}
 use Rattle.fx_counted.specs.declared.view.Work.TheVariants.{Idle, Placing, Holding, Emptying}
 use Rattle.fx_counted.proofs.Histories.{grows_none, change_here, change_else}
 use Rattle.fx_counted.proofs.Frames.{busy, does_now}
-use Rattle.fx_counted.proofs.Keeping.{Homes, word_at, now, logged, its_log, its_work, tells}
+use Rattle.fx_counted.proofs.Keeping.{word_at, now, logged, its_log, its_work, tells}
 use Rattle.fx_counted.proofs.NodeSteps.{one_same, near, far, NodeStep, node_agrees}
 
 -- the file that a pass holds is open

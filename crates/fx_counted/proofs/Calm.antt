@@ -1,10 +1,9 @@
 -- A step that changes no slot and no number, and leaves the pass at its work.
-use Rattle.std.proofs.Common.{◌≡◌, ◌≢◌, ℕ, zero, suc, ◌+◌, ◌-◌, ◌<◌, ◌≤◌, List, [], ◌∷◌, set, length, sym, refl, ap, ◌∙◌, subst, arith, Option, Some, None}
+use Rattle.std.proofs.Common.{◌≡◌, ℕ, List, [], ◌∷◌, set, length, sym, refl, ap, ◌∙◌, subst, arith}
 use mathlib.Core.Option.{some}
 use lib.ListN.{get_elem?}
 use Rattle.fx_plain.specs.History.{held_by}
 use Rattle.fx_plain.specs.State.{State}
-use Rattle.fx_plain.specs.declared.event.File.{File}
 use Rattle.fx_plain.specs.declared.event.Event.{Event}
 use Rattle.fx_table.specs.Opening.{range_of}
 use Rattle.fx_counted.specs.Agrees.{NodeAgrees, PlacesNext, Agrees}
@@ -12,7 +11,7 @@ use Rattle.fx_counted.specs.Control.{ControlCounts}
 use Rattle.fx_counted.specs.Counts.{looks, all_looks}
 use Rattle.fx_counted.specs.Laws.{word_of, place_of}
 use Rattle.fx_counted.specs.Layout.{control_place, draw_place, slot_place}
-use Rattle.fx_counted.specs.Passes.{Shared, opening_of, slots_of, IsNumber, state_after_all, next_in, held_of}
+use Rattle.fx_counted.specs.Passes.{Shared, opening_of, IsNumber, state_after_all, next_in}
 use Rattle.fx_counted.specs.declared.view.Change.{Change}
 use Rattle.fx_counted.specs.declared.view.Log.{Log}
 use Rattle.fx_counted.specs.declared.view.View.{View}

@@ -1,12 +1,10 @@
 -- An installation and a removal keep the rule.
-use Rattle.std.proofs.Common.{◌≡◌, ◌≢◌, ℕ, zero, suc, ◌+◌, ◌-◌, ◌*◌, ◌<◌, ◌≤◌, ◌^◌, Bool, true, false, List, [], ◌∷◌, set, length, sym, refl, ap, ◌∙◌, subst, arith, eqb, length-set, Option, Some, None, inl, inr}
+use Rattle.std.proofs.Common.{◌≡◌, ◌≢◌, ℕ, ◌-◌, ◌<◌, ◌^◌, Bool, false, List, [], ◌∷◌, set, sym, refl, ap, ◌∙◌, subst, arith, length-set, Option, Some, None}
 use mathlib.Core.Logic.{dite}
-use mathlib.Core.Option.{some, none}
+use mathlib.Core.Option.{some}
 use native.Mathlib.Decide.{ℕ_discrete}
 use lib.ListN.{get_elem?}
-use prog.Atomic.{either}
-use Rattle.atomic_table.specs.Table.{Act, keeps, gives, rest, Allows, Valid, stepped, carried_after, step}
-use Rattle.atomic_table.proofs.Lists.{set_here, set_else, exchanged}
+use Rattle.atomic_table.proofs.Lists.{set_here, set_else}
 use Rattle.fx_base.specs.declared.open_file.Closed.{Closed}
 use Rattle.fx_plain.specs.History.{◌▷◌, held_by, held_after}
 use Rattle.fx_plain.specs.Step.{changed_at, with_removed}
@@ -14,31 +12,28 @@ use Rattle.fx_plain.specs.Table.{numbered}
 use Rattle.fx_plain.specs.declared.event.File.{File}
 use Rattle.fx_plain.specs.declared.event.Event.{Event}
 use Rattle.fx_plain.specs.declared.event.Action.{Action}
-use Rattle.fx_plain.specs.declared.event.Action.TheVariants.{Put, Clear, Take, Allocate}
 use Rattle.fx_table.specs.Calls.{nothing, one_number}
 use Rattle.fx_table.specs.Opening.{range_of}
 use Rattle.fx_table.specs.Pass.{event_of}
-use Rattle.fx_words.specs.Words.{name_in, takes_in, slot_word_of, born}
+use Rattle.fx_words.specs.Words.{takes_in, slot_word_of}
 use Rattle.fx_words.proofs.Parts.{name_made, entry_made, takes_made}
-use Rattle.fx_counted.specs.Agrees.{Names, IsSeated, NodeAgrees, OwnerAgrees, WorkAgrees, PlacesNext, Agrees}
+use Rattle.fx_counted.specs.Agrees.{Names, NodeAgrees, OwnerAgrees, WorkAgrees, PlacesNext, Agrees}
 use Rattle.fx_counted.specs.Control.{if_full}
 use Rattle.fx_counted.specs.Counts.{looks, all_looks}
-use Rattle.fx_counted.specs.Laws.{HasPass, MayChange, word_of, place_of, ClearsKeep, TakesKeep, InstallsKeep}
-use Rattle.fx_counted.specs.Layout.{slot_place, slot_of}
-use Rattle.fx_counted.specs.Passes.{Shared, Sat, opening_of, slots_of, IsNumber, state_after_all, shown, end_in, next_in, held_in, placing, held_of, holding}
+use Rattle.fx_counted.specs.Laws.{word_of, place_of}
+use Rattle.fx_counted.specs.Layout.{slot_place}
+use Rattle.fx_counted.specs.Passes.{Shared, opening_of, slots_of, IsNumber, state_after_all, shown, next_in, held_in, placing, holding}
 use Rattle.fx_counted.specs.Phases.{Phase, unborn, spare, placed, seated, owner, file_in}
-use Rattle.fx_counted.specs.Tells.{IsInside, Stepped, Installs, Removes, retires_now, turned}
+use Rattle.fx_counted.specs.Tells.{IsInside, Stepped, retires_now, turned}
 use Rattle.fx_counted.specs.declared.view.Log.{Log}
-use Rattle.fx_counted.specs.declared.view.Start.{Start}
 use Rattle.fx_counted.specs.declared.view.View.{View}
-use Rattle.fx_counted.specs.declared.view.Work.TheVariants.{Idle, Placing, Holding}
+use Rattle.fx_counted.specs.declared.view.Work.TheVariants.{Idle, Placing}
 use Rattle.fx_counted.proofs.Births.{in_phase, roomy, else_place, held_file}
 use Rattle.fx_counted.proofs.Frames.{busy, stays_same, owner_stays}
 use Rattle.fx_counted.proofs.FullSlots.{Stands, control_swap}
-use Rattle.fx_counted.proofs.Histories.{IsHistory, grows_one, legal_more, part_mine, change_here, change_else, same_shape}
+use Rattle.fx_counted.proofs.Histories.{IsHistory, grows_one, part_mine, change_here, change_else, same_shape}
 use Rattle.fx_counted.proofs.Keeping.{Homes, word_at, now, logged, its_log, its_work, tells}
-use Rattle.fx_counted.proofs.NodeSteps.{far}
-use Rattle.fx_counted.proofs.Swaps.{NotOf, removed_else, found, state, so, seat_of, not_old, elsewhere, e, h', y, w, next_state, Swap, swap_agrees}
+use Rattle.fx_counted.proofs.Swaps.{NotOf, removed_else, found, state, so, seat_of, not_old, elsewhere, w, Swap, swap_agrees}
 use Rattle.fx_counted.proofs.Unchanged.{node_same}
 
 module _ (st : Shared) (v : View) (r : Agrees v.start st) (id : ℕ) (x : Log) (here : get_elem? st.views id ≡ some v) (one : v.logs ≡ x ∷ []) (s : ℕ) (inside : s < slots_of v.start) (stands : Stands (range_of (opening_of v.start)) s v.change)

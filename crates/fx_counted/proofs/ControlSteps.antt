@@ -1,5 +1,5 @@
 -- Begin, end, answer and load keep the rule.
-use Rattle.std.proofs.Common.{◌≡◌, ◌≢◌, ℕ, zero, suc, ◌+◌, ◌-◌, ◌*◌, ◌/◌, ◌%◌, ◌^◌, ◌<◌, ◌≤◌, List, [], ◌∷◌, set, get_or, length, sym, refl, ap, ◌∙◌, subst, arith, length-set, get_or-set_other, get_or-set_same, Option, Some, None, IsSome}
+use Rattle.std.proofs.Common.{◌≡◌, ◌≢◌, ℕ, zero, suc, ◌+◌, ◌-◌, ◌/◌, ◌%◌, ◌^◌, ◌<◌, ◌≤◌, List, [], ◌∷◌, set, length, sym, refl, ap, subst, arith, length-set, get_or-set_other, get_or-set_same, Option, IsSome}
 use mathlib.Core.Logic.{dite}
 use mathlib.Core.Option.{some, none, some-injective, some-ne-none}
 use native.Mathlib.Decide.{ℕ_discrete}
@@ -7,11 +7,9 @@ use lib.ListN.{get_elem?}
 use Rattle.atomic_table.specs.Table.{keeps, Allows, step}
 use Rattle.fx_base.specs.declared.open_file.Closed.{Closed}
 use Rattle.fx_plain.specs.History.{◌▷◌}
-use Rattle.fx_plain.specs.State.{State, IsInRange}
 use Rattle.fx_plain.specs.Totals.{total}
 use Rattle.fx_plain.specs.declared.event.File.{File}
 use Rattle.fx_plain.specs.declared.event.Event.{Event}
-use Rattle.fx_plain.specs.declared.event.Action.{Action}
 use Rattle.fx_plain.specs.declared.event.Action.TheVariants.{Full}
 use Rattle.fx_table.specs.Calls.{nothing}
 use Rattle.fx_table.specs.Opening.{range_of}
@@ -20,9 +18,9 @@ use Rattle.fx_table.proofs.Totals.{total_set, total_at, total_le}
 use Rattle.fx_words.specs.Words.{one_change, full_word_of}
 use Rattle.fx_counted.specs.Agrees.{WorkAgrees, lengths, Agrees}
 use Rattle.fx_counted.specs.Control.{in_change, added, removed_by, changes_of, added_of, removed_of, full_in, ControlCounts}
-use Rattle.fx_counted.specs.Laws.{HasPass, word_of, BeginsKeep, EndsKeep, AnswersKeep, LoadsKeep}
+use Rattle.fx_counted.specs.Laws.{word_of, BeginsKeep, EndsKeep, AnswersKeep}
 use Rattle.fx_counted.specs.Layout.{control_place, draw_place, slot_place}
-use Rattle.fx_counted.specs.Passes.{Shared, Sat, opening_of, slots_of, IsNumber, state_after_all, shown}
+use Rattle.fx_counted.specs.Passes.{Shared, Sat, opening_of, state_after_all, shown}
 use Rattle.fx_counted.specs.Tells.{IsInside, Stepped, GoesOn, Answers}
 use Rattle.fx_counted.specs.declared.view.Change.{Change}
 use Rattle.fx_counted.specs.declared.view.Change.TheVariants.{Outside, Same, More, Less}
@@ -153,7 +151,7 @@ module _ (st : Shared) (v : View) (r : Agrees v.start st) (id : ℕ) (x : Log) (
       control = subst (ControlCounts at_now range (set st.views id (now v (logged x (e ∷ r.history) x.numbers_left x.looks_left) v.work c))) (sym (get_or-set_same st.words control_place y 0 wide)) control;
     }
 
-  goes_on : (c : Change) (carried : List (ℕ × Option Closed)) → Stepped (v, carried) [] nothing v.work c (now v (logged x r.history x.numbers_left x.looks_left) v.work c, carried)
+  pub goes_on : (c : Change) (carried : List (ℕ × Option Closed)) → Stepped (v, carried) [] nothing v.work c (now v (logged x r.history x.numbers_left x.looks_left) v.work c, carried)
   goes_on c carried = tells st v r id x here one carried carried r.history x.numbers_left x.looks_left v.work c [] nothing (grows_none x.number r.history) r.legal refl (omega arith) (omega arith) its_inside
 
   module _ (fits : word < 18446744073709551616) where
@@ -214,7 +212,7 @@ answers_at : (slots id : ℕ) (m : Sat) (x : Log) → m.0.logs ≡ x ∷ [] → 
     → Allows (Agrees m.0.start) slots id m control_place (λ word. (word + (2 ^ 64 - one_change)) % 2 ^ 64) (Answers (step slots control_place one_change 0 none) m)
 answers_at slots id m x one same st r deep here fits = let y : ℕ = (word_at st.words control_place + (2 ^ 64 - one_change)) % 2 ^ 64 in let len : ℕ = (range_of (opening_of m.0.start)).1 in
     let counts : (h' : List Event) → ControlCounts (state_after_all m.0.start r.history).at (range_of (opening_of m.0.start)) (set st.views id (now m.0 (logged x h' x.numbers_left x.looks_left) m.0.work Outside)) y =
-        λ h'. ended st m.0 r id x here one fits h' one_change (ap in_change same) (let a = ap added same in let b = ap removed_by same in omega arith) in
+    λ h'. ended st m.0 r id x here one fits h' one_change (ap in_change same) (let a = ap added same in let b = ap removed_by same in omega arith) in
     dite (ℕ_discrete (word_at st.words control_place) (full_word_of len))
     (λ says. let each = says_so st m.0 r id x here one fits same says in let e : Event = event_of (shown x m.0.work) Full in (
       now m.0 (logged x (e ∷ r.history) x.numbers_left x.looks_left) m.0.work Outside,

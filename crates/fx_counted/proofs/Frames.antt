@@ -8,8 +8,8 @@ use Rattle.fx_plain.specs.declared.event.File.{File}
 use Rattle.fx_plain.specs.declared.event.Event.{Event}
 use Rattle.fx_plain.specs.Table.{numbered}
 use Rattle.fx_table.specs.Lists.{bit}
-use Rattle.fx_table.proofs.Totals.{total_set, total_at, total_two}
-use Rattle.fx_counted.specs.Agrees.{Does, OwnerAgrees, WorkAgrees, LogAgrees, ViewAgrees, Agrees}
+use Rattle.fx_table.proofs.Totals.{total_at, total_two}
+use Rattle.fx_counted.specs.Agrees.{Does, OwnerAgrees, WorkAgrees, ViewAgrees, Agrees}
 use Rattle.fx_counted.specs.Passes.{Shared, logs_of, once}
 use Rattle.fx_counted.specs.Phases.{Phase, unborn, spare, placed, seated, leaving, retired, emptied, closed, owner, file_in}
 use Rattle.fx_counted.specs.declared.view.Log.{Log}

@@ -1,16 +1,15 @@
 -- Histories that grow by one event.
-use Rattle.std.proofs.Common.{◌≡◌, ◌≢◌, ℕ, ◌+◌, ◌-◌, ◌<◌, ◌≤◌, Bool, true, false, cond, List, [], ◌∷◌, ◌++◌, map, length, sym, refl, ap, ◌∙◌, subst, arith, eqb, eq-eqb, ne_eqb, length-append}
-use Rattle.std.specs.Prelude.{filter, Option, Some, None}
+use Rattle.std.proofs.Common.{◌≡◌, ◌≢◌, ℕ, ◌+◌, ◌≤◌, true, false, cond, List, [], ◌∷◌, ◌++◌, length, sym, refl, ap, ◌∙◌, arith, eqb, eq-eqb, ne_eqb, length-append}
+use Rattle.std.specs.Prelude.{Some, None}
 use mathlib.Core.Logic.{dite}
 use native.Mathlib.Decide.{ℕ_discrete}
 use Rattle.fx_plain.specs.State.{State}
 use Rattle.fx_plain.specs.Step.{Allows, after, changed_at}
-use Rattle.fx_plain.specs.History.{held_after, held_by, AllReleaseTheirOwn, ReleasesItsOwn, IsLegal, IsSeenBy, part_of_pass, state_after, action_of}
-use Rattle.fx_plain.specs.declared.event.File.{File}
+use Rattle.fx_plain.specs.History.{held_after, held_by, ReleasesItsOwn, IsLegal, IsSeenBy, part_of_pass}
 use Rattle.fx_plain.specs.declared.event.Event.{Event}
 use Rattle.fx_plain.specs.declared.event.Action.{Action}
 use Rattle.fx_plain.specs.declared.event.Action.TheVariants.{Look, Release, Put, Clear, Take, Allocate, Full, Close}
-use Rattle.fx_table.specs.Opening.{Opening, start_of, state_at, size_of, range_of}
+use Rattle.fx_table.specs.Opening.{start_of, range_of}
 use Rattle.fx_counted.specs.Counts.{looks_after, looks, look_in, all_looks}
 use Rattle.fx_counted.specs.Passes.{opening_of, slots_of, state_after_all}
 use Rattle.fx_counted.specs.declared.view.Start.{Start}

@@ -4,7 +4,7 @@ use mathlib.Core.Option.{some, some-injective, some-ne-none}
 use mathlib.Core.Option as maybe
 use lib.ListN.{get_elem?}
 use Rattle.fx_base.specs.declared.open_file.Closed.{Closed}
-use Rattle.fx_plain.specs.History.{IsSeenBy, part_of_pass, held_by}
+use Rattle.fx_plain.specs.History.{part_of_pass}
 use Rattle.fx_plain.specs.Totals.{total}
 use Rattle.fx_plain.specs.declared.event.Event.{Event}
 use Rattle.fx_plain.specs.declared.event.Action.{Action}
@@ -13,20 +13,19 @@ use Rattle.fx_table.specs.Opening.{range_of}
 use Rattle.fx_table.specs.Pass.{PassView, event_of}
 use Rattle.fx_table.specs.Lists.{bit}
 use Rattle.fx_table.proofs.Totals.{total_set}
-use Rattle.fx_counted.specs.Agrees.{SlotAgrees, NodeAgrees, OwnerAgrees, WorkAgrees, PlacesNext, LogAgrees, ViewAgrees, HasShape, lengths, Agrees}
+use Rattle.fx_counted.specs.Agrees.{SlotAgrees, NodeAgrees, OwnerAgrees, WorkAgrees, LogAgrees, ViewAgrees, lengths, Agrees}
 use Rattle.fx_counted.specs.Control.{ControlCounts}
 use Rattle.fx_counted.specs.Counts.{looks, all_looks}
 use Rattle.fx_counted.specs.Draws.{DrawsCount}
 use Rattle.fx_counted.specs.Layout.{control_place, draw_place, slot_place, node_place, home_place}
-use Rattle.fx_counted.specs.Passes.{Shared, Sat, opening_of, slots_of, IsNumber, state_after_all, end_in, next_in, shown, first_log, pass_of, doing_in, held_in, placing, logs_of, looks_of, held_of, once}
-use Rattle.fx_counted.specs.Phases.{Phase, spare}
+use Rattle.fx_counted.specs.Passes.{Shared, opening_of, slots_of, IsNumber, state_after_all, shown, first_log, doing_in, logs_of, looks_of, held_of}
+use Rattle.fx_counted.specs.Phases.{Phase}
 use Rattle.fx_counted.specs.Tells.{IsInside, Stepped}
 use Rattle.fx_counted.specs.declared.view.Change.{Change}
 use Rattle.fx_counted.specs.declared.view.Log.{Log}
-use Rattle.fx_counted.specs.declared.view.Start.{Start}
 use Rattle.fx_counted.specs.declared.view.View.{View}
 use Rattle.fx_counted.specs.declared.view.Work.{Work}
-use Rattle.fx_counted.proofs.Histories.{Grows, IsHistory, seen_all}
+use Rattle.fx_counted.proofs.Histories.{Grows, IsHistory}
 use Rattle.fx_counted.proofs.Frames.{Stays, KeepsHeld, view_stays, not_there, views_after}
 
 abbrev pub Homes : Type 0

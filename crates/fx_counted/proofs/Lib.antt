@@ -14,3 +14,6 @@ pub mod Swaps
 pub mod Changes
 pub mod Calm
 pub mod ControlSteps
+pub mod SlotLaws
+pub mod Seats
+pub mod Chains

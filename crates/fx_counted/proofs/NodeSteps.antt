@@ -10,7 +10,7 @@ use Rattle.fx_plain.specs.Step.{changed_at}
 use Rattle.fx_plain.specs.declared.event.File.{File}
 use Rattle.fx_plain.specs.declared.event.Event.{Event}
 use Rattle.fx_table.specs.Opening.{range_of}
-use Rattle.fx_counted.specs.Agrees.{SlotAgrees, NodeAgrees, OwnerAgrees, WorkAgrees, PlacesNext, LogAgrees, Agrees}
+use Rattle.fx_counted.specs.Agrees.{NodeAgrees, OwnerAgrees, WorkAgrees, PlacesNext, Agrees}
 use Rattle.fx_counted.specs.Control.{full_in}
 use Rattle.fx_counted.specs.Counts.{looks, all_looks}
 use Rattle.fx_counted.specs.Layout.{control_place, draw_place, slot_place, node_place, home_place, PlacesAreInside, PlacesAreApart}

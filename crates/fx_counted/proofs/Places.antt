@@ -1,7 +1,7 @@
 -- Places are inside, and apart.
-use Rattle.std.proofs.Common.{◌≡◌, ◌≢◌, ℕ, ◌+◌, ◌-◌, ◌*◌, ◌/◌, ◌<◌, ◌≤◌, Bool, cond, ap, sym, ◌∙◌, arith, lt-ltb, le-ltb, ◌⊎◌, inl, inr, ⊎_elim}
+use Rattle.std.proofs.Common.{◌≡◌, ℕ, ◌+◌, ◌-◌, ◌*◌, ◌<◌, ◌≤◌, Bool, cond, ap, arith, lt-ltb, le-ltb, ⊎_elim}
 use Rattle.fx_table.specs.Opening.{numbers_for}
-use Rattle.fx_counted.specs.Layout.{control_place, draw_place, slot_place, slot_of, node_place, words_for, home_place, homes_for, HasNode, PlacesAreInside, PlacesAreApart}
+use Rattle.fx_counted.specs.Layout.{node_place, words_for, home_place, homes_for, HasNode, PlacesAreInside, PlacesAreApart}
 
 module _ (size : ℕ) where
   low_node : (n : ℕ) → n < size → node_place size n ≡ 17 + 8 * n

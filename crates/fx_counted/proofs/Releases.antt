@@ -1,5 +1,5 @@
 -- A release keeps the rule.
-use Rattle.std.proofs.Common.{◌≡◌, ◌≢◌, ℕ, zero, suc, ◌+◌, ◌-◌, ◌*◌, ◌%◌, ◌^◌, ◌<◌, ◌≤◌, List, [], ◌∷◌, ◌++◌, map, set, length, sym, refl, ap, ◌∙◌, subst, arith, length-set, Option, Some, None}
+use Rattle.std.proofs.Common.{◌≡◌, ◌≢◌, ℕ, ◌+◌, ◌-◌, ◌%◌, ◌^◌, ◌<◌, List, [], ◌∷◌, set, sym, refl, ap, ◌∙◌, subst, arith, length-set, Option, Some, None}
 use mathlib.Core.Logic.{dite}
 use mathlib.Core.Option.{some, none}
 use native.Mathlib.Decide.{ℕ_discrete}
@@ -7,8 +7,7 @@ use lib.ListN.{get_elem?}
 use Rattle.atomic_table.specs.Table.{Act, keeps, takes, Allows, Valid, stepped, carried_after, step}
 use Rattle.atomic_table.proofs.Lists.{set_here, set_else}
 use Rattle.fx_base.specs.declared.open_file.Closed.{Closed}
-use Rattle.fx_plain.specs.History.{◌▷◌, held_by, held_after, part_of_pass}
-use Rattle.fx_plain.specs.Step.{changed_at}
+use Rattle.fx_plain.specs.History.{◌▷◌}
 use Rattle.fx_plain.specs.State.{State}
 use Rattle.fx_plain.specs.Table.{numbered}
 use Rattle.fx_plain.specs.declared.event.File.{File}
@@ -19,8 +18,8 @@ use Rattle.fx_table.specs.Pass.{event_of}
 use Rattle.fx_table.proofs.Totals.{total_at, total_two}
 use Rattle.fx_counted.specs.Agrees.{NodeAgrees, WorkAgrees, Agrees}
 use Rattle.fx_counted.specs.Counts.{looks}
-use Rattle.fx_counted.specs.Laws.{HasPass, word_of, place_of, ReleasesKeep}
-use Rattle.fx_counted.specs.Passes.{Shared, IsNumber, state_after_all, shown, end_in, next_in, held_in, placing, held_of, holding}
+use Rattle.fx_counted.specs.Laws.{word_of, place_of, ReleasesKeep}
+use Rattle.fx_counted.specs.Passes.{Shared, IsNumber, state_after_all, shown, held_in, placing, held_of, holding}
 use Rattle.fx_counted.specs.Phases.{Phase, unborn, spare, placed, seated, leaving, retired, emptied, closed, owner, file_in}
 use Rattle.fx_counted.specs.Tells.{LetsGo, TakesOut, Releases}
 use Rattle.fx_counted.specs.declared.view.Log.{Log}

@@ -1,5 +1,5 @@
 -- A retirement keeps the rule.
-use Rattle.std.proofs.Common.{◌≡◌, ◌≢◌, ℕ, zero, suc, ◌+◌, ◌-◌, ◌*◌, ◌%◌, ◌^◌, ◌<◌, ◌≤◌, List, [], ◌∷◌, set, length, sym, refl, ap, ◌∙◌, subst, arith, eqb, eq-eqb, ne_eqb, length-set, Option, Some, None}
+use Rattle.std.proofs.Common.{◌≡◌, ◌≢◌, ℕ, ◌+◌, ◌-◌, ◌%◌, ◌^◌, ◌<◌, ◌≤◌, List, [], ◌∷◌, set, sym, refl, ap, ◌∙◌, subst, arith, eq-eqb, ne_eqb, length-set, Option, Some, None}
 use mathlib.Core.Logic.{dite}
 use mathlib.Core.Option.{some, none}
 use native.Mathlib.Decide.{ℕ_discrete}
@@ -7,34 +7,29 @@ use lib.ListN.{get_elem?}
 use Rattle.atomic_table.specs.Table.{Act, keeps, takes, Allows, Valid, stepped, carried_after, step}
 use Rattle.atomic_table.proofs.Lists.{set_here, set_else}
 use Rattle.fx_base.specs.declared.open_file.Closed.{Closed}
-use Rattle.fx_plain.specs.History.{◌▷◌, held_by}
+use Rattle.fx_plain.specs.History.{◌▷◌}
 use Rattle.fx_plain.specs.Step.{changed_at}
-use Rattle.fx_plain.specs.State.{State}
-use Rattle.fx_plain.specs.Table.{numbered}
-use Rattle.fx_plain.specs.Totals.{total}
 use Rattle.fx_plain.specs.declared.event.File.{File}
 use Rattle.fx_plain.specs.declared.event.Event.{Event}
-use Rattle.fx_plain.specs.declared.event.Action.TheVariants.{Release, Close}
+use Rattle.fx_plain.specs.declared.event.Action.TheVariants.{Close}
 use Rattle.fx_table.specs.Calls.{nothing}
-use Rattle.fx_table.specs.Lists.{bit}
 use Rattle.fx_table.specs.Pass.{event_of}
-use Rattle.fx_table.proofs.Totals.{total_at, total_two}
-use Rattle.fx_words.specs.Words.{born, retire_amount_of}
-use Rattle.fx_counted.specs.Agrees.{Home, NodeAgrees, OwnerAgrees, WorkAgrees, LogAgrees, Agrees}
+use Rattle.fx_table.proofs.Totals.{total_at}
+use Rattle.fx_words.specs.Words.{retire_amount_of}
+use Rattle.fx_counted.specs.Agrees.{NodeAgrees, WorkAgrees, Agrees}
 use Rattle.fx_counted.specs.Counts.{looks}
-use Rattle.fx_counted.specs.Laws.{HasPass, word_of, place_of, RetiresKeep, ReleasesKeep}
-use Rattle.fx_counted.specs.Passes.{Shared, Sat, slots_of, IsNumber, state_after_all, shown, end_in, next_in, held_in, placing, held_of, holding, looks_of}
-use Rattle.fx_counted.specs.Phases.{Phase, unborn, spare, placed, seated, leaving, retired, emptied, closed, owner, file_in}
-use Rattle.fx_counted.specs.Tells.{LetsGo, TakesOut, Retires, Releases}
+use Rattle.fx_counted.specs.Laws.{word_of, place_of, RetiresKeep}
+use Rattle.fx_counted.specs.Passes.{Shared, IsNumber, state_after_all, shown, end_in, next_in, held_in, placing, held_of, holding}
+use Rattle.fx_counted.specs.Phases.{Phase, unborn, spare, leaving, retired, emptied, owner, file_in}
+use Rattle.fx_counted.specs.Tells.{TakesOut, Retires}
 use Rattle.fx_counted.specs.declared.view.Log.{Log}
 use Rattle.fx_counted.specs.declared.view.Start.{Start}
 use Rattle.fx_counted.specs.declared.view.View.{View}
-use Rattle.fx_counted.specs.declared.view.Work.{Work}
 use Rattle.fx_counted.specs.declared.view.Work.TheVariants.{Idle, Holding, Retiring, Emptying}
-use Rattle.fx_counted.proofs.Births.{in_phase, word_now, home_now, roomy, else_place, held_file}
-use Rattle.fx_counted.proofs.Frames.{busy, does_now, owner_stays}
-use Rattle.fx_counted.proofs.Histories.{IsHistory, grows_none, grows_one, grows_more, legal_more, held_mine, part_mine, change_here, change_else, looks_few}
-use Rattle.fx_counted.proofs.Keeping.{word_at, now, logged, its_log, its_work, tells}
+use Rattle.fx_counted.proofs.Births.{in_phase, word_now, home_now, roomy, else_place}
+use Rattle.fx_counted.proofs.Frames.{busy, does_now}
+use Rattle.fx_counted.proofs.Histories.{IsHistory, grows_none, grows_one, legal_more, held_mine, part_mine, change_here, change_else, looks_few}
+use Rattle.fx_counted.proofs.Keeping.{now, logged, its_log, its_work, tells}
 use Rattle.fx_counted.proofs.NodeSteps.{one_same, NodeStep, node_agrees}
 
 pub sub_wraps : (n k : ℕ) → k ≤ n → n < 18446744073709551616 → 0 < k → (n + (2 ^ 64 - k)) % 2 ^ 64 ≡ n - k

@@ -1,6 +1,6 @@
 -- The kinds of step keep the rule, whatever the table and the other passes are. A law takes the place of its word as
 -- a premise.
-use Rattle.std.specs.Prelude.{◌≡◌, ◌≢◌, ℕ, ◌+◌, ◌-◌, ◌%◌, ◌^◌, ◌<◌, ◌≤◌, ◌==◌, ◌⊎◌, false, List, [], ◌∷◌, Option, Some, None}
+use Rattle.std.specs.Prelude.{◌≡◌, ℕ, ◌+◌, ◌-◌, ◌%◌, ◌^◌, ◌<◌, ◌≤◌, ◌==◌, ◌⊎◌, false, [], ◌∷◌, Some, None}
 use mathlib.Core.Option.{none}
 use prog.Atomic.{either}
 use Rattle.atomic_table.specs.Table.{step, Splits, Joins, Allows}
@@ -20,7 +20,6 @@ use Rattle.fx_counted.specs.declared.view.Change.TheVariants.{Outside, Same}
 use Rattle.fx_counted.specs.declared.view.Log.{Log}
 use Rattle.fx_counted.specs.declared.view.Start.{Start}
 use Rattle.fx_counted.specs.declared.view.View.{View}
-use Rattle.fx_counted.specs.declared.view.Work.{Work}
 use Rattle.fx_counted.specs.declared.view.Work.TheVariants.{Idle, Placing, Holding, Retiring, Emptying}
 
 -- the seat has one pass of the table

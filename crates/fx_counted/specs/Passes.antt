@@ -1,6 +1,5 @@
 -- What views say of passes.
-use Rattle.std.specs.Prelude.{◌≡◌, ℕ, zero, suc, ◌+◌, ◌-◌, ◌*◌, ◌^◌, ◌==◌, nat_lt, Bool, false, List, [], ◌∷◌, Option, Some, None}
-use lib.ListN.{get_elem?}
+use Rattle.std.specs.Prelude.{ℕ, zero, suc, ◌-◌, ◌^◌, ◌==◌, nat_lt, false, List, [], ◌∷◌, Option, Some, None}
 use Rattle.atomic_table.specs.Table.{State as TableState, Me}
 use Rattle.fx_base.specs.declared.open_file.Closed.{Closed}
 use Rattle.fx_plain.specs.History.{part_of_pass}
@@ -9,7 +8,7 @@ use Rattle.fx_plain.specs.Totals.{total}
 use Rattle.fx_plain.specs.declared.event.File.{File}
 use Rattle.fx_plain.specs.declared.event.Event.{Event}
 use Rattle.fx_table.specs.Lists.{bit, times}
-use Rattle.fx_table.specs.Opening.{Opening, state_at, size_of, range_of, numbers_for}
+use Rattle.fx_table.specs.Opening.{Opening, state_at, size_of, numbers_for}
 use Rattle.fx_table.specs.Pass.{PassView}
 use Rattle.fx_table.specs.declared.values.Doing.{Doing}
 use Rattle.fx_table.specs.declared.values.Doing.TheVariants.{Idle as NowIdle, Holding as NowHolding, Retiring as NowRetiring}

@@ -3,6 +3,7 @@
 #![tactic(auto)]
 
 mod kinds;
+pub mod laws;
 mod view;
 
 pub use kinds::{
