@@ -22,6 +22,7 @@
  * the table has a closed line like any other, since the kernel did close it.
  */
 #include <errno.h>
+#include <signal.h>
 #include <stdio.h>
 #include <stdlib.h>
 #include <string.h>
@@ -139,6 +140,8 @@ int main(void)
 		fprintf(stderr, "play-on-kernel: line %ld: not in the language\n", play.script.bad_line);
 		return BAD_SCRIPT;
 	}
+	/* so that the folder is removed where nobody reads the text any more */
+	signal(SIGPIPE, SIG_IGN);
 	raise_limit();
 	open_ring(&play);
 	play_script(&play);
@@ -147,5 +150,7 @@ int main(void)
 	io_uring_queue_exit(&play.ring);
 	settle(-1);
 	write_closes(&play.script);
+	if (fflush(stdout))
+		die("write failed");
 	return 0;
 }
