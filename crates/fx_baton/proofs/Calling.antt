@@ -7,7 +7,7 @@ use Rattle.atomic_table.specs.Lent.{seat_with}
 use Rattle.fx_base.specs.declared.open_file.Closed.{Closed}
 use Rattle.fx_plain.specs.State.{State}
 use Rattle.fx_plain.specs.Step.{Steps, Allows, changed_at}
-use Rattle.fx_plain.specs.Contents.{Contents, state_of, leaving}
+use Rattle.fx_plain.specs.Contents.{Contents, IsTable, state_of, leaving}
 use Rattle.fx_plain.specs.History.{Leads, action_of, close_of, ◌▷◌, ◌▷▷◌}
 use Rattle.fx_plain.specs.Table.{numbered, identity_of, number_of, more_leaving, closed_by_release, closed_by_retirement, HasRoomForHold}
 use Rattle.fx_plain.specs.declared.event.File.{File}
@@ -145,14 +145,15 @@ module _ {id : TableId} {k : Start} {u : PassView} {c : Contents} {p : BatonPass
         h.knows.fresh number its_own.1 behind_own (omega arith) owned
 
   -- a turn, by the pass's number
-  called : (d : Contents) (call : Call) (flag : Bool) → IsTurn view log c d (events_of c log.number p.chain view.doing call) (doing_of c call) → UsesNext (view_of p) call
+  called : (d : Contents) (call : Call) (flag : Bool) → IsTable d → IsTurn view log c d (events_of c log.number p.chain view.doing call) (doing_of c call) → UsesNext (view_of p) call
       → (use_of call).numbers ≤ p.numbers_left → (use_of call).looks ≤ p.looks_left → flag ≡ is_idle (doing_of c call)
       → HasCalled id k call flag (record p { seat = seat_with p.seat 0 d })
-  called d call flag turn uses numbers looks flag_says = record {
+  called d call flag sound turn uses numbers looks flag_says = record {
     before = u;
     taken = c;
     given = d;
     has = still_has h d;
+    sound = sound;
     turn = subst (λ (n : ℕ). IsTurn view log c d (events_of c n p.chain view.doing call) (doing_of c call)) h.seated.number turn;
     uses = uses;
     numbers = numbers;
@@ -167,41 +168,41 @@ module _ {id : TableId} {k : Start} {u : PassView} {c : Contents} {p : BatonPass
     pub look_called : (slot : ℕ) (d : Contents) (found : Option (ℕ × ℕ)) (flag : Bool) → 0 < u.looks_left
         → Steps (state_of c) (Look slot ((state_of c).at slot)) (state_of d) → leaving d ≡ leaving c
         → found ≡ option_map shown ((state_of c).at slot) → flag ≡ is_none found
-        → HasCalled id k (LookCall slot) flag (record p { seat = seat_with p.seat 0 d })
-    look_called slot d found flag some step leaves answer says = called d (LookCall slot) flag
+        → IsTable d → HasCalled id k (LookCall slot) flag (record p { seat = seat_with p.seat 0 d })
+    look_called slot d found flag some step leaves answer says sound = called d (LookCall slot) flag sound
         (look_turn view log c d p.chain h.knows is_idle_here slot ((state_of c).at slot) step leaves) tt (omega arith) (let e = same_looks in omega arith)
         (says ∙ look_idle ((state_of c).at slot) found answer)
 
     pub put_called : (some : 0 < u.numbers_left) (slot number : ℕ) (file : Closed) (d : Contents) (found : Option ℕ) (flag : Bool) → number ≡ next_number u
         → Steps (state_of c) (Put slot (numbered number file) ((state_of c).at slot)) (state_of d) → leaving d ≡ more_leaving (leaving c) ((state_of c).at slot)
-        → found ≡ number_of ((state_of c).at slot) → flag ≡ is_none found → HasCalled id k (PutCall slot number file) flag (record p { seat = seat_with p.seat 0 d })
-    put_called some slot number file d found flag next step leaves answer says = called d (PutCall slot number file) flag
+        → found ≡ number_of ((state_of c).at slot) → flag ≡ is_none found → IsTable d → HasCalled id k (PutCall slot number file) flag (record p { seat = seat_with p.seat 0 d })
+    put_called some slot number file d found flag next step leaves answer says sound = called d (PutCall slot number file) flag sound
         (put_turn view log c d p.chain h.knows is_idle_here slot (numbered number file) ((state_of c).at slot) step leaves
           (owned some number next) (behind_own some number next))
         (number_is some number next) (let e = same_numbers in omega arith) (omega arith) (says ∙ removal_idle ((state_of c).at slot) found answer)
 
     pub allocate_called : (some : 0 < u.numbers_left) (slot number : ℕ) (file : Closed) (d : Contents) → number ≡ next_number u
         → Steps (state_of c) (Allocate slot (numbered number file)) (state_of d) → leaving d ≡ leaving c
-        → HasCalled id k (AllocateCall slot number file) true (record p { seat = seat_with p.seat 0 d })
-    allocate_called some slot number file d next step leaves = called d (AllocateCall slot number file) true
+        → IsTable d → HasCalled id k (AllocateCall slot number file) true (record p { seat = seat_with p.seat 0 d })
+    allocate_called some slot number file d next step leaves sound = called d (AllocateCall slot number file) true sound
         (allocate_turn view log c d p.chain h.knows is_idle_here slot (numbered number file) step leaves (owned some number next) (behind_own some number next))
         (number_is some number next) (let e = same_numbers in omega arith) (omega arith) refl
 
-    pub full_called : (d : Contents) → Allows (state_of c) Full → d ≡ c → HasCalled id k FullCall true (record p { seat = seat_with p.seat 0 d })
-    full_called d full same = called d FullCall true
+    pub full_called : (d : Contents) → Allows (state_of c) Full → d ≡ c → IsTable d → HasCalled id k FullCall true (record p { seat = seat_with p.seat 0 d })
+    full_called d full same sound = called d FullCall true sound
         (full_turn view log c d p.chain h.knows is_idle_here (full, ap state_of same) (ap leaving same)) tt (omega arith) (omega arith) refl
 
     pub clear_called : (slot : ℕ) (d : Contents) (found : Option ℕ) (flag : Bool) → Steps (state_of c) (Clear slot ((state_of c).at slot)) (state_of d)
         → leaving d ≡ more_leaving (leaving c) ((state_of c).at slot) → found ≡ number_of ((state_of c).at slot) → flag ≡ is_none found
-        → HasCalled id k (ClearCall slot) flag (record p { seat = seat_with p.seat 0 d })
-    clear_called slot d found flag step leaves answer says = called d (ClearCall slot) flag
+        → IsTable d → HasCalled id k (ClearCall slot) flag (record p { seat = seat_with p.seat 0 d })
+    clear_called slot d found flag step leaves answer says sound = called d (ClearCall slot) flag sound
         (clear_turn view log c d p.chain h.knows is_idle_here slot ((state_of c).at slot) step leaves) tt (omega arith) (omega arith)
         (says ∙ removal_idle ((state_of c).at slot) found answer)
 
     pub take_called : (slot : ℕ) (d : Contents) (found : Option ℕ) (flag : Bool) → Steps (state_of c) (Take slot ((state_of c).at slot)) (state_of d)
         → leaving d ≡ more_leaving (leaving c) ((state_of c).at slot) → found ≡ number_of ((state_of c).at slot) → flag ≡ is_none found
-        → HasCalled id k (TakeCall slot) flag (record p { seat = seat_with p.seat 0 d })
-    take_called slot d found flag step leaves answer says = called d (TakeCall slot) flag
+        → IsTable d → HasCalled id k (TakeCall slot) flag (record p { seat = seat_with p.seat 0 d })
+    take_called slot d found flag step leaves answer says sound = called d (TakeCall slot) flag sound
         (take_turn view log c d p.chain h.knows is_idle_here slot ((state_of c).at slot) step leaves) tt (omega arith) (omega arith)
         (says ∙ removal_idle ((state_of c).at slot) found answer)
 
@@ -213,8 +214,8 @@ module _ {id : TableId} {k : Start} {u : PassView} {c : Contents} {p : BatonPass
     holds_some = let a = h.knows.holds f.number in let b = ap (holds_by f.number) holds_here in let r = one_if f.number f.number refl in omega arith
 
     pub release_called : (d : Contents) → Leads (state_of c) ([] ▷ Release f ▷▷ close_of (closed_by_release c f.number)) (state_of d) → leaving d ≡ leaving c
-        → HasCalled id k ReleaseCall true (record p { seat = seat_with p.seat 0 d })
-    release_called d leads leaves = called d ReleaseCall true
+        → IsTable d → HasCalled id k ReleaseCall true (record p { seat = seat_with p.seat 0 d })
+    release_called d leads leaves sound = called d ReleaseCall true sound
         (subst (λ (z : Doing). IsTurn view log c d (events_of c log.number p.chain z ReleaseCall) Idle) (sym holds_here)
           (letting_go_turn view log c d p.chain h.knows f holds_here leads leaves)) tt (omega arith) (omega arith) refl
 
@@ -239,8 +240,8 @@ module _ {id : TableId} {k : Start} {u : PassView} {c : Contents} {p : BatonPass
     leaves_now = is_leaving view log c c p.chain h.knows f takes removes_here
 
     pub retire_called : (d : Contents) → Leads (state_of c) (close_of (closed_by_retirement c f.number)) (state_of d) → leaving d ≡ changed_at (leaving c) f.number false
-        → HasCalled id k RetireCall true (record p { seat = seat_with p.seat 0 d })
-    retire_called d leads leaves = called d RetireCall true
+        → IsTable d → HasCalled id k RetireCall true (record p { seat = seat_with p.seat 0 d })
+    retire_called d leads leaves sound = called d RetireCall true sound
         (subst (λ (z : Doing). IsTurn view log c d (events_of c log.number p.chain z RetireCall) Idle) (sym removes_here)
           (retire_turn view log c d p.chain h.knows f takes removes_here leads leaves)) tt (omega arith) (omega arith) refl
 

@@ -1,7 +1,7 @@
 -- A pass of the table behind one word, as all shared tables show it.
 use Rattle.std.specs.Prelude.{◌≡◌, ℕ, ◌≤◌, Bool, true, false, List, [], ◌∷◌, Some, None}
 use Rattle.atomic_table.specs.Seated.{TableId}
-use Rattle.fx_plain.specs.Contents.{Contents}
+use Rattle.fx_plain.specs.Contents.{Contents, IsTable}
 use Rattle.fx_plain.specs.History.{IsSeenBy}
 use Rattle.fx_plain.specs.declared.event.Event.{Event}
 use Rattle.fx_table.specs.Numbers.{chains_of_pass}
@@ -94,6 +94,7 @@ pub record HasPlayed (id : TableId) (k : Start) (events : List Event) (doing : D
   pub taken : Contents
   pub given : Contents
   pub has : HasTable id k before taken given p
+  pub sound : IsTable given
   pub turn : IsTurn p.seat.me.0 has.seated.log taken given events doing
 
 -- a pass made a call of the table that it has, and may give the table back
@@ -102,6 +103,7 @@ pub record HasCalled (id : TableId) (k : Start) (call : Call) (idle : Bool) (p :
   pub taken : Contents
   pub given : Contents
   pub has : HasTable id k before taken given p
+  pub sound : IsTable given
   pub turn : IsTurn p.seat.me.0 has.seated.log taken given (events_of taken p.number p.chain p.seat.me.0.doing call) (doing_of taken call)
   pub uses : UsesNext (view_of p) call
   pub numbers : (use_of call).numbers ≤ p.numbers_left

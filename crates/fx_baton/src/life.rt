@@ -65,7 +65,6 @@ impl BatonTable {
             slots.destroy_empty();
             return Err((plain, NoMemory));
         };
-        let _prepared = plain.size();
         slots.push_reserved(plain);
         match Table::new(alloc, &[1], slots, &key) {
             Ok((table, seat)) => Ok((

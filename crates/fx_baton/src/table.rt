@@ -73,7 +73,6 @@ impl BatonTable {
         ensures seat { (pass.new.seat.table_id ≡ pass.old.seat.table_id) × (pass.new.seat.me ≡ (view_behind pass.old.seat.me.0 U.events U.doing, [])) }
         ensures pass { pass.new ≡ record pass.old { seat = pass.new.seat; numbers_left = pass.old.numbers_left - (use_of call).numbers; looks_left = pass.old.looks_left - (use_of call).looks } }
     {
-        let _ = pass.seat.slot_mut(&self.table.shared, 0).size();
         self.table.shared.store::<Give<U>>(&mut pass.seat, 0, 1);
         let (numbers, looks) = used(call);
         pass.numbers_left -= numbers;

@@ -23,7 +23,7 @@ give_back-requires g c =
     let h = lent_as c.borrow.ensures c.slot_mut-plain.result.now c.slot_mut-plain.ensures.value in
     let l = c.look-found in
     let some_left = c.if-pass-eq0.false in
-    look_called h c.requires.idle c.args.slot l.new.self l.result c.is_none.result (omega arith) l.ensures.step l.ensures.leaving l.ensures.answer (flag_is l.result c.is_none.result c.is_none.ensures)
+    look_called h c.requires.idle c.args.slot l.new.self l.result c.is_none.result (omega arith) l.ensures.step l.ensures.leaving l.ensures.answer (flag_is l.result c.is_none.result c.is_none.ensures) l.ensures.sound
 
 pub returns-in-None-clause-looked : goal.returns-in-None-clause-looked
 returns-in-None-clause-looked g c =

@@ -34,7 +34,7 @@ give_back-requires g c =
     let number = c.next_number-number in
     let step = subst (λ (z : Closed). Steps (state_of now) (Put c.args.slot (numbered number.result z) ((state_of now).at c.args.slot)) (state_of l.new.self)) (sym c.identity-identity.ensures) l.ensures.step in
     put_called h c.requires.idle c.requires.numbers c.args.slot number.result c.identity-identity.result l.new.self l.result c.is_none.result number.ensures
-    step l.ensures.leaving l.ensures.answer (flag_is l.result c.is_none.result c.is_none.ensures)
+    step l.ensures.leaving l.ensures.answer (flag_is l.result c.is_none.result c.is_none.ensures) l.ensures.sound
 
 pub returns-clause-placed : goal.returns-clause-placed
 returns-clause-placed g c =

@@ -27,12 +27,12 @@ give_back-requires g c =
     let number = c.next_number-number in
     let d = c.put_any.new.self in
     let step = subst (λ (z : Closed). Steps (state_of now) (Allocate c.in-Ok.slot (numbered number.result z)) (state_of d)) (sym c.identity-identity.ensures) c.in-Ok.ensures.ok in
-    allocate_called h c.requires.idle c.requires.numbers c.in-Ok.slot number.result c.identity-identity.result d number.ensures step c.put_any.ensures.leaving
+    allocate_called h c.requires.idle c.requires.numbers c.in-Ok.slot number.result c.identity-identity.result d number.ensures step c.put_any.ensures.leaving c.put_any.ensures.sound
 
 pub give_back-requires-in-Err : goal.give_back-requires-in-Err
 give_back-requires-in-Err g c =
     let h = lent_as c.borrow.ensures c.slot_mut-plain.result.now c.slot_mut-plain.ensures.value in
-    full_called h c.requires.idle c.put_any.new.self c.in-Err.ensures.full c.in-Err.ensures.err
+    full_called h c.requires.idle c.put_any.new.self c.in-Err.ensures.full c.in-Err.ensures.err c.put_any.ensures.sound
 
 pub returns-in-Ok-clause-allocated : goal.returns-in-Ok-clause-allocated
 returns-in-Ok-clause-allocated g c =

@@ -28,7 +28,7 @@ give_back-requires g c =
     let is : c.args.hold.node ≡ f.0.number = ap (λ (x : Hold). x.node) f.2 in
     let d = c.release-closed.new.self in
     let leads = subst (λ (n : ℕ). Leads (state_of now) ([] ▷ Release f.0 ▷▷ close_of (closed_by_release now n)) (state_of d)) is (c.release-closed.ensures.steps f.0 (sym is)) in
-    release_called h f.0 f.1 d leads c.release-closed.ensures.leaving
+    release_called h f.0 f.1 d leads c.release-closed.ensures.leaving c.release-closed.ensures.sound
 
 pub returns-clause-released : goal.returns-clause-released
 returns-clause-released g c =

@@ -28,7 +28,7 @@ give_back-requires g c =
     let d = c.retire-closed.new.self in
     let leads = subst (λ (n : ℕ). Leads (state_of now) (close_of (closed_by_retirement now n)) (state_of d)) is c.retire-closed.ensures.steps in
     let leaves = subst (λ (n : ℕ). leaving d ≡ changed_at (leaving now) n false) is c.retire-closed.ensures.leaving in
-    retire_called h r.0 r.1 r.2 d leads leaves
+    retire_called h r.0 r.1 r.2 d leads leaves c.retire-closed.ensures.sound
 
 pub returns-clause-retired : goal.returns-clause-retired
 returns-clause-retired g c =

@@ -20,6 +20,7 @@ give-requires-clause-turn c =
       taken = t.taken;
       given = t.given;
       has = t.has;
+      sound = t.sound;
       turn = subst (λ (z : Contents). IsTurn p.seat.me.0 t.has.seated.log t.taken t.given (events_of z p.number p.chain p.seat.me.0.doing c.args.call) (doing_of z c.args.call))
           (sym (ap table_of_loan t.has.loan)) t.turn;
     }
