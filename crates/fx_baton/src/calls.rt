@@ -192,6 +192,8 @@ impl FileTable for BatonTable {
         self.give_back(pass, plain, Call::Retire, true);
         closed
     }
+
+    ghost fronts = { λ t p fits. fits.seated.front };
 }
 
 impl BatonTable {

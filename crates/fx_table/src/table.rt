@@ -175,4 +175,9 @@ pub trait FileTable: Sync {
         requires removed { IsRetiredOf (view pass.old) retired }
         ensures fits { fits self.now pass.new }
         ensures retired { HasRetired (opening self.now) (view pass.old) retired result (view pass.new) };
+
+    // What a pass has seen is legal, and its own events there are what it has done.
+    ghost fronts: {
+        (table : Self) (pass : Self.Pass) → fits table pass → IsFront (opening table) (view pass)
+    };
 }
