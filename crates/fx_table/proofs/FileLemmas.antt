@@ -1,5 +1,5 @@
 -- Where files are, before and after an action.
-use Rattle.std.proofs.Common.{◌≡◌, ◌≢◌, ℕ, true, false, List, sym, refl, ap, ◌∙◌, subst, eq-eqb, ne_eqb, ◌⊎◌, inl, inr, ⊎_elim}
+use Rattle.std.proofs.Common.{◌≡◌, ◌≢◌, ℕ, true, false, List, sym, refl, ap, ◌∙◌, subst, ◌⊎◌, inl, inr, ⊎_elim}
 use mathlib.Core.Logic.{dite}
 use native.Mathlib.Decide.{ℕ_discrete}
 use Rattle.std.specs.Prelude.{Option, Some, None}
@@ -9,13 +9,8 @@ use Rattle.fx_plain.specs.Contents.{Contents, state_of, leaving, is_leaving, IsT
 use Rattle.fx_plain.specs.declared.node.Node.{Node}
 use Rattle.fx_plain.specs.declared.node.Node.TheVariants.{At}
 use Rattle.fx_plain.specs.declared.event.File.{File}
-use Rattle.fx_baton.specs.Rule.{HasFile}
-
-pub changed_here : {X : Type 0} (f : ℕ → X) (place : ℕ) (x : X) (k : ℕ) → k ≡ place → changed_at f place x k ≡ x
-changed_here f place x k e = rw (eq-eqb k place e)
-
-pub changed_else : {X : Type 0} (f : ℕ → X) (place : ℕ) (x : X) (k : ℕ) → k ≢ place → changed_at f place x k ≡ f k
-changed_else f place x k n = rw (ne_eqb k place n)
+use Rattle.fx_table.specs.Files.{HasFile}
+use Rattle.fx_table.proofs.Changes.{changed_here, changed_else}
 
 pub some_file : (f g : File) → Some f ≡ Some g → f ≡ g
 some_file f g e = cc
