@@ -1,24 +1,25 @@
 -- What a player does, one thing after another.
-use Rattle.std.proofs.Common.{◌≡◌, ℕ, ◌+◌, ◌≤◌, List, [], ◌∷◌, ◌++◌, length, sym, refl, ap, subst, ◌∙◌, append_assoc, length-append, Option, Some, None, inl, inr, arith}
+use Rattle.std.proofs.Common.{◌≡◌, ℕ, ◌+◌, ◌≤◌, List, [], ◌++◌, length, sym, refl, ap, subst, ◌∙◌, append_assoc, length-append, Option, Some, inl, inr, arith}
 use Rattle.std.proofs.lemmas.List.{append-nil}
 use Rattle.fx_base.specs.declared.open_file.Closed.{Closed}
 use Rattle.fx_plain.specs.declared.event.File.{File}
 use Rattle.fx_plain.specs.declared.event.Action.{Action}
+use Rattle.fx_plain.specs.declared.event.Action.TheVariants.{Look, Release}
 use Rattle.fx_plain.specs.History.{closes_in, closed_by, ◌▷◌, ◌▷▷◌}
 use Rattle.fx_plain.proofs.Leading.{closes_in-then}
 use Rattle.fx_table.specs.Opening.{Opening}
 use Rattle.fx_table.specs.Pass.{PassView, IsFront, IsIdle}
-use Rattle.fx_table.specs.Calls.{Use, Adds, nothing, both}
+use Rattle.fx_table.specs.Calls.{Use, Adds, one_look, no_use, both_uses}
 use Rattle.fx_table.specs.declared.values.Doing.{Doing}
-use Rattle.fx_table.specs.declared.values.Doing.TheVariants.{Idle, Retiring}
+use Rattle.fx_table.specs.declared.values.Doing.TheVariants.{Idle, Holding, Retiring}
 use Rattle.fx_table.proofs.Calls.{adds_nothing, adds_then}
 use Rattle.fx_chain.specs.Answers.{MayClose}
 use Rattle.fx_chain.specs.Performs.{Player, player, Acts, ActsSo}
-use Rattle.fx_chain.specs.Removals.{HasRetired, Removes}
+use Rattle.fx_chain.specs.Removals.{IsRetirement, IsRelease, IsRemoval}
 
-pub acts_nothing : (o : Opening) (p : Player) → IsFront o p.pass → IsIdle p.pass → Acts o p [] nothing p
+pub acts_nothing : (o : Opening) (p : Player) → IsFront o p.pass → IsIdle p.pass → Acts o p [] no_use p
 acts_nothing o p front idle = record {
-  adds = subst (λ (d : Doing). Adds o p.pass [] d nothing p.pass) idle (adds_nothing o p.pass front);
+  adds = subst (λ (d : Doing). Adds o p.pass [] d no_use p.pass) idle (adds_nothing o p.pass front);
   files = sym (append-nil p.closes.files);
   room = omega arith;
 }
@@ -34,7 +35,7 @@ acts_call o p w xs used adds none = record {
 
 -- a call that closes nothing, whatever the pass does behind it, and what was done then
 pub acts_behind : (o : Opening) (p q : Player) (u : PassView) (xs ys : List Action) (d : Doing) (a b : Use)
-    → Adds o p.pass xs d a u → closes_in xs ≡ [] → Acts o (player u p.closes) ys b q → Acts o p (xs ▷▷ ys) (both a b) q
+    → Adds o p.pass xs d a u → closes_in xs ≡ [] → Acts o (player u p.closes) ys b q → Acts o p (xs ▷▷ ys) (both_uses a b) q
 acts_behind o p q u xs ys d a b adds none acts =
     let same : closes_in (xs ▷▷ ys) ≡ closes_in ys = closes_in-then xs ys ∙ ap (λ (l : List Closed). l ++ closes_in ys) none in
     record {
@@ -43,7 +44,7 @@ acts_behind o p q u xs ys d a b adds none acts =
       room = let few = acts.room in let many = ap length same in omega arith;
     }
 
-pub acts_then : (o : Opening) (p q r : Player) (xs ys : List Action) (a b : Use) → Acts o p xs a q → Acts o q ys b r → Acts o p (xs ▷▷ ys) (both a b) r
+pub acts_then : (o : Opening) (p q r : Player) (xs ys : List Action) (a b : Use) → Acts o p xs a q → Acts o q ys b r → Acts o p (xs ▷▷ ys) (both_uses a b) r
 acts_then o p q r xs ys a b one two = record {
   adds = adds_then o p.pass q.pass r.pass xs ys Idle Idle a b one.adds two.adds;
   files = two.files ∙ (ap (λ (l : List Closed). l ++ closes_in ys) one.files
@@ -60,7 +61,7 @@ pub so_nothing : (o : Opening) (p : Player) (looks numbers files : ℕ) (Says : 
     → IsFront o p.pass → IsIdle p.pass → Says [] → ActsSo o p looks numbers files Says p
 so_nothing o p looks numbers files Says front idle said = record {
   actions = [];
-  used = nothing;
+  used = no_use;
   acts = acts_nothing o p front idle;
   says = said;
   few_looks = omega arith;
@@ -101,7 +102,7 @@ so_then o p q r looks numbers files more_looks more_numbers more_files Says Tell
     let f = two.few_files in
     record {
       actions = one.actions ▷▷ two.actions;
-      used = both one.used two.used;
+      used = both_uses one.used two.used;
       acts = acts_then o p q r one.actions two.actions one.used two.used one.acts two.acts;
       says = so one.actions two.actions one.says two.says;
       few_looks = omega arith;
@@ -109,9 +110,9 @@ so_then o p q r looks numbers files more_looks more_numbers more_files Says Tell
       few_files = omega arith;
     }
 
--- behind some steps, a file that they removed
-pub may_close_behind : (xs ys : List Action) (f : File) → MayClose [] (Some f) ys → MayClose xs (Some f) (xs ▷▷ ys)
-may_close_behind xs ys f closes = elim closes [
+-- what was done before may stand in front
+pub may_close_behind : (xs steps ys : List Action) (f : File) → MayClose steps (Some f) ys → MayClose (xs ▷▷ steps) (Some f) (xs ▷▷ ys)
+may_close_behind xs steps ys f closes = elim closes [
   | inl is ↦ inl (ap (λ (l : List Action). l ++ xs) is)
   | inr is ↦ inr (ap (λ (l : List Action). l ++ xs) is)
 ]
@@ -119,10 +120,33 @@ may_close_behind xs ys f closes = elim closes [
 same_file : (f g : File) (m n : ℕ) → Retiring f m ≡ Retiring g n → f ≡ g
 same_file f g m n is = cc
 
+same_held : (f g : File) → Holding f ≡ Holding g → f ≡ g
+same_held f g is = cc
+
+-- a look-up that found a file, and the release of it
+pub looks_and_releases : (o : Opening) (p q : Player) (u : PassView) (slot : ℕ) (f : File) → Adds o p.pass ([] ▷ Look slot (Some f)) (Holding f) one_look u
+    → IsRelease o (player u p.closes) q → ActsSo o p 1 0 1 (MayClose ([] ▷ Look slot (Some f) ▷ Release f) (Some f)) q
+looks_and_releases o p q u slot f adds (g, doing, does) =
+    let same = same_held g f (sym doing ∙ adds.now) in
+    let told = subst (λ (x : File). MayClose ([] ▷ Release x) (Some x) does.actions) same does.says in
+    let count = ap length (closes_in-then ([] ▷ Look slot (Some f)) does.actions) in
+    let a = does.few_looks in
+    let b = does.few_numbers in
+    let c = does.few_files in
+    record {
+      actions = ([] ▷ Look slot (Some f)) ▷▷ does.actions;
+      used = both_uses one_look does.used;
+      acts = acts_behind o p q u ([] ▷ Look slot (Some f)) does.actions (Holding f) one_look does.used adds refl does.acts;
+      says = may_close_behind ([] ▷ Look slot (Some f)) ([] ▷ Release f) does.actions f told;
+      few_looks = omega arith;
+      few_numbers = omega arith;
+      few_files = omega arith;
+    }
+
 -- a removal, and the retirement of what it removed
 pub removes_some : (o : Opening) (p q : Player) (u : PassView) (step : Option File → Action) (f : File) (takes numbers : ℕ) (used : Use)
     → used.looks ≤ 0 → used.numbers ≤ numbers → closed_by (step (Some f)) ≡ []
-    → Adds o p.pass ([] ▷ step (Some f)) (Retiring f takes) used u → HasRetired o (player u p.closes) q → Removes o p numbers step (Some f) q
+    → Adds o p.pass ([] ▷ step (Some f)) (Retiring f takes) used u → IsRetirement o (player u p.closes) q → IsRemoval o p numbers step (Some f) q
 removes_some o p q u step f takes numbers used no_looks few none adds (g, t, doing, does) =
     let same = same_file g f t takes (sym doing ∙ adds.now) in
     let told = subst (λ (x : File). MayClose [] (Some x) does.actions) same does.says in
@@ -134,9 +158,9 @@ removes_some o p q u step f takes numbers used no_looks few none adds (g, t, doi
     let c = does.few_files in
     record {
       actions = ([] ▷ step (Some f)) ▷▷ does.actions;
-      used = both used does.used;
+      used = both_uses used does.used;
       acts = acts_behind o p q u ([] ▷ step (Some f)) does.actions (Retiring f takes) used does.used adds none does.acts;
-      says = may_close_behind ([] ▷ step (Some f)) does.actions f told;
+      says = may_close_behind ([] ▷ step (Some f)) [] does.actions f told;
       few_looks = omega arith;
       few_numbers = omega arith;
       few_files = omega arith;

@@ -1,7 +1,7 @@
 -- What a player of requests does: a pass of a shared table, and a list of closes.
 use Rattle.std.specs.Prelude.{◌≡◌, ℕ, ◌+◌, ◌≤◌, List, ◌++◌, length}
 use Rattle.fx_base.specs.Catalogue.{FileEntry}
-use Rattle.fx_base.specs.Closes.{Closes}
+use Rattle.fx_base.specs.CloseListView.{CloseListView}
 use Rattle.fx_plain.specs.declared.event.Action.{Action}
 use Rattle.fx_plain.specs.History.{closes_in}
 use Rattle.fx_table.specs.Opening.{Opening, size_of}
@@ -18,9 +18,9 @@ use Rattle.fx_chain.specs.declared.completion.Place.{Place}
 -- what a player has at a moment
 pub record Player : Type 0 where
   pub pass : PassView
-  pub closes : Closes
+  pub closes : CloseListView
 
-abbrev pub player : PassView → Closes → Player
+abbrev pub player : PassView → CloseListView → Player
 player pass closes = record { pass = pass; closes = closes }
 
 -- The pass took these actions, whatever others did between, and does nothing now. The files of their Close events went to
@@ -47,9 +47,14 @@ Performs o catalogue place request p c q =
     ActsSo o p 1 (installs_of request.operation) (weight_of request.operation)
     (λ actions. Answers catalogue (size_of o) place request.operation actions c) q
 
--- the chain was played: these actions explain its completions, which went to the end of a list
+-- the members from this place on were played: these actions explain their completions
+abbrev pub PlaysMembers : Opening → List FileEntry → Place → List Asked → Player → List Completed → Player → Type 0
+PlaysMembers o catalogue place requests p completions q =
+    ActsSo o p (length requests) (all_installs requests) (all_weights requests)
+    (λ actions. Explains catalogue (size_of o) place requests actions completions) q
+
+-- the chain was played, and its completions went to the end of a list
 abbrev pub PlaysChain : Opening → List FileEntry → ℕ → ℕ → List Asked → Player → List Completed → Player → List Completed → Type 0
 PlaysChain o catalogue submission chain requests p before q now =
     (completions : List Completed) × (now ≡ before ++ completions)
-    × ActsSo o p (length requests) (all_installs requests) (all_weights requests)
-    (λ actions. Explains catalogue (size_of o) (first_member submission chain) requests actions completions) q
+    × PlaysMembers o catalogue (first_member submission chain) requests p completions q

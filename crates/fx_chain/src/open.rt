@@ -38,10 +38,11 @@ fn open_at<T: FileTable, R: Wait>(
         (λ actions. OpensAt (size_of (T.opening table.now)) place entry (Slot slot) actions (completed_of result))
         (player (T.view pass.new) closes.new) }
 {
-    if table.size() == 0 {
+    let size = table.size();
+    if size == 0 {
         return Completion::refusal(alloc, place, Errno::ENXIO);
     }
-    if slot >= table.size() {
+    if slot >= size {
         return Completion::refusal(alloc, place, Errno::EINVAL);
     }
     let file = catalogue.open(entry, place.mark(0));
@@ -69,7 +70,8 @@ fn open_any<T: FileTable, R: Wait>(
         (λ actions. OpensAt (size_of (T.opening table.now)) place entry Any actions (completed_of result))
         (player (T.view pass.new) closes.now) }
 {
-    if table.size() == 0 {
+    let size = table.size();
+    if size == 0 {
         return Completion::refusal(alloc, place, Errno::ENFILE);
     }
     let file = catalogue.open(entry, place.mark(0));

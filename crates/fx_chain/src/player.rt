@@ -41,10 +41,11 @@ fn close<T: FileTable, R: Wait>(
         (λ actions. Empties (size_of (T.opening table.now)) place slot actions (completed_of result))
         (player (T.view pass.new) closes.new) }
 {
-    if table.size() == 0 {
+    let size = table.size();
+    if size == 0 {
         return Completion::refusal(alloc, place, Errno::ENXIO);
     }
-    if slot >= table.size() {
+    if slot >= size {
         return Completion::refusal(alloc, place, Errno::EINVAL);
     }
     if !take(rt, table, pass, slot, closes) {

@@ -5,10 +5,11 @@ ghost use Rattle.fx_table.specs.Pass.{IsIdle};
 ghost use Rattle.fx_chain.specs.Answers.{ReadsFrom};
 ghost use Rattle.fx_chain.specs.Completed.{completed_of};
 ghost use Rattle.fx_chain.specs.Performs.{ActsSo, player};
-ghost use Rattle.fx_chain.specs.declared.request.TheConstants.{MOST_BYTES};
+ghost use Rattle.fx_chain.specs.declared.request.TheConstants.{LONGEST_READ};
 
 use crate::completion::{Completion, Place};
-use crate::request::MOST_BYTES;
+use crate::removal::release;
+use crate::request::LONGEST_READ;
 use fx_base::{Catalogue, CloseList, Errno};
 use fx_table::{FileTable, LookFault};
 use std::alloc::Global;
@@ -30,7 +31,7 @@ pub(crate) fn read<T: FileTable, R: Wait>(
     requires fits { T.fits table.now pass.old }
     requires idle { IsIdle (T.view pass.old) }
     requires looks { 0 < (T.view pass.old).looks_left }
-    requires len { len ≤ MOST_BYTES }
+    requires len { len ≤ LONGEST_READ }
     requires room { 0 < closes.old.room }
     ensures fits { T.fits table.now pass.new }
     ensures read { ActsSo (T.opening table.now) (player (T.view pass.old) closes.old) 1 0 1
@@ -50,9 +51,7 @@ pub(crate) fn read<T: FileTable, R: Wait>(
         Err(LookFault::Spent) => unreachable!(),
         Ok(hold) => {
             let res = catalogue.read_into(hold.entry, off, len, &mut got) as i32;
-            if let Some(file) = table.release(rt, pass, hold) {
-                closes.close(file);
-            }
+            release(rt, table, pass, hold, closes);
             Completion { place, res, got }
         }
     }

@@ -1,15 +1,15 @@
-//! Removals from a shared table, each with the close of the file that was there.
+//! Files that a request removes or gives up, each with its close.
 ghost use Rattle.std.specs.Prelude.{◌≡◌, ◌<◌, Option, is_some};
 ghost use Rattle.fx_plain.specs.declared.event.Action.TheVariants.{Put, Clear, Take};
 ghost use Rattle.fx_plain.specs.declared.event.File.{File};
 ghost use Rattle.fx_table.specs.Calls.{new_file};
 ghost use Rattle.fx_table.specs.Opening.{size_of};
-ghost use Rattle.fx_table.specs.Pass.{IsIdle, IsRetiredOf};
+ghost use Rattle.fx_table.specs.Pass.{IsIdle, IsHoldOf, IsRetiredOf};
 ghost use Rattle.fx_chain.specs.Performs.{player};
-ghost use Rattle.fx_chain.specs.Removals.{HasRetired, Removes};
+ghost use Rattle.fx_chain.specs.Removals.{IsRetirement, IsRelease, IsRemoval};
 
 use fx_base::{CloseList, OpenFile};
-use fx_table::{Empty, FileTable, Retired};
+use fx_table::{Empty, FileTable, Hold, Retired};
 use std::sync::Wait;
 
 // Retires the file that the pass removed, and closes it where nobody holds it now. Else its last holder will.
@@ -24,10 +24,30 @@ fn retire<T: FileTable, R: Wait>(
     requires removed { IsRetiredOf (T.view pass.old) retired }
     requires room { 0 < closes.old.room }
     ensures fits { T.fits table.now pass.new }
-    ensures retired { HasRetired (T.opening table.now)
+    ensures retired { IsRetirement (T.opening table.now)
         (player (T.view pass.old) closes.old) (player (T.view pass.new) closes.new) }
 {
     if let Some(file) = table.retire(rt, pass, retired) {
+        closes.close(file);
+    }
+}
+
+// Gives up what the pass holds, and closes it where it was retired and this was its last hold.
+pub(crate) fn release<T: FileTable, R: Wait>(
+    rt: &R,
+    table: &T,
+    pass: &mut T::Pass,
+    hold: Hold,
+    closes: &mut CloseList,
+)
+    requires fits { T.fits table.now pass.old }
+    requires held { IsHoldOf (T.view pass.old) hold }
+    requires room { 0 < closes.old.room }
+    ensures fits { T.fits table.now pass.new }
+    ensures released { IsRelease (T.opening table.now)
+        (player (T.view pass.old) closes.old) (player (T.view pass.new) closes.new) }
+{
+    if let Some(file) = table.release(rt, pass, hold) {
         closes.close(file);
     }
 }
@@ -46,7 +66,7 @@ pub(crate) fn take<T: FileTable, R: Wait>(
     requires room { 0 < closes.old.room }
     ensures fits { T.fits table.now pass.new }
     ensures removed { (removed : Option File) × (result ≡ is_some removed)
-        × Removes (T.opening table.now) (player (T.view pass.old) closes.old) 0 (Take slot) removed
+        × IsRemoval (T.opening table.now) (player (T.view pass.old) closes.old) 0 (Take slot) removed
         (player (T.view pass.new) closes.new) }
 {
     match table.take(rt, pass, slot) {
@@ -72,7 +92,7 @@ pub(crate) fn clear<T: FileTable, R: Wait>(
     requires room { 0 < closes.old.room }
     ensures fits { T.fits table.now pass.new }
     ensures removed { (removed : Option File)
-        × Removes (T.opening table.now) (player (T.view pass.old) closes.old) 0 (Clear slot) removed
+        × IsRemoval (T.opening table.now) (player (T.view pass.old) closes.old) 0 (Clear slot) removed
         (player (T.view pass.new) closes.new) }
 {
     if let Some(retired) = table.clear(rt, pass, slot) {
@@ -96,7 +116,7 @@ pub(crate) fn put<T: FileTable, R: Wait>(
     requires room { 0 < closes.old.room }
     ensures fits { T.fits table.now pass.new }
     ensures removed { (removed : Option File)
-        × Removes (T.opening table.now) (player (T.view pass.old) closes.old) 1
+        × IsRemoval (T.opening table.now) (player (T.view pass.old) closes.old) 1
         (Put slot (new_file (T.view pass.old) file)) removed (player (T.view pass.new) closes.new) }
 {
     if let Some(retired) = table.put(rt, pass, slot, file) {

@@ -11,10 +11,10 @@ use crate::flags::SqeFlags;
 use bitflags::Flags;
 
 /// How many bytes a read may ask for.
-pub const MOST_BYTES: u32 = 4096;
+pub const LONGEST_READ: u32 = 4096;
 
 /// How many entries an update may have.
-pub const MOST_ENTRIES: usize = 16;
+pub const LONGEST_UPDATE: usize = 16;
 
 /// Where an open installs its file (io_uring_prep_openat(3), "file_index").
 #[derive(Clone, Copy, Debug, PartialEq, Eq)]
@@ -143,7 +143,7 @@ impl Request {
                 slot: _,
                 off: _,
                 len,
-            } => len > MOST_BYTES,
+            } => len > LONGEST_READ,
             _ => false,
         }
     }
@@ -153,7 +153,7 @@ impl Request {
         ensures { result ≡ is_long_update (operation_of self.now.op) }
     {
         match &self.op {
-            Op::Update { off: _, list } => list.len() > MOST_ENTRIES,
+            Op::Update { off: _, list } => list.len() > LONGEST_UPDATE,
             _ => false,
         }
     }

@@ -1,17 +1,18 @@
 //! Updates of a shared table: the list is checked whole before any entry is applied.
-ghost use Rattle.std.specs.Prelude.{◌≡◌, ◌+◌, ◌<◌, ◌≤◌, false, length};
+ghost use Rattle.std.specs.Prelude.{◌≡◌, ◌+◌, ◌<◌, ◌≤◌, ◌^◌, false, length};
 ghost use Rattle.std.specs.List.{list_any};
+ghost use Rattle.fx_base.specs.declared.catalogue.TheConstants.{MOST_ENTRIES};
 ghost use Rattle.fx_table.specs.Opening.{size_of};
 ghost use Rattle.fx_table.specs.Pass.{IsIdle};
 ghost use Rattle.fx_chain.specs.Answers.{AppliesEntry, AppliesList, UpdatesFrom, is_bad_entry};
 ghost use Rattle.fx_chain.specs.Completed.{completed_of};
 ghost use Rattle.fx_chain.specs.Performs.{ActsSo, player};
 ghost use Rattle.fx_chain.specs.Weights.{entry_installs, list_installs};
-ghost use Rattle.fx_chain.specs.declared.request.TheConstants.{MOST_ENTRIES};
+ghost use Rattle.fx_chain.specs.declared.request.TheConstants.{LONGEST_UPDATE};
 
 use crate::completion::{Completion, Place};
 use crate::removal::{clear, put};
-use crate::request::MOST_ENTRIES;
+use crate::request::LONGEST_UPDATE;
 use fx_base::{Catalogue, CloseList, Errno};
 use fx_table::FileTable;
 use std::alloc::Global;
@@ -55,6 +56,7 @@ fn apply_entry<T: FileTable, R: Wait>(
     requires fits { T.fits table.now pass.old }
     requires idle { IsIdle (T.view pass.old) }
     requires slot { slot < size_of (T.opening table.now) }
+    requires entries { length catalogue.now ≤ MOST_ENTRIES }
     requires good { is_bad_entry (length catalogue.now) entry ≡ false }
     requires numbers { entry_installs entry ≤ (T.view pass.old).numbers_left }
     requires room { 0 < closes.old.room }
@@ -86,8 +88,10 @@ fn apply_list<T: FileTable, R: Wait>(
 )
     requires fits { T.fits table.now pass.old }
     requires idle { IsIdle (T.view pass.old) }
-    requires few { length list.now ≤ MOST_ENTRIES }
+    requires few { length list.now ≤ LONGEST_UPDATE }
     requires slots { off + length list.now ≤ size_of (T.opening table.now) }
+    requires size { size_of (T.opening table.now) < 2 ^ 32 }
+    requires entries { length catalogue.now ≤ MOST_ENTRIES }
     requires good { list_any (is_bad_entry (length catalogue.now)) list.now ≡ false }
     requires numbers { list_installs list.now ≤ (T.view pass.old).numbers_left }
     requires room { length list.now ≤ closes.old.room }
@@ -129,7 +133,7 @@ pub(crate) fn update<T: FileTable, R: Wait>(
 ) -> Completion
     requires fits { T.fits table.now pass.old }
     requires idle { IsIdle (T.view pass.old) }
-    requires few { length list.now ≤ MOST_ENTRIES }
+    requires few { length list.now ≤ LONGEST_UPDATE }
     requires numbers { list_installs list.now ≤ (T.view pass.old).numbers_left }
     requires room { length list.now ≤ closes.old.room }
     ensures fits { T.fits table.now pass.new }
@@ -143,7 +147,10 @@ pub(crate) fn update<T: FileTable, R: Wait>(
     if size == 0 {
         return Completion::refusal(alloc, place, Errno::ENXIO);
     }
-    if list.is_empty() || off as u64 + list.len() as u64 > size as u64 {
+    if list.is_empty() {
+        return Completion::refusal(alloc, place, Errno::EINVAL);
+    }
+    if off as u64 + list.len() as u64 > size as u64 {
         return Completion::refusal(alloc, place, Errno::EINVAL);
     }
     if has_bad_entry(catalogue.len(), list) {
