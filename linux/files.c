@@ -1,7 +1,6 @@
 #define _GNU_SOURCE
 #include "files.h"
 
-#include <errno.h>
 #include <fcntl.h>
 #include <limits.h>
 #include <stdio.h>
@@ -37,7 +36,7 @@ static void name_of_entry(unsigned entry, char name[NAME_BYTES])
 
 void name_of_link(size_t installation, char name[NAME_BYTES])
 {
-	snprintf(name, NAME_BYTES, "%zu", installation % 10000000000);
+	snprintf(name, NAME_BYTES, "%zu", installation);
 }
 
 int links_folder(void)
@@ -117,7 +116,7 @@ size_t add_installation(struct mark mark, int entry)
 		room = room ? 2 * room : 256;
 		installations = realloc(installations, room * sizeof *installations);
 		if (!installations)
-			die("out of memory");
+			die_of("out of memory");
 	}
 	installations[count] = (struct installation){ .mark = mark, .entry = entry, .descriptor = -1, .is_installed = 1 };
 	if (entry >= 0) {
@@ -166,7 +165,7 @@ static void read_events(void)
 			const struct inotify_event *event = (void *)at;
 			at += sizeof *event + event->len;
 			if (event->mask & IN_Q_OVERFLOW)
-				die("more events than fs.inotify.max_queued_events");
+				die_of("more events than fs.inotify.max_queued_events");
 			if (event->len && !(event->mask & IN_ISDIR))
 				note_event(strtoul(event->name, NULL, 10), event->mask);
 		}
@@ -198,12 +197,12 @@ static int read_table(int ring)
 		return 1;
 	FILE *information = ring_information(ring);
 	while (fgets(line, sizeof line, information)) {
-		const char *name = strstr(line, "/links/");
+		const char *name = strrchr(line, '/');
 		if (!strncmp(line, "UserFiles:", 10))
 			is_listed = 1;
 		if (!strncmp(line, "UserBufs:", 9))
 			break;
-		size_t installation = is_listed && name ? strtoul(name + strlen("/links/"), NULL, 10) : count;
+		size_t installation = is_listed && name ? strtoul(name + 1, NULL, 10) : count;
 		if (installation < count)
 			installations[installation].is_in_table = 1;
 	}
@@ -244,8 +243,7 @@ void settle(int ring)
 			return;
 		usleep(TURN_MICROSECONDS);
 	}
-	errno = 0;
-	die("a file that isn't in the table stays open");
+	die_of("a file that isn't in the table stays open");
 }
 
 static void write_close(const struct script *script, struct installation *it)

@@ -9,7 +9,7 @@
 
 #include "script.h"
 
-enum { NAME_BYTES = 12 };
+enum { NAME_BYTES = 24 };
 
 struct mark {
 	int is_registered;

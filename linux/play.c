@@ -22,9 +22,11 @@
  * the table has a closed line like any other, since the kernel did close it.
  */
 #include <errno.h>
+#include <signal.h>
 #include <stdio.h>
 #include <stdlib.h>
 #include <string.h>
+#include <sys/resource.h>
 
 #include "files.h"
 #include "submission.h"
@@ -50,14 +52,25 @@ static unsigned largest_submission(const struct script *script)
 	return largest;
 }
 
+/* The kernel compares the size of a table with the limit of open files, so that is raised as far as it goes. */
+static void raise_limit(void)
+{
+	struct rlimit limit;
+	if (getrlimit(RLIMIT_NOFILE, &limit))
+		die("the limit of open files");
+	limit.rlim_cur = limit.rlim_max;
+	if (setrlimit(RLIMIT_NOFILE, &limit))
+		die("the limit of open files");
+}
+
 static void open_ring(struct play *play)
 {
 	unsigned entries = largest_submission(&play->script);
 	if (entries > MOST_REQUESTS)
-		die("a ring has at most 32,768 requests");
+		die_of("a ring has at most 32,768 requests");
 	errno = -io_uring_queue_init(entries, &play->ring, IORING_SETUP_SUBMIT_ALL);
 	if (errno || !open_files(&play->script)) {
-		fprintf(stderr, "play-on-kernel: no io_uring or no inotify here: %s\n", strerror(errno));
+		fprintf(stderr, "play-on-kernel: no io_uring of Linux 5.18 or later, or no inotify: %s\n", strerror(errno));
 		exit(NO_IO_URING);
 	}
 }
@@ -127,6 +140,9 @@ int main(void)
 		fprintf(stderr, "play-on-kernel: line %ld: not in the language\n", play.script.bad_line);
 		return BAD_SCRIPT;
 	}
+	/* so that the folder is removed where nobody reads the text any more */
+	signal(SIGPIPE, SIG_IGN);
+	raise_limit();
 	open_ring(&play);
 	play_script(&play);
 	if (is_any_open())
@@ -134,5 +150,7 @@ int main(void)
 	io_uring_queue_exit(&play.ring);
 	settle(-1);
 	write_closes(&play.script);
+	if (fflush(stdout))
+		die("write failed");
 	return 0;
 }

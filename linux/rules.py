@@ -3,7 +3,7 @@ import resource
 
 from model import EAGAIN, EBADF, EINVAL, SLOTS, Player, registered, submitted
 
-# what a kernel allows, beside the limit of open files
+# what a kernel allows, beside the hard limit of open files
 SLOTS_OF_LINUX = 1 << 20
 
 
@@ -23,7 +23,7 @@ class Linux(Player):
 
     def refusal_of_table(self, count):
         refusal = super().refusal_of_table(count)
-        largest = min(SLOTS_OF_LINUX, resource.getrlimit(resource.RLIMIT_NOFILE)[0])
+        largest = min(SLOTS_OF_LINUX, resource.getrlimit(resource.RLIMIT_NOFILE)[1])
         if self.slots and count == 0 and self.meets("sparse_of_nothing_on_a_table"):
             return -EINVAL
         if not self.slots and SLOTS < count <= largest and self.meets("larger_table"):

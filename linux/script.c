@@ -11,7 +11,13 @@ enum { LONGEST_SCRIPT = 4194304, LONGEST_LINE = 10000, LONGEST_NAME = 32, MOST_W
 
 void die(const char *what)
 {
-	fprintf(stderr, "play-on-kernel: %s%s%s\n", what, errno ? ": " : "", errno ? strerror(errno) : "");
+	fprintf(stderr, "play-on-kernel: %s: %s\n", what, strerror(errno));
+	exit(4);
+}
+
+void die_of(const char *what)
+{
+	fprintf(stderr, "play-on-kernel: %s\n", what);
 	exit(4);
 }
 
@@ -19,7 +25,7 @@ void *memory_of(size_t size)
 {
 	void *memory = calloc(1, size ? size : 1);
 	if (!memory)
-		die("out of memory");
+		die_of("out of memory");
 	return memory;
 }
 
@@ -150,7 +156,7 @@ static struct command *next_command(struct script *script)
 		script->room = script->room ? 2 * script->room : 64;
 		script->commands = realloc(script->commands, script->room * sizeof(struct command));
 		if (!script->commands)
-			die("out of memory");
+			die_of("out of memory");
 	}
 	return &script->commands[script->command_count];
 }

@@ -43,7 +43,8 @@ int entry_of(const struct script *script, const char *name);
 /* Memory that is there, or the end of the program. */
 void *memory_of(size_t size);
 
-/* Says what happened, and ends the program with status 4. */
+/* Says what happened, and ends the program with status 4. `die` gives errno as the reason. */
 void die(const char *what) __attribute__((noreturn));
+void die_of(const char *what) __attribute__((noreturn));
 
 #endif

@@ -86,6 +86,16 @@ static void prepare(struct io_uring *ring, const struct script *script, struct m
 	io_uring_sqe_set_data(sqe, it);
 }
 
+static void submit(struct io_uring *ring, unsigned count)
+{
+	int submitted = count ? io_uring_submit(ring) : 0;
+	errno = submitted < 0 ? -submitted : 0;
+	if (errno)
+		die("the submission");
+	if (submitted != (int)count)
+		die_of("the kernel took a part of the submission");
+}
+
 static void wait_for_all(struct io_uring *ring, unsigned count)
 {
 	struct io_uring_cqe *cqe;
@@ -124,10 +134,7 @@ void play_submission(struct io_uring *ring, const struct script *script, const s
 		place = requests[at]->links ? place + 1 : 1;
 		chain += !requests[at]->links;
 	}
-	int submitted = count ? io_uring_submit(ring) : 0;
-	errno = submitted < 0 ? -submitted : 0;
-	if (submitted != (int)count)
-		die("the submission");
+	submit(ring, count);
 	wait_for_all(ring, count);
 	for (unsigned at = 0; at < count; at++)
 		write_member(&members[at], number);

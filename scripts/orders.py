@@ -4,6 +4,8 @@ Chains of a submission run beside each other, and an open at any slot may take a
 texts. `ending_of` looks for an order of steps in which a model writes a given text. A request is one step; with `splits`
 each entry of an update is a step of its own, so that requests of other chains may come between two.
 """
+import re
+
 from model import Player, chains_of, completion_line, severs
 
 # so many states are looked at before a search is given up
@@ -16,10 +18,10 @@ class TooManyOrders(Exception):
 
 def completion_of(line, place):
     """The result and the bytes that a line gives for a place, or None."""
-    words = line.split(" ")
-    if len(words) not in (2, 3) or words[0] != "{}.{}.{}".format(*place):
+    found = re.fullmatch(r"([0-9.]+) (-?[0-9]+)(?: ((?:[0-9a-f]{2})+))?", line)
+    if not found or found[1] != "{}.{}.{}".format(*place):
         return None
-    res, got = int(words[1]), bytes.fromhex(words[2]) if len(words) == 3 else b""
+    res, got = int(found[2]), bytes.fromhex(found[3] or "")
     return (res, got) if completion_line(place, res, got) == line else None
 
 
