@@ -1,0 +1,6 @@
+pub mod Tests
+pub mod Cuts
+pub mod Numbers
+pub mod Printable
+pub mod LinesOf
+pub mod Decided
