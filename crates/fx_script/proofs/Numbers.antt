@@ -9,7 +9,7 @@ use Rattle.std.specs.Char.{digit_value}
 use Rattle.std.specs.Str.Parse.{digits_value}
 use Rattle.fx_script.specs.declared.limits.TheConstants.{LARGEST_NUMBER}
 use Rattle.fx_script.specs.Words.{is_digit, is_decimal, number_of}
-use Rattle.fx_script.proofs.Tests.{and_left, and_right, le_of, refused_if}
+use Rattle.fx_script.proofs.Conditions.{and_left, and_right, le_of, refused_if}
 
 -- one digit more
 pub value_more : (word : List ℕ) (i d : ℕ) → i < length word → is_digit (get_or word i 0) ≡ true → d ≡ get_or word i 0 - 48

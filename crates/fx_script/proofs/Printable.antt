@@ -6,7 +6,7 @@ use Rattle.std.specs.List.{list_all, slice_split, onto_first}
 use Rattle.std.proofs.lemmas.Str.{IsUtf8-from_ascii}
 use Rattle.std.proofs.lemmas.Str.Ascii.{IsAscii-nil, IsAscii-cons}
 use Rattle.fx_script.specs.Lines.{is_printable, words}
-use Rattle.fx_script.proofs.Tests.{and_left, and_right, and_true, le_of}
+use Rattle.fx_script.proofs.Conditions.{and_left, and_right, and_true, le_of}
 
 -- one byte in front of the parts
 one_byte : (ends : Bool) (b : ℕ) (parts : List (List ℕ)) → nat_le 32 b && nat_le b 126 ≡ true → list_all is_printable parts ≡ true

@@ -9,3 +9,4 @@ pub mod Cursor
 pub mod LineView
 pub mod ScriptView
 pub mod Laws
+pub mod Text

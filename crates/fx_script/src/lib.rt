@@ -12,9 +12,13 @@ mod parts;
 mod reader;
 mod request;
 mod script;
+mod text;
 mod words;
 
 pub use command::Command;
 pub use fault::{ScriptError, ScriptFault};
 pub use limits::{LARGEST_NUMBER, LONGEST_LINE, LONGEST_SCRIPT};
 pub use script::Script;
+
+#[cfg(test)]
+mod tests;

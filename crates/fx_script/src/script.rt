@@ -1,4 +1,4 @@
-ghost use Rattle.std.specs.Prelude.{IfOk, IfErr};
+ghost use Rattle.std.specs.Prelude.{◌≡◌, IfOk, IfErr};
 ghost use Rattle.fx_script.specs.Script.{IsScript, at_end};
 
 use crate::command::Command;
@@ -27,8 +27,23 @@ impl Model for Script {
 }
 
 impl Script {
+    ghost use Rattle.fx_script.specs.Instruction.{instructions_of};
     ghost use Rattle.fx_script.specs.ScriptError.{IsFaultOf, Reads};
     ghost use Rattle.fx_script.specs.ScriptView.{progress_of};
+
+    /// The files that its requests can open, in the order of their lines.
+    pub fn catalogue(&self) -> &Catalogue
+        ensures { result.now ≡ self.now.catalogue }
+    {
+        &self.catalogue
+    }
+
+    /// Its commands, in their order.
+    pub fn commands(&self) -> &[Command]
+        ensures { instructions_of result.now ≡ self.now.commands }
+    {
+        self.commands.as_slice()
+    }
 
     // The script, where no request waits for its submission.
     fn of(reader: Reader) -> Result<Script, ScriptError>
