@@ -118,7 +118,8 @@ impl PlainTable {
     /// "IORING_REGISTER_FILE_ALLOC_RANGE").
     pub fn range(&self) -> (u32, u32)
         ensures value { result ≡ (state_of self.now).range }
-        ensures inside { let st = state_of self.now in st.range.0 + st.range.1 ≤ st.size }
+        ensures inside { (state_of self.now).range.0 + (state_of self.now).range.1
+            ≤ (state_of self.now).size }
     {
         (self.range_start, self.range_len)
     }
