@@ -84,9 +84,8 @@ clean:
 
 .PHONY: kernel agree
 
-kernel: export SCRIPT := $(SCRIPT)
 kernel:
-	@scripts/play-on-kernel "$$SCRIPT"
+	@scripts/play-on-kernel
 
 agree:
 	@scripts/agree
