@@ -107,16 +107,16 @@ def longest_script():
 
 
 def limits():
-    """Each script at a limit: its name, the script, the text and the status."""
-    yield "full_table", *full_table(), 0
-    yield "heaviest_submission", *heaviest_submission(), 0
-    yield "far_reads", *far_reads(), 0
-    yield "largest_numbers", *largest_numbers(), 0
-    yield "long_lists", *long_lists(), 0
-    yield "bad_list_in_a_line_too_long", f"update 10 {','.join(['0'] * 4996)}\nsubmit\n", "", 3
-    yield "full_catalogue", *full_catalogue(), 0
-    yield "text_of_8_megabytes", *large_text(1), 0
-    yield "text_of_134_megabytes", *large_text(MEMBERS), 0
+    """Each script at a limit: its name, the script, the text, and the line and the fault of a bad one."""
+    yield "full_table", *full_table(), ""
+    yield "heaviest_submission", *heaviest_submission(), ""
+    yield "far_reads", *far_reads(), ""
+    yield "largest_numbers", *largest_numbers(), ""
+    yield "long_lists", *long_lists(), ""
+    yield "bad_list_in_a_line_too_long", f"update 10 {','.join(['0'] * 4996)}\nsubmit\n", "", "line 1: long-line"
+    yield "full_catalogue", *full_catalogue(), ""
+    yield "text_of_8_megabytes", *large_text(1), ""
+    yield "text_of_134_megabytes", *large_text(MEMBERS), ""
     script, text = longest_script()
-    yield "longest_script", script, text, 0
-    yield "bad_script_too_long", script + "\n", "", 3
+    yield "longest_script", script, text, ""
+    yield "bad_script_too_long", script + "\n", "", "line 0: long-script"
