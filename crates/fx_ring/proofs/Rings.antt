@@ -1,0 +1,54 @@
+-- What a ring keeps, as its table changes.
+use Rattle.std.proofs.Common.{◌≡◌, ℕ, Bool, zero, suc, ◌+◌, ◌<◌, ◌≤◌, List, [], ◌∷◌, ◌++◌, length, refl, sym, ap, subst, ◌∙◌, Option, Some, None, All, arith, option_to_list}
+use Rattle.std.proofs.lemmas.List.Elements.{All-append}
+use Rattle.std.proofs.lemmas.List.Sorted.{All-permutation}
+use Rattle.fx_base.specs.Closes.{Closes}
+use Rattle.fx_base.specs.declared.open_file.Closed.{Closed}
+use Rattle.fx_plain.specs.State.{State, IsSettled, vacant, listed, files_in_order as files_in_order_of_state, files_of as files_of_state}
+use Rattle.fx_plain.specs.Table.{identity_of}
+use Rattle.fx_plain.specs.declared.event.File.{File}
+use Rattle.fx_ring.specs.Ring.{RingState, IsRing, HasClosed, AreEntries, files_in_order, files_of, with_table}
+
+-- a table without files keeps what every ring keeps
+pub none_rings : (ring : RingState) → ring.at ≡ (λ _. None) → IsRing ring
+none_rings ring no_files = record {
+  entries = λ slot file is. let e : None ≡ Some file = sym (ap (λ (at : ℕ → Option Closed). at slot) no_files) ∙ is in cc;
+  counted = λ slot file is. let e : None ≡ Some file = sym (ap (λ (at : ℕ → Option Closed). at slot) no_files) ∙ is in cc;
+  distinct = λ slot other file same is are marks. let e : None ≡ Some file = sym (ap (λ (at : ℕ → Option Closed). at slot) no_files) ∙ is in cc;
+}
+
+listed_is : (x : Option File) → option_to_list (identity_of x) ≡ listed x
+listed_is None = refl
+listed_is (Some f) = refl
+
+-- the files of a table, its files' numbers aside
+pub files_of-state : (at : ℕ → Option File) (n : ℕ) → files_in_order (λ slot. identity_of (at slot)) n ≡ files_in_order_of_state at n
+files_of-state at zero = refl
+files_of-state at (suc n) = ap (λ (x : List Closed × List Closed). x.0 ++ x.1) (λ i. (files_of-state at n i, listed_is (at n) i))
+
+only_one : {X : Type 0} (P : X → Type 0) (x : X) → P x → All P (x ∷ [])
+only_one P x p zero d inside = p
+only_one P x p (suc k) d inside = absurd (omega arith)
+
+entry_listed : (entries : ℕ) (x : Option Closed) → ((file : Closed) → x ≡ Some file → file.entry < entries) → All (λ (file : Closed). file.entry < entries) (option_to_list x)
+entry_listed entries None has = λ k d inside. absurd (omega arith)
+entry_listed entries (Some file) has = only_one (λ (f : Closed). f.entry < entries) file (has file refl)
+
+entries_in_order : (entries : ℕ) (at : ℕ → Option Closed) (n : ℕ) → ((slot : ℕ) (file : Closed) → at slot ≡ Some file → file.entry < entries) → All (λ (file : Closed). file.entry < entries) (files_in_order at n)
+entries_in_order entries at zero has = λ k d inside. absurd (omega arith)
+entries_in_order entries at (suc n) has = All-append (λ (file : Closed). file.entry < entries) (files_in_order at n) (option_to_list (at n)) (entries_in_order entries at n has) (entry_listed entries (at n) (has n))
+
+pub entries_of : (ring : RingState) → IsRing ring → AreEntries ring (files_of ring)
+entries_of ring is = entries_in_order (length ring.catalogue) ring.at ring.size is.entries
+
+-- what was closed is of the catalogue, where all of it was
+pub entries_closed : (ring : RingState) (files : List Closed) (closes : Closes) → AreEntries ring files → HasClosed files closes → AreEntries ring closes.files
+entries_closed ring files closes all closed = All-permutation (λ (file : Closed). file.entry < length ring.catalogue) files closes.files closed.same_files all
+
+-- a table that was emptied is settled
+pub emptied_settled : (st : State) (fresh : ℕ → Bool) → st ≡ record (vacant 0) { fresh = fresh } → IsSettled st
+emptied_settled st fresh is = subst IsSettled (sym is) (record { unheld = λ _. refl; closed = λ _. refl })
+
+-- the ring with another allocation range
+pub ranged_rings : (ring : RingState) (range : ℕ × ℕ) → IsRing ring → IsRing (record ring { range = range })
+ranged_rings ring range is = record { entries = is.entries; counted = is.counted; distinct = is.distinct }
