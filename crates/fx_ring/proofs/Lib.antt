@@ -1,2 +1,4 @@
 pub mod Removals
 pub mod Rings
+pub mod Numbers
+pub mod Listed

@@ -1,8 +1,9 @@
 -- What a ring keeps, as its table changes.
-use Rattle.std.proofs.Common.{◌≡◌, ℕ, Bool, zero, suc, ◌+◌, ◌<◌, ◌≤◌, List, [], ◌∷◌, ◌++◌, length, refl, sym, ap, subst, ◌∙◌, Option, Some, None, All, arith, option_to_list}
+use Rattle.std.proofs.Common.{◌≡◌, ℕ, Bool, zero, suc, ◌+◌, ◌<◌, ◌≤◌, List, [], ◌∷◌, ◌++◌, length, refl, sym, ap, subst, ◌∙◌, Option, Some, None, All, arith, option_to_list, IsPermutation}
 use Rattle.std.proofs.lemmas.List.Elements.{All-append}
 use Rattle.std.proofs.lemmas.List.Sorted.{All-permutation}
 use Rattle.fx_base.specs.Closes.{Closes}
+use Rattle.fx_base.specs.CloseList.{IsInOrderOfMark}
 use Rattle.fx_base.specs.declared.open_file.Closed.{Closed}
 use Rattle.fx_plain.specs.State.{State, IsSettled, vacant, listed, files_in_order as files_in_order_of_state, files_of as files_of_state}
 use Rattle.fx_plain.specs.Table.{identity_of}
@@ -40,6 +41,10 @@ entries_in_order entries at (suc n) has = All-append (λ (file : Closed). file.e
 
 pub entries_of : (ring : RingState) → IsRing ring → AreEntries ring (files_of ring)
 entries_of ring is = entries_in_order (length ring.catalogue) ring.at ring.size is.entries
+
+-- a list of all files of a table, once it is in order
+pub all_closed : (at : ℕ → Option File) (size : ℕ) (given : List Closed) (closes : Closes) → given ≡ files_in_order_of_state at size → IsPermutation given closes.files → IsInOrderOfMark closes.files → HasClosed (files_in_order (λ slot. identity_of (at slot)) size) closes
+all_closed at size given closes is same order = record { same_files = subst (λ (l : List Closed). IsPermutation l closes.files) (is ∙ sym (files_of-state at size)) same; in_order = order }
 
 -- what was closed is of the catalogue, where all of it was
 pub entries_closed : (ring : RingState) (files : List Closed) (closes : Closes) → AreEntries ring files → HasClosed files closes → AreEntries ring closes.files

@@ -59,6 +59,7 @@ fn apply_number(
 )
     requires settled { IsSettled (state_of table.old) }
     requires slot { slot < (state_of table.old).size }
+    requires entries { length catalogue.now ≤ 256 }
     requires good { is_bad_entry (length catalogue.now) number ≡ false }
     requires fresh { (state_of table.old).fresh fresh ≡ true }
     requires room { length (removed_by number (files_at (state_of table.old) slot)) ≤ closes.old.room }
@@ -88,7 +89,10 @@ pub(crate) fn apply_list(
 )
     requires settled { IsSettled (state_of table.old) }
     requires slots { off + length list.now ≤ (state_of table.old).size }
+    requires few_slots { (state_of table.old).size ≤ 256 }
+    requires entries { length catalogue.now ≤ 256 }
     requires good { list_any (is_bad_entry (length catalogue.now)) list.now ≡ false }
+    requires first { first ≤ 256 }
     requires fresh { AreFresh (state_of table.old) first (first + length list.now) }
     requires room { length (removed_from (files_at (state_of table.old)) off list.now) ≤ closes.old.room }
     ensures { SetsFiles (state_of table.old) (state_of table.new) (files_after k (files_at (state_of table.old)) off list.now) (removed_from (files_at (state_of table.old)) off list.now) closes.old closes.new }

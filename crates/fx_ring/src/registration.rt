@@ -37,7 +37,8 @@ impl Ring {
 
     // Why a list can't be registered.
     fn register_refusal(&self, list: &[i32]) -> Option<Errno>
-        ensures { result ≡ register_refusal (ring_of self.now) list.now }
+        ensures value { result ≡ register_refusal (ring_of self.now) list.now }
+        ensures entries { IfNone result (length self.now.catalogue ≤ 256) }
     {
         if let Some(errno) = self.sparse_refusal(list.len()) {
             return Some(errno);
@@ -53,7 +54,8 @@ impl Ring {
 
     // Why the slots from `off` on can't be updated by a list.
     fn update_refusal(&self, off: u32, list: &[i32]) -> Option<Errno>
-        ensures { result ≡ update_refusal (ring_of self.now) off list.now }
+        ensures value { result ≡ update_refusal (ring_of self.now) off list.now }
+        ensures entries { IfNone result (length self.now.catalogue ≤ 256) }
     {
         let size = self.table.size();
         if size == 0 {
@@ -220,6 +222,7 @@ fn new_table(
 ) -> Result<PlainTable, NoMemory>
     requires some { 0 < length list.now }
     requires few { length list.now ≤ 256 }
+    requires entries { length catalogue.now ≤ 256 }
     requires good { list_any (is_bad_file (length catalogue.now)) list.now ≡ false }
     ensures size { IfOk result (λ table. (state_of table).size ≡ length list.now) }
     ensures range { IfOk result (λ table. (state_of table).range ≡ (0, length list.now)) }
