@@ -1,15 +1,19 @@
 -- The entries of a catalogue, by their places.
-use Rattle.std.proofs.Common.{◌≡◌, ◌⊎◌, inl, inr, ℕ, suc, zero, ◌<◌, ◌≤◌, Bool, true, false, List, [], ◌∷◌, ◌++◌, length, refl, sym, ap, ◌∙◌, Option, Some, All, slice_index_or, slice_get, subst, length-append, arith, option_map}
+use Rattle.std.proofs.Common.{rules, ◌≡◌, ◌⊎◌, inl, inr, ℕ, suc, zero, ◌<◌, ◌≤◌, Bool, true, false, List, [], ◌∷◌, ◌++◌, length, refl, sym, ap, ◌∙◌, Option, Some, All, slice_index_or, slice_get, subst, length-append, arith, option_map, string_bytes}
 use Rattle.std.proofs.lemmas.List.{get_or-map, length-map}
 use Rattle.std.proofs.lemmas.List.Elements.{All-append}
 use Rattle.std.proofs.lemmas.Option.{slice_get-map, slice_get_read}
 use Rattle.std.proofs.lemmas.Slice.Eq.{bytes_eq-Decides}
+use Rattle.std.proofs.lemmas.Grind.{common_steps}
 use Rattle.std.specs.Str.{bytes_eq}
-use Rattle.std.specs.Prelude.{◌||◌}
+use Rattle.std.specs.Prelude.{◌||◌, IsTrue}
+use Rattle.fx_base.specs.Name.{is_name}
 use Rattle.fx_base.specs.Catalogue.{FileEntry, IsCatalogue, name_at, size_at}
 use Rattle.fx_base.specs.AddFault.{has_name}
-use Rattle.fx_base.specs.CatalogueView.{entries_of, file_of}
+use Rattle.fx_base.specs.CatalogueView.{file_entries_of, file_entry_of}
 use Rattle.fx_base.specs.declared.catalogue.Entry.{Entry}
+use Rattle.fx_base.specs.declared.catalogue.TheConstants.{MOST_ENTRIES, LONGEST_ENTRY}
+use Rattle.fx_base.specs.declared.name.TheConstants.{LONGEST_NAME}
 
 -- the place of a name in front of one more entry, or that entry's own
 either_place : (xs : List FileEntry) (y : FileEntry) (i : ℕ) (name : List ℕ) → name_at (xs ++ y ∷ []) i ≡ Some name → (name_at xs i ≡ Some name) ⊎ ((i ≡ length xs) × (y.name ≡ name))
@@ -43,22 +47,46 @@ still_distinct catalogue y distinct new i j name at_i at_j = elim (either_place 
   | inr new_i ↦ (elim (either_place catalogue y j name at_j) [ inl old_j ↦ absurd (not_named catalogue y.name new j (old_j ∙ ap Some (sym new_i.1))) | inr new_j ↦ new_i.0 ∙ sym new_j.0 ])
 ]
 
-small_entry : (entries : List Entry) (i : ℕ) (e : Entry) → All (λ file. length file.bytes ≤ 4096) (entries_of entries) → i < length entries → e ≡ slice_index_or entries i e → length e.bytes.items ≤ 4096
-small_entry entries i e small inside is =
-    let at : slice_index_or (entries_of entries) i (file_of e) ≡ file_of e = get_or-map file_of entries i e (file_of e) inside ∙ ap file_of (sym is) in
-    let held : length (slice_index_or (entries_of entries) i (file_of e)).bytes ≤ 4096 = small i (file_of e) (subst (λ (n : ℕ). i < n) (sym (length-map entries file_of)) inside) in
-    subst (λ (f : FileEntry). length f.bytes ≤ 4096) at held
+-- an entry that was read has its size and its name, and both are what a catalogue keeps
+pub record IsRead (catalogue : List FileEntry) (i : ℕ) (e : Entry) : Type 0 where
+  pub size : size_at catalogue i ≡ Some (length e.bytes.items)
+  pub small : length e.bytes.items ≤ LONGEST_ENTRY
+  pub name : name_at catalogue i ≡ Some (string_bytes e.name)
+  pub named : IsTrue (is_name (string_bytes e.name))
 
--- an entry that was read has its size, which is small
-pub sized_at : (entries : List Entry) (i : ℕ) (e : Entry) → IsCatalogue (entries_of entries) → i < length entries → e ≡ slice_index_or entries i e → (size_at (entries_of entries) i ≡ Some (length e.bytes.items)) × (length e.bytes.items ≤ 4096)
-sized_at entries i e good inside is =
-    let at : slice_get (entries_of entries) i ≡ Some (file_of e) = slice_get-map file_of entries i ∙ ap (λ (x : Option Entry). option_map file_of x) (slice_get_read entries (length entries) i e refl inside is) in
-    (ap (λ (x : Option FileEntry). option_map (λ file. length file.bytes) x) at, (small_entry entries i e good.small inside is))
+pub read_at : (entries : List Entry) (i : ℕ) (e : Entry) → IsCatalogue (file_entries_of entries) → i < length entries
+    → e ≡ slice_index_or entries i e → IsRead (file_entries_of entries) i e
+read_at entries i e good inside is =
+    let at : slice_get (file_entries_of entries) i ≡ Some (file_entry_of e) =
+    slice_get-map file_entry_of entries i ∙ ap (λ (x : Option Entry). option_map file_entry_of x) (slice_get_read entries (length entries) i e refl inside is) in
+    let there : slice_index_or (file_entries_of entries) i (file_entry_of e) ≡ file_entry_of e =
+    get_or-map file_entry_of entries i e (file_entry_of e) inside ∙ ap file_entry_of (sym is) in
+    let within : i < length (file_entries_of entries) = subst (λ (n : ℕ). i < n) (sym (length-map entries file_entry_of)) inside in
+    record {
+      size = ap (λ (x : Option FileEntry). option_map (λ file. length file.bytes) x) at;
+      small = subst (λ (f : FileEntry). length f.bytes ≤ LONGEST_ENTRY) there (good.small i (file_entry_of e) within);
+      name = ap (λ (x : Option FileEntry). option_map (λ file. file.name) x) at;
+      named = subst (λ (f : FileEntry). IsTrue (is_name f.name)) there (good.named i (file_entry_of e) within);
+    }
+
+-- what holds of each entry and of one more
+with_one_more : (P : FileEntry → Type 0) (catalogue : List FileEntry) (y : FileEntry) → All P catalogue → P y → All P (catalogue ++ y ∷ [])
+with_one_more P catalogue y all one =
+    All-append P catalogue (y ∷ []) all (λ k d inside. let zero_is : k ≡ 0 = omega arith in subst (λ (n : ℕ). P (slice_index_or (y ∷ []) n d)) (sym zero_is) one)
 
 -- a catalogue with one more entry
-pub one_more : (catalogue : List FileEntry) (y : FileEntry) → IsCatalogue catalogue → length catalogue < 256 → length y.bytes ≤ 4096 → has_name y.name catalogue ≡ false → IsCatalogue (catalogue ++ y ∷ [])
-one_more catalogue y good few small new = record {
+pub one_more : (catalogue : List FileEntry) (y : FileEntry) → IsCatalogue catalogue → length catalogue < MOST_ENTRIES → length y.bytes ≤ LONGEST_ENTRY
+    → is_name y.name ≡ true → has_name y.name catalogue ≡ false → IsCatalogue (catalogue ++ y ∷ [])
+one_more catalogue y good few small named new = record {
   few = simp length-append (omega arith);
-  small = All-append (λ (x : FileEntry). length x.bytes ≤ 4096) catalogue (y ∷ []) good.small (λ k d inside. let zero_is : k ≡ 0 = omega arith in subst (λ (n : ℕ). length (slice_index_or (y ∷ []) n d).bytes ≤ 4096) (sym zero_is) small);
+  small = with_one_more (λ (x : FileEntry). length x.bytes ≤ LONGEST_ENTRY) catalogue y good.small small;
+  named = with_one_more (λ (x : FileEntry). IsTrue (is_name x.name)) catalogue y good.named (search (rules, named));
   distinct = still_distinct catalogue y good.distinct new;
 }
+
+-- how many bytes a name has
+pub some_bytes : (name : List ℕ) → IsTrue (is_name name) → 1 ≤ length name
+some_bytes name good = grind (arith, common_steps)
+
+pub few_bytes : (name : List ℕ) → IsTrue (is_name name) → length name ≤ LONGEST_NAME
+few_bytes name good = grind (arith, common_steps)

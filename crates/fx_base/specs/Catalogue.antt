@@ -1,14 +1,12 @@
 -- The files that can be opened (this project's own: a kernel opens files of a file system).
-use Rattle.std.specs.Prelude.{◌≡◌, ℕ, ◌≤◌, Bool, ◌&&◌, ◌||◌, ◌==◌, nat_le, List, [], length, take, drop, slice_get, Option, Some, None, All, option_map}
+use Rattle.std.specs.Prelude.{◌≡◌, ℕ, ◌≤◌, List, [], length, take, drop, slice_get, Option, Some, None, All, IsTrue, option_map}
+use Rattle.fx_base.specs.Name.{is_name}
+use Rattle.fx_base.specs.declared.catalogue.TheConstants.{MOST_ENTRIES, LONGEST_ENTRY}
 
 -- a file that can be opened
 pub record FileEntry : Type 0 where
   pub name : List ℕ
   pub bytes : List ℕ
-
--- a letter, a digit, `.`, `_` or `-`
-abbrev pub name_byte : ℕ → Bool
-name_byte b = (nat_le 97 b && nat_le b 122) || ((nat_le 65 b && nat_le b 90) || ((nat_le 48 b && nat_le b 57) || (b == 46 || (b == 95 || b == 45))))
 
 -- the name of an entry, if there is such an entry
 abbrev pub name_at : List FileEntry → ℕ → Option (List ℕ)
@@ -18,10 +16,11 @@ name_at catalogue entry = option_map (λ file. file.name) (slice_get catalogue e
 abbrev pub size_at : List FileEntry → ℕ → Option ℕ
 size_at catalogue entry = option_map (λ file. length file.bytes) (slice_get catalogue entry)
 
--- what every catalogue keeps: few entries, none of them long, and no two of one name
+-- what every catalogue keeps: few entries, none of them long, each with a name, and no two with one name
 pub record IsCatalogue (catalogue : List FileEntry) : Type 0 where
-  pub few : length catalogue ≤ 256
-  pub small : All (λ file. length file.bytes ≤ 4096) catalogue
+  pub few : length catalogue ≤ MOST_ENTRIES
+  pub small : All (λ file. length file.bytes ≤ LONGEST_ENTRY) catalogue
+  pub named : All (λ file. IsTrue (is_name file.name)) catalogue
   pub distinct : (i j : ℕ) (name : List ℕ) → name_at catalogue i ≡ Some name → name_at catalogue j ≡ Some name → i ≡ j
 
 -- the part of a file from a place on, of at most so many bytes; none where there is no file (read(2))

@@ -1,23 +1,22 @@
 ghost use Rattle.std.specs.Prelude.{◌≡◌, ◌+◌, ◌<◌, ◌≤◌, ℕ, [], ◌∷◌, ◌++◌, length, OnOk, OnErr, IfSome, IfNone, IsOkUnless, Some, None, option_map, slice_get, string_bytes, IsTrue, ◌↔◌, vec_len, vec_capacity, is_some};
 ghost use Rattle.std.specs.Prelude.{take, drop};
-ghost use Rattle.std.specs.List.{list_all};
-ghost use Rattle.fx_base.specs.Catalogue.{name_byte, bytes_at, name_at, size_at, FileEntry};
-ghost use Rattle.fx_base.specs.AddFault.{fault_of, has_name};
+ghost use Rattle.fx_base.specs.Name.{is_name};
+ghost use Rattle.fx_base.specs.declared.name.TheConstants.{LONGEST_NAME};
+ghost use Rattle.fx_base.specs.Catalogue.{bytes_at, name_at, size_at, FileEntry};
+ghost use Rattle.fx_base.specs.AddFault.{add_fault_of, has_name};
 ghost use Rattle.fx_base.specs.declared.catalogue.AddFault.TheVariants.{NoMemory};
 
 use crate::mark::Mark;
+use crate::name::is_name;
 use crate::open_file::OpenFile;
 use std::alloc::{AllocFailed, Global};
 use std::marker::Model;
 
 /// How many entries a catalogue may have.
-const MOST_ENTRIES: usize = 256;
-
-/// How many bytes a name may have.
-const LONGEST_NAME: usize = 32;
+pub const MOST_ENTRIES: usize = 256;
 
 /// How many bytes an entry may have.
-const LONGEST_ENTRY: usize = 4096;
+pub const LONGEST_ENTRY: usize = 4096;
 
 /// Why a file was not added, in the order in which the faults are looked for (this project's own).
 #[derive(Clone, Copy, Debug, PartialEq, Eq)]
@@ -64,27 +63,15 @@ impl Model for Catalogue {
 
     ghost Value = { List FileEntry };
 
-    ghost use Rattle.fx_base.specs.CatalogueView.{entries_of};
+    ghost use Rattle.fx_base.specs.CatalogueView.{file_entries_of};
 
-    ghost view = { λ catalogue. entries_of catalogue.entries.items };
+    ghost view = { λ catalogue. file_entries_of catalogue.entries.items };
 
-    ghost invariant = { λ catalogue. IsCatalogue (entries_of catalogue.entries.items) };
-}
-
-fn is_name_byte(b: u8) -> bool
-    ensures { result ≡ name_byte b }
-{
-    matches!(b, b'a'..=b'z' | b'A'..=b'Z' | b'0'..=b'9' | b'.' | b'_' | b'-')
-}
-
-fn is_name_text(bytes: &[u8]) -> bool
-    ensures { result ≡ list_all name_byte bytes.now }
-{
-    bytes.iter().all(|b| is_name_byte(*b))
+    ghost invariant = { λ catalogue. IsCatalogue (file_entries_of catalogue.entries.items) };
 }
 
 impl Catalogue {
-    /// A catalogue without entries. It takes no memory (this project's own).
+    /// A catalogue without entries.
     pub fn new(alloc: Global) -> Catalogue
         ensures { result ≡ [] }
     {
@@ -96,7 +83,7 @@ impl Catalogue {
     /// How many entries there are, at most 256.
     pub fn len(&self) -> u32
         ensures value { result ≡ length self.now }
-        ensures few { result ≤ 256 }
+        ensures few { result ≤ MOST_ENTRIES }
     {
         self.entries.len() as u32
     }
@@ -126,7 +113,10 @@ impl Catalogue {
     /// [`Catalogue::find`] gave or one below [`Catalogue::len`].
     pub fn name_of(&self, entry: u8) -> &str
         requires { entry < length self.now }
-        ensures { name_at self.now entry ≡ Some result.now }
+        ensures value { name_at self.now entry ≡ Some result.now }
+        ensures name { IsTrue (is_name result.now) }
+        ensures some { 1 ≤ length result.now }
+        ensures short { length result.now ≤ LONGEST_NAME }
     {
         self.entries[entry as usize].name.as_str()
     }
@@ -135,7 +125,7 @@ impl Catalogue {
     pub fn size_of(&self, entry: u8) -> u32
         requires { entry < length self.now }
         ensures value { size_at self.now entry ≡ Some result }
-        ensures small { result ≤ 4096 }
+        ensures small { result ≤ LONGEST_ENTRY }
     {
         self.entries[entry as usize].bytes.len() as u32
     }
@@ -151,8 +141,8 @@ impl Catalogue {
     }
 
     /// Appends the bytes of an entry from place `off` on, `len` of them or as many as there are, and gives their
-    /// number (read(2)). Past the last entry there are none. The caller has reserved room for `len` more bytes, so it
-    /// takes no memory, and room that isn't used stays.
+    /// number (read(2)). Past the last entry there are none. The caller has reserved room for `len` more bytes
+    /// (`Vec::reserve`), so it can't fail for want of memory, and room that isn't used stays.
     pub fn read_into(&self, entry: u8, off: u32, len: u32, into: &mut Vec<u8>) -> u32
         requires { vec_len into.old + len ≤ vec_capacity into.old }
         ensures bytes { into.new.items ≡ into.old.items ++ bytes_at self.now entry off len }
@@ -174,8 +164,8 @@ impl Catalogue {
     /// The first fault that applies, in the order of [`AddFault`]. The catalogue is then as before, and the name and
     /// the bytes are given up.
     pub fn add(&mut self, name: String, bytes: Vec<u8>) -> Result<(), AddFault>
-        ensures fault { IfSome (fault_of self.old (string_bytes name) bytes.items) (λ fault. result ≡ Err fault) }
-        ensures only_fault { IfNone (fault_of self.old (string_bytes name) bytes.items) (IsOkUnless result AddFault.NoMemory) }
+        ensures fault { IfSome (add_fault_of self.old (string_bytes name) bytes.items) (λ fault. result ≡ Err fault) }
+        ensures only_fault { IfNone (add_fault_of self.old (string_bytes name) bytes.items) (IsOkUnless result AddFault.NoMemory) }
         ensures ok { OnOk result (self.new ≡ self.old ++ record { name = string_bytes name; bytes = bytes.items } ∷ []) }
         ensures err { OnErr result (self.new ≡ self.old) }
     {
@@ -185,7 +175,7 @@ impl Catalogue {
         if name.is_empty() {
             return Err(AddFault::EmptyName);
         }
-        if !is_name_text(name.as_bytes()) || name.len() > LONGEST_NAME {
+        if !is_name(name.as_bytes()) {
             return Err(AddFault::BadName);
         }
         if self.find(name.as_str()).is_some() {

@@ -1,4 +1,4 @@
-ghost use Rattle.std.specs.Prelude.{◌≡◌, ◌+◌, ◌-◌, ◌<◌, [], ◌∷◌, ◌++◌, IfOk, IsPermutation};
+ghost use Rattle.std.specs.Prelude.{◌≡◌, ◌+◌, ◌-◌, ◌<◌, ◌≤◌, [], ◌∷◌, ◌++◌, length, IfOk, IsPermutation};
 ghost use Rattle.fx_base.specs.CloseList.{IsInOrderOfMark};
 
 use crate::no_memory::NoMemory;
@@ -16,9 +16,9 @@ pub struct CloseList {
 
 impl Model for CloseList {
     ghost use Rattle.std.specs.Prelude.{◌+◌, ◌≤◌, vec_len, vec_capacity};
-    ghost use Rattle.fx_base.specs.Closes.{Closes};
+    ghost use Rattle.fx_base.specs.CloseListView.{CloseListView};
 
-    ghost Value = { Closes };
+    ghost Value = { CloseListView };
 
     ghost view = { λ list. record { files = list.files.items; room = list.room } };
 
@@ -52,17 +52,32 @@ impl CloseList {
     }
 
     /// Closes a file (close(2)): it goes to the end of the list and takes one of the room. The caller has seen that
-    /// there is room, so it takes no memory.
+    /// there is room, as where [`CloseList::room`] is above 0, so it can't fail for want of memory.
     pub fn close(&mut self, file: OpenFile)
         requires { 0 < self.old.room }
         ensures files { self.new.files ≡ self.old.files ++ file ∷ [] }
         ensures room { self.new.room + 1 ≡ self.old.room }
     {
-        self.files.push(file.close()).unwrap();
+        self.files.push_reserved(file.close());
         self.room -= 1;
     }
 
-    /// Orders the files by mark, in place. It takes no memory, and the room stays (this project's own).
+    /// Adds the files of another list at the end, in their order. They take as much of the room as there are files, and
+    /// the other's room is given up. The caller has seen that there is room for all of them, as where
+    /// [`CloseList::room`] is at least the number of the other's [`CloseList::files`], so it can't fail for want of
+    /// memory (this project's own).
+    pub fn append(&mut self, other: CloseList)
+        requires { length other.files ≤ self.old.room }
+        ensures files { self.new.files ≡ self.old.files ++ other.files }
+        ensures room { self.new.room + length other.files ≡ self.old.room }
+    {
+        let CloseList { mut files, room: _ } = other;
+        let room = self.room as usize - files.len();
+        self.files.append(&mut files).unwrap();
+        self.room = room as u32;
+    }
+
+    /// Orders the files by mark, in place. It can't fail for want of memory, and the room stays (this project's own).
     pub fn sort(&mut self)
         ensures same_files { IsPermutation self.old.files self.new.files }
         ensures in_order { IsInOrderOfMark self.new.files }

@@ -1,5 +1,5 @@
 ghost use Rattle.std.specs.Prelude.{◌≡◌, pos};
-ghost use Rattle.fx_base.specs.Errno.{number_of};
+ghost use Rattle.fx_base.specs.Errno.{code_of};
 
 /// An error of io_uring_enter(2) or io_uring_register(2), by its name in errno(3).
 #[derive(Clone, Copy, Debug, PartialEq, Eq)]
@@ -29,7 +29,7 @@ pub enum Errno {
 impl Errno {
     /// The positive number that Linux gives the error. Results carry it negated (io_uring_enter(2), "CQE ERRORS").
     pub fn code(self) -> i32
-        ensures { result ≡ pos (number_of self) }
+        ensures { result ≡ pos (code_of self) }
     {
         match self {
             Errno::ENOENT => 2,

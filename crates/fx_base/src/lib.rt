@@ -6,14 +6,16 @@ mod catalogue;
 mod close_list;
 mod errno;
 mod mark;
+mod name;
 mod no_memory;
 mod open_file;
 #[cfg(test)]
 mod tests;
 
-pub use catalogue::{AddFault, Catalogue};
+pub use catalogue::{AddFault, Catalogue, LONGEST_ENTRY, MOST_ENTRIES};
 pub use close_list::CloseList;
 pub use errno::Errno;
 pub use mark::Mark;
+pub use name::{LONGEST_NAME, is_name};
 pub use no_memory::NoMemory;
 pub use open_file::{Closed, OpenFile};

@@ -50,6 +50,16 @@ impl OpenFile {
         self.entry
     }
 
+    /// What the file's close will say: its mark and its entry.
+    pub fn identity(&self) -> Closed
+        ensures { result ≡ self.now }
+    {
+        Closed {
+            mark: self.mark,
+            entry: self.entry,
+        }
+    }
+
     /// Spends a file that no list shall name: an open that was refused, or a file of an abandoned table.
     pub fn discard(self) {
         let OpenFile { mark: _, entry: _ } = self;
@@ -59,7 +69,8 @@ impl OpenFile {
     pub(crate) fn close(self) -> Closed
         ensures { result ≡ self }
     {
-        let OpenFile { mark, entry } = self;
-        Closed { mark, entry }
+        let identity = self.identity();
+        self.discard();
+        identity
     }
 }

@@ -1,6 +1,6 @@
 //! Each public call once with ample memory, and each refusal once. The values were worked out by hand.
 
-use crate::{AddFault, Catalogue, CloseList, Closed, Errno, Mark};
+use crate::{AddFault, Catalogue, CloseList, Closed, Errno, LONGEST_NAME, Mark, is_name};
 use std::alloc::Global;
 use std::test::Fail;
 
@@ -209,4 +209,57 @@ fn a_discarded_file_is_in_no_list(rt: HostRuntime) -> Result<(), Fail> {
     assert_eq!(rt; list.room(), 1);
     assert_eq!(rt; list.files().len(), 0);
     Ok(())
+}
+
+#[test]
+fn an_identity_is_what_the_close_says(rt: HostRuntime) -> Result<(), Fail> {
+    let catalogue = two_files(rt.alloc())?;
+    let mut list = CloseList::with_room(rt.alloc(), 1)?;
+    assert_eq!(rt; catalogue.len(), 2);
+    let mark = Mark::Registered { k: 3, i: 4 };
+    let file = catalogue.open(1, mark);
+    assert_eq!(rt; file.identity(), Closed { mark, entry: 1 });
+    assert_eq!(rt; list.room(), 1);
+    list.close(file);
+    assert_eq!(rt; list.files(), [Closed { mark, entry: 1 }].as_slice());
+    Ok(())
+}
+
+#[test]
+fn an_appended_list_stands_behind(rt: HostRuntime) -> Result<(), Fail> {
+    let catalogue = two_files(rt.alloc())?;
+    let mut list = CloseList::with_room(rt.alloc(), 4)?;
+    let mut other = CloseList::with_room(rt.alloc(), 7)?;
+    assert_eq!(rt; catalogue.len(), 2);
+    assert_eq!(rt; list.room(), 4);
+    assert_eq!(rt; other.room(), 7);
+    list.close(catalogue.open(0, Mark::Registered { k: 9, i: 0 }));
+    other.close(catalogue.open(1, Mark::Registered { k: 2, i: 0 }));
+    other.close(catalogue.open(0, Mark::Registered { k: 1, i: 0 }));
+    assert!(rt; other.files().len() <= list.room() as usize);
+    list.append(other);
+    assert_eq!(rt; list.room(), 1);
+    for (file, k) in list.files().iter().zip([9u32, 2, 1]) {
+        assert_eq!(rt; file.mark, Mark::Registered { k, i: 0 });
+    }
+    assert_eq!(rt; list.files().len(), 3);
+    Ok(())
+}
+
+#[test]
+fn a_name_has_1_to_32_letters_digits_and_signs(rt: HostRuntime) {
+    for (text, want) in [
+        ("a", true),
+        ("-._", true),
+        ("abcdefghijklmnopqrstuvwxyzABCDEF", true),
+        ("GHIJKLMNOPQRSTUVWXYZ0123456789", true),
+        ("", false),
+        ("abcdefghijklmnopqrstuvwxyzABCDEFG", false),
+        ("a b", false),
+        ("a/b", false),
+        ("a~", false),
+    ] {
+        assert_eq!(rt; is_name(text.as_bytes()), want, "{text}");
+    }
+    assert_eq!(rt; LONGEST_NAME, 32);
 }

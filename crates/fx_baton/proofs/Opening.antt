@@ -7,7 +7,7 @@ use lib.ListN.{get_elem?}
 use Rattle.std.proofs.lemmas.Bool.{lt-ltb, ltb-true}
 use Rattle.std.specs.Prelude.{Option, Some, None, nat_lt, not, ◌&&◌}
 use Rattle.atomic_table.specs.Table.{opening as table_opening}
-use Rattle.fx_plain.specs.State.{State, opening, renumbered, IsSettled}
+use Rattle.fx_plain.specs.State.{State, opening, file_numbered, IsSettled}
 use Rattle.fx_plain.specs.Contents.{Contents, state_of, IsTable, is_leaving, node_at, removed_at}
 use Rattle.fx_plain.specs.declared.node.Node.{Node}
 use Rattle.fx_plain.specs.declared.node.Node.TheVariants.{Fresh, At, Leaving, Retired, Gone}
@@ -66,7 +66,7 @@ single_at v zero u e = some-injective v u e
 single_at v (suc i) u e = absurd (some-ne-none u (sym e))
 
 -- a table that was prepared has the same files, and is settled
-renumbered_identity : (o : Option File) (slot : ℕ) → identity_of (renumbered o slot) ≡ identity_of o
+renumbered_identity : (o : Option File) (slot : ℕ) → identity_of (file_numbered o slot) ≡ identity_of o
 renumbered_identity None slot = refl
 renumbered_identity (Some f) slot = refl
 

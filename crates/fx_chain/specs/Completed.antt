@@ -1,7 +1,7 @@
 -- A completion, without where it lies in memory (io_uring_enter(2), "CQE").
 use Rattle.std.specs.Prelude.{ℕ, ◌+◌, ℤ, pos, neg_ℤ, List, [], map}
 use Rattle.fx_base.specs.declared.errno.Errno.{Errno}
-use Rattle.fx_base.specs.Errno.{number_of}
+use Rattle.fx_base.specs.Errno.{code_of}
 use Rattle.fx_chain.specs.declared.completion.Place.{Place}
 use Rattle.fx_chain.specs.declared.completion.Completion.{Completion}
 
@@ -21,7 +21,7 @@ completed place res got = record { place = place; res = res; got = got }
 
 -- the result of a request that fails: the negated number of its error
 abbrev pub negated : Errno → ℤ
-negated errno = neg_ℤ (pos (number_of errno))
+negated errno = neg_ℤ (pos (code_of errno))
 
 -- a request that fails
 abbrev pub refusal : Place → Errno → Completed

@@ -5,7 +5,7 @@ use Rattle.std.proofs.lemmas.List.Sums.{sum_by-cons}
 use Rattle.std.specs.Bool.{MatchBool}
 use Rattle.fx_base.specs.declared.errno.Errno.TheVariants.{ECANCELED}
 use Rattle.fx_base.specs.Catalogue.{FileEntry}
-use Rattle.fx_base.specs.Closes.{Closes}
+use Rattle.fx_base.specs.CloseListView.{CloseListView}
 use Rattle.fx_plain.specs.declared.event.Action.{Action}
 use Rattle.fx_plain.specs.State.{State}
 use Rattle.fx_plain.specs.History.{◌▷▷◌}
@@ -30,16 +30,16 @@ test_holds : (b : Bool) (P Q : Type 0) → b ≡ true → P → MatchBool b P Q
 test_holds b P Q is p = subst (λ (z : Bool). MatchBool z P Q) (sym is) p
 
 -- whatever the members that are left do, the whole chain did it behind what was done
-abbrev pub MembersOn : List FileEntry → ℕ → Place → List Operation → State → Closes → Place → List Operation → State → Closes → List Completed → Type 0
+abbrev pub MembersOn : List FileEntry → ℕ → Place → List Operation → State → CloseListView → Place → List Operation → State → CloseListView → List Completed → Type 0
 MembersOn catalogue size start all first before place left now listed done =
-    (events : List Action) (last : State) (closed : Closes) (cs : List Completed) → Did now last listed closed events → Explains catalogue size place left events cs
+    (events : List Action) (last : State) (closed : CloseListView) (cs : List Completed) → Did now last listed closed events → Explains catalogue size place left events cs
     → DidSo first last before closed (λ h. Explains catalogue size start all h (done ++ cs))
 
-module _ (catalogue : List FileEntry) (size : ℕ) (start : Place) (all : List Operation) (first : State) (before : Closes) where
+module _ (catalogue : List FileEntry) (size : ℕ) (start : Place) (all : List Operation) (first : State) (before : CloseListView) where
   pub members_none : MembersOn catalogue size start all first before start all first before []
   members_none events last closed cs did explains = (events, did, explains)
 
-  module _ (place : Place) (operation : Operation) (left : List Operation) (now next : State) (listed mid : Closes) (done : List Completed) (c : Completed)
+  module _ (place : Place) (operation : Operation) (left : List Operation) (now next : State) (listed mid : CloseListView) (done : List Completed) (c : Completed)
       (goes : MembersOn catalogue size start all first before place (operation ∷ left) now listed done) (own : DidSo now next listed mid (λ events. Answers catalogue size place operation events c)) where
     -- a member that doesn't sever the chain
     pub members_next : severs operation c ≡ false → MembersOn catalogue size start all first before (next_member place) left next mid (done ++ c ∷ [])
@@ -54,7 +54,7 @@ module _ (catalogue : List FileEntry) (size : ℕ) (start : Place) (all : List O
         (goes own.0 next mid (c ∷ canceled (next_member place) left) own.1 (own.0, [], c, canceled (next_member place) left, refl, refl, own.2, test_holds (severs operation c) _ _ ends (refl, refl)))
 
   -- the last member was played
-  pub members_end : (place : Place) (now : State) (listed : Closes) (done : List Completed) → MembersOn catalogue size start all first before place [] now listed done → DidSo first now before listed (λ h. Explains catalogue size start all h done)
+  pub members_end : (place : Place) (now : State) (listed : CloseListView) (done : List Completed) → MembersOn catalogue size start all first before place [] now listed done → DidSo first now before listed (λ h. Explains catalogue size start all h done)
   members_end place now listed done goes =
       subst (λ (xs : List Completed). DidSo first now before listed (λ h. Explains catalogue size start all h xs)) (append-nil done) (goes [] now listed [] (did_nothing now listed) (refl, refl))
 

@@ -4,7 +4,7 @@ use Rattle.std.proofs.lemmas.List.{append-nil}
 use Rattle.std.proofs.lemmas.Bool.{le-ltb}
 use Rattle.std.specs.Bool.{MatchBool}
 use Rattle.std.specs.List.{list_any}
-use Rattle.fx_base.specs.Closes.{Closes}
+use Rattle.fx_base.specs.CloseListView.{CloseListView}
 use Rattle.fx_base.specs.Catalogue.{FileEntry, bytes_at}
 use Rattle.fx_base.specs.declared.mark.Mark.{Mark}
 use Rattle.fx_base.specs.declared.mark.Mark.TheVariants.{Submitted}
@@ -29,7 +29,7 @@ use Rattle.fx_cli.proofs.Performing.{may_close, size_known, slot_known}
 pub installed_is : (place : Place) (in_list entry : ℕ) (mark : Mark) (file : Closed) → mark ≡ Submitted place.submission place.chain place.member in_list → file.mark ≡ mark → file.entry ≡ entry → file ≡ installed place in_list entry
 installed_is place in_list entry mark file mark_is has_mark has_entry = λ i. record { mark = (has_mark ∙ mark_is) i; entry = has_entry i }
 
-module _ (first new : State) (place : Place) (before closed : Closes) (some_slots : first.size ≢ 0) where
+module _ (first new : State) (place : Place) (before closed : CloseListView) (some_slots : first.size ≢ 0) where
   pub opens_slot : (entry slot number : ℕ) (file : Closed) (c : Completed) → slot < first.size → file ≡ installed place 0 entry → ClosesUp first (Put slot (numbered number file) (first.at slot)) (first.at slot) new before closed → c ≡ completed place (pos 0) []
       → DidSo first new before closed (λ events. OpensAt first.size place entry (Slot slot) events c)
   opens_slot entry slot number file c inside is up answered = (
@@ -45,7 +45,7 @@ module _ (first new : State) (place : Place) (before closed : Closes) (some_slot
       ([] ▷ Take slot (Some f) ▷ Close f, up.did, size_known first.size _ _ some_slots (slot_known first.size slot _ _ inside (inr (f, inr refl, there refl))))
 
 -- an open at any free slot closes nothing
-module _ (first new : State) (place : Place) (closes : Closes) (entry : ℕ) (c : Completed) (some_slots : first.size ≢ 0) where
+module _ (first new : State) (place : Place) (closes : CloseListView) (entry : ℕ) (c : Completed) (some_slots : first.size ≢ 0) where
   pub opens_any : (slot number : ℕ) (file : Closed) → file ≡ installed place 0 entry → Steps first (Allocate slot (numbered number file)) new → c ≡ completed place (pos slot) [] → DidSo first new closes closes (λ events. OpensAt first.size place entry Any events c)
   opens_any slot number file is step answered = (
     [] ▷ Allocate slot (numbered number file),
@@ -78,12 +78,12 @@ released first held last slot f closing s look no_close leads =
       same_fresh = ap (λ (st : State). st.fresh) both.1;
     }
 
-pub reads_file : (catalogue : List FileEntry) (first last : State) (place : Place) (slot off len : ℕ) (f : File) (c : Completed) (closes : Closes) → slot < first.size → IsReleased first last slot f
+pub reads_file : (catalogue : List FileEntry) (first last : State) (place : Place) (slot off len : ℕ) (f : File) (c : Completed) (closes : CloseListView) → slot < first.size → IsReleased first last slot f
     → c ≡ completed place (pos (length (bytes_at catalogue f.identity.entry off len))) (bytes_at catalogue f.identity.entry off len) → DidSo first last closes closes (λ events. ReadsFrom catalogue first.size place slot off len events c)
 reads_file catalogue first last place slot off len f c closes inside up answered =
     ([] ▷ Look slot (Some f) ▷ Release f, record { leads = up.leads; files = sym (append-nil closes.files) }, slot_known first.size slot _ _ inside (inr (inr (f, inl refl, answered))))
 
-pub finds_none : (catalogue : List FileEntry) (first last : State) (place : Place) (slot off len : ℕ) (x : Option File) (c : Completed) (closes : Closes) → slot < first.size → Steps first (Look slot x) last → x ≡ None → c ≡ refusal place EBADF
+pub finds_none : (catalogue : List FileEntry) (first last : State) (place : Place) (slot off len : ℕ) (x : Option File) (c : Completed) (closes : CloseListView) → slot < first.size → Steps first (Look slot x) last → x ≡ None → c ≡ refusal place EBADF
     → DidSo first last closes closes (λ events. ReadsFrom catalogue first.size place slot off len events c)
 finds_none catalogue first last place slot off len x c closes inside look no_file answered =
     let step : Steps first (Look slot None) last = subst (λ (y : Option File). Steps first (Look slot y) last) no_file look in
@@ -115,7 +115,7 @@ none_of-map f None is = refl
 none_of-map f (Some y) is = cc
 
 -- an entry of an update that installs a file, and one that empties its slot
-module _ (first new : State) (place : Place) (before closed : Closes) (in_list slot : ℕ) where
+module _ (first new : State) (place : Place) (before closed : CloseListView) (in_list slot : ℕ) where
   pub applies_install : (entry number : ℕ) (file : Closed) → file ≡ installed place in_list entry → ClosesUp first (Put slot (numbered number file) (first.at slot)) (first.at slot) new before closed
       → DidSo first new before closed (λ events. AppliesEntry place in_list slot (pos entry) events)
   applies_install entry number file is up =
@@ -136,7 +136,7 @@ test_holds b P Q is p = subst (λ (z : Bool). MatchBool z P Q) (sym is) p
 length_known : (n : ℕ) → n ≢ 0 → (n == 0) ≡ false
 length_known n some_there = by_equality n 0 (λ b. b ≡ false) (λ is. absurd (some_there is)) (λ _. refl)
 
-module _ (entries : ℕ) (first new : State) (place : Place) (off : ℕ) (list : List ℤ) (c : Completed) (before closed : Closes) (some_slots : first.size ≢ 0) (some_entries : length list ≢ 0) (inside : off + length list ≤ first.size) where
+module _ (entries : ℕ) (first new : State) (place : Place) (off : ℕ) (list : List ℤ) (c : Completed) (before closed : CloseListView) (some_slots : first.size ≢ 0) (some_entries : length list ≢ 0) (inside : off + length list ≤ first.size) where
   pub updates_list : list_any (is_bad_entry entries) list ≡ false → DidSo first new before closed (λ events. AppliesList place 0 off list events) → c ≡ completed place (pos (length list)) []
       → DidSo first new before closed (λ events. UpdatesFrom entries first.size place off list events c)
   updates_list good did answered = (
@@ -148,6 +148,6 @@ module _ (entries : ℕ) (first new : State) (place : Place) (off : ℕ) (list :
   pub updates_none : list_any (is_bad_entry entries) list ≡ true → new ≡ first → closed ≡ before → c ≡ refusal place EBADF → DidSo first new before closed (λ events. UpdatesFrom entries first.size place off list events c)
   updates_none bad same same_closes answered = (
     [],
-    record { leads = (tt, same); files = ap (λ (k : Closes). k.files) same_closes ∙ sym (append-nil before.files) },
+    record { leads = (tt, same); files = ap (λ (k : CloseListView). k.files) same_closes ∙ sym (append-nil before.files) },
     size_known first.size _ _ some_slots (list_known _ _ _ _ (length_known (length list) some_entries) (le-ltb first.size (off + length list) inside) (test_holds _ _ _ bad (refl, answered))),
   )

@@ -3,12 +3,12 @@ use Rattle.std.proofs.Common.{◌≡◌, ◌≢◌, ℕ, zero, suc, ◌+◌, ◌
 use Rattle.std.specs.Bool.{MatchBool}
 use Rattle.std.proofs.lemmas.List.Elements.{All-append}
 use Rattle.std.proofs.lemmas.Bool.{lt-leb, le-ltb, lt-ltb}
-use Rattle.fx_base.specs.Closes.{Closes}
+use Rattle.fx_base.specs.CloseListView.{CloseListView}
 use Rattle.fx_base.specs.declared.open_file.Closed.{Closed}
 use Rattle.fx_plain.specs.declared.event.File.{File}
 use Rattle.fx_plain.specs.declared.event.Action.{Action}
 use Rattle.fx_plain.specs.declared.event.Action.TheVariants.{Put, Clear, Take, Allocate}
-use Rattle.fx_plain.specs.State.{State, IsSettled, files_in_order, files_of, listed, opening, renumbered, vacant}
+use Rattle.fx_plain.specs.State.{State, IsSettled, files_in_order, files_of, identities_of, opening, file_numbered, vacant}
 use Rattle.fx_plain.specs.Step.{Steps, after, changed_at}
 use Rattle.fx_plain.specs.History.{state_after, closes_in, closed_by, close_of, ◌▷◌, ◌▷▷◌}
 use Rattle.fx_plain.proofs.Cells.{by_equality}
@@ -24,11 +24,11 @@ closed_fresh : (first : State) (action : Action) (x : Option File) → (state_af
 closed_fresh first action None = refl
 closed_fresh first action (Some f) = refl
 
-closed_files : (action : Action) (x : Option File) → closed_by action ≡ [] → closes_in ([] ▷ action ▷▷ close_of x) ≡ listed x
+closed_files : (action : Action) (x : Option File) → closed_by action ≡ [] → closes_in ([] ▷ action ▷▷ close_of x) ≡ identities_of x
 closed_files action None is = ap (λ (files : List Closed). [] ++ files) is
 closed_files action (Some f) is = ap (λ (files : List Closed). ([] ++ files) ++ f.identity ∷ []) is
 
-listed_entries : (entries : ℕ) (first : State) (slot : ℕ) → HasEntries entries first → (x : Option File) → first.at slot ≡ x → AreEntries entries (listed x)
+listed_entries : (entries : ℕ) (first : State) (slot : ℕ) → HasEntries entries first → (x : Option File) → first.at slot ≡ x → AreEntries entries (identities_of x)
 listed_entries entries first slot has None is = λ k d inside. absurd (omega arith)
 listed_entries entries first slot has (Some f) is = λ k d inside. let zero_is : k ≡ 0 = omega arith in
     subst (λ (n : ℕ). (slice_index_or (f.identity ∷ []) n d).entry < entries) (sym zero_is) (has slot f is)
@@ -49,12 +49,12 @@ used_fresh : (first : State) (next last : ℕ) → AreFresh first next last → 
 used_fresh first next last fresh n low high = let apart : n ≢ next = omega arith in changed_other first.fresh next n false apart ∙ fresh n (omega arith) high
 
 -- a removal at a slot, for a close or for an update
-module _ (entries next last slot : ℕ) (first new : State) (before closed : Closes) (rest : IsAtRest entries first before next last) where
+module _ (entries next last slot : ℕ) (first new : State) (before closed : CloseListView) (rest : IsAtRest entries first before next last) where
   pub take_rests : ClosesUp first (Take slot (first.at slot)) (first.at slot) new before closed → IsAtRest entries new closed next last
   take_rests up = record {
     settled = up.settled;
     at_slots = λ u f is. emptied_entries entries first slot rest.at_slots u f (sym (ap (λ (a : ℕ → Option File). a u) (ap (λ (st : State). st.at) up.did.leads.1 ∙ closed_at first (Take slot (first.at slot)) (first.at slot))) ∙ is);
-    closed = still_entries entries before.files (listed (first.at slot)) closed.files (up.did.files ∙ ap (λ (files : List Closed). before.files ++ files) (closed_files (Take slot (first.at slot)) (first.at slot) refl)) rest.closed (listed_entries entries first slot rest.at_slots (first.at slot) refl);
+    closed = still_entries entries before.files (identities_of (first.at slot)) closed.files (up.did.files ∙ ap (λ (files : List Closed). before.files ++ files) (closed_files (Take slot (first.at slot)) (first.at slot) refl)) rest.closed (listed_entries entries first slot rest.at_slots (first.at slot) refl);
     fresh = λ n low high. ap (λ (g : ℕ → Bool). g n) (ap (λ (st : State). st.fresh) up.did.leads.1 ∙ closed_fresh first (Take slot (first.at slot)) (first.at slot)) ∙ rest.fresh n low high;
   }
 
@@ -62,7 +62,7 @@ module _ (entries next last slot : ℕ) (first new : State) (before closed : Clo
   clear_rests up = record {
     settled = up.settled;
     at_slots = λ u f is. emptied_entries entries first slot rest.at_slots u f (sym (ap (λ (a : ℕ → Option File). a u) (ap (λ (st : State). st.at) up.did.leads.1 ∙ closed_at first (Clear slot (first.at slot)) (first.at slot))) ∙ is);
-    closed = still_entries entries before.files (listed (first.at slot)) closed.files (up.did.files ∙ ap (λ (files : List Closed). before.files ++ files) (closed_files (Clear slot (first.at slot)) (first.at slot) refl)) rest.closed (listed_entries entries first slot rest.at_slots (first.at slot) refl);
+    closed = still_entries entries before.files (identities_of (first.at slot)) closed.files (up.did.files ∙ ap (λ (files : List Closed). before.files ++ files) (closed_files (Clear slot (first.at slot)) (first.at slot) refl)) rest.closed (listed_entries entries first slot rest.at_slots (first.at slot) refl);
     fresh = λ n low high. ap (λ (g : ℕ → Bool). g n) (ap (λ (st : State). st.fresh) up.did.leads.1 ∙ closed_fresh first (Clear slot (first.at slot)) (first.at slot)) ∙ rest.fresh n low high;
   }
 
@@ -73,7 +73,7 @@ module _ (entries next last slot : ℕ) (first new : State) (before closed : Clo
       record {
         settled = up.settled;
         at_slots = λ u g is. filled_entries entries first slot f rest.at_slots known u g (sym (ap (λ (a : ℕ → Option File). a u) (ap (λ (st : State). st.at) up.did.leads.1 ∙ closed_at first (Put slot f (first.at slot)) (first.at slot))) ∙ is);
-        closed = still_entries entries before.files (listed (first.at slot)) closed.files (up.did.files ∙ ap (λ (files : List Closed). before.files ++ files) (closed_files (Put slot f (first.at slot)) (first.at slot) refl)) rest.closed (listed_entries entries first slot rest.at_slots (first.at slot) refl);
+        closed = still_entries entries before.files (identities_of (first.at slot)) closed.files (up.did.files ∙ ap (λ (files : List Closed). before.files ++ files) (closed_files (Put slot f (first.at slot)) (first.at slot) refl)) rest.closed (listed_entries entries first slot rest.at_slots (first.at slot) refl);
         fresh = λ n low high. ap (λ (g : ℕ → Bool). g n) (ap (λ (st : State). st.fresh) up.did.leads.1 ∙ closed_fresh first (Put slot f (first.at slot)) (first.at slot)) ∙ used_fresh first next last rest.fresh n low high;
       }
 
@@ -89,7 +89,7 @@ module _ (entries next last slot : ℕ) (first new : State) (before closed : Clo
   }
 
 -- numbers that were passed over
-pub fewer_fresh : (entries next later last : ℕ) (st : State) (closes : Closes) → next ≤ later → IsAtRest entries st closes next last → IsAtRest entries st closes later last
+pub fewer_fresh : (entries next later last : ℕ) (st : State) (closes : CloseListView) → next ≤ later → IsAtRest entries st closes next last → IsAtRest entries st closes later last
 fewer_fresh entries next later last st closes le rest = record { settled = rest.settled; at_slots = rest.at_slots; closed = rest.closed; fresh = λ n low high. rest.fresh n (omega arith) high }
 
 pub may_close : (steps : List Action) (x : Option File) → MayClose steps x (steps ▷▷ close_of x)
@@ -103,7 +103,7 @@ pub slot_known : (size slot : ℕ) (P Q : Type 0) → slot < size → Q → Matc
 slot_known size slot P Q inside q = subst (λ b. MatchBool b P Q) (sym (lt-leb size slot inside)) q
 
 -- a table whose files and fresh numbers are as before
-pub same_rests : (entries next last : ℕ) (first new : State) (closes : Closes) → IsAtRest entries first closes next last → IsSettled new → new.at ≡ first.at → new.fresh ≡ first.fresh → IsAtRest entries new closes next last
+pub same_rests : (entries next last : ℕ) (first new : State) (closes : CloseListView) → IsAtRest entries first closes next last → IsSettled new → new.at ≡ first.at → new.fresh ≡ first.fresh → IsAtRest entries new closes next last
 same_rests entries next last first new closes rest settled at fresh = record {
   settled = settled;
   at_slots = λ u f is. rest.at_slots u f (sym (ap (λ (a : ℕ → Option File). a u) at) ∙ is);
@@ -111,12 +111,12 @@ same_rests entries next last first new closes rest settled at fresh = record {
   fresh = λ n low high. ap (λ (g : ℕ → Bool). g n) fresh ∙ rest.fresh n low high;
 }
 
-renumbered_entries : (entries slot : ℕ) (x : Option File) → ((f : File) → x ≡ Some f → f.identity.entry < entries) → (f : File) → renumbered x slot ≡ Some f → f.identity.entry < entries
+renumbered_entries : (entries slot : ℕ) (x : Option File) → ((f : File) → x ≡ Some f → f.identity.entry < entries) → (f : File) → file_numbered x slot ≡ Some f → f.identity.entry < entries
 renumbered_entries entries slot None has f is = cc
 renumbered_entries entries slot (Some g) has f is = let same : record g { number = slot } ≡ f = cc in subst (λ (h : File). h.identity.entry < entries) same (has g refl)
 
 -- a table that was prepared is at rest, and its numbers from 256 on are fresh
-pub opening_rests : (entries numbers : ℕ) (st new : State) (closes : Closes) → HasEntries entries st → st.size ≤ 256 → closes.files ≡ [] → new ≡ opening st numbers → IsAtRest entries new closes 256 numbers
+pub opening_rests : (entries numbers : ℕ) (st new : State) (closes : CloseListView) → HasEntries entries st → st.size ≤ 256 → closes.files ≡ [] → new ≡ opening st numbers → IsAtRest entries new closes 256 numbers
 opening_rests entries numbers st new closes has few none_closed is = record {
   settled = subst IsSettled (sym is) (record { unheld = λ _. refl; closed = λ _. refl });
   at_slots = λ slot f there. renumbered_entries entries slot (st.at slot) (has slot) f (sym (ap (λ (s : State). s.at slot) is) ∙ there);
@@ -127,7 +127,7 @@ opening_rests entries numbers st new closes has few none_closed is = record {
 -- the files of a table are of the catalogue, where those at its slots are
 entries_in_order : (entries : ℕ) (first : State) → HasEntries entries first → (n : ℕ) → AreEntries entries (files_in_order first.at n)
 entries_in_order entries first has zero = λ k d inside. absurd (omega arith)
-entries_in_order entries first has (suc n) = All-append (λ (file : Closed). file.entry < entries) (files_in_order first.at n) (listed (first.at n)) (entries_in_order entries first has n) (listed_entries entries first n has (first.at n) refl)
+entries_in_order entries first has (suc n) = All-append (λ (file : Closed). file.entry < entries) (files_in_order first.at n) (identities_of (first.at n)) (entries_in_order entries first has n) (listed_entries entries first n has (first.at n) refl)
 
 pub entries_of : (entries : ℕ) (first : State) → HasEntries entries first → AreEntries entries (files_of first)
 entries_of entries first has = entries_in_order entries first has first.size

@@ -1,6 +1,6 @@
 -- A file is removed from a settled table, and closed at once.
 use Rattle.std.proofs.Common.{◌≡◌, ◌≢◌, ℕ, ◌+◌, ◌≤◌, Bool, true, List, [], ◌++◌, refl, sym, ap, subst, ◌∙◌, Option, Some, None, if◌then◌else◌}
-use Rattle.fx_base.specs.Closes.{Closes}
+use Rattle.fx_base.specs.CloseListView.{CloseListView}
 use Rattle.fx_base.specs.declared.open_file.Closed.{Closed}
 use Rattle.fx_plain.specs.declared.event.File.{File}
 use Rattle.fx_plain.specs.declared.event.Action.{Action}
@@ -42,7 +42,7 @@ all_closed first before last (Some f) s out holds lead = record {
 }
 
 -- a removal and the close behind it, as the calls make them
-pub closes_up : (first before last : State) (action : Action) (removed : Option File) (number : Option ℕ) (earlier closed : Closes) → IsSettled first → Removes first action removed → Steps first action before → number ≡ number_of removed
+pub closes_up : (first before last : State) (action : Action) (removed : Option File) (number : Option ℕ) (earlier closed : CloseListView) → IsSettled first → Removes first action removed → Steps first action before → number ≡ number_of removed
     → Leads before (closes_of_removed before number) last → closed.files ≡ earlier.files ++ closes_in (closes_of_removed before number) → earlier.room ≤ closed.room + 1 → ClosesUp first action removed last earlier closed
 closes_up first before last action removed number earlier closed s r step is lead files room =
     let out : before.removed ≡ with_removed first.removed removed = ap (λ (st : State). st.removed) step.1 ∙ r.out in

@@ -4,7 +4,7 @@ use Rattle.std.specs.List.{flat_map}
 use Rattle.std.proofs.lemmas.List.{append-nil, drop-map, drop_more, drop_all, length-map, length-drop, length-take-le}
 use Rattle.std.proofs.lemmas.List.Sums.{sum_by-append}
 use Rattle.fx_base.specs.Catalogue.{FileEntry}
-use Rattle.fx_base.specs.Closes.{Closes}
+use Rattle.fx_base.specs.CloseListView.{CloseListView}
 use Rattle.fx_plain.specs.declared.event.Action.{Action}
 use Rattle.fx_plain.specs.State.{State}
 use Rattle.fx_plain.specs.History.{◌▷▷◌}
@@ -23,22 +23,22 @@ use Rattle.fx_cli.specs.Performs.{Did, DidSo}
 use Rattle.fx_cli.proofs.Goings.{did_then, did_nothing}
 
 -- whatever the runs that are left do, the whole submission did it behind what was done
-abbrev pub RunsOn : List FileEntry → ℕ → ℕ → List (List Asked) → State → Closes → ℕ → List (List Asked) → State → Closes → List Completed → Type 0
+abbrev pub RunsOn : List FileEntry → ℕ → ℕ → List (List Asked) → State → CloseListView → ℕ → List (List Asked) → State → CloseListView → List Completed → Type 0
 RunsOn catalogue size submission all first before chain left now listed done =
-    (events : List Action) (last : State) (closed : Closes) (cs : List Completed) → Did now last listed closed events → ExplainsRuns catalogue size submission chain left events cs
+    (events : List Action) (last : State) (closed : CloseListView) (cs : List Completed) → Did now last listed closed events → ExplainsRuns catalogue size submission chain left events cs
     → DidSo first last before closed (λ h. ExplainsRuns catalogue size submission 1 all h (done ++ cs))
 
-module _ (catalogue : List FileEntry) (size submission : ℕ) (all : List (List Asked)) (first : State) (before : Closes) where
+module _ (catalogue : List FileEntry) (size submission : ℕ) (all : List (List Asked)) (first : State) (before : CloseListView) where
   pub runs_none : RunsOn catalogue size submission all first before 1 all first before []
   runs_none events last closed cs did explains = (events, did, explains)
 
-  pub runs_next : (chain : ℕ) (run : List Asked) (left : List (List Asked)) (now next : State) (listed mid : Closes) (done cs : List Completed) → RunsOn catalogue size submission all first before chain (run ∷ left) now listed done
+  pub runs_next : (chain : ℕ) (run : List Asked) (left : List (List Asked)) (now next : State) (listed mid : CloseListView) (done cs : List Completed) → RunsOn catalogue size submission all first before chain (run ∷ left) now listed done
       → DidSo now next listed mid (λ events. Explains catalogue size (first_member submission chain) (operations_in run) events cs) → RunsOn catalogue size submission all first before (chain + 1) left next mid (done ++ cs)
   runs_next chain run left now next listed mid done cs goes own events last closed rest did explains =
       subst (λ (xs : List Completed). DidSo first last before closed (λ h. ExplainsRuns catalogue size submission 1 all h xs)) (sym (append_assoc done cs rest))
       (goes (own.0 ▷▷ events) last closed (cs ++ rest) (did_then now next last listed mid closed own.0 events own.1 did) (own.0, events, cs, rest, refl, refl, own.2, explains))
 
-  pub runs_end : (chain : ℕ) (now : State) (listed : Closes) (done : List Completed) → RunsOn catalogue size submission all first before chain [] now listed done → DidSo first now before listed (λ h. ExplainsRuns catalogue size submission 1 all h done)
+  pub runs_end : (chain : ℕ) (now : State) (listed : CloseListView) (done : List Completed) → RunsOn catalogue size submission all first before chain [] now listed done → DidSo first now before listed (λ h. ExplainsRuns catalogue size submission 1 all h done)
   runs_end chain now listed done goes =
       subst (λ (xs : List Completed). DidSo first now before listed (λ h. ExplainsRuns catalogue size submission 1 all h xs)) (append-nil done) (goes [] now listed [] (did_nothing now listed) (refl, refl))
 

@@ -4,8 +4,9 @@ use Rattle.std.specs.Bool.{MatchBool}
 use Rattle.std.specs.Fmt.{signed_decimal}
 use Rattle.std.specs.List.{slice_split, list_all}
 use Rattle.hex.specs.Hex.{decode_of}
-use Rattle.fx_base.specs.Catalogue.{FileEntry, name_byte}
-use Rattle.fx_base.specs.AddFault.{fault_of}
+use Rattle.fx_base.specs.Name.{name_byte}
+use Rattle.fx_base.specs.Catalogue.{FileEntry}
+use Rattle.fx_base.specs.AddFault.{add_fault_of}
 use Rattle.fx_chain.specs.declared.request.Target.TheVariants.{Slot, Any}
 use Rattle.fx_chain.specs.Operation.{Operation, Opens, Reads, Closes, Updates, Asked}
 use Rattle.fx_cli.specs.Instruction.{Instruction, MakesSparse, SetsRange, SubmitsAll}
@@ -100,7 +101,7 @@ pub record Progress : Type 0 where
 
 -- a file line stands before all requests and commands, and the catalogue takes its file
 abbrev pub may_stand : Progress → Line → Bool
-may_stand p (FileLine name bytes) = length p.pending == 0 && (length p.commands == 0 && is_none (fault_of p.catalogue name bytes))
+may_stand p (FileLine name bytes) = length p.pending == 0 && (length p.commands == 0 && is_none (add_fault_of p.catalogue name bytes))
 may_stand p (SparseLine n) = true
 may_stand p (RangeLine off len) = true
 may_stand p (RequestLine asked) = true

@@ -1,6 +1,6 @@
 ghost use Rattle.std.specs.Prelude.{◌≡◌, IfOk, map, option_map};
 ghost use Rattle.std.specs.List.{list_all};
-ghost use Rattle.fx_base.specs.Catalogue.{name_byte};
+ghost use Rattle.fx_base.specs.Name.{name_byte};
 ghost use Rattle.fx_chain.specs.Operation.{operation_of, is_fixed, is_link};
 ghost use Rattle.fx_cli.specs.Reading.{number_of, hex_of, link_of, file_of, sparse_of, range_of, open_of, open_at_of, open_any_of, read_of, close_of, update_of, submit_of, request_of, line_of};
 ghost use Rattle.fx_cli.specs.Script.{words, is_name, is_read};

@@ -1,6 +1,6 @@
 //! Requests on a table that one thread has: each answers as the kernel would, and closes at once what it removed.
 ghost use Rattle.std.specs.Prelude.{◌≡◌, ℕ, ◌+◌, ◌<◌, ◌≤◌, ◌^◌, length, [], pos, false};
-ghost use Rattle.fx_base.specs.Closes.{Closes};
+ghost use Rattle.fx_base.specs.CloseListView.{CloseListView};
 ghost use Rattle.fx_base.specs.declared.mark.Mark.TheVariants.{Submitted};
 ghost use Rattle.fx_plain.specs.State.{IsSettled};
 ghost use Rattle.fx_plain.specs.Contents.{state_of};
@@ -137,7 +137,7 @@ fn read(
 ) -> Completion
     requires settled { IsSettled (state_of table.old) }
     requires len { len ≤ 4096 }
-    ensures steps { (closes : Closes) → DidSo (state_of table.old) (state_of table.new) closes closes (λ events. ReadsFrom catalogue.now (state_of table.old).size place slot off len events (completed_of result)) }
+    ensures steps { (closes : CloseListView) → DidSo (state_of table.old) (state_of table.new) closes closes (λ events. ReadsFrom catalogue.now (state_of table.old).size place slot off len events (completed_of result)) }
     ensures settled { IsSettled (state_of table.new) }
     ensures same_files { (state_of table.new).at ≡ (state_of table.old).at }
     ensures same_fresh { (state_of table.new).fresh ≡ (state_of table.old).fresh }

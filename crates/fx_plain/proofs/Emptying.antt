@@ -4,8 +4,8 @@ use Rattle.std.proofs.lemmas.List.{get_or-set_same, get_or-set_other, get_or_def
 use Rattle.std.proofs.lemmas.Bool.{cases_lt}
 use Rattle.std.specs.Option.{option_to_list}
 use Rattle.fx_plain.specs.declared.event.File.{File}
-use Rattle.fx_plain.specs.State.{IsSettled, files_in_order, listed, vacant}
-use Rattle.fx_plain.specs.Contents.{Contents, IsTable, IsCounted, AllPlaced, SameButPlaced, state_of, slot_at, node_at, file_at, placed_at, file_named, file_in, without, opened, At, Gone}
+use Rattle.fx_plain.specs.State.{IsSettled, files_in_order, identities_of, vacant}
+use Rattle.fx_plain.specs.Contents.{Contents, IsTable, IsCounted, AllPlaced, SameButPlaced, state_of, slot_at, node_at, file_at, placed_at, file_named, file_in, nodes_without, removed_count_of, At, Gone}
 use Rattle.fx_plain.specs.Totals.{total}
 use Rattle.fx_plain.specs.declared.node.Node.{Node}
 use Rattle.fx_plain.proofs.Cells.{by_equality}
@@ -17,26 +17,26 @@ use Rattle.fx_plain.proofs.Moving.{IsLeft, named_same}
 pub files_more : (at : ℕ → Option File) (m n : ℕ) → m ≤ n → length (files_in_order at m) ≤ length (files_in_order at n)
 files_more at m zero le = let none_is : m ≡ 0 = omega arith in let same = ap (λ (k : ℕ). length (files_in_order at k)) none_is in omega arith
 files_more at m (suc n) le = elim (cases_lt m (suc n)) [
-  | inl lt ↦ (let rest = files_more at m n (omega arith) in let both = length-append (files_in_order at n) (listed (at n)) in omega arith)
+  | inl lt ↦ (let rest = files_more at m n (omega arith) in let both = length-append (files_in_order at n) (identities_of (at n)) in omega arith)
   | inr ge ↦ (let same : m ≡ suc n = omega arith in let e = ap (λ (k : ℕ). length (files_in_order at k)) same in omega arith)
 ]
 
-pub files_next : (at : ℕ → Option File) (n : ℕ) → files_in_order at (n + 1) ≡ files_in_order at n ++ listed (at n)
+pub files_next : (at : ℕ → Option File) (n : ℕ) → files_in_order at (n + 1) ≡ files_in_order at n ++ identities_of (at n)
 files_next at n = ap (files_in_order at) (add-one n)
 
 pub read_slot : (slots : List (Option ℕ)) (s : ℕ) (x : Option ℕ) → s < length slots → x ≡ slice_index_or slots s x → x ≡ slot_at slots s
 read_slot slots s x inside read = read ∙ sym (get_or_default slots s None x inside)
 
 module _ (slots : List (Option ℕ)) (first nodes : List Node) (s : ℕ) (placed : AllPlaced slots first) (left : IsLeft slots first nodes s) where
-  listed_is : (x : Option ℕ) → slot_at slots s ≡ x → listed (file_at first x) ≡ option_to_list (file_named first x)
+  listed_is : (x : Option ℕ) → slot_at slots s ≡ x → identities_of (file_at first x) ≡ option_to_list (file_named first x)
   listed_is None is = refl
-  listed_is (Some n) is = let there = placed s n is in ap (λ (node : Node). listed (placed_at n node)) there.1 ∙ sym (ap (λ (node : Node). option_to_list (file_in node)) there.1)
+  listed_is (Some n) is = let there = placed s n is in ap (λ (node : Node). identities_of (placed_at n node)) there.1 ∙ sym (ap (λ (node : Node). option_to_list (file_in node)) there.1)
 
   -- the file that is closed is the next one in order
-  pub next_listed : option_to_list (file_named nodes (slot_at slots s)) ≡ listed (file_at first (slot_at slots s))
+  pub next_listed : option_to_list (file_named nodes (slot_at slots s)) ≡ identities_of (file_at first (slot_at slots s))
   next_listed = ap option_to_list (named_same slots first nodes s placed left) ∙ sym (listed_is (slot_at slots s) refl)
 
-  same_without : (x : Option ℕ) → slot_at slots s ≡ x → ((n : ℕ) → SameButPlaced (node_at first n) (node_at nodes n)) → (n : ℕ) → SameButPlaced (node_at first n) (node_at (without nodes x) n)
+  same_without : (x : Option ℕ) → slot_at slots s ≡ x → ((n : ℕ) → SameButPlaced (node_at first n) (node_at nodes n)) → (n : ℕ) → SameButPlaced (node_at first n) (node_at (nodes_without nodes x) n)
   same_without None is same n = same n
   same_without (Some m) is same n =
       let there = placed s m is in
@@ -46,18 +46,18 @@ module _ (slots : List (Option ℕ)) (first nodes : List Node) (s : ℕ) (placed
       (record { same_fresh = refl; same_leaving = refl; same_retired = refl; same_removed = λ _. refl }))
       (λ other. subst (SameButPlaced (node_at first n)) (sym (get_or-set_other nodes m n Gone Gone other)) (same n))
 
-  pub same_next : ((n : ℕ) → SameButPlaced (node_at first n) (node_at nodes n)) → (n : ℕ) → SameButPlaced (node_at first n) (node_at (without nodes (slot_at slots s)) n)
+  pub same_next : ((n : ℕ) → SameButPlaced (node_at first n) (node_at nodes n)) → (n : ℕ) → SameButPlaced (node_at first n) (node_at (nodes_without nodes (slot_at slots s)) n)
   same_next same n = same_without (slot_at slots s) refl same n
 
-  opened_without : (x : Option ℕ) → slot_at slots s ≡ x → total opened (without nodes x) ≡ total opened nodes
+  opened_without : (x : Option ℕ) → slot_at slots s ≡ x → total removed_count_of (nodes_without nodes x) ≡ total removed_count_of nodes
   opened_without None is = refl
   opened_without (Some m) is =
       let there = placed s m is in
       let here : node_at nodes m ≡ At s there.0 = left s m (omega arith) is ∙ there.1 in
-      let changed = total_set opened nodes m Gone Gone (inside_of-At nodes m s there.0 here) in
-      let was : opened (node_at nodes m) ≡ 0 = ap opened here in omega arith
+      let changed = total_set removed_count_of nodes m Gone Gone (inside_of-At nodes m s there.0 here) in
+      let was : removed_count_of (node_at nodes m) ≡ 0 = ap removed_count_of here in omega arith
 
-  pub opened_next : total opened (without nodes (slot_at slots s)) ≡ total opened nodes
+  pub opened_next : total removed_count_of (nodes_without nodes (slot_at slots s)) ≡ total removed_count_of nodes
   opened_next = opened_without (slot_at slots s) refl
 
 -- a table that was emptied
@@ -75,7 +75,7 @@ module _ (c : Contents) (nodes : List Node) (t : IsTable c) (settled : IsSettled
     fresh = λ n. (same n).same_fresh i;
   }
 
-  pub emptied_keeps : (full held removed : ℕ) → IsCounted c full held removed → total opened nodes ≡ total opened c.nodes → IsTable emptied × IsCounted emptied 0 held removed
+  pub emptied_keeps : (full held removed : ℕ) → IsCounted c full held removed → total removed_count_of nodes ≡ total removed_count_of c.nodes → IsTable emptied × IsCounted emptied 0 held removed
   emptied_keeps full held removed k opened_same = (
     record {
       few_slots = omega arith;

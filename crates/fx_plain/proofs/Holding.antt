@@ -6,7 +6,7 @@ use Rattle.fx_plain.specs.declared.event.File.{File}
 use Rattle.fx_plain.specs.declared.event.Action.TheVariants.{Look, Release}
 use Rattle.fx_plain.specs.Step.{Steps, changed_at, after}
 use Rattle.fx_plain.specs.History.{Leads, close_of, ◌▷◌, ◌▷▷◌}
-use Rattle.fx_plain.specs.Contents.{Contents, IsTable, IsCounted, state_of, slot_at, node_at, file_at, placed_at, leaving, removed_at, is_fresh, is_leaving, is_retired, file_in, retired, opened, itself, At, Leaving, Retired, Gone}
+use Rattle.fx_plain.specs.Contents.{Contents, IsTable, IsCounted, state_of, slot_at, node_at, file_at, placed_at, leaving, removed_at, is_fresh, is_leaving, is_retired, file_in, node_after_retirement, removed_count_of, itself, At, Leaving, Retired, Gone}
 use Rattle.fx_plain.specs.Table.{numbered, identity_of, closed_by_release, closed_by_retirement, HasRoomForHold}
 use Rattle.fx_plain.specs.declared.node.Node.{Node}
 use Rattle.fx_plain.proofs.Cells.{by_equality, unchanged, written, inside_of}
@@ -92,9 +92,9 @@ keeps_node c n v t off inside still = record {
 }
 
 -- the counts, where a node's file is gone
-closed_counted : (c : Contents) (n full held removed : ℕ) → IsCounted c full held removed → n < length c.nodes → opened (node_at c.nodes n) ≡ 1 → (1 ≤ removed) × IsCounted (closed_at c n) full held (removed - 1)
+closed_counted : (c : Contents) (n full held removed : ℕ) → IsCounted c full held removed → n < length c.nodes → removed_count_of (node_at c.nodes n) ≡ 1 → (1 ≤ removed) × IsCounted (closed_at c n) full held (removed - 1)
 closed_counted c n full held removed k inside one =
-    let changed = total_set opened c.nodes n Gone Gone inside in
+    let changed = total_set removed_count_of c.nodes n Gone Gone inside in
     let r = k.all_removed in
     (omega arith, record { full_slots = k.full_slots; all_holds = k.all_holds; small_holds = k.small_holds; all_removed = omega arith })
 
@@ -127,15 +127,15 @@ module _ (c : Contents) (n : ℕ) (t : IsTable c) (going : leaving c n ≡ true)
       ap (λ (h : ℕ). identity_of (if h == 0 then (state_of c).removed n else None)) unheld ∙ ap (λ (node : Node). identity_of (removed_at n node)) was_leaving.1 ∙ sym (ap file_in was_leaving.1)
 
   -- a held file stays, and is retired
-  pub retire_waits : slice_index c.holds n ≢ 0 → Leads (state_of c) (close_of (closed_by_retirement c n)) (state_of (record c { nodes = slice_set c.nodes n (retired (node_at c.nodes n)) }))
+  pub retire_waits : slice_index c.holds n ≢ 0 → Leads (state_of c) (close_of (closed_by_retirement c n)) (state_of (record c { nodes = slice_set c.nodes n (node_after_retirement (node_at c.nodes n)) }))
   retire_waits held =
       let none : closed_by_retirement c n ≡ None = by_equality (slice_index c.holds n) 0 (λ b. (if b then (state_of c).removed n else None) ≡ None) (λ is. absurd (held is)) (λ other. refl) in
-      subst (λ (x : Option File). Leads (state_of c) (close_of x) (state_of (record c { nodes = slice_set c.nodes n (retired (node_at c.nodes n)) }))) (sym none) (
+      subst (λ (x : Option File). Leads (state_of c) (close_of x) (state_of (record c { nodes = slice_set c.nodes n (node_after_retirement (node_at c.nodes n)) }))) (sym none) (
         tt,
-        state_of-nodes c n (retired (node_at c.nodes n)) t node_inside off
+        state_of-nodes c n (node_after_retirement (node_at c.nodes n)) t node_inside off
             ∙ λ i. record (state_of c) {
-              removed = unchanged (state_of c).removed n (removed_at n (retired (node_at c.nodes n))) (ap (λ (x : Node). removed_at n (retired x)) was_leaving.1 ∙ sym (ap (removed_at n) was_leaving.1)) i;
-              fresh = unchanged (state_of c).fresh n (is_fresh (retired (node_at c.nodes n))) (ap (λ (x : Node). is_fresh (retired x)) was_leaving.1 ∙ sym (ap is_fresh was_leaving.1)) i;
+              removed = unchanged (state_of c).removed n (removed_at n (node_after_retirement (node_at c.nodes n))) (ap (λ (x : Node). removed_at n (node_after_retirement x)) was_leaving.1 ∙ sym (ap (removed_at n) was_leaving.1)) i;
+              fresh = unchanged (state_of c).fresh n (is_fresh (node_after_retirement (node_at c.nodes n))) (ap (λ (x : Node). is_fresh (node_after_retirement x)) was_leaving.1 ∙ sym (ap is_fresh was_leaving.1)) i;
             },
       )
 
@@ -145,22 +145,22 @@ module _ (c : Contents) (n : ℕ) (t : IsTable c) (going : leaving c n ≡ true)
   pub closed_leaving : leaving (closed_at c n) ≡ changed_at (leaving c) n false
   closed_leaving = leaving-nodes c n Gone node_inside
 
-  pub retired_leaving : leaving (record c { nodes = slice_set c.nodes n (retired (node_at c.nodes n)) }) ≡ changed_at (leaving c) n false
-  retired_leaving = leaving-nodes c n (retired (node_at c.nodes n)) node_inside ∙ ap (changed_at (leaving c) n) (ap (λ (x : Node). is_leaving (retired x)) was_leaving.1)
+  pub retired_leaving : leaving (record c { nodes = slice_set c.nodes n (node_after_retirement (node_at c.nodes n)) }) ≡ changed_at (leaving c) n false
+  retired_leaving = leaving-nodes c n (node_after_retirement (node_at c.nodes n)) node_inside ∙ ap (changed_at (leaving c) n) (ap (λ (x : Node). is_leaving (node_after_retirement x)) was_leaving.1)
 
   pub retire_close_keeps : (full held removed : ℕ) → IsCounted c full held removed → (1 ≤ removed) × IsTable (closed_at c n) × IsCounted (closed_at c n) full held (removed - 1)
   retire_close_keeps full held removed k =
-      let counted = closed_counted c n full held removed k node_inside (ap opened was_leaving.1) in
+      let counted = closed_counted c n full held removed k node_inside (ap removed_count_of was_leaving.1) in
       (counted.0, keeps_node c n Gone t off node_inside (λ (is : false ≡ true). cc), counted.1)
 
   pub retire_wait_keeps : (full held removed : ℕ) → IsCounted c full held removed → slice_index c.holds n ≢ 0
-      → IsTable (record c { nodes = slice_set c.nodes n (retired (node_at c.nodes n)) }) × IsCounted (record c { nodes = slice_set c.nodes n (retired (node_at c.nodes n)) }) full held removed
+      → IsTable (record c { nodes = slice_set c.nodes n (node_after_retirement (node_at c.nodes n)) }) × IsCounted (record c { nodes = slice_set c.nodes n (node_after_retirement (node_at c.nodes n)) }) full held removed
   retire_wait_keeps full held removed k some_hold =
-      let changed = total_set opened c.nodes n (retired (node_at c.nodes n)) Gone node_inside in
-      let was : opened (node_at c.nodes n) ≡ 1 = ap opened was_leaving.1 in
-      let now : opened (retired (node_at c.nodes n)) ≡ 1 = ap (λ (x : Node). opened (retired x)) was_leaving.1 in
+      let changed = total_set removed_count_of c.nodes n (node_after_retirement (node_at c.nodes n)) Gone node_inside in
+      let was : removed_count_of (node_at c.nodes n) ≡ 1 = ap removed_count_of was_leaving.1 in
+      let now : removed_count_of (node_after_retirement (node_at c.nodes n)) ≡ 1 = ap (λ (x : Node). removed_count_of (node_after_retirement x)) was_leaving.1 in
       let r = k.all_removed in (
-        keeps_node c n (retired (node_at c.nodes n)) t off node_inside (λ _. omega arith),
+        keeps_node c n (node_after_retirement (node_at c.nodes n)) t off node_inside (λ _. omega arith),
         record { full_slots = k.full_slots; all_holds = k.all_holds; small_holds = k.small_holds; all_removed = omega arith },
       )
 
@@ -288,5 +288,5 @@ module _ (c : Contents) (n : ℕ) (t : IsTable c) (some_hold : 0 < slice_index c
     pub let_go_counted : (full held removed : ℕ) → IsCounted c full held removed → (1 ≤ removed) × IsCounted let_go full (held - 1) (removed - 1)
     let_go_counted full held removed k =
         let less = (less_counted full held removed k).1 in
-        let gone = closed_counted c n full held removed k retired_inside (ap opened was_retired.1) in
+        let gone = closed_counted c n full held removed k retired_inside (ap removed_count_of was_retired.1) in
         (gone.0, record { full_slots = less.full_slots; all_holds = less.all_holds; small_holds = less.small_holds; all_removed = gone.1.all_removed })

@@ -2,7 +2,7 @@
 use Rattle.std.proofs.Common.{◌≡◌, ◌≢◌, ℕ, ◌+◌, ◌<◌, ◌≤◌, List, [], ◌∷◌, ◌++◌, length, refl, sym, ap, ◌∙◌, slice_set, Option, Some, None, IfSome, arith}
 use Rattle.std.proofs.lemmas.List.{length-set, get_or-set_same, get_or-set_other, get_or_append_left}
 use Rattle.std.proofs.Math.Seq.{get_or-append_seam}
-use Rattle.fx_plain.specs.Contents.{AllPlaced, slot_at, node_at, file_named, file_in, opening_slot, without, filled, Gone}
+use Rattle.fx_plain.specs.Contents.{AllPlaced, slot_at, node_at, file_named, file_in, opening_slot, nodes_without, file_count_of, Gone}
 use Rattle.fx_plain.specs.Totals.{total}
 use Rattle.fx_plain.specs.declared.node.Node.{Node}
 use Rattle.fx_plain.proofs.Cells.{by_equality}
@@ -29,17 +29,17 @@ module _ (slots : List (Option ℕ)) (first nodes : List Node) (s : ℕ) (placed
   pub named_same : file_named nodes (slot_at slots s) ≡ file_named first (slot_at slots s)
   named_same = same_named (slot_at slots s) refl
 
-  left_without : (x : Option ℕ) → slot_at slots s ≡ x → IsLeft slots first (without nodes x) (s + 1)
+  left_without : (x : Option ℕ) → slot_at slots s ≡ x → IsLeft slots first (nodes_without nodes x) (s + 1)
   left_without None is = λ u number le at. left u number (omega arith) at
   left_without (Some m) is = λ u number le at.
       let apart : u ≢ s = omega arith in
       get_or-set_other nodes m number Gone Gone (other_number slots first s u m number placed apart is at) ∙ left u number (omega arith) at
 
   -- one slot more was worked off
-  pub left_next : IsLeft slots first (without nodes (slot_at slots s)) (s + 1)
+  pub left_next : IsLeft slots first (nodes_without nodes (slot_at slots s)) (s + 1)
   left_next = left_without (slot_at slots s) refl
 
-pub length-without : (nodes : List Node) (x : Option ℕ) → length (without nodes x) ≡ length nodes
+pub length-without : (nodes : List Node) (x : Option ℕ) → length (nodes_without nodes x) ≡ length nodes
 length-without nodes None = refl
 length-without nodes (Some n) = length-set nodes n Gone
 
@@ -55,12 +55,12 @@ module _ (first slots : List (Option ℕ)) (s : ℕ) (inside : s < length slots)
   pub rest_next : ((u : ℕ) → s ≤ u → slot_at slots u ≡ slot_at first u) → (u : ℕ) → s + 1 ≤ u → slot_at renamed u ≡ slot_at first u
   rest_next rest u le = let apart : u ≢ s = omega arith in get_or-set_other slots s u (opening_slot (slot_at slots s) s) None apart ∙ rest u (omega arith)
 
-  same_filled : (x : Option ℕ) → filled (opening_slot x s) ≡ filled x
+  same_filled : (x : Option ℕ) → file_count_of (opening_slot x s) ≡ file_count_of x
   same_filled None = refl
   same_filled (Some n) = refl
 
-  pub full_next : total filled renamed ≡ total filled slots
-  full_next = let changed = total_set filled slots s (opening_slot (slot_at slots s) s) None inside in let same = same_filled (slot_at slots s) in omega arith
+  pub full_next : total file_count_of renamed ≡ total file_count_of slots
+  full_next = let changed = total_set file_count_of slots s (opening_slot (slot_at slots s) s) None inside in let same = same_filled (slot_at slots s) in omega arith
 
 -- one node more was appended
 pub moved_next : (moved : List Node) (s : ℕ) (node : Node) (expected : ℕ → Node) → length moved ≡ s → node ≡ expected s → ((u : ℕ) → u < s → node_at moved u ≡ expected u) → (u : ℕ) → u < s + 1 → node_at (moved ++ node ∷ []) u ≡ expected u

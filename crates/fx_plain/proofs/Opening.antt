@@ -4,8 +4,8 @@ use Rattle.std.proofs.lemmas.List.{get_or_append_left, get_or-append-add, length
 use Rattle.std.proofs.lemmas.Bool.{cases_lt, lt-ltb, le-ltb}
 use Rattle.std.proofs.Math.ListN.{get_or-eq_default}
 use Rattle.fx_base.specs.declared.open_file.Closed.{Closed}
-use Rattle.fx_plain.specs.State.{opening, renumbered}
-use Rattle.fx_plain.specs.Contents.{Contents, IsTable, IsCounted, state_of, slot_at, node_at, file_at, placed_at, removed_at, is_fresh, is_retired, moved_node, file_named, file_in, opening_slot, filled, opened, itself, Fresh, At, Gone}
+use Rattle.fx_plain.specs.State.{opening, file_numbered}
+use Rattle.fx_plain.specs.Contents.{Contents, IsTable, IsCounted, state_of, slot_at, node_at, file_at, placed_at, removed_at, is_fresh, is_retired, moved_node, file_named, file_in, opening_slot, file_count_of, removed_count_of, itself, Fresh, At, Gone}
 use Rattle.fx_plain.specs.Totals.{total}
 use Rattle.fx_plain.specs.declared.node.Node.{Node}
 use Rattle.fx_plain.proofs.Cells.{inside_of}
@@ -33,7 +33,7 @@ moved_retired : (slot : ℕ) (x : Option Closed) → is_retired (moved_node x sl
 moved_retired slot None = refl
 moved_retired slot (Some f) = refl
 
-moved_opened : (slot : ℕ) (x : Option Closed) → opened (moved_node x slot) ≡ 0
+moved_opened : (slot : ℕ) (x : Option Closed) → removed_count_of (moved_node x slot) ≡ 0
 moved_opened slot None = refl
 moved_opened slot (Some f) = refl
 
@@ -76,17 +76,17 @@ module _ (c : Contents) (slots : List (Option ℕ)) (moved : List Node) (numbers
       (λ n ge lt. sym (ap (λ (b : Bool). not b && nat_lt n numbers) (le-ltb n (length c.slots) ge) ∙ lt-ltb n numbers lt))
       (λ n ge. sym (ap (λ (b : Bool × Bool). not b.0 && b.1) (λ i. (le-ltb n (length c.slots) (let e = enough in omega arith) i, le-ltb n numbers ge i))))
 
-  named_node : (u : ℕ) → u < length c.slots → (x : Option ℕ) → slot_at c.slots u ≡ x → file_at nodes (opening_slot x u) ≡ renumbered (file_at c.nodes x) u
+  named_node : (u : ℕ) → u < length c.slots → (x : Option ℕ) → slot_at c.slots u ≡ x → file_at nodes (opening_slot x u) ≡ file_numbered (file_at c.nodes x) u
   named_node u inside None is = refl
   named_node u inside (Some m) is =
       let there = t.placed u m is in
       let here : node_at nodes u ≡ At u there.0 = node_low u inside ∙ ap (λ (x : Option ℕ). moved_node (file_named c.nodes x) u) is ∙ ap (λ (node : Node). moved_node (file_in node) u) there.1 in
-      ap (placed_at u) here ∙ sym (ap (λ (node : Node). renumbered (placed_at m node) u) there.1)
+      ap (placed_at u) here ∙ sym (ap (λ (node : Node). file_numbered (placed_at m node) u) there.1)
 
-  at_is : (u : ℕ) → file_at nodes (slot_at slots u) ≡ renumbered (file_at c.nodes (slot_at c.slots u)) u
+  at_is : (u : ℕ) → file_at nodes (slot_at slots u) ≡ file_numbered (file_at c.nodes (slot_at c.slots u)) u
   at_is u = elim (cases_lt u (length c.slots)) [
     | inl lt ↦ ap (file_at nodes) (named u lt) ∙ named_node u lt (slot_at c.slots u) refl
-    | inr ge ↦ ap (file_at nodes) (get_or-eq_default slots None (omega arith)) ∙ sym (ap (λ (x : Option ℕ). renumbered (file_at c.nodes x) u) (get_or-eq_default c.slots None ge))
+    | inr ge ↦ ap (file_at nodes) (get_or-eq_default slots None (omega arith)) ∙ sym (ap (λ (x : Option ℕ). file_numbered (file_at c.nodes x) u) (get_or-eq_default c.slots None ge))
   ]
 
   pub state_of-prepared : state_of prepared ≡ opening (state_of c) numbers
@@ -120,10 +120,10 @@ module _ (c : Contents) (slots : List (Option ℕ)) (moved : List Node) (numbers
     held = each_node (λ n node. is_retired node ≡ true → 0 < slice_index (replicate numbers 0) n) (λ n x lt is. let e : false ≡ true = sym (moved_retired n x) ∙ is in cc) (λ n ge lt is. cc) (λ n ge is. cc);
   }
 
-  pub prepared_counted : (full held removed : ℕ) → IsCounted c full held removed → total filled slots ≡ total filled c.slots → IsCounted prepared full 0 0
+  pub prepared_counted : (full held removed : ℕ) → IsCounted c full held removed → total file_count_of slots ≡ total file_count_of c.slots → IsCounted prepared full 0 0
   prepared_counted full held removed k same_full = record {
     full_slots = k.full_slots ∙ sym same_full;
     all_holds = sym (total-replicate itself numbers 0 refl);
     small_holds = λ n. let z = all_zero numbers n in omega arith;
-    all_removed = sym (total_nothing opened nodes Gone refl (each_node (λ n node. opened node ≡ 0) (λ n x lt. moved_opened n x) (λ n ge lt. refl) (λ n ge. refl)));
+    all_removed = sym (total_nothing removed_count_of nodes Gone refl (each_node (λ n node. removed_count_of node ≡ 0) (λ n x lt. moved_opened n x) (λ n ge lt. refl) (λ n ge. refl)));
   }

@@ -5,7 +5,7 @@ use Rattle.fx_base.specs.declared.open_file.Closed.{Closed}
 use Rattle.fx_plain.specs.declared.event.File.{File}
 use Rattle.fx_plain.specs.declared.event.Action.TheVariants.{Put, Take}
 use Rattle.fx_plain.specs.Step.{Steps, changed_at, with_removed}
-use Rattle.fx_plain.specs.Contents.{Contents, IsTable, IsCounted, AllPlaced, state_of, slot_at, node_at, file_at, placed_at, leaving, removed_at, is_fresh, is_leaving, is_retired, left, filled, opened, Fresh, At, Leaving, Retired, Gone}
+use Rattle.fx_plain.specs.Contents.{Contents, IsTable, IsCounted, AllPlaced, state_of, slot_at, node_at, file_at, placed_at, leaving, removed_at, is_fresh, is_leaving, is_retired, node_after_removal, file_count_of, removed_count_of, Fresh, At, Leaving, Retired, Gone}
 use Rattle.fx_plain.specs.Table.{numbered, more_leaving}
 use Rattle.fx_plain.specs.Totals.{total}
 use Rattle.fx_plain.specs.declared.node.Node.{Node}
@@ -25,7 +25,7 @@ leaving_of nodes n = is_leaving (node_at nodes n)
 -- the nodes once the file that a slot named has left it
 abbrev pub gave_way : List Node → Option ℕ → List Node
 gave_way nodes None = nodes
-gave_way nodes (Some old) = slice_set nodes old (left (node_at nodes old))
+gave_way nodes (Some old) = slice_set nodes old (node_after_removal (node_at nodes old))
 
 -- what a slot names stands there
 abbrev pub Names : List Node → Option ℕ → ℕ → Type 0
@@ -39,37 +39,37 @@ names_at c slot (Some old) t is = t.placed slot old is
 pub removed-gave_way : (nodes : List Node) (x : Option ℕ) (slot : ℕ) → Names nodes x slot → removed_of (gave_way nodes x) ≡ with_removed (removed_of nodes) (file_at nodes x)
 removed-gave_way nodes None slot named = refl
 removed-gave_way nodes (Some old) slot named =
-    written removed_at nodes old (left (node_at nodes old)) Gone (inside_of-At nodes old slot named.0 named.1)
-    ∙ ap (λ (node : Node). changed_at (removed_of nodes) old (removed_at old (left node))) named.1
+    written removed_at nodes old (node_after_removal (node_at nodes old)) Gone (inside_of-At nodes old slot named.0 named.1)
+    ∙ ap (λ (node : Node). changed_at (removed_of nodes) old (removed_at old (node_after_removal node))) named.1
     ∙ sym (ap (λ (node : Node). with_removed (removed_of nodes) (placed_at old node)) named.1)
 
 pub fresh-gave_way : (nodes : List Node) (x : Option ℕ) (slot : ℕ) → Names nodes x slot → fresh_of (gave_way nodes x) ≡ fresh_of nodes
 fresh-gave_way nodes None slot named = refl
 fresh-gave_way nodes (Some old) slot named =
-    written (λ q node. is_fresh node) nodes old (left (node_at nodes old)) Gone (inside_of-At nodes old slot named.0 named.1)
-    ∙ unchanged (fresh_of nodes) old (is_fresh (left (node_at nodes old))) (ap (λ (node : Node). is_fresh (left node)) named.1 ∙ sym (ap is_fresh named.1))
+    written (λ q node. is_fresh node) nodes old (node_after_removal (node_at nodes old)) Gone (inside_of-At nodes old slot named.0 named.1)
+    ∙ unchanged (fresh_of nodes) old (is_fresh (node_after_removal (node_at nodes old))) (ap (λ (node : Node). is_fresh (node_after_removal node)) named.1 ∙ sym (ap is_fresh named.1))
 
 pub leaving-gave_way : (nodes : List Node) (x : Option ℕ) (slot : ℕ) → Names nodes x slot → leaving_of (gave_way nodes x) ≡ more_leaving (leaving_of nodes) (file_at nodes x)
 leaving-gave_way nodes None slot named = refl
 leaving-gave_way nodes (Some old) slot named =
-    written (λ q node. is_leaving node) nodes old (left (node_at nodes old)) Gone (inside_of-At nodes old slot named.0 named.1)
-    ∙ ap (λ (node : Node). changed_at (leaving_of nodes) old (is_leaving (left node))) named.1
+    written (λ q node. is_leaving node) nodes old (node_after_removal (node_at nodes old)) Gone (inside_of-At nodes old slot named.0 named.1)
+    ∙ ap (λ (node : Node). changed_at (leaving_of nodes) old (is_leaving (node_after_removal node))) named.1
     ∙ sym (ap (λ (node : Node). more_leaving (leaving_of nodes) (placed_at old node)) named.1)
 
 pub length-gave_way : (nodes : List Node) (x : Option ℕ) → length (gave_way nodes x) ≡ length nodes
 length-gave_way nodes None = refl
-length-gave_way nodes (Some old) = length-set nodes old (left (node_at nodes old))
+length-gave_way nodes (Some old) = length-set nodes old (node_after_removal (node_at nodes old))
 
 pub node_else : (nodes : List Node) (x : Option ℕ) (m : ℕ) → ((old : ℕ) → x ≡ Some old → m ≢ old) → node_at (gave_way nodes x) m ≡ node_at nodes m
 node_else nodes None m other = refl
-node_else nodes (Some old) m other = get_or-set_other nodes old m (left (node_at nodes old)) Gone (other old refl)
+node_else nodes (Some old) m other = get_or-set_other nodes old m (node_after_removal (node_at nodes old)) Gone (other old refl)
 
 -- a node that is retired was so before
 retired_before : (nodes : List Node) (x : Option ℕ) (slot m : ℕ) → Names nodes x slot → is_retired (node_at (gave_way nodes x) m) ≡ true → is_retired (node_at nodes m) ≡ true
 retired_before nodes None slot m named is = is
 retired_before nodes (Some old) slot m named is = by_equality m old (λ _. is_retired (node_at nodes m) ≡ true)
-    (λ same. let e : is_retired (left (At slot named.0)) ≡ true = sym (ap is_retired (ap (node_at (gave_way nodes (Some old))) same ∙ get_or-set_same nodes old (left (node_at nodes old)) Gone (inside_of-At nodes old slot named.0 named.1) ∙ ap left named.1)) ∙ is in cc)
-    (λ other. ap is_retired (sym (get_or-set_other nodes old m (left (node_at nodes old)) Gone other)) ∙ is)
+    (λ same. let e : is_retired (node_after_removal (At slot named.0)) ≡ true = sym (ap is_retired (ap (node_at (gave_way nodes (Some old))) same ∙ get_or-set_same nodes old (node_after_removal (node_at nodes old)) Gone (inside_of-At nodes old slot named.0 named.1) ∙ ap node_after_removal named.1)) ∙ is in cc)
+    (λ other. ap is_retired (sym (get_or-set_other nodes old m (node_after_removal (node_at nodes old)) Gone other)) ∙ is)
 
 -- two slots name two numbers
 pub other_number : (slots : List (Option ℕ)) (nodes : List Node) (s u m n : ℕ) → AllPlaced slots nodes → u ≢ s → slot_at slots s ≡ Some m → slot_at slots u ≡ Some n → n ≢ m
@@ -217,18 +217,18 @@ module _ (c : Contents) (slot n : ℕ) (file : Closed) (t : IsTable c) (inside :
 pub seen_at : {X : Type 0} (xs : List X) (i : ℕ) (d x y : X) → i < length xs → x ≡ slice_index_or xs i x → x ≡ y → slice_index_or xs i d ≡ y
 seen_at xs i d x y inside read is = get_or_default xs i d x inside ∙ sym read ∙ is
 
-pub as_taken : (c : Contents) (slot number : ℕ) (nodes : List Node) → slot_at c.slots slot ≡ Some number → nodes ≡ slice_set c.nodes number (left (node_at c.nodes number)) → record c { slots = slice_set c.slots slot None; nodes = nodes } ≡ taken c slot
+pub as_taken : (c : Contents) (slot number : ℕ) (nodes : List Node) → slot_at c.slots slot ≡ Some number → nodes ≡ slice_set c.nodes number (node_after_removal (node_at c.nodes number)) → record c { slots = slice_set c.slots slot None; nodes = nodes } ≡ taken c slot
 as_taken c slot number nodes at is = λ i. record c { slots = slice_set c.slots slot None; nodes = (is ∙ ap (gave_way c.nodes) (sym at)) i }
 
-opened_le : (node : Node) → opened node ≤ 1
+opened_le : (node : Node) → removed_count_of node ≤ 1
 opened_le Fresh = omega arith
 opened_le (At slot file) = omega arith
 opened_le (Leaving file) = omega arith
 opened_le (Retired file) = omega arith
 opened_le Gone = omega arith
 
-left_opened : (slot : ℕ) (file : Closed) (node : Node) → node ≡ At slot file → (opened (left node) ≡ 1) × (opened node ≡ 0)
-left_opened slot file node is = (ap (λ (x : Node). opened (left x)) is, ap opened is)
+left_opened : (slot : ℕ) (file : Closed) (node : Node) → node ≡ At slot file → (removed_count_of (node_after_removal node) ≡ 1) × (removed_count_of node ≡ 0)
+left_opened slot file node is = (ap (λ (x : Node). removed_count_of (node_after_removal x)) is, ap removed_count_of is)
 
 -- the counts of a table from which a file was taken
 pub taken_counted : (c : Contents) (slot number full held removed : ℕ) → IsTable c → IsCounted c full held removed → slot < length c.slots → slot_at c.slots slot ≡ Some number
@@ -236,12 +236,12 @@ pub taken_counted : (c : Contents) (slot number full held removed : ℕ) → IsT
 taken_counted c slot number full held removed t n inside at =
     let named = t.placed slot number at in
     let n_in = inside_of-At c.nodes number slot named.0 named.1 in
-    let slots_total = total_set filled c.slots slot None None inside in
-    let was : filled (slot_at c.slots slot) ≡ 1 = ap filled at in
-    let nodes_total : total opened (gave_way c.nodes (slot_at c.slots slot)) + opened (node_at c.nodes number) ≡ total opened c.nodes + opened (left (node_at c.nodes number)) =
-    ap (λ (x : Option ℕ). total opened (gave_way c.nodes x) + opened (node_at c.nodes number)) at ∙ total_set opened c.nodes number (left (node_at c.nodes number)) Gone n_in in
+    let slots_total = total_set file_count_of c.slots slot None None inside in
+    let was : file_count_of (slot_at c.slots slot) ≡ 1 = ap file_count_of at in
+    let nodes_total : total removed_count_of (gave_way c.nodes (slot_at c.slots slot)) + removed_count_of (node_at c.nodes number) ≡ total removed_count_of c.nodes + removed_count_of (node_after_removal (node_at c.nodes number)) =
+    ap (λ (x : Option ℕ). total removed_count_of (gave_way c.nodes x) + removed_count_of (node_at c.nodes number)) at ∙ total_set removed_count_of c.nodes number (node_after_removal (node_at c.nodes number)) Gone n_in in
     let now = left_opened slot named.0 (node_at c.nodes number) named.1 in
-    let all = total_le opened 1 opened_le (gave_way c.nodes (slot_at c.slots slot)) in
+    let all = total_le removed_count_of 1 opened_le (gave_way c.nodes (slot_at c.slots slot)) in
     let len = length-gave_way c.nodes (slot_at c.slots slot) in
     let few = t.few_nodes in
     let f = n.full_slots in
@@ -257,7 +257,7 @@ taken_counted c slot number full held removed t n inside at =
 pub carried : (P : Contents → Contents → Type 0) {old now new as_called : Contents} → old ≡ now → as_called ≡ new → P old new → P now as_called
 carried P {old} {now} {new} {as_called} seen called holds = subst (λ k. P k as_called) seen (subst (P old) (sym called) holds)
 
-filled_le : (x : Option ℕ) → filled x ≤ 1
+filled_le : (x : Option ℕ) → file_count_of x ≤ 1
 filled_le None = omega arith
 filled_le (Some n) = omega arith
 
@@ -266,28 +266,28 @@ module _ (c : Contents) (slot n : ℕ) (file : Closed) (t : IsTable c) (inside :
   pub as_put_free : (nodes : List Node) → slot_at c.slots slot ≡ None → nodes ≡ slice_set c.nodes n (At slot file) → record c { slots = slice_set c.slots slot (Some n); nodes = nodes } ≡ put_at c slot n file
   as_put_free nodes at is = λ i. record c { slots = slice_set c.slots slot (Some n); nodes = (is ∙ ap (gave_way (slice_set c.nodes n (At slot file))) (sym at)) i }
 
-  pub as_put_over : (old : ℕ) (named nodes : List Node) → slot_at c.slots slot ≡ Some old → named ≡ slice_set c.nodes n (At slot file) → nodes ≡ slice_set named old (left (node_at named old))
+  pub as_put_over : (old : ℕ) (named nodes : List Node) → slot_at c.slots slot ≡ Some old → named ≡ slice_set c.nodes n (At slot file) → nodes ≡ slice_set named old (node_after_removal (node_at named old))
       → record c { slots = slice_set c.slots slot (Some n); nodes = nodes } ≡ put_at c slot n file
   as_put_over old named nodes at named_is is = λ i. record c {
     slots = slice_set c.slots slot (Some n);
-    nodes = (is ∙ ap (λ (x : List Node). slice_set x old (left (node_at x old))) named_is ∙ ap (gave_way (slice_set c.nodes n (At slot file))) (sym at)) i;
+    nodes = (is ∙ ap (λ (x : List Node). slice_set x old (node_after_removal (node_at x old))) named_is ∙ ap (gave_way (slice_set c.nodes n (At slot file))) (sym at)) i;
   }
 
-  put_opened : total opened (slice_set c.nodes n (At slot file)) ≡ total opened c.nodes
+  put_opened : total removed_count_of (slice_set c.nodes n (At slot file)) ≡ total removed_count_of c.nodes
   put_opened =
-      let all = total_set opened c.nodes n (At slot file) Gone (inside_of-Fresh c.nodes n fresh) in
-      let was : opened (node_at c.nodes n) ≡ 0 = ap opened (fresh_is _ fresh) in omega arith
+      let all = total_set removed_count_of c.nodes n (At slot file) Gone (inside_of-Fresh c.nodes n fresh) in
+      let was : removed_count_of (node_at c.nodes n) ≡ 0 = ap removed_count_of (fresh_is _ fresh) in omega arith
 
   pub put_free_counted : (full held removed : ℕ) → IsCounted c full held removed → slot_at c.slots slot ≡ None → (full + 1 < 2 ^ 32) × IsCounted (put_at c slot n file) (full + 1) held removed
   put_free_counted full held removed k at =
-      let slots_total = total_set filled c.slots slot (Some n) None inside in
-      let was : filled (slot_at c.slots slot) ≡ 0 = ap filled at in
-      let most = total_le filled 1 filled_le c.slots in
+      let slots_total = total_set file_count_of c.slots slot (Some n) None inside in
+      let was : file_count_of (slot_at c.slots slot) ≡ 0 = ap file_count_of at in
+      let most = total_le file_count_of 1 filled_le c.slots in
       let few = t.few_slots in
       let f = k.full_slots in
       let r = k.all_removed in
       let same = put_opened in
-      let stays : total opened (gave_way (slice_set c.nodes n (At slot file)) (slot_at c.slots slot)) ≡ total opened (slice_set c.nodes n (At slot file)) = ap (λ (x : Option ℕ). total opened (gave_way (slice_set c.nodes n (At slot file)) x)) at in
+      let stays : total removed_count_of (gave_way (slice_set c.nodes n (At slot file)) (slot_at c.slots slot)) ≡ total removed_count_of (slice_set c.nodes n (At slot file)) = ap (λ (x : Option ℕ). total removed_count_of (gave_way (slice_set c.nodes n (At slot file)) x)) at in
       (omega arith, record { full_slots = omega arith; all_holds = k.all_holds; small_holds = k.small_holds; all_removed = omega arith })
 
   pub put_over_counted : (old full held removed : ℕ) → IsCounted c full held removed → slot_at c.slots slot ≡ Some old → (old < length (slice_set c.nodes n (At slot file))) × (removed + 1 < 2 ^ 32) × IsCounted (put_at c slot n file) full held (removed + 1)
@@ -295,13 +295,13 @@ module _ (c : Contents) (slot n : ℕ) (file : Closed) (t : IsTable c) (inside :
       let with_it : List Node = slice_set c.nodes n (At slot file) in
       let named = still_names c slot n file t inside fresh (Some old) at in
       let old_in : old < length (slice_set c.nodes n (At slot file)) = inside_of-At (slice_set c.nodes n (At slot file)) old slot named.0 named.1 in
-      let slots_total = total_set filled c.slots slot (Some n) None inside in
-      let was : filled (slot_at c.slots slot) ≡ 1 = ap filled at in
-      let nodes_total = total_set opened (slice_set c.nodes n (At slot file)) old (left (node_at (slice_set c.nodes n (At slot file)) old)) Gone old_in in
+      let slots_total = total_set file_count_of c.slots slot (Some n) None inside in
+      let was : file_count_of (slot_at c.slots slot) ≡ 1 = ap file_count_of at in
+      let nodes_total = total_set removed_count_of (slice_set c.nodes n (At slot file)) old (node_after_removal (node_at (slice_set c.nodes n (At slot file)) old)) Gone old_in in
       let now = left_opened slot named.0 (node_at (slice_set c.nodes n (At slot file)) old) named.1 in
-      let stays : total opened (gave_way (slice_set c.nodes n (At slot file)) (slot_at c.slots slot)) ≡ total opened (slice_set (slice_set c.nodes n (At slot file)) old (left (node_at (slice_set c.nodes n (At slot file)) old))) =
-      ap (λ (x : Option ℕ). total opened (gave_way (slice_set c.nodes n (At slot file)) x)) at in
-      let all = total_le opened 1 opened_le (gave_way (slice_set c.nodes n (At slot file)) (slot_at c.slots slot)) in
+      let stays : total removed_count_of (gave_way (slice_set c.nodes n (At slot file)) (slot_at c.slots slot)) ≡ total removed_count_of (slice_set (slice_set c.nodes n (At slot file)) old (node_after_removal (node_at (slice_set c.nodes n (At slot file)) old))) =
+      ap (λ (x : Option ℕ). total removed_count_of (gave_way (slice_set c.nodes n (At slot file)) x)) at in
+      let all = total_le removed_count_of 1 opened_le (gave_way (slice_set c.nodes n (At slot file)) (slot_at c.slots slot)) in
       let len = length-gave_way (slice_set c.nodes n (At slot file)) (slot_at c.slots slot) in
       let len2 = length-set c.nodes n (At slot file) in
       let few = t.few_nodes in

@@ -1,21 +1,21 @@
 -- What the counts of a table say of its state.
 use Rattle.std.proofs.Common.{◌≡◌, ℕ, zero, suc, ◌+◌, ◌<◌, ◌≤◌, ◌^◌, true, false, List, [], ◌∷◌, length, length-append, replicate, refl, sym, ap, subst, ◌∙◌, Option, Some, None, IsSome, IfSome, arith}
-use Rattle.fx_plain.specs.State.{State, IsSettled, files_in_order, files_of, listed}
-use Rattle.fx_plain.specs.Contents.{Contents, IsTable, IsCounted, state_of, slot_at, node_at, file_at, placed_at, removed_at, filled, opened, itself, Fresh, At, Leaving, Retired, Gone}
+use Rattle.fx_plain.specs.State.{State, IsSettled, files_in_order, files_of, identities_of}
+use Rattle.fx_plain.specs.Contents.{Contents, IsTable, IsCounted, state_of, slot_at, node_at, file_at, placed_at, removed_at, file_count_of, removed_count_of, itself, Fresh, At, Leaving, Retired, Gone}
 use Rattle.fx_plain.specs.Totals.{total}
 use Rattle.fx_plain.specs.Table.{HasRoomForHold}
 use Rattle.fx_plain.specs.declared.event.File.{File}
 use Rattle.fx_plain.specs.declared.node.Node.{Node}
 use Rattle.fx_plain.proofs.TotalLemmas.{total_nothing, nothing_of-total, total-replicate}
 
-not_opened : (n : ℕ) (node : Node) → opened node ≡ 0 → removed_at n node ≡ None
+not_opened : (n : ℕ) (node : Node) → removed_count_of node ≡ 0 → removed_at n node ≡ None
 not_opened n Fresh is = refl
 not_opened n (At slot file) is = refl
 not_opened n (Leaving file) is = absurd (omega arith)
 not_opened n (Retired file) is = absurd (omega arith)
 not_opened n Gone is = refl
 
-not_removed : (n : ℕ) (node : Node) → removed_at n node ≡ None → opened node ≡ 0
+not_removed : (n : ℕ) (node : Node) → removed_at n node ≡ None → removed_count_of node ≡ 0
 not_removed n Fresh is = refl
 not_removed n (At slot file) is = refl
 not_removed n (Leaving file) is = cc
@@ -26,14 +26,14 @@ not_removed n Gone is = refl
 pub settled_by_counts : (c : Contents) (full held removed : ℕ) → IsCounted c full held removed → held ≡ 0 → removed ≡ 0 → IsSettled (state_of c)
 settled_by_counts c full held removed k no_holds none_removed = record {
   unheld = λ n. nothing_of-total itself c.holds 0 refl (sym k.all_holds ∙ no_holds) n;
-  closed = λ n. not_opened n (node_at c.nodes n) (nothing_of-total opened c.nodes Gone refl (sym k.all_removed ∙ none_removed) n);
+  closed = λ n. not_opened n (node_at c.nodes n) (nothing_of-total removed_count_of c.nodes Gone refl (sym k.all_removed ∙ none_removed) n);
 }
 
 pub no_holds : (c : Contents) (full held removed : ℕ) → IsCounted c full held removed → IsSettled (state_of c) → held ≡ 0
 no_holds c full held removed k s = k.all_holds ∙ total_nothing itself c.holds 0 refl s.unheld
 
 pub none_removed : (c : Contents) (full held removed : ℕ) → IsCounted c full held removed → IsSettled (state_of c) → removed ≡ 0
-none_removed c full held removed k s = k.all_removed ∙ total_nothing opened c.nodes Gone refl (λ n. not_removed n (node_at c.nodes n) (s.closed n))
+none_removed c full held removed k s = k.all_removed ∙ total_nothing removed_count_of c.nodes Gone refl (λ n. not_removed n (node_at c.nodes n) (s.closed n))
 
 -- the sum of the first so many
 abbrev upto : (ℕ → ℕ) → ℕ → ℕ
@@ -44,24 +44,24 @@ upto_front : (f : ℕ → ℕ) (n : ℕ) → upto f (suc n) ≡ f 0 + upto (λ i
 upto_front f zero = omega arith
 upto_front f (suc n) = let rest = upto_front f n in omega arith
 
-total_upto : (xs : List (Option ℕ)) → total filled xs ≡ upto (λ i. filled (slot_at xs i)) (length xs)
+total_upto : (xs : List (Option ℕ)) → total file_count_of xs ≡ upto (λ i. file_count_of (slot_at xs i)) (length xs)
 total_upto [] = refl
-total_upto (x ∷ xs) = let rest = total_upto xs in let front = upto_front (λ i. filled (slot_at (x ∷ xs) i)) (length xs) in omega arith
+total_upto (x ∷ xs) = let rest = total_upto xs in let front = upto_front (λ i. file_count_of (slot_at (x ∷ xs) i)) (length xs) in omega arith
 
 -- what a slot names stands there
-one_file : (c : Contents) (slot : ℕ) → IsTable c → (x : Option ℕ) → slot_at c.slots slot ≡ x → length (listed (file_at c.nodes x)) ≡ filled x
+one_file : (c : Contents) (slot : ℕ) → IsTable c → (x : Option ℕ) → slot_at c.slots slot ≡ x → length (identities_of (file_at c.nodes x)) ≡ file_count_of x
 one_file c slot t None is = refl
-one_file c slot t (Some n) is = ap (λ (node : Node). length (listed (placed_at n node))) (t.placed slot n is).1
+one_file c slot t (Some n) is = ap (λ (node : Node). length (identities_of (placed_at n node))) (t.placed slot n is).1
 
-files_upto : (c : Contents) → IsTable c → (n : ℕ) → length (files_in_order (state_of c).at n) ≡ upto (λ i. filled (slot_at c.slots i)) n
+files_upto : (c : Contents) → IsTable c → (n : ℕ) → length (files_in_order (state_of c).at n) ≡ upto (λ i. file_count_of (slot_at c.slots i)) n
 files_upto c t zero = refl
 files_upto c t (suc n) =
     let rest = files_upto c t n in
     let one = one_file c n t (slot_at c.slots n) refl in
-    let both = length-append (files_in_order (state_of c).at n) (listed ((state_of c).at n)) in omega arith
+    let both = length-append (files_in_order (state_of c).at n) (identities_of ((state_of c).at n)) in omega arith
 
 -- the files of a table are as many as its full slots
-pub length-files_of : (c : Contents) → IsTable c → length (files_of (state_of c)) ≡ total filled c.slots
+pub length-files_of : (c : Contents) → IsTable c → length (files_of (state_of c)) ≡ total file_count_of c.slots
 length-files_of c t = files_upto c t (length c.slots) ∙ sym (total_upto c.slots)
 
 pub slot_at-replicate : (n i : ℕ) → slot_at (replicate n None) i ≡ None
@@ -83,7 +83,7 @@ sparse_keeps slots n nodes holds slots_are few no_nodes no_hold len =
         placed = λ slot number is. let e : Some number ≡ None = sym is ∙ slot_at-replicate n slot in cc;
         held = λ number is. let e : false ≡ true = is in cc;
       },
-      record { full_slots = sym (total-replicate filled n None refl); all_holds = refl; small_holds = λ number. omega arith; all_removed = refl },
+      record { full_slots = sym (total-replicate file_count_of n None refl); all_holds = refl; small_holds = λ number. omega arith; all_removed = refl },
     )
 
 -- a slot that names a number has a file

@@ -97,43 +97,43 @@ pub record IsTable (c : Contents) : Type 0 where
   -- a retired file that nobody holds is closed
   pub held : (number : ℕ) → is_retired (node_at c.nodes number) ≡ true → 0 < slice_index c.holds number
 
-abbrev pub filled : Option ℕ → ℕ
-filled None = 0
-filled (Some number) = 1
+abbrev pub file_count_of : Option ℕ → ℕ
+file_count_of None = 0
+file_count_of (Some number) = 1
 
 -- whether a removed file is there, as a count
-abbrev pub opened : Node → ℕ
-opened Fresh = 0
-opened (At slot file) = 0
-opened (Leaving file) = 1
-opened (Retired file) = 1
-opened Gone = 0
+abbrev pub removed_count_of : Node → ℕ
+removed_count_of Fresh = 0
+removed_count_of (At slot file) = 0
+removed_count_of (Leaving file) = 1
+removed_count_of (Retired file) = 1
+removed_count_of Gone = 0
 
 abbrev pub itself : ℕ → ℕ
 itself n = n
 
 -- the counts that a table keeps beside its lists: full slots, holds, and removed files
 pub record IsCounted (c : Contents) (full held removed : ℕ) : Type 0 where
-  pub full_slots : full ≡ total filled c.slots
+  pub full_slots : full ≡ total file_count_of c.slots
   pub all_holds : held ≡ total itself c.holds
   pub small_holds : (number : ℕ) → slice_index c.holds number < 2 ^ 32
-  pub all_removed : removed ≡ total opened c.nodes
+  pub all_removed : removed ≡ total removed_count_of c.nodes
 
 -- a node whose file left its slot
-abbrev pub left : Node → Node
-left Fresh = Fresh
-left (At slot file) = Leaving file
-left (Leaving file) = Leaving file
-left (Retired file) = Retired file
-left Gone = Gone
+abbrev pub node_after_removal : Node → Node
+node_after_removal Fresh = Fresh
+node_after_removal (At slot file) = Leaving file
+node_after_removal (Leaving file) = Leaving file
+node_after_removal (Retired file) = Retired file
+node_after_removal Gone = Gone
 
 -- a node whose file was retired
-abbrev pub retired : Node → Node
-retired Fresh = Fresh
-retired (At slot file) = At slot file
-retired (Leaving file) = Retired file
-retired (Retired file) = Retired file
-retired Gone = Gone
+abbrev pub node_after_retirement : Node → Node
+node_after_retirement Fresh = Fresh
+node_after_retirement (At slot file) = At slot file
+node_after_retirement (Leaving file) = Retired file
+node_after_retirement (Retired file) = Retired file
+node_after_retirement Gone = Gone
 
 -- the file of a node, wherever it stands
 abbrev pub file_in : Node → Option Closed
@@ -165,9 +165,9 @@ opening_slot None slot = None
 opening_slot (Some number) slot = Some slot
 
 -- the nodes, without the file that a slot names
-abbrev pub without : List Node → Option ℕ → List Node
-without nodes None = nodes
-without nodes (Some number) = slice_set nodes number Gone
+abbrev pub nodes_without : List Node → Option ℕ → List Node
+nodes_without nodes None = nodes
+nodes_without nodes (Some number) = slice_set nodes number Gone
 
 -- the node may have lost a file that stood at a slot, and no other one
 pub record SameButPlaced (old new : Node) : Type 0 where

@@ -31,29 +31,29 @@ pub record IsSettled (st : State) : Type 0 where
 abbrev pub vacant : ℕ → State
 vacant size = record { size = size; range = (0, size); at = λ _. None; removed = λ _. None; holds = λ _. 0; fresh = λ _. false }
 
-abbrev pub renumbered : Option File → ℕ → Option File
-renumbered None slot = None
-renumbered (Some f) slot = Some (record f { number = slot })
+abbrev pub file_numbered : Option File → ℕ → Option File
+file_numbered None slot = None
+file_numbered (Some f) slot = Some (record f { number = slot })
 
 -- the state that passes begin with: the file at a slot has the slot's number, and the numbers behind the slots are fresh
 abbrev pub opening : State → ℕ → State
 opening st numbers = record {
   size = st.size;
   range = st.range;
-  at = λ slot. renumbered (st.at slot) slot;
+  at = λ slot. file_numbered (st.at slot) slot;
   removed = λ _. None;
   holds = λ _. 0;
   fresh = λ number. not (nat_lt number st.size) && nat_lt number numbers;
 }
 
-abbrev pub listed : Option File → List Closed
-listed None = []
-listed (Some f) = f.identity ∷ []
+abbrev pub identities_of : Option File → List Closed
+identities_of None = []
+identities_of (Some f) = f.identity ∷ []
 
 -- what stands at the first so many slots, in their order
 abbrev pub files_in_order : (ℕ → Option File) → ℕ → List Closed
 files_in_order at zero = []
-files_in_order at (suc n) = files_in_order at n ++ listed (at n)
+files_in_order at (suc n) = files_in_order at n ++ identities_of (at n)
 
 -- the files of a table, in order of slot
 abbrev pub files_of : State → List Closed

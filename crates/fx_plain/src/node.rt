@@ -1,5 +1,5 @@
 ghost use Rattle.std.specs.Prelude.{◌≡◌, ◌+◌, ◌-◌, ◌<◌, ◌^◌, ℕ, [], ◌∷◌, ◌++◌, slice_index, slice_index_or, slice_set, vec_len, vec_capacity, MatchOption, Some, None};
-ghost use Rattle.fx_plain.specs.Contents.{node_at, is_fresh, is_leaving, is_retired, file_in, left, retired, Gone};
+ghost use Rattle.fx_plain.specs.Contents.{node_at, is_fresh, is_leaving, is_retired, file_in, node_after_removal, node_after_retirement, Gone};
 
 use fx_base::OpenFile;
 use std::mem;
@@ -86,14 +86,14 @@ pub(crate) fn take_file(nodes: &mut Vec<Node>, number: usize) -> Option<OpenFile
 // A file that left its slot is leaving from now on.
 pub(crate) fn leave(nodes: &mut Vec<Node>, number: usize)
     requires { number < vec_len nodes.old }
-    ensures { nodes.new.items ≡ slice_set nodes.old.items number (left (node_at nodes.old.items number)) }
+    ensures { nodes.new.items ≡ slice_set nodes.old.items number (node_after_removal (node_at nodes.old.items number)) }
 {
     let node = put_in(nodes, number, Node::Gone);
-    set_node(nodes, number, left(node));
+    set_node(nodes, number, node_after_removal(node));
 }
 
-fn left(node: Node) -> Node
-    ensures { result ≡ left node }
+fn node_after_removal(node: Node) -> Node
+    ensures { result ≡ node_after_removal node }
 {
     match node {
         Node::At(_, file) => Node::Leaving(file),
@@ -104,14 +104,14 @@ fn left(node: Node) -> Node
 // A file that is leaving is retired from now on.
 pub(crate) fn retire(nodes: &mut Vec<Node>, number: usize)
     requires { number < vec_len nodes.old }
-    ensures { nodes.new.items ≡ slice_set nodes.old.items number (retired (node_at nodes.old.items number)) }
+    ensures { nodes.new.items ≡ slice_set nodes.old.items number (node_after_retirement (node_at nodes.old.items number)) }
 {
     let node = put_in(nodes, number, Node::Gone);
-    set_node(nodes, number, retired(node));
+    set_node(nodes, number, node_after_retirement(node));
 }
 
-fn retired(node: Node) -> Node
-    ensures { result ≡ retired node }
+fn node_after_retirement(node: Node) -> Node
+    ensures { result ≡ node_after_retirement node }
 {
     match node {
         Node::Leaving(file) => Node::Retired(file),

@@ -3,7 +3,7 @@ ghost use Rattle.std.specs.Prelude.{◌≡◌, ◌≤◌, ◌<◌, ◌+◌, ℕ,
 ghost use Rattle.std.specs.Option.{option_to_list};
 ghost use Rattle.fx_plain.specs.State.{vacant, opening, IsSettled, files_of, files_in_order};
 ghost use Rattle.fx_plain.specs.Totals.{total};
-ghost use Rattle.fx_plain.specs.Contents.{state_of, numbers_of, slot_at, node_at, moved_node, file_named, without, opening_slot, file_at, AllPlaced, SameButPlaced, filled, opened, Fresh};
+ghost use Rattle.fx_plain.specs.Contents.{state_of, numbers_of, slot_at, node_at, moved_node, file_named, nodes_without, opening_slot, file_at, AllPlaced, SameButPlaced, file_count_of, removed_count_of, Fresh};
 
 use crate::node::{Node, spend_nodes, take_file};
 use crate::table::PlainTable;
@@ -105,7 +105,7 @@ fn move_file(slots: &mut Vec<Option<u32>>, nodes: &mut Vec<Node>, slot: usize) -
     requires inside { IfSome (slot_at slots.old.items slot) (λ n. n < vec_len nodes.old) }
     ensures node { result ≡ moved_node (file_named nodes.old.items (slot_at slots.old.items slot)) slot }
     ensures slots { slots.new.items ≡ slice_set slots.old.items slot (opening_slot (slot_at slots.old.items slot) slot) }
-    ensures nodes { nodes.new.items ≡ without nodes.old.items (slot_at slots.old.items slot) }
+    ensures nodes { nodes.new.items ≡ nodes_without nodes.old.items (slot_at slots.old.items slot) }
 {
     let Some(number) = slots[slot] else {
         return Node::Gone;
@@ -127,7 +127,7 @@ fn renumber(slots: &mut Vec<Option<u32>>, nodes: &mut Vec<Node>, moved: &mut Vec
     ensures capacity { vec_capacity moved.old ≤ vec_capacity moved.new }
     ensures slots { (slot : ℕ) → slot < vec_len slots.old → slot_at slots.new.items slot ≡ opening_slot (slot_at slots.old.items slot) slot }
     ensures moved { (slot : ℕ) → slot < vec_len slots.old → node_at moved.new.items slot ≡ moved_node (file_named nodes.old.items (slot_at slots.old.items slot)) slot }
-    ensures full { total filled slots.new.items ≡ total filled slots.old.items }
+    ensures full { total file_count_of slots.new.items ≡ total file_count_of slots.old.items }
 {
     for slot in 0..slots.len() {
         let node = move_file(slots, nodes, slot);
@@ -151,7 +151,7 @@ fn close_file(slot: Option<u32>, nodes: &mut Vec<Node>, closes: &mut CloseList)
     requires room { length (option_to_list (file_named nodes.old.items slot)) ≤ closes.old.room }
     ensures files { closes.new.files ≡ closes.old.files ++ option_to_list (file_named nodes.old.items slot) }
     ensures room { closes.new.room + length (option_to_list (file_named nodes.old.items slot)) ≡ closes.old.room }
-    ensures nodes { nodes.new.items ≡ without nodes.old.items slot }
+    ensures nodes { nodes.new.items ≡ nodes_without nodes.old.items slot }
 {
     let Some(number) = slot else {
         return;
@@ -169,7 +169,7 @@ fn close_all(slots: &Vec<Option<u32>>, nodes: &mut Vec<Node>, closes: &mut Close
     ensures room { closes.new.room + length (files_in_order (λ slot. file_at nodes.old.items (slot_at slots.now.items slot)) (length slots.now.items)) ≡ closes.old.room }
     ensures len { vec_len nodes.new ≡ vec_len nodes.old }
     ensures nodes { (number : ℕ) → SameButPlaced (node_at nodes.old.items number) (node_at nodes.new.items number) }
-    ensures opened { total opened nodes.new.items ≡ total opened nodes.old.items }
+    ensures removed { total removed_count_of nodes.new.items ≡ total removed_count_of nodes.old.items }
 {
     for slot in 0..slots.len() {
         close_file(slots[slot], nodes, closes);

@@ -2,9 +2,9 @@ use Rattle.std.proofs.Common.{rules, ◌≡◌, ◌<◌, ◌+◌, ◌++◌, sym,
 use Rattle.std.specs.Option.{option_to_list}
 use Rattle.fx_base.specs.declared.open_file.Closed.{Closed}
 use Rattle.fx_plain.specs.declared.event.File.{File}
-use Rattle.fx_plain.specs.State.{files_in_order, listed}
+use Rattle.fx_plain.specs.State.{files_in_order, identities_of}
 use Rattle.fx_plain.specs.Totals.{total}
-use Rattle.fx_plain.specs.Contents.{file_at, file_named, slot_at, node_at, without, opened, SameButPlaced}
+use Rattle.fx_plain.specs.Contents.{file_at, file_named, slot_at, node_at, nodes_without, removed_count_of, SameButPlaced}
 use Rattle.fx_plain.specs.declared.node.Node.{Node}
 use Rattle.fx_plain.proofs.Moving.{IsLeft, inside_named, left_next, length-without}
 use Rattle.fx_plain.proofs.Emptying.{files_more, files_next, read_slot, next_listed, same_next, opened_next}
@@ -26,8 +26,8 @@ close_file-requires-clause-room c =
     let at : ℕ → Option File = λ s. file_at c.args.nodes.now.items (slot_at c.args.slots.now.items s) in
     let more = files_more at (c.loop-slot.slot + 1) (length c.args.slots.now.items) (omega arith) in
     let next = ap length (files_next at c.loop-slot.slot) in
-    let both = length-append (files_in_order at c.loop-slot.slot) (listed (at c.loop-slot.slot)) in
-    let same : length (option_to_list (file_named c.loop-slot.nodes.items c.index.result.now)) ≡ length (listed (at c.loop-slot.slot)) =
+    let both = length-append (files_in_order at c.loop-slot.slot) (identities_of (at c.loop-slot.slot)) in
+    let same : length (option_to_list (file_named c.loop-slot.nodes.items c.index.result.now)) ≡ length (identities_of (at c.loop-slot.slot)) =
     ap (λ (y : Option ℕ). length (option_to_list (file_named c.loop-slot.nodes.items y))) x ∙ ap length (next_listed c.args.slots.now.items c.args.nodes.now.items c.loop-slot.nodes.items c.loop-slot.slot c.requires.placed i.left) in
     let asked = c.requires.room in
     let room = i.room in
@@ -39,11 +39,11 @@ loop-slot-preserved c =
     let inside : c.loop-slot.slot < length c.args.slots.now.items = search rules in
     let x = read_slot c.args.slots.now.items c.loop-slot.slot c.index.result.now inside c.index.ensures in
     let at : ℕ → Option File = λ s. file_at c.args.nodes.now.items (slot_at c.args.slots.now.items s) in
-    let named : option_to_list (file_named c.loop-slot.nodes.items c.index.result.now) ≡ listed (at c.loop-slot.slot) =
+    let named : option_to_list (file_named c.loop-slot.nodes.items c.index.result.now) ≡ identities_of (at c.loop-slot.slot) =
     ap (λ (y : Option ℕ). option_to_list (file_named c.loop-slot.nodes.items y)) x ∙ next_listed c.args.slots.now.items c.args.nodes.now.items c.loop-slot.nodes.items c.loop-slot.slot c.requires.placed i.left in
-    let nodes_are : c.close_file.new.nodes.items ≡ without c.loop-slot.nodes.items (slot_at c.args.slots.now.items c.loop-slot.slot) = c.close_file.ensures.nodes ∙ ap (without c.loop-slot.nodes.items) x in
+    let nodes_are : c.close_file.new.nodes.items ≡ nodes_without c.loop-slot.nodes.items (slot_at c.args.slots.now.items c.loop-slot.slot) = c.close_file.ensures.nodes ∙ ap (nodes_without c.loop-slot.nodes.items) x in
     let next = ap length (files_next at c.loop-slot.slot) in
-    let both = length-append (files_in_order at c.loop-slot.slot) (listed (at c.loop-slot.slot)) in
+    let both = length-append (files_in_order at c.loop-slot.slot) (identities_of (at c.loop-slot.slot)) in
     let same = ap length named in
     let room = i.room in
     let closed = c.close_file.ensures.room in
@@ -55,5 +55,5 @@ loop-slot-preserved c =
       left = subst (λ (xs : List Node). IsLeft c.args.slots.now.items c.args.nodes.now.items xs (c.loop-slot.slot + 1)) (sym nodes_are)
           (left_next c.args.slots.now.items c.args.nodes.now.items c.loop-slot.nodes.items c.loop-slot.slot c.requires.placed i.left);
       same = λ n. subst (λ (xs : List Node). SameButPlaced (node_at c.args.nodes.now.items n) (node_at xs n)) (sym nodes_are) (same_next c.args.slots.now.items c.args.nodes.now.items c.loop-slot.nodes.items c.loop-slot.slot c.requires.placed i.left i.same n);
-      opened_same = ap (λ (xs : List Node). total opened xs) nodes_are ∙ opened_next c.args.slots.now.items c.args.nodes.now.items c.loop-slot.nodes.items c.loop-slot.slot c.requires.placed i.left ∙ i.opened_same;
+      opened_same = ap (λ (xs : List Node). total removed_count_of xs) nodes_are ∙ opened_next c.args.slots.now.items c.args.nodes.now.items c.loop-slot.nodes.items c.loop-slot.slot c.requires.placed i.left ∙ i.opened_same;
     }

@@ -1,5 +1,5 @@
 use Rattle.std.proofs.Common.{rules, ◌≡◌, ◌<◌, ◌+◌, sym, ap, subst, ◌∙◌, length, ℕ, List, Option, IfSome, arith}
-use Rattle.fx_plain.specs.Contents.{moved_node, file_named, slot_at, node_at, without, opening_slot, filled}
+use Rattle.fx_plain.specs.Contents.{moved_node, file_named, slot_at, node_at, nodes_without, opening_slot, file_count_of}
 use Rattle.fx_plain.specs.declared.node.Node.{Node}
 use Rattle.fx_plain.specs.Totals.{total}
 use Rattle.fx_plain.proofs.Moving.{IsLeft, inside_named, named_same, left_next, done_next, rest_next, full_next, moved_next}
@@ -31,7 +31,7 @@ loop-slot-preserved c =
       moved = λ u lt. subst (λ (xs : List Node). node_at xs u ≡ moved_node (file_named c.args.nodes.now.items (slot_at c.args.slots.now.items u)) u) (sym c.push_within.ensures.items)
           (moved_next c.loop-slot.moved.items c.loop-slot.slot c.move_file-node.result (λ k. moved_node (file_named c.args.nodes.now.items (slot_at c.args.slots.now.items k)) k) (sym c.loop-slot.moved.ok.0 ∙ i.count)
           (c.move_file-node.ensures.node ∙ ap (λ x. moved_node x c.loop-slot.slot) named) i.moved u lt);
-      left = subst (λ (xs : List Node). IsLeft c.args.slots.now.items c.args.nodes.now.items xs (c.loop-slot.slot + 1)) (sym (nodes_are ∙ ap (without c.loop-slot.nodes.items) here))
+      left = subst (λ (xs : List Node). IsLeft c.args.slots.now.items c.args.nodes.now.items xs (c.loop-slot.slot + 1)) (sym (nodes_are ∙ ap (nodes_without c.loop-slot.nodes.items) here))
           (left_next c.args.slots.now.items c.args.nodes.now.items c.loop-slot.nodes.items c.loop-slot.slot c.requires.placed i.left);
-      full = ap (λ (xs : List (Option ℕ)). total filled xs) slots_are ∙ full_next c.args.slots.now.items c.loop-slot.slots.items c.loop-slot.slot inside here ∙ i.full;
+      full = ap (λ (xs : List (Option ℕ)). total file_count_of xs) slots_are ∙ full_next c.args.slots.now.items c.loop-slot.slots.items c.loop-slot.slot inside here ∙ i.full;
     }

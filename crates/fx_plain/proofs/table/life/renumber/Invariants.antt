@@ -1,6 +1,6 @@
 use Rattle.std.proofs.Common.{◌≡◌, ◌≤◌, ◌<◌, ℕ, Some, vec_len, vec_capacity}
 use Rattle.fx_plain.specs.Totals.{total}
-use Rattle.fx_plain.specs.Contents.{slot_at, node_at, moved_node, file_named, opening_slot, filled}
+use Rattle.fx_plain.specs.Contents.{slot_at, node_at, moved_node, file_named, opening_slot, file_count_of}
 use Rattle.fx_plain.proofs.table.life.renumber.Given as goal
 
 -- the slots so far name their own numbers, and the others are as they were, with their files
@@ -14,5 +14,5 @@ invariant-loop-slot l = record {
   rest : (s : ℕ) → l.slot ≤ s → slot_at l.slots.items s ≡ slot_at l.fn.slots.items s;
   moved : (s : ℕ) → s < l.slot → node_at l.moved.items s ≡ moved_node (file_named l.fn.nodes.items (slot_at l.fn.slots.items s)) s;
   left : (s number : ℕ) → l.slot ≤ s → slot_at l.fn.slots.items s ≡ Some number → node_at l.nodes.items number ≡ node_at l.fn.nodes.items number;
-  full : total filled l.slots.items ≡ total filled l.fn.slots.items;
+  full : total file_count_of l.slots.items ≡ total file_count_of l.fn.slots.items;
 }
