@@ -2,3 +2,5 @@ pub mod Removals
 pub mod Rings
 pub mod Numbers
 pub mod Listed
+pub mod Origins
+pub mod Updates

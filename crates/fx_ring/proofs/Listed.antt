@@ -6,7 +6,7 @@ use Rattle.std.proofs.lemmas.List.{take-append-drop, take_more, length-take-le}
 use Rattle.std.proofs.Math.Seq.{drop-cons}
 use Rattle.std.specs.List.{list_any}
 use Rattle.fx_chain.specs.Answers.{is_bad_entry}
-use Rattle.fx_base.specs.Closes.{Closes}
+use Rattle.fx_base.specs.CloseListView.{CloseListView}
 use Rattle.fx_base.specs.declared.mark.Mark.TheVariants.{Registered}
 use Rattle.fx_base.specs.declared.open_file.Closed.{Closed}
 use Rattle.fx_plain.specs.State.{State, IsSettled}
@@ -66,7 +66,7 @@ removed_from-append at off (x ∷ xs) ys =
     ap (λ (l : List Closed). removed_by x (at off) ++ l) (removed_from-append at (off + 1) xs ys ∙ ap (λ (n : ℕ). removed_from at (off + 1) xs ++ removed_from at n ys) (let e : (off + 1) + length xs ≡ off + length (x ∷ xs) = omega arith in e))
     ∙ sym (append_assoc (removed_by x (at off)) (removed_from at (off + 1) xs) (removed_from at (off + length (x ∷ xs)) ys))
 
-module _ (k off : ℕ) (old cur new : State) (xs : List ℤ) (z : ℤ) (before mid later : Closes)
+module _ (k off : ℕ) (old cur new : State) (xs : List ℤ) (z : ℤ) (before mid later : CloseListView)
     (done : SetsFiles old cur (files_after k (files_at old) off xs) (removed_from (files_at old) off xs) before mid) where
   -- the next slot is as it was
   pub untouched : files_at cur (off + length xs) ≡ files_at old (off + length xs)
@@ -103,7 +103,7 @@ module _ (k off : ℕ) (old cur new : State) (xs : List ℤ) (z : ℤ) (before m
       omega arith
 
 -- nothing was done yet
-pub none_done : (k off : ℕ) (st : State) (closes : Closes) → IsSettled st → SetsFiles st st (files_after k (files_at st) off []) (removed_from (files_at st) off []) closes closes
+pub none_done : (k off : ℕ) (st : State) (closes : CloseListView) → IsSettled st → SetsFiles st st (files_after k (files_at st) off []) (removed_from (files_at st) off []) closes closes
 none_done k off st closes settled = record {
   size = refl;
   range = refl;
@@ -119,7 +119,7 @@ split_at : (list : List ℤ) (i : ℕ) → i < length list → list ≡ take i l
 split_at list i inside = sym (take-append-drop i list) ∙ ap (λ (l : List ℤ). take i list ++ l) (drop-cons list i (pos 0) inside)
 
 -- the same at a place of the list
-module _ (k off i : ℕ) (list : List ℤ) (z : ℤ) (old cur new : State) (before mid later : Closes) (inside : i < length list) (is : z ≡ slice_index_or list i (pos 0))
+module _ (k off i : ℕ) (list : List ℤ) (z : ℤ) (old cur new : State) (before mid later : CloseListView) (inside : i < length list) (is : z ≡ slice_index_or list i (pos 0))
     (done : SetsFiles old cur (files_after k (files_at old) off (take i list)) (removed_from (files_at old) off (take i list)) before mid) where
   so_many : length (take i list) ≡ i
   so_many = length-take-le i list (omega arith)

@@ -26,11 +26,11 @@ pub entry_inside : (entries : ℕ) (z : ℤ) → int_le (pos 0) z ≡ true → i
 entry_inside entries (pos n) is good = leb-false entries n good
 entry_inside entries (negsuc n) is good = cc
 
-or_left : (a b : Bool) → a || b ≡ false → a ≡ false
+pub or_left : (a b : Bool) → a || b ≡ false → a ≡ false
 or_left true b is = cc
 or_left false b is = refl
 
-or_right : (a b : Bool) → a || b ≡ false → b ≡ false
+pub or_right : (a b : Bool) → a || b ≡ false → b ≡ false
 or_right true b is = cc
 or_right false b is = is
 

@@ -1,6 +1,6 @@
 -- A file leaves its slot, and is closed at once.
 use Rattle.std.proofs.Common.{◌≡◌, ◌≢◌, ℕ, ◌+◌, ◌<◌, ◌≤◌, Bool, true, List, [], ◌∷◌, ◌++◌, length, refl, sym, ap, subst, ◌∙◌, Option, Some, None, if◌then◌else◌, option_to_list, ◌==◌, arith}
-use Rattle.fx_base.specs.Closes.{Closes}
+use Rattle.fx_base.specs.CloseListView.{CloseListView}
 use Rattle.fx_base.specs.declared.open_file.Closed.{Closed}
 use Rattle.fx_plain.specs.declared.event.File.{File}
 use Rattle.fx_plain.specs.declared.event.Action.{Action}
@@ -69,7 +69,7 @@ closed_up first before last (Some f) s out holds lead = record {
 }
 
 -- what a removal at a slot and the close behind it come to, as the calls make them
-module _ (first before last : State) (slot : ℕ) (there : Option File) (removed : Option ℕ) (earlier closed : Closes)
+module _ (first before last : State) (slot : ℕ) (there : Option File) (removed : Option ℕ) (earlier closed : CloseListView)
     (settled : IsSettled first) (was : first.at slot ≡ there) (is : removed ≡ number_of there)
     (lead : Leads before (closes_of_removed before removed) last)
     (files : closed.files ≡ earlier.files ++ option_to_list (file_removed before removed))

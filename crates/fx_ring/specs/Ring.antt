@@ -3,7 +3,7 @@ use Rattle.std.specs.Prelude.{◌≡◌, ℕ, zero, suc, ◌+◌, ◌<◌, ◌�
 use Rattle.std.specs.Option.{option_to_list}
 use Rattle.fx_base.specs.Catalogue.{FileEntry}
 use Rattle.fx_base.specs.CloseList.{IsInOrderOfMark}
-use Rattle.fx_base.specs.Closes.{Closes}
+use Rattle.fx_base.specs.CloseListView.{CloseListView}
 use Rattle.fx_base.specs.declared.mark.Mark.{Mark}
 use Rattle.fx_base.specs.declared.mark.Mark.TheVariants.{Registered, Submitted}
 use Rattle.fx_base.specs.declared.open_file.Closed.{Closed}
@@ -85,6 +85,6 @@ pub record IsAtRest (c : RingContents) : Type 0 where
   pub few_registrations : c.registrations ≤ MOST_REGISTRATIONS
 
 -- the list has exactly these files, in order of mark
-pub record HasClosed (files : List Closed) (closes : Closes) : Type 0 where
+pub record HasClosed (files : List Closed) (closes : CloseListView) : Type 0 where
   pub same_files : IsPermutation files closes.files
   pub in_order : IsInOrderOfMark closes.files

@@ -1,7 +1,7 @@
 -- The files of a table, without their numbers, and how they change.
 use Rattle.std.specs.Prelude.{◌≡◌, ℕ, ◌+◌, ◌<◌, ◌≤◌, Bool, true, List, [], ◌++◌, length, Option, Some, None}
 use Rattle.std.specs.Option.{option_to_list}
-use Rattle.fx_base.specs.Closes.{Closes}
+use Rattle.fx_base.specs.CloseListView.{CloseListView}
 use Rattle.fx_base.specs.declared.open_file.Closed.{Closed}
 use Rattle.fx_plain.specs.declared.event.Action.{Action}
 use Rattle.fx_plain.specs.State.{State, IsSettled}
@@ -18,7 +18,7 @@ abbrev pub AreFresh : State → ℕ → ℕ → Type 0
 AreFresh st first last = (number : ℕ) → first ≤ number → number < last → st.fresh number ≡ true
 
 -- the slots have these files now, and the files that were removed are closed; size and range stay
-pub record SetsFiles (old new : State) (files : ℕ → Option Closed) (removed : List Closed) (before after : Closes) : Type 0 where
+pub record SetsFiles (old new : State) (files : ℕ → Option Closed) (removed : List Closed) (before after : CloseListView) : Type 0 where
   pub size : new.size ≡ old.size
   pub range : new.range ≡ old.range
   pub at_slots : files_at new ≡ files
@@ -27,7 +27,7 @@ pub record SetsFiles (old new : State) (files : ℕ → Option Closed) (removed 
   pub room : after.room + length removed ≡ before.room
 
 -- one slot has this file now, or none, and the file that was there is closed
-abbrev pub SetsSlot : State → State → ℕ → Option Closed → Closes → Closes → Type 0
+abbrev pub SetsSlot : State → State → ℕ → Option Closed → CloseListView → CloseListView → Type 0
 SetsSlot old new slot file before after = SetsFiles old new (changed_at (files_at old) slot file) (option_to_list (files_at old slot)) before after
 
 -- the removed file of a number, its number aside

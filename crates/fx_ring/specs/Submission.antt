@@ -1,13 +1,12 @@
 -- A submission: its completions come from one legal history of a sequential file table.
-use Rattle.std.specs.Prelude.{◌≡◌, ℕ, ◌+◌, ◌==◌, ◌||◌, ◌≤◌, nat_le, nat_lt, List, [], ◌∷◌, ◌++◌, length, map, Option, Some, None, if◌then◌else◌}
+use Rattle.std.specs.Prelude.{◌≡◌, ℕ, ◌+◌, ◌==◌, ◌||◌, ◌≤◌, nat_le, nat_lt, List, [], ◌∷◌, ◌++◌, length, map, Contains, Option, Some, None, if◌then◌else◌}
 use Rattle.fx_base.specs.Catalogue.{FileEntry}
-use Rattle.fx_base.specs.Closes.{Closes}
+use Rattle.fx_base.specs.CloseListView.{CloseListView}
 use Rattle.fx_plain.specs.State.{State, IsSettled, opening}
 use Rattle.fx_plain.specs.Contents.{state_of}
 use Rattle.fx_plain.specs.History.{IsLegal, part_of_chain, action_of, closes_in}
 use Rattle.fx_plain.specs.declared.event.Event.{Event}
-use Rattle.fx_table.specs.Lists.{Has}
-use Rattle.fx_table.specs.Opening.{numbers_for}
+use Rattle.fx_table.specs.Numbers.{numbers_for}
 use Rattle.fx_chain.specs.Completed.{Completed}
 use Rattle.fx_chain.specs.Explains.{Explains, first_member, operations_in}
 use Rattle.fx_chain.specs.Faults.{fault_of}
@@ -43,7 +42,7 @@ ExplainsParts catalogue size submission chain (run ∷ runs) history completions
 pub record Reported : Type 0 where
   pub submission : ℕ
   pub completions : List Completed
-  pub closes : Closes
+  pub closes : CloseListView
 
 -- A submission leads from one ring to another by one history of its table
 pub record IsOneHistory (old : RingContents) (requests : List Asked) (report : Reported) (new : RingContents) : Type 0 where
@@ -53,7 +52,7 @@ pub record IsOneHistory (old : RingContents) (requests : List Asked) (report : R
   pub legal : IsLegal (opening (state_of old.table) (numbers_for (length (runs_of requests)))) history end
   pub settled : IsSettled end
   -- its events are all of the submission's chains
-  pub chains : (e : Event) → Has history e → (1 ≤ e.chain) × (e.chain ≤ length (runs_of requests))
+  pub chains : (e : Event) → Contains history e → (1 ≤ e.chain) × (e.chain ≤ length (runs_of requests))
   -- each chain's completions are explained by the chain's part of it, and the report has them all, in order of place
   pub explained : ExplainsParts old.catalogue (state_of old.table).size report.submission 1 (runs_of requests) history report.completions
   -- the report's closes are the files that it closed, in order of mark

@@ -1,4 +1,4 @@
-use Rattle.std.proofs.Common.{◌≡◌, ◌+◌, ℕ, ℤ, true, pos, to_z, of_z, w32, length, slice_index_or, take, sym, ap, subst, ◌∙◌, rules, arith}
+use Rattle.std.proofs.Common.{◌≡◌, ◌+◌, ℕ, ℤ, List, true, pos, to_z, of_z, w32, length, slice_index_or, take, sym, ap, subst, ◌∙◌, rules, arith}
 use Rattle.std.proofs.Math.Seq.{take-length}
 use Rattle.fx_plain.specs.Contents.{state_of}
 use Rattle.fx_ring.specs.Registration.{files_after, removed_from}
@@ -45,5 +45,8 @@ loop-i-preserved c =
 
 pub returns : goal.returns
 returns c =
-    let end : take c.loop-i.i c.args.list.now ≡ c.args.list.now = search rules in
-    subst (λ (l : _). SetsFiles (state_of c.args.table.now) (state_of c.loop-i.table) (files_after c.args.k (files_at (state_of c.args.table.now)) c.args.off l) (removed_from (files_at (state_of c.args.table.now)) c.args.off l) c.args.closes.now c.loop-i.closes) end c.loop-i.invariant.sets
+    let past = c.loop-i-test.false in
+    let below = c.loop-i.auto.i-end in
+    let all : c.loop-i.i ≡ length c.args.list.now = omega arith in
+    let end : take c.loop-i.i c.args.list.now ≡ c.args.list.now = ap (λ (n : ℕ). take n c.args.list.now) all ∙ take-length c.args.list.now in
+    subst (λ (l : List ℤ). SetsFiles (state_of c.args.table.now) (state_of c.loop-i.table) (files_after c.args.k (files_at (state_of c.args.table.now)) c.args.off l) (removed_from (files_at (state_of c.args.table.now)) c.args.off l) c.args.closes.now c.loop-i.closes) end c.loop-i.invariant.sets
