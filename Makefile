@@ -1,32 +1,45 @@
 # Plays and tests fixfiles. `make` alone says what there is.
 
+# The path of a script goes to the commands by the environment alone, so that it may have any characters.
 SCRIPT ?= examples/open_read_close.script
+export SCRIPT
+
+ifeq ($(wildcard scripts/need-script),)
+$(error Call make in the folder of this Makefile: make -C '$(patsubst %/,%,$(dir $(abspath $(lastword $(MAKEFILE_LIST)))))')
+endif
 
 .DEFAULT_GOAL := help
-.PHONY: help run try test examples limits compare must-spend wrong-bodies layout bench gate clean
+.PHONY: help run try prove test examples limits compare mistakes break must-spend wrong-bodies layout bench gate clean
 .NOTPARALLEL:
 
 help:
-	@echo 'make run          builds the program at bin/fixfiles and plays $(SCRIPT)'
+	@echo 'make run          builds the program at bin/fixfiles and plays examples/open_read_close.script'
 	@echo 'make run SCRIPT=path    plays another script'
 	@echo 'make try          plays a script in seconds, by a run that proves nothing'
+	@echo 'make prove CRATE=name   checks one crate, and says in a few lines what of it is not proved'
 	@echo 'make test         runs everything that must hold'
 	@echo 'make examples     plays every example on the built program'
 	@echo 'make limits       plays scripts at the limits of the language and the table, and measures the memory that they take'
 	@echo 'make compare      plays random scripts and the largest submissions on the built program and on a second, unproved one'
+	@echo 'make mistakes     makes the mistakes that a user may make, and wants each answered'
+	@echo 'make break        makes the wrong change of README.md, and wants its line'
 	@echo 'make must-spend   shows that a program that loses a file is refused'
 	@echo 'make wrong-bodies tries the wrong bodies for which the gate has no time'
 	@echo 'make layout       looks at the files of the repository'
-	@echo 'make bench        times the largest submission and a tenth of it'
+	@echo 'make bench        times what scripts do beside a plain program that does the same'
 	@echo 'make gate         proves and tests all crates from nothing'
 	@echo 'make clean        removes what was built; what was proved is kept'
+	@echo 'make kernel       plays a script on the io_uring of this machine'
+	@echo 'make agree        compares that kernel with the model on every example and 500 random scripts'
 
 run:
-	@scripts/build-program
-	@bin/fixfiles < '$(SCRIPT)'
+	@scripts/run-script
 
 try:
-	@scripts/try-script '$(SCRIPT)'
+	@scripts/try-script
+
+prove:
+	@scripts/prove "$$CRATE"
 
 test:
 	@scripts/test
@@ -43,11 +56,17 @@ compare:
 	@scripts/build-program
 	@scripts/compare bin/fixfiles
 
+mistakes:
+	@scripts/check-mistakes
+
+break:
+	@scripts/check-break
+
 must-spend:
 	@scripts/check-must-spend
 
 wrong-bodies:
-	@scripts/wrong-bodies $(CRATES)
+	@scripts/wrong-bodies $$CRATES
 
 layout:
 	@scripts/check-layout
@@ -62,3 +81,11 @@ gate:
 
 clean:
 	@rm -rf bin build
+
+.PHONY: kernel agree
+
+kernel:
+	@scripts/play-on-kernel
+
+agree:
+	@scripts/agree

@@ -1,102 +1,160 @@
 #!/usr/bin/env python3
 """A second fixfiles, written from docs/MODEL.md and docs/SCRIPT.md alone and slow.
 
-It plays a script from standard input, as fixfiles does. scripts/compare holds the program against it.
+It plays a script from standard input, as fixfiles does. scripts/check-model holds it against rows that were worked out by
+hand, scripts/compare holds the program against it, and scripts/agree the kernel. scripts/orders.py says of a text
+whether it is one that this model allows in another order of chains.
 """
+import copy
 import re
 import sys
 
 LARGEST = 2_147_483_647
-ENOENT, ENXIO, EBADF, EBUSY, EINVAL, ENFILE, EMFILE, ECANCELED = 2, 6, 9, 16, 22, 23, 24, 125
+LONGEST_SCRIPT, LONGEST_LINE = 4_194_304, 10_000
+ENTRIES, FILE_BYTES, SLOTS = 256, 4_096, 256
+CHAINS, MEMBERS, READ_BYTES, UPDATE_ENTRIES, INSTALLS = 1_023, 16, 4_096, 16, 64
+SUBMISSIONS, REGISTRATIONS = 65_535, 65_535
+ENOENT, ENXIO, EBADF, EAGAIN, EBUSY, EINVAL, ENFILE, EMFILE, ECANCELED = 2, 6, 9, 11, 16, 22, 23, 24, 125
 
 
-class BadScript(Exception):
-    pass
+class Fault(Exception):
+    """Why a script isn't one: the fault's name, and the line where it is."""
+
+    def __init__(self, name):
+        super().__init__(name)
+        self.name, self.line = name, 0
 
 
-def want(holds):
+def want(holds, fault):
     if not holds:
-        raise BadScript
+        raise Fault(fault)
+
+
+def is_number(word):
+    return re.fullmatch(rb"0|[1-9][0-9]{0,9}", word) is not None and int(word) <= LARGEST
 
 
 def number(word):
-    want(re.fullmatch(rb"0|[1-9][0-9]*", word) and int(word) <= LARGEST)
+    want(is_number(word), "bad-number")
     return int(word)
 
 
 def entry(word):
-    if word[:1] != b"-":
-        return number(word)
-    want(number(word[1:]) != 0)
-    return -number(word[1:])
+    is_negative = word[:1] == b"-"
+    digits = word[1:] if is_negative else word
+    want(is_number(digits) and (digits != b"0" or not is_negative), "bad-entry")
+    return int(word)
+
+
+def entries(word):
+    return [entry(it) for it in word.split(b",")]
 
 
 def name(word):
-    want(re.fullmatch(rb"[A-Za-z0-9._-]{1,32}", word))
+    want(re.fullmatch(rb"[A-Za-z0-9._-]{1,32}", word), "bad-name")
     return word
 
 
-def link(words):
-    want(words in ([], [b"link"]))
-    return words != []
+def link(word):
+    want(word == b"link", "bad-word")
+    return True
 
 
-def hexadecimal(word):
-    if word == b"-":
-        return b""
-    want(re.fullmatch(rb"([0-9a-fA-F]{2})+", word))
-    return bytes.fromhex(word.decode())
+def constant(_):
+    """A word that was looked at before."""
+    return None
+
+
+# what each command's words are; a request may have the word `link` more
+COMMANDS = {
+    b"sparse": [number],
+    b"register": [entries],
+    b"unregister": [],
+    b"range": [number, number],
+    b"regupdate": [number, entries],
+    b"submit": [],
+}
+REQUESTS = {
+    b"read": [number, number, number],
+    b"close": [number],
+    b"update": [number, entries],
+}
+OPENS = {
+    b"at": [name, constant, number],
+    b"any": [name, constant],
+}
 
 
 class Script:
-    """The files, each a name and its bytes, and the commands in order."""
+    """The files, each a name and its bytes, and the commands in order. A submit has its requests, each a request and
+    whether it links."""
 
     def __init__(self, text):
         self.files, self.commands, self.requests = [], [], []
-        self.has_begun = False
-        want(len(text) <= 4_194_304)
+        self.has_begun, self.first_request = False, 0
+        want(len(text) <= LONGEST_SCRIPT, "long-script")
         lines = text.split(b"\n")
-        for line in lines[:-1] if lines[-1] == b"" else lines:
-            want(len(line) <= 10_000 and all(32 <= byte <= 126 for byte in line))
-            if line and line[:1] != b"#":
-                self.take(line.split(b" "))
-        want(not self.requests)
+        for nth, line in enumerate(lines[:-1] if lines[-1] == b"" else lines, 1):
+            try:
+                self.take(nth, line)
+            except Fault as fault:
+                fault.line = nth
+                raise
+        if self.requests:
+            fault = Fault("unsubmitted")
+            fault.line = self.first_request
+            raise fault
 
-    def take(self, words):
-        command, count = words[0], len(words)
+    def take(self, nth, line):
+        want(len(line) <= LONGEST_LINE, "long-line")
+        want(all(32 <= byte <= 126 for byte in line), "not-text")
+        if line == b"" or line[:1] == b"#":
+            return
+        command, *words = line.split(b" ")
         if command == b"file":
-            want(count == 3 and not self.has_begun)
-            return self.add(name(words[1]), hexadecimal(words[2]))
-        self.has_begun = True
-        if command == b"sparse":
-            want(count == 2)
-            self.commands.append(("sparse", number(words[1])))
-        elif command == b"range":
-            want(count == 3)
-            self.commands.append(("range", number(words[1]), number(words[2])))
-        elif command == b"submit":
-            want(count == 1)
-            self.commands.append(("submit", self.requests))
-            self.requests = []
+            want(not self.has_begun, "late-file")
+            want(len(words) == 2, "word-count")
+            return self.add(*words)
+        if command in COMMANDS:
+            self.command(command, words)
+        elif command in REQUESTS or command == b"open":
+            self.request(nth, command, words)
         else:
-            self.requests.append(self.request(command, words))
+            raise Fault("unknown-command")
+        self.has_begun = True
 
     def add(self, file, content):
-        want(len(self.files) < 256 and all(it != file for it, _ in self.files) and len(content) <= 4096)
+        want(content == b"-" or re.fullmatch(rb"([0-9a-fA-F]{2})+", content), "bad-hex")
+        content = b"" if content == b"-" else bytes.fromhex(content.decode())
+        want(len(self.files) < ENTRIES, "catalogue-full")
+        name(file)
+        want(all(it != file for it, _ in self.files), "same-name")
+        want(len(content) <= FILE_BYTES, "long-file")
         self.files.append((file, content))
 
-    def request(self, command, words):
-        """The request without its link, and whether it links."""
-        forms = {b"read": 4, b"close": 2, b"update": 3, b"open": 4 if words[2:3] == [b"at"] else 3}
-        want(command in forms and len(words) >= forms[command])
-        rest, tail = words[1 : forms[command]], words[forms[command] :]
+    def command(self, command, words):
+        kinds = COMMANDS[command]
+        want(len(words) == len(kinds), "word-count")
+        values = [kind(word) for kind, word in zip(kinds, words)]
+        if command == b"submit":
+            values, self.requests = [self.requests], []
+        self.commands.append((command.decode(), *values))
+
+    def request(self, nth, command, words):
         if command == b"open":
-            want(rest[1] in (b"at", b"any"))
-            slot = number(rest[2]) if rest[1] == b"at" else None
-            return ("open", name(rest[0]), slot), link(tail)
-        if command == b"update":
-            return ("update", number(rest[0]), [entry(it) for it in rest[1].split(b",")]), link(tail)
-        return (command.decode(), *[number(it) for it in rest]), link(tail)
+            want(len(words) >= 2, "word-count")
+            want(words[1] in OPENS, "bad-word")
+        kinds = OPENS[words[1]] if command == b"open" else REQUESTS[command]
+        want(len(words) in (len(kinds), len(kinds) + 1), "word-count")
+        values = [kind(word) for kind, word in zip([*kinds, link], words)]
+        links = len(words) > len(kinds)
+        if command == b"open":
+            values = [values[0], values[2] if words[1] == b"at" else None]
+        else:
+            values = values[: len(kinds)]
+        if not self.requests:
+            self.first_request = nth
+        self.requests.append(((command.decode(), *values), links))
 
 
 def chains_of(requests):
@@ -117,22 +175,39 @@ def installs(request):
 
 
 def fault_of(requests):
-    """The name and the place of the first fault, or None."""
+    """The name and the place of the first fault of a submission, or None."""
     at = 0
     for nth, chain in enumerate(chains_of(requests), 1):
         for member, request in enumerate(chain, 1):
             at += 1
-            if request[0] == "read" and request[3] > 4096:
+            if request[0] == "read" and request[3] > READ_BYTES:
                 return "long-read", at
-            if request[0] == "update" and len(request[2]) > 16:
+            if request[0] == "update" and len(request[2]) > UPDATE_ENTRIES:
                 return "long-update", at
-            if member > 16:
+            if member > MEMBERS:
                 return "chain-too-long", at
-            if sum(installs(it) for it in chain[:member]) > 64:
+            if sum(installs(it) for it in chain[:member]) > INSTALLS:
                 return "too-many-files", at
-            if nth > 1023:
+            if nth > CHAINS:
                 return "too-many-chains", at
     return None
+
+
+def severs(request, res):
+    return res < 0 or request[0] == "read" and res < request[3]
+
+
+def registered(call, place):
+    """A mark of a registered file. Marks are ordered: registered files come first."""
+    return 0, call, place
+
+
+def submitted(place, nth):
+    return (1, *place, nth)
+
+
+def text_of_mark(mark):
+    return ("r{}.{}" if mark[0] == 0 else "{}.{}.{}.{}").format(*mark[1:])
 
 
 class Player:
@@ -141,16 +216,59 @@ class Player:
         self.contents = [it for _, it in files]
         # a slot is None, or the mark and the entry of its file
         self.slots, self.range = [], (0, 0)
-        self.submissions, self.closed, self.lines = 0, [], []
+        self.submissions, self.registrations = 0, 0
+        self.closed = []
+        # the slot that the next open at any slot takes, where it is free; else it takes the lowest
+        self.wanted = None
 
-    def sparse(self, count):
+    def copy(self):
+        other = copy.copy(self)
+        other.slots, other.closed = list(self.slots), list(self.closed)
+        return other
+
+    def put(self, slot, file):
+        if self.slots[slot]:
+            self.closed.append(self.slots[slot])
+        self.slots[slot] = file
+
+    # between submissions
+
+    def refusal_of_table(self, count):
         if self.slots:
             return -EBUSY
         if count == 0:
             return -EINVAL
-        if count > 256:
-            return -EMFILE
-        self.slots, self.range = [None] * count, (0, count)
+        return -EMFILE if count > SLOTS else 0
+
+    def sparse(self, count):
+        refusal = self.refusal_of_table(count)
+        if not refusal:
+            self.slots, self.range = [None] * count, (0, count)
+        return refusal
+
+    def has_counted_all(self):
+        """Whether no registration is counted any more."""
+        return self.registrations == REGISTRATIONS
+
+    def register(self, listed):
+        refusal = self.refusal_of_table(len(listed))
+        if refusal:
+            return refusal
+        if any(it < -1 or it >= len(self.names) for it in listed):
+            return -EBADF
+        if self.has_counted_all():
+            return -EAGAIN
+        self.registrations += 1
+        call = self.registrations
+        self.slots = [None if it == -1 else (registered(call, nth), it) for nth, it in enumerate(listed)]
+        self.range = 0, len(listed)
+        return 0
+
+    def unregister(self):
+        if not self.slots:
+            return -ENXIO
+        self.closed += [it for it in self.slots if it]
+        self.slots, self.range = [], (0, 0)
         return 0
 
     def set_range(self, off, length):
@@ -159,25 +277,51 @@ class Player:
         self.range = (off, length)
         return 0
 
-    def put(self, slot, file):
-        if self.slots[slot]:
-            self.closed.append(self.slots[slot])
-        self.slots[slot] = file
+    def refusal_of_list(self, off, listed):
+        if not self.slots:
+            return -ENXIO
+        if off + len(listed) > len(self.slots):
+            return -EINVAL
+        if any(it < -2 or it >= len(self.names) for it in listed):
+            return -EBADF
+        return 0
+
+    def work_off(self, off, listed, mark_of):
+        for nth, it in enumerate(listed):
+            if it != -2:
+                self.put(off + nth, None if it == -1 else (mark_of(nth), it))
+        return len(listed)
+
+    def regupdate(self, off, listed):
+        refusal = self.refusal_of_list(off, listed)
+        if refusal:
+            return refusal
+        if self.has_counted_all():
+            return -EAGAIN
+        self.registrations += 1
+        return self.work_off(off, listed, lambda nth: registered(self.registrations, nth))
+
+    # requests
 
     def refusal(self, slot):
         return -ENXIO if not self.slots else -EINVAL if slot >= len(self.slots) else 0
 
+    def free_slots(self):
+        first, length = self.range
+        return [it for it in range(first, first + length) if not self.slots[it]]
+
     def open(self, place, file, slot):
         if file not in self.names:
             return -ENOENT
-        opened = (*place, 0), self.names.index(file)
+        opened = submitted(place, 0), self.names.index(file)
         if slot is None:
-            first, length = self.range
-            free = [it for it in range(first, first + length) if not self.slots[it]]
+            free = self.free_slots()
             if not free:
                 return -ENFILE
-            self.put(free[0], opened)
-            return free[0]
+            # any free slot is right
+            taken = self.wanted if self.wanted in free else free[0]
+            self.put(taken, opened)
+            return taken
         if not self.refusal(slot):
             self.put(slot, opened)
         return self.refusal(slot)
@@ -197,19 +341,12 @@ class Player:
         self.put(slot, None)
         return 0
 
-    def update(self, place, off, entries):
-        if not self.slots:
-            return -ENXIO
-        if off + len(entries) > len(self.slots):
-            return -EINVAL
-        if any(it < -2 or it >= len(self.names) for it in entries):
-            return -EBADF
-        for nth, it in enumerate(entries):
-            if it != -2:
-                self.put(off + nth, None if it == -1 else ((*place, nth), it))
-        return len(entries)
+    def update(self, place, off, listed, first=0):
+        """`first` is the place of the list's first entry, where a list is worked off in parts."""
+        return self.refusal_of_list(off, listed) or self.work_off(off, listed, lambda nth: submitted(place, first + nth))
 
     def perform(self, place, request):
+        """The result, and the bytes of a read."""
         kind, *words = request
         if kind == "read":
             return self.read(*words)
@@ -217,51 +354,73 @@ class Player:
             return self.close(*words), b""
         return (self.open if kind == "open" else self.update)(place, *words), b""
 
-    def submit(self, requests):
+    # commands, each with its lines
+
+    def refusal_of_submission(self, requests):
+        """What is printed behind `submit refused`, or None."""
         fault = fault_of(requests)
         if fault:
-            self.lines.append("submit refused {} {}".format(*fault))
-            return
+            return "{} {}".format(*fault)
+        return "too-many-submissions" if self.submissions == SUBMISSIONS else None
+
+    def submit(self, requests):
+        refusal = self.refusal_of_submission(requests)
+        if refusal:
+            return [f"submit refused {refusal}"]
         self.submissions += 1
+        lines = []
         for nth, chain in enumerate(chains_of(requests), 1):
             is_severed = False
             for member, request in enumerate(chain, 1):
                 place = self.submissions, nth, member
                 res, got = (-ECANCELED, b"") if is_severed else self.perform(place, request)
-                is_severed |= res < 0 or request[0] == "read" and res < request[3]
-                self.lines.append("{}.{}.{} {}".format(*place, res) + (f" {got.hex()}" if got else ""))
-        self.tell(self.closed)
-        self.closed = []
+                is_severed |= severs(request, res)
+                lines.append(completion_line(place, res, got))
+        return lines + self.closed_lines()
 
-    def tell(self, files):
-        for mark, file in sorted(files):
-            self.lines.append("closed {}.{}.{}.{} ".format(*mark) + self.names[file].decode())
+    def closed_lines(self):
+        """A line for each file that was closed since the last lines, in order of mark."""
+        closed, self.closed = sorted(self.closed), []
+        return [f"closed {text_of_mark(mark)} {self.names[file].decode()}" for mark, file in closed]
+
+    def command(self, command, *words):
+        if command == "submit":
+            return self.submit(*words)
+        calls = {"sparse": self.sparse, "range": self.set_range, "register": self.register}
+        calls |= {"unregister": self.unregister, "regupdate": self.regupdate}
+        return [f"{command} {calls[command](*words)}", *self.closed_lines()]
+
+    def end(self):
+        self.closed = [it for it in self.slots if it]
+        return ["teardown", *self.closed_lines()] if self.closed else []
 
     def play(self, commands):
-        """The text."""
-        for command, *words in commands:
-            if command == "submit":
-                self.submit(*words)
-            else:
-                res = (self.sparse if command == "sparse" else self.set_range)(*words)
-                self.lines.append(f"{command} {res}")
-        left = [it for it in self.slots if it]
-        if left:
-            self.lines.append("teardown")
-            self.tell(left)
-        return "".join(f"{it}\n" for it in self.lines)
+        """The text of all commands and of the end, the chains in their order."""
+        lines = [line for it in commands for line in self.command(*it)] + self.end()
+        return "".join(f"{it}\n" for it in lines)
+
+
+def completion_line(place, res, got):
+    return "{}.{}.{} {}".format(*place, res) + (f" {got.hex()}" if got else "")
+
+
+def play(text):
+    """The text that a script writes, its status, and its fault, which is None where it has none."""
+    try:
+        script = Script(text)
+    except Fault as fault:
+        return "", 3, fault
+    return Player(script.files).play(script.commands), 0, None
 
 
 def fixfiles(text):
     """The text that a script writes, and the status."""
-    try:
-        script = Script(text)
-    except BadScript:
-        return "", 3
-    return Player(script.files).play(script.commands), 0
+    return play(text)[:2]
 
 
 if __name__ == "__main__":
-    written, status = fixfiles(sys.stdin.buffer.read())
+    written, status, fault = play(sys.stdin.buffer.read())
     sys.stdout.write(written)
+    if fault:
+        print(f"fixfiles: line {fault.line}: {fault.name}", file=sys.stderr)
     sys.exit(status)

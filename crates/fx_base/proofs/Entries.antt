@@ -22,11 +22,11 @@ either_place [] y (suc i) name is = cc
 either_place (x ∷ xs) y zero name is = inl is
 either_place (x ∷ xs) y (suc i) name is = elim (either_place xs y i name is) [ inl old ↦ inl old | inr new ↦ inr (ap suc new.0, new.1) ]
 
-or_left : (a b : Bool) → a || b ≡ false → a ≡ false
+pub or_left : (a b : Bool) → a || b ≡ false → a ≡ false
 or_left true b is = cc
 or_left false b is = refl
 
-or_right : (a b : Bool) → a || b ≡ false → b ≡ false
+pub or_right : (a b : Bool) → a || b ≡ false → b ≡ false
 or_right true b is = cc
 or_right false b is = is
 

@@ -9,7 +9,8 @@ ghost use Rattle.fx_base.specs.declared.catalogue.AddFault.TheVariants.{NoMemory
 use crate::mark::Mark;
 use crate::name::is_name;
 use crate::open_file::OpenFile;
-use std::alloc::{AllocFailed, Global};
+use std::alloc::{AllocError, AllocFailed, Global};
+use std::collections::HashMap;
 use std::marker::Model;
 
 /// How many entries a catalogue may have.
@@ -43,6 +44,14 @@ impl<T: Drop> From<AllocFailed<T>> for AddFault {
     }
 }
 
+impl From<AllocError> for AddFault {
+    ghost from_gives = { λ _ e. e ≡ NoMemory };
+
+    fn from(_refused: AllocError) -> AddFault {
+        AddFault::NoMemory
+    }
+}
+
 // A file that can be opened.
 #[derive(Debug, Drop)]
 struct Entry {
@@ -55,6 +64,8 @@ struct Entry {
 #[derive(Debug, Drop)]
 pub struct Catalogue {
     entries: Vec<Entry>,
+    // The place of each name, so that a long catalogue needn't be gone through.
+    places: HashMap<String, u8>,
 }
 
 impl Model for Catalogue {
@@ -67,7 +78,11 @@ impl Model for Catalogue {
 
     ghost view = { λ catalogue. file_entries_of catalogue.entries.items };
 
-    ghost invariant = { λ catalogue. IsCatalogue (file_entries_of catalogue.entries.items) };
+    ghost use Rattle.fx_base.specs.Places.{ArePlaces};
+
+    ghost invariant = { λ catalogue.
+        IsCatalogue (file_entries_of catalogue.entries.items)
+        × ArePlaces catalogue.places (file_entries_of catalogue.entries.items) };
 }
 
 impl Catalogue {
@@ -77,6 +92,7 @@ impl Catalogue {
     {
         Catalogue {
             entries: Vec::new(alloc),
+            places: HashMap::new(alloc),
         }
     }
 
@@ -95,18 +111,13 @@ impl Catalogue {
         self.entries.is_empty()
     }
 
-    /// The entry with this name, from 0, or `None` where no entry has it. It looks at each entry in turn.
+    /// The entry with this name, from 0, or `None` where no entry has it.
     pub fn find(&self, name: &str) -> Option<u8>
         ensures found { IfSome result (λ entry. name_at self.now entry ≡ Some name.now) }
         ensures inside { IfSome result (λ entry. entry < length self.now) }
         ensures variant { is_some result ≡ has_name name.now self.now }
     {
-        for (i, e) in self.entries.iter().enumerate() {
-            if e.name.as_str() == name {
-                return Some(i as u8);
-            }
-        }
-        None
+        self.places.get(name).copied()
     }
 
     /// The name of an entry, 1 to 32 bytes. The caller knows that there is such an entry, as one that
@@ -184,7 +195,11 @@ impl Catalogue {
         if bytes.len() > LONGEST_ENTRY {
             return Err(AddFault::TooLong);
         }
-        self.entries.push(Entry { name, bytes })?;
+        let place = self.entries.len() as u8;
+        self.entries.reserve(1)?;
+        let key = name.clone()?;
+        self.places.insert(key, place)?;
+        self.entries.push_reserved(Entry { name, bytes });
         Ok(())
     }
 }

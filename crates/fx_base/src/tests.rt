@@ -263,3 +263,60 @@ fn a_name_has_1_to_32_letters_digits_and_signs(rt: HostRuntime) {
     }
     assert_eq!(rt; LONGEST_NAME, 32);
 }
+
+#[test]
+fn a_list_has_room_for_all_that_a_submission_may_weigh(rt: HostRuntime) -> Result<(), Fail> {
+    for room in [65_536, 261_888, 1_000_000] {
+        let list = CloseList::with_room(rt.alloc(), room)?;
+        assert_eq!(rt; list.room(), room);
+        assert_eq!(rt; list.files().len(), 0);
+    }
+    Ok(())
+}
+
+#[test]
+fn a_list_of_1200_files_is_sorted(rt: HostRuntime) -> Result<(), Fail> {
+    let catalogue = two_files(rt.alloc())?;
+    assert_eq!(rt; catalogue.len(), 2);
+    let mut list = CloseList::with_room(rt.alloc(), 1200)?;
+    for i in 0..1200u32 {
+        let room = list.room();
+        assert_eq!(rt; room, 1200 - i);
+        list.close(catalogue.open(1, Mark::Registered { k: 1200 - i, i }));
+    }
+    list.sort();
+    assert_eq!(rt; list.files().len(), 1200);
+    for (at, file) in list.files().iter().enumerate() {
+        let k = at as u32 + 1;
+        assert_eq!(rt; file.mark, Mark::Registered { k, i: 1200 - k });
+    }
+    assert_eq!(rt; list.room(), 0);
+    Ok(())
+}
+
+#[test]
+fn reads_far_behind_the_end_are_empty(rt: HostRuntime) -> Result<(), Fail> {
+    let catalogue = two_files(rt.alloc())?;
+    for off in [6, 2_147_483_647, 4_294_967_295] {
+        let mut into = Vec::with_capacity(rt.alloc(), 4096)?;
+        assert_eq!(rt; catalogue.read_into(0, off, 4096, &mut into), 0, "{off}");
+        assert!(rt; into.is_empty());
+    }
+    Ok(())
+}
+
+#[test]
+fn each_of_256_long_names_is_found(rt: HostRuntime) -> Result<(), Fail> {
+    let mut catalogue = Catalogue::new(rt.alloc());
+    for i in 1000u32..1256 {
+        let name = format!(in rt.alloc(); "a_name_with_twenty_eight_byt{i}")?;
+        assert_eq!(rt; catalogue.find(name.as_str()), None);
+        catalogue.add(name, Vec::new(rt.alloc()))?;
+    }
+    for i in 1000u32..1256 {
+        let name = format!(in rt.alloc(); "a_name_with_twenty_eight_byt{i}")?;
+        assert_eq!(rt; catalogue.find(name.as_str()), Some((i - 1000) as u8));
+    }
+    assert_eq!(rt; catalogue.find("a_name_with_twenty_eight_byt999"), None);
+    Ok(())
+}

@@ -1,181 +1,64 @@
 -- What a pass needs for each call of the table that it has, and what it has to show behind it.
-use Rattle.std.proofs.Common.{◌≡◌, ℕ, zero, suc, ◌+◌, ◌-◌, ◌*◌, ◌/◌, ◌%◌, ◌<◌, ◌≤◌, ◌^◌, Bool, true, false, List, [], ◌∷◌, map, sym, refl, ap, ◌∙◌, subst, arith, eqb, eq-eqb, is_none}
-use Rattle.std.specs.Prelude.{Option, Some, None, option_map, IfSome, nat_lt, is_some, not}
-use Rattle.std.proofs.lemmas.Nat.{mod-mul-add}
-use Rattle.std.proofs.lemmas.Bool.{ltb-true}
+use Rattle.std.proofs.Common.{◌≡◌, ℕ, ◌+◌, ◌*◌, ◌<◌, ◌≤◌, ◌^◌, Bool, true, false, List, [], ◌∷◌, map, sym, refl, ap, ◌∙◌, subst, arith, is_none}
+use Rattle.std.specs.Prelude.{Option, Some, None, option_map, IfSome, is_some, not}
 use Rattle.atomic_table.specs.Seated.{TableId}
+use Rattle.atomic_table.specs.Table.{rest}
+use Rattle.atomic_table.specs.Lent.{seat_with}
 use Rattle.fx_base.specs.declared.open_file.Closed.{Closed}
 use Rattle.fx_plain.specs.State.{State}
-use Rattle.fx_plain.specs.Step.{Steps, Allows, after, changed_at}
-use Rattle.fx_plain.specs.Contents.{Contents, state_of, leaving}
-use Rattle.fx_plain.specs.History.{Leads, state_after, action_of, close_of, ◌▷◌, ◌▷▷◌}
+use Rattle.fx_plain.specs.Step.{Steps, Allows, changed_at}
+use Rattle.fx_plain.specs.Contents.{Contents, IsTable, state_of, leaving}
+use Rattle.fx_plain.specs.History.{Leads, action_of, close_of, ◌▷◌, ◌▷▷◌}
 use Rattle.fx_plain.specs.Table.{numbered, identity_of, number_of, more_leaving, closed_by_release, closed_by_retirement, HasRoomForHold}
 use Rattle.fx_plain.specs.declared.event.File.{File}
 use Rattle.fx_plain.specs.declared.event.Action.{Action}
 use Rattle.fx_plain.specs.declared.event.Action.TheVariants.{Look, Release, Put, Clear, Take, Allocate, Full, Close}
-use Rattle.fx_table.specs.Lists.{bit}
+use Rattle.fx_plain.proofs.Leading.{same_size}
+use Rattle.fx_table.specs.Numbers.{pass_of_number}
 use Rattle.fx_table.specs.Opening.{Opening, size_of, state_at}
 use Rattle.fx_table.specs.Pass.{PassView, hold_of, retired_of, next_number}
-use Rattle.fx_table.specs.Calls.{Use, Adds, nothing, one_look, one_number, Releases, Retires, new_file, Placed, Cleared}
+use Rattle.fx_table.specs.Calls.{Use, Adds, no_use, one_number, new_file, Releases, Retires, Placed, Cleared}
 use Rattle.fx_table.specs.declared.values.Doing.{Doing}
 use Rattle.fx_table.specs.declared.values.Doing.TheVariants.{Idle, Holding, Retiring}
 use Rattle.fx_table.specs.declared.values.Retired.{Retired}
+use Rattle.fx_table.proofs.Turns.{next_is_its_own}
 use Rattle.fx_baton.specs.declared.view.Log.{Log}
 use Rattle.fx_baton.specs.declared.view.View.{View}
 use Rattle.fx_baton.specs.declared.view.Start.{Start}
+use Rattle.fx_baton.specs.declared.view.Call.{Call}
 use Rattle.fx_baton.specs.declared.view.Call.TheVariants.{Look as LookCall, Release as ReleaseCall, Put as PutCall, Allocate as AllocateCall, Full as FullCall, Clear as ClearCall, Take as TakeCall, Retire as RetireCall}
 use Rattle.fx_baton.specs.declared.pass.BatonPass.{BatonPass}
-use Rattle.fx_baton.specs.Rule.{opening_of, begin_of, once, owner, holding, retiring, next_of, IsTurn}
-use Rattle.fx_baton.specs.Turns.{by, holds_now, retires_now, release_in, retirement_in, actions_of, doing_of, events_of}
-use Rattle.fx_baton.specs.Passes.{view_of, last_of_share, is_idle, HasTable, Saw}
-use Rattle.fx_baton.proofs.Keeping.{bit_is}
-use Rattle.fx_baton.proofs.Turns.{look_turn, put_turn, clear_turn, take_turn, allocate_turn, full_turn, let_go_turn, out_is, retire_turn, came_out, is_held}
-use Rattle.fx_baton.proofs.Passing.{saw_adds}
+use Rattle.fx_baton.specs.Rule.{opening_of, begin_of, holds_by, IsTurn}
+use Rattle.fx_baton.specs.Turns.{by, holds_now, retires_now, release_in, retirement_in, actions_of, doing_of, events_of, use_of, table_of_slots}
+use Rattle.fx_baton.specs.Passes.{view_of, is_idle, HasTable, UsesNext, HasCalled}
+use Rattle.fx_baton.proofs.Counts.{one_if}
+use Rattle.fx_baton.proofs.CallsAreTurns.{look_turn, put_turn, clear_turn, take_turn, allocate_turn, full_turn, letting_go_turn, file_released, retire_turn, file_retired, is_held, is_leaving}
 
--- no action changes the size
-size_after : (s : State) (a : Action) → (after s a).size ≡ s.size
-size_after s (Look slot None) = refl
-size_after s (Look slot (Some f)) = refl
-size_after s (Release f) = refl
-size_after s (Put slot f found) = refl
-size_after s (Clear slot found) = refl
-size_after s (Take slot found) = refl
-size_after s (Allocate slot f) = refl
-size_after s Full = refl
-size_after s (Close f) = refl
+-- what the seat has in its slot
+pub lent_is : {l : List (ℕ × Contents)} {c now : Contents} {others : List (ℕ × Contents)} → l ≡ (0, c) ∷ [] → l ≡ (0, now) ∷ others → c ≡ now
+lent_is e f = ap table_of_slots (sym e ∙ f)
 
-size_after_all : (s : State) (h : List Action) → (state_after s h).size ≡ s.size
-size_after_all s [] = refl
-size_after_all s (a ∷ h) = size_after (state_after s h) a ∙ size_after_all s h
+module _ {id : TableId} {k : Start} {u : PassView} {p : BatonPass} where
+  -- the table may be lent
+  pub may_lend : {c d : Contents} → HasTable id k u c d p → (p.seat.table_id ≡ id) × ((x : Contents) × (p.seat.me.1 ≡ (0, x) ∷ rest p.seat.me.1))
+  may_lend {c} {d} h = (h.table, (d, h.slots ∙ ap (λ l. (0, d) ∷ l) (sym (ap rest h.slots))))
 
-pub once_range : (n p : ℕ) → once n p ≡ 1 → (1 ≤ p) × (p ≤ n)
-once_range n zero e = absurd (omega arith)
-once_range n (suc p) e = let l : p < n = ltb-true p n (bit_is (nat_lt p n) (omega arith)) in (omega arith, omega arith)
+  -- the table that was lent is the one that was taken
+  pub lent_as : HasTable id k u (table_of_slots p.seat.me.1) (table_of_slots p.seat.me.1) p → (now : Contents) → p.seat.me.1 ≡ (0, now) ∷ rest p.seat.me.1
+      → HasTable id k u now now p
+  lent_as h now value = subst (λ (c : Contents). HasTable id k u c c p) (ap table_of_slots value) h
 
--- the number that a pass of n gives next is one of its own
-next_owner : (n p count : ℕ) → 1 ≤ p → p ≤ n → (left : ℕ) → 1 ≤ left → left ≤ 64 → owner n ((256 + 64 * (p + count * n)) - left) ≡ p
-next_owner n p count low high left one few =
-    let u : ℕ = count * n in
-    let chain : ((256 + 64 * (p + u)) - left - 256) / 64 ≡ u + (p - 1) = omega (arith, low, one, few) in
-    let m : (count * n + (p - 1)) % n ≡ p - 1 = mod-mul-add count n (p - 1) (omega arith) in
-    let both : ((256 + 64 * (p + count * n)) - left - 256) / 64 % n ≡ p - 1 = ap (λ (z : ℕ). z % n) chain ∙ m in
-    omega (arith, both, low)
-
-module _ (id : TableId) (k : Start) (c : Contents) (p : BatonPass) (has : HasTable id k c p) where
-  abbrev view : View
-  view = p.seat.me.0
-
-  abbrev log : Log
-  log = has.seated.log
-
-  -- the table's size is that of the opening
-  pub size_is : (state_of c).size ≡ size_of (opening_of k)
-  size_is = ap (λ (s : State). s.size) has.knows.legal.leads.1 ∙ (size_after_all (begin_of view.start) (map action_of log.front) ∙ ap (λ (z : Start). size_of (opening_of z)) has.seated.start)
-
-  pub room_for : (slot : ℕ) → HasRoomForHold (state_of c) slot
-  room_for slot = any ((state_of c).at slot)
-    where
-      any : (o : Option File) → IfSome o (λ f. (state_of c).holds f.number + 1 < 2 ^ 32)
-      any None = tt
-      any (Some f) = let a = has.knows.few f.number in omega arith
-
-  -- turns are by the pass's number
-  numbered_turn : (d : Contents) (acts : List Action) (doing : Doing) → IsTurn view log c d (map (by log.number p.chain) acts) doing → IsTurn view log c d (map (by p.number p.chain) acts) doing
-  numbered_turn d acts doing t = subst (λ (n : ℕ). IsTurn view log c d (map (by n p.chain) acts) doing) has.seated.number t
-
-  -- the next number of a pass that has one
-  module _ (some_left : 0 < p.numbers_left) where
-    abbrev next : ℕ
-    next = next_number (view_of p)
-
-    chain_some : 0 < p.chain
-    chain_some = let l = has.seated.left_inside in omega arith
-
-    next_is : (count : ℕ) → p.chain ≡ last_of_share p.number p.step count → owner view.start.passes next ≡ log.number
-    next_is zero e = let l = chain_some in absurd (omega (arith, e, l))
-    next_is (suc count) e =
-        let r = once_range k.passes p.number has.seated.in_range in
-        let same : view.start.passes ≡ p.step = ap (λ (z : Start). z.passes) has.seated.start ∙ sym has.seated.step in
-        let high : p.number ≤ p.step = subst (λ (n : ℕ). p.number ≤ n) (sym has.seated.step) r.1 in
-        ap (λ (n : ℕ). owner n next) same ∙ (ap (λ (m : ℕ). owner p.step ((256 + 64 * m) - p.numbers_left)) e
-        ∙ (next_owner p.step p.number count r.0 high p.numbers_left some_left has.seated.few_left ∙ sym has.seated.number))
-
-    pub its_own : owner view.start.passes next ≡ log.number
-    its_own = next_is p.count has.seated.chain
-
-    pub next_fresh : (state_of c).fresh next ≡ true
-    next_fresh =
-        let l = has.seated.left_inside in
-        let f = has.seated.few_left in
-        let r = has.seated.reached in
-        let same : view.start.chains ≡ k.chains = ap (λ (z : Start). z.chains) has.seated.start in
-        has.knows.fresh next (omega arith) has.seated.next (omega arith) its_own
-
-  module _ (idle : view.doing ≡ Idle) where
-    pub look_gives : (slot : ℕ) (d : Contents) → Steps (state_of c) (Look slot ((state_of c).at slot)) (state_of d) → leaving d ≡ leaving c → IsTurn view log c d (events_of c p.number p.chain view.doing (LookCall slot)) (doing_of c (LookCall slot))
-    look_gives slot d step leaves = numbered_turn d ([] ▷ Look slot ((state_of c).at slot)) (holds_now ((state_of c).at slot)) (look_turn view log c d p.chain has.knows idle slot ((state_of c).at slot) step leaves)
-
-    pub put_gives : (some_left : 0 < p.numbers_left) (slot number : ℕ) (file : Closed) (d : Contents) → number ≡ next_number (view_of p) → Steps (state_of c) (Put slot (numbered number file) ((state_of c).at slot)) (state_of d) → leaving d ≡ more_leaving (leaving c) ((state_of c).at slot)
-        → IsTurn view log c d (events_of c p.number p.chain view.doing (PutCall slot number file)) (doing_of c (PutCall slot number file))
-    put_gives some_left slot number file d is step leaves = numbered_turn d ([] ▷ Put slot (numbered number file) ((state_of c).at slot)) (retires_now ((state_of c).at slot))
-        (put_turn view log c d p.chain has.knows idle slot (numbered number file) ((state_of c).at slot) step leaves (ap (owner view.start.passes) is ∙ its_own some_left) (subst (λ (n : ℕ). next_of log.own ≤ n) (sym is) has.seated.next))
-
-    pub allocate_gives : (some_left : 0 < p.numbers_left) (slot number : ℕ) (file : Closed) (d : Contents) → number ≡ next_number (view_of p) → Steps (state_of c) (Allocate slot (numbered number file)) (state_of d) → leaving d ≡ leaving c
-        → IsTurn view log c d (events_of c p.number p.chain view.doing (AllocateCall slot number file)) (doing_of c (AllocateCall slot number file))
-    allocate_gives some_left slot number file d is step leaves = numbered_turn d ([] ▷ Allocate slot (numbered number file)) Idle
-        (allocate_turn view log c d p.chain has.knows idle slot (numbered number file) step leaves (ap (owner view.start.passes) is ∙ its_own some_left) (subst (λ (n : ℕ). next_of log.own ≤ n) (sym is) has.seated.next))
-
-    pub full_gives : (d : Contents) → Allows (state_of c) Full → d ≡ c → IsTurn view log c d (events_of c p.number p.chain view.doing FullCall) (doing_of c FullCall)
-    full_gives d full same = numbered_turn d ([] ▷ Full) Idle (full_turn view log c d p.chain has.knows idle (full, ap state_of same) (ap leaving same))
-
-    pub clear_gives : (slot : ℕ) (d : Contents) → Steps (state_of c) (Clear slot ((state_of c).at slot)) (state_of d) → leaving d ≡ more_leaving (leaving c) ((state_of c).at slot) → IsTurn view log c d (events_of c p.number p.chain view.doing (ClearCall slot)) (doing_of c (ClearCall slot))
-    clear_gives slot d step leaves = numbered_turn d ([] ▷ Clear slot ((state_of c).at slot)) (retires_now ((state_of c).at slot)) (clear_turn view log c d p.chain has.knows idle slot ((state_of c).at slot) step leaves)
-
-    pub take_gives : (slot : ℕ) (d : Contents) → Steps (state_of c) (Take slot ((state_of c).at slot)) (state_of d) → leaving d ≡ more_leaving (leaving c) ((state_of c).at slot) → IsTurn view log c d (events_of c p.number p.chain view.doing (TakeCall slot)) (doing_of c (TakeCall slot))
-    take_gives slot d step leaves = numbered_turn d ([] ▷ Take slot ((state_of c).at slot)) (retires_now ((state_of c).at slot)) (take_turn view log c d p.chain has.knows idle slot ((state_of c).at slot) step leaves)
-
-  module _ (f : File) (holds : view.doing ≡ Holding f) where
-    pub holds_some : 0 < (state_of c).holds f.number
-    holds_some = let a = has.knows.holds f.number in let b : holding f.number view.doing ≡ bit (eqb f.number f.number) = ap (holding f.number) holds in let r : bit (eqb f.number f.number) ≡ 1 = rw (eq-eqb f.number f.number refl) in omega arith
-
-    pub release_gives : (d : Contents) → Leads (state_of c) ([] ▷ Release f ▷▷ close_of (closed_by_release c f.number)) (state_of d) → leaving d ≡ leaving c → IsTurn view log c d (events_of c p.number p.chain view.doing ReleaseCall) (doing_of c ReleaseCall)
-    release_gives d leads leaves = subst (λ (z : Doing). IsTurn view log c d (events_of c p.number p.chain z ReleaseCall) Idle) (sym holds)
-        (numbered_turn d ([] ▷ Release f ▷▷ close_of (closed_by_release c f.number)) Idle (let_go_turn view log c d p.chain has.knows f holds leads leaves))
-
-    -- what a release answers
-    pub releases_so : (o : Opening) (u w : PassView) (result : Option Closed) → result ≡ identity_of (closed_by_release c f.number) → Adds o u (actions_of c view.doing ReleaseCall) Idle nothing w → Releases o u f result w
-    releases_so o u w result is adds = by_out (closed_by_release c f.number) refl result is (subst (λ (z : Doing). Adds o u (release_in c z) Idle nothing w) holds adds)
-      where
-        by_out : (out : Option File) → closed_by_release c f.number ≡ out → (result : Option Closed) → result ≡ identity_of out → Adds o u ([] ▷ Release f ▷▷ close_of out) Idle nothing w → Releases o u f result w
-        by_out None e r is a = subst (λ (z : Option Closed). Releases o u f z w) (sym is) a
-        by_out (Some g) e r is a =
-            let same = (out_is view log c c p.chain has.knows f holds g e).0 in
-            subst (λ (z : Option Closed). Releases o u f z w) (sym is) (ap (λ (z : File). z.identity) (sym same), subst (λ (z : File). Adds o u ([] ▷ Release f ▷ Close z) Idle nothing w) (sym same) a)
-
-  module _ (f : File) (t : ℕ) (removes : view.doing ≡ Retiring f t) where
-    pub leaves_now : leaving c f.number ≡ true
-    leaves_now = bit_is (leaving c f.number) (let a = has.knows.leaves f.number in let b : retiring f.number view.doing ≡ bit (eqb f.number f.number) = ap (retiring f.number) removes in let r : bit (eqb f.number f.number) ≡ 1 = rw (eq-eqb f.number f.number refl) in omega arith)
-
-    pub retire_gives : (d : Contents) → Leads (state_of c) (close_of (closed_by_retirement c f.number)) (state_of d) → leaving d ≡ changed_at (leaving c) f.number false → IsTurn view log c d (events_of c p.number p.chain view.doing RetireCall) (doing_of c RetireCall)
-    retire_gives d leads leaves = subst (λ (z : Doing). IsTurn view log c d (events_of c p.number p.chain z RetireCall) Idle) (sym removes)
-        (numbered_turn d (close_of (closed_by_retirement c f.number)) Idle (retire_turn view log c d p.chain has.knows f t removes leads leaves))
-
-    -- what a retirement answers
-    pub retires_so : (d : Contents) (o : Opening) (u w : PassView) (result : Option Closed) → result ≡ identity_of (closed_by_retirement c f.number) → Leads (state_of c) (close_of (closed_by_retirement c f.number)) (state_of d) → state_at o w.front ≡ state_of d
-        → Adds o u (actions_of c view.doing RetireCall) Idle nothing w → Retires o u f result w
-    retires_so d o u w result is leads ends adds = by_out (closed_by_retirement c f.number) refl result is leads (subst (λ (z : Doing). Adds o u (retirement_in c z) Idle nothing w) removes adds)
-      where
-        by_out : (out : Option File) → closed_by_retirement c f.number ≡ out → (result : Option Closed) → result ≡ identity_of out → Leads (state_of c) (close_of out) (state_of d) → Adds o u (close_of out) Idle nothing w → Retires o u f result w
-        by_out None e r is l a =
-            let some_hold = is_held view log c c p.chain has.knows f t removes e in
-            subst (λ (z : Option Closed). Retires o u f z w) (sym is) (subst (λ (s : State). 0 < s.holds f.number) (sym (ends ∙ l.1)) some_hold, a)
-        by_out (Some g) e r is l a =
-            let same = came_out view log c c p.chain has.knows f t removes g e in
-            subst (λ (z : Option Closed). Retires o u f z w) (sym is) (ap (λ (z : File). z.identity) (sym same), subst (λ (z : File). Adds o u ([] ▷ Close z) Idle nothing w) (sym same) a)
-
--- what answers tell of the file at a slot
-abbrev shown : File → ℕ × ℕ
-shown f = (f.number, f.identity.entry)
+  -- behind a call the pass has another table
+  abbrev pub still_has : {c d : Contents} → HasTable id k u c d p → (now : Contents) → HasTable id k u c now (record p { seat = seat_with p.seat 0 now })
+  still_has h now = record {
+    table = h.table;
+    slots = ap (λ l. (0, now) ∷ rest l) h.slots;
+    loan = h.loan;
+    passes = h.passes;
+    more = h.more;
+    seated = h.seated;
+    knows = h.knows;
+  }
 
 -- whether an answer is None
 pub flag_is : {X : Type 0} (x : Option X) (b : Bool) → is_some x ≡ not b → b ≡ is_none x
@@ -184,60 +67,233 @@ flag_is None false e = let differ : false ≡ true = e in absurd (cc differ)
 flag_is (Some x) true e = let differ : true ≡ false = e in absurd (cc differ)
 flag_is (Some x) false e = refl
 
-pub look_idle : (o : Option File) (found : Option (ℕ × ℕ)) → found ≡ option_map shown o → is_none found ≡ is_idle (holds_now o)
+-- what answers tell of the file at a slot
+abbrev pub shown : File → ℕ × ℕ
+shown f = (f.number, f.identity.entry)
+
+look_idle : (o : Option File) (found : Option (ℕ × ℕ)) → found ≡ option_map shown o → is_none found ≡ is_idle (holds_now o)
 look_idle None found e = ap is_none e
 look_idle (Some f) found e = ap is_none e
 
-pub replaced_idle : (o : Option File) (found : Option ℕ) → found ≡ number_of o → is_none found ≡ is_idle (retires_now o)
-replaced_idle None found e = ap is_none e
-replaced_idle (Some f) found e = ap is_none e
+removal_idle : (o : Option File) (found : Option ℕ) → found ≡ number_of o → is_none found ≡ is_idle (retires_now o)
+removal_idle None found e = ap is_none e
+removal_idle (Some f) found e = ap is_none e
 
-none_some : (x : ℕ × ℕ) → None ≡ Some x → ⊥
-none_some x e = cc
+module _ {id : TableId} {k : Start} {u : PassView} {c : Contents} {p : BatonPass} (h : HasTable id k u c c p) where
+  abbrev view : View
+  view = p.seat.me.0
 
-pub looked_empty : (k : Start) (u v w : PassView) (slot : ℕ) (o : Option File) → None ≡ option_map shown o → Saw u v → Adds (opening_of k) v ([] ▷ Look slot o) (holds_now o) one_look w → Adds (opening_of k) u ([] ▷ Look slot None) Idle one_look w
-looked_empty k u v w slot None e s a = saw_adds k u v w ([] ▷ Look slot None) Idle one_look s a
-looked_empty k u v w slot (Some f) e s a = absurd (none_some (f.number, f.identity.entry) e)
+  abbrev log : Log
+  log = h.seated.log
 
-pub looked_file : (k : Start) (u v w : PassView) (slot node entry : ℕ) (o : Option File) → Some (node, entry) ≡ option_map shown o → Saw u v → Adds (opening_of k) v ([] ▷ Look slot o) (holds_now o) one_look w
-    → (f : File) × (record { node = node; entry = entry } ≡ hold_of f) × Adds (opening_of k) u ([] ▷ Look slot (Some f)) (Holding f) one_look w
-looked_file k u v w slot node entry None e s a = absurd (none_some (node, entry) (sym e))
-looked_file k u v w slot node entry (Some f) e s a =
+  -- the table's size is that of the opening
+  pub size_is : (state_of c).size ≡ size_of (opening_of k)
+  size_is = same_size (begin_of view.start) (state_of c) (map action_of log.front) h.knows.legal.leads
+      ∙ ap (λ (z : Start). size_of (opening_of z)) h.seated.start
+
+  pub slot_inside : (slot : ℕ) → slot < size_of (opening_of k) → slot < (state_of c).size
+  slot_inside slot l = let e = size_is in omega arith
+
+  pub room_for : (slot : ℕ) → HasRoomForHold (state_of c) slot
+  room_for slot = any ((state_of c).at slot)
+    where
+      any : (o : Option File) → IfSome o (λ f. (state_of c).holds f.number + 1 < 2 ^ 32)
+      any None = tt
+      any (Some f) = let a = h.knows.few f.number in omega arith
+
+  same_doing : view.doing ≡ u.doing
+  same_doing = ap (λ (z : PassView). z.doing) h.more.same
+
+  same_next : next_number (view_of p) ≡ next_number u
+  same_next = ap next_number h.more.same
+
+  same_numbers : p.numbers_left ≡ u.numbers_left
+  same_numbers = ap (λ (z : PassView). z.numbers_left) h.more.same
+
+  same_looks : p.looks_left ≡ u.looks_left
+  same_looks = ap (λ (z : PassView). z.looks_left) h.more.same
+
+  same_start : view.start ≡ k
+  same_start = h.seated.start
+
+  -- the next number of a pass that has one
+  module _ (some_left : 0 < u.numbers_left) (number : ℕ) (is_next : number ≡ next_number u) where
+    number_is : number ≡ next_number (view_of p)
+    number_is = is_next ∙ sym same_next
+
+    its_own : (pass_of_number k.passes number ≡ log.number) × (256 ≤ number) × (number < 256 + 64 * k.chains)
+    its_own =
+        let a = next_is_its_own (opening_of k) (view_of p) (let e = same_numbers in omega arith) p.count h.seated.turns in
+        subst (λ (n : ℕ). (pass_of_number k.passes n ≡ log.number) × (256 ≤ n) × (n < 256 + 64 * k.chains)) (sym number_is)
+        (a.0 ∙ sym h.seated.number, a.1, a.2)
+
+    behind_own : Rattle.fx_table.specs.Numbers.number_behind log.own ≤ number
+    behind_own =
+        let own = ap Rattle.fx_baton.specs.Passes.first_own h.seated.one in
+        let l = h.seated.turns.unused in
+        let e = ap Rattle.fx_table.specs.Numbers.number_behind own in
+        let n = number_is in
+        omega arith
+
+    owned : pass_of_number view.start.passes number ≡ log.number
+    owned = ap (λ (z : Start). pass_of_number z.passes number) same_start ∙ its_own.0
+
+    pub number_fresh : (state_of c).fresh number ≡ true
+    number_fresh =
+        let chains = ap (λ (z : Start). z.chains) same_start in
+        let most = its_own.2 in
+        h.knows.fresh number its_own.1 behind_own (omega arith) owned
+
+  -- a turn, by the pass's number
+  called : (d : Contents) (call : Call) (flag : Bool) → IsTable d → IsTurn view log c d (events_of c log.number p.chain view.doing call) (doing_of c call) → UsesNext (view_of p) call
+      → (use_of call).numbers ≤ p.numbers_left → (use_of call).looks ≤ p.looks_left → flag ≡ is_idle (doing_of c call)
+      → HasCalled id k call flag (record p { seat = seat_with p.seat 0 d })
+  called d call flag sound turn uses numbers looks flag_says = record {
+    before = u;
+    taken = c;
+    given = d;
+    has = still_has h d;
+    sound = sound;
+    turn = subst (λ (n : ℕ). IsTurn view log c d (events_of c n p.chain view.doing call) (doing_of c call)) h.seated.number turn;
+    uses = uses;
+    numbers = numbers;
+    looks = looks;
+    flag = flag_says;
+  }
+
+  module _ (idle : u.doing ≡ Idle) where
+    is_idle_here : view.doing ≡ Idle
+    is_idle_here = same_doing ∙ idle
+
+    pub look_called : (slot : ℕ) (d : Contents) (found : Option (ℕ × ℕ)) (flag : Bool) → 0 < u.looks_left
+        → Steps (state_of c) (Look slot ((state_of c).at slot)) (state_of d) → leaving d ≡ leaving c
+        → found ≡ option_map shown ((state_of c).at slot) → flag ≡ is_none found
+        → IsTable d → HasCalled id k (LookCall slot) flag (record p { seat = seat_with p.seat 0 d })
+    look_called slot d found flag some step leaves answer says sound = called d (LookCall slot) flag sound
+        (look_turn view log c d p.chain h.knows is_idle_here slot ((state_of c).at slot) step leaves) tt (omega arith) (let e = same_looks in omega arith)
+        (says ∙ look_idle ((state_of c).at slot) found answer)
+
+    pub put_called : (some : 0 < u.numbers_left) (slot number : ℕ) (file : Closed) (d : Contents) (found : Option ℕ) (flag : Bool) → number ≡ next_number u
+        → Steps (state_of c) (Put slot (numbered number file) ((state_of c).at slot)) (state_of d) → leaving d ≡ more_leaving (leaving c) ((state_of c).at slot)
+        → found ≡ number_of ((state_of c).at slot) → flag ≡ is_none found → IsTable d → HasCalled id k (PutCall slot number file) flag (record p { seat = seat_with p.seat 0 d })
+    put_called some slot number file d found flag next step leaves answer says sound = called d (PutCall slot number file) flag sound
+        (put_turn view log c d p.chain h.knows is_idle_here slot (numbered number file) ((state_of c).at slot) step leaves
+          (owned some number next) (behind_own some number next))
+        (number_is some number next) (let e = same_numbers in omega arith) (omega arith) (says ∙ removal_idle ((state_of c).at slot) found answer)
+
+    pub allocate_called : (some : 0 < u.numbers_left) (slot number : ℕ) (file : Closed) (d : Contents) → number ≡ next_number u
+        → Steps (state_of c) (Allocate slot (numbered number file)) (state_of d) → leaving d ≡ leaving c
+        → IsTable d → HasCalled id k (AllocateCall slot number file) true (record p { seat = seat_with p.seat 0 d })
+    allocate_called some slot number file d next step leaves sound = called d (AllocateCall slot number file) true sound
+        (allocate_turn view log c d p.chain h.knows is_idle_here slot (numbered number file) step leaves (owned some number next) (behind_own some number next))
+        (number_is some number next) (let e = same_numbers in omega arith) (omega arith) refl
+
+    pub full_called : (d : Contents) → Allows (state_of c) Full → d ≡ c → IsTable d → HasCalled id k FullCall true (record p { seat = seat_with p.seat 0 d })
+    full_called d full same sound = called d FullCall true sound
+        (full_turn view log c d p.chain h.knows is_idle_here (full, ap state_of same) (ap leaving same)) tt (omega arith) (omega arith) refl
+
+    pub clear_called : (slot : ℕ) (d : Contents) (found : Option ℕ) (flag : Bool) → Steps (state_of c) (Clear slot ((state_of c).at slot)) (state_of d)
+        → leaving d ≡ more_leaving (leaving c) ((state_of c).at slot) → found ≡ number_of ((state_of c).at slot) → flag ≡ is_none found
+        → IsTable d → HasCalled id k (ClearCall slot) flag (record p { seat = seat_with p.seat 0 d })
+    clear_called slot d found flag step leaves answer says sound = called d (ClearCall slot) flag sound
+        (clear_turn view log c d p.chain h.knows is_idle_here slot ((state_of c).at slot) step leaves) tt (omega arith) (omega arith)
+        (says ∙ removal_idle ((state_of c).at slot) found answer)
+
+    pub take_called : (slot : ℕ) (d : Contents) (found : Option ℕ) (flag : Bool) → Steps (state_of c) (Take slot ((state_of c).at slot)) (state_of d)
+        → leaving d ≡ more_leaving (leaving c) ((state_of c).at slot) → found ≡ number_of ((state_of c).at slot) → flag ≡ is_none found
+        → IsTable d → HasCalled id k (TakeCall slot) flag (record p { seat = seat_with p.seat 0 d })
+    take_called slot d found flag step leaves answer says sound = called d (TakeCall slot) flag sound
+        (take_turn view log c d p.chain h.knows is_idle_here slot ((state_of c).at slot) step leaves) tt (omega arith) (omega arith)
+        (says ∙ removal_idle ((state_of c).at slot) found answer)
+
+  module _ (f : File) (holds : u.doing ≡ Holding f) where
+    holds_here : view.doing ≡ Holding f
+    holds_here = same_doing ∙ holds
+
+    pub holds_some : 0 < (state_of c).holds f.number
+    holds_some = let a = h.knows.holds f.number in let b = ap (holds_by f.number) holds_here in let r = one_if f.number f.number refl in omega arith
+
+    pub release_called : (d : Contents) → Leads (state_of c) ([] ▷ Release f ▷▷ close_of (closed_by_release c f.number)) (state_of d) → leaving d ≡ leaving c
+        → IsTable d → HasCalled id k ReleaseCall true (record p { seat = seat_with p.seat 0 d })
+    release_called d leads leaves sound = called d ReleaseCall true sound
+        (subst (λ (z : Doing). IsTurn view log c d (events_of c log.number p.chain z ReleaseCall) Idle) (sym holds_here)
+          (letting_go_turn view log c d p.chain h.knows f holds_here leads leaves)) tt (omega arith) (omega arith) refl
+
+    -- what a release answers
+    pub releases_so : (o : Opening) (w : PassView) (result : Option Closed) → result ≡ identity_of (closed_by_release c f.number)
+        → Adds o u (actions_of c view.doing ReleaseCall) Idle no_use w → Releases o u f result w
+    releases_so o w result is adds = by_out (closed_by_release c f.number) refl result is (subst (λ (z : Doing). Adds o u (release_in c z) Idle no_use w) holds_here adds)
+      where
+        by_out : (out : Option File) → closed_by_release c f.number ≡ out → (result : Option Closed) → result ≡ identity_of out
+            → Adds o u ([] ▷ Release f ▷▷ close_of out) Idle no_use w → Releases o u f result w
+        by_out None e r is a = subst (λ (z : Option Closed). Releases o u f z w) (sym is) a
+        by_out (Some g) e r is a =
+            let same = (file_released view log c c p.chain h.knows f holds_here g e).0 in
+            subst (λ (z : Option Closed). Releases o u f z w) (sym is) (ap (λ (z : File). z.identity) (sym same),
+              subst (λ (z : File). Adds o u ([] ▷ Release f ▷ Close z) Idle no_use w) (sym same) a)
+
+  module _ (f : File) (takes : ℕ) (removes : u.doing ≡ Retiring f takes) where
+    removes_here : view.doing ≡ Retiring f takes
+    removes_here = same_doing ∙ removes
+
+    pub leaves_now : leaving c f.number ≡ true
+    leaves_now = is_leaving view log c c p.chain h.knows f takes removes_here
+
+    pub retire_called : (d : Contents) → Leads (state_of c) (close_of (closed_by_retirement c f.number)) (state_of d) → leaving d ≡ changed_at (leaving c) f.number false
+        → IsTable d → HasCalled id k RetireCall true (record p { seat = seat_with p.seat 0 d })
+    retire_called d leads leaves sound = called d RetireCall true sound
+        (subst (λ (z : Doing). IsTurn view log c d (events_of c log.number p.chain z RetireCall) Idle) (sym removes_here)
+          (retire_turn view log c d p.chain h.knows f takes removes_here leads leaves)) tt (omega arith) (omega arith) refl
+
+    -- what a retirement answers
+    pub retires_so : (d : Contents) (o : Opening) (w : PassView) (result : Option Closed) → result ≡ identity_of (closed_by_retirement c f.number)
+        → Leads (state_of c) (close_of (closed_by_retirement c f.number)) (state_of d) → state_at o w.front ≡ state_of d
+        → Adds o u (actions_of c view.doing RetireCall) Idle no_use w → Retires o u f result w
+    retires_so d o w result is leads end adds = by_out (closed_by_retirement c f.number) refl result is leads
+        (subst (λ (z : Doing). Adds o u (retirement_in c z) Idle no_use w) removes_here adds)
+      where
+        by_out : (out : Option File) → closed_by_retirement c f.number ≡ out → (result : Option Closed) → result ≡ identity_of out
+            → Leads (state_of c) (close_of out) (state_of d) → Adds o u (close_of out) Idle no_use w → Retires o u f result w
+        by_out None e r is l a =
+            let held = is_held view log c c p.chain h.knows f takes removes_here e in
+            let same = ap (λ (s : State). s.holds f.number) (end ∙ l.1) in
+            subst (λ (z : Option Closed). Retires o u f z w) (sym is) (omega arith, a)
+        by_out (Some g) e r is l a =
+            let same = file_retired view log c c p.chain h.knows f takes removes_here g e in
+            subst (λ (z : Option Closed). Retires o u f z w) (sym is) (ap (λ (z : File). z.identity) (sym same),
+              subst (λ (z : File). Adds o u ([] ▷ Close z) Idle no_use w) (sym same) a)
+
+-- what a look-up found: nothing, or a file
+pub looked_empty : (slot : ℕ) (o : Option File) (P : Option File → Doing → Type 0) → None ≡ option_map shown o → P o (holds_now o) → P None Idle
+looked_empty slot None P e a = a
+looked_empty slot (Some f) P e a = let no : None ≡ Some (shown f) = e in absurd (cc no)
+
+pub looked_file : (slot node entry : ℕ) (o : Option File) (P : Option File → Doing → Type 0) → Some (node, entry) ≡ option_map shown o → P o (holds_now o)
+    → (f : File) × (record { node = node; entry = entry } ≡ hold_of f) × P (Some f) (Holding f)
+looked_file slot node entry None P e a = let no : Some (node, entry) ≡ None = e in absurd (cc no)
+looked_file slot node entry (Some f) P e a =
     let both : ◌≡◌ {A = ℕ × ℕ} (node, entry) (f.number, f.identity.entry) = let z : Some (node, entry) ≡ Some (f.number, f.identity.entry) = e in cc z in
-    (f, (λ i. record { node = (both i).0; entry = (both i).1 }), saw_adds k u v w ([] ▷ Look slot (Some f)) (Holding f) one_look s a)
+    (f, (λ i. record { node = (both i).0; entry = (both i).1 }), a)
 
--- a removal, by what it found: nothing, or a file that is to be retired
-pub removed_none : (k : Start) (u v w : PassView) (acts : Option File → List Action) (used : Use) (o : Option File) → None ≡ option_map (λ f. retired_of f 0) o → Saw u v → Adds (opening_of k) v (acts o) (retires_now o) used w → Adds (opening_of k) u (acts None) Idle used w
-removed_none k u v w acts used None e s a = saw_adds k u v w (acts None) Idle used s a
-removed_none k u v w acts used (Some f) e s a = let no_way : None ≡ Some (retired_of f 0) = e in absurd (cc no_way)
+-- what a removal found: nothing, or a file that is to be retired
+pub removed_none : (o : Option File) (P : Option File → Doing → Type 0) → None ≡ option_map (λ f. retired_of f 0) o → P o (retires_now o) → P None Idle
+removed_none None P e a = a
+removed_none (Some f) P e a = let no : None ≡ Some (retired_of f 0) = e in absurd (cc no)
 
-pub removed_some : (k : Start) (u v w : PassView) (acts : Option File → List Action) (used : Use) (x : Retired) (o : Option File) → Some x ≡ option_map (λ f. retired_of f 0) o → Saw u v → Adds (opening_of k) v (acts o) (retires_now o) used w
-    → (f : File) × (x ≡ retired_of f x.takes) × Adds (opening_of k) u (acts (Some f)) (Retiring f x.takes) used w
-removed_some k u v w acts used x None e s a = let no_way : None ≡ Some x = sym e in absurd (cc no_way)
-removed_some k u v w acts used x (Some f) e s a =
+pub removed_some : (x : Retired) (o : Option File) (P : Option File → Doing → Type 0) → Some x ≡ option_map (λ f. retired_of f 0) o → P o (retires_now o)
+    → (f : File) × (x ≡ retired_of f x.takes) × P (Some f) (Retiring f x.takes)
+removed_some x None P e a = let no : None ≡ Some x = sym e in absurd (cc no)
+removed_some x (Some f) P e a =
     let is : x ≡ retired_of f 0 = let z : Some x ≡ Some (retired_of f 0) = e in cc z in
-    let told : x.takes ≡ 0 = ap (λ (r : Retired). r.takes) is in
-    (f, is ∙ ap (retired_of f) (sym told), saw_adds k u v w (acts (Some f)) (Retiring f x.takes) used s (subst (λ (t : ℕ). Adds (opening_of k) v (acts (Some f)) (Retiring f t) used w) (sym told) a))
+    let none_told : x.takes ≡ 0 = ap (λ (r : Retired). r.takes) is in
+    (f, is ∙ ap (retired_of f) (sym none_told), subst (λ (t : ℕ). P (Some f) (Retiring f t)) (sym none_told) a)
 
-pub placed_so : (k : Start) (u v w : PassView) (slot number : ℕ) (identity file : Closed) (o : Option File) (result : Option Retired) → result ≡ option_map (λ f. retired_of f 0) o → number ≡ next_number u → identity ≡ file → Saw u v
-    → Adds (opening_of k) v ([] ▷ Put slot (numbered number identity) o) (retires_now o) one_number w → Placed (opening_of k) u slot file result w
-placed_so k u v w slot number identity file o result is next same s a =
-    by_result result is (subst (λ (z : ℕ × Closed). Adds (opening_of k) v ([] ▷ Put slot (numbered z.0 z.1) o) (retires_now o) one_number w) (λ i. (next i, same i)) a)
-  where
-    by_result : (r : Option Retired) → r ≡ option_map (λ f. retired_of f 0) o → Adds (opening_of k) v ([] ▷ Put slot (new_file u file) o) (retires_now o) one_number w → Placed (opening_of k) u slot file r w
-    by_result None e b = removed_none k u v w (λ z. [] ▷ Put slot (new_file u file) z) one_number o e s b
-    by_result (Some x) e b = removed_some k u v w (λ z. [] ▷ Put slot (new_file u file) z) one_number x o e s b
+pub placed_so : (o : Opening) (u w : PassView) (slot : ℕ) (file : Closed) (found : Option File) (result : Option Retired) → result ≡ option_map (λ f. retired_of f 0) found
+    → Adds o u ([] ▷ Put slot (new_file u file) found) (retires_now found) one_number w → Placed o u slot file result w
+placed_so o u w slot file found None e a = removed_none found (λ z doing. Adds o u ([] ▷ Put slot (new_file u file) z) doing one_number w) e a
+placed_so o u w slot file found (Some x) e a = removed_some x found (λ z doing. Adds o u ([] ▷ Put slot (new_file u file) z) doing one_number w) e a
 
-pub cleared_so : (k : Start) (u v w : PassView) (slot : ℕ) (o : Option File) (result : Option Retired) → result ≡ option_map (λ f. retired_of f 0) o → Saw u v → Adds (opening_of k) v ([] ▷ Clear slot o) (retires_now o) nothing w → Cleared (opening_of k) u slot result w
-cleared_so k u v w slot o None e s a = removed_none k u v w (λ z. [] ▷ Clear slot z) nothing o e s a
-cleared_so k u v w slot o (Some x) e s a = removed_some k u v w (λ z. [] ▷ Clear slot z) nothing x o e s a
-
--- what a pass did before it saw more, it does still
-pub same_doing : (u v : PassView) → Saw u v → v.doing ≡ u.doing
-same_doing u v s = ap (λ (z : PassView). z.doing) s.same
-
-pub same_next : (u v : PassView) → Saw u v → next_number v ≡ next_number u
-same_next u v s = ap next_number s.same
-
-pub same_left : (u v : PassView) → Saw u v → (v.numbers_left ≡ u.numbers_left) × (v.looks_left ≡ u.looks_left)
-same_left u v s = (ap (λ (z : PassView). z.numbers_left) s.same, ap (λ (z : PassView). z.looks_left) s.same)
+pub cleared_so : (o : Opening) (u w : PassView) (slot : ℕ) (found : Option File) (result : Option Retired) → result ≡ option_map (λ f. retired_of f 0) found
+    → Adds o u ([] ▷ Clear slot found) (retires_now found) no_use w → Cleared o u slot result w
+cleared_so o u w slot found None e a = removed_none found (λ z doing. Adds o u ([] ▷ Clear slot z) doing no_use w) e a
+cleared_so o u w slot found (Some x) e a = removed_some x found (λ z doing. Adds o u ([] ▷ Clear slot z) doing no_use w) e a

@@ -5,24 +5,25 @@ use Rattle.fx_plain.specs.History.{IsLegal, part_of_pass}
 use Rattle.fx_plain.specs.declared.event.Event.{Event}
 use Rattle.fx_table.specs.Opening.{state_at}
 use Rattle.fx_table.specs.Pass.{PassView, IsFront, new_pass, new_passes, new_passes_from}
+use Rattle.fx_table.specs.Turns.{HasDrawnInTurn}
 use Rattle.fx_table.specs.declared.values.Doing.TheVariants.{Idle}
 use Rattle.fx_baton.specs.declared.view.Log.{Log}
 use Rattle.fx_baton.specs.declared.view.Start.{Start}
 use Rattle.fx_baton.specs.declared.pass.BatonPass.{BatonPass}
-use Rattle.fx_baton.specs.Rule.{Sat, opening_of, begin_of, new_log, new_logs, once, rest_of, first_of, without_first, first_alone}
-use Rattle.fx_baton.specs.Passes.{first_front, first_own, view_of, share, last_of_share, is_idle, IsPassOf}
+use Rattle.fx_baton.specs.Rule.{Seated, opening_of, begin_of, new_log, new_logs, rest_of, first_of, view_without_first, view_of_first}
+use Rattle.fx_table.specs.Numbers.{chains_of_pass}
+use Rattle.fx_baton.specs.Passes.{first_front, first_own, view_of, is_idle, IsPassOf}
 use Rattle.fx_baton.specs.Lives.{dealt}
-use Rattle.fx_baton.proofs.Opening.{once_in}
 
 deal_more : (p n : ℕ) → p ≤ n → new_logs p ((n + 1) - p) ≡ new_log p ∷ new_logs (p + 1) ((n + 1) - (p + 1))
 deal_more p n l = let e : (n + 1) - p ≡ suc ((n + 1) - (p + 1)) = omega arith in let f : suc p ≡ p + 1 = omega arith in
     ap (new_logs p) e ∙ ap (λ (q : ℕ). new_log p ∷ new_logs q ((n + 1) - (p + 1))) f
 
-pub rest_is_dealt : (k : Start) (p : ℕ) → p ≤ k.passes → without_first (dealt k p) ≡ dealt k (p + 1)
+pub rest_is_dealt : (k : Start) (p : ℕ) → p ≤ k.passes → view_without_first (dealt k p) ≡ dealt k (p + 1)
 rest_is_dealt k p l = ap (λ (z : List Log). record (dealt k p) { logs = rest_of z }) (deal_more p k.passes l)
 
 -- the last pass alone
-pub last_is_dealt : (k : Start) (p : ℕ) → p ≡ k.passes → dealt k p ≡ first_alone (dealt k p)
+pub last_is_dealt : (k : Start) (p : ℕ) → p ≡ k.passes → dealt k p ≡ view_of_first (dealt k p)
 last_is_dealt k p e =
     let one : (k.passes + 1) - p ≡ 1 = omega arith in
     let alone : new_logs p ((k.passes + 1) - p) ≡ new_log p ∷ [] = ap (new_logs p) one in
@@ -40,13 +41,14 @@ one_more n low =
     let f : n ≡ 1 + (n - 1) = omega arith in
     ap (λ (m : ℕ). new_passes (n - 1) ++ new_pass m ∷ []) f ∙ (sym (from_more 1 (n - 1)) ∙ ap new_passes (sym e))
 
-module _ (id : TableId) (k : Start) (p : ℕ) (low : 1 ≤ p) (high : p ≤ k.passes) (x : BatonPass) (table : x.seat.table_id ≡ id) (me : x.seat.me ≡ (first_alone (dealt k p), []))
-    (number : x.number ≡ p) (step : x.step ≡ k.passes) (count : x.count ≡ 0) (chain : x.chain ≡ 0) (told : x.told ≡ false) (numbers : x.numbers_left ≡ 0) (looks : x.looks_left ≡ 1048576) (idle : x.idle ≡ true) where
+module _ (id : TableId) (k : Start) (p : ℕ) (low : 1 ≤ p) (high : p ≤ k.passes) (x : BatonPass) (table : x.seat.table_id ≡ id) (me : x.seat.me ≡ (view_of_first (dealt k p), []))
+    (number : x.number ≡ p) (passes : x.passes ≡ k.passes) (count : x.count ≡ 0) (chain : x.chain ≡ 0) (chains_left : x.no_chains_left ≡ false)
+    (numbers : x.numbers_left ≡ 0) (looks : x.looks_left ≡ 1048576) (idle : x.idle ≡ true) where
   one_log : x.seat.me.0.logs ≡ new_log p ∷ []
-  one_log = ap (λ (m : Sat). m.0.logs) me ∙ ap first_of (deal_more p k.passes high)
+  one_log = ap (λ (m : Seated). m.0.logs) me ∙ ap first_of (deal_more p k.passes high)
 
   doing_is : x.seat.me.0.doing ≡ Idle
-  doing_is = ap (λ (m : Sat). m.0.doing) me
+  doing_is = ap (λ (m : Seated). m.0.doing) me
 
   front_is : first_front x.seat.me.0.logs ≡ []
   front_is = ap first_front one_log
@@ -54,44 +56,47 @@ module _ (id : TableId) (k : Start) (p : ℕ) (low : 1 ≤ p) (high : p ≤ k.pa
   own_is : first_own x.seat.me.0.logs ≡ []
   own_is = ap first_own one_log
 
-  new_front : IsFront (opening_of k) (view_of x)
-  new_front = record {
-    legal = subst (λ (h : List Event). IsLegal (begin_of k) h (state_at (opening_of k) h)) (sym front_is) record { leads = (tt, refl); releases = tt };
-    mine = ap (part_of_pass x.number) front_is ∙ sym own_is;
-  }
-
-  pub is_pass : IsPassOf id k x
-  is_pass = record {
-    table = table;
-    slots = ap (λ (m : Sat). m.1) me;
-    free = ap (λ (m : Sat). m.0.taken) me;
-    seated = record {
-      log = new_log p;
-      one = one_log;
-      number = sym number;
-      start = ap (λ (m : Sat). m.0.start) me;
-      front = new_front;
-      step = step;
-      in_range = ap (once k.passes) number ∙ once_in k.passes p low high;
-      chain = chain ∙ sym (ap (last_of_share x.number x.step) count);
-      reached = omega arith;
-      told_all = λ e. let differ : false ≡ true = sym told ∙ e in absurd (cc differ);
-      few_left = omega arith;
-      left_inside = omega arith;
-      next = omega arith;
-      idle = idle ∙ sym (ap is_idle doing_is);
-    };
-  }
-
   pub is_new : view_of x ≡ new_pass p
   is_new = λ i. record {
     number = number i;
     front = front_is i;
     own = own_is i;
     chain = chain i;
-    drawn = ap (share x.number x.step) count i;
-    told = told i;
+    drawn = ap (chains_of_pass x.number x.passes) count i;
+    no_chains_left = chains_left i;
     numbers_left = numbers i;
     looks_left = looks i;
     doing = doing_is i;
+  }
+
+  new_front : IsFront (opening_of k) (new_pass p)
+  new_front = record { legal = record { leads = (tt, refl); releases = tt }; mine = refl }
+
+  new_turns : HasDrawnInTurn (opening_of k) 0 (new_pass p)
+  new_turns = record {
+    number = (low, high);
+    drawn = refl;
+    chain = refl;
+    reached = omega arith;
+    last_drawn = λ e. let no : false ≡ true = e in absurd (cc no);
+    few_left = omega arith;
+    left_inside = omega arith;
+    unused = omega arith;
+  }
+
+  pub is_pass : IsPassOf id k x
+  is_pass = record {
+    table = table;
+    slots = ap (λ (m : Seated). m.1) me;
+    free = ap (λ (m : Seated). m.0.loan) me;
+    passes = passes;
+    seated = record {
+      log = new_log p;
+      one = one_log;
+      number = sym number;
+      start = ap (λ (m : Seated). m.0.start) me;
+      front = subst (IsFront (opening_of k)) (sym is_new) new_front;
+      turns = subst (λ (n : ℕ). HasDrawnInTurn (opening_of k) n (view_of x)) (sym count) (subst (HasDrawnInTurn (opening_of k) 0) (sym is_new) new_turns);
+      flag = idle ∙ sym (ap is_idle doing_is);
+    };
   }

@@ -10,19 +10,42 @@ use Rattle.fx_table.specs.declared.values.Doing.TheVariants.{Idle}
 use Rattle.fx_baton.specs.declared.view.Log.{Log}
 use Rattle.fx_baton.specs.declared.view.View.{View}
 use Rattle.fx_baton.specs.declared.view.Start.{Start}
-use Rattle.fx_baton.specs.Rule.{IsKept, without_first, first_alone, together, spent, Grabs, Gives, IsTurn}
+use Rattle.fx_baton.specs.Rule.{IsKept, view_without_first, view_of_first, joined_view, empty_view, Grabs, Gives, IsTurn}
 
 abbrev pub SplitsKeep : Type 0
-SplitsKeep = (k : Start) (id : ℕ) (v : View) → v.doing ≡ Idle → v.taken ≡ None → Splits (IsKept k) id v (without_first v) (first_alone v)
+SplitsKeep =
+    (k : Start) (id : ℕ) (v : View)
+    → v.doing ≡ Idle
+    → v.loan ≡ None
+    → Splits (IsKept k) id v (view_without_first v) (view_of_first v)
 
 abbrev pub JoinsKeep : Type 0
-JoinsKeep = (k : Start) (id : ℕ) (v : View) → v.doing ≡ Idle → v.taken ≡ None → v.start ≡ k → (other : ℕ) (w : View) → w.doing ≡ Idle → w.taken ≡ None → Joins (IsKept k) id v other w (together v w) spent
+JoinsKeep =
+    (k : Start) (id : ℕ) (v : View)
+    → v.doing ≡ Idle
+    → v.loan ≡ None
+    → v.start ≡ k
+    → (other : ℕ) (w : View)
+    → w.doing ≡ Idle
+    → w.loan ≡ None
+    → Joins (IsKept k) id v other w (joined_view v w) empty_view
 
 -- the word is 1 while the table is at home, and becomes 0
 abbrev pub GrabsKeep : Type 0
-GrabsKeep = (k : Start) (id : ℕ) (v : View) (x : Log) → v.logs ≡ x ∷ [] → v.taken ≡ None → Allows (IsKept k) 1 id (v, []) 0 (λ n. either (n == 1) 0 n) (Grabs (step 1 0 1 0 none) (v, []))
+GrabsKeep =
+    (k : Start) (id : ℕ) (v : View) (x : Log)
+    → v.logs ≡ x ∷ []
+    → v.loan ≡ None
+    → Allows (IsKept k) 1 id (v, []) 0 (λ n. either (n == 1) 0 n) (Grabs (step 1 0 1 0 none) (v, []))
 
 -- the word becomes 1
 abbrev pub GivesKeep : Type 0
-GivesKeep = (k : Start) (id : ℕ) (v : View) (x : Log) → v.logs ≡ x ∷ [] → (c d : Contents) → v.taken ≡ Some c → (events : List Event) (doing : Doing) → IsTable d → IsTurn v x c d events doing
-    → Allows (IsKept k) 1 id (v, (0, Some d) ∷ []) 0 (λ _. 1) (λ _. Gives events doing (step 1 0 1 0 none) (v, (0, Some d) ∷ []) 1)
+GivesKeep =
+    (k : Start) (id : ℕ) (v : View) (x : Log)
+    → v.logs ≡ x ∷ []
+    → (c d : Contents)
+    → v.loan ≡ Some c
+    → (events : List Event) (doing : Doing)
+    → IsTable d
+    → IsTurn v x c d events doing
+    → Allows (IsKept k) 1 id (v, (0, d) ∷ []) 0 (λ _. 1) (λ _. Gives events doing (step 1 0 1 0 none) (v, (0, d) ∷ []) 1)

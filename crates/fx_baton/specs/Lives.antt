@@ -9,22 +9,22 @@ use Rattle.fx_baton.specs.declared.view.Log.{Log}
 use Rattle.fx_baton.specs.declared.view.View.{View}
 use Rattle.fx_baton.specs.declared.view.Start.{Start}
 use Rattle.fx_baton.specs.declared.pass.BatonPass.{BatonPass}
-use Rattle.fx_baton.specs.Rule.{Shared, Sat, IsKept, IsHome, new_logs}
+use Rattle.fx_baton.specs.Rule.{Shared, Seated, IsKept, IsHome, new_logs}
 
 -- the view of a seat that has the new passes from p to the last
 abbrev pub dealt : Start → ℕ → View
-dealt k p = record { start = k; logs = new_logs p ((k.passes + 1) - p); doing = Idle; taken = None }
+dealt k p = record { start = k; logs = new_logs p ((k.passes + 1) - p); doing = Idle; loan = None }
 
 abbrev pub logs_in : List BatonPass → List Log
 logs_in [] = []
 logs_in (p ∷ ps) = p.seat.me.0.logs ++ logs_in ps
 
 -- a seat with some passes, which do nothing
-pub record IsIdleSeat (k : Start) (m : Sat) : Type 0 where
+pub record IsIdleSeat (k : Start) (m : Seated) : Type 0 where
   pub slots : m.1 ≡ []
   pub start : m.0.start ≡ k
   pub idle : m.0.doing ≡ Idle
-  pub free : m.0.taken ≡ None
+  pub free : m.0.loan ≡ None
 
 -- an idle pass of the table
 pub record IsIdlePass (id : TableId) (k : Start) (p : BatonPass) : Type 0 where

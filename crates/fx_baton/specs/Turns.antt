@@ -1,5 +1,5 @@
 -- What one turn at the table adds.
-use Rattle.std.specs.Prelude.{◌≡◌, ℕ, List, [], ◌∷◌, map, Option, Some, None}
+use Rattle.std.specs.Prelude.{ℕ, List, [], ◌∷◌, map, Option, Some, None}
 use Rattle.fx_plain.specs.Contents.{Contents, state_of}
 use Rattle.fx_plain.specs.History.{close_of, ◌▷◌, ◌▷▷◌}
 use Rattle.fx_plain.specs.Table.{numbered, closed_by_release, closed_by_retirement}
@@ -7,22 +7,25 @@ use Rattle.fx_plain.specs.declared.event.File.{File}
 use Rattle.fx_plain.specs.declared.event.Event.{Event}
 use Rattle.fx_plain.specs.declared.event.Action.{Action}
 use Rattle.fx_plain.specs.declared.event.Action.TheVariants.{Look, Release, Put, Clear, Take, Allocate, Full}
-use Rattle.fx_table.specs.Calls.{Use, nothing, one_look, one_number}
+use Rattle.fx_table.specs.Calls.{Use, no_use, one_look, one_number}
 use Rattle.fx_table.specs.declared.values.Doing.{Doing}
 use Rattle.fx_table.specs.declared.values.Doing.TheVariants.{Idle, Holding, Retiring}
 use Rattle.fx_baton.specs.declared.view.Call.{Call}
 use Rattle.fx_baton.specs.declared.view.Call.TheVariants.{Look as LookCall, Release as ReleaseCall, Put as PutCall, Allocate as AllocateCall, Full as FullCall, Clear as ClearCall, Take as TakeCall, Retire as RetireCall}
-use Rattle.fx_baton.specs.declared.view.Log.{Log}
-use Rattle.fx_baton.specs.Rule.{Sat, Knows, empty_table}
+use Rattle.fx_baton.specs.Rule.{Seated, empty_table}
 
 -- an action and its author
 abbrev pub by : ℕ → ℕ → Action → Event
 by pass chain action = record { pass = pass; chain = chain; action = action }
 
--- the table as the seat has it
-abbrev pub table_in : Option Contents → Contents
-table_in None = empty_table
-table_in (Some c) = c
+-- the table as the seat took it, and as the seat has it now
+abbrev pub table_of_loan : Option Contents → Contents
+table_of_loan None = empty_table
+table_of_loan (Some c) = c
+
+abbrev pub table_of_slots : List (ℕ × Contents) → Contents
+table_of_slots [] = empty_table
+table_of_slots (x ∷ xs) = x.1
 
 -- what a pass does that found this file, and one that removed it
 abbrev pub holds_now : Option File → Doing
@@ -69,21 +72,14 @@ doing_of c RetireCall = Idle
 -- what a call uses up
 abbrev pub use_of : Call → Use
 use_of (LookCall slot) = one_look
-use_of ReleaseCall = nothing
+use_of ReleaseCall = no_use
 use_of (PutCall slot number file) = one_number
 use_of (AllocateCall slot number file) = one_number
-use_of FullCall = nothing
-use_of (ClearCall slot) = nothing
-use_of (TakeCall slot) = nothing
-use_of RetireCall = nothing
+use_of FullCall = no_use
+use_of (ClearCall slot) = no_use
+use_of (TakeCall slot) = no_use
+use_of RetireCall = no_use
 
 -- the events of a call
 abbrev pub events_of : Contents → ℕ → ℕ → Doing → Call → List Event
 events_of c pass chain doing call = map (by pass chain) (actions_of c doing call)
-
--- the seat with the log x has taken the table c, and has seen the whole history
-pub record HasTaken (m : Sat) (x : Log) (c : Contents) (m' : Sat) : Type 0 where
-  pub history : List Event
-  pub knows : Knows m.0 x c history
-  pub view : m'.0 ≡ record m.0 { logs = record x { front = history } ∷ []; taken = Some c }
-  pub slots : m'.1 ≡ (0, None) ∷ []

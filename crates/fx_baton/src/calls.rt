@@ -4,16 +4,16 @@ ghost use Rattle.fx_plain.specs.declared.event.File.{File};
 ghost use Rattle.fx_plain.specs.Table.{number_of};
 ghost use Rattle.fx_table.specs.declared.values.Doing.TheVariants.{Idle};
 ghost use Rattle.fx_table.specs.Pass.{retired_of, next_number};
-ghost use Rattle.fx_table.specs.Closing.{Closes};
+ghost use Rattle.fx_table.specs.Closing.{ClosesTable};
 ghost use Rattle.fx_baton.specs.Rule.{opening_of};
 ghost use Rattle.fx_baton.specs.Passes.{view_of, IsPassOf};
 
 use crate::pass::BatonPass;
 use crate::table::BatonTable;
 use crate::view::Call;
-use fx_base::{Closed, NoMemory, OpenFile};
+use fx_base::{NoMemory, OpenFile};
 use fx_plain::PlainTable;
-use fx_table::{Empty, FileTable, Hold, LookFault, Retired};
+use fx_table::{CHAIN_NUMBERS, Empty, FileTable, Hold, LookFault, Retired, numbers_for};
 use std::alloc::Global;
 use std::sync::Wait;
 
@@ -54,7 +54,7 @@ impl FileTable for BatonTable {
         requires all { length passes.items ≡ self.table.shared.key.passes }
         requires fits { All (IsPassOf self.table.shared.table_id self.table.shared.key) passes.items }
         requires idle { All (λ p. p.seat.me.0.doing ≡ Idle) passes.items }
-        ensures { Closes (opening_of self.table.shared.key) (map view_of passes.items) result }
+        ensures { ClosesTable (opening_of self.table.shared.key) (map view_of passes.items) result }
     {
         self.close_all(passes)
     }
@@ -81,21 +81,21 @@ impl FileTable for BatonTable {
 
     // Pass p of n has the chains p, p + n, p + 2n and so on.
     fn draw(&self, pass: &mut BatonPass) -> Option<u32> {
-        if pass.told {
+        if pass.no_chains_left {
             return None;
         }
         let next = if pass.count == 0 {
             pass.number
         } else {
-            pass.chain + pass.step
+            pass.chain + pass.passes
         };
         if next > self.chains {
-            pass.told = true;
+            pass.no_chains_left = true;
             return None;
         }
         pass.chain = next;
         pass.count += 1;
-        pass.numbers_left = 64;
+        pass.numbers_left = CHAIN_NUMBERS;
         Some(next)
     }
 
@@ -103,9 +103,10 @@ impl FileTable for BatonTable {
         if pass.looks_left == 0 {
             return Err(LookFault::Spent);
         }
-        let mut plain = self.borrow(rt, pass);
+        self.borrow(rt, pass);
+        let plain = pass.seat.slot_mut(&self.table.shared, 0);
         let found = plain.look(slot);
-        self.give_back(pass, plain, Call::Look(slot), found.is_none());
+        self.give_back(pass, Call::Look(slot), found.is_none());
         match found {
             None => Err(LookFault::Empty),
             Some((node, entry)) => Ok(Hold { node, entry }),
@@ -114,9 +115,10 @@ impl FileTable for BatonTable {
 
     fn release<R: Wait>(&self, rt: &R, pass: &mut BatonPass, hold: Hold) -> Option<OpenFile> {
         let Hold { node, entry: _ } = hold;
-        let mut plain = self.borrow(rt, pass);
+        self.borrow(rt, pass);
+        let plain = pass.seat.slot_mut(&self.table.shared, 0);
         let closed = plain.release(node);
-        self.give_back(pass, plain, Call::Release, true);
+        self.give_back(pass, Call::Release, true);
         closed
     }
 
@@ -128,13 +130,13 @@ impl FileTable for BatonTable {
         file: OpenFile,
     ) -> Option<Retired> {
         let number = self.next_number(pass);
-        let identity = identity_of(&file);
-        let mut plain = self.borrow(rt, pass);
+        let identity = file.identity();
+        self.borrow(rt, pass);
+        let plain = pass.seat.slot_mut(&self.table.shared, 0);
         let entry = plain.entry_at(slot);
         let replaced = plain.put(slot, number, file);
         self.give_back(
             pass,
-            plain,
             Call::Put(slot, number, identity),
             replaced.is_none(),
         );
@@ -148,33 +150,36 @@ impl FileTable for BatonTable {
         file: OpenFile,
     ) -> Result<u32, OpenFile> {
         let number = self.next_number(pass);
-        let identity = identity_of(&file);
-        let mut plain = self.borrow(rt, pass);
+        let identity = file.identity();
+        self.borrow(rt, pass);
+        let plain = pass.seat.slot_mut(&self.table.shared, 0);
         match plain.put_any(number, file) {
             Ok(slot) => {
-                self.give_back(pass, plain, Call::Allocate(slot, number, identity), true);
+                self.give_back(pass, Call::Allocate(slot, number, identity), true);
                 Ok(slot)
             }
             Err(refused) => {
-                self.give_back(pass, plain, Call::Full, true);
+                self.give_back(pass, Call::Full, true);
                 Err(refused)
             }
         }
     }
 
     fn clear<R: Wait>(&self, rt: &R, pass: &mut BatonPass, slot: u32) -> Option<Retired> {
-        let mut plain = self.borrow(rt, pass);
+        self.borrow(rt, pass);
+        let plain = pass.seat.slot_mut(&self.table.shared, 0);
         let entry = plain.entry_at(slot);
         let removed = plain.clear(slot);
-        self.give_back(pass, plain, Call::Clear(slot), removed.is_none());
+        self.give_back(pass, Call::Clear(slot), removed.is_none());
         retired(removed, entry)
     }
 
     fn take<R: Wait>(&self, rt: &R, pass: &mut BatonPass, slot: u32) -> Result<Retired, Empty> {
-        let mut plain = self.borrow(rt, pass);
+        self.borrow(rt, pass);
+        let plain = pass.seat.slot_mut(&self.table.shared, 0);
         let entry = plain.entry_at(slot);
         let removed = plain.take(slot);
-        self.give_back(pass, plain, Call::Take(slot), removed.is_none());
+        self.give_back(pass, Call::Take(slot), removed.is_none());
         match retired(removed, entry) {
             Some(removed) => Ok(removed),
             None => Err(Empty),
@@ -187,11 +192,14 @@ impl FileTable for BatonTable {
             entry: _,
             takes: _,
         } = retired;
-        let mut plain = self.borrow(rt, pass);
+        self.borrow(rt, pass);
+        let plain = pass.seat.slot_mut(&self.table.shared, 0);
         let closed = plain.retire(node);
-        self.give_back(pass, plain, Call::Retire, true);
+        self.give_back(pass, Call::Retire, true);
         closed
     }
+
+    ghost fronts = { λ t p fits. fits.seated.front };
 }
 
 impl BatonTable {
@@ -200,23 +208,16 @@ impl BatonTable {
         requires { IsPassOf self.now.table.shared.table_id self.now.table.shared.key pass.now }
         ensures { result ≡ next_number (view_of pass.now) }
     {
-        256 + 64 * pass.chain - pass.numbers_left
-    }
-}
-
-// What the file's close will say.
-fn identity_of(file: &OpenFile) -> Closed
-    ensures { result ≡ file.now }
-{
-    Closed {
-        mark: file.mark(),
-        entry: file.entry(),
+        numbers_for(pass.chain) - pass.numbers_left
     }
 }
 
 // The file that was removed from a slot, if there was one.
 fn retired(node: Option<u32>, entry: Option<u8>) -> Option<Retired>
-    ensures { (found : Option File) → node ≡ number_of found → entry ≡ option_map (λ f. f.identity.entry) found → result ≡ option_map (λ f. retired_of f 0) found }
+    ensures {
+        (found : Option File) → node ≡ number_of found → entry ≡ option_map (λ f. f.identity.entry) found
+        → result ≡ option_map (λ f. retired_of f 0) found
+    }
 {
     match (node, entry) {
         (Some(node), Some(entry)) => Some(Retired {

@@ -8,7 +8,7 @@ use std::marker::{Brand, PhantomData};
 /// 0 while one pass has it.
 pub struct OneHistory;
 
-impl TableRule<Option<PlainTable>, View, Start> for OneHistory {
+impl TableRule<PlainTable, View, Start> for OneHistory {
     ghost use Rattle.fx_baton.specs.Rule.{IsKept, first_view};
 
     ghost holds = { IsKept };
@@ -20,28 +20,28 @@ impl TableRule<Option<PlainTable>, View, Start> for OneHistory {
 pub struct Deal;
 
 impl Split<View> for Deal {
-    ghost use Rattle.fx_baton.specs.Rule.{without_first, first_alone};
+    ghost use Rattle.fx_baton.specs.Rule.{view_without_first, view_of_first};
 
-    ghost left = { without_first };
+    ghost left = { view_without_first };
 
-    ghost right = { first_alone };
+    ghost right = { view_of_first };
 }
 
 /// Join: a seat takes in the passes of another.
 pub struct Gather;
 
 impl Join<View> for Gather {
-    ghost use Rattle.fx_baton.specs.Rule.{together, spent};
+    ghost use Rattle.fx_baton.specs.Rule.{joined_view, empty_view};
 
-    ghost both = { together };
+    ghost both = { joined_view };
 
-    ghost spent = { spent };
+    ghost spent = { empty_view };
 }
 
 /// Grab: the word is tried, and the table taken where it was at home.
 pub struct Grab;
 
-impl Play<Option<PlainTable>, View> for Grab {
+impl Play<PlainTable, View> for Grab {
     ghost use Rattle.fx_baton.specs.Rule.{Grabs};
 
     ghost then = { Grabs };
@@ -74,7 +74,7 @@ pub struct Give<U> {
     turn: PhantomData<U>,
 }
 
-impl<U: Turn> Play<Option<PlainTable>, View> for Give<U> {
+impl<U: Turn> Play<PlainTable, View> for Give<U> {
     ghost use Rattle.fx_baton.specs.Rule.{Gives};
 
     ghost then = { Gives U.events U.doing };

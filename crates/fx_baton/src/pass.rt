@@ -3,40 +3,50 @@ ghost use Rattle.std.specs.Prelude.{◌≡◌, false, true};
 use crate::view::View;
 use atomic_table::Seat;
 use fx_plain::PlainTable;
+use fx_table::PASS_LOOKS;
 
-/// A pass of a [`crate::BatonTable`]. It is no `Drop`: a program that lets one go is not accepted.
+/// A pass of a [`crate::BatonTable`]. It is no `Drop`: a program that lets one go is not accepted. Two passes that lie
+/// side by side in a list are 128 bytes apart, so that threads that use them share no cache line.
 pub struct BatonPass {
-    pub(crate) seat: Seat<Option<PlainTable>, View>,
-    // From 1 to the number of passes, which is the step between two chains of the pass.
+    pub(crate) seat: Seat<PlainTable, View>,
+    // From 1 to the number of passes.
     pub(crate) number: u32,
-    pub(crate) step: u32,
+    pub(crate) passes: u32,
     // How many chains were drawn, the last of them or 0, and whether there are no more.
     pub(crate) count: u32,
     pub(crate) chain: u32,
-    pub(crate) told: bool,
+    pub(crate) no_chains_left: bool,
     pub(crate) numbers_left: u32,
     pub(crate) looks_left: u32,
     pub(crate) idle: bool,
+    pub(crate) spacing: Spacing,
+}
+
+// What keeps a pass away from the next one: the fields before it take 32 bytes.
+#[derive(Drop)]
+pub(crate) struct Spacing {
+    unused: [u64; 12],
 }
 
 impl BatonPass {
-    pub(crate) fn new(seat: Seat<Option<PlainTable>, View>, number: u32, step: u32) -> BatonPass
+    pub(crate) fn new(seat: Seat<PlainTable, View>, number: u32, passes: u32) -> BatonPass
         ensures seat { result.seat ≡ seat }
-        ensures share { (result.number ≡ number) × (result.step ≡ step) }
-        ensures drawn { (result.count ≡ 0) × (result.chain ≡ 0) × (result.told ≡ false) }
-        ensures left { (result.numbers_left ≡ 0) × (result.looks_left ≡ 1048576) }
+        ensures number { (result.number ≡ number) × (result.passes ≡ passes) }
+        ensures drawn { (result.count ≡ 0) × (result.chain ≡ 0) × (result.no_chains_left ≡ false) }
+        ensures left { (result.numbers_left ≡ 0) × (result.looks_left ≡ PASS_LOOKS) }
         ensures idle { result.idle ≡ true }
     {
         BatonPass {
             seat,
             number,
-            step,
+            passes,
             count: 0,
             chain: 0,
-            told: false,
+            no_chains_left: false,
             numbers_left: 0,
-            looks_left: 1 << 20,
+            looks_left: PASS_LOOKS,
             idle: true,
+            spacing: Spacing { unused: [0; 12] },
         }
     }
 }

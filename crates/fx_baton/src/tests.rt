@@ -1,17 +1,19 @@
 //! What no clause says: that the calls succeed, and that two threads get on beside each other.
-ghost use Rattle.std.specs.Prelude.{◌≡◌, ◌+◌, ◌∷◌, [], length, All, IfOk};
+ghost use Rattle.std.specs.Prelude.{◌≡◌, ◌≤◌, [], All};
 ghost use Rattle.fx_plain.specs.State.{IsSettled};
 ghost use Rattle.fx_plain.specs.Contents.{state_of};
-ghost use Rattle.fx_table.specs.Pass.{IsIdle};
+ghost use Rattle.fx_table.specs.Opening.{opening_with};
 
 mod allocation;
+mod limits;
+mod races;
 mod spent;
 mod threads;
 mod turns;
 
 use fx_base::{Catalogue, Mark, OpenFile};
 use fx_plain::PlainTable;
-use fx_table::FileTable;
+use fx_table::{FileTable, MAX_CHAINS, MAX_PASSES};
 use std::alloc::{AllocError, Global};
 use std::process::Abort;
 
@@ -45,6 +47,29 @@ fn empty_table<R: Abort>(rt: &R, alloc: Global, size: u32) -> PlainTable
     };
     assert!(rt; plain.is_settled());
     plain
+}
+
+// A shared table. Memory is ample in these tests: a table that refuses fails them.
+fn shared<T: FileTable, R: Abort>(
+    rt: &R,
+    alloc: Global,
+    plain: PlainTable,
+    chains: u32,
+    passes: u32,
+) -> (T, Vec<T::Pass>)
+    requires settled { IsSettled (state_of plain) }
+    requires chains { chains ≤ MAX_CHAINS }
+    requires passes { (1 ≤ passes) × (passes ≤ MAX_PASSES) }
+    ensures opened { T.opening result.0 ≡ opening_with plain chains passes }
+    ensures fits { All (λ p. T.fits result.0 p) result.1.items }
+{
+    match T::open(alloc, plain, chains, passes) {
+        Ok(opened) => opened,
+        Err((plain, _)) => {
+            plain.abandon();
+            panic!(rt; "memory for a shared table")
+        }
+    }
 }
 
 // The two passes of a table, which leave the list empty.

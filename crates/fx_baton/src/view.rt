@@ -34,8 +34,8 @@ pub struct View {
     pub logs: LinkedList<Log>,
     /// What the pass of the seat does now.
     pub doing: Doing,
-    /// The table, as the seat took it.
-    pub taken: Option<PlainTable>,
+    /// The table as the seat took it, while it has the table.
+    pub loan: Option<PlainTable>,
 }
 
 /// Which call of the plain table a pass made while it had the table. Slots come first, then the new file's number and

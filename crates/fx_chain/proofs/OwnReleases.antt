@@ -13,7 +13,7 @@ use Rattle.fx_plain.specs.State.{State}
 use Rattle.fx_plain.specs.History.{Leads, IsLegal, action_of, held_by, ReleasesItsOwn, AllReleaseTheirOwn, ◌▷◌}
 use Rattle.fx_chain.specs.Answers.{Refuses, MayClose, OpensAt, ReadsAt, ReadsFrom, TakesAt, Empties, AppliesEntry, AppliesList, UpdatesFrom, Answers, is_bad_entry}
 use Rattle.fx_chain.specs.Completed.{Completed, next_member}
-use Rattle.fx_chain.specs.Explains.{Explains, ExplainsRuns, severs, operations_in, first_member}
+use Rattle.fx_chain.specs.Explains.{Explains, ExplainsRuns, severs, first_member}
 use Rattle.fx_chain.specs.Legal.{by_one_pass}
 use Rattle.fx_chain.specs.Operation.{Operation, Opens, Reads, Closes, Updates, Asked}
 use Rattle.fx_chain.specs.declared.completion.Place.{Place}
@@ -124,16 +124,17 @@ answers_behind catalogue size place (Reads slot off len) events c answers = read
 answers_behind catalogue size place (Closes slot) events c answers = empties_behind size place slot events c answers
 answers_behind catalogue size place (Updates off list) events c answers = updates_behind (length catalogue) size place off list events c answers
 
-explained_behind : (catalogue : List FileEntry) (size : ℕ) (place : Place) (operations : List Operation) (events : List Action) (completions : List Completed) → Explains catalogue size place operations events completions → AreBehindLooks events
+explained_behind : (catalogue : List FileEntry) (size : ℕ) (place : Place) (requests : List Asked) (events : List Action) (completions : List Completed) → Explains catalogue size place requests events completions → AreBehindLooks events
 explained_behind catalogue size place [] events completions x = subst AreBehindLooks (sym x.0) tt
-explained_behind catalogue size place (operation ∷ operations) events completions x =
-    let others_behind : AreBehindLooks x.1 = matched (severs operation x.2) _ _ (AreBehindLooks x.1) (λ y. subst AreBehindLooks (sym y.0) tt) (explained_behind catalogue size (next_member place) operations x.1 x.3) x.7 in
-    subst AreBehindLooks (sym x.4) (all_behind x.0 x.1 (answers_behind catalogue size place operation x.0 x.2 x.6) others_behind)
+explained_behind catalogue size place (request ∷ requests) events completions x =
+    let others_behind : AreBehindLooks x.1 = matched (severs request x.2) _ _ (AreBehindLooks x.1) (λ y. subst AreBehindLooks (sym y.0) tt)
+    (explained_behind catalogue size (next_member place) requests x.1 x.3) x.7 in
+    subst AreBehindLooks (sym x.4) (all_behind x.0 x.1 (answers_behind catalogue size place request.operation x.0 x.2 x.6) others_behind)
 
 runs_behind : (catalogue : List FileEntry) (size submission chain : ℕ) (runs : List (List Asked)) (events : List Action) (completions : List Completed) → ExplainsRuns catalogue size submission chain runs events completions → AreBehindLooks events
 runs_behind catalogue size submission chain [] events completions x = subst AreBehindLooks (sym x.0) tt
 runs_behind catalogue size submission chain (run ∷ runs) events completions x =
-    subst AreBehindLooks (sym x.4) (all_behind x.0 x.1 (explained_behind catalogue size (first_member submission chain) (operations_in run) x.0 x.2 x.6)
+    subst AreBehindLooks (sym x.4) (all_behind x.0 x.1 (explained_behind catalogue size (first_member submission chain) run x.0 x.2 x.6)
     (runs_behind catalogue size submission (chain + 1) runs x.1 x.3 x.7))
 
 own_release : (h : List Action) (action : Action) → IsBehindLook h action → ReleasesItsOwn (held_by (by_one_pass h) 1) action

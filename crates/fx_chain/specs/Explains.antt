@@ -1,6 +1,6 @@
 -- What a chain may answer: its members one after another, up to and with the first one that severs it, and the others
 -- canceled (io_uring_enter(2), "IOSQE_IO_LINK").
-use Rattle.std.specs.Prelude.{◌≡◌, ℕ, ◌+◌, pos, int_lt, ◌||◌, Bool, false, List, [], ◌∷◌, ◌++◌, map}
+use Rattle.std.specs.Prelude.{◌≡◌, ℕ, ◌+◌, pos, int_lt, ◌||◌, Bool, false, List, [], ◌∷◌, ◌++◌}
 use Rattle.std.specs.Bool.{MatchBool}
 use Rattle.fx_base.specs.declared.errno.Errno.TheVariants.{ECANCELED}
 use Rattle.fx_base.specs.Catalogue.{FileEntry}
@@ -8,40 +8,36 @@ use Rattle.fx_plain.specs.declared.event.Action.{Action}
 use Rattle.fx_plain.specs.History.{◌▷▷◌}
 use Rattle.fx_chain.specs.Answers.{Answers}
 use Rattle.fx_chain.specs.Completed.{Completed, refusal, next_member}
-use Rattle.fx_chain.specs.Operation.{Operation, Opens, Reads, Closes, Updates, Asked}
+use Rattle.fx_chain.specs.Operation.{Operation, Reads, Asked}
 use Rattle.fx_chain.specs.declared.completion.Place.{Place}
 
 -- a read that gave fewer bytes than asked
 abbrev pub is_short : Operation → Completed → Bool
-is_short (Opens name target) c = false
 is_short (Reads slot off len) c = int_lt c.res (pos len)
-is_short (Closes slot) c = false
-is_short (Updates off list) c = false
+is_short _ c = false
 
 abbrev pub has_failed : Operation → Completed → Bool
 has_failed operation c = int_lt c.res (pos 0) || is_short operation c
 
--- the members behind it never start
-abbrev pub severs : Operation → Completed → Bool
-severs operation c = has_failed operation c
+-- the members behind the request never start
+abbrev pub severs : Asked → Completed → Bool
+severs request c = has_failed request.operation c
 
 -- the answers of members that never started
-abbrev pub canceled : Place → List Operation → List Completed
+abbrev pub canceled : Place → List Asked → List Completed
 canceled place [] = []
-canceled place (operation ∷ operations) = refusal place ECANCELED ∷ canceled (next_member place) operations
+canceled place (request ∷ requests) = refusal place ECANCELED ∷ canceled (next_member place) requests
 
 -- the members from this place on make these steps, each its own piece, and answer so
-abbrev pub Explains : List FileEntry → ℕ → Place → List Operation → List Action → List Completed → Type 0
+abbrev pub Explains : List FileEntry → ℕ → Place → List Asked → List Action → List Completed → Type 0
 Explains catalogue size place [] events completions = (events ≡ []) × (completions ≡ [])
-Explains catalogue size place (operation ∷ operations) events completions =
+Explains catalogue size place (request ∷ requests) events completions =
     (own : List Action) × (others : List Action) × (c : Completed) × (cs : List Completed)
-    × (events ≡ own ▷▷ others) × (completions ≡ c ∷ cs) × Answers catalogue size place operation own c
-    × MatchBool (severs operation c)
-    ((others ≡ []) × (cs ≡ canceled (next_member place) operations))
-    (Explains catalogue size (next_member place) operations others cs)
-
-abbrev pub operations_in : List Asked → List Operation
-operations_in run = map (λ request. request.operation) run
+    × (events ≡ own ▷▷ others) × (completions ≡ c ∷ cs)
+    × Answers catalogue size place request.operation own c
+    × MatchBool (severs request c)
+    ((others ≡ []) × (cs ≡ canceled (next_member place) requests))
+    (Explains catalogue size (next_member place) requests others cs)
 
 abbrev pub first_member : ℕ → ℕ → Place
 first_member submission chain = record { submission = submission; chain = chain; member = 1 }
@@ -52,5 +48,5 @@ ExplainsRuns catalogue size submission chain [] events completions = (events ≡
 ExplainsRuns catalogue size submission chain (run ∷ runs) events completions =
     (own : List Action) × (others : List Action) × (cs : List Completed) × (rest : List Completed)
     × (events ≡ own ▷▷ others) × (completions ≡ cs ++ rest)
-    × Explains catalogue size (first_member submission chain) (operations_in run) own cs
+    × Explains catalogue size (first_member submission chain) run own cs
     × ExplainsRuns catalogue size submission (chain + 1) runs others rest

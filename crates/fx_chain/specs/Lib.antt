@@ -9,3 +9,5 @@ pub mod Weights
 pub mod Completed
 pub mod Answers
 pub mod Explains
+pub mod Performs
+pub mod Removals

@@ -1,3 +1,10 @@
+ghost use Rattle.std.specs.Prelude.{◌≡◌, ◌<◌, ◌^◌, pos, []};
+ghost use Rattle.fx_base.specs.declared.mark.Mark.TheVariants.{Submitted};
+ghost use Rattle.fx_chain.specs.Completed.{completed, completed_of, refusal};
+
+use fx_base::{Errno, Mark};
+use std::alloc::Global;
+
 /// Where a request stands: its submission, its chain in the submission, and its place in the chain, each from 1
 /// (this project's own; a kernel hands the user data back).
 #[derive(Clone, Copy, Debug, PartialEq, Eq)]
@@ -19,4 +26,45 @@ pub struct Completion {
     pub res: i32,
     /// The bytes that a read gave.
     pub got: Vec<u8>,
+}
+
+impl Place {
+    /// The mark of a file that the request here installs. `in_list` is the place of the file's entry in the list of an
+    /// update, from 0, and 0 for an open.
+    pub fn mark(self, in_list: u32) -> Mark
+        ensures { result ≡ Submitted self.submission self.chain self.member in_list }
+    {
+        Mark::Submitted {
+            submission: self.submission,
+            chain: self.chain,
+            member: self.member,
+            entry: in_list,
+        }
+    }
+}
+
+impl Completion {
+    /// The answer to a request that fails: the error's number, negated, and no bytes (io_uring_enter(2),
+    /// "CQE ERRORS").
+    pub fn refusal(alloc: Global, place: Place, errno: Errno) -> Completion
+        ensures { completed_of result ≡ refusal place errno }
+    {
+        Completion {
+            place,
+            res: -errno.code(),
+            got: Vec::new(alloc),
+        }
+    }
+
+    // The answer to a request that gives no bytes.
+    pub(crate) fn number(alloc: Global, place: Place, res: u32) -> Completion
+        requires { res < 2 ^ 31 }
+        ensures { completed_of result ≡ completed place (pos res) [] }
+    {
+        Completion {
+            place,
+            res: res as i32,
+            got: Vec::new(alloc),
+        }
+    }
 }

@@ -8,7 +8,7 @@ ghost use Rattle.fx_chain.specs.Weights.{installs_of};
 use crate::request::Request;
 
 /// How many members a chain may have.
-const MOST_MEMBERS: u32 = 16;
+pub const MOST_MEMBERS: u32 = 16;
 
 /// How many files a chain may install.
 const MOST_INSTALLS: u32 = 64;

@@ -6,15 +6,24 @@ mod completion;
 mod fault;
 mod file_index;
 mod flags;
+mod gate;
 pub mod laws;
+mod open;
+mod player;
+mod read;
+mod removal;
 mod request;
+mod update;
 
 pub use chain::{Chain, cut};
 pub use completion::{Completion, Place};
 pub use fault::{CutFault, CutKind, check};
 pub use file_index::target;
 pub use flags::SqeFlags;
+pub use gate::{Gate, OpenGate};
+pub use player::{perform, run_chain};
 pub use request::{Op, Request, Target};
+pub use update::is_bad_entry;
 
 #[cfg(test)]
 mod tests;

@@ -1,16 +1,20 @@
 ghost use Rattle.std.specs.Prelude.{◌≡◌, length, filter, pos, int_le};
+ghost use Rattle.fx_chain.specs.Accepted.{IsWithinLimits};
+ghost use Rattle.fx_chain.specs.Completed.{completed_of};
+ghost use Rattle.fx_chain.specs.Explains.{severs};
 ghost use Rattle.fx_chain.specs.Faults.{has_bad_flags, is_long_read, is_long_update};
 ghost use Rattle.fx_chain.specs.Operation.{asked_of, operation_of, is_link};
 ghost use Rattle.fx_chain.specs.Weights.{installs_of, weight_of};
 
+use crate::completion::Completion;
 use crate::flags::SqeFlags;
 use bitflags::Flags;
 
 /// How many bytes a read may ask for.
-const MOST_BYTES: u32 = 4096;
+pub const LONGEST_READ: u32 = 4096;
 
 /// How many entries an update may have.
-const MOST_ENTRIES: usize = 16;
+pub const LONGEST_UPDATE: usize = 16;
 
 /// Where an open installs its file (io_uring_prep_openat(3), "file_index").
 #[derive(Clone, Copy, Debug, PartialEq, Eq)]
@@ -95,6 +99,26 @@ impl Request {
         self.flags.contains(SqeFlags::IO_LINK)
     }
 
+    /// Whether the request's chain is severed by its completion: it failed, or is a read that gave fewer bytes than
+    /// asked (io_uring_enter(2), "IOSQE_IO_LINK"). The caller has seen that no limit of its own refuses the request
+    /// ([`crate::check`]).
+    pub fn severs(&self, completion: &Completion) -> bool
+        requires { IsWithinLimits (asked_of self.now) }
+        ensures { result ≡ severs (asked_of self.now) (completed_of completion.now) }
+    {
+        if completion.res < 0 {
+            return true;
+        }
+        match self.op {
+            Op::Read {
+                slot: _,
+                off: _,
+                len,
+            } => completion.res < len as i32,
+            _ => false,
+        }
+    }
+
     // A read without FIXED_FILE, or another request with it.
     pub(crate) fn has_bad_flags(&self) -> bool
         ensures { result ≡ has_bad_flags (operation_of self.now.op) (asked_of self.now).fixed }
@@ -119,7 +143,7 @@ impl Request {
                 slot: _,
                 off: _,
                 len,
-            } => len > MOST_BYTES,
+            } => len > LONGEST_READ,
             _ => false,
         }
     }
@@ -129,7 +153,7 @@ impl Request {
         ensures { result ≡ is_long_update (operation_of self.now.op) }
     {
         match &self.op {
-            Op::Update { off: _, list } => list.len() > MOST_ENTRIES,
+            Op::Update { off: _, list } => list.len() > LONGEST_UPDATE,
             _ => false,
         }
     }

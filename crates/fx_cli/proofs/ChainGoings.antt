@@ -12,8 +12,8 @@ use Rattle.fx_plain.specs.History.{◌▷▷◌}
 use Rattle.fx_chain.specs.Accepted.{IsWithinLimits}
 use Rattle.fx_chain.specs.Answers.{Answers}
 use Rattle.fx_chain.specs.Completed.{Completed, completed_of, all_completed, next_member, refusal}
-use Rattle.fx_chain.specs.Explains.{Explains, canceled, severs, operations_in, first_member}
-use Rattle.fx_chain.specs.Operation.{Operation, Asked, asked_of, all_asked}
+use Rattle.fx_chain.specs.Explains.{Explains, canceled, severs, first_member}
+use Rattle.fx_chain.specs.Operation.{Asked, asked_of, all_asked}
 use Rattle.fx_chain.specs.Weights.{installs_of, weight_of, all_installs, all_weights}
 use Rattle.fx_chain.specs.declared.completion.Completion.{Completion}
 use Rattle.fx_chain.specs.declared.completion.Place.{Place}
@@ -30,17 +30,17 @@ test_holds : (b : Bool) (P Q : Type 0) → b ≡ true → P → MatchBool b P Q
 test_holds b P Q is p = subst (λ (z : Bool). MatchBool z P Q) (sym is) p
 
 -- whatever the members that are left do, the whole chain did it behind what was done
-abbrev pub MembersOn : List FileEntry → ℕ → Place → List Operation → State → CloseListView → Place → List Operation → State → CloseListView → List Completed → Type 0
+abbrev pub MembersOn : List FileEntry → ℕ → Place → List Asked → State → CloseListView → Place → List Asked → State → CloseListView → List Completed → Type 0
 MembersOn catalogue size start all first before place left now listed done =
     (events : List Action) (last : State) (closed : CloseListView) (cs : List Completed) → Did now last listed closed events → Explains catalogue size place left events cs
     → DidSo first last before closed (λ h. Explains catalogue size start all h (done ++ cs))
 
-module _ (catalogue : List FileEntry) (size : ℕ) (start : Place) (all : List Operation) (first : State) (before : CloseListView) where
+module _ (catalogue : List FileEntry) (size : ℕ) (start : Place) (all : List Asked) (first : State) (before : CloseListView) where
   pub members_none : MembersOn catalogue size start all first before start all first before []
   members_none events last closed cs did explains = (events, did, explains)
 
-  module _ (place : Place) (operation : Operation) (left : List Operation) (now next : State) (listed mid : CloseListView) (done : List Completed) (c : Completed)
-      (goes : MembersOn catalogue size start all first before place (operation ∷ left) now listed done) (own : DidSo now next listed mid (λ events. Answers catalogue size place operation events c)) where
+  module _ (place : Place) (operation : Asked) (left : List Asked) (now next : State) (listed mid : CloseListView) (done : List Completed) (c : Completed)
+      (goes : MembersOn catalogue size start all first before place (operation ∷ left) now listed done) (own : DidSo now next listed mid (λ events. Answers catalogue size place operation.operation events c)) where
     -- a member that doesn't sever the chain
     pub members_next : severs operation c ≡ false → MembersOn catalogue size start all first before (next_member place) left next mid (done ++ c ∷ [])
     members_next goes_on events last closed cs did explains =
@@ -77,28 +77,28 @@ within_at requests i x inside is within =
 pub completed_more : (xs ys : List Completion) (c : Completion) → ys ≡ xs ++ c ∷ [] → all_completed ys ≡ all_completed xs ++ completed_of c ∷ []
 completed_more xs ys c is = ap all_completed is ∙ map-append completed_of xs (c ∷ [])
 
-pub operations_from : (requests : List Request) (i : ℕ) → drop i (operations_in (all_asked requests)) ≡ operations_in (asked_from requests i)
-operations_from requests i = drop-map (λ (r : Asked). r.operation) i (all_asked requests) ∙ ap operations_in (drop-map asked_of i requests)
+pub operations_from : (requests : List Request) (i : ℕ) → drop i (all_asked requests) ≡ asked_from requests i
+operations_from requests i = drop-map asked_of i requests
 
 -- the place behind a member is that of the next one
 pub next_place : (submission chain i : ℕ) → next_member (record { submission = submission; chain = chain; member = i + 1 }) ≡ member_at (first_member submission chain) (i + 1)
 next_place submission chain i = λ k. record { submission = submission; chain = chain; member = (let e : (i + 1) + 1 ≡ 1 + (i + 1) = omega arith in e) k }
 
-canceled_front : (place : Place) (operations : List Operation) → 0 < length operations → canceled place operations ≡ refusal place ECANCELED ∷ canceled (next_member place) (drop 1 operations)
+canceled_front : (place : Place) (operations : List Asked) → 0 < length operations → canceled place operations ≡ refusal place ECANCELED ∷ canceled (next_member place) (drop 1 operations)
 canceled_front place [] some_left = absurd (omega arith)
 canceled_front place (operation ∷ operations) some_left = refl
 
 -- one member more is canceled
-pub canceled_next : (submission chain i : ℕ) (requests : List Request) → i < length requests → canceled (member_at (first_member submission chain) i) (operations_in (asked_from requests i))
-    ≡ refusal (record { submission = submission; chain = chain; member = i + 1 }) ECANCELED ∷ canceled (member_at (first_member submission chain) (i + 1)) (operations_in (asked_from requests (i + 1)))
+pub canceled_next : (submission chain i : ℕ) (requests : List Request) → i < length requests → canceled (member_at (first_member submission chain) i) (asked_from requests i)
+    ≡ refusal (record { submission = submission; chain = chain; member = i + 1 }) ECANCELED ∷ canceled (member_at (first_member submission chain) (i + 1)) (asked_from requests (i + 1))
 canceled_next submission chain i requests inside =
-    let all : List Operation = operations_in (all_asked requests) in
-    let here : operations_in (asked_from requests i) ≡ drop i (operations_in (all_asked requests)) = sym (operations_from requests i) in
-    let len : length (operations_in (all_asked requests)) ≡ length requests = length-map (all_asked requests) (λ (r : Asked). r.operation) ∙ length-map requests asked_of in
-    let some_left : 0 < length (operations_in (asked_from requests i)) = let l = ap length here in let d = length-drop i (operations_in (all_asked requests)) in omega arith in
-    let rest : drop 1 (operations_in (asked_from requests i)) ≡ operations_in (asked_from requests (i + 1)) =
-    ap (drop 1) here ∙ drop-drop 1 i (operations_in (all_asked requests)) ∙ operations_from requests (i + 1) in
+    let all : List Asked = (all_asked requests) in
+    let here : (asked_from requests i) ≡ drop i (all_asked requests) = sym (operations_from requests i) in
+    let len : length (all_asked requests) ≡ length requests = length-map requests asked_of in
+    let some_left : 0 < length (asked_from requests i) = let l = ap length here in let d = length-drop i (all_asked requests) in omega arith in
+    let rest : drop 1 (asked_from requests i) ≡ (asked_from requests (i + 1)) =
+    ap (drop 1) here ∙ drop-drop 1 i (all_asked requests) ∙ operations_from requests (i + 1) in
     let place_is : member_at (first_member submission chain) i ≡ record { submission = submission; chain = chain; member = i + 1 } = λ k. record { submission = submission; chain = chain; member = (let e : 1 + i ≡ i + 1 = omega arith in e) k } in
-    canceled_front (member_at (first_member submission chain) i) (operations_in (asked_from requests i)) some_left
+    canceled_front (member_at (first_member submission chain) i) (asked_from requests i) some_left
     ∙ (λ k. refusal (place_is k) ECANCELED ∷ canceled (next_member (place_is k)) (rest k))
-    ∙ ap (λ (place : Place). refusal (record { submission = submission; chain = chain; member = i + 1 }) ECANCELED ∷ canceled place (operations_in (asked_from requests (i + 1)))) (next_place submission chain i)
+    ∙ ap (λ (place : Place). refusal (record { submission = submission; chain = chain; member = i + 1 }) ECANCELED ∷ canceled place (asked_from requests (i + 1))) (next_place submission chain i)

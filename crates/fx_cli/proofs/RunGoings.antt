@@ -11,7 +11,7 @@ use Rattle.fx_plain.specs.History.{◌▷▷◌}
 use Rattle.fx_plain.specs.Totals.{total}
 use Rattle.fx_chain.specs.Accepted.{members_of}
 use Rattle.fx_chain.specs.Completed.{Completed}
-use Rattle.fx_chain.specs.Explains.{Explains, ExplainsRuns, operations_in, first_member}
+use Rattle.fx_chain.specs.Explains.{Explains, ExplainsRuns, first_member}
 use Rattle.fx_chain.specs.Operation.{Asked, asked_of, all_asked}
 use Rattle.fx_chain.specs.Runs.{runs_of}
 use Rattle.fx_chain.specs.Weights.{all_weights, weight_of}
@@ -33,7 +33,7 @@ module _ (catalogue : List FileEntry) (size submission : ℕ) (all : List (List 
   runs_none events last closed cs did explains = (events, did, explains)
 
   pub runs_next : (chain : ℕ) (run : List Asked) (left : List (List Asked)) (now next : State) (listed mid : CloseListView) (done cs : List Completed) → RunsOn catalogue size submission all first before chain (run ∷ left) now listed done
-      → DidSo now next listed mid (λ events. Explains catalogue size (first_member submission chain) (operations_in run) events cs) → RunsOn catalogue size submission all first before (chain + 1) left next mid (done ++ cs)
+      → DidSo now next listed mid (λ events. Explains catalogue size (first_member submission chain) run events cs) → RunsOn catalogue size submission all first before (chain + 1) left next mid (done ++ cs)
   runs_next chain run left now next listed mid done cs goes own events last closed rest did explains =
       subst (λ (xs : List Completed). DidSo first last before closed (λ h. ExplainsRuns catalogue size submission 1 all h xs)) (sym (append_assoc done cs rest))
       (goes (own.0 ▷▷ events) last closed (cs ++ rest) (did_then now next last listed mid closed own.0 events own.1 did) (own.0, events, cs, rest, refl, refl, own.2, explains))

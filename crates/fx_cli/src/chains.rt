@@ -3,18 +3,17 @@ ghost use Rattle.std.specs.Prelude.{◌≡◌, ◌+◌, ◌*◌, ◌<◌, ◌≤
 ghost use Rattle.fx_plain.specs.Contents.{state_of};
 ghost use Rattle.fx_chain.specs.Accepted.{IsChain, IsShortRun, IsWithinLimits, members_of};
 ghost use Rattle.fx_chain.specs.Completed.{Completed, all_completed, completed_of};
-ghost use Rattle.fx_chain.specs.Explains.{Explains, ExplainsRuns, canceled, first_member, operations_in, severs};
-ghost use Rattle.fx_chain.specs.Operation.{all_asked, operation_of};
+ghost use Rattle.fx_chain.specs.Explains.{Explains, ExplainsRuns, canceled, first_member};
+ghost use Rattle.fx_chain.specs.Operation.{all_asked};
 ghost use Rattle.fx_chain.specs.Runs.{runs_of};
 ghost use Rattle.fx_chain.specs.Weights.{all_installs, all_weights};
-ghost use Rattle.fx_chain.specs.Faults.{is_long_read};
 ghost use Rattle.fx_cli.specs.Performs.{IsAtRest, Did, DidSo, Used};
 ghost use Rattle.fx_cli.specs.Played.{member_at, DidMembers};
 
 use crate::perform::{perform, refusal};
 use crate::supply::Numbers;
 use fx_base::{Catalogue, CloseList, Errno};
-use fx_chain::{Chain, Completion, Op, Place, Request};
+use fx_chain::{Chain, Completion, Place, Request};
 use fx_plain::PlainTable;
 use std::alloc::Global;
 
@@ -23,24 +22,6 @@ const FIRST_NUMBER: u32 = 256;
 
 /// How many numbers each chain has.
 const NUMBERS_PER_CHAIN: u32 = 64;
-
-// Whether a request severs its chain: it failed, or is a read that gave fewer bytes than asked.
-fn severs(op: &Op, completion: &Completion) -> bool
-    requires { is_long_read (operation_of op.now) ≡ false }
-    ensures { result ≡ severs (operation_of op.now) (completed_of completion.now) }
-{
-    if completion.res < 0 {
-        return true;
-    }
-    match op {
-        Op::Read {
-            slot: _,
-            off: _,
-            len,
-        } => completion.res < *len as i32,
-        _ => false,
-    }
-}
 
 // Plays the members of a chain up to and with the first that severs it. How many were played.
 fn play_members(
@@ -62,7 +43,7 @@ fn play_members(
     requires room { vec_len completions.old + length requests.now ≤ vec_capacity completions.old }
     ensures played { result ≤ length requests.now }
     ensures steps { DidMembers catalogue.now (state_of table.old) (state_of table.new) closes.old closes.new (first_member submission chain)
-        (operations_in (all_asked requests.now)) result (all_completed completions.old.items) (all_completed completions.new.items) }
+        (all_asked requests.now) result (all_completed completions.old.items) (all_completed completions.new.items) }
     ensures rest { IsAtRest (length catalogue.now) (state_of table.new) closes.new numbers.new.next numbers.new.last }
     ensures used { Used closes.old closes.new numbers.old.next numbers.new.next numbers.old.last numbers.new.last (all_weights (all_asked requests.now)) (all_installs (all_asked requests.now)) }
     ensures count { vec_len completions.new ≡ vec_len completions.old + result }
@@ -75,7 +56,7 @@ fn play_members(
             member: i as u32 + 1,
         };
         let completion = perform(alloc, table, catalogue, place, &request.op, numbers, closes);
-        let is_last = severs(&request.op, &completion);
+        let is_last = request.severs(&completion);
         completions.push(completion).unwrap();
         if is_last {
             return i + 1;
@@ -97,7 +78,7 @@ fn cancel_members(
     requires from { from ≤ length requests.now }
     requires room { vec_len completions.old + length requests.now ≤ vec_capacity completions.old + from }
     ensures canceled { all_completed completions.new.items ≡ all_completed completions.old.items
-        ++ canceled (member_at (first_member submission chain) from) (operations_in (all_asked (drop from requests.now))) }
+        ++ canceled (member_at (first_member submission chain) from) (all_asked (drop from requests.now)) }
     ensures count { vec_len completions.new + from ≡ vec_len completions.old + length requests.now }
     ensures capacity { vec_capacity completions.old ≤ vec_capacity completions.new }
 {
@@ -132,7 +113,7 @@ fn play_chain(
     requires closes { all_weights (all_asked requests.now) ≤ closes.old.room }
     requires room { vec_len completions.old + length requests.now ≤ vec_capacity completions.old }
     ensures steps { (cs : List Completed) × (all_completed completions.new.items ≡ all_completed completions.old.items ++ cs)
-        × DidSo (state_of table.old) (state_of table.new) closes.old closes.new (λ events. Explains catalogue.now (state_of table.old).size (first_member submission chain) (operations_in (all_asked requests.now)) events cs) }
+        × DidSo (state_of table.old) (state_of table.new) closes.old closes.new (λ events. Explains catalogue.now (state_of table.old).size (first_member submission chain) (all_asked requests.now) events cs) }
     ensures rest { IsAtRest (length catalogue.now) (state_of table.new) closes.new numbers.new.next numbers.new.last }
     ensures used { Used closes.old closes.new numbers.old.next numbers.new.next numbers.old.last numbers.new.last (all_weights (all_asked requests.now)) (all_installs (all_asked requests.now)) }
     ensures count { vec_len completions.new ≡ vec_len completions.old + length requests.now }
@@ -174,7 +155,7 @@ fn play_run(
     requires closes { all_weights (members_of (all_asked requests.now) chain.now) ≤ closes.old.room }
     requires room { vec_len completions.old + chain.now.len ≤ vec_capacity completions.old }
     ensures steps { (cs : List Completed) × (all_completed completions.new.items ≡ all_completed completions.old.items ++ cs)
-        × DidSo (state_of table.old) (state_of table.new) closes.old closes.new (λ events. Explains catalogue.now (state_of table.old).size (first_member submission number) (operations_in (members_of (all_asked requests.now) chain.now)) events cs) }
+        × DidSo (state_of table.old) (state_of table.new) closes.old closes.new (λ events. Explains catalogue.now (state_of table.old).size (first_member submission number) (members_of (all_asked requests.now) chain.now) events cs) }
     ensures rest { IsAtRest (length catalogue.now) (state_of table.new) closes.new (192 + 64 * (number + 1)) last }
     ensures closes { closes.old.room ≤ closes.new.room + all_weights (members_of (all_asked requests.now) chain.now) }
     ensures count { vec_len completions.new ≡ vec_len completions.old + chain.now.len }

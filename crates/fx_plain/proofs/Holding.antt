@@ -6,7 +6,7 @@ use Rattle.fx_plain.specs.declared.event.File.{File}
 use Rattle.fx_plain.specs.declared.event.Action.TheVariants.{Look, Release}
 use Rattle.fx_plain.specs.Step.{Steps, changed_at, after}
 use Rattle.fx_plain.specs.History.{Leads, close_of, ◌▷◌, ◌▷▷◌}
-use Rattle.fx_plain.specs.Contents.{Contents, IsTable, IsCounted, state_of, slot_at, node_at, file_at, placed_at, leaving, removed_at, is_fresh, is_leaving, is_retired, file_in, node_after_retirement, removed_count_of, itself, At, Leaving, Retired, Gone}
+use Rattle.fx_plain.specs.Contents.{Contents, IsTable, IsCounted, state_of, slot_at, node_at, file_at, placed_at, leaving, removed_at, is_fresh, is_leaving, is_retired, file_in, node_after_retirement, removed_count_of, itself, Fresh, At, Leaving, Retired, Gone}
 use Rattle.fx_plain.specs.Table.{numbered, identity_of, closed_by_release, closed_by_retirement, HasRoomForHold}
 use Rattle.fx_plain.specs.declared.node.Node.{Node}
 use Rattle.fx_plain.proofs.Cells.{by_equality, unchanged, written, inside_of}
@@ -177,6 +177,17 @@ with_holds c holds now is = λ i. record c { holds = is i }
 pub with_nodes : (c : Contents) (nodes now : List Node) → nodes ≡ now → record c { nodes = nodes } ≡ record c { nodes = now }
 with_nodes c nodes now is = λ i. record c { nodes = is i }
 
+none_by_release : (n : ℕ) (last : Bool) (node : Node) → is_retired node ≡ false → (if last && not (is_leaving node) then removed_at n node else None) ≡ None
+none_by_release n true Fresh unretired = refl
+none_by_release n false Fresh unretired = refl
+none_by_release n true (At slot file) unretired = refl
+none_by_release n false (At slot file) unretired = refl
+none_by_release n true (Leaving file) unretired = refl
+none_by_release n false (Leaving file) unretired = refl
+none_by_release n last (Retired file) unretired = cc
+none_by_release n true Gone unretired = refl
+none_by_release n false Gone unretired = refl
+
 -- a hold is given up
 module _ (c : Contents) (n : ℕ) (t : IsTable c) (some_hold : 0 < slice_index c.holds n) where
   pub less_inside : n < length c.holds
@@ -221,6 +232,18 @@ module _ (c : Contents) (n : ℕ) (t : IsTable c) (some_hold : 0 < slice_index c
         let more = others (ap (λ (k : ℕ). is_retired (node_at c.nodes k)) (sym same) ∙ is) in omega arith)
         (λ other. let now = less_else m other in let was = t.held m is in omega arith);
   }
+
+  -- a release that closes nothing
+  stays_open : closed_by_release c n ≡ None → (f : File) → f.number ≡ n → Leads (state_of c) ([] ▷ Release f ▷▷ close_of (closed_by_release c n)) (state_of (held_less c n))
+  stays_open none f same = subst (λ (x : Option File). Leads (state_of c) ([] ▷ Release f ▷▷ close_of x) (state_of (held_less c n))) (sym none)
+      ((tt, subst (λ (k : ℕ). 0 < (state_of c).holds k) (sym same) some_hold), state_of-less f same)
+
+  pub more_steps : (left : ℕ) → left + 1 ≡ slice_index c.holds n → left ≢ 0 → (f : File) → f.number ≡ n → Leads (state_of c) ([] ▷ Release f ▷▷ close_of (closed_by_release c n)) (state_of (held_less c n))
+  more_steps left was some_left = stays_open (by_equality (slice_index c.holds n) 1 (λ b. (if b && not (leaving c n) then (state_of c).removed n else None) ≡ None)
+      (λ one. absurd (omega arith)) (λ other. refl))
+
+  pub open_steps : is_retired (node_at c.nodes n) ≡ false → (f : File) → f.number ≡ n → Leads (state_of c) ([] ▷ Release f ▷▷ close_of (closed_by_release c n)) (state_of (held_less c n))
+  open_steps unretired = stays_open (none_by_release n (slice_index c.holds n == 1) (node_at c.nodes n) unretired)
 
   pub more_keeps : (left : ℕ) → left + 1 ≡ slice_index c.holds n → left ≢ 0 → IsTable (held_less c n)
   more_keeps left was some_left = less_keeps (λ _. omega arith)

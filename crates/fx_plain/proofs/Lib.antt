@@ -1,3 +1,4 @@
+pub mod ReservedLists
 pub mod Cells
 pub mod Leading
 pub mod TotalLemmas
@@ -13,3 +14,4 @@ pub mod Named
 pub mod LawHolds
 pub mod LawTallies
 pub mod LawFiles
+pub mod FilesWereInstalled

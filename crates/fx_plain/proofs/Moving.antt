@@ -1,5 +1,5 @@
 -- Each file moves to the node of its slot's number, one slot after another.
-use Rattle.std.proofs.Common.{◌≡◌, ◌≢◌, ℕ, ◌+◌, ◌<◌, ◌≤◌, List, [], ◌∷◌, ◌++◌, length, refl, sym, ap, ◌∙◌, slice_set, Option, Some, None, IfSome, arith}
+use Rattle.std.proofs.Common.{◌≡◌, ◌≢◌, ℕ, ◌+◌, ◌<◌, ◌≤◌, List, [], ◌∷◌, ◌++◌, length, refl, sym, ap, ◌∙◌, slice_set, Option, Some, None, IfSome, IsSome, arith}
 use Rattle.std.proofs.lemmas.List.{length-set, get_or-set_same, get_or-set_other, get_or_append_left}
 use Rattle.std.proofs.Math.Seq.{get_or-append_seam}
 use Rattle.fx_plain.specs.Contents.{AllPlaced, slot_at, node_at, file_named, file_in, opening_slot, nodes_without, file_count_of, Gone}
@@ -7,7 +7,7 @@ use Rattle.fx_plain.specs.Totals.{total}
 use Rattle.fx_plain.specs.declared.node.Node.{Node}
 use Rattle.fx_plain.proofs.Cells.{by_equality}
 use Rattle.fx_plain.proofs.TotalLemmas.{total_set}
-use Rattle.fx_plain.proofs.Writes.{inside_of-At}
+use Rattle.fx_plain.proofs.Writes.{has_file-At}
 use Rattle.fx_plain.proofs.Removals.{other_number}
 
 -- what the slots from s on name is as it was
@@ -15,11 +15,11 @@ abbrev pub IsLeft : List (Option ℕ) → List Node → List Node → ℕ → Ty
 IsLeft slots first nodes s = (u number : ℕ) → s ≤ u → slot_at slots u ≡ Some number → node_at nodes number ≡ node_at first number
 
 module _ (slots : List (Option ℕ)) (first nodes : List Node) (s : ℕ) (placed : AllPlaced slots first) (left : IsLeft slots first nodes s) where
-  named_inside : (x : Option ℕ) → slot_at slots s ≡ x → IfSome x (λ n. n < length nodes)
+  named_inside : (x : Option ℕ) → slot_at slots s ≡ x → IfSome x (λ n. IsSome (file_in (node_at nodes n)))
   named_inside None is = tt
-  named_inside (Some n) is = let there = placed s n is in inside_of-At nodes n s there.0 (left s n (omega arith) is ∙ there.1)
+  named_inside (Some n) is = let there = placed s n is in has_file-At nodes n s there.0 (left s n (omega arith) is ∙ there.1)
 
-  pub inside_named : IfSome (slot_at slots s) (λ n. n < length nodes)
+  pub inside_named : IfSome (slot_at slots s) (λ n. IsSome (file_in (node_at nodes n)))
   inside_named = named_inside (slot_at slots s) refl
 
   same_named : (x : Option ℕ) → slot_at slots s ≡ x → file_named nodes x ≡ file_named first x

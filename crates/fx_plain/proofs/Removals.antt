@@ -139,7 +139,7 @@ module _ (c : Contents) (slot n : ℕ) (file : Closed) (t : IsTable c) (inside :
   n_inside : n < length c.nodes
   n_inside = inside_of-Fresh c.nodes n fresh
 
-  still_names : (x : Option ℕ) → slot_at c.slots slot ≡ x → Names with_file x slot
+  pub still_names : (x : Option ℕ) → slot_at c.slots slot ≡ x → Names with_file x slot
   still_names None is = tt
   still_names (Some old) is = let there = t.placed slot old is in (there.0, get_or-set_other c.nodes n old (At slot file) Gone (fresh_number c slot old n t fresh is) ∙ there.1)
 

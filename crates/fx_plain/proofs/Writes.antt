@@ -1,9 +1,9 @@
 -- What is read of a table after one of its lists was written at one place.
-use Rattle.std.proofs.Common.{◌≡◌, ◌≢◌, ℕ, ◌<◌, true, List, length, refl, sym, ap, ◌∙◌, slice_set, Option, Some, None}
+use Rattle.std.proofs.Common.{◌≡◌, ◌≢◌, ℕ, ◌<◌, true, List, length, refl, sym, ap, ◌∙◌, slice_set, subst, IsSome, Option, Some, None}
 use Rattle.std.proofs.lemmas.List.{get_or-set_other}
 use Rattle.fx_base.specs.declared.open_file.Closed.{Closed}
 use Rattle.fx_plain.specs.Step.{changed_at}
-use Rattle.fx_plain.specs.Contents.{Contents, IsTable, state_of, slot_at, node_at, file_at, placed_at, leaving, removed_at, is_fresh, is_leaving, is_retired, Fresh, At, Leaving, Retired, Gone}
+use Rattle.fx_plain.specs.Contents.{Contents, IsTable, state_of, slot_at, node_at, file_at, placed_at, leaving, removed_at, is_fresh, is_leaving, is_retired, file_in, Fresh, At, Leaving, Retired, Gone}
 use Rattle.fx_plain.specs.declared.node.Node.{Node}
 use Rattle.fx_plain.proofs.Cells.{written, inside_of}
 
@@ -19,6 +19,10 @@ inside_of-Leaving nodes n going = inside_of nodes n Gone (λ (gone : node_at nod
 
 pub inside_of-Retired : (nodes : List Node) (n : ℕ) → is_retired (node_at nodes n) ≡ true → n < length nodes
 inside_of-Retired nodes n going = inside_of nodes n Gone (λ (gone : node_at nodes n ≡ Gone). let e : is_retired Gone ≡ true = ap is_retired (sym gone) ∙ going in cc)
+
+-- a node has a file, at a slot or removed
+pub has_file-At : (nodes : List Node) (n slot : ℕ) (file : Closed) → node_at nodes n ≡ At slot file → IsSome (file_in (node_at nodes n))
+has_file-At nodes n slot file is = subst (λ (node : Node). IsSome (file_in node)) (sym is) refl
 
 -- a node by what is told of it
 pub fresh_is : (node : Node) → is_fresh node ≡ true → node ≡ Fresh
@@ -41,6 +45,12 @@ retired_is (At slot file) e = cc
 retired_is (Leaving file) e = cc
 retired_is (Retired file) e = (file, refl)
 retired_is Gone e = cc
+
+pub has_file-leaving : (node : Node) → is_leaving node ≡ true → IsSome (file_in node)
+has_file-leaving node going = let l = leaving_is node going in subst (λ (x : Node). IsSome (file_in x)) (sym l.1) refl
+
+pub has_file-retired : (node : Node) → is_retired node ≡ true → IsSome (file_in node)
+has_file-retired node going = let l = retired_is node going in subst (λ (x : Node). IsSome (file_in x)) (sym l.1) refl
 
 -- no slot names the number of a node that isn't at a slot
 abbrev pub IsOff : Node → Type 0

@@ -5,6 +5,7 @@ use Rattle.fx_base.specs.declared.open_file.Closed.{Closed}
 use Rattle.fx_plain.specs.State.{State}
 use Rattle.fx_plain.specs.Totals.{total}
 use Rattle.fx_plain.specs.declared.event.File.{File}
+use Rattle.fx_plain.specs.declared.table.TheConstants.{MOST_SLOTS}
 use Rattle.fx_plain.specs.declared.node.Node.{Node}
 pub use Rattle.fx_plain.specs.declared.node.Node.TheVariants.{Fresh, At, Leaving, Retired, Gone}
 
@@ -89,7 +90,7 @@ AllPlaced slots nodes = (slot number : ℕ) → slot_at slots slot ≡ Some numb
 
 -- what every table keeps
 pub record IsTable (c : Contents) : Type 0 where
-  pub few_slots : length c.slots ≤ 256
+  pub few_slots : length c.slots ≤ MOST_SLOTS
   pub range_inside : c.range.0 + c.range.1 ≤ length c.slots
   pub few_nodes : length c.nodes < 2 ^ 32
   pub same_numbers : length c.holds ≡ length c.nodes

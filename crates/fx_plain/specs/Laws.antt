@@ -68,6 +68,11 @@ abbrev pub IsInstalled : List Event → File → Type 0
 IsInstalled [] f = ⊥
 IsInstalled (e ∷ h) f = IsInstalled h f ⊎ (installed_by e.action ≡ Some f)
 
+-- the file was closed
+abbrev pub IsClosed : List Event → File → Type 0
+IsClosed [] f = ⊥
+IsClosed (e ∷ h) f = IsClosed h f ⊎ (e.action ≡ Close f)
+
 -- the file is at a slot at the end, and was never closed
 abbrev pub IsStillThere : List Event → State → File → Type 0
 IsStillThere h end f = IsAtSlot end f × (closes_of f.number h ≡ [])
@@ -103,6 +108,16 @@ EveryRemovedFileIsClosed =
     → IsSettled end
     → IsAtSlot start f ⊎ IsInstalled h f
     → IsStillThere h end f ⊎ IsClosedOnce h end f
+
+-- where no file was removed and not closed at the start, each file that was closed, or is at a slot at the end, was at a
+-- slot at the start or was installed
+abbrev pub EveryFileWasThereOrInstalled : Type 0
+EveryFileWasThereOrInstalled =
+    (start end : State) (h : List Event) (f : File)
+    → ((number : ℕ) → start.removed number ≡ None)
+    → IsLegal start h end
+    → IsAtSlot end f ⊎ IsClosed h f
+    → IsAtSlot start f ⊎ IsInstalled h f
 
 -- the state that passes begin with is one in which the laws' histories may begin
 abbrev pub OpeningIsStart : Type 0

@@ -2,6 +2,7 @@ pub mod State
 pub mod Step
 pub mod History
 pub mod Totals
+pub mod Reserved
 pub mod Contents
 pub mod Table
 pub mod Laws

@@ -1,7 +1,7 @@
 //! Laws of histories, over the steps of the model and legal histories alone. Each is the contract of a function that
 //! does nothing (this project's own).
 
-ghost use Rattle.fx_plain.specs.Laws.{NoCloseWhileHeld, ClosedAtMostOnce, EveryRemovedFileIsClosed, OpeningIsStart};
+ghost use Rattle.fx_plain.specs.Laws.{NoCloseWhileHeld, ClosedAtMostOnce, EveryRemovedFileIsClosed, EveryFileWasThereOrInstalled, OpeningIsStart};
 
 /// A file that a pass looked up is not closed before the pass releases it.
 pub fn no_close_while_held()
@@ -17,6 +17,12 @@ pub fn closed_at_most_once()
 /// since is still at a slot and was never closed, or is at no slot and was closed once.
 pub fn every_removed_file_is_closed()
     ensures { EveryRemovedFileIsClosed }
+{}
+
+/// Where no file waits for its close at the start, each file that was closed, or is at a slot at the end, was at a slot
+/// at the start or was installed since. So what holds of those holds of every file of the table.
+pub fn every_file_was_there_or_installed()
+    ensures { EveryFileWasThereOrInstalled }
 {}
 
 /// The state that passes begin with is one from which the laws above speak.

@@ -2,11 +2,13 @@
 #![tactic(auto)]
 
 mod event;
+mod hold_list;
 pub mod laws;
 mod node;
+mod node_list;
 mod table;
 #[cfg(test)]
 mod tests;
 
 pub use event::{Action, Event, File};
-pub use table::{BadRange, PlainTable};
+pub use table::{BadRange, MOST_SLOTS, PlainTable};

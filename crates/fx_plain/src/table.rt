@@ -1,16 +1,20 @@
 ghost use Rattle.std.specs.Prelude.{◌≡◌, ◌+◌, ◌<◌, ◌≤◌, ◌↔◌, ℕ, length, true, option_map, IfOk, IsTrue, IsOk, OnOk, OnErr};
 ghost use Rattle.fx_plain.specs.State.{vacant, IsSettled, files_of};
 ghost use Rattle.fx_plain.specs.Contents.{state_of, leaving, numbers_of, IsTable};
-ghost use Rattle.fx_plain.specs.Table.{SetsRange};
+ghost use Rattle.fx_plain.specs.Table.{SetsRange, identity_of};
 
 mod holds;
 mod life;
 mod slots;
 
-use crate::node::{Node, file_in, is_fresh, is_leaving};
-use fx_base::{Mark, NoMemory};
+use crate::hold_list::HoldList;
+use crate::node_list::NodeList;
+use fx_base::{Closed, Mark, NoMemory};
 use std::alloc::Global;
 use std::marker::Model;
+
+/// How many slots a table may have.
+pub const MOST_SLOTS: u32 = 256;
 
 /// The range is not within the table (EINVAL; io_uring_register(2), "IORING_REGISTER_FILE_ALLOC_RANGE").
 #[derive(Clone, Copy, Debug, PartialEq, Eq)]
@@ -30,8 +34,8 @@ pub struct PlainTable {
     range_start: u32,
     range_len: u32,
     // By number, where each file stands, and its holds.
-    nodes: Vec<Node>,
-    holds: Vec<u32>,
+    nodes: NodeList,
+    holds: HoldList,
     numbers: u32,
     // Full slots, holds and removed files, counted so that no test has to go over the lists.
     full: u32,
@@ -44,15 +48,15 @@ impl Model for PlainTable {
 
     ghost Value = { Contents };
 
-    ghost view = { λ t. record { slots = t.slots.items; range = (t.range_start, t.range_len); nodes = t.nodes.items; holds = t.holds.items; numbers = t.numbers } };
+    ghost view = { λ t. record { slots = t.slots.items; range = (t.range_start, t.range_len); nodes = t.nodes; holds = t.holds; numbers = t.numbers } };
 
     ghost invariant = { λ t.
-        IsTable (record { slots = t.slots.items; range = (t.range_start, t.range_len); nodes = t.nodes.items; holds = t.holds.items; numbers = t.numbers })
-        × IsCounted (record { slots = t.slots.items; range = (t.range_start, t.range_len); nodes = t.nodes.items; holds = t.holds.items; numbers = t.numbers }) t.full t.held t.removed };
+        IsTable (record { slots = t.slots.items; range = (t.range_start, t.range_len); nodes = t.nodes; holds = t.holds; numbers = t.numbers })
+        × IsCounted (record { slots = t.slots.items; range = (t.range_start, t.range_len); nodes = t.nodes; holds = t.holds; numbers = t.numbers }) t.full t.held t.removed };
 }
 
 impl PlainTable {
-    /// A table without slots, whose allocation range is empty: what a ring has before a registration. It takes no memory.
+    /// A table without slots, whose allocation range is empty: what a ring has before a registration.
     pub fn none(alloc: Global) -> PlainTable
         ensures state { state_of result ≡ vacant 0 }
         ensures numbers { numbers_of result ≡ 0 }
@@ -61,8 +65,8 @@ impl PlainTable {
             slots: Vec::new(alloc),
             range_start: 0,
             range_len: 0,
-            nodes: Vec::new(alloc),
-            holds: Vec::new(alloc),
+            nodes: NodeList::none(alloc),
+            holds: HoldList::none(alloc),
             numbers: 0,
             full: 0,
             held: 0,
@@ -77,7 +81,7 @@ impl PlainTable {
     /// `NoMemory` where the memory of the slots is refused.
     pub fn sparse(alloc: Global, n: u32) -> Result<PlainTable, NoMemory>
         requires some { 1 ≤ n }
-        requires few { n ≤ 256 }
+        requires few { n ≤ MOST_SLOTS }
         ensures state { IfOk result (λ table. state_of table ≡ vacant n) }
         ensures numbers { IfOk result (λ table. numbers_of table ≡ n) }
     {
@@ -86,8 +90,8 @@ impl PlainTable {
             slots,
             range_start: 0,
             range_len: n,
-            nodes: Vec::new(alloc),
-            holds: Vec::new(alloc),
+            nodes: NodeList::none(alloc),
+            holds: HoldList::none(alloc),
             numbers: n,
             full: 0,
             held: 0,
@@ -98,7 +102,7 @@ impl PlainTable {
     /// How many slots there are, at most 256.
     pub fn size(&self) -> u32
         ensures value { result ≡ (state_of self.now).size }
-        ensures few { result ≤ 256 }
+        ensures few { result ≤ MOST_SLOTS }
         ensures sound { IsTable self.now }
     {
         self.slots.len() as u32
@@ -143,11 +147,7 @@ impl PlainTable {
         requires { slot < (state_of self.now).size }
         ensures { result ≡ option_map (λ f. f.identity.mark) ((state_of self.now).at slot) }
     {
-        let number = self.slots[slot as usize]?;
-        match file_in(&self.nodes[number as usize]) {
-            Some(file) => Some(file.mark()),
-            None => None,
-        }
+        Some(self.identity_at(slot)?.mark)
     }
 
     /// The catalogue entry of the file at a slot, or `None` where the slot is empty.
@@ -155,9 +155,16 @@ impl PlainTable {
         requires { slot < (state_of self.now).size }
         ensures { result ≡ option_map (λ f. f.identity.entry) ((state_of self.now).at slot) }
     {
+        Some(self.identity_at(slot)?.entry)
+    }
+
+    fn identity_at(&self, slot: u32) -> Option<Closed>
+        requires { slot < (state_of self.now).size }
+        ensures { result ≡ identity_of ((state_of self.now).at slot) }
+    {
         let number = self.slots[slot as usize]?;
-        match file_in(&self.nodes[number as usize]) {
-            Some(file) => Some(file.entry()),
+        match self.nodes.file(number) {
+            Some(file) => Some(file.identity()),
             None => None,
         }
     }
@@ -173,30 +180,21 @@ impl PlainTable {
     pub fn is_fresh(&self, number: u32) -> bool
         ensures { result ≡ (state_of self.now).fresh number }
     {
-        match self.nodes.get(number as usize) {
-            Some(node) => is_fresh(node),
-            None => false,
-        }
+        self.nodes.is_fresh(number)
     }
 
     /// Whether the file of the number has a hold. It may be at a slot or removed.
     pub fn is_held(&self, number: u32) -> bool
         ensures { IsTrue result ↔ (0 < (state_of self.now).holds number) }
     {
-        match self.holds.get(number as usize) {
-            Some(holds) => *holds > 0,
-            None => false,
-        }
+        self.holds.of(number) > 0
     }
 
     /// Whether the file of the number was removed and is not retired yet.
     pub fn is_leaving(&self, number: u32) -> bool
         ensures { result ≡ leaving self.now number }
     {
-        match self.nodes.get(number as usize) {
-            Some(node) => is_leaving(node),
-            None => false,
-        }
+        self.nodes.is_leaving(number)
     }
 
     /// Whether no file has a hold and each removed file is closed.

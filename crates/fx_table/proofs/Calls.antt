@@ -7,7 +7,7 @@ use Rattle.fx_plain.specs.History.{IsSeenBy, ◌▷▷◌}
 use Rattle.fx_table.specs.declared.values.Doing.{Doing}
 use Rattle.fx_table.specs.Opening.{Opening}
 use Rattle.fx_table.specs.Pass.{PassView, IsFront, event_of}
-use Rattle.fx_table.specs.Calls.{Use, Adds, nothing, both}
+use Rattle.fx_table.specs.Calls.{Use, Adds, no_use, both_uses}
 
 pub seen_again : (h : List Event) → IsSeenBy h h
 seen_again h = ([], refl)
@@ -16,7 +16,7 @@ pub seen_further : (f g h : List Event) → IsSeenBy f g → IsSeenBy g h → Is
 seen_further f g h a b = (b.0 ++ a.0, b.1 ∙ (ap (λ (x : List Event). b.0 ++ x) a.1 ∙ sym (append_assoc b.0 a.0 f)))
 
 -- a pass that does nothing has added nothing
-pub adds_nothing : (o : Opening) (v : PassView) → IsFront o v → Adds o v [] v.doing nothing v
+pub adds_nothing : (o : Opening) (v : PassView) → IsFront o v → Adds o v [] v.doing no_use v
 adds_nothing o v front = record {
   seen = seen_again v.front;
   front = front;
@@ -25,13 +25,13 @@ adds_nothing o v front = record {
   number = refl;
   chain = refl;
   drawn = refl;
-  told = refl;
+  no_chains_left = refl;
   numbers_left = omega arith;
   looks_left = omega arith;
 }
 
 -- two calls in a row add what both add
-pub adds_then : (o : Opening) (u v w : PassView) (xs ys : List Action) (d e : Doing) (a b : Use) → Adds o u xs d a v → Adds o v ys e b w → Adds o u (xs ▷▷ ys) e (both a b) w
+pub adds_then : (o : Opening) (u v w : PassView) (xs ys : List Action) (d e : Doing) (a b : Use) → Adds o u xs d a v → Adds o v ys e b w → Adds o u (xs ▷▷ ys) e (both_uses a b) w
 adds_then o u v w xs ys d e a b one two = record {
   seen = seen_further u.front v.front w.front one.seen two.seen;
   front = two.front;
@@ -44,7 +44,7 @@ adds_then o u v w xs ys d e a b one two = record {
   number = two.number ∙ one.number;
   chain = two.chain ∙ one.chain;
   drawn = two.drawn ∙ one.drawn;
-  told = two.told ∙ one.told;
+  no_chains_left = two.no_chains_left ∙ one.no_chains_left;
   numbers_left = let p = one.numbers_left in let q = two.numbers_left in omega arith;
   looks_left = let p = one.looks_left in let q = two.looks_left in omega arith;
 }

@@ -1,29 +1,93 @@
--- A chain has one pass.
-use Rattle.std.proofs.Common.{◌≡◌, ℕ, ◌≤◌, List, [], ◌∷◌, sym, ap, ◌∙◌, arith, eqb, eq-eqb, ⊎_elim}
-use Rattle.fx_plain.specs.Totals.{total}
-use Rattle.fx_table.specs.Lists.{Has, bit, times}
-use Rattle.fx_table.specs.Pass.{PassView}
+-- A chain has one pass, and its part of the one history is what that pass did for it.
+use Rattle.std.proofs.Common.{◌≡◌, ℕ, ◌≤◌, true, false, cond, List, [], ◌∷◌, map, sym, refl, ap, subst, ◌∙◌, arith, eqb, eq-eqb, ⊎_elim}
+use Rattle.std.specs.Prelude.{Contains, sum_by, count_by}
+use Rattle.std.proofs.lemmas.List.Elements.{Contains-append_cases}
+use Rattle.std.proofs.lemmas.List.Sums.{sum_by-cons}
+use Rattle.fx_plain.proofs.Cells.{by_equality}
+use Rattle.fx_plain.specs.Contents.{Contents}
+use Rattle.fx_plain.specs.History.{part_of_pass, part_of_chain}
+use Rattle.fx_plain.specs.declared.event.Event.{Event}
+use Rattle.fx_plain.specs.declared.event.Action.{Action}
+use Rattle.fx_table.specs.declared.values.Doing.{Doing}
+use Rattle.fx_table.specs.Opening.{Opening}
+use Rattle.fx_table.specs.Pass.{PassView, IsOfDrawnChains, event_of}
+use Rattle.fx_table.specs.Calls.{Use, Adds}
+use Rattle.fx_table.specs.Closing.{ClosesTable, times_drawn}
+use Rattle.fx_table.proofs.Members.{contains_none, contains_head, contains_tail, contains_cases, contains_map}
+use Rattle.fx_table.proofs.SumLemmas.{sum_of}
 
 -- what stands in a list is counted
-pub times_some : (c : ℕ) (l : List ℕ) → Has l c → 1 ≤ times c l
-times_some c [] h = absurd h
-times_some c (d ∷ l) h = ⊎_elim
-    (λ e. let b : bit (eqb d c) ≡ 1 = rw (eq-eqb d c (sym e)) in omega arith)
-    (λ t. let r = times_some c l t in omega arith) h
+pub some_times : (c : ℕ) (l : List ℕ) → Contains l c → 1 ≤ count_by (λ d. eqb d c) l
+some_times c l h =
+    let one : cond {A = ℕ} (eqb c c) 1 0 ≡ 1 = rw (eq-eqb c c refl) in
+    let a : cond {A = ℕ} (eqb c c) 1 0 ≤ count_by (λ d. eqb d c) l = sum_of (λ d. cond (eqb d c) 1 0) l c h in
+    omega arith
 
-drawn_some : (c : ℕ) (vs : List PassView) (v : PassView) → Has vs v → Has v.drawn c → 1 ≤ total (λ z. times c z.drawn) vs
-drawn_some c [] v h d = absurd h
-drawn_some c (u ∷ vs) v h d = ⊎_elim
-    (λ e. let a : times c v.drawn ≡ times c u.drawn = ap (λ (z : PassView). times c z.drawn) e in let b = times_some c v.drawn d in omega arith)
-    (λ t. let r = drawn_some c vs v t d in omega arith) h
-
--- of passes that have drawn each chain at most once, those that drew one chain are one
-pub one_pass : (c : ℕ) (vs : List PassView) → total (λ v. times c v.drawn) vs ≤ 1 → (v w : PassView) → Has vs v → Has vs w → Has v.drawn c → Has w.drawn c → v ≡ w
-one_pass c [] few v w h i d e = absurd h
-one_pass c (u ∷ vs) few v w h i d e = ⊎_elim
+-- of passes that have drawn a chain at most once in all, those that drew it are one
+pub one_pass : (c : ℕ) (vs : List PassView) → sum_by (times_drawn c) vs ≤ 1 → (v w : PassView)
+    → Contains vs v → Contains vs w → Contains v.drawn c → Contains w.drawn c → v ≡ w
+one_pass c [] few v w h i d e = absurd (contains_none v h)
+one_pass c (u ∷ vs) few v w h i d e =
+    let sum = sum_by-cons (times_drawn c) u vs in
+    let vs_one = some_times c v.drawn d in
+    let ws_one = some_times c w.drawn e in
+    ⊎_elim
     (λ (is : v ≡ u). ⊎_elim
     (λ (same : w ≡ u). is ∙ sym same)
-    (λ t. absurd (let a : times c v.drawn ≡ times c u.drawn = ap (λ (z : PassView). times c z.drawn) is in let b = times_some c v.drawn d in let r = drawn_some c vs w t e in omega arith)) i)
+    (λ t. absurd (let a = ap (times_drawn c) is in let r = sum_of (times_drawn c) vs w t in omega arith)) (contains_cases u vs w i))
     (λ s. ⊎_elim
-    (λ (same : w ≡ u). absurd (let a : times c w.drawn ≡ times c u.drawn = ap (λ (z : PassView). times c z.drawn) same in let b = times_some c w.drawn e in let r = drawn_some c vs v s d in omega arith))
-    (λ t. one_pass c vs (omega arith) v w s t d e) i) h
+    (λ (same : w ≡ u). absurd (let a = ap (times_drawn c) same in let r = sum_of (times_drawn c) vs v s in omega arith))
+    (λ t. one_pass c vs (omega arith) v w s t d e) (contains_cases u vs w i))
+    (contains_cases u vs v h)
+
+pub one_pass_of_chain : (o : Opening) (passes : List PassView) (left : Contents) (chain : ℕ) (one other : PassView)
+    → ClosesTable o passes left → Contains passes one → Contains passes other → Contains one.drawn chain → Contains other.drawn chain → one ≡ other
+one_pass_of_chain o passes left chain one other k h i d e = one_pass chain passes (k.drawn_once chain) one other h i d e
+
+-- an event of a pass stands in its part
+in_part : (p : ℕ) (h : List Event) (e : Event) → Contains h e → e.pass ≡ p → Contains (part_of_pass p h) e
+in_part p [] e i is = absurd (contains_none e i)
+in_part p (x ∷ h) e i is = ⊎_elim
+    (λ (same : e ≡ x). rw (eq-eqb x.pass p (ap (λ (z : Event). z.pass) (sym same) ∙ is))
+    (subst (Contains (x ∷ part_of_pass p h)) (sym same) (contains_head x (part_of_pass p h))))
+    (λ t. elim (eqb x.pass p) as (λ b. Contains (cond b (x ∷ part_of_pass p h) (part_of_pass p h)) e) [
+      | true ↦ contains_tail x (part_of_pass p h) e (in_part p h e t is)
+      | false ↦ in_part p h e t is
+    ])
+    (contains_cases x h e i)
+
+-- where all events of a chain are of one pass, the chain's part is that of the pass's part
+chain_in_pass : (c p : ℕ) (h : List Event) → ((e : Event) → Contains h e → e.chain ≡ c → e.pass ≡ p)
+    → part_of_chain c h ≡ part_of_chain c (part_of_pass p h)
+chain_in_pass c p [] one = refl
+chain_in_pass c p (e ∷ h) one =
+    let rest = chain_in_pass c p h (λ x i. one x (contains_tail e h x i)) in
+    by_equality e.chain c (λ b. cond b (e ∷ part_of_chain c h) (part_of_chain c h) ≡ part_of_chain c (part_of_pass p (e ∷ h)))
+    (λ same. rw (eq-eqb e.pass p (one e (contains_head e h) same), eq-eqb e.chain c same) (ap (λ (l : List Event). e ∷ l) rest))
+    (λ apart. elim (eqb e.pass p) as (λ b. part_of_chain c h ≡ part_of_chain c (cond b (e ∷ part_of_pass p h) (part_of_pass p h))) [
+      | true ↦ by_equality e.chain c
+          (λ b. part_of_chain c h ≡ cond b (e ∷ part_of_chain c (part_of_pass p h)) (part_of_chain c (part_of_pass p h)))
+          (λ same. absurd (apart same)) (λ _. rest)
+      | false ↦ rest
+    ])
+
+pub part_of_drawn : (o : Opening) (passes : List PassView) (left : Contents) (chain : ℕ) (v : PassView) (closing : ClosesTable o passes left)
+    → ((w : PassView) → Contains passes w → IsOfDrawnChains w) → Contains passes v → Contains v.drawn chain
+    → part_of_chain chain closing.history ≡ part_of_chain chain v.own
+part_of_drawn o passes left chain v k drawn_for at drew =
+    chain_in_pass chain v.number k.history (λ e i is.
+    let a = k.authors e i in
+    let mine : Contains a.0.own e = subst (λ (l : List Event). Contains l e) (k.own a.0 a.1) (in_part a.0.number k.history e i a.2) in
+    let same = one_pass chain passes (k.drawn_once chain) a.0 v a.1 at (subst (Contains a.0.drawn) is (drawn_for a.0 a.1 e mine)) drew in
+    a.2 ∙ ap (λ (z : PassView). z.number) same)
+    ∙ ap (part_of_chain chain) (k.own v at)
+
+-- a call's events are of the pass's last chain
+pub keeps_drawn_chains : (o : Opening) (before after : PassView) (actions : List Action) (doing : Doing) (used : Use)
+    → Contains before.drawn before.chain → IsOfDrawnChains before → Adds o before actions doing used after → IsOfDrawnChains after
+keeps_drawn_chains o before after actions doing used drew so_far adds e h =
+    subst (λ (l : List ℕ). Contains l e.chain) (sym adds.drawn) (⊎_elim
+    (λ new. let r = contains_map (event_of before) actions e new in
+    subst (Contains before.drawn) (sym (ap (λ (z : Event). z.chain) r.2)) drew)
+    (λ old. so_far e old)
+    (Contains-append_cases (map (event_of before) actions) before.own e (subst (λ (l : List Event). Contains l e) adds.own h)))

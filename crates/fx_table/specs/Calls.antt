@@ -8,6 +8,7 @@ use Rattle.fx_plain.specs.History.{IsSeenBy, ◌▷◌, ◌▷▷◌}
 use Rattle.fx_plain.specs.Table.{numbered}
 use Rattle.fx_table.specs.Opening.{Opening, size_of, state_at}
 use Rattle.fx_table.specs.Pass.{PassView, IsFront, event_of, next_number, hold_of, retired_of}
+use Rattle.fx_table.specs.declared.limits.TheConstants.{CHAIN_NUMBERS}
 use Rattle.fx_table.specs.declared.values.Doing.{Doing}
 use Rattle.fx_table.specs.declared.values.Doing.TheVariants.{Idle, Holding, Retiring}
 use Rattle.fx_table.specs.declared.values.Hold.{Hold}
@@ -21,8 +22,8 @@ pub record Use : Type 0 where
   pub numbers : ℕ
   pub looks : ℕ
 
-abbrev pub nothing : Use
-nothing = record { numbers = 0; looks = 0 }
+abbrev pub no_use : Use
+no_use = record { numbers = 0; looks = 0 }
 
 abbrev pub one_look : Use
 one_look = record { numbers = 0; looks = 1 }
@@ -30,8 +31,8 @@ one_look = record { numbers = 0; looks = 1 }
 abbrev pub one_number : Use
 one_number = record { numbers = 1; looks = 0 }
 
-abbrev pub both : Use → Use → Use
-both a b = record { numbers = a.numbers + b.numbers; looks = a.looks + b.looks }
+abbrev pub both_uses : Use → Use → Use
+both_uses a b = record { numbers = a.numbers + b.numbers; looks = a.looks + b.looks }
 
 -- The pass saw more of the history and took these actions, whatever others did between. Now it does `doing`
 pub record Adds (o : Opening) (v : PassView) (actions : List Action) (doing : Doing) (used : Use) (w : PassView) : Type 0 where
@@ -42,7 +43,7 @@ pub record Adds (o : Opening) (v : PassView) (actions : List Action) (doing : Do
   pub number : w.number ≡ v.number
   pub chain : w.chain ≡ v.chain
   pub drawn : w.drawn ≡ v.drawn
-  pub told : w.told ≡ v.told
+  pub no_chains_left : w.no_chains_left ≡ v.no_chains_left
   pub numbers_left : w.numbers_left + used.numbers ≡ v.numbers_left
   pub looks_left : w.looks_left + used.looks ≡ v.looks_left
 
@@ -50,10 +51,11 @@ pub record Adds (o : Opening) (v : PassView) (actions : List Action) (doing : Do
 abbrev pub IsHandedOut : File → Closed → Type 0
 IsHandedOut f file = file ≡ f.identity
 
--- a draw takes no action: the pass has a later chain, with all 64 numbers of it, or is told that there are no more
+-- a draw takes no action: the pass has a later chain, with all numbers of it, or is told that there are no more
 abbrev pub Draws : Opening → PassView → Option ℕ → PassView → Type 0
-Draws o v None w = w ≡ record v { told = true }
-Draws o v (Some c) w = (v.told ≡ false) × (v.chain < c) × (c ≤ o.chains) × (w ≡ record v { chain = c; drawn = v.drawn ▷ c; numbers_left = 64 })
+Draws o v None w = w ≡ record v { no_chains_left = true }
+Draws o v (Some c) w = (v.no_chains_left ≡ false) × (v.chain < c) × (c ≤ o.chains)
+    × (w ≡ record v { chain = c; drawn = v.drawn ▷ c; numbers_left = CHAIN_NUMBERS })
 
 abbrev pub Looked : Opening → PassView → ℕ → Result Hold LookFault → PassView → Type 0
 Looked o v slot (Ok hold) w = (f : File) × (hold ≡ hold_of f) × Adds o v ([] ▷ Look slot (Some f)) (Holding f) one_look w
@@ -62,8 +64,8 @@ Looked o v slot (Err EmptySlot) w = Adds o v ([] ▷ Look slot None) Idle one_lo
 
 -- what the pass held is `f`
 abbrev pub Releases : Opening → PassView → File → Option Closed → PassView → Type 0
-Releases o v f None w = Adds o v ([] ▷ Release f) Idle nothing w
-Releases o v f (Some file) w = IsHandedOut f file × Adds o v ([] ▷ Release f ▷ Close f) Idle nothing w
+Releases o v f None w = Adds o v ([] ▷ Release f) Idle no_use w
+Releases o v f (Some file) w = IsHandedOut f file × Adds o v ([] ▷ Release f ▷ Close f) Idle no_use w
 
 abbrev pub Released : Opening → PassView → Hold → Option Closed → PassView → Type 0
 Released o v hold result w = (f : File) × (v.doing ≡ Holding f) × (hold ≡ hold_of f) × Releases o v f result w
@@ -78,20 +80,20 @@ Placed o v slot file (Some x) w = (f : File) × (x ≡ retired_of f x.takes) × 
 
 abbrev pub Allocated : Opening → PassView → Closed → Result ℕ Closed → PassView → Type 0
 Allocated o v file (Ok slot) w = (slot < size_of o) × Adds o v ([] ▷ Allocate slot (new_file v file)) Idle one_number w
-Allocated o v file (Err back) w = (back ≡ file) × Adds o v ([] ▷ Full) Idle nothing w
+Allocated o v file (Err back) w = (back ≡ file) × Adds o v ([] ▷ Full) Idle no_use w
 
 abbrev pub Cleared : Opening → PassView → ℕ → Option Retired → PassView → Type 0
-Cleared o v slot None w = Adds o v ([] ▷ Clear slot None) Idle nothing w
-Cleared o v slot (Some x) w = (f : File) × (x ≡ retired_of f x.takes) × Adds o v ([] ▷ Clear slot (Some f)) (Retiring f x.takes) nothing w
+Cleared o v slot None w = Adds o v ([] ▷ Clear slot None) Idle no_use w
+Cleared o v slot (Some x) w = (f : File) × (x ≡ retired_of f x.takes) × Adds o v ([] ▷ Clear slot (Some f)) (Retiring f x.takes) no_use w
 
 abbrev pub Taken : Opening → PassView → ℕ → Result Retired Empty → PassView → Type 0
-Taken o v slot (Err _) w = Adds o v ([] ▷ Take slot None) Idle nothing w
-Taken o v slot (Ok x) w = (f : File) × (x ≡ retired_of f x.takes) × Adds o v ([] ▷ Take slot (Some f)) (Retiring f x.takes) nothing w
+Taken o v slot (Err _) w = Adds o v ([] ▷ Take slot None) Idle no_use w
+Taken o v slot (Ok x) w = (f : File) × (x ≡ retired_of f x.takes) × Adds o v ([] ▷ Take slot (Some f)) (Retiring f x.takes) no_use w
 
 -- what the pass removed is `f`: some pass holds it still, at the end of what was seen, or it is closed
 abbrev pub Retires : Opening → PassView → File → Option Closed → PassView → Type 0
-Retires o v f None w = (0 < (state_at o w.front).holds f.number) × Adds o v [] Idle nothing w
-Retires o v f (Some file) w = IsHandedOut f file × Adds o v ([] ▷ Close f) Idle nothing w
+Retires o v f None w = (0 < (state_at o w.front).holds f.number) × Adds o v [] Idle no_use w
+Retires o v f (Some file) w = IsHandedOut f file × Adds o v ([] ▷ Close f) Idle no_use w
 
 abbrev pub HasRetired : Opening → PassView → Retired → Option Closed → PassView → Type 0
 HasRetired o v retired result w = (f : File) × (takes : ℕ) × (v.doing ≡ Retiring f takes) × (retired ≡ retired_of f takes) × Retires o v f result w

@@ -1,10 +1,11 @@
 -- What a shared table begins with, and the states that histories lead to from there.
-use Rattle.std.specs.Prelude.{◌≡◌, ℕ, ◌+◌, ◌*◌, List, map}
-use Rattle.fx_plain.specs.State.{State, opening}
+use Rattle.std.specs.Prelude.{◌≡◌, ℕ, List, map}
+use Rattle.fx_plain.specs.State.{State, opening, IsSettled}
 use Rattle.fx_plain.specs.Contents.{Contents, state_of}
 use Rattle.fx_plain.specs.History.{state_after, action_of}
 use Rattle.fx_plain.specs.Table.{identity_of}
 use Rattle.fx_plain.specs.declared.event.Event.{Event}
+use Rattle.fx_table.specs.Numbers.{numbers_for}
 
 pub record Opening : Type 0 where
   -- the table that was opened
@@ -14,9 +15,8 @@ pub record Opening : Type 0 where
   -- how many passes there are, from 1
   pub passes : ℕ
 
--- how many file numbers there are: 256 for the files that were there, and 64 for each chain
-abbrev pub numbers_for : ℕ → ℕ
-numbers_for chains = 256 + 64 * chains
+abbrev pub opening_with : Contents → ℕ → ℕ → Opening
+opening_with plain chains passes = record { contents = plain; chains = chains; passes = passes }
 
 abbrev pub start_of : Opening → State
 start_of o = opening (state_of o.contents) (numbers_for o.chains)
@@ -36,3 +36,8 @@ pub record HasSameFiles (one other : State) : Type 0 where
   pub size : other.size ≡ one.size
   pub range : other.range ≡ one.range
   pub files : (slot : ℕ) → identity_of (other.at slot) ≡ identity_of (one.at slot)
+
+-- the table that comes back where it could not be opened
+pub record IsGivenBack (plain back : Contents) : Type 0 where
+  pub files : HasSameFiles (state_of plain) (state_of back)
+  pub settled : IsSettled (state_of back)

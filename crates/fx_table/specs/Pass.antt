@@ -1,10 +1,12 @@
 -- A pass as contracts see it.
-use Rattle.std.specs.Prelude.{◌≡◌, ℕ, zero, suc, ◌+◌, ◌-◌, ◌*◌, ◌^◌, Bool, false, List, [], ◌∷◌}
+use Rattle.std.specs.Prelude.{◌≡◌, ℕ, zero, suc, ◌+◌, ◌-◌, Bool, false, List, [], ◌∷◌, Contains}
 use Rattle.fx_plain.specs.declared.event.File.{File}
 use Rattle.fx_plain.specs.declared.event.Event.{Event}
 use Rattle.fx_plain.specs.declared.event.Action.{Action}
 use Rattle.fx_plain.specs.History.{IsLegal, part_of_pass}
+use Rattle.fx_table.specs.Numbers.{numbers_for}
 use Rattle.fx_table.specs.Opening.{Opening, start_of, state_at}
+use Rattle.fx_table.specs.declared.limits.TheConstants.{PASS_LOOKS}
 use Rattle.fx_table.specs.declared.values.Doing.{Doing}
 use Rattle.fx_table.specs.declared.values.Doing.TheVariants.{Idle, Holding, Retiring}
 use Rattle.fx_table.specs.declared.values.Hold.{Hold}
@@ -21,7 +23,7 @@ pub record PassView : Type 0 where
   -- all chains that the pass drew
   pub drawn : List ℕ
   -- whether a draw has answered that there are no more chains
-  pub told : Bool
+  pub no_chains_left : Bool
   -- how many file numbers of the chain are left to the pass
   pub numbers_left : ℕ
   pub looks_left : ℕ
@@ -32,7 +34,7 @@ IsIdle v = v.doing ≡ Idle
 
 -- a pass that has seen and done nothing
 abbrev pub new_pass : ℕ → PassView
-new_pass number = record { number = number; front = []; own = []; chain = 0; drawn = []; told = false; numbers_left = 0; looks_left = 2 ^ 20; doing = Idle }
+new_pass number = record { number = number; front = []; own = []; chain = 0; drawn = []; no_chains_left = false; numbers_left = 0; looks_left = PASS_LOOKS; doing = Idle }
 
 -- the passes from a number on
 abbrev pub new_passes_from : ℕ → ℕ → List PassView
@@ -43,13 +45,17 @@ new_passes_from first (suc n) = new_pass first ∷ new_passes_from (first + 1) n
 abbrev pub new_passes : ℕ → List PassView
 new_passes n = new_passes_from 1 n
 
--- the number that the pass's next installation uses: a chain's 64 numbers are used in their order
+-- the number that the pass's next installation uses: a chain's numbers are used in their order
 abbrev pub next_number : PassView → ℕ
-next_number v = (256 + 64 * v.chain) - v.numbers_left
+next_number v = numbers_for v.chain - v.numbers_left
 
 -- an action of the pass
 abbrev pub event_of : PassView → Action → Event
 event_of v action = record { pass = v.number; chain = v.chain; action = action }
+
+-- each thing that the pass did, it did for a chain that it drew
+abbrev pub IsOfDrawnChains : PassView → Type 0
+IsOfDrawnChains v = (e : Event) → Contains v.own e → Contains v.drawn e.chain
 
 -- the front is legal, and its events of this pass are the pass's own
 pub record IsFront (o : Opening) (v : PassView) : Type 0 where

@@ -1,24 +1,28 @@
+//! The trait that every shared table implements (this project's own).
 ghost use Rattle.std.specs.Prelude.{◌≡◌, ℕ, ◌<◌, ◌≤◌, ◌↔◌, map, length, All, IfOk, IfErr, IsTrue};
 ghost use Rattle.fx_plain.specs.State.{IsSettled};
 ghost use Rattle.fx_plain.specs.Contents.{state_of};
-ghost use Rattle.fx_table.specs.Opening.{Opening, size_of, range_of, HasSameFiles};
+ghost use Rattle.fx_table.specs.Opening.{Opening, opening_with, size_of, range_of, IsGivenBack};
 ghost use Rattle.fx_table.specs.Pass.{PassView, IsIdle, IsFront, IsHoldOf, IsRetiredOf, new_passes};
 ghost use Rattle.fx_table.specs.Calls.{Draws, Looked, Released, Placed, Allocated, Cleared, Taken, HasRetired};
-ghost use Rattle.fx_table.specs.Closing.{Closes};
+ghost use Rattle.fx_table.specs.Closing.{ClosesTable};
 
+use crate::limits::{MAX_CHAINS, MAX_PASSES};
 use crate::values::{Empty, Hold, LookFault, Retired};
 use fx_base::{NoMemory, OpenFile};
 use fx_plain::PlainTable;
 use std::alloc::Global;
 use std::sync::Wait;
 
-/// A file table that threads share, each by a pass of its own (this project's own).
+/// A file table that threads share, each by a pass of its own.
 ///
 /// A pass is idle, holding between `look` and `release`, or retiring between a removal and `retire`. It has a *front*,
 /// the history that it has seen, and its *own* events, what it has done; contracts alone see them. Each call goes on
 /// from the front before it, and adds to the pass's own events what its clause names.
 ///
-/// Slots are below `size()`. A pass is used with the table whose `open` gave it.
+/// What a call asks of its caller has a test: a pass is idle where [`FileTable::is_idle`] says so, a slot is below
+/// [`FileTable::size`], and an installation takes one of [`FileTable::numbers_left`]. No test says which table a pass
+/// is of: it is used with the one whose `open` gave it. A `Hold` and a `Retired` go back to the pass that got them.
 pub trait FileTable: Sync {
     /// What a thread uses the table with.
     type Pass: Send;
@@ -32,12 +36,13 @@ pub trait FileTable: Sync {
     // What the pass has seen and done.
     ghost view: { Self.Pass → PassView };
 
-    /// Shares a settled table between `passes` passes, 1 to 16, which play `chains` chains, at most 1,023. The file at
-    /// slot `s` has number `s`, and chain `c` has the numbers from `256 + 64 * (c - 1)` to `256 + 64 * (c - 1) + 63`.
-    /// The passes are numbered from 1, in the list's order.
+    /// Shares a settled table (`PlainTable::is_settled`) between `passes` passes, 1 to [`crate::MAX_PASSES`], which play
+    /// `chains` chains, at most [`crate::MAX_CHAINS`]. The file at slot `s` has number `s`, and chain `c`, from 1, the
+    /// numbers from `numbers_for(c - 1)` up to `numbers_for(c)` ([`crate::numbers_for`]). The passes are numbered from 1,
+    /// in the list's order.
     ///
     /// # Errors
-    /// `NoMemory` where memory is refused. The table comes back with its files, size and range.
+    /// `NoMemory` where memory is refused. The table comes back settled, with its files, size and range.
     fn open(
         alloc: Global,
         plain: PlainTable,
@@ -45,20 +50,20 @@ pub trait FileTable: Sync {
         passes: u32,
     ) -> Result<(Self, Vec<Self::Pass>), (PlainTable, NoMemory)>
         requires settled { IsSettled (state_of plain) }
-        requires chains { chains ≤ 1023 }
-        requires passes { (1 ≤ passes) × (passes ≤ 16) }
-        ensures opened { IfOk result (λ t. opening t.0 ≡ record { contents = plain; chains = chains; passes = passes }) }
-        ensures fits { IfOk result (λ t. All (fits t.0) t.1.items) }
-        ensures new { IfOk result (λ t. map (λ p. view p) t.1.items ≡ new_passes passes) }
-        ensures files { IfErr result (λ e. HasSameFiles (state_of plain) (state_of e.0)) }
-        ensures refused { IfErr result (λ e. IsSettled (state_of e.0)) };
+        requires chains { chains ≤ MAX_CHAINS }
+        requires passes { (1 ≤ passes) × (passes ≤ MAX_PASSES) }
+        ensures opened { IfOk result (λ (t, _). opening t ≡ opening_with plain chains passes) }
+        ensures fits { IfOk result (λ (t, list). All (fits t) list.items) }
+        ensures new { IfOk result (λ (_, list). map (λ p. view p) list.items ≡ new_passes passes) }
+        ensures refused { IfErr result (λ (back, _). IsGivenBack plain back) };
 
-    /// Makes a table of one thread of it again, when all passes have come back, each of them idle.
+    /// Makes a table of one thread of it again, when all passes have come back, each of them idle (`is_idle`): as many as
+    /// `open` gave, in any order. It can't fail for want of memory.
     fn close(self, passes: Vec<Self::Pass>) -> PlainTable
         requires all { length passes.items ≡ (opening self).passes }
         requires fits { All (fits self) passes.items }
         requires idle { All (λ p. IsIdle (view p)) passes.items }
-        ensures { Closes (opening self) (map (λ p. view p) passes.items) result };
+        ensures { ClosesTable (opening self) (map (λ p. view p) passes.items) result };
 
     /// How many slots there are, at most 256.
     fn size(&self) -> u32
@@ -69,37 +74,36 @@ pub trait FileTable: Sync {
     fn range(&self) -> (u32, u32)
         ensures { result ≡ range_of (opening self.now) };
 
-    /// Whether the pass does nothing now. Its front is legal, as it is behind each call.
+    /// Whether the pass does nothing now.
     fn is_idle(&self, pass: &Self::Pass) -> bool
         requires { fits self.now pass.now }
-        ensures value { IsTrue result ↔ IsIdle (view pass.now) }
-        ensures front { IsFront (opening self.now) (view pass.now) };
+        ensures { IsTrue result ↔ IsIdle (view pass.now) };
 
-    /// How many look-ups are left to the pass, of 1,048,576 at first.
+    /// How many look-ups are left to the pass, of [`crate::PASS_LOOKS`] at first. Each `look` that isn't `Spent` uses one.
     fn looks_left(&self, pass: &Self::Pass) -> u32
         requires { fits self.now pass.now }
         ensures { result ≡ (view pass.now).looks_left };
 
-    /// How many files the pass can install before it draws again: 0 before the first draw, and 64 after each draw that
-    /// gives a chain.
+    /// How many files the pass can install before it draws again: 0 before the first draw, [`crate::CHAIN_NUMBERS`] after
+    /// each draw that gives a chain, and one less after each installation.
     fn numbers_left(&self, pass: &Self::Pass) -> u32
         requires { fits self.now pass.now }
         ensures { result ≡ (view pass.now).numbers_left };
 
-    /// The pass's next chain, or `None` where there are no more. The chains of a pass rise, and no chain is given
-    /// twice. After `None` a pass is answered `None`.
+    /// The next chain of an idle pass (`is_idle`), or `None` where there are no more. The chains of a pass rise, and no
+    /// chain is given twice. After `None` a pass is answered `None`. A draw takes no step.
     fn draw(&self, pass: &mut Self::Pass) -> Option<u32>
         requires fits { fits self.now pass.old }
         requires idle { IsIdle (view pass.old) }
         ensures fits { fits self.now pass.new }
         ensures drawn { Draws (opening self.now) (view pass.old) result (view pass.new) };
 
-    /// Looks a slot up. The file there has one more hold until the pass releases it (io_uring_enter(2),
-    /// "IOSQE_FIXED_FILE").
+    /// Looks a slot below `size` up, by an idle pass (`is_idle`). The file there has one more hold until the pass releases
+    /// it (io_uring_enter(2), "IOSQE_FIXED_FILE").
     ///
     /// # Errors
-    /// `Spent` where the pass has no look-ups left, and nothing is done. `Empty` where the slot has no file. Every
-    /// look-up but one that answers `Spent` uses one of the pass's look-ups.
+    /// `Spent` where the pass has no look-ups left (`looks_left`), and nothing is done. `Empty` where the slot has no
+    /// file. Every look-up but one that answers `Spent` uses one of the pass's look-ups.
     fn look<R: Wait>(&self, rt: &R, pass: &mut Self::Pass, slot: u32) -> Result<Hold, LookFault>
         requires fits { fits self.now pass.old }
         requires idle { IsIdle (view pass.old) }
@@ -107,15 +111,17 @@ pub trait FileTable: Sync {
         ensures fits { fits self.now pass.new }
         ensures looked { Looked (opening self.now) (view pass.old) slot result (view pass.new) };
 
-    /// Gives the pass's hold up. The file comes out, to be closed, where it was retired and this was its last hold.
+    /// Gives up what the pass looked up, by the `Hold` that it got. The file comes out, to be closed, where it was retired
+    /// and this was its last hold. Then the pass is idle.
     fn release<R: Wait>(&self, rt: &R, pass: &mut Self::Pass, hold: Hold) -> Option<OpenFile>
         requires fits { fits self.now pass.old }
         requires held { IsHoldOf (view pass.old) hold }
         ensures fits { fits self.now pass.new }
         ensures released { Released (opening self.now) (view pass.old) hold result (view pass.new) };
 
-    /// Installs a file at a slot, under the pass's next number. The file that it replaced is to be retired
-    /// (io_uring_prep_openat(3), `io_uring_prep_openat_direct`).
+    /// Installs a file at a slot below `size`, under the next number of an idle pass (`is_idle`) that has one
+    /// (`numbers_left`). The file that it replaced is to be retired (io_uring_prep_openat(3),
+    /// `io_uring_prep_openat_direct`).
     fn put<R: Wait>(
         &self,
         rt: &R,
@@ -130,8 +136,8 @@ pub trait FileTable: Sync {
         ensures fits { fits self.now pass.new }
         ensures placed { Placed (opening self.now) (view pass.old) slot file result (view pass.new) };
 
-    /// Installs a file at a free slot of the allocation range, under the pass's next number. The answer is the slot
-    /// (io_uring_prep_openat(3), "IORING_FILE_INDEX_ALLOC").
+    /// Installs a file at a free slot of the allocation range, under the next number of an idle pass (`is_idle`) that has
+    /// one (`numbers_left`). The answer is the slot (io_uring_prep_openat(3), "IORING_FILE_INDEX_ALLOC").
     ///
     /// # Errors
     /// The file comes back where every slot of the range has a file (ENFILE). It costs no number.
@@ -147,8 +153,8 @@ pub trait FileTable: Sync {
         ensures fits { fits self.now pass.new }
         ensures allocated { Allocated (opening self.now) (view pass.old) file result (view pass.new) };
 
-    /// Empties a slot for an update. The file that was there is to be retired (io_uring_register(2),
-    /// "IORING_REGISTER_FILES_UPDATE", an entry of -1).
+    /// Empties a slot below `size` for an update, by an idle pass (`is_idle`). The file that was there is to be retired
+    /// (io_uring_register(2), "IORING_REGISTER_FILES_UPDATE", an entry of -1).
     fn clear<R: Wait>(&self, rt: &R, pass: &mut Self::Pass, slot: u32) -> Option<Retired>
         requires fits { fits self.now pass.old }
         requires idle { IsIdle (view pass.old) }
@@ -156,8 +162,8 @@ pub trait FileTable: Sync {
         ensures fits { fits self.now pass.new }
         ensures cleared { Cleared (opening self.now) (view pass.old) slot result (view pass.new) };
 
-    /// Empties a slot for a close. The file that was there is to be retired (io_uring_prep_close(3),
-    /// `io_uring_prep_close_direct`).
+    /// Empties a slot below `size` for a close, by an idle pass (`is_idle`). The file that was there is to be retired
+    /// (io_uring_prep_close(3), `io_uring_prep_close_direct`).
     ///
     /// # Errors
     /// `Empty` where the slot has no file.
@@ -168,11 +174,14 @@ pub trait FileTable: Sync {
         ensures fits { fits self.now pass.new }
         ensures taken { Taken (opening self.now) (view pass.old) slot result (view pass.new) };
 
-    /// Retires the file that the pass removed. The file comes out, to be closed, where nobody holds it now; else its
-    /// last release hands it out.
+    /// Retires the file that the pass removed, by the `Retired` that it got. The file comes out, to be closed, where nobody
+    /// holds it now; else its last release hands it out. Then the pass is idle.
     fn retire<R: Wait>(&self, rt: &R, pass: &mut Self::Pass, retired: Retired) -> Option<OpenFile>
         requires fits { fits self.now pass.old }
         requires removed { IsRetiredOf (view pass.old) retired }
         ensures fits { fits self.now pass.new }
         ensures retired { HasRetired (opening self.now) (view pass.old) retired result (view pass.new) };
+
+    // What a pass has seen is legal, and its own events there are what it has done.
+    ghost fronts: { (table : Self) (pass : Self.Pass) → fits table pass → IsFront (opening table) (view pass) };
 }

@@ -1,7 +1,11 @@
+//! What the calls of a shared table answer (this project's own).
 use fx_plain::File;
 
 /// A file that a pass looked up and has not released. It is no `Drop`: a program that lets one go is not accepted.
-/// A table makes it and takes it apart (this project's own).
+///
+/// Its fields are there to read. Whoever takes one apart has still to release it: the pass isn't idle (`is_idle`) until
+/// its `release` gets the same value again, and no table is closed with a pass that isn't idle. One that is made
+/// elsewhere serves only where it is that same value.
 pub struct Hold {
     /// The number of the file in its table.
     pub node: u32,
@@ -10,7 +14,11 @@ pub struct Hold {
 }
 
 /// A file that a pass removed from its slot and has not retired. It is no `Drop`: a program that lets one go is not
-/// accepted. A table makes it and takes it apart (this project's own).
+/// accepted.
+///
+/// Its fields are there to read. Whoever takes one apart has still to retire it: the pass isn't idle (`is_idle`) until
+/// its `retire` gets the same value again, and no table is closed with a pass that isn't idle. One that is made
+/// elsewhere serves only where it is that same value.
 pub struct Retired {
     /// The number of the file in its table.
     pub node: u32,
@@ -20,12 +28,12 @@ pub struct Retired {
     pub takes: u32,
 }
 
-/// Why a look-up gave no file.
+/// Why a look-up gave no file (io_uring_enter(2), "IOSQE_FIXED_FILE").
 #[derive(Clone, Copy, Debug, PartialEq, Eq)]
 pub enum LookFault {
-    /// The pass has no look-ups left (EAGAIN; this project's own).
+    /// The pass has no look-ups left (EAGAIN).
     Spent,
-    /// The slot is empty (EBADF; io_uring_enter(2), "IOSQE_FIXED_FILE").
+    /// The slot is empty (EBADF).
     Empty,
 }
 
@@ -33,7 +41,7 @@ pub enum LookFault {
 #[derive(Clone, Copy, Debug, PartialEq, Eq)]
 pub struct Empty;
 
-/// What a pass does now, as contracts see it. No value of it is made (this project's own).
+/// What a pass does now, as contracts see it. No value of it is made.
 pub enum Doing {
     /// Nothing.
     Idle,

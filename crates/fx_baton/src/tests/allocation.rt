@@ -1,7 +1,7 @@
 //! A full range, a slot that is given free again, and the chains that two passes draw.
 ghost use Rattle.std.specs.Prelude.{◌≡◌, All};
 
-use super::{closed, empty_table, opened, two_names, two_passes};
+use super::{closed, empty_table, opened, shared, two_names, two_passes};
 use crate::BatonTable;
 use fx_base::{Mark, OpenFile};
 use fx_table::FileTable;
@@ -90,27 +90,23 @@ fn is_at_1<T: FileTable, R: Wait + Abort>(rt: &R, table: &T, pass: &mut T::Pass,
 fn full_range_and_freed_slot(rt: HostRuntime) -> Result<(), Fail> {
     let catalogue = two_names(rt.alloc())?;
     let plain = empty_table(&rt, rt.alloc(), 2);
-    match BatonTable::open(rt.alloc(), plain, 1, 2) {
-        Err((plain, _)) => plain.abandon(),
-        Ok((table, mut passes)) => {
-            let (mut b, mut a) = two_passes(&rt, &table, &mut passes);
-            assert!(rt; table.size() == 2 && table.range() == (0, 2));
-            assert!(rt; table.is_idle(&b));
-            assert!(rt; table.draw(&mut b) == Some(1));
-            put_at(&rt, &table, &mut b, opened(&rt, &catalogue, 0, 1, 0), 0);
-            put_at(&rt, &table, &mut b, opened(&rt, &catalogue, 0, 1, 1), 1);
-            is_full(&rt, &table, &mut b, opened(&rt, &catalogue, 1, 1, 2));
-            assert_eq!(rt; table.numbers_left(&b), 62);
-            let file = taken(&rt, &table, &mut a, 257);
-            assert!(rt; file.mark() == Mark::Registered { k: 1, i: 1 });
-            file.discard();
-            put_at(&rt, &table, &mut b, opened(&rt, &catalogue, 1, 1, 3), 1);
-            is_at_1(&rt, &table, &mut b, 258);
-            let plain = closed(&rt, table, passes, b, a);
-            assert!(rt; plain.full() == 2);
-            plain.abandon();
-        }
-    }
+    let (table, mut passes) = shared::<BatonTable, _>(&rt, rt.alloc(), plain, 1, 2);
+    let (mut b, mut a) = two_passes(&rt, &table, &mut passes);
+    assert!(rt; table.size() == 2 && table.range() == (0, 2));
+    assert!(rt; table.is_idle(&b));
+    assert!(rt; table.draw(&mut b) == Some(1));
+    put_at(&rt, &table, &mut b, opened(&rt, &catalogue, 0, 1, 0), 0);
+    put_at(&rt, &table, &mut b, opened(&rt, &catalogue, 0, 1, 1), 1);
+    is_full(&rt, &table, &mut b, opened(&rt, &catalogue, 1, 1, 2));
+    assert_eq!(rt; table.numbers_left(&b), 62);
+    let file = taken(&rt, &table, &mut a, 257);
+    assert!(rt; file.mark() == Mark::Registered { k: 1, i: 1 });
+    file.discard();
+    put_at(&rt, &table, &mut b, opened(&rt, &catalogue, 1, 1, 3), 1);
+    is_at_1(&rt, &table, &mut b, 258);
+    let plain = closed(&rt, table, passes, b, a);
+    assert!(rt; plain.full() == 2);
+    plain.abandon();
     Ok(())
 }
 
@@ -126,20 +122,16 @@ fn draws<T: FileTable, R: Abort>(rt: &R, table: &T, pass: &mut T::Pass, chain: O
 #[test]
 fn draws_by_two_passes(rt: HostRuntime) -> Result<(), Fail> {
     let plain = empty_table(&rt, rt.alloc(), 1);
-    match BatonTable::open(rt.alloc(), plain, 5, 2) {
-        Err((plain, _)) => plain.abandon(),
-        Ok((table, mut passes)) => {
-            let (mut first, mut second) = two_passes(&rt, &table, &mut passes);
-            draws(&rt, &table, &mut first, Some(1));
-            draws(&rt, &table, &mut second, Some(2));
-            draws(&rt, &table, &mut second, Some(4));
-            draws(&rt, &table, &mut first, Some(3));
-            draws(&rt, &table, &mut first, Some(5));
-            draws(&rt, &table, &mut second, None);
-            draws(&rt, &table, &mut first, None);
-            draws(&rt, &table, &mut first, None);
-            closed(&rt, table, passes, first, second).abandon();
-        }
-    }
+    let (table, mut passes) = shared::<BatonTable, _>(&rt, rt.alloc(), plain, 5, 2);
+    let (mut first, mut second) = two_passes(&rt, &table, &mut passes);
+    draws(&rt, &table, &mut first, Some(1));
+    draws(&rt, &table, &mut second, Some(2));
+    draws(&rt, &table, &mut second, Some(4));
+    draws(&rt, &table, &mut first, Some(3));
+    draws(&rt, &table, &mut first, Some(5));
+    draws(&rt, &table, &mut second, None);
+    draws(&rt, &table, &mut first, None);
+    draws(&rt, &table, &mut first, None);
+    closed(&rt, table, passes, first, second).abandon();
     Ok(())
 }

@@ -1,10 +1,10 @@
 //! A pass has 1,048,576 look-ups.
 ghost use Rattle.std.specs.Prelude.{◌≡◌, All};
 
-use super::{empty_table, opened, two_names};
+use super::{empty_table, opened, shared, two_names};
 use crate::BatonTable;
 use fx_base::OpenFile;
-use fx_table::{FileTable, LookFault};
+use fx_table::{FileTable, LookFault, PASS_LOOKS};
 use std::process::Abort;
 use std::sync::Wait;
 use std::test::Fail;
@@ -14,7 +14,7 @@ fn look_all<T: FileTable, R: Wait + Abort>(rt: &R, table: &T, pass: &mut T::Pass
     requires { T.fits table.now pass.old }
     ensures { T.fits table.now pass.new }
 {
-    for _ in 0..1048576u32 {
+    for _ in 0..PASS_LOOKS {
         assert!(rt; table.is_idle(pass));
         assert!(rt; 0 < table.size());
         match table.look(rt, pass, 0) {
@@ -49,26 +49,22 @@ fn is_spent<T: FileTable, R: Wait + Abort>(rt: &R, table: &T, pass: &mut T::Pass
 fn all_looks_spent(rt: HostRuntime) -> Result<(), Fail> {
     let catalogue = two_names(rt.alloc())?;
     let plain = empty_table(&rt, rt.alloc(), 1);
-    match BatonTable::open(rt.alloc(), plain, 1, 1) {
-        Err((plain, _)) => plain.abandon(),
-        Ok((table, mut passes)) => {
-            let Some(mut pass) = passes.pop() else {
-                panic!(&rt; "a pass")
-            };
-            assert!(rt; table.is_idle(&pass));
-            assert!(rt; table.draw(&mut pass) == Some(1));
-            assert_eq!(rt; table.looks_left(&pass), 1048576);
-            look_all(&rt, &table, &mut pass);
-            is_spent(&rt, &table, &mut pass, opened(&rt, &catalogue, 0, 1, 0));
-            assert!(rt; table.is_idle(&pass));
-            match passes.push(pass) {
-                Ok(()) => {}
-                Err(_refused) => panic!(&rt; "room for the pass"),
-            }
-            let plain = table.close(passes);
-            assert!(rt; plain.full() == 1);
-            plain.abandon();
-        }
+    let (table, mut passes) = shared::<BatonTable, _>(&rt, rt.alloc(), plain, 1, 1);
+    let Some(mut pass) = passes.pop() else {
+        panic!(&rt; "a pass")
+    };
+    assert!(rt; table.is_idle(&pass));
+    assert!(rt; table.draw(&mut pass) == Some(1));
+    assert_eq!(rt; table.looks_left(&pass), 1_048_576);
+    look_all(&rt, &table, &mut pass);
+    is_spent(&rt, &table, &mut pass, opened(&rt, &catalogue, 0, 1, 0));
+    assert!(rt; table.is_idle(&pass));
+    match passes.push(pass) {
+        Ok(()) => {}
+        Err(_refused) => panic!(&rt; "room for the pass"),
     }
+    let plain = table.close(passes);
+    assert!(rt; plain.full() == 1);
+    plain.abandon();
     Ok(())
 }

@@ -1,8 +1,9 @@
-//! Two threads with a pass each: every file that went in is in the table or among the files handed out, once.
+//! Two threads with a pass each, in whatever schedule they get: every file that went in is in the table or among the
+//! files handed out, once. `races` has the schedules that matter, by a handshake.
 ghost use Rattle.std.specs.Prelude.{◌≡◌, ◌<◌, [], length, All};
 ghost use Rattle.fx_table.specs.Pass.{IsIdle};
 
-use super::{closed, empty_table, opened, two_names, two_passes};
+use super::{closed, empty_table, opened, shared, two_names, two_passes};
 use crate::BatonTable;
 use fx_base::{Catalogue, CloseList, Closed, Mark};
 use fx_plain::PlainTable;
@@ -143,10 +144,8 @@ fn left_in<R: Abort>(rt: &R, alloc: Global, mut plain: PlainTable) -> CloseList 
 fn two_threads_lose_no_file(rt: HostRuntime) -> Result<(), Fail> {
     let catalogue = two_names(rt.alloc())?;
     let plain = empty_table(&rt, rt.alloc(), 4);
-    match BatonTable::open(rt.alloc(), plain, 20, 2) {
-        Err((plain, _)) => plain.abandon(),
-        Ok((table, passes)) => run_two(&rt, rt.alloc(), table, passes, &catalogue),
-    }
+    let (table, passes) = shared::<BatonTable, _>(&rt, rt.alloc(), plain, 20, 2);
+    run_two(&rt, rt.alloc(), table, passes, &catalogue);
     Ok(())
 }
 
@@ -175,29 +174,6 @@ fn new_worker<P, R: Abort>(rt: &R, alloc: Global, pass: P, number: u32) -> Worke
         number,
         closes,
     }
-}
-
-// The last worker's pass, and what was handed out to it.
-fn last_of<T: FileTable, R: Abort>(
-    rt: &R,
-    table: &T,
-    workers: &mut Vec<Worker<T::Pass>>,
-) -> (T::Pass, CloseList)
-    requires { All (λ w. T.fits table.now w.pass) workers.old.items }
-    ensures pass { T.fits table.now result.0 }
-    ensures others { All (λ w. T.fits table.now w.pass) workers.new.items }
-{
-    let Some(
-        Worker {
-            pass,
-            number: _,
-            closes,
-        },
-    ) = workers.pop()
-    else {
-        panic!(rt; "a worker")
-    };
-    (pass, closes)
 }
 
 fn run_two<T: FileTable, R: Threads + Wait + Abort + Sync>(

@@ -5,7 +5,7 @@ ghost use Rattle.fx_plain.specs.State.{IsSettled};
 ghost use Rattle.fx_plain.specs.Contents.{state_of};
 ghost use Rattle.fx_table.specs.Pass.{IsHoldOf, IsRetiredOf};
 
-use super::{closed, empty_table, opened, two_names, two_passes};
+use super::{closed, empty_table, opened, shared, two_names, two_passes};
 use crate::BatonTable;
 use fx_base::{Catalogue, Mark, OpenFile};
 use fx_plain::PlainTable;
@@ -16,7 +16,7 @@ use std::sync::Wait;
 use std::test::Fail;
 
 // A table of one slot, with the first file in it.
-fn one_file<R: Abort>(rt: &R, alloc: Global, catalogue: &Catalogue) -> PlainTable
+pub(super) fn one_file<R: Abort>(rt: &R, alloc: Global, catalogue: &Catalogue) -> PlainTable
     ensures { IsSettled (state_of result) }
 {
     let mut plain = empty_table(rt, alloc, 1);
@@ -83,7 +83,7 @@ fn replaced<T: FileTable, R: Wait + Abort>(
 }
 
 // The first file comes out.
-fn is_first<R: Abort>(rt: &R, out: Option<OpenFile>) {
+pub(super) fn is_first<R: Abort>(rt: &R, out: Option<OpenFile>) {
     let Some(file) = out else {
         panic!(rt; "a file that comes out")
     };
@@ -92,7 +92,7 @@ fn is_first<R: Abort>(rt: &R, out: Option<OpenFile>) {
     file.discard();
 }
 
-fn is_none<R: Abort>(rt: &R, out: Option<OpenFile>) {
+pub(super) fn is_none<R: Abort>(rt: &R, out: Option<OpenFile>) {
     match out {
         None => {}
         Some(_file) => panic!(rt; "no file"),
@@ -109,7 +109,7 @@ fn second_is_there<T: FileTable, R: Wait + Abort>(rt: &R, table: &T, pass: &mut 
 }
 
 // A table of one thread in which just the second file is left.
-fn second_is_left<R: Abort>(rt: &R, plain: PlainTable) {
+pub(super) fn second_is_left<R: Abort>(rt: &R, plain: PlainTable) {
     assert!(rt; plain.is_settled());
     assert!(rt; plain.size() == 1 && plain.full() == 1);
     assert!(rt; plain.mark_at(0) == Some(Mark::Registered { k: 2, i: 0 }));
@@ -120,18 +120,14 @@ fn second_is_left<R: Abort>(rt: &R, plain: PlainTable) {
 fn retired_while_held(rt: HostRuntime) -> Result<(), Fail> {
     let catalogue = two_names(rt.alloc())?;
     let plain = one_file(&rt, rt.alloc(), &catalogue);
-    match BatonTable::open(rt.alloc(), plain, 1, 2) {
-        Err((plain, _)) => plain.abandon(),
-        Ok((table, mut passes)) => {
-            let (mut b, mut a) = two_passes(&rt, &table, &mut passes);
-            let hold = held(&rt, &table, &mut a, 0, 0);
-            let retired = replaced(&rt, &table, &mut b, opened(&rt, &catalogue, 1, 2, 0));
-            is_none(&rt, table.retire(&rt, &mut b, retired));
-            is_first(&rt, table.release(&rt, &mut a, hold));
-            second_is_there(&rt, &table, &mut b);
-            second_is_left(&rt, closed(&rt, table, passes, b, a));
-        }
-    }
+    let (table, mut passes) = shared::<BatonTable, _>(&rt, rt.alloc(), plain, 1, 2);
+    let (mut b, mut a) = two_passes(&rt, &table, &mut passes);
+    let hold = held(&rt, &table, &mut a, 0, 0);
+    let retired = replaced(&rt, &table, &mut b, opened(&rt, &catalogue, 1, 2, 0));
+    is_none(&rt, table.retire(&rt, &mut b, retired));
+    is_first(&rt, table.release(&rt, &mut a, hold));
+    second_is_there(&rt, &table, &mut b);
+    second_is_left(&rt, closed(&rt, table, passes, b, a));
     Ok(())
 }
 
@@ -139,18 +135,14 @@ fn retired_while_held(rt: HostRuntime) -> Result<(), Fail> {
 fn released_before_retired(rt: HostRuntime) -> Result<(), Fail> {
     let catalogue = two_names(rt.alloc())?;
     let plain = one_file(&rt, rt.alloc(), &catalogue);
-    match BatonTable::open(rt.alloc(), plain, 1, 2) {
-        Err((plain, _)) => plain.abandon(),
-        Ok((table, mut passes)) => {
-            let (mut b, mut a) = two_passes(&rt, &table, &mut passes);
-            let hold = held(&rt, &table, &mut a, 0, 0);
-            let retired = replaced(&rt, &table, &mut b, opened(&rt, &catalogue, 1, 2, 0));
-            is_none(&rt, table.release(&rt, &mut a, hold));
-            is_first(&rt, table.retire(&rt, &mut b, retired));
-            second_is_there(&rt, &table, &mut b);
-            second_is_left(&rt, closed(&rt, table, passes, b, a));
-        }
-    }
+    let (table, mut passes) = shared::<BatonTable, _>(&rt, rt.alloc(), plain, 1, 2);
+    let (mut b, mut a) = two_passes(&rt, &table, &mut passes);
+    let hold = held(&rt, &table, &mut a, 0, 0);
+    let retired = replaced(&rt, &table, &mut b, opened(&rt, &catalogue, 1, 2, 0));
+    is_none(&rt, table.release(&rt, &mut a, hold));
+    is_first(&rt, table.retire(&rt, &mut b, retired));
+    second_is_there(&rt, &table, &mut b);
+    second_is_left(&rt, closed(&rt, table, passes, b, a));
     Ok(())
 }
 
@@ -158,17 +150,13 @@ fn released_before_retired(rt: HostRuntime) -> Result<(), Fail> {
 fn released_before_replaced(rt: HostRuntime) -> Result<(), Fail> {
     let catalogue = two_names(rt.alloc())?;
     let plain = one_file(&rt, rt.alloc(), &catalogue);
-    match BatonTable::open(rt.alloc(), plain, 1, 2) {
-        Err((plain, _)) => plain.abandon(),
-        Ok((table, mut passes)) => {
-            let (mut b, mut a) = two_passes(&rt, &table, &mut passes);
-            let hold = held(&rt, &table, &mut a, 0, 0);
-            is_none(&rt, table.release(&rt, &mut a, hold));
-            let retired = replaced(&rt, &table, &mut b, opened(&rt, &catalogue, 1, 2, 0));
-            is_first(&rt, table.retire(&rt, &mut b, retired));
-            second_is_there(&rt, &table, &mut b);
-            second_is_left(&rt, closed(&rt, table, passes, b, a));
-        }
-    }
+    let (table, mut passes) = shared::<BatonTable, _>(&rt, rt.alloc(), plain, 1, 2);
+    let (mut b, mut a) = two_passes(&rt, &table, &mut passes);
+    let hold = held(&rt, &table, &mut a, 0, 0);
+    is_none(&rt, table.release(&rt, &mut a, hold));
+    let retired = replaced(&rt, &table, &mut b, opened(&rt, &catalogue, 1, 2, 0));
+    is_first(&rt, table.retire(&rt, &mut b, retired));
+    second_is_there(&rt, &table, &mut b);
+    second_is_left(&rt, closed(&rt, table, passes, b, a));
     Ok(())
 }

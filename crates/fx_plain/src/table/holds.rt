@@ -4,10 +4,9 @@ ghost use Rattle.fx_plain.specs.declared.event.File.{File};
 ghost use Rattle.fx_plain.specs.declared.event.Action.TheVariants.{Look, Release};
 ghost use Rattle.fx_plain.specs.Step.{Steps, changed_at};
 ghost use Rattle.fx_plain.specs.History.{Leads, close_of, ◌▷◌, ◌▷▷◌};
-ghost use Rattle.fx_plain.specs.Contents.{state_of, leaving, numbers_of};
+ghost use Rattle.fx_plain.specs.Contents.{state_of, leaving, numbers_of, IsTable};
 ghost use Rattle.fx_plain.specs.Table.{identity_of, closed_by_release, closed_by_retirement, HasRoomForHold};
 
-use crate::node::{add_hold, end_hold, is_retired, retire, take_file};
 use crate::table::PlainTable;
 use fx_base::OpenFile;
 
@@ -24,10 +23,11 @@ impl PlainTable {
         ensures step { Steps (state_of self.old) (Look slot ((state_of self.old).at slot)) (state_of self.new) }
         ensures leaving { leaving self.new ≡ leaving self.old }
         ensures numbers { numbers_of self.new ≡ numbers_of self.old }
+        ensures sound { IsTable self.new }
     {
         let number = self.slots[slot as usize]?;
         let entry = self.entry_at(slot)?;
-        add_hold(&mut self.holds, number as usize);
+        self.holds.add_hold(number);
         self.held += 1;
         Some((number, entry))
     }
@@ -40,18 +40,18 @@ impl PlainTable {
         ensures steps { (f : File) → f.number ≡ number → Leads (state_of self.old) ([] ▷ Release f ▷▷ close_of (closed_by_release self.old number)) (state_of self.new) }
         ensures leaving { leaving self.new ≡ leaving self.old }
         ensures numbers { numbers_of self.new ≡ numbers_of self.old }
+        ensures sound { IsTable self.new }
     {
-        let n = number as usize;
-        let left = end_hold(&mut self.holds, n);
+        let left = self.holds.end_hold(number);
         self.held -= 1;
         if left != 0 {
             return None;
         }
-        if !is_retired(&self.nodes[n]) {
+        if !self.nodes.is_retired(number) {
             return None;
         }
         self.removed -= 1;
-        take_file(&mut self.nodes, n)
+        self.nodes.take_file(number)
     }
 
     /// Retires a removed file: from now on its last release closes it. The file comes out, to be closed, where nobody
@@ -63,13 +63,13 @@ impl PlainTable {
         ensures steps { Leads (state_of self.old) (close_of (closed_by_retirement self.old number)) (state_of self.new) }
         ensures leaving { leaving self.new ≡ changed_at (leaving self.old) number false }
         ensures numbers { numbers_of self.new ≡ numbers_of self.old }
+        ensures sound { IsTable self.new }
     {
-        let n = number as usize;
-        if self.holds[n] == 0 {
+        if self.holds.of(number) == 0 {
             self.removed -= 1;
-            return take_file(&mut self.nodes, n);
+            return self.nodes.take_file(number);
         }
-        retire(&mut self.nodes, n);
+        self.nodes.retire(number);
         None
     }
 }

@@ -1,11 +1,13 @@
 //! How a table is prepared for passes, emptied and given up.
-ghost use Rattle.std.specs.Prelude.{◌≡◌, ◌≤◌, ◌<◌, ◌+◌, ℕ, [], ◌++◌, ◌-◌, ◌^◌, ◌∷◌, length, OnOk, OnErr, IfOk, IfSome, replicate, vec_len, vec_capacity, slice_set};
+ghost use Rattle.std.specs.Prelude.{◌≡◌, ◌≤◌, ◌<◌, ◌+◌, ℕ, [], ◌++◌, ◌-◌, ◌^◌, ◌∷◌, length, OnOk, OnErr, IfOk, IfSome, IsSome, vec_len, vec_capacity, slice_set};
 ghost use Rattle.std.specs.Option.{option_to_list};
 ghost use Rattle.fx_plain.specs.State.{vacant, opening, IsSettled, files_of, files_in_order};
 ghost use Rattle.fx_plain.specs.Totals.{total};
-ghost use Rattle.fx_plain.specs.Contents.{state_of, numbers_of, slot_at, node_at, moved_node, file_named, nodes_without, opening_slot, file_at, AllPlaced, SameButPlaced, file_count_of, removed_count_of, Fresh};
+ghost use Rattle.fx_plain.specs.Contents.{state_of, numbers_of, IsTable, slot_at, node_at, moved_node, file_in, file_named, nodes_without, opening_slot, file_at, AllPlaced, SameButPlaced, file_count_of, removed_count_of};
 
-use crate::node::{Node, spend_nodes, take_file};
+use crate::hold_list::HoldList;
+use crate::node::Node;
+use crate::node_list::NodeList;
 use crate::table::PlainTable;
 use fx_base::{CloseList, NoMemory};
 use std::alloc::Global;
@@ -23,21 +25,22 @@ impl PlainTable {
         requires numbers { (state_of self.old).size ≤ numbers }
         ensures ok { OnOk result (state_of self.new ≡ opening (state_of self.old) numbers) }
         ensures numbers { OnOk result (numbers_of self.new ≡ numbers) }
+        ensures sound { IsTable self.new }
         ensures err { OnErr result (self.new ≡ self.old) }
     {
-        let alloc = *self.nodes.allocator();
-        let holds = zeros(alloc, numbers)?;
-        let mut nodes = Vec::with_capacity(alloc, numbers as usize)?;
-        renumber(&mut self.slots, &mut self.nodes, &mut nodes);
-        add_fresh(&mut nodes, numbers);
-        spend_nodes(mem::replace(&mut self.nodes, nodes));
+        let alloc = self.nodes.allocator();
+        let holds = HoldList::zeros(alloc, numbers)?;
+        let mut moved = Vec::with_capacity(alloc, numbers as usize)?;
+        renumber(&mut self.slots, &mut self.nodes, &mut moved);
+        let nodes = NodeList::new(moved, numbers);
+        mem::replace(&mut self.nodes, nodes).spend();
         self.holds = holds;
         self.numbers = numbers;
         Ok(())
     }
 
     /// Closes all files of a settled table, in order of slot. No slot is left, the allocation range is empty, and how
-    /// many numbers were prepared stays. It takes no memory: the list has room already (io_uring_register(2),
+    /// many numbers were prepared stays. It can't fail for want of memory: the list has room already (io_uring_register(2),
     /// "IORING_UNREGISTER_FILES").
     pub fn empty_into(&mut self, closes: &mut CloseList)
         requires settled { IsSettled (state_of self.old) }
@@ -62,7 +65,7 @@ impl PlainTable {
         self.abandon();
     }
 
-    /// Lets every file of the table go without a list. It is the way out after a fault, and takes no memory (this
+    /// Lets every file of the table go without a list. It is the way out after a fault, and can't fail for want of memory (this
     /// project's own).
     pub fn abandon(self) {
         let PlainTable {
@@ -76,100 +79,71 @@ impl PlainTable {
             held: _,
             removed: _,
         } = self;
-        spend_nodes(nodes);
-    }
-}
-
-fn zeros(alloc: Global, n: u32) -> Result<Vec<u32>, NoMemory>
-    ensures { IfOk result (λ zeros. zeros.items ≡ replicate n 0) }
-{
-    Ok(vec![in alloc; 0; n as usize]?)
-}
-
-// Appends a value for which there is room.
-fn push_within<T>(items: &mut Vec<T>, item: T)
-    requires { vec_len items.old < vec_capacity items.old }
-    ensures items { items.new.items ≡ items.old.items ++ item ∷ [] }
-    ensures len { vec_len items.new ≡ vec_len items.old + 1 }
-    ensures capacity { vec_capacity items.old ≤ vec_capacity items.new }
-{
-    match items.push(item) {
-        Ok(()) => {}
-        Err(_refused) => unreachable!(),
+        nodes.spend();
     }
 }
 
 // Takes the file of a slot out of its node, to stand in the node of the slot's own number.
-fn move_file(slots: &mut Vec<Option<u32>>, nodes: &mut Vec<Node>, slot: usize) -> Node
+fn move_file(slots: &mut Vec<Option<u32>>, nodes: &mut NodeList, slot: usize) -> Node
     requires slot { (slot < vec_len slots.old) × (slot < 2 ^ 32) }
-    requires inside { IfSome (slot_at slots.old.items slot) (λ n. n < vec_len nodes.old) }
-    ensures node { result ≡ moved_node (file_named nodes.old.items (slot_at slots.old.items slot)) slot }
+    requires inside { IfSome (slot_at slots.old.items slot) (λ n. IsSome (file_in (node_at nodes.old n))) }
+    ensures node { result ≡ moved_node (file_named nodes.old (slot_at slots.old.items slot)) slot }
     ensures slots { slots.new.items ≡ slice_set slots.old.items slot (opening_slot (slot_at slots.old.items slot) slot) }
-    ensures nodes { nodes.new.items ≡ nodes_without nodes.old.items (slot_at slots.old.items slot) }
+    ensures nodes { nodes.new ≡ nodes_without nodes.old (slot_at slots.old.items slot) }
 {
     let Some(number) = slots[slot] else {
         return Node::Gone;
     };
     slots[slot] = Some(slot as u32);
-    match take_file(nodes, number as usize) {
+    match nodes.take_file(number) {
         Some(file) => Node::At(slot as u32, file),
         None => Node::Gone,
     }
 }
 
 // Each file that stands at a slot moves to the node of the slot's own number.
-fn renumber(slots: &mut Vec<Option<u32>>, nodes: &mut Vec<Node>, moved: &mut Vec<Node>)
-    requires few { vec_len slots.old ≤ 256 }
-    requires placed { AllPlaced slots.old.items nodes.old.items }
+fn renumber(slots: &mut Vec<Option<u32>>, nodes: &mut NodeList, moved: &mut Vec<Node>)
+    requires few { vec_len slots.old < 2 ^ 32 }
+    requires placed { AllPlaced slots.old.items nodes.old }
     requires room { (moved.old.items ≡ []) × (vec_len slots.old ≤ vec_capacity moved.old) }
     ensures len { vec_len slots.new ≡ vec_len slots.old }
     ensures count { vec_len moved.new ≡ vec_len slots.old }
-    ensures capacity { vec_capacity moved.old ≤ vec_capacity moved.new }
+    ensures capacity { vec_capacity moved.new ≡ vec_capacity moved.old }
     ensures slots { (slot : ℕ) → slot < vec_len slots.old → slot_at slots.new.items slot ≡ opening_slot (slot_at slots.old.items slot) slot }
-    ensures moved { (slot : ℕ) → slot < vec_len slots.old → node_at moved.new.items slot ≡ moved_node (file_named nodes.old.items (slot_at slots.old.items slot)) slot }
+    ensures moved { (slot : ℕ) → slot < vec_len slots.old → node_at moved.new.items slot ≡ moved_node (file_named nodes.old (slot_at slots.old.items slot)) slot }
     ensures full { total file_count_of slots.new.items ≡ total file_count_of slots.old.items }
 {
     for slot in 0..slots.len() {
         let node = move_file(slots, nodes, slot);
-        push_within(moved, node);
-    }
-}
-
-// Fresh nodes up to so many.
-fn add_fresh(nodes: &mut Vec<Node>, numbers: u32)
-    requires room { (vec_len nodes.old ≤ numbers) × (numbers ≤ vec_capacity nodes.old) }
-    ensures { nodes.new.items ≡ nodes.old.items ++ replicate (numbers - vec_len nodes.old) Fresh }
-{
-    for _ in nodes.len()..numbers as usize {
-        push_within(nodes, Node::Fresh);
+        moved.push_reserved(node);
     }
 }
 
 // Closes the file that a slot names.
-fn close_file(slot: Option<u32>, nodes: &mut Vec<Node>, closes: &mut CloseList)
-    requires inside { IfSome slot (λ n. n < vec_len nodes.old) }
-    requires room { length (option_to_list (file_named nodes.old.items slot)) ≤ closes.old.room }
-    ensures files { closes.new.files ≡ closes.old.files ++ option_to_list (file_named nodes.old.items slot) }
-    ensures room { closes.new.room + length (option_to_list (file_named nodes.old.items slot)) ≡ closes.old.room }
-    ensures nodes { nodes.new.items ≡ nodes_without nodes.old.items slot }
+fn close_file(slot: Option<u32>, nodes: &mut NodeList, closes: &mut CloseList)
+    requires inside { IfSome slot (λ n. IsSome (file_in (node_at nodes.old n))) }
+    requires room { length (option_to_list (file_named nodes.old slot)) ≤ closes.old.room }
+    ensures files { closes.new.files ≡ closes.old.files ++ option_to_list (file_named nodes.old slot) }
+    ensures room { closes.new.room + length (option_to_list (file_named nodes.old slot)) ≡ closes.old.room }
+    ensures nodes { nodes.new ≡ nodes_without nodes.old slot }
 {
     let Some(number) = slot else {
         return;
     };
-    if let Some(file) = take_file(nodes, number as usize) {
+    if let Some(file) = nodes.take_file(number) {
         closes.close(file);
     }
 }
 
 // Closes the files of all slots, in order.
-fn close_all(slots: &Vec<Option<u32>>, nodes: &mut Vec<Node>, closes: &mut CloseList)
-    requires placed { AllPlaced slots.now.items nodes.old.items }
-    requires room { length (files_in_order (λ slot. file_at nodes.old.items (slot_at slots.now.items slot)) (length slots.now.items)) ≤ closes.old.room }
-    ensures files { closes.new.files ≡ closes.old.files ++ files_in_order (λ slot. file_at nodes.old.items (slot_at slots.now.items slot)) (length slots.now.items) }
-    ensures room { closes.new.room + length (files_in_order (λ slot. file_at nodes.old.items (slot_at slots.now.items slot)) (length slots.now.items)) ≡ closes.old.room }
-    ensures len { vec_len nodes.new ≡ vec_len nodes.old }
-    ensures nodes { (number : ℕ) → SameButPlaced (node_at nodes.old.items number) (node_at nodes.new.items number) }
-    ensures removed { total removed_count_of nodes.new.items ≡ total removed_count_of nodes.old.items }
+fn close_all(slots: &Vec<Option<u32>>, nodes: &mut NodeList, closes: &mut CloseList)
+    requires placed { AllPlaced slots.now.items nodes.old }
+    requires room { length (files_in_order (λ slot. file_at nodes.old (slot_at slots.now.items slot)) (length slots.now.items)) ≤ closes.old.room }
+    ensures files { closes.new.files ≡ closes.old.files ++ files_in_order (λ slot. file_at nodes.old (slot_at slots.now.items slot)) (length slots.now.items) }
+    ensures room { closes.new.room + length (files_in_order (λ slot. file_at nodes.old (slot_at slots.now.items slot)) (length slots.now.items)) ≡ closes.old.room }
+    ensures len { length nodes.new ≡ length nodes.old }
+    ensures nodes { (number : ℕ) → SameButPlaced (node_at nodes.old number) (node_at nodes.new number) }
+    ensures removed { total removed_count_of nodes.new ≡ total removed_count_of nodes.old }
 {
     for slot in 0..slots.len() {
         close_file(slots[slot], nodes, closes);

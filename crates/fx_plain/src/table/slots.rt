@@ -3,10 +3,10 @@ ghost use Rattle.std.specs.Prelude.{◌≡◌, ◌<◌, ℕ, true, None, IfOk, I
 ghost use Rattle.fx_plain.specs.declared.event.Action.TheVariants.{Put, Clear, Take, Allocate, Full};
 ghost use Rattle.fx_plain.specs.State.{IsInRange};
 ghost use Rattle.fx_plain.specs.Step.{Steps, Allows};
-ghost use Rattle.fx_plain.specs.Contents.{state_of, leaving, numbers_of};
+ghost use Rattle.fx_plain.specs.Contents.{state_of, leaving, numbers_of, IsTable};
 ghost use Rattle.fx_plain.specs.Table.{number_of, numbered, more_leaving};
 
-use crate::node::{Node, leave, set_node};
+use crate::node::Node;
 use crate::table::PlainTable;
 use fx_base::OpenFile;
 
@@ -21,8 +21,9 @@ impl PlainTable {
         ensures step { Steps (state_of self.old) (Put slot (numbered number file) ((state_of self.old).at slot)) (state_of self.new) }
         ensures leaving { leaving self.new ≡ more_leaving (leaving self.old) ((state_of self.old).at slot) }
         ensures numbers { numbers_of self.new ≡ numbers_of self.old }
+        ensures sound { IsTable self.new }
     {
-        set_node(&mut self.nodes, number as usize, Node::At(slot, file));
+        self.nodes.set_node(number, Node::At(slot, file));
         let replaced = self.slots[slot as usize];
         self.slots[slot as usize] = Some(number);
         match replaced {
@@ -31,7 +32,7 @@ impl PlainTable {
                 None
             }
             Some(old) => {
-                leave(&mut self.nodes, old as usize);
+                self.nodes.leave(old);
                 self.removed += 1;
                 Some(old)
             }
@@ -52,6 +53,7 @@ impl PlainTable {
         ensures err { OnErr result (self.new ≡ self.old) }
         ensures leaving { leaving self.new ≡ leaving self.old }
         ensures numbers { numbers_of self.new ≡ numbers_of self.old }
+        ensures sound { IsTable self.new }
     {
         let Some(slot) = self.free_slot() else {
             return Err(file);
@@ -64,6 +66,7 @@ impl PlainTable {
     fn free_slot(&self) -> Option<u32>
         ensures found { IfSome result (λ slot. (slot < (state_of self.now).size) × IsInRange (state_of self.now) slot × ((state_of self.now).at slot ≡ None)) }
         ensures full { IfNone result (Allows (state_of self.now) Full) }
+        ensures sound { IsTable self.now }
     {
         for slot in self.range_start..self.range_start + self.range_len {
             if self.slots[slot as usize].is_none() {
@@ -81,6 +84,7 @@ impl PlainTable {
         ensures step { Steps (state_of self.old) (Clear slot ((state_of self.old).at slot)) (state_of self.new) }
         ensures leaving { leaving self.new ≡ more_leaving (leaving self.old) ((state_of self.old).at slot) }
         ensures numbers { numbers_of self.new ≡ numbers_of self.old }
+        ensures sound { IsTable self.new }
     {
         self.take(slot)
     }
@@ -93,11 +97,12 @@ impl PlainTable {
         ensures step { Steps (state_of self.old) (Take slot ((state_of self.old).at slot)) (state_of self.new) }
         ensures leaving { leaving self.new ≡ more_leaving (leaving self.old) ((state_of self.old).at slot) }
         ensures numbers { numbers_of self.new ≡ numbers_of self.old }
+        ensures sound { IsTable self.new }
     {
         let number = self.slots[slot as usize]?;
         self.slots[slot as usize] = None;
         self.full -= 1;
-        leave(&mut self.nodes, number as usize);
+        self.nodes.leave(number);
         self.removed += 1;
         Some(number)
     }

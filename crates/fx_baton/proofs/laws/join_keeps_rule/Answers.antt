@@ -1,4 +1,4 @@
-use Rattle.fx_baton.proofs.Seats.{may_join}
+use Rattle.fx_baton.proofs.SeatsKeepRule.{may_join}
 use Rattle.fx_baton.proofs.laws.join_keeps_rule.Goals as goal
 
 pub returns : goal.returns

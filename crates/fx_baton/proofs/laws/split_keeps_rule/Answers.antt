@@ -1,4 +1,4 @@
-use Rattle.fx_baton.proofs.Seats.{may_split}
+use Rattle.fx_baton.proofs.SeatsKeepRule.{may_split}
 use Rattle.fx_baton.proofs.laws.split_keeps_rule.Goals as goal
 
 pub returns : goal.returns

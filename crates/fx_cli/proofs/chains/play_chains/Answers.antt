@@ -4,7 +4,7 @@ use Rattle.std.proofs.lemmas.List.Elements.{All-get_or}
 use Rattle.fx_plain.specs.Contents.{state_of}
 use Rattle.fx_chain.specs.Accepted.{members_of}
 use Rattle.fx_chain.specs.Completed.{Completed, all_completed}
-use Rattle.fx_chain.specs.Explains.{Explains, operations_in, first_member}
+use Rattle.fx_chain.specs.Explains.{Explains, first_member}
 use Rattle.fx_chain.specs.Operation.{Asked, asked_of, all_asked}
 use Rattle.fx_chain.specs.Runs.{runs_of}
 use Rattle.fx_chain.specs.Weights.{all_weights}
@@ -69,8 +69,8 @@ loop-k-preserved c =
     let numbers : 192 + 64 * (c.loop-k.k + 1 + 1) ≡ 256 + 64 * (c.loop-k.k + 1) = omega arith in
     let goes : RunsOn c.args.catalogue.now (state_of c.args.table.now).size c.args.submission (runs_of (all_asked c.args.requests.now)) (state_of c.args.table.now) c.args.closes.now (c.loop-k.k + 1) (members_of (all_asked c.args.requests.now) (slice_index_or c.args.chains.now c.loop-k.k (record { first = 0; len = 0 })) ∷ drop (c.loop-k.k + 1) (runs_of (all_asked c.args.requests.now))) (state_of c.loop-k.table) c.loop-k.closes (all_completed c.loop-k.completions.items) =
     subst (λ (runs : List (List Asked)). RunsOn c.args.catalogue.now (state_of c.args.table.now).size c.args.submission (runs_of (all_asked c.args.requests.now)) (state_of c.args.table.now) c.args.closes.now (c.loop-k.k + 1) runs (state_of c.loop-k.table) c.loop-k.closes (all_completed c.loop-k.completions.items)) front i.goes in
-    let own : DidSo (state_of c.loop-k.table) (state_of c.play_run.new.table) c.loop-k.closes c.play_run.new.closes (λ events. Explains c.args.catalogue.now (state_of c.args.table.now).size (first_member c.args.submission (c.loop-k.k + 1)) (operations_in (members_of (all_asked c.args.requests.now) (slice_index_or c.args.chains.now c.loop-k.k (record { first = 0; len = 0 })))) events steps.0) =
-    subst (λ (n : ℕ). DidSo (state_of c.loop-k.table) (state_of c.play_run.new.table) c.loop-k.closes c.play_run.new.closes (λ events. Explains c.args.catalogue.now n (first_member c.args.submission (c.loop-k.k + 1)) (operations_in (members_of (all_asked c.args.requests.now) (slice_index_or c.args.chains.now c.loop-k.k (record { first = 0; len = 0 })))) events steps.0)) i.size steps.2 in
+    let own : DidSo (state_of c.loop-k.table) (state_of c.play_run.new.table) c.loop-k.closes c.play_run.new.closes (λ events. Explains c.args.catalogue.now (state_of c.args.table.now).size (first_member c.args.submission (c.loop-k.k + 1)) (members_of (all_asked c.args.requests.now) (slice_index_or c.args.chains.now c.loop-k.k (record { first = 0; len = 0 }))) events steps.0) =
+    subst (λ (n : ℕ). DidSo (state_of c.loop-k.table) (state_of c.play_run.new.table) c.loop-k.closes c.play_run.new.closes (λ events. Explains c.args.catalogue.now n (first_member c.args.submission (c.loop-k.k + 1)) (members_of (all_asked c.args.requests.now) (slice_index_or c.args.chains.now c.loop-k.k (record { first = 0; len = 0 }))) events steps.0)) i.size steps.2 in
     record {
       rest = subst (λ (n : ℕ). IsAtRest (length c.args.catalogue.now) (state_of c.play_run.new.table) c.play_run.new.closes n (256 + 64 * length c.args.chains.now)) numbers c.play_run.ensures.rest;
       size = did_size (state_of c.loop-k.table) (state_of c.play_run.new.table) c.loop-k.closes c.play_run.new.closes own.0 own.1 ∙ i.size;

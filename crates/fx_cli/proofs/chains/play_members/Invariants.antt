@@ -1,7 +1,7 @@
 use Rattle.std.proofs.Common.{◌≡◌, ◌≤◌, ◌+◌, ◌++◌, List, length, vec_len, vec_capacity}
 use Rattle.fx_plain.specs.Contents.{state_of}
 use Rattle.fx_chain.specs.Completed.{Completed, all_completed}
-use Rattle.fx_chain.specs.Explains.{operations_in, first_member}
+use Rattle.fx_chain.specs.Explains.{first_member}
 use Rattle.fx_chain.specs.Operation.{all_asked}
 use Rattle.fx_chain.specs.Weights.{all_installs, all_weights}
 use Rattle.fx_cli.specs.Performs.{IsAtRest}
@@ -18,6 +18,6 @@ invariant-loop-i l = record {
   count : vec_len l.completions ≡ vec_len l.fn.completions + l.i;
   capacity : vec_capacity l.fn.completions ≤ vec_capacity l.completions;
   goes : (done : List Completed) × (all_completed l.completions.items ≡ all_completed l.fn.completions.items ++ done)
-      × MembersOn l.catalogue (state_of l.fn.table).size (first_member l.submission l.chain) (operations_in (all_asked l.requests)) (state_of l.fn.table) l.fn.closes
-      (record { submission = l.submission; chain = l.chain; member = l.i + 1 }) (operations_in (asked_from l.requests l.i)) (state_of l.table) l.closes done;
+      × MembersOn l.catalogue (state_of l.fn.table).size (first_member l.submission l.chain) (all_asked l.requests) (state_of l.fn.table) l.fn.closes
+      (record { submission = l.submission; chain = l.chain; member = l.i + 1 }) (asked_from l.requests l.i) (state_of l.table) l.closes done;
 }

@@ -2,7 +2,7 @@ use Rattle.std.proofs.Common.{◌≡◌, ◌+◌, ◌*◌, ◌++◌, ℕ, List, 
 use Rattle.fx_plain.specs.Contents.{state_of}
 use Rattle.fx_chain.specs.Accepted.{IsWithinLimits}
 use Rattle.fx_chain.specs.Completed.{Completed, all_completed}
-use Rattle.fx_chain.specs.Explains.{Explains, operations_in, first_member}
+use Rattle.fx_chain.specs.Explains.{Explains, first_member}
 use Rattle.fx_chain.specs.Operation.{Asked}
 use Rattle.fx_chain.specs.Weights.{all_installs, all_weights}
 use Rattle.fx_cli.specs.Performs.{DidSo, IsAtRest}
@@ -27,7 +27,7 @@ play_chain-requires-clause-closes c = let same = ap all_weights (slice_asks c.ar
 pub returns-clause-steps : goal.returns-clause-steps
 returns-clause-steps c =
     subst (λ (run : List Asked). (cs : List Completed) × (all_completed c.play_chain.new.completions.items ≡ all_completed c.args.completions.now.items ++ cs)
-    × DidSo (state_of c.args.table.now) (state_of c.play_chain.new.table) c.args.closes.now c.play_chain.new.closes (λ events. Explains c.args.catalogue.now (state_of c.args.table.now).size (first_member c.args.submission c.args.number) (operations_in run) events cs))
+    × DidSo (state_of c.args.table.now) (state_of c.play_chain.new.table) c.args.closes.now c.play_chain.new.closes (λ events. Explains c.args.catalogue.now (state_of c.args.table.now).size (first_member c.args.submission c.args.number) run events cs))
     (slice_asks c.args.requests.now c.args.chain.now) c.play_chain.ensures.steps
 
 pub returns-clause-rest : goal.returns-clause-rest

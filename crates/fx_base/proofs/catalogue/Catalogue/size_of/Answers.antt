@@ -10,7 +10,7 @@ returns-clause-value c =
     let same : length c.self.inside.entries.items ≡ length c.args.self.now = sym (length-map c.self.inside.entries.items file_entry_of) ∙ ap length c.self.view_is in
     let asked = c.requires in
     let inside : c.args.entry < length c.self.inside.entries.items = omega arith in
-    let read = read_at c.self.inside.entries.items c.args.entry c.index.result.now c.self.invariant inside c.index.ensures in
+    let read = read_at c.self.inside.entries.items c.args.entry c.index.result.now c.self.invariant.0 inside c.index.ensures in
     ap (λ xs. size_at xs c.args.entry) (sym c.self.view_is) ∙ read.size ∙ ap Some (sym (c.len.ensures ∙ c.index.result.now.bytes.ok.0))
 
 pub returns-clause-small : goal.returns-clause-small
@@ -18,7 +18,7 @@ returns-clause-small c =
     let same : length c.self.inside.entries.items ≡ length c.args.self.now = sym (length-map c.self.inside.entries.items file_entry_of) ∙ ap length c.self.view_is in
     let asked = c.requires in
     let inside : c.args.entry < length c.self.inside.entries.items = omega arith in
-    let small = (read_at c.self.inside.entries.items c.args.entry c.index.result.now c.self.invariant inside c.index.ensures).small in
+    let small = (read_at c.self.inside.entries.items c.args.entry c.index.result.now c.self.invariant.0 inside c.index.ensures).small in
     let len = c.index.result.now.bytes.ok.0 in
     omega (arith, small, len)
 
@@ -27,6 +27,6 @@ overflow_cast-result c =
     let same : length c.self.inside.entries.items ≡ length c.args.self.now = sym (length-map c.self.inside.entries.items file_entry_of) ∙ ap length c.self.view_is in
     let asked = c.requires in
     let inside : c.args.entry < length c.self.inside.entries.items = omega arith in
-    let small = (read_at c.self.inside.entries.items c.args.entry c.index.result.now c.self.invariant inside c.index.ensures).small in
+    let small = (read_at c.self.inside.entries.items c.args.entry c.index.result.now c.self.invariant.0 inside c.index.ensures).small in
     let len = c.index.result.now.bytes.ok.0 in
     omega (arith, small, len)

@@ -1,40 +1,30 @@
-use Rattle.std.proofs.Common.{ℕ, ◌<◌, sym, ◌∙◌, subst}
 use Rattle.fx_plain.specs.Contents.{state_of}
+use Rattle.fx_baton.specs.Rule.{opening_of}
 use Rattle.fx_baton.specs.Passes.{view_of}
-use Rattle.fx_baton.proofs.Calling.{size_is, flag_is, clear_gives, replaced_idle, cleared_so, same_doing}
+use Rattle.fx_baton.proofs.Calling.{may_lend, lent_as, still_has, flag_is, slot_inside, clear_called, cleared_so}
 use Rattle.fx_baton.proofs.calls.BatonTableFileTable.clear.Goals as goal
 
+pub slot_mut-plain-requires : goal.slot_mut-plain-requires
+slot_mut-plain-requires g c = may_lend c.borrow.ensures
+
 pub entry_at-entry-requires : goal.entry_at-entry-requires
-entry_at-entry-requires g c = subst (λ (n : ℕ). c.args.slot < n) (sym (size_is c.args.self.now.table.shared.table_id c.args.self.now.table.shared.key c.borrow-plain.result c.borrow-plain.new.pass c.borrow-plain.ensures.has)) c.requires.slot
+entry_at-entry-requires g c = slot_inside (lent_as c.borrow.ensures c.slot_mut-plain.result.now c.slot_mut-plain.ensures.value) c.args.slot c.requires.slot
 
 pub clear-removed-requires : goal.clear-removed-requires
-clear-removed-requires g c = subst (λ (n : ℕ). c.args.slot < n) (sym (size_is c.args.self.now.table.shared.table_id c.args.self.now.table.shared.key c.borrow-plain.result c.borrow-plain.new.pass c.borrow-plain.ensures.has)) c.requires.slot
+clear-removed-requires g c = slot_inside (lent_as c.borrow.ensures c.slot_mut-plain.result.now c.slot_mut-plain.ensures.value) c.args.slot c.requires.slot
 
-pub give_back-requires-clause-turn : goal.give_back-requires-clause-turn
-give_back-requires-clause-turn g c =
-    let id = c.args.self.now.table.shared.table_id in
-    let k = c.args.self.now.table.shared.key in
-    let plain = c.borrow-plain.result in
-    let p = c.borrow-plain.new.pass in
-    let has = c.borrow-plain.ensures.has in
-    let u = view_of c.args.pass.now in
-    let v = view_of p in
-    let s = c.borrow-plain.ensures.saw in
-    let idle = same_doing u v s ∙ c.requires.idle in
-    let l = c.clear-removed.ensures in
-    (plain, has, clear_gives id k plain p has idle c.args.slot c.clear-removed.new.self l.step l.leaving, flag_is c.clear-removed.result c.is_none.result c.is_none.ensures ∙ replaced_idle ((state_of plain).at c.args.slot) c.clear-removed.result l.answer)
+pub give_back-requires : goal.give_back-requires
+give_back-requires g c =
+    let h = lent_as c.borrow.ensures c.slot_mut-plain.result.now c.slot_mut-plain.ensures.value in
+    let l = c.clear-removed in
+    clear_called h c.requires.idle c.args.slot l.new.self l.result c.is_none.result l.ensures.step l.ensures.leaving l.ensures.answer (flag_is l.result c.is_none.result c.is_none.ensures) l.ensures.sound
 
 pub returns-clause-cleared : goal.returns-clause-cleared
 returns-clause-cleared g c =
-    let id = c.args.self.now.table.shared.table_id in
-    let k = c.args.self.now.table.shared.key in
-    let plain = c.borrow-plain.result in
-    let p = c.borrow-plain.new.pass in
-    let has = c.borrow-plain.ensures.has in
+    let now = c.slot_mut-plain.result.now in
+    let h = lent_as c.borrow.ensures now c.slot_mut-plain.ensures.value in
     let u = view_of c.args.pass.now in
-    let v = view_of p in
-    let s = c.borrow-plain.ensures.saw in
-    let w = view_of c.give_back.new.pass in
-    let a = c.give_back.ensures.adds plain has.taken in
-    let o = (state_of plain).at c.args.slot in
-    cleared_so k u v w c.args.slot o c.retired.result (c.retired.ensures o c.clear-removed.ensures.answer c.entry_at-entry.ensures) s a
+    let found = (state_of now).at c.args.slot in
+    let d = c.clear-removed.new.self in
+    cleared_so (opening_of c.args.self.now.table.shared.key) u (view_of c.give_back.new.pass) c.args.slot found c.retired.result
+    (c.retired.ensures found c.clear-removed.ensures.answer c.entry_at-entry.ensures) (c.give_back.ensures.adds u now d (still_has h d))

@@ -1,50 +1,48 @@
-use Rattle.std.proofs.Common.{ℕ, ◌<◌, sym, ◌∙◌, subst}
+use Rattle.std.proofs.Common.{sym, ◌∙◌, arith}
+use Rattle.std.specs.Prelude.{[]}
 use Rattle.fx_plain.specs.Contents.{state_of}
+use Rattle.fx_plain.specs.History.{◌▷◌}
+use Rattle.fx_plain.specs.declared.event.Action.TheVariants.{Look}
+use Rattle.fx_table.specs.Calls.{Adds, one_look}
+use Rattle.fx_baton.specs.Rule.{opening_of}
 use Rattle.fx_baton.specs.Passes.{view_of}
-use Rattle.fx_baton.proofs.Calling.{size_is, flag_is, look_gives, look_idle, looked_empty, looked_file, same_doing}
+use Rattle.fx_baton.proofs.Calling.{may_lend, lent_as, still_has, flag_is, slot_inside, room_for, look_called, looked_empty, looked_file}
 use Rattle.fx_baton.proofs.calls.BatonTableFileTable.look.Goals as goal
 
-pub look-found-requires-clause-slot : goal.look-found-requires-clause-slot
-look-found-requires-clause-slot g c = subst (λ (n : ℕ). c.args.slot < n) (sym (size_is c.args.self.now.table.shared.table_id c.args.self.now.table.shared.key c.borrow-plain.result c.borrow-plain.new.pass c.borrow-plain.ensures.has)) c.requires.slot
+pub slot_mut-plain-requires : goal.slot_mut-plain-requires
+slot_mut-plain-requires g c = may_lend c.borrow.ensures
 
-pub give_back-requires-clause-turn : goal.give_back-requires-clause-turn
-give_back-requires-clause-turn g c =
-    let id = c.args.self.now.table.shared.table_id in
-    let k = c.args.self.now.table.shared.key in
-    let plain = c.borrow-plain.result in
-    let p = c.borrow-plain.new.pass in
-    let has = c.borrow-plain.ensures.has in
-    let u = view_of c.args.pass.now in
-    let v = view_of p in
-    let s = c.borrow-plain.ensures.saw in
-    let idle = same_doing u v s ∙ c.requires.idle in
-    let l = c.look-found.ensures in
-    (plain, has, look_gives id k plain p has idle c.args.slot c.look-found.new.self l.step l.leaving, flag_is c.look-found.result c.is_none.result c.is_none.ensures ∙ look_idle ((state_of plain).at c.args.slot) c.look-found.result l.answer)
+pub look-found-requires-clause-slot : goal.look-found-requires-clause-slot
+look-found-requires-clause-slot g c = slot_inside (lent_as c.borrow.ensures c.slot_mut-plain.result.now c.slot_mut-plain.ensures.value) c.args.slot c.requires.slot
+
+pub look-found-requires-clause-room : goal.look-found-requires-clause-room
+look-found-requires-clause-room g c = room_for (lent_as c.borrow.ensures c.slot_mut-plain.result.now c.slot_mut-plain.ensures.value) c.args.slot
+
+pub give_back-requires : goal.give_back-requires
+give_back-requires g c =
+    let h = lent_as c.borrow.ensures c.slot_mut-plain.result.now c.slot_mut-plain.ensures.value in
+    let l = c.look-found in
+    let some_left = c.if-pass-eq0.false in
+    look_called h c.requires.idle c.args.slot l.new.self l.result c.is_none.result (omega arith) l.ensures.step l.ensures.leaving l.ensures.answer (flag_is l.result c.is_none.result c.is_none.ensures) l.ensures.sound
 
 pub returns-in-None-clause-looked : goal.returns-in-None-clause-looked
 returns-in-None-clause-looked g c =
-    let id = c.args.self.now.table.shared.table_id in
-    let k = c.args.self.now.table.shared.key in
-    let plain = c.borrow-plain.result in
-    let p = c.borrow-plain.new.pass in
-    let has = c.borrow-plain.ensures.has in
+    let now = c.slot_mut-plain.result.now in
+    let h = lent_as c.borrow.ensures now c.slot_mut-plain.ensures.value in
+    let o = opening_of c.args.self.now.table.shared.key in
     let u = view_of c.args.pass.now in
-    let v = view_of p in
-    let s = c.borrow-plain.ensures.saw in
     let w = view_of c.give_back.new.pass in
-    let a = c.give_back.ensures.adds plain has.taken in
-    looked_empty k u v w c.args.slot ((state_of plain).at c.args.slot) (sym c.in-None.is ∙ c.look-found.ensures.answer) s a
+    let d = c.look-found.new.self in
+    looked_empty c.args.slot ((state_of now).at c.args.slot) (λ found doing. Adds o u ([] ▷ Look c.args.slot found) doing one_look w)
+    (sym c.in-None.is ∙ c.look-found.ensures.answer) (c.give_back.ensures.adds u now d (still_has h d))
 
 pub returns-in-Some-clause-looked : goal.returns-in-Some-clause-looked
 returns-in-Some-clause-looked g c =
-    let id = c.args.self.now.table.shared.table_id in
-    let k = c.args.self.now.table.shared.key in
-    let plain = c.borrow-plain.result in
-    let p = c.borrow-plain.new.pass in
-    let has = c.borrow-plain.ensures.has in
+    let now = c.slot_mut-plain.result.now in
+    let h = lent_as c.borrow.ensures now c.slot_mut-plain.ensures.value in
+    let o = opening_of c.args.self.now.table.shared.key in
     let u = view_of c.args.pass.now in
-    let v = view_of p in
-    let s = c.borrow-plain.ensures.saw in
     let w = view_of c.give_back.new.pass in
-    let a = c.give_back.ensures.adds plain has.taken in
-    looked_file k u v w c.args.slot c.in-Some.node c.in-Some.entry ((state_of plain).at c.args.slot) (sym c.in-Some.is ∙ c.look-found.ensures.answer) s a
+    let d = c.look-found.new.self in
+    looked_file c.args.slot c.in-Some.node c.in-Some.entry ((state_of now).at c.args.slot) (λ found doing. Adds o u ([] ▷ Look c.args.slot found) doing one_look w)
+    (sym c.in-Some.is ∙ c.look-found.ensures.answer) (c.give_back.ensures.adds u now d (still_has h d))

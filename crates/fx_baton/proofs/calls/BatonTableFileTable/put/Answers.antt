@@ -1,65 +1,50 @@
-use Rattle.std.proofs.Common.{ℕ, ◌<◌, sym, ap, ◌∙◌, subst, arith}
+use Rattle.std.proofs.Common.{ℕ, sym, subst}
+use Rattle.std.specs.Prelude.{[]}
 use Rattle.fx_base.specs.declared.open_file.Closed.{Closed}
 use Rattle.fx_plain.specs.Step.{Steps}
 use Rattle.fx_plain.specs.Contents.{state_of}
+use Rattle.fx_plain.specs.History.{◌▷◌}
 use Rattle.fx_plain.specs.Table.{numbered}
 use Rattle.fx_plain.specs.declared.event.Action.TheVariants.{Put}
+use Rattle.fx_table.specs.Calls.{Adds, one_number}
+use Rattle.fx_baton.specs.Rule.{opening_of}
+use Rattle.fx_baton.specs.Turns.{retires_now}
 use Rattle.fx_baton.specs.Passes.{view_of}
-use Rattle.fx_baton.proofs.Calling.{size_is, flag_is, next_fresh, put_gives, replaced_idle, placed_so, same_doing, same_next, same_left}
+use Rattle.fx_baton.proofs.Calling.{may_lend, lent_as, still_has, flag_is, slot_inside, number_fresh, put_called, placed_so}
 use Rattle.fx_baton.proofs.calls.BatonTableFileTable.put.Goals as goal
 
+pub slot_mut-plain-requires : goal.slot_mut-plain-requires
+slot_mut-plain-requires g c = may_lend c.borrow.ensures
+
 pub entry_at-entry-requires : goal.entry_at-entry-requires
-entry_at-entry-requires g c = subst (λ (n : ℕ). c.args.slot < n) (sym (size_is c.args.self.now.table.shared.table_id c.args.self.now.table.shared.key c.borrow-plain.result c.borrow-plain.new.pass c.borrow-plain.ensures.has)) c.requires.slot
+entry_at-entry-requires g c = slot_inside (lent_as c.borrow.ensures c.slot_mut-plain.result.now c.slot_mut-plain.ensures.value) c.args.slot c.requires.slot
 
 pub put-replaced-requires-clause-slot : goal.put-replaced-requires-clause-slot
-put-replaced-requires-clause-slot g c = subst (λ (n : ℕ). c.args.slot < n) (sym (size_is c.args.self.now.table.shared.table_id c.args.self.now.table.shared.key c.borrow-plain.result c.borrow-plain.new.pass c.borrow-plain.ensures.has)) c.requires.slot
+put-replaced-requires-clause-slot g c = slot_inside (lent_as c.borrow.ensures c.slot_mut-plain.result.now c.slot_mut-plain.ensures.value) c.args.slot c.requires.slot
 
 pub put-replaced-requires-clause-fresh : goal.put-replaced-requires-clause-fresh
 put-replaced-requires-clause-fresh g c =
-    let id = c.args.self.now.table.shared.table_id in
-    let k = c.args.self.now.table.shared.key in
-    let plain = c.borrow-plain.result in
-    let p = c.borrow-plain.new.pass in
-    let has = c.borrow-plain.ensures.has in
-    let u = view_of c.args.pass.now in
-    let v = view_of p in
-    let s = c.borrow-plain.ensures.saw in
-    let left = (same_left u v s).0 in
-    let had = c.requires.numbers in
-    let next = c.next_number-number.ensures ∙ sym (same_next u v s) in
-    ap (state_of plain).fresh next ∙ next_fresh id k plain p has (omega (arith, left, had))
+    number_fresh (lent_as c.borrow.ensures c.slot_mut-plain.result.now c.slot_mut-plain.ensures.value) c.requires.numbers c.next_number-number.result c.next_number-number.ensures
 
-pub give_back-requires-clause-turn : goal.give_back-requires-clause-turn
-give_back-requires-clause-turn g c =
-    let id = c.args.self.now.table.shared.table_id in
-    let k = c.args.self.now.table.shared.key in
-    let plain = c.borrow-plain.result in
-    let p = c.borrow-plain.new.pass in
-    let has = c.borrow-plain.ensures.has in
-    let u = view_of c.args.pass.now in
-    let v = view_of p in
-    let s = c.borrow-plain.ensures.saw in
-    let idle = same_doing u v s ∙ c.requires.idle in
-    let left = (same_left u v s).0 in
-    let had = c.requires.numbers in
-    let number = c.next_number-number.result in
-    let next = c.next_number-number.ensures ∙ sym (same_next u v s) in
-    let d = c.put-replaced.new.self in
-    let l = c.put-replaced.ensures in
-    let step = subst (λ (z : Closed). Steps (state_of plain) (Put c.args.slot (numbered number z) ((state_of plain).at c.args.slot)) (state_of d)) (sym c.identity_of-identity.ensures) l.step in
-    (plain, has, put_gives id k plain p has idle (omega (arith, left, had)) c.args.slot number c.identity_of-identity.result d next step l.leaving, flag_is c.put-replaced.result c.is_none.result c.is_none.ensures ∙ replaced_idle ((state_of plain).at c.args.slot) c.put-replaced.result l.answer)
+pub give_back-requires : goal.give_back-requires
+give_back-requires g c =
+    let now = c.slot_mut-plain.result.now in
+    let h = lent_as c.borrow.ensures now c.slot_mut-plain.ensures.value in
+    let l = c.put-replaced in
+    let number = c.next_number-number in
+    let step = subst (λ (z : Closed). Steps (state_of now) (Put c.args.slot (numbered number.result z) ((state_of now).at c.args.slot)) (state_of l.new.self)) (sym c.identity-identity.ensures) l.ensures.step in
+    put_called h c.requires.idle c.requires.numbers c.args.slot number.result c.identity-identity.result l.new.self l.result c.is_none.result number.ensures
+    step l.ensures.leaving l.ensures.answer (flag_is l.result c.is_none.result c.is_none.ensures) l.ensures.sound
 
 pub returns-clause-placed : goal.returns-clause-placed
 returns-clause-placed g c =
-    let id = c.args.self.now.table.shared.table_id in
-    let k = c.args.self.now.table.shared.key in
-    let plain = c.borrow-plain.result in
-    let p = c.borrow-plain.new.pass in
-    let has = c.borrow-plain.ensures.has in
+    let now = c.slot_mut-plain.result.now in
+    let h = lent_as c.borrow.ensures now c.slot_mut-plain.ensures.value in
+    let o = opening_of c.args.self.now.table.shared.key in
     let u = view_of c.args.pass.now in
-    let v = view_of p in
-    let s = c.borrow-plain.ensures.saw in
     let w = view_of c.give_back.new.pass in
-    let a = c.give_back.ensures.adds plain has.taken in
-    let o = (state_of plain).at c.args.slot in
-    placed_so k u v w c.args.slot c.next_number-number.result c.identity_of-identity.result c.args.file o c.retired.result (c.retired.ensures o c.put-replaced.ensures.answer c.entry_at-entry.ensures) c.next_number-number.ensures c.identity_of-identity.ensures s a
+    let found = (state_of now).at c.args.slot in
+    let d = c.put-replaced.new.self in
+    placed_so o u w c.args.slot c.args.file found c.retired.result (c.retired.ensures found c.put-replaced.ensures.answer c.entry_at-entry.ensures)
+    (subst (λ (z : ℕ × Closed). Adds o u ([] ▷ Put c.args.slot (numbered z.0 z.1) found) (retires_now found) one_number w)
+      (λ i. (c.next_number-number.ensures i, c.identity-identity.ensures i)) (c.give_back.ensures.adds u now d (still_has h d)))

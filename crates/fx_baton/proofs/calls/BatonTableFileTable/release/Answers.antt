@@ -1,51 +1,43 @@
-use Rattle.std.proofs.Common.{◌≡◌, ℕ, refl, sym, ap, ◌∙◌, subst}
+use Rattle.std.proofs.Common.{◌≡◌, ℕ, ◌<◌, ap, subst, sym}
+use Rattle.std.specs.Prelude.{[]}
 use Rattle.fx_plain.specs.Contents.{state_of}
 use Rattle.fx_plain.specs.History.{Leads, close_of, ◌▷◌, ◌▷▷◌}
-use Rattle.std.specs.Prelude.{[]}
 use Rattle.fx_plain.specs.Table.{identity_of, closed_by_release}
 use Rattle.fx_plain.specs.declared.event.Action.TheVariants.{Release}
-use Rattle.fx_table.specs.Calls.{nothing}
-use Rattle.fx_table.specs.declared.values.Doing.TheVariants.{Idle}
 use Rattle.fx_table.specs.declared.values.Hold.{Hold}
 use Rattle.fx_baton.specs.Rule.{opening_of}
-use Rattle.fx_baton.specs.Turns.{release_in}
 use Rattle.fx_baton.specs.Passes.{view_of}
-use Rattle.fx_baton.proofs.Calling.{release_gives, releases_so, same_doing}
-use Rattle.fx_baton.proofs.Passing.{saw_adds}
+use Rattle.fx_baton.proofs.Calling.{may_lend, lent_as, still_has, holds_some, release_called, releases_so}
 use Rattle.fx_baton.proofs.calls.BatonTableFileTable.release.Goals as goal
 
-pub give_back-requires-clause-turn : goal.give_back-requires-clause-turn
-give_back-requires-clause-turn g c =
-    let id = c.args.self.now.table.shared.table_id in
-    let k = c.args.self.now.table.shared.key in
-    let plain = c.borrow-plain.result in
-    let p = c.borrow-plain.new.pass in
-    let has = c.borrow-plain.ensures.has in
-    let u = view_of c.args.pass.now in
-    let v = view_of p in
-    let s = c.borrow-plain.ensures.saw in
-    let h = c.requires.held in
-    let f = h.0 in
-    let is : c.args.hold.node ≡ f.number = ap (λ (x : Hold). x.node) h.2 in
+pub slot_mut-plain-requires : goal.slot_mut-plain-requires
+slot_mut-plain-requires g c = may_lend c.borrow.ensures
+
+pub release-closed-requires : goal.release-closed-requires
+release-closed-requires g c =
+    let now = c.slot_mut-plain.result.now in
+    let h = lent_as c.borrow.ensures now c.slot_mut-plain.ensures.value in
+    let f = c.requires.held in
+    subst (λ (n : ℕ). 0 < (state_of now).holds n) (sym (ap (λ (x : Hold). x.node) f.2)) (holds_some h f.0 f.1)
+
+pub give_back-requires : goal.give_back-requires
+give_back-requires g c =
+    let now = c.slot_mut-plain.result.now in
+    let h = lent_as c.borrow.ensures now c.slot_mut-plain.ensures.value in
+    let f = c.requires.held in
+    let is : c.args.hold.node ≡ f.0.number = ap (λ (x : Hold). x.node) f.2 in
     let d = c.release-closed.new.self in
-    let leads = subst (λ (n : ℕ). Leads (state_of plain) ([] ▷ Release f ▷▷ close_of (closed_by_release plain n)) (state_of d)) is (c.release-closed.ensures.steps f (sym is)) in
-    (plain, has, release_gives id k plain p has f (same_doing u v s ∙ h.1) d leads c.release-closed.ensures.leaving, refl)
+    let leads = subst (λ (n : ℕ). Leads (state_of now) ([] ▷ Release f.0 ▷▷ close_of (closed_by_release now n)) (state_of d)) is (c.release-closed.ensures.steps f.0 (sym is)) in
+    release_called h f.0 f.1 d leads c.release-closed.ensures.leaving c.release-closed.ensures.sound
 
 pub returns-clause-released : goal.returns-clause-released
 returns-clause-released g c =
-    let id = c.args.self.now.table.shared.table_id in
-    let k = c.args.self.now.table.shared.key in
-    let plain = c.borrow-plain.result in
-    let p = c.borrow-plain.new.pass in
-    let has = c.borrow-plain.ensures.has in
-    let u = view_of c.args.pass.now in
-    let v = view_of p in
-    let s = c.borrow-plain.ensures.saw in
-    let w = view_of c.give_back.new.pass in
-    let a = c.give_back.ensures.adds plain has.taken in
-    let h = c.requires.held in
-    let f = h.0 in
-    let is : c.args.hold.node ≡ f.number = ap (λ (x : Hold). x.node) h.2 in
+    let now = c.slot_mut-plain.result.now in
+    let h = lent_as c.borrow.ensures now c.slot_mut-plain.ensures.value in
+    let f = c.requires.held in
+    let is : c.args.hold.node ≡ f.0.number = ap (λ (x : Hold). x.node) f.2 in
+    let d = c.release-closed.new.self in
     let result = c.release-closed.result in
-    let answer : result ≡ identity_of (closed_by_release plain f.number) = subst (λ (n : ℕ). result ≡ identity_of (closed_by_release plain n)) is c.release-closed.ensures.answer in
-    (f, h.1, h.2, releases_so id k plain p has f (same_doing u v s ∙ h.1) (opening_of k) u w result answer (saw_adds k u v w (release_in plain p.seat.me.0.doing) Idle nothing s a))
+    let answer = subst (λ (n : ℕ). result ≡ identity_of (closed_by_release now n)) is c.release-closed.ensures.answer in
+    (f.0, f.1, f.2, releases_so h f.0 f.1 (opening_of c.args.self.now.table.shared.key) (view_of c.give_back.new.pass) result answer
+      (c.give_back.ensures.adds (view_of c.args.pass.now) now d (still_has h d)))

@@ -1,7 +1,6 @@
-use Rattle.std.proofs.Common.{◌≡◌, ◌≤◌, ◌<◌, ◌-◌, ◌++◌, ℕ, Vec, Global, sym, ap, subst, ◌∙◌, length, replicate, arith}
+use Rattle.std.proofs.Common.{◌≡◌, ◌≤◌, ◌<◌, ◌-◌, ◌++◌, ℕ, sym, ap, subst, ◌∙◌, length, replicate, arith}
 use Rattle.fx_plain.specs.State.{IsSettled, opening}
 use Rattle.fx_plain.specs.Contents.{Contents, IsTable, IsCounted, state_of, slot_at, node_at, moved_node, file_named, opening_slot, Fresh}
-use Rattle.fx_plain.specs.declared.node.Node.{Node}
 use Rattle.fx_plain.specs.contracts.table.PlainTable.{the_view}
 use Rattle.fx_plain.proofs.Settled.{no_holds, none_removed}
 use Rattle.fx_plain.proofs.Opening.{prepared, state_of-prepared, prepared_keeps, prepared_counted}
@@ -15,11 +14,11 @@ invariant_of-self c =
     let few = c.ranges.numbers.fits in
     let slots_len = c.self.inside.slots.ok.0 in
     let moved_len = c.renumber.new.moved.ok.0 in
-    let nodes_are : c.replace.new.dest.items ≡ c.renumber.new.moved.items ++ replicate (c.args.numbers - length c.self.inside.slots.items) Fresh =
-    ap (λ (v : Vec Node Global). v.items) c.replace.ensures.after ∙ c.add_fresh.ensures ∙ ap (λ (n : ℕ). c.renumber.new.moved.items ++ replicate (c.args.numbers - n) Fresh) (moved_len ∙ size) in
+    let nodes_are : c.replace.new.dest ≡ c.renumber.new.moved.items ++ replicate (c.args.numbers - length c.self.inside.slots.items) Fresh =
+    c.replace.ensures.after ∙ c.new-nodes.ensures ∙ ap (λ (n : ℕ). c.renumber.new.moved.items ++ replicate (c.args.numbers - n) Fresh) size in
     let named : (u : ℕ) → u < length c.self.inside.slots.items → slot_at c.renumber.new.slots.items u ≡ opening_slot (slot_at c.self.inside.slots.items u) u = λ u lt. c.renumber.ensures.slots u (omega arith) in
-    let filed : (u : ℕ) → u < length c.self.inside.slots.items → node_at c.renumber.new.moved.items u ≡ moved_node (file_named c.self.inside.nodes.items (slot_at c.self.inside.slots.items u)) u = λ u lt. c.renumber.ensures.moved u (omega arith) in
-    let same : record { slots = c.renumber.new.slots.items; range = (c.self.inside.range_start, c.self.inside.range_len); nodes = c.replace.new.dest.items; holds = c.in_ok-holds.holds.items; numbers = c.args.numbers }
+    let filed : (u : ℕ) → u < length c.self.inside.slots.items → node_at c.renumber.new.moved.items u ≡ moved_node (file_named c.self.inside.nodes (slot_at c.self.inside.slots.items u)) u = λ u lt. c.renumber.ensures.moved u (omega arith) in
+    let same : record { slots = c.renumber.new.slots.items; range = (c.self.inside.range_start, c.self.inside.range_len); nodes = c.replace.new.dest; holds = c.in_ok-holds.holds; numbers = c.args.numbers }
     ≡ prepared (the_view c.self.inside) c.renumber.new.slots.items c.renumber.new.moved.items c.args.numbers c.self.invariant.0 enough few same_len size named filed =
     λ i. record { slots = c.renumber.new.slots.items; range = (c.self.inside.range_start, c.self.inside.range_len); nodes = nodes_are i; holds = c.in_ok-holds.ensures i; numbers = c.args.numbers } in
     let settled : IsSettled (state_of (the_view c.self.inside)) = subst (λ (k : Contents). IsSettled (state_of k)) (sym c.self.view_is) c.requires.settled in
@@ -37,11 +36,14 @@ returns-clause-ok c =
     let few = c.ranges.numbers.fits in
     let slots_len = c.self.inside.slots.ok.0 in
     let moved_len = c.renumber.new.moved.ok.0 in
-    let nodes_are : c.replace.new.dest.items ≡ c.renumber.new.moved.items ++ replicate (c.args.numbers - length c.self.inside.slots.items) Fresh =
-    ap (λ (v : Vec Node Global). v.items) c.replace.ensures.after ∙ c.add_fresh.ensures ∙ ap (λ (n : ℕ). c.renumber.new.moved.items ++ replicate (c.args.numbers - n) Fresh) (moved_len ∙ size) in
+    let nodes_are : c.replace.new.dest ≡ c.renumber.new.moved.items ++ replicate (c.args.numbers - length c.self.inside.slots.items) Fresh =
+    c.replace.ensures.after ∙ c.new-nodes.ensures ∙ ap (λ (n : ℕ). c.renumber.new.moved.items ++ replicate (c.args.numbers - n) Fresh) size in
     let named : (u : ℕ) → u < length c.self.inside.slots.items → slot_at c.renumber.new.slots.items u ≡ opening_slot (slot_at c.self.inside.slots.items u) u = λ u lt. c.renumber.ensures.slots u (omega arith) in
-    let filed : (u : ℕ) → u < length c.self.inside.slots.items → node_at c.renumber.new.moved.items u ≡ moved_node (file_named c.self.inside.nodes.items (slot_at c.self.inside.slots.items u)) u = λ u lt. c.renumber.ensures.moved u (omega arith) in
-    let same : record { slots = c.renumber.new.slots.items; range = (c.self.inside.range_start, c.self.inside.range_len); nodes = c.replace.new.dest.items; holds = c.in_ok-holds.holds.items; numbers = c.args.numbers }
+    let filed : (u : ℕ) → u < length c.self.inside.slots.items → node_at c.renumber.new.moved.items u ≡ moved_node (file_named c.self.inside.nodes (slot_at c.self.inside.slots.items u)) u = λ u lt. c.renumber.ensures.moved u (omega arith) in
+    let same : record { slots = c.renumber.new.slots.items; range = (c.self.inside.range_start, c.self.inside.range_len); nodes = c.replace.new.dest; holds = c.in_ok-holds.holds; numbers = c.args.numbers }
     ≡ prepared (the_view c.self.inside) c.renumber.new.slots.items c.renumber.new.moved.items c.args.numbers c.self.invariant.0 enough few same_len size named filed =
     λ i. record { slots = c.renumber.new.slots.items; range = (c.self.inside.range_start, c.self.inside.range_len); nodes = nodes_are i; holds = c.in_ok-holds.ensures i; numbers = c.args.numbers } in
     ap state_of same ∙ state_of-prepared (the_view c.self.inside) c.renumber.new.slots.items c.renumber.new.moved.items c.args.numbers c.self.invariant.0 enough few same_len size named filed ∙ ap (λ (k : Contents). opening (state_of k) c.args.numbers) c.self.view_is
+
+pub returns-clause-sound : goal.returns-clause-sound
+returns-clause-sound c = (invariant_of-self c).0

@@ -4,7 +4,7 @@ use Rattle.fx_plain.specs.Step.{Steps}
 use Rattle.fx_plain.specs.Contents.{Contents, IsTable, IsCounted, state_of, leaving}
 use Rattle.fx_plain.specs.Table.{more_leaving}
 use Rattle.fx_plain.specs.contracts.table.PlainTable.{the_view}
-use Rattle.fx_plain.proofs.Writes.{inside_of-At}
+use Rattle.fx_plain.proofs.Writes.{has_file-At}
 use Rattle.fx_plain.proofs.Removals.{carried, seen_at, as_taken, take_steps, take_leaving, take_keeps, taken_counted}
 use Rattle.fx_plain.proofs.table.PlainTable.take.Goals as goal
 
@@ -19,9 +19,7 @@ leave-requires c =
     let inside : c.args.slot < length c.self.inside.slots.items = search rules in
     let at = seen_at c.self.inside.slots.items c.args.slot None c.index.result.now (Some c.in_ok-number.number) inside c.index.ensures c.in_ok-number.was in
     let named = c.self.invariant.0.placed c.args.slot c.in_ok-number.number at in
-    let node_inside = inside_of-At c.self.inside.nodes.items c.in_ok-number.number c.args.slot named.0 named.1 in
-    let len = c.self.inside.nodes.ok.0 in
-    omega (arith, node_inside, len)
+    has_file-At c.self.inside.nodes c.in_ok-number.number c.args.slot named.0 named.1
 
 pub overflow_add-self : goal.overflow_add-self
 overflow_add-self c =
@@ -34,7 +32,7 @@ pub invariant_of-self : goal.invariant_of-self
 invariant_of-self c =
     let inside : c.args.slot < length c.self.inside.slots.items = search rules in
     let at = seen_at c.self.inside.slots.items c.args.slot None c.index.result.now (Some c.in_ok-number.number) inside c.index.ensures c.in_ok-number.was in
-    let same = as_taken (the_view c.self.inside) c.args.slot c.in_ok-number.number c.leave.new.nodes.items at c.leave.ensures in
+    let same = as_taken (the_view c.self.inside) c.args.slot c.in_ok-number.number c.leave.new.self at c.leave.ensures in
     subst (λ (k : Contents). IsTable k × IsCounted k (c.self.inside.full - 1) c.self.inside.held (c.self.inside.removed + 1)) (sym same)
     (take_keeps (the_view c.self.inside) c.args.slot c.self.invariant.0 inside, (taken_counted (the_view c.self.inside) c.args.slot c.in_ok-number.number _ _ _ c.self.invariant.0 c.self.invariant.1 inside at).2)
 
@@ -43,7 +41,7 @@ returns-clause-step c =
     let inside : c.args.slot < length c.self.inside.slots.items = search rules in
     let at = seen_at c.self.inside.slots.items c.args.slot None c.index.result.now (Some c.in_ok-number.number) inside c.index.ensures c.in_ok-number.was in
     carried (λ k m. Steps (state_of k) (Take c.args.slot ((state_of k).at c.args.slot)) (state_of m)) c.self.view_is
-    (as_taken (the_view c.self.inside) c.args.slot c.in_ok-number.number c.leave.new.nodes.items at c.leave.ensures)
+    (as_taken (the_view c.self.inside) c.args.slot c.in_ok-number.number c.leave.new.self at c.leave.ensures)
     (take_steps (the_view c.self.inside) c.args.slot c.self.invariant.0 inside)
 
 pub returns-clause-leaving : goal.returns-clause-leaving
@@ -51,5 +49,8 @@ returns-clause-leaving c =
     let inside : c.args.slot < length c.self.inside.slots.items = search rules in
     let at = seen_at c.self.inside.slots.items c.args.slot None c.index.result.now (Some c.in_ok-number.number) inside c.index.ensures c.in_ok-number.was in
     carried (λ k m. leaving m ≡ more_leaving (leaving k) ((state_of k).at c.args.slot)) c.self.view_is
-    (as_taken (the_view c.self.inside) c.args.slot c.in_ok-number.number c.leave.new.nodes.items at c.leave.ensures)
+    (as_taken (the_view c.self.inside) c.args.slot c.in_ok-number.number c.leave.new.self at c.leave.ensures)
     (take_leaving (the_view c.self.inside) c.args.slot c.self.invariant.0)
+
+pub returns-clause-sound : goal.returns-clause-sound
+returns-clause-sound c = (invariant_of-self c).0

@@ -1,4 +1,4 @@
-use Rattle.std.proofs.Common.{◌≡◌, ◌≤◌, ◌<◌, ℕ, Some, vec_len, vec_capacity}
+use Rattle.std.proofs.Common.{◌≡◌, ◌≤◌, ◌<◌, ℕ, Some, length, vec_len, vec_capacity}
 use Rattle.fx_plain.specs.Totals.{total}
 use Rattle.fx_plain.specs.Contents.{slot_at, node_at, moved_node, file_named, opening_slot, file_count_of}
 use Rattle.fx_plain.proofs.table.life.renumber.Given as goal
@@ -7,12 +7,12 @@ use Rattle.fx_plain.proofs.table.life.renumber.Given as goal
 abbrev pub invariant-loop-slot : goal.invariant-loop-slot
 invariant-loop-slot l = record {
   len : vec_len l.slots ≡ vec_len l.fn.slots;
-  nodes_len : vec_len l.nodes ≡ vec_len l.fn.nodes;
+  nodes_len : length l.nodes ≡ length l.fn.nodes;
   count : vec_len l.moved ≡ l.slot;
-  room : vec_capacity l.fn.moved ≤ vec_capacity l.moved;
+  room : vec_capacity l.moved ≡ vec_capacity l.fn.moved;
   done : (s : ℕ) → s < l.slot → slot_at l.slots.items s ≡ opening_slot (slot_at l.fn.slots.items s) s;
   rest : (s : ℕ) → l.slot ≤ s → slot_at l.slots.items s ≡ slot_at l.fn.slots.items s;
-  moved : (s : ℕ) → s < l.slot → node_at l.moved.items s ≡ moved_node (file_named l.fn.nodes.items (slot_at l.fn.slots.items s)) s;
-  left : (s number : ℕ) → l.slot ≤ s → slot_at l.fn.slots.items s ≡ Some number → node_at l.nodes.items number ≡ node_at l.fn.nodes.items number;
+  moved : (s : ℕ) → s < l.slot → node_at l.moved.items s ≡ moved_node (file_named l.fn.nodes (slot_at l.fn.slots.items s)) s;
+  left : (s number : ℕ) → l.slot ≤ s → slot_at l.fn.slots.items s ≡ Some number → node_at l.nodes number ≡ node_at l.fn.nodes number;
   full : total file_count_of l.slots.items ≡ total file_count_of l.fn.slots.items;
 }

@@ -1,0 +1,98 @@
+-- How often a pass stands among the logs of views, and what a pass's doing counts for.
+use Rattle.std.proofs.Common.{◌≡◌, ◌≢◌, ℕ, zero, suc, ◌+◌, ◌<◌, ◌≤◌, Bool, true, false, cond, List, [], ◌∷◌, ◌++◌, map, length, sym, refl, ap, ◌∙◌, subst, arith, eqb, eq-eqb, ne_eqb, ◌⊎◌, inl, inr, ⊎_elim}
+use mathlib.Core.Logic.{dite}
+use native.Mathlib.Decide.{ℕ_discrete, dec_lt}
+use Rattle.std.specs.Prelude.{Option, Some, None, Contains}
+use Rattle.std.proofs.lemmas.List.Sums.{sum_by-cons}
+use Rattle.fx_plain.specs.declared.event.File.{File}
+use Rattle.fx_plain.specs.declared.event.Event.{Event}
+use Rattle.fx_table.specs.declared.values.Doing.{Doing}
+use Rattle.fx_table.specs.declared.values.Doing.TheVariants.{Idle, Holding, Retiring}
+use Rattle.fx_table.proofs.Members.{contains_none, contains_head, contains_tail, contains_cases}
+use Rattle.fx_table.proofs.SumLemmas.{sum_of}
+use Rattle.fx_baton.specs.declared.view.Log.{Log}
+use Rattle.fx_baton.specs.Rule.{logs_of, new_log, new_logs, file_in_hand, holds_by, removals_by, log_behind}
+
+-- one more or none, by a test
+pub one_if : (n m : ℕ) → n ≡ m → cond {A = ℕ} (eqb n m) 1 0 ≡ 1
+one_if n m e = rw (eq-eqb n m e)
+
+pub none_if : (n m : ℕ) → n ≢ m → cond {A = ℕ} (eqb n m) 1 0 ≡ 0
+none_if n m e = rw (ne_eqb n m e)
+
+pub one_true : (b : Bool) → 1 ≤ cond {A = ℕ} b 1 0 → b ≡ true
+one_true true l = refl
+one_true false l = absurd (omega arith)
+
+pub one_at_most : (b : Bool) → cond {A = ℕ} b 1 0 ≤ 1
+one_at_most true = omega arith
+one_at_most false = omega arith
+
+pub logs_more : (p : ℕ) (x : Log) (xs : List Log) → logs_of p (x ∷ xs) ≡ cond {A = ℕ} (eqb x.number p) 1 0 + logs_of p xs
+logs_more p x xs = sum_by-cons (λ (y : Log). cond {A = ℕ} (eqb y.number p) 1 0) x xs
+
+-- a pass with the number is counted
+pub some_log : (p : ℕ) (xs : List Log) (x : Log) → Contains xs x → x.number ≡ p → 1 ≤ logs_of p xs
+some_log p xs x h e = let a = sum_of (λ (y : Log). cond {A = ℕ} (eqb y.number p) 1 0) xs x h in let b = one_if x.number p e in omega arith
+
+pub log_found : (p : ℕ) (xs : List Log) → 1 ≤ logs_of p xs → (x : Log) × Contains xs x × (x.number ≡ p)
+log_found p [] l = absurd (omega arith)
+log_found p (x ∷ xs) l = dite (ℕ_discrete x.number p)
+    (λ e. (x, contains_head x xs, e))
+    (λ n. let b = none_if x.number p n in let m = logs_more p x xs in let r = log_found p xs (omega arith) in (r.0, contains_tail x xs r.0 r.1, r.2))
+
+pub logs_behind : (p : ℕ) (es : List Event) (xs : List Log) → logs_of p (map (log_behind es) xs) ≡ logs_of p xs
+logs_behind p es [] = refl
+logs_behind p es (y ∷ xs) = let a = logs_more p y xs in let b = logs_more p (log_behind es y) (map (log_behind es) xs) in let r = logs_behind p es xs in omega arith
+
+-- the new passes from q on, n of them
+new_below : (p q n : ℕ) → p < q → logs_of p (new_logs q n) ≡ 0
+new_below p q zero l = refl
+new_below p q (suc n) l =
+    let a = none_if q p (λ e. omega arith) in let m = logs_more p (new_log q) (new_logs (suc q) n) in let r = new_below p (suc q) n (omega arith) in omega arith
+
+new_above : (p q n : ℕ) → q + n ≤ p → logs_of p (new_logs q n) ≡ 0
+new_above p q zero l = refl
+new_above p q (suc n) l =
+    let a = none_if q p (λ e. omega arith) in let m = logs_more p (new_log q) (new_logs (suc q) n) in let r = new_above p (suc q) n (omega arith) in omega arith
+
+new_inside : (p q n : ℕ) → q ≤ p → p < q + n → logs_of p (new_logs q n) ≡ 1
+new_inside p q zero l h = absurd (omega arith)
+new_inside p q (suc n) l h = let m = logs_more p (new_log q) (new_logs (suc q) n) in dite (ℕ_discrete q p)
+    (λ e. let a = one_if q p e in let r = new_below p (suc q) n (omega arith) in omega arith)
+    (λ e. let a = none_if q p e in let r = new_inside p (suc q) n (omega arith) (omega arith) in omega arith)
+
+-- a pass is one of n where it is among the first view's, and it is there once
+pub one_of : (n p : ℕ) → 1 ≤ p → p ≤ n → logs_of p (new_logs 1 n) ≡ 1
+one_of n p low high = new_inside p 1 n low (omega arith)
+
+pub at_most_one : (n p : ℕ) → logs_of p (new_logs 1 n) ≤ 1
+at_most_one n p = dite (ℕ_discrete p 0)
+    (λ z. let a = new_below p 1 n (omega arith) in omega arith)
+    (λ z. dite (dec_lt n p)
+    (λ l. let a = new_above p 1 n (omega arith) in omega arith)
+    (λ l. let a = one_of n p (omega arith) (omega arith) in omega arith))
+
+pub in_range : (n p : ℕ) → 1 ≤ logs_of p (new_logs 1 n) → (1 ≤ p) × (p ≤ n)
+in_range n p some = dite (ℕ_discrete p 0)
+    (λ z. absurd (let a = new_below p 1 n (omega arith) in omega arith))
+    (λ z. dite (dec_lt n p)
+    (λ l. absurd (let a = new_above p 1 n (omega arith) in omega arith))
+    (λ l. (omega arith, omega arith)))
+
+pub length_new : (q n : ℕ) → length (new_logs q n) ≡ n
+length_new q zero = refl
+length_new q (suc n) = ap suc (length_new (suc q) n)
+
+-- a file with which a pass has to do is counted among the held or among the leaving ones
+pub hand_is_counted : (d : Doing) (f : File) → file_in_hand d ≡ Some f → (1 ≤ holds_by f.number d) ⊎ (1 ≤ removals_by f.number d)
+hand_is_counted Idle f e = let no : None ≡ Some f = e in absurd (cc no)
+hand_is_counted (Holding g) f e = let is : Some g ≡ Some f = e in let same : g ≡ f = cc is in
+    inl (let b = one_if g.number f.number (ap (λ (z : File). z.number) same) in omega arith)
+hand_is_counted (Retiring g takes) f e = let is : Some g ≡ Some f = e in let same : g ≡ f = cc is in
+    inr (let b = one_if g.number f.number (ap (λ (z : File). z.number) same) in omega arith)
+
+pub holds_small : (n : ℕ) (d : Doing) → holds_by n d ≤ 1
+holds_small n Idle = omega arith
+holds_small n (Holding f) = one_at_most (eqb f.number n)
+holds_small n (Retiring f t) = omega arith

@@ -1,0 +1,112 @@
+-- A seat with one pass that has the table may give it back.
+use Rattle.std.proofs.Common.{◌≡◌, ◌≢◌, ℕ, ◌+◌, ◌<◌, true, List, [], ◌∷◌, ◌++◌, map, set, sym, refl, ap, ◌∙◌, subst, eqb, inl, inr, ⊎_elim, ◌⊎◌}
+use Rattle.std.proofs.lemmas.List.{length-map}
+use mathlib.Core.Logic.{dite}
+use native.Mathlib.Decide.{ℕ_discrete}
+use mathlib.Core.Option.{some, none, some-injective}
+use lib.ListN.{get_elem?}
+use Rattle.std.specs.Prelude.{Some, None, Contains}
+use Rattle.atomic_table.specs.Table.{step, gives, Allows}
+use Rattle.atomic_table.proofs.Lists.{at_set}
+use Rattle.fx_plain.specs.Contents.{Contents, state_of, leaving, IsTable}
+use Rattle.fx_plain.specs.History.{IsLegal, IsSeenBy, held_by, ◌▷▷◌}
+use Rattle.fx_plain.specs.declared.event.Event.{Event}
+use Rattle.fx_table.specs.declared.values.Doing.{Doing}
+use Rattle.fx_table.proofs.Calls.{seen_again}
+use Rattle.fx_baton.specs.declared.view.Log.{Log}
+use Rattle.fx_baton.specs.declared.view.View.{View}
+use Rattle.fx_baton.specs.declared.view.Start.{Start}
+use Rattle.fx_table.specs.Numbers.{pass_of_number}
+use Rattle.fx_table.specs.Files.{HasFile}
+use Rattle.fx_baton.specs.Rule.{Shared, Seated, begin_of, holds_by, removals_by, leaving_count, HasFreshNumbers, IsLog, IsHome, IsAway, IsKept, log_behind, view_behind, Gives, IsTurn}
+use Rattle.fx_table.proofs.Histories.{part_mine}
+use Rattle.fx_baton.proofs.Counts.{logs_behind}
+use Rattle.fx_baton.proofs.StepsKeepRule.{Turns, keeps_rule}
+use Rattle.fx_baton.proofs.GrabKeepsRule.{only_log, has_one, not_empty, started}
+
+some_contents : (c d : Contents) → Some c ≡ Some d → c ≡ d
+some_contents c d e = cc
+
+none_some : (c : Contents) → None ≡ Some c → ⊥
+none_some c e = cc
+
+module _ (k : Start) (id : ℕ) (v : View) (x : Log) (one : v.logs ≡ x ∷ []) (c d : Contents) (has : v.loan ≡ Some c) (es : List Event) (doing : Doing) (sound : IsTable d) (turn : IsTurn v x c d es doing) where
+  abbrev w : View
+  w = view_behind v es doing
+
+  given_one : w.logs ≡ log_behind es x ∷ []
+  given_one = ap (map (log_behind es)) one
+
+  module _ (s : Shared) (r : IsKept k s) (at : get_elem? s.views id ≡ some v) (away : IsAway r.contents r.history s) where
+    held_it : id ≡ away.holder
+    held_it = dite (ℕ_discrete id away.holder) (λ e. e) (λ n. absurd (none_some c (sym (away.others id v n at) ∙ has)))
+
+    holder : (v.loan ≡ Some r.contents) × ((y : Log) → Contains v.logs y → y.front ≡ r.history)
+    holder =
+        let is : away.view ≡ v = some-injective away.view v (sym away.at ∙ (ap (get_elem? s.views) (sym held_it) ∙ at)) in
+        subst (λ (z : View). (z.loan ≡ Some r.contents) × ((y : Log) → Contains z.logs y → y.front ≡ r.history)) is (away.loan, away.whole)
+
+    same : c ≡ r.contents
+    same = some_contents c r.contents (sym has ∙ holder.0)
+
+    whole : x.front ≡ r.history
+    whole = holder.1 x (has_one v.logs x one)
+
+    mine_of : IsLog k r.history r.contents v.doing x
+    mine_of = (r.views id v at).logs x (has_one v.logs x one)
+
+    begun : v.start ≡ k
+    begun = started k r.history r.contents v x one (r.views id v at)
+
+    longer_is : x.front ▷▷ es ≡ r.history ▷▷ es
+    longer_is = ap (λ (l : List Event). l ▷▷ es) whole
+
+    given_turns : Turns k s r id v at w d es (set s.words 0 1) (set s.homes 0 (some d))
+    given_turns = record {
+      log = x;
+      log_in = has_one v.logs x one;
+      authors = turn.authors;
+      legal = subst (λ (z : Start × List Event). IsLegal (begin_of z.0) z.1 (state_of d)) (λ i. (begun i, longer_is i)) turn.legal;
+      sound = sound;
+      place = inl (
+        ap (λ (l : List ℕ). set l 0 1) away.words,
+        ap (λ l. set l 0 (some d)) away.homes,
+        (λ i u e. ⊎_elim (λ (m : (i ≡ id) × (w ≡ u)). ap (λ (z : View). z.loan) (sym m.1)) (λ (m : (i ≢ id) × (get_elem? s.views i ≡ some u)). away.others i u (λ is. m.0 (is ∙ sym held_it)) m.1)
+            (at_set s.views id i w u e)),
+      );
+      mine = record {
+        logs = λ y h. let m = only_log w.logs (log_behind es x) y given_one h in subst (λ (z : Log). IsLog k (r.history ▷▷ es) d doing z) (sym m) record {
+          seen = subst (λ (z : List Event). IsSeenBy (x.front ▷▷ es) z) longer_is (seen_again (x.front ▷▷ es));
+          own = part_mine x.number es r.history turn.authors ∙ ap (λ (l : List Event). es ++ l) mine_of.own;
+          held = ap (λ (z : List Event). held_by z x.number) (sym longer_is) ∙ turn.now;
+          fresh = subst (λ (z : Start). HasFreshNumbers z (state_of d) (log_behind es x)) begun turn.fresh;
+        };
+        file = turn.file;
+        empty = λ e. absurd (not_empty w.logs (log_behind es x) given_one e);
+        start = inr begun;
+      };
+      numbers = λ p. logs_behind p es v.logs;
+      count = length-map v.logs (log_behind es);
+      held = λ n. subst (λ (z : Contents). (state_of d).holds n + holds_by n v.doing ≡ (state_of z).holds n + holds_by n doing) same (turn.held n);
+      leaves = λ n. subst (λ (z : Contents). leaving_count d n + removals_by n v.doing ≡ leaving_count z n + removals_by n doing) same (turn.leaves n);
+      files = λ f. subst (λ (z : Contents). HasFile (state_of z) f → (0 < (state_of d).holds f.number) ⊎ (leaving d f.number ≡ true) → HasFile (state_of d) f) same (turn.files f);
+      others = λ n. subst (λ (z : Start × Contents). pass_of_number z.0.passes n ≢ x.number → (state_of z.1).fresh n ≡ true → (state_of d).fresh n ≡ true) (λ i. (begun i, same i)) (turn.others n);
+    }
+
+  pub give_keeps : Allows (IsKept k) 1 id (v, (0, d) ∷ []) 0 (λ _. 1) (λ _. Gives es doing (step 1 0 1 0 none) (v, (0, d) ∷ []) 1)
+  give_keeps s r wide at small = ⊎_elim
+      (λ (home : IsHome r.contents s). absurd (none_some c (sym (home.2 id v at) ∙ has)))
+      (λ (away : IsAway r.contents r.history s). (
+        w,
+        gives,
+        tt,
+        keeps_rule k s r id v at w d es (set s.words 0 1) (set s.homes 0 (some d)) (given_turns s r at away),
+        (refl, refl),
+      ))
+      r.place
+
+pub may_store : (k : Start) (slots id : ℕ) (me : Seated) (v : View) (d : Contents) (es : List Event) (doing : Doing) → slots ≡ 1 → me ≡ (v, (0, d) ∷ [])
+    → (x : Log) (c : Contents) → v.logs ≡ x ∷ [] → v.loan ≡ Some c → IsTable d → IsTurn v x c d es doing → Allows (IsKept k) slots id me 0 (λ _. 1) (λ _. Gives es doing (step slots 0 1 0 none) me 1)
+may_store k slots id me v d es doing s m x c one has sound turn =
+    let P : ℕ × Seated → Type 0 = λ z. Allows (IsKept k) z.0 id z.1 0 (λ _. 1) (λ _. Gives es doing (step z.0 0 1 0 none) z.1 1) in
+    subst P (λ i. (sym s i, sym m i)) (give_keeps k id v x one c d has es doing sound turn)

@@ -1,0 +1,108 @@
+-- The rule holds when a table is opened.
+use Rattle.std.proofs.Common.{◌≡◌, ℕ, zero, suc, ◌+◌, ◌<◌, ◌≤◌, Bool, true, false, cond, List, [], ◌∷◌, length, sym, refl, ap, ◌∙◌, subst, arith, eqb, eq-eqb, ne_eqb, inl, inr, ⊎_elim}
+use mathlib.Core.Logic.{dite}
+use native.Mathlib.Decide.{ℕ_discrete, dec_lt}
+use mathlib.Core.Option.{some, some-injective, some-ne-none}
+use lib.ListN.{get_elem?}
+use Rattle.std.proofs.lemmas.Bool.{lt-ltb, ltb-true}
+use Rattle.std.specs.Prelude.{Option, Some, None, nat_lt, not, ◌&&◌, Contains}
+use Rattle.atomic_table.specs.Table.{opening as table_opening}
+use Rattle.fx_plain.specs.State.{State, opening, file_numbered, IsSettled}
+use Rattle.fx_plain.specs.Contents.{Contents, state_of, IsTable, is_leaving, node_at, removed_at}
+use Rattle.fx_plain.specs.declared.node.Node.{Node}
+use Rattle.fx_plain.specs.declared.node.Node.TheVariants.{Fresh, At, Leaving, Retired, Gone}
+use Rattle.fx_plain.specs.declared.event.File.{File}
+use Rattle.fx_plain.specs.Table.{identity_of}
+use Rattle.fx_table.specs.Numbers.{numbers_for}
+use Rattle.fx_table.specs.Opening.{HasSameFiles, IsGivenBack}
+use Rattle.fx_table.proofs.Members.{contains_none, contains_cases}
+use Rattle.fx_table.specs.declared.values.Doing.TheVariants.{Idle}
+use Rattle.fx_baton.specs.declared.view.Log.{Log}
+use Rattle.fx_baton.specs.declared.view.View.{View}
+use Rattle.fx_baton.specs.declared.view.Start.{Start}
+use Rattle.fx_baton.specs.Rule.{IsKept, IsLog, IsView, HasFreshNumbers, leaving_count, begin_of, first_view, new_logs, new_log}
+use Rattle.fx_baton.proofs.Counts.{length_new}
+
+new_is : (q n : ℕ) (x : Log) → Contains (new_logs q n) x → x ≡ new_log x.number
+new_is q zero x h = absurd (contains_none x h)
+new_is q (suc n) x h = ⊎_elim
+    (λ (e : x ≡ new_log q). e ∙ ap new_log (ap (λ (z : Log). z.number) (sym e)))
+    (λ t. new_is (suc q) n x t)
+    (contains_cases (new_log q) (new_logs (suc q) n) x h)
+
+single_at : {A : Type 0} (v : A) (i : ℕ) (u : A) → get_elem? (v ∷ []) i ≡ some u → v ≡ u
+single_at v zero u e = some-injective v u e
+single_at v (suc i) u e = absurd (some-ne-none u (sym e))
+
+-- a table that was prepared has the same files, and is settled
+renumbered_identity : (o : Option File) (slot : ℕ) → identity_of (file_numbered o slot) ≡ identity_of o
+renumbered_identity None slot = refl
+renumbered_identity (Some f) slot = refl
+
+same_files : (st now : State) (n : ℕ) → now ≡ opening st n → HasSameFiles st now
+same_files st now n e = subst (HasSameFiles st) (sym e)
+    record { size = refl; range = refl; files = λ slot. renumbered_identity (st.at slot) slot }
+
+opens_settled : (st now : State) (n : ℕ) → now ≡ opening st n → IsSettled now
+opens_settled st now n e = subst IsSettled (sym e) record { unheld = λ m. refl; closed = λ m. refl }
+
+-- a table that was not prepared comes back as it was, and one that was prepared has the same files
+pub back_as_it_was : (plain : Contents) → IsSettled (state_of plain) → IsGivenBack plain plain
+back_as_it_was plain settled = record { files = record { size = refl; range = refl; files = λ slot. refl }; settled = settled }
+
+pub back_prepared : (plain back : Contents) (n : ℕ) → state_of back ≡ opening (state_of plain) n → IsGivenBack plain back
+back_prepared plain back n e = record {
+  files = same_files (state_of plain) (state_of back) n e;
+  settled = opens_settled (state_of plain) (state_of back) n e;
+}
+
+pub only_one : (c d : Contents) → c ∷ [] ≡ d ∷ [] → c ≡ d
+only_one c d e = cc
+
+-- a table without removed files has none that is leaving
+not_leaving : (number : ℕ) (node : Node) → removed_at number node ≡ None → is_leaving node ≡ false
+not_leaving number Fresh e = refl
+not_leaving number (At slot file) e = refl
+not_leaving number (Leaving file) e = let no : Some (record { number = number; identity = file }) ≡ None = e in absurd (cc no)
+not_leaving number (Retired file) e = refl
+not_leaving number Gone e = refl
+
+module _ (k : Start) (c : Contents) (begins : state_of c ≡ begin_of k) (sound : IsTable c) (few : k.passes ≤ 16) where
+  size_few : (state_of k.plain.value).size ≤ 256
+  size_few = let e = ap (λ (z : State). z.size) begins in let l = sound.few_slots in omega arith
+
+  fresh_there : (n : ℕ) → 256 ≤ n → n < numbers_for k.chains → (begin_of k).fresh n ≡ true
+  fresh_there n low high = elim (nat_lt n (state_of k.plain.value).size) as (λ b. nat_lt n (state_of k.plain.value).size ≡ b → (not b && nat_lt n (numbers_for k.chains)) ≡ true) [
+    | true ↦ λ e. absurd (let l : n < (state_of k.plain.value).size = ltb-true n (state_of k.plain.value).size e in let few = size_few in omega arith)
+    | false ↦ λ e. lt-ltb n (numbers_for k.chains) high
+  ] refl
+
+  fresh_log : (p : ℕ) → HasFreshNumbers k (state_of c) (new_log p)
+  fresh_log p n low from high its = ap (λ (z : State). z.fresh n) begins ∙ fresh_there n low high
+
+  new_view : IsView k [] c (first_view k)
+  new_view = record {
+    logs = λ x h. subst (λ (z : Log). IsLog k [] c Idle z) (sym (new_is 1 k.passes x h)) record { seen = ([], refl); own = refl; held = refl; fresh = fresh_log x.number };
+    file = λ f e. let no : None ≡ Some f = e in absurd (cc no);
+    empty = λ _. (refl, refl);
+    start = inr refl;
+  }
+
+  opens_one : IsKept k (table_opening (1 ∷ []) (c ∷ []) (first_view k))
+  opens_one = record {
+    history = [];
+    contents = c;
+    legal = record { leads = (tt, begins); releases = tt };
+    sound = sound;
+    place = inl (refl, refl, λ i u e. ap (λ (z : View). z.loan) (sym (single_at (first_view k) i u e)));
+    views = λ i u e. subst (IsView k [] c) (single_at (first_view k) i u e) new_view;
+    numbers = λ p. omega arith;
+    count = let a = length_new 1 k.passes in omega arith;
+    few = few;
+    authors = λ e h. absurd (contains_none e h);
+    held = λ n. let a = ap (λ (z : State). z.holds n) begins in omega arith;
+    leaves = λ n. let a = not_leaving n (node_at c.nodes n) (ap (λ (z : State). z.removed n) begins) in let b : leaving_count c n ≡ 0 = ap (λ (z : Bool). cond {A = ℕ} z 1 0) a in omega arith;
+  }
+
+  pub opens : (xs : List Contents) → xs ≡ c ∷ [] → IsKept k (table_opening (1 ∷ []) xs (first_view k))
+  opens xs e = subst (λ (z : List Contents). IsKept k (table_opening (1 ∷ []) z (first_view k))) (sym e) opens_one

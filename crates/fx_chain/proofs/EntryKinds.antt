@@ -1,0 +1,103 @@
+-- The entries of an update, by their sign, and how a list of them goes on.
+use Rattle.std.proofs.Common.{◌≡◌, ℕ, zero, suc, ◌+◌, ◌<◌, Bool, true, false, if◌then◌else◌, ◌||◌, ℤ, pos, negsuc, int_le, int_lt, List, [], ◌∷◌, ◌++◌, length, filter, take, drop, add-one, refl, sym, ap, subst, ◌∙◌, slice_index_or, arith, nat_abs}
+use Rattle.std.proofs.lemmas.Bool.{ltb-true, le-leb}
+use Rattle.std.proofs.lemmas.List.{append-nil, append_assoc, length-append, length-take-le, take_more}
+use Rattle.std.proofs.lemmas.List.Elements.{filter-append}
+use Rattle.std.proofs.Math.Seq.{drop-cons}
+use Rattle.std.specs.List.{list_any}
+use Rattle.fx_plain.specs.declared.event.Action.{Action}
+use Rattle.fx_plain.specs.History.{◌▷▷◌}
+use Rattle.fx_chain.specs.Answers.{AppliesEntry, AppliesList, is_bad_entry}
+use Rattle.fx_table.specs.Opening.{Opening}
+use Rattle.fx_chain.specs.Performs.{Player, ActsSo}
+use Rattle.fx_chain.specs.Weights.{entry_installs, list_installs}
+use Rattle.fx_chain.specs.declared.completion.Place.{Place}
+use Rattle.fx_chain.proofs.ActsInTurn.{so_said, so_then}
+
+-- an entry of 0 or more is the number that it reads as
+pub unsigned : (z : ℤ) → int_le (pos 0) z ≡ true → z ≡ pos (nat_abs z)
+unsigned (pos n) is = refl
+unsigned (negsuc n) is = cc
+
+pub minus_one : (z : ℤ) → int_le (pos 0) z ≡ false → int_lt (negsuc 1) z ≡ true → z ≡ negsuc 0
+minus_one (pos n) low high = let e : true ≡ false = sym (le-leb 0 n (omega arith)) ∙ low in cc
+minus_one (negsuc zero) low high = refl
+minus_one (negsuc (suc n)) low high = let lt = ltb-true (suc n) 1 high in absurd (omega arith)
+
+abbrev installing : List ℤ → List ℤ
+installing list = filter (λ entry. int_le (pos 0) entry) list
+
+-- a list with an entry in front, and one with an entry at its end
+pub list_installs-cons : (z : ℤ) (list : List ℤ) → list_installs (z ∷ list) ≡ entry_installs z + list_installs list
+list_installs-cons (pos n) list =
+    ap (λ (b : Bool). length (if b then pos n ∷ installing list else installing list)) (le-leb 0 n (omega arith)) ∙ omega arith
+list_installs-cons (negsuc n) list = omega arith
+
+pub list_installs-push : (list : List ℤ) (z : ℤ) → list_installs (list ++ z ∷ []) ≡ list_installs list + entry_installs z
+list_installs-push list z =
+    ap length (filter-append (λ entry. int_le (pos 0) entry) list (z ∷ [])) ∙ length-append (installing list) (installing (z ∷ []))
+    ∙ ap (λ (n : ℕ). list_installs list + n) (list_installs-cons z []) ∙ omega arith
+
+or_left : (a b : Bool) → a || b ≡ false → a ≡ false
+or_left true b is = cc
+or_left false b is = refl
+
+or_right : (a b : Bool) → a || b ≡ false → b ≡ false
+or_right true b is = cc
+or_right false b is = is
+
+-- no entry of a list is bad where none is
+pub good_at : (entries : ℕ) (list : List ℤ) (i : ℕ) (d : ℤ) → list_any (is_bad_entry entries) list ≡ false → i < length list → is_bad_entry entries (slice_index_or list i d) ≡ false
+good_at entries [] i d good inside = absurd (omega arith)
+good_at entries (z ∷ list) zero d good inside = or_left _ _ good
+good_at entries (z ∷ list) (suc i) d good inside = good_at entries list i d (or_right _ _ good) (omega arith)
+
+-- an entry that is neither installed nor emptied leaves its slot
+pub leaves_slot : (place : Place) (in_list slot entries : ℕ) (z : ℤ) → is_bad_entry entries z ≡ false → int_le (pos 0) z ≡ false → int_lt (negsuc 1) z ≡ false → AppliesEntry place in_list slot z []
+leaves_slot place in_list slot entries (pos n) good low high = let e : true ≡ false = sym (le-leb 0 n (omega arith)) ∙ low in cc
+leaves_slot place in_list slot entries (negsuc zero) good low high = let e : true ≡ false = high in cc
+leaves_slot place in_list slot entries (negsuc (suc n)) good low high = refl
+
+-- the entries of a list, and one more behind them
+pub applies_more : (place : Place) (in_list slot : ℕ) (list : List ℤ) (z : ℤ) (events own : List Action)
+    → AppliesList place in_list slot list events → AppliesEntry place (in_list + length list) (slot + length list) z own → AppliesList place in_list slot (list ++ z ∷ []) (events ▷▷ own)
+applies_more place in_list slot [] z events own none applies =
+    let here : AppliesEntry place in_list slot z own =
+    subst (λ (n : ℕ × ℕ). AppliesEntry place n.0 n.1 z own) (λ i. ((let e : in_list + 0 ≡ in_list = omega arith in e) i, (let e : slot + 0 ≡ slot = omega arith in e) i)) applies in
+    (own, [], ap (λ (h : List Action). own ++ h) none ∙ append-nil own, here, refl)
+applies_more place in_list slot (x ∷ list) z events own (first, others, is, front, rest) applies =
+    let further : AppliesEntry place ((in_list + 1) + length list) ((slot + 1) + length list) z own =
+    subst (λ (n : ℕ × ℕ). AppliesEntry place n.0 n.1 z own)
+    (λ i. ((let e : in_list + suc (length list) ≡ (in_list + 1) + length list = omega arith in e) i, (let e : slot + suc (length list) ≡ (slot + 1) + length list = omega arith in e) i)) applies in (
+      first,
+      others ▷▷ own,
+      ap (λ (h : List Action). own ++ h) is ∙ sym (append_assoc own others first),
+      front,
+      applies_more place (in_list + 1) (slot + 1) list z others own rest further,
+    )
+
+-- the entries that are left install what this one and those behind it do
+pub installs_left : (list : List ℤ) (i : ℕ) → i < length list → list_installs (drop i list) ≡ entry_installs (slice_index_or list i (pos 0)) + list_installs (drop (i + 1) list)
+installs_left list i inside =
+    ap list_installs (drop-cons list i (pos 0) inside) ∙ list_installs-cons (slice_index_or list i (pos 0)) (drop (suc i) list)
+    ∙ ap (λ (n : ℕ). entry_installs (slice_index_or list i (pos 0)) + list_installs (drop n list)) (sym (add-one i))
+
+-- the first entries were applied, and then the next one
+pub applies_next : (o : Opening) (p q r : Player) (place : Place) (off : ℕ) (list : List ℤ) (i : ℕ) → i < length list
+    → ActsSo o p 0 (list_installs (take i list)) i (AppliesList place 0 off (take i list)) q
+    → ActsSo o q 0 (entry_installs (slice_index_or list i (pos 0))) 1 (AppliesEntry place i (off + i) (slice_index_or list i (pos 0))) r
+    → ActsSo o p 0 (list_installs (take (i + 1) list)) (i + 1) (AppliesList place 0 off (take (i + 1) list)) r
+applies_next o p q r place off list i inside done own =
+    let entry = slice_index_or list i (pos 0) in
+    let count : length (take i list) ≡ i = length-take-le i list (omega arith) in
+    let front : take (i + 1) list ≡ take i list ++ entry ∷ [] = take_more list i (pos 0) inside in
+    let installs = ap list_installs front ∙ list_installs-push (take i list) entry in
+    let Before = AppliesList place 0 off (take i list) in
+    let Now = AppliesList place 0 off (take i list ++ entry ∷ []) in
+    let here = λ (events : List Action) (applies : AppliesEntry place i (off + i) entry events).
+    subst (λ (n : ℕ × ℕ). AppliesEntry place n.0 n.1 entry events)
+    (λ k. ((let e : i ≡ 0 + length (take i list) = omega arith in e) k, (let e : off + i ≡ off + length (take i list) = omega arith in e) k)) applies in
+    so_said o p r (0 + 0) (list_installs (take i list) + entry_installs entry) (i + 1) 0 (list_installs (take (i + 1) list)) (i + 1) Now _ (omega arith) (omega arith) (omega arith)
+    (λ (events : List Action) told. subst (λ (xs : List ℤ). AppliesList place 0 off xs events) (sym front) told)
+    (so_then o p q r 0 (list_installs (take i list)) i 0 (entry_installs entry) 1 Before (AppliesEntry place i (off + i) entry) Now
+    (λ xs ys a b. applies_more place 0 off (take i list) entry xs ys a (here ys b)) done own)

@@ -1,0 +1,239 @@
+-- Begin, end, answer and load keep the rule.
+use Rattle.std.proofs.Common.{◌≡◌, ◌≢◌, ℕ, zero, suc, ◌+◌, ◌-◌, ◌/◌, ◌%◌, ◌^◌, ◌<◌, ◌≤◌, List, [], ◌∷◌, set, length, sym, refl, ap, subst, arith, length-set, get_or-set_other, get_or-set_same, Option, IsSome}
+use mathlib.Core.Logic.{dite}
+use mathlib.Core.Option.{some, none, some-injective, some-ne-none}
+use native.Mathlib.Decide.{ℕ_discrete}
+use lib.ListN.{get_elem?}
+use Rattle.atomic_table.specs.Table.{keeps, Allows, step}
+use Rattle.fx_base.specs.declared.open_file.Closed.{Closed}
+use Rattle.fx_plain.specs.History.{◌▷◌}
+use Rattle.fx_plain.specs.Totals.{total}
+use Rattle.fx_plain.specs.declared.event.File.{File}
+use Rattle.fx_plain.specs.declared.event.Event.{Event}
+use Rattle.fx_plain.specs.declared.event.Action.TheVariants.{Full}
+use Rattle.fx_table.specs.Calls.{nothing}
+use Rattle.fx_table.specs.Opening.{range_of}
+use Rattle.fx_table.specs.Pass.{event_of}
+use Rattle.fx_table.proofs.Totals.{total_set, total_at, total_le}
+use Rattle.fx_words.specs.Words.{one_change, full_word_of}
+use Rattle.fx_counted.specs.Agrees.{WorkAgrees, lengths, Agrees}
+use Rattle.fx_counted.specs.Control.{in_change, added, removed_by, changes_of, added_of, removed_of, full_in, ControlCounts}
+use Rattle.fx_counted.specs.Laws.{word_of, BeginsKeep, EndsKeep, AnswersKeep}
+use Rattle.fx_counted.specs.Layout.{control_place, draw_place, slot_place}
+use Rattle.fx_counted.specs.Passes.{Shared, Sat, opening_of, state_after_all, shown}
+use Rattle.fx_counted.specs.Tells.{IsInside, Stepped, GoesOn, Answers}
+use Rattle.fx_counted.specs.declared.view.Change.{Change}
+use Rattle.fx_counted.specs.declared.view.Change.TheVariants.{Outside, Same, More, Less}
+use Rattle.fx_counted.specs.declared.view.Log.{Log}
+use Rattle.fx_counted.specs.declared.view.Start.{Start}
+use Rattle.fx_counted.specs.declared.view.View.{View}
+use Rattle.fx_counted.specs.declared.view.Work.{Work}
+use Rattle.fx_counted.specs.declared.view.Work.TheVariants.{Idle, Placing, Holding, Retiring, Emptying}
+use Rattle.fx_counted.proofs.Calm.{Calm, calm_agrees}
+use Rattle.fx_counted.proofs.FullSlots.{full_few, full_all}
+use Rattle.fx_counted.proofs.Histories.{IsHistory, grows_none, grows_one, legal_more, held_mine, part_mine, same_shape}
+use Rattle.fx_counted.proofs.Keeping.{word_at, now, logged, its_work, tells}
+use Rattle.fx_counted.proofs.NodeSteps.{near, far}
+use Rattle.fx_counted.proofs.Retirements.{sub_wraps}
+
+-- what one of them adds to the gap between two totals
+pub total_gap : {X : Type 0} (f g : X → ℕ) (xs : List X) (i : ℕ) (v : X) → get_elem? xs i ≡ some v → ((j : ℕ) (x : X) → get_elem? xs j ≡ some x → f x ≤ g x) → total f xs + g v ≤ total g xs + f v
+total_gap f g [] i v e each = absurd (some-ne-none v (sym e))
+total_gap f g (x ∷ xs) zero v e each = let p : f x ≡ f v = ap f (some-injective x v e) in let q : g x ≡ g v = ap g (some-injective x v e) in let b = total_le f g xs (λ j y d. each (suc j) y d) in omega arith
+total_gap f g (x ∷ xs) (suc i) v e each = let a = each 0 x refl in let b = total_gap f g xs i v e (λ j y d. each (suc j) y d) in omega arith
+
+at_most_one : (c : Change) → in_change c ≤ 1
+at_most_one Outside = omega arith
+at_most_one Same = omega arith
+at_most_one More = omega arith
+at_most_one Less = omega arith
+
+adds_inside : (c : Change) → added c ≤ in_change c
+adds_inside Outside = omega arith
+adds_inside Same = omega arith
+adds_inside More = omega arith
+adds_inside Less = omega arith
+
+removes_inside : (c : Change) → removed_by c ≤ in_change c
+removes_inside Outside = omega arith
+removes_inside Same = omega arith
+removes_inside More = omega arith
+removes_inside Less = omega arith
+
+is_inside : (k : Start) (phase : ℕ → Rattle.fx_counted.specs.Phases.Phase) (seat : ℕ) (d : Work) → WorkAgrees k phase seat d → IsInside k d
+is_inside k phase seat Idle o = tt
+is_inside k phase seat (Placing n) o = o.0
+is_inside k phase seat (Holding f) o = o.0
+is_inside k phase seat (Retiring f t) o = o.0
+is_inside k phase seat (Emptying n) o = o.0
+
+module _ (st : Shared) (v : View) (r : Agrees v.start st) (id : ℕ) (x : Log) (here : get_elem? st.views id ≡ some v) (one : v.logs ≡ x ∷ []) where
+  abbrev word : ℕ
+  word = word_at st.words control_place
+
+  abbrev at_now : ℕ → Option File
+  at_now = (state_after_all v.start r.history).at
+
+  abbrev range : ℕ × ℕ
+  range = range_of (opening_of v.start)
+
+  pub its_inside : IsInside v.start v.work
+  its_inside = is_inside v.start r.phase id v.work (its_work st v r id x here one)
+
+  few_changes : (j : ℕ) (u : View) → get_elem? st.views j ≡ some u → changes_of u ≤ lengths u
+  few_changes j u there = go u.logs refl
+    where
+      go : (l : List Log) → u.logs ≡ l → in_change u.change ≤ length u.logs
+      go [] is = let a = ap in_change ((r.each_view j u there).empty is).1 in omega arith
+      go (z ∷ l) is = let a = at_most_one u.change in let b = ap (length {A = Log}) is in omega arith
+
+  -- fewer than 16 are in a change beside this pass
+  pub few_others : total changes_of st.views + 1 ≤ 16 + in_change v.change
+  few_others = let a = total_gap changes_of lengths st.views id v here few_changes in let b = r.whole in let c = r.shape.passes in let d = ap (length {A = Log}) one in omega arith
+
+  few_full : full_in at_now range.0 range.1 ≤ 256
+  few_full = let a = full_few at_now range.0 range.1 in let b = r.shape.range in let c = r.shape.slots in omega arith
+
+  few_removed : total removed_of st.views ≤ total changes_of st.views
+  few_removed = total_le removed_of changes_of st.views (λ j u e. removes_inside u.change)
+
+  few_added : total added_of st.views ≤ total changes_of st.views
+  few_added = total_le added_of changes_of st.views (λ j u e. adds_inside u.change)
+
+  wide : control_place < length st.words
+  wide = let a = r.shape.words in let b = (near st v r id x here one).control in omega arith
+
+  -- what is written to the control word
+  module _ (y : ℕ) where
+    abbrev words' : List ℕ
+    words' = set st.words control_place y
+
+    read_else : (place : ℕ) → place ≢ control_place → word_at words' place ≡ word_at st.words place
+    read_else place other = get_or-set_other st.words control_place place y 0 other
+
+    -- with no event
+    quiet : (c : Change) → ControlCounts at_now range (set st.views id (now v (logged x r.history x.numbers_left x.looks_left) v.work c)) y → Calm st v r id x here one r.history c words'
+    quiet c control = let apart = far st v r id x here one in record {
+      grows = grows_none x.number r.history;
+      legal = r.legal;
+      state = refl;
+      looked = refl;
+      all = refl;
+      held = refl;
+      words = length-set st.words control_place y;
+      slots = λ s. read_else (slot_place s) (apart.slot_and_control s);
+      nodes = λ n has. read_else (word_of v.start n) (apart.node_and_control n has);
+      drawn = read_else draw_place (λ same. apart.control_and_draw (sym same));
+      control = subst (ControlCounts at_now range (set st.views id (now v (logged x r.history x.numbers_left x.looks_left) v.work c))) (sym (get_or-set_same st.words control_place y 0 wide)) control;
+    }
+
+    abbrev e : Event
+    e = event_of (shown x v.work) Full
+
+    -- with the event that every slot of the range is full
+    full_legal : ((slot : ℕ) → range.0 ≤ slot → slot < range.0 + range.1 → IsSome (at_now slot)) → IsHistory v.start (e ∷ r.history)
+    full_legal each = legal_more v.start r.history e r.legal
+        (λ slot small in_range. let z = (same_shape v.start r.history).1 in let a = ap (λ (p : ℕ × ℕ). p.0) z in let b = ap (λ (p : ℕ × ℕ). p.1) z in let i = in_range.0 in let j = in_range.1 in each slot (omega arith) (omega arith)) tt
+
+    told_full : (c : Change) → ((slot : ℕ) → range.0 ≤ slot → slot < range.0 + range.1 → IsSome (at_now slot)) → ControlCounts at_now range (set st.views id (now v (logged x (e ∷ r.history) x.numbers_left x.looks_left) v.work c)) y
+        → Calm st v r id x here one (e ∷ r.history) c words'
+    told_full c each control = let apart = far st v r id x here one in record {
+      grows = grows_one x.number r.history e refl;
+      legal = full_legal each;
+      state = refl;
+      looked = refl;
+      all = omega arith;
+      held = held_mine x.number e r.history refl;
+      words = length-set st.words control_place y;
+      slots = λ s. read_else (slot_place s) (apart.slot_and_control s);
+      nodes = λ n has. read_else (word_of v.start n) (apart.node_and_control n has);
+      drawn = read_else draw_place (λ same. apart.control_and_draw (sym same));
+      control = subst (ControlCounts at_now range (set st.views id (now v (logged x (e ∷ r.history) x.numbers_left x.looks_left) v.work c))) (sym (get_or-set_same st.words control_place y 0 wide)) control;
+    }
+
+  pub goes_on : (c : Change) (carried : List (ℕ × Option Closed)) → Stepped (v, carried) [] nothing v.work c (now v (logged x r.history x.numbers_left x.looks_left) v.work c, carried)
+  goes_on c carried = tells st v r id x here one carried carried r.history x.numbers_left x.looks_left v.work c [] nothing (grows_none x.number r.history) r.legal refl (omega arith) (omega arith) its_inside
+
+  module _ (fits : word < 18446744073709551616) where
+    begun : v.change ≡ Outside → ControlCounts at_now range (set st.views id (now v (logged x r.history x.numbers_left x.looks_left) v.work Same)) ((word + one_change) % 2 ^ 64)
+    begun out = let w : View = now v (logged x r.history x.numbers_left x.looks_left) v.work Same in
+        let a = total_set changes_of st.views id v w here in let b = total_set added_of st.views id v w here in let d = total_set removed_of st.views id v w here in
+        let a' = ap in_change out in let b' = ap added out in let d' = ap removed_by out in let s = few_others in let u = r.control.upper in let l = r.control.lower in
+        let sum : (word + 4294967296) % 2 ^ 64 ≡ word + 4294967296 = omega arith in
+        record { upper = omega arith; lower = omega arith }
+
+    -- the difference is told: amount is 2^32 less it
+    ended : (h' : List Event) (amount : ℕ) → in_change v.change ≡ 1 → amount + added v.change ≡ one_change + removed_by v.change
+        → ControlCounts at_now range (set st.views id (now v (logged x h' x.numbers_left x.looks_left) v.work Outside)) ((word + (2 ^ 64 - amount)) % 2 ^ 64)
+    ended h' amount in_now amount_is = let w : View = now v (logged x h' x.numbers_left x.looks_left) v.work Outside in
+        let a = total_set changes_of st.views id v w here in let b = total_set added_of st.views id v w here in let d = total_set removed_of st.views id v w here in
+        let s = few_others in let u = r.control.upper in let l = r.control.lower in let ff = few_full in let fr = few_removed in let fa = few_added in
+        let o1 = total_at added_of st.views id v here in let l1 = total_at removed_of st.views id v here in let f1 = total_at changes_of st.views id v here in
+        let x1 = adds_inside v.change in let x2 = removes_inside v.change in
+        let big : amount ≤ word = omega arith in
+        let diff : (word + (2 ^ 64 - amount)) % 2 ^ 64 ≡ word - amount = sub_wraps word amount big fits (omega arith) in
+        record { upper = omega arith; lower = omega arith }
+
+    -- a word that says so: this pass alone is in a change, and every slot of the range is full
+    says_so : v.change ≡ Same → word ≡ full_word_of range.1 → (slot : ℕ) → range.0 ≤ slot → slot < range.0 + range.1 → IsSome (at_now slot)
+    says_so same is = let a = total_gap added_of changes_of st.views id v here (λ j u e. adds_inside u.change) in let b = total_gap removed_of changes_of st.views id v here (λ j u e. removes_inside u.change) in
+        let a' = ap in_change same in let b' = ap added same in let d' = ap removed_by same in let u = r.control.upper in let l = r.control.lower in let few = r.shape.range in let few' = r.shape.slots in
+        let up : word / 4294967296 ≡ 1 = omega arith in let low : word % 4294967296 ≡ 65536 + range.1 = omega arith in
+        full_all at_now range.0 range.1 (omega arith)
+
+begins_at : (slots id : ℕ) (m : Sat) (x : Log) → m.0.logs ≡ x ∷ [] → m.0.change ≡ Outside → Allows (Agrees m.0.start) slots id m control_place (λ word. (word + one_change) % 2 ^ 64) (GoesOn Same (step slots control_place one_change 0 none) m)
+begins_at slots id m x one out st r deep here fits = let y : ℕ = (word_at st.words control_place + one_change) % 2 ^ 64 in (
+  now m.0 (logged x r.history x.numbers_left x.looks_left) m.0.work Same,
+  keeps,
+  tt,
+  calm_agrees st m.0 r id x here one r.history Same (set st.words control_place y) (quiet st m.0 r id x here one y Same (begun st m.0 r id x here one fits out)),
+  record { stepped = goes_on st m.0 r id x here one Same m.1; carried = refl },
+)
+
+pub begins_keep : BeginsKeep
+begins_keep k slots id i m x has out place = subst (λ (k : Start). Allows (Agrees k) slots id m i (λ word. (word + one_change) % 2 ^ 64) (GoesOn Same (step slots i one_change 0 none) m)) has.0
+    (subst (λ (i : ℕ). Allows (Agrees m.0.start) slots id m i (λ word. (word + one_change) % 2 ^ 64) (GoesOn Same (step slots i one_change 0 none) m)) (sym place) (begins_at slots id m x has.1 out))
+
+ends_at : (slots id amount : ℕ) (m : Sat) (x : Log) → m.0.logs ≡ x ∷ [] → in_change m.0.change ≡ 1 → amount + added m.0.change ≡ one_change + removed_by m.0.change
+    → Allows (Agrees m.0.start) slots id m control_place (λ word. (word + (2 ^ 64 - amount)) % 2 ^ 64) (GoesOn Outside (step slots control_place amount 0 none) m)
+ends_at slots id amount m x one in_now amount_is st r deep here fits = let y : ℕ = (word_at st.words control_place + (2 ^ 64 - amount)) % 2 ^ 64 in (
+  now m.0 (logged x r.history x.numbers_left x.looks_left) m.0.work Outside,
+  keeps,
+  tt,
+  calm_agrees st m.0 r id x here one r.history Outside (set st.words control_place y) (quiet st m.0 r id x here one y Outside (ended st m.0 r id x here one fits r.history amount in_now amount_is)),
+  record { stepped = goes_on st m.0 r id x here one Outside m.1; carried = refl },
+)
+
+pub ends_keep : EndsKeep
+ends_keep k slots id i amount m x has in_now amount_is place = subst (λ (k : Start). Allows (Agrees k) slots id m i (λ word. (word + (2 ^ 64 - amount)) % 2 ^ 64) (GoesOn Outside (step slots i amount 0 none) m)) has.0
+    (subst (λ (i : ℕ). Allows (Agrees m.0.start) slots id m i (λ word. (word + (2 ^ 64 - amount)) % 2 ^ 64) (GoesOn Outside (step slots i amount 0 none) m)) (sym place) (ends_at slots id amount m x has.1 in_now amount_is))
+
+answers_at : (slots id : ℕ) (m : Sat) (x : Log) → m.0.logs ≡ x ∷ [] → m.0.change ≡ Same
+    → Allows (Agrees m.0.start) slots id m control_place (λ word. (word + (2 ^ 64 - one_change)) % 2 ^ 64) (Answers (step slots control_place one_change 0 none) m)
+answers_at slots id m x one same st r deep here fits = let y : ℕ = (word_at st.words control_place + (2 ^ 64 - one_change)) % 2 ^ 64 in let len : ℕ = (range_of (opening_of m.0.start)).1 in
+    let counts : (h' : List Event) → ControlCounts (state_after_all m.0.start r.history).at (range_of (opening_of m.0.start)) (set st.views id (now m.0 (logged x h' x.numbers_left x.looks_left) m.0.work Outside)) y =
+    λ h'. ended st m.0 r id x here one fits h' one_change (ap in_change same) (let a = ap added same in let b = ap removed_by same in omega arith) in
+    dite (ℕ_discrete (word_at st.words control_place) (full_word_of len))
+    (λ says. let each = says_so st m.0 r id x here one fits same says in let e : Event = event_of (shown x m.0.work) Full in (
+      now m.0 (logged x (e ∷ r.history) x.numbers_left x.looks_left) m.0.work Outside,
+      keeps,
+      tt,
+      calm_agrees st m.0 r id x here one (e ∷ r.history) Outside (set st.words control_place y) (told_full st m.0 r id x here one y Outside each (counts (e ∷ r.history))),
+      record {
+        full = λ _. tells st m.0 r id x here one m.1 m.1 (e ∷ r.history) x.numbers_left x.looks_left m.0.work Outside ([] ▷ Full) nothing (grows_one x.number r.history e refl) (full_legal st m.0 r id x here one y each)
+            (part_mine x.number e r.history refl) (omega arith) (omega arith) (its_inside st m.0 r id x here one);
+        not_full = λ not_so. absurd (not_so says);
+        carried = refl;
+      },
+    ))
+    (λ not_so. (
+      now m.0 (logged x r.history x.numbers_left x.looks_left) m.0.work Outside,
+      keeps,
+      tt,
+      calm_agrees st m.0 r id x here one r.history Outside (set st.words control_place y) (quiet st m.0 r id x here one y Outside (counts r.history)),
+      record { full = λ says. absurd (not_so says); not_full = λ _. goes_on st m.0 r id x here one Outside m.1; carried = refl },
+    ))
+
+pub answers_keep : AnswersKeep
+answers_keep k slots id i m x has same place = subst (λ (k : Start). Allows (Agrees k) slots id m i (λ word. (word + (2 ^ 64 - one_change)) % 2 ^ 64) (Answers (step slots i one_change 0 none) m)) has.0
+    (subst (λ (i : ℕ). Allows (Agrees m.0.start) slots id m i (λ word. (word + (2 ^ 64 - one_change)) % 2 ^ 64) (Answers (step slots i one_change 0 none) m)) (sym place) (answers_at slots id m x has.1 same))

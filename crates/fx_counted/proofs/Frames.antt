@@ -1,0 +1,136 @@
+-- What a step of one seat leaves as it was.
+use Rattle.std.proofs.Common.{◌≡◌, ◌≢◌, ℕ, zero, suc, ◌+◌, ◌<◌, ◌≤◌, true, false, List, [], ◌∷◌, set, length, sym, refl, ap, ◌∙◌, subst, arith, eq-eqb, nat_lt, ◌⊎◌, inl, inr, ⊎_elim, Some, None}
+use mathlib.Core.Option.{some, some-injective, some-ne-none}
+use lib.ListN.{get_elem?}
+use Rattle.atomic_table.proofs.Lists.{at_set, set_here, set_else}
+use Rattle.fx_plain.specs.Totals.{total}
+use Rattle.fx_plain.specs.declared.event.File.{File}
+use Rattle.fx_plain.specs.declared.event.Event.{Event}
+use Rattle.fx_plain.specs.Table.{numbered}
+use Rattle.fx_table.specs.Lists.{bit}
+use Rattle.fx_table.proofs.Totals.{total_at, total_two}
+use Rattle.fx_counted.specs.Agrees.{Does, OwnerAgrees, WorkAgrees, ViewAgrees, Agrees}
+use Rattle.fx_counted.specs.Passes.{Shared, logs_of, once}
+use Rattle.fx_counted.specs.Phases.{Phase, unborn, spare, placed, seated, leaving, retired, emptied, closed, owner, file_in}
+use Rattle.fx_counted.specs.declared.view.Log.{Log}
+use Rattle.fx_counted.specs.declared.view.Start.{Start}
+use Rattle.fx_counted.specs.declared.view.View.{View}
+use Rattle.fx_counted.specs.declared.view.Work.{Work}
+use Rattle.fx_counted.specs.declared.view.Work.TheVariants.{Idle, Placing, Holding, Retiring, Emptying}
+use Rattle.fx_counted.proofs.Histories.{Grows}
+
+-- the number that a pass alone works with, plus 1, or 0
+abbrev pub busy : Work → ℕ
+busy Idle = 0
+busy (Placing number) = number + 1
+busy (Holding f) = 0
+busy (Retiring f takes) = f.number + 1
+busy (Emptying number) = number + 1
+
+-- what belongs to another seat, and the spare numbers of another pass, are as they were
+pub record Stays (id p : ℕ) (phase phase' : ℕ → Phase) : Type 0 where
+  pub owned : (n : ℕ) → owner (phase n) ≢ 0 → owner (phase n) ≢ id + 1 → phase' n ≡ phase n
+  pub spared : (n q : ℕ) → phase n ≡ spare q → q ≢ p → phase' n ≡ spare q
+
+pub stays_same : (id p : ℕ) (phase : ℕ → Phase) → Stays id p phase phase
+stays_same id p phase = record { owned = λ n a b. refl; spared = λ n q is other. is }
+
+-- the files that other seats hold stay the same
+abbrev pub KeepsHeld : ℕ → List View → (ℕ → Phase) → (ℕ → Phase) → Type 0
+KeepsHeld id views phase phase' = (j : ℕ) (u : View) (f : File) → j ≢ id → get_elem? views j ≡ some u → u.work ≡ Holding f → file_in (phase' f.number) ≡ file_in (phase f.number)
+
+module _ (id p j : ℕ) (other : j ≢ id) (phase phase' : ℕ → Phase) (stays : Stays id p phase phase') where
+  same_for : (n : ℕ) (ph : Phase) → phase n ≡ ph → owner ph ≡ j + 1 → phase' n ≡ ph
+  same_for n ph is own = stays.owned n (λ z. let e : owner (phase n) ≡ owner ph = ap owner is in omega arith) (λ z. other (let e : owner (phase n) ≡ owner ph = ap owner is in omega arith)) ∙ is
+
+  work_stays : (k : Start) (d : Work) → ((f : File) → d ≡ Holding f → file_in (phase' f.number) ≡ file_in (phase f.number)) → WorkAgrees k phase j d → WorkAgrees k phase' j d
+  work_stays k Idle keeps o = tt
+  work_stays k (Placing n) keeps o = (o.0, same_for n (placed j) o.1 refl)
+  work_stays k (Holding f) keeps o = (o.0, keeps f refl ∙ o.1)
+  work_stays k (Retiring f t) keeps o = (o.0, same_for f.number (leaving j t f.identity) o.1 refl)
+  work_stays k (Emptying n) keeps o = (o.0, same_for n (emptied j) o.1 refl)
+
+  -- another view, after events of a pass that it doesn't have
+  pub view_stays : (k : Start) (h h' : List Event) → Grows p h h' → (u : View) → ((i : ℕ) (y : Log) → get_elem? u.logs i ≡ some y → y.number ≢ p)
+      → ((f : File) → u.work ≡ Holding f → file_in (phase' f.number) ≡ file_in (phase f.number)) → ViewAgrees k h phase j u → ViewAgrees k h' phase' j u
+  view_stays k h h' g u not_its keeps ok = record {
+    logs = λ i y e. let o = ok.logs i y e in let n : p ≢ y.number = λ same. not_its i y e (sym same) in record {
+      seen = g.seen y.front o.seen;
+      own = g.parts y.number n ∙ o.own;
+      held = g.helds y.number n ∙ o.held;
+      chain = o.chain;
+      few_left = o.few_left;
+      left_inside = o.left_inside;
+      next = o.next;
+      spares = λ m a b. stays.spared m y.number (o.spares m a b) (λ same. n (sym same));
+    };
+    work = work_stays k u.work keeps ok.work;
+    empty = ok.empty;
+    start = ok.start;
+  }
+
+pub once_few : (n p : ℕ) → once n p ≤ 1
+once_few n zero = omega arith
+once_few n (suc p) = elim (nat_lt p n) as (λ b. bit b ≤ 1) [ true ↦ omega arith | false ↦ omega arith ]
+
+bit_one : (p q : ℕ) → q ≡ p → bit (Rattle.std.proofs.Common.eqb q p) ≡ 1
+bit_one p q e = rw (eq-eqb q p e) refl
+
+-- a pass that one view has is in no other one
+pub not_there : (k : Start) (st : Shared) → Agrees k st → (id j : ℕ) (v u : View) (x : Log) → get_elem? st.views id ≡ some v → v.logs ≡ x ∷ [] → j ≢ id → get_elem? st.views j ≡ some u
+    → (i : ℕ) (y : Log) → get_elem? u.logs i ≡ some y → y.number ≢ x.number
+not_there k st r id j v u x here one other there i y at same =
+    let t = total_two (logs_of x.number) st.views j id u v other there here in
+    let a = r.passes x.number in
+    let b = once_few k.passes x.number in
+    let c : logs_of x.number v ≡ bit (Rattle.std.proofs.Common.eqb x.number x.number) + 0 = ap (λ (l : List Log). total (λ z. bit (Rattle.std.proofs.Common.eqb z.number x.number)) l) one in
+    let d = bit_one x.number x.number refl in
+    let e = total_at (λ z. bit (Rattle.std.proofs.Common.eqb z.number x.number)) u.logs i y at in
+    let f = bit_one x.number y.number same in
+    omega arith
+
+-- each view after a step of the view id
+pub views_after : (P : ℕ → View → Type 0) (views : List View) (id : ℕ) (w : View) → P id w → ((j : ℕ) (u : View) → j ≢ id → get_elem? views j ≡ some u → P j u)
+    → (j : ℕ) (u : View) → get_elem? (set views id w) j ≡ some u → P j u
+views_after P views id w mine others j u e = ⊎_elim (λ (t : (j ≡ id) × (w ≡ u)). subst (λ (z : ℕ × View). P z.0 z.1) (λ i. (sym t.0 i, t.1 i)) mine)
+    (λ (t : (j ≢ id) × (get_elem? views j ≡ some u)). others j u t.0 t.1) (at_set views id j w u e)
+
+pub inside_list : {A : Type 0} (xs : List A) (i : ℕ) (v : A) → get_elem? xs i ≡ some v → i < length xs
+inside_list [] i v e = absurd (some-ne-none v (sym e))
+inside_list (x ∷ xs) zero v e = omega arith
+inside_list (x ∷ xs) (suc i) v e = let m = inside_list xs i v e in omega arith
+
+pub does_now : (views : List View) (id : ℕ) (v w : View) (d : Work) → get_elem? views id ≡ some v → w.work ≡ d → Does (set views id w) id d
+does_now views id v w d here is = (w, set_here views id w (inside_list views id v here), is)
+
+-- the pass of a number is known in other views too, if what is done with it is
+pub owner_map : (views views' : List View) (n : ℕ) → ((j : ℕ) (d : Work) → busy d ≡ n + 1 → Does views j d → Does views' j d) → (ph : Phase) → OwnerAgrees views n ph → OwnerAgrees views' n ph
+owner_map views views' n f unborn o = tt
+owner_map views views' n f (spare q) o = tt
+owner_map views views' n f (placed j) o = f j (Placing n) refl o
+owner_map views views' n f (seated s g) o = tt
+owner_map views views' n f (leaving j t g) o = f j (Retiring (numbered n g) t) refl o
+owner_map views views' n f (retired g) o = tt
+owner_map views views' n f (emptied j) o = f j (Emptying n) refl o
+owner_map views views' n f closed o = tt
+
+module _ (views : List View) (id : ℕ) (v w : View) (here : get_elem? views id ≡ some v) where
+  does_else : (j : ℕ) (d : Work) → j ≢ id → Does views j d → Does (set views id w) j d
+  does_else j d other o = (o.0, set_else views id j w other ∙ o.1, o.2)
+
+  work_of : (j : ℕ) (d : Work) → j ≡ id → Does views j d → v.work ≡ d
+  work_of j d same o = ap (λ (u : View). u.work) (some-injective v o.0 (sym here ∙ (ap (get_elem? views) (sym same) ∙ o.1))) ∙ o.2
+
+  -- a number that the pass was not busy with
+  pub owner_stays : (n : ℕ) → busy v.work ≢ n + 1 → (ph : Phase) → OwnerAgrees views n ph → OwnerAgrees (set views id w) n ph
+  owner_stays n free = owner_map views (set views id w) n (λ j d is o. does_else j d (λ same. free (ap busy (work_of j d same o) ∙ is)) o)
+
+  -- any number, after a step that leaves the pass at its work
+  pub owner_same : w.work ≡ v.work → (n : ℕ) (ph : Phase) → OwnerAgrees views n ph → OwnerAgrees (set views id w) n ph
+  owner_same same n = owner_map views (set views id w) n (λ j d is o. ⊎_elim
+      (λ (e : j ≡ id). subst (λ (i : ℕ). Does (set views id w) i d) (sym e) (does_now views id v w d here (same ∙ work_of j d e o)))
+      (λ (e : j ≢ id). does_else j d e o)
+      (either_way j))
+    where
+      either_way : (j : ℕ) → (j ≡ id) ⊎ (j ≢ id)
+      either_way j = mathlib.Core.Logic.dite (native.Mathlib.Decide.ℕ_discrete j id) (λ e. inl e) (λ e. inr e)

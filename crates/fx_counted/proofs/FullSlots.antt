@@ -1,0 +1,84 @@
+-- The control word when a slot changes.
+use Rattle.std.proofs.Common.{◌≡◌, ◌≢◌, ℕ, zero, suc, ◌+◌, ◌<◌, ◌≤◌, List, set, sym, refl, ap, ◌∙◌, ◌⊎◌, inl, inr, ⊎_elim, arith, Option, Some, None, IsSome}
+use mathlib.Core.Logic.{dite}
+use mathlib.Core.Option.{some}
+use native.Mathlib.Decide.{ℕ_discrete}
+use lib.ListN.{get_elem?}
+use Rattle.fx_plain.specs.Step.{changed_at}
+use Rattle.fx_plain.specs.declared.event.File.{File}
+use Rattle.fx_table.proofs.Totals.{total_set}
+use Rattle.fx_counted.specs.Control.{in_change, added, removed_by, changes_of, added_of, removed_of, if_full, full_in, ControlCounts}
+use Rattle.fx_counted.specs.Tells.{changed, turned}
+use Rattle.fx_counted.specs.declared.view.Change.{Change}
+use Rattle.fx_counted.specs.declared.view.Change.TheVariants.{Outside, Same}
+use Rattle.fx_counted.specs.declared.view.View.{View}
+use Rattle.fx_counted.proofs.Histories.{change_here, change_else}
+
+pub full_else : (at : ℕ → Option File) (s : ℕ) (new : Option File) (off len : ℕ) → ((i : ℕ) → i < len → off + i ≢ s) → full_in (changed_at at s new) off len ≡ full_in at off len
+full_else at s new off zero other = refl
+full_else at s new off (suc len) other =
+    let a = full_else at s new off len (λ i l. other i (omega arith)) in
+    let b : if_full (changed_at at s new (off + len)) ≡ if_full (at (off + len)) = ap if_full (change_else at s new (off + len) (other len (omega arith))) in
+    omega arith
+
+pub full_here : (at : ℕ → Option File) (s : ℕ) (new : Option File) (off len : ℕ) → off ≤ s → s < off + len → full_in (changed_at at s new) off len + if_full (at s) ≡ full_in at off len + if_full new
+full_here at s new off zero a b = absurd (omega arith)
+full_here at s new off (suc len) a b = dite (ℕ_discrete (off + len) s)
+    (λ here. let c = full_else at s new off len (λ i l. λ bad. omega arith) in let d : if_full (changed_at at s new (off + len)) ≡ if_full new = ap if_full (change_here at s new (off + len) here) in let e : if_full (at (off + len)) ≡ if_full (at s) = ap (λ (i : ℕ). if_full (at i)) here in omega arith)
+    (λ else. let c = full_here at s new off len a (omega arith) in let d : if_full (changed_at at s new (off + len)) ≡ if_full (at (off + len)) = ap if_full (change_else at s new (off + len) else) in omega arith)
+
+pub full_one : (found : Option File) → if_full found ≤ 1
+full_one None = omega arith
+full_one (Some f) = omega arith
+
+pub full_few : (at : ℕ → Option File) (off len : ℕ) → full_in at off len ≤ len
+full_few at off zero = omega arith
+full_few at off (suc len) = let a = full_few at off len in let b = full_one (at (off + len)) in omega arith
+
+some_full : (found : Option File) → if_full found ≡ 1 → IsSome found
+some_full None e = absurd (omega arith)
+some_full (Some f) e = refl
+
+-- a range that has as many full slots as slots has no empty one
+pub full_all : (at : ℕ → Option File) (off len : ℕ) → full_in at off len ≡ len → (slot : ℕ) → off ≤ slot → slot < off + len → IsSome (at slot)
+full_all at off zero e slot low high = absurd (omega arith)
+full_all at off (suc len) e slot low high = let a = full_few at off len in let b = full_one (at (off + len)) in dite (ℕ_discrete slot (off + len))
+    (λ same. Rattle.std.proofs.Common.subst (λ (i : ℕ). IsSome (at i)) (sym same) (some_full (at (off + len)) (omega arith)))
+    (λ else. full_all at off len (omega arith) slot low (omega arith))
+
+-- where a slot is, and where the pass then stands
+abbrev pub Stands : ℕ × ℕ → ℕ → Change → Type 0
+Stands range s change = (((range.0 ≤ s) × (s < range.0 + range.1)) × (change ≡ Same)) ⊎ (((s < range.0) ⊎ (range.0 + range.1 ≤ s)) × (change ≡ Outside))
+
+changed_counts : (old new : ℕ) → in_change (changed old new) ≡ 1
+changed_counts zero zero = refl
+changed_counts zero (suc n) = refl
+changed_counts (suc o) zero = refl
+changed_counts (suc o) (suc n) = refl
+
+changed_adds : (old new : ℕ) → old ≤ 1 → new ≤ 1 → added (changed old new) + old ≡ removed_by (changed old new) + new
+changed_adds zero zero a b = refl
+changed_adds zero (suc n) a b = omega arith
+changed_adds (suc o) zero a b = omega arith
+changed_adds (suc o) (suc n) a b = omega arith
+
+pub control_swap : (at : ℕ → Option File) (range : ℕ × ℕ) (views : List View) (id : ℕ) (v w : View) (word s : ℕ) (old new : Option File) → get_elem? views id ≡ some v → at s ≡ old → Stands range s v.change
+    → w.change ≡ turned v.change (if_full old) (if_full new) → ControlCounts at range views word → ControlCounts (changed_at at s new) range (set views id w) word
+control_swap at range views id v w word s old new here was (inl inside) is ok =
+    let a = total_set changes_of views id v w here in let b = total_set added_of views id v w here in let c = total_set removed_of views id v w here in
+    let turn : w.change ≡ changed (if_full old) (if_full new) = is ∙ ap (λ (z : Change). turned z (if_full old) (if_full new)) inside.1 in
+    let d = ap in_change turn in let e = ap added turn in let f = ap removed_by turn in
+    let d' = ap in_change inside.1 in let e' = ap added inside.1 in let f' = ap removed_by inside.1 in
+    let g = full_here at s new range.0 range.1 inside.0.0 inside.0.1 in
+    let m = changed_counts (if_full old) (if_full new) in let n = changed_adds (if_full old) (if_full new) (full_one old) (full_one new) in
+    let p : if_full (at s) ≡ if_full old = ap if_full was in
+    let u = ok.upper in let l = ok.lower in
+    record { upper = omega arith; lower = omega arith }
+control_swap at range views id v w word s old new here was (inr outside) is ok =
+    let a = total_set changes_of views id v w here in let b = total_set added_of views id v w here in let c = total_set removed_of views id v w here in
+    let turn : w.change ≡ Outside = is ∙ ap (λ (z : Change). turned z (if_full old) (if_full new)) outside.1 in
+    let d = ap in_change turn in let e = ap added turn in let f = ap removed_by turn in
+    let d' = ap in_change outside.1 in let e' = ap added outside.1 in let f' = ap removed_by outside.1 in
+    let g = full_else at s new range.0 range.1 (λ i l bad. ⊎_elim (λ (z : s < range.0). absurd (omega arith)) (λ (z : range.0 + range.1 ≤ s). absurd (omega arith)) outside.0) in
+    let u = ok.upper in let l = ok.lower in
+    record { upper = omega arith; lower = omega arith }

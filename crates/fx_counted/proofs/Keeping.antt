@@ -1,0 +1,146 @@
+-- A step of a seat with one pass keeps the rule, if it keeps what the step changes.
+use Rattle.std.proofs.Common.{◌≡◌, ◌≢◌, ℕ, zero, suc, ◌+◌, ◌*◌, ◌^◌, ◌<◌, ◌≤◌, List, [], ◌∷◌, ◌++◌, map, set, length, sym, refl, ap, ◌∙◌, subst, arith, get_or, Option, Some, None, ◌⊎◌, inl, inr, ⊎_elim}
+use mathlib.Core.Option.{some, some-injective, some-ne-none}
+use mathlib.Core.Option as maybe
+use lib.ListN.{get_elem?}
+use Rattle.fx_base.specs.declared.open_file.Closed.{Closed}
+use Rattle.fx_plain.specs.History.{part_of_pass}
+use Rattle.fx_plain.specs.Totals.{total}
+use Rattle.fx_plain.specs.declared.event.Event.{Event}
+use Rattle.fx_plain.specs.declared.event.Action.{Action}
+use Rattle.fx_table.specs.Calls.{Use, Adds}
+use Rattle.fx_table.specs.Opening.{range_of}
+use Rattle.fx_table.specs.Pass.{PassView, event_of}
+use Rattle.fx_table.specs.Lists.{bit}
+use Rattle.fx_table.proofs.Totals.{total_set}
+use Rattle.fx_counted.specs.Agrees.{SlotAgrees, NodeAgrees, OwnerAgrees, WorkAgrees, LogAgrees, ViewAgrees, lengths, Agrees}
+use Rattle.fx_counted.specs.Control.{ControlCounts}
+use Rattle.fx_counted.specs.Counts.{looks, all_looks}
+use Rattle.fx_counted.specs.Draws.{DrawsCount}
+use Rattle.fx_counted.specs.Layout.{control_place, draw_place, slot_place, node_place, home_place}
+use Rattle.fx_counted.specs.Passes.{Shared, opening_of, slots_of, IsNumber, state_after_all, shown, first_log, doing_in, logs_of, looks_of, held_of}
+use Rattle.fx_counted.specs.Phases.{Phase}
+use Rattle.fx_counted.specs.Tells.{IsInside, Stepped}
+use Rattle.fx_counted.specs.declared.view.Change.{Change}
+use Rattle.fx_counted.specs.declared.view.Log.{Log}
+use Rattle.fx_counted.specs.declared.view.View.{View}
+use Rattle.fx_counted.specs.declared.view.Work.{Work}
+use Rattle.fx_counted.proofs.Histories.{Grows, IsHistory}
+use Rattle.fx_counted.proofs.Frames.{Stays, KeepsHeld, view_stays, not_there, views_after}
+
+abbrev pub Homes : Type 0
+Homes = List (maybe.Option (Option Closed))
+
+abbrev pub word_at : List ℕ → ℕ → ℕ
+word_at words place = get_or words place 0
+
+abbrev pub now : View → Log → Work → Change → View
+now v y d c = record v { logs = y ∷ []; work = d; change = c }
+
+-- a pass that has seen the history, after one more step
+abbrev pub logged : Log → List Event → ℕ → ℕ → Log
+logged x h left looks_left = record x { front = h; numbers_left = left; looks_left = looks_left; steps = x.steps + 1 }
+
+module _ (st : Shared) (v : View) (r : Agrees v.start st) (id : ℕ) (x : Log) (here : get_elem? st.views id ≡ some v) (one : v.logs ≡ x ∷ []) where
+  pub its_log : LogAgrees v.start r.history r.phase id v.work x
+  its_log = (r.each_view id v here).logs 0 x (ap (λ (l : List Log). get_elem? l 0) one)
+
+  pub its_work : WorkAgrees v.start r.phase id v.work
+  its_work = (r.each_view id v here).work
+
+  module _ (y : Log) (d : Work) (c : Change) (h' : List Event) (phase' : ℕ → Phase) (words' : List ℕ) (homes' : Homes) where
+    abbrev views' : List View
+    views' = set st.views id (now v y d c)
+
+    -- what a step has to keep
+    pub record Step : Type 0 where
+      pub words : length words' ≡ length st.words
+      pub homes : length homes' ≡ length st.homes
+      pub number : y.number ≡ x.number
+      pub grows : Grows x.number r.history h'
+      pub legal : IsHistory v.start h'
+      pub slots : (s : ℕ) → s < slots_of v.start → SlotAgrees v.start h' phase' s (word_at words' (slot_place s))
+      pub nodes : (n : ℕ) → IsNumber v.start n → NodeAgrees (state_after_all v.start h') n (looks h' n) (word_at words' (node_place (slots_of v.start) n)) (get_elem? homes' (home_place (slots_of v.start) n)) (phase' n)
+      pub owners : (n : ℕ) → IsNumber v.start n → OwnerAgrees views' n (phase' n)
+      pub no_other : (n : ℕ) → (IsNumber v.start n → ⊥) → (state_after_all v.start h').removed n ≡ None
+      pub stays : Stays id x.number r.phase phase'
+      pub keeps : KeepsHeld id st.views r.phase phase'
+      pub log : LogAgrees v.start h' phase' id d y
+      pub work : WorkAgrees v.start phase' id d
+      pub holds : (n : ℕ) → (state_after_all v.start h').holds n + held_of n v ≡ (state_after_all v.start r.history).holds n + held_of n (now v y d c)
+      pub look_ups : all_looks h' + y.looks_left ≡ all_looks r.history + x.looks_left
+      pub control : ControlCounts (state_after_all v.start h').at (range_of (opening_of v.start)) views' (word_at words' control_place)
+      pub draws : DrawsCount v.start.chains phase' views' (word_at words' draw_place)
+
+    -- how often the passes of the view are counted
+    one_total : (f : Log → ℕ) → total f v.logs ≡ f x
+    one_total f = let e : total f v.logs ≡ f x + 0 = ap (total f) one in omega arith
+
+    total_same : (f : Log → ℕ) → f y ≡ f x → total (λ (u : View). total f u.logs) views' ≡ total (λ (u : View). total f u.logs) st.views
+    total_same f same = let t = total_set (λ (u : View). total f u.logs) st.views id v (now v y d c) here in let a = one_total f in omega arith
+
+    its_view : Step → ViewAgrees v.start h' phase' id (now v y d c)
+    its_view s = record {
+      logs = λ i z e. its i z e;
+      work = s.work;
+      empty = λ none. absurd (omega (arith, ap (length {A = Log}) none));
+      start = inr refl;
+    }
+      where
+        its : (i : ℕ) (z : Log) → get_elem? (y ∷ []) i ≡ some z → LogAgrees v.start h' phase' id d z
+        its zero z e = subst (LogAgrees v.start h' phase' id d) (some-injective y z e) s.log
+        its (suc i) z e = absurd (some-ne-none z (sym e))
+
+    pub step_kept : Step → Agrees v.start record { words = words'; homes = homes'; views = views' }
+    step_kept s = record {
+      shape = let a = r.shape in record { slots = a.slots; range = a.range; chains = a.chains; passes = a.passes; words = s.words ∙ a.words; homes = s.homes ∙ a.homes };
+      history = h';
+      phase = phase';
+      legal = s.legal;
+      each_slot = s.slots;
+      each_node = s.nodes;
+      each_owner = s.owners;
+      no_other = s.no_other;
+      each_view = views_after (ViewAgrees v.start h' phase') st.views id (now v y d c) (its_view s)
+          (λ j u other there. view_stays id x.number j other r.phase phase' s.stays v.start r.history h' s.grows u (not_there v.start st r id j v u x here one other there)
+          (λ f is. s.keeps j u f other there is) (r.each_view j u there));
+      holds = λ n. let t = total_set (held_of n) st.views id v (now v y d c) here in let a = r.holds n in let b = s.holds n in omega arith;
+      look_ups = let t = total_set looks_of st.views id v (now v y d c) here in let a = r.look_ups in let b = s.look_ups in let e = one_total (λ z. z.looks_left) in omega arith;
+      passes = λ p. total_same (λ z. bit (Rattle.std.proofs.Common.eqb z.number p)) (ap (λ (q : ℕ). bit (Rattle.std.proofs.Common.eqb q p)) s.number) ∙ r.passes p;
+      whole = let t = total_set lengths st.views id v (now v y d c) here in let e = ap (length {A = Log}) one in let a = r.whole in omega arith;
+      authors = λ p none. let t = r.passes p in let u = total_its p in
+          s.grows.parts p (λ same. let a = its_one p same in omega arith) ∙ r.authors p none;
+      control = s.control;
+      draws = s.draws;
+    }
+      where
+        total_its : (p : ℕ) → logs_of p v ≤ total (logs_of p) st.views
+        total_its p = Rattle.fx_table.proofs.Totals.total_at (logs_of p) st.views id v here
+
+        its_one : (p : ℕ) → x.number ≡ p → logs_of p v ≡ 1
+        its_one p same = one_total (λ z. bit (Rattle.std.proofs.Common.eqb z.number p)) ∙ rw (Rattle.std.proofs.Common.eq-eqb x.number p same) refl
+
+  -- what the step tells
+  pub tells : (carried homes : List (ℕ × Option Closed)) (h' : List Event) (left looks_left : ℕ) (d : Work) (c : Change) (actions : List Action) (used : Use) → Grows x.number r.history h' → IsHistory v.start h'
+      → part_of_pass x.number h' ≡ map (event_of (shown x v.work)) actions ++ part_of_pass x.number r.history → left + used.numbers ≡ x.numbers_left → looks_left + used.looks ≡ x.looks_left → IsInside v.start d
+      → Stepped (v, carried) actions used d c (now v (logged x h' left looks_left) d c, homes)
+  tells carried homes h' left looks_left d c actions used grows legal own numbers looked inside = record {
+    one = (logged x h' left looks_left, refl);
+    adds = subst (λ (p : PassView). Adds (opening_of v.start) p actions (doing_in d) used (shown (logged x h' left looks_left) d)) (λ i. shown (first_log (sym one i)) v.work) record {
+      seen = grows.seen x.front its_log.seen;
+      front = record { legal = legal; mine = refl };
+      own = own ∙ ap (λ (l : List Event). map (event_of (shown x v.work)) actions ++ l) its_log.own;
+      now = refl;
+      number = refl;
+      chain = refl;
+      drawn = refl;
+      told = refl;
+      numbers_left = numbers;
+      looks_left = looked;
+    };
+    work = refl;
+    inside = inside;
+    change = refl;
+    start = refl;
+    steps = let e = ap (λ (l : List Log). (first_log l).steps) one in omega arith;
+  }

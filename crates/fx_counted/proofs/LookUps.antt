@@ -1,0 +1,217 @@
+-- A look-up keeps the rule.
+use Rattle.std.proofs.Common.{◌≡◌, ◌≢◌, ℕ, ◌+◌, ◌-◌, ◌%◌, ◌^◌, ◌<◌, List, [], ◌∷◌, set, sym, refl, ap, ◌∙◌, subst, arith, Option, Some, None}
+use mathlib.Core.Logic.{dite}
+use mathlib.Core.Option.{some, none}
+use native.Mathlib.Decide.{ℕ_discrete}
+use lib.ListN.{get_elem?}
+use Rattle.atomic_table.specs.Table.{Act, keeps, Allows, Valid, stepped, carried_after, step}
+use Rattle.fx_base.specs.declared.open_file.Closed.{Closed}
+use Rattle.fx_plain.specs.History.{◌▷◌, held_by}
+use Rattle.fx_plain.specs.State.{State}
+use Rattle.fx_plain.specs.declared.event.File.{File}
+use Rattle.fx_plain.specs.declared.event.Event.{Event}
+use Rattle.fx_plain.specs.declared.event.Action.TheVariants.{Look}
+use Rattle.fx_table.specs.Calls.{one_look}
+use Rattle.fx_table.specs.Opening.{range_of}
+use Rattle.fx_table.specs.Pass.{event_of}
+use Rattle.fx_words.specs.Words.{name_in, entry_in, takes_in}
+use Rattle.fx_words.proofs.Parts.{name_more, entry_more, takes_more}
+use Rattle.fx_counted.specs.Agrees.{Names, IsSeated, SlotAgrees, NodeAgrees, OwnerAgrees, Agrees}
+use Rattle.fx_counted.specs.Counts.{looks}
+use Rattle.fx_counted.specs.Control.{full_in}
+use Rattle.fx_counted.specs.Laws.{LooksKeep, word_of, place_of}
+use Rattle.fx_counted.specs.Layout.{slot_place, slot_of, control_place}
+use Rattle.fx_counted.specs.Passes.{Shared, opening_of, slots_of, IsNumber, state_after_all, shown, end_in, next_in, held_in, placing, held_of, holding, looks_of}
+use Rattle.fx_counted.specs.Phases.{Phase, seated, file_in}
+use Rattle.fx_counted.specs.Tells.{Stepped, Looks, holds_now}
+use Rattle.fx_counted.specs.declared.view.Log.{Log}
+use Rattle.fx_counted.specs.declared.view.Start.{Start}
+use Rattle.fx_counted.specs.declared.view.View.{View}
+use Rattle.fx_counted.specs.declared.view.Work.TheVariants.{Idle}
+use Rattle.fx_counted.proofs.Frames.{busy, stays_same, owner_stays}
+use Rattle.fx_counted.proofs.Histories.{IsHistory, grows_one, legal_more, held_mine, part_mine, change_here, change_else, same_shape, seen_all}
+use Rattle.fx_counted.proofs.Keeping.{word_at, now, logged, its_log, tells}
+use Rattle.fx_counted.proofs.NodeSteps.{far}
+use Rattle.fx_counted.proofs.Retirements.{holding_it, holding_else}
+use Rattle.fx_counted.proofs.SlotSteps.{SlotStep, slot_agrees}
+use Rattle.fx_counted.proofs.Unchanged.{node_same, control_same}
+
+pub add_one : (n : ℕ) → takes_in n + 1 < 4294967296 → n < 18446744073709551616 → (n + 1) % 2 ^ 64 ≡ n + 1
+add_one n low fits = omega arith
+
+-- the file that a look-up found, and a seat's slot
+abbrev slot_in : Phase → ℕ
+slot_in (seated s f) = s
+slot_in _ = 0
+
+module _ (st : Shared) (v : View) (r : Agrees v.start st) (id : ℕ) (x : Log) (here : get_elem? st.views id ≡ some v) (one : v.logs ≡ x ∷ []) (idle : v.work ≡ Idle) (some_left : 0 < x.looks_left) (s : ℕ) (inside : s < slots_of v.start) where
+  abbrev found : ℕ
+  found = word_at st.words (slot_place s)
+
+  abbrev word' : ℕ
+  word' = (found + 1) % 2 ^ 64
+
+  abbrev old : State
+  old = state_after_all v.start r.history
+
+  so : SlotAgrees v.start r.history r.phase s found
+  so = r.each_slot s inside
+
+  room : takes_in found + 1 < 4294967296
+  room = let a = so.takes in let b = r.look_ups in let c = r.shape.passes in omega arith
+
+  some_more : x.looks_left - 1 + 1 ≡ x.looks_left
+  some_more = omega arith
+
+  module _ (fits : found < 18446744073709551616) where
+    word_is : word' ≡ found + 1
+    word_is = add_one found room fits
+
+    names_now : (file : Option File) → Names found file → Names word' file
+    names_now None o = ap name_in word_is ∙ (name_more found room ∙ o)
+    names_now (Some f) o = (ap name_in word_is ∙ (name_more found room ∙ o.0), ap entry_in word_is ∙ (entry_more found room ∙ o.1))
+
+    takes_now : takes_in word' ≡ takes_in found + 1
+    takes_now = ap takes_in word_is ∙ takes_more found room
+
+    module _ (file : Option File) (is : old.at s ≡ file) where
+      abbrev e : Event
+      e = event_of (shown x v.work) (Look s file)
+
+      abbrev h' : List Event
+      h' = e ∷ r.history
+
+      legal : IsHistory v.start h'
+      legal = legal_more v.start r.history e r.legal (let z = (same_shape v.start r.history).0 in omega arith, sym is) tt
+
+      abbrev y : Log
+      y = logged x h' x.numbers_left (x.looks_left - 1)
+
+      abbrev w : View
+      w = now v y (holds_now file) v.change
+
+      told : (carried : List (ℕ × Option Closed)) → Rattle.fx_counted.specs.Tells.IsInside v.start (holds_now file) → Stepped (v, carried) ([] ▷ Look s file) one_look (holds_now file) v.change (w, carried)
+      told carried its = tells st v r id x here one carried carried h' x.numbers_left (x.looks_left - 1) (holds_now file) v.change ([] ▷ Look s file) one_look (grows_one x.number r.history e refl) legal
+          (part_mine x.number e r.history refl) (omega arith) some_more its
+
+      -- what is the same whatever was found
+      module _ (at_same : (state_after_all v.start h').at ≡ old.at) (fresh_same : (state_after_all v.start h').fresh ≡ old.fresh) (removed_same : (state_after_all v.start h').removed ≡ old.removed) (size_same : (state_after_all v.start h').size ≡ old.size)
+          (slot : SlotAgrees v.start h' r.phase s word')
+          (looks_else : (i : ℕ) → i < slots_of v.start → i ≢ s → (f : File) → old.at i ≡ Some f → r.phase f.number ≡ seated i f.identity → looks h' f.number ≡ looks r.history f.number)
+          (nodes : (n : ℕ) → IsNumber v.start n → NodeAgrees (state_after_all v.start h') n (looks h' n) (word_at st.words (word_of v.start n)) (get_elem? st.homes (place_of v.start n)) (r.phase n))
+          (held : held_by h' x.number ≡ held_in (holds_now file)) (next : Rattle.fx_counted.specs.Agrees.PlacesNext y (holds_now file)) (placed : placing (holds_now file) ≡ 0)
+          (work : Rattle.fx_counted.specs.Agrees.WorkAgrees v.start r.phase id (holds_now file)) (holds : (n : ℕ) → (state_after_all v.start h').holds n ≡ old.holds n + holding n (holds_now file)) where
+        look_step : SlotStep st v r id x here one s inside y (holds_now file) v.change h' r.phase word' st.homes
+        look_step = let o = its_log st v r id x here one in let p = ap placing idle in record {
+          homes = refl;
+          number = refl;
+          drawn = refl;
+          told = refl;
+          grows = grows_one x.number r.history e refl;
+          legal = legal;
+          slot = slot;
+          others = λ i l other. (ap (λ (g : ℕ → Option File). g i) at_same, λ f there seat. (looks_else i l other f there seat, refl));
+          more = omega arith;
+          nodes = nodes;
+          owners = λ n has. owner_stays st.views id v w here n (λ bad. let b = ap busy idle in omega arith) (r.phase n) (r.each_owner n has);
+          no_other = λ n absent. ap (λ (g : ℕ → Option File). g n) removed_same ∙ r.no_other n absent;
+          stays = stays_same id x.number r.phase;
+          keeps = λ j u f other there is_held. refl;
+          unused = λ n is_new. is_new;
+          log = record {
+            seen = seen_all h';
+            own = refl;
+            held = held;
+            chain = o.chain;
+            few_left = o.few_left;
+            left_inside = o.left_inside;
+            next = next;
+            spares = λ n low high. o.spares n (omega arith) high;
+          };
+          work = work;
+          holds = λ n. let b : held_of n v ≡ 0 = ap (holding n) idle in let c = holds n in omega arith;
+          look_ups = omega arith;
+          control = control_same st.views id v w here old.at (state_after_all v.start h').at _ (word_at st.words control_place) _ (ap (λ (g : ℕ → Option File). full_in g (range_of (opening_of v.start)).0 (range_of (opening_of v.start)).1) at_same) refl refl r.control;
+        }
+
+        look_agrees : Agrees v.start record { words = set st.words (slot_place s) word'; homes = st.homes; views = set st.views id w }
+        look_agrees = slot_agrees st v r id x here one s inside y (holds_now file) v.change h' r.phase word' st.homes look_step
+
+    missed : (is : old.at s ≡ None) → Agrees v.start record { words = set st.words (slot_place s) word'; homes = st.homes; views = set st.views id (w None is) }
+    missed is = look_agrees None is refl refl refl refl
+        record { names = subst (Names word') (sym is) (names_now None (subst (Names found) is so.names)); seat = subst (IsSeated v.start (looks r.history) r.phase s word') (sym is) tt; takes = let a = so.takes in let b = takes_now in omega arith }
+        (λ i l other f there seat. refl)
+        (λ n has. r.each_node n has)
+        (held_mine x.number (e None is) r.history refl) tt refl tt (λ n. omega arith)
+
+    module _ (f : File) (is : old.at s ≡ Some f) where
+      abbrev q : ℕ
+      q = f.number
+
+      abbrev h₁ : List Event
+      h₁ = h' (Some f) is
+
+      seat : IsNumber v.start q × (takes_in found ≡ looks r.history q) × (r.phase q ≡ seated s f.identity)
+      seat = subst (IsSeated v.start (looks r.history) r.phase s found) is so.seat
+
+      looks_here : (n : ℕ) → n ≡ q → looks h₁ n ≡ looks r.history n + 1
+      looks_here n same = change_here (looks r.history) q (looks r.history q + 1) n same ∙ ap (λ (m : ℕ). looks r.history m + 1) (sym same)
+
+      looks_else_is : (n : ℕ) → n ≢ q → looks h₁ n ≡ looks r.history n
+      looks_else_is n other = change_else (looks r.history) q (looks r.history q + 1) n other
+
+      holds_here : (n : ℕ) → n ≡ q → (state_after_all v.start h₁).holds n ≡ old.holds n + 1
+      holds_here n same = change_here old.holds q (old.holds q + 1) n same ∙ ap (λ (m : ℕ). old.holds m + 1) (sym same)
+
+      holds_else : (n : ℕ) → n ≢ q → (state_after_all v.start h₁).holds n ≡ old.holds n
+      holds_else n other = change_else old.holds q (old.holds q + 1) n other
+
+      abbrev Node : ℕ → Phase → Type 0
+      Node n ph = NodeAgrees (state_after_all v.start h₁) n (looks h₁ n) (word_at st.words (word_of v.start n)) (get_elem? st.homes (place_of v.start n)) ph
+
+      node_now : (n : ℕ) → IsNumber v.start n → Node n (r.phase n)
+      node_now n has = dite (ℕ_discrete n q)
+          (λ same. let ph : r.phase n ≡ seated s f.identity = ap r.phase same ∙ seat.2 in
+          let o = subst (NodeAgrees old n (looks r.history n) (word_at st.words (word_of v.start n)) (get_elem? st.homes (place_of v.start n))) ph (r.each_node n has) in
+          let a = looks_here n same in let b = holds_here n same in subst (Node n) (sym ph) (omega arith, o.1, o.2, o.3, o.4))
+          (λ other. node_same old (state_after_all v.start h₁) n (looks r.history n) (looks h₁ n) _ _ _ _ refl refl (holds_else n other) (looks_else_is n other) refl refl refl (r.phase n) (λ i g seat_is there. refl) (r.each_node n has))
+
+      hit : Agrees v.start record { words = set st.words (slot_place s) word'; homes = st.homes; views = set st.views id (w (Some f) is) }
+      hit = look_agrees (Some f) is refl refl refl refl
+          record {
+            names = subst (Names word') (sym is) (names_now (Some f) (subst (Names found) is so.names));
+            seat = subst (IsSeated v.start (looks h₁) r.phase s word') (sym is) (seat.0, takes_now ∙ (ap (λ (m : ℕ). m + 1) seat.1 ∙ sym (looks_here q refl)), seat.2);
+            takes = let a = so.takes in let b = takes_now in omega arith;
+          }
+          (λ i l other g there its. looks_else_is g.number (λ same. other (ap slot_in (sym its ∙ (ap r.phase same ∙ seat.2)))))
+          node_now
+          (held_mine x.number (e (Some f) is) r.history refl) tt refl (seat.0, ap file_in seat.2)
+          (λ n. dite (ℕ_discrete n q) (λ same. let a = holds_here n same in let b = holding_it n f same in omega arith) (λ other. let a = holds_else n other in let b = holding_else n f other in omega arith))
+
+    abbrev Goal : ℕ → List (ℕ × Option Closed) → Type 0
+    Goal slots carried = (w : View) × (a : Act (Option Closed)) × Valid st.homes carried a × Agrees v.start (stepped st (slot_place s) word' id carried w a)
+        × Looks (step slots (slot_place s) 1 0 none) (v, carried) found (w, carried_after carried a)
+
+    at_slot : (m m' : Rattle.fx_counted.specs.Passes.Sat) (file : Option File) → Stepped m ([] ▷ Look s file) one_look (holds_now file) v.change m' → Stepped m ([] ▷ Look (slot_of (slot_place s)) file) one_look (holds_now file) v.change m'
+    at_slot m m' file = subst (λ (z : ℕ). Stepped m ([] ▷ Look z file) one_look (holds_now file) v.change m') (sym ((far st v r id x here one).slot_back s))
+
+    looks_either : (slots : ℕ) (carried : List (ℕ × Option Closed)) (file : Option File) → old.at s ≡ file → Goal slots carried
+    looks_either slots carried None is = (
+      w None is,
+      keeps,
+      tt,
+      missed is,
+      record { file = None; names = subst (Names found) is so.names; stepped = at_slot (v, carried) (w None is, carried) None (told None is carried tt); carried = refl },
+    )
+    looks_either slots carried (Some f) is = (
+      w (Some f) is,
+      keeps,
+      tt,
+      hit f is,
+      record { file = Some f; names = subst (Names found) is so.names; stepped = at_slot (v, carried) (w (Some f) is, carried) (Some f) (told (Some f) is carried (seat f is).0); carried = refl },
+    )
+
+pub looks_keep : LooksKeep
+looks_keep k slots id i slot m x has idle left inside place = subst (λ (k : Start). slot < slots_of k → Allows (Agrees k) slots id m i (λ word. (word + 1) % 2 ^ 64) (Looks (step slots i 1 0 none) m)) has.0
+    (λ within. subst (λ (z : ℕ). Allows (Agrees m.0.start) slots id m z (λ word. (word + 1) % 2 ^ 64) (Looks (step slots z 1 0 none) m)) (sym place)
+    (λ st r deep here fits. looks_either st m.0 r id x here has.1 idle left slot within fits slots m.1 ((state_after_all m.0.start r.history).at slot) refl)) inside

@@ -1,0 +1,159 @@
+-- A step on the word and the place of one number, at which no slot changes.
+use Rattle.std.proofs.Common.{◌≡◌, ◌≢◌, ℕ, ◌+◌, ◌<◌, ◌≤◌, List, [], ◌∷◌, set, get_or, length, sym, refl, ap, ◌∙◌, subst, arith, length-set, get_or-set_other, get_or-set_same, Option, Some, None}
+use mathlib.Core.Logic.{dite}
+use mathlib.Core.Option.{some}
+use native.Mathlib.Decide.{ℕ_discrete}
+use lib.ListN.{get_elem?}
+use Rattle.fx_base.specs.declared.open_file.Closed.{Closed}
+use Rattle.fx_plain.specs.History.{held_by}
+use Rattle.fx_plain.specs.Step.{changed_at}
+use Rattle.fx_plain.specs.declared.event.File.{File}
+use Rattle.fx_plain.specs.declared.event.Event.{Event}
+use Rattle.fx_table.specs.Opening.{range_of}
+use Rattle.fx_counted.specs.Agrees.{NodeAgrees, OwnerAgrees, WorkAgrees, PlacesNext, Agrees}
+use Rattle.fx_counted.specs.Control.{full_in}
+use Rattle.fx_counted.specs.Counts.{looks, all_looks}
+use Rattle.fx_counted.specs.Layout.{control_place, draw_place, slot_place, node_place, home_place, PlacesAreInside, PlacesAreApart}
+use Rattle.fx_counted.specs.Passes.{Shared, opening_of, slots_of, IsNumber, state_after_all, end_in, next_in, held_in, placing, held_of}
+use Rattle.fx_counted.specs.Phases.{Phase, unborn, spare, seated, owner, file_in}
+use Rattle.fx_counted.specs.declared.view.Log.{Log}
+use Rattle.fx_counted.specs.declared.view.View.{View}
+use Rattle.fx_counted.specs.declared.view.Work.{Work}
+use Rattle.fx_counted.specs.declared.view.Work.TheVariants.{Holding}
+use Rattle.fx_counted.proofs.Places.{inside, apart}
+use Rattle.fx_counted.proofs.Histories.{Grows, IsHistory, change_here, change_else, seen_all}
+use Rattle.fx_counted.proofs.Frames.{busy, owner_stays}
+use Rattle.fx_counted.proofs.Keeping.{Homes, word_at, now, logged, its_log, Step, step_kept}
+use Rattle.fx_counted.proofs.Unchanged.{slot_same, node_same, control_same, draws_same}
+
+-- what a step on the number q tells of the histories
+pub record OneNumber (v : View) (q : ℕ) (h h' : List Event) : Type 0 where
+  pub at : (state_after_all v.start h').at ≡ (state_after_all v.start h).at
+  pub size : (state_after_all v.start h').size ≡ (state_after_all v.start h).size
+  pub fresh : (state_after_all v.start h').fresh ≡ (state_after_all v.start h).fresh
+  pub looked : looks h' ≡ looks h
+  pub all : all_looks h' ≡ all_looks h
+  pub removed : (n : ℕ) → n ≢ q → (state_after_all v.start h').removed n ≡ (state_after_all v.start h).removed n
+  pub holds : (n : ℕ) → n ≢ q → (state_after_all v.start h').holds n ≡ (state_after_all v.start h).holds n
+
+pub one_same : (v : View) (q : ℕ) (h : List Event) → OneNumber v q h h
+one_same v q h = record { at = refl; size = refl; fresh = refl; looked = refl; all = refl; removed = λ n other. refl; holds = λ n other. refl }
+
+module _ (st : Shared) (v : View) (r : Agrees v.start st) (id : ℕ) (x : Log) (here : get_elem? st.views id ≡ some v) (one : v.logs ≡ x ∷ []) where
+  pub near : PlacesAreInside (slots_of v.start) v.start.chains
+  near = inside (slots_of v.start) v.start.chains r.shape.slots
+
+  pub far : PlacesAreApart (slots_of v.start) v.start.chains
+  far = apart (slots_of v.start) v.start.chains r.shape.slots
+
+  module _ (q : ℕ) (its : IsNumber v.start q) (word' : ℕ) (homes' : Homes) (h' : List Event) (ph : Phase) (d : Work) where
+    abbrev i : ℕ
+    i = node_place (slots_of v.start) q
+
+    abbrev y : Log
+    y = logged x h' x.numbers_left x.looks_left
+
+    abbrev w : View
+    w = now v y d v.change
+
+    abbrev phase' : ℕ → Phase
+    phase' = changed_at r.phase q ph
+
+    wide : i < length st.words
+    wide = let a = r.shape.words in let b = near.node q its in omega arith
+
+    word_else : (place : ℕ) → place ≢ i → word_at (set st.words i word') place ≡ word_at st.words place
+    word_else place other = get_or-set_other st.words i place word' 0 other
+
+    -- what the step on the number has to keep
+    pub record NodeStep : Type 0 where
+      pub grows : Grows x.number r.history h'
+      pub legal : IsHistory v.start h'
+      pub told : OneNumber v q r.history h'
+      pub homes : length homes' ≡ length st.homes
+      pub home_else : (n : ℕ) → IsNumber v.start n → n ≢ q → get_elem? homes' (home_place (slots_of v.start) n) ≡ get_elem? st.homes (home_place (slots_of v.start) n)
+      -- the phase may change
+      pub seat : (s : ℕ) (f : Closed) → r.phase q ≡ seated s f → ph ≡ seated s f
+      pub mine : owner (r.phase q) ≢ 0 → owner (r.phase q) ≢ id + 1 → ph ≡ r.phase q
+      pub spared : (p : ℕ) → r.phase q ≡ spare p → p ≢ x.number → ph ≡ spare p
+      pub unused : r.phase q ≡ unborn → ph ≡ unborn
+      pub keeps : (j : ℕ) (u : View) (f : File) → j ≢ id → get_elem? st.views j ≡ some u → u.work ≡ Holding f → f.number ≡ q → file_in ph ≡ file_in (r.phase q)
+      pub free : (n : ℕ) → n ≢ q → busy v.work ≢ n + 1
+      -- what the number is now, and who works with it
+      pub node : NodeAgrees (state_after_all v.start h') q (looks r.history q) word' (get_elem? homes' (home_place (slots_of v.start) q)) ph
+      pub known : OwnerAgrees (set st.views id w) q ph
+      pub held : held_by h' x.number ≡ held_in d
+      pub next : PlacesNext x d
+      pub spares : (n : ℕ) → next_in x + placing d ≤ n → n < end_in x → changed_at r.phase q ph n ≡ spare x.number
+      pub work : WorkAgrees v.start (changed_at r.phase q ph) id d
+      pub holds : (n : ℕ) → (state_after_all v.start h').holds n + held_of n v ≡ (state_after_all v.start r.history).holds n + held_of n w
+
+    module _ (s : NodeStep) where
+      phase_here : phase' q ≡ ph
+      phase_here = change_here r.phase q ph q refl
+
+      phase_else : (n : ℕ) → n ≢ q → phase' n ≡ r.phase n
+      phase_else n other = change_else r.phase q ph n other
+
+      -- a fact of the phases that holds at q holds everywhere
+      each_phase : (P : ℕ → Phase → Type 0) (n : ℕ) → (n ≡ q → P q ph) → P n (r.phase n) → P n (phase' n)
+      each_phase P n mine else = dite (ℕ_discrete n q)
+          (λ same. subst (λ (m : ℕ). P m (phase' m)) (sym same) (subst (P q) (sym phase_here) (mine same)))
+          (λ other. subst (P n) (sym (phase_else n other)) else)
+
+      at_is : (slot : ℕ) → (state_after_all v.start h').at slot ≡ (state_after_all v.start r.history).at slot
+      at_is slot = ap (λ (g : ℕ → Option File). g slot) s.told.at
+
+      pub node_kept : Step st v r id x here one y d v.change h' phase' (set st.words i word') homes'
+      node_kept = record {
+        words = length-set st.words i word';
+        homes = s.homes;
+        number = refl;
+        grows = s.grows;
+        legal = s.legal;
+        slots = λ slot l. slot_same v.start r.history h' r.phase phase' slot (word_at st.words (slot_place slot)) (word_at (set st.words i word') (slot_place slot))
+            (word_else (slot_place slot) (λ same. far.node_and_slot q slot l its (sym same))) (at_is slot) (omega (arith, s.told.all))
+            (λ f there seat. (
+              ap (λ (g : ℕ → ℕ). g f.number) s.told.looked,
+              each_phase (λ m p. p ≡ r.phase m) f.number (λ same. let e : r.phase q ≡ seated slot f.identity = ap r.phase (sym same) ∙ seat in s.seat slot f.identity e ∙ sym e) refl,
+            ))
+            (r.each_slot slot l);
+        nodes = λ n has. dite (ℕ_discrete n q)
+            (λ same. subst (λ (m : ℕ). NodeAgrees (state_after_all v.start h') m (looks h' m) (word_at (set st.words i word') (node_place (slots_of v.start) m)) (get_elem? homes' (home_place (slots_of v.start) m)) (phase' m)) (sym same)
+            (subst (λ (z : ℕ × ℕ × Phase). NodeAgrees (state_after_all v.start h') q z.0 z.1 (get_elem? homes' (home_place (slots_of v.start) q)) z.2)
+            (λ j. (sym s.told.looked j q, sym (get_or-set_same st.words i word' 0 wide) j, sym phase_here j)) s.node))
+            (λ other. subst (NodeAgrees (state_after_all v.start h') n (looks h' n) (word_at (set st.words i word') (node_place (slots_of v.start) n)) (get_elem? homes' (home_place (slots_of v.start) n))) (sym (phase_else n other))
+            (node_same (state_after_all v.start r.history) (state_after_all v.start h') n (looks r.history n) (looks h' n) (word_at st.words (node_place (slots_of v.start) n)) (word_at (set st.words i word') (node_place (slots_of v.start) n))
+            (get_elem? st.homes (home_place (slots_of v.start) n)) (get_elem? homes' (home_place (slots_of v.start) n))
+            (ap (λ (g : ℕ → Rattle.std.proofs.Common.Bool). g n) s.told.fresh) (s.told.removed n other) (s.told.holds n other) (ap (λ (g : ℕ → ℕ). g n) s.told.looked)
+            (word_else (node_place (slots_of v.start) n) (far.nodes n q has its other)) (s.home_else n has other) s.told.size (r.phase n) (λ slot f is there. at_is slot) (r.each_node n has)));
+        owners = λ n has. dite (ℕ_discrete n q)
+            (λ same. subst (λ (m : ℕ). OwnerAgrees (set st.views id w) m (phase' m)) (sym same) (subst (OwnerAgrees (set st.views id w) q) (sym phase_here) s.known))
+            (λ other. subst (OwnerAgrees (set st.views id w) n) (sym (phase_else n other)) (owner_stays st.views id v w here n (s.free n other) (r.phase n) (r.each_owner n has)));
+        no_other = λ n absent. s.told.removed n (λ same. absent (subst (IsNumber v.start) (sym same) its)) ∙ r.no_other n absent;
+        stays = record {
+          owned = λ n some not_mine. each_phase (λ m p. p ≡ r.phase m) n (λ same. s.mine (λ none. some (ap (λ (m : ℕ). owner (r.phase m)) same ∙ none)) (λ is. not_mine (ap (λ (m : ℕ). owner (r.phase m)) same ∙ is))) refl;
+          spared = λ n p is other. each_phase (λ m z. z ≡ spare p) n (λ same. s.spared p (ap r.phase (sym same) ∙ is) other) is;
+        };
+        keeps = λ j u f other there is. each_phase (λ m z. file_in z ≡ file_in (r.phase m)) f.number (λ same. s.keeps j u f other there is same) refl;
+        log = let o = its_log st v r id x here one in record {
+          seen = seen_all h';
+          own = refl;
+          held = s.held;
+          chain = o.chain;
+          few_left = o.few_left;
+          left_inside = o.left_inside;
+          next = s.next;
+          spares = s.spares;
+        };
+        work = s.work;
+        holds = s.holds;
+        look_ups = let a = s.told.all in omega arith;
+        control = control_same st.views id v w here (state_after_all v.start r.history).at (state_after_all v.start h').at _ (word_at st.words control_place) _
+            (ap (λ (g : ℕ → Option File). full_in g (range_of (opening_of v.start)).0 (range_of (opening_of v.start)).1) s.told.at) (word_else control_place (λ same. far.node_and_control q its (sym same))) refl r.control;
+        draws = draws_same st.views id v w here v.start.chains r.phase phase' (word_at st.words draw_place) _ x y one refl refl refl (word_else draw_place (λ same. far.node_and_draw q its (sym same)))
+            (λ n is. each_phase (λ m z. z ≡ unborn) n (λ same. s.unused (ap r.phase (sym same) ∙ is)) is) r.draws;
+      }
+
+      pub node_agrees : Agrees v.start record { words = set st.words i word'; homes = homes'; views = set st.views id w }
+      node_agrees = step_kept st v r id x here one y d v.change h' phase' (set st.words i word') homes' node_kept

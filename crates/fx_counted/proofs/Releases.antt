@@ -1,0 +1,228 @@
+-- A release keeps the rule.
+use Rattle.std.proofs.Common.{◌≡◌, ◌≢◌, ℕ, ◌+◌, ◌-◌, ◌%◌, ◌^◌, ◌<◌, List, [], ◌∷◌, set, sym, refl, ap, ◌∙◌, subst, arith, length-set, Option, Some, None}
+use mathlib.Core.Logic.{dite}
+use mathlib.Core.Option.{some, none}
+use native.Mathlib.Decide.{ℕ_discrete}
+use lib.ListN.{get_elem?}
+use Rattle.atomic_table.specs.Table.{Act, keeps, takes, Allows, Valid, stepped, carried_after, step}
+use Rattle.atomic_table.proofs.Lists.{set_here, set_else}
+use Rattle.fx_base.specs.declared.open_file.Closed.{Closed}
+use Rattle.fx_plain.specs.History.{◌▷◌}
+use Rattle.fx_plain.specs.State.{State}
+use Rattle.fx_plain.specs.Table.{numbered}
+use Rattle.fx_plain.specs.declared.event.File.{File}
+use Rattle.fx_plain.specs.declared.event.Event.{Event}
+use Rattle.fx_plain.specs.declared.event.Action.TheVariants.{Release, Close}
+use Rattle.fx_table.specs.Calls.{nothing}
+use Rattle.fx_table.specs.Pass.{event_of}
+use Rattle.fx_table.proofs.Totals.{total_at, total_two}
+use Rattle.fx_counted.specs.Agrees.{NodeAgrees, WorkAgrees, Agrees}
+use Rattle.fx_counted.specs.Counts.{looks}
+use Rattle.fx_counted.specs.Laws.{word_of, place_of, ReleasesKeep}
+use Rattle.fx_counted.specs.Passes.{Shared, IsNumber, state_after_all, shown, held_in, placing, held_of, holding}
+use Rattle.fx_counted.specs.Phases.{Phase, unborn, spare, placed, seated, leaving, retired, emptied, closed, owner, file_in}
+use Rattle.fx_counted.specs.Tells.{LetsGo, TakesOut, Releases}
+use Rattle.fx_counted.specs.declared.view.Log.{Log}
+use Rattle.fx_counted.specs.declared.view.Start.{Start}
+use Rattle.fx_counted.specs.declared.view.View.{View}
+use Rattle.fx_counted.specs.declared.view.Work.TheVariants.{Idle, Holding, Emptying}
+use Rattle.fx_counted.proofs.Births.{in_phase, word_now, home_now, roomy, else_place}
+use Rattle.fx_counted.proofs.Retirements.{sub_wraps, holding_it, holding_else, few_looks, its_hold, spares_stay}
+use Rattle.fx_counted.proofs.Frames.{busy, does_now, owner_stays}
+use Rattle.fx_counted.proofs.Histories.{IsHistory, grows_one, grows_more, legal_more, held_mine, part_mine, change_here, change_else}
+use Rattle.fx_counted.proofs.Keeping.{now, logged, its_log, its_work, tells}
+use Rattle.fx_counted.proofs.NodeSteps.{NodeStep, node_agrees}
+
+module _ (st : Shared) (v : View) (r : Agrees v.start st) (id : ℕ) (x : Log) (here : get_elem? st.views id ≡ some v) (one : v.logs ≡ x ∷ []) (f : File) (works : v.work ≡ Holding f) where
+  abbrev q : ℕ
+  q = f.number
+
+  mine : IsNumber v.start q × (file_in (r.phase q) ≡ Some f.identity)
+  mine = subst (WorkAgrees v.start r.phase id) works (its_work st v r id x here one)
+
+  abbrev word : ℕ
+  word = word_now st v r id x here one q
+
+  abbrev less : ℕ
+  less = (word + (2 ^ 64 - 1)) % 2 ^ 64
+
+  abbrev old : State
+  old = state_after_all v.start r.history
+
+  its_one : held_of q v ≡ 1
+  its_one = ap (holding q) works ∙ holding_it q f refl
+
+  held_now : 0 < old.holds q
+  held_now = let a = r.holds q in let b = total_at (held_of q) st.views id v here in let c = its_one in omega arith
+
+  abbrev freeing : Event
+  freeing = event_of (shown x v.work) (Release f)
+
+  abbrev h₁ : List Event
+  h₁ = freeing ∷ r.history
+
+  freed_legal : IsHistory v.start h₁
+  freed_legal = let o = its_log st v r id x here one in legal_more v.start r.history freeing r.legal held_now (o.held ∙ ap held_in works)
+
+  abbrev new : State
+  new = state_after_all v.start h₁
+
+  one_less : new.holds q ≡ old.holds q - 1
+  one_less = change_here old.holds q (old.holds q - 1) q refl
+
+  -- what the number is, by its phase
+  abbrev Now : ℕ → Phase → Type 0
+  Now w ph = NodeAgrees new q (looks r.history q) w (home_now st v r id x here one q) ph
+
+  still : word < 18446744073709551616 → word ≢ 1 → (ph : Phase) → r.phase q ≡ ph → file_in ph ≡ Some f.identity → Now less ph
+  still fits more unborn is has = absurd (cc has)
+  still fits more (spare p) is has = absurd (cc has)
+  still fits more (placed j) is has = absurd (cc has)
+  still fits more (seated s g) is has = let n = in_phase st v r id x here one q mine.0 (seated s g) is in let c = few_looks st v r id x here one q in let h = held_now in let z = one_less in
+      let e : less ≡ word - 1 = sub_wraps word 1 (omega arith) fits (omega arith) in (omega arith, n.1, n.2, n.3, n.4)
+  still fits more (leaving j t g) is has = let n = in_phase st v r id x here one q mine.0 (leaving j t g) is in let c = few_looks st v r id x here one q in let h = held_now in let z = one_less in
+      let e : less ≡ word - 1 = sub_wraps word 1 (omega arith) fits (omega arith) in (omega arith, n.1, n.2, n.3)
+  still fits more (retired g) is has = let n = in_phase st v r id x here one q mine.0 (retired g) is in let h = held_now in let z = one_less in
+      let e : less ≡ word - 1 = sub_wraps word 1 (omega arith) fits (omega arith) in (omega arith, n.1, omega arith, n.3)
+  still fits more (emptied j) is has = absurd (cc has)
+  still fits more closed is has = absurd (cc has)
+
+  -- where the word was 1, the file was retired, and this is its last hold
+  pub record IsLast : Type 0 where
+    pub phase : r.phase q ≡ retired f.identity
+    pub home : home_now st v r id x here one q ≡ some (some (Some f.identity))
+    pub removed : old.removed q ≡ Some f
+    pub holds : old.holds q ≡ 1
+
+  last : word ≡ 1 → (ph : Phase) → r.phase q ≡ ph → file_in ph ≡ Some f.identity → IsLast
+  last is_one unborn is has = absurd (cc has)
+  last is_one (spare p) is has = absurd (cc has)
+  last is_one (placed j) is has = absurd (cc has)
+  last is_one (seated s g) is has = let n = in_phase st v r id x here one q mine.0 (seated s g) is in let c = few_looks st v r id x here one q in let h = held_now in absurd (omega arith)
+  last is_one (leaving j t g) is has = let n = in_phase st v r id x here one q mine.0 (leaving j t g) is in let c = few_looks st v r id x here one q in let h = held_now in absurd (omega arith)
+  last is_one (retired g) is has = let n = in_phase st v r id x here one q mine.0 (retired g) is in let same : g ≡ f.identity = cc has in record {
+    phase = is ∙ ap retired same;
+    home = n.1 ∙ ap (λ (g : Closed). some (some (Some g))) same;
+    removed = n.3 ∙ ap (λ (g : Closed). Some (numbered q g)) same;
+    holds = sym n.0 ∙ is_one;
+  }
+  last is_one (emptied j) is has = absurd (cc has)
+  last is_one closed is has = absurd (cc has)
+
+  holds_more : (m : ℕ) → new.holds m + held_of m v ≡ old.holds m + 0
+  holds_more m = let w = ap (holding m) works in dite (ℕ_discrete m q)
+      (λ same. let a = holding_it m f same in let b = change_here old.holds q (old.holds q - 1) m same in let c = ap old.holds same in let d = held_now in omega arith)
+      (λ other. let a = holding_else m f other in let b = change_else old.holds q (old.holds q - 1) m other in omega arith)
+
+  not_busy : (n : ℕ) → busy v.work ≢ n + 1
+  not_busy n bad = let b = ap busy works in omega arith
+
+  waits : word < 18446744073709551616 → word ≢ 1 → NodeStep st v r id x here one q mine.0 less st.homes h₁ (r.phase q) Idle
+  waits fits more = let o = its_log st v r id x here one in record {
+    grows = grows_one x.number r.history freeing refl;
+    legal = freed_legal;
+    told = record { at = refl; size = refl; fresh = refl; looked = refl; all = omega arith; removed = λ m other. refl; holds = λ m other. change_else old.holds q (old.holds q - 1) m other };
+    homes = refl;
+    home_else = λ m has other. refl;
+    seat = λ s g is. is;
+    mine = λ some not_mine. refl;
+    spared = λ p is other. is;
+    unused = λ is. is;
+    keeps = λ j u g other there holds same. refl;
+    free = λ m other. not_busy m;
+    node = still fits more (r.phase q) refl mine.1;
+    known = owner_stays st.views id v (now v (logged x h₁ x.numbers_left x.looks_left) Idle v.change) here q (not_busy q) (r.phase q) (r.each_owner q mine.0);
+    held = held_mine x.number freeing r.history refl;
+    next = tt;
+    spares = λ m low high. let p = ap placing works in dite (ℕ_discrete m q) (λ same. change_here r.phase q (r.phase q) m same ∙ (ap r.phase (sym same) ∙ o.spares m (omega arith) high)) (λ other. change_else r.phase q (r.phase q) m other ∙ o.spares m (omega arith) high);
+    work = tt;
+    holds = holds_more;
+  }
+
+  abbrev closing : Event
+  closing = event_of (shown x v.work) (Close f)
+
+  abbrev h₂ : List Event
+  h₂ = closing ∷ h₁
+
+  module _ (l : IsLast) where
+    closed_legal : IsHistory v.start h₂
+    closed_legal = legal_more v.start h₁ closing freed_legal (l.removed, let a = one_less in let b = l.holds in omega arith) tt
+
+    closes : word < 18446744073709551616 → word ≡ 1 → NodeStep st v r id x here one q mine.0 less (set st.homes (place_of v.start q) none) h₂ (emptied id) (Emptying q)
+    closes fits is_one = let o = its_log st v r id x here one in let a = one_less in let b = l.holds in let e : less ≡ word - 1 = sub_wraps word 1 (omega arith) fits (omega arith) in record {
+      grows = grows_more x.number r.history h₁ closing refl (grows_one x.number r.history freeing refl);
+      legal = closed_legal;
+      told = record {
+        at = refl;
+        size = refl;
+        fresh = refl;
+        looked = refl;
+        all = omega arith;
+        removed = λ m other. change_else old.removed q None m other;
+        holds = λ m other. change_else old.holds q (old.holds q - 1) m other;
+      };
+      homes = length-set st.homes (place_of v.start q) none;
+      home_else = λ m has other. set_else st.homes (place_of v.start q) (place_of v.start m) none (else_place st v r id x here one q mine.0 m has other);
+      seat = λ s g is. absurd (cc (sym is ∙ l.phase));
+      mine = λ some not_mine. absurd (some (ap owner l.phase));
+      spared = λ p is other. absurd (cc (sym is ∙ l.phase));
+      unused = λ is. absurd (cc (sym is ∙ l.phase));
+      keeps = λ j u g other there holds same. absurd (let a = its_hold st v r id x here one j u g q there holds same in let b = its_one in let c = total_two (held_of q) st.views j id u v other there here in let d = r.holds q in let e = l.holds in omega arith);
+      free = λ m other. not_busy m;
+      node = (omega arith, set_here st.homes (place_of v.start q) none (roomy st v r id x here one q mine.0), (let z = one_less in omega arith), change_here old.removed q None q refl);
+      known = does_now st.views id v (now v (logged x h₂ x.numbers_left x.looks_left) (Emptying q) v.change) (Emptying q) here refl;
+      held = held_mine x.number closing h₁ refl ∙ held_mine x.number freeing r.history refl;
+      next = tt;
+      spares = λ m low high. let p = ap placing works in spares_stay st v r id x here one q (retired f.identity) (emptied id) x.number l.phase (λ z bad. cc bad) m (o.spares m (omega arith) high);
+      work = (mine.0, change_here r.phase q (emptied id) q refl);
+      holds = holds_more;
+    }
+
+  abbrev Goal : ℕ → List (ℕ × Option Closed) → Type 0
+  Goal slots carried = (w : View) × (a : Act (Option Closed)) × Valid st.homes carried a × Agrees v.start (stepped st (word_of v.start q) less id carried w a)
+      × Releases (step slots (word_of v.start q) 1 0 none) (v, carried) word (w, carried_after carried a)
+
+  holding_same : (f g : File) → Holding f ≡ Holding g → f ≡ g
+  holding_same f g e = cc e
+
+  releases_either : (slots : ℕ) (carried : List (ℕ × Option Closed)) → word < 18446744073709551616 → Goal slots carried
+  releases_either slots carried fits = dite (ℕ_discrete word 1)
+      (λ is. let l = last is (r.phase q) refl mine.1 in (
+        now v (logged x h₂ x.numbers_left x.looks_left) (Emptying q) v.change,
+        takes (place_of v.start q) (Some f.identity),
+        l.home,
+        node_agrees st v r id x here one q mine.0 less (set st.homes (place_of v.start q) none) h₂ (emptied id) (Emptying q) (closes l fits is),
+        record {
+          waits = λ g _ not_so. absurd (not_so is);
+          closes = λ g its _. let same : f ≡ g = holding_same f g (sym works ∙ its) in
+              subst (λ (g : File). TakesOut (v, carried) ([] ▷ Release g) g (now v (logged x h₂ x.numbers_left x.looks_left) (Emptying q) v.change, (place_of v.start q, Some f.identity) ∷ carried)) same
+              record {
+                stepped = tells st v r id x here one carried ((place_of v.start q, Some f.identity) ∷ carried) h₂ x.numbers_left x.looks_left (Emptying q) v.change ([] ▷ Release f ▷ Close f) nothing
+                    (grows_more x.number r.history h₁ closing refl (grows_one x.number r.history freeing refl)) (closed_legal l)
+                    (part_mine x.number closing h₁ refl ∙ ap (λ (z : List Event). closing ∷ z) (part_mine x.number freeing r.history refl)) (omega arith) (omega arith) mine.0;
+                carried = refl;
+              };
+        },
+      ))
+      (λ more. (
+        now v (logged x h₁ x.numbers_left x.looks_left) Idle v.change,
+        keeps,
+        tt,
+        node_agrees st v r id x here one q mine.0 less st.homes h₁ (r.phase q) Idle (waits fits more),
+        record {
+          waits = λ g its _. let same : f ≡ g = holding_same f g (sym works ∙ its) in
+              subst (λ (g : File). LetsGo (v, carried) ([] ▷ Release g) (now v (logged x h₁ x.numbers_left x.looks_left) Idle v.change, carried)) same
+              record {
+                stepped = tells st v r id x here one carried carried h₁ x.numbers_left x.looks_left Idle v.change ([] ▷ Release f) nothing (grows_one x.number r.history freeing refl) freed_legal
+                    (part_mine x.number freeing r.history refl) (omega arith) (omega arith) tt;
+                carried = refl;
+              };
+          closes = λ g _ is. absurd (more is);
+        },
+      ))
+
+pub releases_keep : ReleasesKeep
+releases_keep k slots id i f m x has works place = subst (λ (k : Start). i ≡ word_of k f.number → Allows (Agrees k) slots id m i (λ word. (word + (2 ^ 64 - 1)) % 2 ^ 64) (Releases (step slots i 1 0 none) m)) has.0
+    (λ at. subst (λ (z : ℕ). Allows (Agrees m.0.start) slots id m z (λ word. (word + (2 ^ 64 - 1)) % 2 ^ 64) (Releases (step slots z 1 0 none) m)) (sym at)
+    (λ st r deep here fits. releases_either st m.0 r id x here has.1 f works slots m.1 fits)) place

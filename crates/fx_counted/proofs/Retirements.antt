@@ -1,0 +1,181 @@
+-- A retirement keeps the rule.
+use Rattle.std.proofs.Common.{◌≡◌, ◌≢◌, ℕ, ◌+◌, ◌-◌, ◌%◌, ◌^◌, ◌<◌, ◌≤◌, List, [], ◌∷◌, set, sym, refl, ap, ◌∙◌, subst, arith, eq-eqb, ne_eqb, length-set, Option, Some, None}
+use mathlib.Core.Logic.{dite}
+use mathlib.Core.Option.{some, none}
+use native.Mathlib.Decide.{ℕ_discrete}
+use lib.ListN.{get_elem?}
+use Rattle.atomic_table.specs.Table.{Act, keeps, takes, Allows, Valid, stepped, carried_after, step}
+use Rattle.atomic_table.proofs.Lists.{set_here, set_else}
+use Rattle.fx_base.specs.declared.open_file.Closed.{Closed}
+use Rattle.fx_plain.specs.History.{◌▷◌}
+use Rattle.fx_plain.specs.Step.{changed_at}
+use Rattle.fx_plain.specs.declared.event.File.{File}
+use Rattle.fx_plain.specs.declared.event.Event.{Event}
+use Rattle.fx_plain.specs.declared.event.Action.TheVariants.{Close}
+use Rattle.fx_table.specs.Calls.{nothing}
+use Rattle.fx_table.specs.Pass.{event_of}
+use Rattle.fx_table.proofs.Totals.{total_at}
+use Rattle.fx_words.specs.Words.{retire_amount_of}
+use Rattle.fx_counted.specs.Agrees.{NodeAgrees, WorkAgrees, Agrees}
+use Rattle.fx_counted.specs.Counts.{looks}
+use Rattle.fx_counted.specs.Laws.{word_of, place_of, RetiresKeep}
+use Rattle.fx_counted.specs.Passes.{Shared, IsNumber, state_after_all, shown, end_in, next_in, held_in, placing, held_of, holding}
+use Rattle.fx_counted.specs.Phases.{Phase, unborn, spare, leaving, retired, emptied, owner, file_in}
+use Rattle.fx_counted.specs.Tells.{TakesOut, Retires}
+use Rattle.fx_counted.specs.declared.view.Log.{Log}
+use Rattle.fx_counted.specs.declared.view.Start.{Start}
+use Rattle.fx_counted.specs.declared.view.View.{View}
+use Rattle.fx_counted.specs.declared.view.Work.TheVariants.{Idle, Holding, Retiring, Emptying}
+use Rattle.fx_counted.proofs.Births.{in_phase, word_now, home_now, roomy, else_place}
+use Rattle.fx_counted.proofs.Frames.{busy, does_now}
+use Rattle.fx_counted.proofs.Histories.{IsHistory, grows_none, grows_one, legal_more, held_mine, part_mine, change_here, change_else, looks_few}
+use Rattle.fx_counted.proofs.Keeping.{now, logged, its_log, its_work, tells}
+use Rattle.fx_counted.proofs.NodeSteps.{one_same, NodeStep, node_agrees}
+
+pub sub_wraps : (n k : ℕ) → k ≤ n → n < 18446744073709551616 → 0 < k → (n + (2 ^ 64 - k)) % 2 ^ 64 ≡ n - k
+sub_wraps n k le fits more = omega arith
+
+pub holding_it : (n : ℕ) (f : File) → n ≡ f.number → holding n (Holding f) ≡ 1
+holding_it n f same = rw (eq-eqb f.number n (sym same)) refl
+
+pub holding_else : (n : ℕ) (f : File) → n ≢ f.number → holding n (Holding f) ≡ 0
+holding_else n f other = rw (ne_eqb f.number n (λ e. other (sym e))) refl
+
+module _ (st : Shared) (v : View) (r : Agrees v.start st) (id : ℕ) (x : Log) (here : get_elem? st.views id ≡ some v) (one : v.logs ≡ x ∷ []) where
+  -- the looks of a file are few
+  pub few_looks : (n : ℕ) → looks r.history n ≤ 16777216
+  few_looks n = let a = looks_few r.history n in let b = r.look_ups in let c = r.shape.passes in omega arith
+
+  -- a seat that holds the file is among those that do
+  pub its_hold : (j : ℕ) (u : View) (f : File) (n : ℕ) → get_elem? st.views j ≡ some u → u.work ≡ Holding f → f.number ≡ n → held_of n u ≡ 1
+  its_hold j u f n there holds same = ap (holding n) holds ∙ holding_it n f (sym same)
+
+  -- the spare numbers, where a number changes that is none of them
+  pub spares_stay : (q : ℕ) (ph ph' : Phase) (p : ℕ) → r.phase q ≡ ph → ((z : ℕ) → ph ≢ spare z) → (n : ℕ) → r.phase n ≡ spare p → changed_at r.phase q ph' n ≡ spare p
+  spares_stay q ph ph' p is not_spare n its = change_else r.phase q ph' n (λ same. not_spare p (sym is ∙ (ap r.phase (sym same) ∙ its))) ∙ its
+
+  -- a retirement
+  module _ (f : File) (t : ℕ) (works : v.work ≡ Retiring f t) where
+    abbrev q : ℕ
+    q = f.number
+
+    mine : IsNumber v.start q × (r.phase q ≡ leaving id t f.identity)
+    mine = subst (WorkAgrees v.start r.phase id) works (its_work st v r id x here one)
+
+    node : NodeAgrees (state_after_all v.start r.history) q (looks r.history q) (word_now st v r id x here one q) (home_now st v r id x here one q) (leaving id t f.identity)
+    node = in_phase st v r id x here one q mine.0 (leaving id t f.identity) mine.1
+
+    abbrev word : ℕ
+    word = word_now st v r id x here one q
+
+    abbrev left : ℕ
+    left = (word + (2 ^ 64 - retire_amount_of t)) % 2 ^ 64
+
+    left_is : word < 18446744073709551616 → left ≡ (state_after_all v.start r.history).holds q
+    left_is fits = let n = node in let c = few_looks q in let e : left ≡ word - (4294967296 - t) = sub_wraps word (4294967296 - t) (omega arith) fits (omega arith) in omega arith
+
+    keeps_spares : (ph' : Phase) (n : ℕ) → next_in x + 0 ≤ n → n < end_in x → changed_at r.phase q ph' n ≡ spare x.number
+    keeps_spares ph' n low high = let o = its_log st v r id x here one in let p = ap placing works in spares_stay q (leaving id t f.identity) ph' x.number mine.1 (λ z bad. cc bad) n (o.spares n (omega arith) high)
+
+    not_new : r.phase q ≡ unborn → ⊥
+    not_new is = cc (sym is ∙ mine.1)
+
+    waits : word < 18446744073709551616 → word ≢ retire_amount_of t → NodeStep st v r id x here one q mine.0 left st.homes r.history (retired f.identity) Idle
+    waits fits more = let n = node in let c = few_looks q in let e = left_is fits in let o = its_log st v r id x here one in record {
+      grows = grows_none x.number r.history;
+      legal = r.legal;
+      told = one_same v q r.history;
+      homes = refl;
+      home_else = λ m has other. refl;
+      seat = λ s g is. absurd (cc (sym is ∙ mine.1));
+      mine = λ some not_mine. absurd (not_mine (ap owner mine.1));
+      spared = λ p is other. absurd (cc (sym is ∙ mine.1));
+      unused = λ is. absurd (not_new is);
+      keeps = λ j u g other there holds same. sym (ap file_in mine.1);
+      free = λ m other bad. let b = ap busy works in other (omega arith);
+      node = (e, n.1, omega arith, n.3);
+      known = tt;
+      held = o.held ∙ ap held_in works;
+      next = tt;
+      spares = keeps_spares (retired f.identity);
+      work = tt;
+      holds = λ m. let b = ap (holding m) works in omega arith;
+    }
+
+    abbrev closing : Event
+    closing = event_of (shown x v.work) (Close f)
+
+    nobody : word ≡ retire_amount_of t → (state_after_all v.start r.history).holds q ≡ 0
+    nobody is = let n = node in let c = few_looks q in omega arith
+
+    closed_legal : word ≡ retire_amount_of t → IsHistory v.start (closing ∷ r.history)
+    closed_legal is = legal_more v.start r.history closing r.legal (node.3, nobody is) tt
+
+    closes : word < 18446744073709551616 → word ≡ retire_amount_of t → NodeStep st v r id x here one q mine.0 left (set st.homes (place_of v.start q) none) (closing ∷ r.history) (emptied id) (Emptying q)
+    closes fits is = let n = node in let c = few_looks q in let e = left_is fits in let z = nobody is in let o = its_log st v r id x here one in record {
+      grows = grows_one x.number r.history closing refl;
+      legal = closed_legal is;
+      told = record { at = refl; size = refl; fresh = refl; looked = refl; all = omega arith; removed = λ m other. change_else (state_after_all v.start r.history).removed q None m other; holds = λ m other. refl };
+      homes = length-set st.homes (place_of v.start q) none;
+      home_else = λ m has other. set_else st.homes (place_of v.start q) (place_of v.start m) none (else_place st v r id x here one q mine.0 m has other);
+      seat = λ s g is. absurd (cc (sym is ∙ mine.1));
+      mine = λ some not_mine. absurd (not_mine (ap owner mine.1));
+      spared = λ p is other. absurd (cc (sym is ∙ mine.1));
+      unused = λ is. absurd (not_new is);
+      keeps = λ j u g other there holds same. absurd (let a = its_hold j u g q there holds same in let b = total_at (held_of q) st.views j u there in let h = r.holds q in omega arith);
+      free = λ m other bad. let b = ap busy works in other (omega arith);
+      node = (omega arith, set_here st.homes (place_of v.start q) none (roomy st v r id x here one q mine.0), z, change_here (state_after_all v.start r.history).removed q None q refl);
+      known = does_now st.views id v (now v (logged x (closing ∷ r.history) x.numbers_left x.looks_left) (Emptying q) v.change) (Emptying q) here refl;
+      held = held_mine x.number closing r.history refl ∙ (o.held ∙ ap held_in works);
+      next = tt;
+      spares = keeps_spares (emptied id);
+      work = (mine.0, change_here r.phase q (emptied id) q refl);
+      holds = λ m. let b = ap (holding m) works in omega arith;
+    }
+
+    abbrev Goal : ℕ → List (ℕ × Option Closed) → Type 0
+    Goal slots carried = (w : View) × (a : Act (Option Closed)) × Valid st.homes carried a × Agrees v.start (stepped st (word_of v.start q) left id carried w a)
+        × Retires (step slots (word_of v.start q) (retire_amount_of t) 0 none) (v, carried) word (w, carried_after carried a)
+
+    retires_either : (slots : ℕ) (carried : List (ℕ × Option Closed)) → word < 18446744073709551616 → Goal slots carried
+    retires_either slots carried fits = dite (ℕ_discrete word (retire_amount_of t))
+        (λ is. (
+          now v (logged x (closing ∷ r.history) x.numbers_left x.looks_left) (Emptying q) v.change,
+          takes (place_of v.start q) (Some f.identity),
+          node.1,
+          node_agrees st v r id x here one q mine.0 left (set st.homes (place_of v.start q) none) (closing ∷ r.history) (emptied id) (Emptying q) (closes fits is),
+          record {
+            waits = λ g u _ not_so. absurd (not_so is);
+            closes = λ g u its _. let same : f ≡ g = retiring_same f g t u (sym works ∙ its) in
+                subst (λ (g : File). TakesOut (v, carried) [] g (now v (logged x (closing ∷ r.history) x.numbers_left x.looks_left) (Emptying q) v.change, (place_of v.start q, Some f.identity) ∷ carried)) same
+                record {
+                  stepped = tells st v r id x here one carried ((place_of v.start q, Some f.identity) ∷ carried) (closing ∷ r.history) x.numbers_left x.looks_left (Emptying q) v.change ([] ▷ Close f) nothing
+                      (grows_one x.number r.history closing refl) (closed_legal is) (part_mine x.number closing r.history refl) (omega arith) (omega arith) mine.0;
+                  carried = refl;
+                };
+          },
+        ))
+        (λ more. (
+          now v (logged x r.history x.numbers_left x.looks_left) Idle v.change,
+          keeps,
+          tt,
+          node_agrees st v r id x here one q mine.0 left st.homes r.history (retired f.identity) Idle (waits fits more),
+          record {
+            waits = λ g u its _. let same : f ≡ g = retiring_same f g t u (sym works ∙ its) in (
+              record {
+                stepped = tells st v r id x here one carried carried r.history x.numbers_left x.looks_left Idle v.change [] nothing (grows_none x.number r.history) r.legal refl (omega arith) (omega arith) tt;
+                carried = refl;
+              },
+              subst (λ (g : File). 0 < (state_after_all v.start r.history).holds g.number) same (let n = node in let c = few_looks q in omega arith),
+            );
+            closes = λ g u _ is. absurd (more is);
+          },
+        ))
+      where
+        retiring_same : (f g : File) (t u : ℕ) → Retiring f t ≡ Retiring g u → f ≡ g
+        retiring_same f g t u e = cc e
+
+pub retires_keep : RetiresKeep
+retires_keep k slots id i amount t f m x has works place by = subst (λ (k : Start). i ≡ word_of k f.number → Allows (Agrees k) slots id m i (λ word. (word + (2 ^ 64 - amount)) % 2 ^ 64) (Retires (step slots i amount 0 none) m)) has.0
+    (λ at. subst (λ (z : ℕ × ℕ). Allows (Agrees m.0.start) slots id m z.0 (λ word. (word + (2 ^ 64 - z.1)) % 2 ^ 64) (Retires (step slots z.0 z.1 0 none) m)) (λ j. (sym at j, sym by j))
+    (λ st r deep here fits. retires_either st m.0 r id x here has.1 f t works slots m.1 fits)) place

@@ -1,0 +1,87 @@
+-- A step on the word of one slot.
+use Rattle.std.proofs.Common.{◌≡◌, ◌≢◌, ℕ, ◌+◌, ◌<◌, ◌≤◌, List, [], ◌∷◌, set, length, sym, refl, ap, ◌∙◌, subst, arith, length-set, get_or-set_other, get_or-set_same, None}
+use mathlib.Core.Logic.{dite}
+use mathlib.Core.Option.{some}
+use native.Mathlib.Decide.{ℕ_discrete}
+use lib.ListN.{get_elem?}
+use Rattle.fx_plain.specs.declared.event.Event.{Event}
+use Rattle.fx_table.specs.Opening.{range_of}
+use Rattle.fx_counted.specs.Agrees.{SlotAgrees, NodeAgrees, OwnerAgrees, WorkAgrees, LogAgrees, Agrees}
+use Rattle.fx_counted.specs.Control.{ControlCounts}
+use Rattle.fx_counted.specs.Counts.{looks, all_looks}
+use Rattle.fx_counted.specs.Layout.{control_place, draw_place, slot_place, node_place, home_place}
+use Rattle.fx_counted.specs.Passes.{Shared, opening_of, slots_of, IsNumber, state_after_all, held_of}
+use Rattle.fx_counted.specs.Phases.{Phase, unborn}
+use Rattle.fx_counted.specs.declared.view.Change.{Change}
+use Rattle.fx_counted.specs.declared.view.Log.{Log}
+use Rattle.fx_counted.specs.declared.view.View.{View}
+use Rattle.fx_counted.specs.declared.view.Work.{Work}
+use Rattle.fx_counted.proofs.Histories.{Grows, IsHistory}
+use Rattle.fx_counted.proofs.Frames.{Stays, KeepsHeld}
+use Rattle.fx_counted.proofs.Keeping.{Homes, word_at, now, Step, step_kept}
+use Rattle.fx_counted.proofs.NodeSteps.{near, far}
+use Rattle.fx_counted.proofs.Unchanged.{SameFile, slot_same, draws_same}
+
+module _ (st : Shared) (v : View) (r : Agrees v.start st) (id : ℕ) (x : Log) (here : get_elem? st.views id ≡ some v) (one : v.logs ≡ x ∷ []) (s : ℕ) (inside : s < slots_of v.start)
+    (y : Log) (d : Work) (c : Change) (h' : List Event) (phase' : ℕ → Phase) (word' : ℕ) (homes' : Homes) where
+  abbrev words' : List ℕ
+  words' = set st.words (slot_place s) word'
+
+  abbrev views' : List View
+  views' = set st.views id (now v y d c)
+
+  -- what a step on a slot's word has to keep
+  pub record SlotStep : Type 0 where
+    pub homes : length homes' ≡ length st.homes
+    pub number : y.number ≡ x.number
+    pub drawn : y.drawn ≡ x.drawn
+    pub told : y.told ≡ x.told
+    pub grows : Grows x.number r.history h'
+    pub legal : IsHistory v.start h'
+    pub slot : SlotAgrees v.start h' phase' s word'
+    pub others : (i : ℕ) → i < slots_of v.start → i ≢ s → ((state_after_all v.start h').at i ≡ (state_after_all v.start r.history).at i) × SameFile v.start r.history h' r.phase phase' i
+    pub more : all_looks r.history ≤ all_looks h'
+    pub nodes : (n : ℕ) → IsNumber v.start n → NodeAgrees (state_after_all v.start h') n (looks h' n) (word_at st.words (node_place (slots_of v.start) n)) (get_elem? homes' (home_place (slots_of v.start) n)) (phase' n)
+    pub owners : (n : ℕ) → IsNumber v.start n → OwnerAgrees views' n (phase' n)
+    pub no_other : (n : ℕ) → (IsNumber v.start n → ⊥) → (state_after_all v.start h').removed n ≡ None
+    pub stays : Stays id x.number r.phase phase'
+    pub keeps : KeepsHeld id st.views r.phase phase'
+    pub unused : (n : ℕ) → r.phase n ≡ unborn → phase' n ≡ unborn
+    pub log : LogAgrees v.start h' phase' id d y
+    pub work : WorkAgrees v.start phase' id d
+    pub holds : (n : ℕ) → (state_after_all v.start h').holds n + held_of n v ≡ (state_after_all v.start r.history).holds n + held_of n (now v y d c)
+    pub look_ups : all_looks h' + y.looks_left ≡ all_looks r.history + x.looks_left
+    pub control : ControlCounts (state_after_all v.start h').at (range_of (opening_of v.start)) views' (word_at st.words control_place)
+
+  module _ (p : SlotStep) where
+    wide : slot_place s < length st.words
+    wide = let a = r.shape.words in let b = (near st v r id x here one).slot s inside in omega arith
+
+    word_else : (place : ℕ) → place ≢ slot_place s → word_at words' place ≡ word_at st.words place
+    word_else place other = get_or-set_other st.words (slot_place s) place word' 0 other
+
+    slot_kept : Step st v r id x here one y d c h' phase' words' homes'
+    slot_kept = let apart = far st v r id x here one in record {
+      words = length-set st.words (slot_place s) word';
+      homes = p.homes;
+      number = p.number;
+      grows = p.grows;
+      legal = p.legal;
+      slots = λ i l. dite (ℕ_discrete i s)
+          (λ same. subst (λ (z : ℕ × ℕ). SlotAgrees v.start h' phase' z.0 z.1) (λ j. (sym same j, (sym (get_or-set_same st.words (slot_place s) word' 0 wide) ∙ ap (λ (z : ℕ). word_at words' (slot_place z)) (sym same)) j)) p.slot)
+          (λ other. let o = p.others i l other in slot_same v.start r.history h' r.phase phase' i (word_at st.words (slot_place i)) (word_at words' (slot_place i)) (word_else (slot_place i) (λ same. other (apart.slots i s same))) o.0 p.more o.1 (r.each_slot i l));
+      nodes = λ n has. subst (λ (w : ℕ). NodeAgrees (state_after_all v.start h') n (looks h' n) w (get_elem? homes' (home_place (slots_of v.start) n)) (phase' n)) (sym (word_else (node_place (slots_of v.start) n) (apart.node_and_slot n s inside has))) (p.nodes n has);
+      owners = p.owners;
+      no_other = p.no_other;
+      stays = p.stays;
+      keeps = p.keeps;
+      log = p.log;
+      work = p.work;
+      holds = p.holds;
+      look_ups = p.look_ups;
+      control = subst (ControlCounts (state_after_all v.start h').at (range_of (opening_of v.start)) views') (sym (word_else control_place (λ same. apart.slot_and_control s (sym same)))) p.control;
+      draws = draws_same st.views id v (now v y d c) here v.start.chains r.phase phase' (word_at st.words draw_place) _ x y one refl p.drawn p.told (word_else draw_place (λ same. apart.slot_and_draw s (sym same))) p.unused r.draws;
+    }
+
+    pub slot_agrees : Agrees v.start record { words = words'; homes = homes'; views = views' }
+    slot_agrees = step_kept st v r id x here one y d c h' phase' words' homes' slot_kept

@@ -1,0 +1,239 @@
+-- What a swap of a slot's word has to keep, whatever comes to the slot.
+use Rattle.std.proofs.Common.{◌≡◌, ◌≢◌, ℕ, ◌<◌, ◌≤◌, List, [], ◌∷◌, set, length, sym, refl, ap, ◌∙◌, subst, arith, Option, Some, None}
+use mathlib.Core.Logic.{dite}
+use mathlib.Core.Option.{some}
+use native.Mathlib.Decide.{ℕ_discrete}
+use lib.ListN.{get_elem?}
+use Rattle.fx_base.specs.declared.open_file.Closed.{Closed}
+use Rattle.fx_plain.specs.History.{held_by, held_after}
+use Rattle.fx_plain.specs.Step.{changed_at, with_removed}
+use Rattle.fx_plain.specs.State.{State}
+use Rattle.fx_plain.specs.Table.{numbered}
+use Rattle.fx_plain.specs.declared.event.File.{File}
+use Rattle.fx_plain.specs.declared.event.Event.{Event}
+use Rattle.fx_plain.specs.declared.event.Action.{Action}
+use Rattle.fx_table.specs.Opening.{range_of}
+use Rattle.fx_table.specs.Pass.{event_of}
+use Rattle.fx_words.specs.Words.{takes_in}
+use Rattle.fx_counted.specs.Agrees.{Names, IsSeated, SlotAgrees, NodeAgrees, OwnerAgrees, WorkAgrees, PlacesNext, Agrees}
+use Rattle.fx_counted.specs.Control.{ControlCounts}
+use Rattle.fx_counted.specs.Counts.{looks, all_looks}
+use Rattle.fx_counted.specs.Laws.{word_of, place_of}
+use Rattle.fx_counted.specs.Layout.{control_place, slot_place}
+use Rattle.fx_counted.specs.Passes.{Shared, opening_of, slots_of, IsNumber, state_after_all, shown, end_in, next_in, held_in, placing, holding}
+use Rattle.fx_counted.specs.Phases.{Phase, unborn, spare, seated, leaving, owner, file_in}
+use Rattle.fx_counted.specs.Tells.{retires_now}
+use Rattle.fx_counted.specs.declared.view.Change.{Change}
+use Rattle.fx_counted.specs.declared.view.Log.{Log}
+use Rattle.fx_counted.specs.declared.view.View.{View}
+use Rattle.fx_counted.specs.declared.view.Work.{Work}
+use Rattle.fx_counted.specs.declared.view.Work.TheVariants.{Retiring}
+use Rattle.fx_counted.proofs.Frames.{Stays, KeepsHeld, does_now}
+use Rattle.fx_counted.proofs.Histories.{IsHistory, grows_one, held_mine, change_here, change_else, seen_all}
+use Rattle.fx_counted.proofs.Keeping.{Homes, word_at, now, logged, its_log}
+use Rattle.fx_counted.proofs.SlotSteps.{SlotStep, slot_agrees}
+
+-- the phases after a file has left its slot for the seat id
+abbrev pub gone_out : ℕ → Option File → ℕ → (ℕ → Phase) → ℕ → Phase
+gone_out id None takes phase = phase
+gone_out id (Some f) takes phase = changed_at phase f.number (leaving id takes f.identity)
+
+-- the file doesn't have the number
+abbrev pub NotOf : ℕ → Option File → Type 0
+NotOf n None = Unit {0}
+NotOf n (Some f) = n ≢ f.number
+
+pub out_else : (id : ℕ) (old : Option File) (takes : ℕ) (phase : ℕ → Phase) (n : ℕ) → NotOf n old → gone_out id old takes phase n ≡ phase n
+out_else id None takes phase n other = refl
+out_else id (Some f) takes phase n other = change_else phase f.number (leaving id takes f.identity) n other
+
+pub removed_else : (removed : ℕ → Option File) (old : Option File) (n : ℕ) → NotOf n old → with_removed removed old n ≡ removed n
+removed_else removed None n other = refl
+removed_else removed (Some f) n other = change_else removed f.number (Some f) n other
+
+by_old : (old : Option File) (n : ℕ) (P : Type 0) → ((f : File) → old ≡ Some f → n ≡ f.number → P) → (NotOf n old → P) → P
+by_old None n P is else = else tt
+by_old (Some f) n P is else = dite (ℕ_discrete n f.number) (λ same. is f refl same) (λ other. else other)
+
+retires_holds : (old : Option File) (takes n : ℕ) → holding n (retires_now old takes) ≡ 0
+retires_holds None takes n = refl
+retires_holds (Some f) takes n = refl
+
+retires_held : (old : Option File) (takes : ℕ) → held_in (retires_now old takes) ≡ None
+retires_held None takes = refl
+retires_held (Some f) takes = refl
+
+retires_placing : (old : Option File) (takes : ℕ) → placing (retires_now old takes) ≡ 0
+retires_placing None takes = refl
+retires_placing (Some f) takes = refl
+
+retires_next : (old : Option File) (takes : ℕ) (x : Log) → PlacesNext x (retires_now old takes)
+retires_next None takes x = tt
+retires_next (Some f) takes x = tt
+
+module _ (st : Shared) (v : View) (r : Agrees v.start st) (id : ℕ) (x : Log) (here : get_elem? st.views id ≡ some v) (one : v.logs ≡ x ∷ []) (s : ℕ) (inside : s < slots_of v.start) where
+  abbrev pub found : ℕ
+  found = word_at st.words (slot_place s)
+
+  abbrev pub state : State
+  state = state_after_all v.start r.history
+
+  pub so : SlotAgrees v.start r.history r.phase s found
+  so = r.each_slot s inside
+
+  -- the file that is at the slot
+  pub seat_of : (f : File) → state.at s ≡ Some f → IsNumber v.start f.number × (takes_in found ≡ looks r.history f.number) × (r.phase f.number ≡ seated s f.identity)
+  seat_of f is = subst (IsSeated v.start (looks r.history) r.phase s found) is so.seat
+
+  module _ (old : Option File) (was : state.at s ≡ old) where
+    -- a number whose phase isn't that of a file at the slot is not the old file's
+    pub not_old : (n : ℕ) (ph : Phase) → r.phase n ≡ ph → ((f : Closed) → ph ≢ seated s f) → NotOf n old
+    not_old n ph is not_seated = go old was
+      where
+        go : (old : Option File) → state.at s ≡ old → NotOf n old
+        go None was = tt
+        go (Some f) was = λ same. not_seated f.identity (sym is ∙ (ap r.phase same ∙ (seat_of f was).2))
+
+    -- a seated file is elsewhere, if it is not the old one
+    pub elsewhere : (n i : ℕ) (g : Closed) → NotOf n old → state.at i ≡ Some (numbered n g) → i ≢ s
+    elsewhere n i g other there same = go old was other
+      where
+        go : (old : Option File) → state.at s ≡ old → NotOf n old → ⊥
+        go None was other = let z : None ≡ Some (numbered n g) = sym was ∙ (ap state.at (sym same) ∙ there) in cc z
+        go (Some f) was other = let z : Some f ≡ Some (numbered n g) = sym was ∙ (ap state.at (sym same) ∙ there) in other (let e : f ≡ numbered n g = cc z in sym (ap (λ (f : File). f.number) e))
+
+    module _ (a : Action) (word' : ℕ) (new : Option File) (homes' : Homes) (phase₁ : ℕ → Phase) (left : ℕ) (c : Change) where
+      abbrev pub e : Event
+      e = event_of (shown x v.work) a
+
+      abbrev pub h' : List Event
+      h' = e ∷ r.history
+
+      abbrev pub y : Log
+      y = logged x h' left x.looks_left
+
+      abbrev pub d : Work
+      d = retires_now old (takes_in found)
+
+      abbrev pub w : View
+      w = now v y d c
+
+      abbrev pub phase' : ℕ → Phase
+      phase' = gone_out id old (takes_in found) phase₁
+
+      abbrev pub next_state : State
+      next_state = state_after_all v.start h'
+
+      pub record Swap : Type 0 where
+        pub legal : IsHistory v.start h'
+        pub at : next_state.at ≡ changed_at state.at s new
+        pub removed : next_state.removed ≡ with_removed state.removed old
+        pub holds : next_state.holds ≡ state.holds
+        pub looked : looks h' ≡ looks r.history
+        pub all : all_looks h' ≡ all_looks r.history
+        pub held : held_after (held_by r.history x.number) a ≡ held_by r.history x.number
+        pub homes : length homes' ≡ length st.homes
+        -- what comes to the slot
+        pub names : Names word' new
+        pub no_takes : takes_in word' ≡ 0
+        pub seat : IsSeated v.start (looks r.history) phase₁ s word' new
+        pub new_apart : (f : File) → new ≡ Some f → NotOf f.number old
+        -- the phases change at most where the pass was placing
+        pub seats : (n i : ℕ) (g : Closed) → r.phase n ≡ seated i g → phase₁ n ≡ seated i g
+        pub stays : Stays id x.number r.phase phase₁
+        pub keeps : KeepsHeld id st.views r.phase phase₁
+        pub unused : (n : ℕ) → r.phase n ≡ unborn → phase₁ n ≡ unborn
+        pub nodes : (n : ℕ) → IsNumber v.start n → NotOf n old → NodeAgrees next_state n (looks r.history n) (word_at st.words (word_of v.start n)) (get_elem? homes' (place_of v.start n)) (phase₁ n)
+        pub old_home : (f : File) → old ≡ Some f → get_elem? homes' (place_of v.start f.number) ≡ get_elem? st.homes (place_of v.start f.number)
+        pub owners : (n : ℕ) → IsNumber v.start n → NotOf n old → OwnerAgrees (set st.views id w) n (phase₁ n)
+        -- the pass
+        pub fewer : left ≤ x.numbers_left
+        pub spares : (n : ℕ) → next_in y ≤ n → n < end_in x → (phase₁ n ≡ spare x.number) × NotOf n old
+        pub none_held : (held_in v.work ≡ None) × ((n : ℕ) → holding n v.work ≡ 0)
+        pub control : ControlCounts (changed_at state.at s new) (range_of (opening_of v.start)) (set st.views id w) (word_at st.words control_place)
+
+      module _ (p : Swap) where
+        old_node : (f : File) → old ≡ Some f → NodeAgrees next_state f.number (looks r.history f.number) (word_at st.words (word_of v.start f.number)) (get_elem? homes' (place_of v.start f.number)) (leaving id (takes_in found) f.identity)
+        old_node f is = let its = seat_of f (was ∙ is) in
+            let n = subst (NodeAgrees state f.number (looks r.history f.number) (word_at st.words (word_of v.start f.number)) (get_elem? st.homes (place_of v.start f.number))) its.2 (r.each_node f.number its.0) in
+            let h = ap (λ (g : ℕ → ℕ). g f.number) p.holds in (
+              omega arith,
+              p.old_home f is ∙ n.1,
+              its.1,
+              ap (λ (g : ℕ → Option File). g f.number) p.removed ∙ (ap (λ (o : Option File). with_removed state.removed o f.number) is ∙ change_here state.removed f.number (Some f) f.number refl),
+            )
+
+        out_here : (f : File) → old ≡ Some f → phase' f.number ≡ leaving id (takes_in found) f.identity
+        out_here f is = ap (λ (o : Option File). gone_out id o (takes_in found) phase₁ f.number) is ∙ change_here phase₁ f.number (leaving id (takes_in found) f.identity) f.number refl
+
+        else_phase : (n : ℕ) → NotOf n old → phase' n ≡ phase₁ n
+        else_phase n other = out_else id old (takes_in found) phase₁ n other
+
+        swap_step : SlotStep st v r id x here one s inside y d c h' phase' word' homes'
+        swap_step = let o = its_log st v r id x here one in record {
+          homes = p.homes;
+          number = refl;
+          drawn = refl;
+          told = refl;
+          grows = grows_one x.number r.history e refl;
+          legal = p.legal;
+          slot = let at_is : next_state.at s ≡ new = ap (λ (g : ℕ → Option File). g s) p.at ∙ change_here state.at s new s refl in record {
+            names = subst (Names word') (sym at_is) p.names;
+            seat = subst (IsSeated v.start (looks h') phase' s word') (sym at_is) (seat_now new refl p.seat);
+            takes = let z = p.no_takes in omega arith;
+          };
+          others = λ i l other. (
+            ap (λ (g : ℕ → Option File). g i) p.at ∙ change_else state.at s new i other,
+            λ f there its. (
+              ap (λ (g : ℕ → ℕ). g f.number) p.looked,
+              else_phase f.number (not_old f.number (seated i f.identity) its (λ g bad. other (cc bad))) ∙ (p.seats f.number i f.identity its ∙ sym its),
+            ),
+          );
+          more = let z = p.all in omega arith;
+          nodes = λ n has. by_old old n (NodeAgrees next_state n (looks h' n) (word_at st.words (word_of v.start n)) (get_elem? homes' (place_of v.start n)) (phase' n))
+              (λ f is same. subst (λ (m : ℕ). NodeAgrees next_state m (looks h' m) (word_at st.words (word_of v.start m)) (get_elem? homes' (place_of v.start m)) (phase' m)) (sym same)
+              (subst (λ (z : ℕ × Phase). NodeAgrees next_state f.number z.0 (word_at st.words (word_of v.start f.number)) (get_elem? homes' (place_of v.start f.number)) z.1) (λ i. (sym p.looked i f.number, sym (out_here f is) i)) (old_node f is)))
+              (λ other. subst (λ (z : ℕ × Phase). NodeAgrees next_state n z.0 (word_at st.words (word_of v.start n)) (get_elem? homes' (place_of v.start n)) z.1) (λ i. (sym p.looked i n, sym (else_phase n other) i)) (p.nodes n has other));
+          owners = λ n has. by_old old n (OwnerAgrees (set st.views id w) n (phase' n))
+              (λ f is same. subst (λ (m : ℕ). OwnerAgrees (set st.views id w) m (phase' m)) (sym same) (subst (OwnerAgrees (set st.views id w) f.number) (sym (out_here f is))
+              (does_now st.views id v w (Retiring f (takes_in found)) here (ap (λ (o : Option File). retires_now o (takes_in found)) is))))
+              (λ other. subst (OwnerAgrees (set st.views id w) n) (sym (else_phase n other)) (p.owners n has other));
+          no_other = λ n absent. ap (λ (g : ℕ → Option File). g n) p.removed ∙ (removed_else state.removed old n (absent_old n absent old refl) ∙ r.no_other n absent);
+          stays = record {
+            owned = λ n some not_mine. else_phase n (not_old n (r.phase n) refl (λ f bad. some (ap owner bad))) ∙ p.stays.owned n some not_mine;
+            spared = λ n q is other. else_phase n (not_old n (spare q) is (λ f bad. cc bad)) ∙ p.stays.spared n q is other;
+          };
+          keeps = λ j u f other there holds. by_old old f.number (file_in (phase' f.number) ≡ file_in (r.phase f.number))
+              (λ g is same. ap (λ (m : ℕ). file_in (phase' m)) same ∙ (ap file_in (out_here g is) ∙ (sym (ap file_in (seat_of g (was ∙ is)).2) ∙ ap (λ (m : ℕ). file_in (r.phase m)) (sym same))))
+              (λ apart. ap file_in (else_phase f.number apart) ∙ p.keeps j u f other there holds);
+          unused = λ n is. else_phase n (not_old n unborn is (λ f bad. cc bad)) ∙ p.unused n is;
+          log = record {
+            seen = seen_all h';
+            own = refl;
+            held = held_mine x.number e r.history refl ∙ (p.held ∙ (o.held ∙ (p.none_held.0 ∙ sym (retires_held old (takes_in found)))));
+            chain = o.chain;
+            few_left = let a = o.few_left in let b = p.fewer in omega arith;
+            left_inside = let a = o.left_inside in let b = p.fewer in omega arith;
+            next = retires_next old (takes_in found) y;
+            spares = λ n low high. let z = retires_placing old (takes_in found) in let q = p.spares n (omega arith) high in else_phase n q.1 ∙ q.0;
+          };
+          work = works old refl;
+          holds = λ n. let a = p.none_held.1 n in let b = retires_holds old (takes_in found) n in let g = ap (λ (g : ℕ → ℕ). g n) p.holds in omega arith;
+          look_ups = let z = p.all in omega arith;
+          control = subst (λ (g : ℕ → Option File). ControlCounts g (range_of (opening_of v.start)) (set st.views id w) (word_at st.words control_place)) (sym p.at) p.control;
+        }
+          where
+            seat_now : (file : Option File) → new ≡ file → IsSeated v.start (looks r.history) phase₁ s word' file → IsSeated v.start (looks h') phase' s word' file
+            seat_now None is z = tt
+            seat_now (Some f) is z = (z.0, z.1 ∙ sym (ap (λ (g : ℕ → ℕ). g f.number) p.looked), else_phase f.number (p.new_apart f is) ∙ z.2)
+
+            absent_old : (n : ℕ) → (IsNumber v.start n → ⊥) → (file : Option File) → old ≡ file → NotOf n file
+            absent_old n absent None is = tt
+            absent_old n absent (Some f) is = λ same. absent (subst (IsNumber v.start) (sym same) (seat_of f (was ∙ is)).0)
+
+            works : (file : Option File) → old ≡ file → WorkAgrees v.start phase' id (retires_now file (takes_in found))
+            works None is = tt
+            works (Some f) is = ((seat_of f (was ∙ is)).0, out_here f is)
+
+        pub swap_agrees : Agrees v.start record { words = set st.words (slot_place s) word'; homes = homes'; views = set st.views id w }
+        swap_agrees = slot_agrees st v r id x here one s inside y d c h' phase' word' homes' swap_step

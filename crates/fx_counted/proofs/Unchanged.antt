@@ -1,0 +1,84 @@
+-- What a step leaves as it was: slots, numbers, the control word and the draw word.
+use Rattle.std.proofs.Common.{◌≡◌, ℕ, ◌+◌, ◌/◌, ◌%◌, ◌≤◌, List, [], ◌∷◌, set, sym, refl, ap, ◌∙◌, subst, arith, Option, Some, None}
+use mathlib.Core.Option.{some}
+use lib.ListN.{get_elem?}
+use Rattle.fx_base.specs.declared.open_file.Closed.{Closed}
+use Rattle.fx_plain.specs.State.{State}
+use Rattle.fx_plain.specs.Table.{numbered}
+use Rattle.fx_plain.specs.Totals.{total}
+use Rattle.fx_plain.specs.declared.event.File.{File}
+use Rattle.fx_plain.specs.declared.event.Event.{Event}
+use Rattle.fx_table.specs.Lists.{bit, times}
+use Rattle.fx_table.proofs.Totals.{total_set}
+use Rattle.fx_counted.specs.Agrees.{Names, IsSeated, SlotAgrees, Home, NodeAgrees}
+use Rattle.fx_counted.specs.Control.{in_change, added, removed_by, changes_of, added_of, removed_of, full_in, ControlCounts}
+use Rattle.fx_counted.specs.Counts.{looks, all_looks}
+use Rattle.fx_counted.specs.Draws.{DrawsCount}
+use Rattle.fx_counted.specs.Passes.{state_after_all, drawn_of, told_of}
+use Rattle.fx_counted.specs.Phases.{Phase, unborn, spare, placed, seated, leaving, retired, emptied, closed}
+use Rattle.fx_counted.specs.declared.view.Log.{Log}
+use Rattle.fx_counted.specs.declared.view.Start.{Start}
+use Rattle.fx_counted.specs.declared.view.View.{View}
+
+module _ (k : Start) (h h' : List Event) (phase phase' : ℕ → Phase) (slot : ℕ) where
+  abbrev pub SameFile : Type 0
+  SameFile = (f : File) → (state_after_all k h).at slot ≡ Some f → phase f.number ≡ seated slot f.identity → (looks h' f.number ≡ looks h f.number) × (phase' f.number ≡ phase f.number)
+
+  seat_same : (word : ℕ) → SameFile → (found : Option File) → (state_after_all k h).at slot ≡ found → IsSeated k (looks h) phase slot word found → IsSeated k (looks h') phase' slot word found
+  seat_same word same None is o = tt
+  seat_same word same (Some f) is o = let q = same f is o.2 in (o.0, o.1 ∙ sym q.0, q.1 ∙ o.2)
+
+  -- a slot whose word and file stay
+  pub slot_same : (word word' : ℕ) → word' ≡ word → (state_after_all k h').at slot ≡ (state_after_all k h).at slot → all_looks h ≤ all_looks h' → SameFile → SlotAgrees k h phase slot word → SlotAgrees k h' phase' slot word'
+  slot_same word word' same_word same_file more same so = record {
+    names = subst (λ (z : ℕ × Option File). Names z.0 z.1) (λ i. (sym same_word i, sym same_file i)) so.names;
+    seat = subst (λ (z : ℕ × Option File). IsSeated k (looks h') phase' slot z.0 z.1) (λ i. (sym same_word i, sym same_file i)) (seat_same word same ((state_after_all k h).at slot) refl so.seat);
+    takes = let t = so.takes in let e = ap Rattle.fx_words.specs.Words.takes_in same_word in omega arith;
+  }
+
+-- a number of which nothing has changed
+pub node_same : (st st' : State) (n looks looks' word word' : ℕ) (home home' : Home) → st'.fresh n ≡ st.fresh n → st'.removed n ≡ st.removed n → st'.holds n ≡ st.holds n → looks' ≡ looks → word' ≡ word → home' ≡ home
+    → st'.size ≡ st.size → (ph : Phase) → ((s : ℕ) (f : Closed) → ph ≡ seated s f → st.at s ≡ Some (numbered n f) → st'.at s ≡ st.at s) → NodeAgrees st n looks word home ph → NodeAgrees st' n looks' word' home' ph
+node_same st st' n l l' w w' e e' fresh removed holds looked worded homed sized unborn at o = (worded ∙ o.0, homed ∙ o.1, fresh ∙ o.2, looked ∙ o.3, holds ∙ o.4, removed ∙ o.5)
+node_same st st' n l l' w w' e e' fresh removed holds looked worded homed sized (spare q) at o = (worded ∙ o.0, homed ∙ o.1, fresh ∙ o.2, looked ∙ o.3, holds ∙ o.4, removed ∙ o.5)
+node_same st st' n l l' w w' e e' fresh removed holds looked worded homed sized (placed j) at o = (worded ∙ o.0, homed ∙ o.1, fresh ∙ o.2, looked ∙ o.3, holds ∙ o.4, removed ∙ o.5)
+node_same st st' n l l' w w' e e' fresh removed holds looked worded homed sized (seated s f) at o = ((let a = o.0 in omega arith), homed ∙ o.1, (let a = o.2 in omega arith), at s f refl o.3 ∙ o.3, removed ∙ o.4)
+node_same st st' n l l' w w' e e' fresh removed holds looked worded homed sized (leaving j t f) at o = ((let a = o.0 in omega arith), homed ∙ o.1, o.2 ∙ sym looked, removed ∙ o.3)
+node_same st st' n l l' w w' e e' fresh removed holds looked worded homed sized (retired f) at o = (worded ∙ (o.0 ∙ sym holds), homed ∙ o.1, (let a = o.2 in omega arith), removed ∙ o.3)
+node_same st st' n l l' w w' e e' fresh removed holds looked worded homed sized (emptied j) at o = (worded ∙ o.0, homed ∙ o.1, holds ∙ o.2, removed ∙ o.3)
+node_same st st' n l l' w w' e e' fresh removed holds looked worded homed sized closed at o = (worded ∙ o.0, homed ∙ o.1, holds ∙ o.2, removed ∙ o.3)
+
+module _ (views : List View) (id : ℕ) (v w : View) (here : get_elem? views id ≡ some v) where
+  -- the control word, where no slot of the range and no change does
+  pub control_same : (at at' : ℕ → Option File) (range : ℕ × ℕ) (word word' : ℕ) → full_in at' range.0 range.1 ≡ full_in at range.0 range.1 → word' ≡ word → w.change ≡ v.change → ControlCounts at range views word → ControlCounts at' range (set views id w) word'
+  control_same at at' range word word' full same change ok =
+      let a = total_set changes_of views id v w here in let b = total_set added_of views id v w here in let c = total_set removed_of views id v w here in
+      let d = ap in_change change in let e = ap added change in let f = ap removed_by change in
+      let u = ok.upper in let l = ok.lower in
+      let p : word' / 4294967296 ≡ word / 4294967296 = ap (λ (n : ℕ). n / 4294967296) same in
+      let q : word' % 4294967296 ≡ word % 4294967296 = ap (λ (n : ℕ). n % 4294967296) same in
+      record { upper = omega arith; lower = omega arith }
+
+  -- the draw word, where no chain was drawn
+  pub draws_same : (chains : ℕ) (phase phase' : ℕ → Phase) (word word' : ℕ) (x y : Log) → v.logs ≡ x ∷ [] → w.logs ≡ y ∷ [] → y.drawn ≡ x.drawn → y.told ≡ x.told → word' ≡ word
+      → ((n : ℕ) → phase n ≡ unborn → phase' n ≡ unborn) → DrawsCount chains phase views word → DrawsCount chains phase' (set views id w) word'
+  draws_same chains phase phase' word word' x y one one' drawn told same keeps ok =
+      let t = total_set told_of views id v w here in
+      let told_v : told_of v ≡ bit x.told + 0 = ap (λ (l : List Log). total (λ z. bit z.told) l) one in
+      let told_w : told_of w ≡ bit y.told + 0 = ap (λ (l : List Log). total (λ z. bit z.told) l) one' in
+      let told_y = ap bit told in
+      let total_told : total told_of (set views id w) ≡ total told_of views = omega arith in
+      record {
+        given = ok.given;
+        few = ok.few;
+        each = λ c.
+            let t = total_set (drawn_of c) views id v w here in
+            let a : drawn_of c v ≡ times c x.drawn + 0 = ap (λ (l : List Log). total (λ z. times c z.drawn) l) one in
+            let b : drawn_of c w ≡ times c y.drawn + 0 = ap (λ (l : List Log). total (λ z. times c z.drawn) l) one' in
+            let e = ap (times c) drawn in
+            let s : total (drawn_of c) (set views id w) ≡ total (drawn_of c) views = omega arith in
+            s ∙ ok.each c;
+        counts = let c = ok.counts in omega arith;
+        all = λ some. ok.all (omega arith);
+        unused = λ n low high. keeps n (ok.unused n low high);
+      }

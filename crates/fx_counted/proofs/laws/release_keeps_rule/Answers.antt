@@ -1,0 +1,5 @@
+use Rattle.fx_counted.proofs.Releases.{releases_keep}
+use Rattle.fx_counted.proofs.laws.release_keeps_rule.Goals as goal
+
+pub returns : goal.returns
+returns c = releases_keep

@@ -1,0 +1,5 @@
+use Rattle.fx_counted.proofs.Retirements.{retires_keep}
+use Rattle.fx_counted.proofs.laws.retire_keeps_rule.Goals as goal
+
+pub returns : goal.returns
+returns c = retires_keep

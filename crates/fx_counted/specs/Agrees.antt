@@ -1,0 +1,144 @@
+-- The rule of the table without a lock: words, places and views agree with the state that one legal history leads to.
+use Rattle.std.specs.Prelude.{◌≡◌, ℕ, ◌+◌, ◌*◌, ◌^◌, ◌<◌, ◌≤◌, ◌⊎◌, true, List, [], length, slice_index, Option, Some, None}
+use mathlib.Core.Option.{some, none}
+use mathlib.Core.Option as maybe
+use lib.ListN.{get_elem?}
+use Rattle.fx_base.specs.declared.open_file.Closed.{Closed}
+use Rattle.fx_plain.specs.History.{IsLegal, IsSeenBy, part_of_pass, held_by}
+use Rattle.fx_plain.specs.State.{State}
+use Rattle.fx_plain.specs.Table.{numbered}
+use Rattle.fx_plain.specs.Totals.{total}
+use Rattle.fx_plain.specs.declared.event.File.{File}
+use Rattle.fx_plain.specs.declared.event.Event.{Event}
+use Rattle.fx_table.specs.Opening.{start_of, range_of}
+use Rattle.fx_words.specs.Words.{name_in, entry_in, takes_in, born}
+use Rattle.fx_counted.specs.Control.{ControlCounts}
+use Rattle.fx_counted.specs.Counts.{looks, all_looks}
+use Rattle.fx_counted.specs.Draws.{DrawsCount}
+use Rattle.fx_counted.specs.Layout.{control_place, draw_place, slot_place, node_place, words_for, home_place, homes_for}
+use Rattle.fx_counted.specs.Passes.{Shared, opening_of, slots_of, IsNumber, state_after_all, chain_in, end_in, next_in, held_in, placing, logs_of, looks_of, held_of, once}
+use Rattle.fx_counted.specs.Phases.{Phase, unborn, spare, placed, seated, leaving, retired, emptied, closed, file_in}
+use Rattle.fx_counted.specs.declared.view.Change.TheVariants.{Outside}
+use Rattle.fx_counted.specs.declared.view.Log.{Log}
+use Rattle.fx_counted.specs.declared.view.Start.{Start}
+use Rattle.fx_counted.specs.declared.view.View.{View}
+use Rattle.fx_counted.specs.declared.view.Work.{Work}
+use Rattle.fx_counted.specs.declared.view.Work.TheVariants.{Idle, Placing, Holding, Retiring, Emptying}
+
+-- what a slot word says of the file at the slot
+abbrev pub Names : ℕ → Option File → Type 0
+Names word None = name_in word ≡ 0
+Names word (Some f) = (name_in word ≡ f.number + 1) × (entry_in word ≡ f.identity.entry)
+
+-- the file at a slot: its takes are the look-ups that found it, and it knows its slot
+abbrev pub IsSeated : Start → (ℕ → ℕ) → (ℕ → Phase) → ℕ → ℕ → Option File → Type 0
+IsSeated k looks phase slot word None = Unit {0}
+IsSeated k looks phase slot word (Some f) = IsNumber k f.number × (takes_in word ≡ looks f.number) × (phase f.number ≡ seated slot f.identity)
+
+-- one slot
+pub record SlotAgrees (k : Start) (h : List Event) (phase : ℕ → Phase) (slot word : ℕ) : Type 0 where
+  pub names : Names word ((state_after_all k h).at slot)
+  pub seat : IsSeated k (looks h) phase slot word ((state_after_all k h).at slot)
+  pub takes : takes_in word ≤ all_looks h
+
+-- what lies at home: nothing, while it is out, or a file or none
+abbrev pub Home : Type 0
+Home = maybe.Option (maybe.Option (Option Closed))
+
+-- One number: its word, its place, and what the state says of it. The releases of a file are its looks less its holds,
+-- so `word + looks ≡ born + holds` says that the word is 2^32 less the releases
+module _ (st : State) (number looks word : ℕ) (home : Home) where
+  abbrev pub NodeAgrees : Phase → Type 0
+  NodeAgrees unborn = (word ≡ 0) × (home ≡ some (some None)) × (st.fresh number ≡ true) × (looks ≡ 0) × (st.holds number ≡ 0) × (st.removed number ≡ None)
+  NodeAgrees (spare pass) = (word ≡ 0) × (home ≡ some (some None)) × (st.fresh number ≡ true) × (looks ≡ 0) × (st.holds number ≡ 0) × (st.removed number ≡ None)
+  NodeAgrees (placed seat) = (word ≡ born) × (home ≡ some none) × (st.fresh number ≡ true) × (looks ≡ 0) × (st.holds number ≡ 0) × (st.removed number ≡ None)
+  NodeAgrees (seated slot file) = (word + looks ≡ born + st.holds number) × (home ≡ some (some (Some file))) × (slot < st.size) × (st.at slot ≡ Some (numbered number file)) × (st.removed number ≡ None)
+  NodeAgrees (leaving seat takes file) = (word + looks ≡ born + st.holds number) × (home ≡ some (some (Some file))) × (takes ≡ looks) × (st.removed number ≡ Some (numbered number file))
+  NodeAgrees (retired file) = (word ≡ st.holds number) × (home ≡ some (some (Some file))) × (0 < word) × (st.removed number ≡ Some (numbered number file))
+  NodeAgrees (emptied seat) = (word ≡ 0) × (home ≡ some none) × (st.holds number ≡ 0) × (st.removed number ≡ None)
+  NodeAgrees closed = (word ≡ 0) × (home ≡ some (some None)) × (st.holds number ≡ 0) × (st.removed number ≡ None)
+
+-- the seat does this work
+abbrev pub Does : List View → ℕ → Work → Type 0
+Does views seat work = (v : View) × (get_elem? views seat ≡ some v) × (v.work ≡ work)
+
+-- a number that a pass works with is known to the pass
+abbrev pub OwnerAgrees : List View → ℕ → Phase → Type 0
+OwnerAgrees views number unborn = Unit {0}
+OwnerAgrees views number (spare pass) = Unit {0}
+OwnerAgrees views number (placed seat) = Does views seat (Placing number)
+OwnerAgrees views number (seated slot file) = Unit {0}
+OwnerAgrees views number (leaving seat takes file) = Does views seat (Retiring (numbered number file) takes)
+OwnerAgrees views number (retired file) = Unit {0}
+OwnerAgrees views number (emptied seat) = Does views seat (Emptying number)
+OwnerAgrees views number closed = Unit {0}
+
+-- what a pass works with is where the pass left it
+abbrev pub WorkAgrees : Start → (ℕ → Phase) → ℕ → Work → Type 0
+WorkAgrees k phase seat Idle = Unit {0}
+WorkAgrees k phase seat (Placing number) = IsNumber k number × (phase number ≡ placed seat)
+WorkAgrees k phase seat (Holding f) = IsNumber k f.number × (file_in (phase f.number) ≡ Some f.identity)
+WorkAgrees k phase seat (Retiring f takes) = IsNumber k f.number × (phase f.number ≡ leaving seat takes f.identity)
+WorkAgrees k phase seat (Emptying number) = IsNumber k number × (phase number ≡ emptied seat)
+
+-- a pass that places a number places the next one
+abbrev pub PlacesNext : Log → Work → Type 0
+PlacesNext x Idle = Unit {0}
+PlacesNext x (Placing number) = (number ≡ next_in x) × (0 < x.numbers_left)
+PlacesNext x (Holding f) = Unit {0}
+PlacesNext x (Retiring f takes) = Unit {0}
+PlacesNext x (Emptying number) = Unit {0}
+
+-- one pass of a seat
+pub record LogAgrees (k : Start) (h : List Event) (phase : ℕ → Phase) (seat : ℕ) (work : Work) (x : Log) : Type 0 where
+  -- it has seen a beginning of the history, and all that it did itself
+  pub seen : IsSeenBy x.front h
+  pub own : part_of_pass x.number h ≡ part_of_pass x.number x.front
+  pub held : held_by h x.number ≡ held_in work
+  pub chain : chain_in x ≤ k.chains
+  pub few_left : x.numbers_left ≤ 64
+  pub left_inside : x.numbers_left ≤ 64 * chain_in x
+  -- the numbers that are left to it are its own
+  pub next : PlacesNext x work
+  pub spares : (n : ℕ) → next_in x + placing work ≤ n → n < end_in x → phase n ≡ spare x.number
+
+-- one seat
+pub record ViewAgrees (k : Start) (h : List Event) (phase : ℕ → Phase) (seat : ℕ) (v : View) : Type 0 where
+  pub logs : (i : ℕ) (x : Log) → get_elem? v.logs i ≡ some x → LogAgrees k h phase seat v.work x
+  pub work : WorkAgrees k phase seat v.work
+  pub empty : v.logs ≡ [] → (v.work ≡ Idle) × (v.change ≡ Outside)
+  pub start : (v.logs ≡ []) ⊎ (v.start ≡ k)
+
+-- how large everything is
+pub record HasShape (k : Start) (s : Shared) : Type 0 where
+  pub slots : slots_of k ≤ 256
+  pub range : (range_of (opening_of k)).0 + (range_of (opening_of k)).1 ≤ slots_of k
+  pub chains : k.chains ≤ 1023
+  pub passes : k.passes ≤ 16
+  pub words : length s.words ≡ words_for (slots_of k) k.chains
+  pub homes : length s.homes ≡ homes_for (slots_of k) k.chains
+
+abbrev pub lengths : View → ℕ
+lengths v = length v.logs
+
+-- what holds between any two steps
+pub record Agrees (k : Start) (s : Shared) : Type 0 where
+  pub shape : HasShape k s
+  pub history : List Event
+  pub phase : ℕ → Phase
+  pub legal : IsLegal (start_of (opening_of k)) history (state_after_all k history)
+  pub each_slot : (slot : ℕ) → slot < slots_of k → SlotAgrees k history phase slot (slice_index s.words (slot_place slot))
+  pub each_node : (n : ℕ) → IsNumber k n → NodeAgrees (state_after_all k history) n (looks history n) (slice_index s.words (node_place (slots_of k) n)) (get_elem? s.homes (home_place (slots_of k) n)) (phase n)
+  pub each_owner : (n : ℕ) → IsNumber k n → OwnerAgrees s.views n (phase n)
+  pub no_other : (n : ℕ) → (IsNumber k n → ⊥) → (state_after_all k history).removed n ≡ None
+  pub each_view : (seat : ℕ) (v : View) → get_elem? s.views seat ≡ some v → ViewAgrees k history phase seat v
+  -- the holds of a file are the passes that hold it
+  pub holds : (n : ℕ) → (state_after_all k history).holds n ≡ total (held_of n) s.views
+  -- each pass began with 2^20 look-ups
+  pub look_ups : all_looks history + total looks_of s.views ≡ 2 ^ 20 * k.passes
+  -- each pass is in one view, and nobody else did anything
+  pub passes : (p : ℕ) → total (logs_of p) s.views ≡ once k.passes p
+  pub whole : total lengths s.views ≡ k.passes
+  pub authors : (p : ℕ) → once k.passes p ≡ 0 → part_of_pass p history ≡ []
+  pub control : ControlCounts (state_after_all k history).at (range_of (opening_of k)) s.views (slice_index s.words control_place)
+  pub draws : DrawsCount k.chains phase s.views (slice_index s.words draw_place)

@@ -1,0 +1,44 @@
+-- How a view is cut in two, and how two are made one.
+use Rattle.std.specs.Prelude.{ℕ, zero, suc, List, [], ◌∷◌, ◌++◌}
+use Rattle.fx_plain.specs.Contents.{Contents}
+use Rattle.fx_counted.specs.Passes.{new_log}
+use Rattle.fx_counted.specs.declared.view.Change.TheVariants.{Outside}
+use Rattle.fx_counted.specs.declared.view.Log.{Log}
+use Rattle.fx_counted.specs.declared.view.Start.{Start}
+use Rattle.fx_counted.specs.declared.view.View.{View}
+use Rattle.fx_counted.specs.declared.view.Work.TheVariants.{Idle}
+
+-- so many new passes, from p on
+abbrev pub new_logs : ℕ → ℕ → List Log
+new_logs p zero = []
+new_logs p (suc n) = new_log p ∷ new_logs (suc p) n
+
+-- the view of the seat that opens the table
+abbrev pub first_view : Start → View
+first_view k = record { start = k; logs = new_logs 1 k.passes; work = Idle; change = Outside }
+
+abbrev pub rest_of : List Log → List Log
+rest_of [] = []
+rest_of (x ∷ xs) = xs
+
+abbrev pub first_of : List Log → List Log
+first_of [] = []
+first_of (x ∷ xs) = x ∷ []
+
+-- a view without the first of its passes, and with that one alone
+abbrev pub without_first : View → View
+without_first v = record v { logs = rest_of v.logs }
+
+abbrev pub first_alone : View → View
+first_alone v = record v { logs = first_of v.logs }
+
+-- a view with the passes of another: each keeps its own front
+abbrev pub together : View → View → View
+together v w = record v { logs = v.logs ++ w.logs }
+
+abbrev pub empty_table : Contents
+empty_table = record { slots = []; range = (0, 0); nodes = []; holds = []; numbers = 0 }
+
+-- the view of a seat that was taken in
+abbrev pub spent : View
+spent = record { start = record { plain = record { marker = record {}; value = empty_table }; chains = 0; passes = 0 }; logs = []; work = Idle; change = Outside }

@@ -1,0 +1,10 @@
+pub mod Layout
+pub mod Counts
+pub mod Phases
+pub mod Passes
+pub mod Control
+pub mod Draws
+pub mod Agrees
+pub mod Cuts
+pub mod Tells
+pub mod Laws

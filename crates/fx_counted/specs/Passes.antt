@@ -1,0 +1,139 @@
+-- What views say of passes.
+use Rattle.std.specs.Prelude.{ℕ, zero, suc, ◌-◌, ◌^◌, ◌==◌, nat_lt, false, List, [], ◌∷◌, Option, Some, None}
+use Rattle.atomic_table.specs.Table.{State as TableState, Me}
+use Rattle.fx_base.specs.declared.open_file.Closed.{Closed}
+use Rattle.fx_plain.specs.History.{part_of_pass}
+use Rattle.fx_plain.specs.State.{State}
+use Rattle.fx_plain.specs.Totals.{total}
+use Rattle.fx_plain.specs.declared.event.File.{File}
+use Rattle.fx_plain.specs.declared.event.Event.{Event}
+use Rattle.fx_table.specs.Lists.{bit, times}
+use Rattle.fx_table.specs.Opening.{Opening, state_at, size_of, numbers_for}
+use Rattle.fx_table.specs.Pass.{PassView}
+use Rattle.fx_table.specs.declared.values.Doing.{Doing}
+use Rattle.fx_table.specs.declared.values.Doing.TheVariants.{Idle as NowIdle, Holding as NowHolding, Retiring as NowRetiring}
+use Rattle.fx_counted.specs.Layout.{HasNode}
+use Rattle.fx_counted.specs.declared.view.Log.{Log}
+use Rattle.fx_counted.specs.declared.view.Start.{Start}
+use Rattle.fx_counted.specs.declared.view.View.{View}
+use Rattle.fx_counted.specs.declared.view.Work.{Work}
+use Rattle.fx_counted.specs.declared.view.Work.TheVariants.{Idle, Placing, Holding, Retiring, Emptying}
+
+-- the table as steps see it: a place has an open file or none
+abbrev pub Shared : Type 0
+Shared = TableState (Option Closed) View
+
+-- a seat's view, and the places that are with it
+abbrev pub Sat : Type 0
+Sat = Me (Option Closed) View
+
+abbrev pub opening_of : Start → Opening
+opening_of k = record { contents = k.plain.value; chains = k.chains; passes = k.passes }
+
+abbrev pub slots_of : Start → ℕ
+slots_of k = size_of (opening_of k)
+
+-- the number is that of a slot or of a chain
+abbrev pub IsNumber : Start → ℕ → Type 0
+IsNumber k number = HasNode (slots_of k) k.chains number
+
+-- the state that a history leads to
+abbrev pub state_after_all : Start → List Event → State
+state_after_all k h = state_at (opening_of k) h
+
+abbrev pub first_or : ℕ → List ℕ → ℕ
+first_or n [] = n
+first_or n (m ∷ ms) = m
+
+-- the chain that a pass drew last, or 0
+abbrev pub chain_in : Log → ℕ
+chain_in x = first_or 0 x.drawn
+
+-- the number behind the last one of the chain, and the one that the next installation uses
+abbrev pub end_in : Log → ℕ
+end_in x = numbers_for (chain_in x)
+
+abbrev pub next_in : Log → ℕ
+next_in x = end_in x - x.numbers_left
+
+-- what a pass of a shared table does, between two calls
+abbrev pub doing_in : Work → Doing
+doing_in Idle = NowIdle
+doing_in (Placing number) = NowIdle
+doing_in (Holding f) = NowHolding f
+doing_in (Retiring f takes) = NowRetiring f takes
+doing_in (Emptying number) = NowIdle
+
+-- a pass, as all shared tables show it
+abbrev pub shown : Log → Work → PassView
+shown x work = record {
+  number = x.number;
+  front = x.front;
+  own = part_of_pass x.number x.front;
+  chain = chain_in x;
+  drawn = x.drawn;
+  told = x.told;
+  numbers_left = x.numbers_left;
+  looks_left = x.looks_left;
+  doing = doing_in work;
+}
+
+-- a pass that has seen and done nothing
+abbrev pub new_log : ℕ → Log
+new_log p = record { number = p; front = []; drawn = []; told = false; numbers_left = 0; looks_left = 2 ^ 20; steps = 0 }
+
+abbrev pub first_log : List Log → Log
+first_log [] = new_log 0
+first_log (x ∷ xs) = x
+
+abbrev pub pass_of : View → PassView
+pass_of v = shown (first_log v.logs) v.work
+
+abbrev pub steps_of : View → ℕ
+steps_of v = (first_log v.logs).steps
+
+-- the file that the pass holds
+abbrev pub held_in : Work → Option File
+held_in Idle = None
+held_in (Placing number) = None
+held_in (Holding f) = Some f
+held_in (Retiring f takes) = None
+held_in (Emptying number) = None
+
+-- 1 where the pass is about to install a file, and else 0
+abbrev pub placing : Work → ℕ
+placing Idle = 0
+placing (Placing number) = 1
+placing (Holding f) = 0
+placing (Retiring f takes) = 0
+placing (Emptying number) = 0
+
+-- 1 where the pass holds the file of the number, and else 0
+abbrev pub holding : ℕ → Work → ℕ
+holding n Idle = 0
+holding n (Placing number) = 0
+holding n (Holding f) = bit (f.number == n)
+holding n (Retiring f takes) = 0
+holding n (Emptying number) = 0
+
+-- how many of a view's passes have the number, how often they drew a chain, how many were told that there are no
+-- more, and the look-ups that are left to them
+abbrev pub logs_of : ℕ → View → ℕ
+logs_of p v = total (λ x. bit (x.number == p)) v.logs
+
+abbrev pub drawn_of : ℕ → View → ℕ
+drawn_of c v = total (λ x. times c x.drawn) v.logs
+
+abbrev pub told_of : View → ℕ
+told_of v = total (λ x. bit x.told) v.logs
+
+abbrev pub looks_of : View → ℕ
+looks_of v = total (λ x. x.looks_left) v.logs
+
+abbrev pub held_of : ℕ → View → ℕ
+held_of n v = holding n v.work
+
+-- 1 for the numbers from 1 to n, and else 0
+abbrev pub once : ℕ → ℕ → ℕ
+once n zero = 0
+once n (suc p) = bit (nat_lt p n)

@@ -1,0 +1,43 @@
+-- Where each number of a file stands in its life.
+use Rattle.std.specs.Prelude.{ℕ, ◌+◌, Option, Some, None}
+use Rattle.fx_base.specs.declared.open_file.Closed.{Closed}
+
+pub data Phase : Type 0 where
+  -- no file has had it, and no pass may use it
+  unborn : Phase
+  -- no file has had it, and the pass of this number may use it
+  spare : ℕ → Phase
+  -- the pass at the seat is about to install its file
+  placed : ℕ → Phase
+  -- its file is at the slot
+  seated : ℕ → Closed → Phase
+  -- its file was removed by the pass at the seat, which found so many takes
+  leaving : ℕ → ℕ → Closed → Phase
+  -- its file was removed and retired, and somebody holds it
+  retired : Closed → Phase
+  -- its file is closed, and the pass at the seat is about to take it out
+  emptied : ℕ → Phase
+  -- its file is closed and gone, or it never had one
+  closed : Phase
+
+-- the seat that alone may go on with it, plus 1, or 0
+abbrev pub owner : Phase → ℕ
+owner unborn = 0
+owner (spare pass) = 0
+owner (placed seat) = seat + 1
+owner (seated slot file) = 0
+owner (leaving seat takes file) = seat + 1
+owner (retired file) = 0
+owner (emptied seat) = seat + 1
+owner closed = 0
+
+-- its file, while it is open
+abbrev pub file_in : Phase → Option Closed
+file_in unborn = None
+file_in (spare pass) = None
+file_in (placed seat) = None
+file_in (seated slot file) = Some file
+file_in (leaving seat takes file) = Some file
+file_in (retired file) = Some file
+file_in (emptied seat) = None
+file_in closed = None

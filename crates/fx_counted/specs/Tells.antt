@@ -1,0 +1,148 @@
+-- What each kind of step tells the pass that makes it.
+use Rattle.std.specs.Prelude.{◌≡◌, ◌≢◌, ℕ, zero, suc, ◌+◌, ◌<◌, nat_lt, if◌then◌else◌, List, [], ◌∷◌, Option, Some, None}
+use Rattle.atomic_table.specs.Table.{Step, rest}
+use Rattle.fx_base.specs.declared.open_file.Closed.{Closed}
+use Rattle.fx_plain.specs.History.{◌▷◌}
+use Rattle.fx_plain.specs.Table.{numbered}
+use Rattle.fx_plain.specs.declared.event.File.{File}
+use Rattle.fx_plain.specs.declared.event.Action.{Action}
+use Rattle.fx_plain.specs.declared.event.Action.TheVariants.{Look, Release, Put, Allocate, Full, Close}
+use Rattle.fx_table.specs.Calls.{Use, nothing, one_look, one_number, Adds, Draws}
+use Rattle.fx_table.specs.Opening.{range_of}
+use Rattle.fx_table.specs.Pass.{next_number}
+use Rattle.fx_words.specs.Words.{takes_in, full_word_of}
+use Rattle.fx_counted.specs.Agrees.{Names}
+use Rattle.fx_counted.specs.Control.{if_full}
+use Rattle.fx_counted.specs.Layout.{slot_of, home_place}
+use Rattle.fx_counted.specs.Passes.{Sat, opening_of, slots_of, IsNumber, state_after_all, pass_of, steps_of, doing_in}
+use Rattle.fx_counted.specs.declared.view.Change.{Change}
+use Rattle.fx_counted.specs.declared.view.Change.TheVariants.{Outside, Same, More, Less}
+use Rattle.fx_counted.specs.declared.view.Log.{Log}
+use Rattle.fx_counted.specs.declared.view.Start.{Start}
+use Rattle.fx_counted.specs.declared.view.Work.{Work}
+use Rattle.fx_counted.specs.declared.view.Work.TheVariants.{Idle, Placing, Holding, Retiring, Emptying}
+
+-- a step of a table whose places have an open file or none
+abbrev pub At : Type 0
+At = Step (Option Closed)
+
+-- the number that a pass works with is one of the table
+abbrev pub IsInside : Start → Work → Type 0
+IsInside k Idle = Unit {0}
+IsInside k (Placing number) = IsNumber k number
+IsInside k (Holding f) = IsNumber k f.number
+IsInside k (Retiring f takes) = IsNumber k f.number
+IsInside k (Emptying number) = IsNumber k number
+
+-- One step of a seat with one pass: it took these actions and used this up, and now it does this work
+pub record Stepped (m : Sat) (actions : List Action) (used : Use) (w : Work) (c : Change) (m' : Sat) : Type 0 where
+  pub one : (x : Log) × (m'.0.logs ≡ x ∷ [])
+  pub adds : Adds (opening_of m.0.start) (pass_of m.0) actions (doing_in w) used (pass_of m'.0)
+  pub work : m'.0.work ≡ w
+  pub inside : IsInside m.0.start w
+  pub change : m'.0.change ≡ c
+  pub start : m'.0.start ≡ m.0.start
+  pub steps : steps_of m'.0 ≡ steps_of m.0 + 1
+
+-- what a pass does that found this file, and one that removed it
+abbrev pub holds_now : Option File → Work
+holds_now None = Idle
+holds_now (Some f) = Holding f
+
+abbrev pub retires_now : Option File → ℕ → Work
+retires_now None takes = Idle
+retires_now (Some f) takes = Retiring f takes
+
+-- what a pass in a change has to tell when a slot had so many files, and has so many now
+abbrev pub changed : ℕ → ℕ → Change
+changed zero zero = Same
+changed zero (suc new) = More
+changed (suc old) zero = Less
+changed (suc old) (suc new) = Same
+
+-- a pass tells of the range alone
+abbrev pub turned : Change → ℕ → ℕ → Change
+turned Outside old new = Outside
+turned Same old new = changed old new
+turned More old new = More
+turned Less old new = Less
+
+-- Birth: the place of the next number is with the pass
+pub record Births (st : At) (m : Sat) (found : ℕ) (m' : Sat) : Type 0 where
+  pub stepped : Stepped m [] nothing (Placing (next_number (pass_of m.0))) m.0.change m'
+  pub carried : m'.1 ≡ (home_place (slots_of m.0.start) (next_number (pass_of m.0)), None) ∷ m.1
+
+-- Look: the word that was found names the file that was there
+pub record Looks (st : At) (m : Sat) (found : ℕ) (m' : Sat) : Type 0 where
+  pub file : Option File
+  pub names : Names found file
+  pub stepped : Stepped m ([] ▷ Look (slot_of st.word) file) one_look (holds_now file) m.0.change m'
+  pub carried : m'.1 ≡ m.1
+
+-- Swap, to the word of the file that the pass places: the word that was found names the file that it replaced
+pub record Installs (st : At) (m : Sat) (found : ℕ) (m' : Sat) : Type 0 where
+  pub replaced : Option File
+  pub names : Names found replaced
+  pub stepped : (n : ℕ) (file : Closed) → m.0.work ≡ Placing n → m.1 ≡ (home_place (slots_of m.0.start) n, Some file) ∷ []
+      → Stepped m ([] ▷ Put (slot_of st.word) (numbered n file) replaced) one_number (retires_now replaced (takes_in found)) (turned m.0.change (if_full replaced) 1) m'
+  pub carried : m'.1 ≡ rest m.1
+
+-- Swap, to an empty slot's word: the word that was found names the file that was removed, by a clear or by a take
+pub record Removes (action : ℕ → Option File → Action) (st : At) (m : Sat) (found : ℕ) (m' : Sat) : Type 0 where
+  pub file : Option File
+  pub names : Names found file
+  pub stepped : Stepped m ([] ▷ action (slot_of st.word) file) nothing (retires_now file (takes_in found)) (turned m.0.change (if_full file) 0) m'
+  pub carried : m'.1 ≡ m.1
+
+-- the file of the pass is closed, and with the pass
+pub record TakesOut (m : Sat) (actions : List Action) (f : File) (m' : Sat) : Type 0 where
+  pub stepped : Stepped m (actions ▷ Close f) nothing (Emptying f.number) m.0.change m'
+  pub carried : m'.1 ≡ (home_place (slots_of m.0.start) f.number, Some f.identity) ∷ m.1
+
+-- the file of the pass stays open, and the pass has done with it
+pub record LetsGo (m : Sat) (actions : List Action) (m' : Sat) : Type 0 where
+  pub stepped : Stepped m actions nothing Idle m.0.change m'
+  pub carried : m'.1 ≡ m.1
+
+-- Retire: where the word was what was subtracted, nobody holds the file
+pub record Retires (st : At) (m : Sat) (found : ℕ) (m' : Sat) : Type 0 where
+  pub waits : (f : File) (takes : ℕ) → m.0.work ≡ Retiring f takes → found ≢ st.first → LetsGo m [] m' × (0 < (state_after_all m.0.start (pass_of m'.0).front).holds f.number)
+  pub closes : (f : File) (takes : ℕ) → m.0.work ≡ Retiring f takes → found ≡ st.first → TakesOut m [] f m'
+
+-- Release: where the word was 1, it was the last hold of a retired file
+pub record Releases (st : At) (m : Sat) (found : ℕ) (m' : Sat) : Type 0 where
+  pub waits : (f : File) → m.0.work ≡ Holding f → found ≢ 1 → LetsGo m ([] ▷ Release f) m'
+  pub closes : (f : File) → m.0.work ≡ Holding f → found ≡ 1 → TakesOut m ([] ▷ Release f) f m'
+
+-- Rest: the place is home, without a file
+pub record Rests (st : At) (m : Sat) (found : ℕ) (m' : Sat) : Type 0 where
+  pub stepped : Stepped m [] nothing Idle m.0.change m'
+  pub carried : m'.1 ≡ rest m.1
+
+-- a step that leaves the pass at its work: Begin, End and Load
+pub record GoesOn (change : Change) (st : At) (m : Sat) (found : ℕ) (m' : Sat) : Type 0 where
+  pub stepped : Stepped m [] nothing m.0.work change m'
+  pub carried : m'.1 ≡ m.1
+
+-- Answer: where the word said so, every slot of the range was full
+pub record Answers (st : At) (m : Sat) (found : ℕ) (m' : Sat) : Type 0 where
+  pub full : found ≡ full_word_of (range_of (opening_of m.0.start)).1 → Stepped m ([] ▷ Full) nothing m.0.work Outside m'
+  pub not_full : found ≢ full_word_of (range_of (opening_of m.0.start)).1 → Stepped m [] nothing m.0.work Outside m'
+  pub carried : m'.1 ≡ m.1
+
+-- Exchange: the file that the pass places is at the slot, which was empty; or nothing changed
+pub record Exchanges (st : At) (m : Sat) (found : ℕ) (m' : Sat) : Type 0 where
+  pub wins : (n : ℕ) (file : Closed) → m.0.work ≡ Placing n → m.1 ≡ (home_place (slots_of m.0.start) n, Some file) ∷ [] → found ≡ st.first
+      → Stepped m ([] ▷ Allocate (slot_of st.word) (numbered n file)) one_number Idle More m' × (m'.1 ≡ rest m.1)
+  pub loses : found ≢ st.first → Stepped m [] nothing m.0.work m.0.change m' × (m'.1 ≡ m.1)
+
+-- the chain that a draw gives which found this word
+abbrev pub chain_given : ℕ → ℕ → Option ℕ
+chain_given chains found = if nat_lt found chains then Some (found + 1) else None
+
+-- Draw: the pass has the next chain, or is told that there are no more
+pub record DrawTells (st : At) (m : Sat) (found : ℕ) (m' : Sat) : Type 0 where
+  pub one : (x : Log) × (m'.0.logs ≡ x ∷ [])
+  pub draws : Draws (opening_of m.0.start) (pass_of m.0) (chain_given m.0.start.chains found) (pass_of m'.0)
+  pub same : (m'.0.work ≡ m.0.work) × (m'.0.change ≡ m.0.change) × (m'.0.start ≡ m.0.start) × (m'.1 ≡ m.1)
+  pub steps : steps_of m'.0 ≡ steps_of m.0 + 1

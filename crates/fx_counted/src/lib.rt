@@ -1,0 +1,13 @@
+//! The file table that threads share without a lock: a look-up is one atomic addition, a release one subtraction, and
+//! nobody waits.
+#![tactic(auto)]
+
+mod kinds;
+pub mod laws;
+mod view;
+
+pub use kinds::{
+    Answer, Begin, Birth, Clear, Deal, Draw, End, Exchange, Gather, Install, Load, Look,
+    OneHistory, Release, Rest, Retire, Take,
+};
+pub use view::{Change, Log, Start, View, Work};

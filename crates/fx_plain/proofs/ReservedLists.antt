@@ -1,0 +1,72 @@
+-- What stands in a list of which only a beginning is written.
+use Rattle.std.proofs.Common.{◌≡◌, ℕ, zero, suc, ◌+◌, ◌-◌, ◌<◌, ◌≤◌, List, [], ◌∷◌, ◌++◌, length, length-append, replicate, refl, sym, ap, subst, ◌∙◌, slice_index, slice_index_or, slice_set, append_assoc, Option, None, IsSome, arith, inl, inr}
+use Rattle.std.proofs.lemmas.List.{length-set, length-replicate, get_or_append_left, get_or-append-add, set-append_left}
+use Rattle.std.proofs.lemmas.Bool.{cases_lt}
+use Rattle.std.proofs.Math.ListN.{get_or-eq_default}
+use Rattle.fx_base.specs.declared.open_file.Closed.{Closed}
+use Rattle.fx_plain.specs.Contents.{node_at, file_in, Fresh, Gone}
+use Rattle.fx_plain.specs.Reserved.{with_rest}
+use Rattle.fx_plain.specs.declared.node.Node.{Node}
+
+read_replicate : {X : Type 0} (n i : ℕ) (x d : X) → i < n → slice_index_or (replicate n x) i d ≡ x
+read_replicate zero i x d inside = absurd (omega arith)
+read_replicate (suc n) zero x d inside = refl
+read_replicate (suc n) (suc i) x d inside = read_replicate n i x d (omega arith)
+
+module _ {X : Type 0} (rest : X) (len : ℕ) (xs : List X) where
+  pub length-with_rest : length xs ≤ len → length (with_rest rest len xs) ≡ len
+  length-with_rest few = let a = length-append xs (replicate (len - length xs) rest) in let b : length (replicate (len - length xs) rest) ≡ len - length xs = length-replicate (len - length xs) rest in omega arith
+
+  -- what was written is read
+  pub read_written : (n : ℕ) (d : X) → n < length xs → slice_index_or (with_rest rest len xs) n d ≡ slice_index_or xs n d
+  read_written n d inside = get_or_append_left xs (replicate (len - length xs) rest) d n inside
+
+  -- behind it stands the rest
+  pub read_rest : (n : ℕ) (d : X) → length xs ≤ n → n < len → slice_index_or (with_rest rest len xs) n d ≡ rest
+  read_rest n d behind inside =
+      let at : length xs + (n - length xs) ≡ n = omega arith in
+      ap (λ (k : ℕ). slice_index_or (with_rest rest len xs) k d) (sym at)
+      ∙ get_or-append-add xs (replicate (len - length xs) rest) (n - length xs) d ∙ read_replicate (len - length xs) (n - length xs) rest d (omega arith)
+
+  -- and behind that nothing
+  pub read_behind : (n : ℕ) (d : X) → length xs ≤ len → len ≤ n → slice_index_or (with_rest rest len xs) n d ≡ d
+  read_behind n d few behind = let e = length-with_rest few in get_or-eq_default (with_rest rest len xs) d (omega arith)
+
+  -- a write of what was written is a write of the whole list
+  pub with_rest-set : (n : ℕ) (x : X) → n < length xs → with_rest rest len (slice_set xs n x) ≡ slice_set (with_rest rest len xs) n x
+  with_rest-set n x inside = ap (λ (k : ℕ). slice_set xs n x ++ replicate (len - k) rest) (length-set xs n x) ∙ sym (set-append_left xs (replicate (len - length xs) rest) n x inside)
+
+  -- one more of the rest may be written at any time
+  pub with_rest-push : length xs < len → with_rest rest len (xs ++ rest ∷ []) ≡ with_rest rest len xs
+  with_rest-push inside =
+      let size : length (xs ++ rest ∷ []) ≡ length xs + 1 = length-append xs (rest ∷ []) in
+      let same : suc (len - length (xs ++ rest ∷ [])) ≡ len - length xs = omega arith in
+      let joined : with_rest rest len (xs ++ rest ∷ []) ≡ xs ++ replicate (suc (len - length (xs ++ rest ∷ []))) rest =
+      append_assoc xs (rest ∷ []) (replicate (len - length (xs ++ rest ∷ [])) rest) in
+      joined ∙ ap (λ (k : ℕ). xs ++ replicate k rest) same
+
+none_is_none : (λ (x : Option Closed). IsSome x) None → ⊥
+none_is_none has = cc has
+
+no_file : (node : Node) → file_in node ≡ None → IsSome (file_in node) → ⊥
+no_file node none has = none_is_none (subst (λ (x : Option Closed). IsSome x) none has)
+
+-- a node with a file was written
+pub written_inside : (len : ℕ) (xs : List Node) (n : ℕ) → length xs ≤ len → IsSome (file_in (node_at (with_rest Fresh len xs) n)) → n < length xs
+written_inside len xs n few has = elim (cases_lt n (length xs)) [
+  | inl lt ↦ lt
+  | inr behind ↦ elim (cases_lt n len) [
+    | inl lt ↦ absurd (no_file Fresh refl (subst (λ (node : Node). IsSome (file_in node)) (read_rest Fresh len xs n Gone behind lt) has))
+    | inr past ↦ absurd (no_file Gone refl (subst (λ (node : Node). IsSome (file_in node)) (read_behind Fresh len xs n Gone few past) has))
+  ]
+]
+
+-- and a number with a hold
+pub held_inside : (len : ℕ) (xs : List ℕ) (n : ℕ) → length xs ≤ len → 0 < slice_index (with_rest 0 len xs) n → n < length xs
+held_inside len xs n few has = elim (cases_lt n (length xs)) [
+  | inl lt ↦ lt
+  | inr behind ↦ elim (cases_lt n len) [
+    | inl lt ↦ let zero_is : slice_index (with_rest 0 len xs) n ≡ 0 = read_rest 0 len xs n 0 behind lt in absurd (omega arith)
+    | inr past ↦ let zero_is : slice_index (with_rest 0 len xs) n ≡ 0 = read_behind 0 len xs n 0 few past in absurd (omega arith)
+  ]
+]

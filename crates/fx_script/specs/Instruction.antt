@@ -1,0 +1,29 @@
+-- A command of a script, without where it lies in memory.
+use Rattle.std.specs.Prelude.{ℕ, ℤ, List, map}
+use Rattle.fx_chain.specs.Operation.{Asked, all_asked}
+use Rattle.fx_script.specs.declared.command.Command.{Command}
+use Rattle.fx_script.specs.declared.command.Command.TheVariants.{Sparse, Register, Unregister, Range, Update, Submit}
+
+pub data Instruction : Type 0 where
+  -- the number of slots
+  MakesSparse : ℕ → Instruction
+  -- the list
+  RegistersList : List ℤ → Instruction
+  Unregisters : Instruction
+  -- the first slot, and the number of slots
+  SetsRange : ℕ → ℕ → Instruction
+  -- the first slot, and the list
+  UpdatesRing : ℕ → List ℤ → Instruction
+  -- the requests since the submission before, or since the start
+  SubmitsAll : List Asked → Instruction
+
+abbrev pub instruction_of : Command → Instruction
+instruction_of (Sparse n) = MakesSparse n
+instruction_of (Register list) = RegistersList list.items
+instruction_of Unregister = Unregisters
+instruction_of (Range off len) = SetsRange off len
+instruction_of (Update off list) = UpdatesRing off list.items
+instruction_of (Submit requests) = SubmitsAll (all_asked requests.items)
+
+abbrev pub instructions_of : List Command → List Instruction
+instructions_of commands = map instruction_of commands

@@ -1,0 +1,32 @@
+-- A line that was read, without where it lies in memory.
+use Rattle.std.specs.Prelude.{ℕ, ℤ, Bool, List, [], unwrap_or}
+use Rattle.fx_chain.specs.Operation.{Operation, Opens, Reads, Closes, Updates}
+use Rattle.fx_script.specs.declared.line.Line.{Line}
+use Rattle.fx_script.specs.declared.line.Line.TheVariants.{File, Sparse, Register, Unregister, Range, Update, Request, Submit}
+use Rattle.fx_script.specs.declared.list.List as list
+use Rattle.fx_script.specs.declared.request.Action.{Action}
+use Rattle.fx_script.specs.declared.request.Action.TheVariants as action
+use Rattle.fx_script.specs.Instruction.{MakesSparse, RegistersList, Unregisters, SetsRange, UpdatesRing}
+use Rattle.fx_script.specs.Line.{FileLine, CommandLine, SubmitLine, request_line}
+use Rattle.fx_script.specs.Line as line
+use Rattle.fx_script.specs.Words.{list_of}
+
+-- the entries of a list that was looked through
+abbrev pub entries_in : list.List → List ℤ
+entries_in l = unwrap_or (list_of l.text.now) []
+
+abbrev pub operation_in : Action → Operation
+operation_in (action.Open name target) = Opens name.now target
+operation_in (action.Read slot off len) = Reads slot off len
+operation_in (action.Close slot) = Closes slot
+operation_in (action.Update off l) = Updates off (entries_in l)
+
+abbrev pub line_in : Line → line.Line
+line_in (File name hex) = FileLine name.now hex.now
+line_in (Sparse n) = CommandLine (MakesSparse n)
+line_in (Register l) = CommandLine (RegistersList (entries_in l))
+line_in Unregister = CommandLine Unregisters
+line_in (Range off len) = CommandLine (SetsRange off len)
+line_in (Update off l) = CommandLine (UpdatesRing off (entries_in l))
+line_in (Request act link) = request_line link (operation_in act)
+line_in Submit = SubmitLine

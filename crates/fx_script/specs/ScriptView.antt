@@ -1,0 +1,23 @@
+-- What was read of a script, without where it lies in memory.
+use Rattle.std.specs.Prelude.{◌≡◌, Result, Ok, Err}
+use Rattle.fx_chain.specs.Operation.{all_asked}
+use Rattle.fx_script.specs.declared.fault.LineError.{LineError}
+use Rattle.fx_script.specs.declared.fault.LineError.TheVariants.{Fault, NoMemory}
+use Rattle.fx_script.specs.declared.fault.ScriptFault.{ScriptFault}
+use Rattle.fx_script.specs.declared.reader.Reader.{Reader}
+use Rattle.fx_script.specs.Instruction.{instructions_of}
+use Rattle.fx_script.specs.Script.{Progress}
+
+-- what the lines so far say
+abbrev pub progress_of : Reader → Progress
+progress_of r = record { catalogue = r.catalogue; commands = instructions_of r.commands.items; waiting = all_asked r.waiting.items; first_waiting = r.first_waiting }
+
+-- the fault that is expected, or want of memory
+abbrev pub IsExpected : {A : Type 0} → LineError → Result A ScriptFault → Type 0
+IsExpected (Fault fault) expected = expected ≡ Err fault
+IsExpected NoMemory expected = Unit {0}
+
+-- the answer and what was read then are those that are expected, want of memory aside
+abbrev pub Takes : {A : Type 0} → Result A ScriptFault → Result (Unit {0}) LineError → A → Type 0
+Takes expected (Ok _) new = expected ≡ Ok new
+Takes expected (Err error) new = IsExpected error expected

@@ -1,0 +1,94 @@
+ghost use Rattle.std.specs.Prelude.{◌≡◌, true};
+ghost use Rattle.std.specs.List.{list_all};
+ghost use Rattle.fx_script.specs.Cursor.{Gives};
+ghost use Rattle.fx_script.specs.Line.{open_at, open_any, open_of, read_of, close_of, update_of};
+ghost use Rattle.fx_script.specs.LineView.{line_in};
+ghost use Rattle.fx_script.specs.Lines.{is_printable};
+ghost use Rattle.fx_script.specs.Parts.{parts_left};
+
+use crate::fault::ScriptFault;
+use crate::line::Line;
+use crate::list::List;
+use crate::parts::Parts;
+use crate::words::{last, link, name, number, text, word};
+use fx_chain::Target;
+
+// What a request line asks for.
+#[derive(Clone, Copy)]
+pub enum Action<'a> {
+    // To open the entry of this name.
+    Open { name: &'a str, target: Target },
+    // To read from the file at a slot.
+    Read { slot: u32, off: u32, len: u32 },
+    // To empty a slot.
+    Close { slot: u32 },
+    // To work a list off.
+    Update { off: u32, list: List<'a> },
+}
+
+fn open_at<'a>(file: &'a str, words: &mut Parts<'a>) -> Result<Line<'a>, ScriptFault>
+    ensures { Gives line_in result (open_at file.now (parts_left words.old)) }
+{
+    let slot = word(words)?;
+    let last = last(words)?;
+    let name = name(file)?;
+    let target = Target::Slot(number(slot)?);
+    Ok(Line::Request(Action::Open { name, target }, link(last)?))
+}
+
+fn open_any<'a>(file: &'a str, words: &mut Parts<'a>) -> Result<Line<'a>, ScriptFault>
+    ensures { Gives line_in result (open_any file.now (parts_left words.old)) }
+{
+    let last = last(words)?;
+    let name = name(file)?;
+    let target = Target::Any;
+    Ok(Line::Request(Action::Open { name, target }, link(last)?))
+}
+
+pub fn open<'a>(words: &mut Parts<'a>) -> Result<Line<'a>, ScriptFault>
+    requires { list_all is_printable (parts_left words.old) ≡ true }
+    ensures { Gives line_in result (open_of (parts_left words.old)) }
+{
+    let file = text(word(words)?);
+    let place = word(words)?;
+    if place == b"at".as_slice() {
+        open_at(file, words)
+    } else if place == b"any".as_slice() {
+        open_any(file, words)
+    } else {
+        Err(ScriptFault::BadWord)
+    }
+}
+
+pub fn read<'a>(words: &mut Parts<'a>) -> Result<Line<'a>, ScriptFault>
+    ensures { Gives line_in result (read_of (parts_left words.old)) }
+{
+    let slot = word(words)?;
+    let off = word(words)?;
+    let len = word(words)?;
+    let last = last(words)?;
+    let slot = number(slot)?;
+    let off = number(off)?;
+    let len = number(len)?;
+    Ok(Line::Request(Action::Read { slot, off, len }, link(last)?))
+}
+
+pub fn close<'a>(words: &mut Parts<'a>) -> Result<Line<'a>, ScriptFault>
+    ensures { Gives line_in result (close_of (parts_left words.old)) }
+{
+    let slot = word(words)?;
+    let last = last(words)?;
+    let slot = number(slot)?;
+    Ok(Line::Request(Action::Close { slot }, link(last)?))
+}
+
+pub fn update<'a>(words: &mut Parts<'a>) -> Result<Line<'a>, ScriptFault>
+    ensures { Gives line_in result (update_of (parts_left words.old)) }
+{
+    let off = word(words)?;
+    let list = word(words)?;
+    let last = last(words)?;
+    let off = number(off)?;
+    let list = List::new(list)?;
+    Ok(Line::Request(Action::Update { off, list }, link(last)?))
+}

@@ -1,0 +1,6 @@
+mod accepted;
+mod cut;
+mod faults;
+mod limits;
+mod order;
+mod reading;

@@ -1,0 +1,78 @@
+-- Where files are, before and after an action.
+use Rattle.std.proofs.Common.{◌≡◌, ◌≢◌, ℕ, true, false, List, sym, refl, ap, ◌∙◌, subst, ◌⊎◌, inl, inr, ⊎_elim}
+use mathlib.Core.Logic.{dite}
+use native.Mathlib.Decide.{ℕ_discrete}
+use Rattle.std.specs.Prelude.{Option, Some, None}
+use Rattle.fx_plain.specs.State.{State}
+use Rattle.fx_plain.specs.Step.{changed_at, with_removed}
+use Rattle.fx_plain.specs.Contents.{Contents, state_of, leaving, is_leaving, IsTable, node_at, slot_at, placed_at, removed_at, file_at}
+use Rattle.fx_plain.specs.declared.node.Node.{Node}
+use Rattle.fx_plain.specs.declared.node.Node.TheVariants.{At}
+use Rattle.fx_plain.specs.declared.event.File.{File}
+use Rattle.fx_table.specs.Files.{HasFile}
+use Rattle.fx_table.proofs.Changes.{changed_here, changed_else}
+
+pub some_file : (f g : File) → Some f ≡ Some g → f ≡ g
+some_file f g e = cc
+
+pub none_file : (f : File) → None ≡ Some f → ⊥
+none_file f e = cc
+
+-- what a slot names
+named : (nodes : List Node) (o : Option ℕ) (f : File) → file_at nodes o ≡ Some f → (n : ℕ) × (o ≡ Some n) × (placed_at n (node_at nodes n) ≡ Some f)
+named nodes None f e = absurd (none_file f e)
+named nodes (Some n) f e = (n, refl, e)
+
+-- the node of a file at a slot says so
+pub node_of : (c : Contents) → IsTable c → (slot : ℕ) (f : File) → (state_of c).at slot ≡ Some f → node_at c.nodes f.number ≡ At slot f.identity
+node_of c sound slot f e =
+    let a = named c.nodes (slot_at c.slots slot) f e in
+    let p = sound.placed slot a.0 a.1 in
+    let is : record { number = a.0; identity = p.0 } ≡ f = some_file (record { number = a.0; identity = p.0 }) f (sym (ap (placed_at a.0) p.1) ∙ a.2) in
+    subst (λ (g : File). node_at c.nodes g.number ≡ At slot g.identity) is p.1
+
+-- a file at a slot was not removed, and isn't leaving
+pub not_removed : (c : Contents) → IsTable c → (slot : ℕ) (f : File) → (state_of c).at slot ≡ Some f → (state_of c).removed f.number ≡ None
+not_removed c sound slot f e = ap (removed_at f.number) (node_of c sound slot f e)
+
+pub stays_put : (c : Contents) → IsTable c → (slot : ℕ) (f : File) → (state_of c).at slot ≡ Some f → leaving c f.number ≡ false
+stays_put c sound slot f e = ap is_leaving (node_of c sound slot f e)
+
+-- a removed file has another number than a file at a slot
+pub apart_from : (c : Contents) → IsTable c → (slot : ℕ) (o : Option File) → o ≡ (state_of c).at slot → (x f : File) → o ≡ Some x → (state_of c).removed f.number ≡ Some f → f.number ≢ x.number
+apart_from c sound slot o is x f there out same = none_file f (sym (not_removed c sound slot x (sym is ∙ there)) ∙ (ap (state_of c).removed (sym same) ∙ out))
+
+-- a file that is leaving is among the removed ones
+pub leaving_file : (c : Contents) → IsTable c → (f : File) → HasFile (state_of c) f → leaving c f.number ≡ true → (state_of c).removed f.number ≡ Some f
+leaving_file c sound f there leaves = ⊎_elim
+    (λ s. let no_way : false ≡ true = sym (stays_put c sound s.0 f s.1) ∙ leaves in absurd (cc no_way))
+    (λ e. e) there
+
+-- a removed file that comes out is the file that the pass had to do with
+pub removed_file : (c : Contents) → IsTable c → (f g : File) → HasFile (state_of c) f → (state_of c).removed f.number ≡ Some g → f ≡ g
+removed_file c sound f g there out = ⊎_elim
+    (λ s. absurd (none_file g (sym (not_removed c sound s.0 f s.1) ∙ out)))
+    (λ e. some_file f g (sym e ∙ out)) there
+
+-- A slot gets another file, or none, and what stood there is removed: each file is still somewhere
+module _ (s : State) (slot : ℕ) (new found : Option File) (is : found ≡ s.at slot) (apart : (x f : File) → found ≡ Some x → s.removed f.number ≡ Some f → f.number ≢ x.number) where
+  at_slot : (f : File) (o : Option File) → o ≡ Some f → with_removed s.removed o f.number ≡ Some f
+  at_slot f o e = subst (λ (z : Option File). with_removed s.removed z f.number ≡ Some f) (sym e) (changed_here s.removed f.number (Some f) f.number refl)
+
+  out_still : (f : File) → s.removed f.number ≡ Some f → (o : Option File) → found ≡ o → with_removed s.removed o f.number ≡ Some f
+  out_still f out None e = out
+  out_still f out (Some x) e = changed_else s.removed x.number (Some x) f.number (apart x f e out) ∙ out
+
+  pub still_there : (f : File) → HasFile s f → ((k : ℕ) × (changed_at s.at slot new k ≡ Some f)) ⊎ (with_removed s.removed found f.number ≡ Some f)
+  still_there f there = ⊎_elim
+      (λ p. dite (ℕ_discrete p.0 slot)
+      (λ e. inr (at_slot f found (is ∙ (ap s.at (sym e) ∙ p.1))))
+      (λ n. inl (p.0, changed_else s.at slot new p.0 n ∙ p.1)))
+      (λ out. inr (out_still f out found refl)) there
+
+  pub now_removed : (f : File) → found ≡ Some f → with_removed s.removed found f.number ≡ Some f
+  now_removed f e = at_slot f found e
+
+-- a file is closed: each other one is still where it was
+pub not_closed : (s : State) (g f : File) → f.number ≢ g.number → HasFile s f → ((slot : ℕ) × (s.at slot ≡ Some f)) ⊎ (changed_at s.removed g.number None f.number ≡ Some f)
+not_closed s g f other there = ⊎_elim (λ p. inl p) (λ e. inr (changed_else s.removed g.number None f.number other ∙ e)) there

@@ -1,0 +1,108 @@
+-- Sums over lists, and what one changed element does to them.
+use Rattle.std.proofs.Common.{◌≡◌, ◌≢◌, ℕ, zero, suc, ◌+◌, ◌≤◌, List, [], ◌∷◌, map, set, reverse, sym, refl, ap, ◌∙◌, arith, ⊎_elim}
+use Rattle.std.specs.Prelude.{sum_by, Contains}
+use Rattle.std.proofs.lemmas.List.{reverse-append}
+use Rattle.std.proofs.lemmas.List.Sums.{sum_by-cons, sum_by-append}
+use mathlib.Core.Option.{some, some-injective, some-ne-none}
+use lib.ListN.{get_elem?}
+use Rattle.fx_table.proofs.Members.{contains_none, contains_head, contains_tail, contains_cases}
+
+module _ {X : Type 0} (f : X → ℕ) where
+  pub sum_set : (l : List X) (i : ℕ) (v w : X) → get_elem? l i ≡ some v → sum_by f (set l i w) + f v ≡ sum_by f l + f w
+  sum_set [] i v w e = absurd (some-ne-none v (sym e))
+  sum_set (x ∷ xs) zero v w e =
+      let s : f x ≡ f v = ap f (some-injective x v e) in
+      let a = sum_by-cons f x xs in
+      let b = sum_by-cons f w xs in
+      omega arith
+  sum_set (x ∷ xs) (suc i) v w e =
+      let r = sum_set xs i v w e in
+      let a = sum_by-cons f x xs in
+      let b = sum_by-cons f x (set xs i w) in
+      omega arith
+
+  pub sum_at : (l : List X) (i : ℕ) (v : X) → get_elem? l i ≡ some v → f v ≤ sum_by f l
+  sum_at [] i v e = absurd (some-ne-none v (sym e))
+  sum_at (x ∷ xs) zero v e = let s : f x ≡ f v = ap f (some-injective x v e) in let a = sum_by-cons f x xs in omega arith
+  sum_at (x ∷ xs) (suc i) v e = let r = sum_at xs i v e in let a = sum_by-cons f x xs in omega arith
+
+  -- two elements at different places
+  pub sum_two : (l : List X) (i j : ℕ) (v w : X) → i ≢ j → get_elem? l i ≡ some v → get_elem? l j ≡ some w → f v + f w ≤ sum_by f l
+  sum_two [] i j v w n e g = absurd (some-ne-none v (sym e))
+  sum_two (x ∷ xs) zero zero v w n e g = absurd (n refl)
+  sum_two (x ∷ xs) zero (suc j) v w n e g =
+      let s : f x ≡ f v = ap f (some-injective x v e) in let r = sum_at xs j w g in let a = sum_by-cons f x xs in omega arith
+  sum_two (x ∷ xs) (suc i) zero v w n e g =
+      let s : f x ≡ f w = ap f (some-injective x w g) in let r = sum_at xs i v e in let a = sum_by-cons f x xs in omega arith
+  sum_two (x ∷ xs) (suc i) (suc j) v w n e g =
+      let r = sum_two xs i j v w (λ same. n (ap suc same)) e g in let a = sum_by-cons f x xs in omega arith
+
+  -- an element that the list contains
+  pub sum_of : (l : List X) (v : X) → Contains l v → f v ≤ sum_by f l
+  sum_of [] v h = absurd (contains_none v h)
+  sum_of (x ∷ l) v h = let a = sum_by-cons f x l in ⊎_elim
+      (λ (is : v ≡ x). let b = ap f is in omega arith)
+      (λ t. let r = sum_of l v t in omega arith)
+      (contains_cases x l v h)
+
+  pub sum_reverse : (l : List X) → sum_by f (reverse l) ≡ sum_by f l
+  sum_reverse [] = refl
+  sum_reverse (x ∷ l) =
+      let r = sum_reverse l in
+      let a = sum_by-append f (reverse l) (x ∷ []) in
+      let b = sum_by-cons f x l in
+      let c = sum_by-cons f x [] in
+      ap (sum_by f) (reverse-append (x ∷ []) l) ∙ omega arith
+
+  pub sum_zero : (l : List X) → ((x : X) → Contains l x → f x ≡ 0) → sum_by f l ≡ 0
+  sum_zero [] each = refl
+  sum_zero (x ∷ l) each =
+      let a = sum_by-cons f x l in
+      let b = each x (contains_head x l) in
+      let r = sum_zero l (λ y h. each y (contains_tail x l y h)) in
+      omega arith
+
+  sum_zero_at : (l : List X) → ((i : ℕ) (v : X) → get_elem? l i ≡ some v → f v ≡ 0) → sum_by f l ≡ 0
+  sum_zero_at [] each = refl
+  sum_zero_at (x ∷ l) each =
+      let a = sum_by-cons f x l in let b = each 0 x refl in let r = sum_zero_at l (λ i v e. each (suc i) v e) in omega arith
+
+  -- a sum to which one element alone adds
+  pub sum_only : (l : List X) (i : ℕ) (v : X) → get_elem? l i ≡ some v → ((j : ℕ) (u : X) → j ≢ i → get_elem? l j ≡ some u → f u ≡ 0) → sum_by f l ≡ f v
+  sum_only [] i v at zeros = absurd (some-ne-none v (sym at))
+  sum_only (x ∷ l) zero v at zeros =
+      let a = sum_by-cons f x l in
+      let b = sum_zero_at l (λ j u e. zeros (suc j) u (λ h. omega arith) e) in
+      let c : f x ≡ f v = ap f (some-injective x v at) in
+      omega arith
+  sum_only (x ∷ l) (suc i) v at zeros =
+      let a = sum_by-cons f x l in
+      let b = zeros 0 x (λ h. omega arith) refl in
+      let r = sum_only l i v at (λ j u n e. zeros (suc j) u (λ h. n (omega arith)) e) in
+      omega arith
+
+pub sum_le_at : {X : Type 0} (f g : X → ℕ) (l : List X) → ((i : ℕ) (v : X) → get_elem? l i ≡ some v → f v ≤ g v) → sum_by f l ≤ sum_by g l
+sum_le_at f g [] h = omega arith
+sum_le_at f g (x ∷ xs) h =
+    let a = h 0 x refl in
+    let b = sum_by-cons f x xs in
+    let c = sum_by-cons g x xs in
+    let r = sum_le_at f g xs (λ i v e. h (suc i) v e) in
+    omega arith
+
+pub sum_le_of : {X : Type 0} (f g : X → ℕ) (l : List X) → ((x : X) → Contains l x → f x ≤ g x) → sum_by f l ≤ sum_by g l
+sum_le_of f g [] h = omega arith
+sum_le_of f g (x ∷ xs) h =
+    let a = h x (contains_head x xs) in
+    let b = sum_by-cons f x xs in
+    let c = sum_by-cons g x xs in
+    let r = sum_le_of f g xs (λ y i. h y (contains_tail x xs y i)) in
+    omega arith
+
+pub sum_map : {X Y : Type 0} (f : Y → ℕ) (g : X → Y) (l : List X) → sum_by f (map g l) ≡ sum_by (λ x. f (g x)) l
+sum_map f g [] = refl
+sum_map f g (x ∷ l) =
+    let a = sum_by-cons f (g x) (map g l) in
+    let b = sum_by-cons (λ z. f (g z)) x l in
+    let r = sum_map f g l in
+    omega arith

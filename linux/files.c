@@ -1,0 +1,283 @@
+#define _GNU_SOURCE
+#include "files.h"
+
+#include <fcntl.h>
+#include <limits.h>
+#include <stdio.h>
+#include <stdlib.h>
+#include <string.h>
+#include <sys/inotify.h>
+#include <sys/stat.h>
+#include <unistd.h>
+
+/* A close that doesn't come within ten seconds is an error. */
+enum { TURNS = 50000, TURN_MICROSECONDS = 200 };
+
+struct installation {
+	struct mark mark;
+	int entry;
+	int descriptor;		/* ours, or -1 */
+	int is_installed;	/* an open counts as one: whether the kernel keeps the file is what the events say */
+	int was_opened, was_closed;
+	int is_in_table;
+	int is_finished;	/* nothing more can happen to it, and its line was written */
+};
+
+static char folder[PATH_MAX];
+static int catalogue = -1, links = -1, events = -1;
+static struct installation *installations;
+static size_t count, room;
+static size_t first;		/* those before it are finished */
+
+static void name_of_entry(unsigned entry, char name[NAME_BYTES])
+{
+	snprintf(name, NAME_BYTES, "%u", entry);
+}
+
+void name_of_link(size_t installation, char name[NAME_BYTES])
+{
+	snprintf(name, NAME_BYTES, "%zu", installation);
+}
+
+int links_folder(void)
+{
+	return links;
+}
+
+static void remove_links(void)
+{
+	char name[NAME_BYTES];
+	for (size_t at = first; at < count; at++) {
+		name_of_link(at, name);
+		unlinkat(links, name, 0);
+	}
+}
+
+static void remove_folder(void)
+{
+	char name[NAME_BYTES];
+	if (links >= 0)
+		remove_links();
+	for (unsigned at = 0; catalogue >= 0 && at < MOST_FILES; at++) {
+		name_of_entry(at, name);
+		unlinkat(catalogue, name, 0);
+	}
+	int parent = open(folder, O_PATH | O_DIRECTORY);
+	unlinkat(parent, "catalogue", AT_REMOVEDIR);
+	unlinkat(parent, "links", AT_REMOVEDIR);
+	close(parent);
+	rmdir(folder);
+}
+
+static int fresh_folder(const char *name)
+{
+	char path[PATH_MAX + 16];
+	snprintf(path, sizeof path, "%s/%s", folder, name);
+	if (mkdir(path, 0700))
+		die(path);
+	int opened = open(path, O_PATH | O_DIRECTORY);
+	if (opened < 0)
+		die(path);
+	if (!strcmp(name, "links") && inotify_add_watch(events, path, IN_OPEN | IN_CLOSE | IN_ONLYDIR) < 0)
+		die("no watch on the folder");
+	return opened;
+}
+
+static void write_entry(unsigned entry, const struct entry *file)
+{
+	char name[NAME_BYTES];
+	name_of_entry(entry, name);
+	int made = openat(catalogue, name, O_WRONLY | O_CREAT | O_EXCL, 0600);
+	if (made < 0 || write(made, file->bytes, file->size) != (ssize_t)file->size || close(made))
+		die("a file of the catalogue");
+}
+
+int open_files(const struct script *script)
+{
+	const char *where = getenv("TMPDIR");
+	events = inotify_init1(IN_NONBLOCK | IN_CLOEXEC);
+	if (events < 0)
+		return 0;
+	snprintf(folder, sizeof folder, "%s/play-on-kernel-XXXXXX", where && *where ? where : "/tmp");
+	if (!mkdtemp(folder))
+		die(folder);
+	atexit(remove_folder);
+	catalogue = fresh_folder("catalogue");
+	links = fresh_folder("links");
+	for (unsigned at = 0; at < script->file_count; at++)
+		write_entry(at, &script->files[at]);
+	return 1;
+}
+
+size_t add_installation(struct mark mark, int entry)
+{
+	char file[NAME_BYTES], link[NAME_BYTES];
+	if (count == room) {
+		room = room ? 2 * room : 256;
+		installations = realloc(installations, room * sizeof *installations);
+		if (!installations)
+			die_of("out of memory");
+	}
+	installations[count] = (struct installation){ .mark = mark, .entry = entry, .descriptor = -1, .is_installed = 1 };
+	if (entry >= 0) {
+		name_of_entry(entry, file);
+		name_of_link(count, link);
+		if (linkat(catalogue, file, links, link, 0))
+			die("a link for an installation");
+	}
+	return count++;
+}
+
+int open_descriptor(size_t installation)
+{
+	char name[NAME_BYTES];
+	struct installation *it = &installations[installation];
+	name_of_link(installation, name);
+	it->descriptor = openat(links, name, O_RDONLY | O_CLOEXEC);
+	it->is_installed = 0;
+	if (it->descriptor < 0)
+		die("a descriptor for a list");
+	return it->descriptor;
+}
+
+void close_descriptor(size_t installation, int is_installed)
+{
+	struct installation *it = &installations[installation];
+	close(it->descriptor);
+	it->descriptor = -1;
+	it->is_installed = is_installed;
+}
+
+static void note_event(size_t installation, unsigned mask)
+{
+	if (installation >= count)
+		return;
+	installations[installation].was_opened |= (mask & IN_OPEN) != 0;
+	installations[installation].was_closed |= (mask & IN_CLOSE) != 0;
+}
+
+static void read_events(void)
+{
+	char buffer[16384] __attribute__((aligned(__alignof__(struct inotify_event))));
+	ssize_t size;
+	while ((size = read(events, buffer, sizeof buffer)) > 0) {
+		for (char *at = buffer; at < buffer + size;) {
+			const struct inotify_event *event = (void *)at;
+			at += sizeof *event + event->len;
+			if (event->mask & IN_Q_OVERFLOW)
+				die_of("more events than fs.inotify.max_queued_events");
+			if (event->len && !(event->mask & IN_ISDIR))
+				note_event(strtoul(event->name, NULL, 10), event->mask);
+		}
+	}
+}
+
+static FILE *ring_information(int ring)
+{
+	char path[64];
+	snprintf(path, sizeof path, "/proc/self/fdinfo/%d", ring);
+	FILE *information = fopen(path, "r");
+	if (!information)
+		die(path);
+	return information;
+}
+
+/*
+ * Notes which files are in the table, as the kernel lists it in /proc/self/fdinfo, and says whether it did. The list
+ * stands between the lines `UserFiles:` and `UserBufs:`, which aren't there while the kernel is at work on the ring. Its
+ * own lines are a slot and a path.
+ */
+static int read_table(int ring)
+{
+	char line[2 * PATH_MAX];
+	int is_listed = 0;
+	for (size_t at = first; at < count; at++)
+		installations[at].is_in_table = 0;
+	if (ring < 0)
+		return 1;
+	FILE *information = ring_information(ring);
+	while (fgets(line, sizeof line, information)) {
+		const char *name = strrchr(line, '/');
+		if (!strncmp(line, "UserFiles:", 10))
+			is_listed = 1;
+		if (!strncmp(line, "UserBufs:", 9))
+			break;
+		size_t installation = is_listed && name ? strtoul(name + 1, NULL, 10) : count;
+		if (installation < count)
+			installations[installation].is_in_table = 1;
+	}
+	fclose(information);
+	return is_listed;
+}
+
+static int is_open(const struct installation *it)
+{
+	return it->was_opened && !it->was_closed;
+}
+
+int is_any_open(void)
+{
+	for (size_t at = first; at < count; at++)
+		if (is_open(&installations[at]))
+			return 1;
+	return 0;
+}
+
+static int is_settled(int ring)
+{
+	read_events();
+	if (!is_any_open())
+		return 1;
+	if (!read_table(ring))
+		return 0;
+	for (size_t at = first; at < count; at++)
+		if (is_open(&installations[at]) && !installations[at].is_in_table)
+			return 0;
+	return 1;
+}
+
+void settle(int ring)
+{
+	for (int turn = 0; turn < TURNS; turn++) {
+		if (is_settled(ring))
+			return;
+		usleep(TURN_MICROSECONDS);
+	}
+	die_of("a file that isn't in the table stays open");
+}
+
+static void write_close(const struct script *script, struct installation *it)
+{
+	const unsigned *n = it->mark.numbers;
+	const char *name = script->files[it->entry].name;
+	if (it->mark.is_registered)
+		printf("closed r%u.%u %s\n", n[0], n[1], name);
+	else
+		printf("closed %u.%u.%u.%u %s\n", n[0], n[1], n[2], n[3], name);
+}
+
+static void finish(size_t installation)
+{
+	char name[NAME_BYTES];
+	struct installation *it = &installations[installation];
+	name_of_link(installation, name);
+	if (it->entry >= 0)
+		unlinkat(links, name, 0);
+	it->is_finished = 1;
+}
+
+void write_closes(const struct script *script)
+{
+	for (int is_registered = 1; is_registered >= 0; is_registered--) {
+		for (size_t at = first; at < count; at++) {
+			struct installation *it = &installations[at];
+			if (it->is_finished || is_open(it) || it->mark.is_registered != is_registered)
+				continue;
+			if (it->was_closed && it->is_installed)
+				write_close(script, it);
+			finish(at);
+		}
+	}
+	while (first < count && installations[first].is_finished)
+		first++;
+}

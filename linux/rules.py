@@ -1,0 +1,69 @@
+"""Where Linux answers otherwise: the model with the differences that docs/LINUX.md lists, each under its name."""
+import resource
+
+from model import EAGAIN, EBADF, EINVAL, SLOTS, Player, registered, submitted
+
+# what a kernel allows, beside the hard limit of open files
+SLOTS_OF_LINUX = 1 << 20
+
+
+class Linux(Player):
+    """The model with those differences that are in `shown`. `met` has the ones that a play met; each of them shows in
+    the text, whatever the order of chains."""
+
+    def __init__(self, files, shown):
+        super().__init__(files)
+        self.shown, self.met = shown, frozenset()
+
+    def meets(self, name):
+        if name not in self.shown:
+            return False
+        self.met |= {name}
+        return True
+
+    def refusal_of_table(self, count):
+        refusal = super().refusal_of_table(count)
+        largest = min(SLOTS_OF_LINUX, resource.getrlimit(resource.RLIMIT_NOFILE)[1])
+        if self.slots and count == 0 and self.meets("sparse_of_nothing_on_a_table"):
+            return -EINVAL
+        if not self.slots and SLOTS < count <= largest and self.meets("larger_table"):
+            return 0
+        return refusal
+
+    def has_counted_all(self):
+        return super().has_counted_all() and not self.meets("too_many_registrations")
+
+    def refusal_of_submission(self, requests):
+        refusal = super().refusal_of_submission(requests)
+        return refusal if refusal and not self.meets(refusal.split(" ")[0].replace("-", "_")) else None
+
+    def open(self, place, file, slot):
+        res = super().open(place, file, slot)
+        if res < 0 and file in self.names and self.meets("refused_open_opens_its_file"):
+            self.closed.append((submitted(place, 0), self.names.index(file)))
+        return res
+
+    def stops_at_a_bad_entry(self, off, listed):
+        return self.refusal_of_list(off, listed) == -EBADF and self.meets("update_up_to_a_bad_entry")
+
+    def up_to_a_bad_entry(self, off, listed, mark_of):
+        """That entry's slot is emptied too."""
+        at = next(nth for nth, it in enumerate(listed) if it < -2 or it >= len(self.names))
+        self.work_off(off, listed[:at], mark_of)
+        self.put(off + at, None)
+        return at or -EBADF
+
+    def regupdate(self, off, listed):
+        if not self.stops_at_a_bad_entry(off, listed):
+            return super().regupdate(off, listed)
+        if self.has_counted_all():
+            return -EAGAIN
+        call = self.registrations + 1
+        res = self.up_to_a_bad_entry(off, listed, lambda nth: registered(call, nth))
+        self.registrations += res > 0
+        return res
+
+    def update(self, place, off, listed, first=0):
+        if not self.stops_at_a_bad_entry(off, listed):
+            return super().update(place, off, listed, first)
+        return self.up_to_a_bad_entry(off, listed, lambda nth: submitted(place, nth))

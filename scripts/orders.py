@@ -1,0 +1,156 @@
+"""Which texts a model allows for a script.
+
+Chains of a submission run beside each other, and an open at any slot may take any free one. So a script can have many
+texts. `ending_of` looks for an order of steps in which a model writes a given text. A request is one step; with `splits`
+each entry of an update is a step of its own, so that requests of other chains may come between two.
+"""
+import re
+
+from model import Player, chains_of, completion_line, severs
+
+# so many states are looked at before a search is given up
+LARGEST_SEARCH = 200_000
+
+
+class TooManyOrders(Exception):
+    """The search was given up."""
+
+
+def completion_of(line, place):
+    """The result and the bytes that a line gives for a place, or None."""
+    found = re.fullmatch(r"([0-9.]+) (-?[0-9]+)(?: ((?:[0-9a-f]{2})+))?", line)
+    if not found or found[1] != "{}.{}.{}".format(*place):
+        return None
+    res, got = int(found[2]), bytes.fromhex(found[3] or "")
+    return (res, got) if completion_line(place, res, got) == line else None
+
+
+def pieces_of(request, res):
+    """A request as one step or several, each with the result that it must have."""
+    kind, *words = request
+    if kind != "update" or res != len(words[1]):
+        return [(request, res)]
+    return [(("update", words[0] + nth, [it], nth), 1) for nth, it in enumerate(words[1])]
+
+
+def steps_of_chain(chain, places, lines, splits):
+    """The steps of the members that were started, or None where the lines aren't those of a chain: a place, a request,
+    its result and its bytes."""
+    steps, is_severed = [], False
+    for request, place, line in zip(chain, places, lines):
+        completion = completion_of(line, place)
+        if completion is None or is_severed and completion != (-125, b""):
+            return None
+        if not is_severed:
+            res, got = completion
+            pieces = pieces_of(request, res) if splits else [(request, res)]
+            steps += [(place, piece, res, got) for piece, res in pieces]
+            is_severed = severs(request, res)
+    return steps
+
+
+def steps_of(requests, submission, lines, splits):
+    """The steps of each chain, or None."""
+    chains, at = [], 0
+    for nth, chain in enumerate(chains_of(requests), 1):
+        places = [(submission, nth, member) for member in range(1, len(chain) + 1)]
+        steps = steps_of_chain(chain, places, lines[at : at + len(chain)], splits)
+        if steps is None:
+            return None
+        chains.append(steps)
+        at += len(chain)
+    return chains if at == len(lines) else None
+
+
+def state_of(player):
+    return tuple(player.slots), player.range, player.submissions, player.registrations
+
+
+class Search:
+    """A search for the orders in which a model writes the lines of a text."""
+
+    def __init__(self, lines, splits):
+        self.lines, self.splits, self.looked_at = lines, splits, 0
+
+    def spend(self):
+        self.looked_at += 1
+        if self.looked_at > LARGEST_SEARCH:
+            raise TooManyOrders
+
+    def moves(self, player, chains, at):
+        """The players and places after one step of each chain. A chain that has done less comes first."""
+        for nth in sorted(range(len(chains)), key=lambda nth: at[nth]):
+            if at[nth] < len(chains[nth]):
+                place, request, res, got = chains[nth][at[nth]]
+                after = player.copy()
+                after.wanted = res
+                if after.perform(place, request) == (res, got):
+                    yield after, (*at[:nth], at[nth] + 1, *at[nth + 1 :])
+
+    def ends(self, player, chains):
+        """Every player that is left when the chains have made their steps."""
+        seen, goal = set(), tuple(map(len, chains))
+        stack = [iter([(player, (0,) * len(chains))])]
+        while stack:
+            found = next(stack[-1], None)
+            if found is None:
+                stack.pop()
+                continue
+            after, at = found
+            if (state_of(after), at) in seen:
+                continue
+            seen.add((state_of(after), at))
+            self.spend()
+            if at == goal:
+                yield after
+            else:
+                stack.append(self.moves(after, chains, at))
+
+    def after_submission(self, player, requests, begin):
+        end = begin + len(requests)
+        chains = steps_of(requests, player.submissions + 1, self.lines[begin:end], self.splits)
+        if chains is None:
+            return
+        begun = player.copy()
+        begun.submissions += 1
+        for after in self.ends(begun, chains):
+            closes = after.closed_lines()
+            if self.lines[end : end + len(closes)] == closes:
+                yield after, end + len(closes)
+
+    def after(self, player, command, begin):
+        """The players after a command that begins to write at that line, and where the next one begins."""
+        before = player.copy()
+        if command[0] == "submit" and not before.refusal_of_submission(command[1]):
+            yield from self.after_submission(before, command[1], begin)
+            return
+        lines = before.command(*command)
+        if self.lines[begin : begin + len(lines)] == lines:
+            yield before, begin + len(lines)
+
+    def ending(self, player, commands):
+        seen, stack = set(), [iter([(player, 0)])]
+        while stack:
+            found = next(stack[-1], None)
+            if found is None:
+                stack.pop()
+                continue
+            after, at = found
+            if (len(stack), at, state_of(after)) in seen:
+                continue
+            seen.add((len(stack), at, state_of(after)))
+            if len(stack) <= len(commands):
+                stack.append(self.after(after, commands[len(stack) - 1], at))
+            elif after.end() == self.lines[at:]:
+                return after
+        return None
+
+
+def ending_of(script, text, make=Player, splits=False):
+    """The player at the end of a play of the script that writes the text, or None where no order gives it."""
+    player = make(script.files)
+    if player.play(script.commands) == text:
+        return player
+    if text and not text.endswith("\n"):
+        return None
+    return Search(text.split("\n")[:-1], splits).ending(make(script.files), script.commands)
