@@ -7,14 +7,15 @@ use Rattle.fx_plain.specs.Contents.{state_of}
 use Rattle.fx_plain.specs.History.{IsLegal, part_of_chain, action_of, closes_in}
 use Rattle.fx_plain.specs.declared.event.Event.{Event}
 use Rattle.fx_table.specs.Numbers.{numbers_for}
-use Rattle.fx_chain.specs.Completed.{Completed}
-use Rattle.fx_chain.specs.Explains.{Explains, first_member, operations_in}
+use Rattle.fx_chain.specs.Completed.{Completed, all_completed}
+use Rattle.fx_chain.specs.Explains.{Explains, first_member}
 use Rattle.fx_chain.specs.Faults.{fault_of}
 use Rattle.fx_chain.specs.Operation.{Asked}
 use Rattle.fx_chain.specs.Runs.{runs_of}
 use Rattle.fx_chain.specs.declared.fault.CutFault.{CutFault}
 use Rattle.fx_ring.specs.Ring.{RingContents, RingState, HasClosed, ring_of, with_table}
 use Rattle.fx_ring.specs.declared.ring.TheConstants.{MOST_SUBMISSIONS}
+use Rattle.fx_ring.specs.declared.report.Report.{Report}
 use Rattle.fx_ring.specs.declared.report.SubmitFault.{SubmitFault}
 use Rattle.fx_ring.specs.declared.report.SubmitFault.TheVariants.{Workers, Cut, TooMany}
 
@@ -35,7 +36,7 @@ abbrev pub ExplainsParts : List FileEntry → ℕ → ℕ → ℕ → List (List
 ExplainsParts catalogue size submission chain [] history completions = completions ≡ []
 ExplainsParts catalogue size submission chain (run ∷ runs) history completions =
     (own : List Completed) × (others : List Completed) × (completions ≡ own ++ others)
-    × Explains catalogue size (first_member submission chain) (operations_in run) (map action_of (part_of_chain chain history)) own
+    × Explains catalogue size (first_member submission chain) run (map action_of (part_of_chain chain history)) own
     × ExplainsParts catalogue size submission (chain + 1) runs history others
 
 -- what a report says
@@ -43,6 +44,9 @@ pub record Reported : Type 0 where
   pub submission : ℕ
   pub completions : List Completed
   pub closes : CloseListView
+
+abbrev pub reported : Report → Reported
+reported report = record { submission = report.submission; completions = all_completed report.completions.items; closes = report.closes }
 
 -- A submission leads from one ring to another by one history of its table
 pub record IsOneHistory (old : RingContents) (requests : List Asked) (report : Reported) (new : RingContents) : Type 0 where

@@ -7,6 +7,8 @@ mod registration;
 mod report;
 mod ring;
 mod slots;
+#[cfg(test)]
+mod tests;
 
 pub use report::{Report, SubmitFault};
 pub use ring::{MOST_REGISTRATIONS, MOST_SUBMISSIONS, Ring};

@@ -10,6 +10,7 @@ ghost use Rattle.fx_plain.specs.Step.{changed_at};
 
 use crate::slots::{clear_slot, fill_slot};
 use fx_base::{Catalogue, CloseList, Mark};
+use fx_chain::is_bad_entry;
 use fx_plain::PlainTable;
 
 // Whether a number is neither an empty slot nor an entry of the catalogue.
@@ -27,16 +28,6 @@ pub(crate) fn has_bad_file(entries: u32, list: &[i32]) -> bool
     ensures { result ≡ list_any (is_bad_file entries) list.now }
 {
     list.iter().any(|number| is_bad_file(entries, *number))
-}
-
-// Whether a number is below -2 or past the catalogue.
-fn is_bad_entry(entries: u32, number: i32) -> bool
-    ensures { result ≡ is_bad_entry entries number }
-{
-    if number < 0 {
-        return number < -2;
-    }
-    number as u32 >= entries
 }
 
 /// Whether a list has a number that is below -2 or past the catalogue.
