@@ -44,12 +44,14 @@ module _ {id : TableId} {k : Start} {u : PassView} {p : BatonPass} where
   may_lend {c} {d} h = (h.table, (d, h.slots ∙ ap (λ l. (0, d) ∷ l) (sym (ap rest h.slots))))
 
   -- the table that was lent is the one that was taken
-  pub lent_as : HasTable id k u (table_of_slots p.seat.me.1) (table_of_slots p.seat.me.1) p → (now : Contents) → p.seat.me.1 ≡ (0, now) ∷ rest p.seat.me.1
+  pub lent_as : HasTable id k u (table_of_slots p.seat.me.1) (table_of_slots p.seat.me.1) p → (now : Contents)
+      → p.seat.me.1 ≡ (0, now) ∷ rest p.seat.me.1
       → HasTable id k u now now p
   lent_as h now value = subst (λ (c : Contents). HasTable id k u c c p) (ap table_of_slots value) h
 
   -- behind a call the pass has another table
-  abbrev pub still_has : {c d : Contents} → HasTable id k u c d p → (now : Contents) → HasTable id k u c now (record p { seat = seat_with p.seat 0 now })
+  abbrev pub still_has : {c d : Contents} → HasTable id k u c d p → (now : Contents)
+      → HasTable id k u c now (record p { seat = seat_with p.seat 0 now })
   still_has h now = record {
     table = h.table;
     slots = ap (λ l. (0, now) ∷ rest l) h.slots;
@@ -145,7 +147,8 @@ module _ {id : TableId} {k : Start} {u : PassView} {c : Contents} {p : BatonPass
         h.knows.fresh number its_own.1 behind_own (omega arith) owned
 
   -- a turn, by the pass's number
-  called : (d : Contents) (call : Call) (flag : Bool) → IsTable d → IsTurn view log c d (events_of c log.number p.chain view.doing call) (doing_of c call) → UsesNext (view_of p) call
+  called : (d : Contents) (call : Call) (flag : Bool) → IsTable d
+      → IsTurn view log c d (events_of c log.number p.chain view.doing call) (doing_of c call) → UsesNext (view_of p) call
       → (use_of call).numbers ≤ p.numbers_left → (use_of call).looks ≤ p.looks_left → flag ≡ is_idle (doing_of c call)
       → HasCalled id k call flag (record p { seat = seat_with p.seat 0 d })
   called d call flag sound turn uses numbers looks flag_says = record {
@@ -170,29 +173,36 @@ module _ {id : TableId} {k : Start} {u : PassView} {c : Contents} {p : BatonPass
         → found ≡ option_map shown ((state_of c).at slot) → flag ≡ is_none found
         → IsTable d → HasCalled id k (LookCall slot) flag (record p { seat = seat_with p.seat 0 d })
     look_called slot d found flag some step leaves answer says sound = called d (LookCall slot) flag sound
-        (look_turn view log c d p.chain h.knows is_idle_here slot ((state_of c).at slot) step leaves) tt (omega arith) (let e = same_looks in omega arith)
+        (look_turn view log c d p.chain h.knows is_idle_here slot ((state_of c).at slot) step leaves) tt (omega arith)
+        (let e = same_looks in omega arith)
         (says ∙ look_idle ((state_of c).at slot) found answer)
 
-    pub put_called : (some : 0 < u.numbers_left) (slot number : ℕ) (file : Closed) (d : Contents) (found : Option ℕ) (flag : Bool) → number ≡ next_number u
-        → Steps (state_of c) (Put slot (numbered number file) ((state_of c).at slot)) (state_of d) → leaving d ≡ more_leaving (leaving c) ((state_of c).at slot)
-        → found ≡ number_of ((state_of c).at slot) → flag ≡ is_none found → IsTable d → HasCalled id k (PutCall slot number file) flag (record p { seat = seat_with p.seat 0 d })
+    pub put_called : (some : 0 < u.numbers_left) (slot number : ℕ) (file : Closed) (d : Contents) (found : Option ℕ) (flag : Bool)
+        → number ≡ next_number u
+        → Steps (state_of c) (Put slot (numbered number file) ((state_of c).at slot)) (state_of d) → leaving d ≡ more_leaving (leaving c)
+        ((state_of c).at slot)
+        → found ≡ number_of ((state_of c).at slot) → flag ≡ is_none found → IsTable d → HasCalled id k (PutCall slot number file) flag
+        (record p { seat = seat_with p.seat 0 d })
     put_called some slot number file d found flag next step leaves answer says sound = called d (PutCall slot number file) flag sound
         (put_turn view log c d p.chain h.knows is_idle_here slot (numbered number file) ((state_of c).at slot) step leaves
-          (owned some number next) (behind_own some number next))
+        (owned some number next) (behind_own some number next))
         (number_is some number next) (let e = same_numbers in omega arith) (omega arith) (says ∙ removal_idle ((state_of c).at slot) found answer)
 
     pub allocate_called : (some : 0 < u.numbers_left) (slot number : ℕ) (file : Closed) (d : Contents) → number ≡ next_number u
         → Steps (state_of c) (Allocate slot (numbered number file)) (state_of d) → leaving d ≡ leaving c
         → IsTable d → HasCalled id k (AllocateCall slot number file) true (record p { seat = seat_with p.seat 0 d })
     allocate_called some slot number file d next step leaves sound = called d (AllocateCall slot number file) true sound
-        (allocate_turn view log c d p.chain h.knows is_idle_here slot (numbered number file) step leaves (owned some number next) (behind_own some number next))
+        (allocate_turn view log c d p.chain h.knows is_idle_here slot (numbered number file) step leaves
+        (owned some number next) (behind_own some number next))
         (number_is some number next) (let e = same_numbers in omega arith) (omega arith) refl
 
-    pub full_called : (d : Contents) → Allows (state_of c) Full → d ≡ c → IsTable d → HasCalled id k FullCall true (record p { seat = seat_with p.seat 0 d })
+    pub full_called : (d : Contents) → Allows (state_of c) Full → d ≡ c → IsTable d
+        → HasCalled id k FullCall true (record p { seat = seat_with p.seat 0 d })
     full_called d full same sound = called d FullCall true sound
         (full_turn view log c d p.chain h.knows is_idle_here (full, ap state_of same) (ap leaving same)) tt (omega arith) (omega arith) refl
 
-    pub clear_called : (slot : ℕ) (d : Contents) (found : Option ℕ) (flag : Bool) → Steps (state_of c) (Clear slot ((state_of c).at slot)) (state_of d)
+    pub clear_called : (slot : ℕ) (d : Contents) (found : Option ℕ) (flag : Bool)
+        → Steps (state_of c) (Clear slot ((state_of c).at slot)) (state_of d)
         → leaving d ≡ more_leaving (leaving c) ((state_of c).at slot) → found ≡ number_of ((state_of c).at slot) → flag ≡ is_none found
         → IsTable d → HasCalled id k (ClearCall slot) flag (record p { seat = seat_with p.seat 0 d })
     clear_called slot d found flag step leaves answer says sound = called d (ClearCall slot) flag sound
@@ -213,24 +223,28 @@ module _ {id : TableId} {k : Start} {u : PassView} {c : Contents} {p : BatonPass
     pub holds_some : 0 < (state_of c).holds f.number
     holds_some = let a = h.knows.holds f.number in let b = ap (holds_by f.number) holds_here in let r = one_if f.number f.number refl in omega arith
 
-    pub release_called : (d : Contents) → Leads (state_of c) ([] ▷ Release f ▷▷ close_of (closed_by_release c f.number)) (state_of d) → leaving d ≡ leaving c
+    pub release_called : (d : Contents) → Leads (state_of c) ([] ▷ Release f ▷▷ close_of (closed_by_release c f.number)) (state_of d)
+        → leaving d ≡ leaving c
         → IsTable d → HasCalled id k ReleaseCall true (record p { seat = seat_with p.seat 0 d })
     release_called d leads leaves sound = called d ReleaseCall true sound
         (subst (λ (z : Doing). IsTurn view log c d (events_of c log.number p.chain z ReleaseCall) Idle) (sym holds_here)
-          (letting_go_turn view log c d p.chain h.knows f holds_here leads leaves)) tt (omega arith) (omega arith) refl
+        (letting_go_turn view log c d p.chain h.knows f holds_here leads leaves)) tt (omega arith) (omega arith) refl
 
     -- what a release answers
     pub releases_so : (o : Opening) (w : PassView) (result : Option Closed) → result ≡ identity_of (closed_by_release c f.number)
         → Adds o u (actions_of c view.doing ReleaseCall) Idle no_use w → Releases o u f result w
-    releases_so o w result is adds = by_out (closed_by_release c f.number) refl result is (subst (λ (z : Doing). Adds o u (release_in c z) Idle no_use w) holds_here adds)
+    releases_so o w result is adds =
+        by_out (closed_by_release c f.number) refl result is (subst (λ (z : Doing). Adds o u (release_in c z) Idle no_use w) holds_here adds)
       where
         by_out : (out : Option File) → closed_by_release c f.number ≡ out → (result : Option Closed) → result ≡ identity_of out
             → Adds o u ([] ▷ Release f ▷▷ close_of out) Idle no_use w → Releases o u f result w
         by_out None e r is a = subst (λ (z : Option Closed). Releases o u f z w) (sym is) a
         by_out (Some g) e r is a =
             let same = (file_released view log c c p.chain h.knows f holds_here g e).0 in
-            subst (λ (z : Option Closed). Releases o u f z w) (sym is) (ap (λ (z : File). z.identity) (sym same),
-              subst (λ (z : File). Adds o u ([] ▷ Release f ▷ Close z) Idle no_use w) (sym same) a)
+            subst (λ (z : Option Closed). Releases o u f z w) (sym is) (
+              ap (λ (z : File). z.identity) (sym same),
+              subst (λ (z : File). Adds o u ([] ▷ Release f ▷ Close z) Idle no_use w) (sym same) a,
+            )
 
   module _ (f : File) (takes : ℕ) (removes : u.doing ≡ Retiring f takes) where
     removes_here : view.doing ≡ Retiring f takes
@@ -239,11 +253,12 @@ module _ {id : TableId} {k : Start} {u : PassView} {c : Contents} {p : BatonPass
     pub leaves_now : leaving c f.number ≡ true
     leaves_now = is_leaving view log c c p.chain h.knows f takes removes_here
 
-    pub retire_called : (d : Contents) → Leads (state_of c) (close_of (closed_by_retirement c f.number)) (state_of d) → leaving d ≡ changed_at (leaving c) f.number false
+    pub retire_called : (d : Contents) → Leads (state_of c) (close_of (closed_by_retirement c f.number)) (state_of d)
+        → leaving d ≡ changed_at (leaving c) f.number false
         → IsTable d → HasCalled id k RetireCall true (record p { seat = seat_with p.seat 0 d })
     retire_called d leads leaves sound = called d RetireCall true sound
         (subst (λ (z : Doing). IsTurn view log c d (events_of c log.number p.chain z RetireCall) Idle) (sym removes_here)
-          (retire_turn view log c d p.chain h.knows f takes removes_here leads leaves)) tt (omega arith) (omega arith) refl
+        (retire_turn view log c d p.chain h.knows f takes removes_here leads leaves)) tt (omega arith) (omega arith) refl
 
     -- what a retirement answers
     pub retires_so : (d : Contents) (o : Opening) (w : PassView) (result : Option Closed) → result ≡ identity_of (closed_by_retirement c f.number)
@@ -260,27 +275,33 @@ module _ {id : TableId} {k : Start} {u : PassView} {c : Contents} {p : BatonPass
             subst (λ (z : Option Closed). Retires o u f z w) (sym is) (omega arith, a)
         by_out (Some g) e r is l a =
             let same = file_retired view log c c p.chain h.knows f takes removes_here g e in
-            subst (λ (z : Option Closed). Retires o u f z w) (sym is) (ap (λ (z : File). z.identity) (sym same),
-              subst (λ (z : File). Adds o u ([] ▷ Close z) Idle no_use w) (sym same) a)
+            subst (λ (z : Option Closed). Retires o u f z w) (sym is) (
+              ap (λ (z : File). z.identity) (sym same),
+              subst (λ (z : File). Adds o u ([] ▷ Close z) Idle no_use w) (sym same) a,
+            )
 
 -- what a look-up found: nothing, or a file
 pub looked_empty : (slot : ℕ) (o : Option File) (P : Option File → Doing → Type 0) → None ≡ option_map shown o → P o (holds_now o) → P None Idle
 looked_empty slot None P e a = a
 looked_empty slot (Some f) P e a = let no : None ≡ Some (shown f) = e in absurd (cc no)
 
-pub looked_file : (slot node entry : ℕ) (o : Option File) (P : Option File → Doing → Type 0) → Some (node, entry) ≡ option_map shown o → P o (holds_now o)
+pub looked_file : (slot node entry : ℕ) (o : Option File) (P : Option File → Doing → Type 0) → Some (node, entry) ≡ option_map shown o
+    → P o (holds_now o)
     → (f : File) × (record { node = node; entry = entry } ≡ hold_of f) × P (Some f) (Holding f)
 looked_file slot node entry None P e a = let no : Some (node, entry) ≡ None = e in absurd (cc no)
 looked_file slot node entry (Some f) P e a =
-    let both : ◌≡◌ {A = ℕ × ℕ} (node, entry) (f.number, f.identity.entry) = let z : Some (node, entry) ≡ Some (f.number, f.identity.entry) = e in cc z in
+    let both : ◌≡◌ {A = ℕ × ℕ} (node, entry) (f.number, f.identity.entry) = let z : Some (node, entry) ≡ Some (f.number, f.identity.entry) = e in
+    cc z in
     (f, (λ i. record { node = (both i).0; entry = (both i).1 }), a)
 
 -- what a removal found: nothing, or a file that is to be retired
-pub removed_none : (o : Option File) (P : Option File → Doing → Type 0) → None ≡ option_map (λ f. retired_of f 0) o → P o (retires_now o) → P None Idle
+pub removed_none : (o : Option File) (P : Option File → Doing → Type 0) → None ≡ option_map (λ f. retired_of f 0) o → P o (retires_now o)
+    → P None Idle
 removed_none None P e a = a
 removed_none (Some f) P e a = let no : None ≡ Some (retired_of f 0) = e in absurd (cc no)
 
-pub removed_some : (x : Retired) (o : Option File) (P : Option File → Doing → Type 0) → Some x ≡ option_map (λ f. retired_of f 0) o → P o (retires_now o)
+pub removed_some : (x : Retired) (o : Option File) (P : Option File → Doing → Type 0) → Some x ≡ option_map (λ f. retired_of f 0) o
+    → P o (retires_now o)
     → (f : File) × (x ≡ retired_of f x.takes) × P (Some f) (Retiring f x.takes)
 removed_some x None P e a = let no : None ≡ Some x = sym e in absurd (cc no)
 removed_some x (Some f) P e a =
@@ -288,12 +309,14 @@ removed_some x (Some f) P e a =
     let none_told : x.takes ≡ 0 = ap (λ (r : Retired). r.takes) is in
     (f, is ∙ ap (retired_of f) (sym none_told), subst (λ (t : ℕ). P (Some f) (Retiring f t)) (sym none_told) a)
 
-pub placed_so : (o : Opening) (u w : PassView) (slot : ℕ) (file : Closed) (found : Option File) (result : Option Retired) → result ≡ option_map (λ f. retired_of f 0) found
+pub placed_so : (o : Opening) (u w : PassView) (slot : ℕ) (file : Closed) (found : Option File) (result : Option Retired)
+    → result ≡ option_map (λ f. retired_of f 0) found
     → Adds o u ([] ▷ Put slot (new_file u file) found) (retires_now found) one_number w → Placed o u slot file result w
 placed_so o u w slot file found None e a = removed_none found (λ z doing. Adds o u ([] ▷ Put slot (new_file u file) z) doing one_number w) e a
 placed_so o u w slot file found (Some x) e a = removed_some x found (λ z doing. Adds o u ([] ▷ Put slot (new_file u file) z) doing one_number w) e a
 
-pub cleared_so : (o : Opening) (u w : PassView) (slot : ℕ) (found : Option File) (result : Option Retired) → result ≡ option_map (λ f. retired_of f 0) found
+pub cleared_so : (o : Opening) (u w : PassView) (slot : ℕ) (found : Option File) (result : Option Retired)
+    → result ≡ option_map (λ f. retired_of f 0) found
     → Adds o u ([] ▷ Clear slot found) (retires_now found) no_use w → Cleared o u slot result w
 cleared_so o u w slot found None e a = removed_none found (λ z doing. Adds o u ([] ▷ Clear slot z) doing no_use w) e a
 cleared_so o u w slot found (Some x) e a = removed_some x found (λ z doing. Adds o u ([] ▷ Clear slot z) doing no_use w) e a

@@ -112,7 +112,8 @@ module _ (v : View) (x : Log) (c d : Contents) (chain : ℕ) (known : Knows v x 
           let a : (state_of d).holds n ≡ changed_at (state_of c).holds g.number more n = ap (λ (s : State). s.holds n) step.1 in
           let b = ap (holds_by n) idle in
           dite (ℕ_discrete n g.number)
-          (λ e. let p = changed_here (state_of c).holds g.number more n e in let q = ap (state_of c).holds e in let r = one_if g.number n (sym e) in omega arith)
+          (λ e. let p = changed_here (state_of c).holds g.number more n e in let q = ap (state_of c).holds e in
+          let r = one_if g.number n (sym e) in omega arith)
           (λ e. let p = changed_else (state_of c).holds g.number more n e in let r = none_if g.number n (λ i. e (sym i)) in omega arith);
       leaves = λ n. let e = leaves_same n leaves in let b = ap (removals_by n) idle in omega arith;
       files = λ f i _. subst (λ (s : State). HasFile s f) (sym step.1) i;
@@ -133,12 +134,13 @@ module _ (v : View) (x : Log) (c d : Contents) (chain : ℕ) (known : Knows v x 
         let before : leaving_count c f.number ≡ 0 = ap (λ (z : Bool). cond {A = ℕ} z 1 0) (stays_put c known.sound slot f (sym is)) in
         dite (ℕ_discrete n f.number)
         (λ e.
-          let p : one (changed_at (leaving c) f.number true) ≡ 1 = ap (λ (z : Bool). cond {A = ℕ} z 1 0) (changed_here (leaving c) f.number true n e) in
-          let q = ap (leaving_count c) e in let r = one_if f.number n (sym e) in omega arith)
+        let p : one (changed_at (leaving c) f.number true) ≡ 1 = ap (λ (z : Bool). cond {A = ℕ} z 1 0)
+        (changed_here (leaving c) f.number true n e) in
+        let q = ap (leaving_count c) e in let r = one_if f.number n (sym e) in omega arith)
         (λ e.
-          let p : one (changed_at (leaving c) f.number true) ≡ leaving_count c n =
-            ap (λ (z : Bool). cond {A = ℕ} z 1 0) (changed_else (leaving c) f.number true n e) in
-          let r = none_if f.number n (λ i. e (sym i)) in omega arith)
+        let p : one (changed_at (leaving c) f.number true) ≡ leaving_count c n =
+        ap (λ (z : Bool). cond {A = ℕ} z 1 0) (changed_else (leaving c) f.number true n e) in
+        let r = none_if f.number n (λ i. e (sym i)) in omega arith)
 
     -- A slot gets another file, or none, and what stood there is removed
     module _ (a : Action) (slot : ℕ) (new found : Option File) (step : Steps (state_of c) a (state_of d)) (is : found ≡ (state_of c).at slot)
@@ -162,8 +164,10 @@ module _ (v : View) (x : Log) (c d : Contents) (chain : ℕ) (known : Knows v x 
         others = others;
       }
 
-    pub put_turn : (slot : ℕ) (g : File) (found : Option File) → Steps (state_of c) (Put slot g found) (state_of d) → leaving d ≡ more_leaving (leaving c) found
-        → pass_of_number v.start.passes g.number ≡ x.number → number_behind x.own ≤ g.number → IsTurn v x c d (done ([] ▷ Put slot g found)) (retires_now found)
+    pub put_turn : (slot : ℕ) (g : File) (found : Option File) → Steps (state_of c) (Put slot g found) (state_of d)
+        → leaving d ≡ more_leaving (leaving c) found
+        → pass_of_number v.start.passes g.number ≡ x.number → number_behind x.own ≤ g.number → IsTurn v x c d (done ([] ▷ Put slot g found))
+        (retires_now found)
     put_turn slot g found step leaves mine next =
         let fresh = ap (λ (s : State). s.fresh) step.1 in
         slot_turn (Put slot g found) slot (Some g) found step step.0.2 (ap (λ (s : State). s.at) step.1) (ap (λ (s : State). s.removed) step.1)
@@ -178,7 +182,8 @@ module _ (v : View) (x : Log) (c d : Contents) (chain : ℕ) (known : Knows v x 
         (ap (λ (s : State). s.holds) step.1) leaves tt (held_mine x.number chain (Allocate slot g) x.front)
         (fresh_behind g fresh mine next (x.own ▷▷ done ([] ▷ Allocate slot g)) refl) (others_fresh_still g fresh mine next)
 
-    pub clear_turn : (slot : ℕ) (found : Option File) → Steps (state_of c) (Clear slot found) (state_of d) → leaving d ≡ more_leaving (leaving c) found
+    pub clear_turn : (slot : ℕ) (found : Option File) → Steps (state_of c) (Clear slot found) (state_of d)
+        → leaving d ≡ more_leaving (leaving c) found
         → IsTurn v x c d (done ([] ▷ Clear slot found)) (retires_now found)
     clear_turn slot found step leaves =
         let fresh = ap (λ (s : State). s.fresh) step.1 in
@@ -209,7 +214,8 @@ module _ (v : View) (x : Log) (c d : Contents) (chain : ℕ) (known : Knows v x 
         let less : ℕ = (state_of c).holds f.number - 1 in
         let b : holds_by n v.doing ≡ cond {A = ℕ} (eqb f.number n) 1 0 = ap (holds_by n) holds in
         dite (ℕ_discrete n f.number)
-        (λ e. let p = changed_here (state_of c).holds f.number less n e in let q = ap (state_of c).holds e in let r = one_if f.number n (sym e) in omega arith)
+        (λ e. let p = changed_here (state_of c).holds f.number less n e in let q = ap (state_of c).holds e in
+        let r = one_if f.number n (sym e) in omega arith)
         (λ e. let p = changed_else (state_of c).holds f.number less n e in let r = none_if f.number n (λ i. e (sym i)) in omega arith)
 
     none_leaves : leaving d ≡ leaving c → (n : ℕ) → leaving_count d n + removals_by n v.doing ≡ leaving_count c n + removals_by n Idle
@@ -238,13 +244,14 @@ module _ (v : View) (x : Log) (c d : Contents) (chain : ℕ) (known : Knows v x 
       leaves = none_leaves leaves;
       files = λ g i stays. dite (ℕ_discrete g.number f.number)
           (λ e. absurd (⊎_elim
-            (λ (some_holds : 0 < (state_of d).holds g.number).
-              let less : ℕ = (state_of c).holds f.number - 1 in
-              let a : (state_of d).holds f.number ≡ changed_at (state_of c).holds f.number less f.number = ap (λ (s : State). s.holds f.number) leads.1 in
-              let b : changed_at (state_of c).holds f.number less f.number ≡ 0 = leads.0.1.1 in
-              let q = ap (state_of d).holds e in omega (arith, a, b, q, some_holds))
-            (λ still. true_not_false (sym still ∙ (ap (λ (z : ℕ → Bool). z g.number) leaves ∙ (ap (leaving c) e ∙ retired))))
-            stays))
+          (λ (some_holds : 0 < (state_of d).holds g.number).
+          let less : ℕ = (state_of c).holds f.number - 1 in
+          let a : (state_of d).holds f.number ≡ changed_at (state_of c).holds f.number less f.number = ap
+          (λ (s : State). s.holds f.number) leads.1 in
+          let b : changed_at (state_of c).holds f.number less f.number ≡ 0 = leads.0.1.1 in
+          let q = ap (state_of d).holds e in omega (arith, a, b, q, some_holds))
+          (λ still. true_not_false (sym still ∙ (ap (λ (z : ℕ → Bool). z g.number) leaves ∙ (ap (leaving c) e ∙ retired))))
+          stays))
           (λ other. subst (λ (s : State). HasFile s g) (sym leads.1) (not_closed (state_of c) f g other i));
       now = held_mine x.number chain (Close f) (x.front ▷▷ done ([] ▷ Release f)) ∙ held_mine x.number chain (Release f) x.front;
       file = λ g e. absurd (none_file g e);
@@ -256,13 +263,16 @@ module _ (v : View) (x : Log) (c d : Contents) (chain : ℕ) (known : Knows v x 
     pub file_released : (g : File) → closed_by_release c f.number ≡ Some g → (f ≡ g) × (leaving c f.number ≡ false)
     file_released g e = elim (leaving c f.number) as (λ b. leaving c f.number ≡ b
         → (if (state_of c).holds f.number == 1 && not b then (state_of c).removed f.number else None) ≡ Some g → (f ≡ g) × (b ≡ false)) [
-      | true ↦ λ _ h. absurd (elim (eqb ((state_of c).holds f.number) 1)
-          as (λ b. (if b && not true then (state_of c).removed f.number else None) ≡ Some g → ⊥)
-          [ true ↦ λ z. none_file g z | false ↦ λ z. none_file g z ] h)
-      | false ↦ λ _ h. (removed_file c known.sound f g there (elim (eqb ((state_of c).holds f.number) 1)
-          as (λ b. (if b && not false then (state_of c).removed f.number else None) ≡ Some g → (state_of c).removed f.number ≡ Some g)
-          [ true ↦ λ z. z | false ↦ λ z. absurd (none_file g z) ] h), refl)
-    ] refl e
+          | true ↦ λ _ h. absurd (elim (eqb ((state_of c).holds f.number) 1)
+              as (λ b. (if b && not true then (state_of c).removed f.number else None) ≡ Some g → ⊥)
+              [ true ↦ λ z. none_file g z | false ↦ λ z. none_file g z ] h)
+          | false ↦ λ _ h. (
+            removed_file c known.sound f g there (elim (eqb ((state_of c).holds f.number) 1)
+                as (λ b. (if b && not false then (state_of c).removed f.number else None) ≡ Some g → (state_of c).removed f.number ≡ Some g)
+                [ true ↦ λ z. z | false ↦ λ z. absurd (none_file g z) ] h),
+            refl,
+          )
+        ] refl e
 
     pub letting_go_turn : Leads (state_of c) ([] ▷ Release f ▷▷ close_of (closed_by_release c f.number)) (state_of d) → leaving d ≡ leaving c
         → IsTurn v x c d (done ([] ▷ Release f ▷▷ close_of (closed_by_release c f.number))) Idle
@@ -296,14 +306,16 @@ module _ (v : View) (x : Log) (c d : Contents) (chain : ℕ) (known : Knows v x 
         let before : leaving_count c f.number ≡ 1 = ap (λ (z : Bool). cond {A = ℕ} z 1 0) is_leaving in
         dite (ℕ_discrete n f.number)
         (λ e.
-          let p : one (changed_at (leaving c) f.number false) ≡ 0 = ap (λ (z : Bool). cond {A = ℕ} z 1 0) (changed_here (leaving c) f.number false n e) in
-          let q = ap (leaving_count c) e in let r = one_if f.number n (sym e) in omega arith)
+        let p : one (changed_at (leaving c) f.number false) ≡ 0 = ap (λ (z : Bool). cond {A = ℕ} z 1 0)
+        (changed_here (leaving c) f.number false n e) in
+        let q = ap (leaving_count c) e in let r = one_if f.number n (sym e) in omega arith)
         (λ e.
-          let p : one (changed_at (leaving c) f.number false) ≡ leaving_count c n =
-            ap (λ (z : Bool). cond {A = ℕ} z 1 0) (changed_else (leaving c) f.number false n e) in
-          let r = none_if f.number n (λ i. e (sym i)) in omega arith)
+        let p : one (changed_at (leaving c) f.number false) ≡ leaving_count c n =
+        ap (λ (z : Bool). cond {A = ℕ} z 1 0) (changed_else (leaving c) f.number false n e) in
+        let r = none_if f.number n (λ i. e (sym i)) in omega arith)
 
-    same_holds : ((n : ℕ) → (state_of d).holds n ≡ (state_of c).holds n) → (n : ℕ) → (state_of d).holds n + holds_by n v.doing ≡ (state_of c).holds n + holds_by n Idle
+    same_holds : ((n : ℕ) → (state_of d).holds n ≡ (state_of c).holds n) → (n : ℕ)
+        → (state_of d).holds n + holds_by n v.doing ≡ (state_of c).holds n + holds_by n Idle
     same_holds same n = let a = same n in let b = ap (holds_by n) removes in omega arith
 
     wait_turn : Leads (state_of c) [] (state_of d) → leaving d ≡ changed_at (leaving c) f.number false → IsTurn v x c d (done []) Idle
@@ -319,7 +331,8 @@ module _ (v : View) (x : Log) (c d : Contents) (chain : ℕ) (known : Knows v x 
       others = others_fresh (ap (λ (s : State). s.fresh) leads.1);
     }
 
-    out_turn : Leads (state_of c) ([] ▷ Close f) (state_of d) → leaving d ≡ changed_at (leaving c) f.number false → IsTurn v x c d (done ([] ▷ Close f)) Idle
+    out_turn : Leads (state_of c) ([] ▷ Close f) (state_of d) → leaving d ≡ changed_at (leaving c) f.number false
+        → IsTurn v x c d (done ([] ▷ Close f)) Idle
     out_turn leads leaves = record {
       authors = one_author x.number chain ([] ▷ Close f);
       legal = legal_one (Close f) (leads.0.1, leads.1) tt;
@@ -327,12 +340,12 @@ module _ (v : View) (x : Log) (c d : Contents) (chain : ℕ) (known : Knows v x 
       leaves = leaves_less leaves;
       files = λ g i stays. dite (ℕ_discrete g.number f.number)
           (λ e. absurd (⊎_elim
-            (λ (some_holds : 0 < (state_of d).holds g.number).
-              let a : (state_of d).holds f.number ≡ (state_of c).holds f.number = ap (λ (s : State). s.holds f.number) leads.1 in
-              let b : (state_of c).holds f.number ≡ 0 = leads.0.1.1 in
-              let q = ap (state_of d).holds e in omega (arith, a, b, q, some_holds))
-            (λ still. true_not_false (sym still ∙ (ap (λ (z : ℕ → Bool). z g.number) leaves ∙ changed_here (leaving c) f.number false g.number e)))
-            stays))
+          (λ (some_holds : 0 < (state_of d).holds g.number).
+          let a : (state_of d).holds f.number ≡ (state_of c).holds f.number = ap (λ (s : State). s.holds f.number) leads.1 in
+          let b : (state_of c).holds f.number ≡ 0 = leads.0.1.1 in
+          let q = ap (state_of d).holds e in omega (arith, a, b, q, some_holds))
+          (λ still. true_not_false (sym still ∙ (ap (λ (z : ℕ → Bool). z g.number) leaves ∙ changed_here (leaving c) f.number false g.number e)))
+          stays))
           (λ other. subst (λ (s : State). HasFile s g) (sym leads.1) (not_closed (state_of c) f g other i));
       now = held_mine x.number chain (Close f) x.front ∙ held_nothing;
       file = λ g e. absurd (none_file g e);
@@ -350,15 +363,17 @@ module _ (v : View) (x : Log) (c d : Contents) (chain : ℕ) (known : Knows v x 
     pub is_held : closed_by_retirement c f.number ≡ None → 0 < (state_of c).holds f.number
     is_held e = dite (ℕ_discrete ((state_of c).holds f.number) 0)
         (λ none_holds.
-          let b : closed_by_retirement c f.number ≡ (state_of c).removed f.number = rw (eq-eqb ((state_of c).holds f.number) 0 none_holds) in
-          absurd (none_file f (sym e ∙ (b ∙ leaving_file c known.sound f there_still is_leaving))))
+        let b : closed_by_retirement c f.number ≡ (state_of c).removed f.number = rw (eq-eqb ((state_of c).holds f.number) 0 none_holds) in
+        absurd (none_file f (sym e ∙ (b ∙ leaving_file c known.sound f there_still is_leaving))))
         (λ not_zero. omega (arith, not_zero))
 
     pub retire_turn : Leads (state_of c) (close_of (closed_by_retirement c f.number)) (state_of d) → leaving d ≡ changed_at (leaving c) f.number false
         → IsTurn v x c d (done (close_of (closed_by_retirement c f.number))) Idle
     retire_turn leads leaves = by_out (closed_by_retirement c f.number) refl leads
       where
-        by_out : (o : Option File) → closed_by_retirement c f.number ≡ o → Leads (state_of c) (close_of o) (state_of d) → IsTurn v x c d (done (close_of o)) Idle
+        by_out : (o : Option File) → closed_by_retirement c f.number ≡ o → Leads (state_of c) (close_of o) (state_of d)
+            → IsTurn v x c d (done (close_of o)) Idle
         by_out None e l = wait_turn l leaves
         by_out (Some g) e l =
-            subst (λ (z : File). Leads (state_of c) ([] ▷ Close z) (state_of d) → IsTurn v x c d (done ([] ▷ Close z)) Idle) (file_retired g e) (λ m. out_turn m leaves) l
+            subst (λ (z : File). Leads (state_of c) ([] ▷ Close z) (state_of d) → IsTurn v x c d (done ([] ▷ Close z)) Idle) (file_retired g e)
+            (λ m. out_turn m leaves) l

@@ -32,6 +32,7 @@ use Rattle.fx_baton.specs.Rule.{Shared, opening_of, logs_of, new_logs, holds_by,
 use Rattle.fx_baton.specs.Passes.{first_front, first_own, view_of, IsPassOf}
 use Rattle.fx_baton.specs.Lives.{logs_in}
 use Rattle.fx_baton.proofs.Counts.{log_found, logs_more, at_most_one, in_range, one_of}
+use Rattle.fx_baton.proofs.StepsKeepRule.{not_holder}
 use Rattle.fx_baton.proofs.GrabKeepsRule.{only_log}
 use Rattle.fx_baton.proofs.Passing.{ends_there}
 
@@ -68,7 +69,8 @@ module _ (id : TableId) (k : Start) where
       (Contains-append_cases q.seat.me.0.logs (logs_in ps) x h)
 
   -- each pass has one log, with its number
-  logs_by : (q : ℕ) (ps : List BatonPass) → ((p : BatonPass) → Contains ps p → Is p) → logs_of q (logs_in ps) ≡ count_by (λ (p : BatonPass). eqb p.number q) ps
+  logs_by : (q : ℕ) (ps : List BatonPass) → ((p : BatonPass) → Contains ps p → Is p)
+      → logs_of q (logs_in ps) ≡ count_by (λ (p : BatonPass). eqb p.number q) ps
   logs_by q [] f = refl
   logs_by q (p ∷ ps) f =
       let s = (f p (contains_head p ps)).seated in
@@ -81,17 +83,22 @@ module _ (id : TableId) (k : Start) where
       omega (arith, a, b, r, one, m, number)
 
   module _ (ps : List BatonPass) (each : (p : BatonPass) → Contains ps p → Is p) (count : length ps ≡ k.passes)
-      (s : Shared) (r : IsKept k s) (seat : ℕ) (v : View) (at : get_elem? s.views seat ≡ some v) (logs_are : v.logs ≡ logs_in (reverse ps)) (idle : v.doing ≡ Idle) (free : v.loan ≡ None) where
+      (s : Shared) (r : IsKept k s) (seat : ℕ) (v : View) (at : get_elem? s.views seat ≡ some v) (logs_are : v.logs ≡ logs_in (reverse ps))
+      (idle : v.doing ≡ Idle) (free : v.loan ≡ None) where
     all_logs : length v.logs ≡ k.passes
     all_logs = ap (length {A = Log}) logs_are ∙ (length_logs (reverse ps) (λ p h. each p (contains_reverse ps p h)) ∙ (length-reverse ps ∙ count))
 
     empty_else : (i : ℕ) (u : View) → i ≢ seat → get_elem? s.views i ≡ some u → u.logs ≡ []
-    empty_else i u n e = length_none u.logs (let a = sum_two (λ (z : View). length z.logs) s.views seat i v u (λ j. n (sym j)) at e in let b = r.count in let c = all_logs in omega arith)
+    empty_else i u n e =
+        let a = sum_two (λ (z : View). length z.logs) s.views seat i v u (λ j. n (sym j)) at e in
+        let b = r.count in
+        let c = all_logs in
+        length_none u.logs (omega arith)
 
     pub at_home : IsHome r.contents s
     at_home = ⊎_elim (λ h. h)
         (λ (away : IsAway r.contents r.history s). absurd (dite (ℕ_discrete away.holder seat)
-        (λ e. none_is r.contents (sym free ∙ (ap (λ (z : View). z.loan) (some-injective v away.view (sym at ∙ (ap (get_elem? s.views) (sym e) ∙ away.at))) ∙ away.loan)))
+        (λ e. not_holder r.contents r.history s away seat v at free e)
         (λ n. none_is r.contents (sym ((r.views away.holder away.view away.at).empty (empty_else away.holder away.view n away.at)).1 ∙ away.loan))))
         r.place
 
@@ -115,7 +122,10 @@ module _ (id : TableId) (k : Start) where
     none_removed : (n : ℕ) (node : Node) → node_at r.contents.nodes n ≡ node → removed_at n node ≡ None
     none_removed n Fresh e = refl
     none_removed n (At slot file) e = refl
-    none_removed n (Leaving file) e = absurd (let a = no_leaving n in let b : leaving_count r.contents n ≡ 1 = ap (λ (z : Node). cond {A = ℕ} (is_leaving z) 1 0) e in omega (arith, a, b))
+    none_removed n (Leaving file) e =
+        let a = no_leaving n in
+        let b : leaving_count r.contents n ≡ 1 = ap (λ (z : Node). cond {A = ℕ} (is_leaving z) 1 0) e in
+        absurd (omega (arith, a, b))
     none_removed n (Retired file) e = absurd (let a = no_holds n in let b = r.sound.held n (ap is_retired e) in omega (arith, a, b))
     none_removed n Gone e = refl
 
@@ -124,7 +134,8 @@ module _ (id : TableId) (k : Start) where
 
     log_is : (p : BatonPass) (h : Contains ps p) → Contains v.logs (each p h).seated.log
     log_is p h = subst (λ (l : List Log). Contains l (each p h).seated.log) (sym logs_are)
-        (log_in (reverse ps) p (each p h).seated.log (contains_reversed ps p h) (subst (λ (l : List Log). Contains l (each p h).seated.log) (sym (each p h).seated.one) (contains_head (each p h).seated.log [])))
+        (log_in (reverse ps) p (each p h).seated.log (contains_reversed ps p h)
+        (subst (λ (l : List Log). Contains l (each p h).seated.log) (sym (each p h).seated.one) (contains_head (each p h).seated.log [])))
 
     known : (p : BatonPass) (h : Contains ps p) → IsLog k r.history r.contents v.doing (each p h).seated.log
     known p h = (r.views seat v at).logs (each p h).seated.log (log_is p h)
@@ -176,9 +187,12 @@ module _ (id : TableId) (k : Start) where
           history = r.history;
           legal = ends_there k r.history (state_of r.contents) r.legal;
           settled = subst IsSettled end settled;
-          seen = λ w h. let p = view_from w h in subst (λ (f : List Event). IsSeenBy f r.history) (sym (ap (λ (z : PassView). z.front) p.2 ∙ shown_front p.0 p.1)) (known p.0 p.1).seen;
+          seen = λ w h. let p = view_from w h in
+              subst (λ (f : List Event). IsSeenBy f r.history) (sym (ap (λ (z : PassView). z.front) p.2 ∙ shown_front p.0 p.1)) (known p.0 p.1).seen;
           own = λ w h. let p = view_from w h in
-              ap (λ (z : PassView). part_of_pass z.number r.history) p.2 ∙ (ap (λ (n : ℕ). part_of_pass n r.history) (sym (each p.0 p.1).seated.number) ∙ ((known p.0 p.1).own ∙ (sym (shown_own p.0 p.1) ∙ ap (λ (z : PassView). z.own) (sym p.2))));
+              ap (λ (z : PassView). part_of_pass z.number r.history) p.2
+              ∙ (ap (λ (n : ℕ). part_of_pass n r.history) (sym (each p.0 p.1).seated.number)
+              ∙ ((known p.0 p.1).own ∙ (sym (shown_own p.0 p.1) ∙ ap (λ (z : PassView). z.own) (sym p.2))));
           authors = λ e h. let a = r.authors e h in let p = pass_of e.pass a.0 a.1 in (view_of p.0, contains_mapped view_of ps p.0 p.1, sym p.2);
           files = subst (λ (z : State). HasSameFiles z (state_of r.contents)) end record { size = refl; range = refl; files = λ slot. refl };
           left_settled = settled;

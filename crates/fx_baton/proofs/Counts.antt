@@ -43,18 +43,21 @@ log_found p (x ∷ xs) l = dite (ℕ_discrete x.number p)
 
 pub logs_behind : (p : ℕ) (es : List Event) (xs : List Log) → logs_of p (map (log_behind es) xs) ≡ logs_of p xs
 logs_behind p es [] = refl
-logs_behind p es (y ∷ xs) = let a = logs_more p y xs in let b = logs_more p (log_behind es y) (map (log_behind es) xs) in let r = logs_behind p es xs in omega arith
+logs_behind p es (y ∷ xs) = let a = logs_more p y xs in let b = logs_more p (log_behind es y) (map (log_behind es) xs) in
+    let r = logs_behind p es xs in omega arith
 
 -- the new passes from q on, n of them
 new_below : (p q n : ℕ) → p < q → logs_of p (new_logs q n) ≡ 0
 new_below p q zero l = refl
 new_below p q (suc n) l =
-    let a = none_if q p (λ e. omega arith) in let m = logs_more p (new_log q) (new_logs (suc q) n) in let r = new_below p (suc q) n (omega arith) in omega arith
+    let a = none_if q p (λ e. omega arith) in let m = logs_more p (new_log q) (new_logs (suc q) n) in let r = new_below p (suc q) n (omega arith) in
+    omega arith
 
 new_above : (p q n : ℕ) → q + n ≤ p → logs_of p (new_logs q n) ≡ 0
 new_above p q zero l = refl
 new_above p q (suc n) l =
-    let a = none_if q p (λ e. omega arith) in let m = logs_more p (new_log q) (new_logs (suc q) n) in let r = new_above p (suc q) n (omega arith) in omega arith
+    let a = none_if q p (λ e. omega arith) in let m = logs_more p (new_log q) (new_logs (suc q) n) in let r = new_above p (suc q) n (omega arith) in
+    omega arith
 
 new_inside : (p q n : ℕ) → q ≤ p → p < q + n → logs_of p (new_logs q n) ≡ 1
 new_inside p q zero l h = absurd (omega arith)

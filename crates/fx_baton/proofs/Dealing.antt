@@ -1,6 +1,9 @@
 -- The passes that are dealt out.
-use Rattle.std.proofs.Common.{◌≡◌, ℕ, zero, suc, ◌+◌, ◌-◌, ◌≤◌, true, false, List, [], ◌∷◌, ◌++◌, sym, refl, ◌∙◌, ap, subst, arith}
+use Rattle.std.proofs.Common.{◌≡◌, ℕ, zero, suc, ◌+◌, ◌-◌, ◌≤◌, true, false, List, [], ◌∷◌, ◌++◌, map, sym, refl, ◌∙◌, ap, subst, arith}
+use mathlib.Core.List.{map-append}
 use Rattle.atomic_table.specs.Seated.{TableId}
+use Rattle.atomic_table.specs.declared.shared.Seat.{Seat}
+use Rattle.fx_plain.specs.Contents.{Contents}
 use Rattle.fx_plain.specs.History.{IsLegal, part_of_pass}
 use Rattle.fx_plain.specs.declared.event.Event.{Event}
 use Rattle.fx_table.specs.Opening.{state_at}
@@ -8,12 +11,13 @@ use Rattle.fx_table.specs.Pass.{PassView, IsFront, new_pass, new_passes, new_pas
 use Rattle.fx_table.specs.Turns.{HasDrawnInTurn}
 use Rattle.fx_table.specs.declared.values.Doing.TheVariants.{Idle}
 use Rattle.fx_baton.specs.declared.view.Log.{Log}
+use Rattle.fx_baton.specs.declared.view.View.{View}
 use Rattle.fx_baton.specs.declared.view.Start.{Start}
 use Rattle.fx_baton.specs.declared.pass.BatonPass.{BatonPass}
 use Rattle.fx_baton.specs.Rule.{Seated, opening_of, begin_of, new_log, new_logs, rest_of, first_of, view_without_first, view_of_first}
 use Rattle.fx_table.specs.Numbers.{chains_of_pass}
 use Rattle.fx_baton.specs.Passes.{first_front, first_own, view_of, is_idle, IsPassOf}
-use Rattle.fx_baton.specs.Lives.{dealt}
+use Rattle.fx_baton.specs.Lives.{dealt, IsNewPass}
 
 deal_more : (p n : ℕ) → p ≤ n → new_logs p ((n + 1) - p) ≡ new_log p ∷ new_logs (p + 1) ((n + 1) - (p + 1))
 deal_more p n l = let e : (n + 1) - p ≡ suc ((n + 1) - (p + 1)) = omega arith in let f : suc p ≡ p + 1 = omega arith in
@@ -35,15 +39,23 @@ from_more a zero = let e : a ≡ a + 0 = omega arith in ap (λ (m : ℕ). new_pa
 from_more a (suc n) = let e : (a + 1) + n ≡ a + suc n = omega arith in
     ap (λ (l : List PassView). new_pass a ∷ l) (from_more (a + 1) n ∙ ap (λ (m : ℕ). new_passes_from (a + 1) n ++ new_pass m ∷ []) e)
 
-pub one_more : (n : ℕ) → 1 ≤ n → new_passes (n - 1) ++ new_pass n ∷ [] ≡ new_passes n
+one_more : (n : ℕ) → 1 ≤ n → new_passes (n - 1) ++ new_pass n ∷ [] ≡ new_passes n
 one_more n low =
     let e : n ≡ suc (n - 1) = omega arith in
     let f : n ≡ 1 + (n - 1) = omega arith in
     ap (λ (m : ℕ). new_passes (n - 1) ++ new_pass m ∷ []) f ∙ (sym (from_more 1 (n - 1)) ∙ ap new_passes (sym e))
 
-module _ (id : TableId) (k : Start) (p : ℕ) (low : 1 ≤ p) (high : p ≤ k.passes) (x : BatonPass) (table : x.seat.table_id ≡ id) (me : x.seat.me ≡ (view_of_first (dealt k p), []))
-    (number : x.number ≡ p) (passes : x.passes ≡ k.passes) (count : x.count ≡ 0) (chain : x.chain ≡ 0) (chains_left : x.no_chains_left ≡ false)
-    (numbers : x.numbers_left ≡ 0) (looks : x.looks_left ≡ 1048576) (idle : x.idle ≡ true) where
+-- the views of a list with one more new pass
+pub one_more_view : (old new : List BatonPass) (x : BatonPass) (p : ℕ) → 1 ≤ p → new ≡ old ++ x ∷ [] → map view_of old ≡ new_passes (p - 1)
+    → view_of x ≡ new_pass p → map view_of new ≡ new_passes p
+one_more_view old new x p low pushed were shown = ap (map view_of) pushed ∙ (map-append view_of old (x ∷ [])
+    ∙ (ap (λ (l : List PassView). l ++ view_of x ∷ []) were ∙ (ap (λ (v : PassView). new_passes (p - 1) ++ v ∷ []) shown ∙ one_more p low)))
+
+module _ (id : TableId) (k : Start) (p n : ℕ) (low : 1 ≤ p) (high : p ≤ k.passes) (all : n ≡ k.passes) (seat : Seat Contents View) (x : BatonPass)
+    (new : IsNewPass seat p n x) (table : seat.table_id ≡ id) (is : seat.me ≡ (view_of_first (dealt k p), [])) where
+  me : x.seat.me ≡ (view_of_first (dealt k p), [])
+  me = ap (λ (z : Seat Contents View). z.me) new.its_seat ∙ is
+
   one_log : x.seat.me.0.logs ≡ new_log p ∷ []
   one_log = ap (λ (m : Seated). m.0.logs) me ∙ ap first_of (deal_more p k.passes high)
 
@@ -58,14 +70,14 @@ module _ (id : TableId) (k : Start) (p : ℕ) (low : 1 ≤ p) (high : p ≤ k.pa
 
   pub is_new : view_of x ≡ new_pass p
   is_new = λ i. record {
-    number = number i;
+    number = new.its_number i;
     front = front_is i;
     own = own_is i;
-    chain = chain i;
-    drawn = ap (chains_of_pass x.number x.passes) count i;
-    no_chains_left = chains_left i;
-    numbers_left = numbers i;
-    looks_left = looks i;
+    chain = new.chain i;
+    drawn = ap (chains_of_pass x.number x.passes) new.count i;
+    no_chains_left = new.chains_left i;
+    numbers_left = new.numbers i;
+    looks_left = new.looks i;
     doing = doing_is i;
   }
 
@@ -86,17 +98,18 @@ module _ (id : TableId) (k : Start) (p : ℕ) (low : 1 ≤ p) (high : p ≤ k.pa
 
   pub is_pass : IsPassOf id k x
   is_pass = record {
-    table = table;
+    table = ap (λ (z : Seat Contents View). z.table_id) new.its_seat ∙ table;
     slots = ap (λ (m : Seated). m.1) me;
     free = ap (λ (m : Seated). m.0.loan) me;
-    passes = passes;
+    passes = new.all_passes ∙ all;
     seated = record {
       log = new_log p;
       one = one_log;
-      number = sym number;
+      number = sym new.its_number;
       start = ap (λ (m : Seated). m.0.start) me;
       front = subst (IsFront (opening_of k)) (sym is_new) new_front;
-      turns = subst (λ (n : ℕ). HasDrawnInTurn (opening_of k) n (view_of x)) (sym count) (subst (HasDrawnInTurn (opening_of k) 0) (sym is_new) new_turns);
-      flag = idle ∙ sym (ap is_idle doing_is);
+      turns = subst (λ (n : ℕ). HasDrawnInTurn (opening_of k) n (view_of x)) (sym new.count)
+          (subst (HasDrawnInTurn (opening_of k) 0) (sym is_new) new_turns);
+      flag = new.flag ∙ sym (ap is_idle doing_is);
     };
   }

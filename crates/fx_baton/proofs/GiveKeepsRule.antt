@@ -30,7 +30,8 @@ some_contents c d e = cc
 none_some : (c : Contents) → None ≡ Some c → ⊥
 none_some c e = cc
 
-module _ (k : Start) (id : ℕ) (v : View) (x : Log) (one : v.logs ≡ x ∷ []) (c d : Contents) (has : v.loan ≡ Some c) (es : List Event) (doing : Doing) (sound : IsTable d) (turn : IsTurn v x c d es doing) where
+module _ (k : Start) (id : ℕ) (v : View) (x : Log) (one : v.logs ≡ x ∷ []) (c d : Contents) (has : v.loan ≡ Some c) (es : List Event)
+    (doing : Doing) (sound : IsTable d) (turn : IsTurn v x c d es doing) where
   abbrev w : View
   w = view_behind v es doing
 
@@ -71,16 +72,19 @@ module _ (k : Start) (id : ℕ) (v : View) (x : Log) (one : v.logs ≡ x ∷ [])
       place = inl (
         ap (λ (l : List ℕ). set l 0 1) away.words,
         ap (λ l. set l 0 (some d)) away.homes,
-        (λ i u e. ⊎_elim (λ (m : (i ≡ id) × (w ≡ u)). ap (λ (z : View). z.loan) (sym m.1)) (λ (m : (i ≢ id) × (get_elem? s.views i ≡ some u)). away.others i u (λ is. m.0 (is ∙ sym held_it)) m.1)
+        (λ i u e. ⊎_elim
+            (λ (m : (i ≡ id) × (w ≡ u)). ap (λ (z : View). z.loan) (sym m.1))
+            (λ (m : (i ≢ id) × (get_elem? s.views i ≡ some u)). away.others i u (λ is. m.0 (is ∙ sym held_it)) m.1)
             (at_set s.views id i w u e)),
       );
       mine = record {
-        logs = λ y h. let m = only_log w.logs (log_behind es x) y given_one h in subst (λ (z : Log). IsLog k (r.history ▷▷ es) d doing z) (sym m) record {
-          seen = subst (λ (z : List Event). IsSeenBy (x.front ▷▷ es) z) longer_is (seen_again (x.front ▷▷ es));
-          own = part_mine x.number es r.history turn.authors ∙ ap (λ (l : List Event). es ++ l) mine_of.own;
-          held = ap (λ (z : List Event). held_by z x.number) (sym longer_is) ∙ turn.now;
-          fresh = subst (λ (z : Start). HasFreshNumbers z (state_of d) (log_behind es x)) begun turn.fresh;
-        };
+        logs = λ y h. let m = only_log w.logs (log_behind es x) y given_one h in
+            subst (λ (z : Log). IsLog k (r.history ▷▷ es) d doing z) (sym m) record {
+              seen = subst (λ (z : List Event). IsSeenBy (x.front ▷▷ es) z) longer_is (seen_again (x.front ▷▷ es));
+              own = part_mine x.number es r.history turn.authors ∙ ap (λ (l : List Event). es ++ l) mine_of.own;
+              held = ap (λ (z : List Event). held_by z x.number) (sym longer_is) ∙ turn.now;
+              fresh = subst (λ (z : Start). HasFreshNumbers z (state_of d) (log_behind es x)) begun turn.fresh;
+            };
         file = turn.file;
         empty = λ e. absurd (not_empty w.logs (log_behind es x) given_one e);
         start = inr begun;
@@ -88,9 +92,14 @@ module _ (k : Start) (id : ℕ) (v : View) (x : Log) (one : v.logs ≡ x ∷ [])
       numbers = λ p. logs_behind p es v.logs;
       count = length-map v.logs (log_behind es);
       held = λ n. subst (λ (z : Contents). (state_of d).holds n + holds_by n v.doing ≡ (state_of z).holds n + holds_by n doing) same (turn.held n);
-      leaves = λ n. subst (λ (z : Contents). leaving_count d n + removals_by n v.doing ≡ leaving_count z n + removals_by n doing) same (turn.leaves n);
-      files = λ f. subst (λ (z : Contents). HasFile (state_of z) f → (0 < (state_of d).holds f.number) ⊎ (leaving d f.number ≡ true) → HasFile (state_of d) f) same (turn.files f);
-      others = λ n. subst (λ (z : Start × Contents). pass_of_number z.0.passes n ≢ x.number → (state_of z.1).fresh n ≡ true → (state_of d).fresh n ≡ true) (λ i. (begun i, same i)) (turn.others n);
+      leaves = λ n. subst (λ (z : Contents). leaving_count d n + removals_by n v.doing ≡ leaving_count z n + removals_by n doing) same
+          (turn.leaves n);
+      files = λ f. subst
+          (λ (z : Contents). HasFile (state_of z) f → (0 < (state_of d).holds f.number) ⊎ (leaving d f.number ≡ true) → HasFile (state_of d) f) same
+          (turn.files f);
+      others = λ n. subst
+          (λ (z : Start × Contents). pass_of_number z.0.passes n ≢ x.number → (state_of z.1).fresh n ≡ true → (state_of d).fresh n ≡ true)
+          (λ i. (begun i, same i)) (turn.others n);
     }
 
   pub give_keeps : Allows (IsKept k) 1 id (v, (0, d) ∷ []) 0 (λ _. 1) (λ _. Gives es doing (step 1 0 1 0 none) (v, (0, d) ∷ []) 1)
@@ -105,8 +114,10 @@ module _ (k : Start) (id : ℕ) (v : View) (x : Log) (one : v.logs ≡ x ∷ [])
       ))
       r.place
 
-pub may_store : (k : Start) (slots id : ℕ) (me : Seated) (v : View) (d : Contents) (es : List Event) (doing : Doing) → slots ≡ 1 → me ≡ (v, (0, d) ∷ [])
-    → (x : Log) (c : Contents) → v.logs ≡ x ∷ [] → v.loan ≡ Some c → IsTable d → IsTurn v x c d es doing → Allows (IsKept k) slots id me 0 (λ _. 1) (λ _. Gives es doing (step slots 0 1 0 none) me 1)
+pub may_store : (k : Start) (slots id : ℕ) (me : Seated) (v : View) (d : Contents) (es : List Event) (doing : Doing) → slots ≡ 1
+    → me ≡ (v, (0, d) ∷ [])
+    → (x : Log) (c : Contents) → v.logs ≡ x ∷ [] → v.loan ≡ Some c → IsTable d → IsTurn v x c d es doing → Allows (IsKept k) slots id me 0 (λ _. 1)
+    (λ _. Gives es doing (step slots 0 1 0 none) me 1)
 may_store k slots id me v d es doing s m x c one has sound turn =
     let P : ℕ × Seated → Type 0 = λ z. Allows (IsKept k) z.0 id z.1 0 (λ _. 1) (λ _. Gives es doing (step z.0 0 1 0 none) z.1 1) in
     subst P (λ i. (sym s i, sym m i)) (give_keeps k id v x one c d has es doing sound turn)

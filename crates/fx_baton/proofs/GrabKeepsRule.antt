@@ -33,7 +33,8 @@ pub not_empty : (xs : List Log) (x : Log) → xs ≡ x ∷ [] → xs ≡ [] → 
 not_empty xs x e none_there = let c : x ∷ [] ≡ [] = sym e ∙ none_there in cc c
 
 -- a view holds no more files than it has passes
-holds_few : (k : Start) (h : List Event) (c : Contents) (n : ℕ) (v : View) (xs : List Log) → v.logs ≡ xs → IsView k h c v → holds_by n v.doing ≤ length xs
+holds_few : (k : Start) (h : List Event) (c : Contents) (n : ℕ) (v : View) (xs : List Log) → v.logs ≡ xs → IsView k h c v
+    → holds_by n v.doing ≤ length xs
 holds_few k h c n v [] e r = let a = ap (holds_by n) (r.empty e).0 in omega arith
 holds_few k h c n v (x ∷ xs) e r = let a = holds_small n v.doing in omega arith
 
@@ -49,7 +50,8 @@ started k h c v x one r = ⊎_elim (λ z. absurd (not_empty v.logs x one z)) (λ
 module _ (k : Start) (id : ℕ) (v : View) (x : Log) (one : v.logs ≡ x ∷ []) where
   room : (s : Shared) (r : IsKept k s) (n : ℕ) → (state_of r.contents).holds n ≤ 16
   room s r n =
-      let a = sum_le_at (λ (z : View). holds_by n z.doing) (λ (z : View). length z.logs) s.views (λ i u e. holds_few k r.history r.contents n u u.logs refl (r.views i u e)) in
+      let a = sum_le_at (λ (z : View). holds_by n z.doing) (λ (z : View). length z.logs) s.views
+      (λ i u e. holds_few k r.history r.contents n u u.logs refl (r.views i u e)) in
       let b = r.held n in let c = r.count in let d = r.few in omega arith
 
   module _ (s : Shared) (r : IsKept k s) (at : get_elem? s.views id ≡ some v) where
@@ -118,15 +120,23 @@ module _ (k : Start) (id : ℕ) (v : View) (x : Log) (one : v.logs ≡ x ∷ [])
         lent s r at,
         takes 0 r.contents,
         ap (λ l. get_elem? l 0) home.1,
-        subst (λ (n : ℕ). IsKept k record { words = set s.words 0 (either (n == 1) 0 n); homes = set s.homes 0 none; views = set s.views id (lent s r at) }) (sym word)
+        subst (λ (n : ℕ). IsKept k record {
+          words = set s.words 0 (either (n == 1) 0 n);
+          homes = set s.homes 0 none;
+          views = set s.views id (lent s r at);
+        })
+            (sym word)
             (keeps_rule k s r id v at (lent s r at) r.contents [] (set s.words 0 0) (set s.homes 0 none) (taken_turns s r at home)),
-        inl (word, λ y e. let is : x ≡ y = same_log x y (sym one ∙ e) in record {
-          contents = r.contents;
-          history = r.history;
-          knows = subst (λ (z : Log). Knows v z r.contents r.history) is (knows s r at);
-          view = ap (λ (z : Log). lent_view v z r.history r.contents) is;
-          slots = refl;
-        }),
+        inl (
+          word,
+          λ y e. let is : x ≡ y = same_log x y (sym one ∙ e) in record {
+            contents = r.contents;
+            history = r.history;
+            knows = subst (λ (z : Log). Knows v z r.contents r.history) is (knows s r at);
+            view = ap (λ (z : Log). lent_view v z r.history r.contents) is;
+            slots = refl;
+          },
+        ),
       ))
       (λ (away : IsAway r.contents r.history s).
       let word : get_or s.words 0 0 ≡ 0 = ap (λ (l : List ℕ). get_or l 0 0) away.words in (
@@ -146,5 +156,6 @@ module _ (k : Start) (id : ℕ) (v : View) (x : Log) (one : v.logs ≡ x ∷ [])
 pub may_exchange : (k : Start) (slots id : ℕ) (me : Seated) → slots ≡ 1 → me.1 ≡ [] → me.0.loan ≡ None → (x : Log) → me.0.logs ≡ x ∷ []
     → Allows (IsKept k) slots id me 0 (λ n. either (n == 1) 0 n) (Grabs (step slots 0 1 0 none) me)
 may_exchange k slots id me s m free x one =
-    let P : ℕ × List (ℕ × Contents) → Type 0 = λ z. Allows (IsKept k) z.0 id (me.0, z.1) 0 (λ n. either (n == 1) 0 n) (Grabs (step z.0 0 1 0 none) (me.0, z.1)) in
+    let P : ℕ × List (ℕ × Contents) → Type 0 = λ z. Allows (IsKept k) z.0 id (me.0, z.1) 0 (λ n. either (n == 1) 0 n)
+    (Grabs (step z.0 0 1 0 none) (me.0, z.1)) in
     subst P (λ i. (sym s i, sym m i)) (grab_keeps k id me.0 x one free)

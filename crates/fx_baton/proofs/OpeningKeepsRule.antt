@@ -72,17 +72,21 @@ module _ (k : Start) (c : Contents) (begins : state_of c ≡ begin_of k) (sound 
   size_few = let e = ap (λ (z : State). z.size) begins in let l = sound.few_slots in omega arith
 
   fresh_there : (n : ℕ) → 256 ≤ n → n < numbers_for k.chains → (begin_of k).fresh n ≡ true
-  fresh_there n low high = elim (nat_lt n (state_of k.plain.value).size) as (λ b. nat_lt n (state_of k.plain.value).size ≡ b → (not b && nat_lt n (numbers_for k.chains)) ≡ true) [
-    | true ↦ λ e. absurd (let l : n < (state_of k.plain.value).size = ltb-true n (state_of k.plain.value).size e in let few = size_few in omega arith)
-    | false ↦ λ e. lt-ltb n (numbers_for k.chains) high
-  ] refl
+  fresh_there n low high =
+      elim (nat_lt n (state_of k.plain.value).size) as
+      (λ b. nat_lt n (state_of k.plain.value).size ≡ b → (not b && nat_lt n (numbers_for k.chains)) ≡ true) [
+        | true ↦ λ e. absurd (let l = ltb-true n (state_of k.plain.value).size e in let few = size_few in omega arith)
+        | false ↦ λ e. lt-ltb n (numbers_for k.chains) high
+      ] refl
 
   fresh_log : (p : ℕ) → HasFreshNumbers k (state_of c) (new_log p)
   fresh_log p n low from high its = ap (λ (z : State). z.fresh n) begins ∙ fresh_there n low high
 
   new_view : IsView k [] c (first_view k)
   new_view = record {
-    logs = λ x h. subst (λ (z : Log). IsLog k [] c Idle z) (sym (new_is 1 k.passes x h)) record { seen = ([], refl); own = refl; held = refl; fresh = fresh_log x.number };
+    logs =
+        λ x h. subst (λ (z : Log). IsLog k [] c Idle z)
+        (sym (new_is 1 k.passes x h)) record { seen = ([], refl); own = refl; held = refl; fresh = fresh_log x.number };
     file = λ f e. let no : None ≡ Some f = e in absurd (cc no);
     empty = λ _. (refl, refl);
     start = inr refl;
@@ -101,7 +105,8 @@ module _ (k : Start) (c : Contents) (begins : state_of c ≡ begin_of k) (sound 
     few = few;
     authors = λ e h. absurd (contains_none e h);
     held = λ n. let a = ap (λ (z : State). z.holds n) begins in omega arith;
-    leaves = λ n. let a = not_leaving n (node_at c.nodes n) (ap (λ (z : State). z.removed n) begins) in let b : leaving_count c n ≡ 0 = ap (λ (z : Bool). cond {A = ℕ} z 1 0) a in omega arith;
+    leaves = λ n. let a = not_leaving n (node_at c.nodes n) (ap (λ (z : State). z.removed n) begins) in
+        let b : leaving_count c n ≡ 0 = ap (λ (z : Bool). cond {A = ℕ} z 1 0) a in omega arith;
   }
 
   pub opens : (xs : List Contents) → xs ≡ c ∷ [] → IsKept k (table_opening (1 ∷ []) xs (first_view k))

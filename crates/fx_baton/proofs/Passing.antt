@@ -27,8 +27,8 @@ use Rattle.fx_baton.specs.declared.view.Call.{Call}
 use Rattle.fx_baton.specs.declared.view.Call.TheVariants.{Look as LookCall, Release as ReleaseCall, Put as PutCall, Allocate as AllocateCall, Full as FullCall, Clear as ClearCall, Take as TakeCall, Retire as RetireCall}
 use Rattle.fx_baton.specs.declared.pass.BatonPass.{BatonPass}
 use Rattle.fx_baton.specs.Rule.{Seated, opening_of, begin_of, Knows, Takes, log_behind, view_behind}
-use Rattle.fx_baton.specs.Turns.{by, actions_of, doing_of, use_of, events_of, table_of_slots}
-use Rattle.fx_baton.specs.Passes.{first_front, first_own, view_of, is_idle, IsPassOf, HasTable, HasSeenMore, UsesNext, HasCalled}
+use Rattle.fx_baton.specs.Turns.{by, actions_of, doing_of, use_of, events_of, table_of_slots, table_of_loan}
+use Rattle.fx_baton.specs.Passes.{first_front, first_own, view_of, is_idle, IsPassOf, HasTable, HasSeenMore, UsesNext, HasCalled, HasGivenBack, pass_behind}
 
 -- a legal history leads to the state at its end
 pub ends_there : (k : Start) (h : List Event) (end : State) → IsLegal (begin_of k) h end → IsLegal (begin_of k) h (state_at (opening_of k) h)
@@ -91,7 +91,7 @@ module _ (id : TableId) (k : Start) (p : BatonPass) (fits : IsPassOf id k p) (se
   front_now = record {
     legal = subst (λ (h : List Event). IsLegal (begin_of k) h (state_at (opening_of k) h)) (sym new_front)
         (ends_there k taken.history (state_of taken.contents)
-          (subst (λ (z : Start). IsLegal (begin_of z) taken.history (state_of taken.contents)) fits.seated.start taken.knows.legal));
+        (subst (λ (z : Start). IsLegal (begin_of z) taken.history (state_of taken.contents)) fits.seated.start taken.knows.legal));
     mine = ap (part_of_pass p.number) new_front ∙ (ap (λ (n : ℕ). part_of_pass n taken.history) (sym fits.seated.number)
         ∙ (taken.knows.own ∙ (sym (ap first_own fits.seated.one) ∙ sym same_own)));
   }
@@ -172,7 +172,11 @@ adds_behind o u v w actions doing used s a =
 
 module _ (id : TableId) (k : Start) (call : Call) (idle : Bool) (p : BatonPass) (t : HasCalled id k call idle p) (seat : Seat Contents View)
     (table : seat.table_id ≡ p.seat.table_id)
-    (me : seat.me ≡ (view_behind p.seat.me.0 (events_of t.taken p.number p.chain p.seat.me.0.doing call) (doing_of t.taken call), [])) where
+    (me_is : seat.me ≡ (
+      view_behind p.seat.me.0 (events_of (table_of_loan p.seat.me.0.loan) p.number p.chain p.seat.me.0.doing call)
+          (doing_of (table_of_loan p.seat.me.0.loan) call),
+      [],
+    )) where
   abbrev es : List Event
   es = events_of t.taken p.number p.chain p.seat.me.0.doing call
 
@@ -182,8 +186,15 @@ module _ (id : TableId) (k : Start) (call : Call) (idle : Bool) (p : BatonPass) 
   abbrev numbers : ℕ
   numbers = p.numbers_left - (use_of call).numbers
 
-  abbrev pub gave : BatonPass
-  gave = record p { seat = seat; numbers_left = numbers; looks_left = p.looks_left - (use_of call).looks; idle = idle }
+  abbrev gave : BatonPass
+  gave = pass_behind p call idle seat
+
+  me : seat.me ≡ (view_behind p.seat.me.0 es (doing_of t.taken call), [])
+  me = me_is ∙ ap (λ (z : Option Contents). (
+    view_behind p.seat.me.0 (events_of (table_of_loan z) p.number p.chain p.seat.me.0.doing call)
+        (doing_of (table_of_loan z) call),
+    [],
+  )) t.has.loan
 
   one_after : seat.me.0.logs ≡ log_behind es before ∷ []
   one_after = ap (λ (z : Seated). z.0.logs) me ∙ ap (map (log_behind es)) t.has.seated.one
@@ -219,11 +230,11 @@ module _ (id : TableId) (k : Start) (call : Call) (idle : Bool) (p : BatonPass) 
     left_inside = let a = s.left_inside in omega arith;
     unused = subst (λ (l : List Event). number_behind l ≤ (256 + 64 * p.chain) - numbers) (sym own_after)
         (next_behind t.taken (view_of p) numbers p.seat.me.0.doing call before.own
-          (subst (λ (l : List Event). number_behind l ≤ next_number (view_of p)) (ap first_own t.has.seated.one) s.unused)
-          s.left_inside (omega arith) t.uses);
+        (subst (λ (l : List Event). number_behind l ≤ next_number (view_of p)) (ap first_own t.has.seated.one) s.unused)
+        s.left_inside (omega arith) t.uses);
   }
 
-  pub fits_again : IsPassOf id k gave
+  fits_again : IsPassOf id k gave
   fits_again = let s = t.has.seated in record {
     table = table ∙ t.has.table;
     slots = ap (λ (z : Seated). z.1) me;
@@ -255,14 +266,18 @@ module _ (id : TableId) (k : Start) (call : Call) (idle : Bool) (p : BatonPass) 
   }
 
   -- wherever the pass came from
-  pub adds_so : (u : PassView) (c d : Contents) → HasTable id k u c d p
+  adds_so : (u : PassView) (c d : Contents) → HasTable id k u c d p
       → Adds (opening_of k) u (actions_of c p.seat.me.0.doing call) (doing_of c call) (use_of call) (view_of gave)
   adds_so u c d h =
       let loans : Some t.taken ≡ Some c = sym t.has.loan ∙ h.loan in
       let same : t.taken ≡ c = cc loans in
-      let here = adds_behind (opening_of k) u (view_of p) (view_of gave) (actions_of t.taken p.seat.me.0.doing call) (doing_of t.taken call) (use_of call) h.more adds_here in
+      let here = adds_behind (opening_of k) u (view_of p) (view_of gave) (actions_of t.taken p.seat.me.0.doing call) (doing_of t.taken call)
+      (use_of call) h.more adds_here in
       subst (λ (z : Contents). Adds (opening_of k) u (actions_of z p.seat.me.0.doing call) (doing_of z call) (use_of call) (view_of gave)) same here
 
   -- the front leads to the state of the table that was put back
-  pub ends_as : state_at (opening_of k) (view_of gave).front ≡ state_of (table_of_slots p.seat.me.1)
+  ends_as : state_at (opening_of k) (view_of gave).front ≡ state_of (table_of_slots p.seat.me.1)
   ends_as = ap (state_at (opening_of k)) front_after ∙ (sym legal_now.leads.1 ∙ ap (λ l. state_of (table_of_slots l)) (sym t.has.slots))
+
+  pub gives_back : HasGivenBack id k call p gave
+  gives_back = record { fits = fits_again; adds = adds_so; end = ends_as }

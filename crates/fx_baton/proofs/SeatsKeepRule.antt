@@ -18,10 +18,8 @@ use Rattle.fx_baton.specs.declared.view.Log.{Log}
 use Rattle.fx_baton.specs.declared.view.View.{View}
 use Rattle.fx_baton.specs.declared.view.Start.{Start}
 use Rattle.fx_baton.proofs.Counts.{logs_more}
+use Rattle.fx_baton.proofs.StepsKeepRule.{not_holder}
 use Rattle.fx_baton.specs.Rule.{Shared, logs_of, holds_by, removals_by, file_in_hand, IsLog, IsView, IsHome, IsAway, IsKept, rest_of, first_of, view_without_first, view_of_first, joined_view, empty_view}
-
-none_is : (c : Contents) → None ≡ Some c → ⊥
-none_is c e = cc
 
 idle_file : (d : Doing) (f : File) → d ≡ Idle → file_in_hand d ≡ Some f → ⊥
 idle_file d f e g = let no : None ≡ Some f = sym (ap file_in_hand e) ∙ g in cc no
@@ -35,7 +33,8 @@ has_first [] x h = h
 has_first (y ∷ l) x h = subst (Contains (y ∷ l)) (sym (contains_only y x h)) (contains_head y l)
 
 -- a view of an idle seat without the table, which has some of what another has
-part_view : (k : Start) (h : List Event) (c : Contents) (v w : View) → v.doing ≡ Idle → w.doing ≡ Idle → w.loan ≡ None → ((x : Log) → Contains w.logs x → IsLog k h c v.doing x) → (w.logs ≡ []) ⊎ (w.start ≡ k) → IsView k h c w
+part_view : (k : Start) (h : List Event) (c : Contents) (v w : View) → v.doing ≡ Idle → w.doing ≡ Idle → w.loan ≡ None
+    → ((x : Log) → Contains w.logs x → IsLog k h c v.doing x) → (w.logs ≡ []) ⊎ (w.start ≡ k) → IsView k h c w
 part_view k h c v w idle idle' free logs start = record {
   logs = λ x i. subst (λ (d : Doing). IsLog k h c d x) (idle ∙ sym idle') (logs x i);
   file = λ f e. absurd (idle_file w.doing f idle' e);
@@ -43,7 +42,8 @@ part_view k h c v w idle idle' free logs start = record {
   start = start;
 }
 
-split_counts : (f : List Log → ℕ) (f0 : f [] ≡ 0) (l : List Log) → ((y : Log) (m : List Log) → f (y ∷ m) ≡ f (y ∷ []) + f m) → f (rest_of l) + f (first_of l) ≡ f l
+split_counts : (f : List Log → ℕ) (f0 : f [] ≡ 0) (l : List Log) → ((y : Log) (m : List Log) → f (y ∷ m) ≡ f (y ∷ []) + f m)
+    → f (rest_of l) + f (first_of l) ≡ f l
 split_counts f f0 [] more = omega arith
 split_counts f f0 (y ∷ l) more = let a = more y l in omega arith
 
@@ -57,7 +57,8 @@ module _ (k : Start) (id : ℕ) (v : View) (idle : v.doing ≡ Idle) (free : v.l
       omega arith
 
   -- what an idle seat doesn't add to
-  same_counts : (s : Shared) → get_elem? s.views id ≡ some v → (f : Doing → ℕ) → f Idle ≡ 0 → sum_by (λ (z : View). f z.doing) (set s.views id (view_without_first v) ++ view_of_first v ∷ []) ≡ sum_by (λ (z : View). f z.doing) s.views
+  same_counts : (s : Shared) → get_elem? s.views id ≡ some v → (f : Doing → ℕ) → f Idle ≡ 0
+      → sum_by (λ (z : View). f z.doing) (set s.views id (view_without_first v) ++ view_of_first v ∷ []) ≡ sum_by (λ (z : View). f z.doing) s.views
   same_counts s at f zero_is =
       let a = sum_by-append (λ (z : View). f z.doing) (set s.views id (view_without_first v)) (view_of_first v ∷ []) in
       let b = sum_set (λ (z : View). f z.doing) s.views id v (view_without_first v) at in
@@ -65,17 +66,22 @@ module _ (k : Start) (id : ℕ) (v : View) (idle : v.doing ≡ Idle) (free : v.l
       omega arith
 
   -- what holds of both parts and of the other views holds of all
-  at_parts : (P : View → Type 0) (s : Shared) → P (view_without_first v) → P (view_of_first v) → ((i : ℕ) (u : View) → i ≢ id → get_elem? s.views i ≡ some u → P u)
+  at_parts : (P : View → Type 0) (s : Shared) → P (view_without_first v) → P (view_of_first v)
+      → ((i : ℕ) (u : View) → i ≢ id → get_elem? s.views i ≡ some u → P u)
       → (i : ℕ) (u : View) → get_elem? (set s.views id (view_without_first v) ++ view_of_first v ∷ []) i ≡ some u → P u
   at_parts P s a b c i u e = ⊎_elim
-      (λ m. ⊎_elim (λ (n : (i ≡ id) × (view_without_first v ≡ u)). subst P n.1 a) (λ (n : (i ≢ id) × (get_elem? s.views i ≡ some u)). c i u n.0 n.1) (at_set s.views id i (view_without_first v) u m))
+      (λ m. ⊎_elim
+      (λ (n : (i ≡ id) × (view_without_first v ≡ u)). subst P n.1 a)
+      (λ (n : (i ≢ id) × (get_elem? s.views i ≡ some u)). c i u n.0 n.1)
+      (at_set s.views id i (view_without_first v) u m))
       (λ m. subst P m b)
       (at_snoc (set s.views id (view_without_first v)) (view_of_first v) u i e)
 
   pub may_split : Splits (IsKept k) id v (view_without_first v) (view_of_first v)
   may_split s r at =
       let mine = r.views id v at in
-      let start_of_part : (part : List Log → List Log) → part [] ≡ [] → (part v.logs ≡ []) ⊎ (v.start ≡ k) = λ part none. ⊎_elim (λ (z : v.logs ≡ []). inl (ap part z ∙ none)) (λ z. inr z) mine.start in
+      let start_of_part : (part : List Log → List Log) → part [] ≡ [] → (part v.logs ≡ []) ⊎ (v.start ≡ k) = λ part none. ⊎_elim
+      (λ (z : v.logs ≡ []). inl (ap part z ∙ none)) (λ z. inr z) mine.start in
       record {
         history = r.history;
         contents = r.contents;
@@ -84,24 +90,30 @@ module _ (k : Start) (id : ℕ) (v : View) (idle : v.doing ≡ Idle) (free : v.l
         place = ⊎_elim
             (λ (home : IsHome r.contents s). inl (home.0, home.1, at_parts (λ z. z.loan ≡ None) s free free (λ i u _ e. home.2 i u e)))
             (λ (away : IsAway r.contents r.history s).
-            let apart : away.holder ≢ id = λ e. none_is r.contents (sym free ∙ (ap (λ (z : View). z.loan) (some-injective v away.view (sym at ∙ (ap (get_elem? s.views) (sym e) ∙ away.at))) ∙ away.loan)) in
+            let apart = not_holder r.contents r.history s away id v at free in
             inr record {
               words = away.words;
               homes = away.homes;
               holder = away.holder;
               view = away.view;
-              at = at_longer (set s.views id (view_without_first v)) (view_of_first v ∷ []) away.holder away.view (set_else s.views id away.holder (view_without_first v) apart ∙ away.at);
+              at = at_longer (set s.views id (view_without_first v)) (view_of_first v ∷ []) away.holder away.view
+                  (set_else s.views id away.holder (view_without_first v) apart ∙ away.at);
               loan = away.loan;
               whole = away.whole;
               others = λ i u n e. ⊎_elim
-                  (λ m. ⊎_elim (λ (q : (i ≡ id) × (view_without_first v ≡ u)). ap (λ (z : View). z.loan) (sym q.1) ∙ free) (λ (q : (i ≢ id) × (get_elem? s.views i ≡ some u)). away.others i u n q.1) (at_set s.views id i (view_without_first v) u m))
+                  (λ m. ⊎_elim
+                  (λ (q : (i ≡ id) × (view_without_first v ≡ u)). ap (λ (z : View). z.loan) (sym q.1) ∙ free)
+                  (λ (q : (i ≢ id) × (get_elem? s.views i ≡ some u)). away.others i u n q.1)
+                  (at_set s.views id i (view_without_first v) u m))
                   (λ m. ap (λ (z : View). z.loan) (sym m) ∙ free)
                   (at_snoc (set s.views id (view_without_first v)) (view_of_first v) u i e);
             })
             r.place;
         views = at_parts (IsView k r.history r.contents) s
-            (part_view k r.history r.contents v (view_without_first v) idle idle free (λ x h. mine.logs x (has_rest v.logs x h)) (start_of_part rest_of refl))
-            (part_view k r.history r.contents v (view_of_first v) idle idle free (λ x h. mine.logs x (has_first v.logs x h)) (start_of_part first_of refl))
+            (part_view k r.history r.contents v (view_without_first v) idle idle free
+            (λ x h. mine.logs x (has_rest v.logs x h)) (start_of_part rest_of refl))
+            (part_view k r.history r.contents v (view_of_first v) idle idle free
+            (λ x h. mine.logs x (has_first v.logs x h)) (start_of_part first_of refl))
             (λ i u _ e. r.views i u e);
         numbers = λ p. counts s at (logs_of p) (λ y m. let a = logs_more p y m in let b = logs_more p y [] in omega arith) refl ∙ r.numbers p;
         count = counts s at (length {A = Log}) (λ y m. omega arith) refl ∙ r.count;
@@ -111,8 +123,10 @@ module _ (k : Start) (id : ℕ) (v : View) (idle : v.doing ≡ Idle) (free : v.l
         leaves = λ n. same_counts s at (removals_by n) refl ∙ r.leaves n;
       }
 
-module _ (k : Start) (id : ℕ) (v : View) (idle : v.doing ≡ Idle) (free : v.loan ≡ None) (begun : v.start ≡ k) (other : ℕ) (w : View) (w_idle : w.doing ≡ Idle) (w_free : w.loan ≡ None) where
-  module _ (s : Shared) (r : IsKept k s) (at : get_elem? s.views id ≡ some v) (apart : ¬ (other ≡ id)) (there : get_elem? (set s.views id (joined_view v w)) other ≡ some w) where
+module _ (k : Start) (id : ℕ) (v : View) (idle : v.doing ≡ Idle) (free : v.loan ≡ None) (begun : v.start ≡ k) (other : ℕ) (w : View)
+    (w_idle : w.doing ≡ Idle) (w_free : w.loan ≡ None) where
+  module _ (s : Shared) (r : IsKept k s) (at : get_elem? s.views id ≡ some v) (apart : ¬ (other ≡ id))
+      (there : get_elem? (set s.views id (joined_view v w)) other ≡ some w) where
     abbrev one_set : List View
     one_set = set s.views id (joined_view v w)
 
@@ -123,7 +137,8 @@ module _ (k : Start) (id : ℕ) (v : View) (idle : v.doing ≡ Idle) (free : v.l
     w_at = sym (set_else s.views id other (joined_view v w) apart) ∙ there
 
     -- what holds of the new views and of the others holds of all
-    at_each : (P : View → Type 0) → P empty_view → P (joined_view v w) → ((i : ℕ) (u : View) → i ≢ other → i ≢ id → get_elem? s.views i ≡ some u → P u) → (i : ℕ) (u : View) → get_elem? both_set i ≡ some u → P u
+    at_each : (P : View → Type 0) → P empty_view → P (joined_view v w)
+        → ((i : ℕ) (u : View) → i ≢ other → i ≢ id → get_elem? s.views i ≡ some u → P u) → (i : ℕ) (u : View) → get_elem? both_set i ≡ some u → P u
     at_each P a b c i u e = ⊎_elim
         (λ (m : (i ≡ other) × (empty_view ≡ u)). subst P m.1 a)
         (λ (m : (i ≢ other) × (get_elem? one_set i ≡ some u)). ⊎_elim
@@ -147,12 +162,15 @@ module _ (k : Start) (id : ℕ) (v : View) (idle : v.doing ≡ Idle) (free : v.l
     was_emptied : IsView k r.history r.contents empty_view
     was_emptied = part_view k r.history r.contents v empty_view idle refl refl (λ x h. absurd (contains_none x h)) (inl refl)
 
-    joined_place : IsHome r.contents record { words = s.words; homes = s.homes; views = both_set } ⊎ IsAway r.contents r.history record { words = s.words; homes = s.homes; views = both_set }
+    abbrev joined : Shared
+    joined = record { words = s.words; homes = s.homes; views = both_set }
+
+    joined_place : IsHome r.contents joined ⊎ IsAway r.contents r.history joined
     joined_place = ⊎_elim
         (λ (home : IsHome r.contents s). inl (home.0, home.1, at_each (λ z. z.loan ≡ None) refl free (λ i u _ _ e. home.2 i u e)))
         (λ (away : IsAway r.contents r.history s).
-        let not_this : away.holder ≢ id = λ e. none_is r.contents (sym free ∙ (ap (λ (z : View). z.loan) (some-injective v away.view (sym at ∙ (ap (get_elem? s.views) (sym e) ∙ away.at))) ∙ away.loan)) in
-        let not_that : away.holder ≢ other = λ e. none_is r.contents (sym w_free ∙ (ap (λ (z : View). z.loan) (some-injective w away.view (sym w_at ∙ (ap (get_elem? s.views) (sym e) ∙ away.at))) ∙ away.loan)) in
+        let not_this = not_holder r.contents r.history s away id v at free in
+        let not_that = not_holder r.contents r.history s away other w w_at w_free in
         inr record {
           words = away.words;
           homes = away.homes;
@@ -182,7 +200,9 @@ module _ (k : Start) (id : ℕ) (v : View) (idle : v.doing ≡ Idle) (free : v.l
     legal = r.legal;
     sound = r.sound;
     place = joined_place s r at apart there;
-    views = at_each s r at apart there (IsView k r.history r.contents) (was_emptied s r at apart there) (view_joined s r at apart there) (λ i u _ _ e. r.views i u e);
+    views =
+        at_each s r at apart there (IsView k r.history r.contents) (was_emptied s r at apart there) (view_joined s r at apart there)
+        (λ i u _ _ e. r.views i u e);
     numbers = λ p. both_counts s r at apart there (λ z. logs_of p z.logs) refl (sum_by-append _ v.logs w.logs) ∙ r.numbers p;
     count = both_counts s r at apart there (λ z. length z.logs) refl (length-append v.logs w.logs) ∙ r.count;
     few = r.few;

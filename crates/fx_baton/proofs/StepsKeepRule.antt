@@ -1,8 +1,8 @@
 -- A step of one seat keeps the rule.
 use Rattle.std.proofs.Common.{◌≡◌, ◌≢◌, ℕ, ◌+◌, ◌<◌, ◌≤◌, true, List, [], ◌∷◌, length, set, sym, refl, ap, ◌∙◌, subst, arith, ◌⊎◌, inl, inr, ⊎_elim}
-use mathlib.Core.Option.{some}
+use mathlib.Core.Option.{some, some-injective}
 use lib.ListN.{get_elem?}
-use Rattle.std.specs.Prelude.{Some, Contains, sum_by}
+use Rattle.std.specs.Prelude.{Some, None, Contains, sum_by}
 use Rattle.std.proofs.lemmas.List.Elements.{Contains-append_cases}
 use Rattle.atomic_table.proofs.Lists.{at_set, set_else}
 use Rattle.fx_plain.specs.Contents.{Contents, state_of, leaving, IsTable}
@@ -19,6 +19,14 @@ use Rattle.fx_baton.specs.declared.view.View.{View}
 use Rattle.fx_baton.specs.declared.view.Start.{Start}
 use Rattle.fx_baton.specs.Rule.{Shared, begin_of, logs_of, file_in_hand, holds_by, removals_by, leaving_count, IsLog, IsView, IsHome, IsAway, IsKept}
 use Rattle.fx_baton.proofs.Counts.{some_log, at_most_one, in_range, hand_is_counted, one_true}
+
+-- a seat without the table is not the one that has it
+pub not_holder : (c : Contents) (h : List Event) (s : Shared) (away : IsAway c h s) (i : ℕ) (u : View) → get_elem? s.views i ≡ some u
+    → u.loan ≡ None → away.holder ≢ i
+not_holder c h s away i u at free same =
+    let is : u ≡ away.view = some-injective u away.view (sym at ∙ (ap (get_elem? s.views) (sym same) ∙ away.at)) in
+    let no : None ≡ Some c = sym free ∙ (ap (λ (z : View). z.loan) is ∙ away.loan) in
+    absurd (cc no)
 
 module _ (k : Start) (s : Shared) (r : IsKept k s) (id : ℕ) (v : View) (at : get_elem? s.views id ≡ some v) (w : View)
     (c : Contents) (es : List Event) (words : List ℕ) (homes : List (mathlib.Core.Option.Option Contents)) where
@@ -52,7 +60,8 @@ module _ (k : Start) (s : Shared) (r : IsKept k s) (id : ℕ) (v : View) (at : g
     pub count : length w.logs ≡ length v.logs
     pub held : (n : ℕ) → (state_of c).holds n + holds_by n v.doing ≡ (state_of r.contents).holds n + holds_by n w.doing
     pub leaves : (n : ℕ) → leaving_count c n + removals_by n v.doing ≡ leaving_count r.contents n + removals_by n w.doing
-    pub files : (f : File) → HasFile (state_of r.contents) f → (0 < (state_of c).holds f.number) ⊎ (leaving c f.number ≡ true) → HasFile (state_of c) f
+    pub files : (f : File) → HasFile (state_of r.contents) f → (0 < (state_of c).holds f.number) ⊎ (leaving c f.number ≡ true)
+        → HasFile (state_of c) f
     pub others : (n : ℕ) → pass_of_number k.passes n ≢ log.number → (state_of r.contents).fresh n ≡ true → (state_of c).fresh n ≡ true
 
   module _ (t : Turns) where
@@ -72,7 +81,8 @@ module _ (k : Start) (s : Shared) (r : IsKept k s) (id : ℕ) (v : View) (at : g
     all_holds n = let a = sum_set (λ (z : View). holds_by n z.doing) s.views id v w at in let b = r.held n in let d = t.held n in omega arith
 
     all_removals : (n : ℕ) → sum_by (λ (z : View). removals_by n z.doing) (set s.views id w) ≡ leaving_count c n
-    all_removals n = let a = sum_set (λ (z : View). removals_by n z.doing) s.views id v w at in let b = r.leaves n in let d = t.leaves n in omega arith
+    all_removals n = let a = sum_set (λ (z : View). removals_by n z.doing) s.views id v w at in let b = r.leaves n in let d = t.leaves n in
+        omega arith
 
     still_there : (i : ℕ) (u : View) → i ≢ id → get_elem? s.views i ≡ some u → (f : File) → file_in_hand u.doing ≡ Some f → HasFile (state_of c) f
     still_there i u n e f is =
@@ -80,10 +90,10 @@ module _ (k : Start) (s : Shared) (r : IsKept k s) (id : ℕ) (v : View) (at : g
         let holds : ℕ → View → ℕ = λ m z. holds_by m z.doing in
         let removals : ℕ → View → ℕ = λ m z. removals_by m z.doing in
         t.files f ((r.views i u e).file f is) (⊎_elim
-          (λ one. inl (let a = sum_at (holds f.number) (set s.views id w) i u here in let b = all_holds f.number in omega arith))
-          (λ one. inr (one_true (leaving c f.number)
-            (let a = sum_at (removals f.number) (set s.views id w) i u here in let b = all_removals f.number in omega arith)))
-          (hand_is_counted u.doing f is))
+        (λ one. inl (let a = sum_at (holds f.number) (set s.views id w) i u here in let b = all_holds f.number in omega arith))
+        (λ one. inr (one_true (leaving c f.number)
+        (let a = sum_at (removals f.number) (set s.views id w) i u here in let b = all_removals f.number in omega arith)))
+        (hand_is_counted u.doing f is))
 
     author : (1 ≤ t.log.number) × (t.log.number ≤ k.passes)
     author =
@@ -102,7 +112,7 @@ module _ (k : Start) (s : Shared) (r : IsKept k s) (id : ℕ) (v : View) (at : g
       views = λ i u e. ⊎_elim
           (λ (m : (i ≡ id) × (w ≡ u)). subst (IsView k longer c) m.1 t.mine)
           (λ (m : (i ≢ id) × (get_elem? s.views i ≡ some u)). let a = r.views i u m.1 in
-            record { logs = other_log i u m.0 m.1; file = still_there i u m.0 m.1; empty = a.empty; start = a.start })
+          record { logs = other_log i u m.0 m.1; file = still_there i u m.0 m.1; empty = a.empty; start = a.start })
           (at_set s.views id i w u e);
       numbers = λ p. let a = sum_set (λ (z : View). logs_of p z.logs) s.views id v w at in let b = r.numbers p in let d = t.numbers p in omega arith;
       count = let a = sum_set (λ (z : View). length z.logs) s.views id v w at in let b = r.count in let d = t.count in omega arith;

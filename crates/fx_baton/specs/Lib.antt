@@ -3,3 +3,4 @@ pub mod Laws
 pub mod Turns
 pub mod Passes
 pub mod Lives
+pub mod Tables

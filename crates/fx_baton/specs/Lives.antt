@@ -1,15 +1,17 @@
 -- Passes as they are dealt out and gathered.
-use Rattle.std.specs.Prelude.{◌≡◌, ℕ, ◌+◌, ◌-◌, List, [], ◌∷◌, ◌++◌, None}
-use Rattle.atomic_table.specs.Seated.{TableId}
+use Rattle.std.specs.Prelude.{◌≡◌, ℕ, ◌+◌, ◌-◌, true, false, List, [], ◌∷◌, ◌++◌, None}
+use Rattle.atomic_table.specs.declared.shared.Seat.{Seat}
 use lib.ListN.{get_elem?}
 use mathlib.Core.Option.{some}
 use Rattle.fx_plain.specs.Contents.{Contents}
+use Rattle.fx_table.specs.declared.limits.TheConstants.{PASS_LOOKS}
 use Rattle.fx_table.specs.declared.values.Doing.TheVariants.{Idle}
 use Rattle.fx_baton.specs.declared.view.Log.{Log}
 use Rattle.fx_baton.specs.declared.view.View.{View}
 use Rattle.fx_baton.specs.declared.view.Start.{Start}
 use Rattle.fx_baton.specs.declared.pass.BatonPass.{BatonPass}
-use Rattle.fx_baton.specs.Rule.{Shared, Seated, IsKept, IsHome, new_logs}
+use Rattle.fx_baton.specs.declared.table.BatonTable.{BatonTable}
+use Rattle.fx_baton.specs.Rule.{Shared, IsKept, IsHome, first_view, new_logs}
 
 -- the view of a seat that has the new passes from p to the last
 abbrev pub dealt : Start → ℕ → View
@@ -19,17 +21,30 @@ abbrev pub logs_in : List BatonPass → List Log
 logs_in [] = []
 logs_in (p ∷ ps) = p.seat.me.0.logs ++ logs_in ps
 
--- a seat with some passes, which do nothing
-pub record IsIdleSeat (k : Start) (m : Seated) : Type 0 where
-  pub slots : m.1 ≡ []
-  pub start : m.0.start ≡ k
-  pub idle : m.0.doing ≡ Idle
-  pub free : m.0.loan ≡ None
+-- the pass of this seat and number, of so many, has done nothing
+pub record IsNewPass (seat : Seat Contents View) (number passes : ℕ) (p : BatonPass) : Type 0 where
+  pub its_seat : p.seat ≡ seat
+  pub its_number : p.number ≡ number
+  pub all_passes : p.passes ≡ passes
+  pub count : p.count ≡ 0
+  pub chain : p.chain ≡ 0
+  pub chains_left : p.no_chains_left ≡ false
+  pub numbers : p.numbers_left ≡ 0
+  pub looks : p.looks_left ≡ PASS_LOOKS
+  pub flag : p.idle ≡ true
 
--- an idle pass of the table
-pub record IsIdlePass (id : TableId) (k : Start) (p : BatonPass) : Type 0 where
-  pub table : p.seat.table_id ≡ id
-  pub seat : IsIdleSeat k p.seat.me
+-- the seat of a table that was just opened
+pub record HasAllPasses (t : BatonTable) (seat : Seat Contents View) : Type 0 where
+  pub table : seat.table_id ≡ t.table.shared.table_id
+  pub me : seat.me ≡ (first_view t.table.shared.key, [])
+
+-- a seat of the table with some passes, which do nothing
+pub record IsIdleSeatOf (t : BatonTable) (seat : Seat Contents View) : Type 0 where
+  pub table : seat.table_id ≡ t.table.shared.table_id
+  pub slots : seat.me.1 ≡ []
+  pub start : seat.me.0.start ≡ t.table.shared.key
+  pub idle : seat.me.0.doing ≡ Idle
+  pub free : seat.me.0.loan ≡ None
 
 -- whatever the last state is, the table is at home
 abbrev pub AllIsHome : Start → ℕ → View → Type 0

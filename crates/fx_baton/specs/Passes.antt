@@ -1,12 +1,15 @@
 -- A pass of the table behind one word, as all shared tables show it.
-use Rattle.std.specs.Prelude.{◌≡◌, ℕ, ◌≤◌, Bool, true, false, List, [], ◌∷◌, Some, None}
+use Rattle.std.specs.Prelude.{◌≡◌, ℕ, ◌-◌, ◌≤◌, Bool, true, false, List, [], ◌∷◌, Some, None}
 use Rattle.atomic_table.specs.Seated.{TableId}
-use Rattle.fx_plain.specs.Contents.{Contents, IsTable}
+use Rattle.atomic_table.specs.declared.shared.Seat.{Seat}
+use Rattle.fx_plain.specs.Contents.{Contents, IsTable, state_of}
 use Rattle.fx_plain.specs.History.{IsSeenBy}
 use Rattle.fx_plain.specs.declared.event.Event.{Event}
 use Rattle.fx_table.specs.Numbers.{chains_of_pass}
 use Rattle.fx_table.specs.Pass.{PassView, IsFront, next_number}
+use Rattle.fx_table.specs.Opening.{state_at}
 use Rattle.fx_table.specs.Turns.{HasDrawnInTurn}
+use Rattle.fx_table.specs.Calls.{Adds}
 use Rattle.fx_table.specs.declared.values.Doing.{Doing}
 use Rattle.fx_table.specs.declared.values.Doing.TheVariants.{Idle, Holding, Retiring}
 use Rattle.fx_baton.specs.declared.view.Log.{Log}
@@ -16,7 +19,7 @@ use Rattle.fx_baton.specs.declared.view.Call.{Call}
 use Rattle.fx_baton.specs.declared.view.Call.TheVariants.{Look as LookCall, Release as ReleaseCall, Put as PutCall, Allocate as AllocateCall, Full as FullCall, Clear as ClearCall, Take as TakeCall, Retire as RetireCall}
 use Rattle.fx_baton.specs.declared.pass.BatonPass.{BatonPass}
 use Rattle.fx_baton.specs.Rule.{opening_of, Knows, IsTurn}
-use Rattle.fx_baton.specs.Turns.{doing_of, events_of, use_of}
+use Rattle.fx_baton.specs.Turns.{actions_of, doing_of, events_of, use_of, table_of_slots}
 
 abbrev pub first_front : List Log → List Event
 first_front [] = []
@@ -37,6 +40,15 @@ view_of p = record {
   numbers_left = p.numbers_left;
   looks_left = p.looks_left;
   doing = p.seat.me.0.doing;
+}
+
+-- the pass with another seat, behind a call
+abbrev pub pass_behind : BatonPass → Call → Bool → Seat Contents View → BatonPass
+pass_behind p call idle seat = record p {
+  seat = seat;
+  numbers_left = p.numbers_left - (use_of call).numbers;
+  looks_left = p.looks_left - (use_of call).looks;
+  idle = idle;
 }
 
 abbrev pub is_idle : Doing → Bool
@@ -109,3 +121,12 @@ pub record HasCalled (id : TableId) (k : Start) (call : Call) (idle : Bool) (p :
   pub numbers : (use_of call).numbers ≤ p.numbers_left
   pub looks : (use_of call).looks ≤ p.looks_left
   pub flag : idle ≡ is_idle (doing_of taken call)
+
+-- the pass p put the table back behind the call, as q
+pub record HasGivenBack (id : TableId) (k : Start) (call : Call) (p q : BatonPass) : Type 0 where
+  pub fits : IsPassOf id k q
+  -- wherever the pass had come from
+  pub adds : (u : PassView) (c d : Contents) → HasTable id k u c d p
+      → Adds (opening_of k) u (actions_of c p.seat.me.0.doing call) (doing_of c call) (use_of call) (view_of q)
+  -- its front leads to the state of the table that it put back
+  pub end : state_at (opening_of k) (view_of q).front ≡ state_of (table_of_slots p.seat.me.1)

@@ -2,11 +2,10 @@
 ghost use Rattle.std.specs.Prelude.{◌≡◌, Option, length, map, option_map, All};
 ghost use Rattle.fx_plain.specs.declared.event.File.{File};
 ghost use Rattle.fx_plain.specs.Table.{number_of};
-ghost use Rattle.fx_table.specs.declared.values.Doing.TheVariants.{Idle};
-ghost use Rattle.fx_table.specs.Pass.{retired_of, next_number};
+ghost use Rattle.fx_table.specs.Pass.{IsIdle, retired_of, next_number};
 ghost use Rattle.fx_table.specs.Closing.{ClosesTable};
-ghost use Rattle.fx_baton.specs.Rule.{opening_of};
-ghost use Rattle.fx_baton.specs.Passes.{view_of, IsPassOf};
+ghost use Rattle.fx_baton.specs.Passes.{view_of};
+ghost use Rattle.fx_baton.specs.Tables.{opening_of_table, IsPassOfTable};
 
 use crate::pass::BatonPass;
 use crate::table::BatonTable;
@@ -18,16 +17,16 @@ use std::alloc::Global;
 use std::sync::Wait;
 
 impl FileTable for BatonTable {
-    ghost use Rattle.fx_baton.specs.Rule.{opening_of};
-    ghost use Rattle.fx_baton.specs.Passes.{view_of, IsPassOf};
+    ghost use Rattle.fx_baton.specs.Passes.{view_of};
+    ghost use Rattle.fx_baton.specs.Tables.{opening_of_table, IsPassOfTable};
 
     type Pass = BatonPass;
 
-    ghost opening = { λ t. opening_of t.table.shared.key };
+    ghost opening = { opening_of_table };
 
-    ghost fits = { λ t p. IsPassOf t.table.shared.table_id t.table.shared.key p };
+    ghost fits = { IsPassOfTable };
 
-    ghost view = { λ p. view_of p };
+    ghost view = { view_of };
 
     fn open(
         alloc: Global,
@@ -51,10 +50,10 @@ impl FileTable for BatonTable {
     }
 
     fn close(self, passes: Vec<BatonPass>) -> PlainTable
-        requires all { length passes.items ≡ self.table.shared.key.passes }
-        requires fits { All (IsPassOf self.table.shared.table_id self.table.shared.key) passes.items }
-        requires idle { All (λ p. p.seat.me.0.doing ≡ Idle) passes.items }
-        ensures { ClosesTable (opening_of self.table.shared.key) (map view_of passes.items) result }
+        requires all { length passes.items ≡ (opening_of_table self).passes }
+        requires fits { All (IsPassOfTable self) passes.items }
+        requires idle { All (λ p. IsIdle (view_of p)) passes.items }
+        ensures { ClosesTable (opening_of_table self) (map view_of passes.items) result }
     {
         self.close_all(passes)
     }
@@ -135,11 +134,7 @@ impl FileTable for BatonTable {
         let plain = pass.seat.slot_mut(&self.table.shared, 0);
         let entry = plain.entry_at(slot);
         let replaced = plain.put(slot, number, file);
-        self.give_back(
-            pass,
-            Call::Put(slot, number, identity),
-            replaced.is_none(),
-        );
+        self.give_back(pass, Call::Put(slot, number, identity), replaced.is_none());
         retired(replaced, entry)
     }
 
@@ -205,7 +200,7 @@ impl FileTable for BatonTable {
 impl BatonTable {
     // The number that the pass's next installation uses.
     fn next_number(&self, pass: &BatonPass) -> u32
-        requires { IsPassOf self.now.table.shared.table_id self.now.table.shared.key pass.now }
+        requires { IsPassOfTable self.now pass.now }
         ensures { result ≡ next_number (view_of pass.now) }
     {
         numbers_for(pass.chain) - pass.numbers_left
@@ -214,10 +209,8 @@ impl BatonTable {
 
 // The file that was removed from a slot, if there was one.
 fn retired(node: Option<u32>, entry: Option<u8>) -> Option<Retired>
-    ensures {
-        (found : Option File) → node ≡ number_of found → entry ≡ option_map (λ f. f.identity.entry) found
-        → result ≡ option_map (λ f. retired_of f 0) found
-    }
+    ensures { (found : Option File) → node ≡ number_of found → entry ≡ option_map (λ f. f.identity.entry) found
+        → result ≡ option_map (λ f. retired_of f 0) found }
 {
     match (node, entry) {
         (Some(node), Some(entry)) => Some(Retired {

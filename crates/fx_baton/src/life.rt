@@ -2,13 +2,12 @@
 ghost use Rattle.std.specs.Prelude.{◌≡◌, ◌≤◌, ◌∷◌, ◌++◌, [], length, map, reverse, All, IfOk, IfErr, vec_capacity};
 ghost use Rattle.fx_plain.specs.State.{IsSettled};
 ghost use Rattle.fx_plain.specs.Contents.{Contents, state_of};
-ghost use Rattle.fx_table.specs.declared.values.Doing.TheVariants.{Idle};
 ghost use Rattle.fx_table.specs.Opening.{IsGivenBack, opening_with};
-ghost use Rattle.fx_table.specs.Pass.{new_passes};
+ghost use Rattle.fx_table.specs.Pass.{IsIdle, new_passes};
 ghost use Rattle.fx_table.specs.Closing.{ClosesTable};
-ghost use Rattle.fx_baton.specs.Rule.{opening_of, first_view};
-ghost use Rattle.fx_baton.specs.Passes.{view_of, IsPassOf};
-ghost use Rattle.fx_baton.specs.Lives.{IsIdleSeat, IsIdlePass, logs_in, AllIsHome, Leaves};
+ghost use Rattle.fx_baton.specs.Passes.{view_of};
+ghost use Rattle.fx_baton.specs.Tables.{opening_of_table, IsPassOfTable};
+ghost use Rattle.fx_baton.specs.Lives.{HasAllPasses, IsIdleSeatOf, logs_in, AllIsHome, Leaves};
 
 use crate::kinds::{Deal, Gather};
 use crate::pass::BatonPass;
@@ -46,9 +45,8 @@ impl BatonTable {
         requires settled { IsSettled (state_of plain) }
         requires chains { chains ≤ MAX_CHAINS }
         requires passes { (1 ≤ passes) × (passes ≤ MAX_PASSES) }
-        ensures opened { IfOk result (λ (t, _). opening_of t.table.shared.key ≡ opening_with plain chains passes) }
-        ensures seat { IfOk result (λ (t, seat). seat.table_id ≡ t.table.shared.table_id) }
-        ensures me { IfOk result (λ (t, seat). seat.me ≡ (first_view t.table.shared.key, [])) }
+        ensures opened { IfOk result (λ (t, _). opening_of_table t ≡ opening_with plain chains passes) }
+        ensures seat { IfOk result (λ (t, seat). HasAllPasses t seat) }
         ensures refused { IfErr result (λ (back, _). IsGivenBack plain back) }
     {
         let key = Start {
@@ -84,9 +82,9 @@ impl BatonTable {
 
     // Each pass gets a seat of its own.
     pub(crate) fn deal(&self, mut seat: Seat<PlainTable, View>, list: &mut Vec<BatonPass>)
-        requires seat { (seat.table_id ≡ self.now.table.shared.table_id) × (seat.me ≡ (first_view self.now.table.shared.key, [])) }
+        requires seat { HasAllPasses self.now seat }
         requires list { (list.old.items ≡ []) × (self.now.passes ≤ vec_capacity list.old) }
-        ensures fits { All (IsPassOf self.now.table.shared.table_id self.now.table.shared.key) list.new.items }
+        ensures fits { All (IsPassOfTable self.now) list.new.items }
         ensures new { map view_of list.new.items ≡ new_passes self.now.passes }
     {
         let mut number = 1;
@@ -104,9 +102,9 @@ impl BatonTable {
         mut seat: Seat<PlainTable, View>,
         mut passes: Vec<BatonPass>,
     ) -> Seat<PlainTable, View>
-        requires seat { (seat.table_id ≡ self.now.table.shared.table_id) × IsIdleSeat self.now.table.shared.key seat.me }
-        requires passes { All (IsIdlePass self.now.table.shared.table_id self.now.table.shared.key) passes.items }
-        ensures seat { (result.table_id ≡ self.now.table.shared.table_id) × IsIdleSeat self.now.table.shared.key result.me }
+        requires seat { IsIdleSeatOf self.now seat }
+        requires passes { All (λ p. IsIdleSeatOf self.now p.seat) passes.items }
+        ensures seat { IsIdleSeatOf self.now result }
         ensures logs { result.me.0.logs ≡ seat.me.0.logs ++ logs_in (reverse passes.items) }
     {
         while let Some(pass) = passes.pop() {
@@ -139,10 +137,10 @@ impl BatonTable {
 
     // The table, when all passes have come back.
     pub(crate) fn close_all(self, mut passes: Vec<BatonPass>) -> PlainTable
-        requires all { length passes.items ≡ self.table.shared.key.passes }
-        requires fits { All (IsPassOf self.table.shared.table_id self.table.shared.key) passes.items }
-        requires idle { All (λ p. p.seat.me.0.doing ≡ Idle) passes.items }
-        ensures { ClosesTable (opening_of self.table.shared.key) (map view_of passes.items) result }
+        requires all { length passes.items ≡ (opening_of_table self).passes }
+        requires fits { All (IsPassOfTable self) passes.items }
+        requires idle { All (λ p. IsIdle (view_of p)) passes.items }
+        ensures { ClosesTable (opening_of_table self) (map view_of passes.items) result }
     {
         let Some(first) = passes.pop() else {
             unreachable!()

@@ -1,4 +1,4 @@
-ghost use Rattle.std.specs.Prelude.{◌≡◌, false, true};
+ghost use Rattle.fx_baton.specs.Lives.{IsNewPass};
 
 use crate::view::View;
 use atomic_table::Seat;
@@ -30,11 +30,7 @@ pub(crate) struct Spacing {
 
 impl BatonPass {
     pub(crate) fn new(seat: Seat<PlainTable, View>, number: u32, passes: u32) -> BatonPass
-        ensures seat { result.seat ≡ seat }
-        ensures number { (result.number ≡ number) × (result.passes ≡ passes) }
-        ensures drawn { (result.count ≡ 0) × (result.chain ≡ 0) × (result.no_chains_left ≡ false) }
-        ensures left { (result.numbers_left ≡ 0) × (result.looks_left ≡ PASS_LOOKS) }
-        ensures idle { result.idle ≡ true }
+        ensures { IsNewPass seat number passes result }
     {
         BatonPass {
             seat,

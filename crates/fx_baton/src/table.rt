@@ -1,19 +1,16 @@
-ghost use Rattle.std.specs.Prelude.{◌≡◌, ◌≤◌, ◌∷◌, ◌-◌, []};
-ghost use Rattle.fx_plain.specs.Contents.{Contents, state_of};
-ghost use Rattle.fx_table.specs.Opening.{state_at, size_of, range_of};
-ghost use Rattle.fx_table.specs.Pass.{PassView};
-ghost use Rattle.fx_table.specs.Calls.{Adds};
+ghost use Rattle.std.specs.Prelude.{◌≡◌, ◌≤◌, ◌∷◌, []};
+ghost use Rattle.fx_table.specs.declared.limits.TheConstants.{MAX_CHAINS, MAX_PASSES};
+ghost use Rattle.fx_table.specs.Opening.{size_of, range_of};
 ghost use Rattle.fx_baton.specs.declared.view.Log.{Log};
 ghost use Rattle.fx_baton.specs.Rule.{Takes, opening_of, view_behind};
-ghost use Rattle.fx_baton.specs.Turns.{table_of_slots, actions_of, doing_of, use_of};
-ghost use Rattle.fx_baton.specs.Passes.{view_of, IsPassOf, HasTable, HasPlayed, HasCalled};
+ghost use Rattle.fx_baton.specs.Turns.{table_of_slots, use_of};
+ghost use Rattle.fx_baton.specs.Passes.{view_of, pass_behind, IsPassOf, HasTable, HasPlayed, HasCalled, HasGivenBack};
 
 use crate::kinds::{Give, Grab, OneHistory, Turn};
 use crate::pass::BatonPass;
 use crate::view::{Call, Start, View};
 use atomic_table::{Seat, Table};
 use fx_plain::PlainTable;
-use fx_table::{MAX_CHAINS, MAX_PASSES};
 use std::alloc::Global;
 use std::marker::Brand;
 use std::sync::Wait;
@@ -32,8 +29,10 @@ pub struct BatonTable {
     pub(crate) range_len: u32,
     pub ghost counts: { (table.shared.table_id.words ≡ 1) × (table.shared.table_id.slots ≡ 1) },
     pub ghost key: { (chains ≡ table.shared.key.chains) × (passes ≡ table.shared.key.passes) },
-    pub ghost shape: { (size ≡ size_of (opening_of table.shared.key)) × ((range_start, range_len) ≡ range_of (opening_of table.shared.key)) × (size ≤ 256) },
-    pub ghost bounds: { (chains ≤ 1023) × (1 ≤ passes) × (passes ≤ 16) },
+    pub ghost same_size: { size ≡ size_of (opening_of table.shared.key) },
+    pub ghost same_range: { (range_start, range_len) ≡ range_of (opening_of table.shared.key) },
+    pub ghost few_slots: { size ≤ 256 },
+    pub ghost bounds: { (chains ≤ MAX_CHAINS) × (1 ≤ passes) × (passes ≤ MAX_PASSES) },
 }
 
 impl BatonTable {
@@ -57,42 +56,35 @@ impl BatonTable {
     // A pass takes the table.
     pub(crate) fn borrow<R: Wait>(&self, rt: &R, pass: &mut BatonPass)
         requires { IsPassOf self.now.table.shared.table_id self.now.table.shared.key pass.old }
-        ensures {
+        ensures { let t = self.now.table.shared in
             let c = table_of_slots pass.new.seat.me.1 in
-            HasTable self.now.table.shared.table_id self.now.table.shared.key (view_of pass.old) c c pass.new
-        }
+            HasTable t.table_id t.key (view_of pass.old) c c pass.new }
     {
         self.grab(rt, &mut pass.seat)
     }
 
     // A pass puts the table back, behind what it did.
-    fn give<U: Turn>(&self, pass: &mut BatonPass, call: Call)
-        requires turn { HasPlayed self.now.table.shared.table_id self.now.table.shared.key U.events U.doing pass.old }
+    fn give<U: Turn>(&self, pass: &mut BatonPass, call: Call, idle: bool)
+        requires turn { let t = self.now.table.shared in HasPlayed t.table_id t.key U.events U.doing pass.old }
         requires numbers { (use_of call).numbers ≤ pass.old.numbers_left }
         requires looks { (use_of call).looks ≤ pass.old.looks_left }
-        ensures seat { (pass.new.seat.table_id ≡ pass.old.seat.table_id) × (pass.new.seat.me ≡ (view_behind pass.old.seat.me.0 U.events U.doing, [])) }
-        ensures pass { pass.new ≡ record pass.old { seat = pass.new.seat; numbers_left = pass.old.numbers_left - (use_of call).numbers; looks_left = pass.old.looks_left - (use_of call).looks } }
+        ensures table { pass.new.seat.table_id ≡ pass.old.seat.table_id }
+        ensures me { pass.new.seat.me ≡ (view_behind pass.old.seat.me.0 U.events U.doing, []) }
+        ensures pass { pass.new ≡ pass_behind pass.old call idle pass.new.seat }
     {
         self.table.shared.store::<Give<U>>(&mut pass.seat, 0, 1);
         let (numbers, looks) = used(call);
         pass.numbers_left -= numbers;
         pass.looks_left -= looks;
+        pass.idle = idle;
     }
 
     // A pass puts the table back behind a call of it.
     pub(crate) fn give_back(&self, pass: &mut BatonPass, call: Call, idle: bool)
-        requires { HasCalled self.now.table.shared.table_id self.now.table.shared.key call idle pass.old }
-        ensures fits { IsPassOf self.now.table.shared.table_id self.now.table.shared.key pass.new }
-        ensures adds {
-            (u : PassView) (c d : Contents) → HasTable self.now.table.shared.table_id self.now.table.shared.key u c d pass.old
-            → Adds (opening_of self.now.table.shared.key) u (actions_of c pass.old.seat.me.0.doing call) (doing_of c call) (use_of call) (view_of pass.new)
-        }
-        ensures end {
-            state_at (opening_of self.now.table.shared.key) (view_of pass.new).front ≡ state_of (table_of_slots pass.old.seat.me.1)
-        }
+        requires { let t = self.now.table.shared in HasCalled t.table_id t.key call idle pass.old }
+        ensures { let t = self.now.table.shared in HasGivenBack t.table_id t.key call pass.old pass.new }
     {
-        self.give::<Brand>(pass, call);
-        pass.idle = idle;
+        self.give::<Brand>(pass, call, idle)
     }
 }
 

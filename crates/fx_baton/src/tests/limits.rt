@@ -15,7 +15,7 @@ fn draw_all<T: FileTable, R: Abort>(rt: &R, table: &T, pass: &mut T::Pass) -> u3
 {
     let mut count: u32 = 0;
     let mut last: u32 = 0;
-    for _ in 0..=MAX_CHAINS {
+    for _ in 0..MAX_CHAINS + 1 {
         assert!(rt; table.is_idle(pass));
         let Some(chain) = table.draw(pass) else {
             return count;
@@ -55,12 +55,17 @@ fn draw_by_all<T: FileTable, R: Abort>(
 
 #[test]
 fn most_passes_and_chains(rt: HostRuntime) -> Result<(), Fail> {
+    let mut drawn = Vec::with_capacity(rt.alloc(), 16)?;
     let plain = empty_table(&rt, rt.alloc(), 256);
-    let (table, mut passes) =
-        shared::<BatonTable, _>(&rt, rt.alloc(), plain, MAX_CHAINS, MAX_PASSES);
+    let (table, mut passes) = shared::<BatonTable, _>(
+        &rt,
+        rt.alloc(),
+        plain,
+        MAX_CHAINS,
+        MAX_PASSES,
+    );
     assert_eq!(rt; passes.len(), 16);
     assert!(rt; table.size() == 256 && table.range() == (0, 256));
-    let mut drawn = Vec::with_capacity(rt.alloc(), 16)?;
     assert_eq!(rt; draw_by_all(&rt, &table, &mut passes, &mut drawn), 1023);
     passes.destroy_empty();
     let plain = table.close(drawn);

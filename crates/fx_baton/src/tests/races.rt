@@ -17,7 +17,7 @@ use std::thread;
 use std::thread::Threads;
 
 // At which step each call is made, from 0.
-#[derive(Clone, Copy, Drop)]
+#[derive(Clone, Copy)]
 struct Schedule {
     look: u32,
     release: u32,
@@ -178,11 +178,7 @@ fn race_crew<T: FileTable, R: Threads + Wait + Abort + Sync>(
 }
 
 // The pass of the racer that is the last of the list.
-fn last_pass<T: FileTable, R: Abort>(
-    rt: &R,
-    table: &T,
-    racers: &mut Vec<Racer<T::Pass>>,
-) -> T::Pass
+fn last_pass<T: FileTable, R: Abort>(rt: &R, table: &T, racers: &mut Vec<Racer<T::Pass>>) -> T::Pass
     requires { All (λ w. T.fits table.now w.pass) racers.old.items }
     ensures pass { T.fits table.now result }
     ensures others { All (λ w. T.fits table.now w.pass) racers.new.items }
@@ -239,30 +235,84 @@ fn race_by<R: Threads + Wait + Abort + Sync>(
 
 #[test]
 fn release_after_retire(rt: HostRuntime) -> Result<(), Fail> {
-    race_by(&rt, rt.alloc(), Schedule { look: 0, put: 1, retire: 2, release: 3 })
+    race_by(
+        &rt,
+        rt.alloc(),
+        Schedule {
+            look: 0,
+            put: 1,
+            retire: 2,
+            release: 3,
+        },
+    )
 }
 
 #[test]
 fn release_between_put_and_retire(rt: HostRuntime) -> Result<(), Fail> {
-    race_by(&rt, rt.alloc(), Schedule { look: 0, put: 1, release: 2, retire: 3 })
+    race_by(
+        &rt,
+        rt.alloc(),
+        Schedule {
+            look: 0,
+            put: 1,
+            release: 2,
+            retire: 3,
+        },
+    )
 }
 
 #[test]
 fn release_before_put(rt: HostRuntime) -> Result<(), Fail> {
-    race_by(&rt, rt.alloc(), Schedule { look: 0, release: 1, put: 2, retire: 3 })
+    race_by(
+        &rt,
+        rt.alloc(),
+        Schedule {
+            look: 0,
+            release: 1,
+            put: 2,
+            retire: 3,
+        },
+    )
 }
 
 #[test]
 fn look_and_release_between_put_and_retire(rt: HostRuntime) -> Result<(), Fail> {
-    race_by(&rt, rt.alloc(), Schedule { put: 0, look: 1, release: 2, retire: 3 })
+    race_by(
+        &rt,
+        rt.alloc(),
+        Schedule {
+            put: 0,
+            look: 1,
+            release: 2,
+            retire: 3,
+        },
+    )
 }
 
 #[test]
 fn look_before_retire_and_release_behind_it(rt: HostRuntime) -> Result<(), Fail> {
-    race_by(&rt, rt.alloc(), Schedule { put: 0, look: 1, retire: 2, release: 3 })
+    race_by(
+        &rt,
+        rt.alloc(),
+        Schedule {
+            put: 0,
+            look: 1,
+            retire: 2,
+            release: 3,
+        },
+    )
 }
 
 #[test]
 fn look_after_retire(rt: HostRuntime) -> Result<(), Fail> {
-    race_by(&rt, rt.alloc(), Schedule { put: 0, retire: 1, look: 2, release: 3 })
+    race_by(
+        &rt,
+        rt.alloc(),
+        Schedule {
+            put: 0,
+            retire: 1,
+            look: 2,
+            release: 3,
+        },
+    )
 }

@@ -4,6 +4,7 @@ ghost use Rattle.std.specs.Prelude.{◌≡◌, All};
 use super::{empty_table, opened, shared, two_names};
 use crate::BatonTable;
 use fx_base::OpenFile;
+use fx_plain::PlainTable;
 use fx_table::{FileTable, LookFault, PASS_LOOKS};
 use std::process::Abort;
 use std::sync::Wait;
@@ -45,25 +46,39 @@ fn is_spent<T: FileTable, R: Wait + Abort>(rt: &R, table: &T, pass: &mut T::Pass
     }
 }
 
+// The only pass of the table spends its look-ups, and puts the file into the table.
+fn spend_all<T: FileTable, R: Wait + Abort>(
+    rt: &R,
+    table: T,
+    mut passes: Vec<T::Pass>,
+    file: OpenFile,
+) -> PlainTable
+    requires fits { All (λ p. T.fits table p) passes.items }
+    requires one { (T.opening table).passes ≡ 1 }
+{
+    let Some(mut pass) = passes.pop() else {
+        panic!(rt; "a pass")
+    };
+    assert!(rt; passes.is_empty());
+    assert!(rt; table.is_idle(&pass));
+    assert!(rt; table.draw(&mut pass) == Some(1));
+    assert_eq!(rt; table.looks_left(&pass), 1_048_576);
+    look_all(rt, &table, &mut pass);
+    is_spent(rt, &table, &mut pass, file);
+    assert!(rt; table.is_idle(&pass));
+    match passes.push(pass) {
+        Ok(()) => {}
+        Err(_refused) => panic!(rt; "room for the pass"),
+    }
+    table.close(passes)
+}
+
 #[test]
 fn all_looks_spent(rt: HostRuntime) -> Result<(), Fail> {
     let catalogue = two_names(rt.alloc())?;
     let plain = empty_table(&rt, rt.alloc(), 1);
-    let (table, mut passes) = shared::<BatonTable, _>(&rt, rt.alloc(), plain, 1, 1);
-    let Some(mut pass) = passes.pop() else {
-        panic!(&rt; "a pass")
-    };
-    assert!(rt; table.is_idle(&pass));
-    assert!(rt; table.draw(&mut pass) == Some(1));
-    assert_eq!(rt; table.looks_left(&pass), 1_048_576);
-    look_all(&rt, &table, &mut pass);
-    is_spent(&rt, &table, &mut pass, opened(&rt, &catalogue, 0, 1, 0));
-    assert!(rt; table.is_idle(&pass));
-    match passes.push(pass) {
-        Ok(()) => {}
-        Err(_refused) => panic!(&rt; "room for the pass"),
-    }
-    let plain = table.close(passes);
+    let (table, passes) = shared::<BatonTable, _>(&rt, rt.alloc(), plain, 1, 1);
+    let plain = spend_all(&rt, table, passes, opened(&rt, &catalogue, 0, 1, 0));
     assert!(rt; plain.full() == 1);
     plain.abandon();
     Ok(())

@@ -8,16 +8,19 @@ pub slot_mut-plain-requires : goal.slot_mut-plain-requires
 slot_mut-plain-requires g c = may_lend c.borrow.ensures
 
 pub entry_at-entry-requires : goal.entry_at-entry-requires
-entry_at-entry-requires g c = slot_inside (lent_as c.borrow.ensures c.slot_mut-plain.result.now c.slot_mut-plain.ensures.value) c.args.slot c.requires.slot
+entry_at-entry-requires g c =
+    slot_inside (lent_as c.borrow.ensures c.slot_mut-plain.result.now c.slot_mut-plain.ensures.value) c.args.slot c.requires.slot
 
 pub clear-removed-requires : goal.clear-removed-requires
-clear-removed-requires g c = slot_inside (lent_as c.borrow.ensures c.slot_mut-plain.result.now c.slot_mut-plain.ensures.value) c.args.slot c.requires.slot
+clear-removed-requires g c =
+    slot_inside (lent_as c.borrow.ensures c.slot_mut-plain.result.now c.slot_mut-plain.ensures.value) c.args.slot c.requires.slot
 
 pub give_back-requires : goal.give_back-requires
 give_back-requires g c =
     let h = lent_as c.borrow.ensures c.slot_mut-plain.result.now c.slot_mut-plain.ensures.value in
     let l = c.clear-removed in
-    clear_called h c.requires.idle c.args.slot l.new.self l.result c.is_none.result l.ensures.step l.ensures.leaving l.ensures.answer (flag_is l.result c.is_none.result c.is_none.ensures) l.ensures.sound
+    clear_called h c.requires.idle c.args.slot l.new.self l.result c.is_none.result l.ensures.step l.ensures.leaving l.ensures.answer
+    (flag_is l.result c.is_none.result c.is_none.ensures) l.ensures.sound
 
 pub returns-clause-cleared : goal.returns-clause-cleared
 returns-clause-cleared g c =

@@ -13,7 +13,8 @@ pub slot_mut-plain-requires : goal.slot_mut-plain-requires
 slot_mut-plain-requires g c = may_lend c.borrow.ensures
 
 pub look-found-requires-clause-slot : goal.look-found-requires-clause-slot
-look-found-requires-clause-slot g c = slot_inside (lent_as c.borrow.ensures c.slot_mut-plain.result.now c.slot_mut-plain.ensures.value) c.args.slot c.requires.slot
+look-found-requires-clause-slot g c =
+    slot_inside (lent_as c.borrow.ensures c.slot_mut-plain.result.now c.slot_mut-plain.ensures.value) c.args.slot c.requires.slot
 
 pub look-found-requires-clause-room : goal.look-found-requires-clause-room
 look-found-requires-clause-room g c = room_for (lent_as c.borrow.ensures c.slot_mut-plain.result.now c.slot_mut-plain.ensures.value) c.args.slot
@@ -23,7 +24,8 @@ give_back-requires g c =
     let h = lent_as c.borrow.ensures c.slot_mut-plain.result.now c.slot_mut-plain.ensures.value in
     let l = c.look-found in
     let some_left = c.if-pass-eq0.false in
-    look_called h c.requires.idle c.args.slot l.new.self l.result c.is_none.result (omega arith) l.ensures.step l.ensures.leaving l.ensures.answer (flag_is l.result c.is_none.result c.is_none.ensures) l.ensures.sound
+    look_called h c.requires.idle c.args.slot l.new.self l.result c.is_none.result (omega arith) l.ensures.step l.ensures.leaving l.ensures.answer
+    (flag_is l.result c.is_none.result c.is_none.ensures) l.ensures.sound
 
 pub returns-in-None-clause-looked : goal.returns-in-None-clause-looked
 returns-in-None-clause-looked g c =
@@ -44,5 +46,6 @@ returns-in-Some-clause-looked g c =
     let u = view_of c.args.pass.now in
     let w = view_of c.give_back.new.pass in
     let d = c.look-found.new.self in
-    looked_file c.args.slot c.in-Some.node c.in-Some.entry ((state_of now).at c.args.slot) (λ found doing. Adds o u ([] ▷ Look c.args.slot found) doing one_look w)
+    looked_file c.args.slot c.in-Some.node c.in-Some.entry ((state_of now).at c.args.slot)
+    (λ found doing. Adds o u ([] ▷ Look c.args.slot found) doing one_look w)
     (sym c.in-Some.is ∙ c.look-found.ensures.answer) (c.give_back.ensures.adds u now d (still_has h d))

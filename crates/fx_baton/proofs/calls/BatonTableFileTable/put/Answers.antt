@@ -17,14 +17,17 @@ pub slot_mut-plain-requires : goal.slot_mut-plain-requires
 slot_mut-plain-requires g c = may_lend c.borrow.ensures
 
 pub entry_at-entry-requires : goal.entry_at-entry-requires
-entry_at-entry-requires g c = slot_inside (lent_as c.borrow.ensures c.slot_mut-plain.result.now c.slot_mut-plain.ensures.value) c.args.slot c.requires.slot
+entry_at-entry-requires g c =
+    slot_inside (lent_as c.borrow.ensures c.slot_mut-plain.result.now c.slot_mut-plain.ensures.value) c.args.slot c.requires.slot
 
 pub put-replaced-requires-clause-slot : goal.put-replaced-requires-clause-slot
-put-replaced-requires-clause-slot g c = slot_inside (lent_as c.borrow.ensures c.slot_mut-plain.result.now c.slot_mut-plain.ensures.value) c.args.slot c.requires.slot
+put-replaced-requires-clause-slot g c =
+    slot_inside (lent_as c.borrow.ensures c.slot_mut-plain.result.now c.slot_mut-plain.ensures.value) c.args.slot c.requires.slot
 
 pub put-replaced-requires-clause-fresh : goal.put-replaced-requires-clause-fresh
 put-replaced-requires-clause-fresh g c =
-    number_fresh (lent_as c.borrow.ensures c.slot_mut-plain.result.now c.slot_mut-plain.ensures.value) c.requires.numbers c.next_number-number.result c.next_number-number.ensures
+    number_fresh (lent_as c.borrow.ensures c.slot_mut-plain.result.now c.slot_mut-plain.ensures.value)
+    c.requires.numbers c.next_number-number.result c.next_number-number.ensures
 
 pub give_back-requires : goal.give_back-requires
 give_back-requires g c =
@@ -32,8 +35,11 @@ give_back-requires g c =
     let h = lent_as c.borrow.ensures now c.slot_mut-plain.ensures.value in
     let l = c.put-replaced in
     let number = c.next_number-number in
-    let step = subst (λ (z : Closed). Steps (state_of now) (Put c.args.slot (numbered number.result z) ((state_of now).at c.args.slot)) (state_of l.new.self)) (sym c.identity-identity.ensures) l.ensures.step in
-    put_called h c.requires.idle c.requires.numbers c.args.slot number.result c.identity-identity.result l.new.self l.result c.is_none.result number.ensures
+    let step = subst
+    (λ (z : Closed). Steps (state_of now) (Put c.args.slot (numbered number.result z) ((state_of now).at c.args.slot)) (state_of l.new.self))
+    (sym c.identity-identity.ensures) l.ensures.step in
+    put_called h c.requires.idle c.requires.numbers c.args.slot number.result
+    c.identity-identity.result l.new.self l.result c.is_none.result number.ensures
     step l.ensures.leaving l.ensures.answer (flag_is l.result c.is_none.result c.is_none.ensures) l.ensures.sound
 
 pub returns-clause-placed : goal.returns-clause-placed
@@ -47,4 +53,4 @@ returns-clause-placed g c =
     let d = c.put-replaced.new.self in
     placed_so o u w c.args.slot c.args.file found c.retired.result (c.retired.ensures found c.put-replaced.ensures.answer c.entry_at-entry.ensures)
     (subst (λ (z : ℕ × Closed). Adds o u ([] ▷ Put c.args.slot (numbered z.0 z.1) found) (retires_now found) one_number w)
-      (λ i. (c.next_number-number.ensures i, c.identity-identity.ensures i)) (c.give_back.ensures.adds u now d (still_has h d)))
+    (λ i. (c.next_number-number.ensures i, c.identity-identity.ensures i)) (c.give_back.ensures.adds u now d (still_has h d)))

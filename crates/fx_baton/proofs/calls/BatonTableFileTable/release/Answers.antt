@@ -27,7 +27,8 @@ give_back-requires g c =
     let f = c.requires.held in
     let is : c.args.hold.node ≡ f.0.number = ap (λ (x : Hold). x.node) f.2 in
     let d = c.release-closed.new.self in
-    let leads = subst (λ (n : ℕ). Leads (state_of now) ([] ▷ Release f.0 ▷▷ close_of (closed_by_release now n)) (state_of d)) is (c.release-closed.ensures.steps f.0 (sym is)) in
+    let leads = subst (λ (n : ℕ). Leads (state_of now) ([] ▷ Release f.0 ▷▷ close_of (closed_by_release now n)) (state_of d)) is
+    (c.release-closed.ensures.steps f.0 (sym is)) in
     release_called h f.0 f.1 d leads c.release-closed.ensures.leaving c.release-closed.ensures.sound
 
 pub returns-clause-released : goal.returns-clause-released
@@ -38,6 +39,10 @@ returns-clause-released g c =
     let is : c.args.hold.node ≡ f.0.number = ap (λ (x : Hold). x.node) f.2 in
     let d = c.release-closed.new.self in
     let result = c.release-closed.result in
-    let answer = subst (λ (n : ℕ). result ≡ identity_of (closed_by_release now n)) is c.release-closed.ensures.answer in
-    (f.0, f.1, f.2, releases_so h f.0 f.1 (opening_of c.args.self.now.table.shared.key) (view_of c.give_back.new.pass) result answer
-      (c.give_back.ensures.adds (view_of c.args.pass.now) now d (still_has h d)))
+    let answer = subst (λ (n : ℕ). result ≡ identity_of (closed_by_release now n)) is c.release-closed.ensures.answer in (
+      f.0,
+      f.1,
+      f.2,
+      releases_so h f.0 f.1 (opening_of c.args.self.now.table.shared.key) (view_of c.give_back.new.pass) result answer
+          (c.give_back.ensures.adds (view_of c.args.pass.now) now d (still_has h d)),
+    )

@@ -39,6 +39,12 @@ returns-clause-retired g c =
     let d = c.retire-closed.new.self in
     let result = c.retire-closed.result in
     let leads = subst (λ (n : ℕ). Leads (state_of now) (close_of (closed_by_retirement now n)) (state_of d)) is c.retire-closed.ensures.steps in
-    let answer = subst (λ (n : ℕ). result ≡ identity_of (closed_by_retirement now n)) is c.retire-closed.ensures.answer in
-    (r.0, r.1, r.2, r.3, retires_so h r.0 r.1 r.2 d (opening_of c.args.self.now.table.shared.key) (view_of c.give_back.new.pass) result answer leads c.give_back.ensures.end
-      (c.give_back.ensures.adds (view_of c.args.pass.now) now d (still_has h d)))
+    let answer = subst (λ (n : ℕ). result ≡ identity_of (closed_by_retirement now n)) is c.retire-closed.ensures.answer in (
+      r.0,
+      r.1,
+      r.2,
+      r.3,
+      retires_so h r.0 r.1 r.2 d (opening_of c.args.self.now.table.shared.key) (view_of c.give_back.new.pass)
+          result answer leads c.give_back.ensures.end
+          (c.give_back.ensures.adds (view_of c.args.pass.now) now d (still_has h d)),
+    )

@@ -21,5 +21,6 @@ pub returns-then-compare_exchange-eq1-clause-taken : goal.returns-then-compare_e
 returns-then-compare_exchange-eq1-clause-taken g c x one =
     let i = c.loop.invariant in
     let new = c.compare_exchange.new.seat.me in
-    let grabs = subst (λ (m : Seated). Grabs (step c.args.self.now.table.shared.table_id.slots 0 1 0 none) m c.compare_exchange.result new) i.me c.compare_exchange.ensures.2 in
+    let grabs = subst (λ (m : Seated). Grabs (step c.args.self.now.table.shared.table_id.slots 0 1 0 none) m c.compare_exchange.result new)
+    i.me c.compare_exchange.ensures.2 in
     ⊎_elim (λ found. found.1 x one) (λ away. absurd (away.0 c.if-compare_exchange-eq1.true)) grabs

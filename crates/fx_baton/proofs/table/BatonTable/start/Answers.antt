@@ -11,7 +11,8 @@ new-requires c =
     let is : c.of.result.value ≡ c.args.plain = c.of.ensures in
     let prepared = c.in-Ok-prepare.ensures in
     opens record { plain = c.of.result; chains = c.args.chains; passes = c.args.passes } c.prepare.new.self
-    (prepared.ok ∙ (ap (opening (state_of c.args.plain)) c.numbers_for.ensures ∙ ap (λ (z : Contents). opening (state_of z) (numbers_for c.args.chains)) (sym is)))
+    (prepared.ok ∙ (ap (opening (state_of c.args.plain)) c.numbers_for.ensures
+    ∙ ap (λ (z : Contents). opening (state_of z) (numbers_for c.args.chains)) (sym is)))
     prepared.sound c.requires.passes.1 _ (c.push_reserved.ensures.items ∙ ap (λ l. l ++ c.prepare.new.self ∷ []) c.in-Ok.ensures.items)
 
 pub returns-clause-refused : goal.returns-clause-refused
