@@ -44,7 +44,8 @@ acts_behind o p q u xs ys d a b adds none acts =
       room = let few = acts.room in let many = ap length same in omega arith;
     }
 
-pub acts_then : (o : Opening) (p q r : Player) (xs ys : List Action) (a b : Use) → Acts o p xs a q → Acts o q ys b r → Acts o p (xs ▷▷ ys) (both_uses a b) r
+pub acts_then : (o : Opening) (p q r : Player) (xs ys : List Action) (a b : Use) → Acts o p xs a q → Acts o q ys b r
+    → Acts o p (xs ▷▷ ys) (both_uses a b) r
 acts_then o p q r xs ys a b one two = record {
   adds = adds_then o p.pass q.pass r.pass xs ys Idle Idle a b one.adds two.adds;
   files = two.files ∙ (ap (λ (l : List Closed). l ++ closes_in ys) one.files
@@ -124,7 +125,8 @@ same_held : (f g : File) → Holding f ≡ Holding g → f ≡ g
 same_held f g is = cc
 
 -- a look-up that found a file, and the release of it
-pub looks_and_releases : (o : Opening) (p q : Player) (u : PassView) (slot : ℕ) (f : File) → Adds o p.pass ([] ▷ Look slot (Some f)) (Holding f) one_look u
+pub looks_and_releases : (o : Opening) (p q : Player) (u : PassView) (slot : ℕ) (f : File)
+    → Adds o p.pass ([] ▷ Look slot (Some f)) (Holding f) one_look u
     → IsRelease o (player u p.closes) q → ActsSo o p 1 0 1 (MayClose ([] ▷ Look slot (Some f) ▷ Release f) (Some f)) q
 looks_and_releases o p q u slot f adds (g, doing, does) =
     let same = same_held g f (sym doing ∙ adds.now) in

@@ -60,11 +60,13 @@ same_member place = λ k. record place { member = (let e : place.member + 0 ≡ 
 further_member : (place : Place) (n : ℕ) → member_at place (suc n) ≡ member_at (next_member place) n
 further_member place n = λ k. record place { member = (let e : place.member + suc n ≡ (place.member + 1) + n = omega arith in e) k }
 
-canceled_more : (place : Place) (requests : List Asked) (r : Asked) → canceled place (requests ++ r ∷ []) ≡ canceled place requests ++ refusal (member_at place (length requests)) ECANCELED ∷ []
+canceled_more : (place : Place) (requests : List Asked) (r : Asked) → canceled place (requests ++ r ∷ [])
+    ≡ canceled place requests ++ refusal (member_at place (length requests)) ECANCELED ∷ []
 canceled_more place [] r = ap (λ (x : Place). refusal x ECANCELED ∷ []) (sym (same_member place))
 canceled_more place (x ∷ requests) r =
     ap (λ (cs : List Completed). refusal place ECANCELED ∷ cs)
-    (canceled_more (next_member place) requests r ∙ ap (λ (x : Place). canceled (next_member place) requests ++ refusal x ECANCELED ∷ []) (sym (further_member place (length requests))))
+    (canceled_more (next_member place) requests r
+    ∙ ap (λ (x : Place). canceled (next_member place) requests ++ refusal x ECANCELED ∷ []) (sym (further_member place (length requests))))
 
 canceled_count : (place : Place) (requests : List Asked) → length (canceled place requests) ≡ length requests
 canceled_count place [] = refl
@@ -72,7 +74,8 @@ canceled_count place (x ∷ requests) = ap suc (canceled_count (next_member plac
 
 module _ (catalogue : List FileEntry) (size : ℕ) where
   -- a chain has as many completions as members
-  pub explained_count : (place : Place) (requests : List Asked) (events : List Action) (cs : List Completed) → Explains catalogue size place requests events cs → length cs ≡ length requests
+  pub explained_count : (place : Place) (requests : List Asked) (events : List Action) (cs : List Completed)
+      → Explains catalogue size place requests events cs → length cs ≡ length requests
   explained_count place [] events cs (none, nobody) = ap length nobody
   explained_count place (x ∷ requests) events cs (own, others, c, rest, is, cs_is, answers, goes) =
       ap length cs_is ∙ ap suc (by_bool (severs x c) (length rest ≡ length requests)
@@ -81,7 +84,8 @@ module _ (catalogue : List FileEntry) (size : ℕ) where
 
   -- a member behind those of which none severs the chain
   pub explains_more : (place : Place) (requests : List Asked) (r : Asked) (events own : List Action) (cs : List Completed) (c : Completed)
-      → Explains catalogue size place requests events cs → any_severs requests cs ≡ false → Answers catalogue size (member_at place (length requests)) r.operation own c
+      → Explains catalogue size place requests events cs → any_severs requests cs ≡ false
+      → Answers catalogue size (member_at place (length requests)) r.operation own c
       → Explains catalogue size place (requests ++ r ∷ []) (events ▷▷ own) (cs ++ c ∷ [])
   explains_more place [] r events own cs c (none, nobody) still answers = (
     own,
@@ -94,7 +98,8 @@ module _ (catalogue : List FileEntry) (size : ℕ) where
     either (severs r c) _ _ (refl, refl) (refl, refl),
   )
   explains_more place (x ∷ requests) r events own cs c (first, others, d, rest, is, cs_is, front, goes) still answers =
-      let none : (severs x d || any_severs requests rest) ≡ false = subst (λ (xs : List Completed). any_severs (x ∷ requests) xs ≡ false) cs_is still in
+      let none : (severs x d || any_severs requests rest) ≡ false =
+      subst (λ (xs : List Completed). any_severs (x ∷ requests) xs ≡ false) cs_is still in
       let on = or_left (severs x d) _ none in
       let rest_on = explains_more (next_member place) requests r others own rest c (MatchBool-at_false _ _ on goes) (or_right (severs x d) _ none)
       (subst (λ (y : Place). Answers catalogue size y r.operation own c) (further_member place (length requests)) answers) in (
@@ -114,9 +119,11 @@ module _ (catalogue : List FileEntry) (size : ℕ) where
       → Explains catalogue size place (requests ++ r ∷ []) events (cs ++ refusal (member_at place (length requests)) ECANCELED ∷ [])
   explains_canceled place [] r events cs explains stopped = let e : false ≡ true = stopped in cc
   explains_canceled place (x ∷ requests) r events cs (first, others, d, rest, is, cs_is, front, goes) stopped =
-      let some : (severs x d || any_severs requests rest) ≡ true = subst (λ (xs : List Completed). any_severs (x ∷ requests) xs ≡ true) cs_is stopped in
+      let some : (severs x d || any_severs requests rest) ≡ true =
+      subst (λ (xs : List Completed). any_severs (x ∷ requests) xs ≡ true) cs_is stopped in
       let last = refusal (member_at place (suc (length requests))) ECANCELED in
-      let same : refusal (member_at (next_member place) (length requests)) ECANCELED ≡ last = ap (λ (y : Place). refusal y ECANCELED) (sym (further_member place (length requests))) in (
+      let same : refusal (member_at (next_member place) (length requests)) ECANCELED ≡ last =
+      ap (λ (y : Place). refusal y ECANCELED) (sym (further_member place (length requests))) in (
         first,
         others,
         d,
@@ -128,7 +135,8 @@ module _ (catalogue : List FileEntry) (size : ℕ) where
             (λ stops. let ended = MatchBool-at_true _ _ stops goes in
             known_true _ _ (severs x d) stops (
               ended.0,
-              ap (λ (xs : List Completed). xs ++ last ∷ []) ended.1 ∙ ap (λ (y : Completed). canceled (next_member place) requests ++ y ∷ []) (sym same)
+              ap (λ (xs : List Completed). xs ++ last ∷ []) ended.1
+                  ∙ ap (λ (y : Completed). canceled (next_member place) requests ++ y ∷ []) (sym same)
                   ∙ sym (canceled_more (next_member place) requests r),
             ))
             (λ on. known_false _ _ (severs x d) on
@@ -153,9 +161,11 @@ any_severs-push [] [] r c count = or_false (severs r c)
 any_severs-push [] (d ∷ cs) r c count = absurd (omega arith)
 any_severs-push (x ∷ requests) [] r c count = absurd (omega arith)
 any_severs-push (x ∷ requests) (d ∷ cs) r c count =
-    ap (λ (b : Bool). severs x d || b) (any_severs-push requests cs r c (omega arith)) ∙ sym (or_assoc (severs x d) (any_severs requests cs) (severs r c))
+    ap (λ (b : Bool). severs x d || b) (any_severs-push requests cs r c (omega arith))
+    ∙ sym (or_assoc (severs x d) (any_severs requests cs) (severs r c))
 
-module _ (o : Opening) (catalogue : List FileEntry) (place : Place) (requests : List Asked) (r : Asked) (p q : Player) (cs : List Completed) (done : PlaysMembers o catalogue place requests p cs q) where
+module _ (o : Opening) (catalogue : List FileEntry) (place : Place) (requests : List Asked) (r : Asked) (p q : Player)
+    (cs : List Completed) (done : PlaysMembers o catalogue place requests p cs q) where
   counted : length cs ≡ length requests
   counted = explained_count catalogue (size_of o) place requests done.actions cs done.says
 
@@ -168,7 +178,8 @@ module _ (o : Opening) (catalogue : List FileEntry) (place : Place) (requests : 
       let weights = all_weights-push requests r in
       let Both = λ (h : List Action). Explains catalogue (size_of o) place (requests ++ r ∷ []) h (cs ++ c ∷ []) in
       so_said o p n (length requests + 1) (all_installs requests + installs_of r.operation) (all_weights requests + weight_of r.operation)
-      (length (requests ++ r ∷ [])) (all_installs (requests ++ r ∷ [])) (all_weights (requests ++ r ∷ [])) Both Both (omega arith) (omega arith) (omega arith) (λ h told. told)
+      (length (requests ++ r ∷ [])) (all_installs (requests ++ r ∷ [])) (all_weights (requests ++ r ∷ [])) Both Both (omega arith)
+      (omega arith) (omega arith) (λ h told. told)
       (so_then o p q n (length requests) (all_installs requests) (all_weights requests) 1 (installs_of r.operation) (weight_of r.operation) _ _ Both
       (λ xs ys a b. explains_more catalogue (size_of o) place requests r xs ys cs c a still b) done own)
 
@@ -176,12 +187,14 @@ module _ (o : Opening) (catalogue : List FileEntry) (place : Place) (requests : 
   severs_next c still = sym (any_severs-push requests cs r c counted ∙ ap (λ (b : Bool). b || severs r c) still)
 
   -- the next member is canceled
-  pub cancels_next : any_severs requests cs ≡ true → PlaysMembers o catalogue place (requests ++ r ∷ []) p (cs ++ refusal (member_at place (length requests)) ECANCELED ∷ []) q
+  pub cancels_next : any_severs requests cs ≡ true
+      → PlaysMembers o catalogue place (requests ++ r ∷ []) p (cs ++ refusal (member_at place (length requests)) ECANCELED ∷ []) q
   cancels_next stopped =
       let count = length-append requests (r ∷ []) in
       let installs = all_installs-push requests r in
       let weights = all_weights-push requests r in
-      so_said o p q (length requests) (all_installs requests) (all_weights requests) (length (requests ++ r ∷ [])) (all_installs (requests ++ r ∷ [])) (all_weights (requests ++ r ∷ []))
+      so_said o p q (length requests) (all_installs requests) (all_weights requests) (length (requests ++ r ∷ []))
+      (all_installs (requests ++ r ∷ [])) (all_weights (requests ++ r ∷ []))
       _ _ (omega arith) (omega arith) (omega arith) (λ h told. explains_canceled catalogue (size_of o) place requests r h cs told stopped) done
 
   pub severed_next : (c : Completed) → any_severs requests cs ≡ true → any_severs (requests ++ r ∷ []) (cs ++ c ∷ []) ≡ true
@@ -193,15 +206,18 @@ asked_from requests i = all_asked (drop i requests)
 
 module _ (requests : List Request) (i : ℕ) (x : Request) (inside : i < length requests) (is : x ≡ slice_index_or requests i x) where
   pub installs_from : all_installs (asked_from requests i) ≡ installs_of (asked_of x).operation + all_installs (asked_from requests (i + 1))
-  installs_from = ap all_installs (asked_rest requests i x inside is) ∙ sum_by-cons (λ (r : Asked). installs_of r.operation) (asked_of x) (asked_from requests (i + 1))
+  installs_from = ap all_installs (asked_rest requests i x inside is)
+      ∙ sum_by-cons (λ (r : Asked). installs_of r.operation) (asked_of x) (asked_from requests (i + 1))
 
   pub weights_from : all_weights (asked_from requests i) ≡ weight_of (asked_of x).operation + all_weights (asked_from requests (i + 1))
-  weights_from = ap all_weights (asked_rest requests i x inside is) ∙ sum_by-cons (λ (r : Asked). weight_of r.operation) (asked_of x) (asked_from requests (i + 1))
+  weights_from = ap all_weights (asked_rest requests i x inside is)
+      ∙ sum_by-cons (λ (r : Asked). weight_of r.operation) (asked_of x) (asked_from requests (i + 1))
 
   pub within_at : All IsWithinLimits (all_asked requests) → IsWithinLimits (asked_of x)
   within_at within =
       let len = length-map requests asked_of in
-      let at : slice_index_or (all_asked requests) i (asked_of x) ≡ asked_of x = get_or-map asked_of requests i x (asked_of x) inside ∙ ap asked_of (sym is) in
+      let at : slice_index_or (all_asked requests) i (asked_of x) ≡ asked_of x = get_or-map asked_of requests i x (asked_of x) inside
+      ∙ ap asked_of (sym is) in
       subst IsWithinLimits at (within i (asked_of x) (omega arith))
 
 pub completed_more : (xs ys : List Completion) (c : Completion) → ys ≡ xs ++ c ∷ [] → all_completed ys ≡ all_completed xs ++ completed_of c ∷ []

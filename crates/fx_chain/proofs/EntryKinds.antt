@@ -47,28 +47,35 @@ or_right true b is = cc
 or_right false b is = is
 
 -- no entry of a list is bad where none is
-pub good_at : (entries : ℕ) (list : List ℤ) (i : ℕ) (d : ℤ) → list_any (is_bad_entry entries) list ≡ false → i < length list → is_bad_entry entries (slice_index_or list i d) ≡ false
+pub good_at : (entries : ℕ) (list : List ℤ) (i : ℕ) (d : ℤ) → list_any (is_bad_entry entries) list ≡ false → i < length list
+    → is_bad_entry entries (slice_index_or list i d) ≡ false
 good_at entries [] i d good inside = absurd (omega arith)
 good_at entries (z ∷ list) zero d good inside = or_left _ _ good
 good_at entries (z ∷ list) (suc i) d good inside = good_at entries list i d (or_right _ _ good) (omega arith)
 
 -- an entry that is neither installed nor emptied leaves its slot
-pub leaves_slot : (place : Place) (in_list slot entries : ℕ) (z : ℤ) → is_bad_entry entries z ≡ false → int_le (pos 0) z ≡ false → int_lt (negsuc 1) z ≡ false → AppliesEntry place in_list slot z []
+pub leaves_slot : (place : Place) (in_list slot entries : ℕ) (z : ℤ) → is_bad_entry entries z ≡ false → int_le (pos 0) z ≡ false
+    → int_lt (negsuc 1) z ≡ false → AppliesEntry place in_list slot z []
 leaves_slot place in_list slot entries (pos n) good low high = let e : true ≡ false = sym (le-leb 0 n (omega arith)) ∙ low in cc
 leaves_slot place in_list slot entries (negsuc zero) good low high = let e : true ≡ false = high in cc
 leaves_slot place in_list slot entries (negsuc (suc n)) good low high = refl
 
 -- the entries of a list, and one more behind them
 pub applies_more : (place : Place) (in_list slot : ℕ) (list : List ℤ) (z : ℤ) (events own : List Action)
-    → AppliesList place in_list slot list events → AppliesEntry place (in_list + length list) (slot + length list) z own → AppliesList place in_list slot (list ++ z ∷ []) (events ▷▷ own)
+    → AppliesList place in_list slot list events → AppliesEntry place (in_list + length list) (slot + length list) z own
+    → AppliesList place in_list slot (list ++ z ∷ []) (events ▷▷ own)
 applies_more place in_list slot [] z events own none applies =
     let here : AppliesEntry place in_list slot z own =
-    subst (λ (n : ℕ × ℕ). AppliesEntry place n.0 n.1 z own) (λ i. ((let e : in_list + 0 ≡ in_list = omega arith in e) i, (let e : slot + 0 ≡ slot = omega arith in e) i)) applies in
+    subst (λ (n : ℕ × ℕ). AppliesEntry place n.0 n.1 z own)
+    (λ i. ((let e : in_list + 0 ≡ in_list = omega arith in e) i, (let e : slot + 0 ≡ slot = omega arith in e) i)) applies in
     (own, [], ap (λ (h : List Action). own ++ h) none ∙ append-nil own, here, refl)
 applies_more place in_list slot (x ∷ list) z events own (first, others, is, front, rest) applies =
     let further : AppliesEntry place ((in_list + 1) + length list) ((slot + 1) + length list) z own =
     subst (λ (n : ℕ × ℕ). AppliesEntry place n.0 n.1 z own)
-    (λ i. ((let e : in_list + suc (length list) ≡ (in_list + 1) + length list = omega arith in e) i, (let e : slot + suc (length list) ≡ (slot + 1) + length list = omega arith in e) i)) applies in (
+    (λ i. (
+      (let e : in_list + suc (length list) ≡ (in_list + 1) + length list = omega arith in e) i,
+      (let e : slot + suc (length list) ≡ (slot + 1) + length list = omega arith in e) i,
+    )) applies in (
       first,
       others ▷▷ own,
       ap (λ (h : List Action). own ++ h) is ∙ sym (append_assoc own others first),
@@ -77,7 +84,8 @@ applies_more place in_list slot (x ∷ list) z events own (first, others, is, fr
     )
 
 -- the entries that are left install what this one and those behind it do
-pub installs_left : (list : List ℤ) (i : ℕ) → i < length list → list_installs (drop i list) ≡ entry_installs (slice_index_or list i (pos 0)) + list_installs (drop (i + 1) list)
+pub installs_left : (list : List ℤ) (i : ℕ) → i < length list → list_installs (drop i list)
+    ≡ entry_installs (slice_index_or list i (pos 0)) + list_installs (drop (i + 1) list)
 installs_left list i inside =
     ap list_installs (drop-cons list i (pos 0) inside) ∙ list_installs-cons (slice_index_or list i (pos 0)) (drop (suc i) list)
     ∙ ap (λ (n : ℕ). entry_installs (slice_index_or list i (pos 0)) + list_installs (drop n list)) (sym (add-one i))
@@ -96,8 +104,12 @@ applies_next o p q r place off list i inside done own =
     let Now = AppliesList place 0 off (take i list ++ entry ∷ []) in
     let here = λ (events : List Action) (applies : AppliesEntry place i (off + i) entry events).
     subst (λ (n : ℕ × ℕ). AppliesEntry place n.0 n.1 entry events)
-    (λ k. ((let e : i ≡ 0 + length (take i list) = omega arith in e) k, (let e : off + i ≡ off + length (take i list) = omega arith in e) k)) applies in
-    so_said o p r (0 + 0) (list_installs (take i list) + entry_installs entry) (i + 1) 0 (list_installs (take (i + 1) list)) (i + 1) Now _ (omega arith) (omega arith) (omega arith)
+    (λ k. (
+      (let e : i ≡ 0 + length (take i list) = omega arith in e) k,
+      (let e : off + i ≡ off + length (take i list) = omega arith in e) k,
+    )) applies in
+    so_said o p r (0 + 0) (list_installs (take i list) + entry_installs entry) (i + 1) 0 (list_installs (take (i + 1) list)) (i + 1) Now _
+    (omega arith) (omega arith) (omega arith)
     (λ (events : List Action) told. subst (λ (xs : List ℤ). AppliesList place 0 off xs events) (sym front) told)
     (so_then o p q r 0 (list_installs (take i list)) i 0 (entry_installs entry) 1 Before (AppliesEntry place i (off + i) entry) Now
     (λ xs ys a b. applies_more place 0 off (take i list) entry xs ys a (here ys b)) done own)

@@ -1,9 +1,11 @@
 -- What holds of a submission without a fault.
 use Rattle.std.specs.Prelude.{◌≡◌, ◌+◌, ◌<◌, ◌≤◌, false, List, length, take, drop, All, None}
+use Rattle.fx_table.specs.declared.limits.TheConstants.{CHAIN_NUMBERS}
 use Rattle.fx_chain.specs.Operation.{Asked}
 use Rattle.fx_chain.specs.Faults.{fault_of, has_bad_flags, is_long_read, is_long_update}
 use Rattle.fx_chain.specs.Weights.{all_installs}
 use Rattle.fx_chain.specs.declared.chain.Chain.{Chain}
+use Rattle.fx_chain.specs.declared.fault.TheConstants.{MOST_MEMBERS}
 
 -- no request has a fault
 abbrev pub IsAccepted : List Asked → Type 0
@@ -18,8 +20,8 @@ pub record IsWithinLimits (request : Asked) : Type 0 where
 -- a run that no limit refuses
 pub record IsShortRun (run : List Asked) : Type 0 where
   pub not_empty : 0 < length run
-  pub members : length run ≤ 16
-  pub installs : all_installs run ≤ 64
+  pub members : length run ≤ MOST_MEMBERS
+  pub installs : all_installs run ≤ CHAIN_NUMBERS
   pub each : All IsWithinLimits run
 
 -- the members of a chain
@@ -30,5 +32,5 @@ members_of requests chain = take chain.len (drop chain.first requests)
 pub record IsChain (requests : List Asked) (chain : Chain) : Type 0 where
   pub inside : chain.first + chain.len ≤ length requests
   pub not_empty : 0 < chain.len
-  pub members : chain.len ≤ 16
+  pub members : chain.len ≤ MOST_MEMBERS
   pub run : IsShortRun (members_of requests chain)

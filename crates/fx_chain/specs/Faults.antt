@@ -1,30 +1,27 @@
 -- What a submission is refused for (the limits are this project's own).
 use Rattle.std.specs.Prelude.{◌≡◌, ℕ, ◌+◌, ◌==◌, nat_lt, Bool, false, not, ◌&&◌, List, [], ◌∷◌, ◌++◌, length, Option, Some, None, if◌then◌else◌}
-use Rattle.fx_chain.specs.Operation.{Operation, Opens, Reads, Closes, Updates, Asked}
+use Rattle.fx_table.specs.declared.limits.TheConstants.{MAX_CHAINS, CHAIN_NUMBERS}
+use Rattle.fx_chain.specs.Operation.{Operation, Reads, Updates, Asked}
 use Rattle.fx_chain.specs.Runs.{runs_of, open_run}
 use Rattle.fx_chain.specs.Weights.{installs_of, all_installs}
 use Rattle.fx_chain.specs.declared.fault.CutKind.{CutKind}
 use Rattle.fx_chain.specs.declared.fault.CutKind.TheVariants.{BadFlags, LongRead, LongUpdate, ChainTooLong, TooManyFiles, TooManyChains}
 use Rattle.fx_chain.specs.declared.fault.CutFault.{CutFault}
+use Rattle.fx_chain.specs.declared.fault.TheConstants.{MOST_MEMBERS}
+use Rattle.fx_chain.specs.declared.request.TheConstants.{LONGEST_READ, LONGEST_UPDATE}
 
 -- whether the flags don't fit: a read names its file by a slot, and no other request does
 abbrev pub has_bad_flags : Operation → Bool → Bool
-has_bad_flags (Opens name target) fixed = fixed
 has_bad_flags (Reads slot off len) fixed = not fixed
-has_bad_flags (Closes slot) fixed = fixed
-has_bad_flags (Updates off list) fixed = fixed
+has_bad_flags _ fixed = fixed
 
 abbrev pub is_long_read : Operation → Bool
-is_long_read (Opens name target) = false
-is_long_read (Reads slot off len) = nat_lt 4096 len
-is_long_read (Closes slot) = false
-is_long_read (Updates off list) = false
+is_long_read (Reads slot off len) = nat_lt LONGEST_READ len
+is_long_read _ = false
 
 abbrev pub is_long_update : Operation → Bool
-is_long_update (Opens name target) = false
-is_long_update (Reads slot off len) = false
-is_long_update (Closes slot) = false
-is_long_update (Updates off list) = nat_lt 16 (length list)
+is_long_update (Updates off list) = nat_lt LONGEST_UPDATE (length list)
+is_long_update _ = false
 
 -- the first fault of a request: `runs` is the number of runs that the requests in front of it make, `members` that of
 -- the members of its own run in front of it, and `installs` that of the files which those members install
@@ -33,9 +30,9 @@ fault_after runs members installs request =
     if has_bad_flags request.operation request.fixed then Some BadFlags
     else if is_long_read request.operation then Some LongRead
     else if is_long_update request.operation then Some LongUpdate
-    else if members == 16 then Some ChainTooLong
-    else if nat_lt 64 (installs + installs_of request.operation) then Some TooManyFiles
-    else if members == 0 && runs == 1023 then Some TooManyChains
+    else if members == MOST_MEMBERS then Some ChainTooLong
+    else if nat_lt CHAIN_NUMBERS (installs + installs_of request.operation) then Some TooManyFiles
+    else if members == 0 && runs == MAX_CHAINS then Some TooManyChains
     else None
 
 -- the fault of a request behind those in front of it

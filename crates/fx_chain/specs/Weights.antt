@@ -1,6 +1,6 @@
 -- What a request needs at most: numbers for the files that it installs, and room for those that it closes.
 use Rattle.std.specs.Prelude.{ℕ, ℤ, pos, negsuc, int_le, List, length, filter, sum_by}
-use Rattle.fx_chain.specs.Operation.{Operation, Opens, Reads, Closes, Updates, Asked}
+use Rattle.fx_chain.specs.Operation.{Operation, Opens, Updates, Asked}
 
 -- how many files an entry of an update installs: one where it is 0 or more
 abbrev pub entry_installs : ℤ → ℕ
@@ -14,16 +14,13 @@ list_installs list = length (filter (λ entry. int_le (pos 0) entry) list)
 -- how many files a request installs
 abbrev pub installs_of : Operation → ℕ
 installs_of (Opens name target) = 1
-installs_of (Reads slot off len) = 0
-installs_of (Closes slot) = 0
 installs_of (Updates off list) = list_installs list
+installs_of _ = 0
 
 -- how many files a request may close
 abbrev pub weight_of : Operation → ℕ
-weight_of (Opens name target) = 1
-weight_of (Reads slot off len) = 1
-weight_of (Closes slot) = 1
 weight_of (Updates off list) = length list
+weight_of _ = 1
 
 -- how many files some requests install together
 abbrev pub all_installs : List Asked → ℕ

@@ -6,6 +6,7 @@ ghost use Rattle.fx_chain.specs.Runs.{runs_of};
 
 use crate::request::Request;
 use fx_base::NoMemory;
+use fx_table::MAX_CHAINS;
 use std::alloc::Global;
 
 /// The members of a submission that are linked with each other (io_uring_enter(2), "IOSQE_IO_LINK").
@@ -23,11 +24,13 @@ pub struct Chain {
 /// `NoMemory` where the memory for the list of chains is refused.
 pub fn cut(alloc: Global, requests: &[Request]) -> Result<Vec<Chain>, NoMemory>
     requires { IsAccepted (all_asked requests.now) }
-    ensures chains { IfOk result (λ chains. chains.items ≡ chains_of (runs_of (all_asked requests.now))) }
+    ensures chains { IfOk result (λ chains.
+        chains.items ≡ chains_of (runs_of (all_asked requests.now))) }
     ensures members { IfOk result (λ chains. map (members_of (all_asked requests.now)) chains.items
         ≡ runs_of (all_asked requests.now)) }
-    ensures inside { IfOk result (λ chains. All (λ chain. chain.first + chain.len ≤ length requests.now) chains.items) }
-    ensures few { IfOk result (λ chains. vec_len chains ≤ 1023) }
+    ensures inside { IfOk result (λ chains.
+        All (λ chain. chain.first + chain.len ≤ length requests.now) chains.items) }
+    ensures few { IfOk result (λ chains. vec_len chains ≤ MAX_CHAINS) }
     ensures within { IfOk result (λ chains. All (IsChain (all_asked requests.now)) chains.items) }
 {
     let mut chains = Vec::new(alloc);

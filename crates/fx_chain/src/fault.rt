@@ -6,15 +6,10 @@ ghost use Rattle.fx_chain.specs.Runs.{runs_of};
 ghost use Rattle.fx_chain.specs.Weights.{installs_of};
 
 use crate::request::Request;
+use fx_table::{CHAIN_NUMBERS, MAX_CHAINS};
 
-/// How many members a chain may have.
+/// How many members a chain may have. It may install as many files as it has numbers, [`fx_table::CHAIN_NUMBERS`].
 pub const MOST_MEMBERS: u32 = 16;
-
-/// How many files a chain may install.
-const MOST_INSTALLS: u32 = 64;
-
-/// How many chains a submission may have.
-const MOST_CHAINS: u32 = 1023;
 
 /// Why a submission is refused, in the order in which the faults of one request are looked for (this project's own).
 #[derive(Clone, Copy, Debug, PartialEq, Eq)]
@@ -61,9 +56,9 @@ pub fn check(requests: &[Request]) -> Result<u32, CutFault>
     ensures chains { IfNone (fault_of (all_asked requests.now))
         (result ≡ Ok (length (runs_of (all_asked requests.now)))) }
     ensures accepted { IfOk result (λ chains. IsAccepted (all_asked requests.now)) }
-    ensures few { IfOk result (λ chains. chains ≤ 1023) }
+    ensures few { IfOk result (λ chains. chains ≤ MAX_CHAINS) }
     ensures place { IfErr result (λ fault. (0 < fault.at) × (fault.at ≤ length requests.now)) }
-    ensures early { IfErr result (λ fault. fault.at ≤ 1023 * 16 + 1) }
+    ensures early { IfErr result (λ fault. fault.at ≤ MAX_CHAINS * MOST_MEMBERS + 1) }
 {
     let mut count = Count {
         chains: 0,
@@ -85,8 +80,9 @@ pub fn check(requests: &[Request]) -> Result<u32, CutFault>
 impl Count {
     // The first fault of the next request.
     fn fault(&self, request: &Request) -> Option<CutKind>
-        requires { self.now.installs ≤ 64 }
-        ensures { result ≡ fault_after self.now.chains self.now.members self.now.installs (asked_of request.now) }
+        requires { self.now.installs ≤ CHAIN_NUMBERS }
+        ensures { result ≡ fault_after self.now.chains self.now.members self.now.installs
+            (asked_of request.now) }
     {
         if request.has_bad_flags() {
             return Some(CutKind::BadFlags);
@@ -100,10 +96,10 @@ impl Count {
         if self.members == MOST_MEMBERS {
             return Some(CutKind::ChainTooLong);
         }
-        if request.installs() > (MOST_INSTALLS - self.installs) as usize {
+        if request.installs() > (CHAIN_NUMBERS - self.installs) as usize {
             return Some(CutKind::TooManyFiles);
         }
-        if self.members == 0 && self.chains == MOST_CHAINS {
+        if self.members == 0 && self.chains == MAX_CHAINS {
             return Some(CutKind::TooManyChains);
         }
         None
@@ -111,11 +107,14 @@ impl Count {
 
     // The next request is counted.
     fn add(&mut self, request: &Request)
-        requires chains { self.old.chains ≤ 1023 }
-        requires members { self.old.members ≤ 16 }
-        requires installs { self.old.installs + installs_of (asked_of request.now).operation ≤ 64 }
-        ensures chains { self.new.chains ≡ if self.old.members == 0 then self.old.chains + 1 else self.old.chains }
-        ensures members { self.new.members ≡ if (asked_of request.now).links then self.old.members + 1 else 0 }
+        requires chains { self.old.chains ≤ MAX_CHAINS }
+        requires members { self.old.members ≤ MOST_MEMBERS }
+        requires installs { self.old.installs + installs_of (asked_of request.now).operation
+            ≤ CHAIN_NUMBERS }
+        ensures chains { self.new.chains ≡ if self.old.members == 0
+            then self.old.chains + 1 else self.old.chains }
+        ensures members { self.new.members ≡ if (asked_of request.now).links
+            then self.old.members + 1 else 0 }
         ensures installs { self.new.installs ≡ if (asked_of request.now).links
             then self.old.installs + installs_of (asked_of request.now).operation else 0 }
     {

@@ -17,12 +17,12 @@ mod update;
 
 pub use chain::{Chain, cut};
 pub use completion::{Completion, Place};
-pub use fault::{CutFault, CutKind, check};
+pub use fault::{CutFault, CutKind, MOST_MEMBERS, check};
 pub use file_index::target;
 pub use flags::SqeFlags;
 pub use gate::{Gate, OpenGate};
 pub use player::{perform, run_chain};
-pub use request::{Op, Request, Target};
+pub use request::{LONGEST_READ, LONGEST_UPDATE, Op, Request, Target};
 pub use update::is_bad_entry;
 
 #[cfg(test)]

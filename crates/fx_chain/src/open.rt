@@ -35,7 +35,8 @@ fn open_at<T: FileTable, R: Wait>(
     requires room { 0 < closes.old.room }
     ensures fits { T.fits table.now pass.new }
     ensures opened { ActsSo (T.opening table.now) (player (T.view pass.old) closes.old) 0 1 1
-        (λ actions. OpensAt (size_of (T.opening table.now)) place entry (Slot slot) actions (completed_of result))
+        (λ actions. OpensAt (size_of (T.opening table.now)) place entry (Slot slot) actions
+        (completed_of result))
         (player (T.view pass.new) closes.new) }
 {
     let size = table.size();
@@ -67,7 +68,8 @@ fn open_any<T: FileTable, R: Wait>(
     requires numbers { 0 < (T.view pass.old).numbers_left }
     ensures fits { T.fits table.now pass.new }
     ensures opened { ActsSo (T.opening table.now) (player (T.view pass.old) closes.now) 0 1 1
-        (λ actions. OpensAt (size_of (T.opening table.now)) place entry Any actions (completed_of result))
+        (λ actions. OpensAt (size_of (T.opening table.now)) place entry Any actions
+        (completed_of result))
         (player (T.view pass.new) closes.now) }
 {
     let size = table.size();
@@ -102,8 +104,8 @@ pub(crate) fn open<T: FileTable, R: Wait>(
     requires room { 0 < closes.old.room }
     ensures fits { T.fits table.now pass.new }
     ensures opened { ActsSo (T.opening table.now) (player (T.view pass.old) closes.old) 0 1 1
-        (λ actions. Answers catalogue.now (size_of (T.opening table.now)) place (Opens name.now target) actions
-        (completed_of result))
+        (λ actions. Answers catalogue.now (size_of (T.opening table.now)) place
+        (Opens name.now target) actions (completed_of result))
         (player (T.view pass.new) closes.new) }
 {
     let Some(entry) = catalogue.find(name) else {

@@ -8,7 +8,6 @@ ghost use Rattle.fx_chain.specs.Completed.{completed_of, all_completed};
 ghost use Rattle.fx_chain.specs.Operation.{operation_of, asked_of, all_asked};
 ghost use Rattle.fx_chain.specs.Performs.{ActsSo, Performs, PlaysChain, player};
 ghost use Rattle.fx_chain.specs.Weights.{installs_of, weight_of, all_installs, all_weights};
-ghost use Rattle.fx_chain.specs.declared.fault.TheConstants.{MOST_MEMBERS};
 
 use crate::completion::{Completion, Place};
 use crate::fault::MOST_MEMBERS;
@@ -38,7 +37,8 @@ fn close<T: FileTable, R: Wait>(
     requires room { 0 < closes.old.room }
     ensures fits { T.fits table.now pass.new }
     ensures emptied { ActsSo (T.opening table.now) (player (T.view pass.old) closes.old) 0 0 1
-        (λ actions. Empties (size_of (T.opening table.now)) place slot actions (completed_of result))
+        (λ actions. Empties (size_of (T.opening table.now)) place slot actions
+        (completed_of result))
         (player (T.view pass.new) closes.new) }
 {
     let size = table.size();
@@ -137,8 +137,8 @@ pub fn run_chain<T: FileTable, R: Wait, G: Gate>(
     requires room { all_weights (all_asked requests.now) ≤ closes.old.room }
     requires out { vec_len out.old + length requests.now ≤ vec_capacity out.old }
     ensures fits { T.fits table.now pass.new }
-    ensures played { PlaysChain (T.opening table.now) catalogue.now submission chain (all_asked requests.now)
-        (player (T.view pass.old) closes.old) (all_completed out.old.items)
+    ensures played { PlaysChain (T.opening table.now) catalogue.now submission chain
+        (all_asked requests.now) (player (T.view pass.old) closes.old) (all_completed out.old.items)
         (player (T.view pass.new) closes.new) (all_completed out.new.items) }
     ensures count { vec_len out.new ≡ vec_len out.old + length requests.now }
     ensures capacity { vec_capacity out.old ≤ vec_capacity out.new }

@@ -5,7 +5,6 @@ ghost use Rattle.fx_table.specs.Pass.{IsIdle};
 ghost use Rattle.fx_chain.specs.Answers.{ReadsFrom};
 ghost use Rattle.fx_chain.specs.Completed.{completed_of};
 ghost use Rattle.fx_chain.specs.Performs.{ActsSo, player};
-ghost use Rattle.fx_chain.specs.declared.request.TheConstants.{LONGEST_READ};
 
 use crate::completion::{Completion, Place};
 use crate::removal::release;
@@ -35,8 +34,8 @@ pub(crate) fn read<T: FileTable, R: Wait>(
     requires room { 0 < closes.old.room }
     ensures fits { T.fits table.now pass.new }
     ensures read { ActsSo (T.opening table.now) (player (T.view pass.old) closes.old) 1 0 1
-        (λ actions. ReadsFrom catalogue.now (size_of (T.opening table.now)) place slot off len actions
-        (completed_of result))
+        (λ actions. ReadsFrom catalogue.now (size_of (T.opening table.now)) place slot off len
+        actions (completed_of result))
         (player (T.view pass.new) closes.new) }
 {
     if slot >= table.size() {

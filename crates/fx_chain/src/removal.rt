@@ -66,8 +66,8 @@ pub(crate) fn take<T: FileTable, R: Wait>(
     requires room { 0 < closes.old.room }
     ensures fits { T.fits table.now pass.new }
     ensures removed { (removed : Option File) × (result ≡ is_some removed)
-        × IsRemoval (T.opening table.now) (player (T.view pass.old) closes.old) 0 (Take slot) removed
-        (player (T.view pass.new) closes.new) }
+        × IsRemoval (T.opening table.now) (player (T.view pass.old) closes.old) 0 (Take slot)
+        removed (player (T.view pass.new) closes.new) }
 {
     match table.take(rt, pass, slot) {
         Err(Empty) => false,
@@ -92,8 +92,8 @@ pub(crate) fn clear<T: FileTable, R: Wait>(
     requires room { 0 < closes.old.room }
     ensures fits { T.fits table.now pass.new }
     ensures removed { (removed : Option File)
-        × IsRemoval (T.opening table.now) (player (T.view pass.old) closes.old) 0 (Clear slot) removed
-        (player (T.view pass.new) closes.new) }
+        × IsRemoval (T.opening table.now) (player (T.view pass.old) closes.old) 0 (Clear slot)
+        removed (player (T.view pass.new) closes.new) }
 {
     if let Some(retired) = table.clear(rt, pass, slot) {
         retire(rt, table, pass, retired, closes);

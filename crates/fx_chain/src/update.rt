@@ -1,19 +1,17 @@
 //! Updates of a shared table: the list is checked whole before any entry is applied.
 ghost use Rattle.std.specs.Prelude.{◌≡◌, ◌+◌, ◌<◌, ◌≤◌, ◌^◌, false, length};
 ghost use Rattle.std.specs.List.{list_any};
-ghost use Rattle.fx_base.specs.declared.catalogue.TheConstants.{MOST_ENTRIES};
 ghost use Rattle.fx_table.specs.Opening.{size_of};
 ghost use Rattle.fx_table.specs.Pass.{IsIdle};
 ghost use Rattle.fx_chain.specs.Answers.{AppliesEntry, AppliesList, UpdatesFrom, is_bad_entry};
 ghost use Rattle.fx_chain.specs.Completed.{completed_of};
 ghost use Rattle.fx_chain.specs.Performs.{ActsSo, player};
 ghost use Rattle.fx_chain.specs.Weights.{entry_installs, list_installs};
-ghost use Rattle.fx_chain.specs.declared.request.TheConstants.{LONGEST_UPDATE};
 
 use crate::completion::{Completion, Place};
 use crate::removal::{clear, put};
 use crate::request::LONGEST_UPDATE;
-use fx_base::{Catalogue, CloseList, Errno};
+use fx_base::{Catalogue, CloseList, Errno, MOST_ENTRIES};
 use fx_table::FileTable;
 use std::alloc::Global;
 use std::sync::Wait;
@@ -61,7 +59,8 @@ fn apply_entry<T: FileTable, R: Wait>(
     requires numbers { entry_installs entry ≤ (T.view pass.old).numbers_left }
     requires room { 0 < closes.old.room }
     ensures fits { T.fits table.now pass.new }
-    ensures applied { ActsSo (T.opening table.now) (player (T.view pass.old) closes.old) 0 (entry_installs entry) 1
+    ensures applied { ActsSo (T.opening table.now) (player (T.view pass.old) closes.old) 0
+        (entry_installs entry) 1
         (λ actions. AppliesEntry place in_list slot entry actions)
         (player (T.view pass.new) closes.new) }
 {
@@ -139,8 +138,8 @@ pub(crate) fn update<T: FileTable, R: Wait>(
     ensures fits { T.fits table.now pass.new }
     ensures updated { ActsSo (T.opening table.now) (player (T.view pass.old) closes.old) 0
         (list_installs list.now) (length list.now)
-        (λ actions. UpdatesFrom (length catalogue.now) (size_of (T.opening table.now)) place off list.now actions
-        (completed_of result))
+        (λ actions. UpdatesFrom (length catalogue.now) (size_of (T.opening table.now)) place off
+        list.now actions (completed_of result))
         (player (T.view pass.new) closes.new) }
 {
     let size = table.size();

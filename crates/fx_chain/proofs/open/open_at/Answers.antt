@@ -13,7 +13,9 @@ returns-then-size-eq0-clause-opened g c =
 
 pub returns-then-slot-size-clause-opened : goal.returns-then-slot-size-clause-opened
 returns-then-slot-size-clause-opened g c =
-    let past : size_of (g.T.FileTable.opening c.args.table.now) ≤ c.args.slot = subst (λ (n : ℕ). n ≤ c.args.slot) c.size-size.ensures.value c.if-slot-size.true in
+    let past : size_of (g.T.FileTable.opening c.args.table.now) ≤ c.args.slot =
+    subst (λ (n : ℕ). n ≤ c.args.slot) c.size-size.ensures.value c.if-slot-size.true in
     let seen = (g.met.T.FileTable g.world.𝓛 g.world.𝓜 g.world.𝓡 ((λ s x. x), (λ x. x), (λ x. x), λ x. x)).fronts _ _ c.requires.fits in
     so_nothing _ (player _ c.args.closes.now) 0 1 1 _ seen c.requires.idle
-    (known_some _ _ _ (λ none. c.if-size-eq0.false (c.size-size.ensures.value ∙ none)) (known_past _ _ _ _ past (refl, c.refusal-then-slot-size.ensures)))
+    (known_some _ _ _ (λ none. c.if-size-eq0.false (c.size-size.ensures.value ∙ none))
+    (known_past _ _ _ _ past (refl, c.refusal-then-slot-size.ensures)))

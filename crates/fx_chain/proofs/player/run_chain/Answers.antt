@@ -22,14 +22,21 @@ loop-i-init g c =
       room = c.requires.room;
       count = search rules;
       capacity = search rules;
-      done = ([], sym (append-nil (all_completed c.args.out.now.items)), refl, so_nothing _ (player _ c.args.closes.now) 0 0 0 _ seen c.requires.idle (refl, refl));
+      done = (
+        [],
+        sym (append-nil (all_completed c.args.out.now.items)),
+        refl,
+        so_nothing _ (player _ c.args.closes.now) 0 0 0 _ seen c.requires.idle (refl, refl),
+      );
     }
 
 pub perform-completion-requires-clause-limits : goal.perform-completion-requires-clause-limits
-perform-completion-requires-clause-limits g c κs within = within_at c.args.requests.now c.loop-i.i c.index-requests-i.result c.loop-i-test.true c.index-requests-i.is c.requires.limits
+perform-completion-requires-clause-limits g c κs within =
+    within_at c.args.requests.now c.loop-i.i c.index-requests-i.result c.loop-i-test.true c.index-requests-i.is c.requires.limits
 
 pub severs-severed-requires : goal.severs-severed-requires
-severs-severed-requires g c = within_at c.args.requests.now c.loop-i.i c.index-requests-i.result c.loop-i-test.true c.index-requests-i.is c.requires.limits
+severs-severed-requires g c =
+    within_at c.args.requests.now c.loop-i.i c.index-requests-i.result c.loop-i-test.true c.index-requests-i.is c.requires.limits
 
 pub loop-i-preserved-then-severed : goal.loop-i-preserved-then-severed
 loop-i-preserved-then-severed g c =
@@ -48,7 +55,8 @@ loop-i-preserved-then-severed g c =
     let place : record { submission = c.args.submission; chain = c.args.chain; member = c.loop-i.i + 1 } ≡ member_at first (length asked) =
     λ k. record { submission = c.args.submission; chain = c.args.chain; member = (let e : c.loop-i.i + 1 ≡ 1 + length asked = omega arith in e) k } in
     let stopped : any_severs asked cs ≡ true = sym severed_is ∙ c.if-severed.true in
-    let last : completed_of c.refusal.result ≡ refusal (member_at first (length asked)) ECANCELED = c.refusal.ensures ∙ ap (λ (x : Place). refusal x ECANCELED) place in
+    let last : completed_of c.refusal.result ≡ refusal (member_at first (length asked)) ECANCELED = c.refusal.ensures
+    ∙ ap (λ (x : Place). refusal x ECANCELED) place in
     let next = cancels_next o c.args.catalogue.now first asked request start before cs plays stopped in
     let installs = installs_from c.args.requests.now c.loop-i.i c.index-requests-i.result inside c.index-requests-i.is in
     let weights = weights_from c.args.requests.now c.loop-i.i c.index-requests-i.result inside c.index-requests-i.is in
@@ -66,10 +74,13 @@ loop-i-preserved-then-severed g c =
       done = (
         cs ++ completed_of c.refusal.result ∷ [],
         completed_more c.loop-i.out.items c.push_reserved.new.self.items c.refusal.result c.push_reserved.ensures.items
-            ∙ ap (λ (l : List Completed). l ++ completed_of c.refusal.result ∷ []) out_is ∙ append_assoc (all_completed c.args.out.now.items) cs (completed_of c.refusal.result ∷ []),
-        c.if-severed.true ∙ sym (severed_next o c.args.catalogue.now first asked request start before cs plays (completed_of c.refusal.result) stopped)
+            ∙ ap (λ (l : List Completed). l ++ completed_of c.refusal.result ∷ []) out_is
+            ∙ append_assoc (all_completed c.args.out.now.items) cs (completed_of c.refusal.result ∷ []),
+        c.if-severed.true ∙ sym (severed_next o c.args.catalogue.now first asked request start before cs plays
+            (completed_of c.refusal.result) stopped)
             ∙ ap (λ (rs : List Asked). any_severs rs (cs ++ completed_of c.refusal.result ∷ [])) (sym front),
-        subst (λ (x : List Asked × Completed). PlaysMembers o c.args.catalogue.now first x.0 start (cs ++ x.1 ∷ []) before) (λ k. (sym front k, sym last k)) next,
+        subst (λ (x : List Asked × Completed). PlaysMembers o c.args.catalogue.now first x.0 start (cs ++ x.1 ∷ []) before)
+            (λ k. (sym front k, sym last k)) next,
       );
     }
 

@@ -11,7 +11,8 @@ use Rattle.fx_chain.proofs.read.read.Goals as goal
 
 pub returns-then-slot-size-clause-read : goal.returns-then-slot-size-clause-read
 returns-then-slot-size-clause-read g c =
-    let past : size_of (g.T.FileTable.opening c.args.table.now) ≤ c.args.slot = subst (λ (n : ℕ). n ≤ c.args.slot) c.size.ensures.value c.if-slot-size.true in
+    let past : size_of (g.T.FileTable.opening c.args.table.now) ≤ c.args.slot =
+    subst (λ (n : ℕ). n ≤ c.args.slot) c.size.ensures.value c.if-slot-size.true in
     let seen = (g.met.T.FileTable g.world.𝓛 g.world.𝓜 g.world.𝓡 ((λ s x. x), (λ x. x), (λ x. x), λ x. x)).fronts _ _ c.requires.fits in
     so_nothing _ (player _ c.args.closes.now) 1 0 1 _ seen c.requires.idle
     (known_past _ _ _ _ past (refl, c.refusal.ensures))
@@ -33,7 +34,8 @@ returns-in-Ok-clause-read g c =
     to_z_pos w32 c.read_into-res.result (omega (arith, bound, few)) ∙ ap pos c.read_into-res.ensures.count in
     let got : c.read_into-res.new.into.items ≡ bytes_at c.args.catalogue.now c.in-Ok.hold.entry c.args.off c.args.len = search rules in
     let answered = (λ i. completed c.args.place (res i) (got i))
-    ∙ ap (λ (e : ℕ). completed c.args.place (pos (length (bytes_at c.args.catalogue.now e c.args.off c.args.len))) (bytes_at c.args.catalogue.now e c.args.off c.args.len)) (ap (λ x. x.entry) is) in
+    ∙ ap (λ (e : ℕ). completed c.args.place (pos (length (bytes_at c.args.catalogue.now e c.args.off c.args.len)))
+    (bytes_at c.args.catalogue.now e c.args.off c.args.len)) (ap (λ x. x.entry) is) in
     so_said _ (player _ c.args.closes.now) _ 1 0 1 1 0 1 _ _ (omega arith) (omega arith) (omega arith)
     (λ (xs : List Action) told. known_inside _ _ _ _ inside (inr (inr (f, told, answered))))
     (looks_and_releases _ (player _ c.args.closes.now) _ _ c.args.slot f adds c.release.ensures.released)

@@ -10,6 +10,7 @@ returns-in-Some-clause-removed g c =
     let (f, is, adds) = c.in-Some.ensures.placed in
     let view = g.T.FileTable.view c.args.pass.now in (
       Some f,
-      removes_some _ (player _ c.args.closes.now) _ _ (Put c.args.slot (new_file view c.args.file)) f _ 1 one_number (omega arith) (omega arith) refl adds
+      removes_some _ (player _ c.args.closes.now) _ _ (Put c.args.slot (new_file view c.args.file)) f _ 1 one_number (omega arith)
+          (omega arith) refl adds
           c.retire.ensures.retired,
     )

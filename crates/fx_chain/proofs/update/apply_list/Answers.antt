@@ -29,7 +29,8 @@ loop-i-preserved g c =
     let before = player (g.T.FileTable.view c.loop-i.pass) c.loop-i.closes in
     let now = player (g.T.FileTable.view c.apply_entry.new.pass) c.apply_entry.new.closes in
     let own : ActsSo o before 0 (entry_installs entry) 1 (AppliesEntry c.args.place c.loop-i.i (c.args.off + c.loop-i.i) entry) now =
-    subst (λ (z : ℤ). ActsSo o before 0 (entry_installs z) 1 (AppliesEntry c.args.place c.loop-i.i (c.args.off + c.loop-i.i) z) now) read c.apply_entry.ensures.applied in
+    subst (λ (z : ℤ). ActsSo o before 0 (entry_installs z) 1
+    (AppliesEntry c.args.place c.loop-i.i (c.args.off + c.loop-i.i) z) now) read c.apply_entry.ensures.applied in
     let left = installs_left c.args.list.now c.loop-i.i inside in
     let before_numbers = i.numbers in
     let before_room = i.room in
@@ -55,4 +56,12 @@ returns-clause-applied g c =
     let done = c.loop-i.invariant.done in
     let few : c.loop-i.i ≤ length c.args.list.now = search rules in
     subst (λ (xs : List ℤ). ActsSo o start 0 (list_installs xs) (length c.args.list.now) (AppliesList c.args.place 0 c.args.off xs) now) same
-    (record { actions = done.actions; used = done.used; acts = done.acts; says = done.says; few_looks = done.few_looks; few_numbers = done.few_numbers; few_files = (let n = done.few_files in omega arith) })
+    (record {
+      actions = done.actions;
+      used = done.used;
+      acts = done.acts;
+      says = done.says;
+      few_looks = done.few_looks;
+      few_numbers = done.few_numbers;
+      few_files = let n = done.few_files in omega arith;
+    })

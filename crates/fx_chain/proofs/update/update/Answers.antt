@@ -18,7 +18,8 @@ pub returns-then-is_empty-clause-updated : goal.returns-then-is_empty-clause-upd
 returns-then-is_empty-clause-updated g c =
     let seen = (g.met.T.FileTable g.world.𝓛 g.world.𝓜 g.world.𝓡 ((λ s x. x), (λ x. x), (λ x. x), λ x. x)).fronts _ _ c.requires.fits in
     let some : size_of (g.T.FileTable.opening c.args.table.now) ≢ 0 = λ none. c.if-size-eq0.false (c.size-size.ensures.value ∙ none) in
-    let refused : (length c.args.list.now == 0 || nat_lt (size_of (g.T.FileTable.opening c.args.table.now)) (c.args.off + length c.args.list.now)) ≡ true = search rules in
+    let refused : (length c.args.list.now == 0
+    || nat_lt (size_of (g.T.FileTable.opening c.args.table.now)) (c.args.off + length c.args.list.now)) ≡ true = search rules in
     so_nothing _ (player _ c.args.closes.now) 0 (list_installs c.args.list.now) (length c.args.list.now) _ seen c.requires.idle
     (known_some _ _ _ some (known_true _ _ _ refused (refl, c.refusal-then-is_empty.ensures)))
 
@@ -26,7 +27,8 @@ pub returns-then-off-list-clause-updated : goal.returns-then-off-list-clause-upd
 returns-then-off-list-clause-updated g c =
     let seen = (g.met.T.FileTable g.world.𝓛 g.world.𝓜 g.world.𝓡 ((λ s x. x), (λ x. x), (λ x. x), λ x. x)).fronts _ _ c.requires.fits in
     let some : size_of (g.T.FileTable.opening c.args.table.now) ≢ 0 = λ none. c.if-size-eq0.false (c.size-size.ensures.value ∙ none) in
-    let refused : (length c.args.list.now == 0 || nat_lt (size_of (g.T.FileTable.opening c.args.table.now)) (c.args.off + length c.args.list.now)) ≡ true = search rules in
+    let refused : (length c.args.list.now == 0
+    || nat_lt (size_of (g.T.FileTable.opening c.args.table.now)) (c.args.off + length c.args.list.now)) ≡ true = search rules in
     so_nothing _ (player _ c.args.closes.now) 0 (list_installs c.args.list.now) (length c.args.list.now) _ seen c.requires.idle
     (known_some _ _ _ some (known_true _ _ _ refused (refl, c.refusal-then-off-list.ensures)))
 
@@ -34,7 +36,8 @@ pub returns-then-has_bad_entry-clause-updated : goal.returns-then-has_bad_entry-
 returns-then-has_bad_entry-clause-updated g c =
     let seen = (g.met.T.FileTable g.world.𝓛 g.world.𝓜 g.world.𝓡 ((λ s x. x), (λ x. x), (λ x. x), λ x. x)).fronts _ _ c.requires.fits in
     let some : size_of (g.T.FileTable.opening c.args.table.now) ≢ 0 = λ none. c.if-size-eq0.false (c.size-size.ensures.value ∙ none) in
-    let inside : (length c.args.list.now == 0 || nat_lt (size_of (g.T.FileTable.opening c.args.table.now)) (c.args.off + length c.args.list.now)) ≡ false = search rules in
+    let inside : (length c.args.list.now == 0
+    || nat_lt (size_of (g.T.FileTable.opening c.args.table.now)) (c.args.off + length c.args.list.now)) ≡ false = search rules in
     let bad : list_any (is_bad_entry (length c.args.catalogue.now)) c.args.list.now ≡ true = search rules in
     so_nothing _ (player _ c.args.closes.now) 0 (list_installs c.args.list.now) (length c.args.list.now) _ seen c.requires.idle
     (known_some _ _ _ some (known_false _ _ _ inside (known_true _ _ _ bad (refl, c.refusal-then-has_bad_entry.ensures))))
