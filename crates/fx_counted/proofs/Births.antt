@@ -27,7 +27,8 @@ use Rattle.fx_counted.proofs.Keeping.{word_at, now, logged, its_log, its_work, t
 use Rattle.fx_counted.proofs.NodeSteps.{one_same, near, far, NodeStep, node_agrees}
 
 -- the file that a pass holds is open
-pub held_file : (k : Start) (phase : ℕ → Phase) (j : ℕ) (u : View) (f : File) → u.work ≡ Holding f → WorkAgrees k phase j u.work → file_in (phase f.number) ≡ Some f.identity
+pub held_file : (k : Start) (phase : ℕ → Phase) (j : ℕ) (u : View) (f : File) → u.work ≡ Holding f
+    → WorkAgrees k phase j u.work → file_in (phase f.number) ≡ Some f.identity
 held_file k phase j u f is o = (subst (WorkAgrees k phase j) is o).1
 
 module _ (st : Shared) (v : View) (r : Agrees v.start st) (id : ℕ) (x : Log) (here : get_elem? st.views id ≡ some v) (one : v.logs ≡ x ∷ []) where
@@ -40,7 +41,8 @@ module _ (st : Shared) (v : View) (r : Agrees v.start st) (id : ℕ) (x : Log) (
   -- a number in its phase
   pub in_phase : (q : ℕ) → IsNumber v.start q → (ph : Phase) → r.phase q ≡ ph
       → NodeAgrees (state_after_all v.start r.history) q (Rattle.fx_counted.specs.Counts.looks r.history q) (word_now q) (home_now q) ph
-  in_phase q its ph is = subst (NodeAgrees (state_after_all v.start r.history) q (Rattle.fx_counted.specs.Counts.looks r.history q) (word_now q) (home_now q)) is (r.each_node q its)
+  in_phase q its ph is = subst (NodeAgrees (state_after_all v.start r.history) q
+      (Rattle.fx_counted.specs.Counts.looks r.history q) (word_now q) (home_now q)) is (r.each_node q its)
 
   pub roomy : (q : ℕ) → IsNumber v.start q → place_of v.start q < length st.homes
   roomy q its = let a = r.shape.homes in let b = (near st v r id x here one).home q its in omega arith
@@ -50,7 +52,8 @@ module _ (st : Shared) (v : View) (r : Agrees v.start st) (id : ℕ) (x : Log) (
 
   -- a number that is left to the pass is one of the table
   pub spare_inside : (n : ℕ) → next_in x ≤ n → n < end_in x → IsNumber v.start n
-  spare_inside n low high = let o = its_log st v r id x here one in let a = o.left_inside in let b = o.few_left in let c = o.chain in inr (omega arith, omega arith)
+  spare_inside n low high = let o = its_log st v r id x here one in let a = o.left_inside in let b = o.few_left in
+      let c = o.chain in inr (omega arith, omega arith)
 
   -- a birth
   module _ (idle : v.work ≡ Idle) (some_left : 0 < x.numbers_left) where
@@ -77,8 +80,10 @@ module _ (st : Shared) (v : View) (r : Agrees v.start st) (id : ℕ) (x : Log) (
       mine = λ some not_mine. absurd (some (ap owner is_spare));
       spared = λ p is other. absurd (other (cc (sym is ∙ is_spare)));
       unused = λ is. absurd (cc (sym is ∙ is_spare));
-      keeps = λ j u f other there holds same. absurd (let k = ((r.each_view j u there).work) in let e : file_in (r.phase f.number) ≡ Some f.identity = held_file v.start r.phase j u f holds k in
-          let g : file_in (r.phase f.number) ≡ None = ap (λ (m : ℕ). file_in (r.phase m)) same ∙ ap file_in is_spare in let z : None ≡ Some f.identity = sym g ∙ e in cc z);
+      keeps = λ j u f other there holds same. absurd (let k = ((r.each_view j u there).work) in
+          let e : file_in (r.phase f.number) ≡ Some f.identity = held_file v.start r.phase j u f holds k in
+          let g : file_in (r.phase f.number) ≡ None = ap (λ (m : ℕ). file_in (r.phase m)) same
+          ∙ ap file_in is_spare in let z : None ≡ Some f.identity = sym g ∙ e in cc z);
       free = λ m other is. let e : busy v.work ≡ 0 = ap busy idle in omega arith;
       node = (refl, set_here st.homes (place_of v.start b) none (roomy b its_b), n.2, n.3, n.4, n.5);
       known = does_now st.views id v (now v (logged x r.history x.numbers_left x.looks_left) (Placing b) v.change) (Placing b) here refl;
@@ -89,15 +94,24 @@ module _ (st : Shared) (v : View) (r : Agrees v.start st) (id : ℕ) (x : Log) (
       holds = λ n. let e : held_of n v ≡ 0 = ap (holding n) idle in omega arith;
     }
 
-    birth_tells : (carried homes : List (ℕ × Option Closed)) → Stepped (v, carried) [] no_use (Placing (next_number (pass_of v))) v.change (now v (logged x r.history x.numbers_left x.looks_left) (Placing b) v.change, homes)
-    birth_tells carried homes = subst (λ (n : ℕ). Stepped (v, carried) [] no_use (Placing n) v.change (now v (logged x r.history x.numbers_left x.looks_left) (Placing b) v.change, homes)) (λ i. next_in (first_log (sym one i)))
-        (tells st v r id x here one carried homes r.history x.numbers_left x.looks_left (Placing b) v.change [] no_use (grows_none x.number r.history) r.legal refl (omega arith) (omega arith) its_b)
+    birth_tells : (carried homes : List (ℕ × Option Closed))
+        → Stepped (v, carried) [] no_use (Placing (next_number (pass_of v))) v.change
+        (now v (logged x r.history x.numbers_left x.looks_left) (Placing b) v.change, homes)
+    birth_tells carried homes = subst (λ (n : ℕ). Stepped (v, carried) [] no_use (Placing n) v.change
+        (now v (logged x r.history x.numbers_left x.looks_left) (Placing b) v.change, homes))
+        (λ i. next_in (first_log (sym one i)))
+        (tells st v r id x here one carried homes r.history x.numbers_left x.looks_left (Placing b) v.change [] no_use
+        (grows_none x.number r.history) r.legal refl (omega arith) (omega arith) its_b)
 
   -- a rest, of a number whose file is closed, or which was placed in vain
-  module _ (q : ℕ) (its : IsNumber v.start q) (ph ph' : Phase) (is : r.phase q ≡ ph) (owned : owner ph ≡ id + 1) (no_file : file_in ph ≡ None) (not_new : ph ≢ unborn) (not_spare : (p : ℕ) → ph ≢ spare p)
+  module _ (q : ℕ) (its : IsNumber v.start q) (ph ph' : Phase) (is : r.phase q ≡ ph) (owned : owner ph ≡ id + 1)
+      (no_file : file_in ph ≡ None) (not_new : ph ≢ unborn) (not_spare : (p : ℕ) → ph ≢ spare p)
       (d : held_in v.work ≡ None) (works : busy v.work ≡ q + 1) (none_held : (n : ℕ) → holding n v.work ≡ 0) where
-    rest_step : NodeAgrees (state_after_all v.start r.history) q (Rattle.fx_counted.specs.Counts.looks r.history q) 0 (some (some None)) ph' → OwnerAgrees (set st.views id (now v (logged x r.history x.numbers_left x.looks_left) Idle v.change)) q ph'
-        → ((n : ℕ) → next_in x ≤ n → n < end_in x → changed_at r.phase q ph' n ≡ spare x.number) → NodeStep st v r id x here one q its 0 (set st.homes (place_of v.start q) (some None)) r.history ph' Idle
+    rest_step : NodeAgrees (state_after_all v.start r.history) q (Rattle.fx_counted.specs.Counts.looks r.history q) 0
+        (some (some None)) ph' → OwnerAgrees
+        (set st.views id (now v (logged x r.history x.numbers_left x.looks_left) Idle v.change)) q ph'
+        → ((n : ℕ) → next_in x ≤ n → n < end_in x → changed_at r.phase q ph' n ≡ spare x.number)
+        → NodeStep st v r id x here one q its 0 (set st.homes (place_of v.start q) (some None)) r.history ph' Idle
     rest_step node known spares = let o = its_log st v r id x here one in record {
       grows = grows_none x.number r.history;
       legal = r.legal;
@@ -108,10 +122,15 @@ module _ (st : Shared) (v : View) (r : Agrees v.start st) (id : ℕ) (x : Log) (
       mine = λ some not_mine. absurd (not_mine (ap owner is ∙ owned));
       spared = λ p spare_is other. absurd (not_spare p (sym is ∙ spare_is));
       unused = λ unborn_is. absurd (not_new (sym is ∙ unborn_is));
-      keeps = λ j u f other there holds same. absurd (let e : file_in (r.phase f.number) ≡ Some f.identity = held_file v.start r.phase j u f holds ((r.each_view j u there).work) in
-          let g : file_in (r.phase f.number) ≡ None = ap (λ (m : ℕ). file_in (r.phase m)) same ∙ (ap file_in is ∙ no_file) in let z : None ≡ Some f.identity = sym g ∙ e in cc z);
+      keeps = λ j u f other there holds same. absurd
+          (let e : file_in (r.phase f.number) ≡ Some f.identity = held_file v.start r.phase j u f holds
+          ((r.each_view j u there).work) in
+          let g : file_in (r.phase f.number) ≡ None = ap (λ (m : ℕ). file_in (r.phase m)) same
+          ∙ (ap file_in is ∙ no_file) in let z : None ≡ Some f.identity = sym g ∙ e in cc z);
       free = λ m other bad. other (omega arith);
-      node = subst (λ (e : Home). NodeAgrees (state_after_all v.start r.history) q (Rattle.fx_counted.specs.Counts.looks r.history q) 0 e ph') (sym (set_here st.homes (place_of v.start q) (some None) (roomy q its))) node;
+      node = subst (λ (e : Home). NodeAgrees (state_after_all v.start r.history) q
+          (Rattle.fx_counted.specs.Counts.looks r.history q) 0 e ph')
+          (sym (set_here st.homes (place_of v.start q) (some None) (roomy q its))) node;
       known = known;
       held = o.held ∙ d;
       next = tt;
@@ -120,28 +139,43 @@ module _ (st : Shared) (v : View) (r : Agrees v.start st) (id : ℕ) (x : Log) (
       holds = λ n. let e = none_held n in omega arith;
     }
 
-  rest_emptied : (q : ℕ) → v.work ≡ Emptying q → (its : IsNumber v.start q) × NodeStep st v r id x here one q its 0 (set st.homes (place_of v.start q) (some None)) r.history closed Idle
-  rest_emptied q is = let w = subst (WorkAgrees v.start r.phase id) is (its_work st v r id x here one) in let n = in_phase q w.0 (emptied id) w.1 in let o = its_log st v r id x here one in (
-    w.0,
-    rest_step q w.0 (emptied id) closed w.1 refl refl (λ bad. cc bad) (λ p bad. cc bad) (ap held_in is) (ap busy is) (λ m. ap (holding m) is) (refl, refl, n.2, n.3) tt
-        (λ m low high. let p = ap placing is in let s = o.spares m (omega arith) high in change_else r.phase q closed m (λ same. cc (sym s ∙ (ap r.phase same ∙ w.1))) ∙ s),
-  )
+  rest_emptied : (q : ℕ) → v.work ≡ Emptying q
+      → (its : IsNumber v.start q) × NodeStep st v r id x here one q its 0
+      (set st.homes (place_of v.start q) (some None)) r.history closed Idle
+  rest_emptied q is = let w = subst (WorkAgrees v.start r.phase id) is (its_work st v r id x here one) in
+      let n = in_phase q w.0 (emptied id) w.1 in let o = its_log st v r id x here one in (
+        w.0,
+        rest_step q w.0 (emptied id) closed w.1 refl refl (λ bad. cc bad) (λ p bad. cc bad) (ap held_in is) (ap busy is)
+            (λ m. ap (holding m) is) (refl, refl, n.2, n.3) tt
+            (λ m low high. let p = ap placing is in let s = o.spares m (omega arith) high in
+            change_else r.phase q closed m (λ same. cc (sym s ∙ (ap r.phase same ∙ w.1))) ∙ s),
+      )
 
-  rest_placed : (q : ℕ) → v.work ≡ Placing q → (its : IsNumber v.start q) × NodeStep st v r id x here one q its 0 (set st.homes (place_of v.start q) (some None)) r.history (spare x.number) Idle
-  rest_placed q is = let w = subst (WorkAgrees v.start r.phase id) is (its_work st v r id x here one) in let n = in_phase q w.0 (placed id) w.1 in let o = its_log st v r id x here one in
+  rest_placed : (q : ℕ) → v.work ≡ Placing q
+      → (its : IsNumber v.start q) × NodeStep st v r id x here one q its 0
+      (set st.homes (place_of v.start q) (some None)) r.history (spare x.number) Idle
+  rest_placed q is = let w = subst (WorkAgrees v.start r.phase id) is (its_work st v r id x here one) in
+      let n = in_phase q w.0 (placed id) w.1 in let o = its_log st v r id x here one in
       let next : (q ≡ next_in x) × (0 < x.numbers_left) = subst (PlacesNext x) is o.next in (
         w.0,
-        rest_step q w.0 (placed id) (spare x.number) w.1 refl refl (λ bad. cc bad) (λ p bad. cc bad) (ap held_in is) (ap busy is) (λ m. ap (holding m) is) (refl, refl, n.2, n.3, n.4, n.5) tt
-            (λ m low high. let p = ap placing is in dite (ℕ_discrete m q) (λ same. change_here r.phase q (spare x.number) m same) (λ other. change_else r.phase q (spare x.number) m other ∙ o.spares m (let a = next.0 in omega arith) high)),
+        rest_step q w.0 (placed id) (spare x.number) w.1 refl refl (λ bad. cc bad) (λ p bad. cc bad) (ap held_in is)
+            (ap busy is) (λ m. ap (holding m) is) (refl, refl, n.2, n.3, n.4, n.5) tt
+            (λ m low high. let p = ap placing is in
+            dite (ℕ_discrete m q) (λ same. change_here r.phase q (spare x.number) m same)
+            (λ other. change_else r.phase q (spare x.number) m other ∙ o.spares m (let a = next.0 in omega arith) high)),
       )
 
 births_at : (slots id : ℕ) (m : Sat) (x : Log) → m.0.logs ≡ x ∷ [] → m.0.work ≡ Idle → 0 < x.numbers_left
-    → Allows (Agrees m.0.start) slots id m (word_of m.0.start (next_in x)) (λ _. born) (λ _. Births (step slots (word_of m.0.start (next_in x)) born 0 none) m born)
+    → Allows (Agrees m.0.start) slots id m (word_of m.0.start (next_in x)) (λ _. born)
+    (λ _. Births (step slots (word_of m.0.start (next_in x)) born 0 none) m born)
 births_at slots id m x one idle left st r deep here fits = (
   now m.0 (logged x r.history x.numbers_left x.looks_left) (Placing (next_in x)) m.0.change,
   takes (place_of m.0.start (next_in x)) None,
-  (in_phase st m.0 r id x here one (next_in x) (its_b st m.0 r id x here one idle left) (spare x.number) (is_spare st m.0 r id x here one idle left)).1,
-  node_agrees st m.0 r id x here one (next_in x) (its_b st m.0 r id x here one idle left) born (set st.homes (place_of m.0.start (next_in x)) none) r.history (placed id) (Placing (next_in x)) (birth st m.0 r id x here one idle left),
+  (in_phase st m.0 r id x here one (next_in x) (its_b st m.0 r id x here one idle left) (spare x.number)
+      (is_spare st m.0 r id x here one idle left)).1,
+  node_agrees st m.0 r id x here one (next_in x) (its_b st m.0 r id x here one idle left) born
+      (set st.homes (place_of m.0.start (next_in x)) none) r.history (placed id) (Placing (next_in x))
+      (birth st m.0 r id x here one idle left),
   record {
     stepped = birth_tells st m.0 r id x here one idle left m.1 ((place_of m.0.start (next_in x), None) ∷ m.1);
     carried = λ i. (place_of m.0.start (next_in (first_log (sym one i))), None) ∷ m.1;
@@ -149,26 +183,38 @@ births_at slots id m x one idle left st r deep here fits = (
 )
 
 pub births_keep : BirthsKeep
-births_keep k slots id i m x has idle left place = subst (λ (k : Start). i ≡ word_of k (next_in x) → Allows (Agrees k) slots id m i (λ _. born) (λ _. Births (step slots i born 0 none) m born)) has.0
-    (λ at. subst (λ (i : ℕ). Allows (Agrees m.0.start) slots id m i (λ _. born) (λ _. Births (step slots i born 0 none) m born)) (sym at) (births_at slots id m x has.1 idle left)) place
+births_keep k slots id i m x has idle left place = subst (λ (k : Start). i ≡ word_of k (next_in x)
+    → Allows (Agrees k) slots id m i (λ _. born) (λ _. Births (step slots i born 0 none) m born)) has.0
+    (λ at. subst (λ (i : ℕ). Allows (Agrees m.0.start) slots id m i (λ _. born)
+    (λ _. Births (step slots i born 0 none) m born)) (sym at) (births_at slots id m x has.1 idle left)) place
 
-rests_at : (slots id q : ℕ) (m : Sat) (x : Log) → m.0.logs ≡ x ∷ [] → (m.0.work ≡ Emptying q) ⊎ (m.0.work ≡ Placing q) → m.1 ≡ (place_of m.0.start q, None) ∷ []
+rests_at : (slots id q : ℕ) (m : Sat) (x : Log) → m.0.logs ≡ x ∷ [] → (m.0.work ≡ Emptying q) ⊎ (m.0.work ≡ Placing q)
+    → m.1 ≡ (place_of m.0.start q, None) ∷ []
     → Allows (Agrees m.0.start) slots id m (word_of m.0.start q) (λ _. 0) (λ _. Rests (step slots (word_of m.0.start q) 0 0 none) m 0)
 rests_at slots id q m x one works carries st r deep here fits = (
   now m.0 (logged x r.history x.numbers_left x.looks_left) Idle m.0.change,
   gives,
   tt,
-  subst (λ (c : List (ℕ × Option Closed)). Agrees m.0.start (stepped st (word_of m.0.start q) 0 id c (now m.0 (logged x r.history x.numbers_left x.looks_left) Idle m.0.change) gives)) (sym carries)
+  subst (λ (c : List (ℕ × Option Closed)). Agrees m.0.start
+      (stepped st (word_of m.0.start q) 0 id c
+      (now m.0 (logged x r.history x.numbers_left x.looks_left) Idle m.0.change) gives)) (sym carries)
       (⊎_elim
-      (λ (e : m.0.work ≡ Emptying q). let s = rest_emptied st m.0 r id x here one q e in node_agrees st m.0 r id x here one q s.0 0 (set st.homes (place_of m.0.start q) (some None)) r.history closed Idle s.1)
-      (λ (e : m.0.work ≡ Placing q). let s = rest_placed st m.0 r id x here one q e in node_agrees st m.0 r id x here one q s.0 0 (set st.homes (place_of m.0.start q) (some None)) r.history (spare x.number) Idle s.1)
+      (λ (e : m.0.work ≡ Emptying q). let s = rest_emptied st m.0 r id x here one q e in
+      node_agrees st m.0 r id x here one q s.0 0 (set st.homes (place_of m.0.start q) (some None)) r.history closed Idle s.1)
+      (λ (e : m.0.work ≡ Placing q). let s = rest_placed st m.0 r id x here one q e in
+      node_agrees st m.0 r id x here one q s.0 0 (set st.homes (place_of m.0.start q) (some None)) r.history
+      (spare x.number) Idle s.1)
       works),
   record {
-    stepped = tells st m.0 r id x here one m.1 (rest m.1) r.history x.numbers_left x.looks_left Idle m.0.change [] no_use (grows_none x.number r.history) r.legal refl (omega arith) (omega arith) tt;
+    stepped = tells st m.0 r id x here one m.1
+        (rest m.1) r.history x.numbers_left x.looks_left Idle m.0.change [] no_use
+        (grows_none x.number r.history) r.legal refl (omega arith) (omega arith) tt;
     carried = refl;
   },
 )
 
 pub rests_keep : RestsKeep
-rests_keep k slots id i n m x has works carries place = subst (λ (k : Start). m.1 ≡ (place_of k n, None) ∷ [] → i ≡ word_of k n → Allows (Agrees k) slots id m i (λ _. 0) (λ _. Rests (step slots i 0 0 none) m 0)) has.0
-    (λ with at. subst (λ (i : ℕ). Allows (Agrees m.0.start) slots id m i (λ _. 0) (λ _. Rests (step slots i 0 0 none) m 0)) (sym at) (rests_at slots id n m x has.1 works with)) carries place
+rests_keep k slots id i n m x has works carries place = subst (λ (k : Start). m.1 ≡ (place_of k n, None) ∷ []
+    → i ≡ word_of k n → Allows (Agrees k) slots id m i (λ _. 0) (λ _. Rests (step slots i 0 0 none) m 0)) has.0
+    (λ with at. subst (λ (i : ℕ). Allows (Agrees m.0.start) slots id m i (λ _. 0)
+    (λ _. Rests (step slots i 0 0 none) m 0)) (sym at) (rests_at slots id n m x has.1 works with)) carries place

@@ -29,7 +29,8 @@ places_same x y (Holding f) next left o = tt
 places_same x y (Retiring f t) next left o = tt
 places_same x y (Emptying n) next left o = tt
 
-module _ (st : Shared) (v : View) (r : Agrees v.start st) (id : ℕ) (x : Log) (here : get_elem? st.views id ≡ some v) (one : v.logs ≡ x ∷ []) (h' : List Event) (c : Change) (words' : List ℕ) where
+module _ (st : Shared) (v : View) (r : Agrees v.start st) (id : ℕ) (x : Log) (here : get_elem? st.views id ≡ some v)
+    (one : v.logs ≡ x ∷ []) (h' : List Event) (c : Change) (words' : List ℕ) where
   abbrev pub y : Log
   y = logged x h' x.numbers_left x.looks_left
 
@@ -47,7 +48,8 @@ module _ (st : Shared) (v : View) (r : Agrees v.start st) (id : ℕ) (x : Log) (
     pub slots : (s : ℕ) → word_at words' (slot_place s) ≡ word_at st.words (slot_place s)
     pub nodes : (n : ℕ) → IsNumber v.start n → word_at words' (word_of v.start n) ≡ word_at st.words (word_of v.start n)
     pub drawn : word_at words' draw_place ≡ word_at st.words draw_place
-    pub control : ControlCounts (state_after_all v.start r.history).at (range_of (opening_of v.start)) (set st.views id w) (word_at words' control_place)
+    pub control : ControlCounts (state_after_all v.start r.history).at (range_of (opening_of v.start))
+        (set st.views id w) (word_at words' control_place)
 
   module _ (p : Calm) where
     calm_step : Step st v r id x here one y v.work c h' r.phase words' st.homes
@@ -57,9 +59,12 @@ module _ (st : Shared) (v : View) (r : Agrees v.start st) (id : ℕ) (x : Log) (
       number = refl;
       grows = p.grows;
       legal = p.legal;
-      slots = λ s l. slot_same v.start r.history h' r.phase r.phase s (word_at st.words (slot_place s)) (word_at words' (slot_place s)) (p.slots s) (ap (λ (z : State). z.at s) p.state) (let a = p.all in omega arith)
+      slots = λ s l. slot_same v.start r.history h' r.phase r.phase s (word_at st.words (slot_place s))
+          (word_at words' (slot_place s)) (p.slots s) (ap (λ (z : State). z.at s) p.state) (let a = p.all in omega arith)
           (λ f there seat. (ap (λ (g : ℕ → ℕ). g f.number) p.looked, refl)) (r.each_slot s l);
-      nodes = λ n has. subst (λ (z : State × ℕ × ℕ). NodeAgrees z.0 n z.1 z.2 (get_elem? st.homes (place_of v.start n)) (r.phase n)) (λ i. (sym p.state i, sym p.looked i n, sym (p.nodes n has) i)) (r.each_node n has);
+      nodes = λ n has. subst (λ (z : State × ℕ
+          × ℕ). NodeAgrees z.0 n z.1 z.2 (get_elem? st.homes (place_of v.start n)) (r.phase n))
+          (λ i. (sym p.state i, sym p.looked i n, sym (p.nodes n has) i)) (r.each_node n has);
       owners = λ n has. owner_same st.views id v w here refl n (r.phase n) (r.each_owner n has);
       no_other = λ n absent. ap (λ (z : State). z.removed n) p.state ∙ r.no_other n absent;
       stays = stays_same id x.number r.phase;
@@ -77,8 +82,10 @@ module _ (st : Shared) (v : View) (r : Agrees v.start st) (id : ℕ) (x : Log) (
       work = its_work st v r id x here one;
       holds = λ n. let e = ap (λ (z : State). z.holds n) p.state in omega arith;
       look_ups = let a = p.all in omega arith;
-      control = subst (λ (z : State). ControlCounts z.at (range_of (opening_of v.start)) (set st.views id w) (word_at words' control_place)) (sym p.state) p.control;
-      draws = draws_same st.views id v w here v.start.chains r.phase r.phase (word_at st.words draw_place) (word_at words' draw_place) x y one refl refl refl p.drawn (λ n is. is) r.draws;
+      control = subst (λ (z : State). ControlCounts z.at (range_of (opening_of v.start)) (set st.views id w)
+          (word_at words' control_place)) (sym p.state) p.control;
+      draws = draws_same st.views id v w here v.start.chains r.phase r.phase (word_at st.words draw_place)
+          (word_at words' draw_place) x y one refl refl refl p.drawn (λ n is. is) r.draws;
     }
 
     pub calm_agrees : Agrees v.start record { words = words'; homes = st.homes; views = set st.views id w }

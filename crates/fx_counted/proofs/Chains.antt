@@ -122,37 +122,57 @@ module _ (st : Shared) (v : View) (r : Agrees v.start st) (id : ℕ) (x : Log) (
     read_else : (place : ℕ) → place ≢ draw_place → word_at words' place ≡ word_at st.words place
     read_else place other = get_or-set_other st.words draw_place place (found + 1) 0 other
 
-    draw_step : ((n : ℕ) → (r.phase n ≡ phase' n) ⊎ ((r.phase n ≡ unborn) × (phase' n ≡ spare x.number))) → LogAgrees v.start r.history phase' id v.work y → Rattle.fx_counted.specs.Agrees.WorkAgrees v.start phase' id v.work
-        → DrawsCount v.start.chains phase' (set st.views id w) (found + 1) → Step st v r id x here one y v.work v.change r.history phase' words' st.homes
+    draw_step : ((n : ℕ) → (r.phase n ≡ phase' n) ⊎ ((r.phase n ≡ unborn) × (phase' n ≡ spare x.number)))
+        → LogAgrees v.start r.history phase' id v.work y → Rattle.fx_counted.specs.Agrees.WorkAgrees v.start phase' id v.work
+        → DrawsCount v.start.chains phase' (set st.views id w) (found + 1)
+        → Step st v r id x here one y v.work v.change r.history phase' words' st.homes
     draw_step phases log work draws = let apart = far st v r id x here one in record {
       words = length-set st.words draw_place (found + 1);
       homes = refl;
       number = number;
       grows = grows_none x.number r.history;
       legal = r.legal;
-      slots = λ s l. slot_same v.start r.history r.history r.phase phase' s (word_at st.words (slot_place s)) (word_at words' (slot_place s)) (read_else (slot_place s) (apart.slot_and_draw s)) refl (omega arith)
-          (λ f there seat. (refl, ⊎_elim (λ e. sym e) (λ (e : (r.phase f.number ≡ unborn) × (phase' f.number ≡ spare x.number)). absurd (cc (sym seat ∙ e.0))) (phases f.number))) (r.each_slot s l);
-      nodes = λ n has. subst (λ (z : ℕ). NodeAgrees (state_after_all v.start r.history) n (Rattle.fx_counted.specs.Counts.looks r.history n) z (get_elem? st.homes (place_of v.start n)) (phase' n)) (sym (read_else (word_of v.start n) (apart.node_and_draw n has)))
+      slots = λ s l. slot_same v.start r.history r.history r.phase phase' s (word_at st.words (slot_place s))
+          (word_at words' (slot_place s)) (read_else (slot_place s) (apart.slot_and_draw s)) refl (omega arith)
+          (λ f there seat. (
+            refl,
+            ⊎_elim (λ e. sym e) (λ (e : (r.phase f.number ≡ unborn)
+                × (phase' f.number ≡ spare x.number)). absurd (cc (sym seat ∙ e.0))) (phases f.number),
+          )) (r.each_slot s l);
+      nodes = λ n has. subst (λ (z : ℕ). NodeAgrees (state_after_all v.start r.history) n
+          (Rattle.fx_counted.specs.Counts.looks r.history n) z (get_elem? st.homes (place_of v.start n)) (phase' n))
+          (sym (read_else (word_of v.start n) (apart.node_and_draw n has)))
           (⊎_elim
-          (λ (e : r.phase n ≡ phase' n). subst (NodeAgrees (state_after_all v.start r.history) n (Rattle.fx_counted.specs.Counts.looks r.history n) (word_at st.words (word_of v.start n)) (get_elem? st.homes (place_of v.start n))) e (r.each_node n has))
-          (λ (e : (r.phase n ≡ unborn) × (phase' n ≡ spare x.number)). subst (NodeAgrees (state_after_all v.start r.history) n (Rattle.fx_counted.specs.Counts.looks r.history n) (word_at st.words (word_of v.start n)) (get_elem? st.homes (place_of v.start n))) (sym e.1)
-          (subst (NodeAgrees (state_after_all v.start r.history) n (Rattle.fx_counted.specs.Counts.looks r.history n) (word_at st.words (word_of v.start n)) (get_elem? st.homes (place_of v.start n))) e.0 (r.each_node n has)))
+          (λ (e : r.phase n ≡ phase' n). subst
+          (NodeAgrees (state_after_all v.start r.history) n (Rattle.fx_counted.specs.Counts.looks r.history n)
+          (word_at st.words (word_of v.start n)) (get_elem? st.homes (place_of v.start n))) e (r.each_node n has))
+          (λ (e : (r.phase n ≡ unborn) × (phase' n ≡ spare x.number)). subst
+          (NodeAgrees (state_after_all v.start r.history) n (Rattle.fx_counted.specs.Counts.looks r.history n)
+          (word_at st.words (word_of v.start n)) (get_elem? st.homes (place_of v.start n))) (sym e.1)
+          (subst (NodeAgrees (state_after_all v.start r.history) n (Rattle.fx_counted.specs.Counts.looks r.history n)
+          (word_at st.words (word_of v.start n)) (get_elem? st.homes (place_of v.start n))) e.0 (r.each_node n has)))
           (phases n));
       owners = λ n has. ⊎_elim
-          (λ (e : r.phase n ≡ phase' n). subst (OwnerAgrees (set st.views id w) n) e (owner_same st.views id v w here refl n (r.phase n) (r.each_owner n has)))
+          (λ (e : r.phase n ≡ phase' n). subst (OwnerAgrees (set st.views id w) n) e
+          (owner_same st.views id v w here refl n (r.phase n) (r.each_owner n has)))
           (λ (e : (r.phase n ≡ unborn) × (phase' n ≡ spare x.number)). subst (OwnerAgrees (set st.views id w) n) (sym e.1) tt)
           (phases n);
       no_other = r.no_other;
       stays = record {
-        owned = λ n owned not_mine. ⊎_elim (λ e. sym e) (λ (e : (r.phase n ≡ unborn) × (phase' n ≡ spare x.number)). absurd (owned (ap owner e.0))) (phases n);
-        spared = λ n q is other. ⊎_elim (λ e. sym e ∙ is) (λ (e : (r.phase n ≡ unborn) × (phase' n ≡ spare x.number)). absurd (cc (sym is ∙ e.0))) (phases n);
+        owned = λ n owned not_mine. ⊎_elim (λ e. sym e) (λ (e : (r.phase n ≡ unborn)
+            × (phase' n ≡ spare x.number)). absurd (owned (ap owner e.0))) (phases n);
+        spared = λ n q is other. ⊎_elim (λ e. sym e
+            ∙ is) (λ (e : (r.phase n ≡ unborn) × (phase' n ≡ spare x.number)). absurd (cc (sym is ∙ e.0))) (phases n);
       };
-      keeps = λ j u f other there holds. ⊎_elim (λ e. ap file_in (sym e)) (λ (e : (r.phase f.number ≡ unborn) × (phase' f.number ≡ spare x.number)). ap file_in e.1 ∙ sym (ap file_in e.0)) (phases f.number);
+      keeps = λ j u f other there holds. ⊎_elim (λ e. ap file_in (sym e)) (λ (e : (r.phase f.number ≡ unborn)
+          × (phase' f.number ≡ spare x.number)). ap file_in e.1 ∙ sym (ap file_in e.0)) (phases f.number);
       log = log;
       work = work;
       holds = λ n. omega arith;
       look_ups = omega arith;
-      control = control_same st.views id v w here (state_after_all v.start r.history).at (state_after_all v.start r.history).at _ (word_at st.words control_place) _ refl (read_else control_place apart.control_and_draw) refl r.control;
+      control = control_same st.views id v w here (state_after_all v.start r.history).at
+          (state_after_all v.start r.history).at _ (word_at st.words control_place) _ refl
+          (read_else control_place apart.control_and_draw) refl r.control;
       draws = subst (DrawsCount v.start.chains phase' (set st.views id w)) (sym (get_or-set_same st.words draw_place (found + 1) 0 wide)) draws;
     }
 
@@ -169,7 +189,8 @@ module _ (st : Shared) (v : View) (r : Agrees v.start st) (id : ℕ) (x : Log) (
     -- there is a next chain
     module _ (more : found < v.start.chains) where
       nobody_told : sum_by told_of st.views ≡ 0
-      nobody_told = dite (ℕ_discrete (sum_by told_of st.views) 0) (λ e. e) (λ ne. let a = d.all (omega (arith, ne)) in let b = d.counts in absurd (omega arith))
+      nobody_told = dite (ℕ_discrete (sum_by told_of st.views) 0) (λ e. e) (λ ne. let a = d.all (omega (arith, ne)) in
+          let b = d.counts in absurd (omega arith))
 
       given_is : d.given ≡ found
       given_is = let a = nobody_told in let b = d.counts in omega arith
@@ -186,24 +207,36 @@ module _ (st : Shared) (v : View) (r : Agrees v.start st) (id : ℕ) (x : Log) (
       phases : (n : ℕ) → (r.phase n ≡ phase' n) ⊎ ((r.phase n ≡ unborn) × (phase' n ≡ spare x.number))
       phases n = dite (dec_le (numbers_for found) n)
           (λ low. dite (dec_le (n + 1) (numbers_for (found + 1)))
-          (λ high. inr (was_unborn n low (omega (arith, high)), given_in (numbers_for found) (numbers_for (found + 1)) x.number r.phase n low (omega (arith, high))))
+          (λ high. inr (
+            was_unborn n low (omega (arith, high)),
+            given_in (numbers_for found)
+                (numbers_for (found + 1)) x.number r.phase n low (omega (arith, high)),
+          ))
           (λ high. inl (sym (given_else (numbers_for found) (numbers_for (found + 1)) x.number r.phase n (λ a b. high (omega arith))))))
           (λ low. inl (sym (given_else (numbers_for found) (numbers_for (found + 1)) x.number r.phase n (λ a b. low a))))
 
       counts : DrawsCount v.start.chains phase' (set st.views id (now v y v.work v.change)) (found + 1)
-      counts = let w : View = now v y v.work v.change in let t = sum_set told_of st.views id v w here in let tv = told_v y refl refl refl phase' in let z = nobody_told in let g = given_is in record {
-        given = found + 1;
-        few = omega arith;
-        each = λ c. let s = sum_set (drawn_of c) st.views id v w here in let e = d.each c in let dv = drawn_v y refl refl refl phase' c in let co = sum_by-cons (λ d. one_if (eqb d c)) (found + 1) x.drawn in let gg = ap (λ (n : ℕ). once n c) g in dite (ℕ_discrete (found + 1) c)
-            (λ same. let b = bit_here c (found + 1) same in let o1 = once_out found c (omega (arith, same)) in let o2 = once_in (found + 1) c (omega (arith, same)) (omega (arith, same)) in omega arith)
-            (λ other. let b = bit_else c (found + 1) other in dite (dec_le c found)
-            (λ low. dite (ℕ_discrete c 0) (λ none. let o1 : once found c ≡ 0 = ap (once found) none in let o2 : once (found + 1) c ≡ 0 = ap (once (found + 1)) none in omega arith)
-            (λ some_c. let o1 = once_in found c (omega (arith, some_c)) low in let o2 = once_in (found + 1) c (omega (arith, some_c)) (omega (arith, low)) in omega arith))
-            (λ high. let o1 = once_out found c (omega (arith, high)) in let o2 = once_out (found + 1) c (omega (arith, high, other)) in omega arith));
-        counts = omega arith;
-        all = λ some_told. absurd (omega arith);
-        unused = λ n low high. given_else (numbers_for found) (numbers_for (found + 1)) x.number r.phase n (λ a b. omega arith) ∙ d.unused n (omega arith) high;
-      }
+      counts = let w : View = now v y v.work v.change in let t = sum_set told_of st.views id v w here in
+          let tv = told_v y refl refl refl phase' in let z = nobody_told in let g = given_is in record {
+            given = found + 1;
+            few = omega arith;
+            each = λ c. let s = sum_set (drawn_of c) st.views id v w here in let e = d.each c in
+                let dv = drawn_v y refl refl refl phase' c in
+                let co = sum_by-cons (λ d. one_if (eqb d c)) (found + 1) x.drawn in let gg = ap (λ (n : ℕ). once n c) g in
+                dite (ℕ_discrete (found + 1) c)
+                (λ same. let b = bit_here c (found + 1) same in let o1 = once_out found c (omega (arith, same)) in
+                let o2 = once_in (found + 1) c (omega (arith, same)) (omega (arith, same)) in omega arith)
+                (λ other. let b = bit_else c (found + 1) other in dite (dec_le c found)
+                (λ low. dite (ℕ_discrete c 0) (λ none. let o1 : once found c ≡ 0 = ap (once found) none in
+                let o2 : once (found + 1) c ≡ 0 = ap (once (found + 1)) none in omega arith)
+                (λ some_c. let o1 = once_in found c (omega (arith, some_c)) low in
+                let o2 = once_in (found + 1) c (omega (arith, some_c)) (omega (arith, low)) in omega arith))
+                (λ high. let o1 = once_out found c (omega (arith, high)) in let o2 = once_out (found + 1) c (omega (arith, high, other)) in omega arith));
+            counts = omega arith;
+            all = λ some_told. absurd (omega arith);
+            unused = λ n low high. given_else (numbers_for found) (numbers_for (found + 1)) x.number r.phase n
+                (λ a b. omega arith) ∙ d.unused n (omega arith) high;
+          }
 
       log : LogAgrees v.start r.history phase' id v.work y
       log = let o = its_log st v r id x here one in let p = ap placing idle in record {
@@ -217,13 +250,25 @@ module _ (st : Shared) (v : View) (r : Agrees v.start st) (id : ℕ) (x : Log) (
         spares = λ n low high. given_in (numbers_for found) (numbers_for (found + 1)) x.number r.phase n (omega arith) high;
       }
 
-      drawn_agrees : Agrees v.start record { words = set st.words draw_place (found + 1); homes = st.homes; views = set st.views id (now v y v.work v.change) }
-      drawn_agrees = step_kept st v r id x here one y v.work v.change r.history phase' (set st.words draw_place (found + 1)) st.homes (draw_step y refl refl refl phase' phases log (idle_work phase') counts)
+      drawn_agrees : Agrees v.start record {
+        words = set st.words draw_place
+            (found + 1);
+        homes = st.homes;
+        views = set st.views id (now v y v.work v.change);
+      }
+      drawn_agrees = step_kept st v r id x here one y v.work v.change r.history phase'
+          (set st.words draw_place (found + 1)) st.homes (draw_step y refl refl refl phase' phases log (idle_work phase') counts)
 
-      drawn_tells : (carried : List (ℕ × Option Closed)) (slots : ℕ) → DrawTells (step slots draw_place 1 0 none) (v, carried) found (now v y v.work v.change, carried)
+      drawn_tells : (carried : List (ℕ × Option Closed)) (slots : ℕ)
+          → DrawTells (step slots draw_place 1 0 none) (v, carried) found (now v y v.work v.change, carried)
       drawn_tells carried slots = let g = given_is in let c = chain_few in record {
         one = (y, refl);
-        draws = subst (λ (z : PassView × Option ℕ). Draws (opening_of v.start) z.0 z.1 (shown y v.work)) (λ i. (shown (first_log (sym one i)) v.work, sym (ap (λ (b : Bool). cond b (Some (found + 1)) None) (lt-ltb found v.start.chains more)) i))
+        draws = subst (λ (z : PassView × Option ℕ). Draws (opening_of v.start) z.0 z.1 (shown y v.work))
+            (λ i. (
+              shown (first_log (sym one i)) v.work,
+              sym
+                  (ap (λ (b : Bool). cond b (Some (found + 1)) None) (lt-ltb found v.start.chains more)) i,
+            ))
             (untold, omega arith, omega arith, refl);
         same = (refl, refl, refl, refl);
         steps = let e = ap (λ (l : List Log). (first_log l).steps) one in omega arith;
@@ -232,20 +277,23 @@ module _ (st : Shared) (v : View) (r : Agrees v.start st) (id : ℕ) (x : Log) (
     -- there are no more
     module _ (done : v.start.chains ≤ found) where
       all_given : d.given ≡ v.start.chains
-      all_given = let b = d.counts in let c = d.few in dite (ℕ_discrete (sum_by told_of st.views) 0) (λ e. omega (arith, e)) (λ ne. d.all (omega (arith, ne)))
+      all_given = let b = d.counts in let c = d.few in
+          dite (ℕ_discrete (sum_by told_of st.views) 0) (λ e. omega (arith, e)) (λ ne. d.all (omega (arith, ne)))
 
       abbrev y' : Log
       y' = record x { no_chains_left = true; steps = x.steps + 1 }
 
       counts' : DrawsCount v.start.chains r.phase (set st.views id (now v y' v.work v.change)) (found + 1)
-      counts' = let w : View = now v y' v.work v.change in let t = sum_set told_of st.views id v w here in let tv = told_v y' refl refl refl r.phase in let u = ap one_if untold in record {
-        given = d.given;
-        few = d.few;
-        each = λ c. let s = sum_set (drawn_of c) st.views id v w here in let e = d.each c in let dv = drawn_v y' refl refl refl r.phase c in omega arith;
-        counts = let b = d.counts in omega arith;
-        all = λ some_told. all_given;
-        unused = d.unused;
-      }
+      counts' = let w : View = now v y' v.work v.change in let t = sum_set told_of st.views id v w here in
+          let tv = told_v y' refl refl refl r.phase in let u = ap one_if untold in record {
+            given = d.given;
+            few = d.few;
+            each = λ c. let s = sum_set (drawn_of c) st.views id v w here in let e = d.each c in
+                let dv = drawn_v y' refl refl refl r.phase c in omega arith;
+            counts = let b = d.counts in omega arith;
+            all = λ some_told. all_given;
+            unused = d.unused;
+          }
 
       log' : LogAgrees v.start r.history r.phase id v.work y'
       log' = let o = its_log st v r id x here one in record {
@@ -259,20 +307,36 @@ module _ (st : Shared) (v : View) (r : Agrees v.start st) (id : ℕ) (x : Log) (
         spares = o.spares;
       }
 
-      told_agrees : Agrees v.start record { words = set st.words draw_place (found + 1); homes = st.homes; views = set st.views id (now v y' v.work v.change) }
-      told_agrees = step_kept st v r id x here one y' v.work v.change r.history r.phase (set st.words draw_place (found + 1)) st.homes (draw_step y' refl refl refl r.phase (λ n. inl refl) log' (idle_work r.phase) counts')
+      told_agrees : Agrees v.start record {
+        words = set st.words draw_place
+            (found + 1);
+        homes = st.homes;
+        views = set st.views id (now v y' v.work v.change);
+      }
+      told_agrees = step_kept st v r id x here one y' v.work v.change r.history r.phase
+          (set st.words draw_place (found + 1)) st.homes
+          (draw_step y' refl refl refl r.phase (λ n. inl refl) log' (idle_work r.phase) counts')
 
-      told_tells : (carried : List (ℕ × Option Closed)) (slots : ℕ) → DrawTells (step slots draw_place 1 0 none) (v, carried) found (now v y' v.work v.change, carried)
+      told_tells : (carried : List (ℕ × Option Closed)) (slots : ℕ)
+          → DrawTells (step slots draw_place 1 0 none) (v, carried) found (now v y' v.work v.change, carried)
       told_tells carried slots = record {
         one = (y', refl);
-        draws = subst (λ (z : PassView × Option ℕ). Draws (opening_of v.start) z.0 z.1 (shown y' v.work)) (λ i. (shown (first_log (sym one i)) v.work, sym (ap (λ (b : Bool). cond b (Some (found + 1)) None) (le-ltb found v.start.chains done)) i)) refl;
+        draws = subst (λ (z : PassView × Option ℕ). Draws (opening_of v.start) z.0 z.1 (shown y' v.work))
+            (λ i. (
+              shown (first_log (sym one i)) v.work,
+              sym
+                  (ap (λ (b : Bool). cond b (Some (found + 1)) None) (le-ltb found v.start.chains done)) i,
+            )) refl;
         same = (refl, refl, refl, refl);
         steps = let e = ap (λ (l : List Log). (first_log l).steps) one in omega arith;
       }
 
-draws_at : (slots id : ℕ) (m : Sat) (x : Log) → m.0.logs ≡ x ∷ [] → m.0.work ≡ Idle → x.no_chains_left ≡ false → Allows (Agrees m.0.start) slots id m draw_place (λ word. (word + 1) % 2 ^ 64) (DrawTells (step slots draw_place 1 0 none) m)
+draws_at : (slots id : ℕ) (m : Sat) (x : Log) → m.0.logs ≡ x ∷ [] → m.0.work ≡ Idle → x.no_chains_left ≡ false
+    → Allows (Agrees m.0.start) slots id m draw_place (λ word. (word + 1) % 2 ^ 64) (DrawTells (step slots draw_place 1 0 none) m)
 draws_at slots id m x one idle untold st r deep here fits = let found : ℕ = word_at st.words draw_place in
-    subst (λ (z : ℕ). (w : View) × (a : Act (Option Closed)) × Valid st.homes m.1 a × Agrees m.0.start (stepped st draw_place z id m.1 w a) × DrawTells (step slots draw_place 1 0 none) m found (w, carried_after m.1 a))
+    subst (λ (z : ℕ). (w : View) × (a : Act (Option Closed)) × Valid st.homes m.1 a
+    × Agrees m.0.start (stepped st draw_place z id m.1 w a)
+    × DrawTells (step slots draw_place 1 0 none) m found (w, carried_after m.1 a))
     (sym (word_is st m.0 r id x here one))
     (dite (dec_le (found + 1) m.0.start.chains)
     (λ next. let more : found < m.0.start.chains = omega (arith, next) in (
@@ -291,5 +355,7 @@ draws_at slots id m x one idle untold st r deep here fits = let found : ℕ = wo
     )))
 
 pub draws_keep : DrawsKeep
-draws_keep k slots id i m x has idle untold place = subst (λ (k : Start). Allows (Agrees k) slots id m i (λ word. (word + 1) % 2 ^ 64) (DrawTells (step slots i 1 0 none) m)) has.0
-    (subst (λ (i : ℕ). Allows (Agrees m.0.start) slots id m i (λ word. (word + 1) % 2 ^ 64) (DrawTells (step slots i 1 0 none) m)) (sym place) (draws_at slots id m x has.1 idle untold))
+draws_keep k slots id i m x has idle untold place = subst
+    (λ (k : Start). Allows (Agrees k) slots id m i (λ word. (word + 1) % 2 ^ 64) (DrawTells (step slots i 1 0 none) m)) has.0
+    (subst (λ (i : ℕ). Allows (Agrees m.0.start) slots id m i (λ word. (word + 1) % 2 ^ 64)
+    (DrawTells (step slots i 1 0 none) m)) (sym place) (draws_at slots id m x has.1 idle untold))

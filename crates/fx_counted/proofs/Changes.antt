@@ -36,7 +36,8 @@ use Rattle.fx_counted.proofs.Keeping.{Homes, word_at, now, logged, its_log, its_
 use Rattle.fx_counted.proofs.Swaps.{NotOf, removed_else, found, state, so, seat_of, not_old, elsewhere, w, Swap, swap_agrees}
 use Rattle.fx_counted.proofs.Unchanged.{node_same}
 
-module _ (st : Shared) (v : View) (r : Agrees v.start st) (id : ℕ) (x : Log) (here : get_elem? st.views id ≡ some v) (one : v.logs ≡ x ∷ []) (s : ℕ) (inside : s < slots_of v.start) (stands : Stands (range_of (opening_of v.start)) s v.change)
+module _ (st : Shared) (v : View) (r : Agrees v.start st) (id : ℕ) (x : Log) (here : get_elem? st.views id ≡ some v)
+    (one : v.logs ≡ x ∷ []) (s : ℕ) (inside : s < slots_of v.start) (stands : Stands (range_of (opening_of v.start)) s v.change)
     (old : Option File) (was : (state_after_all v.start r.history).at s ≡ old) where
   abbrev f₀ : ℕ
   f₀ = found st v r id x here one s inside
@@ -92,27 +93,49 @@ module _ (st : Shared) (v : View) (r : Agrees v.start st) (id : ℕ) (x : Log) (
       stays = stays_same id x.number r.phase;
       keeps = λ j u f other there holds. refl;
       unused = λ n is. is;
-      nodes = λ n has other. node_same s₀ (after a) n (looks r.history n) (looks r.history n) _ _ _ _ (ap (λ (g : ℕ → Bool). g n) does.fresh_is) (ap (λ (g : ℕ → Option File). g n) does.removed ∙ removed_else s₀.removed old n other)
+      nodes = λ n has other. node_same s₀ (after a) n (looks r.history n) (looks r.history n) _ _ _ _ (ap (λ (g : ℕ
+          → Bool). g n) does.fresh_is) (ap (λ (g : ℕ → Option File). g n) does.removed ∙ removed_else s₀.removed old n other)
           (ap (λ (g : ℕ → ℕ). g n) does.holds) refl refl refl does.size (r.phase n)
-          (λ i g is there. ap (λ (g : ℕ → Option File). g i) does.at ∙ change_else s₀.at s None i (elsewhere st v r id x here one s inside old was n i g other there)) (r.each_node n has);
+          (λ i g is there. ap (λ (g : ℕ → Option File). g i) does.at
+          ∙ change_else s₀.at s None i (elsewhere st v r id x here one s inside old was n i g other there))
+          (r.each_node n has);
       old_home = λ f is. refl;
-      owners = λ n has other. owner_stays st.views id v (w st v r id x here one s inside old was a 0 None st.homes r.phase x.numbers_left (turned v.change (if_full old) 0)) here n (λ bad. let b = ap busy idle in omega arith) (r.phase n) (r.each_owner n has);
+      owners = λ n has other. owner_stays st.views id v
+          (w st v r id x here one s inside old was a 0 None st.homes r.phase x.numbers_left
+          (turned v.change (if_full old) 0)) here n (λ bad. let b = ap busy idle in omega arith) (r.phase n) (r.each_owner n has);
       fewer = omega arith;
-      spares = λ n low high. let p = ap placing idle in let q = o.spares n (omega arith) high in (q, not_old st v r id x here one s inside old was n (spare x.number) q (λ g bad. cc bad));
+      spares = λ n low high. let p = ap placing idle in let q = o.spares n (omega arith) high in
+          (q, not_old st v r id x here one s inside old was n (spare x.number) q (λ g bad. cc bad));
       none_held = (ap held_in idle, λ n. ap (holding n) idle);
       control = control_swap s₀.at (range_of (opening_of v.start)) st.views id v _ _ s old None here was stands refl r.control;
     }
 
-    pub removal_agrees : Agrees v.start record { words = set st.words (slot_place s) 0; homes = st.homes; views = set st.views id (now v (logged x (event a ∷ r.history) x.numbers_left x.looks_left) (retires_now old (takes_in f₀)) (turned v.change (if_full old) 0)) }
-    removal_agrees = swap_agrees st v r id x here one s inside old was a 0 None st.homes r.phase x.numbers_left (turned v.change (if_full old) 0) removal
+    pub removal_agrees : Agrees v.start record {
+      words = set st.words
+          (slot_place s) 0;
+      homes = st.homes;
+      views = set st.views id
+          (now v (logged x (event a ∷ r.history) x.numbers_left x.looks_left) (retires_now old (takes_in f₀))
+          (turned v.change (if_full old) 0));
+    }
+    removal_agrees = swap_agrees st v r id x here one s inside old was a 0 None st.homes r.phase x.numbers_left
+        (turned v.change (if_full old) 0) removal
 
-    pub removal_tells : (carried : List (ℕ × Option Closed)) → Stepped (v, carried) ([] ▷ a) no_use (retires_now old (takes_in f₀)) (turned v.change (if_full old) 0)
-        (now v (logged x (event a ∷ r.history) x.numbers_left x.looks_left) (retires_now old (takes_in f₀)) (turned v.change (if_full old) 0), carried)
-    removal_tells carried = tells st v r id x here one carried carried (event a ∷ r.history) x.numbers_left x.looks_left (retires_now old (takes_in f₀)) (turned v.change (if_full old) 0) ([] ▷ a) no_use
-        (grows_one x.number r.history (event a) refl) does.legal (part_mine x.number (event a) r.history refl) (omega arith) (omega arith) (inside_now old refl)
+    pub removal_tells : (carried : List (ℕ × Option Closed))
+        → Stepped (v, carried) ([] ▷ a) no_use (retires_now old (takes_in f₀)) (turned v.change (if_full old) 0) (
+          now v (logged x (event a ∷ r.history) x.numbers_left x.looks_left) (retires_now old (takes_in f₀))
+              (turned v.change (if_full old) 0),
+          carried,
+        )
+    removal_tells carried = tells st v r id x here one carried carried
+        (event a ∷ r.history) x.numbers_left x.looks_left (retires_now old (takes_in f₀))
+        (turned v.change (if_full old) 0) ([] ▷ a) no_use
+        (grows_one x.number r.history (event a) refl) does.legal (part_mine x.number (event a) r.history refl)
+        (omega arith) (omega arith) (inside_now old refl)
 
   -- an installation
-  module _ (n : ℕ) (file : Closed) (works : v.work ≡ Placing n) (small : file.entry < 2 ^ 8) (a : Action) (does : Does a (Some (numbered n file)) (changed_at s₀.fresh n false)) where
+  module _ (n : ℕ) (file : Closed) (works : v.work ≡ Placing n) (small : file.entry < 2 ^ 8) (a : Action)
+      (does : Does a (Some (numbered n file)) (changed_at s₀.fresh n false)) where
     its : IsNumber v.start n × (r.phase n ≡ placed id)
     its = subst (WorkAgrees v.start r.phase id) works (its_work st v r id x here one)
 
@@ -146,7 +169,8 @@ module _ (st : Shared) (v : View) (r : Agrees v.start st) (id : ℕ) (x : Log) (
     Node : ℕ → Phase → Type 0
     Node m ph = NodeAgrees (after a) m (looks r.history m) (word_at st.words (word_of v.start m)) (get_elem? homes' (place_of v.start m)) ph
 
-    node_here : NodeAgrees (after a) n (looks r.history n) (word_at st.words (word_of v.start n)) (get_elem? homes' (place_of v.start n)) (seated s file)
+    node_here : NodeAgrees (after a) n (looks r.history n) (word_at st.words (word_of v.start n))
+        (get_elem? homes' (place_of v.start n)) (seated s file)
     node_here = let o = node in let h = ap (λ (g : ℕ → ℕ). g n) does.holds in (
       omega arith,
       set_here st.homes (place_of v.start n) (some (Some file)) (roomy st v r id x here one n its.0),
@@ -155,13 +179,21 @@ module _ (st : Shared) (v : View) (r : Agrees v.start st) (id : ℕ) (x : Log) (
       ap (λ (g : ℕ → Option File). g n) does.removed ∙ (removed_else s₀.removed old n apart_old ∙ o.5),
     )
 
-    node_else : (m : ℕ) → IsNumber v.start m → m ≢ n → NotOf m old → NodeAgrees (after a) m (looks r.history m) (word_at st.words (word_of v.start m)) (get_elem? homes' (place_of v.start m)) (r.phase m)
-    node_else m has other apart = node_same s₀ (after a) m (looks r.history m) (looks r.history m) _ _ _ _ (ap (λ (g : ℕ → Bool). g m) does.fresh_is ∙ change_else s₀.fresh n false m other)
+    node_else : (m : ℕ) → IsNumber v.start m → m ≢ n → NotOf m old
+        → NodeAgrees (after a) m (looks r.history m) (word_at st.words (word_of v.start m))
+        (get_elem? homes' (place_of v.start m)) (r.phase m)
+    node_else m has other apart = node_same s₀ (after a) m (looks r.history m) (looks r.history m) _ _ _ _
+        (ap (λ (g : ℕ → Bool). g m) does.fresh_is ∙ change_else s₀.fresh n false m other)
         (ap (λ (g : ℕ → Option File). g m) does.removed ∙ removed_else s₀.removed old m apart)
-        (ap (λ (g : ℕ → ℕ). g m) does.holds) refl refl (set_else st.homes (place_of v.start n) (place_of v.start m) (some (Some file)) (else_place st v r id x here one n its.0 m has other)) does.size (r.phase m)
-        (λ i g is there. ap (λ (g : ℕ → Option File). g i) does.at ∙ change_else s₀.at s (Some (numbered n file)) i (elsewhere st v r id x here one s inside old was m i g apart there)) (r.each_node m has)
+        (ap (λ (g : ℕ → ℕ). g m) does.holds) refl refl
+        (set_else st.homes (place_of v.start n) (place_of v.start m) (some (Some file))
+        (else_place st v r id x here one n its.0 m has other)) does.size (r.phase m)
+        (λ i g is there. ap (λ (g : ℕ → Option File). g i) does.at
+        ∙ change_else s₀.at s (Some (numbered n file)) i
+        (elsewhere st v r id x here one s inside old was m i g apart there)) (r.each_node m has)
 
-    installation : Swap st v r id x here one s inside old was a (slot_word_of n file.entry) (Some (numbered n file)) homes' phase₁ (x.numbers_left - 1) c
+    installation : Swap st v r id x here one s inside old was a (slot_word_of n file.entry)
+        (Some (numbered n file)) homes' phase₁ (x.numbers_left - 1) c
     installation = let o = its_log st v r id x here one in record {
       legal = does.legal;
       at = does.at;
@@ -174,24 +206,35 @@ module _ (st : Shared) (v : View) (r : Agrees v.start st) (id : ℕ) (x : Log) (
       names = (name_made n file.entry small, entry_made n file.entry small);
       no_takes = takes_made n file.entry;
       seat = (its.0, takes_made n file.entry ∙ sym node.3, here_phase);
-      new_apart = λ f is. let same : n ≡ f.number = (let e : numbered n file ≡ f = cc is in ap (λ (f : File). f.number) e) in subst (λ (m : ℕ). NotOf m old) same apart_old;
+      new_apart = λ f is. let same : n ≡ f.number = (let e : numbered n file ≡ f = cc is in
+          ap (λ (f : File). f.number) e) in subst (λ (m : ℕ). NotOf m old) same apart_old;
       seats = λ m i g is. else_phase m (seated i g) is (λ bad. cc bad);
       stays = record {
         owned = λ m some not_mine. else_phase m (r.phase m) refl (λ bad. not_mine (ap owner bad));
         spared = λ m q is other. else_phase m (spare q) is (λ bad. cc bad);
       };
       keeps = λ j u f other there holds. ap file_in (else_phase f.number (r.phase f.number) refl
-          (λ bad. let e = held_file v.start r.phase j u f holds ((r.each_view j u there).work) in let z : None ≡ Some f.identity = sym (ap file_in bad) ∙ e in cc z));
+          (λ bad. let e = held_file v.start r.phase j u f holds ((r.each_view j u there).work) in
+          let z : None ≡ Some f.identity = sym (ap file_in bad) ∙ e in cc z));
       unused = λ m is. else_phase m unborn is (λ bad. cc bad);
       nodes = λ m has apart. dite (ℕ_discrete m n)
-          (λ same. subst (λ (m : ℕ). NodeAgrees (after a) m (looks r.history m) (word_at st.words (word_of v.start m)) (get_elem? homes' (place_of v.start m)) (phase₁ m)) (sym same)
-          (subst (NodeAgrees (after a) n (looks r.history n) (word_at st.words (word_of v.start n)) (get_elem? homes' (place_of v.start n))) (sym here_phase) node_here))
-          (λ other. subst (NodeAgrees (after a) m (looks r.history m) (word_at st.words (word_of v.start m)) (get_elem? homes' (place_of v.start m))) (sym (change_else r.phase n (seated s file) m other)) (node_else m has other apart));
+          (λ same. subst (λ (m : ℕ). NodeAgrees (after a) m (looks r.history m) (word_at st.words (word_of v.start m))
+          (get_elem? homes' (place_of v.start m)) (phase₁ m)) (sym same)
+          (subst (NodeAgrees (after a) n (looks r.history n) (word_at st.words (word_of v.start n))
+          (get_elem? homes' (place_of v.start n))) (sym here_phase) node_here))
+          (λ other. subst (NodeAgrees (after a) m (looks r.history m) (word_at st.words (word_of v.start m))
+          (get_elem? homes' (place_of v.start m))) (sym (change_else r.phase n (seated s file) m other))
+          (node_else m has other apart));
       old_home = λ f is. let q = seat_of st v r id x here one s inside f (was ∙ is) in
-          set_else st.homes (place_of v.start n) (place_of v.start f.number) (some (Some file)) (else_place st v r id x here one n its.0 f.number q.0 (λ same. let z : seated s f.identity ≡ placed id = sym q.2 ∙ (ap r.phase same ∙ its.1) in cc z));
+          set_else st.homes (place_of v.start n) (place_of v.start f.number) (some (Some file))
+          (else_place st v r id x here one n its.0 f.number q.0
+          (λ same. let z : seated s f.identity ≡ placed id = sym q.2 ∙ (ap r.phase same ∙ its.1) in cc z));
       owners = λ m has apart. dite (ℕ_discrete m n)
-          (λ same. subst (λ (z : ℕ × Phase). OwnerAgrees (set st.views id w₁) z.0 z.1) (λ i. (sym same i, sym (change_here r.phase n (seated s file) m same) i)) tt)
-          (λ other. subst (OwnerAgrees (set st.views id w₁) m) (sym (change_else r.phase n (seated s file) m other)) (owner_stays st.views id v w₁ here m (λ bad. let b = ap busy works in other (omega arith)) (r.phase m) (r.each_owner m has)));
+          (λ same. subst (λ (z : ℕ × Phase). OwnerAgrees (set st.views id w₁) z.0 z.1)
+          (λ i. (sym same i, sym (change_here r.phase n (seated s file) m same) i)) tt)
+          (λ other. subst (OwnerAgrees (set st.views id w₁) m) (sym (change_else r.phase n (seated s file) m other))
+          (owner_stays st.views id v w₁ here m (λ bad. let b = ap busy works in
+          other (omega arith)) (r.phase m) (r.each_owner m has)));
       fewer = omega arith;
       spares = λ m low high. let p = ap placing works in let z = next in let few = o.left_inside in let q = o.spares m (omega arith) high in (
         else_phase m (spare x.number) q (λ bad. cc bad),
@@ -201,10 +244,19 @@ module _ (st : Shared) (v : View) (r : Agrees v.start st) (id : ℕ) (x : Log) (
       control = control_swap s₀.at (range_of (opening_of v.start)) st.views id v _ _ s old (Some (numbered n file)) here was stands refl r.control;
     }
 
-    pub installation_agrees : Agrees v.start record { words = set st.words (slot_place s) (slot_word_of n file.entry); homes = homes'; views = set st.views id (now v (logged x (event a ∷ r.history) (x.numbers_left - 1) x.looks_left) (retires_now old (takes_in f₀)) c) }
-    installation_agrees = swap_agrees st v r id x here one s inside old was a (slot_word_of n file.entry) (Some (numbered n file)) homes' phase₁ (x.numbers_left - 1) c installation
+    pub installation_agrees : Agrees v.start record {
+      words = set st.words (slot_place s)
+          (slot_word_of n file.entry);
+      homes = homes';
+      views = set st.views id
+          (now v (logged x (event a ∷ r.history) (x.numbers_left - 1) x.looks_left) (retires_now old (takes_in f₀)) c);
+    }
+    installation_agrees = swap_agrees st v r id x here one s inside old was a (slot_word_of n file.entry)
+        (Some (numbered n file)) homes' phase₁ (x.numbers_left - 1) c installation
 
     pub installation_tells : (carried homes : List (ℕ × Option Closed)) → Stepped (v, carried) ([] ▷ a) one_number (retires_now old (takes_in f₀)) c
         (now v (logged x (event a ∷ r.history) (x.numbers_left - 1) x.looks_left) (retires_now old (takes_in f₀)) c, homes)
-    installation_tells carried homes = tells st v r id x here one carried homes (event a ∷ r.history) (x.numbers_left - 1) x.looks_left (retires_now old (takes_in f₀)) c ([] ▷ a) one_number
-        (grows_one x.number r.history (event a) refl) does.legal (part_mine x.number (event a) r.history refl) (let z = next in omega arith) (omega arith) (inside_now old refl)
+    installation_tells carried homes = tells st v r id x here one carried homes (event a ∷ r.history)
+        (x.numbers_left - 1) x.looks_left (retires_now old (takes_in f₀)) c ([] ▷ a) one_number
+        (grows_one x.number r.history (event a) refl) does.legal (part_mine x.number (event a) r.history refl)
+        (let z = next in omega arith) (omega arith) (inside_now old refl)

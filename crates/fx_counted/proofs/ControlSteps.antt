@@ -38,10 +38,14 @@ use Rattle.fx_counted.proofs.NodeSteps.{near, far}
 use Rattle.fx_counted.proofs.Retirements.{sub_wraps}
 
 -- what one of them adds to the gap between two totals
-pub total_gap : {X : Type 0} (f g : X → ℕ) (xs : List X) (i : ℕ) (v : X) → get_elem? xs i ≡ some v → ((j : ℕ) (x : X) → get_elem? xs j ≡ some x → f x ≤ g x) → sum_by f xs + g v ≤ sum_by g xs + f v
+pub total_gap : {X : Type 0} (f g : X → ℕ) (xs : List X) (i : ℕ) (v : X) → get_elem? xs i ≡ some v
+    → ((j : ℕ) (x : X) → get_elem? xs j ≡ some x → f x ≤ g x) → sum_by f xs + g v ≤ sum_by g xs + f v
 total_gap f g [] i v e each = absurd (some-ne-none v (sym e))
-total_gap f g (x ∷ xs) zero v e each = let p : f x ≡ f v = ap f (some-injective x v e) in let q : g x ≡ g v = ap g (some-injective x v e) in let c = sum_by-cons f x xs in let d = sum_by-cons g x xs in let b = sum_le_at f g xs (λ j y d. each (suc j) y d) in omega arith
-total_gap f g (x ∷ xs) (suc i) v e each = let a = each 0 x refl in let c = sum_by-cons f x xs in let d = sum_by-cons g x xs in let b = total_gap f g xs i v e (λ j y d. each (suc j) y d) in omega arith
+total_gap f g (x ∷ xs) zero v e each = let p : f x ≡ f v = ap f (some-injective x v e) in
+    let q : g x ≡ g v = ap g (some-injective x v e) in let c = sum_by-cons f x xs in let d = sum_by-cons g x xs in
+    let b = sum_le_at f g xs (λ j y d. each (suc j) y d) in omega arith
+total_gap f g (x ∷ xs) (suc i) v e each = let a = each 0 x refl in let c = sum_by-cons f x xs in
+    let d = sum_by-cons g x xs in let b = total_gap f g xs i v e (λ j y d. each (suc j) y d) in omega arith
 
 at_most_one : (c : Change) → in_change c ≤ 1
 at_most_one Outside = omega arith
@@ -90,7 +94,8 @@ module _ (st : Shared) (v : View) (r : Agrees v.start st) (id : ℕ) (x : Log) (
 
   -- fewer than 16 are in a change beside this pass
   pub few_others : sum_by changes_of st.views + 1 ≤ 16 + in_change v.change
-  few_others = let a = total_gap changes_of lengths st.views id v here few_changes in let b = r.whole in let c = r.shape.passes in let d = ap (length {A = Log}) one in omega arith
+  few_others = let a = total_gap changes_of lengths st.views id v here few_changes in let b = r.whole in
+      let c = r.shape.passes in let d = ap (length {A = Log}) one in omega arith
 
   few_full : full_in at_now range.0 range.1 ≤ 256
   few_full = let a = full_few at_now range.0 range.1 in let b = r.shape.range in let c = r.shape.slots in omega arith
@@ -113,7 +118,9 @@ module _ (st : Shared) (v : View) (r : Agrees v.start st) (id : ℕ) (x : Log) (
     read_else place other = get_or-set_other st.words control_place place y 0 other
 
     -- with no event
-    quiet : (c : Change) → ControlCounts at_now range (set st.views id (now v (logged x r.history x.numbers_left x.looks_left) v.work c)) y → Calm st v r id x here one r.history c words'
+    quiet : (c : Change) → ControlCounts at_now range
+        (set st.views id (now v (logged x r.history x.numbers_left x.looks_left) v.work c)) y
+        → Calm st v r id x here one r.history c words'
     quiet c control = let apart = far st v r id x here one in record {
       grows = grows_none x.number r.history;
       legal = r.legal;
@@ -125,7 +132,9 @@ module _ (st : Shared) (v : View) (r : Agrees v.start st) (id : ℕ) (x : Log) (
       slots = λ s. read_else (slot_place s) (apart.slot_and_control s);
       nodes = λ n has. read_else (word_of v.start n) (apart.node_and_control n has);
       drawn = read_else draw_place (λ same. apart.control_and_draw (sym same));
-      control = subst (ControlCounts at_now range (set st.views id (now v (logged x r.history x.numbers_left x.looks_left) v.work c))) (sym (get_or-set_same st.words control_place y 0 wide)) control;
+      control = subst (ControlCounts at_now range
+          (set st.views id (now v (logged x r.history x.numbers_left x.looks_left) v.work c)))
+          (sym (get_or-set_same st.words control_place y 0 wide)) control;
     }
 
     abbrev e : Event
@@ -134,9 +143,12 @@ module _ (st : Shared) (v : View) (r : Agrees v.start st) (id : ℕ) (x : Log) (
     -- with the event that every slot of the range is full
     full_legal : ((slot : ℕ) → range.0 ≤ slot → slot < range.0 + range.1 → IsSome (at_now slot)) → IsHistory v.start (e ∷ r.history)
     full_legal each = legal_more v.start r.history e r.legal
-        (λ slot small in_range. let z = (same_shape v.start r.history).1 in let a = ap (λ (p : ℕ × ℕ). p.0) z in let b = ap (λ (p : ℕ × ℕ). p.1) z in let i = in_range.0 in let j = in_range.1 in each slot (omega arith) (omega arith)) tt
+        (λ slot small in_range. let z = (same_shape v.start r.history).1 in let a = ap (λ (p : ℕ × ℕ). p.0) z in
+        let b = ap (λ (p : ℕ × ℕ). p.1) z in let i = in_range.0 in let j = in_range.1 in
+        each slot (omega arith) (omega arith)) tt
 
-    told_full : (c : Change) → ((slot : ℕ) → range.0 ≤ slot → slot < range.0 + range.1 → IsSome (at_now slot)) → ControlCounts at_now range (set st.views id (now v (logged x (e ∷ r.history) x.numbers_left x.looks_left) v.work c)) y
+    told_full : (c : Change) → ((slot : ℕ) → range.0 ≤ slot → slot < range.0 + range.1 → IsSome (at_now slot))
+        → ControlCounts at_now range (set st.views id (now v (logged x (e ∷ r.history) x.numbers_left x.looks_left) v.work c)) y
         → Calm st v r id x here one (e ∷ r.history) c words'
     told_full c each control = let apart = far st v r id x here one in record {
       grows = grows_one x.number r.history e refl;
@@ -149,27 +161,37 @@ module _ (st : Shared) (v : View) (r : Agrees v.start st) (id : ℕ) (x : Log) (
       slots = λ s. read_else (slot_place s) (apart.slot_and_control s);
       nodes = λ n has. read_else (word_of v.start n) (apart.node_and_control n has);
       drawn = read_else draw_place (λ same. apart.control_and_draw (sym same));
-      control = subst (ControlCounts at_now range (set st.views id (now v (logged x (e ∷ r.history) x.numbers_left x.looks_left) v.work c))) (sym (get_or-set_same st.words control_place y 0 wide)) control;
+      control = subst (ControlCounts at_now range
+          (set st.views id (now v (logged x (e ∷ r.history) x.numbers_left x.looks_left) v.work c)))
+          (sym (get_or-set_same st.words control_place y 0 wide)) control;
     }
 
-  pub goes_on : (c : Change) (carried : List (ℕ × Option Closed)) → Stepped (v, carried) [] no_use v.work c (now v (logged x r.history x.numbers_left x.looks_left) v.work c, carried)
-  goes_on c carried = tells st v r id x here one carried carried r.history x.numbers_left x.looks_left v.work c [] no_use (grows_none x.number r.history) r.legal refl (omega arith) (omega arith) its_inside
+  pub goes_on : (c : Change) (carried : List (ℕ × Option Closed))
+      → Stepped (v, carried) [] no_use v.work c (now v (logged x r.history x.numbers_left x.looks_left) v.work c, carried)
+  goes_on c carried = tells st v r id x here one carried carried r.history x.numbers_left x.looks_left v.work c []
+      no_use (grows_none x.number r.history) r.legal refl (omega arith) (omega arith) its_inside
 
   module _ (fits : word < 18446744073709551616) where
-    begun : v.change ≡ Outside → ControlCounts at_now range (set st.views id (now v (logged x r.history x.numbers_left x.looks_left) v.work Same)) ((word + one_change) % 2 ^ 64)
+    begun : v.change ≡ Outside → ControlCounts at_now range
+        (set st.views id (now v (logged x r.history x.numbers_left x.looks_left) v.work Same)) ((word + one_change) % 2 ^ 64)
     begun out = let w : View = now v (logged x r.history x.numbers_left x.looks_left) v.work Same in
-        let a = sum_set changes_of st.views id v w here in let b = sum_set added_of st.views id v w here in let d = sum_set removed_of st.views id v w here in
-        let a' = ap in_change out in let b' = ap added out in let d' = ap removed_by out in let s = few_others in let u = r.control.upper in let l = r.control.lower in
+        let a = sum_set changes_of st.views id v w here in let b = sum_set added_of st.views id v w here in
+        let d = sum_set removed_of st.views id v w here in
+        let a' = ap in_change out in let b' = ap added out in let d' = ap removed_by out in let s = few_others in
+        let u = r.control.upper in let l = r.control.lower in
         let sum : (word + 4294967296) % 2 ^ 64 ≡ word + 4294967296 = omega arith in
         record { upper = omega arith; lower = omega arith }
 
     -- the difference is told: amount is 2^32 less it
     ended : (h' : List Event) (amount : ℕ) → in_change v.change ≡ 1 → amount + added v.change ≡ one_change + removed_by v.change
-        → ControlCounts at_now range (set st.views id (now v (logged x h' x.numbers_left x.looks_left) v.work Outside)) ((word + (2 ^ 64 - amount)) % 2 ^ 64)
+        → ControlCounts at_now range (set st.views id
+        (now v (logged x h' x.numbers_left x.looks_left) v.work Outside)) ((word + (2 ^ 64 - amount)) % 2 ^ 64)
     ended h' amount in_now amount_is = let w : View = now v (logged x h' x.numbers_left x.looks_left) v.work Outside in
-        let a = sum_set changes_of st.views id v w here in let b = sum_set added_of st.views id v w here in let d = sum_set removed_of st.views id v w here in
+        let a = sum_set changes_of st.views id v w here in let b = sum_set added_of st.views id v w here in
+        let d = sum_set removed_of st.views id v w here in
         let s = few_others in let u = r.control.upper in let l = r.control.lower in let ff = few_full in let fr = few_removed in let fa = few_added in
-        let o1 = sum_at added_of st.views id v here in let l1 = sum_at removed_of st.views id v here in let f1 = sum_at changes_of st.views id v here in
+        let o1 = sum_at added_of st.views id v here in let l1 = sum_at removed_of st.views id v here in
+        let f1 = sum_at changes_of st.views id v here in
         let x1 = adds_inside v.change in let x2 = removes_inside v.change in
         let big : amount ≤ word = omega arith in
         let diff : (word + (2 ^ 64 - amount)) % 2 ^ 64 ≡ word - amount = sub_wraps word amount big fits (omega arith) in
@@ -177,51 +199,71 @@ module _ (st : Shared) (v : View) (r : Agrees v.start st) (id : ℕ) (x : Log) (
 
     -- a word that says so: this pass alone is in a change, and every slot of the range is full
     says_so : v.change ≡ Same → word ≡ full_word_of range.1 → (slot : ℕ) → range.0 ≤ slot → slot < range.0 + range.1 → IsSome (at_now slot)
-    says_so same is = let a = total_gap added_of changes_of st.views id v here (λ j u e. adds_inside u.change) in let b = total_gap removed_of changes_of st.views id v here (λ j u e. removes_inside u.change) in
-        let a' = ap in_change same in let b' = ap added same in let d' = ap removed_by same in let u = r.control.upper in let l = r.control.lower in let few = r.shape.range in let few' = r.shape.slots in
+    says_so same is = let a = total_gap added_of changes_of st.views id v here (λ j u e. adds_inside u.change) in
+        let b = total_gap removed_of changes_of st.views id v here (λ j u e. removes_inside u.change) in
+        let a' = ap in_change same in let b' = ap added same in let d' = ap removed_by same in
+        let u = r.control.upper in let l = r.control.lower in let few = r.shape.range in let few' = r.shape.slots in
         let up : word / 4294967296 ≡ 1 = omega arith in let low : word % 4294967296 ≡ 65536 + range.1 = omega arith in
         full_all at_now range.0 range.1 (omega arith)
 
-begins_at : (slots id : ℕ) (m : Sat) (x : Log) → m.0.logs ≡ x ∷ [] → m.0.change ≡ Outside → Allows (Agrees m.0.start) slots id m control_place (λ word. (word + one_change) % 2 ^ 64) (GoesOn Same (step slots control_place one_change 0 none) m)
+begins_at : (slots id : ℕ) (m : Sat) (x : Log) → m.0.logs ≡ x ∷ [] → m.0.change ≡ Outside
+    → Allows (Agrees m.0.start) slots id m control_place (λ word. (word + one_change) % 2 ^ 64)
+    (GoesOn Same (step slots control_place one_change 0 none) m)
 begins_at slots id m x one out st r deep here fits = let y : ℕ = (word_at st.words control_place + one_change) % 2 ^ 64 in (
   now m.0 (logged x r.history x.numbers_left x.looks_left) m.0.work Same,
   keeps,
   tt,
-  calm_agrees st m.0 r id x here one r.history Same (set st.words control_place y) (quiet st m.0 r id x here one y Same (begun st m.0 r id x here one fits out)),
+  calm_agrees st m.0 r id x here one r.history Same (set st.words control_place y)
+      (quiet st m.0 r id x here one y Same (begun st m.0 r id x here one fits out)),
   record { stepped = goes_on st m.0 r id x here one Same m.1; carried = refl },
 )
 
 pub begins_keep : BeginsKeep
-begins_keep k slots id i m x has out place = subst (λ (k : Start). Allows (Agrees k) slots id m i (λ word. (word + one_change) % 2 ^ 64) (GoesOn Same (step slots i one_change 0 none) m)) has.0
-    (subst (λ (i : ℕ). Allows (Agrees m.0.start) slots id m i (λ word. (word + one_change) % 2 ^ 64) (GoesOn Same (step slots i one_change 0 none) m)) (sym place) (begins_at slots id m x has.1 out))
+begins_keep k slots id i m x has out place = subst
+    (λ (k : Start). Allows (Agrees k) slots id m i (λ word. (word + one_change) % 2 ^ 64)
+    (GoesOn Same (step slots i one_change 0 none) m)) has.0
+    (subst (λ (i : ℕ). Allows (Agrees m.0.start) slots id m i (λ word. (word + one_change) % 2 ^ 64)
+    (GoesOn Same (step slots i one_change 0 none) m)) (sym place) (begins_at slots id m x has.1 out))
 
-ends_at : (slots id amount : ℕ) (m : Sat) (x : Log) → m.0.logs ≡ x ∷ [] → in_change m.0.change ≡ 1 → amount + added m.0.change ≡ one_change + removed_by m.0.change
-    → Allows (Agrees m.0.start) slots id m control_place (λ word. (word + (2 ^ 64 - amount)) % 2 ^ 64) (GoesOn Outside (step slots control_place amount 0 none) m)
+ends_at : (slots id amount : ℕ) (m : Sat) (x : Log) → m.0.logs ≡ x ∷ [] → in_change m.0.change ≡ 1
+    → amount + added m.0.change ≡ one_change + removed_by m.0.change
+    → Allows (Agrees m.0.start) slots id m control_place (λ word. (word + (2 ^ 64 - amount)) % 2 ^ 64)
+    (GoesOn Outside (step slots control_place amount 0 none) m)
 ends_at slots id amount m x one in_now amount_is st r deep here fits = let y : ℕ = (word_at st.words control_place + (2 ^ 64 - amount)) % 2 ^ 64 in (
   now m.0 (logged x r.history x.numbers_left x.looks_left) m.0.work Outside,
   keeps,
   tt,
-  calm_agrees st m.0 r id x here one r.history Outside (set st.words control_place y) (quiet st m.0 r id x here one y Outside (ended st m.0 r id x here one fits r.history amount in_now amount_is)),
+  calm_agrees st m.0 r id x here one r.history Outside (set st.words control_place y)
+      (quiet st m.0 r id x here one y Outside (ended st m.0 r id x here one fits r.history amount in_now amount_is)),
   record { stepped = goes_on st m.0 r id x here one Outside m.1; carried = refl },
 )
 
 pub ends_keep : EndsKeep
-ends_keep k slots id i amount m x has in_now amount_is place = subst (λ (k : Start). Allows (Agrees k) slots id m i (λ word. (word + (2 ^ 64 - amount)) % 2 ^ 64) (GoesOn Outside (step slots i amount 0 none) m)) has.0
-    (subst (λ (i : ℕ). Allows (Agrees m.0.start) slots id m i (λ word. (word + (2 ^ 64 - amount)) % 2 ^ 64) (GoesOn Outside (step slots i amount 0 none) m)) (sym place) (ends_at slots id amount m x has.1 in_now amount_is))
+ends_keep k slots id i amount m x has in_now amount_is place = subst
+    (λ (k : Start). Allows (Agrees k) slots id m i (λ word. (word + (2 ^ 64 - amount)) % 2 ^ 64)
+    (GoesOn Outside (step slots i amount 0 none) m)) has.0
+    (subst (λ (i : ℕ). Allows (Agrees m.0.start) slots id m i (λ word. (word + (2 ^ 64 - amount)) % 2 ^ 64)
+    (GoesOn Outside (step slots i amount 0 none) m)) (sym place) (ends_at slots id amount m x has.1 in_now amount_is))
 
 answers_at : (slots id : ℕ) (m : Sat) (x : Log) → m.0.logs ≡ x ∷ [] → m.0.change ≡ Same
-    → Allows (Agrees m.0.start) slots id m control_place (λ word. (word + (2 ^ 64 - one_change)) % 2 ^ 64) (Answers (step slots control_place one_change 0 none) m)
-answers_at slots id m x one same st r deep here fits = let y : ℕ = (word_at st.words control_place + (2 ^ 64 - one_change)) % 2 ^ 64 in let len : ℕ = (range_of (opening_of m.0.start)).1 in
-    let counts : (h' : List Event) → ControlCounts (state_after_all m.0.start r.history).at (range_of (opening_of m.0.start)) (set st.views id (now m.0 (logged x h' x.numbers_left x.looks_left) m.0.work Outside)) y =
+    → Allows (Agrees m.0.start) slots id m control_place (λ word. (word + (2 ^ 64 - one_change)) % 2 ^ 64)
+    (Answers (step slots control_place one_change 0 none) m)
+answers_at slots id m x one same st r deep here fits = let y : ℕ =
+    (word_at st.words control_place + (2 ^ 64 - one_change)) % 2 ^ 64 in let len : ℕ = (range_of (opening_of m.0.start)).1 in
+    let counts : (h' : List Event) → ControlCounts (state_after_all m.0.start r.history).at
+    (range_of (opening_of m.0.start)) (set st.views id
+    (now m.0 (logged x h' x.numbers_left x.looks_left) m.0.work Outside)) y =
     λ h'. ended st m.0 r id x here one fits h' one_change (ap in_change same) (let a = ap added same in let b = ap removed_by same in omega arith) in
     dite (ℕ_discrete (word_at st.words control_place) (full_word_of len))
     (λ says. let each = says_so st m.0 r id x here one fits same says in let e : Event = event_of (shown x m.0.work) Full in (
       now m.0 (logged x (e ∷ r.history) x.numbers_left x.looks_left) m.0.work Outside,
       keeps,
       tt,
-      calm_agrees st m.0 r id x here one (e ∷ r.history) Outside (set st.words control_place y) (told_full st m.0 r id x here one y Outside each (counts (e ∷ r.history))),
+      calm_agrees st m.0 r id x here one (e ∷ r.history) Outside (set st.words control_place y)
+          (told_full st m.0 r id x here one y Outside each (counts (e ∷ r.history))),
       record {
-        full = λ _. tells st m.0 r id x here one m.1 m.1 (e ∷ r.history) x.numbers_left x.looks_left m.0.work Outside ([] ▷ Full) no_use (grows_one x.number r.history e refl) (full_legal st m.0 r id x here one y each)
+        full = λ _. tells st m.0 r id x here one m.1 m.1 (e ∷ r.history) x.numbers_left x.looks_left m.0.work Outside
+            ([] ▷ Full) no_use (grows_one x.number r.history e refl) (full_legal st m.0 r id x here one y each)
             (part_mine x.number e r.history refl) (omega arith) (omega arith) (its_inside st m.0 r id x here one);
         not_full = λ not_so. absurd (not_so says);
         carried = refl;
@@ -236,5 +278,8 @@ answers_at slots id m x one same st r deep here fits = let y : ℕ = (word_at st
     ))
 
 pub answers_keep : AnswersKeep
-answers_keep k slots id i m x has same place = subst (λ (k : Start). Allows (Agrees k) slots id m i (λ word. (word + (2 ^ 64 - one_change)) % 2 ^ 64) (Answers (step slots i one_change 0 none) m)) has.0
-    (subst (λ (i : ℕ). Allows (Agrees m.0.start) slots id m i (λ word. (word + (2 ^ 64 - one_change)) % 2 ^ 64) (Answers (step slots i one_change 0 none) m)) (sym place) (answers_at slots id m x has.1 same))
+answers_keep k slots id i m x has same place = subst
+    (λ (k : Start). Allows (Agrees k) slots id m i (λ word. (word + (2 ^ 64 - one_change)) % 2 ^ 64)
+    (Answers (step slots i one_change 0 none) m)) has.0
+    (subst (λ (i : ℕ). Allows (Agrees m.0.start) slots id m i (λ word. (word + (2 ^ 64 - one_change)) % 2 ^ 64)
+    (Answers (step slots i one_change 0 none) m)) (sym place) (answers_at slots id m x has.1 same))

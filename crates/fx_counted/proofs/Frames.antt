@@ -37,13 +37,16 @@ stays_same id p phase = record { owned = λ n a b. refl; spared = λ n q is othe
 
 -- the files that other seats hold stay the same
 abbrev pub KeepsHeld : ℕ → List View → (ℕ → Phase) → (ℕ → Phase) → Type 0
-KeepsHeld id views phase phase' = (j : ℕ) (u : View) (f : File) → j ≢ id → get_elem? views j ≡ some u → u.work ≡ Holding f → file_in (phase' f.number) ≡ file_in (phase f.number)
+KeepsHeld id views phase phase' = (j : ℕ) (u : View) (f : File) → j ≢ id → get_elem? views j ≡ some u
+    → u.work ≡ Holding f → file_in (phase' f.number) ≡ file_in (phase f.number)
 
 module _ (id p j : ℕ) (other : j ≢ id) (phase phase' : ℕ → Phase) (stays : Stays id p phase phase') where
   same_for : (n : ℕ) (ph : Phase) → phase n ≡ ph → owner ph ≡ j + 1 → phase' n ≡ ph
-  same_for n ph is own = stays.owned n (λ z. let e : owner (phase n) ≡ owner ph = ap owner is in omega arith) (λ z. other (let e : owner (phase n) ≡ owner ph = ap owner is in omega arith)) ∙ is
+  same_for n ph is own = stays.owned n (λ z. let e : owner (phase n) ≡ owner ph = ap owner is in
+      omega arith) (λ z. other (let e : owner (phase n) ≡ owner ph = ap owner is in omega arith)) ∙ is
 
-  work_stays : (k : Start) (d : Work) → ((f : File) → d ≡ Holding f → file_in (phase' f.number) ≡ file_in (phase f.number)) → WorkAgrees k phase j d → WorkAgrees k phase' j d
+  work_stays : (k : Start) (d : Work) → ((f : File) → d ≡ Holding f
+      → file_in (phase' f.number) ≡ file_in (phase f.number)) → WorkAgrees k phase j d → WorkAgrees k phase' j d
   work_stays k Idle keeps o = tt
   work_stays k (Placing n) keeps o = (o.0, same_for n (placed j) o.1 refl)
   work_stays k (Holding f) keeps o = (o.0, keeps f refl ∙ o.1)
@@ -52,7 +55,8 @@ module _ (id p j : ℕ) (other : j ≢ id) (phase phase' : ℕ → Phase) (stays
 
   -- another view, after events of a pass that it doesn't have
   pub view_stays : (k : Start) (h h' : List Event) → Grows p h h' → (u : View) → ((i : ℕ) (y : Log) → get_elem? u.logs i ≡ some y → y.number ≢ p)
-      → ((f : File) → u.work ≡ Holding f → file_in (phase' f.number) ≡ file_in (phase f.number)) → ViewAgrees k h phase j u → ViewAgrees k h' phase' j u
+      → ((f : File) → u.work ≡ Holding f → file_in (phase' f.number) ≡ file_in (phase f.number))
+      → ViewAgrees k h phase j u → ViewAgrees k h' phase' j u
   view_stays k h h' g u not_its keeps ok = record {
     logs = λ i y e. let o = ok.logs i y e in let n : p ≢ y.number = λ same. not_its i y e (sym same) in record {
       seen = g.seen y.front o.seen;
@@ -77,20 +81,23 @@ bit_one : (p q : ℕ) → q ≡ p → one_if (Rattle.std.proofs.Common.eqb q p) 
 bit_one p q e = rw (eq-eqb q p e) refl
 
 -- a pass that one view has is in no other one
-pub not_there : (k : Start) (st : Shared) → Agrees k st → (id j : ℕ) (v u : View) (x : Log) → get_elem? st.views id ≡ some v → v.logs ≡ x ∷ [] → j ≢ id → get_elem? st.views j ≡ some u
+pub not_there : (k : Start) (st : Shared) → Agrees k st → (id j : ℕ) (v u : View) (x : Log)
+    → get_elem? st.views id ≡ some v → v.logs ≡ x ∷ [] → j ≢ id → get_elem? st.views j ≡ some u
     → (i : ℕ) (y : Log) → get_elem? u.logs i ≡ some y → y.number ≢ x.number
 not_there k st r id j v u x here one other there i y at same =
     let t = sum_two (logs_of x.number) st.views j id u v other there here in
     let a = r.passes x.number in
     let b = once_few k.passes x.number in
-    let c : logs_of x.number v ≡ 0 + one_if (Rattle.std.proofs.Common.eqb x.number x.number) = ap (λ (l : List Log). sum_by (λ z. one_if (Rattle.std.proofs.Common.eqb z.number x.number)) l) one in
+    let c : logs_of x.number v ≡ 0 + one_if (Rattle.std.proofs.Common.eqb x.number x.number) = ap
+    (λ (l : List Log). sum_by (λ z. one_if (Rattle.std.proofs.Common.eqb z.number x.number)) l) one in
     let d = bit_one x.number x.number refl in
     let e = sum_at (λ z. one_if (Rattle.std.proofs.Common.eqb z.number x.number)) u.logs i y at in
     let f = bit_one x.number y.number same in
     omega arith
 
 -- each view after a step of the view id
-pub views_after : (P : ℕ → View → Type 0) (views : List View) (id : ℕ) (w : View) → P id w → ((j : ℕ) (u : View) → j ≢ id → get_elem? views j ≡ some u → P j u)
+pub views_after : (P : ℕ → View → Type 0) (views : List View) (id : ℕ) (w : View) → P id w
+    → ((j : ℕ) (u : View) → j ≢ id → get_elem? views j ≡ some u → P j u)
     → (j : ℕ) (u : View) → get_elem? (set views id w) j ≡ some u → P j u
 views_after P views id w mine others j u e = ⊎_elim (λ (t : (j ≡ id) × (w ≡ u)). subst (λ (z : ℕ × View). P z.0 z.1) (λ i. (sym t.0 i, t.1 i)) mine)
     (λ (t : (j ≢ id) × (get_elem? views j ≡ some u)). others j u t.0 t.1) (at_set views id j w u e)
@@ -104,7 +111,9 @@ pub does_now : (views : List View) (id : ℕ) (v w : View) (d : Work) → get_el
 does_now views id v w d here is = (w, set_here views id w (inside_list views id v here), is)
 
 -- the pass of a number is known in other views too, if what is done with it is
-pub owner_map : (views views' : List View) (n : ℕ) → ((j : ℕ) (d : Work) → busy d ≡ n + 1 → Does views j d → Does views' j d) → (ph : Phase) → OwnerAgrees views n ph → OwnerAgrees views' n ph
+pub owner_map : (views views' : List View) (n : ℕ)
+    → ((j : ℕ) (d : Work) → busy d ≡ n + 1 → Does views j d → Does views' j d) → (ph : Phase) → OwnerAgrees views n ph
+    → OwnerAgrees views' n ph
 owner_map views views' n f unborn o = tt
 owner_map views views' n f (spare q) o = tt
 owner_map views views' n f (placed j) o = f j (Placing n) refl o

@@ -14,18 +14,26 @@ use Rattle.fx_counted.specs.declared.view.Change.TheVariants.{Outside, Same}
 use Rattle.fx_counted.specs.declared.view.View.{View}
 use Rattle.fx_counted.proofs.Histories.{change_here, change_else}
 
-pub full_else : (at : ℕ → Option File) (s : ℕ) (new : Option File) (off len : ℕ) → ((i : ℕ) → i < len → off + i ≢ s) → full_in (changed_at at s new) off len ≡ full_in at off len
+pub full_else : (at : ℕ → Option File) (s : ℕ) (new : Option File) (off len : ℕ) → ((i : ℕ) → i < len → off + i ≢ s)
+    → full_in (changed_at at s new) off len ≡ full_in at off len
 full_else at s new off zero other = refl
 full_else at s new off (suc len) other =
     let a = full_else at s new off len (λ i l. other i (omega arith)) in
-    let b : if_full (changed_at at s new (off + len)) ≡ if_full (at (off + len)) = ap if_full (change_else at s new (off + len) (other len (omega arith))) in
+    let b : if_full (changed_at at s new (off + len)) ≡ if_full (at (off + len)) = ap if_full
+    (change_else at s new (off + len) (other len (omega arith))) in
     omega arith
 
-pub full_here : (at : ℕ → Option File) (s : ℕ) (new : Option File) (off len : ℕ) → off ≤ s → s < off + len → full_in (changed_at at s new) off len + if_full (at s) ≡ full_in at off len + if_full new
+pub full_here : (at : ℕ → Option File) (s : ℕ) (new : Option File) (off len : ℕ) → off ≤ s → s < off + len
+    → full_in (changed_at at s new) off len + if_full (at s) ≡ full_in at off len + if_full new
 full_here at s new off zero a b = absurd (omega arith)
 full_here at s new off (suc len) a b = dite (ℕ_discrete (off + len) s)
-    (λ here. let c = full_else at s new off len (λ i l. λ bad. omega arith) in let d : if_full (changed_at at s new (off + len)) ≡ if_full new = ap if_full (change_here at s new (off + len) here) in let e : if_full (at (off + len)) ≡ if_full (at s) = ap (λ (i : ℕ). if_full (at i)) here in omega arith)
-    (λ else. let c = full_here at s new off len a (omega arith) in let d : if_full (changed_at at s new (off + len)) ≡ if_full (at (off + len)) = ap if_full (change_else at s new (off + len) else) in omega arith)
+    (λ here. let c = full_else at s new off len (λ i l. λ bad. omega arith) in
+    let d : if_full (changed_at at s new (off + len)) ≡ if_full new = ap if_full
+    (change_here at s new (off + len) here) in
+    let e : if_full (at (off + len)) ≡ if_full (at s) = ap (λ (i : ℕ). if_full (at i)) here in omega arith)
+    (λ else. let c = full_here at s new off len a (omega arith) in
+    let d : if_full (changed_at at s new (off + len)) ≡ if_full (at (off + len)) = ap if_full
+    (change_else at s new (off + len) else) in omega arith)
 
 pub full_one : (found : Option File) → if_full found ≤ 1
 full_one None = omega arith
@@ -48,7 +56,8 @@ full_all at off (suc len) e slot low high = let a = full_few at off len in let b
 
 -- where a slot is, and where the pass then stands
 abbrev pub Stands : ℕ × ℕ → ℕ → Change → Type 0
-Stands range s change = (((range.0 ≤ s) × (s < range.0 + range.1)) × (change ≡ Same)) ⊎ (((s < range.0) ⊎ (range.0 + range.1 ≤ s)) × (change ≡ Outside))
+Stands range s change = (((range.0 ≤ s) × (s < range.0 + range.1)) × (change ≡ Same))
+    ⊎ (((s < range.0) ⊎ (range.0 + range.1 ≤ s)) × (change ≡ Outside))
 
 changed_counts : (old new : ℕ) → in_change (changed old new) ≡ 1
 changed_counts zero zero = refl
@@ -62,8 +71,11 @@ changed_adds zero (suc n) a b = omega arith
 changed_adds (suc o) zero a b = omega arith
 changed_adds (suc o) (suc n) a b = omega arith
 
-pub control_swap : (at : ℕ → Option File) (range : ℕ × ℕ) (views : List View) (id : ℕ) (v w : View) (word s : ℕ) (old new : Option File) → get_elem? views id ≡ some v → at s ≡ old → Stands range s v.change
-    → w.change ≡ turned v.change (if_full old) (if_full new) → ControlCounts at range views word → ControlCounts (changed_at at s new) range (set views id w) word
+pub control_swap : (at : ℕ → Option File) (range : ℕ
+    × ℕ) (views : List View) (id : ℕ) (v w : View) (word s : ℕ) (old new : Option File) → get_elem? views id ≡ some v
+    → at s ≡ old → Stands range s v.change
+    → w.change ≡ turned v.change (if_full old) (if_full new) → ControlCounts at range views word
+    → ControlCounts (changed_at at s new) range (set views id w) word
 control_swap at range views id v w word s old new here was (inl inside) is ok =
     let a = sum_set changes_of views id v w here in let b = sum_set added_of views id v w here in let c = sum_set removed_of views id v w here in
     let turn : w.change ≡ changed (if_full old) (if_full new) = is ∙ ap (λ (z : Change). turned z (if_full old) (if_full new)) inside.1 in
@@ -79,6 +91,8 @@ control_swap at range views id v w word s old new here was (inr outside) is ok =
     let turn : w.change ≡ Outside = is ∙ ap (λ (z : Change). turned z (if_full old) (if_full new)) outside.1 in
     let d = ap in_change turn in let e = ap added turn in let f = ap removed_by turn in
     let d' = ap in_change outside.1 in let e' = ap added outside.1 in let f' = ap removed_by outside.1 in
-    let g = full_else at s new range.0 range.1 (λ i l bad. ⊎_elim (λ (z : s < range.0). absurd (omega arith)) (λ (z : range.0 + range.1 ≤ s). absurd (omega arith)) outside.0) in
+    let g = full_else at s new range.0 range.1
+    (λ i l bad. ⊎_elim (λ (z : s < range.0). absurd (omega arith))
+    (λ (z : range.0 + range.1 ≤ s). absurd (omega arith)) outside.0) in
     let u = ok.upper in let l = ok.lower in
     record { upper = omega arith; lower = omega arith }

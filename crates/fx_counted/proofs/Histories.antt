@@ -35,10 +35,12 @@ held_other p e h is = rw (ne_eqb e.pass p is) refl
 
 pub part_append : (p : ℕ) (g h : List Event) → part_of_pass p (g ++ h) ≡ part_of_pass p g ++ part_of_pass p h
 part_append p [] h = refl
-part_append p (e ∷ g) h = elim (eqb e.pass p) as (λ b. cond b (e ∷ part_of_pass p (g ++ h)) (part_of_pass p (g ++ h)) ≡ cond b (e ∷ part_of_pass p g) (part_of_pass p g) ++ part_of_pass p h) [
-  | true ↦ ap (λ (l : List Event). e ∷ l) (part_append p g h)
-  | false ↦ part_append p g h
-]
+part_append p (e ∷ g) h = elim (eqb e.pass p) as
+    (λ b. cond b (e ∷ part_of_pass p (g ++ h)) (part_of_pass p (g ++ h)) ≡ cond b (e ∷ part_of_pass p g)
+    (part_of_pass p g) ++ part_of_pass p h) [
+      | true ↦ ap (λ (l : List Event). e ∷ l) (part_append p g h)
+      | false ↦ part_append p g h
+    ]
 
 pub seen_all : (h : List Event) → IsSeenBy h h
 seen_all h = ([], refl)
@@ -65,7 +67,8 @@ grows_one p h e by = grows_more p h h e by (grows_none p h)
 abbrev pub IsHistory : Start → List Event → Type 0
 IsHistory k h = IsLegal (start_of (opening_of k)) h (state_after_all k h)
 
-pub legal_more : (k : Start) (h : List Event) (e : Event) → IsHistory k h → Allows (state_after_all k h) e.action → ReleasesItsOwn (held_by h e.pass) e.action → IsHistory k (e ∷ h)
+pub legal_more : (k : Start) (h : List Event) (e : Event) → IsHistory k h → Allows (state_after_all k h) e.action
+    → ReleasesItsOwn (held_by h e.pass) e.action → IsHistory k (e ∷ h)
 legal_more k h e legal may own = record { leads = ((legal.leads.0, may), refl); releases = (legal.releases, own) }
 
 after_shape : (st : State) (a : Action) → ((after st a).size ≡ st.size) × ((after st a).range ≡ st.range)

@@ -60,7 +60,9 @@ module _ (st : Shared) (v : View) (r : Agrees v.start st) (id : ℕ) (x : Log) (
       pub grows : Grows x.number r.history h'
       pub legal : IsHistory v.start h'
       pub slots : (s : ℕ) → s < slots_of v.start → SlotAgrees v.start h' phase' s (word_at words' (slot_place s))
-      pub nodes : (n : ℕ) → IsNumber v.start n → NodeAgrees (state_after_all v.start h') n (looks h' n) (word_at words' (node_place (slots_of v.start) n)) (get_elem? homes' (home_place (slots_of v.start) n)) (phase' n)
+      pub nodes : (n : ℕ) → IsNumber v.start n
+          → NodeAgrees (state_after_all v.start h') n (looks h' n) (word_at words' (node_place (slots_of v.start) n))
+          (get_elem? homes' (home_place (slots_of v.start) n)) (phase' n)
       pub owners : (n : ℕ) → IsNumber v.start n → OwnerAgrees views' n (phase' n)
       pub no_other : (n : ℕ) → (IsNumber v.start n → ⊥) → (state_after_all v.start h').removed n ≡ None
       pub stays : Stays id x.number r.phase phase'
@@ -93,7 +95,16 @@ module _ (st : Shared) (v : View) (r : Agrees v.start st) (id : ℕ) (x : Log) (
 
     pub step_kept : Step → Agrees v.start record { words = words'; homes = homes'; views = views' }
     step_kept s = record {
-      shape = let a = r.shape in record { slots = a.slots; range = a.range; chains = a.chains; passes = a.passes; words = s.words ∙ a.words; homes = s.homes ∙ a.homes };
+      shape = let a = r.shape in
+          record {
+            slots = a.slots;
+            range = a.range;
+            chains = a.chains;
+            passes = a.passes;
+            words = s.words
+                ∙ a.words;
+            homes = s.homes ∙ a.homes;
+          };
       history = h';
       phase = phase';
       legal = s.legal;
@@ -102,11 +113,14 @@ module _ (st : Shared) (v : View) (r : Agrees v.start st) (id : ℕ) (x : Log) (
       each_owner = s.owners;
       no_other = s.no_other;
       each_view = views_after (ViewAgrees v.start h' phase') st.views id (now v y d c) (its_view s)
-          (λ j u other there. view_stays id x.number j other r.phase phase' s.stays v.start r.history h' s.grows u (not_there v.start st r id j v u x here one other there)
+          (λ j u other there. view_stays id x.number j other r.phase phase' s.stays v.start r.history h' s.grows u
+          (not_there v.start st r id j v u x here one other there)
           (λ f is. s.keeps j u f other there is) (r.each_view j u there));
       holds = λ n. let t = sum_set (held_of n) st.views id v (now v y d c) here in let a = r.holds n in let b = s.holds n in omega arith;
-      look_ups = let t = sum_set looks_of st.views id v (now v y d c) here in let a = r.look_ups in let b = s.look_ups in let e = one_total (λ z. z.looks_left) in omega arith;
-      passes = λ p. total_same (λ z. one_if (Rattle.std.proofs.Common.eqb z.number p)) (ap (λ (q : ℕ). one_if (Rattle.std.proofs.Common.eqb q p)) s.number) ∙ r.passes p;
+      look_ups = let t = sum_set looks_of st.views id v (now v y d c) here in let a = r.look_ups in
+          let b = s.look_ups in let e = one_total (λ z. z.looks_left) in omega arith;
+      passes = λ p. total_same (λ z. one_if (Rattle.std.proofs.Common.eqb z.number p))
+          (ap (λ (q : ℕ). one_if (Rattle.std.proofs.Common.eqb q p)) s.number) ∙ r.passes p;
       whole = let t = sum_set lengths st.views id v (now v y d c) here in let e = ap (length {A = Log}) one in let a = r.whole in omega arith;
       authors = λ p none. let t = r.passes p in let u = total_its p in
           s.grows.parts p (λ same. let a = its_one p same in omega arith) ∙ r.authors p none;
@@ -121,23 +135,26 @@ module _ (st : Shared) (v : View) (r : Agrees v.start st) (id : ℕ) (x : Log) (
         its_one p same = one_total (λ z. one_if (Rattle.std.proofs.Common.eqb z.number p)) ∙ rw (Rattle.std.proofs.Common.eq-eqb x.number p same) refl
 
   -- what the step tells
-  pub tells : (carried homes : List (ℕ × Option Closed)) (h' : List Event) (left looks_left : ℕ) (d : Work) (c : Change) (actions : List Action) (used : Use) → Grows x.number r.history h' → IsHistory v.start h'
-      → part_of_pass x.number h' ≡ map (event_of (shown x v.work)) actions ++ part_of_pass x.number r.history → left + used.numbers ≡ x.numbers_left → looks_left + used.looks ≡ x.looks_left → IsInside v.start d
+  pub tells : (carried homes : List (ℕ × Option Closed)) (h' : List Event) (left looks_left : ℕ) (d : Work)
+      (c : Change) (actions : List Action) (used : Use) → Grows x.number r.history h' → IsHistory v.start h'
+      → part_of_pass x.number h' ≡ map (event_of (shown x v.work)) actions ++ part_of_pass x.number r.history
+      → left + used.numbers ≡ x.numbers_left → looks_left + used.looks ≡ x.looks_left → IsInside v.start d
       → Stepped (v, carried) actions used d c (now v (logged x h' left looks_left) d c, homes)
   tells carried homes h' left looks_left d c actions used grows legal own numbers looked inside = record {
     one = (logged x h' left looks_left, refl);
-    adds = subst (λ (p : PassView). Adds (opening_of v.start) p actions (doing_in d) used (shown (logged x h' left looks_left) d)) (λ i. shown (first_log (sym one i)) v.work) record {
-      seen = grows.seen x.front its_log.seen;
-      front = record { legal = legal; mine = refl };
-      own = own ∙ ap (λ (l : List Event). map (event_of (shown x v.work)) actions ++ l) its_log.own;
-      now = refl;
-      number = refl;
-      chain = refl;
-      drawn = refl;
-      no_chains_left = refl;
-      numbers_left = numbers;
-      looks_left = looked;
-    };
+    adds = subst (λ (p : PassView). Adds (opening_of v.start) p actions (doing_in d) used
+        (shown (logged x h' left looks_left) d)) (λ i. shown (first_log (sym one i)) v.work) record {
+          seen = grows.seen x.front its_log.seen;
+          front = record { legal = legal; mine = refl };
+          own = own ∙ ap (λ (l : List Event). map (event_of (shown x v.work)) actions ++ l) its_log.own;
+          now = refl;
+          number = refl;
+          chain = refl;
+          drawn = refl;
+          no_chains_left = refl;
+          numbers_left = numbers;
+          looks_left = looked;
+        };
     work = refl;
     inside = inside;
     change = refl;

@@ -18,3 +18,4 @@ pub mod ControlSteps
 pub mod SlotLaws
 pub mod Seats
 pub mod Chains
+pub mod Openings

@@ -44,7 +44,8 @@ abbrev slot_in : Phase → ℕ
 slot_in (seated s f) = s
 slot_in _ = 0
 
-module _ (st : Shared) (v : View) (r : Agrees v.start st) (id : ℕ) (x : Log) (here : get_elem? st.views id ≡ some v) (one : v.logs ≡ x ∷ []) (idle : v.work ≡ Idle) (some_left : 0 < x.looks_left) (s : ℕ) (inside : s < slots_of v.start) where
+module _ (st : Shared) (v : View) (r : Agrees v.start st) (id : ℕ) (x : Log) (here : get_elem? st.views id ≡ some v)
+    (one : v.logs ≡ x ∷ []) (idle : v.work ≡ Idle) (some_left : 0 < x.looks_left) (s : ℕ) (inside : s < slots_of v.start) where
   abbrev found : ℕ
   found = word_at st.words (slot_place s)
 
@@ -90,17 +91,27 @@ module _ (st : Shared) (v : View) (r : Agrees v.start st) (id : ℕ) (x : Log) (
       abbrev w : View
       w = now v y (holds_now file) v.change
 
-      told : (carried : List (ℕ × Option Closed)) → Rattle.fx_counted.specs.Tells.IsInside v.start (holds_now file) → Stepped (v, carried) ([] ▷ Look s file) one_look (holds_now file) v.change (w, carried)
-      told carried its = tells st v r id x here one carried carried h' x.numbers_left (x.looks_left - 1) (holds_now file) v.change ([] ▷ Look s file) one_look (grows_one x.number r.history e refl) legal
+      told : (carried : List (ℕ × Option Closed)) → Rattle.fx_counted.specs.Tells.IsInside v.start (holds_now file)
+          → Stepped (v, carried) ([] ▷ Look s file) one_look (holds_now file) v.change (w, carried)
+      told carried its = tells st v r id x here one carried carried h' x.numbers_left (x.looks_left - 1)
+          (holds_now file) v.change ([] ▷ Look s file) one_look (grows_one x.number r.history e refl) legal
           (part_mine x.number e r.history refl) (omega arith) some_more its
 
       -- what is the same whatever was found
-      module _ (at_same : (state_after_all v.start h').at ≡ old.at) (fresh_same : (state_after_all v.start h').fresh ≡ old.fresh) (removed_same : (state_after_all v.start h').removed ≡ old.removed) (size_same : (state_after_all v.start h').size ≡ old.size)
+      module _ (at_same : (state_after_all v.start h').at ≡ old.at)
+          (fresh_same : (state_after_all v.start h').fresh ≡ old.fresh)
+          (removed_same : (state_after_all v.start h').removed ≡ old.removed)
+          (size_same : (state_after_all v.start h').size ≡ old.size)
           (slot : SlotAgrees v.start h' r.phase s word')
-          (looks_else : (i : ℕ) → i < slots_of v.start → i ≢ s → (f : File) → old.at i ≡ Some f → r.phase f.number ≡ seated i f.identity → looks h' f.number ≡ looks r.history f.number)
-          (nodes : (n : ℕ) → IsNumber v.start n → NodeAgrees (state_after_all v.start h') n (looks h' n) (word_at st.words (word_of v.start n)) (get_elem? st.homes (place_of v.start n)) (r.phase n))
-          (held : held_by h' x.number ≡ held_in (holds_now file)) (next : Rattle.fx_counted.specs.Agrees.PlacesNext y (holds_now file)) (placed : placing (holds_now file) ≡ 0)
-          (work : Rattle.fx_counted.specs.Agrees.WorkAgrees v.start r.phase id (holds_now file)) (holds : (n : ℕ) → (state_after_all v.start h').holds n ≡ old.holds n + holding n (holds_now file)) where
+          (looks_else : (i : ℕ) → i < slots_of v.start → i ≢ s → (f : File) → old.at i ≡ Some f
+          → r.phase f.number ≡ seated i f.identity → looks h' f.number ≡ looks r.history f.number)
+          (nodes : (n : ℕ) → IsNumber v.start n
+          → NodeAgrees (state_after_all v.start h') n (looks h' n) (word_at st.words (word_of v.start n))
+          (get_elem? st.homes (place_of v.start n)) (r.phase n))
+          (held : held_by h' x.number ≡ held_in (holds_now file))
+          (next : Rattle.fx_counted.specs.Agrees.PlacesNext y (holds_now file)) (placed : placing (holds_now file) ≡ 0)
+          (work : Rattle.fx_counted.specs.Agrees.WorkAgrees v.start r.phase id (holds_now file)) (holds : (n : ℕ)
+          → (state_after_all v.start h').holds n ≡ old.holds n + holding n (holds_now file)) where
         look_step : SlotStep st v r id x here one s inside y (holds_now file) v.change h' r.phase word' st.homes
         look_step = let o = its_log st v r id x here one in let p = ap placing idle in record {
           homes = refl;
@@ -131,15 +142,29 @@ module _ (st : Shared) (v : View) (r : Agrees v.start st) (id : ℕ) (x : Log) (
           work = work;
           holds = λ n. let b : held_of n v ≡ 0 = ap (holding n) idle in let c = holds n in omega arith;
           look_ups = omega arith;
-          control = control_same st.views id v w here old.at (state_after_all v.start h').at _ (word_at st.words control_place) _ (ap (λ (g : ℕ → Option File). full_in g (range_of (opening_of v.start)).0 (range_of (opening_of v.start)).1) at_same) refl refl r.control;
+          control = control_same st.views id v w here old.at (state_after_all v.start h').at _
+              (word_at st.words control_place) _ (ap (λ (g : ℕ
+              → Option File). full_in g (range_of (opening_of v.start)).0
+              (range_of (opening_of v.start)).1) at_same) refl refl r.control;
         }
 
         look_agrees : Agrees v.start record { words = set st.words (slot_place s) word'; homes = st.homes; views = set st.views id w }
         look_agrees = slot_agrees st v r id x here one s inside y (holds_now file) v.change h' r.phase word' st.homes look_step
 
-    missed : (is : old.at s ≡ None) → Agrees v.start record { words = set st.words (slot_place s) word'; homes = st.homes; views = set st.views id (w None is) }
+    missed : (is : old.at s ≡ None) → Agrees v.start record {
+      words = set st.words
+          (slot_place s) word';
+      homes = st.homes;
+      views = set st.views id (w None is);
+    }
     missed is = look_agrees None is refl refl refl refl
-        record { names = subst (Names word') (sym is) (names_now None (subst (Names found) is so.names)); seat = subst (IsSeated v.start (looks r.history) r.phase s word') (sym is) tt; takes = let a = so.takes in let b = takes_now in omega arith }
+        record {
+          names = subst (Names word') (sym is) (names_now None (subst (Names found) is so.names));
+          seat = subst
+              (IsSeated v.start (looks r.history) r.phase s word') (sym is) tt;
+          takes = let a = so.takes in
+              let b = takes_now in omega arith;
+        }
         (λ i l other f there seat. refl)
         (λ n has. r.each_node n has)
         (held_mine x.number (e None is) r.history refl) tt refl tt (λ n. omega arith)
@@ -167,33 +192,47 @@ module _ (st : Shared) (v : View) (r : Agrees v.start st) (id : ℕ) (x : Log) (
       holds_else n other = change_else old.holds q (old.holds q + 1) n other
 
       abbrev Node : ℕ → Phase → Type 0
-      Node n ph = NodeAgrees (state_after_all v.start h₁) n (looks h₁ n) (word_at st.words (word_of v.start n)) (get_elem? st.homes (place_of v.start n)) ph
+      Node n ph = NodeAgrees (state_after_all v.start h₁) n (looks h₁ n) (word_at st.words (word_of v.start n))
+          (get_elem? st.homes (place_of v.start n)) ph
 
       node_now : (n : ℕ) → IsNumber v.start n → Node n (r.phase n)
       node_now n has = dite (ℕ_discrete n q)
           (λ same. let ph : r.phase n ≡ seated s f.identity = ap r.phase same ∙ seat.2 in
-          let o = subst (NodeAgrees old n (looks r.history n) (word_at st.words (word_of v.start n)) (get_elem? st.homes (place_of v.start n))) ph (r.each_node n has) in
+          let o = subst (NodeAgrees old n (looks r.history n) (word_at st.words (word_of v.start n))
+          (get_elem? st.homes (place_of v.start n))) ph (r.each_node n has) in
           let a = looks_here n same in let b = holds_here n same in subst (Node n) (sym ph) (omega arith, o.1, o.2, o.3, o.4))
-          (λ other. node_same old (state_after_all v.start h₁) n (looks r.history n) (looks h₁ n) _ _ _ _ refl refl (holds_else n other) (looks_else_is n other) refl refl refl (r.phase n) (λ i g seat_is there. refl) (r.each_node n has))
+          (λ other. node_same old (state_after_all v.start h₁) n (looks r.history n) (looks h₁ n) _ _ _ _ refl refl
+          (holds_else n other) (looks_else_is n other) refl refl refl (r.phase n) (λ i g seat_is there. refl)
+          (r.each_node n has))
 
       hit : Agrees v.start record { words = set st.words (slot_place s) word'; homes = st.homes; views = set st.views id (w (Some f) is) }
       hit = look_agrees (Some f) is refl refl refl refl
           record {
             names = subst (Names word') (sym is) (names_now (Some f) (subst (Names found) is so.names));
-            seat = subst (IsSeated v.start (looks h₁) r.phase s word') (sym is) (seat.0, takes_now ∙ (ap (λ (m : ℕ). m + 1) seat.1 ∙ sym (looks_here q refl)), seat.2);
+            seat = subst (IsSeated v.start (looks h₁) r.phase s word') (sym is) (
+              seat.0,
+              takes_now
+                  ∙ (ap (λ (m : ℕ). m + 1) seat.1 ∙ sym (looks_here q refl)),
+              seat.2,
+            );
             takes = let a = so.takes in let b = takes_now in omega arith;
           }
           (λ i l other g there its. looks_else_is g.number (λ same. other (ap slot_in (sym its ∙ (ap r.phase same ∙ seat.2)))))
           node_now
           (held_mine x.number (e (Some f) is) r.history refl) tt refl (seat.0, ap file_in seat.2)
-          (λ n. dite (ℕ_discrete n q) (λ same. let a = holds_here n same in let b = holding_it n f same in omega arith) (λ other. let a = holds_else n other in let b = holding_else n f other in omega arith))
+          (λ n. dite (ℕ_discrete n q) (λ same. let a = holds_here n same in let b = holding_it n f same in
+          omega arith) (λ other. let a = holds_else n other in let b = holding_else n f other in omega arith))
 
     abbrev Goal : ℕ → List (ℕ × Option Closed) → Type 0
-    Goal slots carried = (w : View) × (a : Act (Option Closed)) × Valid st.homes carried a × Agrees v.start (stepped st (slot_place s) word' id carried w a)
+    Goal slots carried = (w : View) × (a : Act (Option Closed)) × Valid st.homes carried a
+        × Agrees v.start (stepped st (slot_place s) word' id carried w a)
         × Looks (step slots (slot_place s) 1 0 none) (v, carried) found (w, carried_after carried a)
 
-    at_slot : (m m' : Rattle.fx_counted.specs.Passes.Sat) (file : Option File) → Stepped m ([] ▷ Look s file) one_look (holds_now file) v.change m' → Stepped m ([] ▷ Look (slot_of (slot_place s)) file) one_look (holds_now file) v.change m'
-    at_slot m m' file = subst (λ (z : ℕ). Stepped m ([] ▷ Look z file) one_look (holds_now file) v.change m') (sym ((far st v r id x here one).slot_back s))
+    at_slot : (m m' : Rattle.fx_counted.specs.Passes.Sat) (file : Option File)
+        → Stepped m ([] ▷ Look s file) one_look (holds_now file) v.change m'
+        → Stepped m ([] ▷ Look (slot_of (slot_place s)) file) one_look (holds_now file) v.change m'
+    at_slot m m' file = subst (λ (z : ℕ). Stepped m ([] ▷ Look z file) one_look (holds_now file) v.change m')
+        (sym ((far st v r id x here one).slot_back s))
 
     looks_either : (slots : ℕ) (carried : List (ℕ × Option Closed)) (file : Option File) → old.at s ≡ file → Goal slots carried
     looks_either slots carried None is = (
@@ -201,17 +240,31 @@ module _ (st : Shared) (v : View) (r : Agrees v.start st) (id : ℕ) (x : Log) (
       keeps,
       tt,
       missed is,
-      record { file = None; names = subst (Names found) is so.names; stepped = at_slot (v, carried) (w None is, carried) None (told None is carried tt); carried = refl },
+      record {
+        file = None;
+        names = subst (Names found) is so.names;
+        stepped = at_slot (v, carried)
+            (w None is, carried) None (told None is carried tt);
+        carried = refl;
+      },
     )
     looks_either slots carried (Some f) is = (
       w (Some f) is,
       keeps,
       tt,
       hit f is,
-      record { file = Some f; names = subst (Names found) is so.names; stepped = at_slot (v, carried) (w (Some f) is, carried) (Some f) (told (Some f) is carried (seat f is).0); carried = refl },
+      record {
+        file = Some f;
+        names = subst (Names found) is so.names;
+        stepped = at_slot (v, carried)
+            (w (Some f) is, carried) (Some f) (told (Some f) is carried (seat f is).0);
+        carried = refl;
+      },
     )
 
 pub looks_keep : LooksKeep
-looks_keep k slots id i slot m x has idle left inside place = subst (λ (k : Start). slot < slots_of k → Allows (Agrees k) slots id m i (λ word. (word + 1) % 2 ^ 64) (Looks (step slots i 1 0 none) m)) has.0
+looks_keep k slots id i slot m x has idle left inside place = subst (λ (k : Start). slot < slots_of k
+    → Allows (Agrees k) slots id m i (λ word. (word + 1) % 2 ^ 64) (Looks (step slots i 1 0 none) m)) has.0
     (λ within. subst (λ (z : ℕ). Allows (Agrees m.0.start) slots id m z (λ word. (word + 1) % 2 ^ 64) (Looks (step slots z 1 0 none) m)) (sym place)
-    (λ st r deep here fits. looks_either st m.0 r id x here has.1 idle left slot within fits slots m.1 ((state_after_all m.0.start r.history).at slot) refl)) inside
+    (λ st r deep here fits. looks_either st m.0 r id x here has.1 idle left slot within fits slots m.1
+    ((state_after_all m.0.start r.history).at slot) refl)) inside

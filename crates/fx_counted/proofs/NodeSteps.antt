@@ -71,13 +71,15 @@ module _ (st : Shared) (v : View) (r : Agrees v.start st) (id : ℕ) (x : Log) (
       pub legal : IsHistory v.start h'
       pub told : OneNumber v q r.history h'
       pub homes : length homes' ≡ length st.homes
-      pub home_else : (n : ℕ) → IsNumber v.start n → n ≢ q → get_elem? homes' (home_place (slots_of v.start) n) ≡ get_elem? st.homes (home_place (slots_of v.start) n)
+      pub home_else : (n : ℕ) → IsNumber v.start n → n ≢ q
+          → get_elem? homes' (home_place (slots_of v.start) n) ≡ get_elem? st.homes (home_place (slots_of v.start) n)
       -- the phase may change
       pub seat : (s : ℕ) (f : Closed) → r.phase q ≡ seated s f → ph ≡ seated s f
       pub mine : owner (r.phase q) ≢ 0 → owner (r.phase q) ≢ id + 1 → ph ≡ r.phase q
       pub spared : (p : ℕ) → r.phase q ≡ spare p → p ≢ x.number → ph ≡ spare p
       pub unused : r.phase q ≡ unborn → ph ≡ unborn
-      pub keeps : (j : ℕ) (u : View) (f : File) → j ≢ id → get_elem? st.views j ≡ some u → u.work ≡ Holding f → f.number ≡ q → file_in ph ≡ file_in (r.phase q)
+      pub keeps : (j : ℕ) (u : View) (f : File) → j ≢ id → get_elem? st.views j ≡ some u → u.work ≡ Holding f
+          → f.number ≡ q → file_in ph ≡ file_in (r.phase q)
       pub free : (n : ℕ) → n ≢ q → busy v.work ≢ n + 1
       -- what the number is now, and who works with it
       pub node : NodeAgrees (state_after_all v.start h') q (looks r.history q) word' (get_elem? homes' (home_place (slots_of v.start) q)) ph
@@ -111,28 +113,43 @@ module _ (st : Shared) (v : View) (r : Agrees v.start st) (id : ℕ) (x : Log) (
         number = refl;
         grows = s.grows;
         legal = s.legal;
-        slots = λ slot l. slot_same v.start r.history h' r.phase phase' slot (word_at st.words (slot_place slot)) (word_at (set st.words i word') (slot_place slot))
+        slots = λ slot l. slot_same v.start r.history h' r.phase phase' slot (word_at st.words (slot_place slot))
+            (word_at (set st.words i word') (slot_place slot))
             (word_else (slot_place slot) (λ same. far.node_and_slot q slot l its (sym same))) (at_is slot) (omega (arith, s.told.all))
             (λ f there seat. (
               ap (λ (g : ℕ → ℕ). g f.number) s.told.looked,
-              each_phase (λ m p. p ≡ r.phase m) f.number (λ same. let e : r.phase q ≡ seated slot f.identity = ap r.phase (sym same) ∙ seat in s.seat slot f.identity e ∙ sym e) refl,
+              each_phase (λ m p. p ≡ r.phase m) f.number
+                  (λ same. let e : r.phase q ≡ seated slot f.identity = ap r.phase (sym same) ∙ seat in
+                  s.seat slot f.identity e ∙ sym e) refl,
             ))
             (r.each_slot slot l);
         nodes = λ n has. dite (ℕ_discrete n q)
-            (λ same. subst (λ (m : ℕ). NodeAgrees (state_after_all v.start h') m (looks h' m) (word_at (set st.words i word') (node_place (slots_of v.start) m)) (get_elem? homes' (home_place (slots_of v.start) m)) (phase' m)) (sym same)
+            (λ same. subst (λ (m : ℕ). NodeAgrees (state_after_all v.start h') m (looks h' m)
+            (word_at (set st.words i word') (node_place (slots_of v.start) m))
+            (get_elem? homes' (home_place (slots_of v.start) m)) (phase' m)) (sym same)
             (subst (λ (z : ℕ × ℕ × Phase). NodeAgrees (state_after_all v.start h') q z.0 z.1 (get_elem? homes' (home_place (slots_of v.start) q)) z.2)
             (λ j. (sym s.told.looked j q, sym (get_or-set_same st.words i word' 0 wide) j, sym phase_here j)) s.node))
-            (λ other. subst (NodeAgrees (state_after_all v.start h') n (looks h' n) (word_at (set st.words i word') (node_place (slots_of v.start) n)) (get_elem? homes' (home_place (slots_of v.start) n))) (sym (phase_else n other))
-            (node_same (state_after_all v.start r.history) (state_after_all v.start h') n (looks r.history n) (looks h' n) (word_at st.words (node_place (slots_of v.start) n)) (word_at (set st.words i word') (node_place (slots_of v.start) n))
+            (λ other. subst (NodeAgrees (state_after_all v.start h') n (looks h' n)
+            (word_at (set st.words i word') (node_place (slots_of v.start) n))
+            (get_elem? homes' (home_place (slots_of v.start) n))) (sym (phase_else n other))
+            (node_same (state_after_all v.start r.history) (state_after_all v.start h') n (looks r.history n)
+            (looks h' n) (word_at st.words (node_place (slots_of v.start) n))
+            (word_at (set st.words i word') (node_place (slots_of v.start) n))
             (get_elem? st.homes (home_place (slots_of v.start) n)) (get_elem? homes' (home_place (slots_of v.start) n))
-            (ap (λ (g : ℕ → Rattle.std.proofs.Common.Bool). g n) s.told.fresh) (s.told.removed n other) (s.told.holds n other) (ap (λ (g : ℕ → ℕ). g n) s.told.looked)
-            (word_else (node_place (slots_of v.start) n) (far.nodes n q has its other)) (s.home_else n has other) s.told.size (r.phase n) (λ slot f is there. at_is slot) (r.each_node n has)));
+            (ap (λ (g : ℕ → Rattle.std.proofs.Common.Bool). g n) s.told.fresh) (s.told.removed n other)
+            (s.told.holds n other) (ap (λ (g : ℕ → ℕ). g n) s.told.looked)
+            (word_else (node_place (slots_of v.start) n) (far.nodes n q has its other))
+            (s.home_else n has other) s.told.size (r.phase n) (λ slot f is there. at_is slot) (r.each_node n has)));
         owners = λ n has. dite (ℕ_discrete n q)
-            (λ same. subst (λ (m : ℕ). OwnerAgrees (set st.views id w) m (phase' m)) (sym same) (subst (OwnerAgrees (set st.views id w) q) (sym phase_here) s.known))
-            (λ other. subst (OwnerAgrees (set st.views id w) n) (sym (phase_else n other)) (owner_stays st.views id v w here n (s.free n other) (r.phase n) (r.each_owner n has)));
+            (λ same. subst (λ (m : ℕ). OwnerAgrees (set st.views id w) m (phase' m)) (sym same)
+            (subst (OwnerAgrees (set st.views id w) q) (sym phase_here) s.known))
+            (λ other. subst (OwnerAgrees (set st.views id w) n) (sym (phase_else n other))
+            (owner_stays st.views id v w here n (s.free n other) (r.phase n) (r.each_owner n has)));
         no_other = λ n absent. s.told.removed n (λ same. absent (subst (IsNumber v.start) (sym same) its)) ∙ r.no_other n absent;
         stays = record {
-          owned = λ n some not_mine. each_phase (λ m p. p ≡ r.phase m) n (λ same. s.mine (λ none. some (ap (λ (m : ℕ). owner (r.phase m)) same ∙ none)) (λ is. not_mine (ap (λ (m : ℕ). owner (r.phase m)) same ∙ is))) refl;
+          owned = λ n some not_mine. each_phase (λ m p. p ≡ r.phase m) n
+              (λ same. s.mine (λ none. some (ap (λ (m : ℕ). owner (r.phase m)) same
+              ∙ none)) (λ is. not_mine (ap (λ (m : ℕ). owner (r.phase m)) same ∙ is))) refl;
           spared = λ n p is other. each_phase (λ m z. z ≡ spare p) n (λ same. s.spared p (ap r.phase (sym same) ∙ is) other) is;
         };
         keeps = λ j u f other there is. each_phase (λ m z. file_in z ≡ file_in (r.phase m)) f.number (λ same. s.keeps j u f other there is same) refl;
@@ -149,9 +166,14 @@ module _ (st : Shared) (v : View) (r : Agrees v.start st) (id : ℕ) (x : Log) (
         work = s.work;
         holds = s.holds;
         look_ups = let a = s.told.all in omega arith;
-        control = control_same st.views id v w here (state_after_all v.start r.history).at (state_after_all v.start h').at _ (word_at st.words control_place) _
-            (ap (λ (g : ℕ → Option File). full_in g (range_of (opening_of v.start)).0 (range_of (opening_of v.start)).1) s.told.at) (word_else control_place (λ same. far.node_and_control q its (sym same))) refl r.control;
-        draws = draws_same st.views id v w here v.start.chains r.phase phase' (word_at st.words draw_place) _ x y one refl refl refl (word_else draw_place (λ same. far.node_and_draw q its (sym same)))
+        control = control_same st.views id v w here (state_after_all v.start r.history).at
+            (state_after_all v.start h').at _ (word_at st.words control_place) _
+            (ap (λ (g : ℕ → Option File). full_in g (range_of (opening_of v.start)).0
+            (range_of (opening_of v.start)).1) s.told.at)
+            (word_else control_place (λ same. far.node_and_control q its (sym same))) refl r.control;
+        draws = draws_same st.views id v w here v.start.chains r.phase phase'
+            (word_at st.words draw_place) _ x y one refl refl refl
+            (word_else draw_place (λ same. far.node_and_draw q its (sym same)))
             (λ n is. each_phase (λ m z. z ≡ unborn) n (λ same. s.unused (ap r.phase (sym same) ∙ is)) is) r.draws;
       }
 

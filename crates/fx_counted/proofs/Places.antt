@@ -26,22 +26,31 @@ module _ (size : ℕ) where
       control = omega arith;
       draw = omega arith;
       slot = λ slot l. omega arith;
-      node = λ n has. by_number (λ n. node_place size n < words_for size chains) n has (λ l. let e = low_node n l in omega arith) (λ g a b. let e = high_node n g in omega arith);
-      home = λ n has. by_number (λ n. home_place size n < homes_for size chains) n has (λ l. let e = low_home n l in omega arith) (λ g a b. let e = high_home n g in omega arith);
+      node = λ n has. by_number (λ n. node_place size n < words_for size chains) n has (λ l. let e = low_node n l in
+          omega arith) (λ g a b. let e = high_node n g in omega arith);
+      home = λ n has. by_number (λ n. home_place size n < homes_for size chains) n has (λ l. let e = low_home n l in
+          omega arith) (λ g a b. let e = high_home n g in omega arith);
     }
 
     places_apart : PlacesAreApart size chains
     places_apart = record {
       slots = λ slot other e. omega arith;
       nodes = λ n m has its differ same. by_number (λ (n : ℕ). ⊥) n has
-          (λ l. by_number (λ (m : ℕ). ⊥) m its (λ k. let a = low_node n l in let b = low_node m k in differ (omega arith)) (λ g c d. let a = low_node n l in let b = high_node m g in absurd (omega arith)))
-          (λ h p q. by_number (λ (m : ℕ). ⊥) m its (λ k. let a = high_node n h in let b = low_node m k in absurd (omega arith)) (λ g c d. let a = high_node n h in let b = high_node m g in differ (omega arith)));
+          (λ l. by_number (λ (m : ℕ). ⊥) m its (λ k. let a = low_node n l in let b = low_node m k in
+          differ (omega arith)) (λ g c d. let a = low_node n l in let b = high_node m g in absurd (omega arith)))
+          (λ h p q. by_number (λ (m : ℕ). ⊥) m its (λ k. let a = high_node n h in let b = low_node m k in
+          absurd (omega arith)) (λ g c d. let a = high_node n h in let b = high_node m g in differ (omega arith)));
       homes = λ n m has its differ same. by_number (λ (n : ℕ). ⊥) n has
-          (λ l. by_number (λ (m : ℕ). ⊥) m its (λ k. let a = low_home n l in let b = low_home m k in differ (omega arith)) (λ g c d. let a = low_home n l in let b = high_home m g in absurd (omega arith)))
-          (λ h p q. by_number (λ (m : ℕ). ⊥) m its (λ k. let a = high_home n h in let b = low_home m k in absurd (omega arith)) (λ g c d. let a = high_home n h in let b = high_home m g in differ (omega arith)));
-      node_and_slot = λ n slot small has same. by_number (λ (n : ℕ). ⊥) n has (λ l. let a = low_node n l in absurd (omega arith)) (λ h p q. let a = high_node n h in absurd (omega arith));
-      node_and_control = λ n has same. by_number (λ (n : ℕ). ⊥) n has (λ l. let a = low_node n l in absurd (omega arith)) (λ h p q. let a = high_node n h in absurd (omega arith));
-      node_and_draw = λ n has same. by_number (λ (n : ℕ). ⊥) n has (λ l. let a = low_node n l in absurd (omega arith)) (λ h p q. let a = high_node n h in absurd (omega arith));
+          (λ l. by_number (λ (m : ℕ). ⊥) m its (λ k. let a = low_home n l in let b = low_home m k in
+          differ (omega arith)) (λ g c d. let a = low_home n l in let b = high_home m g in absurd (omega arith)))
+          (λ h p q. by_number (λ (m : ℕ). ⊥) m its (λ k. let a = high_home n h in let b = low_home m k in
+          absurd (omega arith)) (λ g c d. let a = high_home n h in let b = high_home m g in differ (omega arith)));
+      node_and_slot = λ n slot small has same. by_number (λ (n : ℕ). ⊥) n has (λ l. let a = low_node n l in
+          absurd (omega arith)) (λ h p q. let a = high_node n h in absurd (omega arith));
+      node_and_control = λ n has same. by_number (λ (n : ℕ). ⊥) n has (λ l. let a = low_node n l in
+          absurd (omega arith)) (λ h p q. let a = high_node n h in absurd (omega arith));
+      node_and_draw = λ n has same. by_number (λ (n : ℕ). ⊥) n has (λ l. let a = low_node n l in
+          absurd (omega arith)) (λ h p q. let a = high_node n h in absurd (omega arith));
       slot_and_control = λ slot same. absurd (omega arith);
       slot_and_draw = λ slot same. absurd (omega arith);
       control_and_draw = λ same. absurd (omega arith);

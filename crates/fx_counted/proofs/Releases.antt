@@ -33,7 +33,8 @@ use Rattle.fx_counted.proofs.Histories.{IsHistory, grows_one, grows_more, legal_
 use Rattle.fx_counted.proofs.Keeping.{now, logged, its_log, its_work, tells}
 use Rattle.fx_counted.proofs.NodeSteps.{NodeStep, node_agrees}
 
-module _ (st : Shared) (v : View) (r : Agrees v.start st) (id : ℕ) (x : Log) (here : get_elem? st.views id ≡ some v) (one : v.logs ≡ x ∷ []) (f : File) (works : v.work ≡ Holding f) where
+module _ (st : Shared) (v : View) (r : Agrees v.start st) (id : ℕ) (x : Log) (here : get_elem? st.views id ≡ some v)
+    (one : v.logs ≡ x ∷ []) (f : File) (works : v.work ≡ Holding f) where
   abbrev q : ℕ
   q = f.number
 
@@ -78,9 +79,11 @@ module _ (st : Shared) (v : View) (r : Agrees v.start st) (id : ℕ) (x : Log) (
   still fits more unborn is has = absurd (cc has)
   still fits more (spare p) is has = absurd (cc has)
   still fits more (placed j) is has = absurd (cc has)
-  still fits more (seated s g) is has = let n = in_phase st v r id x here one q mine.0 (seated s g) is in let c = few_looks st v r id x here one q in let h = held_now in let z = one_less in
+  still fits more (seated s g) is has = let n = in_phase st v r id x here one q mine.0 (seated s g) is in
+      let c = few_looks st v r id x here one q in let h = held_now in let z = one_less in
       let e : less ≡ word - 1 = sub_wraps word 1 (omega arith) fits (omega arith) in (omega arith, n.1, n.2, n.3, n.4)
-  still fits more (leaving j t g) is has = let n = in_phase st v r id x here one q mine.0 (leaving j t g) is in let c = few_looks st v r id x here one q in let h = held_now in let z = one_less in
+  still fits more (leaving j t g) is has = let n = in_phase st v r id x here one q mine.0 (leaving j t g) is in
+      let c = few_looks st v r id x here one q in let h = held_now in let z = one_less in
       let e : less ≡ word - 1 = sub_wraps word 1 (omega arith) fits (omega arith) in (omega arith, n.1, n.2, n.3)
   still fits more (retired g) is has = let n = in_phase st v r id x here one q mine.0 (retired g) is in let h = held_now in let z = one_less in
       let e : less ≡ word - 1 = sub_wraps word 1 (omega arith) fits (omega arith) in (omega arith, n.1, omega arith, n.3)
@@ -98,8 +101,10 @@ module _ (st : Shared) (v : View) (r : Agrees v.start st) (id : ℕ) (x : Log) (
   last is_one unborn is has = absurd (cc has)
   last is_one (spare p) is has = absurd (cc has)
   last is_one (placed j) is has = absurd (cc has)
-  last is_one (seated s g) is has = let n = in_phase st v r id x here one q mine.0 (seated s g) is in let c = few_looks st v r id x here one q in let h = held_now in absurd (omega arith)
-  last is_one (leaving j t g) is has = let n = in_phase st v r id x here one q mine.0 (leaving j t g) is in let c = few_looks st v r id x here one q in let h = held_now in absurd (omega arith)
+  last is_one (seated s g) is has = let n = in_phase st v r id x here one q mine.0 (seated s g) is in
+      let c = few_looks st v r id x here one q in let h = held_now in absurd (omega arith)
+  last is_one (leaving j t g) is has = let n = in_phase st v r id x here one q mine.0 (leaving j t g) is in
+      let c = few_looks st v r id x here one q in let h = held_now in absurd (omega arith)
   last is_one (retired g) is has = let n = in_phase st v r id x here one q mine.0 (retired g) is in let same : g ≡ f.identity = cc has in record {
     phase = is ∙ ap retired same;
     home = n.1 ∙ ap (λ (g : Closed). some (some (Some g))) same;
@@ -111,7 +116,8 @@ module _ (st : Shared) (v : View) (r : Agrees v.start st) (id : ℕ) (x : Log) (
 
   holds_more : (m : ℕ) → new.holds m + held_of m v ≡ old.holds m + 0
   holds_more m = let w = ap (holding m) works in dite (ℕ_discrete m q)
-      (λ same. let a = holding_it m f same in let b = change_here old.holds q (old.holds q - 1) m same in let c = ap old.holds same in let d = held_now in omega arith)
+      (λ same. let a = holding_it m f same in let b = change_here old.holds q (old.holds q - 1) m same in
+      let c = ap old.holds same in let d = held_now in omega arith)
       (λ other. let a = holding_else m f other in let b = change_else old.holds q (old.holds q - 1) m other in omega arith)
 
   not_busy : (n : ℕ) → busy v.work ≢ n + 1
@@ -121,7 +127,16 @@ module _ (st : Shared) (v : View) (r : Agrees v.start st) (id : ℕ) (x : Log) (
   waits fits more = let o = its_log st v r id x here one in record {
     grows = grows_one x.number r.history freeing refl;
     legal = freed_legal;
-    told = record { at = refl; size = refl; fresh = refl; looked = refl; all = omega arith; removed = λ m other. refl; holds = λ m other. change_else old.holds q (old.holds q - 1) m other };
+    told = record {
+      at = refl;
+      size = refl;
+      fresh = refl;
+      looked = refl;
+      all = omega arith;
+      removed =
+          λ m other. refl;
+      holds = λ m other. change_else old.holds q (old.holds q - 1) m other;
+    };
     homes = refl;
     home_else = λ m has other. refl;
     seat = λ s g is. is;
@@ -131,10 +146,14 @@ module _ (st : Shared) (v : View) (r : Agrees v.start st) (id : ℕ) (x : Log) (
     keeps = λ j u g other there holds same. refl;
     free = λ m other. not_busy m;
     node = still fits more (r.phase q) refl mine.1;
-    known = owner_stays st.views id v (now v (logged x h₁ x.numbers_left x.looks_left) Idle v.change) here q (not_busy q) (r.phase q) (r.each_owner q mine.0);
+    known = owner_stays st.views id v (now v (logged x h₁ x.numbers_left x.looks_left) Idle v.change) here q
+        (not_busy q) (r.phase q) (r.each_owner q mine.0);
     held = held_mine x.number freeing r.history refl;
     next = tt;
-    spares = λ m low high. let p = ap placing works in dite (ℕ_discrete m q) (λ same. change_here r.phase q (r.phase q) m same ∙ (ap r.phase (sym same) ∙ o.spares m (omega arith) high)) (λ other. change_else r.phase q (r.phase q) m other ∙ o.spares m (omega arith) high);
+    spares = λ m low high. let p = ap placing works in
+        dite (ℕ_discrete m q) (λ same. change_here r.phase q (r.phase q) m same
+        ∙ (ap r.phase (sym same) ∙ o.spares m (omega arith) high)) (λ other. change_else r.phase q (r.phase q) m other
+        ∙ o.spares m (omega arith) high);
     work = tt;
     holds = holds_more;
   }
@@ -149,38 +168,51 @@ module _ (st : Shared) (v : View) (r : Agrees v.start st) (id : ℕ) (x : Log) (
     closed_legal : IsHistory v.start h₂
     closed_legal = legal_more v.start h₁ closing freed_legal (l.removed, let a = one_less in let b = l.holds in omega arith) tt
 
-    closes : word < 18446744073709551616 → word ≡ 1 → NodeStep st v r id x here one q mine.0 less (set st.homes (place_of v.start q) none) h₂ (emptied id) (Emptying q)
-    closes fits is_one = let o = its_log st v r id x here one in let a = one_less in let b = l.holds in let e : less ≡ word - 1 = sub_wraps word 1 (omega arith) fits (omega arith) in record {
-      grows = grows_more x.number r.history h₁ closing refl (grows_one x.number r.history freeing refl);
-      legal = closed_legal;
-      told = record {
-        at = refl;
-        size = refl;
-        fresh = refl;
-        looked = refl;
-        all = omega arith;
-        removed = λ m other. change_else old.removed q None m other;
-        holds = λ m other. change_else old.holds q (old.holds q - 1) m other;
-      };
-      homes = length-set st.homes (place_of v.start q) none;
-      home_else = λ m has other. set_else st.homes (place_of v.start q) (place_of v.start m) none (else_place st v r id x here one q mine.0 m has other);
-      seat = λ s g is. absurd (cc (sym is ∙ l.phase));
-      mine = λ some not_mine. absurd (some (ap owner l.phase));
-      spared = λ p is other. absurd (cc (sym is ∙ l.phase));
-      unused = λ is. absurd (cc (sym is ∙ l.phase));
-      keeps = λ j u g other there holds same. absurd (let a = its_hold st v r id x here one j u g q there holds same in let b = its_one in let c = sum_two (held_of q) st.views j id u v other there here in let d = r.holds q in let e = l.holds in omega arith);
-      free = λ m other. not_busy m;
-      node = (omega arith, set_here st.homes (place_of v.start q) none (roomy st v r id x here one q mine.0), (let z = one_less in omega arith), change_here old.removed q None q refl);
-      known = does_now st.views id v (now v (logged x h₂ x.numbers_left x.looks_left) (Emptying q) v.change) (Emptying q) here refl;
-      held = held_mine x.number closing h₁ refl ∙ held_mine x.number freeing r.history refl;
-      next = tt;
-      spares = λ m low high. let p = ap placing works in spares_stay st v r id x here one q (retired f.identity) (emptied id) x.number l.phase (λ z bad. cc bad) m (o.spares m (omega arith) high);
-      work = (mine.0, change_here r.phase q (emptied id) q refl);
-      holds = holds_more;
-    }
+    closes : word < 18446744073709551616 → word ≡ 1
+        → NodeStep st v r id x here one q mine.0 less (set st.homes (place_of v.start q) none) h₂ (emptied id) (Emptying q)
+    closes fits is_one = let o = its_log st v r id x here one in let a = one_less in let b = l.holds in
+        let e : less ≡ word - 1 = sub_wraps word 1 (omega arith) fits (omega arith) in record {
+          grows = grows_more x.number r.history h₁ closing refl (grows_one x.number r.history freeing refl);
+          legal = closed_legal;
+          told = record {
+            at = refl;
+            size = refl;
+            fresh = refl;
+            looked = refl;
+            all = omega arith;
+            removed = λ m other. change_else old.removed q None m other;
+            holds = λ m other. change_else old.holds q (old.holds q - 1) m other;
+          };
+          homes = length-set st.homes (place_of v.start q) none;
+          home_else = λ m has other. set_else st.homes (place_of v.start q) (place_of v.start m) none
+              (else_place st v r id x here one q mine.0 m has other);
+          seat = λ s g is. absurd (cc (sym is ∙ l.phase));
+          mine = λ some not_mine. absurd (some (ap owner l.phase));
+          spared = λ p is other. absurd (cc (sym is ∙ l.phase));
+          unused = λ is. absurd (cc (sym is ∙ l.phase));
+          keeps = λ j u g other there holds same. absurd
+              (let a = its_hold st v r id x here one j u g q there holds same in let b = its_one in
+              let c = sum_two (held_of q) st.views j id u v other there here in let d = r.holds q in let e = l.holds in omega arith);
+          free = λ m other. not_busy m;
+          node = (
+            omega arith,
+            set_here st.homes (place_of v.start q) none (roomy st v r id x here one q mine.0),
+            (let z = one_less in omega arith),
+            change_here old.removed q None q refl,
+          );
+          known = does_now st.views id v (now v (logged x h₂ x.numbers_left x.looks_left) (Emptying q) v.change) (Emptying q) here refl;
+          held = held_mine x.number closing h₁ refl ∙ held_mine x.number freeing r.history refl;
+          next = tt;
+          spares = λ m low high. let p = ap placing works in
+              spares_stay st v r id x here one q (retired f.identity) (emptied id) x.number l.phase (λ z bad. cc bad) m
+              (o.spares m (omega arith) high);
+          work = (mine.0, change_here r.phase q (emptied id) q refl);
+          holds = holds_more;
+        }
 
   abbrev Goal : ℕ → List (ℕ × Option Closed) → Type 0
-  Goal slots carried = (w : View) × (a : Act (Option Closed)) × Valid st.homes carried a × Agrees v.start (stepped st (word_of v.start q) less id carried w a)
+  Goal slots carried = (w : View) × (a : Act (Option Closed)) × Valid st.homes carried a
+      × Agrees v.start (stepped st (word_of v.start q) less id carried w a)
       × Releases (step slots (word_of v.start q) 1 0 none) (v, carried) word (w, carried_after carried a)
 
   holding_same : (f g : File) → Holding f ≡ Holding g → f ≡ g
@@ -196,11 +228,18 @@ module _ (st : Shared) (v : View) (r : Agrees v.start st) (id : ℕ) (x : Log) (
         record {
           waits = λ g _ not_so. absurd (not_so is);
           closes = λ g its _. let same : f ≡ g = holding_same f g (sym works ∙ its) in
-              subst (λ (g : File). TakesOut (v, carried) ([] ▷ Release g) g (now v (logged x h₂ x.numbers_left x.looks_left) (Emptying q) v.change, (place_of v.start q, Some f.identity) ∷ carried)) same
+              subst (λ (g : File). TakesOut (v, carried) ([] ▷ Release g) g (
+                now v (logged x h₂ x.numbers_left x.looks_left) (Emptying q) v.change,
+                (place_of v.start q, Some f.identity) ∷ carried,
+              )) same
               record {
-                stepped = tells st v r id x here one carried ((place_of v.start q, Some f.identity) ∷ carried) h₂ x.numbers_left x.looks_left (Emptying q) v.change ([] ▷ Release f ▷ Close f) no_use
+                stepped = tells st v r id x here one carried
+                    ((place_of v.start q, Some f.identity) ∷ carried) h₂ x.numbers_left x.looks_left
+                    (Emptying q) v.change ([] ▷ Release f ▷ Close f) no_use
                     (grows_more x.number r.history h₁ closing refl (grows_one x.number r.history freeing refl)) (closed_legal l)
-                    (part_mine x.number closing h₁ refl ∙ ap (λ (z : List Event). closing ∷ z) (part_mine x.number freeing r.history refl)) (omega arith) (omega arith) mine.0;
+                    (part_mine x.number closing h₁ refl
+                    ∙ ap (λ (z : List Event). closing ∷ z) (part_mine x.number freeing r.history refl))
+                    (omega arith) (omega arith) mine.0;
                 carried = refl;
               };
         },
@@ -214,7 +253,8 @@ module _ (st : Shared) (v : View) (r : Agrees v.start st) (id : ℕ) (x : Log) (
           waits = λ g its _. let same : f ≡ g = holding_same f g (sym works ∙ its) in
               subst (λ (g : File). LetsGo (v, carried) ([] ▷ Release g) (now v (logged x h₁ x.numbers_left x.looks_left) Idle v.change, carried)) same
               record {
-                stepped = tells st v r id x here one carried carried h₁ x.numbers_left x.looks_left Idle v.change ([] ▷ Release f) no_use (grows_one x.number r.history freeing refl) freed_legal
+                stepped = tells st v r id x here one carried carried h₁ x.numbers_left x.looks_left Idle v.change
+                    ([] ▷ Release f) no_use (grows_one x.number r.history freeing refl) freed_legal
                     (part_mine x.number freeing r.history refl) (omega arith) (omega arith) tt;
                 carried = refl;
               };
@@ -223,6 +263,8 @@ module _ (st : Shared) (v : View) (r : Agrees v.start st) (id : ℕ) (x : Log) (
       ))
 
 pub releases_keep : ReleasesKeep
-releases_keep k slots id i f m x has works place = subst (λ (k : Start). i ≡ word_of k f.number → Allows (Agrees k) slots id m i (λ word. (word + (2 ^ 64 - 1)) % 2 ^ 64) (Releases (step slots i 1 0 none) m)) has.0
-    (λ at. subst (λ (z : ℕ). Allows (Agrees m.0.start) slots id m z (λ word. (word + (2 ^ 64 - 1)) % 2 ^ 64) (Releases (step slots z 1 0 none) m)) (sym at)
+releases_keep k slots id i f m x has works place = subst (λ (k : Start). i ≡ word_of k f.number
+    → Allows (Agrees k) slots id m i (λ word. (word + (2 ^ 64 - 1)) % 2 ^ 64) (Releases (step slots i 1 0 none) m)) has.0
+    (λ at. subst (λ (z : ℕ). Allows (Agrees m.0.start) slots id m z (λ word. (word + (2 ^ 64 - 1)) % 2 ^ 64)
+    (Releases (step slots z 1 0 none) m)) (sym at)
     (λ st r deep here fits. releases_either st m.0 r id x here has.1 f works slots m.1 fits)) place

@@ -51,7 +51,8 @@ module _ (st : Shared) (v : View) (r : Agrees v.start st) (id : ℕ) (x : Log) (
   its_hold j u f n there holds same = ap (holding n) holds ∙ holding_it n f (sym same)
 
   -- the spare numbers, where a number changes that is none of them
-  pub spares_stay : (q : ℕ) (ph ph' : Phase) (p : ℕ) → r.phase q ≡ ph → ((z : ℕ) → ph ≢ spare z) → (n : ℕ) → r.phase n ≡ spare p → changed_at r.phase q ph' n ≡ spare p
+  pub spares_stay : (q : ℕ) (ph ph' : Phase) (p : ℕ) → r.phase q ≡ ph → ((z : ℕ) → ph ≢ spare z) → (n : ℕ)
+      → r.phase n ≡ spare p → changed_at r.phase q ph' n ≡ spare p
   spares_stay q ph ph' p is not_spare n its = change_else r.phase q ph' n (λ same. not_spare p (sym is ∙ (ap r.phase (sym same) ∙ its))) ∙ its
 
   -- a retirement
@@ -62,7 +63,8 @@ module _ (st : Shared) (v : View) (r : Agrees v.start st) (id : ℕ) (x : Log) (
     mine : IsNumber v.start q × (r.phase q ≡ leaving id t f.identity)
     mine = subst (WorkAgrees v.start r.phase id) works (its_work st v r id x here one)
 
-    node : NodeAgrees (state_after_all v.start r.history) q (looks r.history q) (word_now st v r id x here one q) (home_now st v r id x here one q) (leaving id t f.identity)
+    node : NodeAgrees (state_after_all v.start r.history) q (looks r.history q) (word_now st v r id x here one q)
+        (home_now st v r id x here one q) (leaving id t f.identity)
     node = in_phase st v r id x here one q mine.0 (leaving id t f.identity) mine.1
 
     abbrev word : ℕ
@@ -72,15 +74,18 @@ module _ (st : Shared) (v : View) (r : Agrees v.start st) (id : ℕ) (x : Log) (
     left = (word + (2 ^ 64 - retire_amount_of t)) % 2 ^ 64
 
     left_is : word < 18446744073709551616 → left ≡ (state_after_all v.start r.history).holds q
-    left_is fits = let n = node in let c = few_looks q in let e : left ≡ word - (4294967296 - t) = sub_wraps word (4294967296 - t) (omega arith) fits (omega arith) in omega arith
+    left_is fits = let n = node in let c = few_looks q in
+        let e : left ≡ word - (4294967296 - t) = sub_wraps word (4294967296 - t) (omega arith) fits (omega arith) in omega arith
 
     keeps_spares : (ph' : Phase) (n : ℕ) → next_in x + 0 ≤ n → n < end_in x → changed_at r.phase q ph' n ≡ spare x.number
-    keeps_spares ph' n low high = let o = its_log st v r id x here one in let p = ap placing works in spares_stay q (leaving id t f.identity) ph' x.number mine.1 (λ z bad. cc bad) n (o.spares n (omega arith) high)
+    keeps_spares ph' n low high = let o = its_log st v r id x here one in let p = ap placing works in
+        spares_stay q (leaving id t f.identity) ph' x.number mine.1 (λ z bad. cc bad) n (o.spares n (omega arith) high)
 
     not_new : r.phase q ≡ unborn → ⊥
     not_new is = cc (sym is ∙ mine.1)
 
-    waits : word < 18446744073709551616 → word ≢ retire_amount_of t → NodeStep st v r id x here one q mine.0 left st.homes r.history (retired f.identity) Idle
+    waits : word < 18446744073709551616 → word ≢ retire_amount_of t
+        → NodeStep st v r id x here one q mine.0 left st.homes r.history (retired f.identity) Idle
     waits fits more = let n = node in let c = few_looks q in let e = left_is fits in let o = its_log st v r id x here one in record {
       grows = grows_none x.number r.history;
       legal = r.legal;
@@ -111,30 +116,52 @@ module _ (st : Shared) (v : View) (r : Agrees v.start st) (id : ℕ) (x : Log) (
     closed_legal : word ≡ retire_amount_of t → IsHistory v.start (closing ∷ r.history)
     closed_legal is = legal_more v.start r.history closing r.legal (node.3, nobody is) tt
 
-    closes : word < 18446744073709551616 → word ≡ retire_amount_of t → NodeStep st v r id x here one q mine.0 left (set st.homes (place_of v.start q) none) (closing ∷ r.history) (emptied id) (Emptying q)
-    closes fits is = let n = node in let c = few_looks q in let e = left_is fits in let z = nobody is in let o = its_log st v r id x here one in record {
-      grows = grows_one x.number r.history closing refl;
-      legal = closed_legal is;
-      told = record { at = refl; size = refl; fresh = refl; looked = refl; all = omega arith; removed = λ m other. change_else (state_after_all v.start r.history).removed q None m other; holds = λ m other. refl };
-      homes = length-set st.homes (place_of v.start q) none;
-      home_else = λ m has other. set_else st.homes (place_of v.start q) (place_of v.start m) none (else_place st v r id x here one q mine.0 m has other);
-      seat = λ s g is. absurd (cc (sym is ∙ mine.1));
-      mine = λ some not_mine. absurd (not_mine (ap owner mine.1));
-      spared = λ p is other. absurd (cc (sym is ∙ mine.1));
-      unused = λ is. absurd (not_new is);
-      keeps = λ j u g other there holds same. absurd (let a = its_hold j u g q there holds same in let b = sum_at (held_of q) st.views j u there in let h = r.holds q in omega arith);
-      free = λ m other bad. let b = ap busy works in other (omega arith);
-      node = (omega arith, set_here st.homes (place_of v.start q) none (roomy st v r id x here one q mine.0), z, change_here (state_after_all v.start r.history).removed q None q refl);
-      known = does_now st.views id v (now v (logged x (closing ∷ r.history) x.numbers_left x.looks_left) (Emptying q) v.change) (Emptying q) here refl;
-      held = held_mine x.number closing r.history refl ∙ (o.held ∙ ap held_in works);
-      next = tt;
-      spares = keeps_spares (emptied id);
-      work = (mine.0, change_here r.phase q (emptied id) q refl);
-      holds = λ m. let b = ap (holding m) works in omega arith;
-    }
+    closes : word < 18446744073709551616 → word ≡ retire_amount_of t
+        → NodeStep st v r id x here one q mine.0 left (set st.homes (place_of v.start q) none) (closing ∷ r.history)
+        (emptied id) (Emptying q)
+    closes fits is = let n = node in let c = few_looks q in let e = left_is fits in let z = nobody is in
+        let o = its_log st v r id x here one in record {
+          grows = grows_one x.number r.history closing refl;
+          legal = closed_legal is;
+          told = record {
+            at = refl;
+            size = refl;
+            fresh = refl;
+            looked = refl;
+            all = omega arith;
+            removed =
+                λ m other. change_else (state_after_all v.start r.history).removed q None m other;
+            holds = λ m other. refl;
+          };
+          homes = length-set st.homes (place_of v.start q) none;
+          home_else = λ m has other. set_else st.homes (place_of v.start q) (place_of v.start m) none
+              (else_place st v r id x here one q mine.0 m has other);
+          seat = λ s g is. absurd (cc (sym is ∙ mine.1));
+          mine = λ some not_mine. absurd (not_mine (ap owner mine.1));
+          spared = λ p is other. absurd (cc (sym is ∙ mine.1));
+          unused = λ is. absurd (not_new is);
+          keeps = λ j u g other there holds same. absurd (let a = its_hold j u g q there holds same in
+              let b = sum_at (held_of q) st.views j u there in let h = r.holds q in omega arith);
+          free = λ m other bad. let b = ap busy works in other (omega arith);
+          node = (
+            omega arith,
+            set_here st.homes (place_of v.start q) none
+                (roomy st v r id x here one q mine.0),
+            z,
+            change_here (state_after_all v.start r.history).removed q None q refl,
+          );
+          known = does_now st.views id v (now v (logged x (closing ∷ r.history) x.numbers_left x.looks_left)
+              (Emptying q) v.change) (Emptying q) here refl;
+          held = held_mine x.number closing r.history refl ∙ (o.held ∙ ap held_in works);
+          next = tt;
+          spares = keeps_spares (emptied id);
+          work = (mine.0, change_here r.phase q (emptied id) q refl);
+          holds = λ m. let b = ap (holding m) works in omega arith;
+        }
 
     abbrev Goal : ℕ → List (ℕ × Option Closed) → Type 0
-    Goal slots carried = (w : View) × (a : Act (Option Closed)) × Valid st.homes carried a × Agrees v.start (stepped st (word_of v.start q) left id carried w a)
+    Goal slots carried = (w : View) × (a : Act (Option Closed)) × Valid st.homes carried a
+        × Agrees v.start (stepped st (word_of v.start q) left id carried w a)
         × Retires (step slots (word_of v.start q) (retire_amount_of t) 0 none) (v, carried) word (w, carried_after carried a)
 
     retires_either : (slots : ℕ) (carried : List (ℕ × Option Closed)) → word < 18446744073709551616 → Goal slots carried
@@ -143,14 +170,20 @@ module _ (st : Shared) (v : View) (r : Agrees v.start st) (id : ℕ) (x : Log) (
           now v (logged x (closing ∷ r.history) x.numbers_left x.looks_left) (Emptying q) v.change,
           takes (place_of v.start q) (Some f.identity),
           node.1,
-          node_agrees st v r id x here one q mine.0 left (set st.homes (place_of v.start q) none) (closing ∷ r.history) (emptied id) (Emptying q) (closes fits is),
+          node_agrees st v r id x here one q mine.0 left (set st.homes (place_of v.start q) none)
+              (closing ∷ r.history) (emptied id) (Emptying q) (closes fits is),
           record {
             waits = λ g u _ not_so. absurd (not_so is);
             closes = λ g u its _. let same : f ≡ g = retiring_same f g t u (sym works ∙ its) in
-                subst (λ (g : File). TakesOut (v, carried) [] g (now v (logged x (closing ∷ r.history) x.numbers_left x.looks_left) (Emptying q) v.change, (place_of v.start q, Some f.identity) ∷ carried)) same
+                subst (λ (g : File). TakesOut (v, carried) [] g (
+                  now v (logged x (closing ∷ r.history) x.numbers_left x.looks_left) (Emptying q) v.change,
+                  (place_of v.start q, Some f.identity) ∷ carried,
+                )) same
                 record {
-                  stepped = tells st v r id x here one carried ((place_of v.start q, Some f.identity) ∷ carried) (closing ∷ r.history) x.numbers_left x.looks_left (Emptying q) v.change ([] ▷ Close f) no_use
-                      (grows_one x.number r.history closing refl) (closed_legal is) (part_mine x.number closing r.history refl) (omega arith) (omega arith) mine.0;
+                  stepped = tells st v r id x here one carried ((place_of v.start q, Some f.identity) ∷ carried)
+                      (closing ∷ r.history) x.numbers_left x.looks_left (Emptying q) v.change ([] ▷ Close f) no_use
+                      (grows_one x.number r.history closing refl) (closed_legal is)
+                      (part_mine x.number closing r.history refl) (omega arith) (omega arith) mine.0;
                   carried = refl;
                 };
           },
@@ -163,7 +196,8 @@ module _ (st : Shared) (v : View) (r : Agrees v.start st) (id : ℕ) (x : Log) (
           record {
             waits = λ g u its _. let same : f ≡ g = retiring_same f g t u (sym works ∙ its) in (
               record {
-                stepped = tells st v r id x here one carried carried r.history x.numbers_left x.looks_left Idle v.change [] no_use (grows_none x.number r.history) r.legal refl (omega arith) (omega arith) tt;
+                stepped = tells st v r id x here one carried carried r.history x.numbers_left x.looks_left Idle
+                    v.change [] no_use (grows_none x.number r.history) r.legal refl (omega arith) (omega arith) tt;
                 carried = refl;
               },
               subst (λ (g : File). 0 < (state_after_all v.start r.history).holds g.number) same (let n = node in let c = few_looks q in omega arith),
@@ -176,6 +210,8 @@ module _ (st : Shared) (v : View) (r : Agrees v.start st) (id : ℕ) (x : Log) (
         retiring_same f g t u e = cc e
 
 pub retires_keep : RetiresKeep
-retires_keep k slots id i amount t f m x has works place by = subst (λ (k : Start). i ≡ word_of k f.number → Allows (Agrees k) slots id m i (λ word. (word + (2 ^ 64 - amount)) % 2 ^ 64) (Retires (step slots i amount 0 none) m)) has.0
-    (λ at. subst (λ (z : ℕ × ℕ). Allows (Agrees m.0.start) slots id m z.0 (λ word. (word + (2 ^ 64 - z.1)) % 2 ^ 64) (Retires (step slots z.0 z.1 0 none) m)) (λ j. (sym at j, sym by j))
+retires_keep k slots id i amount t f m x has works place by = subst (λ (k : Start). i ≡ word_of k f.number
+    → Allows (Agrees k) slots id m i (λ word. (word + (2 ^ 64 - amount)) % 2 ^ 64) (Retires (step slots i amount 0 none) m)) has.0
+    (λ at. subst (λ (z : ℕ × ℕ). Allows (Agrees m.0.start) slots id m z.0 (λ word. (word + (2 ^ 64 - z.1)) % 2 ^ 64)
+    (Retires (step slots z.0 z.1 0 none) m)) (λ j. (sym at j, sym by j))
     (λ st r deep here fits. retires_either st m.0 r id x here has.1 f t works slots m.1 fits)) place

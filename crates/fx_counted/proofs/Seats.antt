@@ -31,14 +31,16 @@ at_first [] i y e = absurd (some-ne-none y (sym e))
 at_first (x ∷ l) zero y e = e
 at_first (x ∷ l) (suc i) y e = absurd (some-ne-none y (sym e))
 
-at_either : (l m : List Log) (y : Log) (j : ℕ) → get_elem? (l ++ m) j ≡ some y → ((i : ℕ) × (get_elem? l i ≡ some y)) ⊎ ((i : ℕ) × (get_elem? m i ≡ some y))
+at_either : (l m : List Log) (y : Log) (j : ℕ) → get_elem? (l ++ m) j ≡ some y
+    → ((i : ℕ) × (get_elem? l i ≡ some y)) ⊎ ((i : ℕ) × (get_elem? m i ≡ some y))
 at_either [] m y j e = inr (j, e)
 at_either (x ∷ l) m y zero e = inl (0, e)
 at_either (x ∷ l) m y (suc j) e = ⊎_elim (λ (t : (i : ℕ) × (get_elem? l i ≡ some y)). inl (suc t.0, t.1)) (λ t. inr t) (at_either l m y j e)
 
 -- a view of an idle seat that has some of the passes of the seats j
 part_view : (k : Start) (h : List Event) (phase : ℕ → Phase) (seat : ℕ) (w : View) → w.work ≡ Idle → w.change ≡ Outside
-    → ((i : ℕ) (y : Log) → get_elem? w.logs i ≡ some y → (j : ℕ) × LogAgrees k h phase j Idle y) → (w.logs ≡ []) ⊎ (w.start ≡ k) → ViewAgrees k h phase seat w
+    → ((i : ℕ) (y : Log) → get_elem? w.logs i ≡ some y → (j : ℕ) × LogAgrees k h phase j Idle y)
+    → (w.logs ≡ []) ⊎ (w.start ≡ k) → ViewAgrees k h phase seat w
 part_view k h phase seat w idle out logs start = record {
   logs = λ i y e. subst (λ (d : Work). LogAgrees k h phase seat d y) (sym idle) (let o = (logs i y e).1 in record {
     seen = o.seen;
@@ -55,15 +57,18 @@ part_view k h phase seat w idle out logs start = record {
   start = start;
 }
 
-split_counts : (f : List Log → ℕ) (f0 : f [] ≡ 0) (l : List Log) → ((y : Log) (m : List Log) → f (y ∷ m) ≡ f (y ∷ []) + f m) → f (rest_of l) + f (first_of l) ≡ f l
+split_counts : (f : List Log → ℕ) (f0 : f [] ≡ 0) (l : List Log)
+    → ((y : Log) (m : List Log) → f (y ∷ m) ≡ f (y ∷ []) + f m) → f (rest_of l) + f (first_of l) ≡ f l
 split_counts f f0 [] more = omega arith
 split_counts f f0 (y ∷ l) more = let a = more y l in omega arith
 
-module _ (k : Start) (id : ℕ) (v : View) (idle : v.work ≡ Idle) (out : v.change ≡ Outside) (s : Shared) (r : Agrees k s) (here : get_elem? s.views id ≡ some v) where
+module _ (k : Start) (id : ℕ) (v : View) (idle : v.work ≡ Idle) (out : v.change ≡ Outside) (s : Shared)
+    (r : Agrees k s) (here : get_elem? s.views id ≡ some v) where
   abbrev parts : List View
   parts = set s.views id (without_first v) ++ first_alone v ∷ []
 
-  counts : (f : List Log → ℕ) → ((y : Log) (m : List Log) → f (y ∷ m) ≡ f (y ∷ []) + f m) → f [] ≡ 0 → sum_by (λ (z : View). f z.logs) parts ≡ sum_by (λ (z : View). f z.logs) s.views
+  counts : (f : List Log → ℕ) → ((y : Log) (m : List Log) → f (y ∷ m) ≡ f (y ∷ []) + f m) → f [] ≡ 0
+      → sum_by (λ (z : View). f z.logs) parts ≡ sum_by (λ (z : View). f z.logs) s.views
   counts f more none =
       let a = sum_by-append (λ (z : View). f z.logs) (set s.views id (without_first v)) (first_alone v ∷ []) in
       let b = sum_set (λ (z : View). f z.logs) s.views id v (without_first v) here in
@@ -77,10 +82,13 @@ module _ (k : Start) (id : ℕ) (v : View) (idle : v.work ≡ Idle) (out : v.cha
       let b = sum_set f s.views id v (without_first v) here in
       omega arith
 
-  at_parts : (P : ℕ → View → Type 0) → ((j : ℕ) → P j (without_first v)) → ((j : ℕ) → P j (first_alone v)) → ((j : ℕ) (u : View) → j ≢ id → get_elem? s.views j ≡ some u → P j u) → (j : ℕ) (u : View) → get_elem? parts j ≡ some u → P j u
+  at_parts : (P : ℕ → View → Type 0) → ((j : ℕ) → P j (without_first v)) → ((j : ℕ) → P j (first_alone v))
+      → ((j : ℕ) (u : View) → j ≢ id → get_elem? s.views j ≡ some u → P j u) → (j : ℕ) (u : View)
+      → get_elem? parts j ≡ some u → P j u
   at_parts P a b c j u e = ⊎_elim
       (λ (m : get_elem? (set s.views id (without_first v)) j ≡ some u). ⊎_elim
-      (λ (n : (j ≡ id) × (without_first v ≡ u)). subst (P j) n.1 (a j)) (λ (n : (j ≢ id) × (get_elem? s.views j ≡ some u)). c j u n.0 n.1) (at_set s.views id j (without_first v) u m))
+      (λ (n : (j ≡ id) × (without_first v ≡ u)). subst (P j) n.1 (a j)) (λ (n : (j ≢ id)
+      × (get_elem? s.views j ≡ some u)). c j u n.0 n.1) (at_set s.views id j (without_first v) u m))
       (λ (m : first_alone v ≡ u). subst (P j) m (b j))
       (at_snoc (set s.views id (without_first v)) (first_alone v) u j e)
 
@@ -92,7 +100,8 @@ module _ (k : Start) (id : ℕ) (v : View) (idle : v.work ≡ Idle) (out : v.cha
 
   does_stays : (j : ℕ) (d : Work) → (n : ℕ) → busy d ≡ n + 1 → Does s.views j d → Does parts j d
   does_stays j d n is o =
-      let other : j ≢ id = λ same. (let e : v.work ≡ d = ap (λ (u : View). u.work) (some-injective v o.0 (sym here ∙ (ap (get_elem? s.views) (sym same) ∙ o.1))) ∙ o.2 in let f : busy d ≡ 0 = ap busy (sym e ∙ idle) in omega arith) in
+      let other : j ≢ id = λ same. (let e : v.work ≡ d = ap (λ (u : View). u.work) (some-injective v o.0 (sym here
+      ∙ (ap (get_elem? s.views) (sym same) ∙ o.1))) ∙ o.2 in let f : busy d ≡ 0 = ap busy (sym e ∙ idle) in omega arith) in
       (o.0, at_longer (set s.views id (without_first v)) (first_alone v ∷ []) j o.0 (set_else s.views id j (without_first v) other ∙ o.1), o.2)
 
   split_agrees : Agrees k record { words = s.words; homes = s.homes; views = parts }
@@ -106,31 +115,38 @@ module _ (k : Start) (id : ℕ) (v : View) (idle : v.work ≡ Idle) (out : v.cha
     each_owner = λ n has. owner_map s.views parts n (λ j d is o. does_stays j d n is o) (r.phase n) (r.each_owner n has);
     no_other = r.no_other;
     each_view = at_parts (ViewAgrees k r.history r.phase)
-        (λ j. part_view k r.history r.phase j (without_first v) idle out (λ i y e. (id, its (suc i) y (at_rest v.logs i y e))) (start_of_part rest_of refl))
+        (λ j. part_view k r.history r.phase j (without_first v) idle out
+        (λ i y e. (id, its (suc i) y (at_rest v.logs i y e))) (start_of_part rest_of refl))
         (λ j. part_view k r.history r.phase j (first_alone v) idle out (λ i y e. (id, its i y (at_first v.logs i y e))) (start_of_part first_of refl))
         (λ j u other there. r.each_view j u there);
     holds = λ n. let e = ap (holding n) idle in let a = same_counts (held_of n) e e e in let b = r.holds n in omega arith;
-    look_ups = let a = counts (sum_by (λ (y : Log). y.looks_left)) (λ y m. sum_by-append (λ (y : Log). y.looks_left) (y ∷ []) m) refl in let b = r.look_ups in omega arith;
-    passes = λ p. counts (sum_by (λ (y : Log). one_if (Rattle.std.proofs.Common.eqb y.number p))) (λ y m. sum_by-append (λ (y : Log). one_if (Rattle.std.proofs.Common.eqb y.number p)) (y ∷ []) m) refl ∙ r.passes p;
+    look_ups = let a = counts (sum_by (λ (y : Log). y.looks_left))
+        (λ y m. sum_by-append (λ (y : Log). y.looks_left) (y ∷ []) m) refl in let b = r.look_ups in omega arith;
+    passes = λ p. counts (sum_by (λ (y : Log). one_if (Rattle.std.proofs.Common.eqb y.number p)))
+        (λ y m. sum_by-append (λ (y : Log). one_if (Rattle.std.proofs.Common.eqb y.number p)) (y ∷ []) m) refl ∙ r.passes p;
     whole = counts (length {A = Log}) (λ y m. omega arith) refl ∙ r.whole;
     authors = r.authors;
     control = let a = ap in_change out in let b = ap added out in let c = ap removed_by out in let u = r.control.upper in let l = r.control.lower in
-        let x = same_counts changes_of a a a in let y = same_counts added_of b b b in let z = same_counts removed_of c c c in record { upper = omega arith; lower = omega arith };
-    draws = let d = r.draws in let t = counts (sum_by (λ (y : Log). one_if y.no_chains_left)) (λ y m. sum_by-append (λ (y : Log). one_if y.no_chains_left) (y ∷ []) m) refl in record {
-      given = d.given;
-      few = d.few;
-      each = λ c. counts (sum_by (λ (y : Log). times c y.drawn)) (λ y m. sum_by-append (λ (y : Log). times c y.drawn) (y ∷ []) m) refl ∙ d.each c;
-      counts = let a = d.counts in omega arith;
-      all = λ some_told. d.all (omega arith);
-      unused = d.unused;
-    };
+        let x = same_counts changes_of a a a in let y = same_counts added_of b b b in
+        let z = same_counts removed_of c c c in record { upper = omega arith; lower = omega arith };
+    draws = let d = r.draws in let t = counts (sum_by (λ (y : Log). one_if y.no_chains_left))
+        (λ y m. sum_by-append (λ (y : Log). one_if y.no_chains_left) (y ∷ []) m) refl in record {
+          given = d.given;
+          few = d.few;
+          each = λ c. counts (sum_by (λ (y : Log). times c y.drawn)) (λ y m. sum_by-append (λ (y : Log). times c y.drawn) (y ∷ []) m) refl ∙ d.each c;
+          counts = let a = d.counts in omega arith;
+          all = λ some_told. d.all (omega arith);
+          unused = d.unused;
+        };
   }
 
 pub splits_keep : SplitsKeep
 splits_keep k id v idle out s r here = split_agrees k id v idle out s r here
 
-module _ (k : Start) (id : ℕ) (v : View) (begun : v.start ≡ k) (idle : v.work ≡ Idle) (out : v.change ≡ Outside) (other : ℕ) (w : View) (w_idle : w.work ≡ Idle) (w_out : w.change ≡ Outside)
-    (s : Shared) (r : Agrees k s) (here : get_elem? s.views id ≡ some v) (apart : ¬ (other ≡ id)) (there : get_elem? (set s.views id (together v w)) other ≡ some w) where
+module _ (k : Start) (id : ℕ) (v : View) (begun : v.start ≡ k) (idle : v.work ≡ Idle) (out : v.change ≡ Outside)
+    (other : ℕ) (w : View) (w_idle : w.work ≡ Idle) (w_out : w.change ≡ Outside)
+    (s : Shared) (r : Agrees k s) (here : get_elem? s.views id ≡ some v) (apart : ¬ (other ≡ id))
+    (there : get_elem? (set s.views id (together v w)) other ≡ some w) where
   abbrev one_set : List View
   one_set = set s.views id (together v w)
 
@@ -140,7 +156,9 @@ module _ (k : Start) (id : ℕ) (v : View) (begun : v.start ≡ k) (idle : v.wor
   w_at : get_elem? s.views other ≡ some w
   w_at = sym (set_else s.views id other (together v w) apart) ∙ there
 
-  at_each : (P : ℕ → View → Type 0) → ((j : ℕ) → P j spent) → ((j : ℕ) → P j (together v w)) → ((j : ℕ) (u : View) → j ≢ other → j ≢ id → get_elem? s.views j ≡ some u → P j u) → (j : ℕ) (u : View) → get_elem? both_set j ≡ some u → P j u
+  at_each : (P : ℕ → View → Type 0) → ((j : ℕ) → P j spent) → ((j : ℕ) → P j (together v w))
+      → ((j : ℕ) (u : View) → j ≢ other → j ≢ id → get_elem? s.views j ≡ some u → P j u) → (j : ℕ) (u : View)
+      → get_elem? both_set j ≡ some u → P j u
   at_each P a b c j u e = ⊎_elim
       (λ (m : (j ≡ other) × (spent ≡ u)). subst (P j) m.1 (a j))
       (λ (m : (j ≢ other) × (get_elem? one_set j ≡ some u)). ⊎_elim
@@ -168,7 +186,8 @@ module _ (k : Start) (id : ℕ) (v : View) (begun : v.start ≡ k) (idle : v.wor
       (at_either v.logs w.logs y i e)
 
   no_work : (j : ℕ) (d : Work) (n : ℕ) (z : View) → busy d ≡ n + 1 → get_elem? s.views j ≡ some z → z.work ≡ Idle → Does s.views j d → ⊥
-  no_work j d n z is at z_idle o = let e : z.work ≡ d = ap (λ (u : View). u.work) (some-injective z o.0 (sym at ∙ o.1)) ∙ o.2 in let f : busy d ≡ 0 = ap busy (sym e ∙ z_idle) in omega arith
+  no_work j d n z is at z_idle o = let e : z.work ≡ d = ap (λ (u : View). u.work) (some-injective z o.0 (sym at
+      ∙ o.1)) ∙ o.2 in let f : busy d ≡ 0 = ap busy (sym e ∙ z_idle) in omega arith
 
   does_on : (j : ℕ) (d : Work) (n : ℕ) → busy d ≡ n + 1 → Does s.views j d → Does both_set j d
   does_on j d n is o =
@@ -190,13 +209,17 @@ module _ (k : Start) (id : ℕ) (v : View) (begun : v.start ≡ k) (idle : v.wor
         (λ j. part_view k r.history r.phase j spent refl refl (λ i y e. absurd (some-ne-none y (sym e))) (inl refl))
         (λ j. part_view k r.history r.phase j (together v w) idle out joined_logs (inr begun))
         (λ j u _ _ at. r.each_view j u at);
-    holds = λ n. let e = ap (holding n) idle in let f = ap (holding n) w_idle in let a = both_counts (held_of n) refl (omega arith) in let b = r.holds n in omega arith;
+    holds = λ n. let e = ap (holding n) idle in let f = ap (holding n) w_idle in
+        let a = both_counts (held_of n) refl (omega arith) in let b = r.holds n in omega arith;
     look_ups = let a = both_counts looks_of refl (sum_by-append _ v.logs w.logs) in let b = r.look_ups in omega arith;
     passes = λ p. both_counts (logs_of p) refl (sum_by-append _ v.logs w.logs) ∙ r.passes p;
     whole = both_counts lengths refl (length-append v.logs w.logs) ∙ r.whole;
     authors = r.authors;
-    control = let a = ap in_change out in let b = ap added out in let c = ap removed_by out in let a' = ap in_change w_out in let b' = ap added w_out in let c' = ap removed_by w_out in let u = r.control.upper in let l = r.control.lower in
-        let x = both_counts changes_of refl (omega arith) in let y = both_counts added_of refl (omega arith) in let z = both_counts removed_of refl (omega arith) in record { upper = omega arith; lower = omega arith };
+    control = let a = ap in_change out in let b = ap added out in let c = ap removed_by out in
+        let a' = ap in_change w_out in let b' = ap added w_out in let c' = ap removed_by w_out in
+        let u = r.control.upper in let l = r.control.lower in
+        let x = both_counts changes_of refl (omega arith) in let y = both_counts added_of refl (omega arith) in
+        let z = both_counts removed_of refl (omega arith) in record { upper = omega arith; lower = omega arith };
     draws = let d = r.draws in let t = both_counts told_of refl (sum_by-append _ v.logs w.logs) in record {
       given = d.given;
       few = d.few;
@@ -208,4 +231,5 @@ module _ (k : Start) (id : ℕ) (v : View) (begun : v.start ≡ k) (idle : v.wor
   }
 
 pub joins_keep : JoinsKeep
-joins_keep k id v begun idle out other w w_idle w_out s r here apart there = join_agrees k id v begun idle out other w w_idle w_out s r here apart there
+joins_keep k id v begun idle out other w w_idle w_out s r here apart there = join_agrees k id v begun idle out other w
+    w_idle w_out s r here apart there

@@ -48,7 +48,8 @@ file_carried (c ∷ cs) = c.1
 carried_same : (p q : ℕ) (f g : Closed) → ◌≡◌ {A = List (ℕ × Option Closed)} ((p, Some f) ∷ []) ((q, Some g) ∷ []) → f ≡ g
 carried_same p q f g e = let z : Some f ≡ Some g = ap file_carried e in cc z
 
-module _ (st : Shared) (v : View) (r : Agrees v.start st) (id : ℕ) (x : Log) (here : get_elem? st.views id ≡ some v) (one : v.logs ≡ x ∷ []) (s : ℕ) (inside : s < slots_of v.start) where
+module _ (st : Shared) (v : View) (r : Agrees v.start st) (id : ℕ) (x : Log) (here : get_elem? st.views id ≡ some v)
+    (one : v.logs ≡ x ∷ []) (s : ℕ) (inside : s < slots_of v.start) where
   abbrev found : ℕ
   found = word_at st.words (slot_place s)
 
@@ -61,7 +62,8 @@ module _ (st : Shared) (v : View) (r : Agrees v.start st) (id : ℕ) (x : Log) (
 
     cleared : Facts (Clear s old) None (state_after_all v.start r.history).fresh
     cleared = record {
-      legal = legal_more v.start r.history (event st v r id x here one s inside stands old refl (Clear s old)) r.legal (in_size st v r id x here one s inside stands old refl, refl) tt;
+      legal = legal_more v.start r.history (event st v r id x here one s inside stands old refl (Clear s old)) r.legal
+          (in_size st v r id x here one s inside stands old refl, refl) tt;
       at = refl;
       removed = refl;
       holds = refl;
@@ -74,7 +76,8 @@ module _ (st : Shared) (v : View) (r : Agrees v.start st) (id : ℕ) (x : Log) (
 
     taken : Facts (Take s old) None (state_after_all v.start r.history).fresh
     taken = record {
-      legal = legal_more v.start r.history (event st v r id x here one s inside stands old refl (Take s old)) r.legal (in_size st v r id x here one s inside stands old refl, refl) tt;
+      legal = legal_more v.start r.history (event st v r id x here one s inside stands old refl (Take s old)) r.legal
+          (in_size st v r id x here one s inside stands old refl, refl) tt;
       at = refl;
       removed = refl;
       holds = refl;
@@ -85,27 +88,37 @@ module _ (st : Shared) (v : View) (r : Agrees v.start st) (id : ℕ) (x : Log) (
       held = refl;
     }
 
-    put : (n : ℕ) (file : Closed) → v.work ≡ Placing n → Facts (Put s (numbered n file) old) (Some (numbered n file)) (changed_at (state_after_all v.start r.history).fresh n Rattle.std.proofs.Common.false)
-    put n file works = let its = subst (WorkAgrees v.start r.phase id) works (its_work st v r id x here one) in let o = in_phase st v r id x here one n its.0 (Rattle.fx_counted.specs.Phases.placed id) its.1 in record {
-      legal = legal_more v.start r.history (event st v r id x here one s inside stands old refl (Put s (numbered n file) old)) r.legal (in_size st v r id x here one s inside stands old refl, o.2, refl) tt;
-      at = refl;
-      removed = refl;
-      holds = refl;
-      fresh_is = refl;
-      size = refl;
-      looked = refl;
-      all = omega arith;
-      held = refl;
-    }
+    put : (n : ℕ) (file : Closed) → v.work ≡ Placing n
+        → Facts (Put s (numbered n file) old) (Some (numbered n file))
+        (changed_at (state_after_all v.start r.history).fresh n Rattle.std.proofs.Common.false)
+    put n file works = let its = subst (WorkAgrees v.start r.phase id) works (its_work st v r id x here one) in
+        let o = in_phase st v r id x here one n its.0 (Rattle.fx_counted.specs.Phases.placed id) its.1 in record {
+          legal = legal_more v.start r.history
+              (event st v r id x here one s inside stands old refl (Put s (numbered n file) old)) r.legal
+              (in_size st v r id x here one s inside stands old refl, o.2, refl) tt;
+          at = refl;
+          removed = refl;
+          holds = refl;
+          fresh_is = refl;
+          size = refl;
+          looked = refl;
+          all = omega arith;
+          held = refl;
+        }
 
   -- the slot of a word's place
-  at_slot : (m m' : Sat) (action : ℕ → Action) (used : Use) (d : Work) (c : Change) → Stepped m ([] ▷ action s) used d c m' → Stepped m ([] ▷ action (slot_of (slot_place s))) used d c m'
+  at_slot : (m m' : Sat) (action : ℕ → Action) (used : Use) (d : Work) (c : Change)
+      → Stepped m ([] ▷ action s) used d c m' → Stepped m ([] ▷ action (slot_of (slot_place s))) used d c m'
   at_slot m m' action used d c = subst (λ (z : ℕ). Stepped m ([] ▷ action z) used d c m') (sym ((far st v r id x here one).slot_back s))
 
-clears_at : (slots id s : ℕ) (m : Sat) (x : Log) → m.0.logs ≡ x ∷ [] → m.0.work ≡ Idle → s < slots_of m.0.start → MayChange m.0.start s m.0.change → Allows (Agrees m.0.start) slots id m (slot_place s) (λ _. 0) (Removes Clear (step slots (slot_place s) 0 0 none) m)
-clears_at slots id s m x one idle inside stands st r deep here fits = let old : Option File = (state_after_all m.0.start r.history).at s in let f₀ : ℕ = word_at st.words (slot_place s) in
+clears_at : (slots id s : ℕ) (m : Sat) (x : Log) → m.0.logs ≡ x ∷ [] → m.0.work ≡ Idle → s < slots_of m.0.start
+    → MayChange m.0.start s m.0.change → Allows (Agrees m.0.start) slots id m (slot_place s) (λ _. 0)
+    (Removes Clear (step slots (slot_place s) 0 0 none) m)
+clears_at slots id s m x one idle inside stands st r deep here fits = let old : Option File =
+    (state_after_all m.0.start r.history).at s in let f₀ : ℕ = word_at st.words (slot_place s) in
     let e : Event = event st m.0 r id x here one s inside stands old refl (Clear s old) in
-    let w : View = now m.0 (logged x (e ∷ r.history) x.numbers_left x.looks_left) (retires_now old (takes_in f₀)) (turned m.0.change (if_full old) 0) in (
+    let w : View = now m.0 (logged x (e ∷ r.history) x.numbers_left x.looks_left) (retires_now old (takes_in f₀))
+    (turned m.0.change (if_full old) 0) in (
       w,
       keeps,
       tt,
@@ -113,20 +126,27 @@ clears_at slots id s m x one idle inside stands st r deep here fits = let old : 
       record {
         file = old;
         names = names_old st m.0 r id x here one s inside stands old refl;
-        stepped = at_slot st m.0 r id x here one s inside m (w, m.1) (λ z. Clear z old) no_use (retires_now old (takes_in f₀)) (turned m.0.change (if_full old) 0)
+        stepped = at_slot st m.0 r id x here one s inside m (w, m.1) (λ z. Clear z old) no_use
+            (retires_now old (takes_in f₀)) (turned m.0.change (if_full old) 0)
             (removal_tells st m.0 r id x here one s inside stands old refl idle (Clear s old) (cleared st m.0 r id x here one s inside stands) m.1);
         carried = refl;
       },
     )
 
 pub clears_keep : ClearsKeep
-clears_keep k slots id i s m x has idle inside stands place = subst (λ (k : Start). s < slots_of k → MayChange k s m.0.change → Allows (Agrees k) slots id m i (λ _. 0) (Removes Clear (step slots i 0 0 none) m)) has.0
-    (λ within may. subst (λ (i : ℕ). Allows (Agrees m.0.start) slots id m i (λ _. 0) (Removes Clear (step slots i 0 0 none) m)) (sym place) (clears_at slots id s m x has.1 idle within may)) inside stands
+clears_keep k slots id i s m x has idle inside stands place = subst (λ (k : Start). s < slots_of k
+    → MayChange k s m.0.change → Allows (Agrees k) slots id m i (λ _. 0) (Removes Clear (step slots i 0 0 none) m)) has.0
+    (λ within may. subst (λ (i : ℕ). Allows (Agrees m.0.start) slots id m i (λ _. 0)
+    (Removes Clear (step slots i 0 0 none) m)) (sym place) (clears_at slots id s m x has.1 idle within may)) inside stands
 
-takes_at : (slots id s : ℕ) (m : Sat) (x : Log) → m.0.logs ≡ x ∷ [] → m.0.work ≡ Idle → s < slots_of m.0.start → MayChange m.0.start s m.0.change → Allows (Agrees m.0.start) slots id m (slot_place s) (λ _. 0) (Removes Take (step slots (slot_place s) 0 0 none) m)
-takes_at slots id s m x one idle inside stands st r deep here fits = let old : Option File = (state_after_all m.0.start r.history).at s in let f₀ : ℕ = word_at st.words (slot_place s) in
+takes_at : (slots id s : ℕ) (m : Sat) (x : Log) → m.0.logs ≡ x ∷ [] → m.0.work ≡ Idle → s < slots_of m.0.start
+    → MayChange m.0.start s m.0.change → Allows (Agrees m.0.start) slots id m (slot_place s) (λ _. 0)
+    (Removes Take (step slots (slot_place s) 0 0 none) m)
+takes_at slots id s m x one idle inside stands st r deep here fits = let old : Option File =
+    (state_after_all m.0.start r.history).at s in let f₀ : ℕ = word_at st.words (slot_place s) in
     let e : Event = event st m.0 r id x here one s inside stands old refl (Take s old) in
-    let w : View = now m.0 (logged x (e ∷ r.history) x.numbers_left x.looks_left) (retires_now old (takes_in f₀)) (turned m.0.change (if_full old) 0) in (
+    let w : View = now m.0 (logged x (e ∷ r.history) x.numbers_left x.looks_left) (retires_now old (takes_in f₀))
+    (turned m.0.change (if_full old) 0) in (
       w,
       keeps,
       tt,
@@ -134,22 +154,30 @@ takes_at slots id s m x one idle inside stands st r deep here fits = let old : O
       record {
         file = old;
         names = names_old st m.0 r id x here one s inside stands old refl;
-        stepped = at_slot st m.0 r id x here one s inside m (w, m.1) (λ z. Take z old) no_use (retires_now old (takes_in f₀)) (turned m.0.change (if_full old) 0)
+        stepped = at_slot st m.0 r id x here one s inside m (w, m.1) (λ z. Take z old) no_use
+            (retires_now old (takes_in f₀)) (turned m.0.change (if_full old) 0)
             (removal_tells st m.0 r id x here one s inside stands old refl idle (Take s old) (taken st m.0 r id x here one s inside stands) m.1);
         carried = refl;
       },
     )
 
 pub takes_keep : TakesKeep
-takes_keep k slots id i s m x has idle inside stands place = subst (λ (k : Start). s < slots_of k → MayChange k s m.0.change → Allows (Agrees k) slots id m i (λ _. 0) (Removes Take (step slots i 0 0 none) m)) has.0
-    (λ within may. subst (λ (i : ℕ). Allows (Agrees m.0.start) slots id m i (λ _. 0) (Removes Take (step slots i 0 0 none) m)) (sym place) (takes_at slots id s m x has.1 idle within may)) inside stands
+takes_keep k slots id i s m x has idle inside stands place = subst (λ (k : Start). s < slots_of k
+    → MayChange k s m.0.change → Allows (Agrees k) slots id m i (λ _. 0) (Removes Take (step slots i 0 0 none) m)) has.0
+    (λ within may. subst (λ (i : ℕ). Allows (Agrees m.0.start) slots id m i (λ _. 0)
+    (Removes Take (step slots i 0 0 none) m)) (sym place) (takes_at slots id s m x has.1 idle within may)) inside stands
 
-installs_at : (slots id s n : ℕ) (file : Closed) (m : Sat) (x : Log) → m.0.logs ≡ x ∷ [] → m.0.work ≡ Placing n → m.1 ≡ (place_of m.0.start n, Some file) ∷ [] → file.entry < 2 ^ 8 → s < slots_of m.0.start → MayChange m.0.start s m.0.change
-    → Allows (Agrees m.0.start) slots id m (slot_place s) (λ _. slot_word_of n file.entry) (Installs (step slots (slot_place s) (slot_word_of n file.entry) 0 none) m)
-installs_at slots id s n file m x one works carries small inside stands st r deep here fits = let old : Option File = (state_after_all m.0.start r.history).at s in let f₀ : ℕ = word_at st.words (slot_place s) in
+installs_at : (slots id s n : ℕ) (file : Closed) (m : Sat) (x : Log) → m.0.logs ≡ x ∷ [] → m.0.work ≡ Placing n
+    → m.1 ≡ (place_of m.0.start n, Some file) ∷ [] → file.entry < 2 ^ 8 → s < slots_of m.0.start
+    → MayChange m.0.start s m.0.change
+    → Allows (Agrees m.0.start) slots id m (slot_place s) (λ _. slot_word_of n file.entry)
+    (Installs (step slots (slot_place s) (slot_word_of n file.entry) 0 none) m)
+installs_at slots id s n file m x one works carries small inside stands st r deep here fits = let old : Option File =
+    (state_after_all m.0.start r.history).at s in let f₀ : ℕ = word_at st.words (slot_place s) in
     let a : Action = Put s (numbered n file) old in let does = put st m.0 r id x here one s inside stands n file works in
     let e : Event = event st m.0 r id x here one s inside stands old refl a in
-    let w : View = now m.0 (logged x (e ∷ r.history) (x.numbers_left - 1) x.looks_left) (retires_now old (takes_in f₀)) (turned m.0.change (if_full old) 1) in (
+    let w : View = now m.0 (logged x (e ∷ r.history) (x.numbers_left - 1) x.looks_left)
+    (retires_now old (takes_in f₀)) (turned m.0.change (if_full old) 1) in (
       w,
       gives,
       tt,
@@ -161,8 +189,10 @@ installs_at slots id s n file m x one works carries small inside stands st r dee
         stepped = λ n₂ file₂ works₂ carries₂.
             let same_n : n ≡ n₂ = placing_same n n₂ (sym works ∙ works₂) in
             let same_f : file ≡ file₂ = carried_same (place_of m.0.start n) (place_of m.0.start n₂) file file₂ (sym carries ∙ carries₂) in
-            subst (λ (z : ℕ × Closed). Stepped m ([] ▷ Put (slot_of (slot_place s)) (numbered z.0 z.1) old) one_number (retires_now old (takes_in f₀)) (turned m.0.change (if_full old) 1) (w, rest m.1)) (λ i. (same_n i, same_f i))
-            (at_slot st m.0 r id x here one s inside m (w, rest m.1) (λ z. Put z (numbered n file) old) one_number (retires_now old (takes_in f₀)) (turned m.0.change (if_full old) 1)
+            subst (λ (z : ℕ × Closed). Stepped m ([] ▷ Put (slot_of (slot_place s)) (numbered z.0 z.1) old) one_number
+            (retires_now old (takes_in f₀)) (turned m.0.change (if_full old) 1) (w, rest m.1)) (λ i. (same_n i, same_f i))
+            (at_slot st m.0 r id x here one s inside m (w, rest m.1) (λ z. Put z (numbered n file) old) one_number
+            (retires_now old (takes_in f₀)) (turned m.0.change (if_full old) 1)
             (installation_tells st m.0 r id x here one s inside stands old refl n file works small a does m.1 (rest m.1)));
         carried = refl;
       },
@@ -170,13 +200,28 @@ installs_at slots id s n file m x one works carries small inside stands st r dee
 
 pub installs_keep : InstallsKeep
 installs_keep k slots id i s n new file m x has works carries small inside stands place made =
-    subst (λ (k : Start). m.1 ≡ (place_of k n, Some file) ∷ [] → s < slots_of k → MayChange k s m.0.change → Allows (Agrees k) slots id m i (λ _. new) (Installs (step slots i new 0 none) m)) has.0
-    (λ with within may. subst (λ (z : ℕ × ℕ). Allows (Agrees m.0.start) slots id m z.0 (λ _. z.1) (Installs (step slots z.0 z.1 0 none) m)) (λ j. (sym place j, sym made j)) (installs_at slots id s n file m x has.1 works with small within may)) carries inside stands
+    subst (λ (k : Start). m.1 ≡ (place_of k n, Some file) ∷ [] → s < slots_of k → MayChange k s m.0.change
+    → Allows (Agrees k) slots id m i (λ _. new) (Installs (step slots i new 0 none) m)) has.0
+    (λ with within may. subst (λ (z : ℕ × ℕ). Allows (Agrees m.0.start) slots id m z.0 (λ _. z.1)
+    (Installs (step slots z.0 z.1 0 none) m)) (λ j. (sym place j, sym made j))
+    (installs_at slots id s n file m x has.1 works with small within may)) carries inside stands
 
 -- a step that writes what it read
-module _ (st : Shared) (v : View) (r : Agrees v.start st) (id : ℕ) (x : Log) (here : get_elem? st.views id ≡ some v) (one : v.logs ≡ x ∷ []) (i : ℕ) where
-  read_agrees : Agrees v.start record { words = set st.words i (word_at st.words i); homes = st.homes; views = set st.views id (now v (logged x r.history x.numbers_left x.looks_left) v.work v.change) }
-  read_agrees = subst (λ (l : List ℕ). Agrees v.start record { words = l; homes = st.homes; views = set st.views id (now v (logged x r.history x.numbers_left x.looks_left) v.work v.change) }) (sym (set-get_or st.words i 0))
+module _ (st : Shared) (v : View) (r : Agrees v.start st) (id : ℕ) (x : Log) (here : get_elem? st.views id ≡ some v)
+    (one : v.logs ≡ x ∷ []) (i : ℕ) where
+  read_agrees : Agrees v.start record {
+    words = set st.words i
+        (word_at st.words i);
+    homes = st.homes;
+    views = set st.views id
+        (now v (logged x r.history x.numbers_left x.looks_left) v.work v.change);
+  }
+  read_agrees = subst (λ (l : List ℕ). Agrees v.start record {
+    words = l;
+    homes = st.homes;
+    views = set st.views id
+        (now v (logged x r.history x.numbers_left x.looks_left) v.work v.change);
+  }) (sym (set-get_or st.words i 0))
       (calm_agrees st v r id x here one r.history v.change st.words record {
         grows = grows_none x.number r.history;
         legal = r.legal;
@@ -188,10 +233,13 @@ module _ (st : Shared) (v : View) (r : Agrees v.start st) (id : ℕ) (x : Log) (
         slots = λ s. refl;
         nodes = λ n has. refl;
         drawn = refl;
-        control = Rattle.fx_counted.proofs.Unchanged.control_same st.views id v (now v (logged x r.history x.numbers_left x.looks_left) v.work v.change) here (state_after_all v.start r.history).at (state_after_all v.start r.history).at _ _ _ refl refl refl r.control;
+        control = Rattle.fx_counted.proofs.Unchanged.control_same st.views id v
+            (now v (logged x r.history x.numbers_left x.looks_left) v.work v.change) here
+            (state_after_all v.start r.history).at (state_after_all v.start r.history).at _ _ _ refl refl refl r.control;
       })
 
-loads_at : (slots id i : ℕ) (m : Sat) (x : Log) → m.0.logs ≡ x ∷ [] → Allows (Agrees m.0.start) slots id m i (λ word. word) (GoesOn m.0.change (step slots i 0 0 none) m)
+loads_at : (slots id i : ℕ) (m : Sat) (x : Log) → m.0.logs ≡ x ∷ []
+    → Allows (Agrees m.0.start) slots id m i (λ word. word) (GoesOn m.0.change (step slots i 0 0 none) m)
 loads_at slots id i m x one st r deep here fits = (
   now m.0 (logged x r.history x.numbers_left x.looks_left) m.0.work m.0.change,
   keeps,
@@ -201,12 +249,17 @@ loads_at slots id i m x one st r deep here fits = (
 )
 
 pub loads_keep : LoadsKeep
-loads_keep k slots id i m x has same = subst (λ (k : Start). Allows (Agrees k) slots id m i (λ word. word) (GoesOn Same (step slots i 0 0 none) m)) has.0
-    (subst (λ (c : Change). Allows (Agrees m.0.start) slots id m i (λ word. word) (GoesOn c (step slots i 0 0 none) m)) same (loads_at slots id i m x has.1))
+loads_keep k slots id i m x has same = subst
+    (λ (k : Start). Allows (Agrees k) slots id m i (λ word. word) (GoesOn Same (step slots i 0 0 none) m)) has.0
+    (subst (λ (c : Change). Allows (Agrees m.0.start) slots id m i (λ word. word)
+    (GoesOn c (step slots i 0 0 none) m)) same (loads_at slots id i m x has.1))
 
 -- an exchange
-module _ (slots id s n old_word : ℕ) (file : Closed) (m : Sat) (x : Log) (one : m.0.logs ≡ x ∷ []) (works : m.0.work ≡ Placing n) (carries : m.1 ≡ (place_of m.0.start n, Some file) ∷ []) (small : file.entry < 2 ^ 8) (same : m.0.change ≡ Same)
-    (low : (range_of (opening_of m.0.start)).0 ≤ s) (high : s < (range_of (opening_of m.0.start)).0 + (range_of (opening_of m.0.start)).1) (empty : name_in old_word ≡ 0)
+module _ (slots id s n old_word : ℕ) (file : Closed) (m : Sat) (x : Log) (one : m.0.logs ≡ x ∷ [])
+    (works : m.0.work ≡ Placing n) (carries : m.1 ≡ (place_of m.0.start n, Some file) ∷ [])
+    (small : file.entry < 2 ^ 8) (same : m.0.change ≡ Same)
+    (low : (range_of (opening_of m.0.start)).0 ≤ s)
+    (high : s < (range_of (opening_of m.0.start)).0 + (range_of (opening_of m.0.start)).1) (empty : name_in old_word ≡ 0)
     (st : Shared) (r : Agrees m.0.start st) (here : get_elem? st.views id ≡ some m.0) where
   abbrev v : View
   v = m.0
@@ -224,11 +277,14 @@ module _ (slots id s n old_word : ℕ) (file : Closed) (m : Sat) (x : Log) (one 
   stands = inl ((low, high), same)
 
   abbrev Goal : ℕ → Type 0
-  Goal y = (w : View) × (a : Act (Option Closed)) × Valid st.homes m.1 a × Agrees v.start (stepped st (slot_place s) y id m.1 w a) × Exchanges (step slots (slot_place s) old_word new none) m word (w, carried_after m.1 a)
+  Goal y = (w : View) × (a : Act (Option Closed)) × Valid st.homes m.1 a
+      × Agrees v.start (stepped st (slot_place s) y id m.1 w a)
+      × Exchanges (step slots (slot_place s) old_word new none) m word (w, carried_after m.1 a)
 
   no_file : word ≡ old_word → (found : Option File) → (state_after_all v.start r.history).at s ≡ found → found ≡ None
   no_file is None at = refl
-  no_file is (Some f) at = let names = subst (Names word) at ((r.each_slot s within).names) in absurd (let a = ap name_in is in let b = names.0 in omega arith)
+  no_file is (Some f) at = let names = subst (Names word) at ((r.each_slot s within).names) in
+      absurd (let a = ap name_in is in let b = names.0 in omega arith)
 
   lost : word ≢ old_word → Goal word
   lost other = (
@@ -246,10 +302,13 @@ module _ (slots id s n old_word : ℕ) (file : Closed) (m : Sat) (x : Log) (one 
     abbrev a : Action
     a = Allocate s (numbered n file)
 
-    allocated : Does st v r id x here one s within stands None at_none a (Some (numbered n file)) (changed_at (state_after_all v.start r.history).fresh n Rattle.std.proofs.Common.false)
-    allocated = let its = subst (WorkAgrees v.start r.phase id) works (its_work st v r id x here one) in let o = in_phase st v r id x here one n its.0 (Rattle.fx_counted.specs.Phases.placed id) its.1 in
+    allocated : Does st v r id x here one s within stands None at_none a (Some (numbered n file))
+        (changed_at (state_after_all v.start r.history).fresh n Rattle.std.proofs.Common.false)
+    allocated = let its = subst (WorkAgrees v.start r.phase id) works (its_work st v r id x here one) in
+        let o = in_phase st v r id x here one n its.0 (Rattle.fx_counted.specs.Phases.placed id) its.1 in
         let z = (same_shape v.start r.history).1 in let p = ap (λ (p : ℕ × ℕ). p.0) z in let q = ap (λ (p : ℕ × ℕ). p.1) z in record {
-          legal = legal_more v.start r.history (event st v r id x here one s within stands None at_none a) r.legal (in_size st v r id x here one s within stands None at_none, (omega arith, omega arith), at_none, o.2) tt;
+          legal = legal_more v.start r.history (event st v r id x here one s within stands None at_none a) r.legal
+              (in_size st v r id x here one s within stands None at_none, (omega arith, omega arith), at_none, o.2) tt;
           at = refl;
           removed = refl;
           holds = refl;
@@ -261,7 +320,8 @@ module _ (slots id s n old_word : ℕ) (file : Closed) (m : Sat) (x : Log) (one 
         }
 
     abbrev w : View
-    w = now v (logged x (event st v r id x here one s within stands None at_none a ∷ r.history) (x.numbers_left - 1) x.looks_left) Idle (turned v.change 0 1)
+    w = now v (logged x (event st v r id x here one s within stands None at_none a ∷ r.history)
+        (x.numbers_left - 1) x.looks_left) Idle (turned v.change 0 1)
 
     won : Goal new
     won = (
@@ -274,7 +334,9 @@ module _ (slots id s n old_word : ℕ) (file : Closed) (m : Sat) (x : Log) (one 
         wins = λ n₂ file₂ works₂ carries₂ _.
             let same_n : n ≡ n₂ = placing_same n n₂ (sym works ∙ works₂) in
             let same_f : file ≡ file₂ = carried_same (place_of v.start n) (place_of v.start n₂) file file₂ (sym carries ∙ carries₂) in (
-              subst (λ (z : ℕ × Closed × Change). Stepped m ([] ▷ Allocate (slot_of (slot_place s)) (numbered z.0 z.1)) one_number Idle z.2 (w, rest m.1)) (λ i. (same_n i, same_f i, turned (same i) 0 1))
+              subst (λ (z : ℕ × Closed × Change). Stepped m
+                  ([] ▷ Allocate (slot_of (slot_place s)) (numbered z.0 z.1)) one_number Idle z.2 (w, rest m.1))
+                  (λ i. (same_n i, same_f i, turned (same i) 0 1))
                   (at_slot st v r id x here one s within m (w, rest m.1) (λ z. Allocate z (numbered n file)) one_number Idle (turned v.change 0 1)
                   (installation_tells st v r id x here one s within stands None at_none n file works small a allocated m.1 (rest m.1))),
               refl,
@@ -283,16 +345,23 @@ module _ (slots id s n old_word : ℕ) (file : Closed) (m : Sat) (x : Log) (one 
       },
     )
 
-exchanges_at : (slots id s n old : ℕ) (file : Closed) (m : Sat) (x : Log) → m.0.logs ≡ x ∷ [] → m.0.work ≡ Placing n → m.1 ≡ (place_of m.0.start n, Some file) ∷ [] → file.entry < 2 ^ 8 → m.0.change ≡ Same
+exchanges_at : (slots id s n old : ℕ) (file : Closed) (m : Sat) (x : Log) → m.0.logs ≡ x ∷ [] → m.0.work ≡ Placing n
+    → m.1 ≡ (place_of m.0.start n, Some file) ∷ [] → file.entry < 2 ^ 8 → m.0.change ≡ Same
     → (range_of (opening_of m.0.start)).0 ≤ s → s < (range_of (opening_of m.0.start)).0 + (range_of (opening_of m.0.start)).1 → name_in old ≡ 0
-    → Allows (Agrees m.0.start) slots id m (slot_place s) (λ word. either (eqb word old) (slot_word_of n file.entry) word) (Exchanges (step slots (slot_place s) old (slot_word_of n file.entry) none) m)
-exchanges_at slots id s n old file m x one works carries small same low high empty st r deep here fits = exchanged (word_at st.words (slot_place s)) old (slot_word_of n file.entry) (Goal slots id s n old file m x one works carries small same low high empty st r here)
+    → Allows (Agrees m.0.start) slots id m (slot_place s)
+    (λ word. either (eqb word old) (slot_word_of n file.entry) word)
+    (Exchanges (step slots (slot_place s) old (slot_word_of n file.entry) none) m)
+exchanges_at slots id s n old file m x one works carries small same low high empty st r deep here fits = exchanged
+    (word_at st.words (slot_place s)) old (slot_word_of n file.entry)
+    (Goal slots id s n old file m x one works carries small same low high empty st r here)
     (λ is. won slots id s n old file m x one works carries small same low high empty st r here is)
     (λ other. lost slots id s n old file m x one works carries small same low high empty st r here other)
 
 pub exchanges_keep : ExchangesKeep
 exchanges_keep k slots id i s n old new file m x has works carries small same low high place empty made =
-    subst (λ (k : Start). m.1 ≡ (place_of k n, Some file) ∷ [] → (range_of (opening_of k)).0 ≤ s → s < (range_of (opening_of k)).0 + (range_of (opening_of k)).1
+    subst (λ (k : Start). m.1 ≡ (place_of k n, Some file) ∷ [] → (range_of (opening_of k)).0 ≤ s
+    → s < (range_of (opening_of k)).0 + (range_of (opening_of k)).1
     → Allows (Agrees k) slots id m i (λ word. either (eqb word old) new word) (Exchanges (step slots i old new none) m)) has.0
-    (λ with from to. subst (λ (z : ℕ × ℕ). Allows (Agrees m.0.start) slots id m z.0 (λ word. either (eqb word old) z.1 word) (Exchanges (step slots z.0 old z.1 none) m)) (λ j. (sym place j, sym made j))
+    (λ with from to. subst (λ (z : ℕ × ℕ). Allows (Agrees m.0.start) slots id m z.0
+    (λ word. either (eqb word old) z.1 word) (Exchanges (step slots z.0 old z.1 none) m)) (λ j. (sym place j, sym made j))
     (exchanges_at slots id s n old file m x has.1 works with small same from to empty)) carries low high

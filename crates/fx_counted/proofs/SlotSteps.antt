@@ -22,7 +22,8 @@ use Rattle.fx_counted.proofs.Keeping.{Homes, word_at, now, Step, step_kept}
 use Rattle.fx_counted.proofs.NodeSteps.{near, far}
 use Rattle.fx_counted.proofs.Unchanged.{SameFile, slot_same, draws_same}
 
-module _ (st : Shared) (v : View) (r : Agrees v.start st) (id : ℕ) (x : Log) (here : get_elem? st.views id ≡ some v) (one : v.logs ≡ x ∷ []) (s : ℕ) (inside : s < slots_of v.start)
+module _ (st : Shared) (v : View) (r : Agrees v.start st) (id : ℕ) (x : Log) (here : get_elem? st.views id ≡ some v)
+    (one : v.logs ≡ x ∷ []) (s : ℕ) (inside : s < slots_of v.start)
     (y : Log) (d : Work) (c : Change) (h' : List Event) (phase' : ℕ → Phase) (word' : ℕ) (homes' : Homes) where
   abbrev words' : List ℕ
   words' = set st.words (slot_place s) word'
@@ -39,9 +40,13 @@ module _ (st : Shared) (v : View) (r : Agrees v.start st) (id : ℕ) (x : Log) (
     pub grows : Grows x.number r.history h'
     pub legal : IsHistory v.start h'
     pub slot : SlotAgrees v.start h' phase' s word'
-    pub others : (i : ℕ) → i < slots_of v.start → i ≢ s → ((state_after_all v.start h').at i ≡ (state_after_all v.start r.history).at i) × SameFile v.start r.history h' r.phase phase' i
+    pub others : (i : ℕ) → i < slots_of v.start → i ≢ s
+        → ((state_after_all v.start h').at i ≡ (state_after_all v.start r.history).at i)
+        × SameFile v.start r.history h' r.phase phase' i
     pub more : all_looks r.history ≤ all_looks h'
-    pub nodes : (n : ℕ) → IsNumber v.start n → NodeAgrees (state_after_all v.start h') n (looks h' n) (word_at st.words (node_place (slots_of v.start) n)) (get_elem? homes' (home_place (slots_of v.start) n)) (phase' n)
+    pub nodes : (n : ℕ) → IsNumber v.start n
+        → NodeAgrees (state_after_all v.start h') n (looks h' n) (word_at st.words (node_place (slots_of v.start) n))
+        (get_elem? homes' (home_place (slots_of v.start) n)) (phase' n)
     pub owners : (n : ℕ) → IsNumber v.start n → OwnerAgrees views' n (phase' n)
     pub no_other : (n : ℕ) → (IsNumber v.start n → ⊥) → (state_after_all v.start h').removed n ≡ None
     pub stays : Stays id x.number r.phase phase'
@@ -68,9 +73,19 @@ module _ (st : Shared) (v : View) (r : Agrees v.start st) (id : ℕ) (x : Log) (
       grows = p.grows;
       legal = p.legal;
       slots = λ i l. dite (ℕ_discrete i s)
-          (λ same. subst (λ (z : ℕ × ℕ). SlotAgrees v.start h' phase' z.0 z.1) (λ j. (sym same j, (sym (get_or-set_same st.words (slot_place s) word' 0 wide) ∙ ap (λ (z : ℕ). word_at words' (slot_place z)) (sym same)) j)) p.slot)
-          (λ other. let o = p.others i l other in slot_same v.start r.history h' r.phase phase' i (word_at st.words (slot_place i)) (word_at words' (slot_place i)) (word_else (slot_place i) (λ same. other (apart.slots i s same))) o.0 p.more o.1 (r.each_slot i l));
-      nodes = λ n has. subst (λ (w : ℕ). NodeAgrees (state_after_all v.start h') n (looks h' n) w (get_elem? homes' (home_place (slots_of v.start) n)) (phase' n)) (sym (word_else (node_place (slots_of v.start) n) (apart.node_and_slot n s inside has))) (p.nodes n has);
+          (λ same. subst (λ (z : ℕ × ℕ). SlotAgrees v.start h' phase' z.0 z.1)
+          (λ j. (
+            sym same j,
+            (sym (get_or-set_same st.words (slot_place s) word' 0 wide)
+                ∙ ap (λ (z : ℕ). word_at words' (slot_place z)) (sym same)) j,
+          )) p.slot)
+          (λ other. let o = p.others i l other in
+          slot_same v.start r.history h' r.phase phase' i (word_at st.words (slot_place i))
+          (word_at words' (slot_place i))
+          (word_else (slot_place i) (λ same. other (apart.slots i s same))) o.0 p.more o.1 (r.each_slot i l));
+      nodes = λ n has. subst (λ (w : ℕ). NodeAgrees (state_after_all v.start h') n (looks h' n) w
+          (get_elem? homes' (home_place (slots_of v.start) n)) (phase' n))
+          (sym (word_else (node_place (slots_of v.start) n) (apart.node_and_slot n s inside has))) (p.nodes n has);
       owners = p.owners;
       no_other = p.no_other;
       stays = p.stays;
@@ -79,8 +94,11 @@ module _ (st : Shared) (v : View) (r : Agrees v.start st) (id : ℕ) (x : Log) (
       work = p.work;
       holds = p.holds;
       look_ups = p.look_ups;
-      control = subst (ControlCounts (state_after_all v.start h').at (range_of (opening_of v.start)) views') (sym (word_else control_place (λ same. apart.slot_and_control s (sym same)))) p.control;
-      draws = draws_same st.views id v (now v y d c) here v.start.chains r.phase phase' (word_at st.words draw_place) _ x y one refl p.drawn p.told (word_else draw_place (λ same. apart.slot_and_draw s (sym same))) p.unused r.draws;
+      control = subst (ControlCounts (state_after_all v.start h').at (range_of (opening_of v.start)) views')
+          (sym (word_else control_place (λ same. apart.slot_and_control s (sym same)))) p.control;
+      draws = draws_same st.views id v (now v y d c) here v.start.chains r.phase phase'
+          (word_at st.words draw_place) _ x y one refl p.drawn p.told
+          (word_else draw_place (λ same. apart.slot_and_draw s (sym same))) p.unused r.draws;
     }
 
     pub slot_agrees : Agrees v.start record { words = words'; homes = homes'; views = views' }

@@ -71,7 +71,8 @@ retires_next : (old : Option File) (takes : ℕ) (x : Log) → PlacesNext x (ret
 retires_next None takes x = tt
 retires_next (Some f) takes x = tt
 
-module _ (st : Shared) (v : View) (r : Agrees v.start st) (id : ℕ) (x : Log) (here : get_elem? st.views id ≡ some v) (one : v.logs ≡ x ∷ []) (s : ℕ) (inside : s < slots_of v.start) where
+module _ (st : Shared) (v : View) (r : Agrees v.start st) (id : ℕ) (x : Log) (here : get_elem? st.views id ≡ some v)
+    (one : v.logs ≡ x ∷ []) (s : ℕ) (inside : s < slots_of v.start) where
   abbrev pub found : ℕ
   found = word_at st.words (slot_place s)
 
@@ -82,7 +83,8 @@ module _ (st : Shared) (v : View) (r : Agrees v.start st) (id : ℕ) (x : Log) (
   so = r.each_slot s inside
 
   -- the file that is at the slot
-  pub seat_of : (f : File) → state.at s ≡ Some f → IsNumber v.start f.number × (takes_in found ≡ looks r.history f.number) × (r.phase f.number ≡ seated s f.identity)
+  pub seat_of : (f : File) → state.at s ≡ Some f
+      → IsNumber v.start f.number × (takes_in found ≡ looks r.history f.number) × (r.phase f.number ≡ seated s f.identity)
   seat_of f is = subst (IsSeated v.start (looks r.history) r.phase s found) is so.seat
 
   module _ (old : Option File) (was : state.at s ≡ old) where
@@ -100,7 +102,8 @@ module _ (st : Shared) (v : View) (r : Agrees v.start st) (id : ℕ) (x : Log) (
       where
         go : (old : Option File) → state.at s ≡ old → NotOf n old → ⊥
         go None was other = let z : None ≡ Some (numbered n g) = sym was ∙ (ap state.at (sym same) ∙ there) in cc z
-        go (Some f) was other = let z : Some f ≡ Some (numbered n g) = sym was ∙ (ap state.at (sym same) ∙ there) in other (let e : f ≡ numbered n g = cc z in sym (ap (λ (f : File). f.number) e))
+        go (Some f) was other = let z : Some f ≡ Some (numbered n g) = sym was ∙ (ap state.at (sym same) ∙ there) in
+            other (let e : f ≡ numbered n g = cc z in sym (ap (λ (f : File). f.number) e))
 
     module _ (a : Action) (word' : ℕ) (new : Option File) (homes' : Homes) (phase₁ : ℕ → Phase) (left : ℕ) (c : Change) where
       abbrev pub e : Event
@@ -143,7 +146,9 @@ module _ (st : Shared) (v : View) (r : Agrees v.start st) (id : ℕ) (x : Log) (
         pub stays : Stays id x.number r.phase phase₁
         pub keeps : KeepsHeld id st.views r.phase phase₁
         pub unused : (n : ℕ) → r.phase n ≡ unborn → phase₁ n ≡ unborn
-        pub nodes : (n : ℕ) → IsNumber v.start n → NotOf n old → NodeAgrees next_state n (looks r.history n) (word_at st.words (word_of v.start n)) (get_elem? homes' (place_of v.start n)) (phase₁ n)
+        pub nodes : (n : ℕ) → IsNumber v.start n → NotOf n old
+            → NodeAgrees next_state n (looks r.history n) (word_at st.words (word_of v.start n))
+            (get_elem? homes' (place_of v.start n)) (phase₁ n)
         pub old_home : (f : File) → old ≡ Some f → get_elem? homes' (place_of v.start f.number) ≡ get_elem? st.homes (place_of v.start f.number)
         pub owners : (n : ℕ) → IsNumber v.start n → NotOf n old → OwnerAgrees (set st.views id w) n (phase₁ n)
         -- the pass
@@ -153,18 +158,25 @@ module _ (st : Shared) (v : View) (r : Agrees v.start st) (id : ℕ) (x : Log) (
         pub control : ControlCounts (changed_at state.at s new) (range_of (opening_of v.start)) (set st.views id w) (word_at st.words control_place)
 
       module _ (p : Swap) where
-        old_node : (f : File) → old ≡ Some f → NodeAgrees next_state f.number (looks r.history f.number) (word_at st.words (word_of v.start f.number)) (get_elem? homes' (place_of v.start f.number)) (leaving id (takes_in found) f.identity)
+        old_node : (f : File) → old ≡ Some f
+            → NodeAgrees next_state f.number (looks r.history f.number) (word_at st.words (word_of v.start f.number))
+            (get_elem? homes' (place_of v.start f.number)) (leaving id (takes_in found) f.identity)
         old_node f is = let its = seat_of f (was ∙ is) in
-            let n = subst (NodeAgrees state f.number (looks r.history f.number) (word_at st.words (word_of v.start f.number)) (get_elem? st.homes (place_of v.start f.number))) its.2 (r.each_node f.number its.0) in
+            let n = subst (NodeAgrees state f.number (looks r.history f.number)
+            (word_at st.words (word_of v.start f.number)) (get_elem? st.homes (place_of v.start f.number))) its.2
+            (r.each_node f.number its.0) in
             let h = ap (λ (g : ℕ → ℕ). g f.number) p.holds in (
               omega arith,
               p.old_home f is ∙ n.1,
               its.1,
-              ap (λ (g : ℕ → Option File). g f.number) p.removed ∙ (ap (λ (o : Option File). with_removed state.removed o f.number) is ∙ change_here state.removed f.number (Some f) f.number refl),
+              ap (λ (g : ℕ → Option File). g f.number) p.removed
+                  ∙ (ap (λ (o : Option File). with_removed state.removed o f.number) is
+                  ∙ change_here state.removed f.number (Some f) f.number refl),
             )
 
         out_here : (f : File) → old ≡ Some f → phase' f.number ≡ leaving id (takes_in found) f.identity
-        out_here f is = ap (λ (o : Option File). gone_out id o (takes_in found) phase₁ f.number) is ∙ change_here phase₁ f.number (leaving id (takes_in found) f.identity) f.number refl
+        out_here f is = ap (λ (o : Option File). gone_out id o (takes_in found) phase₁ f.number) is
+            ∙ change_here phase₁ f.number (leaving id (takes_in found) f.identity) f.number refl
 
         else_phase : (n : ℕ) → NotOf n old → phase' n ≡ phase₁ n
         else_phase n other = out_else id old (takes_in found) phase₁ n other
@@ -186,25 +198,37 @@ module _ (st : Shared) (v : View) (r : Agrees v.start st) (id : ℕ) (x : Log) (
             ap (λ (g : ℕ → Option File). g i) p.at ∙ change_else state.at s new i other,
             λ f there its. (
               ap (λ (g : ℕ → ℕ). g f.number) p.looked,
-              else_phase f.number (not_old f.number (seated i f.identity) its (λ g bad. other (cc bad))) ∙ (p.seats f.number i f.identity its ∙ sym its),
+              else_phase f.number (not_old f.number (seated i f.identity) its (λ g bad. other (cc bad)))
+                  ∙ (p.seats f.number i f.identity its ∙ sym its),
             ),
           );
           more = let z = p.all in omega arith;
-          nodes = λ n has. by_old old n (NodeAgrees next_state n (looks h' n) (word_at st.words (word_of v.start n)) (get_elem? homes' (place_of v.start n)) (phase' n))
-              (λ f is same. subst (λ (m : ℕ). NodeAgrees next_state m (looks h' m) (word_at st.words (word_of v.start m)) (get_elem? homes' (place_of v.start m)) (phase' m)) (sym same)
-              (subst (λ (z : ℕ × Phase). NodeAgrees next_state f.number z.0 (word_at st.words (word_of v.start f.number)) (get_elem? homes' (place_of v.start f.number)) z.1) (λ i. (sym p.looked i f.number, sym (out_here f is) i)) (old_node f is)))
-              (λ other. subst (λ (z : ℕ × Phase). NodeAgrees next_state n z.0 (word_at st.words (word_of v.start n)) (get_elem? homes' (place_of v.start n)) z.1) (λ i. (sym p.looked i n, sym (else_phase n other) i)) (p.nodes n has other));
+          nodes = λ n has. by_old old n (NodeAgrees next_state n (looks h' n) (word_at st.words (word_of v.start n))
+              (get_elem? homes' (place_of v.start n)) (phase' n))
+              (λ f is same. subst (λ (m : ℕ). NodeAgrees next_state m (looks h' m)
+              (word_at st.words (word_of v.start m)) (get_elem? homes' (place_of v.start m)) (phase' m)) (sym same)
+              (subst (λ (z : ℕ × Phase). NodeAgrees next_state f.number z.0
+              (word_at st.words (word_of v.start f.number)) (get_elem? homes' (place_of v.start f.number)) z.1)
+              (λ i. (sym p.looked i f.number, sym (out_here f is) i)) (old_node f is)))
+              (λ other. subst (λ (z : ℕ × Phase). NodeAgrees next_state n z.0 (word_at st.words (word_of v.start n))
+              (get_elem? homes' (place_of v.start n)) z.1) (λ i. (sym p.looked i n, sym (else_phase n other) i))
+              (p.nodes n has other));
           owners = λ n has. by_old old n (OwnerAgrees (set st.views id w) n (phase' n))
-              (λ f is same. subst (λ (m : ℕ). OwnerAgrees (set st.views id w) m (phase' m)) (sym same) (subst (OwnerAgrees (set st.views id w) f.number) (sym (out_here f is))
+              (λ f is same. subst (λ (m : ℕ). OwnerAgrees (set st.views id w) m (phase' m)) (sym same)
+              (subst (OwnerAgrees (set st.views id w) f.number) (sym (out_here f is))
               (does_now st.views id v w (Retiring f (takes_in found)) here (ap (λ (o : Option File). retires_now o (takes_in found)) is))))
               (λ other. subst (OwnerAgrees (set st.views id w) n) (sym (else_phase n other)) (p.owners n has other));
-          no_other = λ n absent. ap (λ (g : ℕ → Option File). g n) p.removed ∙ (removed_else state.removed old n (absent_old n absent old refl) ∙ r.no_other n absent);
+          no_other = λ n absent. ap (λ (g : ℕ
+              → Option File). g n) p.removed
+              ∙ (removed_else state.removed old n (absent_old n absent old refl) ∙ r.no_other n absent);
           stays = record {
             owned = λ n some not_mine. else_phase n (not_old n (r.phase n) refl (λ f bad. some (ap owner bad))) ∙ p.stays.owned n some not_mine;
             spared = λ n q is other. else_phase n (not_old n (spare q) is (λ f bad. cc bad)) ∙ p.stays.spared n q is other;
           };
           keeps = λ j u f other there holds. by_old old f.number (file_in (phase' f.number) ≡ file_in (r.phase f.number))
-              (λ g is same. ap (λ (m : ℕ). file_in (phase' m)) same ∙ (ap file_in (out_here g is) ∙ (sym (ap file_in (seat_of g (was ∙ is)).2) ∙ ap (λ (m : ℕ). file_in (r.phase m)) (sym same))))
+              (λ g is same. ap (λ (m : ℕ). file_in (phase' m)) same
+              ∙ (ap file_in (out_here g is)
+              ∙ (sym (ap file_in (seat_of g (was ∙ is)).2) ∙ ap (λ (m : ℕ). file_in (r.phase m)) (sym same))))
               (λ apart. ap file_in (else_phase f.number apart) ∙ p.keeps j u f other there holds);
           unused = λ n is. else_phase n (not_old n unborn is (λ f bad. cc bad)) ∙ p.unused n is;
           log = record {
@@ -218,12 +242,15 @@ module _ (st : Shared) (v : View) (r : Agrees v.start st) (id : ℕ) (x : Log) (
             spares = λ n low high. let z = retires_placing old (takes_in found) in let q = p.spares n (omega arith) high in else_phase n q.1 ∙ q.0;
           };
           work = works old refl;
-          holds = λ n. let a = p.none_held.1 n in let b = retires_holds old (takes_in found) n in let g = ap (λ (g : ℕ → ℕ). g n) p.holds in omega arith;
+          holds = λ n. let a = p.none_held.1 n in let b = retires_holds old (takes_in found) n in
+              let g = ap (λ (g : ℕ → ℕ). g n) p.holds in omega arith;
           look_ups = let z = p.all in omega arith;
-          control = subst (λ (g : ℕ → Option File). ControlCounts g (range_of (opening_of v.start)) (set st.views id w) (word_at st.words control_place)) (sym p.at) p.control;
+          control = subst (λ (g : ℕ → Option File). ControlCounts g (range_of (opening_of v.start))
+              (set st.views id w) (word_at st.words control_place)) (sym p.at) p.control;
         }
           where
-            seat_now : (file : Option File) → new ≡ file → IsSeated v.start (looks r.history) phase₁ s word' file → IsSeated v.start (looks h') phase' s word' file
+            seat_now : (file : Option File) → new ≡ file → IsSeated v.start (looks r.history) phase₁ s word' file
+                → IsSeated v.start (looks h') phase' s word' file
             seat_now None is z = tt
             seat_now (Some f) is z = (z.0, z.1 ∙ sym (ap (λ (g : ℕ → ℕ). g f.number) p.looked), else_phase f.number (p.new_apart f is) ∙ z.2)
 

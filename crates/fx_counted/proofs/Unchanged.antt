@@ -22,35 +22,87 @@ use Rattle.fx_counted.proofs.Ones.{one_if, times}
 
 module _ (k : Start) (h h' : List Event) (phase phase' : ℕ → Phase) (slot : ℕ) where
   abbrev pub SameFile : Type 0
-  SameFile = (f : File) → (state_after_all k h).at slot ≡ Some f → phase f.number ≡ seated slot f.identity → (looks h' f.number ≡ looks h f.number) × (phase' f.number ≡ phase f.number)
+  SameFile = (f : File) → (state_after_all k h).at slot ≡ Some f → phase f.number ≡ seated slot f.identity
+      → (looks h' f.number ≡ looks h f.number) × (phase' f.number ≡ phase f.number)
 
-  seat_same : (word : ℕ) → SameFile → (found : Option File) → (state_after_all k h).at slot ≡ found → IsSeated k (looks h) phase slot word found → IsSeated k (looks h') phase' slot word found
+  seat_same : (word : ℕ) → SameFile → (found : Option File) → (state_after_all k h).at slot ≡ found
+      → IsSeated k (looks h) phase slot word found → IsSeated k (looks h') phase' slot word found
   seat_same word same None is o = tt
   seat_same word same (Some f) is o = let q = same f is o.2 in (o.0, o.1 ∙ sym q.0, q.1 ∙ o.2)
 
   -- a slot whose word and file stay
-  pub slot_same : (word word' : ℕ) → word' ≡ word → (state_after_all k h').at slot ≡ (state_after_all k h).at slot → all_looks h ≤ all_looks h' → SameFile → SlotAgrees k h phase slot word → SlotAgrees k h' phase' slot word'
+  pub slot_same : (word word' : ℕ) → word' ≡ word → (state_after_all k h').at slot ≡ (state_after_all k h).at slot
+      → all_looks h ≤ all_looks h' → SameFile → SlotAgrees k h phase slot word → SlotAgrees k h' phase' slot word'
   slot_same word word' same_word same_file more same so = record {
     names = subst (λ (z : ℕ × Option File). Names z.0 z.1) (λ i. (sym same_word i, sym same_file i)) so.names;
-    seat = subst (λ (z : ℕ × Option File). IsSeated k (looks h') phase' slot z.0 z.1) (λ i. (sym same_word i, sym same_file i)) (seat_same word same ((state_after_all k h).at slot) refl so.seat);
+    seat = subst (λ (z : ℕ × Option File). IsSeated k (looks h') phase' slot z.0 z.1)
+        (λ i. (sym same_word i, sym same_file i)) (seat_same word same ((state_after_all k h).at slot) refl so.seat);
     takes = let t = so.takes in let e = ap Rattle.fx_words.specs.Words.takes_in same_word in omega arith;
   }
 
 -- a number of which nothing has changed
-pub node_same : (st st' : State) (n looks looks' word word' : ℕ) (home home' : Home) → st'.fresh n ≡ st.fresh n → st'.removed n ≡ st.removed n → st'.holds n ≡ st.holds n → looks' ≡ looks → word' ≡ word → home' ≡ home
-    → st'.size ≡ st.size → (ph : Phase) → ((s : ℕ) (f : Closed) → ph ≡ seated s f → st.at s ≡ Some (numbered n f) → st'.at s ≡ st.at s) → NodeAgrees st n looks word home ph → NodeAgrees st' n looks' word' home' ph
-node_same st st' n l l' w w' e e' fresh removed holds looked worded homed sized unborn at o = (worded ∙ o.0, homed ∙ o.1, fresh ∙ o.2, looked ∙ o.3, holds ∙ o.4, removed ∙ o.5)
-node_same st st' n l l' w w' e e' fresh removed holds looked worded homed sized (spare q) at o = (worded ∙ o.0, homed ∙ o.1, fresh ∙ o.2, looked ∙ o.3, holds ∙ o.4, removed ∙ o.5)
-node_same st st' n l l' w w' e e' fresh removed holds looked worded homed sized (placed j) at o = (worded ∙ o.0, homed ∙ o.1, fresh ∙ o.2, looked ∙ o.3, holds ∙ o.4, removed ∙ o.5)
-node_same st st' n l l' w w' e e' fresh removed holds looked worded homed sized (seated s f) at o = ((let a = o.0 in omega arith), homed ∙ o.1, (let a = o.2 in omega arith), at s f refl o.3 ∙ o.3, removed ∙ o.4)
-node_same st st' n l l' w w' e e' fresh removed holds looked worded homed sized (leaving j t f) at o = ((let a = o.0 in omega arith), homed ∙ o.1, o.2 ∙ sym looked, removed ∙ o.3)
-node_same st st' n l l' w w' e e' fresh removed holds looked worded homed sized (retired f) at o = (worded ∙ (o.0 ∙ sym holds), homed ∙ o.1, (let a = o.2 in omega arith), removed ∙ o.3)
-node_same st st' n l l' w w' e e' fresh removed holds looked worded homed sized (emptied j) at o = (worded ∙ o.0, homed ∙ o.1, holds ∙ o.2, removed ∙ o.3)
+pub node_same : (st st' : State) (n looks looks' word word' : ℕ) (home home' : Home) → st'.fresh n ≡ st.fresh n
+    → st'.removed n ≡ st.removed n → st'.holds n ≡ st.holds n → looks' ≡ looks → word' ≡ word → home' ≡ home
+    → st'.size ≡ st.size → (ph : Phase) → ((s : ℕ) (f : Closed) → ph ≡ seated s f → st.at s ≡ Some (numbered n f)
+    → st'.at s ≡ st.at s) → NodeAgrees st n looks word home ph → NodeAgrees st' n looks' word' home' ph
+node_same st st' n l l' w w' e e' fresh removed holds looked worded homed sized unborn at o = (
+  worded ∙ o.0,
+  homed
+      ∙ o.1,
+  fresh ∙ o.2,
+  looked ∙ o.3,
+  holds ∙ o.4,
+  removed ∙ o.5,
+)
+node_same st st' n l l' w w' e e' fresh removed holds looked worded homed sized (spare q) at o = (
+  worded ∙ o.0,
+  homed
+      ∙ o.1,
+  fresh ∙ o.2,
+  looked ∙ o.3,
+  holds ∙ o.4,
+  removed ∙ o.5,
+)
+node_same st st' n l l' w w' e e' fresh removed holds looked worded homed sized (placed j) at o = (
+  worded ∙ o.0,
+  homed
+      ∙ o.1,
+  fresh ∙ o.2,
+  looked ∙ o.3,
+  holds ∙ o.4,
+  removed ∙ o.5,
+)
+node_same st st' n l l' w w' e e' fresh removed holds looked worded homed sized (seated s f) at o = (
+  (let a = o.0 in
+      omega arith),
+  homed ∙ o.1,
+  (let a = o.2 in omega arith),
+  at s f refl o.3 ∙ o.3,
+  removed ∙ o.4,
+)
+node_same st st' n l l' w w' e e' fresh removed holds looked worded homed sized (leaving j t f) at o =
+    ((let a = o.0 in omega arith), homed ∙ o.1, o.2 ∙ sym looked, removed ∙ o.3)
+node_same st st' n l l' w w' e e' fresh removed holds looked worded homed sized (retired f) at o = (
+  worded
+      ∙ (o.0 ∙ sym holds),
+  homed ∙ o.1,
+  (let a = o.2 in omega arith),
+  removed ∙ o.3,
+)
+node_same st st' n l l' w w' e e' fresh removed holds looked worded homed sized (emptied j) at o = (
+  worded
+      ∙ o.0,
+  homed ∙ o.1,
+  holds ∙ o.2,
+  removed ∙ o.3,
+)
 node_same st st' n l l' w w' e e' fresh removed holds looked worded homed sized closed at o = (worded ∙ o.0, homed ∙ o.1, holds ∙ o.2, removed ∙ o.3)
 
 module _ (views : List View) (id : ℕ) (v w : View) (here : get_elem? views id ≡ some v) where
   -- the control word, where no slot of the range and no change does
-  pub control_same : (at at' : ℕ → Option File) (range : ℕ × ℕ) (word word' : ℕ) → full_in at' range.0 range.1 ≡ full_in at range.0 range.1 → word' ≡ word → w.change ≡ v.change → ControlCounts at range views word → ControlCounts at' range (set views id w) word'
+  pub control_same : (at at' : ℕ → Option File) (range : ℕ × ℕ) (word word' : ℕ)
+      → full_in at' range.0 range.1 ≡ full_in at range.0 range.1 → word' ≡ word → w.change ≡ v.change
+      → ControlCounts at range views word → ControlCounts at' range (set views id w) word'
   control_same at at' range word word' full same change ok =
       let a = sum_set changes_of views id v w here in let b = sum_set added_of views id v w here in let c = sum_set removed_of views id v w here in
       let d = ap in_change change in let e = ap added change in let f = ap removed_by change in
@@ -60,7 +112,8 @@ module _ (views : List View) (id : ℕ) (v w : View) (here : get_elem? views id 
       record { upper = omega arith; lower = omega arith }
 
   -- the draw word, where no chain was drawn
-  pub draws_same : (chains : ℕ) (phase phase' : ℕ → Phase) (word word' : ℕ) (x y : Log) → v.logs ≡ x ∷ [] → w.logs ≡ y ∷ [] → y.drawn ≡ x.drawn → y.no_chains_left ≡ x.no_chains_left → word' ≡ word
+  pub draws_same : (chains : ℕ) (phase phase' : ℕ → Phase) (word word' : ℕ) (x y : Log) → v.logs ≡ x ∷ []
+      → w.logs ≡ y ∷ [] → y.drawn ≡ x.drawn → y.no_chains_left ≡ x.no_chains_left → word' ≡ word
       → ((n : ℕ) → phase n ≡ unborn → phase' n ≡ unborn) → DrawsCount chains phase views word → DrawsCount chains phase' (set views id w) word'
   draws_same chains phase phase' word word' x y one one' drawn told same keeps ok =
       let t = sum_set told_of views id v w here in

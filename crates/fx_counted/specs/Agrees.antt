@@ -49,12 +49,18 @@ Home = maybe.Option (maybe.Option (Option Closed))
 -- so `word + looks ≡ born + holds` says that the word is 2^32 less the releases
 module _ (st : State) (number looks word : ℕ) (home : Home) where
   abbrev pub NodeAgrees : Phase → Type 0
-  NodeAgrees unborn = (word ≡ 0) × (home ≡ some (some None)) × (st.fresh number ≡ true) × (looks ≡ 0) × (st.holds number ≡ 0) × (st.removed number ≡ None)
-  NodeAgrees (spare pass) = (word ≡ 0) × (home ≡ some (some None)) × (st.fresh number ≡ true) × (looks ≡ 0) × (st.holds number ≡ 0) × (st.removed number ≡ None)
-  NodeAgrees (placed seat) = (word ≡ born) × (home ≡ some none) × (st.fresh number ≡ true) × (looks ≡ 0) × (st.holds number ≡ 0) × (st.removed number ≡ None)
-  NodeAgrees (seated slot file) = (word + looks ≡ born + st.holds number) × (home ≡ some (some (Some file))) × (slot < st.size) × (st.at slot ≡ Some (numbered number file)) × (st.removed number ≡ None)
-  NodeAgrees (leaving seat takes file) = (word + looks ≡ born + st.holds number) × (home ≡ some (some (Some file))) × (takes ≡ looks) × (st.removed number ≡ Some (numbered number file))
-  NodeAgrees (retired file) = (word ≡ st.holds number) × (home ≡ some (some (Some file))) × (0 < word) × (st.removed number ≡ Some (numbered number file))
+  NodeAgrees unborn = (word ≡ 0) × (home ≡ some (some None)) × (st.fresh number ≡ true) × (looks ≡ 0)
+      × (st.holds number ≡ 0) × (st.removed number ≡ None)
+  NodeAgrees (spare pass) = (word ≡ 0) × (home ≡ some (some None)) × (st.fresh number ≡ true) × (looks ≡ 0)
+      × (st.holds number ≡ 0) × (st.removed number ≡ None)
+  NodeAgrees (placed seat) = (word ≡ born) × (home ≡ some none) × (st.fresh number ≡ true) × (looks ≡ 0)
+      × (st.holds number ≡ 0) × (st.removed number ≡ None)
+  NodeAgrees (seated slot file) = (word + looks ≡ born + st.holds number) × (home ≡ some (some (Some file)))
+      × (slot < st.size) × (st.at slot ≡ Some (numbered number file)) × (st.removed number ≡ None)
+  NodeAgrees (leaving seat takes file) = (word + looks ≡ born + st.holds number) × (home ≡ some (some (Some file)))
+      × (takes ≡ looks) × (st.removed number ≡ Some (numbered number file))
+  NodeAgrees (retired file) = (word ≡ st.holds number) × (home ≡ some (some (Some file))) × (0 < word)
+      × (st.removed number ≡ Some (numbered number file))
   NodeAgrees (emptied seat) = (word ≡ 0) × (home ≡ some none) × (st.holds number ≡ 0) × (st.removed number ≡ None)
   NodeAgrees closed = (word ≡ 0) × (home ≡ some (some None)) × (st.holds number ≡ 0) × (st.removed number ≡ None)
 
@@ -128,7 +134,8 @@ pub record Agrees (k : Start) (s : Shared) : Type 0 where
   pub phase : ℕ → Phase
   pub legal : IsLegal (start_of (opening_of k)) history (state_after_all k history)
   pub each_slot : (slot : ℕ) → slot < slots_of k → SlotAgrees k history phase slot (slice_index s.words (slot_place slot))
-  pub each_node : (n : ℕ) → IsNumber k n → NodeAgrees (state_after_all k history) n (looks history n) (slice_index s.words (node_place (slots_of k) n)) (get_elem? s.homes (home_place (slots_of k) n)) (phase n)
+  pub each_node : (n : ℕ) → IsNumber k n → NodeAgrees (state_after_all k history) n (looks history n)
+      (slice_index s.words (node_place (slots_of k) n)) (get_elem? s.homes (home_place (slots_of k) n)) (phase n)
   pub each_owner : (n : ℕ) → IsNumber k n → OwnerAgrees s.views n (phase n)
   pub no_other : (n : ℕ) → (IsNumber k n → ⊥) → (state_after_all k history).removed n ≡ None
   pub each_view : (seat : ℕ) (v : View) → get_elem? s.views seat ≡ some v → ViewAgrees k history phase seat v

@@ -41,4 +41,13 @@ empty_table = record { slots = []; range = (0, 0); nodes = []; holds = []; numbe
 
 -- the view of a seat that was taken in
 abbrev pub spent : View
-spent = record { start = record { plain = record { marker = record {}; value = empty_table }; chains = 0; passes = 0 }; logs = []; work = Idle; change = Outside }
+spent = record {
+  start = record {
+    plain = record { marker = record {}; value = empty_table };
+    chains = 0;
+    passes = 0;
+  };
+  logs = [];
+  work = Idle;
+  change = Outside;
+}

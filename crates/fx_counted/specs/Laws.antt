@@ -43,7 +43,8 @@ abbrev pub SplitsKeep : Type 0
 SplitsKeep = (k : Start) (id : ℕ) (v : View) → v.work ≡ Idle → v.change ≡ Outside → Splits (Agrees k) id v (without_first v) (first_alone v)
 
 abbrev pub JoinsKeep : Type 0
-JoinsKeep = (k : Start) (id : ℕ) (v : View) → v.start ≡ k → v.work ≡ Idle → v.change ≡ Outside → (other : ℕ) (w : View) → w.work ≡ Idle → w.change ≡ Outside
+JoinsKeep = (k : Start) (id : ℕ) (v : View) → v.start ≡ k → v.work ≡ Idle → v.change ≡ Outside
+    → (other : ℕ) (w : View) → w.work ≡ Idle → w.change ≡ Outside
     → Joins (Agrees k) id v other w (together v w) spent
 
 abbrev pub BirthsKeep : Type 0
@@ -51,24 +52,29 @@ BirthsKeep = (k : Start) (slots id i : ℕ) (m : Sat) (x : Log) → HasPass k m 
     → Allows (Agrees k) slots id m i (λ _. born) (λ _. Births (step slots i born 0 none) m born)
 
 abbrev pub LooksKeep : Type 0
-LooksKeep = (k : Start) (slots id i slot : ℕ) (m : Sat) (x : Log) → HasPass k m x → m.0.work ≡ Idle → 0 < x.looks_left → slot < slots_of k → i ≡ slot_place slot
+LooksKeep = (k : Start) (slots id i slot : ℕ) (m : Sat) (x : Log) → HasPass k m x → m.0.work ≡ Idle → 0 < x.looks_left
+    → slot < slots_of k → i ≡ slot_place slot
     → Allows (Agrees k) slots id m i (λ word. (word + 1) % 2 ^ 64) (Looks (step slots i 1 0 none) m)
 
 abbrev pub InstallsKeep : Type 0
-InstallsKeep = (k : Start) (slots id i slot n new : ℕ) (file : Closed) (m : Sat) (x : Log) → HasPass k m x → m.0.work ≡ Placing n → m.1 ≡ (place_of k n, Some file) ∷ [] → file.entry < 2 ^ 8
+InstallsKeep = (k : Start) (slots id i slot n new : ℕ) (file : Closed) (m : Sat) (x : Log) → HasPass k m x
+    → m.0.work ≡ Placing n → m.1 ≡ (place_of k n, Some file) ∷ [] → file.entry < 2 ^ 8
     → slot < slots_of k → MayChange k slot m.0.change → i ≡ slot_place slot → new ≡ slot_word_of n file.entry
     → Allows (Agrees k) slots id m i (λ _. new) (Installs (step slots i new 0 none) m)
 
 abbrev pub ClearsKeep : Type 0
-ClearsKeep = (k : Start) (slots id i slot : ℕ) (m : Sat) (x : Log) → HasPass k m x → m.0.work ≡ Idle → slot < slots_of k → MayChange k slot m.0.change → i ≡ slot_place slot
+ClearsKeep = (k : Start) (slots id i slot : ℕ) (m : Sat) (x : Log) → HasPass k m x → m.0.work ≡ Idle
+    → slot < slots_of k → MayChange k slot m.0.change → i ≡ slot_place slot
     → Allows (Agrees k) slots id m i (λ _. 0) (Removes Clear (step slots i 0 0 none) m)
 
 abbrev pub TakesKeep : Type 0
-TakesKeep = (k : Start) (slots id i slot : ℕ) (m : Sat) (x : Log) → HasPass k m x → m.0.work ≡ Idle → slot < slots_of k → MayChange k slot m.0.change → i ≡ slot_place slot
+TakesKeep = (k : Start) (slots id i slot : ℕ) (m : Sat) (x : Log) → HasPass k m x → m.0.work ≡ Idle
+    → slot < slots_of k → MayChange k slot m.0.change → i ≡ slot_place slot
     → Allows (Agrees k) slots id m i (λ _. 0) (Removes Take (step slots i 0 0 none) m)
 
 abbrev pub RetiresKeep : Type 0
-RetiresKeep = (k : Start) (slots id i amount takes : ℕ) (f : File) (m : Sat) (x : Log) → HasPass k m x → m.0.work ≡ Retiring f takes → i ≡ word_of k f.number → amount ≡ retire_amount_of takes
+RetiresKeep = (k : Start) (slots id i amount takes : ℕ) (f : File) (m : Sat) (x : Log) → HasPass k m x
+    → m.0.work ≡ Retiring f takes → i ≡ word_of k f.number → amount ≡ retire_amount_of takes
     → Allows (Agrees k) slots id m i (λ word. (word + (2 ^ 64 - amount)) % 2 ^ 64) (Retires (step slots i amount 0 none) m)
 
 abbrev pub ReleasesKeep : Type 0
@@ -77,7 +83,8 @@ ReleasesKeep = (k : Start) (slots id i : ℕ) (f : File) (m : Sat) (x : Log) →
 
 -- a number whose file is closed, or which was placed in vain
 abbrev pub RestsKeep : Type 0
-RestsKeep = (k : Start) (slots id i n : ℕ) (m : Sat) (x : Log) → HasPass k m x → (m.0.work ≡ Emptying n) ⊎ (m.0.work ≡ Placing n) → m.1 ≡ (place_of k n, None) ∷ [] → i ≡ word_of k n
+RestsKeep = (k : Start) (slots id i n : ℕ) (m : Sat) (x : Log) → HasPass k m x
+    → (m.0.work ≡ Emptying n) ⊎ (m.0.work ≡ Placing n) → m.1 ≡ (place_of k n, None) ∷ [] → i ≡ word_of k n
     → Allows (Agrees k) slots id m i (λ _. 0) (λ _. Rests (step slots i 0 0 none) m 0)
 
 abbrev pub BeginsKeep : Type 0
@@ -86,7 +93,8 @@ BeginsKeep = (k : Start) (slots id i : ℕ) (m : Sat) (x : Log) → HasPass k m 
 
 -- what is subtracted is 2^32 less the difference
 abbrev pub EndsKeep : Type 0
-EndsKeep = (k : Start) (slots id i amount : ℕ) (m : Sat) (x : Log) → HasPass k m x → in_change m.0.change ≡ 1 → amount + added m.0.change ≡ one_change + removed_by m.0.change → i ≡ control_place
+EndsKeep = (k : Start) (slots id i amount : ℕ) (m : Sat) (x : Log) → HasPass k m x → in_change m.0.change ≡ 1
+    → amount + added m.0.change ≡ one_change + removed_by m.0.change → i ≡ control_place
     → Allows (Agrees k) slots id m i (λ word. (word + (2 ^ 64 - amount)) % 2 ^ 64) (GoesOn Outside (step slots i amount 0 none) m)
 
 abbrev pub AnswersKeep : Type 0
@@ -94,11 +102,13 @@ AnswersKeep = (k : Start) (slots id i : ℕ) (m : Sat) (x : Log) → HasPass k m
     → Allows (Agrees k) slots id m i (λ word. (word + (2 ^ 64 - one_change)) % 2 ^ 64) (Answers (step slots i one_change 0 none) m)
 
 abbrev pub LoadsKeep : Type 0
-LoadsKeep = (k : Start) (slots id i : ℕ) (m : Sat) (x : Log) → HasPass k m x → m.0.change ≡ Same → Allows (Agrees k) slots id m i (λ word. word) (GoesOn Same (step slots i 0 0 none) m)
+LoadsKeep = (k : Start) (slots id i : ℕ) (m : Sat) (x : Log) → HasPass k m x → m.0.change ≡ Same
+    → Allows (Agrees k) slots id m i (λ word. word) (GoesOn Same (step slots i 0 0 none) m)
 
 -- at a slot of the range, from a word that names no file
 abbrev pub ExchangesKeep : Type 0
-ExchangesKeep = (k : Start) (slots id i slot n old new : ℕ) (file : Closed) (m : Sat) (x : Log) → HasPass k m x → m.0.work ≡ Placing n → m.1 ≡ (place_of k n, Some file) ∷ [] → file.entry < 2 ^ 8
+ExchangesKeep = (k : Start) (slots id i slot n old new : ℕ) (file : Closed) (m : Sat) (x : Log) → HasPass k m x
+    → m.0.work ≡ Placing n → m.1 ≡ (place_of k n, Some file) ∷ [] → file.entry < 2 ^ 8
     → m.0.change ≡ Same → (range_of (opening_of k)).0 ≤ slot → slot < (range_of (opening_of k)).0 + (range_of (opening_of k)).1 → i ≡ slot_place slot
     → name_in old ≡ 0 → new ≡ slot_word_of n file.entry
     → Allows (Agrees k) slots id m i (λ word. either (word == old) new word) (Exchanges (step slots i old new none) m)

@@ -47,8 +47,10 @@ pub record PlacesAreInside (size chains : ℕ) : Type 0 where
 -- different words have different places, and so have the files of different numbers
 pub record PlacesAreApart (size chains : ℕ) : Type 0 where
   pub slots : (slot other : ℕ) → slot_place slot ≡ slot_place other → slot ≡ other
-  pub nodes : (number other : ℕ) → HasNode size chains number → HasNode size chains other → number ≢ other → node_place size number ≢ node_place size other
-  pub homes : (number other : ℕ) → HasNode size chains number → HasNode size chains other → number ≢ other → home_place size number ≢ home_place size other
+  pub nodes : (number other : ℕ) → HasNode size chains number → HasNode size chains other → number ≢ other
+      → node_place size number ≢ node_place size other
+  pub homes : (number other : ℕ) → HasNode size chains number → HasNode size chains other → number ≢ other
+      → home_place size number ≢ home_place size other
   pub node_and_slot : (number slot : ℕ) → slot < size → HasNode size chains number → node_place size number ≢ slot_place slot
   pub node_and_control : (number : ℕ) → HasNode size chains number → node_place size number ≢ control_place
   pub node_and_draw : (number : ℕ) → HasNode size chains number → node_place size number ≢ draw_place

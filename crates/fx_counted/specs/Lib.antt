@@ -8,3 +8,4 @@ pub mod Agrees
 pub mod Cuts
 pub mod Tells
 pub mod Laws
+pub mod Opens

@@ -84,7 +84,8 @@ pub record Installs (st : At) (m : Sat) (found : ℕ) (m' : Sat) : Type 0 where
   pub replaced : Option File
   pub names : Names found replaced
   pub stepped : (n : ℕ) (file : Closed) → m.0.work ≡ Placing n → m.1 ≡ (home_place (slots_of m.0.start) n, Some file) ∷ []
-      → Stepped m ([] ▷ Put (slot_of st.word) (numbered n file) replaced) one_number (retires_now replaced (takes_in found)) (turned m.0.change (if_full replaced) 1) m'
+      → Stepped m ([] ▷ Put (slot_of st.word) (numbered n file) replaced) one_number
+      (retires_now replaced (takes_in found)) (turned m.0.change (if_full replaced) 1) m'
   pub carried : m'.1 ≡ rest m.1
 
 -- Swap, to an empty slot's word: the word that was found names the file that was removed, by a clear or by a take
@@ -106,7 +107,8 @@ pub record LetsGo (m : Sat) (actions : List Action) (m' : Sat) : Type 0 where
 
 -- Retire: where the word was what was subtracted, nobody holds the file
 pub record Retires (st : At) (m : Sat) (found : ℕ) (m' : Sat) : Type 0 where
-  pub waits : (f : File) (takes : ℕ) → m.0.work ≡ Retiring f takes → found ≢ st.first → LetsGo m [] m' × (0 < (state_after_all m.0.start (pass_of m'.0).front).holds f.number)
+  pub waits : (f : File) (takes : ℕ) → m.0.work ≡ Retiring f takes → found ≢ st.first
+      → LetsGo m [] m' × (0 < (state_after_all m.0.start (pass_of m'.0).front).holds f.number)
   pub closes : (f : File) (takes : ℕ) → m.0.work ≡ Retiring f takes → found ≡ st.first → TakesOut m [] f m'
 
 -- Release: where the word was 1, it was the last hold of a retired file

@@ -2,7 +2,13 @@
 //! other passes are. A swap is three laws, since what it does is an installation, a clear or a take.
 ghost use Rattle.std.specs.Prelude.{ℕ, ◌≤◌};
 ghost use Rattle.fx_counted.specs.Layout.{PlacesAreInside, PlacesAreApart};
+ghost use Rattle.fx_counted.specs.Opens.{OpeningKeeps};
 ghost use Rattle.fx_counted.specs.Laws.{SplitsKeep, JoinsKeep, BirthsKeep, LooksKeep, InstallsKeep, ClearsKeep, TakesKeep, RetiresKeep, ReleasesKeep, RestsKeep, BeginsKeep, EndsKeep, AnswersKeep, LoadsKeep, ExchangesKeep, DrawsKeep};
+
+/// A table that begins with the words and places of its opening keeps the rule, with one seat that has all passes.
+pub fn opening_keeps_rule()
+    ensures { OpeningKeeps }
+{}
 
 /// A pass that is split off an idle seat keeps the rule.
 pub fn split_keeps_rule()

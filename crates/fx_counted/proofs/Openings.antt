@@ -1,0 +1,236 @@
+-- A table that is opened keeps the rule.
+use Rattle.std.proofs.Common.{◌≡◌, ◌≢◌, ℕ, zero, suc, ◌+◌, ◌-◌, ◌*◌, ◌/◌, ◌%◌, ◌<◌, ◌≤◌, Bool, true, false, not, ◌&&◌, nat_lt, cond, List, [], ◌∷◌, map, length, sym, refl, ap, ◌∙◌, subst, arith, eqb, lt-ltb, le-ltb, ◌⊎◌, inl, inr, ⊎_elim, Option, Some, None, slice_index}
+use Rattle.std.specs.Prelude.{sum_by, count_by}
+use Rattle.std.proofs.lemmas.List.{length-map}
+use Rattle.std.proofs.lemmas.List.Sums.{sum_by-cons}
+use mathlib.Core.Logic.{dite}
+use mathlib.Core.Option.{some, none, some-injective, some-ne-none}
+use native.Mathlib.Decide.{ℕ_discrete, dec_le}
+use lib.ListN.{get_elem?}
+use Rattle.atomic_table.specs.Table.{opening}
+use Rattle.atomic_table.proofs.Lists.{at_map}
+use Rattle.fx_base.specs.declared.open_file.Closed.{Closed}
+use Rattle.fx_plain.specs.State.{State}
+use Rattle.fx_plain.specs.Table.{numbered}
+use Rattle.fx_plain.specs.declared.event.File.{File}
+use Rattle.fx_table.specs.declared.limits.TheConstants.{PASS_LOOKS}
+use Rattle.fx_table.specs.Numbers.{numbers_for}
+use Rattle.fx_table.specs.Opening.{size_of, range_of}
+use Rattle.fx_words.specs.Words.{born, slot_word_of, takes_in}
+use Rattle.fx_words.proofs.Parts.{name_made, entry_made, takes_made}
+use Rattle.fx_counted.specs.Agrees.{Names, IsSeated, SlotAgrees, NodeAgrees, OwnerAgrees, LogAgrees, ViewAgrees, Agrees}
+use Rattle.fx_counted.specs.Control.{full_in}
+use Rattle.fx_counted.specs.Cuts.{new_logs, first_view}
+use Rattle.fx_counted.specs.Laws.{word_of, place_of}
+use Rattle.fx_counted.specs.Layout.{slot_place, home_place}
+use Rattle.fx_counted.specs.Opens.{word_for, node_for, home_for, first_file, OpensWith, OpeningKeeps}
+use Rattle.fx_counted.specs.Passes.{opening_of, slots_of, IsNumber, state_after_all, new_log, once, logs_of}
+use Rattle.fx_counted.specs.Phases.{Phase, unborn, seated, closed}
+use Rattle.fx_counted.specs.declared.view.Log.{Log}
+use Rattle.fx_counted.specs.declared.view.Start.{Start}
+use Rattle.fx_counted.specs.declared.view.View.{View}
+use Rattle.fx_counted.specs.declared.view.Work.TheVariants.{Idle}
+use Rattle.fx_counted.proofs.FullSlots.{full_few}
+use Rattle.fx_counted.proofs.Ones.{one_if}
+
+at_new : (p n i : ℕ) (x : Log) → get_elem? (new_logs p n) i ≡ some x → (q : ℕ) × (x ≡ new_log q)
+at_new p zero i x e = absurd (some-ne-none x (sym e))
+at_new p (suc n) zero x e = (p, sym (some-injective (new_log p) x e))
+at_new p (suc n) (suc i) x e = at_new (suc p) n i x e
+
+looks_new : (p n : ℕ) → sum_by (λ (y : Log). y.looks_left) (new_logs p n) ≡ 1048576 * n
+looks_new p zero = refl
+looks_new p (suc n) = let a = looks_new (suc p) n in let b = sum_by-cons (λ (y : Log). y.looks_left) (new_log p) (new_logs (suc p) n) in omega arith
+
+length_new : (p n : ℕ) → length (new_logs p n) ≡ n
+length_new p zero = refl
+length_new p (suc n) = let a = length_new (suc p) n in omega arith
+
+none_drawn : (c p n : ℕ) → sum_by (λ (y : Log). count_by (λ d. eqb d c) y.drawn) (new_logs p n) ≡ 0
+none_drawn c p zero = refl
+none_drawn c p (suc n) = let a = none_drawn c (suc p) n in
+    let b = sum_by-cons (λ (y : Log). count_by (λ d. eqb d c) y.drawn) (new_log p) (new_logs (suc p) n) in omega arith
+
+none_told : (p n : ℕ) → sum_by (λ (y : Log). one_if y.no_chains_left) (new_logs p n) ≡ 0
+none_told p zero = refl
+none_told p (suc n) = let a = none_told (suc p) n in
+    let b = sum_by-cons (λ (y : Log). one_if y.no_chains_left) (new_log p) (new_logs (suc p) n) in omega arith
+
+abbrev counted : ℕ → ℕ → ℕ → ℕ
+counted q p n = sum_by (λ (y : Log). one_if (eqb y.number q)) (new_logs p n)
+
+one_here : (q p : ℕ) → p ≡ q → one_if (eqb p q) ≡ 1
+one_here q p e = rw (Rattle.std.proofs.Common.eq-eqb p q e) refl
+
+one_else : (q p : ℕ) → p ≢ q → one_if (eqb p q) ≡ 0
+one_else q p e = rw (Rattle.std.proofs.Common.ne_eqb p q e) refl
+
+new_out : (q p n : ℕ) → (q < p) ⊎ (p + n ≤ q) → counted q p n ≡ 0
+new_out q p zero out = refl
+new_out q p (suc n) out =
+    let b = sum_by-cons (λ (y : Log). one_if (eqb y.number q)) (new_log p) (new_logs (suc p) n) in
+    let c = one_else q p (λ e. ⊎_elim (λ (l : q < p). absurd (omega arith)) (λ (g : p + suc n ≤ q). absurd (omega arith)) out) in
+    let a = new_out q (suc p) n (⊎_elim (λ (l : q < p). inl (omega arith)) (λ (g : p + suc n ≤ q). inr (omega arith)) out) in
+    omega arith
+
+new_in : (q p n : ℕ) → p ≤ q → q < p + n → counted q p n ≡ 1
+new_in q p zero low high = absurd (omega arith)
+new_in q p (suc n) low high =
+    let b = sum_by-cons (λ (y : Log). one_if (eqb y.number q)) (new_log p) (new_logs (suc p) n) in
+    dite (ℕ_discrete p q)
+    (λ e. let c = one_here q p e in let a = new_out q (suc p) n (inl (omega (arith, e))) in omega arith)
+    (λ ne. let c = one_else q p ne in let a = new_in q (suc p) n (omega (arith, ne)) (omega arith) in omega arith)
+
+once_is : (n q : ℕ) → counted q 1 n ≡ once n q
+once_is n zero = new_out 0 1 n (inl (omega arith))
+once_is n (suc q) = dite (dec_le (suc q) n)
+    (λ l. new_in (suc q) 1 n (omega arith) (omega (arith, l)) ∙ sym (ap one_if (lt-ltb q n (omega (arith, l)))))
+    (λ g. new_out (suc q) 1 n (inr (omega (arith, g))) ∙ sym (ap one_if (le-ltb q n (omega (arith, g)))))
+
+-- the phase of a slot's number
+abbrev phase_for : ℕ → Option File → Phase
+phase_for n None = closed
+phase_for n (Some f) = seated n f.identity
+
+abbrev first_phase : Start → ℕ → Phase
+first_phase k n = cond (nat_lt n (slots_of k)) (phase_for n (first_file k n)) unborn
+
+module _ (k : Start) (words : List ℕ) (homes : List (Option Closed)) (o : OpensWith k words homes) where
+  abbrev s : State
+  s = state_after_all k []
+
+  low_phase : (n : ℕ) → n < slots_of k → first_phase k n ≡ phase_for n (first_file k n)
+  low_phase n l = ap (λ (b : Bool). cond b (phase_for n (first_file k n)) unborn) (lt-ltb n (slots_of k) l)
+
+  high_phase : (n : ℕ) → slots_of k ≤ n → first_phase k n ≡ unborn
+  high_phase n g = ap (λ (b : Bool). cond b (phase_for n (first_file k n)) unborn) (le-ltb n (slots_of k) g)
+
+  -- the file at a slot has the slot's number
+  its_number : (slot : ℕ) (f : File) → first_file k slot ≡ Some f → f.number ≡ slot
+  its_number slot f is = go ((Rattle.fx_plain.specs.Contents.state_of (opening_of k).contents).at slot) is
+    where
+      go : (found : Option File) → Rattle.fx_plain.specs.State.file_numbered found slot ≡ Some f → f.number ≡ slot
+      go None e = absurd (cc e)
+      go (Some g) e = let z : record g { number = slot } ≡ f = cc e in sym (ap (λ (h : File). h.number) z)
+
+  its_phase : (slot : ℕ) → slot < slots_of k → (f : File) → first_file k slot ≡ Some f → first_phase k f.number ≡ seated slot f.identity
+  its_phase slot l f is = ap (first_phase k) (its_number slot f is) ∙ (low_phase slot l ∙ ap (phase_for slot) is)
+
+  slot_opens : (slot : ℕ) → slot < slots_of k → SlotAgrees k [] (first_phase k) slot (slice_index words (slot_place slot))
+  slot_opens slot l = record {
+    names = subst (λ (w : ℕ). Names w (first_file k slot)) (sym (o.slot_words slot l)) (names (first_file k slot) refl);
+    seat = subst (λ (w : ℕ). IsSeated k (λ _. 0) (first_phase k) slot w (first_file k slot))
+        (sym (o.slot_words slot l)) (seat (first_file k slot) refl);
+    takes = let a = o.slot_words slot l in let b = none (first_file k slot) in let c = ap takes_in a in omega arith;
+  }
+    where
+      names : (found : Option File) → first_file k slot ≡ found → Names (word_for found) found
+      names None is = refl
+      names (Some f) is = let small = o.entries slot f is in (name_made f.number f.identity.entry small, entry_made f.number f.identity.entry small)
+
+      none : (found : Option File) → takes_in (word_for found) ≡ 0
+      none None = refl
+      none (Some f) = takes_made f.number f.identity.entry
+
+      seat : (found : Option File) → first_file k slot ≡ found → IsSeated k (λ _. 0) (first_phase k) slot (word_for found) found
+      seat None is = tt
+      seat (Some f) is = (inl (let e = its_number slot f is in omega arith), takes_made f.number f.identity.entry, its_phase slot l f is)
+
+  home_is : (n : ℕ) (x : Option Closed) → get_elem? homes (place_of k n) ≡ some x → get_elem? (map some homes) (place_of k n) ≡ some (some x)
+  home_is n x e = at_map some homes (place_of k n) x e
+
+  abbrev Node : ℕ → Phase → Type 0
+  Node n ph = NodeAgrees s n 0 (slice_index words (word_of k n)) (get_elem? (map some homes) (place_of k n)) ph
+
+  node_opens : (n : ℕ) → IsNumber k n → Node n (first_phase k n)
+  node_opens n has = ⊎_elim
+      (λ (l : n < slots_of k). subst (Node n) (sym (low_phase n l)) (low n l (first_file k n) refl))
+      (λ (h : (256 ≤ n) × (n < numbers_for k.chains)). let few = o.slots in subst (Node n) (sym (high_phase n (omega arith))) (
+        o.fresh_words n h.0 h.1,
+        home_is n None (o.fresh_places n h.0 h.1),
+        (λ i. not (le-ltb n (slots_of k) (let f = o.slots in let a = h.0 in
+            omega arith) i) && lt-ltb n (numbers_for k.chains) h.1 i),
+        refl,
+        refl,
+        refl,
+      ))
+      has
+    where
+      low : (n : ℕ) → n < slots_of k → (found : Option File) → first_file k n ≡ found → Node n (phase_for n found)
+      low n l None is = (o.node_words n l ∙ ap node_for is, home_is n None (o.files n l ∙ ap (λ (f : Option File). some (home_for f)) is), refl, refl)
+      low n l (Some f) is = let w : slice_index words (word_of k n) ≡ born = o.node_words n l ∙ ap node_for is in (
+        omega arith,
+        home_is n (Some f.identity) (o.files n l ∙ ap (λ (f : Option File). some (home_for f)) is),
+        l,
+        is ∙ ap (λ (m : ℕ). Some (numbered m f.identity)) (its_number n f is),
+        refl,
+      )
+
+  owner_opens : (n : ℕ) → OwnerAgrees (first_view k ∷ []) n (first_phase k n)
+  owner_opens n = dite (dec_le (suc n) (slots_of k))
+      (λ l. subst (OwnerAgrees (first_view k ∷ []) n) (sym (low_phase n l)) (low (first_file k n)))
+      (λ g. subst (OwnerAgrees (first_view k ∷ []) n) (sym (high_phase n (omega (arith, g)))) tt)
+    where
+      low : (found : Option File) → OwnerAgrees (first_view k ∷ []) n (phase_for n found)
+      low None = tt
+      low (Some f) = tt
+
+  view_opens : (j : ℕ) (v : View) → get_elem? (first_view k ∷ []) j ≡ some v → ViewAgrees k [] (first_phase k) j v
+  view_opens zero v e = subst (ViewAgrees k [] (first_phase k) 0) (some-injective (first_view k) v e) record {
+    logs = λ i x at. let new = at_new 1 k.passes i x at in subst (LogAgrees k [] (first_phase k) 0 Idle) (sym new.1) record {
+      seen = ([], refl);
+      own = refl;
+      held = refl;
+      chain = omega arith;
+      few_left = omega arith;
+      left_inside = omega arith;
+      next = tt;
+      spares = λ n low high. absurd (omega arith);
+    };
+    work = tt;
+    empty = λ _. (refl, refl);
+    start = inr refl;
+  }
+  view_opens (suc j) v e = absurd (some-ne-none v (sym e))
+
+  once_none : (c : ℕ) → once 0 c ≡ 0
+  once_none zero = refl
+  once_none (suc c) = ap one_if (le-ltb c 0 (omega arith))
+
+  opens : Agrees k (opening words homes (first_view k))
+  opens = record {
+    shape = record {
+      slots = o.slots;
+      range = o.range;
+      chains = o.chains;
+      passes = o.passes;
+      words = o.words_length;
+      homes = length-map homes some ∙ o.homes_length;
+    };
+    history = [];
+    phase = first_phase k;
+    legal = record { leads = (tt, refl); releases = tt };
+    each_slot = slot_opens;
+    each_node = node_opens;
+    each_owner = λ n has. owner_opens n;
+    no_other = λ n absent. refl;
+    each_view = view_opens;
+    holds = λ n. refl;
+    look_ups = let a = looks_new 1 k.passes in omega arith;
+    passes = λ p. let a = once_is k.passes p in omega arith;
+    whole = let a = length_new 1 k.passes in omega arith;
+    authors = λ p none. refl;
+    control = let a = o.control in let b = full_few (first_file k) (range_of (opening_of k)).0
+        (range_of (opening_of k)).1 in let c = o.range in let d = o.slots in record { upper = omega arith; lower = omega arith };
+    draws = record {
+      given = 0;
+      few = omega arith;
+      each = λ c. let a = none_drawn c 1 k.passes in let b = once_none c in omega arith;
+      counts = let a = none_told 1 k.passes in let b = o.draw in omega arith;
+      all = λ some_told. let a = none_told 1 k.passes in absurd (omega arith);
+      unused = λ n low high. high_phase n (let a = o.slots in omega arith);
+    };
+  }
+
+pub opening_keeps : OpeningKeeps
+opening_keeps k words homes o = opens k words homes o
