@@ -175,9 +175,12 @@ impl Catalogue {
     /// The first fault that applies, in the order of [`AddFault`]. The catalogue is then as before, and the name and
     /// the bytes are given up.
     pub fn add(&mut self, name: String, bytes: Vec<u8>) -> Result<(), AddFault>
-        ensures fault { IfSome (add_fault_of self.old (string_bytes name) bytes.items) (λ fault. result ≡ Err fault) }
-        ensures only_fault { IfNone (add_fault_of self.old (string_bytes name) bytes.items) (IsOkUnless result AddFault.NoMemory) }
-        ensures ok { OnOk result (self.new ≡ self.old ++ record { name = string_bytes name; bytes = bytes.items } ∷ []) }
+        ensures fault { IfSome (add_fault_of self.old (string_bytes name) bytes.items)
+            (λ fault. result ≡ Err fault) }
+        ensures only_fault { IfNone (add_fault_of self.old (string_bytes name) bytes.items)
+            (IsOkUnless result AddFault.NoMemory) }
+        ensures ok { OnOk result
+            (self.new ≡ self.old ++ record { name = string_bytes name; bytes = bytes.items } ∷ []) }
         ensures err { OnErr result (self.new ≡ self.old) }
     {
         if self.entries.len() >= MOST_ENTRIES {

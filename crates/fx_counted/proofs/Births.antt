@@ -9,7 +9,7 @@ use Rattle.atomic_table.proofs.Lists.{set_here, set_else}
 use Rattle.fx_base.specs.declared.open_file.Closed.{Closed}
 use Rattle.fx_plain.specs.declared.event.File.{File}
 use Rattle.fx_plain.specs.Step.{changed_at}
-use Rattle.fx_table.specs.Calls.{nothing}
+use Rattle.fx_table.specs.Calls.{no_use}
 use Rattle.fx_table.specs.Pass.{next_number}
 use Rattle.fx_words.specs.Words.{born}
 use Rattle.fx_counted.specs.Agrees.{Home, NodeAgrees, OwnerAgrees, WorkAgrees, PlacesNext, Agrees}
@@ -89,9 +89,9 @@ module _ (st : Shared) (v : View) (r : Agrees v.start st) (id : ℕ) (x : Log) (
       holds = λ n. let e : held_of n v ≡ 0 = ap (holding n) idle in omega arith;
     }
 
-    birth_tells : (carried homes : List (ℕ × Option Closed)) → Stepped (v, carried) [] nothing (Placing (next_number (pass_of v))) v.change (now v (logged x r.history x.numbers_left x.looks_left) (Placing b) v.change, homes)
-    birth_tells carried homes = subst (λ (n : ℕ). Stepped (v, carried) [] nothing (Placing n) v.change (now v (logged x r.history x.numbers_left x.looks_left) (Placing b) v.change, homes)) (λ i. next_in (first_log (sym one i)))
-        (tells st v r id x here one carried homes r.history x.numbers_left x.looks_left (Placing b) v.change [] nothing (grows_none x.number r.history) r.legal refl (omega arith) (omega arith) its_b)
+    birth_tells : (carried homes : List (ℕ × Option Closed)) → Stepped (v, carried) [] no_use (Placing (next_number (pass_of v))) v.change (now v (logged x r.history x.numbers_left x.looks_left) (Placing b) v.change, homes)
+    birth_tells carried homes = subst (λ (n : ℕ). Stepped (v, carried) [] no_use (Placing n) v.change (now v (logged x r.history x.numbers_left x.looks_left) (Placing b) v.change, homes)) (λ i. next_in (first_log (sym one i)))
+        (tells st v r id x here one carried homes r.history x.numbers_left x.looks_left (Placing b) v.change [] no_use (grows_none x.number r.history) r.legal refl (omega arith) (omega arith) its_b)
 
   -- a rest, of a number whose file is closed, or which was placed in vain
   module _ (q : ℕ) (its : IsNumber v.start q) (ph ph' : Phase) (is : r.phase q ≡ ph) (owned : owner ph ≡ id + 1) (no_file : file_in ph ≡ None) (not_new : ph ≢ unborn) (not_spare : (p : ℕ) → ph ≢ spare p)
@@ -164,7 +164,7 @@ rests_at slots id q m x one works carries st r deep here fits = (
       (λ (e : m.0.work ≡ Placing q). let s = rest_placed st m.0 r id x here one q e in node_agrees st m.0 r id x here one q s.0 0 (set st.homes (place_of m.0.start q) (some None)) r.history (spare x.number) Idle s.1)
       works),
   record {
-    stepped = tells st m.0 r id x here one m.1 (rest m.1) r.history x.numbers_left x.looks_left Idle m.0.change [] nothing (grows_none x.number r.history) r.legal refl (omega arith) (omega arith) tt;
+    stepped = tells st m.0 r id x here one m.1 (rest m.1) r.history x.numbers_left x.looks_left Idle m.0.change [] no_use (grows_none x.number r.history) r.legal refl (omega arith) (omega arith) tt;
     carried = refl;
   },
 )

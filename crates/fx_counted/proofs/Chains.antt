@@ -1,4 +1,5 @@
 -- A draw keeps the rule.
+use Rattle.std.specs.Prelude.{sum_by}
 use Rattle.std.proofs.Common.{◌≡◌, ◌≢◌, ℕ, zero, suc, ◌+◌, ◌%◌, ◌^◌, ◌<◌, ◌≤◌, Bool, true, false, cond, List, [], ◌∷◌, set, length, sym, refl, ap, ◌∙◌, subst, arith, eqb, eq-eqb, ne_eqb, lt-ltb, le-ltb, length-set, get_or-set_other, get_or-set_same, Option, Some, None, ◌⊎◌, inl, inr, ⊎_elim}
 use mathlib.Core.Logic.{dite}
 use mathlib.Core.Option.{some, none}
@@ -6,12 +7,11 @@ use native.Mathlib.Decide.{ℕ_discrete, dec_le}
 use lib.ListN.{get_elem?}
 use Rattle.atomic_table.specs.Table.{keeps, Allows, Act, Valid, stepped, carried_after, step}
 use Rattle.fx_base.specs.declared.open_file.Closed.{Closed}
-use Rattle.fx_plain.specs.Totals.{total}
 use Rattle.fx_table.specs.Calls.{Draws}
-use Rattle.fx_table.specs.Lists.{bit, times}
-use Rattle.fx_table.specs.Opening.{numbers_for}
+use Rattle.fx_table.specs.Numbers.{numbers_for}
 use Rattle.fx_table.specs.Pass.{PassView}
-use Rattle.fx_table.proofs.Totals.{total_set, total_at, total_le}
+use Rattle.std.proofs.lemmas.List.Sums.{sum_by-cons}
+use Rattle.fx_table.proofs.SumLemmas.{sum_set, sum_at, sum_le_at}
 use Rattle.fx_counted.specs.Agrees.{NodeAgrees, OwnerAgrees, LogAgrees, lengths, Agrees}
 use Rattle.fx_counted.specs.Draws.{DrawsCount}
 use Rattle.fx_counted.specs.Laws.{word_of, place_of, DrawsKeep}
@@ -28,6 +28,7 @@ use Rattle.fx_counted.proofs.Histories.{grows_none}
 use Rattle.fx_counted.proofs.Keeping.{word_at, now, its_log, Step, step_kept}
 use Rattle.fx_counted.proofs.NodeSteps.{near, far}
 use Rattle.fx_counted.proofs.Unchanged.{slot_same, control_same}
+use Rattle.fx_counted.proofs.Ones.{one_if, times}
 
 abbrev pick : {P : Type 0} → Dec P → Phase → Phase → Phase
 pick (yes _) a b = a
@@ -57,34 +58,34 @@ given_else lo hi p phase n out = go (dec_le lo n) (dec_le (n + 1) hi)
 
 once_in : (n p : ℕ) → 0 < p → p ≤ n → once n p ≡ 1
 once_in n zero a b = absurd (omega arith)
-once_in n (suc p) a b = ap bit (lt-ltb p n (omega arith))
+once_in n (suc p) a b = ap one_if (lt-ltb p n (omega arith))
 
 once_out : (n p : ℕ) → n < p → once n p ≡ 0
 once_out n zero b = refl
-once_out n (suc p) b = ap bit (le-ltb p n (omega arith))
+once_out n (suc p) b = ap one_if (le-ltb p n (omega arith))
 
 once_some : (n p : ℕ) → 0 < once n p → p ≤ n
 once_some n zero a = omega arith
 once_some n (suc p) a = dite (dec_le (suc p) n) (λ l. l) (λ g. let z = once_out n (suc p) (omega (arith, g)) in absurd (omega arith))
 
-bit_here : (p q : ℕ) → q ≡ p → bit (eqb q p) ≡ 1
+bit_here : (p q : ℕ) → q ≡ p → one_if (eqb q p) ≡ 1
 bit_here p q e = rw (eq-eqb q p e) refl
 
-bit_else : (p q : ℕ) → q ≢ p → bit (eqb q p) ≡ 0
+bit_else : (p q : ℕ) → q ≢ p → one_if (eqb q p) ≡ 0
 bit_else p q e = rw (ne_eqb q p e) refl
 
-told_few : (l : List Log) → total (λ y. bit y.told) l ≤ length l
+told_few : (l : List Log) → sum_by (λ y. one_if y.no_chains_left) l ≤ length l
 told_few [] = omega arith
-told_few (y ∷ l) = let a = told_few l in let b = one_bit y.told in omega arith
+told_few (y ∷ l) = let a = told_few l in let c = sum_by-cons (λ y. one_if y.no_chains_left) y l in let b = one_bit y.no_chains_left in omega arith
   where
-    one_bit : (b : Bool) → bit b ≤ 1
+    one_bit : (b : Bool) → one_if b ≤ 1
     one_bit true = omega arith
     one_bit false = omega arith
 
 -- the chain that was drawn last is among those that were drawn
 chain_drawn : (l : List ℕ) → 0 < first_or 0 l → 1 ≤ times (first_or 0 l) l
 chain_drawn [] a = absurd (omega arith)
-chain_drawn (c ∷ l) a = let b = bit_here c c refl in omega arith
+chain_drawn (c ∷ l) a = let b = bit_here c c refl in let e = sum_by-cons (λ d. one_if (eqb d c)) c l in omega arith
 
 module _ (st : Shared) (v : View) (r : Agrees v.start st) (id : ℕ) (x : Log) (here : get_elem? st.views id ≡ some v) (one : v.logs ≡ x ∷ []) where
   abbrev found : ℕ
@@ -99,13 +100,13 @@ module _ (st : Shared) (v : View) (r : Agrees v.start st) (id : ℕ) (x : Log) (
   -- the pass's last chain was given
   pub chain_few : chain_in x ≤ d.given
   chain_few = dite (ℕ_discrete (chain_in x) 0) (λ none. omega arith)
-      (λ some_chain. let a = chain_drawn x.drawn (omega (arith, some_chain)) in let b = total_at (drawn_of (chain_in x)) st.views id v here in
-      let c : drawn_of (chain_in x) v ≡ times (chain_in x) x.drawn + 0 = ap (λ (l : List Log). total (λ z. times (chain_in x) z.drawn) l) one in
+      (λ some_chain. let a = chain_drawn x.drawn (omega (arith, some_chain)) in let b = sum_at (drawn_of (chain_in x)) st.views id v here in
+      let c : drawn_of (chain_in x) v ≡ 0 + times (chain_in x) x.drawn = ap (λ (l : List Log). sum_by (λ z. times (chain_in x) z.drawn) l) one in
       let e = d.each (chain_in x) in once_some d.given (chain_in x) (omega arith))
 
   -- few passes are told that there are no more chains
-  few_told : total told_of st.views ≤ 16
-  few_told = let a = total_le told_of lengths st.views (λ j u e. told_few u.logs) in let b = r.whole in let c = r.shape.passes in omega arith
+  few_told : sum_by told_of st.views ≤ 16
+  few_told = let a = sum_le_at told_of lengths st.views (λ j u e. told_few u.logs) in let b = r.whole in let c = r.shape.passes in omega arith
 
   word_is : (found + 1) % 2 ^ 64 ≡ found + 1
   word_is = let a = few_told in let b = d.counts in let c = d.few in let e = r.shape.chains in omega arith
@@ -155,20 +156,20 @@ module _ (st : Shared) (v : View) (r : Agrees v.start st) (id : ℕ) (x : Log) (
       draws = subst (DrawsCount v.start.chains phase' (set st.views id w)) (sym (get_or-set_same st.words draw_place (found + 1) 0 wide)) draws;
     }
 
-    told_v : told_of v ≡ bit x.told
-    told_v = let e : told_of v ≡ bit x.told + 0 = ap (λ (l : List Log). total (λ z. bit z.told) l) one in omega arith
+    told_v : told_of v ≡ one_if x.no_chains_left
+    told_v = let e : told_of v ≡ 0 + one_if x.no_chains_left = ap (λ (l : List Log). sum_by (λ z. one_if z.no_chains_left) l) one in omega arith
 
     drawn_v : (c : ℕ) → drawn_of c v ≡ times c x.drawn
-    drawn_v c = let e : drawn_of c v ≡ times c x.drawn + 0 = ap (λ (l : List Log). total (λ z. times c z.drawn) l) one in omega arith
+    drawn_v c = let e : drawn_of c v ≡ 0 + times c x.drawn = ap (λ (l : List Log). sum_by (λ z. times c z.drawn) l) one in omega arith
 
-  module _ (idle : v.work ≡ Idle) (untold : x.told ≡ false) where
+  module _ (idle : v.work ≡ Idle) (untold : x.no_chains_left ≡ false) where
     idle_work : (phase' : ℕ → Phase) → Rattle.fx_counted.specs.Agrees.WorkAgrees v.start phase' id v.work
     idle_work phase' = subst (Rattle.fx_counted.specs.Agrees.WorkAgrees v.start phase' id) (sym idle) tt
 
     -- there is a next chain
     module _ (more : found < v.start.chains) where
-      nobody_told : total told_of st.views ≡ 0
-      nobody_told = dite (ℕ_discrete (total told_of st.views) 0) (λ e. e) (λ ne. let a = d.all (omega (arith, ne)) in let b = d.counts in absurd (omega arith))
+      nobody_told : sum_by told_of st.views ≡ 0
+      nobody_told = dite (ℕ_discrete (sum_by told_of st.views) 0) (λ e. e) (λ ne. let a = d.all (omega (arith, ne)) in let b = d.counts in absurd (omega arith))
 
       given_is : d.given ≡ found
       given_is = let a = nobody_told in let b = d.counts in omega arith
@@ -190,10 +191,10 @@ module _ (st : Shared) (v : View) (r : Agrees v.start st) (id : ℕ) (x : Log) (
           (λ low. inl (sym (given_else (numbers_for found) (numbers_for (found + 1)) x.number r.phase n (λ a b. low a))))
 
       counts : DrawsCount v.start.chains phase' (set st.views id (now v y v.work v.change)) (found + 1)
-      counts = let w : View = now v y v.work v.change in let t = total_set told_of st.views id v w here in let tv = told_v y refl refl refl phase' in let z = nobody_told in let g = given_is in record {
+      counts = let w : View = now v y v.work v.change in let t = sum_set told_of st.views id v w here in let tv = told_v y refl refl refl phase' in let z = nobody_told in let g = given_is in record {
         given = found + 1;
         few = omega arith;
-        each = λ c. let s = total_set (drawn_of c) st.views id v w here in let e = d.each c in let dv = drawn_v y refl refl refl phase' c in let gg = ap (λ (n : ℕ). once n c) g in dite (ℕ_discrete (found + 1) c)
+        each = λ c. let s = sum_set (drawn_of c) st.views id v w here in let e = d.each c in let dv = drawn_v y refl refl refl phase' c in let co = sum_by-cons (λ d. one_if (eqb d c)) (found + 1) x.drawn in let gg = ap (λ (n : ℕ). once n c) g in dite (ℕ_discrete (found + 1) c)
             (λ same. let b = bit_here c (found + 1) same in let o1 = once_out found c (omega (arith, same)) in let o2 = once_in (found + 1) c (omega (arith, same)) (omega (arith, same)) in omega arith)
             (λ other. let b = bit_else c (found + 1) other in dite (dec_le c found)
             (λ low. dite (ℕ_discrete c 0) (λ none. let o1 : once found c ≡ 0 = ap (once found) none in let o2 : once (found + 1) c ≡ 0 = ap (once (found + 1)) none in omega arith)
@@ -231,16 +232,16 @@ module _ (st : Shared) (v : View) (r : Agrees v.start st) (id : ℕ) (x : Log) (
     -- there are no more
     module _ (done : v.start.chains ≤ found) where
       all_given : d.given ≡ v.start.chains
-      all_given = let b = d.counts in let c = d.few in dite (ℕ_discrete (total told_of st.views) 0) (λ e. omega (arith, e)) (λ ne. d.all (omega (arith, ne)))
+      all_given = let b = d.counts in let c = d.few in dite (ℕ_discrete (sum_by told_of st.views) 0) (λ e. omega (arith, e)) (λ ne. d.all (omega (arith, ne)))
 
       abbrev y' : Log
-      y' = record x { told = true; steps = x.steps + 1 }
+      y' = record x { no_chains_left = true; steps = x.steps + 1 }
 
       counts' : DrawsCount v.start.chains r.phase (set st.views id (now v y' v.work v.change)) (found + 1)
-      counts' = let w : View = now v y' v.work v.change in let t = total_set told_of st.views id v w here in let tv = told_v y' refl refl refl r.phase in let u = ap bit untold in record {
+      counts' = let w : View = now v y' v.work v.change in let t = sum_set told_of st.views id v w here in let tv = told_v y' refl refl refl r.phase in let u = ap one_if untold in record {
         given = d.given;
         few = d.few;
-        each = λ c. let s = total_set (drawn_of c) st.views id v w here in let e = d.each c in let dv = drawn_v y' refl refl refl r.phase c in omega arith;
+        each = λ c. let s = sum_set (drawn_of c) st.views id v w here in let e = d.each c in let dv = drawn_v y' refl refl refl r.phase c in omega arith;
         counts = let b = d.counts in omega arith;
         all = λ some_told. all_given;
         unused = d.unused;
@@ -269,7 +270,7 @@ module _ (st : Shared) (v : View) (r : Agrees v.start st) (id : ℕ) (x : Log) (
         steps = let e = ap (λ (l : List Log). (first_log l).steps) one in omega arith;
       }
 
-draws_at : (slots id : ℕ) (m : Sat) (x : Log) → m.0.logs ≡ x ∷ [] → m.0.work ≡ Idle → x.told ≡ false → Allows (Agrees m.0.start) slots id m draw_place (λ word. (word + 1) % 2 ^ 64) (DrawTells (step slots draw_place 1 0 none) m)
+draws_at : (slots id : ℕ) (m : Sat) (x : Log) → m.0.logs ≡ x ∷ [] → m.0.work ≡ Idle → x.no_chains_left ≡ false → Allows (Agrees m.0.start) slots id m draw_place (λ word. (word + 1) % 2 ^ 64) (DrawTells (step slots draw_place 1 0 none) m)
 draws_at slots id m x one idle untold st r deep here fits = let found : ℕ = word_at st.words draw_place in
     subst (λ (z : ℕ). (w : View) × (a : Act (Option Closed)) × Valid st.homes m.1 a × Agrees m.0.start (stepped st draw_place z id m.1 w a) × DrawTells (step slots draw_place 1 0 none) m found (w, carried_after m.1 a))
     (sym (word_is st m.0 r id x here one))

@@ -12,7 +12,7 @@ use Rattle.fx_plain.specs.Table.{numbered}
 use Rattle.fx_plain.specs.declared.event.File.{File}
 use Rattle.fx_plain.specs.declared.event.Event.{Event}
 use Rattle.fx_plain.specs.declared.event.Action.{Action}
-use Rattle.fx_table.specs.Calls.{nothing, one_number}
+use Rattle.fx_table.specs.Calls.{no_use, one_number}
 use Rattle.fx_table.specs.Opening.{range_of}
 use Rattle.fx_table.specs.Pass.{event_of}
 use Rattle.fx_words.specs.Words.{takes_in, slot_word_of}
@@ -106,9 +106,9 @@ module _ (st : Shared) (v : View) (r : Agrees v.start st) (id : ℕ) (x : Log) (
     pub removal_agrees : Agrees v.start record { words = set st.words (slot_place s) 0; homes = st.homes; views = set st.views id (now v (logged x (event a ∷ r.history) x.numbers_left x.looks_left) (retires_now old (takes_in f₀)) (turned v.change (if_full old) 0)) }
     removal_agrees = swap_agrees st v r id x here one s inside old was a 0 None st.homes r.phase x.numbers_left (turned v.change (if_full old) 0) removal
 
-    pub removal_tells : (carried : List (ℕ × Option Closed)) → Stepped (v, carried) ([] ▷ a) nothing (retires_now old (takes_in f₀)) (turned v.change (if_full old) 0)
+    pub removal_tells : (carried : List (ℕ × Option Closed)) → Stepped (v, carried) ([] ▷ a) no_use (retires_now old (takes_in f₀)) (turned v.change (if_full old) 0)
         (now v (logged x (event a ∷ r.history) x.numbers_left x.looks_left) (retires_now old (takes_in f₀)) (turned v.change (if_full old) 0), carried)
-    removal_tells carried = tells st v r id x here one carried carried (event a ∷ r.history) x.numbers_left x.looks_left (retires_now old (takes_in f₀)) (turned v.change (if_full old) 0) ([] ▷ a) nothing
+    removal_tells carried = tells st v r id x here one carried carried (event a ∷ r.history) x.numbers_left x.looks_left (retires_now old (takes_in f₀)) (turned v.change (if_full old) 0) ([] ▷ a) no_use
         (grows_one x.number r.history (event a) refl) does.legal (part_mine x.number (event a) r.history refl) (omega arith) (omega arith) (inside_now old refl)
 
   -- an installation

@@ -1,20 +1,21 @@
 -- Begin, end, answer and load keep the rule.
+use Rattle.std.specs.Prelude.{sum_by}
 use Rattle.std.proofs.Common.{◌≡◌, ◌≢◌, ℕ, zero, suc, ◌+◌, ◌-◌, ◌/◌, ◌%◌, ◌^◌, ◌<◌, ◌≤◌, List, [], ◌∷◌, set, length, sym, refl, ap, subst, arith, length-set, get_or-set_other, get_or-set_same, Option, IsSome}
 use mathlib.Core.Logic.{dite}
 use mathlib.Core.Option.{some, none, some-injective, some-ne-none}
 use native.Mathlib.Decide.{ℕ_discrete}
 use lib.ListN.{get_elem?}
 use Rattle.atomic_table.specs.Table.{keeps, Allows, step}
+use Rattle.std.proofs.lemmas.List.Sums.{sum_by-cons}
 use Rattle.fx_base.specs.declared.open_file.Closed.{Closed}
 use Rattle.fx_plain.specs.History.{◌▷◌}
-use Rattle.fx_plain.specs.Totals.{total}
 use Rattle.fx_plain.specs.declared.event.File.{File}
 use Rattle.fx_plain.specs.declared.event.Event.{Event}
 use Rattle.fx_plain.specs.declared.event.Action.TheVariants.{Full}
-use Rattle.fx_table.specs.Calls.{nothing}
+use Rattle.fx_table.specs.Calls.{no_use}
 use Rattle.fx_table.specs.Opening.{range_of}
 use Rattle.fx_table.specs.Pass.{event_of}
-use Rattle.fx_table.proofs.Totals.{total_set, total_at, total_le}
+use Rattle.fx_table.proofs.SumLemmas.{sum_set, sum_at, sum_le_at}
 use Rattle.fx_words.specs.Words.{one_change, full_word_of}
 use Rattle.fx_counted.specs.Agrees.{WorkAgrees, lengths, Agrees}
 use Rattle.fx_counted.specs.Control.{in_change, added, removed_by, changes_of, added_of, removed_of, full_in, ControlCounts}
@@ -37,10 +38,10 @@ use Rattle.fx_counted.proofs.NodeSteps.{near, far}
 use Rattle.fx_counted.proofs.Retirements.{sub_wraps}
 
 -- what one of them adds to the gap between two totals
-pub total_gap : {X : Type 0} (f g : X → ℕ) (xs : List X) (i : ℕ) (v : X) → get_elem? xs i ≡ some v → ((j : ℕ) (x : X) → get_elem? xs j ≡ some x → f x ≤ g x) → total f xs + g v ≤ total g xs + f v
+pub total_gap : {X : Type 0} (f g : X → ℕ) (xs : List X) (i : ℕ) (v : X) → get_elem? xs i ≡ some v → ((j : ℕ) (x : X) → get_elem? xs j ≡ some x → f x ≤ g x) → sum_by f xs + g v ≤ sum_by g xs + f v
 total_gap f g [] i v e each = absurd (some-ne-none v (sym e))
-total_gap f g (x ∷ xs) zero v e each = let p : f x ≡ f v = ap f (some-injective x v e) in let q : g x ≡ g v = ap g (some-injective x v e) in let b = total_le f g xs (λ j y d. each (suc j) y d) in omega arith
-total_gap f g (x ∷ xs) (suc i) v e each = let a = each 0 x refl in let b = total_gap f g xs i v e (λ j y d. each (suc j) y d) in omega arith
+total_gap f g (x ∷ xs) zero v e each = let p : f x ≡ f v = ap f (some-injective x v e) in let q : g x ≡ g v = ap g (some-injective x v e) in let c = sum_by-cons f x xs in let d = sum_by-cons g x xs in let b = sum_le_at f g xs (λ j y d. each (suc j) y d) in omega arith
+total_gap f g (x ∷ xs) (suc i) v e each = let a = each 0 x refl in let c = sum_by-cons f x xs in let d = sum_by-cons g x xs in let b = total_gap f g xs i v e (λ j y d. each (suc j) y d) in omega arith
 
 at_most_one : (c : Change) → in_change c ≤ 1
 at_most_one Outside = omega arith
@@ -88,17 +89,17 @@ module _ (st : Shared) (v : View) (r : Agrees v.start st) (id : ℕ) (x : Log) (
       go (z ∷ l) is = let a = at_most_one u.change in let b = ap (length {A = Log}) is in omega arith
 
   -- fewer than 16 are in a change beside this pass
-  pub few_others : total changes_of st.views + 1 ≤ 16 + in_change v.change
+  pub few_others : sum_by changes_of st.views + 1 ≤ 16 + in_change v.change
   few_others = let a = total_gap changes_of lengths st.views id v here few_changes in let b = r.whole in let c = r.shape.passes in let d = ap (length {A = Log}) one in omega arith
 
   few_full : full_in at_now range.0 range.1 ≤ 256
   few_full = let a = full_few at_now range.0 range.1 in let b = r.shape.range in let c = r.shape.slots in omega arith
 
-  few_removed : total removed_of st.views ≤ total changes_of st.views
-  few_removed = total_le removed_of changes_of st.views (λ j u e. removes_inside u.change)
+  few_removed : sum_by removed_of st.views ≤ sum_by changes_of st.views
+  few_removed = sum_le_at removed_of changes_of st.views (λ j u e. removes_inside u.change)
 
-  few_added : total added_of st.views ≤ total changes_of st.views
-  few_added = total_le added_of changes_of st.views (λ j u e. adds_inside u.change)
+  few_added : sum_by added_of st.views ≤ sum_by changes_of st.views
+  few_added = sum_le_at added_of changes_of st.views (λ j u e. adds_inside u.change)
 
   wide : control_place < length st.words
   wide = let a = r.shape.words in let b = (near st v r id x here one).control in omega arith
@@ -151,13 +152,13 @@ module _ (st : Shared) (v : View) (r : Agrees v.start st) (id : ℕ) (x : Log) (
       control = subst (ControlCounts at_now range (set st.views id (now v (logged x (e ∷ r.history) x.numbers_left x.looks_left) v.work c))) (sym (get_or-set_same st.words control_place y 0 wide)) control;
     }
 
-  pub goes_on : (c : Change) (carried : List (ℕ × Option Closed)) → Stepped (v, carried) [] nothing v.work c (now v (logged x r.history x.numbers_left x.looks_left) v.work c, carried)
-  goes_on c carried = tells st v r id x here one carried carried r.history x.numbers_left x.looks_left v.work c [] nothing (grows_none x.number r.history) r.legal refl (omega arith) (omega arith) its_inside
+  pub goes_on : (c : Change) (carried : List (ℕ × Option Closed)) → Stepped (v, carried) [] no_use v.work c (now v (logged x r.history x.numbers_left x.looks_left) v.work c, carried)
+  goes_on c carried = tells st v r id x here one carried carried r.history x.numbers_left x.looks_left v.work c [] no_use (grows_none x.number r.history) r.legal refl (omega arith) (omega arith) its_inside
 
   module _ (fits : word < 18446744073709551616) where
     begun : v.change ≡ Outside → ControlCounts at_now range (set st.views id (now v (logged x r.history x.numbers_left x.looks_left) v.work Same)) ((word + one_change) % 2 ^ 64)
     begun out = let w : View = now v (logged x r.history x.numbers_left x.looks_left) v.work Same in
-        let a = total_set changes_of st.views id v w here in let b = total_set added_of st.views id v w here in let d = total_set removed_of st.views id v w here in
+        let a = sum_set changes_of st.views id v w here in let b = sum_set added_of st.views id v w here in let d = sum_set removed_of st.views id v w here in
         let a' = ap in_change out in let b' = ap added out in let d' = ap removed_by out in let s = few_others in let u = r.control.upper in let l = r.control.lower in
         let sum : (word + 4294967296) % 2 ^ 64 ≡ word + 4294967296 = omega arith in
         record { upper = omega arith; lower = omega arith }
@@ -166,9 +167,9 @@ module _ (st : Shared) (v : View) (r : Agrees v.start st) (id : ℕ) (x : Log) (
     ended : (h' : List Event) (amount : ℕ) → in_change v.change ≡ 1 → amount + added v.change ≡ one_change + removed_by v.change
         → ControlCounts at_now range (set st.views id (now v (logged x h' x.numbers_left x.looks_left) v.work Outside)) ((word + (2 ^ 64 - amount)) % 2 ^ 64)
     ended h' amount in_now amount_is = let w : View = now v (logged x h' x.numbers_left x.looks_left) v.work Outside in
-        let a = total_set changes_of st.views id v w here in let b = total_set added_of st.views id v w here in let d = total_set removed_of st.views id v w here in
+        let a = sum_set changes_of st.views id v w here in let b = sum_set added_of st.views id v w here in let d = sum_set removed_of st.views id v w here in
         let s = few_others in let u = r.control.upper in let l = r.control.lower in let ff = few_full in let fr = few_removed in let fa = few_added in
-        let o1 = total_at added_of st.views id v here in let l1 = total_at removed_of st.views id v here in let f1 = total_at changes_of st.views id v here in
+        let o1 = sum_at added_of st.views id v here in let l1 = sum_at removed_of st.views id v here in let f1 = sum_at changes_of st.views id v here in
         let x1 = adds_inside v.change in let x2 = removes_inside v.change in
         let big : amount ≤ word = omega arith in
         let diff : (word + (2 ^ 64 - amount)) % 2 ^ 64 ≡ word - amount = sub_wraps word amount big fits (omega arith) in
@@ -220,7 +221,7 @@ answers_at slots id m x one same st r deep here fits = let y : ℕ = (word_at st
       tt,
       calm_agrees st m.0 r id x here one (e ∷ r.history) Outside (set st.words control_place y) (told_full st m.0 r id x here one y Outside each (counts (e ∷ r.history))),
       record {
-        full = λ _. tells st m.0 r id x here one m.1 m.1 (e ∷ r.history) x.numbers_left x.looks_left m.0.work Outside ([] ▷ Full) nothing (grows_one x.number r.history e refl) (full_legal st m.0 r id x here one y each)
+        full = λ _. tells st m.0 r id x here one m.1 m.1 (e ∷ r.history) x.numbers_left x.looks_left m.0.work Outside ([] ▷ Full) no_use (grows_one x.number r.history e refl) (full_legal st m.0 r id x here one y each)
             (part_mine x.number e r.history refl) (omega arith) (omega arith) (its_inside st m.0 r id x here one);
         not_full = λ not_so. absurd (not_so says);
         carried = refl;

@@ -1,14 +1,13 @@
 -- What a step of one seat leaves as it was.
+use Rattle.std.specs.Prelude.{sum_by}
 use Rattle.std.proofs.Common.{◌≡◌, ◌≢◌, ℕ, zero, suc, ◌+◌, ◌<◌, ◌≤◌, true, false, List, [], ◌∷◌, set, length, sym, refl, ap, ◌∙◌, subst, arith, eq-eqb, nat_lt, ◌⊎◌, inl, inr, ⊎_elim, Some, None}
 use mathlib.Core.Option.{some, some-injective, some-ne-none}
 use lib.ListN.{get_elem?}
 use Rattle.atomic_table.proofs.Lists.{at_set, set_here, set_else}
-use Rattle.fx_plain.specs.Totals.{total}
 use Rattle.fx_plain.specs.declared.event.File.{File}
 use Rattle.fx_plain.specs.declared.event.Event.{Event}
 use Rattle.fx_plain.specs.Table.{numbered}
-use Rattle.fx_table.specs.Lists.{bit}
-use Rattle.fx_table.proofs.Totals.{total_at, total_two}
+use Rattle.fx_table.proofs.SumLemmas.{sum_at, sum_two}
 use Rattle.fx_counted.specs.Agrees.{Does, OwnerAgrees, WorkAgrees, ViewAgrees, Agrees}
 use Rattle.fx_counted.specs.Passes.{Shared, logs_of, once}
 use Rattle.fx_counted.specs.Phases.{Phase, unborn, spare, placed, seated, leaving, retired, emptied, closed, owner, file_in}
@@ -18,6 +17,7 @@ use Rattle.fx_counted.specs.declared.view.View.{View}
 use Rattle.fx_counted.specs.declared.view.Work.{Work}
 use Rattle.fx_counted.specs.declared.view.Work.TheVariants.{Idle, Placing, Holding, Retiring, Emptying}
 use Rattle.fx_counted.proofs.Histories.{Grows}
+use Rattle.fx_counted.proofs.Ones.{one_if}
 
 -- the number that a pass alone works with, plus 1, or 0
 abbrev pub busy : Work → ℕ
@@ -71,21 +71,21 @@ module _ (id p j : ℕ) (other : j ≢ id) (phase phase' : ℕ → Phase) (stays
 
 pub once_few : (n p : ℕ) → once n p ≤ 1
 once_few n zero = omega arith
-once_few n (suc p) = elim (nat_lt p n) as (λ b. bit b ≤ 1) [ true ↦ omega arith | false ↦ omega arith ]
+once_few n (suc p) = elim (nat_lt p n) as (λ b. one_if b ≤ 1) [ true ↦ omega arith | false ↦ omega arith ]
 
-bit_one : (p q : ℕ) → q ≡ p → bit (Rattle.std.proofs.Common.eqb q p) ≡ 1
+bit_one : (p q : ℕ) → q ≡ p → one_if (Rattle.std.proofs.Common.eqb q p) ≡ 1
 bit_one p q e = rw (eq-eqb q p e) refl
 
 -- a pass that one view has is in no other one
 pub not_there : (k : Start) (st : Shared) → Agrees k st → (id j : ℕ) (v u : View) (x : Log) → get_elem? st.views id ≡ some v → v.logs ≡ x ∷ [] → j ≢ id → get_elem? st.views j ≡ some u
     → (i : ℕ) (y : Log) → get_elem? u.logs i ≡ some y → y.number ≢ x.number
 not_there k st r id j v u x here one other there i y at same =
-    let t = total_two (logs_of x.number) st.views j id u v other there here in
+    let t = sum_two (logs_of x.number) st.views j id u v other there here in
     let a = r.passes x.number in
     let b = once_few k.passes x.number in
-    let c : logs_of x.number v ≡ bit (Rattle.std.proofs.Common.eqb x.number x.number) + 0 = ap (λ (l : List Log). total (λ z. bit (Rattle.std.proofs.Common.eqb z.number x.number)) l) one in
+    let c : logs_of x.number v ≡ 0 + one_if (Rattle.std.proofs.Common.eqb x.number x.number) = ap (λ (l : List Log). sum_by (λ z. one_if (Rattle.std.proofs.Common.eqb z.number x.number)) l) one in
     let d = bit_one x.number x.number refl in
-    let e = total_at (λ z. bit (Rattle.std.proofs.Common.eqb z.number x.number)) u.logs i y at in
+    let e = sum_at (λ z. one_if (Rattle.std.proofs.Common.eqb z.number x.number)) u.logs i y at in
     let f = bit_one x.number y.number same in
     omega arith
 

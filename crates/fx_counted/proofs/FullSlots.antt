@@ -6,7 +6,7 @@ use native.Mathlib.Decide.{ℕ_discrete}
 use lib.ListN.{get_elem?}
 use Rattle.fx_plain.specs.Step.{changed_at}
 use Rattle.fx_plain.specs.declared.event.File.{File}
-use Rattle.fx_table.proofs.Totals.{total_set}
+use Rattle.fx_table.proofs.SumLemmas.{sum_set}
 use Rattle.fx_counted.specs.Control.{in_change, added, removed_by, changes_of, added_of, removed_of, if_full, full_in, ControlCounts}
 use Rattle.fx_counted.specs.Tells.{changed, turned}
 use Rattle.fx_counted.specs.declared.view.Change.{Change}
@@ -65,7 +65,7 @@ changed_adds (suc o) (suc n) a b = omega arith
 pub control_swap : (at : ℕ → Option File) (range : ℕ × ℕ) (views : List View) (id : ℕ) (v w : View) (word s : ℕ) (old new : Option File) → get_elem? views id ≡ some v → at s ≡ old → Stands range s v.change
     → w.change ≡ turned v.change (if_full old) (if_full new) → ControlCounts at range views word → ControlCounts (changed_at at s new) range (set views id w) word
 control_swap at range views id v w word s old new here was (inl inside) is ok =
-    let a = total_set changes_of views id v w here in let b = total_set added_of views id v w here in let c = total_set removed_of views id v w here in
+    let a = sum_set changes_of views id v w here in let b = sum_set added_of views id v w here in let c = sum_set removed_of views id v w here in
     let turn : w.change ≡ changed (if_full old) (if_full new) = is ∙ ap (λ (z : Change). turned z (if_full old) (if_full new)) inside.1 in
     let d = ap in_change turn in let e = ap added turn in let f = ap removed_by turn in
     let d' = ap in_change inside.1 in let e' = ap added inside.1 in let f' = ap removed_by inside.1 in
@@ -75,7 +75,7 @@ control_swap at range views id v w word s old new here was (inl inside) is ok =
     let u = ok.upper in let l = ok.lower in
     record { upper = omega arith; lower = omega arith }
 control_swap at range views id v w word s old new here was (inr outside) is ok =
-    let a = total_set changes_of views id v w here in let b = total_set added_of views id v w here in let c = total_set removed_of views id v w here in
+    let a = sum_set changes_of views id v w here in let b = sum_set added_of views id v w here in let c = sum_set removed_of views id v w here in
     let turn : w.change ≡ Outside = is ∙ ap (λ (z : Change). turned z (if_full old) (if_full new)) outside.1 in
     let d = ap in_change turn in let e = ap added turn in let f = ap removed_by turn in
     let d' = ap in_change outside.1 in let e' = ap added outside.1 in let f' = ap removed_by outside.1 in

@@ -1,18 +1,17 @@
 -- A step of a seat with one pass keeps the rule, if it keeps what the step changes.
+use Rattle.std.specs.Prelude.{sum_by}
 use Rattle.std.proofs.Common.{◌≡◌, ◌≢◌, ℕ, zero, suc, ◌+◌, ◌*◌, ◌^◌, ◌<◌, ◌≤◌, List, [], ◌∷◌, ◌++◌, map, set, length, sym, refl, ap, ◌∙◌, subst, arith, get_or, Option, Some, None, ◌⊎◌, inl, inr, ⊎_elim}
 use mathlib.Core.Option.{some, some-injective, some-ne-none}
 use mathlib.Core.Option as maybe
 use lib.ListN.{get_elem?}
 use Rattle.fx_base.specs.declared.open_file.Closed.{Closed}
 use Rattle.fx_plain.specs.History.{part_of_pass}
-use Rattle.fx_plain.specs.Totals.{total}
 use Rattle.fx_plain.specs.declared.event.Event.{Event}
 use Rattle.fx_plain.specs.declared.event.Action.{Action}
 use Rattle.fx_table.specs.Calls.{Use, Adds}
 use Rattle.fx_table.specs.Opening.{range_of}
 use Rattle.fx_table.specs.Pass.{PassView, event_of}
-use Rattle.fx_table.specs.Lists.{bit}
-use Rattle.fx_table.proofs.Totals.{total_set}
+use Rattle.fx_table.proofs.SumLemmas.{sum_set}
 use Rattle.fx_counted.specs.Agrees.{SlotAgrees, NodeAgrees, OwnerAgrees, WorkAgrees, LogAgrees, ViewAgrees, lengths, Agrees}
 use Rattle.fx_counted.specs.Control.{ControlCounts}
 use Rattle.fx_counted.specs.Counts.{looks, all_looks}
@@ -27,6 +26,7 @@ use Rattle.fx_counted.specs.declared.view.View.{View}
 use Rattle.fx_counted.specs.declared.view.Work.{Work}
 use Rattle.fx_counted.proofs.Histories.{Grows, IsHistory}
 use Rattle.fx_counted.proofs.Frames.{Stays, KeepsHeld, view_stays, not_there, views_after}
+use Rattle.fx_counted.proofs.Ones.{one_if}
 
 abbrev pub Homes : Type 0
 Homes = List (maybe.Option (Option Closed))
@@ -73,11 +73,11 @@ module _ (st : Shared) (v : View) (r : Agrees v.start st) (id : ℕ) (x : Log) (
       pub draws : DrawsCount v.start.chains phase' views' (word_at words' draw_place)
 
     -- how often the passes of the view are counted
-    one_total : (f : Log → ℕ) → total f v.logs ≡ f x
-    one_total f = let e : total f v.logs ≡ f x + 0 = ap (total f) one in omega arith
+    one_total : (f : Log → ℕ) → sum_by f v.logs ≡ f x
+    one_total f = let e : sum_by f v.logs ≡ 0 + f x = ap (sum_by f) one in omega arith
 
-    total_same : (f : Log → ℕ) → f y ≡ f x → total (λ (u : View). total f u.logs) views' ≡ total (λ (u : View). total f u.logs) st.views
-    total_same f same = let t = total_set (λ (u : View). total f u.logs) st.views id v (now v y d c) here in let a = one_total f in omega arith
+    total_same : (f : Log → ℕ) → f y ≡ f x → sum_by (λ (u : View). sum_by f u.logs) views' ≡ sum_by (λ (u : View). sum_by f u.logs) st.views
+    total_same f same = let t = sum_set (λ (u : View). sum_by f u.logs) st.views id v (now v y d c) here in let a = one_total f in omega arith
 
     its_view : Step → ViewAgrees v.start h' phase' id (now v y d c)
     its_view s = record {
@@ -104,21 +104,21 @@ module _ (st : Shared) (v : View) (r : Agrees v.start st) (id : ℕ) (x : Log) (
       each_view = views_after (ViewAgrees v.start h' phase') st.views id (now v y d c) (its_view s)
           (λ j u other there. view_stays id x.number j other r.phase phase' s.stays v.start r.history h' s.grows u (not_there v.start st r id j v u x here one other there)
           (λ f is. s.keeps j u f other there is) (r.each_view j u there));
-      holds = λ n. let t = total_set (held_of n) st.views id v (now v y d c) here in let a = r.holds n in let b = s.holds n in omega arith;
-      look_ups = let t = total_set looks_of st.views id v (now v y d c) here in let a = r.look_ups in let b = s.look_ups in let e = one_total (λ z. z.looks_left) in omega arith;
-      passes = λ p. total_same (λ z. bit (Rattle.std.proofs.Common.eqb z.number p)) (ap (λ (q : ℕ). bit (Rattle.std.proofs.Common.eqb q p)) s.number) ∙ r.passes p;
-      whole = let t = total_set lengths st.views id v (now v y d c) here in let e = ap (length {A = Log}) one in let a = r.whole in omega arith;
+      holds = λ n. let t = sum_set (held_of n) st.views id v (now v y d c) here in let a = r.holds n in let b = s.holds n in omega arith;
+      look_ups = let t = sum_set looks_of st.views id v (now v y d c) here in let a = r.look_ups in let b = s.look_ups in let e = one_total (λ z. z.looks_left) in omega arith;
+      passes = λ p. total_same (λ z. one_if (Rattle.std.proofs.Common.eqb z.number p)) (ap (λ (q : ℕ). one_if (Rattle.std.proofs.Common.eqb q p)) s.number) ∙ r.passes p;
+      whole = let t = sum_set lengths st.views id v (now v y d c) here in let e = ap (length {A = Log}) one in let a = r.whole in omega arith;
       authors = λ p none. let t = r.passes p in let u = total_its p in
           s.grows.parts p (λ same. let a = its_one p same in omega arith) ∙ r.authors p none;
       control = s.control;
       draws = s.draws;
     }
       where
-        total_its : (p : ℕ) → logs_of p v ≤ total (logs_of p) st.views
-        total_its p = Rattle.fx_table.proofs.Totals.total_at (logs_of p) st.views id v here
+        total_its : (p : ℕ) → logs_of p v ≤ sum_by (logs_of p) st.views
+        total_its p = Rattle.fx_table.proofs.SumLemmas.sum_at (logs_of p) st.views id v here
 
         its_one : (p : ℕ) → x.number ≡ p → logs_of p v ≡ 1
-        its_one p same = one_total (λ z. bit (Rattle.std.proofs.Common.eqb z.number p)) ∙ rw (Rattle.std.proofs.Common.eq-eqb x.number p same) refl
+        its_one p same = one_total (λ z. one_if (Rattle.std.proofs.Common.eqb z.number p)) ∙ rw (Rattle.std.proofs.Common.eq-eqb x.number p same) refl
 
   -- what the step tells
   pub tells : (carried homes : List (ℕ × Option Closed)) (h' : List Event) (left looks_left : ℕ) (d : Work) (c : Change) (actions : List Action) (used : Use) → Grows x.number r.history h' → IsHistory v.start h'
@@ -134,7 +134,7 @@ module _ (st : Shared) (v : View) (r : Agrees v.start st) (id : ℕ) (x : Log) (
       number = refl;
       chain = refl;
       drawn = refl;
-      told = refl;
+      no_chains_left = refl;
       numbers_left = numbers;
       looks_left = looked;
     };

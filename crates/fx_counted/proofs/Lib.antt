@@ -1,3 +1,4 @@
+pub mod Ones
 pub mod Places
 pub mod Histories
 pub mod Frames

@@ -1,6 +1,6 @@
 -- Places are inside, and apart.
 use Rattle.std.proofs.Common.{◌≡◌, ℕ, ◌+◌, ◌-◌, ◌*◌, ◌<◌, ◌≤◌, Bool, cond, ap, arith, lt-ltb, le-ltb, ⊎_elim}
-use Rattle.fx_table.specs.Opening.{numbers_for}
+use Rattle.fx_table.specs.Numbers.{numbers_for}
 use Rattle.fx_counted.specs.Layout.{node_place, words_for, home_place, homes_for, HasNode, PlacesAreInside, PlacesAreApart}
 
 module _ (size : ℕ) where

@@ -13,9 +13,9 @@ use Rattle.fx_plain.specs.Table.{numbered}
 use Rattle.fx_plain.specs.declared.event.File.{File}
 use Rattle.fx_plain.specs.declared.event.Event.{Event}
 use Rattle.fx_plain.specs.declared.event.Action.TheVariants.{Release, Close}
-use Rattle.fx_table.specs.Calls.{nothing}
+use Rattle.fx_table.specs.Calls.{no_use}
 use Rattle.fx_table.specs.Pass.{event_of}
-use Rattle.fx_table.proofs.Totals.{total_at, total_two}
+use Rattle.fx_table.proofs.SumLemmas.{sum_at, sum_two}
 use Rattle.fx_counted.specs.Agrees.{NodeAgrees, WorkAgrees, Agrees}
 use Rattle.fx_counted.specs.Counts.{looks}
 use Rattle.fx_counted.specs.Laws.{word_of, place_of, ReleasesKeep}
@@ -53,7 +53,7 @@ module _ (st : Shared) (v : View) (r : Agrees v.start st) (id : ℕ) (x : Log) (
   its_one = ap (holding q) works ∙ holding_it q f refl
 
   held_now : 0 < old.holds q
-  held_now = let a = r.holds q in let b = total_at (held_of q) st.views id v here in let c = its_one in omega arith
+  held_now = let a = r.holds q in let b = sum_at (held_of q) st.views id v here in let c = its_one in omega arith
 
   abbrev freeing : Event
   freeing = event_of (shown x v.work) (Release f)
@@ -168,7 +168,7 @@ module _ (st : Shared) (v : View) (r : Agrees v.start st) (id : ℕ) (x : Log) (
       mine = λ some not_mine. absurd (some (ap owner l.phase));
       spared = λ p is other. absurd (cc (sym is ∙ l.phase));
       unused = λ is. absurd (cc (sym is ∙ l.phase));
-      keeps = λ j u g other there holds same. absurd (let a = its_hold st v r id x here one j u g q there holds same in let b = its_one in let c = total_two (held_of q) st.views j id u v other there here in let d = r.holds q in let e = l.holds in omega arith);
+      keeps = λ j u g other there holds same. absurd (let a = its_hold st v r id x here one j u g q there holds same in let b = its_one in let c = sum_two (held_of q) st.views j id u v other there here in let d = r.holds q in let e = l.holds in omega arith);
       free = λ m other. not_busy m;
       node = (omega arith, set_here st.homes (place_of v.start q) none (roomy st v r id x here one q mine.0), (let z = one_less in omega arith), change_here old.removed q None q refl);
       known = does_now st.views id v (now v (logged x h₂ x.numbers_left x.looks_left) (Emptying q) v.change) (Emptying q) here refl;
@@ -198,7 +198,7 @@ module _ (st : Shared) (v : View) (r : Agrees v.start st) (id : ℕ) (x : Log) (
           closes = λ g its _. let same : f ≡ g = holding_same f g (sym works ∙ its) in
               subst (λ (g : File). TakesOut (v, carried) ([] ▷ Release g) g (now v (logged x h₂ x.numbers_left x.looks_left) (Emptying q) v.change, (place_of v.start q, Some f.identity) ∷ carried)) same
               record {
-                stepped = tells st v r id x here one carried ((place_of v.start q, Some f.identity) ∷ carried) h₂ x.numbers_left x.looks_left (Emptying q) v.change ([] ▷ Release f ▷ Close f) nothing
+                stepped = tells st v r id x here one carried ((place_of v.start q, Some f.identity) ∷ carried) h₂ x.numbers_left x.looks_left (Emptying q) v.change ([] ▷ Release f ▷ Close f) no_use
                     (grows_more x.number r.history h₁ closing refl (grows_one x.number r.history freeing refl)) (closed_legal l)
                     (part_mine x.number closing h₁ refl ∙ ap (λ (z : List Event). closing ∷ z) (part_mine x.number freeing r.history refl)) (omega arith) (omega arith) mine.0;
                 carried = refl;
@@ -214,7 +214,7 @@ module _ (st : Shared) (v : View) (r : Agrees v.start st) (id : ℕ) (x : Log) (
           waits = λ g its _. let same : f ≡ g = holding_same f g (sym works ∙ its) in
               subst (λ (g : File). LetsGo (v, carried) ([] ▷ Release g) (now v (logged x h₁ x.numbers_left x.looks_left) Idle v.change, carried)) same
               record {
-                stepped = tells st v r id x here one carried carried h₁ x.numbers_left x.looks_left Idle v.change ([] ▷ Release f) nothing (grows_one x.number r.history freeing refl) freed_legal
+                stepped = tells st v r id x here one carried carried h₁ x.numbers_left x.looks_left Idle v.change ([] ▷ Release f) no_use (grows_one x.number r.history freeing refl) freed_legal
                     (part_mine x.number freeing r.history refl) (omega arith) (omega arith) tt;
                 carried = refl;
               };

@@ -12,9 +12,9 @@ use Rattle.fx_plain.specs.Step.{changed_at}
 use Rattle.fx_plain.specs.declared.event.File.{File}
 use Rattle.fx_plain.specs.declared.event.Event.{Event}
 use Rattle.fx_plain.specs.declared.event.Action.TheVariants.{Close}
-use Rattle.fx_table.specs.Calls.{nothing}
+use Rattle.fx_table.specs.Calls.{no_use}
 use Rattle.fx_table.specs.Pass.{event_of}
-use Rattle.fx_table.proofs.Totals.{total_at}
+use Rattle.fx_table.proofs.SumLemmas.{sum_at}
 use Rattle.fx_words.specs.Words.{retire_amount_of}
 use Rattle.fx_counted.specs.Agrees.{NodeAgrees, WorkAgrees, Agrees}
 use Rattle.fx_counted.specs.Counts.{looks}
@@ -122,7 +122,7 @@ module _ (st : Shared) (v : View) (r : Agrees v.start st) (id : ℕ) (x : Log) (
       mine = λ some not_mine. absurd (not_mine (ap owner mine.1));
       spared = λ p is other. absurd (cc (sym is ∙ mine.1));
       unused = λ is. absurd (not_new is);
-      keeps = λ j u g other there holds same. absurd (let a = its_hold j u g q there holds same in let b = total_at (held_of q) st.views j u there in let h = r.holds q in omega arith);
+      keeps = λ j u g other there holds same. absurd (let a = its_hold j u g q there holds same in let b = sum_at (held_of q) st.views j u there in let h = r.holds q in omega arith);
       free = λ m other bad. let b = ap busy works in other (omega arith);
       node = (omega arith, set_here st.homes (place_of v.start q) none (roomy st v r id x here one q mine.0), z, change_here (state_after_all v.start r.history).removed q None q refl);
       known = does_now st.views id v (now v (logged x (closing ∷ r.history) x.numbers_left x.looks_left) (Emptying q) v.change) (Emptying q) here refl;
@@ -149,7 +149,7 @@ module _ (st : Shared) (v : View) (r : Agrees v.start st) (id : ℕ) (x : Log) (
             closes = λ g u its _. let same : f ≡ g = retiring_same f g t u (sym works ∙ its) in
                 subst (λ (g : File). TakesOut (v, carried) [] g (now v (logged x (closing ∷ r.history) x.numbers_left x.looks_left) (Emptying q) v.change, (place_of v.start q, Some f.identity) ∷ carried)) same
                 record {
-                  stepped = tells st v r id x here one carried ((place_of v.start q, Some f.identity) ∷ carried) (closing ∷ r.history) x.numbers_left x.looks_left (Emptying q) v.change ([] ▷ Close f) nothing
+                  stepped = tells st v r id x here one carried ((place_of v.start q, Some f.identity) ∷ carried) (closing ∷ r.history) x.numbers_left x.looks_left (Emptying q) v.change ([] ▷ Close f) no_use
                       (grows_one x.number r.history closing refl) (closed_legal is) (part_mine x.number closing r.history refl) (omega arith) (omega arith) mine.0;
                   carried = refl;
                 };
@@ -163,7 +163,7 @@ module _ (st : Shared) (v : View) (r : Agrees v.start st) (id : ℕ) (x : Log) (
           record {
             waits = λ g u its _. let same : f ≡ g = retiring_same f g t u (sym works ∙ its) in (
               record {
-                stepped = tells st v r id x here one carried carried r.history x.numbers_left x.looks_left Idle v.change [] nothing (grows_none x.number r.history) r.legal refl (omega arith) (omega arith) tt;
+                stepped = tells st v r id x here one carried carried r.history x.numbers_left x.looks_left Idle v.change [] no_use (grows_none x.number r.history) r.legal refl (omega arith) (omega arith) tt;
                 carried = refl;
               },
               subst (λ (g : File). 0 < (state_after_all v.start r.history).holds g.number) same (let n = node in let c = few_looks q in omega arith),

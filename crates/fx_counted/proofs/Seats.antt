@@ -1,11 +1,12 @@
 -- A seat is split off, and one is joined back.
+use Rattle.std.specs.Prelude.{sum_by}
+use Rattle.std.proofs.lemmas.List.Sums.{sum_by-append}
 use Rattle.std.proofs.Common.{◌≡◌, ◌≢◌, ℕ, zero, suc, ◌+◌, List, [], ◌∷◌, ◌++◌, length, set, sym, refl, ap, ◌∙◌, subst, arith, ◌⊎◌, inl, inr, ⊎_elim, length-append}
 use mathlib.Core.Option.{some, some-injective, some-ne-none}
 use lib.ListN.{get_elem?}
 use Rattle.atomic_table.proofs.Lists.{at_set, set_else, at_snoc, at_longer}
-use Rattle.fx_plain.specs.Totals.{total}
 use Rattle.fx_plain.specs.declared.event.Event.{Event}
-use Rattle.fx_table.proofs.Totals.{total_set, total_append}
+use Rattle.fx_table.proofs.SumLemmas.{sum_set}
 use Rattle.fx_counted.specs.Agrees.{Does, WorkAgrees, LogAgrees, ViewAgrees, Agrees, lengths}
 use Rattle.fx_counted.specs.Control.{in_change, added, removed_by, changes_of, added_of, removed_of}
 use Rattle.fx_counted.specs.Cuts.{rest_of, first_of, without_first, first_alone, together, spent}
@@ -19,6 +20,7 @@ use Rattle.fx_counted.specs.declared.view.View.{View}
 use Rattle.fx_counted.specs.declared.view.Work.{Work}
 use Rattle.fx_counted.specs.declared.view.Work.TheVariants.{Idle}
 use Rattle.fx_counted.proofs.Frames.{busy, owner_map}
+use Rattle.fx_counted.proofs.Ones.{one_if, times}
 
 at_rest : (l : List Log) (i : ℕ) (y : Log) → get_elem? (rest_of l) i ≡ some y → get_elem? l (suc i) ≡ some y
 at_rest [] i y e = absurd (some-ne-none y (sym e))
@@ -61,18 +63,18 @@ module _ (k : Start) (id : ℕ) (v : View) (idle : v.work ≡ Idle) (out : v.cha
   abbrev parts : List View
   parts = set s.views id (without_first v) ++ first_alone v ∷ []
 
-  counts : (f : List Log → ℕ) → ((y : Log) (m : List Log) → f (y ∷ m) ≡ f (y ∷ []) + f m) → f [] ≡ 0 → total (λ (z : View). f z.logs) parts ≡ total (λ (z : View). f z.logs) s.views
+  counts : (f : List Log → ℕ) → ((y : Log) (m : List Log) → f (y ∷ m) ≡ f (y ∷ []) + f m) → f [] ≡ 0 → sum_by (λ (z : View). f z.logs) parts ≡ sum_by (λ (z : View). f z.logs) s.views
   counts f more none =
-      let a = total_append (λ (z : View). f z.logs) (set s.views id (without_first v)) (first_alone v ∷ []) in
-      let b = total_set (λ (z : View). f z.logs) s.views id v (without_first v) here in
+      let a = sum_by-append (λ (z : View). f z.logs) (set s.views id (without_first v)) (first_alone v ∷ []) in
+      let b = sum_set (λ (z : View). f z.logs) s.views id v (without_first v) here in
       let c = split_counts f none v.logs more in
       omega arith
 
   -- what an idle seat doesn't add to
-  same_counts : (f : View → ℕ) → f v ≡ 0 → f (without_first v) ≡ 0 → f (first_alone v) ≡ 0 → total f parts ≡ total f s.views
+  same_counts : (f : View → ℕ) → f v ≡ 0 → f (without_first v) ≡ 0 → f (first_alone v) ≡ 0 → sum_by f parts ≡ sum_by f s.views
   same_counts f zero_is one_is two_is =
-      let a = total_append f (set s.views id (without_first v)) (first_alone v ∷ []) in
-      let b = total_set f s.views id v (without_first v) here in
+      let a = sum_by-append f (set s.views id (without_first v)) (first_alone v ∷ []) in
+      let b = sum_set f s.views id v (without_first v) here in
       omega arith
 
   at_parts : (P : ℕ → View → Type 0) → ((j : ℕ) → P j (without_first v)) → ((j : ℕ) → P j (first_alone v)) → ((j : ℕ) (u : View) → j ≢ id → get_elem? s.views j ≡ some u → P j u) → (j : ℕ) (u : View) → get_elem? parts j ≡ some u → P j u
@@ -108,16 +110,16 @@ module _ (k : Start) (id : ℕ) (v : View) (idle : v.work ≡ Idle) (out : v.cha
         (λ j. part_view k r.history r.phase j (first_alone v) idle out (λ i y e. (id, its i y (at_first v.logs i y e))) (start_of_part first_of refl))
         (λ j u other there. r.each_view j u there);
     holds = λ n. let e = ap (holding n) idle in let a = same_counts (held_of n) e e e in let b = r.holds n in omega arith;
-    look_ups = let a = counts (total (λ (y : Log). y.looks_left)) (λ y m. omega arith) refl in let b = r.look_ups in omega arith;
-    passes = λ p. counts (total (λ (y : Log). Rattle.fx_table.specs.Lists.bit (Rattle.std.proofs.Common.eqb y.number p))) (λ y m. omega arith) refl ∙ r.passes p;
+    look_ups = let a = counts (sum_by (λ (y : Log). y.looks_left)) (λ y m. sum_by-append (λ (y : Log). y.looks_left) (y ∷ []) m) refl in let b = r.look_ups in omega arith;
+    passes = λ p. counts (sum_by (λ (y : Log). one_if (Rattle.std.proofs.Common.eqb y.number p))) (λ y m. sum_by-append (λ (y : Log). one_if (Rattle.std.proofs.Common.eqb y.number p)) (y ∷ []) m) refl ∙ r.passes p;
     whole = counts (length {A = Log}) (λ y m. omega arith) refl ∙ r.whole;
     authors = r.authors;
     control = let a = ap in_change out in let b = ap added out in let c = ap removed_by out in let u = r.control.upper in let l = r.control.lower in
         let x = same_counts changes_of a a a in let y = same_counts added_of b b b in let z = same_counts removed_of c c c in record { upper = omega arith; lower = omega arith };
-    draws = let d = r.draws in let t = counts (total (λ (y : Log). Rattle.fx_table.specs.Lists.bit y.told)) (λ y m. omega arith) refl in record {
+    draws = let d = r.draws in let t = counts (sum_by (λ (y : Log). one_if y.no_chains_left)) (λ y m. sum_by-append (λ (y : Log). one_if y.no_chains_left) (y ∷ []) m) refl in record {
       given = d.given;
       few = d.few;
-      each = λ c. counts (total (λ (y : Log). Rattle.fx_table.specs.Lists.times c y.drawn)) (λ y m. omega arith) refl ∙ d.each c;
+      each = λ c. counts (sum_by (λ (y : Log). times c y.drawn)) (λ y m. sum_by-append (λ (y : Log). times c y.drawn) (y ∷ []) m) refl ∙ d.each c;
       counts = let a = d.counts in omega arith;
       all = λ some_told. d.all (omega arith);
       unused = d.unused;
@@ -147,10 +149,10 @@ module _ (k : Start) (id : ℕ) (v : View) (begun : v.start ≡ k) (idle : v.wor
       (at_set s.views id j (together v w) u m.1))
       (at_set one_set other j spent u e)
 
-  both_counts : (f : View → ℕ) → f spent ≡ 0 → f (together v w) ≡ f v + f w → total f both_set ≡ total f s.views
+  both_counts : (f : View → ℕ) → f spent ≡ 0 → f (together v w) ≡ f v + f w → sum_by f both_set ≡ sum_by f s.views
   both_counts f a b =
-      let c = total_set f s.views id v (together v w) here in
-      let d = total_set f one_set other w spent there in
+      let c = sum_set f s.views id v (together v w) here in
+      let d = sum_set f one_set other w spent there in
       omega arith
 
   its_v : (i : ℕ) (y : Log) → get_elem? v.logs i ≡ some y → LogAgrees k r.history r.phase id Idle y
@@ -189,16 +191,16 @@ module _ (k : Start) (id : ℕ) (v : View) (begun : v.start ≡ k) (idle : v.wor
         (λ j. part_view k r.history r.phase j (together v w) idle out joined_logs (inr begun))
         (λ j u _ _ at. r.each_view j u at);
     holds = λ n. let e = ap (holding n) idle in let f = ap (holding n) w_idle in let a = both_counts (held_of n) refl (omega arith) in let b = r.holds n in omega arith;
-    look_ups = let a = both_counts looks_of refl (total_append _ v.logs w.logs) in let b = r.look_ups in omega arith;
-    passes = λ p. both_counts (logs_of p) refl (total_append _ v.logs w.logs) ∙ r.passes p;
+    look_ups = let a = both_counts looks_of refl (sum_by-append _ v.logs w.logs) in let b = r.look_ups in omega arith;
+    passes = λ p. both_counts (logs_of p) refl (sum_by-append _ v.logs w.logs) ∙ r.passes p;
     whole = both_counts lengths refl (length-append v.logs w.logs) ∙ r.whole;
     authors = r.authors;
     control = let a = ap in_change out in let b = ap added out in let c = ap removed_by out in let a' = ap in_change w_out in let b' = ap added w_out in let c' = ap removed_by w_out in let u = r.control.upper in let l = r.control.lower in
         let x = both_counts changes_of refl (omega arith) in let y = both_counts added_of refl (omega arith) in let z = both_counts removed_of refl (omega arith) in record { upper = omega arith; lower = omega arith };
-    draws = let d = r.draws in let t = both_counts told_of refl (total_append _ v.logs w.logs) in record {
+    draws = let d = r.draws in let t = both_counts told_of refl (sum_by-append _ v.logs w.logs) in record {
       given = d.given;
       few = d.few;
-      each = λ c. both_counts (drawn_of c) refl (total_append _ v.logs w.logs) ∙ d.each c;
+      each = λ c. both_counts (drawn_of c) refl (sum_by-append _ v.logs w.logs) ∙ d.each c;
       counts = let a = d.counts in omega arith;
       all = λ some_told. d.all (omega arith);
       unused = d.unused;

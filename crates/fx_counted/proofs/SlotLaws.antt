@@ -14,7 +14,7 @@ use Rattle.fx_plain.specs.declared.event.File.{File}
 use Rattle.fx_plain.specs.declared.event.Event.{Event}
 use Rattle.fx_plain.specs.declared.event.Action.{Action}
 use Rattle.fx_plain.specs.declared.event.Action.TheVariants.{Put, Clear, Take, Allocate}
-use Rattle.fx_table.specs.Calls.{Use, nothing, one_number}
+use Rattle.fx_table.specs.Calls.{Use, no_use, one_number}
 use Rattle.fx_table.specs.Opening.{range_of}
 use Rattle.fx_words.specs.Words.{name_in, takes_in, slot_word_of}
 use Rattle.fx_counted.specs.Agrees.{Names, WorkAgrees, Agrees}
@@ -113,7 +113,7 @@ clears_at slots id s m x one idle inside stands st r deep here fits = let old : 
       record {
         file = old;
         names = names_old st m.0 r id x here one s inside stands old refl;
-        stepped = at_slot st m.0 r id x here one s inside m (w, m.1) (λ z. Clear z old) nothing (retires_now old (takes_in f₀)) (turned m.0.change (if_full old) 0)
+        stepped = at_slot st m.0 r id x here one s inside m (w, m.1) (λ z. Clear z old) no_use (retires_now old (takes_in f₀)) (turned m.0.change (if_full old) 0)
             (removal_tells st m.0 r id x here one s inside stands old refl idle (Clear s old) (cleared st m.0 r id x here one s inside stands) m.1);
         carried = refl;
       },
@@ -134,7 +134,7 @@ takes_at slots id s m x one idle inside stands st r deep here fits = let old : O
       record {
         file = old;
         names = names_old st m.0 r id x here one s inside stands old refl;
-        stepped = at_slot st m.0 r id x here one s inside m (w, m.1) (λ z. Take z old) nothing (retires_now old (takes_in f₀)) (turned m.0.change (if_full old) 0)
+        stepped = at_slot st m.0 r id x here one s inside m (w, m.1) (λ z. Take z old) no_use (retires_now old (takes_in f₀)) (turned m.0.change (if_full old) 0)
             (removal_tells st m.0 r id x here one s inside stands old refl idle (Take s old) (taken st m.0 r id x here one s inside stands) m.1);
         carried = refl;
       },

@@ -35,7 +35,7 @@ module _ (st : Shared) (v : View) (r : Agrees v.start st) (id : ℕ) (x : Log) (
     pub homes : length homes' ≡ length st.homes
     pub number : y.number ≡ x.number
     pub drawn : y.drawn ≡ x.drawn
-    pub told : y.told ≡ x.told
+    pub told : y.no_chains_left ≡ x.no_chains_left
     pub grows : Grows x.number r.history h'
     pub legal : IsHistory v.start h'
     pub slot : SlotAgrees v.start h' phase' s word'

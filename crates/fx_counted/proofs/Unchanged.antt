@@ -1,15 +1,14 @@
 -- What a step leaves as it was: slots, numbers, the control word and the draw word.
+use Rattle.std.specs.Prelude.{sum_by}
 use Rattle.std.proofs.Common.{◌≡◌, ℕ, ◌+◌, ◌/◌, ◌%◌, ◌≤◌, List, [], ◌∷◌, set, sym, refl, ap, ◌∙◌, subst, arith, Option, Some, None}
 use mathlib.Core.Option.{some}
 use lib.ListN.{get_elem?}
 use Rattle.fx_base.specs.declared.open_file.Closed.{Closed}
 use Rattle.fx_plain.specs.State.{State}
 use Rattle.fx_plain.specs.Table.{numbered}
-use Rattle.fx_plain.specs.Totals.{total}
 use Rattle.fx_plain.specs.declared.event.File.{File}
 use Rattle.fx_plain.specs.declared.event.Event.{Event}
-use Rattle.fx_table.specs.Lists.{bit, times}
-use Rattle.fx_table.proofs.Totals.{total_set}
+use Rattle.fx_table.proofs.SumLemmas.{sum_set}
 use Rattle.fx_counted.specs.Agrees.{Names, IsSeated, SlotAgrees, Home, NodeAgrees}
 use Rattle.fx_counted.specs.Control.{in_change, added, removed_by, changes_of, added_of, removed_of, full_in, ControlCounts}
 use Rattle.fx_counted.specs.Counts.{looks, all_looks}
@@ -19,6 +18,7 @@ use Rattle.fx_counted.specs.Phases.{Phase, unborn, spare, placed, seated, leavin
 use Rattle.fx_counted.specs.declared.view.Log.{Log}
 use Rattle.fx_counted.specs.declared.view.Start.{Start}
 use Rattle.fx_counted.specs.declared.view.View.{View}
+use Rattle.fx_counted.proofs.Ones.{one_if, times}
 
 module _ (k : Start) (h h' : List Event) (phase phase' : ℕ → Phase) (slot : ℕ) where
   abbrev pub SameFile : Type 0
@@ -52,7 +52,7 @@ module _ (views : List View) (id : ℕ) (v w : View) (here : get_elem? views id 
   -- the control word, where no slot of the range and no change does
   pub control_same : (at at' : ℕ → Option File) (range : ℕ × ℕ) (word word' : ℕ) → full_in at' range.0 range.1 ≡ full_in at range.0 range.1 → word' ≡ word → w.change ≡ v.change → ControlCounts at range views word → ControlCounts at' range (set views id w) word'
   control_same at at' range word word' full same change ok =
-      let a = total_set changes_of views id v w here in let b = total_set added_of views id v w here in let c = total_set removed_of views id v w here in
+      let a = sum_set changes_of views id v w here in let b = sum_set added_of views id v w here in let c = sum_set removed_of views id v w here in
       let d = ap in_change change in let e = ap added change in let f = ap removed_by change in
       let u = ok.upper in let l = ok.lower in
       let p : word' / 4294967296 ≡ word / 4294967296 = ap (λ (n : ℕ). n / 4294967296) same in
@@ -60,23 +60,23 @@ module _ (views : List View) (id : ℕ) (v w : View) (here : get_elem? views id 
       record { upper = omega arith; lower = omega arith }
 
   -- the draw word, where no chain was drawn
-  pub draws_same : (chains : ℕ) (phase phase' : ℕ → Phase) (word word' : ℕ) (x y : Log) → v.logs ≡ x ∷ [] → w.logs ≡ y ∷ [] → y.drawn ≡ x.drawn → y.told ≡ x.told → word' ≡ word
+  pub draws_same : (chains : ℕ) (phase phase' : ℕ → Phase) (word word' : ℕ) (x y : Log) → v.logs ≡ x ∷ [] → w.logs ≡ y ∷ [] → y.drawn ≡ x.drawn → y.no_chains_left ≡ x.no_chains_left → word' ≡ word
       → ((n : ℕ) → phase n ≡ unborn → phase' n ≡ unborn) → DrawsCount chains phase views word → DrawsCount chains phase' (set views id w) word'
   draws_same chains phase phase' word word' x y one one' drawn told same keeps ok =
-      let t = total_set told_of views id v w here in
-      let told_v : told_of v ≡ bit x.told + 0 = ap (λ (l : List Log). total (λ z. bit z.told) l) one in
-      let told_w : told_of w ≡ bit y.told + 0 = ap (λ (l : List Log). total (λ z. bit z.told) l) one' in
-      let told_y = ap bit told in
-      let total_told : total told_of (set views id w) ≡ total told_of views = omega arith in
+      let t = sum_set told_of views id v w here in
+      let told_v : told_of v ≡ 0 + one_if x.no_chains_left = ap (λ (l : List Log). sum_by (λ z. one_if z.no_chains_left) l) one in
+      let told_w : told_of w ≡ 0 + one_if y.no_chains_left = ap (λ (l : List Log). sum_by (λ z. one_if z.no_chains_left) l) one' in
+      let told_y = ap one_if told in
+      let total_told : sum_by told_of (set views id w) ≡ sum_by told_of views = omega arith in
       record {
         given = ok.given;
         few = ok.few;
         each = λ c.
-            let t = total_set (drawn_of c) views id v w here in
-            let a : drawn_of c v ≡ times c x.drawn + 0 = ap (λ (l : List Log). total (λ z. times c z.drawn) l) one in
-            let b : drawn_of c w ≡ times c y.drawn + 0 = ap (λ (l : List Log). total (λ z. times c z.drawn) l) one' in
+            let t = sum_set (drawn_of c) views id v w here in
+            let a : drawn_of c v ≡ 0 + times c x.drawn = ap (λ (l : List Log). sum_by (λ z. times c z.drawn) l) one in
+            let b : drawn_of c w ≡ 0 + times c y.drawn = ap (λ (l : List Log). sum_by (λ z. times c z.drawn) l) one' in
             let e = ap (times c) drawn in
-            let s : total (drawn_of c) (set views id w) ≡ total (drawn_of c) views = omega arith in
+            let s : sum_by (drawn_of c) (set views id w) ≡ sum_by (drawn_of c) views = omega arith in
             s ∙ ok.each c;
         counts = let c = ok.counts in omega arith;
         all = λ some. ok.all (omega arith);

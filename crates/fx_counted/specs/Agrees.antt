@@ -1,5 +1,5 @@
 -- The rule of the table without a lock: words, places and views agree with the state that one legal history leads to.
-use Rattle.std.specs.Prelude.{◌≡◌, ℕ, ◌+◌, ◌*◌, ◌^◌, ◌<◌, ◌≤◌, ◌⊎◌, true, List, [], length, slice_index, Option, Some, None}
+use Rattle.std.specs.Prelude.{◌≡◌, ℕ, ◌+◌, ◌*◌, ◌<◌, ◌≤◌, ◌⊎◌, true, List, [], length, slice_index, Option, Some, None, sum_by}
 use mathlib.Core.Option.{some, none}
 use mathlib.Core.Option as maybe
 use lib.ListN.{get_elem?}
@@ -7,9 +7,9 @@ use Rattle.fx_base.specs.declared.open_file.Closed.{Closed}
 use Rattle.fx_plain.specs.History.{IsLegal, IsSeenBy, part_of_pass, held_by}
 use Rattle.fx_plain.specs.State.{State}
 use Rattle.fx_plain.specs.Table.{numbered}
-use Rattle.fx_plain.specs.Totals.{total}
 use Rattle.fx_plain.specs.declared.event.File.{File}
 use Rattle.fx_plain.specs.declared.event.Event.{Event}
+use Rattle.fx_table.specs.declared.limits.TheConstants.{MAX_CHAINS, MAX_PASSES, PASS_LOOKS}
 use Rattle.fx_table.specs.Opening.{start_of, range_of}
 use Rattle.fx_words.specs.Words.{name_in, entry_in, takes_in, born}
 use Rattle.fx_counted.specs.Control.{ControlCounts}
@@ -113,8 +113,8 @@ pub record ViewAgrees (k : Start) (h : List Event) (phase : ℕ → Phase) (seat
 pub record HasShape (k : Start) (s : Shared) : Type 0 where
   pub slots : slots_of k ≤ 256
   pub range : (range_of (opening_of k)).0 + (range_of (opening_of k)).1 ≤ slots_of k
-  pub chains : k.chains ≤ 1023
-  pub passes : k.passes ≤ 16
+  pub chains : k.chains ≤ MAX_CHAINS
+  pub passes : k.passes ≤ MAX_PASSES
   pub words : length s.words ≡ words_for (slots_of k) k.chains
   pub homes : length s.homes ≡ homes_for (slots_of k) k.chains
 
@@ -133,12 +133,12 @@ pub record Agrees (k : Start) (s : Shared) : Type 0 where
   pub no_other : (n : ℕ) → (IsNumber k n → ⊥) → (state_after_all k history).removed n ≡ None
   pub each_view : (seat : ℕ) (v : View) → get_elem? s.views seat ≡ some v → ViewAgrees k history phase seat v
   -- the holds of a file are the passes that hold it
-  pub holds : (n : ℕ) → (state_after_all k history).holds n ≡ total (held_of n) s.views
-  -- each pass began with 2^20 look-ups
-  pub look_ups : all_looks history + total looks_of s.views ≡ 2 ^ 20 * k.passes
+  pub holds : (n : ℕ) → (state_after_all k history).holds n ≡ sum_by (held_of n) s.views
+  -- each pass began with as many look-ups
+  pub look_ups : all_looks history + sum_by looks_of s.views ≡ PASS_LOOKS * k.passes
   -- each pass is in one view, and nobody else did anything
-  pub passes : (p : ℕ) → total (logs_of p) s.views ≡ once k.passes p
-  pub whole : total lengths s.views ≡ k.passes
+  pub passes : (p : ℕ) → sum_by (logs_of p) s.views ≡ once k.passes p
+  pub whole : sum_by lengths s.views ≡ k.passes
   pub authors : (p : ℕ) → once k.passes p ≡ 0 → part_of_pass p history ≡ []
   pub control : ControlCounts (state_after_all k history).at (range_of (opening_of k)) s.views (slice_index s.words control_place)
   pub draws : DrawsCount k.chains phase s.views (slice_index s.words draw_place)

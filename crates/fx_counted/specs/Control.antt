@@ -1,6 +1,5 @@
 -- The control word: how many slots of the allocation range are full, and how many passes are about to change that.
-use Rattle.std.specs.Prelude.{◌≡◌, ℕ, zero, suc, ◌+◌, ◌/◌, ◌%◌, List, Option, Some, None}
-use Rattle.fx_plain.specs.Totals.{total}
+use Rattle.std.specs.Prelude.{◌≡◌, ℕ, zero, suc, ◌+◌, ◌/◌, ◌%◌, List, Option, Some, None, sum_by}
 use Rattle.fx_plain.specs.declared.event.File.{File}
 use Rattle.fx_words.specs.Words.{one_change, bias}
 use Rattle.fx_counted.specs.declared.view.Change.{Change}
@@ -48,5 +47,5 @@ full_in at off (suc len) = full_in at off len + if_full (at (off + len))
 -- The upper half counts the passes in a change. The lower half, less the bias, and what these passes have yet to
 -- tell are the full slots of the range
 pub record ControlCounts (at : ℕ → Option File) (range : ℕ × ℕ) (views : List View) (word : ℕ) : Type 0 where
-  pub upper : word / one_change ≡ total changes_of views
-  pub lower : word % one_change + total added_of views ≡ bias + full_in at range.0 range.1 + total removed_of views
+  pub upper : word / one_change ≡ sum_by changes_of views
+  pub lower : word % one_change + sum_by added_of views ≡ bias + full_in at range.0 range.1 + sum_by removed_of views

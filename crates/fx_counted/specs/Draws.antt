@@ -1,7 +1,6 @@
 -- The draw word: how many chains were given, and how many passes were told that there are no more.
-use Rattle.std.specs.Prelude.{◌≡◌, ℕ, ◌+◌, ◌<◌, ◌≤◌, List}
-use Rattle.fx_plain.specs.Totals.{total}
-use Rattle.fx_table.specs.Opening.{numbers_for}
+use Rattle.std.specs.Prelude.{◌≡◌, ℕ, ◌+◌, ◌<◌, ◌≤◌, List, sum_by}
+use Rattle.fx_table.specs.Numbers.{numbers_for}
 use Rattle.fx_counted.specs.Passes.{drawn_of, told_of, once}
 use Rattle.fx_counted.specs.Phases.{Phase, unborn}
 use Rattle.fx_counted.specs.declared.view.View.{View}
@@ -10,9 +9,9 @@ pub record DrawsCount (chains : ℕ) (phase : ℕ → Phase) (views : List View)
   -- the chains from 1 to this one were given, each to one pass
   pub given : ℕ
   pub few : given ≤ chains
-  pub each : (c : ℕ) → total (drawn_of c) views ≡ once given c
-  pub counts : word ≡ given + total told_of views
+  pub each : (c : ℕ) → sum_by (drawn_of c) views ≡ once given c
+  pub counts : word ≡ given + sum_by told_of views
   -- a pass was told so only when all were given
-  pub all : 0 < total told_of views → given ≡ chains
+  pub all : 0 < sum_by told_of views → given ≡ chains
   -- nobody uses the numbers of the others
   pub unused : (n : ℕ) → numbers_for given ≤ n → n < numbers_for chains → phase n ≡ unborn

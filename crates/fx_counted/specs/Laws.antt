@@ -105,5 +105,5 @@ ExchangesKeep = (k : Start) (slots id i slot n old new : ℕ) (file : Closed) (m
 
 -- a pass that wasn't told that there are no more chains
 abbrev pub DrawsKeep : Type 0
-DrawsKeep = (k : Start) (slots id i : ℕ) (m : Sat) (x : Log) → HasPass k m x → m.0.work ≡ Idle → x.told ≡ false → i ≡ draw_place
+DrawsKeep = (k : Start) (slots id i : ℕ) (m : Sat) (x : Log) → HasPass k m x → m.0.work ≡ Idle → x.no_chains_left ≡ false → i ≡ draw_place
     → Allows (Agrees k) slots id m i (λ word. (word + 1) % 2 ^ 64) (DrawTells (step slots i 1 0 none) m)

@@ -1,6 +1,7 @@
 -- Where the words and the open files of the table without a lock lie.
 use Rattle.std.specs.Prelude.{◌≡◌, ◌≢◌, ℕ, ◌+◌, ◌-◌, ◌*◌, ◌/◌, ◌<◌, ◌≤◌, ◌⊎◌, nat_lt, if◌then◌else◌}
-use Rattle.fx_table.specs.Opening.{numbers_for}
+use Rattle.fx_table.specs.Numbers.{numbers_for}
+use Rattle.fx_table.specs.declared.limits.TheConstants.{FIRST_CHAIN_NUMBER, CHAIN_NUMBERS}
 
 -- The control word and the draw word have a cache line of their own, and so has each slot. A slot's word lies beside
 -- the node word of the number that the slot has at first
@@ -19,21 +20,21 @@ slot_of place = (place - 16) / 8
 
 -- the node word of a number: those of the chains' numbers lie side by side behind the slots
 abbrev pub node_place : ℕ → ℕ → ℕ
-node_place size number = if nat_lt number size then 17 + 8 * number else 16 + 8 * size + (number - 256)
+node_place size number = if nat_lt number size then 17 + 8 * number else 16 + 8 * size + (number - FIRST_CHAIN_NUMBER)
 
 abbrev pub words_for : ℕ → ℕ → ℕ
-words_for size chains = 16 + 8 * size + 64 * chains
+words_for size chains = 16 + 8 * size + CHAIN_NUMBERS * chains
 
 -- where the open file of a number lies
 abbrev pub home_place : ℕ → ℕ → ℕ
-home_place size number = if nat_lt number size then number else size + (number - 256)
+home_place size number = if nat_lt number size then number else size + (number - FIRST_CHAIN_NUMBER)
 
 abbrev pub homes_for : ℕ → ℕ → ℕ
-homes_for size chains = size + 64 * chains
+homes_for size chains = size + CHAIN_NUMBERS * chains
 
 -- The number has a word and a place: it is that of a slot or of a chain
 abbrev pub HasNode : ℕ → ℕ → ℕ → Type 0
-HasNode size chains number = (number < size) ⊎ ((256 ≤ number) × (number < numbers_for chains))
+HasNode size chains number = (number < size) ⊎ ((FIRST_CHAIN_NUMBER ≤ number) × (number < numbers_for chains))
 
 -- the words of the numbers, and where their files lie, are inside
 pub record PlacesAreInside (size chains : ℕ) : Type 0 where

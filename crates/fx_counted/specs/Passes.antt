@@ -1,15 +1,15 @@
 -- What views say of passes.
-use Rattle.std.specs.Prelude.{ℕ, zero, suc, ◌-◌, ◌^◌, ◌==◌, nat_lt, false, List, [], ◌∷◌, Option, Some, None}
+use Rattle.std.specs.Prelude.{ℕ, zero, suc, ◌-◌, ◌==◌, nat_lt, false, List, [], ◌∷◌, Option, Some, None, sum_by, count_by, if◌then◌else◌}
 use Rattle.atomic_table.specs.Table.{State as TableState, Me}
 use Rattle.fx_base.specs.declared.open_file.Closed.{Closed}
 use Rattle.fx_plain.specs.History.{part_of_pass}
 use Rattle.fx_plain.specs.State.{State}
-use Rattle.fx_plain.specs.Totals.{total}
 use Rattle.fx_plain.specs.declared.event.File.{File}
 use Rattle.fx_plain.specs.declared.event.Event.{Event}
-use Rattle.fx_table.specs.Lists.{bit, times}
-use Rattle.fx_table.specs.Opening.{Opening, state_at, size_of, numbers_for}
+use Rattle.fx_table.specs.Opening.{Opening, state_at, size_of}
+use Rattle.fx_table.specs.Numbers.{numbers_for}
 use Rattle.fx_table.specs.Pass.{PassView}
+use Rattle.fx_table.specs.declared.limits.TheConstants.{PASS_LOOKS}
 use Rattle.fx_table.specs.declared.values.Doing.{Doing}
 use Rattle.fx_table.specs.declared.values.Doing.TheVariants.{Idle as NowIdle, Holding as NowHolding, Retiring as NowRetiring}
 use Rattle.fx_counted.specs.Layout.{HasNode}
@@ -72,7 +72,7 @@ shown x work = record {
   own = part_of_pass x.number x.front;
   chain = chain_in x;
   drawn = x.drawn;
-  told = x.told;
+  no_chains_left = x.no_chains_left;
   numbers_left = x.numbers_left;
   looks_left = x.looks_left;
   doing = doing_in work;
@@ -80,7 +80,7 @@ shown x work = record {
 
 -- a pass that has seen and done nothing
 abbrev pub new_log : ℕ → Log
-new_log p = record { number = p; front = []; drawn = []; told = false; numbers_left = 0; looks_left = 2 ^ 20; steps = 0 }
+new_log p = record { number = p; front = []; drawn = []; no_chains_left = false; numbers_left = 0; looks_left = PASS_LOOKS; steps = 0 }
 
 abbrev pub first_log : List Log → Log
 first_log [] = new_log 0
@@ -112,23 +112,23 @@ placing (Emptying number) = 0
 abbrev pub holding : ℕ → Work → ℕ
 holding n Idle = 0
 holding n (Placing number) = 0
-holding n (Holding f) = bit (f.number == n)
+holding n (Holding f) = if f.number == n then 1 else 0
 holding n (Retiring f takes) = 0
 holding n (Emptying number) = 0
 
 -- how many of a view's passes have the number, how often they drew a chain, how many were told that there are no
 -- more, and the look-ups that are left to them
 abbrev pub logs_of : ℕ → View → ℕ
-logs_of p v = total (λ x. bit (x.number == p)) v.logs
+logs_of p v = count_by (λ x. x.number == p) v.logs
 
 abbrev pub drawn_of : ℕ → View → ℕ
-drawn_of c v = total (λ x. times c x.drawn) v.logs
+drawn_of c v = sum_by (λ x. count_by (λ d. d == c) x.drawn) v.logs
 
 abbrev pub told_of : View → ℕ
-told_of v = total (λ x. bit x.told) v.logs
+told_of v = count_by (λ x. x.no_chains_left) v.logs
 
 abbrev pub looks_of : View → ℕ
-looks_of v = total (λ x. x.looks_left) v.logs
+looks_of v = sum_by (λ x. x.looks_left) v.logs
 
 abbrev pub held_of : ℕ → View → ℕ
 held_of n v = holding n v.work
@@ -136,4 +136,4 @@ held_of n v = holding n v.work
 -- 1 for the numbers from 1 to n, and else 0
 abbrev pub once : ℕ → ℕ → ℕ
 once n zero = 0
-once n (suc p) = bit (nat_lt p n)
+once n (suc p) = if nat_lt p n then 1 else 0

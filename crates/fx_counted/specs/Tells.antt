@@ -7,7 +7,7 @@ use Rattle.fx_plain.specs.Table.{numbered}
 use Rattle.fx_plain.specs.declared.event.File.{File}
 use Rattle.fx_plain.specs.declared.event.Action.{Action}
 use Rattle.fx_plain.specs.declared.event.Action.TheVariants.{Look, Release, Put, Allocate, Full, Close}
-use Rattle.fx_table.specs.Calls.{Use, nothing, one_look, one_number, Adds, Draws}
+use Rattle.fx_table.specs.Calls.{Use, no_use, one_look, one_number, Adds, Draws}
 use Rattle.fx_table.specs.Opening.{range_of}
 use Rattle.fx_table.specs.Pass.{next_number}
 use Rattle.fx_words.specs.Words.{takes_in, full_word_of}
@@ -69,7 +69,7 @@ turned Less old new = Less
 
 -- Birth: the place of the next number is with the pass
 pub record Births (st : At) (m : Sat) (found : ℕ) (m' : Sat) : Type 0 where
-  pub stepped : Stepped m [] nothing (Placing (next_number (pass_of m.0))) m.0.change m'
+  pub stepped : Stepped m [] no_use (Placing (next_number (pass_of m.0))) m.0.change m'
   pub carried : m'.1 ≡ (home_place (slots_of m.0.start) (next_number (pass_of m.0)), None) ∷ m.1
 
 -- Look: the word that was found names the file that was there
@@ -91,17 +91,17 @@ pub record Installs (st : At) (m : Sat) (found : ℕ) (m' : Sat) : Type 0 where
 pub record Removes (action : ℕ → Option File → Action) (st : At) (m : Sat) (found : ℕ) (m' : Sat) : Type 0 where
   pub file : Option File
   pub names : Names found file
-  pub stepped : Stepped m ([] ▷ action (slot_of st.word) file) nothing (retires_now file (takes_in found)) (turned m.0.change (if_full file) 0) m'
+  pub stepped : Stepped m ([] ▷ action (slot_of st.word) file) no_use (retires_now file (takes_in found)) (turned m.0.change (if_full file) 0) m'
   pub carried : m'.1 ≡ m.1
 
 -- the file of the pass is closed, and with the pass
 pub record TakesOut (m : Sat) (actions : List Action) (f : File) (m' : Sat) : Type 0 where
-  pub stepped : Stepped m (actions ▷ Close f) nothing (Emptying f.number) m.0.change m'
+  pub stepped : Stepped m (actions ▷ Close f) no_use (Emptying f.number) m.0.change m'
   pub carried : m'.1 ≡ (home_place (slots_of m.0.start) f.number, Some f.identity) ∷ m.1
 
 -- the file of the pass stays open, and the pass has done with it
 pub record LetsGo (m : Sat) (actions : List Action) (m' : Sat) : Type 0 where
-  pub stepped : Stepped m actions nothing Idle m.0.change m'
+  pub stepped : Stepped m actions no_use Idle m.0.change m'
   pub carried : m'.1 ≡ m.1
 
 -- Retire: where the word was what was subtracted, nobody holds the file
@@ -116,25 +116,25 @@ pub record Releases (st : At) (m : Sat) (found : ℕ) (m' : Sat) : Type 0 where
 
 -- Rest: the place is home, without a file
 pub record Rests (st : At) (m : Sat) (found : ℕ) (m' : Sat) : Type 0 where
-  pub stepped : Stepped m [] nothing Idle m.0.change m'
+  pub stepped : Stepped m [] no_use Idle m.0.change m'
   pub carried : m'.1 ≡ rest m.1
 
 -- a step that leaves the pass at its work: Begin, End and Load
 pub record GoesOn (change : Change) (st : At) (m : Sat) (found : ℕ) (m' : Sat) : Type 0 where
-  pub stepped : Stepped m [] nothing m.0.work change m'
+  pub stepped : Stepped m [] no_use m.0.work change m'
   pub carried : m'.1 ≡ m.1
 
 -- Answer: where the word said so, every slot of the range was full
 pub record Answers (st : At) (m : Sat) (found : ℕ) (m' : Sat) : Type 0 where
-  pub full : found ≡ full_word_of (range_of (opening_of m.0.start)).1 → Stepped m ([] ▷ Full) nothing m.0.work Outside m'
-  pub not_full : found ≢ full_word_of (range_of (opening_of m.0.start)).1 → Stepped m [] nothing m.0.work Outside m'
+  pub full : found ≡ full_word_of (range_of (opening_of m.0.start)).1 → Stepped m ([] ▷ Full) no_use m.0.work Outside m'
+  pub not_full : found ≢ full_word_of (range_of (opening_of m.0.start)).1 → Stepped m [] no_use m.0.work Outside m'
   pub carried : m'.1 ≡ m.1
 
 -- Exchange: the file that the pass places is at the slot, which was empty; or nothing changed
 pub record Exchanges (st : At) (m : Sat) (found : ℕ) (m' : Sat) : Type 0 where
   pub wins : (n : ℕ) (file : Closed) → m.0.work ≡ Placing n → m.1 ≡ (home_place (slots_of m.0.start) n, Some file) ∷ [] → found ≡ st.first
       → Stepped m ([] ▷ Allocate (slot_of st.word) (numbered n file)) one_number Idle More m' × (m'.1 ≡ rest m.1)
-  pub loses : found ≢ st.first → Stepped m [] nothing m.0.work m.0.change m' × (m'.1 ≡ m.1)
+  pub loses : found ≢ st.first → Stepped m [] no_use m.0.work m.0.change m' × (m'.1 ≡ m.1)
 
 -- the chain that a draw gives which found this word
 abbrev pub chain_given : ℕ → ℕ → Option ℕ

@@ -4,6 +4,9 @@
 
 mod kinds;
 pub mod laws;
+pub mod layout;
+#[cfg(test)]
+mod tests;
 mod view;
 
 pub use kinds::{

@@ -23,7 +23,7 @@ pub struct Log {
     /// The chains that the pass drew, the last one first.
     pub drawn: LinkedList<u32>,
     /// Whether a draw has answered that there are no more chains.
-    pub told: bool,
+    pub no_chains_left: bool,
     /// How many numbers of its last chain are left to the pass: they are the last ones.
     pub numbers_left: u32,
     /// How many look-ups are left to the pass.

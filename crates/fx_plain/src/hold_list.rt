@@ -21,7 +21,8 @@ impl Model for HoldList {
 
     ghost view = { λ holds. with_rest 0 holds.len holds.written.items };
 
-    ghost invariant = { λ holds. (vec_len holds.written ≤ holds.len) × (holds.len ≤ vec_capacity holds.written) };
+    ghost invariant = { λ holds.
+        (vec_len holds.written ≤ holds.len) × (holds.len ≤ vec_capacity holds.written) };
 }
 
 impl HoldList {
@@ -78,7 +79,8 @@ fn write_up_to(holds: &mut Vec<u32>, number: u32)
     requires { number < vec_capacity holds.old }
     ensures inside { number < vec_len holds.new }
     ensures few { (len : ℕ) → number < len → vec_len holds.old ≤ len → vec_len holds.new ≤ len }
-    ensures same { (len : ℕ) → number < len → with_rest 0 len holds.new.items ≡ with_rest 0 len holds.old.items }
+    ensures same { (len : ℕ) → number < len
+        → with_rest 0 len holds.new.items ≡ with_rest 0 len holds.old.items }
     ensures capacity { vec_capacity holds.new ≡ vec_capacity holds.old }
 {
     for _ in holds.len()..number as usize + 1 {

@@ -37,7 +37,8 @@ pub(crate) fn is_retired(node: &Node) -> bool
 
 // The file of a node, wherever it stands.
 pub(crate) fn file_in(node: &Node) -> Option<&OpenFile>
-    ensures { MatchOption result (file_in node.now ≡ None) (λ file. file_in node.now ≡ Some file.now) }
+    ensures { MatchOption result (file_in node.now ≡ None)
+        (λ file. file_in node.now ≡ Some file.now) }
 {
     match node {
         Node::At(_, file) | Node::Leaving(file) | Node::Retired(file) => Some(file),

@@ -29,7 +29,8 @@ impl Model for NodeList {
 
     ghost view = { λ nodes. with_rest Fresh nodes.len nodes.written.items };
 
-    ghost invariant = { λ nodes. (vec_len nodes.written ≤ nodes.len) × (nodes.len ≤ vec_capacity nodes.written) };
+    ghost invariant = { λ nodes.
+        (vec_len nodes.written ≤ nodes.len) × (nodes.len ≤ vec_capacity nodes.written) };
 }
 
 impl NodeList {
@@ -84,7 +85,8 @@ impl NodeList {
 
     // The file of a number, wherever it stands.
     pub(crate) fn file(&self, number: u32) -> Option<&OpenFile>
-        ensures { MatchOption result (file_in (node_at self.now number) ≡ None) (λ file. file_in (node_at self.now number) ≡ Some file.now) }
+        ensures { MatchOption result (file_in (node_at self.now number) ≡ None)
+            (λ file. file_in (node_at self.now number) ≡ Some file.now) }
     {
         match self.written.get(number as usize) {
             Some(node) => file_in(node),
@@ -113,7 +115,8 @@ impl NodeList {
     // The file of a number left its slot, and is leaving from now on.
     pub(crate) fn leave(&mut self, number: u32)
         requires { IsSome (file_in (node_at self.old number)) }
-        ensures { self.new ≡ slice_set self.old number (node_after_removal (node_at self.old number)) }
+        ensures { self.new
+            ≡ slice_set self.old number (node_after_removal (node_at self.old number)) }
     {
         let node = put_in(&mut self.written, number as usize, Node::Gone);
         spend_node(put_in(&mut self.written, number as usize, node_after_removal(node)));
@@ -122,7 +125,8 @@ impl NodeList {
     // The file of a number was leaving, and is retired from now on.
     pub(crate) fn retire(&mut self, number: u32)
         requires { IsSome (file_in (node_at self.old number)) }
-        ensures { self.new ≡ slice_set self.old number (node_after_retirement (node_at self.old number)) }
+        ensures { self.new
+            ≡ slice_set self.old number (node_after_retirement (node_at self.old number)) }
     {
         let node = put_in(&mut self.written, number as usize, Node::Gone);
         spend_node(put_in(
@@ -161,7 +165,8 @@ fn write_up_to(nodes: &mut Vec<Node>, number: u32)
     requires { number < vec_capacity nodes.old }
     ensures inside { number < vec_len nodes.new }
     ensures few { (len : ℕ) → number < len → vec_len nodes.old ≤ len → vec_len nodes.new ≤ len }
-    ensures same { (len : ℕ) → number < len → with_rest Fresh len nodes.new.items ≡ with_rest Fresh len nodes.old.items }
+    ensures same { (len : ℕ) → number < len
+        → with_rest Fresh len nodes.new.items ≡ with_rest Fresh len nodes.old.items }
     ensures capacity { vec_capacity nodes.new ≡ vec_capacity nodes.old }
 {
     for _ in nodes.len()..number as usize + 1 {

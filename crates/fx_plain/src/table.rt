@@ -48,7 +48,13 @@ impl Model for PlainTable {
 
     ghost Value = { Contents };
 
-    ghost view = { λ t. record { slots = t.slots.items; range = (t.range_start, t.range_len); nodes = t.nodes; holds = t.holds; numbers = t.numbers } };
+    ghost view = { λ t. record {
+      slots = t.slots.items;
+      range = (t.range_start, t.range_len);
+      nodes = t.nodes;
+      holds = t.holds;
+      numbers = t.numbers;
+    } };
 
     ghost invariant = { λ t.
         IsTable (record { slots = t.slots.items; range = (t.range_start, t.range_len); nodes = t.nodes; holds = t.holds; numbers = t.numbers })
@@ -112,7 +118,8 @@ impl PlainTable {
     /// "IORING_REGISTER_FILE_ALLOC_RANGE").
     pub fn range(&self) -> (u32, u32)
         ensures value { result ≡ (state_of self.now).range }
-        ensures inside { (state_of self.now).range.0 + (state_of self.now).range.1 ≤ (state_of self.now).size }
+        ensures inside { (state_of self.now).range.0 + (state_of self.now).range.1
+            ≤ (state_of self.now).size }
     {
         (self.range_start, self.range_len)
     }

@@ -4,7 +4,7 @@ ghost use Rattle.fx_plain.specs.State.{IsSettled};
 ghost use Rattle.fx_plain.specs.Contents.{state_of};
 
 use crate::node::Node;
-use crate::{BadRange, PlainTable};
+use crate::{BadRange, MOST_SLOTS, PlainTable};
 use fx_base::{Catalogue, CloseList, Closed, Mark, OpenFile};
 use std::alloc::Global;
 use std::process::Abort;
@@ -39,12 +39,9 @@ fn open(rt: &impl Abort, catalogue: &Catalogue, file: Closed) -> OpenFile {
 
 // What a file that came out of a table was.
 fn spent(file: OpenFile) -> Closed {
-    let closed = Closed {
-        mark: file.mark(),
-        entry: file.entry(),
-    };
+    let identity = file.identity();
     file.discard();
-    closed
+    identity
 }
 
 // A settled table of one slot with the first file, which has number 0, and numbers for one chain.
@@ -107,6 +104,44 @@ fn sparse_slots_are_empty_and_numbers_behind_them_are_fresh(rt: HostRuntime) -> 
     assert_eq!(rt; table.clear(1), None);
     assert_eq!(rt; table.take(1), None);
     table.abandon();
+    Ok(())
+}
+
+#[test]
+#[tactic(auto, using(crate::proofs::Settled::settled_has_room))]
+fn all_256_slots_take_files_under_the_last_of_65728_numbers(rt: HostRuntime) -> Result<(), Fail> {
+    let catalogue = two_files(rt.alloc())?;
+    let mut closes = CloseList::with_room(rt.alloc(), 256)?;
+    let mut table = PlainTable::sparse(rt.alloc(), MOST_SLOTS)?;
+    assert!(rt; table.is_settled() && table.size() == 256);
+    assert_eq!(rt; table.prepare(65_728), Ok(()));
+    assert_eq!(rt; table.numbers(), 65_728);
+    for slot in 0..256u32 {
+        let number = 65_727 - slot;
+        assert!(rt; slot < table.size() && table.is_fresh(number));
+        assert_eq!(rt; table.put(slot, number, open(&rt, &catalogue, FIRST)), None);
+        assert!(rt; !table.is_fresh(number) && table.is_fresh(256));
+    }
+    assert_eq!(rt; table.full(), 256);
+    for slot in [0u32, 17, 255] {
+        assert!(rt; table.is_settled() && slot < table.size());
+        assert_eq!(rt; table.look(slot), Some((65_727 - slot, 0)));
+        assert!(rt; table.is_held(65_727 - slot));
+        assert_eq!(rt; table.release(65_727 - slot).map(spent), None);
+    }
+    assert!(rt; table.is_settled() && table.size() == 256);
+    assert_eq!(rt; table.prepare(256), Ok(()));
+    for slot in 0..256u32 {
+        assert!(rt; table.is_settled() && slot < table.size());
+        assert_eq!(rt; table.look(slot), Some((slot, 0)));
+        assert!(rt; table.is_held(slot) && !table.is_fresh(slot + 256));
+        assert_eq!(rt; table.release(slot).map(spent), None);
+    }
+    assert!(rt; table.is_settled() && table.full() == 256 && closes.room() == 256);
+    table.empty_into(&mut closes);
+    assert_eq!(rt; closes.files().len(), 256);
+    assert!(rt; table.is_settled() && table.full() == 0);
+    table.dismiss();
     Ok(())
 }
 

@@ -19,8 +19,10 @@ impl PlainTable {
     pub fn look(&mut self, slot: u32) -> Option<(u32, u8)>
         requires slot { slot < (state_of self.old).size }
         requires room { HasRoomForHold (state_of self.old) slot }
-        ensures answer { result ≡ option_map (λ f. (f.number, f.identity.entry)) ((state_of self.old).at slot) }
-        ensures step { Steps (state_of self.old) (Look slot ((state_of self.old).at slot)) (state_of self.new) }
+        ensures answer { result
+            ≡ option_map (λ f. (f.number, f.identity.entry)) ((state_of self.old).at slot) }
+        ensures step { Steps (state_of self.old) (Look slot ((state_of self.old).at slot))
+            (state_of self.new) }
         ensures leaving { leaving self.new ≡ leaving self.old }
         ensures numbers { numbers_of self.new ≡ numbers_of self.old }
         ensures sound { IsTable self.new }
@@ -37,7 +39,9 @@ impl PlainTable {
     pub fn release(&mut self, number: u32) -> Option<OpenFile>
         requires { 0 < (state_of self.old).holds number }
         ensures answer { result ≡ identity_of (closed_by_release self.old number) }
-        ensures steps { (f : File) → f.number ≡ number → Leads (state_of self.old) ([] ▷ Release f ▷▷ close_of (closed_by_release self.old number)) (state_of self.new) }
+        ensures steps { (f : File) → f.number ≡ number
+            → Leads (state_of self.old)
+            ([] ▷ Release f ▷▷ close_of (closed_by_release self.old number)) (state_of self.new) }
         ensures leaving { leaving self.new ≡ leaving self.old }
         ensures numbers { numbers_of self.new ≡ numbers_of self.old }
         ensures sound { IsTable self.new }
@@ -60,7 +64,8 @@ impl PlainTable {
     pub fn retire(&mut self, number: u32) -> Option<OpenFile>
         requires { leaving self.old number ≡ true }
         ensures answer { result ≡ identity_of (closed_by_retirement self.old number) }
-        ensures steps { Leads (state_of self.old) (close_of (closed_by_retirement self.old number)) (state_of self.new) }
+        ensures steps { Leads (state_of self.old) (close_of (closed_by_retirement self.old number))
+            (state_of self.new) }
         ensures leaving { leaving self.new ≡ changed_at (leaving self.old) number false }
         ensures numbers { numbers_of self.new ≡ numbers_of self.old }
         ensures sound { IsTable self.new }

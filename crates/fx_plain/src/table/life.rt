@@ -14,9 +14,10 @@ use std::alloc::Global;
 use std::mem;
 
 impl PlainTable {
-    /// Makes a settled table ready for passes: the file at a slot gets the slot's number, and the numbers from the
-    /// size up to `numbers - 1` are fresh. Files, size and range stay. It takes the memory of all numbers now, under 64
-    /// bytes for each (this project's own).
+    /// Makes a settled table ([`PlainTable::is_settled`]) ready for passes: the file at a slot gets the slot's number,
+    /// and the numbers from the size up to `numbers - 1` are fresh. `numbers` is at least [`PlainTable::size`]. Files,
+    /// size and range stay. The memory of all numbers is reserved now, under 64 bytes for each; a number's part of it is
+    /// written once a file gets the number or one behind it (this project's own).
     ///
     /// # Errors
     /// `NoMemory` where that memory is refused. The table is then as before.
@@ -39,15 +40,17 @@ impl PlainTable {
         Ok(())
     }
 
-    /// Closes all files of a settled table, in order of slot. No slot is left, the allocation range is empty, and how
-    /// many numbers were prepared stays. It can't fail for want of memory: the list has room already (io_uring_register(2),
+    /// Closes all files of a settled table ([`PlainTable::is_settled`]), in order of slot, where the list has room for
+    /// them ([`CloseList::room`] is at least [`PlainTable::full`]), so that it can't fail for want of memory. No slot is
+    /// left, the allocation range is empty, and how many numbers were prepared stays (io_uring_register(2),
     /// "IORING_UNREGISTER_FILES").
     pub fn empty_into(&mut self, closes: &mut CloseList)
         requires settled { IsSettled (state_of self.old) }
         requires room { length (files_of (state_of self.old)) ≤ closes.old.room }
         ensures files { closes.new.files ≡ closes.old.files ++ files_of (state_of self.old) }
         ensures room { closes.new.room + length (files_of (state_of self.old)) ≡ closes.old.room }
-        ensures empty { state_of self.new ≡ record (vacant 0) { fresh = (state_of self.old).fresh } }
+        ensures empty { state_of self.new
+            ≡ record (vacant 0) { fresh = (state_of self.old).fresh } }
         ensures numbers { numbers_of self.new ≡ numbers_of self.old }
     {
         close_all(&self.slots, &mut self.nodes, closes);
@@ -57,7 +60,7 @@ impl PlainTable {
         self.full = 0;
     }
 
-    /// Spends a settled table that has no file (this project's own).
+    /// Spends a settled table ([`PlainTable::is_settled`]) that has no file ([`PlainTable::full`] is 0).
     pub fn dismiss(self)
         requires settled { IsSettled (state_of self) }
         requires empty { files_of (state_of self) ≡ [] }
@@ -65,8 +68,8 @@ impl PlainTable {
         self.abandon();
     }
 
-    /// Lets every file of the table go without a list. It is the way out after a fault, and can't fail for want of memory (this
-    /// project's own).
+    /// Lets every file of the table go without a list. It is the way out after a fault, and can't fail for want of
+    /// memory (this project's own).
     pub fn abandon(self) {
         let PlainTable {
             slots: _,
@@ -86,9 +89,11 @@ impl PlainTable {
 // Takes the file of a slot out of its node, to stand in the node of the slot's own number.
 fn move_file(slots: &mut Vec<Option<u32>>, nodes: &mut NodeList, slot: usize) -> Node
     requires slot { (slot < vec_len slots.old) × (slot < 2 ^ 32) }
-    requires inside { IfSome (slot_at slots.old.items slot) (λ n. IsSome (file_in (node_at nodes.old n))) }
+    requires inside { IfSome (slot_at slots.old.items slot)
+        (λ n. IsSome (file_in (node_at nodes.old n))) }
     ensures node { result ≡ moved_node (file_named nodes.old (slot_at slots.old.items slot)) slot }
-    ensures slots { slots.new.items ≡ slice_set slots.old.items slot (opening_slot (slot_at slots.old.items slot) slot) }
+    ensures slots { slots.new.items
+        ≡ slice_set slots.old.items slot (opening_slot (slot_at slots.old.items slot) slot) }
     ensures nodes { nodes.new ≡ nodes_without nodes.old (slot_at slots.old.items slot) }
 {
     let Some(number) = slots[slot] else {
@@ -109,8 +114,11 @@ fn renumber(slots: &mut Vec<Option<u32>>, nodes: &mut NodeList, moved: &mut Vec<
     ensures len { vec_len slots.new ≡ vec_len slots.old }
     ensures count { vec_len moved.new ≡ vec_len slots.old }
     ensures capacity { vec_capacity moved.new ≡ vec_capacity moved.old }
-    ensures slots { (slot : ℕ) → slot < vec_len slots.old → slot_at slots.new.items slot ≡ opening_slot (slot_at slots.old.items slot) slot }
-    ensures moved { (slot : ℕ) → slot < vec_len slots.old → node_at moved.new.items slot ≡ moved_node (file_named nodes.old (slot_at slots.old.items slot)) slot }
+    ensures slots { (slot : ℕ) → slot < vec_len slots.old
+        → slot_at slots.new.items slot ≡ opening_slot (slot_at slots.old.items slot) slot }
+    ensures moved { (slot : ℕ) → slot < vec_len slots.old
+        → node_at moved.new.items slot
+        ≡ moved_node (file_named nodes.old (slot_at slots.old.items slot)) slot }
     ensures full { total file_count_of slots.new.items ≡ total file_count_of slots.old.items }
 {
     for slot in 0..slots.len() {
@@ -123,8 +131,10 @@ fn renumber(slots: &mut Vec<Option<u32>>, nodes: &mut NodeList, moved: &mut Vec<
 fn close_file(slot: Option<u32>, nodes: &mut NodeList, closes: &mut CloseList)
     requires inside { IfSome slot (λ n. IsSome (file_in (node_at nodes.old n))) }
     requires room { length (option_to_list (file_named nodes.old slot)) ≤ closes.old.room }
-    ensures files { closes.new.files ≡ closes.old.files ++ option_to_list (file_named nodes.old slot) }
-    ensures room { closes.new.room + length (option_to_list (file_named nodes.old slot)) ≡ closes.old.room }
+    ensures files { closes.new.files
+        ≡ closes.old.files ++ option_to_list (file_named nodes.old slot) }
+    ensures room { closes.new.room + length (option_to_list (file_named nodes.old slot))
+        ≡ closes.old.room }
     ensures nodes { nodes.new ≡ nodes_without nodes.old slot }
 {
     let Some(number) = slot else {
@@ -138,11 +148,17 @@ fn close_file(slot: Option<u32>, nodes: &mut NodeList, closes: &mut CloseList)
 // Closes the files of all slots, in order.
 fn close_all(slots: &Vec<Option<u32>>, nodes: &mut NodeList, closes: &mut CloseList)
     requires placed { AllPlaced slots.now.items nodes.old }
-    requires room { length (files_in_order (λ slot. file_at nodes.old (slot_at slots.now.items slot)) (length slots.now.items)) ≤ closes.old.room }
-    ensures files { closes.new.files ≡ closes.old.files ++ files_in_order (λ slot. file_at nodes.old (slot_at slots.now.items slot)) (length slots.now.items) }
-    ensures room { closes.new.room + length (files_in_order (λ slot. file_at nodes.old (slot_at slots.now.items slot)) (length slots.now.items)) ≡ closes.old.room }
+    requires room { length (files_in_order (λ slot. file_at nodes.old (slot_at slots.now.items slot))
+        (length slots.now.items)) ≤ closes.old.room }
+    ensures files { closes.new.files ≡ closes.old.files
+        ++ files_in_order (λ slot. file_at nodes.old (slot_at slots.now.items slot))
+        (length slots.now.items) }
+    ensures room { closes.new.room
+        + length (files_in_order (λ slot. file_at nodes.old (slot_at slots.now.items slot))
+        (length slots.now.items)) ≡ closes.old.room }
     ensures len { length nodes.new ≡ length nodes.old }
-    ensures nodes { (number : ℕ) → SameButPlaced (node_at nodes.old number) (node_at nodes.new number) }
+    ensures nodes { (number : ℕ)
+        → SameButPlaced (node_at nodes.old number) (node_at nodes.new number) }
     ensures removed { total removed_count_of nodes.new ≡ total removed_count_of nodes.old }
 {
     for slot in 0..slots.len() {

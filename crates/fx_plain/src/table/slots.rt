@@ -11,15 +11,17 @@ use crate::table::PlainTable;
 use fx_base::OpenFile;
 
 impl PlainTable {
-    /// Installs a file at a slot, under a number that is fresh. The answer is the number of the file that it replaced,
-    /// which is leaving from now on, or `None` where the slot was empty (io_uring_prep_openat(3),
-    /// `io_uring_prep_openat_direct`).
+    /// Installs a file at a slot, under a number that is fresh ([`PlainTable::is_fresh`]). The answer is the number of
+    /// the file that it replaced, which is leaving from now on, or `None` where the slot was empty
+    /// (io_uring_prep_openat(3), `io_uring_prep_openat_direct`).
     pub fn put(&mut self, slot: u32, number: u32, file: OpenFile) -> Option<u32>
         requires slot { slot < (state_of self.old).size }
         requires fresh { (state_of self.old).fresh number ≡ true }
         ensures answer { result ≡ number_of ((state_of self.old).at slot) }
-        ensures step { Steps (state_of self.old) (Put slot (numbered number file) ((state_of self.old).at slot)) (state_of self.new) }
-        ensures leaving { leaving self.new ≡ more_leaving (leaving self.old) ((state_of self.old).at slot) }
+        ensures step { Steps (state_of self.old)
+            (Put slot (numbered number file) ((state_of self.old).at slot)) (state_of self.new) }
+        ensures leaving { leaving self.new
+            ≡ more_leaving (leaving self.old) ((state_of self.old).at slot) }
         ensures numbers { numbers_of self.new ≡ numbers_of self.old }
         ensures sound { IsTable self.new }
     {
@@ -39,15 +41,17 @@ impl PlainTable {
         }
     }
 
-    /// Installs a file at a free slot of the allocation range, under a number that is fresh. The answer is the slot; it
-    /// is the first free one, which no contract promises (io_uring_prep_openat(3), "IORING_FILE_INDEX_ALLOC").
+    /// Installs a file at a free slot of the allocation range, under a number that is fresh ([`PlainTable::is_fresh`]).
+    /// The answer is the slot; it is the first free one, which no contract promises (io_uring_prep_openat(3),
+    /// "IORING_FILE_INDEX_ALLOC").
     ///
     /// # Errors
     /// The file comes back where every slot of the range has a file (ENFILE). The table is then as before, and the
     /// number stays fresh.
     pub fn put_any(&mut self, number: u32, file: OpenFile) -> Result<u32, OpenFile>
         requires { (state_of self.old).fresh number ≡ true }
-        ensures ok { IfOk result (λ slot. Steps (state_of self.old) (Allocate slot (numbered number file)) (state_of self.new)) }
+        ensures ok { IfOk result (λ slot.
+            Steps (state_of self.old) (Allocate slot (numbered number file)) (state_of self.new)) }
         ensures full { OnErr result (Allows (state_of self.old) Full) }
         ensures refused { IfErr result (λ back. back ≡ file) }
         ensures err { OnErr result (self.new ≡ self.old) }
@@ -64,7 +68,10 @@ impl PlainTable {
 
     // The first free slot of the allocation range.
     fn free_slot(&self) -> Option<u32>
-        ensures found { IfSome result (λ slot. (slot < (state_of self.now).size) × IsInRange (state_of self.now) slot × ((state_of self.now).at slot ≡ None)) }
+        ensures found { IfSome result (λ slot.
+            (slot < (state_of self.now).size)
+            × IsInRange (state_of self.now) slot
+            × ((state_of self.now).at slot ≡ None)) }
         ensures full { IfNone result (Allows (state_of self.now) Full) }
         ensures sound { IsTable self.now }
     {
@@ -81,8 +88,10 @@ impl PlainTable {
     pub fn clear(&mut self, slot: u32) -> Option<u32>
         requires { slot < (state_of self.old).size }
         ensures answer { result ≡ number_of ((state_of self.old).at slot) }
-        ensures step { Steps (state_of self.old) (Clear slot ((state_of self.old).at slot)) (state_of self.new) }
-        ensures leaving { leaving self.new ≡ more_leaving (leaving self.old) ((state_of self.old).at slot) }
+        ensures step { Steps (state_of self.old) (Clear slot ((state_of self.old).at slot))
+            (state_of self.new) }
+        ensures leaving { leaving self.new
+            ≡ more_leaving (leaving self.old) ((state_of self.old).at slot) }
         ensures numbers { numbers_of self.new ≡ numbers_of self.old }
         ensures sound { IsTable self.new }
     {
@@ -94,8 +103,10 @@ impl PlainTable {
     pub fn take(&mut self, slot: u32) -> Option<u32>
         requires { slot < (state_of self.old).size }
         ensures answer { result ≡ number_of ((state_of self.old).at slot) }
-        ensures step { Steps (state_of self.old) (Take slot ((state_of self.old).at slot)) (state_of self.new) }
-        ensures leaving { leaving self.new ≡ more_leaving (leaving self.old) ((state_of self.old).at slot) }
+        ensures step { Steps (state_of self.old) (Take slot ((state_of self.old).at slot))
+            (state_of self.new) }
+        ensures leaving { leaving self.new
+            ≡ more_leaving (leaving self.old) ((state_of self.old).at slot) }
         ensures numbers { numbers_of self.new ≡ numbers_of self.old }
         ensures sound { IsTable self.new }
     {

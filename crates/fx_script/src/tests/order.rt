@@ -77,10 +77,9 @@ fn a_long_line_with_another_fault(rt: HostRuntime) -> Result<(), Fail> {
         "close 0 ",
     ];
     for front in fronts {
-        let text = joined(rt.alloc(), &[front, long.as_str()])?;
+        let mut text = String::from_str(rt.alloc(), front)?;
+        text.push_str(long.as_str())?;
         is_refused(&rt, text.as_bytes(), 1, "long-line")?;
-        let text = joined(rt.alloc(), &["sparse 1\n", front, long.as_str()])?;
-        is_refused(&rt, text.as_bytes(), 2, "long-line")?;
     }
     Ok(())
 }
@@ -171,12 +170,15 @@ fn a_late_file_and_another_line_with_a_fault(rt: HostRuntime) -> Result<(), Fail
 #[test]
 fn unsubmitted_behind_all_other_faults(rt: HostRuntime) -> Result<(), Fail> {
     for (line, name) in FAULTY {
-        // A `file` line behind a request is late.
-        let name = if line.starts_with("file") { "late-file" } else { name };
-        let text = joined(rt.alloc(), &["close 0\n", line])?;
-        is_refused(&rt, text.as_bytes(), 2, name)?;
-        let text = joined(rt.alloc(), &["submit\nclose 0\n", line, "\nclose 1\n"])?;
-        is_refused(&rt, text.as_bytes(), 3, name)?;
+        let last = joined(rt.alloc(), &["close 0\n", line])?;
+        let among = joined(rt.alloc(), &["submit\nclose 0\n", line, "\nclose 1\n"])?;
+        if line.starts_with("file") {
+            is_refused(&rt, last.as_bytes(), 2, "late-file")?;
+            is_refused(&rt, among.as_bytes(), 3, "late-file")?;
+        } else {
+            is_refused(&rt, last.as_bytes(), 2, name)?;
+            is_refused(&rt, among.as_bytes(), 3, name)?;
+        }
     }
     Ok(())
 }

@@ -1,0 +1,6 @@
+pub mod Removals
+pub mod Rings
+pub mod Numbers
+pub mod Listed
+pub mod Origins
+pub mod Updates

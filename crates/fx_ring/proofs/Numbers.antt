@@ -1,0 +1,53 @@
+-- The numbers of a list, by their sign.
+use Rattle.std.proofs.Common.{◌≡◌, ℕ, zero, suc, ◌+◌, ◌<◌, ◌≤◌, Bool, true, false, ◌||◌, ℤ, pos, negsuc, int_le, int_lt, List, [], ◌∷◌, ◌++◌, length, refl, sym, ap, ◌∙◌, arith, nat_abs, nat_le, nat_lt}
+use Rattle.std.proofs.lemmas.Bool.{ltb-true, le-leb, leb-false, ltb-false, le-ltb}
+use Rattle.std.specs.List.{list_any}
+use Rattle.fx_chain.specs.Answers.{is_bad_entry}
+use Rattle.fx_ring.specs.Registration.{is_bad_file}
+
+-- a number of 0 or more is the one that it reads as
+pub unsigned : (z : ℤ) → int_le (pos 0) z ≡ true → z ≡ pos (nat_abs z)
+unsigned (pos n) is = refl
+unsigned (negsuc n) is = cc
+
+pub minus_one : (z : ℤ) → int_le (pos 0) z ≡ false → int_lt (negsuc 1) z ≡ true → z ≡ negsuc 0
+minus_one (pos n) low high = let e : true ≡ false = sym (le-leb 0 n (omega arith)) ∙ low in cc
+minus_one (negsuc zero) low high = refl
+minus_one (negsuc (suc n)) low high = let lt = ltb-true (suc n) 1 high in absurd (omega arith)
+
+-- below -1
+pub minus_more : (z : ℤ) → int_le (pos 0) z ≡ false → int_lt (negsuc 1) z ≡ false → (n : ℕ) × (z ≡ negsuc (suc n))
+minus_more (pos n) low high = let e : true ≡ false = sym (le-leb 0 n (omega arith)) ∙ low in cc
+minus_more (negsuc zero) low high = cc
+minus_more (negsuc (suc n)) low high = (n, refl)
+
+-- a good number of 0 or more is an entry
+pub entry_inside : (entries : ℕ) (z : ℤ) → int_le (pos 0) z ≡ true → is_bad_entry entries z ≡ false → nat_abs z < entries
+entry_inside entries (pos n) is good = leb-false entries n good
+entry_inside entries (negsuc n) is good = cc
+
+pub or_left : (a b : Bool) → a || b ≡ false → a ≡ false
+or_left true b is = cc
+or_left false b is = refl
+
+pub or_right : (a b : Bool) → a || b ≡ false → b ≡ false
+or_right true b is = cc
+or_right false b is = is
+
+good_file : (entries : ℕ) (z : ℤ) → is_bad_file entries z ≡ false → is_bad_entry entries z ≡ false
+good_file entries (pos n) good = good
+good_file entries (negsuc n) good = let le = ltb-false 0 n good in le-ltb 1 n (omega arith)
+
+both_good : (a b : Bool) → a ≡ false → b ≡ false → a || b ≡ false
+both_good true b left right = cc
+both_good false b left right = right
+
+-- what a registration takes, an update takes
+pub good_files : (entries : ℕ) (list : List ℤ) → list_any (is_bad_file entries) list ≡ false → list_any (is_bad_entry entries) list ≡ false
+good_files entries [] good = refl
+good_files entries (z ∷ list) good = both_good _ _ (good_file entries z (or_left _ _ good)) (good_files entries list (or_right _ _ good))
+
+-- a number of a good list is good
+pub good_behind : (entries : ℕ) (xs : List ℤ) (z : ℤ) (ys : List ℤ) (list : List ℤ) → list ≡ xs ++ z ∷ ys → list_any (is_bad_entry entries) list ≡ false → is_bad_entry entries z ≡ false
+good_behind entries [] z ys list is good = or_left _ _ (ap (list_any (is_bad_entry entries)) (sym is) ∙ good)
+good_behind entries (x ∷ xs) z ys list is good = good_behind entries xs z ys (xs ++ z ∷ ys) refl (or_right _ _ (ap (list_any (is_bad_entry entries)) (sym is) ∙ good))

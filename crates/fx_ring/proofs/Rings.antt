@@ -1,0 +1,102 @@
+-- What a ring keeps, as its table changes.
+use Rattle.std.proofs.Common.{◌≡◌, ℕ, Bool, zero, suc, ◌+◌, ◌<◌, ◌≤◌, List, [], ◌∷◌, ◌++◌, length, refl, sym, ap, subst, ◌∙◌, Option, Some, None, All, arith, not, ◌&&◌, nat_lt, option_to_list, IsPermutation}
+use Rattle.std.proofs.lemmas.List.Elements.{All-append}
+use Rattle.std.proofs.lemmas.List.Sorted.{All-permutation}
+use Rattle.std.proofs.lemmas.Bool.{lt-ltb, le-ltb}
+use Rattle.fx_base.specs.CloseListView.{CloseListView}
+use Rattle.fx_base.specs.CloseList.{IsInOrderOfMark}
+use Rattle.fx_base.specs.declared.open_file.Closed.{Closed}
+use Rattle.fx_plain.specs.State.{State, IsSettled, opening, file_numbered, vacant, identities_of, files_in_order as files_in_order_of_state, files_of as files_of_state}
+use Rattle.fx_plain.specs.Table.{identity_of}
+use Rattle.fx_plain.specs.declared.event.File.{File}
+use Rattle.fx_ring.specs.Ring.{RingState, IsRing, HasClosed, AreEntries, files_in_order, files_of, with_table}
+use Rattle.fx_ring.specs.Slots.{AreFresh, files_at}
+
+-- a table without files keeps what every ring keeps
+pub none_rings : (ring : RingState) → ring.at ≡ (λ _. None) → IsRing ring
+none_rings ring no_files = record {
+  entries = λ slot file is. let e : None ≡ Some file = sym (ap (λ (at : ℕ → Option Closed). at slot) no_files) ∙ is in cc;
+  counted = λ slot file is. let e : None ≡ Some file = sym (ap (λ (at : ℕ → Option Closed). at slot) no_files) ∙ is in cc;
+  distinct = λ slot other file same is are marks. let e : None ≡ Some file = sym (ap (λ (at : ℕ → Option Closed). at slot) no_files) ∙ is in cc;
+}
+
+listed_is : (x : Option File) → option_to_list (identity_of x) ≡ identities_of x
+listed_is None = refl
+listed_is (Some f) = refl
+
+-- the files of a table, its files' numbers aside
+pub files_of-state : (at : ℕ → Option File) (n : ℕ) → files_in_order (λ slot. identity_of (at slot)) n ≡ files_in_order_of_state at n
+files_of-state at zero = refl
+files_of-state at (suc n) = ap (λ (x : List Closed × List Closed). x.0 ++ x.1) (λ i. (files_of-state at n i, listed_is (at n) i))
+
+pub only_one : {X : Type 0} (P : X → Type 0) (x : X) → P x → All P (x ∷ [])
+only_one P x p zero d inside = p
+only_one P x p (suc k) d inside = absurd (omega arith)
+
+pub entry_listed : (entries : ℕ) (x : Option Closed) → ((file : Closed) → x ≡ Some file → file.entry < entries) → All (λ (file : Closed). file.entry < entries) (option_to_list x)
+entry_listed entries None has = λ k d inside. absurd (omega arith)
+entry_listed entries (Some file) has = only_one (λ (f : Closed). f.entry < entries) file (has file refl)
+
+entries_in_order : (entries : ℕ) (at : ℕ → Option Closed) (n : ℕ) → ((slot : ℕ) (file : Closed) → at slot ≡ Some file → file.entry < entries) → All (λ (file : Closed). file.entry < entries) (files_in_order at n)
+entries_in_order entries at zero has = λ k d inside. absurd (omega arith)
+entries_in_order entries at (suc n) has = All-append (λ (file : Closed). file.entry < entries) (files_in_order at n) (option_to_list (at n)) (entries_in_order entries at n has) (entry_listed entries (at n) (has n))
+
+pub entries_of : (ring : RingState) → IsRing ring → AreEntries ring (files_of ring)
+entries_of ring is = entries_in_order (length ring.catalogue) ring.at ring.size is.entries
+
+-- a list of all files of a table, once it is in order
+pub all_closed : (at : ℕ → Option File) (size : ℕ) (given : List Closed) (closes : CloseListView) → given ≡ files_in_order_of_state at size → IsPermutation given closes.files → IsInOrderOfMark closes.files → HasClosed (files_in_order (λ slot. identity_of (at slot)) size) closes
+all_closed at size given closes is same order = record { same_files = subst (λ (l : List Closed). IsPermutation l closes.files) (is ∙ sym (files_of-state at size)) same; in_order = order }
+
+-- what was closed is of the catalogue, where all of it was
+pub entries_closed : (ring : RingState) (files : List Closed) (closes : CloseListView) → AreEntries ring files → HasClosed files closes → AreEntries ring closes.files
+entries_closed ring files closes all closed = All-permutation (λ (file : Closed). file.entry < length ring.catalogue) files closes.files closed.same_files all
+
+-- a table that was emptied is settled
+pub emptied_settled : (st : State) (fresh : ℕ → Bool) → st ≡ record (vacant 0) { fresh = fresh } → IsSettled st
+emptied_settled st fresh is = subst IsSettled (sym is) (record { unheld = λ _. refl; closed = λ _. refl })
+
+-- the ring with another allocation range
+pub ranged_rings : (ring : RingState) (range : ℕ × ℕ) → IsRing ring → IsRing (record ring { range = range })
+ranged_rings ring range is = record { entries = is.entries; counted = is.counted; distinct = is.distinct }
+
+-- what a prepared table is
+pub opening_settled : (st new : State) (numbers : ℕ) → new ≡ opening st numbers → IsSettled new
+opening_settled st new numbers is = subst IsSettled (sym is) (record { unheld = λ _. refl; closed = λ _. refl })
+
+same_identity : (x : Option File) (slot : ℕ) → identity_of (file_numbered x slot) ≡ identity_of x
+same_identity None slot = refl
+same_identity (Some f) slot = refl
+
+pub opening_files : (st new : State) (numbers : ℕ) → new ≡ opening st numbers → files_at new ≡ files_at st
+opening_files st new numbers is = ap files_at is ∙ (λ i slot. same_identity (st.at slot) slot i)
+
+pub opening_fresh : (st new : State) (numbers : ℕ) → new ≡ opening st numbers → AreFresh new st.size numbers
+opening_fresh st new numbers is = λ number low high. ap (λ (s : State). s.fresh number) is
+    ∙ ap (λ (b : Bool). not b && nat_lt number numbers) (le-ltb number st.size low) ∙ lt-ltb number numbers high
+
+-- what a table of empty slots is
+pub vacant_settled : (st : State) (n : ℕ) → st ≡ vacant n → IsSettled st
+vacant_settled st n is = subst IsSettled (sym is) (record { unheld = λ _. refl; closed = λ _. refl })
+
+none_in_order : (n : ℕ) → files_in_order_of_state (λ _. None) n ≡ []
+none_in_order zero = refl
+none_in_order (suc n) = ap (λ (l : List Closed). l ++ []) (none_in_order n)
+
+pub vacant_empty : (st : State) (n : ℕ) → st ≡ vacant n → files_of_state st ≡ []
+vacant_empty st n is = ap files_of_state is ∙ none_in_order n
+
+-- a table without slots has no files
+pub no_slots_empty : (st : State) → st.size ≡ 0 → files_of_state st ≡ []
+no_slots_empty st is = ap (λ (n : ℕ). files_in_order_of_state st.at n) is
+
+pub vacant_files : (st : State) (n : ℕ) → st ≡ vacant n → files_at st ≡ (λ _. None)
+vacant_files st n is = ap files_at is
+
+-- a ring by the parts of its table
+pub ring_is : (ring : RingState) (st : State) (size : ℕ) (range : ℕ × ℕ) (files : ℕ → Option Closed) → st.size ≡ size → st.range ≡ range → files_at st ≡ files → with_table ring st ≡ record ring { size = size; range = range; at = files }
+ring_is ring st size range files same_size same_range same_files = λ i. record ring { size = same_size i; range = same_range i; at = same_files i }
+
+-- a list of these files, once it is in order
+pub list_closed : (files given : List Closed) (closes : CloseListView) → given ≡ files → IsPermutation given closes.files → IsInOrderOfMark closes.files → HasClosed files closes
+list_closed files given closes is same order = record { same_files = subst (λ (l : List Closed). IsPermutation l closes.files) is same; in_order = order }

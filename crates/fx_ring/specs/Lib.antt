@@ -1,0 +1,4 @@
+pub mod Ring
+pub mod Registration
+pub mod Slots
+pub mod Submission

@@ -1,0 +1,101 @@
+-- What the calls between submissions refuse, and what they leave (io_uring_register(2); the order of the refusals is this
+-- project's own).
+use Rattle.std.specs.Prelude.{ℕ, zero, suc, ◌+◌, ◌-◌, ◌==◌, ◌||◌, nat_le, nat_lt, Bool, ℤ, pos, negsuc, List, [], ◌∷◌, ◌++◌, length, slice_get, Option, Some, None, if◌then◌else◌}
+use Rattle.std.specs.List.{list_any}
+use Rattle.std.specs.Option.{option_to_list}
+use Rattle.fx_base.specs.declared.errno.Errno.{Errno}
+use Rattle.fx_base.specs.declared.errno.Errno.TheVariants.{ENXIO, EBADF, EAGAIN, EBUSY, EINVAL, EMFILE}
+use Rattle.fx_base.specs.declared.mark.Mark.{Mark}
+use Rattle.fx_base.specs.declared.mark.Mark.TheVariants.{Registered}
+use Rattle.fx_base.specs.declared.open_file.Closed.{Closed}
+use Rattle.fx_chain.specs.Answers.{is_bad_entry}
+use Rattle.fx_ring.specs.Ring.{RingState}
+use Rattle.fx_ring.specs.declared.ring.TheConstants.{MOST_REGISTRATIONS}
+
+-- a number of a registration that is neither an empty slot nor an entry of the catalogue
+abbrev pub is_bad_file : ℕ → ℤ → Bool
+is_bad_file entries (pos entry) = nat_le entries entry
+is_bad_file entries (negsuc n) = nat_lt 0 n
+
+-- why a registration is refused, want of memory aside
+abbrev pub register_refusal : RingState → List ℤ → Option Errno
+register_refusal ring list =
+    if nat_lt 0 ring.size then Some EBUSY
+    else if length list == 0 then Some EINVAL
+    else if nat_lt 256 (length list) then Some EMFILE
+    else if list_any (is_bad_file (length ring.catalogue)) list then Some EBADF
+    else if nat_le MOST_REGISTRATIONS ring.registrations then Some EAGAIN
+    else None
+
+-- why a registration of so many empty slots is refused
+abbrev pub sparse_refusal : RingState → ℕ → Option Errno
+sparse_refusal ring n =
+    if nat_lt 0 ring.size then Some EBUSY
+    else if n == 0 then Some EINVAL
+    else if nat_lt 256 n then Some EMFILE
+    else None
+
+-- why a ring's table can't be unregistered
+abbrev pub unregister_refusal : RingState → Option Errno
+unregister_refusal ring = if ring.size == 0 then Some ENXIO else None
+
+-- why an allocation range is refused
+abbrev pub range_refusal : RingState → ℕ → ℕ → Option Errno
+range_refusal ring off len = if nat_lt ring.size (off + len) then Some EINVAL else None
+
+-- why an update is refused
+abbrev pub update_refusal : RingState → ℕ → List ℤ → Option Errno
+update_refusal ring off list =
+    if ring.size == 0 then Some ENXIO
+    else if length list == 0 || nat_lt ring.size (off + length list) then Some EINVAL
+    else if list_any (is_bad_entry (length ring.catalogue)) list then Some EBADF
+    else if nat_le MOST_REGISTRATIONS ring.registrations then Some EAGAIN
+    else None
+
+-- what a number of a list leaves at its slot: -1 empties the slot, one of 0 or more installs that entry of the catalogue,
+-- and the others leave what was there
+abbrev pub file_after : Mark → ℤ → Option Closed → Option Closed
+file_after mark (pos entry) before = Some (record { mark = mark; entry = entry })
+file_after mark (negsuc zero) before = None
+file_after mark (negsuc (suc n)) before = before
+
+-- what the k-th list leaves at the slot of its place i; where the list has no such place, what was there
+abbrev pub file_listed : ℕ → ℕ → Option ℤ → Option Closed → Option Closed
+file_listed k i None before = before
+file_listed k i (Some number) before = file_after (Registered k i) number before
+
+-- the file at each slot, once the k-th list was worked off from a slot on
+abbrev pub files_after : ℕ → (ℕ → Option Closed) → ℕ → List ℤ → ℕ → Option Closed
+files_after k at off list slot =
+    if nat_lt slot off then at slot else file_listed k (slot - off) (slice_get list (slot - off)) (at slot)
+
+-- the file that a number of a list removes from its slot
+abbrev pub removed_by : ℤ → Option Closed → List Closed
+removed_by (pos entry) before = option_to_list before
+removed_by (negsuc zero) before = option_to_list before
+removed_by (negsuc (suc n)) before = []
+
+-- the files that a list removes, worked off from a slot on
+abbrev pub removed_from : (ℕ → Option Closed) → ℕ → List ℤ → List Closed
+removed_from at slot [] = []
+removed_from at slot (number ∷ list) = removed_by number (at slot) ++ removed_from at (slot + 1) list
+
+-- the ring once the list was registered
+abbrev pub registered : RingState → List ℤ → RingState
+registered ring list = record ring {
+  size = length list;
+  range = (0, length list);
+  at = files_after (ring.registrations + 1) (λ _. None) 0 list;
+  registrations = ring.registrations + 1;
+}
+
+-- the ring once so many empty slots were registered
+abbrev pub registered_sparse : RingState → ℕ → RingState
+registered_sparse ring n = record ring { size = n; range = (0, n); at = λ _. None }
+
+-- the ring once its slots were updated
+abbrev pub updated : RingState → ℕ → List ℤ → RingState
+updated ring off list = record ring {
+  at = files_after (ring.registrations + 1) ring.at off list;
+  registrations = ring.registrations + 1;
+}

@@ -1,0 +1,46 @@
+-- The files of a table, without their numbers, and how they change.
+use Rattle.std.specs.Prelude.{◌≡◌, ℕ, ◌+◌, ◌<◌, ◌≤◌, Bool, true, List, [], ◌++◌, length, Option, Some, None}
+use Rattle.std.specs.Option.{option_to_list}
+use Rattle.fx_base.specs.CloseListView.{CloseListView}
+use Rattle.fx_base.specs.declared.open_file.Closed.{Closed}
+use Rattle.fx_plain.specs.declared.event.Action.{Action}
+use Rattle.fx_plain.specs.State.{State, IsSettled}
+use Rattle.fx_plain.specs.Step.{changed_at}
+use Rattle.fx_plain.specs.History.{close_of}
+use Rattle.fx_plain.specs.Table.{identity_of}
+
+-- the file at each slot, its number aside
+abbrev pub files_at : State → ℕ → Option Closed
+files_at st slot = identity_of (st.at slot)
+
+-- these numbers are fresh
+abbrev pub AreFresh : State → ℕ → ℕ → Type 0
+AreFresh st first last = (number : ℕ) → first ≤ number → number < last → st.fresh number ≡ true
+
+-- the slots have these files now, and the files that were removed are closed; size and range stay
+pub record SetsFiles (old new : State) (files : ℕ → Option Closed) (removed : List Closed) (before after : CloseListView) : Type 0 where
+  pub size : new.size ≡ old.size
+  pub range : new.range ≡ old.range
+  pub at_slots : files_at new ≡ files
+  pub settled : IsSettled new
+  pub closed : after.files ≡ before.files ++ removed
+  pub room : after.room + length removed ≡ before.room
+
+-- one slot has this file now, or none, and the file that was there is closed
+abbrev pub SetsSlot : State → State → ℕ → Option Closed → CloseListView → CloseListView → Type 0
+SetsSlot old new slot file before after = SetsFiles old new (changed_at (files_at old) slot file) (option_to_list (files_at old slot)) before after
+
+-- the removed file of a number, its number aside
+abbrev pub file_removed : State → Option ℕ → Option Closed
+file_removed st None = None
+file_removed st (Some number) = identity_of (st.removed number)
+
+-- the close of the removed file of a number
+abbrev pub closes_of_removed : State → Option ℕ → List Action
+closes_of_removed st None = []
+closes_of_removed st (Some number) = close_of (st.removed number)
+
+-- the file of the number is leaving, and nobody holds it
+abbrev pub CanRetire : (ℕ → Bool) → State → Option ℕ → Type 0
+CanRetire leaving st None = Unit {0}
+CanRetire leaving st (Some number) = (leaving number ≡ true) × (st.holds number ≡ 0)

@@ -1,0 +1,14 @@
+//! The ring: a catalogue, the file table that is registered with it, and what was counted. Lists are registered and
+//! worked off between submissions.
+#![tactic(auto)]
+
+mod list;
+mod registration;
+mod report;
+mod ring;
+mod slots;
+#[cfg(test)]
+mod tests;
+
+pub use report::{Report, SubmitFault};
+pub use ring::{MOST_REGISTRATIONS, MOST_SUBMISSIONS, Ring};

@@ -1,0 +1,103 @@
+//! Lists of numbers, each for a slot.
+ghost use Rattle.std.specs.Prelude.{◌≡◌, ◌+◌, ◌<◌, ◌≤◌, ◌++◌, ℕ, false, true, length};
+ghost use Rattle.std.specs.List.{list_any};
+ghost use Rattle.fx_plain.specs.State.{IsSettled};
+ghost use Rattle.fx_plain.specs.Contents.{state_of};
+ghost use Rattle.fx_chain.specs.Answers.{is_bad_entry};
+ghost use Rattle.fx_ring.specs.Registration.{file_after, files_after, is_bad_file, removed_by, removed_from};
+ghost use Rattle.fx_ring.specs.Slots.{SetsFiles, AreFresh, files_at};
+ghost use Rattle.fx_plain.specs.Step.{changed_at};
+
+use crate::slots::{clear_slot, fill_slot};
+use fx_base::{Catalogue, CloseList, Mark};
+use fx_chain::is_bad_entry;
+use fx_plain::PlainTable;
+
+// Whether a number is neither an empty slot nor an entry of the catalogue.
+fn is_bad_file(entries: u32, number: i32) -> bool
+    ensures { result ≡ is_bad_file entries number }
+{
+    if number < 0 {
+        return number < -1;
+    }
+    number as u32 >= entries
+}
+
+/// Whether a list has a number that is neither an empty slot nor an entry of the catalogue.
+pub(crate) fn has_bad_file(entries: u32, list: &[i32]) -> bool
+    ensures { result ≡ list_any (is_bad_file entries) list.now }
+{
+    list.iter().any(|number| is_bad_file(entries, *number))
+}
+
+/// Whether a list has a number that is below -2 or past the catalogue.
+pub(crate) fn has_bad_entry(entries: u32, list: &[i32]) -> bool
+    ensures { result ≡ list_any (is_bad_entry entries) list.now }
+{
+    list.iter().any(|number| is_bad_entry(entries, *number))
+}
+
+// Works one number off: -1 empties the slot, -2 leaves it, and every other one opens that catalogue entry there, with
+// this mark and under this number of the table.
+fn apply_number(
+    table: &mut PlainTable,
+    catalogue: &Catalogue,
+    mark: Mark,
+    slot: u32,
+    number: i32,
+    fresh: u32,
+    closes: &mut CloseList,
+)
+    requires settled { IsSettled (state_of table.old) }
+    requires slot { slot < (state_of table.old).size }
+    requires entries { length catalogue.now ≤ 256 }
+    requires good { is_bad_entry (length catalogue.now) number ≡ false }
+    requires fresh { (state_of table.old).fresh fresh ≡ true }
+    requires room { length (removed_by number (files_at (state_of table.old) slot)) ≤ closes.old.room }
+    ensures files { SetsFiles (state_of table.old) (state_of table.new) (changed_at (files_at (state_of table.old)) slot (file_after mark number (files_at (state_of table.old) slot))) (removed_by number (files_at (state_of table.old) slot)) closes.old closes.new }
+    ensures fresh { (other : ℕ) → fresh < other → (state_of table.new).fresh other ≡ (state_of table.old).fresh other }
+{
+    if number >= 0 {
+        let file = catalogue.open(number as u8, mark);
+        fill_slot(table, slot, fresh, file, closes);
+        return;
+    }
+    if number > -2 {
+        clear_slot(table, slot, closes);
+    }
+}
+
+/// Works the k-th list off, from the slot `off` on. The numbers of the table from `first` on are fresh, one for each
+/// number of the list.
+pub(crate) fn apply_list(
+    table: &mut PlainTable,
+    catalogue: &Catalogue,
+    k: u32,
+    off: u32,
+    list: &[i32],
+    first: u32,
+    closes: &mut CloseList,
+)
+    requires settled { IsSettled (state_of table.old) }
+    requires slots { off + length list.now ≤ (state_of table.old).size }
+    requires few_slots { (state_of table.old).size ≤ 256 }
+    requires entries { length catalogue.now ≤ 256 }
+    requires good { list_any (is_bad_entry (length catalogue.now)) list.now ≡ false }
+    requires first { first ≤ 256 }
+    requires fresh { AreFresh (state_of table.old) first (first + length list.now) }
+    requires room { length (removed_from (files_at (state_of table.old)) off list.now) ≤ closes.old.room }
+    ensures { SetsFiles (state_of table.old) (state_of table.new) (files_after k (files_at (state_of table.old)) off list.now) (removed_from (files_at (state_of table.old)) off list.now) closes.old closes.new }
+{
+    for (i, number) in list.iter().enumerate() {
+        let place = i as u32;
+        apply_number(
+            table,
+            catalogue,
+            Mark::Registered { k, i: place },
+            off + place,
+            *number,
+            first + place,
+            closes,
+        );
+    }
+}

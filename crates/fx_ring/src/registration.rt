@@ -1,0 +1,241 @@
+//! The calls between submissions.
+ghost use Rattle.std.specs.Prelude.{◌≡◌, ◌+◌, ◌<◌, ◌≤◌, ℕ, [], false, length, Ok, Err, IfSome, IfNone, IfOk, OnOk, OnErr, IsOkUnless};
+ghost use Rattle.std.specs.List.{list_any};
+ghost use Rattle.fx_base.specs.declared.errno.Errno.TheVariants.{ENOMEM};
+ghost use Rattle.fx_plain.specs.State.{IsSettled};
+ghost use Rattle.fx_plain.specs.Contents.{state_of};
+ghost use Rattle.fx_ring.specs.Ring.{AreEntries, HasClosed, files_of, ring_of, without_table};
+ghost use Rattle.fx_ring.specs.Registration.{files_after, is_bad_file, range_refusal, register_refusal, registered, registered_sparse, removed_from, sparse_refusal, unregister_refusal, update_refusal, updated};
+ghost use Rattle.fx_ring.specs.Slots.{files_at};
+
+use crate::list::{apply_list, has_bad_entry, has_bad_file};
+use crate::ring::{MOST_REGISTRATIONS, Ring};
+use fx_base::{Catalogue, CloseList, Errno, NoMemory};
+use fx_plain::PlainTable;
+use std::alloc::Global;
+use std::mem;
+
+/// How many slots a table may have.
+const MOST_SLOTS: u32 = 256;
+
+impl Ring {
+    // Why a table of so many slots can't be registered.
+    fn sparse_refusal(&self, n: usize) -> Option<Errno>
+        ensures { result ≡ sparse_refusal (ring_of self.now) n }
+    {
+        if self.table.size() > 0 {
+            return Some(Errno::EBUSY);
+        }
+        if n == 0 {
+            return Some(Errno::EINVAL);
+        }
+        if n > MOST_SLOTS as usize {
+            return Some(Errno::EMFILE);
+        }
+        None
+    }
+
+    // Why a list can't be registered.
+    fn register_refusal(&self, list: &[i32]) -> Option<Errno>
+        ensures value { result ≡ register_refusal (ring_of self.now) list.now }
+        ensures entries { IfNone result (length self.now.catalogue ≤ 256) }
+    {
+        if let Some(errno) = self.sparse_refusal(list.len()) {
+            return Some(errno);
+        }
+        if has_bad_file(self.catalogue.len(), list) {
+            return Some(Errno::EBADF);
+        }
+        if self.registrations >= MOST_REGISTRATIONS {
+            return Some(Errno::EAGAIN);
+        }
+        None
+    }
+
+    // Why the slots from `off` on can't be updated by a list.
+    fn update_refusal(&self, off: u32, list: &[i32]) -> Option<Errno>
+        ensures value { result ≡ update_refusal (ring_of self.now) off list.now }
+        ensures entries { IfNone result (length self.now.catalogue ≤ 256) }
+    {
+        let size = self.table.size();
+        if size == 0 {
+            return Some(Errno::ENXIO);
+        }
+        if list.is_empty() || off as u64 + list.len() as u64 > size as u64 {
+            return Some(Errno::EINVAL);
+        }
+        if has_bad_entry(self.catalogue.len(), list) {
+            return Some(Errno::EBADF);
+        }
+        if self.registrations >= MOST_REGISTRATIONS {
+            return Some(Errno::EAGAIN);
+        }
+        None
+    }
+
+    /// Registers a table with a slot for each number of the list, all of them in the allocation range: -1 is an empty
+    /// slot, and a number of 0 or more the catalogue entry to open there (io_uring_register(2),
+    /// "IORING_REGISTER_FILES"). The k of the files' marks is the number of this call among the accepted calls of
+    /// `register` and `update`, from 1, and their i the place in the list, from 0.
+    ///
+    /// # Errors
+    /// In this order: EBUSY where there is a table, EINVAL for an empty list, EMFILE for more than 256 numbers, EBADF for
+    /// a number below -1 or past the catalogue, EAGAIN after 65,535 accepted calls of `register` and `update`, and ENOMEM
+    /// where memory is refused. The ring is then as before.
+    pub fn register(&mut self, alloc: Global, list: &[i32]) -> Result<(), Errno>
+        ensures refused { IfSome (register_refusal (ring_of self.old) list.now) (λ errno. result ≡ Err errno) }
+        ensures only_refusal { IfNone (register_refusal (ring_of self.old) list.now) (IsOkUnless result ENOMEM) }
+        ensures ok { OnOk result (ring_of self.new ≡ registered (ring_of self.old) list.now) }
+        ensures err { OnErr result (self.new ≡ self.old) }
+    {
+        if let Some(errno) = self.register_refusal(list) {
+            return Err(errno);
+        }
+        match new_table(alloc, &self.catalogue, self.registrations + 1, list) {
+            Ok(table) => {
+                mem::replace(&mut self.table, table).dismiss();
+                self.registrations += 1;
+                Ok(())
+            }
+            Err(NoMemory) => Err(Errno::ENOMEM),
+        }
+    }
+
+    /// Registers a table of `n` empty slots, all of them in the allocation range (io_uring_register_files(3),
+    /// `io_uring_register_files_sparse`). It isn't counted.
+    ///
+    /// # Errors
+    /// In this order: EBUSY where there is a table, EINVAL for no slots, EMFILE for more than 256, and ENOMEM where memory
+    /// is refused. The ring is then as before.
+    pub fn register_sparse(&mut self, alloc: Global, n: u32) -> Result<(), Errno>
+        ensures refused { IfSome (sparse_refusal (ring_of self.old) n) (λ errno. result ≡ Err errno) }
+        ensures only_refusal { IfNone (sparse_refusal (ring_of self.old) n) (IsOkUnless result ENOMEM) }
+        ensures ok { OnOk result (ring_of self.new ≡ registered_sparse (ring_of self.old) n) }
+        ensures err { OnErr result (self.new ≡ self.old) }
+    {
+        if let Some(errno) = self.sparse_refusal(n as usize) {
+            return Err(errno);
+        }
+        match PlainTable::sparse(alloc, n) {
+            Ok(table) => {
+                mem::replace(&mut self.table, table).dismiss();
+                Ok(())
+            }
+            Err(NoMemory) => Err(Errno::ENOMEM),
+        }
+    }
+
+    /// Unregisters the table. The list has all of its files, in order of mark (io_uring_register(2),
+    /// "IORING_UNREGISTER_FILES").
+    ///
+    /// # Errors
+    /// ENXIO where there is no table, and else ENOMEM where the memory of the list is refused. The ring is then as before.
+    pub fn unregister(&mut self, alloc: Global) -> Result<CloseList, Errno>
+        ensures refused { IfSome (unregister_refusal (ring_of self.old)) (λ errno. result ≡ Err errno) }
+        ensures only_refusal { IfNone (unregister_refusal (ring_of self.old)) (IsOkUnless result ENOMEM) }
+        ensures ok { OnOk result (ring_of self.new ≡ without_table (ring_of self.old)) }
+        ensures closes { IfOk result (λ closes. HasClosed (files_of (ring_of self.old)) closes) }
+        ensures entries { IfOk result (λ closes. AreEntries (ring_of self.old) closes.files) }
+        ensures err { OnErr result (self.new ≡ self.old) }
+    {
+        if self.table.size() == 0 {
+            return Err(Errno::ENXIO);
+        }
+        let Ok(mut closes) = CloseList::with_room(alloc, self.table.full()) else {
+            return Err(Errno::ENOMEM);
+        };
+        self.table.empty_into(&mut closes);
+        closes.sort();
+        Ok(closes)
+    }
+
+    /// Sets the allocation range (io_uring_register(2), "IORING_REGISTER_FILE_ALLOC_RANGE"). Length 0 is permitted.
+    ///
+    /// # Errors
+    /// EINVAL where `off + len`, as whole numbers, is above the size. The ring is then as before.
+    pub fn alloc_range(&mut self, off: u32, len: u32) -> Result<(), Errno>
+        ensures refused { IfSome (range_refusal (ring_of self.old) off len) (λ errno. result ≡ Err errno) }
+        ensures accepted { IfNone (range_refusal (ring_of self.old) off len) (result ≡ Ok tt) }
+        ensures ok { OnOk result (ring_of self.new ≡ record (ring_of self.old) { range = (off, len) }) }
+        ensures err { OnErr result (self.new ≡ self.old) }
+    {
+        let Ok(()) = self.table.set_range(off, len) else {
+            return Err(Errno::EINVAL);
+        };
+        Ok(())
+    }
+
+    /// Works a list off, from the slot `off` on: -1 empties its slot, -2 leaves it, and a number of 0 or more opens that
+    /// catalogue entry there (io_uring_register(2), "IORING_REGISTER_FILES_UPDATE"). The answer is the length of the
+    /// list, and the files that were replaced or removed, in order of mark. Marks are those of [`Ring::register`].
+    ///
+    /// # Errors
+    /// In this order: ENXIO where there is no table, EINVAL for an empty list or one that ends past the last slot, EBADF
+    /// for a number below -2 or past the catalogue, EAGAIN after 65,535 accepted calls of `register` and `update`, and
+    /// ENOMEM where memory is refused. The ring is then as before.
+    pub fn update(
+        &mut self,
+        alloc: Global,
+        off: u32,
+        list: &[i32],
+    ) -> Result<(u32, CloseList), Errno>
+        ensures refused { IfSome (update_refusal (ring_of self.old) off list.now) (λ errno. result ≡ Err errno) }
+        ensures only_refusal { IfNone (update_refusal (ring_of self.old) off list.now) (IsOkUnless result ENOMEM) }
+        ensures ok { OnOk result (ring_of self.new ≡ updated (ring_of self.old) off list.now) }
+        ensures count { IfOk result (λ answer. answer.0 ≡ length list.now) }
+        ensures closes { IfOk result (λ answer. HasClosed (removed_from (ring_of self.old).at off list.now) answer.1) }
+        ensures entries { IfOk result (λ answer. AreEntries (ring_of self.old) answer.1.files) }
+        ensures err { OnErr result (self.new ≡ self.old) }
+    {
+        if let Some(errno) = self.update_refusal(off, list) {
+            return Err(errno);
+        }
+        let size = self.table.size();
+        let len = list.len() as u32;
+        let Ok(mut closes) = CloseList::with_room(alloc, len) else {
+            return Err(Errno::ENOMEM);
+        };
+        let Ok(()) = self.table.prepare(size + len) else {
+            return Err(Errno::ENOMEM);
+        };
+        self.registrations += 1;
+        apply_list(
+            &mut self.table,
+            &self.catalogue,
+            self.registrations,
+            off,
+            list,
+            size,
+            &mut closes,
+        );
+        closes.sort();
+        Ok((len, closes))
+    }
+}
+
+// The table of the k-th list: a slot for each of its numbers.
+fn new_table(
+    alloc: Global,
+    catalogue: &Catalogue,
+    k: u32,
+    list: &[i32],
+) -> Result<PlainTable, NoMemory>
+    requires some { 0 < length list.now }
+    requires few { length list.now ≤ 256 }
+    requires entries { length catalogue.now ≤ 256 }
+    requires good { list_any (is_bad_file (length catalogue.now)) list.now ≡ false }
+    ensures size { IfOk result (λ table. (state_of table).size ≡ length list.now) }
+    ensures range { IfOk result (λ table. (state_of table).range ≡ (0, length list.now)) }
+    ensures files { IfOk result (λ table. files_at (state_of table) ≡ files_after k (λ _. None) 0 list.now) }
+    ensures settled { IfOk result (λ table. IsSettled (state_of table)) }
+{
+    let len = list.len() as u32;
+    let mut closes = CloseList::with_room(alloc, 0)?;
+    let mut table = PlainTable::sparse(alloc, len)?;
+    let Ok(()) = table.prepare(2 * len) else {
+        table.dismiss();
+        return Err(NoMemory);
+    };
+    apply_list(&mut table, catalogue, k, 0, list, len, &mut closes);
+    Ok(table)
+}
