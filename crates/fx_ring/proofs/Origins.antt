@@ -37,7 +37,7 @@ from : (entries k : ℕ) (at : ℕ → Option Closed) (off : ℕ) (list : List �
 from entries k at off list slot file good is = elim (cases_lt slot off) [
   | inl below ↦ inl (sym (files_below k at off list slot below) ∙ is)
   | inr above ↦ ⊎_elim (λ was. inl was) (λ new. inr (above, new))
-    (from_listed entries k (slot - off) (slice_get list (slot - off)) (at slot) file (λ z at_z. good_get entries list (slot - off) z good at_z) (sym (files_from k at off list slot above) ∙ is))
+      (from_listed entries k (slot - off) (slice_get list (slot - off)) (at slot) file (λ z at_z. good_get entries list (slot - off) z good at_z) (sym (files_from k at off list slot above) ∙ is))
 ]
 
 -- a mark that was counted still is

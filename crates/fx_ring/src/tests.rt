@@ -132,7 +132,10 @@ fn a_range_is_within_the_table(rt: HostRuntime) -> Result<(), Fail> {
     let mut ring = ring_of_one_file(alloc)?;
     assert_eq!(rt; ring.register_sparse(alloc, 4), Ok(()));
     assert_eq!(rt; ring.alloc_range(3, 2), Err(Errno::EINVAL));
-    assert_eq!(rt; ring.alloc_range(4_294_967_295, 4_294_967_295), Err(Errno::EINVAL));
+    assert_eq!(rt;
+        ring.alloc_range(4_294_967_295, 4_294_967_295),
+        Err(Errno::EINVAL)
+    );
     assert_eq!(rt; ring.range(), (0, 4));
     assert_eq!(rt; ring.alloc_range(4, 0), Ok(()));
     assert_eq!(rt; ring.alloc_range(1, 2), Ok(()));
@@ -164,14 +167,7 @@ fn an_update_clears_skips_and_replaces(rt: HostRuntime) -> Result<(), Fail> {
     let alloc = rt.alloc();
     let mut ring = ring_of_one_file(alloc)?;
     assert_eq!(rt; ring.register(alloc, &[0, 0, 0, 0]), Ok(()));
-    expect_updated(
-        &rt,
-        alloc,
-        &mut ring,
-        1,
-        &[0, -2, -1],
-        &[(1, 1), (1, 3)],
-    );
+    expect_updated(&rt, alloc, &mut ring, 1, &[0, -2, -1], &[(1, 1), (1, 3)]);
     expect_updated(&rt, alloc, &mut ring, 1, &[-1, -1, -1], &[(1, 2), (2, 0)]);
     expect_left(&rt, alloc, ring, &[(1, 0)]);
     Ok(())

@@ -155,8 +155,14 @@ impl Reader {
             Line::Register(list) => self.take_command(Command::Register(list.entries(alloc)?)),
             Line::Unregister => self.take_command(Command::Unregister),
             Line::Range(off, len) => self.take_command(Command::Range(off, len)),
-            Line::Update(off, list) => self.take_command(Command::Update(off, list.entries(alloc)?)),
-            Line::Request(action, link) => self.take_request(n, request(op_of(alloc, action)?, link)),
+            Line::Update(off, list) => self.take_command(Command::Update(
+                off,
+                list.entries(alloc)?,
+            )),
+            Line::Request(action, link) => self.take_request(
+                n,
+                request(op_of(alloc, action)?, link),
+            ),
             Line::Submit => {
                 let requests = std::mem::replace(&mut self.waiting, Vec::new(alloc));
                 self.take_command(Command::Submit(requests))

@@ -85,7 +85,10 @@ fn push_closed_line(text: &mut String, mark: Mark, name: &str) -> Result<(), All
             chain,
             member,
             entry,
-        } => write!(text, "closed {submission}.{chain}.{member}.{entry} {name}\n"),
+        } => write!(
+            text,
+            "closed {submission}.{chain}.{member}.{entry} {name}\n"
+        ),
     }
 }
 
@@ -139,7 +142,13 @@ pub fn too_many_line(alloc: Global) -> Result<String, AllocError>
 fn room_of(completions: &[Completion]) -> usize {
     let mut room = 0usize;
     for completion in completions {
-        room = room.saturating_add(completion.got.len().saturating_mul(2).saturating_add(COMPLETION_ROOM));
+        room = room.saturating_add(
+            completion
+                .got
+                .len()
+                .saturating_mul(2)
+                .saturating_add(COMPLETION_ROOM),
+        );
     }
     room
 }
@@ -154,7 +163,10 @@ pub fn report_lines(
     requires { All (λ file. file.entry < length catalogue.now) files.now }
     ensures { IfOk result (λ text. string_bytes text ≡ report_lines catalogue.now (all_completed completions.now) files.now) }
 {
-    let room = files.len().saturating_mul(CLOSED_ROOM).saturating_add(room_of(completions));
+    let room = files
+        .len()
+        .saturating_mul(CLOSED_ROOM)
+        .saturating_add(room_of(completions));
     let mut text = String::with_capacity(alloc, room)?;
     push_completions(&mut text, completions)?;
     push_closed_lines(&mut text, catalogue, files)?;
@@ -171,7 +183,10 @@ pub fn with_closed_lines(
     requires { All (λ file. file.entry < length catalogue.now) files.now }
     ensures { IfOk result (λ text. string_bytes text ≡ first.now ++ closed_lines catalogue.now files.now) }
 {
-    let room = files.len().saturating_mul(CLOSED_ROOM).saturating_add(first.len());
+    let room = files
+        .len()
+        .saturating_mul(CLOSED_ROOM)
+        .saturating_add(first.len());
     let mut text = String::with_capacity(alloc, room)?;
     text.push_str(first)?;
     push_closed_lines(&mut text, catalogue, files)?;

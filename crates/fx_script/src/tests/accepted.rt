@@ -19,7 +19,11 @@ fn scripts_without_a_fault(rt: HostRuntime) -> Result<(), Fail> {
         ("file abcdefghijklmnopqrstuvwxyz-._012 00\n", 1, 0),
         ("sparse 0\nsparse 2147483647\n", 0, 2),
         ("range 0 0\nrange 2147483647 2147483647\n", 0, 2),
-        ("register 0,-1,0\nregister 0\nunregister\nregister 9\n", 0, 4),
+        (
+            "register 0,-1,0\nregister 0\nunregister\nregister 9\n",
+            0,
+            4,
+        ),
         ("regupdate 0 0\nregupdate 2147483647 -2\n", 0, 2),
         (
             "open nobody at 2147483647\nopen nobody any link\nsubmit\n",
@@ -51,10 +55,14 @@ fn every_command_as_it_is_written(rt: HostRuntime) -> Result<(), Fail> {
         panic!(rt; "other commands: {script:?}");
     };
     assert!(rt; matches!(sparse, Command::Sparse(1)));
-    assert!(rt; matches!(register, Command::Register(list) if list.as_slice() == [0, -1].as_slice()));
+    assert!(rt;
+        matches!(register, Command::Register(list) if list.as_slice() == [0, -1].as_slice())
+    );
     assert!(rt; matches!(unregister, Command::Unregister));
     assert!(rt; matches!(range, Command::Range(2, 3)));
-    assert!(rt; matches!(update, Command::Update(4, list) if list.as_slice() == [-2, 5].as_slice()));
+    assert!(rt;
+        matches!(update, Command::Update(4, list) if list.as_slice() == [-2, 5].as_slice())
+    );
     assert!(rt; matches!(submit, Command::Submit(requests) if requests.is_empty()));
     Ok(())
 }

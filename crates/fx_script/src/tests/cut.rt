@@ -2,7 +2,8 @@
 use crate::tests::reading::{is_accepted, is_refused};
 use std::test::Fail;
 
-const OPEN_READ_CLOSE: &str = "file a.txt 68656c6c6f\nsparse 2\nopen a.txt at 0 link\nread 0 0 5 link\nclose 0\nsubmit\n";
+const OPEN_READ_CLOSE: &str =
+    "file a.txt 68656c6c6f\nsparse 2\nopen a.txt at 0 link\nread 0 0 5 link\nclose 0\nsubmit\n";
 
 #[test]
 fn open_read_close_cut_behind_each_byte(rt: HostRuntime) -> Result<(), Fail> {

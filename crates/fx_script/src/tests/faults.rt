@@ -40,7 +40,11 @@ fn every_fault_by_its_line_and_name(rt: HostRuntime) -> Result<(), Fail> {
         ("update 0 0 0", 1, "bad-word"),
         ("read 0 0 1", 1, "unsubmitted"),
         ("submit\nclose 0\n\nclose 1\n", 2, "unsubmitted"),
-        ("close 0\nsubmit\nsparse 1\nclose 1\nsparse 1", 4, "unsubmitted"),
+        (
+            "close 0\nsubmit\nsparse 1\nclose 1\nsparse 1",
+            4,
+            "unsubmitted",
+        ),
     ];
     for (text, line, name) in scripts {
         is_refused(&rt, text.as_bytes(), line, name)?;

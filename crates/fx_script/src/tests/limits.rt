@@ -53,18 +53,38 @@ fn a_fault_behind_many_lines(rt: HostRuntime) -> Result<(), Fail> {
 #[test]
 fn a_line_of_10000_bytes_and_one_more(rt: HostRuntime) -> Result<(), Fail> {
     is_accepted(&rt, repeated(rt.alloc(), "", b'#', 10_000)?.as_slice());
-    is_refused(&rt, repeated(rt.alloc(), "", b'#', 10_001)?.as_slice(), 1, "long-line")?;
-    is_refused(&rt, repeated(rt.alloc(), "sparse 1\n#\n", b'#', 10_001)?.as_slice(), 3, "long-line")
+    is_refused(
+        &rt,
+        repeated(rt.alloc(), "", b'#', 10_001)?.as_slice(),
+        1,
+        "long-line",
+    )?;
+    is_refused(
+        &rt,
+        repeated(rt.alloc(), "sparse 1\n#\n", b'#', 10_001)?.as_slice(),
+        3,
+        "long-line",
+    )
 }
 
 #[test]
 fn a_file_of_4096_bytes_and_one_more(rt: HostRuntime) -> Result<(), Fail> {
     is_accepted(&rt, repeated(rt.alloc(), "file x ", b'a', 8192)?.as_slice());
-    is_refused(&rt, repeated(rt.alloc(), "file x ", b'a', 8194)?.as_slice(), 1, "long-file")
+    is_refused(
+        &rt,
+        repeated(rt.alloc(), "file x ", b'a', 8194)?.as_slice(),
+        1,
+        "long-file",
+    )
 }
 
 #[test]
 fn a_catalogue_of_256_files_and_one_more(rt: HostRuntime) -> Result<(), Fail> {
     is_accepted(&rt, files(rt.alloc(), 256)?.as_bytes());
-    is_refused(&rt, files(rt.alloc(), 257)?.as_bytes(), 257, "catalogue-full")
+    is_refused(
+        &rt,
+        files(rt.alloc(), 257)?.as_bytes(),
+        257,
+        "catalogue-full",
+    )
 }

@@ -92,17 +92,72 @@ fn two_faults_of_a_file(rt: HostRuntime) -> Result<(), Fail> {
     let long = long.as_str();
     let alloc = rt.alloc();
     let one = "file f0 00\n";
-    is_refused(&rt, joined(alloc, &[full, "sparse 1\nfile z 00"])?.as_bytes(), 258, "late-file")?;
-    is_refused(&rt, joined(alloc, &["sparse 1\nfile z ", long])?.as_bytes(), 2, "late-file")?;
-    is_refused(&rt, joined(alloc, &[full, "file z"])?.as_bytes(), 257, "word-count")?;
-    is_refused(&rt, joined(alloc, &["file z ", long, " 0"])?.as_bytes(), 1, "word-count")?;
-    is_refused(&rt, joined(alloc, &[full, "file z 0"])?.as_bytes(), 257, "bad-hex")?;
-    is_refused(&rt, joined(alloc, &["file z ", long, "a"])?.as_bytes(), 1, "bad-hex")?;
-    is_refused(&rt, joined(alloc, &[full, "file a*b 00"])?.as_bytes(), 257, "catalogue-full")?;
-    is_refused(&rt, joined(alloc, &[full, "file f0 00"])?.as_bytes(), 257, "catalogue-full")?;
-    is_refused(&rt, joined(alloc, &[full, "file z ", long])?.as_bytes(), 257, "catalogue-full")?;
-    is_refused(&rt, joined(alloc, &["file a*b ", long])?.as_bytes(), 1, "bad-name")?;
-    is_refused(&rt, joined(alloc, &[one, "file f0 ", long])?.as_bytes(), 2, "same-name")
+    is_refused(
+        &rt,
+        joined(alloc, &[full, "sparse 1\nfile z 00"])?.as_bytes(),
+        258,
+        "late-file",
+    )?;
+    is_refused(
+        &rt,
+        joined(alloc, &["sparse 1\nfile z ", long])?.as_bytes(),
+        2,
+        "late-file",
+    )?;
+    is_refused(
+        &rt,
+        joined(alloc, &[full, "file z"])?.as_bytes(),
+        257,
+        "word-count",
+    )?;
+    is_refused(
+        &rt,
+        joined(alloc, &["file z ", long, " 0"])?.as_bytes(),
+        1,
+        "word-count",
+    )?;
+    is_refused(
+        &rt,
+        joined(alloc, &[full, "file z 0"])?.as_bytes(),
+        257,
+        "bad-hex",
+    )?;
+    is_refused(
+        &rt,
+        joined(alloc, &["file z ", long, "a"])?.as_bytes(),
+        1,
+        "bad-hex",
+    )?;
+    is_refused(
+        &rt,
+        joined(alloc, &[full, "file a*b 00"])?.as_bytes(),
+        257,
+        "catalogue-full",
+    )?;
+    is_refused(
+        &rt,
+        joined(alloc, &[full, "file f0 00"])?.as_bytes(),
+        257,
+        "catalogue-full",
+    )?;
+    is_refused(
+        &rt,
+        joined(alloc, &[full, "file z ", long])?.as_bytes(),
+        257,
+        "catalogue-full",
+    )?;
+    is_refused(
+        &rt,
+        joined(alloc, &["file a*b ", long])?.as_bytes(),
+        1,
+        "bad-name",
+    )?;
+    is_refused(
+        &rt,
+        joined(alloc, &[one, "file f0 ", long])?.as_bytes(),
+        2,
+        "same-name",
+    )
 }
 
 // Lines with one fault each, behind a line that adds the file `a.txt`.
@@ -161,7 +216,10 @@ fn a_late_file_and_another_line_with_a_fault(rt: HostRuntime) -> Result<(), Fail
     for (other, name) in FAULTY {
         let text = joined(rt.alloc(), &["sparse 1\nfile a.txt 00\n", other])?;
         is_refused(&rt, text.as_bytes(), 2, "late-file")?;
-        let text = joined(rt.alloc(), &["file a.txt 00\n", other, "\nsparse 1\nfile b.txt 00"])?;
+        let text = joined(
+            rt.alloc(),
+            &["file a.txt 00\n", other, "\nsparse 1\nfile b.txt 00"],
+        )?;
         is_refused(&rt, text.as_bytes(), 2, name)?;
     }
     Ok(())

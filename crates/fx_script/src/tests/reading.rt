@@ -14,7 +14,12 @@ pub fn joined(alloc: Global, parts: &[&str]) -> Result<String, AllocError> {
 }
 
 // The script is refused with this fault on this line.
-pub fn is_refused(rt: &(impl Abort + AllocGlobal), text: &[u8], line: u32, name: &str) -> Result<(), Fail> {
+pub fn is_refused(
+    rt: &(impl Abort + AllocGlobal),
+    text: &[u8],
+    line: u32,
+    name: &str,
+) -> Result<(), Fail> {
     let Err(ScriptError::Fault { line: at, kind }) = Script::read(rt.alloc(), text) else {
         panic!(rt; "no fault, or no memory: {text:?}");
     };
