@@ -36,7 +36,7 @@ impl Model for Ring {
 }
 
 impl Ring {
-    /// A ring without a table. It takes no memory (io_uring_setup(2)).
+    /// A ring without a table. It can't fail for want of memory (io_uring_setup(2)).
     pub fn new(alloc: Global, catalogue: Catalogue) -> Ring
         ensures { ring_of result ≡ new_ring catalogue }
     {
