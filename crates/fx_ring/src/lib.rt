@@ -9,6 +9,7 @@ mod ring;
 mod slots;
 #[cfg(test)]
 mod tests;
+mod worker;
 
 pub use report::{Report, SubmitFault};
 pub use ring::{MOST_REGISTRATIONS, MOST_SUBMISSIONS, Ring};
