@@ -3,3 +3,4 @@ pub mod Registration
 pub mod Slots
 pub mod Submission
 pub mod Work
+pub mod Outcomes

@@ -2,11 +2,13 @@
 //! worked off between submissions.
 #![tactic(auto)]
 
+mod crew;
 mod list;
 mod registration;
 mod report;
 mod ring;
 mod slots;
+mod submission;
 #[cfg(test)]
 mod tests;
 mod worker;

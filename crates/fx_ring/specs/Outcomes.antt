@@ -1,0 +1,17 @@
+-- What workers come to, as lists that have their room from the start.
+use Rattle.std.specs.Prelude.{◌≡◌, ◌≤◌, List, [], length, vec_capacity}
+use Rattle.fx_base.specs.CloseListView.{CloseListView}
+use Rattle.fx_chain.specs.Operation.{Asked}
+use Rattle.fx_chain.specs.Weights.{all_weights}
+use Rattle.fx_ring.specs.declared.crew.Outcome.{Outcome}
+use Rattle.fx_ring.specs.declared.worker.Worker.{Worker}
+
+-- nothing has come yet, and there is room for a completion of each request and for all files that the requests may close
+pub record HasRoomFor (requests : List Asked) (outcome : Outcome) : Type 0 where
+  pub no_completions : outcome.completions.items ≡ []
+  pub room : length requests ≤ vec_capacity outcome.completions
+  pub closes : outcome.closes ≡ record { files = []; room = all_weights requests }
+
+-- what a worker has come to
+abbrev pub outcome_of : {P : Type 0} → Worker P → Outcome
+outcome_of w = record { completions = w.completions; closes = w.closes }
