@@ -4,3 +4,4 @@ pub mod Numbers
 pub mod Listed
 pub mod Origins
 pub mod Updates
+pub mod RoomForAll

@@ -2,17 +2,15 @@
 ghost use Rattle.std.specs.Prelude.{◌≡◌, ◌+◌, ◌*◌, ◌≤◌, ◌++◌, [], length, map, flat_map, sum_by, reverse, All, IfOk, IsPermutation, vec_len, vec_capacity};
 ghost use Rattle.std.specs.List.Sorted.{IsNonDecreasingBy};
 ghost use Rattle.fx_base.specs.CloseList.{IsInOrderOfMark};
-ghost use Rattle.fx_chain.specs.Accepted.{IsWithinLimits};
+ghost use Rattle.fx_chain.specs.Accepted.{IsAccepted};
 ghost use Rattle.fx_chain.specs.Completed.{all_completed};
 ghost use Rattle.fx_chain.specs.Operation.{all_asked};
 ghost use Rattle.fx_chain.specs.Weights.{all_weights};
-ghost use Rattle.fx_chain.specs.declared.fault.TheConstants.{MOST_MEMBERS};
-ghost use Rattle.fx_table.specs.declared.limits.TheConstants.{MAX_CHAINS};
 ghost use Rattle.fx_ring.specs.Outcomes.{HasRoomFor, outcome_of};
 
 use crate::worker::Worker;
 use fx_base::{CloseList, NoMemory};
-use fx_chain::{Completion, Request};
+use fx_chain::{Completion, Place, Request};
 use std::alloc::Global;
 
 /// What some chains come to: those of a worker, or all of a submission.
@@ -22,10 +20,16 @@ pub(crate) struct Outcome {
     pub(crate) closes: CloseList,
 }
 
+// The number of a place among those of a submission. A chain has at most 16 members.
+fn rank(place: Place) -> u64
+    ensures { result ≡ place.chain * 32 + place.member }
+{
+    u64::from(place.chain) * 32 + u64::from(place.member)
+}
+
 // How many files the requests may close together.
 fn weight_of_all(requests: &[Request]) -> u32
-    requires few { length requests.now ≤ MAX_CHAINS * MOST_MEMBERS }
-    requires limits { All IsWithinLimits (all_asked requests.now) }
+    requires { IsAccepted (all_asked requests.now) }
     ensures { result ≡ all_weights (all_asked requests.now) }
 {
     let mut weight = 0;
@@ -38,8 +42,7 @@ fn weight_of_all(requests: &[Request]) -> u32
 impl Outcome {
     /// Nothing yet, with room for a completion of each request and for all files that the requests may close.
     pub(crate) fn with_room(alloc: Global, requests: &[Request]) -> Result<Outcome, NoMemory>
-        requires few { length requests.now ≤ MAX_CHAINS * MOST_MEMBERS }
-        requires limits { All IsWithinLimits (all_asked requests.now) }
+        requires { IsAccepted (all_asked requests.now) }
         ensures { IfOk result (HasRoomFor (all_asked requests.now)) }
     {
         let completions = Vec::with_capacity(alloc, requests.len())?;
@@ -56,8 +59,7 @@ impl Outcome {
         requests: &[Request],
         workers: u32,
     ) -> Result<Vec<Outcome>, NoMemory>
-        requires few { length requests.now ≤ MAX_CHAINS * MOST_MEMBERS }
-        requires limits { All IsWithinLimits (all_asked requests.now) }
+        requires { IsAccepted (all_asked requests.now) }
         ensures count { IfOk result (λ outcomes. length outcomes.items ≡ workers) }
         ensures room { IfOk result (λ outcomes. All (HasRoomFor (all_asked requests.now)) outcomes.items) }
     {
@@ -99,19 +101,13 @@ impl Outcome {
         ensures closes { IsPermutation self.old.closes.files self.new.closes.files }
         ensures in_order_of_mark { IsInOrderOfMark self.new.closes.files }
     {
-        // a chain has at most 16 members
-        self.completions
-            .sort_unstable_by_key(|c| u64::from(c.place.chain) * 32 + u64::from(c.place.member));
+        self.completions.sort_unstable_by_key(|c| rank(c.place));
         self.closes.sort();
     }
 }
 
 /// Makes a worker of each pass, which comes to an outcome of its own.
-pub(crate) fn gather<P>(
-    passes: &mut Vec<P>,
-    outcomes: &mut Vec<Outcome>,
-    crew: &mut Vec<Worker<P>>,
-)
+pub(crate) fn gather<P>(passes: &mut Vec<P>, outcomes: &mut Vec<Outcome>, crew: &mut Vec<Worker<P>>)
     requires count { length outcomes.old.items ≡ length passes.old.items }
     requires empty { crew.old.items ≡ [] }
     requires room { length passes.old.items ≤ vec_capacity crew.old }
