@@ -4,3 +4,5 @@ pub mod Numbers
 pub mod Listed
 pub mod Origins
 pub mod Updates
+pub mod Parts
+pub mod OneOrder

@@ -2,3 +2,4 @@ pub mod Ring
 pub mod Registration
 pub mod Slots
 pub mod Submission
+pub mod Work
