@@ -6,3 +6,5 @@ pub mod Origins
 pub mod Updates
 pub mod Parts
 pub mod OneOrder
+pub mod Answered
+pub mod PartsExplained
