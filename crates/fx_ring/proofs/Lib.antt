@@ -5,3 +5,7 @@ pub mod Listed
 pub mod Origins
 pub mod Updates
 pub mod RoomForAll
+pub mod Parts
+pub mod OneOrder
+pub mod Answered
+pub mod PartsExplained
