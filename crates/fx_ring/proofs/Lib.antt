@@ -9,3 +9,8 @@ pub mod Parts
 pub mod OneOrder
 pub mod Answered
 pub mod PartsExplained
+pub mod NewMarks
+pub mod Installs
+pub mod ChainsApart
+pub mod MarksApart
+pub mod SubmittedRing
