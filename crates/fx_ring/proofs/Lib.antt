@@ -4,3 +4,8 @@ pub mod Numbers
 pub mod Listed
 pub mod Origins
 pub mod Updates
+pub mod Behind
+pub mod Kept
+pub mod Places
+pub mod ChainPlayed
+pub mod Runs
