@@ -14,3 +14,8 @@ pub mod Installs
 pub mod ChainsApart
 pub mod MarksApart
 pub mod SubmittedRing
+pub mod Behind
+pub mod Kept
+pub mod Places
+pub mod ChainPlayed
+pub mod Runs

@@ -1,7 +1,7 @@
 ghost use Rattle.std.specs.Prelude.{◌≡◌, ◌+◌, ◌-◌, ◌<◌, ◌≤◌, true, length, map, All, vec_capacity};
 ghost use Rattle.fx_table.specs.Opening.{size_of};
 ghost use Rattle.fx_table.specs.Pass.{IsIdle};
-ghost use Rattle.fx_chain.specs.Accepted.{IsChain, members_of};
+ghost use Rattle.fx_chain.specs.Accepted.{IsChain, IsShortRun, members_of};
 ghost use Rattle.fx_chain.specs.Completed.{all_completed};
 ghost use Rattle.fx_chain.specs.Operation.{all_asked};
 ghost use Rattle.fx_chain.specs.Runs.{runs_of};
@@ -52,8 +52,9 @@ fn members_of_chain<'a>(requests: &'a [Request], chains: &[Chain], chain: u32) -
     requires some { (1 ≤ chain) × (chain ≤ length chains.now) }
     requires members { map (members_of (all_asked requests.now)) chains.now
         ≡ runs_of (all_asked requests.now) }
-    requires inside { All (λ chain. chain.first + chain.len ≤ length requests.now) chains.now }
-    ensures { all_asked result.now ≡ run_of_chain (runs_of (all_asked requests.now)) chain }
+    requires within { All (IsChain (all_asked requests.now)) chains.now }
+    ensures run { all_asked result.now ≡ run_of_chain (runs_of (all_asked requests.now)) chain }
+    ensures short { IsShortRun (all_asked result.now) }
 {
     let chain = chains[chain as usize - 1];
     let first = chain.first as usize;
