@@ -19,3 +19,5 @@ pub mod Kept
 pub mod Places
 pub mod ChainPlayed
 pub mod Runs
+pub mod Numbered
+pub mod ClosesInParts

@@ -10,14 +10,14 @@ parts_from key first zero xs = []
 parts_from key first (suc n) xs = filter (λ x. key x == first) xs ++ parts_from key (first + 1) n xs
 
 module _ {X : Type 0} (key : X → ℕ) where
-  abbrev has : ℕ → X → Bool
+  abbrev pub has : ℕ → X → Bool
   has first x = key x == first
 
-  abbrev lacks : ℕ → X → Bool
+  abbrev pub lacks : ℕ → X → Bool
   lacks first x = not (key x == first)
 
   -- those that lack a key have another one as often as all have it
-  kept_lacking : (first other : ℕ) (xs : List X) → other ≢ first → filter (has other) (filter (lacks first) xs) ≡ filter (has other) xs
+  pub kept_lacking : (first other : ℕ) (xs : List X) → other ≢ first → filter (has other) (filter (lacks first) xs) ≡ filter (has other) xs
   kept_lacking first other [] apart = refl
   kept_lacking first other (x ∷ xs) apart =
       by_equality (key x) first
@@ -33,7 +33,7 @@ module _ {X : Type 0} (key : X → ℕ) where
   abbrev Within : ℕ → ℕ → X → Type 0
   Within first n x = (first ≤ key x) × (key x < first + n)
 
-  within_lacking : (first n : ℕ) (xs : List X) → All (Within first (suc n)) xs → All (Within (first + 1) n) (filter (lacks first) xs)
+  pub within_lacking : (first n : ℕ) (xs : List X) → All (Within first (suc n)) xs → All (Within (first + 1) n) (filter (lacks first) xs)
   within_lacking first n [] all = All-nil (Within (first + 1) n)
   within_lacking first n (x ∷ xs) all =
       let rest = within_lacking first n xs (All-tail (Within first (suc n)) x xs all) in
@@ -45,7 +45,7 @@ module _ {X : Type 0} (key : X → ℕ) where
       above : (a b : ℕ) → b ≤ a → a ≢ b → b + 1 ≤ a
       above a b low apart = by_equality (b + 1) (a + 1) (λ _. b + 1 ≤ a) (λ same. absurd (apart (omega arith))) (λ other. omega arith)
 
-  none_within : (first : ℕ) (xs : List X) → All (Within first 0) xs → xs ≡ []
+  pub none_within : (first : ℕ) (xs : List X) → All (Within first 0) xs → xs ≡ []
   none_within first [] all = refl
   none_within first (x ∷ xs) all = let one = All-head (Within first 0) x xs all in let low = one.0 in let high = one.1 in absurd (omega arith)
 

@@ -2,28 +2,88 @@
 ghost use Rattle.std.specs.Prelude.{◌≡◌, ◌<◌, ◌≤◌, ◌+◌, ℕ, length, All, map, IfSome, IfNone, IfOk, IfErr, OnErr, Err, IsOkUnless};
 ghost use Rattle.fx_plain.specs.State.{IsSettled};
 ghost use Rattle.fx_plain.specs.Contents.{state_of};
-ghost use Rattle.fx_table.specs.Opening.{IsGivenBack, opening_with};
+ghost use Rattle.fx_table.specs.Opening.{IsGivenBack};
 ghost use Rattle.fx_table.specs.Pass.{new_passes};
 ghost use Rattle.fx_table.specs.declared.limits.TheConstants.{MAX_PASSES};
-ghost use Rattle.fx_chain.specs.Accepted.{IsAccepted};
+ghost use Rattle.fx_chain.specs.Accepted.{IsAccepted, IsChain, members_of};
 ghost use Rattle.fx_chain.specs.Operation.{all_asked};
 ghost use Rattle.fx_chain.specs.Runs.{runs_of};
+ghost use Rattle.fx_ring.specs.Outcomes.{HasRoomForCrew};
 ghost use Rattle.fx_ring.specs.Ring.{AreEntries, ring_of, ring_with};
 ghost use Rattle.fx_ring.specs.Submission.{IsOneHistory, reported, submit_refusal};
 ghost use Rattle.fx_ring.specs.declared.report.SubmitFault.TheVariants.{NoMemory as Refused};
 
-use crate::crew::{Outcome, gather, scatter};
+use crate::crew::{Outcome, Room, gather, scatter};
 use crate::report::{Report, SubmitFault};
 use crate::ring::{MOST_SUBMISSIONS, Ring};
 use crate::worker::work_crew;
 use fx_base::{Catalogue, NoMemory};
-use fx_chain::{Gate, Request, check, cut};
+use fx_chain::{Chain, Gate, Request, check, cut};
 use fx_plain::PlainTable;
 use fx_table::{FileTable, MAX_PASSES};
 use std::alloc::Global;
 use std::mem;
 use std::sync::Wait;
 use std::thread::Threads;
+
+// Plays the chains of the requests on a table that was opened for them, as the next submission behind so many.
+fn play_open<T: FileTable, R: Threads + Wait + Sync, G: Gate>(
+    rt: &R,
+    alloc: Global,
+    table: T,
+    mut passes: Vec<T::Pass>,
+    room: Room<T::Pass>,
+    catalogue: &Catalogue,
+    submissions: u32,
+    requests: &[Request],
+    chains: &[Chain],
+    gate: &G,
+) -> (PlainTable, Report)
+    requires few { submissions < MOST_SUBMISSIONS }
+    requires accepted { IsAccepted (all_asked requests.now) }
+    requires members { map (members_of (all_asked requests.now)) chains.now
+        ≡ runs_of (all_asked requests.now) }
+    requires inside { All (λ chain. chain.first + chain.len ≤ length requests.now) chains.now }
+    requires within { All (IsChain (all_asked requests.now)) chains.now }
+    requires chains { (T.opening table).chains ≡ length chains.now }
+    requires some { 1 ≤ (T.opening table).passes }
+    requires fits { All (T.fits table) passes.items }
+    requires new { map (λ p. T.view p) passes.items ≡ new_passes (T.opening table).passes }
+    requires room { HasRoomForCrew (all_asked requests.now) (T.opening table).passes room }
+    ensures settled { IsSettled (state_of result.0) }
+    ensures played { (registrations : ℕ) → IsOneHistory
+        (ring_with catalogue.now (T.opening table).contents submissions registrations)
+        (all_asked requests.now) (reported result.1)
+        (ring_with catalogue.now result.0 (submissions + 1) registrations) }
+{
+    let submission = submissions + 1;
+    let Room {
+        mut crew,
+        mut outcomes,
+        mut all,
+    } = room;
+    gather(&mut passes, &mut outcomes, &mut crew);
+    work_crew(
+        rt, alloc, &table, catalogue, submission, requests, chains, gate, &mut crew,
+    );
+    scatter(&mut crew, &mut passes, &mut outcomes);
+    crew.destroy_empty();
+    let left = table.close(passes);
+    all.join(outcomes);
+    all.sort();
+    let Outcome {
+        completions,
+        closes,
+    } = all;
+    (
+        left,
+        Report {
+            submission,
+            completions,
+            closes,
+        },
+    )
+}
 
 // Plays the requests on a table, as the next submission behind so many.
 fn play<T: FileTable, R: Threads + Wait + Sync, G: Gate>(
@@ -51,48 +111,28 @@ fn play<T: FileTable, R: Threads + Wait + Sync, G: Gate>(
         return Err((plain, NoMemory));
     };
     let passes = workers.min(1.max(chains.len() as u32));
-    let Ok(mut outcomes) = Outcome::for_each(alloc, requests, passes) else {
-        return Err((plain, NoMemory));
-    };
-    let Ok(mut all) = Outcome::with_room(alloc, requests) else {
-        return Err((plain, NoMemory));
-    };
-    let Ok(mut crew) = Vec::with_capacity(alloc, passes as usize) else {
+    let Ok(room) = Room::new(alloc, requests, passes) else {
         return Err((plain, NoMemory));
     };
     match T::open(alloc, plain, chains.len() as u32, passes) {
         Err(refused) => {
-            crew.destroy_empty();
+            room.give_up();
             Err(refused)
         }
-        Ok((table, mut passes)) => {
-            gather(&mut passes, &mut outcomes, &mut crew);
-            work_crew(
+        Ok((table, passes)) => {
+            let chains = chains.as_slice();
+            Ok(play_open(
                 rt,
                 alloc,
-                &table,
+                table,
+                passes,
+                room,
                 catalogue,
-                submissions + 1,
+                submissions,
                 requests,
-                chains.as_slice(),
+                chains,
                 gate,
-                &mut crew,
-            );
-            scatter(&mut crew, &mut passes, &mut outcomes);
-            crew.destroy_empty();
-            let left = table.close(passes);
-            all.join(outcomes);
-            all.sort();
-            let Outcome {
-                completions,
-                closes,
-            } = all;
-            let report = Report {
-                submission: submissions + 1,
-                completions,
-                closes,
-            };
-            Ok((left, report))
+            ))
         }
     }
 }
