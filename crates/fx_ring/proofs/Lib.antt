@@ -21,3 +21,6 @@ pub mod ChainPlayed
 pub mod Runs
 pub mod Numbered
 pub mod ClosesInParts
+pub mod Joined
+pub mod Gathered
+pub mod Scattered
