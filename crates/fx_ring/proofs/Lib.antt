@@ -9,3 +9,4 @@ pub mod Kept
 pub mod Places
 pub mod ChainPlayed
 pub mod Runs
+pub mod SameAt

@@ -1,5 +1,5 @@
 -- Each completion of a chain has the chain in its place.
-use Rattle.std.proofs.Common.{◌≡◌, ℕ, ◌+◌, ◌==◌, ◌||◌, nat_le, nat_lt, ℤ, pos, Bool, true, false, List, [], ◌∷◌, length, refl, sym, ap, subst, All, inl, inr}
+use Rattle.std.proofs.Common.{◌≡◌, ℕ, ◌+◌, ◌==◌, ◌||◌, nat_le, nat_lt, ℤ, Bool, true, false, List, [], ◌∷◌, length, refl, sym, ap, subst, All, inl, inr}
 use Rattle.std.proofs.lemmas.List.Elements.{All-nil, All-cons}
 use Rattle.std.specs.Bool.{MatchBool}
 use Rattle.std.specs.List.{list_any}
@@ -8,7 +8,7 @@ use Rattle.fx_base.specs.AddFault.{has_name}
 use Rattle.fx_base.specs.declared.errno.Errno.{Errno}
 use Rattle.fx_base.specs.declared.errno.Errno.TheVariants.{ENOENT, ENXIO, EBADF, ENOMEM, EINVAL, ENFILE, ECANCELED}
 use Rattle.fx_plain.specs.declared.event.Action.{Action}
-use Rattle.fx_chain.specs.Answers.{Refuses, OpensAt, ReadsAt, ReadsFrom, TakesAt, Empties, UpdatesFrom, Answers, is_bad_entry}
+use Rattle.fx_chain.specs.Answers.{Refuses, OpensAt, ReadsFrom, Empties, UpdatesFrom, Answers, is_bad_entry}
 use Rattle.fx_chain.specs.Completed.{Completed, next_member, refusal}
 use Rattle.fx_chain.specs.Explains.{Explains, canceled, severs}
 use Rattle.fx_chain.specs.Operation.{Operation, Opens, Reads, Closes, Updates, Asked}
@@ -33,7 +33,7 @@ opened_at size place entry (Slot slot) events c opens =
     (matched (nat_le size slot) _ _ (c.place ≡ place) (refused_at place EINVAL events c) (λ x. ap place_of x.4)) opens
 opened_at size place entry Any events c opens =
     matched (size == 0) _ _ (c.place ≡ place) (refused_at place ENFILE events c)
-    (λ x. elim x [ | inl y ↦ ap place_of y.4 | inr y ↦ ap place_of y.1 ]) opens
+    (λ x. elim x [ inl y ↦ ap place_of y.4 | inr y ↦ ap place_of y.1 ]) opens
 
 read_at : (catalogue : List FileEntry) (size : ℕ) (place : Place) (slot off len : ℕ) (events : List Action) (c : Completed)
     → ReadsFrom catalogue size place slot off len events c → c.place ≡ place
@@ -41,14 +41,14 @@ read_at catalogue size place slot off len events c reads =
     matched (nat_le size slot) _ _ (c.place ≡ place) (refused_at place EBADF events c)
     (λ x. elim x [
       | inl y ↦ refused_at place ENOMEM events c y.1
-      | inr y ↦ elim y [ | inl z ↦ ap place_of z.1 | inr z ↦ ap place_of z.2 ]
+      | inr y ↦ elim y [ inl z ↦ ap place_of z.1 | inr z ↦ ap place_of z.2 ]
     ]) reads
 
 emptied_at : (size : ℕ) (place : Place) (slot : ℕ) (events : List Action) (c : Completed) → Empties size place slot events c → c.place ≡ place
 emptied_at size place slot events c empties =
     matched (size == 0) _ _ (c.place ≡ place) (refused_at place ENXIO events c)
     (matched (nat_le size slot) _ _ (c.place ≡ place) (refused_at place EINVAL events c)
-    (λ x. elim x [ | inl y ↦ ap place_of y.1 | inr y ↦ ap place_of y.2 ])) empties
+    (λ x. elim x [ inl y ↦ ap place_of y.1 | inr y ↦ ap place_of y.2 ])) empties
 
 updated_at : (entries size : ℕ) (place : Place) (off : ℕ) (list : List ℤ) (events : List Action) (c : Completed)
     → UpdatesFrom entries size place off list events c → c.place ≡ place
