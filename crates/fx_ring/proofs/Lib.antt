@@ -24,3 +24,4 @@ pub mod ClosesInParts
 pub mod Joined
 pub mod Gathered
 pub mod Scattered
+pub mod SameAt
