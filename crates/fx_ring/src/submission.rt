@@ -43,7 +43,6 @@ fn play_open<T: FileTable, R: Threads + Wait + Sync, G: Gate>(
     requires accepted { IsAccepted (all_asked requests.now) }
     requires members { map (members_of (all_asked requests.now)) chains.now
         ≡ runs_of (all_asked requests.now) }
-    requires inside { All (λ chain. chain.first + chain.len ≤ length requests.now) chains.now }
     requires within { All (IsChain (all_asked requests.now)) chains.now }
     requires chains { (T.opening table).chains ≡ length chains.now }
     requires some { 1 ≤ (T.opening table).passes }
