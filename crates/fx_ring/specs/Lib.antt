@@ -2,3 +2,5 @@ pub mod Ring
 pub mod Registration
 pub mod Slots
 pub mod Submission
+pub mod Work
+pub mod Outcomes

@@ -88,3 +88,12 @@ pub record IsAtRest (c : RingContents) : Type 0 where
 pub record HasClosed (files : List Closed) (closes : CloseListView) : Type 0 where
   pub same_files : IsPermutation files closes.files
   pub in_order : IsInOrderOfMark closes.files
+
+-- what a ring with this catalogue and table keeps, with so much counted
+abbrev pub ring_with : List FileEntry → Contents → ℕ → ℕ → RingContents
+ring_with catalogue table submissions registrations = record {
+  catalogue = catalogue;
+  table = table;
+  submissions = submissions;
+  registrations = registrations;
+}

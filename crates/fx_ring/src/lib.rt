@@ -2,13 +2,16 @@
 //! worked off between submissions.
 #![tactic(auto)]
 
+mod crew;
 mod list;
 mod registration;
 mod report;
 mod ring;
 mod slots;
+mod submission;
 #[cfg(test)]
 mod tests;
+mod worker;
 
 pub use report::{Report, SubmitFault};
 pub use ring::{MOST_REGISTRATIONS, MOST_SUBMISSIONS, Ring};

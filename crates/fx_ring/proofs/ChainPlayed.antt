@@ -1,0 +1,233 @@
+-- A worker goes on by one chain that its pass drew.
+use Rattle.std.proofs.Common.{◌≡◌, ◌≢◌, ◌⊎◌, ℕ, ◌+◌, ◌<◌, ◌≤◌, List, [], ◌∷◌, ◌++◌, map, length, refl, sym, ap, subst, ◌∙◌, All, Contains, Some, None, ⊎_elim, length-append, arith}
+use Rattle.std.proofs.lemmas.List.{map-append}
+use Rattle.std.proofs.lemmas.List.Elements.{All-append}
+use Rattle.fx_base.specs.Catalogue.{FileEntry}
+use Rattle.fx_base.specs.CloseListView.{CloseListView}
+use Rattle.fx_base.specs.declared.open_file.Closed.{Closed}
+use Rattle.fx_plain.specs.declared.event.Event.{Event}
+use Rattle.fx_plain.specs.declared.event.Action.{Action}
+use Rattle.fx_plain.specs.History.{action_of, closes_in, part_of_chain, ◌▷◌}
+use Rattle.fx_plain.proofs.Leading.{closes_in-then}
+use Rattle.fx_table.specs.Opening.{Opening, size_of}
+use Rattle.fx_table.specs.Pass.{PassView, event_of}
+use Rattle.fx_table.specs.Calls.{Draws}
+use Rattle.fx_table.specs.declared.limits.TheConstants.{CHAIN_NUMBERS}
+use Rattle.fx_table.specs.declared.values.Doing.TheVariants.{Idle}
+use Rattle.fx_table.proofs.Chains.{keeps_drawn_chains}
+use Rattle.fx_table.proofs.Members.{contains_head, contains_tail, contains_cases, contains_map, each_all}
+use Rattle.fx_chain.specs.Completed.{Completed}
+use Rattle.fx_chain.specs.Explains.{Explains, first_member}
+use Rattle.fx_chain.specs.Operation.{Asked}
+use Rattle.fx_chain.specs.Performs.{PlaysChain, player}
+use Rattle.fx_chain.specs.Weights.{all_weights}
+use Rattle.fx_chain.proofs.ChainGoesOn.{explained_count}
+use Rattle.fx_ring.specs.Work.{worker_state, run_of_chain, completions_of_chain, HasWorked, HasRoom}
+use Rattle.fx_ring.proofs.Behind.{sum_behind}
+use Rattle.fx_ring.proofs.Kept.{only_first, only_second, not_first, not_second}
+use Rattle.fx_ring.proofs.Places.{explained_of_chain}
+
+abbrev chain_of : Event → ℕ
+chain_of e = e.chain
+
+abbrev chain_of_completed : Completed → ℕ
+chain_of_completed c = c.place.chain
+
+actions_again : (v : PassView) (actions : List Action) → map action_of (map (event_of v) actions) ≡ actions
+actions_again v [] = refl
+actions_again v (action ∷ actions) = ap (λ (l : List Action). action ∷ l) (actions_again v actions)
+
+-- the pass with the chain that it drew
+abbrev pub drawing : PassView → ℕ → PassView
+drawing v chain = record v { chain = chain; drawn = v.drawn ▷ chain; numbers_left = CHAIN_NUMBERS }
+
+-- what is said of each chain that a worker drew
+abbrev IsDone : List FileEntry → ℕ → ℕ → List (List Asked) → ℕ → List Action → List Completed → Type 0
+IsDone catalogue size submission runs chain events completions =
+    Explains catalogue size (first_member submission chain) (run_of_chain runs chain) events completions
+    × (length (closes_in events) ≤ all_weights (run_of_chain runs chain))
+
+module _ (o : Opening) (catalogue : List FileEntry) (submission : ℕ) (runs : List (List Asked)) (v x : PassView)
+    (before now : List Completed) (closes files : CloseListView) (chain : ℕ)
+    (worked : HasWorked catalogue (size_of o) submission runs (worker_state v before closes))
+    (further : v.chain < chain) (inside : chain ≤ length runs)
+    (played : PlaysChain o catalogue submission chain (run_of_chain runs chain) (player (drawing v chain) closes) before (player x files) now) where
+  abbrev actions : List Action
+  actions = played.2.actions
+
+  abbrev events : List Event
+  events = map (event_of (drawing v chain)) actions
+
+  own_is : x.own ≡ events ++ v.own
+  own_is = played.2.acts.adds.own
+
+  drawn_is : x.drawn ≡ chain ∷ v.drawn
+  drawn_is = played.2.acts.adds.drawn
+
+  chain_is : x.chain ≡ chain
+  chain_is = played.2.acts.adds.chain
+
+  -- the new events and completions are of the chain
+  new_events : All (λ e. chain_of e ≡ chain) events
+  new_events = each_all (λ e. chain_of e ≡ chain) events
+      (λ e h. ap chain_of (contains_map (event_of (drawing v chain)) actions e h).2)
+
+  new_completions : All (λ c. chain_of_completed c ≡ chain) played.0
+  new_completions = explained_of_chain catalogue (size_of o) (first_member submission chain) (run_of_chain runs chain) actions played.0
+      played.2.says
+
+  -- those before are of chains before it
+  old_events : All (λ e. chain_of e ≢ chain) v.own
+  old_events = each_all (λ e. chain_of e ≢ chain) v.own
+      (λ e h same. let low = (worked.inside e.chain (worked.own e h)).1 in absurd (omega arith))
+
+  old_completions : All (λ c. chain_of_completed c ≢ chain) before
+  old_completions k d l same = let low = (worked.inside _ (worked.completed k d l)).1 in absurd (omega arith)
+
+  done_now : IsDone catalogue (size_of o) submission runs chain (map action_of (part_of_chain chain x.own)) (completions_of_chain chain now)
+  done_now =
+      let part : map action_of (part_of_chain chain x.own) ≡ actions = ap (λ (h : List Event). map action_of (part_of_chain chain h)) own_is
+      ∙ ap (map action_of) (only_first chain_of chain events v.own new_events old_events) ∙ actions_again (drawing v chain) actions in
+      let mine : completions_of_chain chain now ≡ played.0 = ap (completions_of_chain chain) played.1
+      ∙ only_second chain_of_completed chain before played.0 old_completions new_completions in
+      subst (λ (z : List Action × List Completed). IsDone catalogue (size_of o) submission runs chain z.0 z.1)
+      (λ i. (sym part i, sym mine i)) (played.2.says, played.2.few_files)
+
+  done_before : (c : ℕ) → Contains v.drawn c
+      → IsDone catalogue (size_of o) submission runs c (map action_of (part_of_chain c x.own)) (completions_of_chain c now)
+  done_before c h =
+      let low = (worked.inside c h).1 in
+      let other : chain ≢ c = λ same. absurd (omega arith) in
+      let part : map action_of (part_of_chain c x.own) ≡ map action_of (part_of_chain c v.own) =
+      ap (λ (l : List Event). map action_of (part_of_chain c l)) own_is
+      ∙ ap (map action_of) (not_first chain_of c events v.own (λ k d l same. other (sym (new_events k d l) ∙ same))) in
+      let mine : completions_of_chain c now ≡ completions_of_chain c before = ap (completions_of_chain c) played.1
+      ∙ not_second chain_of_completed c before played.0 (λ k d l same. other (sym (new_completions k d l) ∙ same)) in
+      subst (λ (z : List Action × List Completed). IsDone catalogue (size_of o) submission runs c z.0 z.1)
+      (λ i. (sym part i, sym mine i)) (worked.explained c h, worked.weighed c h)
+
+  drawn_cases : (c : ℕ) → Contains x.drawn c → (c ≡ chain) ⊎ Contains v.drawn c
+  drawn_cases c h = contains_cases chain v.drawn c (subst (λ (l : List ℕ). Contains l c) drawn_is h)
+
+  drawn_before : (c : ℕ) → Contains v.drawn c → Contains x.drawn c
+  drawn_before c h = subst (λ (l : List ℕ). Contains l c) (sym drawn_is) (contains_tail chain v.drawn c h)
+
+  drawn_now : Contains x.drawn chain
+  drawn_now = subst (λ (l : List ℕ). Contains l chain) (sym drawn_is) (contains_head chain v.drawn)
+
+  done : (c : ℕ) → Contains x.drawn c
+      → IsDone catalogue (size_of o) submission runs c (map action_of (part_of_chain c x.own)) (completions_of_chain c now)
+  done c h = ⊎_elim
+      (λ is. subst (λ (n : ℕ). IsDone catalogue (size_of o) submission runs n (map action_of (part_of_chain n x.own)) (completions_of_chain n now))
+      (sym is) done_now)
+      (λ t. done_before c t) (drawn_cases c h)
+
+  pub worked_on : HasWorked catalogue (size_of o) submission runs (worker_state x now files)
+  worked_on = record {
+    explained = λ c h. (done c h).0;
+    weighed = λ c h. (done c h).1;
+    inside = λ c h. ⊎_elim
+        (λ is. (omega arith, omega arith))
+        (λ t. let low = worked.inside c t in let top = low.1 in (low.0, omega arith)) (drawn_cases c h);
+    reached = omega arith;
+    own = keeps_drawn_chains o (drawing v chain) x actions Idle played.2.used (contains_head chain v.drawn)
+        (λ e h. contains_tail chain v.drawn e.chain (worked.own e h)) played.2.acts.adds;
+    completed = subst (All (λ c. Contains x.drawn c.place.chain)) (sym played.1)
+        (All-append (λ c. Contains x.drawn c.place.chain) before played.0
+        (λ k d l. drawn_before _ (worked.completed k d l))
+        (λ k d l. subst (Contains x.drawn) (sym (new_completions k d l)) drawn_now));
+    closed = played.2.acts.files
+        ∙ ap (λ (l : List Closed). l ++ closes_in actions) worked.closed
+        ∙ sym (closes_in-then (map action_of v.own) actions)
+        ∙ ap (λ (l : List Action). closes_in (l ++ map action_of v.own)) (sym (actions_again (drawing v chain) actions))
+        ∙ ap closes_in (sym (map-append action_of events v.own))
+        ∙ ap (λ (l : List Event). closes_in (map action_of l)) (sym own_is);
+  }
+
+  pub room_left : (capacity more : ℕ) → HasRoom runs (worker_state v before closes) capacity → capacity ≤ more
+      → HasRoom runs (worker_state x now files) more
+  room_left capacity more room grows =
+      let requests = sum_behind (λ (run : List Asked). length run) runs [] v.chain chain further inside in
+      let weights = sum_behind all_weights runs [] v.chain chain further inside in
+      let count = explained_count catalogue (size_of o) (first_member submission chain) (run_of_chain runs chain) actions played.0 played.2.says in
+      let longer = ap length played.1 ∙ length-append before played.0 in
+      let few_looks = played.2.few_looks in
+      let few_files = played.2.few_files in
+      let looks_left = played.2.acts.adds.looks_left in
+      let room_is = played.2.acts.room in
+      let looks = room.looks in
+      let completions = room.completions in
+      let files_room = room.closes in
+      subst (λ (n : ℕ). HasRoom runs (worker_state (record x { chain = n }) now files) more) (sym chain_is) (record {
+        looks = omega arith;
+        completions = omega arith;
+        closes = omega arith;
+      })
+
+-- what a worker has in front of a chain that its pass drew suffices for the chain
+module _ (o : Opening) (runs : List (List Asked)) (v w : PassView) (before : List Completed) (closes : CloseListView)
+    (chain capacity : ℕ) (asked : List Asked) (room : HasRoom runs (worker_state v before closes) capacity)
+    (count : o.chains ≡ length runs) (drew : Draws o v (Some chain) w) (are : asked ≡ run_of_chain runs chain) where
+  pub enough_looks : length asked ≤ w.looks_left
+  enough_looks =
+      let further = drew.1 in
+      let last = drew.2 in
+      let some = sum_behind (λ (run : List Asked). length run) runs [] v.chain chain further (omega arith) in
+      let same = ap length are in
+      let left = ap (λ (z : PassView). z.looks_left) drew.3 in
+      let looks = room.looks in
+      omega arith
+
+  pub enough_capacity : length before + length asked ≤ capacity
+  enough_capacity =
+      let further = drew.1 in
+      let last = drew.2 in
+      let some = sum_behind (λ (run : List Asked). length run) runs [] v.chain chain further (omega arith) in
+      let same = ap length are in
+      let completions = room.completions in
+      omega arith
+
+  pub enough_room : all_weights asked ≤ closes.room
+  enough_room =
+      let further = drew.1 in
+      let last = drew.2 in
+      let some = sum_behind all_weights runs [] v.chain chain further (omega arith) in
+      let same = ap all_weights are in
+      let files = room.closes in
+      omega arith
+
+  -- and the worker goes on
+  module _ (catalogue : List FileEntry) (submission more : ℕ) (x : PassView) (now : List Completed) (files : CloseListView)
+      (worked : HasWorked catalogue (size_of o) submission runs (worker_state v before closes)) (grows : capacity ≤ more)
+      (played : PlaysChain o catalogue submission chain asked (player w closes) before (player x files) now) where
+    played_so : PlaysChain o catalogue submission chain (run_of_chain runs chain) (player (drawing v chain) closes) before (player x files) now
+    played_so = subst (λ (z : PassView × List Asked). PlaysChain o catalogue submission chain z.1 (player z.0 closes) before (player x files) now)
+        (λ i. (drew.3 i, are i)) played
+
+    pub worked_next : HasWorked catalogue (size_of o) submission runs (worker_state x now files)
+    worked_next =
+        let last = drew.2 in
+        worked_on o catalogue submission runs v x before now closes files chain worked drew.1 (omega arith) played_so
+
+    pub room_next : HasRoom runs (worker_state x now files) more
+    room_next =
+        let last = drew.2 in
+        room_left o catalogue submission runs v x before now closes files chain worked drew.1 (omega arith) played_so capacity more room grows
+
+    pub number_next : x.number ≡ v.number
+    number_next = played.2.acts.adds.number ∙ ap (λ (z : PassView). z.number) drew.3
+
+-- a worker whose pass was told that there are no more chains
+pub worked_all : (o : Opening) (catalogue : List FileEntry) (size submission : ℕ) (runs : List (List Asked)) (v w : PassView) (cs : List Completed)
+    (closes : CloseListView) → HasWorked catalogue size submission runs (worker_state v cs closes) → Draws o v None w
+    → HasWorked catalogue size submission runs (worker_state w cs closes)
+worked_all o catalogue size submission runs v w cs closes worked drew =
+    subst (λ (z : PassView). HasWorked catalogue size submission runs (worker_state z cs closes)) (sym drew) (record {
+      explained = worked.explained;
+      weighed = worked.weighed;
+      inside = worked.inside;
+      reached = worked.reached;
+      own = worked.own;
+      completed = worked.completed;
+      closed = worked.closed;
+    })

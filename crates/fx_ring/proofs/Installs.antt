@@ -1,0 +1,178 @@
+-- What the members of a chain install: files of the catalogue, each with a mark of its own.
+use Rattle.std.proofs.Common.{◌≡◌, ◌≢◌, ℕ, zero, suc, ◌+◌, ◌<◌, ◌≤◌, ◌==◌, ◌||◌, nat_le, nat_lt, ℤ, pos, negsuc, false, List, [], ◌∷◌, length, sym, ap, subst, ◌∙◌, ⊎_elim, inl, inr, Option, Some, None, option_map, arith}
+use Rattle.std.specs.List.{list_any}
+use Rattle.std.proofs.lemmas.Bool.{cases_lt, leb-false}
+use Rattle.std.proofs.lemmas.Option.{slice_get_past}
+use Rattle.fx_base.specs.AddFault.{has_name}
+use Rattle.fx_base.specs.Catalogue.{FileEntry, name_at}
+use Rattle.fx_base.specs.declared.errno.Errno.{Errno}
+use Rattle.fx_base.specs.declared.errno.Errno.TheVariants.{ENOENT, ENXIO, EBADF, ENOMEM, EINVAL, ENFILE}
+use Rattle.fx_base.specs.declared.mark.Mark.{Mark}
+use Rattle.fx_base.specs.declared.mark.Mark.TheVariants.{Submitted}
+use Rattle.fx_base.specs.declared.open_file.Closed.{Closed}
+use Rattle.fx_plain.specs.History.{◌▷◌}
+use Rattle.fx_plain.specs.declared.event.File.{File}
+use Rattle.fx_plain.specs.declared.event.Action.{Action}
+use Rattle.fx_plain.specs.declared.event.Action.TheVariants.{Look, Release, Put, Clear, Take, Allocate, Full}
+use Rattle.fx_chain.specs.Answers.{Answers, OpensAt, ReadsFrom, Empties, UpdatesFrom, AppliesEntry, AppliesList, Refuses, installed, is_bad_entry}
+use Rattle.fx_chain.specs.Completed.{Completed, next_member}
+use Rattle.fx_chain.specs.Explains.{Explains, severs}
+use Rattle.fx_chain.specs.Operation.{Operation, Opens, Reads, Closes, Updates, Asked}
+use Rattle.fx_chain.specs.declared.completion.Place.{Place}
+use Rattle.fx_chain.specs.declared.request.Target.{Target}
+use Rattle.fx_chain.specs.declared.request.Target.TheVariants.{Slot, Any}
+use Rattle.fx_ring.proofs.Answered.{either_way}
+use Rattle.fx_ring.proofs.NewMarks.{Puts, puts_then, puts_so, puts_none, puts_one, puts_may_close}
+use Rattle.fx_ring.proofs.Numbers.{or_left, or_right}
+
+-- a file of the catalogue, by its mark
+abbrev pub IsMarked : ℕ → Mark → File → Type 0
+IsMarked entries mark f = (f.identity.mark ≡ mark) × (f.identity.entry < entries)
+
+-- the file is of one of the places of a list from this one on, where the request stands here
+abbrev IsListed : ℕ → Place → ℕ → File → Type 0
+IsListed entries place low f = (j : ℕ) × (low ≤ j) × IsMarked entries (Submitted place.submission place.chain place.member j) f
+
+-- the file is of one of the members of a chain from this one on
+abbrev pub IsOfMembers : ℕ → Place → File → Type 0
+IsOfMembers entries place f = (m : ℕ) × (j : ℕ) × (place.member ≤ m) × IsMarked entries (Submitted place.submission place.chain m j) f
+
+-- an entry with a name is one of the catalogue
+entry_named : (catalogue : List FileEntry) (entry : ℕ) (name : List ℕ) → name_at catalogue entry ≡ Some name → entry < length catalogue
+entry_named catalogue entry name is = elim (cases_lt entry (length catalogue)) [
+  | inl inside ↦ inside
+  | inr past ↦ let e : None ≡ Some name = sym (ap (option_map (λ (file : FileEntry). file.name)) (slice_get_past catalogue entry past)) ∙ is in cc
+]
+
+module _ (entries : ℕ) (place : Place) where
+  abbrev Here : ℕ → File → Type 0
+  Here j f = IsMarked entries (Submitted place.submission place.chain place.member j) f
+
+  here : (j entry : ℕ) (f : File) → f.identity ≡ installed place j entry → entry < entries → Here j f
+  here j entry f is inside = (ap (λ (x : Closed). x.mark) is, let same : f.identity.entry ≡ entry = ap (λ (x : Closed). x.entry) is in omega arith)
+
+  -- the step that installs it
+  puts_here : (j entry slot : ℕ) (f : File) (replaced : Option File) → f.identity ≡ installed place j entry → entry < entries
+      → Puts (Here j) ([] ▷ Put slot f replaced)
+  puts_here j entry slot f replaced is inside = puts_one (Here j) (Put slot f replaced)
+      (λ g now. let e : f ≡ g = cc in subst (Here j) e (here j entry f is inside))
+
+  allocates_here : (j entry slot : ℕ) (f : File) → f.identity ≡ installed place j entry → entry < entries → Puts (Here j) ([] ▷ Allocate slot f)
+  allocates_here j entry slot f is inside = puts_one (Here j) (Allocate slot f)
+      (λ g now. let e : f ≡ g = cc in subst (Here j) e (here j entry f is inside))
+
+  refuses_none : (P : File → Type 0) (errno : Errno) (events : List Action) (c : Completed) → Refuses place errno events c → Puts P events
+  refuses_none P errno events c it = subst (Puts P) (sym it.0) (puts_none P [] (λ f is. is))
+
+  opens : (size entry : ℕ) (target : Target) (events : List Action) (c : Completed) → entry < entries → OpensAt size place entry target events c
+      → Puts (Here 0) events
+  opens size entry (Slot slot) events c inside it =
+      either_way (size == 0) (λ _. refuses_none (Here 0) ENXIO events c)
+      (λ _. either_way (nat_le size slot) (λ _. refuses_none (Here 0) EINVAL events c)
+      (λ _ put. puts_may_close (Here 0) ([] ▷ Put slot put.0 put.1) put.1 events put.3 (puts_here 0 entry slot put.0 put.1 put.2 inside))) it
+  opens size entry Any events c inside it =
+      either_way (size == 0) (λ _. refuses_none (Here 0) ENFILE events c)
+      (λ _. ⊎_elim
+      (λ found. subst (Puts (Here 0)) (sym found.3) (allocates_here 0 entry found.0 found.1 found.2 inside))
+      (λ full. subst (Puts (Here 0)) (sym full.0) (puts_one (Here 0) Full (λ f now. let e : None ≡ Some f = now in cc)))) it
+
+  module _ (P : File → Type 0) where
+    no_file : (f : File) → ◌≡◌ {A = Option File} None (Some f) → P f
+    no_file f is = cc
+
+    looks : (slot : ℕ) (found : Option File) → Puts P ([] ▷ Look slot found)
+    looks slot found = puts_one P (Look slot found) no_file
+
+    reads : (catalogue : List FileEntry) (size slot off len : ℕ) (events : List Action) (c : Completed)
+        → ReadsFrom catalogue size place slot off len events c → Puts P events
+    reads catalogue size slot off len events c it =
+        either_way (nat_le size slot) (λ _. refuses_none P EBADF events c)
+        (λ _. ⊎_elim
+        (λ large. refuses_none P ENOMEM events c large.1)
+        (⊎_elim
+        (λ none. subst (Puts P) (sym none.0) (looks slot None))
+        (λ found. puts_may_close P ([] ▷ Look slot (Some found.0) ▷ Release found.0) (Some found.0) events found.1
+        (puts_none P ([] ▷ Look slot (Some found.0) ▷ Release found.0)
+        (λ f. ⊎_elim (⊎_elim (λ before. before) (λ look. let e : None ≡ Some f = look in cc))
+        (λ release. let e : None ≡ Some f = release in cc)))))) it
+
+    empties : (size slot : ℕ) (events : List Action) (c : Completed) → Empties size place slot events c → Puts P events
+    empties size slot events c it =
+        either_way (size == 0) (λ _. refuses_none P ENXIO events c)
+        (λ _. either_way (nat_le size slot) (λ _. refuses_none P EINVAL events c)
+        (λ _. ⊎_elim
+        (λ none. subst (Puts P) (sym none.0) (puts_one P (Take slot None) no_file))
+        (λ taken. puts_may_close P ([] ▷ Take slot (Some taken.0)) (Some taken.0) events taken.1 (puts_one P (Take slot (Some taken.0)) no_file)))) it
+
+  applies_entry : (j slot : ℕ) (z : ℤ) (events : List Action) → is_bad_entry entries z ≡ false → AppliesEntry place j slot z events
+      → Puts (Here j) events
+  applies_entry j slot (pos entry) events good (f, replaced, is, may) =
+      puts_may_close (Here j) ([] ▷ Put slot f replaced) replaced events may (puts_here j entry slot f replaced is (leb-false entries entry good))
+  applies_entry j slot (negsuc zero) events good (removed, may) =
+      puts_may_close (Here j) ([] ▷ Clear slot removed) removed events may (puts_one (Here j) (Clear slot removed) (no_file (Here j)))
+  applies_entry j slot (negsuc (suc n)) events good is = subst (Puts (Here j)) (sym is) (puts_none (Here j) [] (λ f it. it))
+
+  later_place : (j : ℕ) (f g : File) → IsListed entries place (j + 1) f → Here j g → f.identity.mark ≢ g.identity.mark
+  later_place j f g (k, le, of) at same =
+      let e : Submitted place.submission place.chain place.member k ≡ Submitted place.submission place.chain place.member j =
+      sym of.0 ∙ (same ∙ at.0) in
+      let is : k ≡ j = cc in
+      omega arith
+
+  applies_list : (j slot : ℕ) (list : List ℤ) (events : List Action) → list_any (is_bad_entry entries) list ≡ false
+      → AppliesList place j slot list events → Puts (IsListed entries place j) events
+  applies_list j slot [] events good is = subst (Puts (IsListed entries place j)) (sym is) (puts_none (IsListed entries place j) [] (λ f it. it))
+  applies_list j slot (z ∷ list) events good (own, others, is, one, more) =
+      subst (Puts (IsListed entries place j)) (sym is)
+      (puts_then (Here j) (IsListed entries place (j + 1)) (IsListed entries place j) own others
+      (λ f at. (j, omega arith, at))
+      (λ f at. (at.0, let le = at.1 in omega arith, at.2))
+      (later_place j)
+      (applies_entry j slot z own (or_left _ _ good) one)
+      (applies_list (j + 1) (slot + 1) list others (or_right _ _ good) more))
+
+  updates : (size off : ℕ) (list : List ℤ) (events : List Action) (c : Completed) → UpdatesFrom entries size place off list events c
+      → Puts (IsListed entries place 0) events
+  updates size off list events c it =
+      either_way (size == 0) (λ _. refuses_none (IsListed entries place 0) ENXIO events c)
+      (λ _. either_way (length list == 0 || nat_lt size (off + length list)) (λ _. refuses_none (IsListed entries place 0) EINVAL events c)
+      (λ _. either_way (list_any (is_bad_entry entries) list) (λ _. refuses_none (IsListed entries place 0) EBADF events c)
+      (λ good applied. applies_list 0 off list events good applied.0))) it
+
+module _ (catalogue : List FileEntry) (size : ℕ) where
+  answer_puts : (place : Place) (operation : Operation) (events : List Action) (c : Completed) → Answers catalogue size place operation events c
+      → Puts (IsListed (length catalogue) place 0) events
+  answer_puts place (Opens name target) events c it =
+      either_way (has_name name catalogue)
+      (λ _ found. puts_so (Here (length catalogue) place 0) (IsListed (length catalogue) place 0) events (λ f at. (0, omega arith, at))
+      (opens (length catalogue) place size found.0 target events c (entry_named catalogue found.0 name found.1) found.2))
+      (λ _. refuses_none (length catalogue) place (IsListed (length catalogue) place 0) ENOENT events c) it
+  answer_puts place (Reads slot off len) events c it =
+      reads (length catalogue) place (IsListed (length catalogue) place 0) catalogue size slot off len events c it
+  answer_puts place (Closes slot) events c it = empties (length catalogue) place (IsListed (length catalogue) place 0) size slot events c it
+  answer_puts place (Updates off list) events c it = updates (length catalogue) place size off list events c it
+
+  later_member : (place : Place) (f g : File) → IsOfMembers (length catalogue) (next_member place) f → IsListed (length catalogue) place 0 g
+      → f.identity.mark ≢ g.identity.mark
+  later_member place f g (m, j, le, of) (k, low, at) same =
+      let e : Submitted place.submission place.chain m j ≡ Submitted place.submission place.chain place.member k = sym of.0 ∙ (same ∙ at.0) in
+      let is : m ≡ place.member = cc in
+      omega arith
+
+  -- the steps of a chain install files of the catalogue with marks of its members, and no mark twice
+  pub explained_puts : (place : Place) (requests : List Asked) (events : List Action) (completions : List Completed)
+      → Explains catalogue size place requests events completions → Puts (IsOfMembers (length catalogue) place) events
+  explained_puts place [] events completions it =
+      subst (Puts (IsOfMembers (length catalogue) place)) (sym it.0) (puts_none (IsOfMembers (length catalogue) place) [] (λ f is. is))
+  explained_puts place (request ∷ requests) events completions (own, others, c, cs, is, are, answers, behind) =
+      let P : File → Type 0 = IsOfMembers (length catalogue) (next_member place) in
+      subst (Puts (IsOfMembers (length catalogue) place)) (sym is)
+      (puts_then (IsListed (length catalogue) place 0) P (IsOfMembers (length catalogue) place) own others
+      (λ f at. (place.member, at.0, omega arith, at.2))
+      (λ f at. (at.0, at.1, let le = at.2 in omega arith, at.3))
+      (later_member place)
+      (answer_puts place request.operation own c answers)
+      (either_way (severs request c)
+      (λ _ cut. subst (Puts P) (sym cut.0) (puts_none P [] (λ f it. it)))
+      (λ _ more. explained_puts (next_member place) requests others cs more)
+      behind))

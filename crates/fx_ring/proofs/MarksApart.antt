@@ -1,0 +1,79 @@
+-- A table whose files have marks apart keeps them apart, as long as each mark that is installed is a new one.
+use Rattle.std.proofs.Common.{◌≡◌, ◌≢◌, ◌⊎◌, ℕ, if◌then◌else◌, List, [], ◌∷◌, refl, sym, subst, ◌∙◌, ⊎_elim, inl, inr, Option, Some, None}
+use Rattle.fx_plain.specs.State.{State}
+use Rattle.fx_plain.specs.Step.{after, changed_at}
+use Rattle.fx_plain.specs.History.{state_after}
+use Rattle.fx_plain.specs.Laws.{installed_by}
+use Rattle.fx_plain.specs.declared.event.File.{File}
+use Rattle.fx_plain.specs.declared.event.Action.{Action}
+use Rattle.fx_plain.specs.declared.event.Action.TheVariants.{Look, Release, Put, Clear, Take, Allocate, Full, Close}
+use Rattle.fx_plain.proofs.Cells.{by_equality}
+use Rattle.fx_ring.proofs.NewMarks.{IsPut, HasNewMarks}
+
+-- a step leaves all slots, or changes one to what it installs
+slots_after : (st : State) (a : Action) → ((after st a).at ≡ st.at) ⊎ ((slot : ℕ) × ((after st a).at ≡ changed_at st.at slot (installed_by a)))
+slots_after st (Look slot None) = inl refl
+slots_after st (Look slot (Some f)) = inl refl
+slots_after st (Release f) = inl refl
+slots_after st (Put slot f replaced) = inr (slot, refl)
+slots_after st (Clear slot found) = inr (slot, refl)
+slots_after st (Take slot found) = inr (slot, refl)
+slots_after st (Allocate slot f) = inr (slot, refl)
+slots_after st Full = inl refl
+slots_after st (Close f) = inl refl
+
+module _ (P : File → Type 0) where
+  -- each file at a slot is one of which P holds, or was installed; and no two have one mark
+  pub record IsApart (h : List Action) (at : ℕ → Option File) : Type 0 where
+    pub from : (slot : ℕ) (f : File) → at slot ≡ Some f → P f ⊎ IsPut h f
+    pub distinct : (slot other : ℕ) (f g : File) → at slot ≡ Some f → at other ≡ Some g → f.identity.mark ≡ g.identity.mark → slot ≡ other
+
+  -- no mark that was installed is one of a file of which P holds
+  abbrev pub IsUnlike : List Action → Type 0
+  IsUnlike h = (f g : File) → IsPut h f → P g → f.identity.mark ≢ g.identity.mark
+
+  kept_apart : (h : List Action) (a : Action) (at : ℕ → Option File) → IsApart h at → IsApart (a ∷ h) at
+  kept_apart h a at apart = record {
+    from = λ slot f is. ⊎_elim (λ was. inl was) (λ put. inr (inl put)) (apart.from slot f is);
+    distinct = apart.distinct;
+  }
+
+  module _ (h : List Action) (a : Action) (at : ℕ → Option File) (place : ℕ) (fresh : HasNewMarks (a ∷ h)) (unlike : IsUnlike (a ∷ h))
+      (apart : IsApart h at) where
+    -- the file that the step installs has a mark that no slot's file has
+    no_other : (slot : ℕ) (f g : File) → installed_by a ≡ Some f → at slot ≡ Some g → f.identity.mark ≢ g.identity.mark
+    no_other slot f g now is = ⊎_elim (λ was. unlike f g (inr now) was) (λ put. fresh.1 f g now put) (apart.from slot g is)
+
+    changed_from : (slot : ℕ) (f : File) → changed_at at place (installed_by a) slot ≡ Some f → P f ⊎ IsPut (a ∷ h) f
+    changed_from slot f = by_equality slot place (λ b. ◌≡◌ {A = Option File} (if b then installed_by a else at slot) (Some f) → P f ⊎ IsPut (a ∷ h) f)
+        (λ _ now. inr (inr now))
+        (λ _ is. ⊎_elim (λ was. inl was) (λ put. inr (inl put)) (apart.from slot f is))
+
+    changed_distinct : (slot other : ℕ) (f g : File) → changed_at at place (installed_by a) slot ≡ Some f
+        → changed_at at place (installed_by a) other ≡ Some g
+        → f.identity.mark ≡ g.identity.mark → slot ≡ other
+    changed_distinct slot other f g =
+        by_equality slot place
+        (λ b. ◌≡◌ {A = Option File} (if b then installed_by a else at slot) (Some f) → changed_at at place (installed_by a) other ≡ Some g
+        → f.identity.mark ≡ g.identity.mark → slot ≡ other)
+        (λ here now. by_equality other place
+        (λ b. ◌≡◌ {A = Option File} (if b then installed_by a else at other) (Some g) → f.identity.mark ≡ g.identity.mark → slot ≡ other)
+        (λ there too marks. here ∙ sym there)
+        (λ there is marks. absurd (no_other other f g now is marks)))
+        (λ here is. by_equality other place
+        (λ b. ◌≡◌ {A = Option File} (if b then installed_by a else at other) (Some g) → f.identity.mark ≡ g.identity.mark → slot ≡ other)
+        (λ there now marks. absurd (no_other slot g f now is (sym marks)))
+        (λ there are marks. apart.distinct slot other f g is are marks))
+
+    changed_apart : IsApart (a ∷ h) (changed_at at place (installed_by a))
+    changed_apart = record { from = changed_from; distinct = changed_distinct }
+
+  pub apart_after : (start : State) (h : List Action) → IsApart [] start.at → HasNewMarks h → IsUnlike h → IsApart h (state_after start h).at
+  apart_after start [] begins fresh unlike = begins
+  apart_after start (a ∷ h) begins fresh unlike =
+      let before = apart_after start h begins fresh.0 (λ f g put was. unlike f g (inl put) was) in
+      let st = state_after start h in
+      ⊎_elim
+      (λ same. subst (IsApart (a ∷ h)) (sym same) (kept_apart h a st.at before))
+      (λ changed. subst (IsApart (a ∷ h)) (sym changed.1) (changed_apart h a st.at changed.0 fresh unlike before))
+      (slots_after st a)

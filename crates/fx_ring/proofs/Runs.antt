@@ -1,0 +1,36 @@
+-- Where the members of a chain stand in the list of requests.
+use Rattle.std.proofs.Common.{◌≡◌, ℕ, ◌+◌, ◌-◌, ◌≤◌, List, [], length, map, take, drop, slice_index_or, sym, ap, subst, ◌∙◌, All, arith}
+use Rattle.std.proofs.lemmas.List.{get_or-map, length-map}
+use Rattle.fx_chain.specs.Accepted.{IsChain, IsShortRun, members_of}
+use Rattle.fx_chain.specs.Operation.{Asked, all_asked}
+use Rattle.fx_chain.specs.Runs.{runs_of}
+use Rattle.fx_chain.specs.declared.chain.Chain.{Chain}
+use Rattle.fx_chain.specs.declared.request.Request.{Request}
+use Rattle.fx_chain.proofs.Asking.{asked_part}
+use Rattle.fx_ring.specs.Work.{run_of_chain}
+
+module _ (requests : List Request) (chains : List Chain) (c : ℕ) (d : Chain) (some : 1 ≤ c) (inside : c ≤ length chains) where
+  abbrev chain : Chain
+  chain = slice_index_or chains (c - 1) d
+
+  asked_at : all_asked (take (chain.first + chain.len - chain.first) (drop chain.first requests)) ≡ members_of (all_asked requests) chain
+  asked_at =
+      let count : chain.first + chain.len - chain.first ≡ chain.len = omega arith in
+      ap (λ (n : ℕ). all_asked (take n (drop chain.first requests))) count ∙ asked_part requests chain.first chain.len
+
+  pub run_at : map (members_of (all_asked requests)) chains ≡ runs_of (all_asked requests)
+      → all_asked (take (chain.first + chain.len - chain.first) (drop chain.first requests)) ≡ run_of_chain (runs_of (all_asked requests)) c
+  run_at members = asked_at ∙ sym (get_or-map (members_of (all_asked requests)) chains (c - 1) d [] (omega arith))
+      ∙ ap (λ (runs : List (List Asked)). run_of_chain runs c) members
+
+  pub chain_at : All (IsChain (all_asked requests)) chains → IsChain (all_asked requests) chain
+  chain_at within = within (c - 1) d (omega arith)
+
+  pub short_at : All (IsChain (all_asked requests)) chains
+      → IsShortRun (all_asked (take (chain.first + chain.len - chain.first) (drop chain.first requests)))
+  short_at within = subst IsShortRun (sym asked_at) (chain_at within).run
+
+-- there are as many chains as runs
+pub as_many : (requests : List Request) (chains : List Chain) → map (members_of (all_asked requests)) chains ≡ runs_of (all_asked requests)
+    → length (runs_of (all_asked requests)) ≡ length chains
+as_many requests chains members = ap length (sym members) ∙ length-map chains (members_of (all_asked requests))

@@ -1,0 +1,170 @@
+-- A ring behind a submission keeps what every ring keeps.
+use Rattle.std.proofs.Common.{◌≡◌, ◌≢◌, ℕ, ◌+◌, ◌<◌, ◌≤◌, List, [], ◌∷◌, length, map, Contains, refl, sym, ap, subst, ◌∙◌, ⊎_elim, inl, Option, Some, None, arith}
+use Rattle.fx_base.specs.Catalogue.{FileEntry}
+use Rattle.fx_base.specs.declared.mark.Mark.{Mark}
+use Rattle.fx_base.specs.declared.mark.Mark.TheVariants.{Registered, Submitted}
+use Rattle.fx_base.specs.declared.open_file.Closed.{Closed}
+use Rattle.fx_plain.specs.State.{State, IsSettled, opening}
+use Rattle.fx_plain.specs.Contents.{state_of}
+use Rattle.fx_plain.specs.History.{action_of, closes_in}
+use Rattle.fx_plain.specs.Table.{identity_of}
+use Rattle.fx_plain.specs.declared.event.File.{File}
+use Rattle.fx_plain.specs.declared.event.Event.{Event}
+use Rattle.fx_plain.specs.declared.event.Action.{Action}
+use Rattle.fx_plain.proofs.Cells.{by_equality}
+use Rattle.fx_plain.proofs.FilesWereInstalled.{HoldsOfAll, holds_of_closes, all_closes_in}
+use Rattle.fx_table.specs.Numbers.{numbers_for}
+use Rattle.fx_chain.specs.Completed.{Completed}
+use Rattle.fx_chain.specs.Explains.{first_member}
+use Rattle.fx_chain.specs.Operation.{Asked}
+use Rattle.fx_chain.specs.Runs.{runs_of}
+use Rattle.fx_ring.specs.Ring.{RingContents, RingState, IsRing, IsAtRest, IsCounted, AreEntries, ring_of, with_table}
+use Rattle.fx_ring.specs.Submission.{ExplainsParts, Reported, IsOneHistory}
+use Rattle.fx_ring.specs.declared.ring.TheConstants.{MOST_SUBMISSIONS}
+use Rattle.fx_ring.proofs.Rings.{opening_files, entries_closed}
+use Rattle.fx_ring.proofs.NewMarks.{IsPut, HasNewMarks, Puts}
+use Rattle.fx_ring.proofs.Installs.{IsOfMembers, explained_puts}
+use Rattle.fx_ring.proofs.ChainsApart.{IsOfChain, part_actions, put_in_part, installed_put, whole_new}
+use Rattle.fx_ring.proofs.MarksApart.{IsApart, IsUnlike, apart_after}
+
+-- each chain's part of the history installs files of the catalogue with marks of its own, and no mark twice
+part_puts : (catalogue : List FileEntry) (size submission first : ℕ) (runs : List (List Asked)) (history : List Event) (completions : List Completed)
+    → ExplainsParts catalogue size submission first runs history completions → (chain : ℕ) → first ≤ chain → chain < first + length runs
+    → Puts (IsOfMembers (length catalogue) (first_member submission chain)) (part_actions chain history)
+part_puts catalogue size submission first [] history completions explained chain low high = absurd (omega arith)
+part_puts catalogue size submission first (run ∷ runs) history completions (own, others, parts, one, more) chain low high =
+    by_equality chain first (λ _. Puts (IsOfMembers (length catalogue) (first_member submission chain)) (part_actions chain history))
+    (λ same. subst (λ c. Puts (IsOfMembers (length catalogue) (first_member submission c)) (part_actions c history)) (sym same)
+    (explained_puts catalogue size (first_member submission first) run (part_actions first history) own one))
+    (λ apart. part_puts catalogue size submission (first + 1) runs history others more chain (omega arith) (omega arith))
+
+-- the file that a slot has, by what is told of it
+file_told : (x : Option File) (told : Closed) → identity_of x ≡ Some told → (f : File) × (x ≡ Some f) × (f.identity ≡ told)
+file_told None told is = let e : None ≡ Some told = is in cc
+file_told (Some f) told is = let e : Some f.identity ≡ Some told = is in (f, refl, let same : f.identity ≡ told = cc in same)
+
+-- what was counted is counted once one more submission is
+counted_still : (ring next : RingState) (mark : Mark) → next.registrations ≡ ring.registrations → next.submissions ≡ ring.submissions + 1
+    → IsCounted ring mark → IsCounted next mark
+counted_still ring next (Registered k i) same more counted = omega arith
+counted_still ring next (Submitted s c m j) same more counted = omega arith
+
+-- no counted mark is one of the next submission
+not_yet : (ring : RingState) (mark : Mark) (c m j : ℕ) → IsCounted ring mark → mark ≢ Submitted (ring.submissions + 1) c m j
+not_yet ring (Registered k i) c m j counted same = cc
+not_yet ring (Submitted s d n i) c m j counted same = let e : s ≡ ring.submissions + 1 = cc in omega arith
+
+module _ (old new : RingContents) (requests : List Asked) (report : Reported) (is : IsRing (ring_of old))
+    (one : IsOneHistory old requests report new) where
+  abbrev before : RingState
+  before = ring_of old
+
+  abbrev behind : RingState
+  behind = record (with_table (ring_of old) one.end) { submissions = old.submissions + 1 }
+
+  abbrev start : State
+  start = opening (state_of old.table) (numbers_for (length (runs_of requests)))
+
+  abbrev actions : List Action
+  actions = map action_of one.history
+
+  -- the file is of the catalogue and has a mark that was counted before
+  abbrev WasThere : File → Type 0
+  WasThere f = IsCounted before f.identity.mark × (f.identity.entry < length old.catalogue)
+
+  -- the file is of the catalogue and has a mark of this submission
+  abbrev IsNew : File → Type 0
+  IsNew f = (c : ℕ) × IsOfChain report.submission c f × (f.identity.entry < length old.catalogue)
+
+  at_start : (slot : ℕ) (f : File) → start.at slot ≡ Some f → before.at slot ≡ Some f.identity
+  at_start slot f at =
+      let files = opening_files (state_of old.table) start (numbers_for (length (runs_of requests))) refl in
+      sym (ap (λ (told : ℕ → Option Closed). told slot) files) ∙ ap identity_of at
+
+  began : IsApart WasThere [] start.at
+  began = record {
+    from = λ slot f at. inl (is.counted slot f.identity (at_start slot f at), is.entries slot f.identity (at_start slot f at));
+    distinct = λ slot other f g at too marks. is.distinct slot other f.identity g.identity (at_start slot f at) (at_start other g too) marks;
+  }
+
+  parts : (e : Event) → Contains one.history e
+      → Puts (IsOfMembers (length old.catalogue) (first_member report.submission e.chain)) (part_actions e.chain one.history)
+  parts e there =
+      let inside = one.chains e there in
+      let high = inside.1 in
+      part_puts old.catalogue (state_of old.table).size report.submission 1
+      (runs_of requests) one.history report.completions one.explained e.chain inside.0 (omega arith)
+
+  put_is_new : (f : File) → IsPut actions f → IsNew f
+  put_is_new f put =
+      let (e, there, own) = put_in_part one.history f put in
+      let member = (parts e there).0 f own in
+      (e.chain, (member.0, member.1, member.3.0), member.3.1)
+
+  no_mark_twice : HasNewMarks actions
+  no_mark_twice = whole_new report.submission one.history
+      (λ e there. ((parts e there).1, λ f own. let member = (parts e there).0 f own in (member.0, member.1, member.3.0)))
+
+  unlike : IsUnlike WasThere actions
+  unlike f g put was same =
+      let (c, (m, j, mark), entry) = put_is_new f put in
+      let e : g.identity.mark ≡ Submitted (old.submissions + 1) c m j = sym same ∙ (mark ∙ ap (λ s. Submitted s c m j) one.submission) in
+      not_yet before g.identity.mark c m j was.0 e
+
+  ended : IsApart WasThere actions one.end.at
+  ended = subst (λ (st : State). IsApart WasThere actions st.at) (sym one.legal.leads.1)
+      (apart_after WasThere start actions began no_mark_twice unlike)
+
+  put_counted : (f : File) → IsPut actions f → IsCounted behind f.identity.mark
+  put_counted f put =
+      let (c, (m, j, mark), entry) = put_is_new f put in
+      let few = one.submission in
+      subst (IsCounted behind) (sym mark) (omega arith)
+
+  keeps : IsRing behind
+  keeps = record {
+    entries = λ slot file at.
+        let (f, there, told) = file_told (one.end.at slot) file at in
+        subst (λ (x : Closed). x.entry < length old.catalogue) told (⊎_elim (λ was. was.1) (λ put. (put_is_new f put).2) (ended.from slot f there));
+    counted = λ slot file at.
+        let (f, there, told) = file_told (one.end.at slot) file at in
+        subst (λ (x : Closed). IsCounted behind x.mark) told
+        (⊎_elim (λ was. counted_still before behind f.identity.mark refl refl was.0) (λ put. put_counted f put) (ended.from slot f there));
+    distinct = λ slot other file same at at_other marks.
+        let (f, there, told) = file_told (one.end.at slot) file at in
+        let (g, also, said) = file_told (one.end.at other) same at_other in
+        ended.distinct slot other f g there also (ap (λ (x : Closed). x.mark) told ∙ (marks ∙ sym (ap (λ (x : Closed). x.mark) said)));
+  }
+
+  -- its files are of the catalogue, with marks that are counted, and no two have one mark
+  pub submitted_rings : IsRing (ring_of new)
+  submitted_rings = subst IsRing (sym one.after) keeps
+
+  closed_entries : AreEntries behind (closes_in actions)
+  closed_entries =
+      let P : File → Type 0 = λ f. f.identity.entry < length old.catalogue in
+      let all : HoldsOfAll P start = record {
+        at_slots = λ slot lt f at. is.entries slot f.identity (at_start slot f at);
+        removed = λ number f at. let e : None ≡ Some f = at in cc;
+      } in
+      all_closes_in (λ (file : Closed). file.entry < length old.catalogue) one.history
+      (holds_of_closes P start one.history all one.legal.leads.0 (λ f installed. (put_is_new f (installed_put one.history f installed)).2))
+
+  -- the files that it closed are of the catalogue
+  pub submitted_entries : AreEntries (ring_of new) report.closes.files
+  submitted_entries = subst (λ (ring : RingState). AreEntries ring report.closes.files) (sym one.after)
+      (entries_closed behind (closes_in actions) report.closes closed_entries one.closed)
+
+-- a ring at rest is at rest again behind a submission
+pub submitted_at_rest : (old new : RingContents) (requests : List Asked) (report : Reported) → IsAtRest old → IsOneHistory old requests report new
+    → IsSettled (state_of new.table) → old.submissions < MOST_SUBMISSIONS → IsAtRest new
+submitted_at_rest old new requests report rest one settled few =
+    let submissions : new.submissions ≡ old.submissions + 1 = ap (λ (ring : RingState). ring.submissions) one.after in
+    let registrations : new.registrations ≡ old.registrations = ap (λ (ring : RingState). ring.registrations) one.after in
+    let many = rest.few_registrations in
+    record {
+      settled = settled;
+      ring = submitted_rings old new requests report rest.ring one;
+      few_submissions = omega arith;
+      few_registrations = omega arith;
+    }

@@ -1,0 +1,11 @@
+use Rattle.std.proofs.Common.{◌≡◌, ◌≤◌, length, All, vec_capacity}
+use Rattle.fx_chain.specs.Operation.{all_asked}
+use Rattle.fx_ring.specs.Outcomes.{HasRoomFor}
+use Rattle.fx_ring.proofs.crew.Outcome.for_each.Given as goal
+
+abbrev pub invariant-loop : goal.invariant-loop
+invariant-loop l = record {
+  count : length l.outcomes.items ≡ l.counter;
+  capacity : l.workers ≤ vec_capacity l.outcomes;
+  room : All (HasRoomFor (all_asked l.requests)) l.outcomes.items;
+}

@@ -1,0 +1,57 @@
+-- What a worker of a submission has done.
+use Rattle.std.specs.Prelude.{◌≡◌, ℕ, ◌+◌, ◌-◌, ◌==◌, ◌≤◌, List, [], map, filter, length, drop, All, Contains, sum_by, slice_index_or}
+use Rattle.fx_base.specs.Catalogue.{FileEntry}
+use Rattle.fx_base.specs.CloseListView.{CloseListView}
+use Rattle.fx_plain.specs.History.{action_of, closes_in, part_of_chain}
+use Rattle.fx_table.specs.Pass.{PassView, IsOfDrawnChains}
+use Rattle.fx_chain.specs.Completed.{Completed}
+use Rattle.fx_chain.specs.Explains.{Explains, first_member}
+use Rattle.fx_chain.specs.Operation.{Asked}
+use Rattle.fx_chain.specs.Weights.{all_weights}
+
+-- what a worker has at a moment
+pub record WorkerState : Type 0 where
+  pub pass : PassView
+  pub completions : List Completed
+  pub closes : CloseListView
+
+abbrev pub worker_state : PassView → List Completed → CloseListView → WorkerState
+worker_state pass completions closes = record { pass = pass; completions = completions; closes = closes }
+
+-- the requests of a chain, the first of which is 1
+abbrev pub run_of_chain : List (List Asked) → ℕ → List Asked
+run_of_chain runs chain = slice_index_or runs (chain - 1) []
+
+abbrev pub completions_of_chain : ℕ → List Completed → List Completed
+completions_of_chain chain completions = filter (λ c. c.place.chain == chain) completions
+
+-- How far a worker is with the runs of a submission
+pub record HasWorked (catalogue : List FileEntry) (size submission : ℕ) (runs : List (List Asked)) (w : WorkerState) : Type 0 where
+  -- each chain that it drew is explained by its part of what the pass did
+  pub explained : (c : ℕ) → Contains w.pass.drawn c
+      → Explains catalogue size (first_member submission c) (run_of_chain runs c)
+      (map action_of (part_of_chain c w.pass.own)) (completions_of_chain c w.completions)
+  -- and closed no more files than its requests weigh
+  pub weighed : (c : ℕ) → Contains w.pass.drawn c
+      → length (closes_in (map action_of (part_of_chain c w.pass.own))) ≤ all_weights (run_of_chain runs c)
+  -- those chains are of the submission, and none is behind the last one
+  pub inside : (c : ℕ) → Contains w.pass.drawn c → (1 ≤ c) × (c ≤ w.pass.chain)
+  pub reached : w.pass.chain ≤ length runs
+  -- all that it did, and each of its completions, is of a chain that it drew
+  pub own : IsOfDrawnChains w.pass
+  pub completed : All (λ c. Contains w.pass.drawn c.place.chain) w.completions
+  -- its closes are the files that its pass closed
+  pub closed : w.closes.files ≡ closes_in (map action_of w.pass.own)
+
+-- how many requests the chains behind this one have, and how many files those may close
+abbrev pub requests_behind : List (List Asked) → ℕ → ℕ
+requests_behind runs chain = sum_by (λ run. length run) (drop chain runs)
+
+abbrev pub weights_behind : List (List Asked) → ℕ → ℕ
+weights_behind runs chain = sum_by all_weights (drop chain runs)
+
+-- What is left to a worker suffices for the chains behind its last one
+pub record HasRoom (runs : List (List Asked)) (w : WorkerState) (capacity : ℕ) : Type 0 where
+  pub looks : requests_behind runs w.pass.chain ≤ w.pass.looks_left
+  pub completions : length w.completions + requests_behind runs w.pass.chain ≤ capacity
+  pub closes : weights_behind runs w.pass.chain ≤ w.closes.room
