@@ -108,8 +108,8 @@ impl Ring {
         Ok(closes)
     }
 
-    /// Lets every file of the ring go without a list. It is the way out after a fault, and takes no memory (this
-    /// project's own).
+    /// Lets every file of the ring go without a list. It is the way out after a fault, and can't fail for want of memory
+    /// (this project's own).
     pub fn abandon(self) {
         let Ring {
             catalogue: _,
