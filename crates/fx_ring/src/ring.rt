@@ -30,9 +30,19 @@ impl Model for Ring {
 
     ghost Value = { RingContents };
 
-    ghost view = { λ ring. record { catalogue = ring.catalogue; table = ring.table; submissions = ring.submissions; registrations = ring.registrations } };
+    ghost view = { λ ring. record {
+      catalogue = ring.catalogue;
+      table = ring.table;
+      submissions = ring.submissions;
+      registrations = ring.registrations;
+    } };
 
-    ghost invariant = { λ ring. IsAtRest (record { catalogue = ring.catalogue; table = ring.table; submissions = ring.submissions; registrations = ring.registrations }) };
+    ghost invariant = { λ ring. IsAtRest (record {
+      catalogue = ring.catalogue;
+      table = ring.table;
+      submissions = ring.submissions;
+      registrations = ring.registrations;
+    }) };
 }
 
 impl Ring {
