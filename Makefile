@@ -9,7 +9,7 @@ $(error Call make in the folder of this Makefile: make -C '$(patsubst %/,%,$(dir
 endif
 
 .DEFAULT_GOAL := help
-.PHONY: help run try prove test examples limits compare mistakes break must-spend wrong-bodies layout bench gate clean
+.PHONY: help run try prove test examples limits compare mistakes break must-spend growths wrong-bodies layout bench gate clean
 .NOTPARALLEL:
 
 help:
@@ -24,6 +24,7 @@ help:
 	@echo 'make mistakes     makes the mistakes that a user may make, and wants each answered'
 	@echo 'make break        makes the wrong change of README.md, and wants its line'
 	@echo 'make must-spend   shows that a program that loses a file is refused'
+	@echo 'make growths      counts how often memory grows in the calls that need none'
 	@echo 'make wrong-bodies tries the wrong bodies for which the gate has no time'
 	@echo 'make layout       looks at the files of the repository'
 	@echo 'make bench        times what scripts do beside a plain program that does the same'
@@ -64,6 +65,9 @@ break:
 
 must-spend:
 	@scripts/check-must-spend
+
+growths:
+	@scripts/check-growths
 
 wrong-bodies:
 	@scripts/wrong-bodies $$CRATES

@@ -1,5 +1,6 @@
 -- The entries of a catalogue, by their places.
-use Rattle.std.proofs.Common.{rules, ◌≡◌, ◌⊎◌, inl, inr, ℕ, suc, zero, ◌<◌, ◌≤◌, Bool, true, false, List, [], ◌∷◌, ◌++◌, length, refl, sym, ap, ◌∙◌, Option, Some, All, slice_index_or, slice_get, subst, length-append, arith, option_map, string_bytes}
+use Rattle.std.proofs.Common.{rules, ◌≡◌, ◌⊎◌, inl, inr, ℕ, suc, zero, ◌<◌, ◌≤◌, Bool, true, false, List, [], ◌∷◌, ◌++◌, length, refl, sym, ap, ◌∙◌}
+use Rattle.std.proofs.Common.{Option, Some, All, slice_index_or, slice_get, subst, length-append, arith, option_map, string_bytes}
 use Rattle.std.proofs.lemmas.List.{get_or-map, length-map}
 use Rattle.std.proofs.lemmas.List.Elements.{All-append}
 use Rattle.std.proofs.lemmas.Option.{slice_get-map, slice_get_read}
@@ -16,7 +17,8 @@ use Rattle.fx_base.specs.declared.catalogue.TheConstants.{MOST_ENTRIES, LONGEST_
 use Rattle.fx_base.specs.declared.name.TheConstants.{LONGEST_NAME}
 
 -- the place of a name in front of one more entry, or that entry's own
-either_place : (xs : List FileEntry) (y : FileEntry) (i : ℕ) (name : List ℕ) → name_at (xs ++ y ∷ []) i ≡ Some name → (name_at xs i ≡ Some name) ⊎ ((i ≡ length xs) × (y.name ≡ name))
+either_place : (xs : List FileEntry) (y : FileEntry) (i : ℕ) (name : List ℕ) → name_at (xs ++ y ∷ []) i ≡ Some name
+    → (name_at xs i ≡ Some name) ⊎ ((i ≡ length xs) × (y.name ≡ name))
 either_place [] y zero name is = inr (refl, cc)
 either_place [] y (suc i) name is = cc
 either_place (x ∷ xs) y zero name is = inl is
@@ -40,11 +42,20 @@ not_named (x ∷ xs) name new zero is =
 not_named (x ∷ xs) name new (suc i) is = not_named xs name (or_right _ _ new) i is
 
 -- a new name keeps the names distinct
-pub still_distinct : (catalogue : List FileEntry) (y : FileEntry) → ((i j : ℕ) (name : List ℕ) → name_at catalogue i ≡ Some name → name_at catalogue j ≡ Some name → i ≡ j) → has_name y.name catalogue ≡ false
+pub still_distinct : (catalogue : List FileEntry) (y : FileEntry)
+    → ((i j : ℕ) (name : List ℕ) → name_at catalogue i ≡ Some name → name_at catalogue j ≡ Some name → i ≡ j) → has_name y.name catalogue ≡ false
     → (i j : ℕ) (name : List ℕ) → name_at (catalogue ++ y ∷ []) i ≡ Some name → name_at (catalogue ++ y ∷ []) j ≡ Some name → i ≡ j
 still_distinct catalogue y distinct new i j name at_i at_j = elim (either_place catalogue y i name at_i) [
-  | inl old_i ↦ (elim (either_place catalogue y j name at_j) [ inl old_j ↦ distinct i j name old_i old_j | inr new_j ↦ absurd (not_named catalogue y.name new i (old_i ∙ ap Some (sym new_j.1))) ])
-  | inr new_i ↦ (elim (either_place catalogue y j name at_j) [ inl old_j ↦ absurd (not_named catalogue y.name new j (old_j ∙ ap Some (sym new_i.1))) | inr new_j ↦ new_i.0 ∙ sym new_j.0 ])
+  | inl old_i ↦ (elim (either_place catalogue y j name at_j) [
+    | inl old_j ↦ distinct i j name old_i old_j
+    | inr new_j ↦ absurd
+        (not_named catalogue y.name new i (old_i ∙ ap Some (sym new_j.1)))
+  ])
+  | inr new_i ↦ (elim (either_place catalogue y j name at_j) [
+    | inl old_j ↦ absurd
+        (not_named catalogue y.name new j (old_j ∙ ap Some (sym new_i.1)))
+    | inr new_j ↦ new_i.0 ∙ sym new_j.0
+  ])
 ]
 
 -- an entry that was read has its size and its name, and both are what a catalogue keeps
@@ -58,7 +69,8 @@ pub read_at : (entries : List Entry) (i : ℕ) (e : Entry) → IsCatalogue (file
     → e ≡ slice_index_or entries i e → IsRead (file_entries_of entries) i e
 read_at entries i e good inside is =
     let at : slice_get (file_entries_of entries) i ≡ Some (file_entry_of e) =
-    slice_get-map file_entry_of entries i ∙ ap (λ (x : Option Entry). option_map file_entry_of x) (slice_get_read entries (length entries) i e refl inside is) in
+    slice_get-map file_entry_of entries i
+    ∙ ap (λ (x : Option Entry). option_map file_entry_of x) (slice_get_read entries (length entries) i e refl inside is) in
     let there : slice_index_or (file_entries_of entries) i (file_entry_of e) ≡ file_entry_of e =
     get_or-map file_entry_of entries i e (file_entry_of e) inside ∙ ap file_entry_of (sym is) in
     let within : i < length (file_entries_of entries) = subst (λ (n : ℕ). i < n) (sym (length-map entries file_entry_of)) inside in
@@ -72,7 +84,8 @@ read_at entries i e good inside is =
 -- what holds of each entry and of one more
 with_one_more : (P : FileEntry → Type 0) (catalogue : List FileEntry) (y : FileEntry) → All P catalogue → P y → All P (catalogue ++ y ∷ [])
 with_one_more P catalogue y all one =
-    All-append P catalogue (y ∷ []) all (λ k d inside. let zero_is : k ≡ 0 = omega arith in subst (λ (n : ℕ). P (slice_index_or (y ∷ []) n d)) (sym zero_is) one)
+    All-append P catalogue (y ∷ []) all (λ k d inside. let zero_is : k ≡ 0 = omega arith in
+    subst (λ (n : ℕ). P (slice_index_or (y ∷ []) n d)) (sym zero_is) one)
 
 -- a catalogue with one more entry
 pub one_more : (catalogue : List FileEntry) (y : FileEntry) → IsCatalogue catalogue → length catalogue < MOST_ENTRIES → length y.bytes ≤ LONGEST_ENTRY

@@ -1,5 +1,6 @@
 -- The place of a name, among the entries of a catalogue.
-use Rattle.std.proofs.Common.{◌≡◌, ℕ, suc, ◌+◌, ◌<◌, Bool, true, false, List, [], ◌∷◌, ◌++◌, length, refl, sym, ap, subst, ◌∙◌, Option, Some, None, arith, is_some, IfSome}
+use Rattle.std.proofs.Common.{◌≡◌, ℕ, suc, ◌+◌, ◌<◌, Bool, true, false, List, [], ◌∷◌, ◌++◌, length, refl, sym, ap, subst, ◌∙◌, Option, Some, None}
+use Rattle.std.proofs.Common.{arith, is_some, IfSome}
 use Rattle.std.proofs.lemmas.Slice.Eq.{bytes_eq-Decides}
 use Rattle.std.specs.Prelude.{cond, ◌||◌}
 use Rattle.std.specs.List.{position_from}
@@ -25,7 +26,8 @@ module _ (name : List ℕ) where
   name_at-place_from i k (x ∷ xs) is =
       elim (bytes_eq x.name name) as (λ b. bytes_eq x.name name ≡ b → cond b (Some i) (place_from name (i + 1) xs) ≡ Some k → Stands i k (x ∷ xs)) [
         | true ↦ λ here found. let e : i ≡ k = cc in (0, omega arith, omega arith, ap Some (same_names x.name name here))
-        | false ↦ λ other found. let (j, at, inside, named) = name_at-place_from (i + 1) k xs found in (suc j, omega (arith, at), omega (arith, inside), named)
+        | false ↦ λ other found. let (j, at, inside, named) = name_at-place_from (i + 1) k xs found in
+            (suc j, omega (arith, at), omega (arith, inside), named)
       ] refl is
 
 -- what is found for a name has the name, and is an entry
@@ -46,7 +48,8 @@ is_some-place_from name i (x ∷ xs) =
     ]
 
 -- a name that is found among the entries so far is another one than a new name
-apart : (name : List ℕ) (x y : FileEntry) (b : Bool) → bytes_eq x.name y.name ≡ false → bytes_eq x.name name ≡ true → bytes_eq y.name name ≡ b → b ≡ false
+apart : (name : List ℕ) (x y : FileEntry) (b : Bool) → bytes_eq x.name y.name ≡ false → bytes_eq x.name name ≡ true → bytes_eq y.name name ≡ b
+    → b ≡ false
 apart name x y false new here there = refl
 apart name x y true new here there =
     let same : x.name ≡ y.name = same_names x.name name here ∙ sym (same_names y.name name there) in
@@ -58,9 +61,12 @@ pub place_from-push : (name : List ℕ) (i : ℕ) (catalogue : List FileEntry) (
 place_from-push name i [] y new = let e : i ≡ i + 0 = omega arith in ap (λ (k : ℕ). cond (bytes_eq y.name name) (Some k) None) e
 place_from-push name i (x ∷ xs) y new =
     let count : i + 1 + length xs ≡ i + length (x ∷ xs) = omega arith in
-    let same = place_from-push name (i + 1) xs y (or_right _ _ new) ∙ ap (λ (k : ℕ). cond (bytes_eq y.name name) (Some k) (place_from name (i + 1) xs)) count in
+    let same = place_from-push name (i + 1) xs y (or_right _ _ new)
+    ∙ ap (λ (k : ℕ). cond (bytes_eq y.name name) (Some k) (place_from name (i + 1) xs)) count in
     elim (bytes_eq x.name name) as (λ b. bytes_eq x.name name ≡ b
-    → cond b (Some i) (place_from name (i + 1) (xs ++ y ∷ [])) ≡ cond (bytes_eq y.name name) (Some (i + length (x ∷ xs))) (cond b (Some i) (place_from name (i + 1) xs))) [
-      | true ↦ λ here. ap (λ (b : Bool). cond b (Some (i + length (x ∷ xs))) (Some i)) (sym (apart name x y (bytes_eq y.name name) (or_left _ _ new) here refl))
+    → cond b (Some i) (place_from name (i + 1) (xs ++ y ∷ []))
+    ≡ cond (bytes_eq y.name name) (Some (i + length (x ∷ xs))) (cond b (Some i) (place_from name (i + 1) xs))) [
+      | true ↦ λ here. ap (λ (b : Bool). cond b (Some (i + length (x ∷ xs))) (Some i))
+          (sym (apart name x y (bytes_eq y.name name) (or_left _ _ new) here refl))
       | false ↦ λ _. same
     ] refl

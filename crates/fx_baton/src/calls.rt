@@ -209,7 +209,8 @@ impl BatonTable {
 
 // The file that was removed from a slot, if there was one.
 fn retired(node: Option<u32>, entry: Option<u8>) -> Option<Retired>
-    ensures { (found : Option File) → node ≡ number_of found → entry ≡ option_map (λ f. f.identity.entry) found
+    ensures { (found : Option File) → node ≡ number_of found
+        → entry ≡ option_map (λ f. f.identity.entry) found
         → result ≡ option_map (λ f. retired_of f 0) found }
 {
     match (node, entry) {

@@ -45,7 +45,8 @@ impl BatonTable {
         requires settled { IsSettled (state_of plain) }
         requires chains { chains ≤ MAX_CHAINS }
         requires passes { (1 ≤ passes) × (passes ≤ MAX_PASSES) }
-        ensures opened { IfOk result (λ (t, _). opening_of_table t ≡ opening_with plain chains passes) }
+        ensures opened { IfOk result
+            (λ (t, _). opening_of_table t ≡ opening_with plain chains passes) }
         ensures seat { IfOk result (λ (t, seat). HasAllPasses t seat) }
         ensures refused { IfErr result (λ (back, _). IsGivenBack plain back) }
     {

@@ -1,4 +1,5 @@
 ghost use Rattle.std.specs.Prelude.{◌≡◌, ◌≤◌, ◌∷◌, []};
+ghost use Rattle.fx_plain.specs.declared.table.TheConstants.{MOST_SLOTS};
 ghost use Rattle.fx_table.specs.declared.limits.TheConstants.{MAX_CHAINS, MAX_PASSES};
 ghost use Rattle.fx_table.specs.Opening.{size_of, range_of};
 ghost use Rattle.fx_baton.specs.declared.view.Log.{Log};
@@ -31,7 +32,7 @@ pub struct BatonTable {
     pub ghost key: { (chains ≡ table.shared.key.chains) × (passes ≡ table.shared.key.passes) },
     pub ghost same_size: { size ≡ size_of (opening_of table.shared.key) },
     pub ghost same_range: { (range_start, range_len) ≡ range_of (opening_of table.shared.key) },
-    pub ghost few_slots: { size ≤ 256 },
+    pub ghost few_slots: { size ≤ MOST_SLOTS },
     pub ghost bounds: { (chains ≤ MAX_CHAINS) × (1 ≤ passes) × (passes ≤ MAX_PASSES) },
 }
 
@@ -65,7 +66,8 @@ impl BatonTable {
 
     // A pass puts the table back, behind what it did.
     fn give<U: Turn>(&self, pass: &mut BatonPass, call: Call, idle: bool)
-        requires turn { let t = self.now.table.shared in HasPlayed t.table_id t.key U.events U.doing pass.old }
+        requires turn { let t = self.now.table.shared in
+            HasPlayed t.table_id t.key U.events U.doing pass.old }
         requires numbers { (use_of call).numbers ≤ pass.old.numbers_left }
         requires looks { (use_of call).looks ≤ pass.old.looks_left }
         ensures table { pass.new.seat.table_id ≡ pass.old.seat.table_id }
@@ -81,8 +83,10 @@ impl BatonTable {
 
     // A pass puts the table back behind a call of it.
     pub(crate) fn give_back(&self, pass: &mut BatonPass, call: Call, idle: bool)
-        requires { let t = self.now.table.shared in HasCalled t.table_id t.key call idle pass.old }
-        ensures { let t = self.now.table.shared in HasGivenBack t.table_id t.key call pass.old pass.new }
+        requires { let t = self.now.table.shared in
+            HasCalled t.table_id t.key call idle pass.old }
+        ensures { let t = self.now.table.shared in
+            HasGivenBack t.table_id t.key call pass.old pass.new }
     {
         self.give::<Brand>(pass, call, idle)
     }

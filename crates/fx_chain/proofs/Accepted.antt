@@ -34,7 +34,8 @@ pub record Passes (front : List Asked) (r : Asked) : Type 0 where
 passes : (front : List Asked) (r : Asked) → Counts front → fault_behind front r ≡ None → Passes front r
 passes front r counts none = record {
   counts = counts;
-  is_fine = fine counts.chains counts.members counts.installs r (sym (fault_behind-counted front counts.chains counts.members counts.installs r counts.is) ∙ none);
+  is_fine = fine counts.chains counts.members counts.installs r
+      (sym (fault_behind-counted front counts.chains counts.members counts.installs r counts.is) ∙ none);
 }
 
 counts_more : (front : List Asked) (r : Asked) → Counts front → fault_behind front r ≡ None → Counts (front ++ r ∷ [])
@@ -42,15 +43,19 @@ counts_more front r counts none = record {
   chains = chains_after counts.chains counts.members;
   members = or_none r.links (counts.members + 1);
   installs = or_none r.links (counts.installs + installs_of r.operation);
-  is = counted_step front counts.chains counts.members counts.installs r counts.is (sym (fault_behind-counted front counts.chains counts.members counts.installs r counts.is) ∙ none);
+  is = counted_step front counts.chains counts.members counts.installs r counts.is
+      (sym (fault_behind-counted front counts.chains counts.members counts.installs r counts.is) ∙ none);
 }
 
 -- each request is fine behind those in front of it
-pub passes_at : (front more : List Asked) (r : Asked) (behind : List Asked) → Counts front → first_fault front (more ++ r ∷ behind) ≡ None → Passes (front ++ more) r
-passes_at front [] r behind counts none = subst (λ (xs : List Asked). Passes xs r) (sym (append-nil front)) (passes front r counts (or_later-none _ _ _ none).0)
+pub passes_at : (front more : List Asked) (r : Asked) (behind : List Asked) → Counts front → first_fault front (more ++ r ∷ behind) ≡ None
+    → Passes (front ++ more) r
+passes_at front [] r behind counts none =
+    subst (λ (xs : List Asked). Passes xs r) (sym (append-nil front)) (passes front r counts (or_later-none _ _ _ none).0)
 passes_at front (x ∷ more) r behind counts none =
     let parts = or_later-none (length front + 1) (fault_behind front x) (first_fault (front ++ x ∷ []) (more ++ r ∷ behind)) none in
-    subst (λ (xs : List Asked). Passes xs r) (append_assoc front (x ∷ []) more) (passes_at (front ++ x ∷ []) more r behind (counts_more front x counts parts.0) parts.1)
+    subst (λ (xs : List Asked). Passes xs r) (append_assoc front (x ∷ []) more)
+    (passes_at (front ++ x ∷ []) more r behind (counts_more front x counts parts.0) parts.1)
 
 counts_all : (front behind : List Asked) → Counts front → first_fault front behind ≡ None → Counts (front ++ behind)
 counts_all front [] counts none = subst Counts (sym (append-nil front)) counts
@@ -63,7 +68,8 @@ counts_none = record { chains = 0; members = 0; installs = 0; is = counted_none 
 
 -- there are at most 1,023 runs
 pub accepted-runs : (requests : List Asked) → IsAccepted requests → length (runs_of requests) ≤ 1023
-accepted-runs requests accepted = let c = counts_all [] requests counts_none accepted in let few = c.is.few in let chains_is = c.is.chains_is in omega arith
+accepted-runs requests accepted = let c = counts_all [] requests counts_none accepted in let few = c.is.few in let chains_is = c.is.chains_is in
+    omega arith
 
 -- and at most 16 times as many requests
 pub accepted-length : (requests : List Asked) → IsAccepted requests → length requests ≤ 16368
@@ -74,7 +80,8 @@ within_limits front [] counts none = All-nil IsWithinLimits
 within_limits front (x ∷ behind) counts none =
     let parts = or_later-none (length front + 1) (fault_behind front x) (first_fault (front ++ x ∷ []) behind) none in
     let f = (passes front x counts parts.0).is_fine in
-    All-cons IsWithinLimits x behind (record { flags = f.flags; read = f.read; update = f.update }) (within_limits (front ++ x ∷ []) behind (counts_more front x counts parts.0) parts.1)
+    All-cons IsWithinLimits x behind (record { flags = f.flags; read = f.read; update = f.update })
+    (within_limits (front ++ x ∷ []) behind (counts_more front x counts parts.0) parts.1)
 
 -- no request passes a limit of its own
 pub accepted-each : (requests : List Asked) → IsAccepted requests → All IsWithinLimits requests
@@ -89,14 +96,16 @@ update-short r off list is fine_r = ltb-false 16 (length list) (ap is_long_updat
 
 filter-length : {X : Type 0} (p : X → Bool) (xs : List X) → length (filter p xs) ≤ length xs
 filter-length p [] = omega arith
-filter-length p (x ∷ xs) = let le = filter-length p xs in elim (p x) as (λ b. length (cond b (x ∷ filter p xs) (filter p xs)) ≤ length (x ∷ xs)) [ true ↦ omega arith | false ↦ omega arith ]
+filter-length p (x ∷ xs) = let le = filter-length p xs in
+    elim (p x) as (λ b. length (cond b (x ∷ filter p xs) (filter p xs)) ≤ length (x ∷ xs)) [ true ↦ omega arith | false ↦ omega arith ]
 
 -- a request within its limits closes and installs at most 16 files
 weight-small-of : (o : Operation) → is_long_update o ≡ false → (weight_of o ≤ 16) × (installs_of o ≤ 16)
 weight-small-of (Opens name target) short = (omega arith, omega arith)
 weight-small-of (Reads slot off len) short = (omega arith, omega arith)
 weight-small-of (Closes slot) short = (omega arith, omega arith)
-weight-small-of (Updates off list) short = let le = ltb-false 16 (length list) short in let few = filter-length (λ entry. int_le (pos 0) entry) list in (le, omega arith)
+weight-small-of (Updates off list) short = let le = ltb-false 16 (length list) short in
+    let few = filter-length (λ entry. int_le (pos 0) entry) list in (le, omega arith)
 
 pub weight-small : (r : Asked) → IsWithinLimits r → weight_of r.operation ≤ 16
 weight-small r fine_r = (weight-small-of r.operation fine_r.update).0

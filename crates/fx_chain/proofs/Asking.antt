@@ -4,10 +4,12 @@ use Rattle.std.proofs.lemmas.List.{length-map, length-take-le, map_more, drop_mo
 use Rattle.fx_chain.specs.Operation.{asked_of, all_asked}
 use Rattle.fx_chain.specs.declared.request.Request.{Request}
 
-pub asked_more : (requests : List Request) (i : ℕ) (x : Request) → i < length requests → x ≡ slice_index_or requests i x → all_asked (take (i + 1) requests) ≡ all_asked (take i requests) ++ asked_of x ∷ []
+pub asked_more : (requests : List Request) (i : ℕ) (x : Request) → i < length requests → x ≡ slice_index_or requests i x
+    → all_asked (take (i + 1) requests) ≡ all_asked (take i requests) ++ asked_of x ∷ []
 asked_more requests i x lt is = map_more asked_of requests i x lt ∙ ap (λ y. all_asked (take i requests) ++ asked_of y ∷ []) (sym is)
 
-pub asked_rest : (requests : List Request) (i : ℕ) (x : Request) → i < length requests → x ≡ slice_index_or requests i x → all_asked (drop i requests) ≡ asked_of x ∷ all_asked (drop (i + 1) requests)
+pub asked_rest : (requests : List Request) (i : ℕ) (x : Request) → i < length requests → x ≡ slice_index_or requests i x
+    → all_asked (drop i requests) ≡ asked_of x ∷ all_asked (drop (i + 1) requests)
 asked_rest requests i x lt is = ap all_asked (drop_more requests i x lt) ∙ ap (λ y. asked_of y ∷ all_asked (drop (i + 1) requests)) (sym is)
 
 pub asked_length : (requests : List Request) (i : ℕ) → i ≤ length requests → length (all_asked (take i requests)) ≡ i

@@ -14,7 +14,8 @@ use Rattle.fx_chain.proofs.Runs.{AllLink, IsLinked, IsOver, HasMembers, are_runs
 use Rattle.fx_chain.proofs.Splits.{IsClosed, IsClosed-append, but_last-last, open_run-closed}
 
 -- the members of a chain are its run
-pub members_of-run : (requests before run later : List Asked) → requests ≡ before ++ (run ++ later) → members_of requests (record { first = length before; len = length run }) ≡ run
+pub members_of-run : (requests before run later : List Asked) → requests ≡ before ++ (run ++ later)
+    → members_of requests (record { first = length before; len = length run }) ≡ run
 members_of-run requests before run later is =
     ap (λ xs. take (length run) (drop (length before) xs)) is
     ∙ ap (take (length run)) (drop_at before (run ++ later) (length before) refl)
@@ -38,17 +39,20 @@ fits_at before front last closed link p =
       installs = rw (all_installs-push front last) (omega arith);
     }
 
-fits : (requests before run later : List Asked) → requests ≡ before ++ (run ++ later) → IsAccepted requests → IsClosed before → HasMembers run → IsLinked run → Fits run
+fits : (requests before run later : List Asked) → requests ≡ before ++ (run ++ later) → IsAccepted requests → IsClosed before → HasMembers run
+    → IsLinked run → Fits run
 fits requests before [] later is accepted closed some linked = absurd (omega arith)
 fits requests before (x ∷ xs) later is accepted closed some linked =
     let split = but_last-last x xs in
     let front = but_last (x ∷ xs) in
     let whole : requests ≡ (before ++ front) ++ split.0 ∷ later =
-    is ∙ ap (λ ys. before ++ (ys ++ later)) split.1 ∙ ap (λ ys. before ++ ys) (append_assoc front (split.0 ∷ []) later) ∙ sym (append_assoc before front (split.0 ∷ later)) in
+    is ∙ ap (λ ys. before ++ (ys ++ later)) split.1 ∙ ap (λ ys. before ++ ys) (append_assoc front (split.0 ∷ []) later)
+    ∙ sym (append_assoc before front (split.0 ∷ later)) in
     let p : Passes (before ++ front) split.0 = passes_at [] (before ++ front) split.0 later counts_none (subst IsAccepted whole accepted) in
     subst Fits (sym split.1) (fits_at before front split.0 closed linked p)
 
-pub short_run : (requests before run later : List Asked) → requests ≡ before ++ (run ++ later) → IsAccepted requests → IsClosed before → HasMembers run → IsLinked run → IsShortRun run
+pub short_run : (requests before run later : List Asked) → requests ≡ before ++ (run ++ later) → IsAccepted requests → IsClosed before
+    → HasMembers run → IsLinked run → IsShortRun run
 short_run requests before run later is accepted closed some linked =
     let f = fits requests before run later is accepted closed some linked in
     record {
@@ -56,14 +60,17 @@ short_run requests before run later is accepted closed some linked =
       members = f.members;
       installs = f.installs;
       each = subst (All IsWithinLimits) (members_of-run requests before run later is)
-          (All-take IsWithinLimits (length run) (drop (length before) requests) (All-drop IsWithinLimits (length before) requests (accepted-each requests accepted)));
+          (All-take IsWithinLimits (length run) (drop (length before) requests)
+          (All-drop IsWithinLimits (length before) requests (accepted-each requests accepted)));
     }
 
-pub chain_of_run : (requests before run later : List Asked) → requests ≡ before ++ (run ++ later) → IsAccepted requests → IsClosed before → HasMembers run → IsLinked run → IsChain requests (record { first = length before; len = length run })
+pub chain_of_run : (requests before run later : List Asked) → requests ≡ before ++ (run ++ later) → IsAccepted requests → IsClosed before
+    → HasMembers run → IsLinked run → IsChain requests (record { first = length before; len = length run })
 chain_of_run requests before run later is accepted closed some linked =
     let short = short_run requests before run later is accepted closed some linked in
     let members = short.members in
-    let total : length requests ≡ length before + (length run + length later) = ap length is ∙ length-append before (run ++ later) ∙ ap (λ n. length before + n) (length-append run later) in
+    let total : length requests ≡ length before + (length run + length later) = ap length is ∙ length-append before (run ++ later)
+    ∙ ap (λ n. length before + n) (length-append run later) in
     record {
       inside = omega arith;
       not_empty = some;
@@ -72,14 +79,18 @@ chain_of_run requests before run later is accepted closed some linked =
     }
 
 -- the same of all runs behind some requests
-all_chains : (requests before : List Asked) (runs : List (List Asked)) → requests ≡ before ++ flat_map (λ run. run) runs → IsAccepted requests → IsClosed before → All HasMembers runs → All IsLinked runs → All IsOver (but_last runs)
+all_chains : (requests before : List Asked) (runs : List (List Asked)) → requests ≡ before ++ flat_map (λ run. run) runs → IsAccepted requests
+    → IsClosed before → All HasMembers runs → All IsLinked runs → All IsOver (but_last runs)
     → All (IsChain requests) (chains_from (length before) runs)
 all_chains requests before [] is accepted closed some linked over = All-nil (IsChain requests)
 all_chains requests before (run ∷ []) is accepted closed some linked over =
-    All-cons (IsChain requests) (record { first = length before; len = length run }) [] (chain_of_run requests before run [] is accepted closed (All-head HasMembers run [] some) (All-head IsLinked run [] linked)) (All-nil (IsChain requests))
+    All-cons (IsChain requests) (record { first = length before; len = length run }) []
+    (chain_of_run requests before run [] is accepted closed (All-head HasMembers run [] some) (All-head IsLinked run [] linked))
+    (All-nil (IsChain requests))
 all_chains requests before (run ∷ next ∷ runs) is accepted closed some linked over =
     All-cons (IsChain requests) (record { first = length before; len = length run }) (chains_from (length before + length run) (next ∷ runs))
-    (chain_of_run requests before run (flat_map (λ y. y) (next ∷ runs)) is accepted closed (All-head HasMembers run (next ∷ runs) some) (All-head IsLinked run (next ∷ runs) linked))
+    (chain_of_run requests before run (flat_map (λ y. y) (next ∷ runs)) is accepted closed (All-head HasMembers run (next ∷ runs) some)
+    (All-head IsLinked run (next ∷ runs) linked))
     (subst (λ (n : ℕ). All (IsChain requests) (chains_from n (next ∷ runs))) (length-append before run)
     (all_chains requests (before ++ run) (next ∷ runs) (is ∙ sym (append_assoc before run (flat_map (λ y. y) (next ∷ runs)))) accepted
     (IsClosed-append before run (All-head IsOver run (but_last (next ∷ runs)) over))
@@ -92,10 +103,12 @@ accepted-chains requests accepted =
     all_chains requests [] (runs_of requests) (sym are.whole) accepted (inl refl) are.not_empty are.linked are.over
 
 -- the members of the chains are the runs
-map-members_of : (requests before : List Asked) (runs : List (List Asked)) → requests ≡ before ++ flat_map (λ run. run) runs → map (members_of requests) (chains_from (length before) runs) ≡ runs
+map-members_of : (requests before : List Asked) (runs : List (List Asked)) → requests ≡ before ++ flat_map (λ run. run) runs
+    → map (members_of requests) (chains_from (length before) runs) ≡ runs
 map-members_of requests before [] is = refl
 map-members_of requests before (run ∷ runs) is =
-    ap (λ xs. xs ∷ map (members_of requests) (chains_from (length before + length run) runs)) (members_of-run requests before run (flat_map (λ y. y) runs) is)
+    ap (λ xs. xs ∷ map (members_of requests) (chains_from (length before + length run) runs))
+    (members_of-run requests before run (flat_map (λ y. y) runs) is)
     ∙ ap (λ n. run ∷ map (members_of requests) (chains_from n runs)) (sym (length-append before run))
     ∙ ap (λ rs. run ∷ rs) (map-members_of requests (before ++ run) runs (is ∙ sym (append_assoc before run (flat_map (λ y. y) runs))))
 

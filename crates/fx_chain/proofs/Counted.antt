@@ -1,5 +1,6 @@
 -- What `check` keeps of the requests that it has seen.
-use Rattle.std.proofs.Common.{◌≡◌, ◌≢◌, inl, inr, ℕ, ◌+◌, ◌*◌, ◌<◌, ◌≤◌, ◌==◌, nat_lt, Bool, true, false, ◌&&◌, if◌then◌else◌, List, [], ◌∷◌, ◌++◌, length, refl, sym, ap, ◌∙◌, subst, arith, Option, Some, None}
+use Rattle.std.proofs.Common.{◌≡◌, ◌≢◌, inl, inr, ℕ, ◌+◌, ◌*◌, ◌<◌, ◌≤◌, ◌==◌, nat_lt, Bool, true, false, ◌&&◌, if◌then◌else◌, List, [], ◌∷◌, ◌++◌}
+use Rattle.std.proofs.Common.{length, refl, sym, ap, ◌∙◌, subst, arith, Option, Some, None}
 use Rattle.std.proofs.lemmas.Bool.{cases_Bool, eqb-false, ltb-false, and_cases, eq-eqb, ne_eqb, cases_eq}
 use Rattle.std.proofs.lemmas.List.{length-append}
 use Rattle.std.proofs.lemmas.List.Sums.{sum_by-append}
@@ -22,7 +23,8 @@ pub record IsCounted (front : List Asked) (chains members installs : ℕ) : Type
   pub place : length front ≤ 16 * chains
   pub inside : 0 < members → length front + 16 ≤ 16 * chains + members
 
-pub fault_behind-counted : (front : List Asked) (chains members installs : ℕ) (r : Asked) → IsCounted front chains members installs → fault_behind front r ≡ fault_after chains members installs r
+pub fault_behind-counted : (front : List Asked) (chains members installs : ℕ) (r : Asked) → IsCounted front chains members installs
+    → fault_behind front r ≡ fault_after chains members installs r
 fault_behind-counted front chains members installs r is =
     ap (λ (n : ℕ). fault_after n (length (open_run front)) (all_installs (open_run front)) r) (sym is.chains_is)
     ∙ ap (λ (n : ℕ). fault_after chains n (all_installs (open_run front)) r) (sym is.members_is)
@@ -55,7 +57,12 @@ fine chains members installs r none =
       update = c.0;
       not_full = eqb-false members 16 d.0;
       room = ltb-false 64 (installs + installs_of r.operation) e.0;
-      not_last = λ zero_is. elim (and_cases (members == 0) (chains == 1023) f.0) [ inl differs ↦ absurd (eqb-false members 0 differs zero_is) | inr differs ↦ eqb-false chains 1023 differs ];
+      not_last = λ zero_is. elim
+          (and_cases (members == 0) (chains == 1023) f.0) [
+            | inl differs ↦ absurd
+                (eqb-false members 0 differs zero_is)
+            | inr differs ↦ eqb-false chains 1023 differs
+          ];
     }
 
 pub all_installs-push : (xs : List Asked) (r : Asked) → all_installs (xs ++ r ∷ []) ≡ all_installs xs + installs_of r.operation
@@ -74,15 +81,20 @@ record IsBounded (at chains members : ℕ) : Type 0 where
   pub place : at ≤ 16 * chains
   pub inside : 0 < members → at + 16 ≤ 16 * chains + members
 
-bounded_step : (at chains members : ℕ) (links : Bool) → at ≤ 16 * chains → (0 < members → at + 16 ≤ 16 * chains + members) → chains ≤ 1023 → members ≤ 16 → members ≢ 16 → (members ≡ 0 → chains ≢ 1023)
+bounded_step : (at chains members : ℕ) (links : Bool) → at ≤ 16 * chains → (0 < members → at + 16 ≤ 16 * chains + members) → chains ≤ 1023
+    → members ≤ 16 → members ≢ 16 → (members ≡ 0 → chains ≢ 1023)
     → IsBounded (at + 1) (chains_after chains members) (or_none links (members + 1))
 bounded_step at chains members links place inside few short full last = elim (cases_eq members 0) [
-  | inl none ↦ let n = last none in subst (λ (c : ℕ). IsBounded (at + 1) c (or_none links (members + 1))) (sym (ap (λ (b : Bool). if b then chains + 1 else chains) (eq-eqb members 0 none)))
+  | inl none ↦ let n = last none in
+      subst (λ (c : ℕ). IsBounded (at + 1) c (or_none links (members + 1)))
+      (sym (ap (λ (b : Bool). if b then chains + 1 else chains) (eq-eqb members 0 none)))
       (elim links as (λ b. IsBounded (at + 1) (chains + 1) (or_none b (members + 1))) [
         | true ↦ record { few = omega arith; short = omega arith; place = omega arith; inside = λ h. omega arith }
         | false ↦ record { few = omega arith; short = omega arith; place = omega arith; inside = λ h. omega arith }
       ])
-  | inr some ↦ let i = inside (omega arith) in subst (λ (c : ℕ). IsBounded (at + 1) c (or_none links (members + 1))) (sym (ap (λ (b : Bool). if b then chains + 1 else chains) (ne_eqb members 0 some)))
+  | inr some ↦ let i = inside (omega arith) in
+      subst (λ (c : ℕ). IsBounded (at + 1) c (or_none links (members + 1)))
+      (sym (ap (λ (b : Bool). if b then chains + 1 else chains) (ne_eqb members 0 some)))
       (elim links as (λ b. IsBounded (at + 1) chains (or_none b (members + 1))) [
         | true ↦ record { few = omega arith; short = omega arith; place = omega arith; inside = λ h. omega arith }
         | false ↦ record { few = omega arith; short = omega arith; place = omega arith; inside = λ h. omega arith }
@@ -90,22 +102,27 @@ bounded_step at chains members links place inside few short full last = elim (ca
 ]
 
 -- the open run behind one more request
-open_run-after : {Y : Type 0} (F : List Asked → Y) (front : List Asked) (r : Asked) (n : Y) (none : Y) → F (open_run front ++ r ∷ []) ≡ n → F [] ≡ none → (if r.links then n else none) ≡ F (open_run (front ++ r ∷ []))
+open_run-after : {Y : Type 0} (F : List Asked → Y) (front : List Asked) (r : Asked) (n : Y) (none : Y) → F (open_run front ++ r ∷ []) ≡ n
+    → F [] ≡ none → (if r.links then n else none) ≡ F (open_run (front ++ r ∷ []))
 open_run-after F front r n none more nil = elim (cases_Bool r.links) [
   | inl links ↦ ap (λ (b : Bool). if b then n else none) links ∙ sym more ∙ ap F (sym (open_run-push front r links))
   | inr ends ↦ ap (λ (b : Bool). if b then n else none) ends ∙ sym nil ∙ ap F (sym (open_run-over front r ends))
 ]
 
-pub counted_step : (front : List Asked) (chains members installs : ℕ) (r : Asked) → IsCounted front chains members installs → fault_after chains members installs r ≡ None
+pub counted_step : (front : List Asked) (chains members installs : ℕ) (r : Asked) → IsCounted front chains members installs
+    → fault_after chains members installs r ≡ None
     → IsCounted (front ++ r ∷ []) (chains_after chains members) (or_none r.links (members + 1)) (or_none r.links (installs + installs_of r.operation))
 counted_step front chains members installs r is none =
     let f = fine chains members installs r none in
     let bounds = bounded_step (length front) chains members r.links is.place is.inside is.few is.short f.not_full f.not_last in
     let grown : length (front ++ r ∷ []) ≡ length front + 1 = length-append front (r ∷ []) in
     record {
-      chains_is = ap (λ (c : ℕ). if members == 0 then c + 1 else c) is.chains_is ∙ ap (λ (m : ℕ). if m == 0 then length (runs_of front) + 1 else length (runs_of front)) is.members_is ∙ sym (runs-push front r);
-      members_is = open_run-after length front r (members + 1) 0 (length-append (open_run front) (r ∷ []) ∙ ap (λ (m : ℕ). m + 1) (sym is.members_is)) refl;
-      installs_is = open_run-after all_installs front r (installs + installs_of r.operation) 0 (all_installs-push (open_run front) r ∙ ap (λ (m : ℕ). m + installs_of r.operation) (sym is.installs_is)) refl;
+      chains_is = ap (λ (c : ℕ). if members == 0 then c + 1 else c) is.chains_is
+          ∙ ap (λ (m : ℕ). if m == 0 then length (runs_of front) + 1 else length (runs_of front)) is.members_is ∙ sym (runs-push front r);
+      members_is = open_run-after length front r (members + 1) 0 (length-append (open_run front) (r ∷ [])
+          ∙ ap (λ (m : ℕ). m + 1) (sym is.members_is)) refl;
+      installs_is = open_run-after all_installs front r (installs + installs_of r.operation) 0 (all_installs-push (open_run front) r
+          ∙ ap (λ (m : ℕ). m + installs_of r.operation) (sym is.installs_is)) refl;
       few = bounds.few;
       short = bounds.short;
       room = elim r.links as (λ b. or_none b (installs + installs_of r.operation) ≤ 64) [ true ↦ f.room | false ↦ omega arith ];
@@ -114,18 +131,32 @@ counted_step front chains members installs r is none =
     }
 
 pub counted_none : IsCounted [] 0 0 0
-counted_none = record { chains_is = refl; members_is = refl; installs_is = refl; few = omega arith; short = omega arith; room = omega arith; place = omega arith; inside = λ some. absurd (omega arith) }
+counted_none = record {
+  chains_is = refl;
+  members_is = refl;
+  installs_is = refl;
+  few = omega arith;
+  short = omega arith;
+  room = omega arith;
+  place =
+      omega arith;
+  inside = λ some. absurd (omega arith);
+}
 
 -- a request without a fault is passed by
-pub first_fault-fine : (front : List Asked) (r : Asked) (behind : List Asked) → fault_behind front r ≡ None → first_fault (front ++ r ∷ []) behind ≡ first_fault front (r ∷ behind)
+pub first_fault-fine : (front : List Asked) (r : Asked) (behind : List Asked) → fault_behind front r ≡ None
+    → first_fault (front ++ r ∷ []) behind ≡ first_fault front (r ∷ behind)
 first_fault-fine front r behind none = sym (ap (λ k. or_later (length front + 1) k (first_fault (front ++ r ∷ []) behind)) none)
 
-pub first_fault-found : (front : List Asked) (r : Asked) (behind : List Asked) (kind : CutKind) → fault_behind front r ≡ Some kind → first_fault front (r ∷ behind) ≡ Some (record { at = length front + 1; kind = kind })
+pub first_fault-found : (front : List Asked) (r : Asked) (behind : List Asked) (kind : CutKind) → fault_behind front r ≡ Some kind
+    → first_fault front (r ∷ behind) ≡ Some (record { at = length front + 1; kind = kind })
 first_fault-found front r behind kind found = ap (λ k. or_later (length front + 1) k (first_fault (front ++ r ∷ []) behind)) found
 
 -- the same, of numbers that are counted one by one
-pub counted_next : (front next : List Asked) (chains members installs c m n : ℕ) (r : Asked) → IsCounted front chains members installs → fault_after chains members installs r ≡ None
-    → next ≡ front ++ r ∷ [] → c ≡ chains_after chains members → m ≡ or_none r.links (members + 1) → n ≡ or_none r.links (installs + installs_of r.operation) → IsCounted next c m n
+pub counted_next : (front next : List Asked) (chains members installs c m n : ℕ) (r : Asked) → IsCounted front chains members installs
+    → fault_after chains members installs r ≡ None
+    → next ≡ front ++ r ∷ [] → c ≡ chains_after chains members → m ≡ or_none r.links (members + 1)
+    → n ≡ or_none r.links (installs + installs_of r.operation) → IsCounted next c m n
 counted_next front next chains members installs c m n r is none next_is c_is m_is n_is =
     subst (λ (xs : List Asked). IsCounted xs c m n) (sym next_is)
     (subst (λ (k : ℕ). IsCounted (front ++ r ∷ []) k m n) (sym c_is)

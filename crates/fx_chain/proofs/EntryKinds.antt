@@ -1,5 +1,6 @@
 -- The entries of an update, by their sign, and how a list of them goes on.
-use Rattle.std.proofs.Common.{◌≡◌, ℕ, zero, suc, ◌+◌, ◌<◌, Bool, true, false, if◌then◌else◌, ◌||◌, ℤ, pos, negsuc, int_le, int_lt, List, [], ◌∷◌, ◌++◌, length, filter, take, drop, add-one, refl, sym, ap, subst, ◌∙◌, slice_index_or, arith, nat_abs}
+use Rattle.std.proofs.Common.{◌≡◌, ℕ, zero, suc, ◌+◌, ◌<◌, Bool, true, false, if◌then◌else◌, ◌||◌, ℤ, pos, negsuc, int_le, int_lt, List, [], ◌∷◌}
+use Rattle.std.proofs.Common.{◌++◌, length, filter, take, drop, add-one, refl, sym, ap, subst, ◌∙◌, slice_index_or, arith, nat_abs}
 use Rattle.std.proofs.lemmas.Bool.{ltb-true, le-leb}
 use Rattle.std.proofs.lemmas.List.{append-nil, append_assoc, length-append, length-take-le, take_more}
 use Rattle.std.proofs.lemmas.List.Elements.{filter-append}

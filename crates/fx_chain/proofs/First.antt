@@ -24,17 +24,20 @@ none_in_none : (front : List Asked) → NoneBehind front []
 none_in_none front [] r rest is = cc
 none_in_none front (x ∷ more) r rest is = cc
 
-none_one_more : (front : List Asked) (x : Asked) (list : List Asked) → fault_behind front x ≡ None → NoneBehind (front ++ x ∷ []) list → NoneBehind front (x ∷ list)
+none_one_more : (front : List Asked) (x : Asked) (list : List Asked) → fault_behind front x ≡ None → NoneBehind (front ++ x ∷ []) list
+    → NoneBehind front (x ∷ list)
 none_one_more front x list none later [] r rest is =
     let same : x ≡ r = cc in
     ap (λ xs. fault_behind xs r) (append-nil front) ∙ ap (fault_behind front) (sym same) ∙ none
 none_one_more front x list none later (y ∷ more) r rest is =
     let same : x ≡ y = cc in
     let tail : list ≡ more ++ r ∷ rest = cc in
-    ap (λ z. fault_behind (front ++ z ∷ more) r) (sym same) ∙ ap (λ xs. fault_behind xs r) (sym (append_assoc front (x ∷ []) more)) ∙ later more r rest tail
+    ap (λ z. fault_behind (front ++ z ∷ more) r) (sym same) ∙ ap (λ xs. fault_behind xs r) (sym (append_assoc front (x ∷ []) more))
+    ∙ later more r rest tail
 
 -- a request in front of a first fault
-first_one_more : (front : List Asked) (x : Asked) (list : List Asked) (fault : CutFault) → fault_behind front x ≡ None → FirstBehind (front ++ x ∷ []) list fault → FirstBehind front (x ∷ list) fault
+first_one_more : (front : List Asked) (x : Asked) (list : List Asked) (fault : CutFault) → fault_behind front x ≡ None
+    → FirstBehind (front ++ x ∷ []) list fault → FirstBehind front (x ∷ list) fault
 first_one_more front x list fault none f = record {
   more = x ∷ f.more;
   request = f.request;
@@ -45,7 +48,8 @@ first_one_more front x list fault none f = record {
   none_in_front = none_one_more front x f.more none f.none_in_front;
 }
 
-first_here : (front : List Asked) (x : Asked) (list : List Asked) (fault : CutFault) → fault.at ≡ length front + 1 → fault_behind front x ≡ Some fault.kind → FirstBehind front (x ∷ list) fault
+first_here : (front : List Asked) (x : Asked) (list : List Asked) (fault : CutFault) → fault.at ≡ length front + 1
+    → fault_behind front x ≡ Some fault.kind → FirstBehind front (x ∷ list) fault
 first_here front x list fault place kind = record {
   more = [];
   request = x;
@@ -59,16 +63,31 @@ first_here front x list fault place kind = record {
 first_behind : (front list : List Asked) → MatchOption (first_fault front list) (NoneBehind front list) (FirstBehind front list)
 first_behind front [] = none_in_none front
 first_behind front (x ∷ list) =
-    elim (fault_behind front x) as (λ k. fault_behind front x ≡ k → MatchOption (or_later (length front + 1) k (first_fault (front ++ x ∷ []) list)) (NoneBehind front (x ∷ list)) (FirstBehind front (x ∷ list))) [
-      | None ↦ λ none. elim (first_fault (front ++ x ∷ []) list) as (λ o. MatchOption o (NoneBehind (front ++ x ∷ []) list) (FirstBehind (front ++ x ∷ []) list) → MatchOption o (NoneBehind front (x ∷ list)) (FirstBehind front (x ∷ list))) [
-        | None ↦ λ later. none_one_more front x list none later
-        | Some fault ↦ λ later. first_one_more front x list fault none later
-      ] (first_behind (front ++ x ∷ []) list)
+    elim (fault_behind front x) as (λ k. fault_behind front x ≡ k
+    → MatchOption (or_later (length front + 1) k (first_fault (front ++ x ∷ []) list)) (NoneBehind front (x ∷ list))
+    (FirstBehind front (x ∷ list))) [
+      | None ↦ λ none. elim (first_fault (front ++ x ∷ []) list) as
+          (λ o. MatchOption o (NoneBehind (front ++ x ∷ []) list) (FirstBehind (front ++ x ∷ []) list)
+          → MatchOption o (NoneBehind front (x ∷ list)) (FirstBehind front (x ∷ list))) [
+            | None ↦ λ later. none_one_more front x list none later
+            | Some fault ↦ λ later. first_one_more front x list fault none later
+          ] (first_behind (front ++ x ∷ []) list)
       | Some kind ↦ λ found. first_here front x list (record { at = length front + 1; kind = kind }) refl found
     ] refl
 
 pub the_first_fault : (requests : List Asked) → MatchOption (fault_of requests) (HasNoFault requests) (IsFirstFault requests)
-the_first_fault requests = elim (fault_of requests) as (λ o. MatchOption o (NoneBehind [] requests) (FirstBehind [] requests) → MatchOption o (HasNoFault requests) (IsFirstFault requests)) [
-  | None ↦ λ none. none
-  | Some fault ↦ λ f. record { front = f.more; request = f.request; behind = f.rest; parts = f.parts; place = f.place; kind = f.kind; none_in_front = f.none_in_front }
-] (first_behind [] requests)
+the_first_fault requests =
+    elim (fault_of requests) as (λ o. MatchOption o (NoneBehind [] requests) (FirstBehind [] requests)
+    → MatchOption o (HasNoFault requests) (IsFirstFault requests)) [
+      | None ↦ λ none. none
+      | Some fault ↦ λ f. record {
+        front = f.more;
+        request = f.request;
+        behind = f.rest;
+        parts = f.parts;
+        place = f.place;
+        kind = f.kind;
+        none_in_front =
+            f.none_in_front;
+      }
+    ] (first_behind [] requests)

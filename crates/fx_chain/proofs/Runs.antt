@@ -1,5 +1,6 @@
 -- The runs of a list are the one way to part it, and how they grow with one more request.
-use Rattle.std.proofs.Common.{◌≡◌, inl, inr, ℕ, ◌+◌, ◌<◌, ◌==◌, Bool, true, false, not, ◌&&◌, if◌then◌else◌, List, [], ◌∷◌, ◌++◌, length, refl, sym, ap, ◌∙◌, All, arith}
+use Rattle.std.proofs.Common.{◌≡◌, inl, inr, ℕ, ◌+◌, ◌<◌, ◌==◌, Bool, true, false, not, ◌&&◌, if◌then◌else◌, List, [], ◌∷◌, ◌++◌, length, refl, sym}
+use Rattle.std.proofs.Common.{ap, ◌∙◌, All, arith}
 use Rattle.std.specs.List.{list_all, flat_map}
 use Rattle.std.proofs.lemmas.List.{append-nil}
 use Rattle.std.proofs.lemmas.Bool.{and_right, cases_Bool, ne_eqb}
@@ -52,8 +53,11 @@ linked_step r rs ((x ∷ xs) ∷ []) links are = record {
 linked_step r rs ((x ∷ xs) ∷ run ∷ runs) links are = record {
   whole = ap (λ ys. r ∷ ys) are.whole;
   not_empty = All-cons HasMembers (r ∷ x ∷ xs) (run ∷ runs) (omega arith) (All-tail HasMembers (x ∷ xs) (run ∷ runs) are.not_empty);
-  linked = All-cons IsLinked (r ∷ x ∷ xs) (run ∷ runs) (All-cons Links r (but_last (x ∷ xs)) links (All-head IsLinked (x ∷ xs) (run ∷ runs) are.linked)) (All-tail IsLinked (x ∷ xs) (run ∷ runs) are.linked);
-  over = All-cons IsOver (r ∷ x ∷ xs) (but_last (run ∷ runs)) (All-head IsOver (x ∷ xs) (but_last (run ∷ runs)) are.over) (All-tail IsOver (x ∷ xs) (but_last (run ∷ runs)) are.over);
+  linked = All-cons IsLinked (r ∷ x ∷ xs) (run ∷ runs)
+      (All-cons Links r (but_last (x ∷ xs)) links (All-head IsLinked (x ∷ xs) (run ∷ runs) are.linked))
+      (All-tail IsLinked (x ∷ xs) (run ∷ runs) are.linked);
+  over = All-cons IsOver (r ∷ x ∷ xs) (but_last (run ∷ runs)) (All-head IsOver (x ∷ xs) (but_last (run ∷ runs)) are.over)
+      (All-tail IsOver (x ∷ xs) (but_last (run ∷ runs)) are.over);
 }
 
 over_step : (r : Asked) (runs : List (List Asked)) → r.links ≡ false → All IsOver (but_last runs) → All IsOver (but_last ((r ∷ []) ∷ runs))
@@ -88,17 +92,20 @@ one_run (x ∷ y ∷ run) some linked =
 -- a run that is over is the first run
 pub first_run : (run rest : List Asked) → IsLinked run → is_over run ≡ true → runs_of (run ++ rest) ≡ run ∷ runs_of rest
 first_run [] rest linked over = cc
-first_run (x ∷ []) rest linked over = let ends : x.links ≡ false = elim (x.links) as (λ b. not b ≡ true → b ≡ false) [ true ↦ λ e. sym e | false ↦ λ e. refl ] over in runs_end x rest ends
+first_run (x ∷ []) rest linked over = let ends : x.links ≡ false =
+    elim (x.links) as (λ b. not b ≡ true → b ≡ false) [ true ↦ λ e. sym e | false ↦ λ e. refl ] over in runs_end x rest ends
 first_run (x ∷ y ∷ run) rest linked over =
     runs_link x (y ∷ run ++ rest) (All-head Links x (but_last (y ∷ run)) linked)
     ∙ ap (in_front x) (first_run (y ∷ run) rest (All-tail Links x (but_last (y ∷ run)) linked) over)
 
-parted : (runs : List (List Asked)) → All HasMembers runs → All IsLinked runs → All IsOver (but_last runs) → runs_of (flat_map (λ run. run) runs) ≡ runs
+parted : (runs : List (List Asked)) → All HasMembers runs → All IsLinked runs → All IsOver (but_last runs)
+    → runs_of (flat_map (λ run. run) runs) ≡ runs
 parted [] some linked over = refl
 parted (run ∷ []) some linked over = ap runs_of (append-nil run) ∙ one_run run (All-head HasMembers run [] some) (All-head IsLinked run [] linked)
 parted (run ∷ next ∷ runs) some linked over =
     first_run run (flat_map (λ y. y) (next ∷ runs)) (All-head IsLinked run (next ∷ runs) linked) (All-head IsOver run (but_last (next ∷ runs)) over)
-    ∙ ap (λ ys. run ∷ ys) (parted (next ∷ runs) (All-tail HasMembers run (next ∷ runs) some) (All-tail IsLinked run (next ∷ runs) linked) (All-tail IsOver run (but_last (next ∷ runs)) over))
+    ∙ ap (λ ys. run ∷ ys) (parted (next ∷ runs) (All-tail HasMembers run (next ∷ runs) some) (All-tail IsLinked run (next ∷ runs) linked)
+    (All-tail IsOver run (but_last (next ∷ runs)) over))
 
 -- there are no other runs
 pub only_runs : (requests : List Asked) (runs : List (List Asked)) → AreRuns requests runs → runs ≡ runs_of requests
@@ -125,7 +132,9 @@ list_all-end (x ∷ xs) r rest ends = and_right x.links (list_all (λ y. y.links
 -- what stands in front of the end of a run is no part of the open run
 pub open_run-end : (xs : List Asked) (r : Asked) (rest : List Asked) → r.links ≡ false → AllLink rest → open_run (xs ++ r ∷ rest) ≡ rest
 open_run-end [] r rest ends link = ap (λ (b : Bool). if b then r ∷ rest else open_run rest) (list_all-end [] r rest ends) ∙ open_run-all rest link
-open_run-end (x ∷ xs) r rest ends link = ap (λ (b : Bool). if b then x ∷ xs ++ r ∷ rest else open_run (xs ++ r ∷ rest)) (list_all-end (x ∷ xs) r rest ends) ∙ open_run-end xs r rest ends link
+open_run-end (x ∷ xs) r rest ends link =
+    ap (λ (b : Bool). if b then x ∷ xs ++ r ∷ rest else open_run (xs ++ r ∷ rest)) (list_all-end (x ∷ xs) r rest ends)
+    ∙ open_run-end xs r rest ends link
 
 -- the open run goes on with a request that links
 list_all-push : (xs : List Asked) (r : Asked) → r.links ≡ true → list_all (λ y. y.links) (xs ++ r ∷ []) ≡ list_all (λ y. y.links) xs
@@ -152,7 +161,8 @@ in_front-some x (run ∷ runs) = omega arith
 
 -- no list has no runs but the empty one
 pub runs-some : (x : Asked) (xs : List Asked) → 0 < length (runs_of (x ∷ xs))
-runs-some x xs = elim (x.links) as (λ b. 0 < length (if b then in_front x (runs_of xs) else (x ∷ []) ∷ runs_of xs)) [ true ↦ in_front-some x (runs_of xs) | false ↦ omega arith ]
+runs-some x xs = elim (x.links) as
+    (λ b. 0 < length (if b then in_front x (runs_of xs) else (x ∷ []) ∷ runs_of xs)) [ true ↦ in_front-some x (runs_of xs) | false ↦ omega arith ]
 
 in_front-length : (x : Asked) (runs : List (List Asked)) → 0 < length runs → length (in_front x runs) ≡ length runs
 in_front-length x [] some = absurd (omega arith)
@@ -173,7 +183,8 @@ has_length x xs = ne_eqb (length (x ∷ xs)) 0 (λ none. absurd (omega arith))
 open_run-cons : (x y : Asked) (ys : List Asked) → (length (open_run (x ∷ y ∷ ys)) == 0) ≡ (length (open_run (y ∷ ys)) == 0)
 open_run-cons x y ys = elim (cases_Bool (list_all (λ r. r.links) (x ∷ y ∷ ys))) [
   | inl all ↦ let rest : AllLink (y ∷ ys) = All-tail Links x (y ∷ ys) (test-AllLink (x ∷ y ∷ ys) all) in
-      ap (λ (zs : List Asked). length zs == 0) (open_run-all (x ∷ y ∷ ys) (test-AllLink (x ∷ y ∷ ys) all)) ∙ has_length x (y ∷ ys) ∙ sym (has_length y ys) ∙ sym (ap (λ (zs : List Asked). length zs == 0) (open_run-all (y ∷ ys) rest))
+      ap (λ (zs : List Asked). length zs == 0) (open_run-all (x ∷ y ∷ ys) (test-AllLink (x ∷ y ∷ ys) all)) ∙ has_length x (y ∷ ys)
+      ∙ sym (has_length y ys) ∙ sym (ap (λ (zs : List Asked). length zs == 0) (open_run-all (y ∷ ys) rest))
   | inr not_all ↦ ap (λ (b : Bool). length (if b then x ∷ y ∷ ys else open_run (y ∷ ys)) == 0) not_all
 ]
 
@@ -184,13 +195,16 @@ counted-suc : (b : Bool) (n : ℕ) → counted b n + 1 ≡ counted b (n + 1)
 counted-suc true n = refl
 counted-suc false n = refl
 
-pub runs-push : (front : List Asked) (r : Asked) → length (runs_of (front ++ r ∷ [])) ≡ if length (open_run front) == 0 then length (runs_of front) + 1 else length (runs_of front)
+pub runs-push : (front : List Asked) (r : Asked)
+    → length (runs_of (front ++ r ∷ [])) ≡ if length (open_run front) == 0 then length (runs_of front) + 1 else length (runs_of front)
 runs-push [] r = ap length (runs_one r)
 runs-push (x ∷ []) r = elim (cases_Bool x.links) [
   | inl links ↦ runs-push_link x (r ∷ []) links (omega arith) ∙ ap length (runs_one r)
-      ∙ sym (ap (λ (zs : List Asked). counted (length zs == 0) (length (runs_of (x ∷ [])))) (open_run-all (x ∷ []) (All-cons Links x [] links (All-nil Links))) ∙ ap length (runs_one x))
+      ∙ sym (ap (λ (zs : List Asked). counted (length zs == 0) (length (runs_of (x ∷ []))))
+      (open_run-all (x ∷ []) (All-cons Links x [] links (All-nil Links))) ∙ ap length (runs_one x))
   | inr ends ↦ runs-push_end x (r ∷ []) ends ∙ ap (λ n. n + 1) (ap length (runs_one r))
-      ∙ sym (ap (λ (zs : List Asked). counted (length zs == 0) (length (runs_of (x ∷ [])))) (open_run-over [] x ends) ∙ ap (λ n. n + 1) (ap length (runs_one x)))
+      ∙ sym (ap (λ (zs : List Asked). counted (length zs == 0) (length (runs_of (x ∷ [])))) (open_run-over [] x ends)
+      ∙ ap (λ n. n + 1) (ap length (runs_one x)))
 ]
 runs-push (x ∷ y ∷ ys) r = elim (cases_Bool x.links) [
   | inl links ↦ runs-push_link x (y ∷ ys ++ r ∷ []) links (omega arith) ∙ runs-push (y ∷ ys) r

@@ -1,5 +1,6 @@
 -- A run and its last request, and the open run behind runs that are over.
-use Rattle.std.proofs.Common.{◌≡◌, inl, inr, ◌<◌, ◌⊎◌, Bool, true, false, not, ◌&&◌, if◌then◌else◌, List, [], ◌∷◌, ◌++◌, length, refl, sym, ap, ◌∙◌, subst, arith}
+use Rattle.std.proofs.Common.{◌≡◌, inl, inr, ◌<◌, ◌⊎◌, Bool, true, false, not, ◌&&◌, if◌then◌else◌, List, [], ◌∷◌, ◌++◌, length, refl, sym, ap, ◌∙◌}
+use Rattle.std.proofs.Common.{subst, arith}
 use Rattle.std.specs.List.{list_all}
 use Rattle.std.proofs.lemmas.Bool.{and_right, and_from, both_ways, cases_Bool, not-true}
 use Rattle.std.proofs.lemmas.List.Elements.{All-nil, All-head, All-tail}
@@ -39,7 +40,9 @@ list_all-over (x ∷ y ∷ run) rest over = and_right x.links _ (list_all-over (
 open_run-skip : (run rest : List Asked) → is_over run ≡ true → open_run (run ++ rest) ≡ open_run rest
 open_run-skip [] rest over = cc
 open_run-skip (x ∷ []) rest over = ap (λ (b : Bool). if b then x ∷ rest else open_run rest) (list_all-over (x ∷ []) rest over)
-open_run-skip (x ∷ y ∷ run) rest over = ap (λ (b : Bool). if b then x ∷ y ∷ run ++ rest else open_run (y ∷ run ++ rest)) (list_all-over (x ∷ y ∷ run) rest over) ∙ open_run-skip (y ∷ run) rest over
+open_run-skip (x ∷ y ∷ run) rest over =
+    ap (λ (b : Bool). if b then x ∷ y ∷ run ++ rest else open_run (y ∷ run ++ rest)) (list_all-over (x ∷ y ∷ run) rest over)
+    ∙ open_run-skip (y ∷ run) rest over
 
 -- no run is open
 abbrev pub IsClosed : List Asked → Type 0
@@ -61,11 +64,13 @@ in_front-append x (run ∷ runs) more some = refl
 
 pub runs_of-append : (front rest : List Asked) → is_over front ≡ true → runs_of (front ++ rest) ≡ runs_of front ++ runs_of rest
 runs_of-append [] rest over = cc
-runs_of-append (x ∷ []) rest over = let ends : x.links ≡ false = not-true x.links over in runs_end x rest ends ∙ ap (λ runs. runs ++ runs_of rest) (sym (runs_end x [] ends))
+runs_of-append (x ∷ []) rest over = let ends : x.links ≡ false = not-true x.links over in
+    runs_end x rest ends ∙ ap (λ runs. runs ++ runs_of rest) (sym (runs_end x [] ends))
 runs_of-append (x ∷ y ∷ ys) rest over = elim (cases_Bool x.links) [
   | inl links ↦ runs_link x (y ∷ ys ++ rest) links ∙ ap (in_front x) (runs_of-append (y ∷ ys) rest over)
       ∙ in_front-append x (runs_of (y ∷ ys)) (runs_of rest) (runs-some y ys) ∙ ap (λ runs. runs ++ runs_of rest) (sym (runs_link x (y ∷ ys) links))
-  | inr ends ↦ runs_end x (y ∷ ys ++ rest) ends ∙ ap (λ runs. (x ∷ []) ∷ runs) (runs_of-append (y ∷ ys) rest over) ∙ ap (λ runs. runs ++ runs_of rest) (sym (runs_end x (y ∷ ys) ends))
+  | inr ends ↦ runs_end x (y ∷ ys ++ rest) ends ∙ ap (λ runs. (x ∷ []) ∷ runs) (runs_of-append (y ∷ ys) rest over)
+      ∙ ap (λ runs. runs ++ runs_of rest) (sym (runs_end x (y ∷ ys) ends))
 ]
 
 -- a list is what is over, and then its open run
@@ -75,7 +80,8 @@ record Ends (front : List Asked) : Type 0 where
   pub is_closed : IsClosed closed
   pub linked : AllLink (open_run front)
 
-one_more : (x : Asked) (xs closed : List Asked) → list_all (λ r. r.links) (x ∷ xs) ≡ false → xs ≡ closed ++ open_run xs → IsClosed closed → AllLink (open_run xs) → IsClosed (x ∷ closed)
+one_more : (x : Asked) (xs closed : List Asked) → list_all (λ r. r.links) (x ∷ xs) ≡ false → xs ≡ closed ++ open_run xs → IsClosed closed
+    → AllLink (open_run xs) → IsClosed (x ∷ closed)
 one_more x xs closed differs parts is_closed linked = elim is_closed [
   | inl none ↦
       let all : xs ≡ open_run xs = parts ∙ ap (λ ys. ys ++ open_run xs) none in
@@ -123,7 +129,12 @@ begins_at [] r behind linked = elim (cases_Bool r.links) [
 ]
 begins_at (x ∷ run) r behind linked =
     let next = begins_at run r behind (All-tail Links x run linked) in
-    record { rest = next.rest; later = next.later; parts = runs_link x (run ++ r ∷ behind) (All-head Links x run linked) ∙ ap (in_front x) next.parts }
+    record {
+      rest = next.rest;
+      later = next.later;
+      parts = runs_link x (run ++ r ∷ behind) (All-head Links x run linked)
+          ∙ ap (in_front x) next.parts;
+    }
 
 runs_of-closed : (front rest : List Asked) → IsClosed front → runs_of (front ++ rest) ≡ runs_of front ++ runs_of rest
 runs_of-closed front rest closed = elim closed [

@@ -7,7 +7,7 @@ use Rattle.fx_plain.specs.declared.event.Action.TheVariants.{Look, Release}
 use Rattle.fx_plain.specs.Step.{Steps, changed_at, after}
 use Rattle.fx_plain.specs.History.{Leads, close_of, ◌▷◌, ◌▷▷◌}
 use Rattle.fx_plain.specs.Contents.{Contents, IsTable, IsCounted, state_of, slot_at, node_at, file_at, placed_at, leaving, removed_at, is_fresh, is_leaving, is_retired, file_in, node_after_retirement, removed_count_of, itself, Fresh, At, Leaving, Retired, Gone}
-use Rattle.fx_plain.specs.Table.{numbered, identity_of, closed_by_release, closed_by_retirement, HasRoomForHold}
+use Rattle.fx_plain.specs.Table.{numbered, identity_of, closed_by_release, closed_by_retirement, HasRoomForHold, Releases}
 use Rattle.fx_plain.specs.declared.node.Node.{Node}
 use Rattle.fx_plain.proofs.Cells.{by_equality, unchanged, written, inside_of}
 use Rattle.fx_plain.proofs.TotalLemmas.{total_set, total_below, total_one}
@@ -238,18 +238,21 @@ module _ (c : Contents) (n : ℕ) (t : IsTable c) (some_hold : 0 < slice_index c
   stays_open none f same = subst (λ (x : Option File). Leads (state_of c) ([] ▷ Release f ▷▷ close_of x) (state_of (held_less c n))) (sym none)
       ((tt, subst (λ (k : ℕ). 0 < (state_of c).holds k) (sym same) some_hold), state_of-less f same)
 
-  pub more_steps : (left : ℕ) → left + 1 ≡ slice_index c.holds n → left ≢ 0 → (f : File) → f.number ≡ n → Leads (state_of c) ([] ▷ Release f ▷▷ close_of (closed_by_release c n)) (state_of (held_less c n))
-  more_steps left was some_left = stays_open (by_equality (slice_index c.holds n) 1 (λ b. (if b && not (leaving c n) then (state_of c).removed n else None) ≡ None)
+  -- nothing comes out
+  stays : closed_by_release c n ≡ None → IsTable (held_less c n) → Releases c (held_less c n) n None
+  stays none sound =
+      record { answer = sym (ap identity_of none); steps = stays_open none; numbers = refl; sound = sound; leaving = refl }
+
+  pub more_releases : (left : ℕ) → left + 1 ≡ slice_index c.holds n → left ≢ 0 → Releases c (held_less c n) n None
+  more_releases left was some_left =
+      stays (by_equality (slice_index c.holds n) 1 (λ b. (if b && not (leaving c n) then (state_of c).removed n else None) ≡ None)
       (λ one. absurd (omega arith)) (λ other. refl))
+      (less_keeps (λ _. omega arith))
 
-  pub open_steps : is_retired (node_at c.nodes n) ≡ false → (f : File) → f.number ≡ n → Leads (state_of c) ([] ▷ Release f ▷▷ close_of (closed_by_release c n)) (state_of (held_less c n))
-  open_steps unretired = stays_open (none_by_release n (slice_index c.holds n == 1) (node_at c.nodes n) unretired)
-
-  pub more_keeps : (left : ℕ) → left + 1 ≡ slice_index c.holds n → left ≢ 0 → IsTable (held_less c n)
-  more_keeps left was some_left = less_keeps (λ _. omega arith)
-
-  pub open_keeps : is_retired (node_at c.nodes n) ≡ false → IsTable (held_less c n)
-  open_keeps unretired = less_keeps (λ (closed : is_retired (node_at c.nodes n) ≡ true). let e : false ≡ true = sym unretired ∙ closed in cc)
+  pub open_releases : is_retired (node_at c.nodes n) ≡ false → Releases c (held_less c n) n None
+  open_releases unretired =
+      stays (none_by_release n (slice_index c.holds n == 1) (node_at c.nodes n) unretired)
+      (less_keeps (λ (closed : is_retired (node_at c.nodes n) ≡ true). let e : false ≡ true = sym unretired ∙ closed in cc))
 
   module _ (last : slice_index c.holds n ≡ 1) (closed : is_retired (node_at c.nodes n) ≡ true) where
     was_retired : (file : Closed) × (node_at c.nodes n ≡ Retired file)
@@ -307,6 +310,10 @@ module _ (c : Contents) (n : ℕ) (t : IsTable c) (some_hold : 0 < slice_index c
           (λ same is. let e : false ≡ true = sym (ap is_retired (ap (node_at (slice_set c.nodes n Gone)) same ∙ get_or-set_same c.nodes n Gone Gone retired_inside)) ∙ is in cc)
           (λ other is. let now = less_else m other in let was = t.held m (ap is_retired (sym (get_or-set_other c.nodes n m Gone Gone other)) ∙ is) in omega arith);
     }
+
+    pub let_go_releases : (out : Option Closed) → out ≡ file_in (node_at c.nodes n) → Releases c let_go n out
+    let_go_releases out is =
+        record { answer = is ∙ sym let_go_answers; steps = let_go_steps; numbers = refl; sound = let_go_keeps; leaving = let_go_leaving }
 
     pub let_go_counted : (full held removed : ℕ) → IsCounted c full held removed → (1 ≤ removed) × IsCounted let_go full (held - 1) (removed - 1)
     let_go_counted full held removed k =

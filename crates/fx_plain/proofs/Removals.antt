@@ -6,7 +6,7 @@ use Rattle.fx_plain.specs.declared.event.File.{File}
 use Rattle.fx_plain.specs.declared.event.Action.TheVariants.{Put, Take}
 use Rattle.fx_plain.specs.Step.{Steps, changed_at, with_removed}
 use Rattle.fx_plain.specs.Contents.{Contents, IsTable, IsCounted, AllPlaced, state_of, slot_at, node_at, file_at, placed_at, leaving, removed_at, is_fresh, is_leaving, is_retired, node_after_removal, file_count_of, removed_count_of, Fresh, At, Leaving, Retired, Gone}
-use Rattle.fx_plain.specs.Table.{numbered, more_leaving}
+use Rattle.fx_plain.specs.Table.{numbered, number_of, more_leaving, Removes}
 use Rattle.fx_plain.specs.Totals.{total}
 use Rattle.fx_plain.specs.declared.node.Node.{Node}
 use Rattle.fx_plain.proofs.Cells.{by_equality, written, unchanged}
@@ -71,6 +71,12 @@ retired_before nodes (Some old) slot m named is = by_equality m old (λ _. is_re
     (λ same. let e : is_retired (node_after_removal (At slot named.0)) ≡ true = sym (ap is_retired (ap (node_at (gave_way nodes (Some old))) same ∙ get_or-set_same nodes old (node_after_removal (node_at nodes old)) Gone (inside_of-At nodes old slot named.0 named.1) ∙ ap node_after_removal named.1)) ∙ is in cc)
     (λ other. ap is_retired (sym (get_or-set_other nodes old m (node_after_removal (node_at nodes old)) Gone other)) ∙ is)
 
+-- the number that a slot names is that of the file there
+pub number_at : (c : Contents) (slot : ℕ) (x : Option ℕ) → IsTable c → slot_at c.slots slot ≡ x → x ≡ number_of ((state_of c).at slot)
+number_at c slot None t is = sym (ap (λ (x : Option ℕ). number_of (file_at c.nodes x)) is)
+number_at c slot (Some n) t is =
+    sym (ap (λ (x : Option ℕ). number_of (file_at c.nodes x)) is ∙ ap (λ (node : Node). number_of (placed_at n node)) (t.placed slot n is).1)
+
 -- two slots name two numbers
 pub other_number : (slots : List (Option ℕ)) (nodes : List Node) (s u m n : ℕ) → AllPlaced slots nodes → u ≢ s → slot_at slots s ≡ Some m → slot_at slots u ≡ Some n → n ≢ m
 other_number slots nodes s u m n placed apart at_s at_u = λ (same : n ≡ m).
@@ -126,6 +132,16 @@ take_keeps c slot t inside = record {
       let there = t.placed u n at_u in
       (there.0, node_else c.nodes (slot_at c.slots slot) n (λ old was. other_number c.slots c.nodes slot u old n t.placed apart was at_u) ∙ there.1));
   held = λ n is. t.held n (retired_before c.nodes (slot_at c.slots slot) slot n (names_at c slot (slot_at c.slots slot) t refl) is);
+}
+
+pub take_removes : (c : Contents) (slot : ℕ) (found : Option ℕ) → IsTable c → slot < length c.slots → slot_at c.slots slot ≡ found
+    → Removes c (taken c slot) (Take slot ((state_of c).at slot)) ((state_of c).at slot) found
+take_removes c slot found t inside at = record {
+  answer = number_at c slot found t at;
+  step = take_steps c slot t inside;
+  numbers = refl;
+  sound = take_keeps c slot t inside;
+  leaving = take_leaving c slot t;
 }
 
 -- a table in which a file was put at a slot
@@ -212,6 +228,11 @@ module _ (c : Contents) (slot n : ℕ) (file : Closed) (t : IsTable c) (inside :
         ));
     held = λ m is. t.held m (put_retired m is);
   }
+
+  pub put_removes : (found : Option ℕ) → slot_at c.slots slot ≡ found
+      → Removes c (put_at c slot n file) (Put slot (numbered n file) ((state_of c).at slot)) ((state_of c).at slot) found
+  put_removes found at =
+      record { answer = number_at c slot found t at; step = put_steps; numbers = refl; sound = put_keeps; leaving = put_leaving }
 
 -- what was read at a slot is there
 pub seen_at : {X : Type 0} (xs : List X) (i : ℕ) (d x y : X) → i < length xs → x ≡ slice_index_or xs i x → x ≡ y → slice_index_or xs i d ≡ y

@@ -27,40 +27,26 @@ node_at nodes number = slice_index_or nodes number Gone
 
 -- the file of a number that stands at a slot
 abbrev pub placed_at : ℕ → Node → Option File
-placed_at number Fresh = None
 placed_at number (At slot file) = Some (record { number = number; identity = file })
-placed_at number (Leaving file) = None
-placed_at number (Retired file) = None
-placed_at number Gone = None
+placed_at number _ = None
 
 -- the file of a number that was removed
 abbrev pub removed_at : ℕ → Node → Option File
-removed_at number Fresh = None
-removed_at number (At slot file) = None
 removed_at number (Leaving file) = Some (record { number = number; identity = file })
 removed_at number (Retired file) = Some (record { number = number; identity = file })
-removed_at number Gone = None
+removed_at number _ = None
 
 abbrev pub is_fresh : Node → Bool
 is_fresh Fresh = true
-is_fresh (At slot file) = false
-is_fresh (Leaving file) = false
-is_fresh (Retired file) = false
-is_fresh Gone = false
+is_fresh _ = false
 
 abbrev pub is_leaving : Node → Bool
-is_leaving Fresh = false
-is_leaving (At slot file) = false
 is_leaving (Leaving file) = true
-is_leaving (Retired file) = false
-is_leaving Gone = false
+is_leaving _ = false
 
 abbrev pub is_retired : Node → Bool
-is_retired Fresh = false
-is_retired (At slot file) = false
-is_retired (Leaving file) = false
 is_retired (Retired file) = true
-is_retired Gone = false
+is_retired _ = false
 
 -- the file that a slot names
 abbrev pub file_at : List Node → Option ℕ → Option File
@@ -104,11 +90,9 @@ file_count_of (Some number) = 1
 
 -- whether a removed file is there, as a count
 abbrev pub removed_count_of : Node → ℕ
-removed_count_of Fresh = 0
-removed_count_of (At slot file) = 0
 removed_count_of (Leaving file) = 1
 removed_count_of (Retired file) = 1
-removed_count_of Gone = 0
+removed_count_of _ = 0
 
 abbrev pub itself : ℕ → ℕ
 itself n = n
@@ -122,27 +106,20 @@ pub record IsCounted (c : Contents) (full held removed : ℕ) : Type 0 where
 
 -- a node whose file left its slot
 abbrev pub node_after_removal : Node → Node
-node_after_removal Fresh = Fresh
 node_after_removal (At slot file) = Leaving file
-node_after_removal (Leaving file) = Leaving file
-node_after_removal (Retired file) = Retired file
-node_after_removal Gone = Gone
+node_after_removal node = node
 
 -- a node whose file was retired
 abbrev pub node_after_retirement : Node → Node
-node_after_retirement Fresh = Fresh
-node_after_retirement (At slot file) = At slot file
 node_after_retirement (Leaving file) = Retired file
-node_after_retirement (Retired file) = Retired file
-node_after_retirement Gone = Gone
+node_after_retirement node = node
 
 -- the file of a node, wherever it stands
 abbrev pub file_in : Node → Option Closed
-file_in Fresh = None
 file_in (At slot file) = Some file
 file_in (Leaving file) = Some file
 file_in (Retired file) = Some file
-file_in Gone = None
+file_in _ = None
 
 -- a node as passes begin, for the file that was at a slot
 abbrev pub moved_node : Option Closed → ℕ → Node

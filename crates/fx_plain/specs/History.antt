@@ -6,7 +6,7 @@ use Rattle.fx_plain.specs.Step.{Allows, after}
 use Rattle.fx_plain.specs.declared.event.File.{File}
 use Rattle.fx_plain.specs.declared.event.Event.{Event}
 use Rattle.fx_plain.specs.declared.event.Action.{Action}
-use Rattle.fx_plain.specs.declared.event.Action.TheVariants.{Look, Release, Put, Clear, Take, Allocate, Full, Close}
+use Rattle.fx_plain.specs.declared.event.Action.TheVariants.{Look, Release, Close}
 
 infixl 50 ◌▷◌
 -- the history, and then one more
@@ -39,12 +39,7 @@ action_of e = e.action
 abbrev pub held_after : Option File → Action → Option File
 held_after held (Look slot found) = found
 held_after held (Release f) = None
-held_after held (Put slot f replaced) = held
-held_after held (Clear slot found) = held
-held_after held (Take slot found) = held
-held_after held (Allocate slot f) = held
-held_after held Full = held
-held_after held (Close f) = held
+held_after held _ = held
 
 -- what a pass holds after a history: what its last look-up found, if it hasn't released it
 abbrev pub held_by : List Event → ℕ → Option File
@@ -53,14 +48,8 @@ held_by (e ∷ h) pass = if e.pass == pass then held_after (held_by h pass) e.ac
 
 -- a release gives up what its own pass holds
 abbrev pub ReleasesItsOwn : Option File → Action → Type 0
-ReleasesItsOwn held (Look slot found) = Unit {0}
 ReleasesItsOwn held (Release f) = held ≡ Some f
-ReleasesItsOwn held (Put slot f replaced) = Unit {0}
-ReleasesItsOwn held (Clear slot found) = Unit {0}
-ReleasesItsOwn held (Take slot found) = Unit {0}
-ReleasesItsOwn held (Allocate slot f) = Unit {0}
-ReleasesItsOwn held Full = Unit {0}
-ReleasesItsOwn held (Close f) = Unit {0}
+ReleasesItsOwn held _ = Unit {0}
 
 -- each release gives up what the same pass looked up, with no look-up or release of that pass between
 abbrev pub AllReleaseTheirOwn : List Event → Type 0
@@ -89,14 +78,8 @@ close_of None = []
 close_of (Some f) = [] ▷ Close f
 
 abbrev pub closed_by : Action → List Closed
-closed_by (Look slot found) = []
-closed_by (Release f) = []
-closed_by (Put slot f replaced) = []
-closed_by (Clear slot found) = []
-closed_by (Take slot found) = []
-closed_by (Allocate slot f) = []
-closed_by Full = []
 closed_by (Close f) = f.identity ∷ []
+closed_by _ = []
 
 -- the files that were closed, the first one first
 abbrev pub closes_in : List Action → List Closed

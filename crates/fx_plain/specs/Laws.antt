@@ -5,7 +5,7 @@ use Rattle.fx_plain.specs.History.{◌▷◌, ◌▷▷◌, IsLegal, part_of_pas
 use Rattle.fx_plain.specs.declared.event.File.{File}
 use Rattle.fx_plain.specs.declared.event.Event.{Event}
 use Rattle.fx_plain.specs.declared.event.Action.{Action}
-use Rattle.fx_plain.specs.declared.event.Action.TheVariants.{Look, Release, Put, Clear, Take, Allocate, Full, Close}
+use Rattle.fx_plain.specs.declared.event.Action.TheVariants.{Look, Release, Put, Allocate, Close}
 
 -- the file is at one of the slots
 abbrev pub IsAtSlot : State → File → Type 0
@@ -24,14 +24,8 @@ if_numbered number f = if f.number == number then f ∷ [] else []
 
 -- the file of the number that an action closes
 abbrev pub closed_of : ℕ → Action → List File
-closed_of number (Look slot found) = []
-closed_of number (Release f) = []
-closed_of number (Put slot f replaced) = []
-closed_of number (Clear slot found) = []
-closed_of number (Take slot found) = []
-closed_of number (Allocate slot f) = []
-closed_of number Full = []
 closed_of number (Close f) = if_numbered number f
+closed_of number _ = []
 
 -- the closes of a number: the file of each, the first one first
 abbrev pub closes_of : ℕ → List Event → List File
@@ -39,14 +33,8 @@ closes_of number [] = []
 closes_of number (e ∷ h) = closes_of number h ++ closed_of number e.action
 
 abbrev pub released_by : Action → List File
-released_by (Look slot found) = []
 released_by (Release f) = f ∷ []
-released_by (Put slot f replaced) = []
-released_by (Clear slot found) = []
-released_by (Take slot found) = []
-released_by (Allocate slot f) = []
-released_by Full = []
-released_by (Close f) = []
+released_by _ = []
 
 -- the files that were released, the first one first
 abbrev pub releases_in : List Event → List File
@@ -54,14 +42,9 @@ releases_in [] = []
 releases_in (e ∷ h) = releases_in h ++ released_by e.action
 
 abbrev pub installed_by : Action → Option File
-installed_by (Look slot found) = None
-installed_by (Release f) = None
 installed_by (Put slot f replaced) = Some f
-installed_by (Clear slot found) = None
-installed_by (Take slot found) = None
 installed_by (Allocate slot f) = Some f
-installed_by Full = None
-installed_by (Close f) = None
+installed_by _ = None
 
 -- the file was installed
 abbrev pub IsInstalled : List Event → File → Type 0

@@ -1,10 +1,13 @@
 -- What the calls of a table answer.
-use Rattle.std.specs.Prelude.{◌≡◌, ℕ, ◌+◌, ◌<◌, ◌^◌, ◌==◌, not, ◌&&◌, Bool, true, if◌then◌else◌, Option, Some, None, option_map, IfSome}
+use Rattle.std.specs.Prelude.{◌≡◌, ℕ, ◌+◌, ◌<◌, ◌^◌, ◌==◌, not, ◌&&◌, Bool, true, if◌then◌else◌, [], Option, Some, None, option_map, IfSome}
 use Rattle.fx_base.specs.declared.open_file.Closed.{Closed}
 use Rattle.fx_plain.specs.State.{State}
-use Rattle.fx_plain.specs.Step.{changed_at}
-use Rattle.fx_plain.specs.Contents.{Contents, state_of, leaving, numbers_of}
+use Rattle.fx_plain.specs.Step.{Steps, changed_at}
+use Rattle.fx_plain.specs.History.{Leads, close_of, ◌▷◌, ◌▷▷◌}
+use Rattle.fx_plain.specs.Contents.{Contents, IsTable, state_of, leaving, numbers_of}
 use Rattle.fx_plain.specs.declared.event.File.{File}
+use Rattle.fx_plain.specs.declared.event.Action.{Action}
+use Rattle.fx_plain.specs.declared.event.Action.TheVariants.{Release}
 
 abbrev pub identity_of : Option File → Option Closed
 identity_of found = option_map (λ f. f.identity) found
@@ -32,6 +35,24 @@ HasRoomForHold st slot = IfSome (st.at slot) (λ f. st.holds f.number + 1 < 2 ^ 
 abbrev pub more_leaving : (ℕ → Bool) → Option File → ℕ → Bool
 more_leaving leaving None = leaving
 more_leaving leaving (Some f) = changed_at leaving f.number true
+
+-- the action leads from the old table to the new one; the file that it found at its slot, if there was one, is leaving from
+-- now on, and its number is the answer
+pub record Removes (old new : Contents) (action : Action) (found : Option File) (removed : Option ℕ) : Type 0 where
+  pub answer : removed ≡ number_of found
+  pub step : Steps (state_of old) action (state_of new)
+  pub numbers : numbers_of new ≡ numbers_of old
+  pub sound : IsTable new
+  pub leaving : leaving new ≡ more_leaving (leaving old) found
+
+-- a hold of the number's file is given up; the file is closed and comes out where it was retired and this was its last hold
+pub record Releases (old new : Contents) (number : ℕ) (out : Option Closed) : Type 0 where
+  pub answer : out ≡ identity_of (closed_by_release old number)
+  pub steps : (f : File) → f.number ≡ number
+      → Leads (state_of old) ([] ▷ Release f ▷▷ close_of (closed_by_release old number)) (state_of new)
+  pub numbers : numbers_of new ≡ numbers_of old
+  pub sound : IsTable new
+  pub leaving : leaving new ≡ leaving old
 
 -- the table has this allocation range, and is else as before
 pub record SetsRange (old new : Contents) (off len : ℕ) : Type 0 where

@@ -57,8 +57,13 @@ impl Model for PlainTable {
     } };
 
     ghost invariant = { λ t.
-        IsTable (record { slots = t.slots.items; range = (t.range_start, t.range_len); nodes = t.nodes; holds = t.holds; numbers = t.numbers })
-        × IsCounted (record { slots = t.slots.items; range = (t.range_start, t.range_len); nodes = t.nodes; holds = t.holds; numbers = t.numbers }) t.full t.held t.removed };
+        let c : Contents = record {
+          slots = t.slots.items;
+          range = (t.range_start, t.range_len);
+          nodes = t.nodes;
+          holds = t.holds;
+          numbers = t.numbers;
+        } in IsTable c × IsCounted c t.full t.held t.removed };
 }
 
 impl PlainTable {
@@ -80,7 +85,7 @@ impl PlainTable {
         }
     }
 
-    /// A table of `n` empty slots, 1 to 256, all of them in the allocation range (io_uring_register_files(3),
+    /// A table of `n` empty slots, 1 to [`MOST_SLOTS`], all of them in the allocation range (io_uring_register_files(3),
     /// `io_uring_register_files_sparse`).
     ///
     /// # Errors
@@ -105,7 +110,7 @@ impl PlainTable {
         })
     }
 
-    /// How many slots there are, at most 256.
+    /// How many slots there are, at most [`MOST_SLOTS`].
     pub fn size(&self) -> u32
         ensures value { result ≡ (state_of self.now).size }
         ensures few { result ≤ MOST_SLOTS }

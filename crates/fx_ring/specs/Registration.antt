@@ -9,6 +9,7 @@ use Rattle.fx_base.specs.declared.mark.Mark.{Mark}
 use Rattle.fx_base.specs.declared.mark.Mark.TheVariants.{Registered}
 use Rattle.fx_base.specs.declared.open_file.Closed.{Closed}
 use Rattle.fx_chain.specs.Answers.{is_bad_entry}
+use Rattle.fx_plain.specs.declared.table.TheConstants.{MOST_SLOTS}
 use Rattle.fx_ring.specs.Ring.{RingState}
 use Rattle.fx_ring.specs.declared.ring.TheConstants.{MOST_REGISTRATIONS}
 
@@ -22,7 +23,7 @@ abbrev pub register_refusal : RingState → List ℤ → Option Errno
 register_refusal ring list =
     if nat_lt 0 ring.size then Some EBUSY
     else if length list == 0 then Some EINVAL
-    else if nat_lt 256 (length list) then Some EMFILE
+    else if nat_lt MOST_SLOTS (length list) then Some EMFILE
     else if list_any (is_bad_file (length ring.catalogue)) list then Some EBADF
     else if nat_le MOST_REGISTRATIONS ring.registrations then Some EAGAIN
     else None
@@ -32,7 +33,7 @@ abbrev pub sparse_refusal : RingState → ℕ → Option Errno
 sparse_refusal ring n =
     if nat_lt 0 ring.size then Some EBUSY
     else if n == 0 then Some EINVAL
-    else if nat_lt 256 n then Some EMFILE
+    else if nat_lt MOST_SLOTS n then Some EMFILE
     else None
 
 -- why a ring's table can't be unregistered

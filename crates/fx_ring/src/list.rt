@@ -9,9 +9,9 @@ ghost use Rattle.fx_ring.specs.Slots.{SetsFiles, AreFresh, files_at};
 ghost use Rattle.fx_plain.specs.Step.{changed_at};
 
 use crate::slots::{clear_slot, fill_slot};
-use fx_base::{Catalogue, CloseList, Mark};
+use fx_base::{Catalogue, CloseList, MOST_ENTRIES, Mark};
 use fx_chain::is_bad_entry;
-use fx_plain::PlainTable;
+use fx_plain::{MOST_SLOTS, PlainTable};
 
 // Whether a number is neither an empty slot nor an entry of the catalogue.
 fn is_bad_file(entries: u32, number: i32) -> bool
@@ -50,12 +50,17 @@ fn apply_number(
 )
     requires settled { IsSettled (state_of table.old) }
     requires slot { slot < (state_of table.old).size }
-    requires entries { length catalogue.now ≤ 256 }
+    requires entries { length catalogue.now ≤ MOST_ENTRIES }
     requires good { is_bad_entry (length catalogue.now) number ≡ false }
     requires fresh { (state_of table.old).fresh fresh ≡ true }
-    requires room { length (removed_by number (files_at (state_of table.old) slot)) ≤ closes.old.room }
-    ensures files { SetsFiles (state_of table.old) (state_of table.new) (changed_at (files_at (state_of table.old)) slot (file_after mark number (files_at (state_of table.old) slot))) (removed_by number (files_at (state_of table.old) slot)) closes.old closes.new }
-    ensures fresh { (other : ℕ) → fresh < other → (state_of table.new).fresh other ≡ (state_of table.old).fresh other }
+    requires room { length (removed_by number (files_at (state_of table.old) slot))
+        ≤ closes.old.room }
+    ensures files { let was = files_at (state_of table.old) in
+        SetsFiles (state_of table.old) (state_of table.new)
+        (changed_at was slot (file_after mark number (was slot))) (removed_by number (was slot))
+        closes.old closes.new }
+    ensures fresh { (other : ℕ) → fresh < other
+        → (state_of table.new).fresh other ≡ (state_of table.old).fresh other }
 {
     if number >= 0 {
         let file = catalogue.open(number as u8, mark);
@@ -80,13 +85,17 @@ pub(crate) fn apply_list(
 )
     requires settled { IsSettled (state_of table.old) }
     requires slots { off + length list.now ≤ (state_of table.old).size }
-    requires few_slots { (state_of table.old).size ≤ 256 }
-    requires entries { length catalogue.now ≤ 256 }
+    requires few_slots { (state_of table.old).size ≤ MOST_SLOTS }
+    requires entries { length catalogue.now ≤ MOST_ENTRIES }
     requires good { list_any (is_bad_entry (length catalogue.now)) list.now ≡ false }
-    requires first { first ≤ 256 }
+    requires first { first ≤ MOST_SLOTS }
     requires fresh { AreFresh (state_of table.old) first (first + length list.now) }
-    requires room { length (removed_from (files_at (state_of table.old)) off list.now) ≤ closes.old.room }
-    ensures { SetsFiles (state_of table.old) (state_of table.new) (files_after k (files_at (state_of table.old)) off list.now) (removed_from (files_at (state_of table.old)) off list.now) closes.old closes.new }
+    requires room { length (removed_from (files_at (state_of table.old)) off list.now)
+        ≤ closes.old.room }
+    ensures { let was = files_at (state_of table.old) in
+        SetsFiles (state_of table.old) (state_of table.new)
+        (files_after k was off list.now) (removed_from was off list.now)
+        closes.old closes.new }
 {
     for (i, number) in list.iter().enumerate() {
         let place = i as u32;

@@ -10,13 +10,10 @@ ghost use Rattle.fx_ring.specs.Slots.{files_at};
 
 use crate::list::{apply_list, has_bad_entry, has_bad_file};
 use crate::ring::{MOST_REGISTRATIONS, Ring};
-use fx_base::{Catalogue, CloseList, Errno, NoMemory};
-use fx_plain::PlainTable;
+use fx_base::{Catalogue, CloseList, Errno, MOST_ENTRIES, NoMemory};
+use fx_plain::{MOST_SLOTS, PlainTable};
 use std::alloc::Global;
 use std::mem;
-
-/// How many slots a table may have.
-const MOST_SLOTS: u32 = 256;
 
 impl Ring {
     // Why a table of so many slots can't be registered.
@@ -38,7 +35,7 @@ impl Ring {
     // Why a list can't be registered.
     fn register_refusal(&self, list: &[i32]) -> Option<Errno>
         ensures value { result ≡ register_refusal (ring_of self.now) list.now }
-        ensures entries { IfNone result (length self.now.catalogue ≤ 256) }
+        ensures entries { IfNone result (length self.now.catalogue ≤ MOST_ENTRIES) }
     {
         if let Some(errno) = self.sparse_refusal(list.len()) {
             return Some(errno);
@@ -55,7 +52,7 @@ impl Ring {
     // Why the slots from `off` on can't be updated by a list.
     fn update_refusal(&self, off: u32, list: &[i32]) -> Option<Errno>
         ensures value { result ≡ update_refusal (ring_of self.now) off list.now }
-        ensures entries { IfNone result (length self.now.catalogue ≤ 256) }
+        ensures entries { IfNone result (length self.now.catalogue ≤ MOST_ENTRIES) }
     {
         let size = self.table.size();
         if size == 0 {
@@ -83,8 +80,10 @@ impl Ring {
     /// a number below -1 or past the catalogue, EAGAIN after 65,535 accepted calls of `register` and `update`, and ENOMEM
     /// where memory is refused. The ring is then as before.
     pub fn register(&mut self, alloc: Global, list: &[i32]) -> Result<(), Errno>
-        ensures refused { IfSome (register_refusal (ring_of self.old) list.now) (λ errno. result ≡ Err errno) }
-        ensures only_refusal { IfNone (register_refusal (ring_of self.old) list.now) (IsOkUnless result ENOMEM) }
+        ensures refused { IfSome (register_refusal (ring_of self.old) list.now)
+            (λ errno. result ≡ Err errno) }
+        ensures only_refusal { IfNone (register_refusal (ring_of self.old) list.now)
+            (IsOkUnless result ENOMEM) }
         ensures ok { OnOk result (ring_of self.new ≡ registered (ring_of self.old) list.now) }
         ensures err { OnErr result (self.new ≡ self.old) }
     {
@@ -108,8 +107,10 @@ impl Ring {
     /// In this order: EBUSY where there is a table, EINVAL for no slots, EMFILE for more than 256, and ENOMEM where memory
     /// is refused. The ring is then as before.
     pub fn register_sparse(&mut self, alloc: Global, n: u32) -> Result<(), Errno>
-        ensures refused { IfSome (sparse_refusal (ring_of self.old) n) (λ errno. result ≡ Err errno) }
-        ensures only_refusal { IfNone (sparse_refusal (ring_of self.old) n) (IsOkUnless result ENOMEM) }
+        ensures refused { IfSome (sparse_refusal (ring_of self.old) n)
+            (λ errno. result ≡ Err errno) }
+        ensures only_refusal { IfNone (sparse_refusal (ring_of self.old) n)
+            (IsOkUnless result ENOMEM) }
         ensures ok { OnOk result (ring_of self.new ≡ registered_sparse (ring_of self.old) n) }
         ensures err { OnErr result (self.new ≡ self.old) }
     {
@@ -131,8 +132,10 @@ impl Ring {
     /// # Errors
     /// ENXIO where there is no table, and else ENOMEM where the memory of the list is refused. The ring is then as before.
     pub fn unregister(&mut self, alloc: Global) -> Result<CloseList, Errno>
-        ensures refused { IfSome (unregister_refusal (ring_of self.old)) (λ errno. result ≡ Err errno) }
-        ensures only_refusal { IfNone (unregister_refusal (ring_of self.old)) (IsOkUnless result ENOMEM) }
+        ensures refused { IfSome (unregister_refusal (ring_of self.old))
+            (λ errno. result ≡ Err errno) }
+        ensures only_refusal { IfNone (unregister_refusal (ring_of self.old))
+            (IsOkUnless result ENOMEM) }
         ensures ok { OnOk result (ring_of self.new ≡ without_table (ring_of self.old)) }
         ensures closes { IfOk result (λ closes. HasClosed (files_of (ring_of self.old)) closes) }
         ensures entries { IfOk result (λ closes. AreEntries (ring_of self.old) closes.files) }
@@ -154,9 +157,11 @@ impl Ring {
     /// # Errors
     /// EINVAL where `off + len`, as whole numbers, is above the size. The ring is then as before.
     pub fn alloc_range(&mut self, off: u32, len: u32) -> Result<(), Errno>
-        ensures refused { IfSome (range_refusal (ring_of self.old) off len) (λ errno. result ≡ Err errno) }
+        ensures refused { IfSome (range_refusal (ring_of self.old) off len)
+            (λ errno. result ≡ Err errno) }
         ensures accepted { IfNone (range_refusal (ring_of self.old) off len) (result ≡ Ok tt) }
-        ensures ok { OnOk result (ring_of self.new ≡ record (ring_of self.old) { range = (off, len) }) }
+        ensures ok { OnOk result
+            (ring_of self.new ≡ record (ring_of self.old) { range = (off, len) }) }
         ensures err { OnErr result (self.new ≡ self.old) }
     {
         let Ok(()) = self.table.set_range(off, len) else {
@@ -179,11 +184,14 @@ impl Ring {
         off: u32,
         list: &[i32],
     ) -> Result<(u32, CloseList), Errno>
-        ensures refused { IfSome (update_refusal (ring_of self.old) off list.now) (λ errno. result ≡ Err errno) }
-        ensures only_refusal { IfNone (update_refusal (ring_of self.old) off list.now) (IsOkUnless result ENOMEM) }
+        ensures refused { IfSome (update_refusal (ring_of self.old) off list.now)
+            (λ errno. result ≡ Err errno) }
+        ensures only_refusal { IfNone (update_refusal (ring_of self.old) off list.now)
+            (IsOkUnless result ENOMEM) }
         ensures ok { OnOk result (ring_of self.new ≡ updated (ring_of self.old) off list.now) }
         ensures count { IfOk result (λ answer. answer.0 ≡ length list.now) }
-        ensures closes { IfOk result (λ answer. HasClosed (removed_from (ring_of self.old).at off list.now) answer.1) }
+        ensures closes { IfOk result
+            (λ answer. HasClosed (removed_from (ring_of self.old).at off list.now) answer.1) }
         ensures entries { IfOk result (λ answer. AreEntries (ring_of self.old) answer.1.files) }
         ensures err { OnErr result (self.new ≡ self.old) }
     {
@@ -221,12 +229,13 @@ fn new_table(
     list: &[i32],
 ) -> Result<PlainTable, NoMemory>
     requires some { 0 < length list.now }
-    requires few { length list.now ≤ 256 }
-    requires entries { length catalogue.now ≤ 256 }
+    requires few { length list.now ≤ MOST_SLOTS }
+    requires entries { length catalogue.now ≤ MOST_ENTRIES }
     requires good { list_any (is_bad_file (length catalogue.now)) list.now ≡ false }
     ensures size { IfOk result (λ table. (state_of table).size ≡ length list.now) }
     ensures range { IfOk result (λ table. (state_of table).range ≡ (0, length list.now)) }
-    ensures files { IfOk result (λ table. files_at (state_of table) ≡ files_after k (λ _. None) 0 list.now) }
+    ensures files { IfOk result
+        (λ table. files_at (state_of table) ≡ files_after k (λ _. None) 0 list.now) }
     ensures settled { IfOk result (λ table. IsSettled (state_of table)) }
 {
     let len = list.len() as u32;

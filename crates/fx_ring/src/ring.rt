@@ -30,9 +30,19 @@ impl Model for Ring {
 
     ghost Value = { RingContents };
 
-    ghost view = { λ ring. record { catalogue = ring.catalogue; table = ring.table; submissions = ring.submissions; registrations = ring.registrations } };
+    ghost view = { λ ring. record {
+      catalogue = ring.catalogue;
+      table = ring.table;
+      submissions = ring.submissions;
+      registrations = ring.registrations;
+    } };
 
-    ghost invariant = { λ ring. IsAtRest (record { catalogue = ring.catalogue; table = ring.table; submissions = ring.submissions; registrations = ring.registrations }) };
+    ghost invariant = { λ ring. IsAtRest (record {
+      catalogue = ring.catalogue;
+      table = ring.table;
+      submissions = ring.submissions;
+      registrations = ring.registrations;
+    }) };
 }
 
 impl Ring {
@@ -108,8 +118,8 @@ impl Ring {
         Ok(closes)
     }
 
-    /// Lets every file of the ring go without a list. It is the way out after a fault, and takes no memory (this
-    /// project's own).
+    /// Lets every file of the ring go without a list. It is the way out after a fault, and can't fail for want of memory
+    /// (this project's own).
     pub fn abandon(self) {
         let Ring {
             catalogue: _,

@@ -12,10 +12,14 @@ use fx_plain::PlainTable;
 // Retires a removed file that nobody holds, and closes it.
 fn close_removed(table: &mut PlainTable, removed: Option<u32>, closes: &mut CloseList)
     requires removed { CanRetire (leaving table.old) (state_of table.old) removed }
-    requires room { length (option_to_list (file_removed (state_of table.old) removed)) ≤ closes.old.room }
-    ensures steps { Leads (state_of table.old) (closes_of_removed (state_of table.old) removed) (state_of table.new) }
-    ensures files { closes.new.files ≡ closes.old.files ++ option_to_list (file_removed (state_of table.old) removed) }
-    ensures room { closes.new.room + length (option_to_list (file_removed (state_of table.old) removed)) ≡ closes.old.room }
+    requires room { length (option_to_list (file_removed (state_of table.old) removed))
+        ≤ closes.old.room }
+    ensures steps { Leads (state_of table.old) (closes_of_removed (state_of table.old) removed)
+        (state_of table.new) }
+    ensures files { closes.new.files
+        ≡ closes.old.files ++ option_to_list (file_removed (state_of table.old) removed) }
+    ensures room { closes.new.room
+        + length (option_to_list (file_removed (state_of table.old) removed)) ≡ closes.old.room }
 {
     let Some(number) = removed else {
         return;
@@ -30,7 +34,8 @@ pub(crate) fn clear_slot(table: &mut PlainTable, slot: u32, closes: &mut CloseLi
     requires settled { IsSettled (state_of table.old) }
     requires slot { slot < (state_of table.old).size }
     requires room { length (option_to_list (files_at (state_of table.old) slot)) ≤ closes.old.room }
-    ensures set { SetsSlot (state_of table.old) (state_of table.new) slot None closes.old closes.new }
+    ensures set { SetsSlot (state_of table.old) (state_of table.new) slot None
+        closes.old closes.new }
     ensures fresh { (state_of table.new).fresh ≡ (state_of table.old).fresh }
 {
     let removed = table.clear(slot);
@@ -49,8 +54,10 @@ pub(crate) fn fill_slot(
     requires slot { slot < (state_of table.old).size }
     requires fresh { (state_of table.old).fresh number ≡ true }
     requires room { length (option_to_list (files_at (state_of table.old) slot)) ≤ closes.old.room }
-    ensures set { SetsSlot (state_of table.old) (state_of table.new) slot (Some file) closes.old closes.new }
-    ensures fresh { (other : ℕ) → number < other → (state_of table.new).fresh other ≡ (state_of table.old).fresh other }
+    ensures set { SetsSlot (state_of table.old) (state_of table.new) slot (Some file)
+        closes.old closes.new }
+    ensures fresh { (other : ℕ) → number < other
+        → (state_of table.new).fresh other ≡ (state_of table.old).fresh other }
 {
     let replaced = table.put(slot, number, file);
     close_removed(table, replaced, closes);

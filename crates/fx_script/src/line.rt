@@ -12,7 +12,7 @@ use crate::parts::Parts;
 use crate::request::{self, Action};
 use crate::words::{end, number, text, word};
 
-// What a line says that isn't skipped. It takes no memory: words stay where they are.
+// What a line says that isn't skipped. Words stay where they are, so no want of memory can make it fail.
 #[derive(Clone, Copy)]
 pub enum Line<'a> {
     // Adds a file to the catalogue, whose name and bytes are still to be looked at.

@@ -31,13 +31,15 @@ adds_nothing o v front = record {
 }
 
 -- two calls in a row add what both add
-pub adds_then : (o : Opening) (u v w : PassView) (xs ys : List Action) (d e : Doing) (a b : Use) → Adds o u xs d a v → Adds o v ys e b w → Adds o u (xs ▷▷ ys) e (both_uses a b) w
+pub adds_then : (o : Opening) (u v w : PassView) (xs ys : List Action) (d e : Doing) (a b : Use) → Adds o u xs d a v → Adds o v ys e b w
+    → Adds o u (xs ▷▷ ys) e (both_uses a b) w
 adds_then o u v w xs ys d e a b one two = record {
   seen = seen_further u.front v.front w.front one.seen two.seen;
   front = two.front;
   own = two.own
       ∙ (ap (λ (l : List Event). map (event_of v) ys ++ l) one.own
-      ∙ (ap (λ (z : ℕ × ℕ). map (λ action. record { pass = z.0; chain = z.1; action = action }) ys ++ (map (event_of u) xs ++ u.own)) (λ i. (one.number i, one.chain i))
+      ∙ (ap (λ (z : ℕ × ℕ). map (λ action. record { pass = z.0; chain = z.1; action = action }) ys ++ (map (event_of u) xs ++ u.own))
+      (λ i. (one.number i, one.chain i))
       ∙ (sym (append_assoc (map (event_of u) ys) (map (event_of u) xs) u.own)
       ∙ ap (λ (l : List Event). l ++ u.own) (sym (map-append (event_of u) ys xs)))));
   now = two.now;

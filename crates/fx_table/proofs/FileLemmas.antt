@@ -28,7 +28,8 @@ pub node_of : (c : Contents) → IsTable c → (slot : ℕ) (f : File) → (stat
 node_of c sound slot f e =
     let a = named c.nodes (slot_at c.slots slot) f e in
     let p = sound.placed slot a.0 a.1 in
-    let is : record { number = a.0; identity = p.0 } ≡ f = some_file (record { number = a.0; identity = p.0 }) f (sym (ap (placed_at a.0) p.1) ∙ a.2) in
+    let is : record { number = a.0; identity = p.0 } ≡ f =
+    some_file (record { number = a.0; identity = p.0 }) f (sym (ap (placed_at a.0) p.1) ∙ a.2) in
     subst (λ (g : File). node_at c.nodes g.number ≡ At slot g.identity) is p.1
 
 -- a file at a slot was not removed, and isn't leaving
@@ -39,11 +40,14 @@ pub stays_put : (c : Contents) → IsTable c → (slot : ℕ) (f : File) → (st
 stays_put c sound slot f e = ap is_leaving (node_of c sound slot f e)
 
 -- a removed file has another number than a file at a slot
-pub apart_from : (c : Contents) → IsTable c → (slot : ℕ) (o : Option File) → o ≡ (state_of c).at slot → (x f : File) → o ≡ Some x → (state_of c).removed f.number ≡ Some f → f.number ≢ x.number
-apart_from c sound slot o is x f there out same = none_file f (sym (not_removed c sound slot x (sym is ∙ there)) ∙ (ap (state_of c).removed (sym same) ∙ out))
+pub apart_from : (c : Contents) → IsTable c → (slot : ℕ) (o : Option File) → o ≡ (state_of c).at slot → (x f : File) → o ≡ Some x
+    → (state_of c).removed f.number ≡ Some f → f.number ≢ x.number
+apart_from c sound slot o is x f there out same =
+    none_file f (sym (not_removed c sound slot x (sym is ∙ there)) ∙ (ap (state_of c).removed (sym same) ∙ out))
 
 -- a file that is leaving is among the removed ones
-pub leaving_file : (c : Contents) → IsTable c → (f : File) → HasFile (state_of c) f → leaving c f.number ≡ true → (state_of c).removed f.number ≡ Some f
+pub leaving_file : (c : Contents) → IsTable c → (f : File) → HasFile (state_of c) f → leaving c f.number ≡ true
+    → (state_of c).removed f.number ≡ Some f
 leaving_file c sound f there leaves = ⊎_elim
     (λ s. let no_way : false ≡ true = sym (stays_put c sound s.0 f s.1) ∙ leaves in absurd (cc no_way))
     (λ e. e) there
@@ -55,9 +59,11 @@ removed_file c sound f g there out = ⊎_elim
     (λ e. some_file f g (sym e ∙ out)) there
 
 -- A slot gets another file, or none, and what stood there is removed: each file is still somewhere
-module _ (s : State) (slot : ℕ) (new found : Option File) (is : found ≡ s.at slot) (apart : (x f : File) → found ≡ Some x → s.removed f.number ≡ Some f → f.number ≢ x.number) where
+module _ (s : State) (slot : ℕ) (new found : Option File) (is : found ≡ s.at slot) (apart : (x f : File) → found ≡ Some x
+    → s.removed f.number ≡ Some f → f.number ≢ x.number) where
   at_slot : (f : File) (o : Option File) → o ≡ Some f → with_removed s.removed o f.number ≡ Some f
-  at_slot f o e = subst (λ (z : Option File). with_removed s.removed z f.number ≡ Some f) (sym e) (changed_here s.removed f.number (Some f) f.number refl)
+  at_slot f o e = subst (λ (z : Option File). with_removed s.removed z f.number ≡ Some f) (sym e)
+      (changed_here s.removed f.number (Some f) f.number refl)
 
   out_still : (f : File) → s.removed f.number ≡ Some f → (o : Option File) → found ≡ o → with_removed s.removed o f.number ≡ Some f
   out_still f out None e = out
@@ -74,5 +80,6 @@ module _ (s : State) (slot : ℕ) (new found : Option File) (is : found ≡ s.at
   now_removed f e = at_slot f found e
 
 -- a file is closed: each other one is still where it was
-pub not_closed : (s : State) (g f : File) → f.number ≢ g.number → HasFile s f → ((slot : ℕ) × (s.at slot ≡ Some f)) ⊎ (changed_at s.removed g.number None f.number ≡ Some f)
+pub not_closed : (s : State) (g f : File) → f.number ≢ g.number → HasFile s f
+    → ((slot : ℕ) × (s.at slot ≡ Some f)) ⊎ (changed_at s.removed g.number None f.number ≡ Some f)
 not_closed s g f other there = ⊎_elim (λ p. inl p) (λ e. inr (changed_else s.removed g.number None f.number other ∙ e)) there

@@ -20,7 +20,8 @@ part_other q es h n = filter-append _ es h ∙ ap (λ (l : List Event). l ++ par
 
 part_all : (q : ℕ) (es : List Event) → ((e : Event) → Contains es e → e.pass ≡ q) → part_of_pass q es ≡ es
 part_all q [] a = refl
-part_all q (e ∷ es) a = rw (eq-eqb e.pass q (a e (contains_head e es))) (ap (λ (l : List Event). e ∷ l) (part_all q es (λ x i. a x (contains_tail e es x i))))
+part_all q (e ∷ es) a = rw (eq-eqb e.pass q (a e (contains_head e es)))
+    (ap (λ (l : List Event). e ∷ l) (part_all q es (λ x i. a x (contains_tail e es x i))))
 
 -- what a pass does is its part
 pub part_mine : (q : ℕ) (es h : List Event) → ((e : Event) → Contains es e → e.pass ≡ q) → part_of_pass q (h ▷▷ es) ≡ part_of_pass q h ▷▷ es

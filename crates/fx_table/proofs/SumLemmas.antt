@@ -68,7 +68,8 @@ module _ {X : Type 0} (f : X → ℕ) where
       let a = sum_by-cons f x l in let b = each 0 x refl in let r = sum_zero_at l (λ i v e. each (suc i) v e) in omega arith
 
   -- a sum to which one element alone adds
-  pub sum_only : (l : List X) (i : ℕ) (v : X) → get_elem? l i ≡ some v → ((j : ℕ) (u : X) → j ≢ i → get_elem? l j ≡ some u → f u ≡ 0) → sum_by f l ≡ f v
+  pub sum_only : (l : List X) (i : ℕ) (v : X) → get_elem? l i ≡ some v → ((j : ℕ) (u : X) → j ≢ i → get_elem? l j ≡ some u → f u ≡ 0)
+      → sum_by f l ≡ f v
   sum_only [] i v at zeros = absurd (some-ne-none v (sym at))
   sum_only (x ∷ l) zero v at zeros =
       let a = sum_by-cons f x l in

@@ -1,5 +1,6 @@
 -- Passes that take turns at the chains: no chain is drawn twice, and none is left out.
-use Rattle.std.proofs.Common.{◌≡◌, ◌≢◌, ℕ, zero, suc, ◌+◌, ◌-◌, ◌*◌, ◌/◌, ◌%◌, ◌<◌, ◌≤◌, true, false, cond, List, ◌∷◌, sym, refl, ap, ◌∙◌, subst, arith, eqb, eq-eqb, ne_eqb, suc-mul, mul-le-mul_right, lt_of_not-le, div-add-mod', mod-lt, ⊎_elim}
+use Rattle.std.proofs.Common.{◌≡◌, ◌≢◌, ℕ, zero, suc, ◌+◌, ◌-◌, ◌*◌, ◌/◌, ◌%◌, ◌<◌, ◌≤◌, true, false, cond, List, ◌∷◌, sym, refl, ap, ◌∙◌, subst}
+use Rattle.std.proofs.Common.{arith, eqb, eq-eqb, ne_eqb, suc-mul, mul-le-mul_right, lt_of_not-le, div-add-mod', mod-lt, ⊎_elim}
 use mathlib.Core.Logic.{dite}
 use native.Mathlib.Decide.{ℕ_discrete}
 use Rattle.std.specs.Prelude.{Contains, count_by, sum_by}

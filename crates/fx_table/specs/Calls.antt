@@ -76,7 +76,8 @@ new_file v file = numbered (next_number v) file
 
 abbrev pub Placed : Opening → PassView → ℕ → Closed → Option Retired → PassView → Type 0
 Placed o v slot file None w = Adds o v ([] ▷ Put slot (new_file v file) None) Idle one_number w
-Placed o v slot file (Some x) w = (f : File) × (x ≡ retired_of f x.takes) × Adds o v ([] ▷ Put slot (new_file v file) (Some f)) (Retiring f x.takes) one_number w
+Placed o v slot file (Some x) w =
+    (f : File) × (x ≡ retired_of f x.takes) × Adds o v ([] ▷ Put slot (new_file v file) (Some f)) (Retiring f x.takes) one_number w
 
 abbrev pub Allocated : Opening → PassView → Closed → Result ℕ Closed → PassView → Type 0
 Allocated o v file (Ok slot) w = (slot < size_of o) × Adds o v ([] ▷ Allocate slot (new_file v file)) Idle one_number w

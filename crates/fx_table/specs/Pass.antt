@@ -34,7 +34,18 @@ IsIdle v = v.doing ≡ Idle
 
 -- a pass that has seen and done nothing
 abbrev pub new_pass : ℕ → PassView
-new_pass number = record { number = number; front = []; own = []; chain = 0; drawn = []; no_chains_left = false; numbers_left = 0; looks_left = PASS_LOOKS; doing = Idle }
+new_pass number = record {
+  number = number;
+  front = [];
+  own = [];
+  chain = 0;
+  drawn = [];
+  no_chains_left = false;
+  numbers_left = 0;
+  looks_left =
+      PASS_LOOKS;
+  doing = Idle;
+}
 
 -- the passes from a number on
 abbrev pub new_passes_from : ℕ → ℕ → List PassView

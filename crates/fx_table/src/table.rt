@@ -10,7 +10,7 @@ ghost use Rattle.fx_table.specs.Closing.{ClosesTable};
 use crate::limits::{MAX_CHAINS, MAX_PASSES};
 use crate::values::{Empty, Hold, LookFault, Retired};
 use fx_base::{NoMemory, OpenFile};
-use fx_plain::PlainTable;
+use fx_plain::{MOST_SLOTS, PlainTable};
 use std::alloc::Global;
 use std::sync::Wait;
 
@@ -65,10 +65,10 @@ pub trait FileTable: Sync {
         requires idle { All (λ p. IsIdle (view p)) passes.items }
         ensures { ClosesTable (opening self) (map (λ p. view p) passes.items) result };
 
-    /// How many slots there are, at most 256.
+    /// How many slots there are, at most [`fx_plain::MOST_SLOTS`].
     fn size(&self) -> u32
         ensures value { result ≡ size_of (opening self.now) }
-        ensures few { result ≤ 256 };
+        ensures few { result ≤ MOST_SLOTS };
 
     /// The allocation range: the first slot and the number of slots.
     fn range(&self) -> (u32, u32)
@@ -117,7 +117,8 @@ pub trait FileTable: Sync {
         requires fits { fits self.now pass.old }
         requires held { IsHoldOf (view pass.old) hold }
         ensures fits { fits self.now pass.new }
-        ensures released { Released (opening self.now) (view pass.old) hold result (view pass.new) };
+        ensures released { Released (opening self.now) (view pass.old) hold result
+            (view pass.new) };
 
     /// Installs a file at a slot below `size`, under the next number of an idle pass (`is_idle`) that has one
     /// (`numbers_left`). The file that it replaced is to be retired (io_uring_prep_openat(3),
@@ -134,7 +135,8 @@ pub trait FileTable: Sync {
         requires slot { slot < size_of (opening self.now) }
         requires numbers { 0 < (view pass.old).numbers_left }
         ensures fits { fits self.now pass.new }
-        ensures placed { Placed (opening self.now) (view pass.old) slot file result (view pass.new) };
+        ensures placed { Placed (opening self.now) (view pass.old) slot file result
+            (view pass.new) };
 
     /// Installs a file at a free slot of the allocation range, under the next number of an idle pass (`is_idle`) that has
     /// one (`numbers_left`). The answer is the slot (io_uring_prep_openat(3), "IORING_FILE_INDEX_ALLOC").
@@ -151,7 +153,8 @@ pub trait FileTable: Sync {
         requires idle { IsIdle (view pass.old) }
         requires numbers { 0 < (view pass.old).numbers_left }
         ensures fits { fits self.now pass.new }
-        ensures allocated { Allocated (opening self.now) (view pass.old) file result (view pass.new) };
+        ensures allocated { Allocated (opening self.now) (view pass.old) file result
+            (view pass.new) };
 
     /// Empties a slot below `size` for an update, by an idle pass (`is_idle`). The file that was there is to be retired
     /// (io_uring_register(2), "IORING_REGISTER_FILES_UPDATE", an entry of -1).
@@ -180,8 +183,10 @@ pub trait FileTable: Sync {
         requires fits { fits self.now pass.old }
         requires removed { IsRetiredOf (view pass.old) retired }
         ensures fits { fits self.now pass.new }
-        ensures retired { HasRetired (opening self.now) (view pass.old) retired result (view pass.new) };
+        ensures retired { HasRetired (opening self.now) (view pass.old) retired result
+            (view pass.new) };
 
     // What a pass has seen is legal, and its own events there are what it has done.
-    ghost fronts: { (table : Self) (pass : Self.Pass) → fits table pass → IsFront (opening table) (view pass) };
+    ghost fronts: { (table : Self) (pass : Self.Pass) → fits table pass
+        → IsFront (opening table) (view pass) };
 }

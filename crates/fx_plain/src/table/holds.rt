@@ -1,11 +1,10 @@
 //! Look-ups, their releases, and the retirement of removed files.
-ghost use Rattle.std.specs.Prelude.{◌≡◌, ◌<◌, ℕ, [], true, false, option_map};
-ghost use Rattle.fx_plain.specs.declared.event.File.{File};
-ghost use Rattle.fx_plain.specs.declared.event.Action.TheVariants.{Look, Release};
+ghost use Rattle.std.specs.Prelude.{◌≡◌, ◌<◌, true, false, option_map};
+ghost use Rattle.fx_plain.specs.declared.event.Action.TheVariants.{Look};
 ghost use Rattle.fx_plain.specs.Step.{Steps, changed_at};
-ghost use Rattle.fx_plain.specs.History.{Leads, close_of, ◌▷◌, ◌▷▷◌};
+ghost use Rattle.fx_plain.specs.History.{Leads, close_of};
 ghost use Rattle.fx_plain.specs.Contents.{state_of, leaving, numbers_of, IsTable};
-ghost use Rattle.fx_plain.specs.Table.{identity_of, closed_by_release, closed_by_retirement, HasRoomForHold};
+ghost use Rattle.fx_plain.specs.Table.{identity_of, closed_by_retirement, HasRoomForHold, Releases};
 
 use crate::table::PlainTable;
 use fx_base::OpenFile;
@@ -38,13 +37,7 @@ impl PlainTable {
     /// was its last hold. The caller knows that the file has a hold, as where [`PlainTable::is_held`].
     pub fn release(&mut self, number: u32) -> Option<OpenFile>
         requires { 0 < (state_of self.old).holds number }
-        ensures answer { result ≡ identity_of (closed_by_release self.old number) }
-        ensures steps { (f : File) → f.number ≡ number
-            → Leads (state_of self.old)
-            ([] ▷ Release f ▷▷ close_of (closed_by_release self.old number)) (state_of self.new) }
-        ensures leaving { leaving self.new ≡ leaving self.old }
-        ensures numbers { numbers_of self.new ≡ numbers_of self.old }
-        ensures sound { IsTable self.new }
+        ensures { Releases self.old self.new number result }
     {
         let left = self.holds.end_hold(number);
         self.held -= 1;

@@ -4,7 +4,7 @@ ghost use Rattle.fx_plain.specs.declared.event.Action.TheVariants.{Put, Clear, T
 ghost use Rattle.fx_plain.specs.State.{IsInRange};
 ghost use Rattle.fx_plain.specs.Step.{Steps, Allows};
 ghost use Rattle.fx_plain.specs.Contents.{state_of, leaving, numbers_of, IsTable};
-ghost use Rattle.fx_plain.specs.Table.{number_of, numbered, more_leaving};
+ghost use Rattle.fx_plain.specs.Table.{numbered, Removes};
 
 use crate::node::Node;
 use crate::table::PlainTable;
@@ -17,13 +17,8 @@ impl PlainTable {
     pub fn put(&mut self, slot: u32, number: u32, file: OpenFile) -> Option<u32>
         requires slot { slot < (state_of self.old).size }
         requires fresh { (state_of self.old).fresh number ≡ true }
-        ensures answer { result ≡ number_of ((state_of self.old).at slot) }
-        ensures step { Steps (state_of self.old)
-            (Put slot (numbered number file) ((state_of self.old).at slot)) (state_of self.new) }
-        ensures leaving { leaving self.new
-            ≡ more_leaving (leaving self.old) ((state_of self.old).at slot) }
-        ensures numbers { numbers_of self.new ≡ numbers_of self.old }
-        ensures sound { IsTable self.new }
+        ensures { let found = (state_of self.old).at slot in
+            Removes self.old self.new (Put slot (numbered number file) found) found result }
     {
         self.nodes.set_node(number, Node::At(slot, file));
         let replaced = self.slots[slot as usize];
@@ -87,13 +82,8 @@ impl PlainTable {
     /// on, or `None` where the slot was empty (io_uring_register(2), "IORING_REGISTER_FILES_UPDATE", an entry of -1).
     pub fn clear(&mut self, slot: u32) -> Option<u32>
         requires { slot < (state_of self.old).size }
-        ensures answer { result ≡ number_of ((state_of self.old).at slot) }
-        ensures step { Steps (state_of self.old) (Clear slot ((state_of self.old).at slot))
-            (state_of self.new) }
-        ensures leaving { leaving self.new
-            ≡ more_leaving (leaving self.old) ((state_of self.old).at slot) }
-        ensures numbers { numbers_of self.new ≡ numbers_of self.old }
-        ensures sound { IsTable self.new }
+        ensures { let found = (state_of self.old).at slot in
+            Removes self.old self.new (Clear slot found) found result }
     {
         self.take(slot)
     }
@@ -102,13 +92,8 @@ impl PlainTable {
     /// or `None` where the slot was empty (io_uring_prep_close(3), `io_uring_prep_close_direct`).
     pub fn take(&mut self, slot: u32) -> Option<u32>
         requires { slot < (state_of self.old).size }
-        ensures answer { result ≡ number_of ((state_of self.old).at slot) }
-        ensures step { Steps (state_of self.old) (Take slot ((state_of self.old).at slot))
-            (state_of self.new) }
-        ensures leaving { leaving self.new
-            ≡ more_leaving (leaving self.old) ((state_of self.old).at slot) }
-        ensures numbers { numbers_of self.new ≡ numbers_of self.old }
-        ensures sound { IsTable self.new }
+        ensures { let found = (state_of self.old).at slot in
+            Removes self.old self.new (Take slot found) found result }
     {
         let number = self.slots[slot as usize]?;
         self.slots[slot as usize] = None;

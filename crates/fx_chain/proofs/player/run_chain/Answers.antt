@@ -1,4 +1,5 @@
-use Rattle.std.proofs.Common.{rules, ◌≡◌, ◌<◌, ◌≤◌, ◌+◌, ◌++◌, ◌∷◌, [], true, false, List, length, take, sym, refl, ap, subst, ◌∙◌, append_assoc, arith}
+use Rattle.std.proofs.Common.{rules, ◌≡◌, ◌<◌, ◌≤◌, ◌+◌, ◌++◌, ◌∷◌, [], true, false, List, length, take, sym, refl, ap, subst, ◌∙◌, append_assoc}
+use Rattle.std.proofs.Common.{arith}
 use Rattle.std.proofs.lemmas.List.{append-nil}
 use Rattle.fx_base.specs.declared.errno.Errno.TheVariants.{ECANCELED}
 use Rattle.fx_chain.specs.Completed.{Completed, completed_of, all_completed, refusal}
@@ -8,7 +9,8 @@ use Rattle.fx_chain.specs.Performs.{PlaysMembers, Performs, player}
 use Rattle.fx_chain.specs.declared.completion.Place.{Place}
 use Rattle.fx_chain.proofs.ActsInTurn.{so_nothing}
 use Rattle.fx_chain.proofs.Asking.{asked_more, asked_length, asked_all}
-use Rattle.fx_chain.proofs.ChainGoesOn.{any_severs, member_at, plays_next, cancels_next, severs_next, severed_next, installs_from, weights_from, within_at, completed_more}
+use Rattle.fx_chain.proofs.ChainGoesOn.{any_severs, member_at, plays_next, cancels_next, severs_next, severed_next, installs_from, weights_from}
+use Rattle.fx_chain.proofs.ChainGoesOn.{within_at, completed_more}
 use Rattle.fx_chain.proofs.player.run_chain.Goals as goal
 
 pub loop-i-init : goal.loop-i-init

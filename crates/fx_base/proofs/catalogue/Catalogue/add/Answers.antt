@@ -16,8 +16,12 @@ use Rattle.fx_base.proofs.catalogue.Catalogue.add.Goals as goal
 pub invariant_of-self-2 : goal.invariant_of-self-2
 invariant_of-self-2 c =
     let y : FileEntry = record { name = string_bytes c.args.name; bytes = c.args.bytes.items } in
-    let grown : file_entries_of c.push_reserved.new.self.items ≡ file_entries_of c.self.inside.entries.items ++ y ∷ [] = ap file_entries_of (c.push_reserved.ensures.items ∙ ap (λ (xs : List Entry). xs ++ record { name = c.args.name; bytes = c.args.bytes } ∷ []) c.reserve.ensures.items) ∙ map-append file_entry_of c.self.inside.entries.items _ in
-    let few : length (file_entries_of c.self.inside.entries.items) < 256 = let len = c.self.inside.entries.ok.0 in simp length-map (omega (arith, len)) in
+    let grown : file_entries_of c.push_reserved.new.self.items ≡ file_entries_of c.self.inside.entries.items ++ y ∷ [] =
+    ap file_entries_of (c.push_reserved.ensures.items
+    ∙ ap (λ (xs : List Entry). xs ++ record { name = c.args.name; bytes = c.args.bytes } ∷ []) c.reserve.ensures.items)
+    ∙ map-append file_entry_of c.self.inside.entries.items _ in
+    let few : length (file_entries_of c.self.inside.entries.items) < 256 = let len = c.self.inside.entries.ok.0 in
+    simp length-map (omega (arith, len)) in
     let small : length c.args.bytes.items ≤ 4096 = search rules in
     let new : has_name (string_bytes c.args.name) (file_entries_of c.self.inside.entries.items) ≡ false = search rules in
     let named : is_name (string_bytes c.args.name) ≡ true = search rules in

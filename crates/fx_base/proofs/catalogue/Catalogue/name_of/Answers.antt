@@ -8,7 +8,8 @@ use Rattle.fx_base.proofs.catalogue.Catalogue.name_of.Goals as goal
 
 pub returns-clause-name : goal.returns-clause-name
 returns-clause-name c =
-    let same : length c.self.inside.entries.items ≡ length c.args.self.now = sym (length-map c.self.inside.entries.items file_entry_of) ∙ ap length c.self.view_is in
+    let same : length c.self.inside.entries.items ≡ length c.args.self.now = sym (length-map c.self.inside.entries.items file_entry_of)
+    ∙ ap length c.self.view_is in
     let asked = c.requires in
     let inside : c.args.entry < length c.self.inside.entries.items = omega arith in
     let read = read_at c.self.inside.entries.items c.args.entry c.index.result.now c.self.invariant.0 inside c.index.ensures in

@@ -7,7 +7,8 @@ use Rattle.fx_base.proofs.catalogue.Catalogue.size_of.Goals as goal
 
 pub returns-clause-value : goal.returns-clause-value
 returns-clause-value c =
-    let same : length c.self.inside.entries.items ≡ length c.args.self.now = sym (length-map c.self.inside.entries.items file_entry_of) ∙ ap length c.self.view_is in
+    let same : length c.self.inside.entries.items ≡ length c.args.self.now = sym (length-map c.self.inside.entries.items file_entry_of)
+    ∙ ap length c.self.view_is in
     let asked = c.requires in
     let inside : c.args.entry < length c.self.inside.entries.items = omega arith in
     let read = read_at c.self.inside.entries.items c.args.entry c.index.result.now c.self.invariant.0 inside c.index.ensures in
@@ -15,7 +16,8 @@ returns-clause-value c =
 
 pub returns-clause-small : goal.returns-clause-small
 returns-clause-small c =
-    let same : length c.self.inside.entries.items ≡ length c.args.self.now = sym (length-map c.self.inside.entries.items file_entry_of) ∙ ap length c.self.view_is in
+    let same : length c.self.inside.entries.items ≡ length c.args.self.now = sym (length-map c.self.inside.entries.items file_entry_of)
+    ∙ ap length c.self.view_is in
     let asked = c.requires in
     let inside : c.args.entry < length c.self.inside.entries.items = omega arith in
     let small = (read_at c.self.inside.entries.items c.args.entry c.index.result.now c.self.invariant.0 inside c.index.ensures).small in
@@ -24,7 +26,8 @@ returns-clause-small c =
 
 pub overflow_cast-result : goal.overflow_cast-result
 overflow_cast-result c =
-    let same : length c.self.inside.entries.items ≡ length c.args.self.now = sym (length-map c.self.inside.entries.items file_entry_of) ∙ ap length c.self.view_is in
+    let same : length c.self.inside.entries.items ≡ length c.args.self.now = sym (length-map c.self.inside.entries.items file_entry_of)
+    ∙ ap length c.self.view_is in
     let asked = c.requires in
     let inside : c.args.entry < length c.self.inside.entries.items = omega arith in
     let small = (read_at c.self.inside.entries.items c.args.entry c.index.result.now c.self.invariant.0 inside c.index.ensures).small in

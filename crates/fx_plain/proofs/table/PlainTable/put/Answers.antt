@@ -1,12 +1,11 @@
 use Rattle.std.proofs.Common.{rules, ◌≡◌, ◌<◌, ◌+◌, Some, None, true, subst, sym, List, length, slice_set, IsSome, arith}
 use Rattle.fx_plain.specs.declared.event.Action.TheVariants.{Put}
-use Rattle.fx_plain.specs.Step.{Steps}
-use Rattle.fx_plain.specs.Contents.{Contents, IsTable, IsCounted, state_of, leaving, node_at, is_fresh, file_in, At}
+use Rattle.fx_plain.specs.Contents.{Contents, IsTable, IsCounted, state_of, node_at, is_fresh, file_in, At}
 use Rattle.fx_plain.specs.declared.node.Node.{Node}
-use Rattle.fx_plain.specs.Table.{numbered, more_leaving}
+use Rattle.fx_plain.specs.Table.{numbered, Removes}
 use Rattle.fx_plain.specs.contracts.table.PlainTable.{the_view}
 use Rattle.fx_plain.proofs.Writes.{has_file-At}
-use Rattle.fx_plain.proofs.Removals.{carried, seen_at, as_put_free, as_put_over, still_names, put_steps, put_leaving, put_keeps, put_free_counted, put_over_counted}
+use Rattle.fx_plain.proofs.Removals.{carried, seen_at, as_put_free, as_put_over, still_names, put_removes, put_keeps, put_free_counted, put_over_counted}
 use Rattle.fx_plain.proofs.table.PlainTable.put.Goals as goal
 
 pub overflow_add-self : goal.overflow_add-self
@@ -50,40 +49,20 @@ invariant_of-self-in-Some c =
     subst (λ (k : Contents). IsTable k × IsCounted k c.self.inside.full c.self.inside.held (c.self.inside.removed + 1)) (sym (as_put_over (the_view c.self.inside) c.args.slot c.args.number c.args.file c.self.invariant.0 inside fresh c.in-Some.old c.set_node.new.self c.leave.new.self at c.set_node.ensures c.leave.ensures))
     (put_keeps (the_view c.self.inside) c.args.slot c.args.number c.args.file c.self.invariant.0 inside fresh, (put_over_counted (the_view c.self.inside) c.args.slot c.args.number c.args.file c.self.invariant.0 inside fresh c.in-Some.old _ _ _ c.self.invariant.1 at).2)
 
-pub returns-in-None-clause-step : goal.returns-in-None-clause-step
-returns-in-None-clause-step c =
+pub returns-in-None : goal.returns-in-None
+returns-in-None c =
     let inside : c.args.slot < length c.self.inside.slots.items = search rules in
     let fresh : is_fresh (node_at c.self.inside.nodes c.args.number) ≡ true = search rules in
     let at = seen_at c.self.inside.slots.items c.args.slot None c.index-replaced.result.now None inside c.index-replaced.ensures c.in-None.is in
-    carried (λ k m. Steps (state_of k) (Put c.args.slot (numbered c.args.number c.args.file) ((state_of k).at c.args.slot)) (state_of m)) c.self.view_is
-    (as_put_free (the_view c.self.inside) c.args.slot c.args.number c.args.file c.self.invariant.0 inside fresh c.set_node.new.self at c.set_node.ensures) (put_steps (the_view c.self.inside) c.args.slot c.args.number c.args.file c.self.invariant.0 inside fresh)
+    carried (λ k m. let found = (state_of k).at c.args.slot in Removes k m (Put c.args.slot (numbered c.args.number c.args.file) found) found None)
+    c.self.view_is (as_put_free (the_view c.self.inside) c.args.slot c.args.number c.args.file c.self.invariant.0 inside fresh c.set_node.new.self at c.set_node.ensures)
+    (put_removes (the_view c.self.inside) c.args.slot c.args.number c.args.file c.self.invariant.0 inside fresh None at)
 
-pub returns-in-None-clause-leaving : goal.returns-in-None-clause-leaving
-returns-in-None-clause-leaving c =
-    let inside : c.args.slot < length c.self.inside.slots.items = search rules in
-    let fresh : is_fresh (node_at c.self.inside.nodes c.args.number) ≡ true = search rules in
-    let at = seen_at c.self.inside.slots.items c.args.slot None c.index-replaced.result.now None inside c.index-replaced.ensures c.in-None.is in
-    carried (λ k m. leaving m ≡ more_leaving (leaving k) ((state_of k).at c.args.slot)) c.self.view_is
-    (as_put_free (the_view c.self.inside) c.args.slot c.args.number c.args.file c.self.invariant.0 inside fresh c.set_node.new.self at c.set_node.ensures) (put_leaving (the_view c.self.inside) c.args.slot c.args.number c.args.file c.self.invariant.0 inside fresh)
-
-pub returns-in-Some-clause-step : goal.returns-in-Some-clause-step
-returns-in-Some-clause-step c =
+pub returns-in-Some : goal.returns-in-Some
+returns-in-Some c =
     let inside : c.args.slot < length c.self.inside.slots.items = search rules in
     let fresh : is_fresh (node_at c.self.inside.nodes c.args.number) ≡ true = search rules in
     let at = seen_at c.self.inside.slots.items c.args.slot None c.index-replaced.result.now (Some c.in-Some.old) inside c.index-replaced.ensures c.in-Some.is in
-    carried (λ k m. Steps (state_of k) (Put c.args.slot (numbered c.args.number c.args.file) ((state_of k).at c.args.slot)) (state_of m)) c.self.view_is
-    (as_put_over (the_view c.self.inside) c.args.slot c.args.number c.args.file c.self.invariant.0 inside fresh c.in-Some.old c.set_node.new.self c.leave.new.self at c.set_node.ensures c.leave.ensures) (put_steps (the_view c.self.inside) c.args.slot c.args.number c.args.file c.self.invariant.0 inside fresh)
-
-pub returns-in-Some-clause-leaving : goal.returns-in-Some-clause-leaving
-returns-in-Some-clause-leaving c =
-    let inside : c.args.slot < length c.self.inside.slots.items = search rules in
-    let fresh : is_fresh (node_at c.self.inside.nodes c.args.number) ≡ true = search rules in
-    let at = seen_at c.self.inside.slots.items c.args.slot None c.index-replaced.result.now (Some c.in-Some.old) inside c.index-replaced.ensures c.in-Some.is in
-    carried (λ k m. leaving m ≡ more_leaving (leaving k) ((state_of k).at c.args.slot)) c.self.view_is
-    (as_put_over (the_view c.self.inside) c.args.slot c.args.number c.args.file c.self.invariant.0 inside fresh c.in-Some.old c.set_node.new.self c.leave.new.self at c.set_node.ensures c.leave.ensures) (put_leaving (the_view c.self.inside) c.args.slot c.args.number c.args.file c.self.invariant.0 inside fresh)
-
-pub returns-in-None-clause-sound : goal.returns-in-None-clause-sound
-returns-in-None-clause-sound c = (invariant_of-self c).0
-
-pub returns-in-Some-clause-sound : goal.returns-in-Some-clause-sound
-returns-in-Some-clause-sound c = (invariant_of-self-in-Some c).0
+    carried (λ k m. let found = (state_of k).at c.args.slot in Removes k m (Put c.args.slot (numbered c.args.number c.args.file) found) found (Some c.in-Some.old))
+    c.self.view_is (as_put_over (the_view c.self.inside) c.args.slot c.args.number c.args.file c.self.invariant.0 inside fresh c.in-Some.old c.set_node.new.self c.leave.new.self at c.set_node.ensures c.leave.ensures)
+    (put_removes (the_view c.self.inside) c.args.slot c.args.number c.args.file c.self.invariant.0 inside fresh (Some c.in-Some.old) at)

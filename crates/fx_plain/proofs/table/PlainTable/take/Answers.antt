@@ -1,11 +1,10 @@
-use Rattle.std.proofs.Common.{rules, sym, ◌≡◌, ◌<◌, Some, None, subst, length, ◌+◌, ◌-◌, arith}
+use Rattle.std.proofs.Common.{rules, sym, ◌<◌, Some, None, subst, length, ◌+◌, ◌-◌, arith}
 use Rattle.fx_plain.specs.declared.event.Action.TheVariants.{Take}
-use Rattle.fx_plain.specs.Step.{Steps}
-use Rattle.fx_plain.specs.Contents.{Contents, IsTable, IsCounted, state_of, leaving}
-use Rattle.fx_plain.specs.Table.{more_leaving}
+use Rattle.fx_plain.specs.Contents.{Contents, IsTable, IsCounted, state_of}
+use Rattle.fx_plain.specs.Table.{Removes}
 use Rattle.fx_plain.specs.contracts.table.PlainTable.{the_view}
 use Rattle.fx_plain.proofs.Writes.{has_file-At}
-use Rattle.fx_plain.proofs.Removals.{carried, seen_at, as_taken, take_steps, take_leaving, take_keeps, taken_counted}
+use Rattle.fx_plain.proofs.Removals.{carried, seen_at, as_taken, take_removes, take_keeps, taken_counted}
 use Rattle.fx_plain.proofs.table.PlainTable.take.Goals as goal
 
 pub overflow_sub-self : goal.overflow_sub-self
@@ -36,21 +35,10 @@ invariant_of-self c =
     subst (λ (k : Contents). IsTable k × IsCounted k (c.self.inside.full - 1) c.self.inside.held (c.self.inside.removed + 1)) (sym same)
     (take_keeps (the_view c.self.inside) c.args.slot c.self.invariant.0 inside, (taken_counted (the_view c.self.inside) c.args.slot c.in_ok-number.number _ _ _ c.self.invariant.0 c.self.invariant.1 inside at).2)
 
-pub returns-clause-step : goal.returns-clause-step
-returns-clause-step c =
+pub returns : goal.returns
+returns c =
     let inside : c.args.slot < length c.self.inside.slots.items = search rules in
     let at = seen_at c.self.inside.slots.items c.args.slot None c.index.result.now (Some c.in_ok-number.number) inside c.index.ensures c.in_ok-number.was in
-    carried (λ k m. Steps (state_of k) (Take c.args.slot ((state_of k).at c.args.slot)) (state_of m)) c.self.view_is
-    (as_taken (the_view c.self.inside) c.args.slot c.in_ok-number.number c.leave.new.self at c.leave.ensures)
-    (take_steps (the_view c.self.inside) c.args.slot c.self.invariant.0 inside)
-
-pub returns-clause-leaving : goal.returns-clause-leaving
-returns-clause-leaving c =
-    let inside : c.args.slot < length c.self.inside.slots.items = search rules in
-    let at = seen_at c.self.inside.slots.items c.args.slot None c.index.result.now (Some c.in_ok-number.number) inside c.index.ensures c.in_ok-number.was in
-    carried (λ k m. leaving m ≡ more_leaving (leaving k) ((state_of k).at c.args.slot)) c.self.view_is
-    (as_taken (the_view c.self.inside) c.args.slot c.in_ok-number.number c.leave.new.self at c.leave.ensures)
-    (take_leaving (the_view c.self.inside) c.args.slot c.self.invariant.0)
-
-pub returns-clause-sound : goal.returns-clause-sound
-returns-clause-sound c = (invariant_of-self c).0
+    carried (λ k m. let found = (state_of k).at c.args.slot in Removes k m (Take c.args.slot found) found (Some c.in_ok-number.number))
+    c.self.view_is (as_taken (the_view c.self.inside) c.args.slot c.in_ok-number.number c.leave.new.self at c.leave.ensures)
+    (take_removes (the_view c.self.inside) c.args.slot (Some c.in_ok-number.number) c.self.invariant.0 inside at)
