@@ -6,6 +6,8 @@ use Rattle.fx_chain.specs.Runs.{runs_of}
 use Rattle.fx_chain.specs.Completed.{Completed, all_completed}
 use Rattle.fx_ring.specs.Outcomes.{HasRoomFor, outcome_of}
 use Rattle.fx_ring.proofs.Gathered.{IsNew, all_gathered, all_scattered, all_new, all_idle, as_many_passes, new_has_worked, new_has_room, runs_have_all, runs_weigh_all, runs_are_short}
+use Rattle.fx_ring.specs.Ring.{ring_with}
+use Rattle.fx_ring.specs.Submission.{IsOneHistory, Reported}
 use Rattle.fx_ring.specs.declared.worker.Worker.{Worker}
 use Rattle.fx_chain.specs.declared.completion.Completion.{Completion}
 use Rattle.fx_base.specs.CloseListView.{CloseListView}
@@ -97,9 +99,12 @@ returns-clause-played g c =
     let files : c.join.new.self.closes.files ≡ flat_map closed_by_worker (states V ws) =
     c.join.ensures.closes ∙ (ap (λ (l : CloseListView). l.files ++ flat_map files_of (reverse c.scatter.new.outcomes.items)) c.requires.room.all.closes
     ∙ files_joined V ws c.scatter.new.outcomes.items c.scatter.ensures.outcomes) in
-    one_history c.args.catalogue.now c.args.submissions asked o (states V ws) _ _ played (all_completed c.sort.new.self.completions.items) c.sort.new.self.closes
+    let one = one_history c.args.catalogue.now c.args.submissions asked o (states V ws) _ _ played
+    (all_completed c.sort.new.self.completions.items) c.sort.new.self.closes
     (runs_are_short asked c.args.chains.now c.requires.members c.requires.within)
     (subst (λ (l : List Completed). IsPermutation l (all_completed c.sort.new.self.completions.items)) completions c.sort.ensures.completions)
     c.sort.ensures.in_order
     (subst (λ (l : List Closed). IsPermutation l c.sort.new.self.closes.files) files c.sort.ensures.closes)
-    c.sort.ensures.in_order_of_mark
+    c.sort.ensures.in_order_of_mark in
+    λ registrations. subst (λ (r : Reported). IsOneHistory (ring_with c.args.catalogue.now o.contents c.args.submissions registrations) asked r
+    (ring_with c.args.catalogue.now c.close-left.result (c.args.submissions + 1) registrations)) (sym c.report.ensures) (one registrations)
