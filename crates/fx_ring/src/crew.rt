@@ -7,7 +7,9 @@ ghost use Rattle.fx_chain.specs.Completed.{all_completed};
 ghost use Rattle.fx_chain.specs.Operation.{all_asked};
 ghost use Rattle.fx_chain.specs.Weights.{all_weights};
 ghost use Rattle.fx_ring.specs.Outcomes.{HasRoomFor, HasRoomForCrew, outcome_of};
+ghost use Rattle.fx_ring.specs.Submission.{reported};
 
+use crate::report::Report;
 use crate::worker::Worker;
 use fx_base::{CloseList, NoMemory};
 use fx_chain::{Completion, Place, Request};
@@ -61,7 +63,8 @@ impl Outcome {
     ) -> Result<Vec<Outcome>, NoMemory>
         requires { IsAccepted (all_asked requests.now) }
         ensures count { IfOk result (λ outcomes. length outcomes.items ≡ workers) }
-        ensures room { IfOk result (λ outcomes. All (HasRoomFor (all_asked requests.now)) outcomes.items) }
+        ensures room { IfOk result (λ outcomes.
+            All (HasRoomFor (all_asked requests.now)) outcomes.items) }
     {
         let mut outcomes = Vec::with_capacity(alloc, workers as usize)?;
         for _ in 0..workers {
@@ -104,9 +107,28 @@ impl Outcome {
         self.completions.sort_unstable_by_key(|c| rank(c.place));
         self.closes.sort();
     }
+
+    /// The report of the submission that came to this.
+    pub(crate) fn report(self, submission: u32) -> Report
+        ensures { reported result ≡ record {
+          submission = submission;
+          completions = all_completed self.completions.items;
+          closes = self.closes;
+        } }
+    {
+        let Outcome {
+            completions,
+            closes,
+        } = self;
+        Report {
+            submission,
+            completions,
+            closes,
+        }
+    }
 }
 
-/// All that a submission takes memory for, the bytes of reads aside. It is no `Drop` where a pass is none.
+/// The lists that a submission fills, with their room. It is no `Drop` where a pass is none.
 pub(crate) struct Room<P> {
     pub(crate) crew: Vec<Worker<P>>,
     pub(crate) outcomes: Vec<Outcome>,

@@ -1,4 +1,4 @@
-//! The play of a submission.
+//! Submissions.
 ghost use Rattle.std.specs.Prelude.{◌≡◌, ◌<◌, ◌≤◌, ◌+◌, ℕ, length, All, map, IfSome, IfNone, IfOk, IfErr, OnErr, Err, IsOkUnless};
 ghost use Rattle.fx_plain.specs.State.{IsSettled};
 ghost use Rattle.fx_plain.specs.Contents.{state_of};
@@ -13,7 +13,7 @@ ghost use Rattle.fx_ring.specs.Ring.{AreEntries, ring_of, ring_with};
 ghost use Rattle.fx_ring.specs.Submission.{IsOneHistory, reported, submit_refusal};
 ghost use Rattle.fx_ring.specs.declared.report.SubmitFault.TheVariants.{NoMemory as Refused};
 
-use crate::crew::{Outcome, Room, gather, scatter};
+use crate::crew::{Room, gather, scatter};
 use crate::report::{Report, SubmitFault};
 use crate::ring::{MOST_SUBMISSIONS, Ring};
 use crate::worker::work_crew;
@@ -55,13 +55,13 @@ fn play_open<T: FileTable, R: Threads + Wait + Sync, G: Gate>(
         (all_asked requests.now) (reported result.1)
         (ring_with catalogue.now result.0 (submissions + 1) registrations) }
 {
-    let submission = submissions + 1;
     let Room {
         mut crew,
         mut outcomes,
         mut all,
     } = room;
     gather(&mut passes, &mut outcomes, &mut crew);
+    let submission = submissions + 1;
     work_crew(
         rt, alloc, &table, catalogue, submission, requests, chains, gate, &mut crew,
     );
@@ -70,18 +70,7 @@ fn play_open<T: FileTable, R: Threads + Wait + Sync, G: Gate>(
     let left = table.close(passes);
     all.join(outcomes);
     all.sort();
-    let Outcome {
-        completions,
-        closes,
-    } = all;
-    (
-        left,
-        Report {
-            submission,
-            completions,
-            closes,
-        },
-    )
+    (left, all.report(submission))
 }
 
 // Plays the requests on a table, as the next submission behind so many.
@@ -139,7 +128,8 @@ fn play<T: FileTable, R: Threads + Wait + Sync, G: Gate>(
 impl Ring {
     // Why a submission is refused, want of memory aside.
     fn submit_refusal(&self, requests: &[Request], workers: u32) -> Option<SubmitFault>
-        ensures value { result ≡ submit_refusal (ring_of self.now) (all_asked requests.now) workers }
+        ensures value { result
+            ≡ submit_refusal (ring_of self.now) (all_asked requests.now) workers }
         ensures accepted { IfNone result (IsAccepted (all_asked requests.now)) }
         ensures workers { IfNone result ((1 ≤ workers) × (workers ≤ MAX_PASSES)) }
         ensures few { IfNone result (self.now.submissions < MOST_SUBMISSIONS) }
@@ -156,21 +146,28 @@ impl Ring {
         None
     }
 
-    /// Plays the requests on the ring's table, by this many workers (io_uring_enter(2)). The requests that are linked
-    /// with each other make a chain, whose members start one after another; chains are played by whichever worker draws
-    /// them, each by one. Every worker is a thread of its own where one can be made, and one worker starts none; where
-    /// no thread can be made the workers play one after another, and the report says the same.
+    /// Plays a submission on the ring's table (io_uring_enter(2)). Requests that are linked with each other make a
+    /// chain, whose members start one after another; a request that isn't linked is a chain of its own. Each worker draws
+    /// a chain, plays it and draws the next one, and every chain is played once. Which table `T` the workers share, and
+    /// how many they are, makes no difference to what is said here; there are no more of them than chains.
     ///
-    /// The completions of the report are those that some sequential table would give, in one legal history of its
-    /// steps, in which each chain makes its own steps in order, and which leaves the files of the ring afterwards. The
-    /// report has a completion for each request and each file that was closed, once.
+    /// The workers are threads where threads can be made, and else they work one after another, with a report of which
+    /// the same holds. One worker starts no thread. The gate is called in front of each request that starts, and behind
+    /// its completion.
     ///
-    /// The gate is called in front of each request that starts and behind its completion.
+    /// The report and the table afterwards are those of one history of a table of one thread, which goes on from the files
+    /// of the ring. The completions of each chain are explained by the steps of its own members, in their order; there is
+    /// one for each request, in order of place. The closes are the files that the history closed, in order of mark, and
+    /// all of them are of the catalogue.
+    ///
+    /// The submission is counted, also where each of its requests fails. The catalogue, the size, the range and the count
+    /// of the registrations stay as they are.
     ///
     /// # Errors
-    /// In this order: `Workers` where there are not 1 to [`MAX_PASSES`] of them, `Cut` with the first request that has a
-    /// fault ([`check`]), `TooMany` after 65,535 accepted submissions, and `NoMemory` where memory is refused, before
-    /// any request starts. The ring has then the files, the size, the range and the counts that it had.
+    /// In this order: `Workers` where there are not 1 to [`MAX_PASSES`], `Cut` with the first request that has a fault
+    /// ([`fx_chain::check`]), `TooMany` after [`MOST_SUBMISSIONS`] accepted submissions, and `NoMemory` where memory is
+    /// refused. Then no request has started, and the ring has the files, the size, the range and the counts that it had.
+    /// Memory for the bytes of a read is taken while it is played: where that is refused, the read completes with ENOMEM.
     pub fn submit<T: FileTable, R: Threads + Wait + Sync, G: Gate>(
         &mut self,
         rt: &R,
@@ -185,7 +182,8 @@ impl Ring {
             (IsOkUnless result Refused) }
         ensures one_history { IfOk result (λ report.
             IsOneHistory self.old (all_asked requests.now) (reported report) self.new) }
-        ensures entries { IfOk result (λ report. AreEntries (ring_of self.new) report.closes.files) }
+        ensures entries { IfOk result (λ report.
+            AreEntries (ring_of self.new) report.closes.files) }
         ensures err { OnErr result (ring_of self.new ≡ ring_of self.old) }
     {
         if let Some(fault) = self.submit_refusal(requests, workers) {
