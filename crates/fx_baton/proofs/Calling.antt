@@ -11,13 +11,12 @@ use Rattle.fx_plain.specs.Contents.{Contents, IsTable, state_of, leaving}
 use Rattle.fx_plain.specs.History.{Leads, action_of, close_of, ◌▷◌, ◌▷▷◌}
 use Rattle.fx_plain.specs.Table.{numbered, identity_of, number_of, more_leaving, closed_by_release, closed_by_retirement, HasRoomForHold}
 use Rattle.fx_plain.specs.declared.event.File.{File}
-use Rattle.fx_plain.specs.declared.event.Action.{Action}
 use Rattle.fx_plain.specs.declared.event.Action.TheVariants.{Look, Release, Put, Clear, Take, Allocate, Full, Close}
 use Rattle.fx_plain.proofs.Leading.{same_size}
 use Rattle.fx_table.specs.Numbers.{pass_of_number}
 use Rattle.fx_table.specs.Opening.{Opening, size_of, state_at}
 use Rattle.fx_table.specs.Pass.{PassView, hold_of, retired_of, next_number}
-use Rattle.fx_table.specs.Calls.{Use, Adds, no_use, one_number, new_file, Releases, Retires, Placed, Cleared}
+use Rattle.fx_table.specs.Calls.{Adds, no_use, one_number, new_file, Releases, Retires, Placed, Cleared}
 use Rattle.fx_table.specs.declared.values.Doing.{Doing}
 use Rattle.fx_table.specs.declared.values.Doing.TheVariants.{Idle, Holding, Retiring}
 use Rattle.fx_table.specs.declared.values.Retired.{Retired}
@@ -26,13 +25,15 @@ use Rattle.fx_baton.specs.declared.view.Log.{Log}
 use Rattle.fx_baton.specs.declared.view.View.{View}
 use Rattle.fx_baton.specs.declared.view.Start.{Start}
 use Rattle.fx_baton.specs.declared.view.Call.{Call}
-use Rattle.fx_baton.specs.declared.view.Call.TheVariants.{Look as LookCall, Release as ReleaseCall, Put as PutCall, Allocate as AllocateCall, Full as FullCall, Clear as ClearCall, Take as TakeCall, Retire as RetireCall}
+use Rattle.fx_baton.specs.declared.view.Call.TheVariants.{Look as LookCall, Release as ReleaseCall, Put as PutCall, Allocate as AllocateCall}
+use Rattle.fx_baton.specs.declared.view.Call.TheVariants.{Full as FullCall, Clear as ClearCall, Take as TakeCall, Retire as RetireCall}
 use Rattle.fx_baton.specs.declared.pass.BatonPass.{BatonPass}
 use Rattle.fx_baton.specs.Rule.{opening_of, begin_of, holds_by, IsTurn}
-use Rattle.fx_baton.specs.Turns.{by, holds_now, retires_now, release_in, retirement_in, actions_of, doing_of, events_of, use_of, table_of_slots}
+use Rattle.fx_baton.specs.Turns.{holds_now, retires_now, release_in, retirement_in, actions_of, doing_of, events_of, use_of, table_of_slots}
 use Rattle.fx_baton.specs.Passes.{view_of, is_idle, HasTable, UsesNext, HasCalled}
 use Rattle.fx_baton.proofs.Counts.{one_if}
-use Rattle.fx_baton.proofs.CallsAreTurns.{look_turn, put_turn, clear_turn, take_turn, allocate_turn, full_turn, letting_go_turn, file_released, retire_turn, file_retired, is_held, is_leaving}
+use Rattle.fx_baton.proofs.CallsAreTurns.{look_turn, put_turn, clear_turn, take_turn, allocate_turn, full_turn, letting_go_turn, file_released}
+use Rattle.fx_baton.proofs.CallsAreTurns.{retire_turn, file_retired, is_held, is_leaving}
 
 -- what the seat has in its slot
 pub lent_is : {l : List (ℕ × Contents)} {c now : Contents} {others : List (ℕ × Contents)} → l ≡ (0, c) ∷ [] → l ≡ (0, now) ∷ others → c ≡ now
