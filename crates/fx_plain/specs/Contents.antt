@@ -143,6 +143,14 @@ abbrev pub opening_slot : Option ℕ → ℕ → Option ℕ
 opening_slot None slot = None
 opening_slot (Some number) slot = Some slot
 
+-- each slot has its own number now, and its file stands in the node of that number
+pub record IsRenumbered (slots : List (Option ℕ)) (nodes : List Node) (new : List (Option ℕ)) (moved : List Node) : Type 0 where
+  pub same_size : length new ≡ length slots
+  pub count : length moved ≡ length slots
+  pub named : (slot : ℕ) → slot < length slots → slot_at new slot ≡ opening_slot (slot_at slots slot) slot
+  pub filed : (slot : ℕ) → slot < length slots → node_at moved slot ≡ moved_node (file_named nodes (slot_at slots slot)) slot
+  pub same_full : total file_count_of new ≡ total file_count_of slots
+
 -- the nodes, without the file that a slot names
 abbrev pub nodes_without : List Node → Option ℕ → List Node
 nodes_without nodes None = nodes
