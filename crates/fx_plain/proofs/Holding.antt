@@ -10,7 +10,7 @@ use Rattle.fx_plain.specs.History.{Leads, close_of, ◌▷◌, ◌▷▷◌}
 use Rattle.fx_plain.specs.Contents.{Contents, IsTable, IsCounted, state_of, slot_at, node_at, file_at, placed_at, leaving, removed_at, is_fresh}
 use Rattle.fx_plain.specs.Contents.{is_leaving, is_retired, file_in, node_after_retirement, removed_count_of, itself, Fresh, At, Leaving, Retired}
 use Rattle.fx_plain.specs.Contents.{Gone}
-use Rattle.fx_plain.specs.Table.{numbered, identity_of, closed_by_release, closed_by_retirement, HasRoomForHold, Releases}
+use Rattle.fx_plain.specs.Table.{numbered, identity_of, closed_by_release, closed_by_retirement, HasRoomForHold, EndsHold}
 use Rattle.fx_plain.specs.declared.node.Node.{Node}
 use Rattle.fx_plain.proofs.Cells.{by_equality, unchanged, written, inside_of}
 use Rattle.fx_plain.proofs.TotalLemmas.{total_set, total_below, total_one}
@@ -281,17 +281,17 @@ module _ (c : Contents) (n : ℕ) (t : IsTable c) (some_hold : 0 < slice_index c
       ((tt, subst (λ (k : ℕ). 0 < (state_of c).holds k) (sym same) some_hold), state_of-less f same)
 
   -- nothing comes out
-  stays : closed_by_release c n ≡ None → IsTable (held_less c n) → Releases c (held_less c n) n None
+  stays : closed_by_release c n ≡ None → IsTable (held_less c n) → EndsHold c (held_less c n) n None
   stays none sound =
       record { answer = sym (ap identity_of none); steps = stays_open none; numbers = refl; sound = sound; leaving = refl }
 
-  pub more_releases : (left : ℕ) → left + 1 ≡ slice_index c.holds n → left ≢ 0 → Releases c (held_less c n) n None
+  pub more_releases : (left : ℕ) → left + 1 ≡ slice_index c.holds n → left ≢ 0 → EndsHold c (held_less c n) n None
   more_releases left was some_left =
       stays (by_equality (slice_index c.holds n) 1 (λ b. (if b && not (leaving c n) then (state_of c).removed n else None) ≡ None)
       (λ one. absurd (omega arith)) (λ other. refl))
       (less_keeps (λ _. omega arith))
 
-  pub open_releases : is_retired (node_at c.nodes n) ≡ false → Releases c (held_less c n) n None
+  pub open_releases : is_retired (node_at c.nodes n) ≡ false → EndsHold c (held_less c n) n None
   open_releases unretired =
       stays (none_by_release n (slice_index c.holds n == 1) (node_at c.nodes n) unretired)
       (less_keeps (λ (closed : is_retired (node_at c.nodes n) ≡ true). let e : false ≡ true = sym unretired ∙ closed in cc))
@@ -363,7 +363,7 @@ module _ (c : Contents) (n : ℕ) (t : IsTable c) (some_hold : 0 < slice_index c
           omega arith);
     }
 
-    pub let_go_releases : (out : Option Closed) → out ≡ file_in (node_at c.nodes n) → Releases c let_go n out
+    pub let_go_releases : (out : Option Closed) → out ≡ file_in (node_at c.nodes n) → EndsHold c let_go n out
     let_go_releases out is =
         record { answer = is ∙ sym let_go_answers; steps = let_go_steps; numbers = refl; sound = let_go_keeps; leaving = let_go_leaving }
 

@@ -9,7 +9,7 @@ use Rattle.fx_plain.specs.Step.{Steps, changed_at, with_removed}
 use Rattle.fx_plain.specs.Contents.{Contents, IsTable, IsCounted, AllPlaced, state_of, slot_at, node_at, file_at, placed_at, leaving, removed_at}
 use Rattle.fx_plain.specs.Contents.{is_fresh, is_leaving, is_retired, node_after_removal, file_count_of, removed_count_of, Fresh, At, Leaving}
 use Rattle.fx_plain.specs.Contents.{Retired, Gone}
-use Rattle.fx_plain.specs.Table.{numbered, number_of, more_leaving, Removes}
+use Rattle.fx_plain.specs.Table.{numbered, number_of, more_leaving, LetsLeave}
 use Rattle.fx_plain.specs.Totals.{total}
 use Rattle.fx_plain.specs.declared.node.Node.{Node}
 use Rattle.fx_plain.proofs.Cells.{by_equality, written, unchanged}
@@ -158,7 +158,7 @@ take_keeps c slot t inside = record {
 }
 
 pub take_removes : (c : Contents) (slot : ℕ) (found : Option ℕ) → IsTable c → slot < length c.slots → slot_at c.slots slot ≡ found
-    → Removes c (taken c slot) (Take slot ((state_of c).at slot)) ((state_of c).at slot) found
+    → LetsLeave c (taken c slot) (Take slot ((state_of c).at slot)) ((state_of c).at slot) found
 take_removes c slot found t inside at = record {
   answer = number_at c slot found t at;
   step = take_steps c slot t inside;
@@ -272,7 +272,7 @@ module _ (c : Contents) (slot n : ℕ) (file : Closed) (t : IsTable c) (inside :
   }
 
   pub put_removes : (found : Option ℕ) → slot_at c.slots slot ≡ found
-      → Removes c (put_at c slot n file) (Put slot (numbered n file) ((state_of c).at slot)) ((state_of c).at slot) found
+      → LetsLeave c (put_at c slot n file) (Put slot (numbered n file) ((state_of c).at slot)) ((state_of c).at slot) found
   put_removes found at =
       record { answer = number_at c slot found t at; step = put_steps; numbers = refl; sound = put_keeps; leaving = put_leaving }
 

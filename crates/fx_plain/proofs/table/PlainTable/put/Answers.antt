@@ -2,7 +2,7 @@ use Rattle.std.proofs.Common.{rules, ◌≡◌, ◌<◌, ◌+◌, Some, None, tr
 use Rattle.fx_plain.specs.declared.event.Action.TheVariants.{Put}
 use Rattle.fx_plain.specs.Contents.{Contents, IsTable, IsCounted, state_of, node_at, is_fresh, file_in, At}
 use Rattle.fx_plain.specs.declared.node.Node.{Node}
-use Rattle.fx_plain.specs.Table.{numbered, Removes}
+use Rattle.fx_plain.specs.Table.{numbered, LetsLeave}
 use Rattle.fx_plain.specs.contracts.table.PlainTable.{the_view}
 use Rattle.fx_plain.proofs.Writes.{has_file-At}
 use Rattle.fx_plain.proofs.Removals.{carried, seen_at, as_put_free, as_put_over, still_names, put_removes, put_keeps, put_free_counted}
@@ -70,7 +70,7 @@ returns-in-None c =
     let inside : c.args.slot < length c.self.inside.slots.items = search rules in
     let fresh : is_fresh (node_at c.self.inside.nodes c.args.number) ≡ true = search rules in
     let at = seen_at c.self.inside.slots.items c.args.slot None c.index-replaced.result.now None inside c.index-replaced.ensures c.in-None.is in
-    carried (λ k m. let found = (state_of k).at c.args.slot in Removes k m (Put c.args.slot (numbered c.args.number c.args.file) found) found None)
+    carried (λ k m. let found = (state_of k).at c.args.slot in LetsLeave k m (Put c.args.slot (numbered c.args.number c.args.file) found) found None)
     c.self.view_is (as_put_free
     (the_view c.self.inside) c.args.slot c.args.number c.args.file c.self.invariant.0 inside fresh c.set_node.new.self at c.set_node.ensures)
     (put_removes (the_view c.self.inside) c.args.slot c.args.number c.args.file c.self.invariant.0 inside fresh None at)
@@ -82,7 +82,7 @@ returns-in-Some c =
     let at = seen_at c.self.inside.slots.items c.args.slot None c.index-replaced.result.now
     (Some c.in-Some.old) inside c.index-replaced.ensures c.in-Some.is in
     carried (λ k m. let found = (state_of k).at c.args.slot in
-    Removes k m (Put c.args.slot (numbered c.args.number c.args.file) found) found (Some c.in-Some.old))
+    LetsLeave k m (Put c.args.slot (numbered c.args.number c.args.file) found) found (Some c.in-Some.old))
     c.self.view_is (as_put_over
     (the_view c.self.inside) c.args.slot c.args.number c.args.file c.self.invariant.0 inside fresh c.in-Some.old c.set_node.new.self
     c.leave.new.self at c.set_node.ensures c.leave.ensures)

@@ -1,6 +1,6 @@
 use Rattle.std.proofs.Common.{rules, sym, ◌∙◌, ◌≡◌, ◌<◌, ◌-◌, true, false, None, subst, slice_index, arith}
 use Rattle.fx_plain.specs.Contents.{Contents, IsTable, IsCounted, node_at, is_retired}
-use Rattle.fx_plain.specs.Table.{Releases}
+use Rattle.fx_plain.specs.Table.{EndsHold}
 use Rattle.fx_plain.specs.contracts.table.PlainTable.{the_view}
 use Rattle.fx_plain.proofs.Writes.{has_file-retired}
 use Rattle.fx_plain.proofs.Removals.{carried}
@@ -58,7 +58,7 @@ returns c =
     let closed : is_retired (node_at c.self.inside.nodes c.args.number) ≡ true = sym c.is_retired.ensures ∙ c.if-not-is_retired.false in
     let last : slice_index c.self.inside.holds c.args.number ≡ 1 = let left = c.end_hold-left.ensures.left in let zero_left = c.if-left-ne0.false in
     omega arith in
-    carried (λ k m. Releases k m c.args.number c.take_file.result) c.self.view_is
+    carried (λ k m. EndsHold k m c.args.number c.take_file.result) c.self.view_is
     (λ i. record (the_view c.self.inside) { holds = c.end_hold-left.ensures.after i; nodes = c.take_file.ensures.after i })
     (let_go_releases (the_view c.self.inside) c.args.number c.self.invariant.0 some_hold last closed c.take_file.result c.take_file.ensures.answer)
 
@@ -68,7 +68,7 @@ take_file-requires c = has_file-retired (node_at c.self.inside.nodes c.args.numb
 pub returns-then-left-ne0 : goal.returns-then-left-ne0
 returns-then-left-ne0 c =
     let some_hold : 0 < slice_index c.self.inside.holds c.args.number = search rules in
-    carried (λ k m. Releases k m c.args.number None) c.self.view_is
+    carried (λ k m. EndsHold k m c.args.number None) c.self.view_is
     (with_holds (the_view c.self.inside) c.end_hold-left.new.self _ c.end_hold-left.ensures.after)
     (more_releases (the_view c.self.inside) c.args.number c.self.invariant.0 some_hold c.end_hold-left.result c.end_hold-left.ensures.left
     c.if-left-ne0.true)
@@ -77,6 +77,6 @@ pub returns-then-not-is_retired : goal.returns-then-not-is_retired
 returns-then-not-is_retired c =
     let some_hold : 0 < slice_index c.self.inside.holds c.args.number = search rules in
     let unretired : is_retired (node_at c.self.inside.nodes c.args.number) ≡ false = sym c.is_retired.ensures ∙ c.if-not-is_retired.true in
-    carried (λ k m. Releases k m c.args.number None) c.self.view_is
+    carried (λ k m. EndsHold k m c.args.number None) c.self.view_is
     (with_holds (the_view c.self.inside) c.end_hold-left.new.self _ c.end_hold-left.ensures.after)
     (open_releases (the_view c.self.inside) c.args.number c.self.invariant.0 some_hold unretired)

@@ -1,7 +1,7 @@
 use Rattle.std.proofs.Common.{rules, sym, ◌<◌, Some, None, subst, length, ◌+◌, ◌-◌, arith}
 use Rattle.fx_plain.specs.declared.event.Action.TheVariants.{Take}
 use Rattle.fx_plain.specs.Contents.{Contents, IsTable, IsCounted, state_of}
-use Rattle.fx_plain.specs.Table.{Removes}
+use Rattle.fx_plain.specs.Table.{LetsLeave}
 use Rattle.fx_plain.specs.contracts.table.PlainTable.{the_view}
 use Rattle.fx_plain.proofs.Writes.{has_file-At}
 use Rattle.fx_plain.proofs.Removals.{carried, seen_at, as_taken, take_removes, take_keeps, taken_counted}
@@ -46,6 +46,6 @@ returns c =
     let inside : c.args.slot < length c.self.inside.slots.items = search rules in
     let at = seen_at c.self.inside.slots.items c.args.slot None c.index.result.now
     (Some c.in_ok-number.number) inside c.index.ensures c.in_ok-number.was in
-    carried (λ k m. let found = (state_of k).at c.args.slot in Removes k m (Take c.args.slot found) found (Some c.in_ok-number.number))
+    carried (λ k m. let found = (state_of k).at c.args.slot in LetsLeave k m (Take c.args.slot found) found (Some c.in_ok-number.number))
     c.self.view_is (as_taken (the_view c.self.inside) c.args.slot c.in_ok-number.number c.leave.new.self at c.leave.ensures)
     (take_removes (the_view c.self.inside) c.args.slot (Some c.in_ok-number.number) c.self.invariant.0 inside at)
