@@ -9,15 +9,14 @@ use Rattle.fx_plain.specs.State.{State}
 use Rattle.fx_plain.specs.Step.{Steps, Allows, changed_at}
 use Rattle.fx_plain.specs.Contents.{Contents, IsTable, state_of, leaving}
 use Rattle.fx_plain.specs.History.{Leads, action_of, close_of, ◌▷◌, ◌▷▷◌}
-use Rattle.fx_plain.specs.Table.{numbered, identity_of, number_of, more_leaving, closed_by_release, closed_by_retirement, HasRoomForHold}
+use Rattle.fx_plain.specs.Table.{numbered, identity_of, number_of, closed_by_release, closed_by_retirement, HasRoomForHold, EndsHold, LetsLeave}
 use Rattle.fx_plain.specs.declared.event.File.{File}
-use Rattle.fx_plain.specs.declared.event.Action.{Action}
 use Rattle.fx_plain.specs.declared.event.Action.TheVariants.{Look, Release, Put, Clear, Take, Allocate, Full, Close}
 use Rattle.fx_plain.proofs.Leading.{same_size}
 use Rattle.fx_table.specs.Numbers.{pass_of_number}
 use Rattle.fx_table.specs.Opening.{Opening, size_of, state_at}
 use Rattle.fx_table.specs.Pass.{PassView, hold_of, retired_of, next_number}
-use Rattle.fx_table.specs.Calls.{Use, Adds, no_use, one_number, new_file, Releases, Retires, Placed, Cleared}
+use Rattle.fx_table.specs.Calls.{Adds, no_use, one_number, new_file, Releases, Retires, Placed, Cleared}
 use Rattle.fx_table.specs.declared.values.Doing.{Doing}
 use Rattle.fx_table.specs.declared.values.Doing.TheVariants.{Idle, Holding, Retiring}
 use Rattle.fx_table.specs.declared.values.Retired.{Retired}
@@ -26,13 +25,15 @@ use Rattle.fx_baton.specs.declared.view.Log.{Log}
 use Rattle.fx_baton.specs.declared.view.View.{View}
 use Rattle.fx_baton.specs.declared.view.Start.{Start}
 use Rattle.fx_baton.specs.declared.view.Call.{Call}
-use Rattle.fx_baton.specs.declared.view.Call.TheVariants.{Look as LookCall, Release as ReleaseCall, Put as PutCall, Allocate as AllocateCall, Full as FullCall, Clear as ClearCall, Take as TakeCall, Retire as RetireCall}
+use Rattle.fx_baton.specs.declared.view.Call.TheVariants.{Look as LookCall, Release as ReleaseCall, Put as PutCall, Allocate as AllocateCall}
+use Rattle.fx_baton.specs.declared.view.Call.TheVariants.{Full as FullCall, Clear as ClearCall, Take as TakeCall, Retire as RetireCall}
 use Rattle.fx_baton.specs.declared.pass.BatonPass.{BatonPass}
 use Rattle.fx_baton.specs.Rule.{opening_of, begin_of, holds_by, IsTurn}
-use Rattle.fx_baton.specs.Turns.{by, holds_now, retires_now, release_in, retirement_in, actions_of, doing_of, events_of, use_of, table_of_slots}
+use Rattle.fx_baton.specs.Turns.{holds_now, retires_now, release_in, retirement_in, actions_of, doing_of, events_of, use_of, table_of_slots}
 use Rattle.fx_baton.specs.Passes.{view_of, is_idle, HasTable, UsesNext, HasCalled}
 use Rattle.fx_baton.proofs.Counts.{one_if}
-use Rattle.fx_baton.proofs.CallsAreTurns.{look_turn, put_turn, clear_turn, take_turn, allocate_turn, full_turn, letting_go_turn, file_released, retire_turn, file_retired, is_held, is_leaving}
+use Rattle.fx_baton.proofs.CallsAreTurns.{look_turn, put_turn, clear_turn, take_turn, allocate_turn, full_turn, letting_go_turn, file_released}
+use Rattle.fx_baton.proofs.CallsAreTurns.{retire_turn, file_retired, is_held, is_leaving}
 
 -- what the seat has in its slot
 pub lent_is : {l : List (ℕ × Contents)} {c now : Contents} {others : List (ℕ × Contents)} → l ≡ (0, c) ∷ [] → l ≡ (0, now) ∷ others → c ≡ now
@@ -178,15 +179,12 @@ module _ {id : TableId} {k : Start} {u : PassView} {c : Contents} {p : BatonPass
         (says ∙ look_idle ((state_of c).at slot) found answer)
 
     pub put_called : (some : 0 < u.numbers_left) (slot number : ℕ) (file : Closed) (d : Contents) (found : Option ℕ) (flag : Bool)
-        → number ≡ next_number u
-        → Steps (state_of c) (Put slot (numbered number file) ((state_of c).at slot)) (state_of d) → leaving d ≡ more_leaving (leaving c)
-        ((state_of c).at slot)
-        → found ≡ number_of ((state_of c).at slot) → flag ≡ is_none found → IsTable d → HasCalled id k (PutCall slot number file) flag
-        (record p { seat = seat_with p.seat 0 d })
-    put_called some slot number file d found flag next step leaves answer says sound = called d (PutCall slot number file) flag sound
-        (put_turn view log c d p.chain h.knows is_idle_here slot (numbered number file) ((state_of c).at slot) step leaves
+        → number ≡ next_number u → LetsLeave c d (Put slot (numbered number file) ((state_of c).at slot)) ((state_of c).at slot) found
+        → flag ≡ is_none found → HasCalled id k (PutCall slot number file) flag (record p { seat = seat_with p.seat 0 d })
+    put_called some slot number file d found flag next l says = called d (PutCall slot number file) flag l.sound
+        (put_turn view log c d p.chain h.knows is_idle_here slot (numbered number file) ((state_of c).at slot) l.step l.leaving
         (owned some number next) (behind_own some number next))
-        (number_is some number next) (let e = same_numbers in omega arith) (omega arith) (says ∙ removal_idle ((state_of c).at slot) found answer)
+        (number_is some number next) (let e = same_numbers in omega arith) (omega arith) (says ∙ removal_idle ((state_of c).at slot) found l.answer)
 
     pub allocate_called : (some : 0 < u.numbers_left) (slot number : ℕ) (file : Closed) (d : Contents) → number ≡ next_number u
         → Steps (state_of c) (Allocate slot (numbered number file)) (state_of d) → leaving d ≡ leaving c
@@ -202,19 +200,18 @@ module _ {id : TableId} {k : Start} {u : PassView} {c : Contents} {p : BatonPass
         (full_turn view log c d p.chain h.knows is_idle_here (full, ap state_of same) (ap leaving same)) tt (omega arith) (omega arith) refl
 
     pub clear_called : (slot : ℕ) (d : Contents) (found : Option ℕ) (flag : Bool)
-        → Steps (state_of c) (Clear slot ((state_of c).at slot)) (state_of d)
-        → leaving d ≡ more_leaving (leaving c) ((state_of c).at slot) → found ≡ number_of ((state_of c).at slot) → flag ≡ is_none found
-        → IsTable d → HasCalled id k (ClearCall slot) flag (record p { seat = seat_with p.seat 0 d })
-    clear_called slot d found flag step leaves answer says sound = called d (ClearCall slot) flag sound
-        (clear_turn view log c d p.chain h.knows is_idle_here slot ((state_of c).at slot) step leaves) tt (omega arith) (omega arith)
-        (says ∙ removal_idle ((state_of c).at slot) found answer)
+        → LetsLeave c d (Clear slot ((state_of c).at slot)) ((state_of c).at slot) found → flag ≡ is_none found
+        → HasCalled id k (ClearCall slot) flag (record p { seat = seat_with p.seat 0 d })
+    clear_called slot d found flag l says = called d (ClearCall slot) flag l.sound
+        (clear_turn view log c d p.chain h.knows is_idle_here slot ((state_of c).at slot) l.step l.leaving) tt (omega arith) (omega arith)
+        (says ∙ removal_idle ((state_of c).at slot) found l.answer)
 
-    pub take_called : (slot : ℕ) (d : Contents) (found : Option ℕ) (flag : Bool) → Steps (state_of c) (Take slot ((state_of c).at slot)) (state_of d)
-        → leaving d ≡ more_leaving (leaving c) ((state_of c).at slot) → found ≡ number_of ((state_of c).at slot) → flag ≡ is_none found
-        → IsTable d → HasCalled id k (TakeCall slot) flag (record p { seat = seat_with p.seat 0 d })
-    take_called slot d found flag step leaves answer says sound = called d (TakeCall slot) flag sound
-        (take_turn view log c d p.chain h.knows is_idle_here slot ((state_of c).at slot) step leaves) tt (omega arith) (omega arith)
-        (says ∙ removal_idle ((state_of c).at slot) found answer)
+    pub take_called : (slot : ℕ) (d : Contents) (found : Option ℕ) (flag : Bool)
+        → LetsLeave c d (Take slot ((state_of c).at slot)) ((state_of c).at slot) found → flag ≡ is_none found
+        → HasCalled id k (TakeCall slot) flag (record p { seat = seat_with p.seat 0 d })
+    take_called slot d found flag l says = called d (TakeCall slot) flag l.sound
+        (take_turn view log c d p.chain h.knows is_idle_here slot ((state_of c).at slot) l.step l.leaving) tt (omega arith) (omega arith)
+        (says ∙ removal_idle ((state_of c).at slot) found l.answer)
 
   module _ (f : File) (holds : u.doing ≡ Holding f) where
     holds_here : view.doing ≡ Holding f
@@ -223,12 +220,11 @@ module _ {id : TableId} {k : Start} {u : PassView} {c : Contents} {p : BatonPass
     pub holds_some : 0 < (state_of c).holds f.number
     holds_some = let a = h.knows.holds f.number in let b = ap (holds_by f.number) holds_here in let r = one_if f.number f.number refl in omega arith
 
-    pub release_called : (d : Contents) → Leads (state_of c) ([] ▷ Release f ▷▷ close_of (closed_by_release c f.number)) (state_of d)
-        → leaving d ≡ leaving c
-        → IsTable d → HasCalled id k ReleaseCall true (record p { seat = seat_with p.seat 0 d })
-    release_called d leads leaves sound = called d ReleaseCall true sound
+    pub release_called : (d : Contents) (out : Option Closed) → EndsHold c d f.number out
+        → HasCalled id k ReleaseCall true (record p { seat = seat_with p.seat 0 d })
+    release_called d out e = called d ReleaseCall true e.sound
         (subst (λ (z : Doing). IsTurn view log c d (events_of c log.number p.chain z ReleaseCall) Idle) (sym holds_here)
-        (letting_go_turn view log c d p.chain h.knows f holds_here leads leaves)) tt (omega arith) (omega arith) refl
+        (letting_go_turn view log c d p.chain h.knows f holds_here (e.steps f refl) e.leaving)) tt (omega arith) (omega arith) refl
 
     -- what a release answers
     pub releases_so : (o : Opening) (w : PassView) (result : Option Closed) → result ≡ identity_of (closed_by_release c f.number)

@@ -1,14 +1,15 @@
 -- How often a pass stands among the logs of views, and what a pass's doing counts for.
-use Rattle.std.proofs.Common.{◌≡◌, ◌≢◌, ℕ, zero, suc, ◌+◌, ◌<◌, ◌≤◌, Bool, true, false, cond, List, [], ◌∷◌, ◌++◌, map, length, sym, refl, ap, ◌∙◌, subst, arith, eqb, eq-eqb, ne_eqb, ◌⊎◌, inl, inr, ⊎_elim}
+use Rattle.std.proofs.Common.{◌≡◌, ◌≢◌, ℕ, zero, suc, ◌+◌, ◌<◌, ◌≤◌, Bool, true, false, cond, List, [], ◌∷◌, map, length, refl, ap}
+use Rattle.std.proofs.Common.{arith, eqb, eq-eqb, ne_eqb, ◌⊎◌, inl, inr}
 use mathlib.Core.Logic.{dite}
 use native.Mathlib.Decide.{ℕ_discrete, dec_lt}
-use Rattle.std.specs.Prelude.{Option, Some, None, Contains}
+use Rattle.std.specs.Prelude.{Some, None, Contains}
 use Rattle.std.proofs.lemmas.List.Sums.{sum_by-cons}
 use Rattle.fx_plain.specs.declared.event.File.{File}
 use Rattle.fx_plain.specs.declared.event.Event.{Event}
 use Rattle.fx_table.specs.declared.values.Doing.{Doing}
 use Rattle.fx_table.specs.declared.values.Doing.TheVariants.{Idle, Holding, Retiring}
-use Rattle.fx_table.proofs.Members.{contains_none, contains_head, contains_tail, contains_cases}
+use Rattle.fx_table.proofs.Members.{contains_head, contains_tail}
 use Rattle.fx_table.proofs.SumLemmas.{sum_of}
 use Rattle.fx_baton.specs.declared.view.Log.{Log}
 use Rattle.fx_baton.specs.Rule.{logs_of, new_log, new_logs, file_in_hand, holds_by, removals_by, log_behind}

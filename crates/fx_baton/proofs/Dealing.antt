@@ -4,9 +4,6 @@ use mathlib.Core.List.{map-append}
 use Rattle.atomic_table.specs.Seated.{TableId}
 use Rattle.atomic_table.specs.declared.shared.Seat.{Seat}
 use Rattle.fx_plain.specs.Contents.{Contents}
-use Rattle.fx_plain.specs.History.{IsLegal, part_of_pass}
-use Rattle.fx_plain.specs.declared.event.Event.{Event}
-use Rattle.fx_table.specs.Opening.{state_at}
 use Rattle.fx_table.specs.Pass.{PassView, IsFront, new_pass, new_passes, new_passes_from}
 use Rattle.fx_table.specs.Turns.{HasDrawnInTurn}
 use Rattle.fx_table.specs.declared.values.Doing.TheVariants.{Idle}
@@ -14,7 +11,7 @@ use Rattle.fx_baton.specs.declared.view.Log.{Log}
 use Rattle.fx_baton.specs.declared.view.View.{View}
 use Rattle.fx_baton.specs.declared.view.Start.{Start}
 use Rattle.fx_baton.specs.declared.pass.BatonPass.{BatonPass}
-use Rattle.fx_baton.specs.Rule.{Seated, opening_of, begin_of, new_log, new_logs, rest_of, first_of, view_without_first, view_of_first}
+use Rattle.fx_baton.specs.Rule.{Seated, opening_of, new_log, new_logs, rest_of, first_of, view_without_first, view_of_first}
 use Rattle.fx_table.specs.Numbers.{chains_of_pass}
 use Rattle.fx_baton.specs.Passes.{first_front, first_own, view_of, is_idle, IsPassOf}
 use Rattle.fx_baton.specs.Lives.{dealt, IsNewPass}

@@ -1,5 +1,5 @@
 -- A seat with one pass that has the table may give it back.
-use Rattle.std.proofs.Common.{◌≡◌, ◌≢◌, ℕ, ◌+◌, ◌<◌, true, List, [], ◌∷◌, ◌++◌, map, set, sym, refl, ap, ◌∙◌, subst, eqb, inl, inr, ⊎_elim, ◌⊎◌}
+use Rattle.std.proofs.Common.{◌≡◌, ◌≢◌, ℕ, ◌+◌, ◌<◌, true, List, [], ◌∷◌, ◌++◌, map, set, sym, refl, ap, ◌∙◌, subst, inl, inr, ⊎_elim, ◌⊎◌}
 use Rattle.std.proofs.lemmas.List.{length-map}
 use mathlib.Core.Logic.{dite}
 use native.Mathlib.Decide.{ℕ_discrete}
@@ -18,7 +18,8 @@ use Rattle.fx_baton.specs.declared.view.View.{View}
 use Rattle.fx_baton.specs.declared.view.Start.{Start}
 use Rattle.fx_table.specs.Numbers.{pass_of_number}
 use Rattle.fx_table.specs.Files.{HasFile}
-use Rattle.fx_baton.specs.Rule.{Shared, Seated, begin_of, holds_by, removals_by, leaving_count, HasFreshNumbers, IsLog, IsHome, IsAway, IsKept, log_behind, view_behind, Gives, IsTurn}
+use Rattle.fx_baton.specs.Rule.{Shared, Seated, begin_of, holds_by, removals_by, leaving_count, HasFreshNumbers, IsLog, IsHome, IsAway, IsKept}
+use Rattle.fx_baton.specs.Rule.{log_behind, view_behind, Gives, IsTurn}
 use Rattle.fx_table.proofs.Histories.{part_mine}
 use Rattle.fx_baton.proofs.Counts.{logs_behind}
 use Rattle.fx_baton.proofs.StepsKeepRule.{Turns, keeps_rule}

@@ -3,7 +3,7 @@ use Rattle.std.proofs.Common.{◌≡◌, ℕ, zero, suc, ◌≤◌, ◌==◌, Li
 use mathlib.Core.Option.{some, none, some-ne-none}
 use prog.Atomic.{either}
 use lib.ListN.{get_elem?}
-use Rattle.std.specs.Prelude.{Some, None, Contains, sum_by}
+use Rattle.std.specs.Prelude.{None, Contains}
 use Rattle.atomic_table.specs.Table.{step, takes, keeps, Allows}
 use Rattle.atomic_table.proofs.Lists.{set_else, set_again}
 use Rattle.fx_plain.specs.Contents.{Contents, state_of}
@@ -15,7 +15,8 @@ use Rattle.fx_table.proofs.SumLemmas.{sum_at, sum_le_at}
 use Rattle.fx_baton.specs.declared.view.Log.{Log}
 use Rattle.fx_baton.specs.declared.view.View.{View}
 use Rattle.fx_baton.specs.declared.view.Start.{Start}
-use Rattle.fx_baton.specs.Rule.{Shared, Seated, begin_of, logs_of, holds_by, removals_by, leaving_count, HasFreshNumbers, IsLog, IsView, IsHome, IsAway, IsKept, Knows, lent_view, Takes, Grabs}
+use Rattle.fx_baton.specs.Rule.{Shared, Seated, begin_of, logs_of, holds_by, removals_by, HasFreshNumbers, IsLog, IsView, IsHome}
+use Rattle.fx_baton.specs.Rule.{IsAway, IsKept, Knows, lent_view, Grabs}
 use Rattle.fx_baton.proofs.Counts.{holds_small}
 use Rattle.fx_baton.proofs.StepsKeepRule.{Turns, keeps_rule}
 

@@ -24,11 +24,13 @@ use Rattle.fx_baton.specs.declared.view.Log.{Log}
 use Rattle.fx_baton.specs.declared.view.View.{View}
 use Rattle.fx_baton.specs.declared.view.Start.{Start}
 use Rattle.fx_baton.specs.declared.view.Call.{Call}
-use Rattle.fx_baton.specs.declared.view.Call.TheVariants.{Look as LookCall, Release as ReleaseCall, Put as PutCall, Allocate as AllocateCall, Full as FullCall, Clear as ClearCall, Take as TakeCall, Retire as RetireCall}
+use Rattle.fx_baton.specs.declared.view.Call.TheVariants.{Look as LookCall, Release as ReleaseCall, Put as PutCall, Allocate as AllocateCall}
+use Rattle.fx_baton.specs.declared.view.Call.TheVariants.{Full as FullCall, Clear as ClearCall, Take as TakeCall, Retire as RetireCall}
 use Rattle.fx_baton.specs.declared.pass.BatonPass.{BatonPass}
 use Rattle.fx_baton.specs.Rule.{Seated, opening_of, begin_of, Knows, Takes, log_behind, view_behind}
 use Rattle.fx_baton.specs.Turns.{by, actions_of, doing_of, use_of, events_of, table_of_slots, table_of_loan}
-use Rattle.fx_baton.specs.Passes.{first_front, first_own, view_of, is_idle, IsPassOf, HasTable, HasSeenMore, UsesNext, HasCalled, HasGivenBack, pass_behind}
+use Rattle.fx_baton.specs.Passes.{first_front, first_own, view_of, is_idle, IsPassOf, HasTable, HasSeenMore, UsesNext, HasCalled, HasGivenBack}
+use Rattle.fx_baton.specs.Passes.{pass_behind}
 
 -- a legal history leads to the state at its end
 pub ends_there : (k : Start) (h : List Event) (end : State) → IsLegal (begin_of k) h end → IsLegal (begin_of k) h (state_at (opening_of k) h)

@@ -16,7 +16,7 @@ use Rattle.fx_baton.specs.declared.view.Log.{Log}
 use Rattle.fx_baton.specs.declared.view.View.{View}
 use Rattle.fx_baton.specs.declared.view.Start.{Start}
 use Rattle.fx_baton.specs.declared.view.Call.{Call}
-use Rattle.fx_baton.specs.declared.view.Call.TheVariants.{Look as LookCall, Release as ReleaseCall, Put as PutCall, Allocate as AllocateCall, Full as FullCall, Clear as ClearCall, Take as TakeCall, Retire as RetireCall}
+use Rattle.fx_baton.specs.declared.view.Call.TheVariants.{Put as PutCall, Allocate as AllocateCall}
 use Rattle.fx_baton.specs.declared.pass.BatonPass.{BatonPass}
 use Rattle.fx_baton.specs.Rule.{opening_of, Knows, IsTurn}
 use Rattle.fx_baton.specs.Turns.{actions_of, doing_of, events_of, use_of, table_of_slots}
@@ -91,14 +91,9 @@ pub record HasTable (id : TableId) (k : Start) (u : PassView) (c d : Contents) (
 
 -- an installation uses the pass's next number
 abbrev pub UsesNext : PassView → Call → Type 0
-UsesNext v (LookCall slot) = Unit {0}
-UsesNext v ReleaseCall = Unit {0}
 UsesNext v (PutCall slot number file) = number ≡ next_number v
 UsesNext v (AllocateCall slot number file) = number ≡ next_number v
-UsesNext v FullCall = Unit {0}
-UsesNext v (ClearCall slot) = Unit {0}
-UsesNext v (TakeCall slot) = Unit {0}
-UsesNext v RetireCall = Unit {0}
+UsesNext v _ = Unit {0}
 
 -- a pass did this while it had the table
 pub record HasPlayed (id : TableId) (k : Start) (events : List Event) (doing : Doing) (p : BatonPass) : Type 0 where

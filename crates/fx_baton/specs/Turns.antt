@@ -11,8 +11,9 @@ use Rattle.fx_table.specs.Calls.{Use, no_use, one_look, one_number}
 use Rattle.fx_table.specs.declared.values.Doing.{Doing}
 use Rattle.fx_table.specs.declared.values.Doing.TheVariants.{Idle, Holding, Retiring}
 use Rattle.fx_baton.specs.declared.view.Call.{Call}
-use Rattle.fx_baton.specs.declared.view.Call.TheVariants.{Look as LookCall, Release as ReleaseCall, Put as PutCall, Allocate as AllocateCall, Full as FullCall, Clear as ClearCall, Take as TakeCall, Retire as RetireCall}
-use Rattle.fx_baton.specs.Rule.{Seated, empty_table}
+use Rattle.fx_baton.specs.declared.view.Call.TheVariants.{Look as LookCall, Release as ReleaseCall, Put as PutCall, Allocate as AllocateCall}
+use Rattle.fx_baton.specs.declared.view.Call.TheVariants.{Full as FullCall, Clear as ClearCall, Take as TakeCall, Retire as RetireCall}
+use Rattle.fx_baton.specs.Rule.{empty_table}
 
 -- an action and its author
 abbrev pub by : ℕ → ℕ → Action → Event
@@ -61,24 +62,17 @@ actions_of c doing RetireCall = retirement_in c doing
 -- what the pass does afterwards
 abbrev pub doing_of : Contents → Call → Doing
 doing_of c (LookCall slot) = holds_now ((state_of c).at slot)
-doing_of c ReleaseCall = Idle
 doing_of c (PutCall slot number file) = retires_now ((state_of c).at slot)
-doing_of c (AllocateCall slot number file) = Idle
-doing_of c FullCall = Idle
 doing_of c (ClearCall slot) = retires_now ((state_of c).at slot)
 doing_of c (TakeCall slot) = retires_now ((state_of c).at slot)
-doing_of c RetireCall = Idle
+doing_of c _ = Idle
 
 -- what a call uses up
 abbrev pub use_of : Call → Use
 use_of (LookCall slot) = one_look
-use_of ReleaseCall = no_use
 use_of (PutCall slot number file) = one_number
 use_of (AllocateCall slot number file) = one_number
-use_of FullCall = no_use
-use_of (ClearCall slot) = no_use
-use_of (TakeCall slot) = no_use
-use_of RetireCall = no_use
+use_of _ = no_use
 
 -- the events of a call
 abbrev pub events_of : Contents → ℕ → ℕ → Doing → Call → List Event

@@ -1,7 +1,8 @@
 -- What a request may answer, by the steps that it made on a table of some size. Of the cases of a request the first one
 -- that applies counts (io_uring_enter(2), io_uring_prep_openat(3), io_uring_prep_close(3),
 -- io_uring_register_files(3); the order of the cases is this project's own).
-use Rattle.std.specs.Prelude.{◌≡◌, ◌⊎◌, ℕ, zero, suc, ◌+◌, ◌<◌, ℤ, pos, negsuc, ◌==◌, ◌||◌, nat_le, nat_lt, Bool, List, [], ◌∷◌, length, Option, Some, None}
+use Rattle.std.specs.Prelude.{◌≡◌, ◌⊎◌, ℕ, zero, suc, ◌+◌, ◌<◌, ℤ, pos, negsuc, ◌==◌, ◌||◌, nat_le, nat_lt, Bool, List, [], ◌∷◌, length, Option, Some}
+use Rattle.std.specs.Prelude.{None}
 use Rattle.std.specs.Bool.{MatchBool}
 use Rattle.std.specs.List.{list_any}
 use Rattle.fx_base.specs.declared.errno.Errno.{Errno}

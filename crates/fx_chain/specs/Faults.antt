@@ -55,7 +55,8 @@ fault_of requests = first_fault [] requests
 
 -- no request has a fault behind those in front of it
 abbrev pub HasNoFault : List Asked → Type 0
-HasNoFault requests = (front : List Asked) (request : Asked) (behind : List Asked) → requests ≡ front ++ request ∷ behind → fault_behind front request ≡ None
+HasNoFault requests = (front : List Asked) (request : Asked) (behind : List Asked) → requests ≡ front ++ request ∷ behind
+    → fault_behind front request ≡ None
 
 -- a request with a fault, and no request in front of it has one
 pub record IsFirstFault (requests : List Asked) (fault : CutFault) : Type 0 where

@@ -16,5 +16,6 @@ by_one_pass actions = map (λ action. record { pass = 1; chain = 0; action = act
 -- the steps that explain the chains of a submission are a legal history of one pass: each release gives up what the
 -- look-up before it found
 abbrev pub ExplainedRunsAreLegal : Type 0
-ExplainedRunsAreLegal = (catalogue : List FileEntry) (size submission : ℕ) (runs : List (List Asked)) (events : List Action) (completions : List Completed) (start end : State)
+ExplainedRunsAreLegal = (catalogue : List FileEntry) (size submission : ℕ) (runs : List (List Asked)) (events : List Action)
+    (completions : List Completed) (start end : State)
     → Leads start events end → ExplainsRuns catalogue size submission 1 runs events completions → IsLegal start (by_one_pass events) end

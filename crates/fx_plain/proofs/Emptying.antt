@@ -1,11 +1,13 @@
 -- The files of the slots are closed, one slot after another.
-use Rattle.std.proofs.Common.{◌≡◌, ℕ, zero, suc, ◌+◌, ◌<◌, ◌≤◌, List, [], ◌++◌, length, length-append, add-one, refl, sym, ap, subst, ◌∙◌, slice_index_or, slice_set, Option, Some, None, arith, inl, inr}
+use Rattle.std.proofs.Common.{◌≡◌, ℕ, zero, suc, ◌+◌, ◌<◌, ◌≤◌, List, [], ◌++◌, length, length-append, add-one, refl, sym, ap, subst, ◌∙◌}
+use Rattle.std.proofs.Common.{slice_index_or, slice_set, Option, Some, None, arith, inl, inr}
 use Rattle.std.proofs.lemmas.List.{get_or-set_same, get_or-set_other, get_or_default}
 use Rattle.std.proofs.lemmas.Bool.{cases_lt}
 use Rattle.std.specs.Option.{option_to_list}
 use Rattle.fx_plain.specs.declared.event.File.{File}
 use Rattle.fx_plain.specs.State.{IsSettled, files_in_order, identities_of, vacant}
-use Rattle.fx_plain.specs.Contents.{Contents, IsTable, IsCounted, AllPlaced, SameButPlaced, state_of, slot_at, node_at, file_at, placed_at, file_named, file_in, nodes_without, removed_count_of, At, Gone}
+use Rattle.fx_plain.specs.Contents.{Contents, IsTable, IsCounted, AllPlaced, SameButPlaced, state_of, slot_at, node_at, file_at, placed_at}
+use Rattle.fx_plain.specs.Contents.{file_named, file_in, nodes_without, removed_count_of, At, Gone}
 use Rattle.fx_plain.specs.Totals.{total}
 use Rattle.fx_plain.specs.declared.node.Node.{Node}
 use Rattle.fx_plain.proofs.Cells.{by_equality}
@@ -30,23 +32,30 @@ read_slot slots s x inside read = read ∙ sym (get_or_default slots s None x in
 module _ (slots : List (Option ℕ)) (first nodes : List Node) (s : ℕ) (placed : AllPlaced slots first) (left : IsLeft slots first nodes s) where
   listed_is : (x : Option ℕ) → slot_at slots s ≡ x → identities_of (file_at first x) ≡ option_to_list (file_named first x)
   listed_is None is = refl
-  listed_is (Some n) is = let there = placed s n is in ap (λ (node : Node). identities_of (placed_at n node)) there.1 ∙ sym (ap (λ (node : Node). option_to_list (file_in node)) there.1)
+  listed_is (Some n) is = let there = placed s n is in
+      ap (λ (node : Node). identities_of (placed_at n node)) there.1 ∙ sym (ap (λ (node : Node). option_to_list (file_in node)) there.1)
 
   -- the file that is closed is the next one in order
   pub next_listed : option_to_list (file_named nodes (slot_at slots s)) ≡ identities_of (file_at first (slot_at slots s))
   next_listed = ap option_to_list (named_same slots first nodes s placed left) ∙ sym (listed_is (slot_at slots s) refl)
 
-  same_without : (x : Option ℕ) → slot_at slots s ≡ x → ((n : ℕ) → SameButPlaced (node_at first n) (node_at nodes n)) → (n : ℕ) → SameButPlaced (node_at first n) (node_at (nodes_without nodes x) n)
+  same_without : (x : Option ℕ) → slot_at slots s ≡ x → ((n : ℕ) → SameButPlaced (node_at first n) (node_at nodes n)) → (n : ℕ)
+      → SameButPlaced (node_at first n) (node_at (nodes_without nodes x) n)
   same_without None is same n = same n
   same_without (Some m) is same n =
       let there = placed s m is in
       by_equality n m (λ _. SameButPlaced (node_at first n) (node_at (slice_set nodes m Gone) n))
       (λ here. subst (λ (x : Node × Node). SameButPlaced x.0 x.1)
-      (λ i. (sym (ap (node_at first) here ∙ there.1) i, sym (ap (node_at (slice_set nodes m Gone)) here ∙ get_or-set_same nodes m Gone Gone (inside_of-At nodes m s there.0 (left s m (omega arith) is ∙ there.1))) i))
+      (λ i. (
+        sym (ap (node_at first) here ∙ there.1) i,
+        sym (ap (node_at (slice_set nodes m Gone)) here
+            ∙ get_or-set_same nodes m Gone Gone (inside_of-At nodes m s there.0 (left s m (omega arith) is ∙ there.1))) i,
+      ))
       (record { same_fresh = refl; same_leaving = refl; same_retired = refl; same_removed = λ _. refl }))
       (λ other. subst (SameButPlaced (node_at first n)) (sym (get_or-set_other nodes m n Gone Gone other)) (same n))
 
-  pub same_next : ((n : ℕ) → SameButPlaced (node_at first n) (node_at nodes n)) → (n : ℕ) → SameButPlaced (node_at first n) (node_at (nodes_without nodes (slot_at slots s)) n)
+  pub same_next : ((n : ℕ) → SameButPlaced (node_at first n) (node_at nodes n)) → (n : ℕ)
+      → SameButPlaced (node_at first n) (node_at (nodes_without nodes (slot_at slots s)) n)
   same_next same n = same_without (slot_at slots s) refl same n
 
   opened_without : (x : Option ℕ) → slot_at slots s ≡ x → total removed_count_of (nodes_without nodes x) ≡ total removed_count_of nodes
@@ -61,7 +70,8 @@ module _ (slots : List (Option ℕ)) (first nodes : List Node) (s : ℕ) (placed
   opened_next = opened_without (slot_at slots s) refl
 
 -- a table that was emptied
-module _ (c : Contents) (nodes : List Node) (t : IsTable c) (settled : IsSettled (state_of c)) (len : length nodes ≡ length c.nodes) (same : (n : ℕ) → SameButPlaced (node_at c.nodes n) (node_at nodes n)) where
+module _ (c : Contents) (nodes : List Node) (t : IsTable c) (settled : IsSettled (state_of c)) (len : length nodes ≡ length c.nodes) (same : (n : ℕ)
+    → SameButPlaced (node_at c.nodes n) (node_at nodes n)) where
   abbrev pub emptied : Contents
   emptied = record { slots = []; range = (0, 0); nodes = nodes; holds = c.holds; numbers = c.numbers }
 
@@ -75,7 +85,8 @@ module _ (c : Contents) (nodes : List Node) (t : IsTable c) (settled : IsSettled
     fresh = λ n. (same n).same_fresh i;
   }
 
-  pub emptied_keeps : (full held removed : ℕ) → IsCounted c full held removed → total removed_count_of nodes ≡ total removed_count_of c.nodes → IsTable emptied × IsCounted emptied 0 held removed
+  pub emptied_keeps : (full held removed : ℕ) → IsCounted c full held removed → total removed_count_of nodes ≡ total removed_count_of c.nodes
+      → IsTable emptied × IsCounted emptied 0 held removed
   emptied_keeps full held removed k opened_same = (
     record {
       few_slots = omega arith;

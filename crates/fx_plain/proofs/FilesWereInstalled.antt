@@ -1,5 +1,6 @@
 -- Each file of a table was there at the start or was installed: what holds of all those holds of every file.
-use Rattle.std.proofs.Common.{◌≡◌, ◌⊎◌, ℕ, ◌<◌, List, [], ◌∷◌, map, refl, sym, subst, ◌∙◌, slice_index_or, Option, Some, None, All, if◌then◌else◌, arith, inl, inr}
+use Rattle.std.proofs.Common.{◌≡◌, ◌⊎◌, ℕ, ◌<◌, List, [], ◌∷◌, map, refl, sym, subst, ◌∙◌, slice_index_or, Option, Some, None, All, if◌then◌else◌}
+use Rattle.std.proofs.Common.{arith, inl, inr}
 use Rattle.std.proofs.lemmas.List.Elements.{All-append}
 use Rattle.fx_base.specs.declared.open_file.Closed.{Closed}
 use Rattle.fx_plain.specs.State.{State}
@@ -31,7 +32,8 @@ module _ (P : File → Type 0) where
   holds_of_one : (f : File) → P f → HoldsOf (Some f)
   holds_of_one f it g is = let e : f ≡ g = cc in subst P e it
 
-  holds_of_removed : (removed : ℕ → Option File) (found : Option File) → HoldsOf found → ((q : ℕ) → HoldsOf (removed q)) → (q : ℕ) → HoldsOf (with_removed removed found q)
+  holds_of_removed : (removed : ℕ → Option File) (found : Option File) → HoldsOf found → ((q : ℕ) → HoldsOf (removed q)) → (q : ℕ)
+      → HoldsOf (with_removed removed found q)
   holds_of_removed removed None new old q = old q
   holds_of_removed removed (Some g) new old q = holds_of_changed removed g.number (Some g) q new (old q)
 
@@ -69,23 +71,28 @@ module _ (P : File → Type 0) where
     holds_of_closed a may f is = let now : Allows st (Close f) = subst (Allows st) is may in all.removed f.number f now.0
 
   -- what holds of each file at the start and of each that was installed holds of each file at the end
-  pub holds_at_end : (start : State) (h : List Event) → HoldsOfAll start → AllowsAll start (map action_of h) → ((f : File) → IsInstalled h f → P f) → HoldsOfAll (state_after start (map action_of h))
+  pub holds_at_end : (start : State) (h : List Event) → HoldsOfAll start → AllowsAll start (map action_of h) → ((f : File) → IsInstalled h f → P f)
+      → HoldsOfAll (state_after start (map action_of h))
   holds_at_end start [] all may new = all
   holds_at_end start (e ∷ h) all may new =
-      holds_after (state_after start (map action_of h)) (holds_at_end start h all may.0 (λ f is. new f (inl is))) e.action may.1 (λ f is. new f (inr is))
+      holds_after (state_after start (map action_of h)) (holds_at_end start h all may.0 (λ f is. new f (inl is))) e.action may.1
+      (λ f is. new f (inr is))
 
   -- and of each file that was closed
-  pub holds_of_closes : (start : State) (h : List Event) → HoldsOfAll start → AllowsAll start (map action_of h) → ((f : File) → IsInstalled h f → P f) → (f : File) → IsClosed h f → P f
+  pub holds_of_closes : (start : State) (h : List Event) → HoldsOfAll start → AllowsAll start (map action_of h) → ((f : File) → IsInstalled h f → P f)
+      → (f : File) → IsClosed h f → P f
   holds_of_closes start [] all may new f is = absurd is
   holds_of_closes start (e ∷ h) all may new f (inl before) = holds_of_closes start h all may.0 (λ g is. new g (inl is)) f before
   holds_of_closes start (e ∷ h) all may new f (inr now) =
       holds_of_closed (state_after start (map action_of h)) (holds_at_end start h all may.0 (λ g is. new g (inl is))) e.action may.1 f now
 
-pub every_file_was_there_or_installed : (start end : State) (h : List Event) (f : File) → ((number : ℕ) → start.removed number ≡ None) → IsLegal start h end
+pub every_file_was_there_or_installed : (start end : State) (h : List Event) (f : File) → ((number : ℕ) → start.removed number ≡ None)
+    → IsLegal start h end
     → IsAtSlot end f ⊎ IsClosed h f → IsAtSlot start f ⊎ IsInstalled h f
 every_file_was_there_or_installed start end h f none legal is =
     let P : File → Type 0 = λ g. IsAtSlot start g ⊎ IsInstalled h g in
-    let all : HoldsOfAll P start = record { at_slots = λ slot lt g at. inl (slot, lt, at); removed = λ n g at. let e : None ≡ Some g = sym (none n) ∙ at in cc } in
+    let all : HoldsOfAll P start =
+    record { at_slots = λ slot lt g at. inl (slot, lt, at); removed = λ n g at. let e : None ≡ Some g = sym (none n) ∙ at in cc } in
     let end_all : HoldsOfAll P end = subst (HoldsOfAll P) (sym legal.leads.1) (holds_at_end P start h all legal.leads.0 (λ g new. inr new)) in
     elim is [
       | inl there ↦ end_all.at_slots there.0 there.1 f there.2
@@ -100,9 +107,12 @@ closed_now P (Clear slot found) all = λ k d inside. absurd (omega arith)
 closed_now P (Take slot found) all = λ k d inside. absurd (omega arith)
 closed_now P (Allocate slot f) all = λ k d inside. absurd (omega arith)
 closed_now P Full all = λ k d inside. absurd (omega arith)
-closed_now P (Close f) all = λ k d inside. let zero_is : k ≡ 0 = omega arith in subst (λ (n : ℕ). P (slice_index_or (f.identity ∷ []) n d)) (sym zero_is) (all f refl)
+closed_now P (Close f) all = λ k d inside. let zero_is : k ≡ 0 = omega arith in
+    subst (λ (n : ℕ). P (slice_index_or (f.identity ∷ []) n d)) (sym zero_is) (all f refl)
 
 -- what holds of each file that was closed holds of the list of closes
 pub all_closes_in : (P : Closed → Type 0) (h : List Event) → ((f : File) → IsClosed h f → P f.identity) → All P (closes_in (map action_of h))
 all_closes_in P [] all = λ k d inside. absurd (omega arith)
-all_closes_in P (e ∷ h) all = All-append P (closes_in (map action_of h)) (closed_by e.action) (all_closes_in P h (λ f is. all f (inl is))) (closed_now P e.action (λ f is. all f (inr is)))
+all_closes_in P (e ∷ h) all =
+    All-append P (closes_in (map action_of h)) (closed_by e.action) (all_closes_in P h (λ f is. all f (inl is)))
+    (closed_now P e.action (λ f is. all f (inr is)))

@@ -1,5 +1,6 @@
 -- A file from its slot to its close.
-use Rattle.std.proofs.Common.{◌≡◌, ◌⊎◌, ℕ, ◌+◌, ◌<◌, ◌≤◌, Bool, true, false, List, [], ◌∷◌, ◌++◌, map, length, refl, sym, ap, subst, ◌∙◌, Option, Some, None, if◌then◌else◌, arith, inl, inr}
+use Rattle.std.proofs.Common.{◌≡◌, ◌⊎◌, ℕ, ◌+◌, ◌<◌, ◌≤◌, Bool, true, false, List, [], ◌∷◌, ◌++◌, map, length, refl, sym, ap, subst, ◌∙◌, Option}
+use Rattle.std.proofs.Common.{Some, None, if◌then◌else◌, arith, inl, inr}
 use Rattle.fx_plain.specs.State.{State, IsSettled}
 use Rattle.fx_plain.specs.Step.{Allows, after, changed_at, with_removed}
 use Rattle.fx_plain.specs.History.{state_after, AllowsAll, action_of}
@@ -21,20 +22,25 @@ record IsOnly (f : File) (st : State) : Type 0 where
 abbrev OnlyAtSlots : File → (ℕ → Option File) → ℕ → Type 0
 OnlyAtSlots f at size = (slot : ℕ) (g : File) → slot < size → at slot ≡ Some g → g.number ≡ f.number → g ≡ f
 
-filled_only : (f : File) (at : ℕ → Option File) (size place : ℕ) (x : Option File) → OnlyAtSlots f at size → ((g : File) → x ≡ Some g → g.number ≡ f.number → g ≡ f) → OnlyAtSlots f (changed_at at place x) size
+filled_only : (f : File) (at : ℕ → Option File) (size place : ℕ) (x : Option File) → OnlyAtSlots f at size
+    → ((g : File) → x ≡ Some g → g.number ≡ f.number → g ≡ f) → OnlyAtSlots f (changed_at at place x) size
 filled_only f at size place x only new slot g lt = by_equality slot place (λ b. (if b then x else at slot) ≡ Some g → g.number ≡ f.number → g ≡ f)
     (λ _ is same. new g is same)
     (λ _ is same. only slot g lt is same)
 
-removed_only : (f : File) (removed : ℕ → Option File) (found : Option File) → ((g : File) → found ≡ Some g → g.number ≡ f.number → g ≡ f) → ((g : File) → removed f.number ≡ Some g → g ≡ f)
+removed_only : (f : File) (removed : ℕ → Option File) (found : Option File) → ((g : File) → found ≡ Some g → g.number ≡ f.number → g ≡ f)
+    → ((g : File) → removed f.number ≡ Some g → g ≡ f)
     → (g : File) → with_removed removed found f.number ≡ Some g → g ≡ f
 removed_only f removed None new only g = only g
-removed_only f removed (Some h) new only g = by_equality f.number h.number (λ b. ◌≡◌ {A = Option File} (if b then Some h else removed f.number) (Some g) → g ≡ f)
+removed_only f removed (Some h) new only g =
+    by_equality f.number h.number (λ b. ◌≡◌ {A = Option File} (if b then Some h else removed f.number) (Some g) → g ≡ f)
     (λ same is. let e : h ≡ g = cc in sym e ∙ new h refl (sym same))
     (λ _ is. only g is)
 
-closed_only : (f : File) (removed : ℕ → Option File) (n : ℕ) → ((g : File) → removed f.number ≡ Some g → g ≡ f) → (g : File) → changed_at removed n None f.number ≡ Some g → g ≡ f
-closed_only f removed n only g = by_equality f.number n (λ b. ◌≡◌ {A = Option File} (if b then None else removed f.number) (Some g) → g ≡ f) (λ _ is. cc) (λ _ is. only g is)
+closed_only : (f : File) (removed : ℕ → Option File) (n : ℕ) → ((g : File) → removed f.number ≡ Some g → g ≡ f) → (g : File)
+    → changed_at removed n None f.number ≡ Some g → g ≡ f
+closed_only f removed n only g =
+    by_equality f.number n (λ b. ◌≡◌ {A = Option File} (if b then None else removed f.number) (Some g) → g ≡ f) (λ _ is. cc) (λ _ is. only g is)
 
 module _ (f : File) (st : State) (only : IsOnly f st) where
   no_file : (g : File) → ◌≡◌ {A = Option File} None (Some g) → g.number ≡ f.number → g ≡ f
@@ -49,15 +55,18 @@ module _ (f : File) (st : State) (only : IsOnly f st) where
     removed = removed_only f st.removed found (found_only slot found lt is) only.removed;
   }
 
-  put_only : (slot : ℕ) (new : File) (replaced : Option File) → slot < st.size → replaced ≡ st.at slot → (new.number ≡ f.number → new ≡ f) → IsOnly f (after st (Put slot new replaced))
+  put_only : (slot : ℕ) (new : File) (replaced : Option File) → slot < st.size → replaced ≡ st.at slot → (new.number ≡ f.number → new ≡ f)
+      → IsOnly f (after st (Put slot new replaced))
   put_only slot new replaced lt is fits = record {
-    at_slots = filled_only f st.at st.size slot (Some new) only.at_slots (λ g new_is same. let e : new ≡ g = cc in sym e ∙ fits (ap (λ (x : File). x.number) e ∙ same));
+    at_slots = filled_only f st.at st.size slot (Some new) only.at_slots (λ g new_is same. let e : new ≡ g = cc in
+        sym e ∙ fits (ap (λ (x : File). x.number) e ∙ same));
     removed = removed_only f st.removed replaced (found_only slot replaced lt is) only.removed;
   }
 
   allocated_only : (slot : ℕ) (new : File) → (new.number ≡ f.number → new ≡ f) → IsOnly f (after st (Allocate slot new))
   allocated_only slot new fits = record {
-    at_slots = filled_only f st.at st.size slot (Some new) only.at_slots (λ g new_is same. let e : new ≡ g = cc in sym e ∙ fits (ap (λ (x : File). x.number) e ∙ same));
+    at_slots = filled_only f st.at st.size slot (Some new) only.at_slots (λ g new_is same. let e : new ≡ g = cc in
+        sym e ∙ fits (ap (λ (x : File). x.number) e ∙ same));
     removed = only.removed;
   }
 
@@ -113,17 +122,22 @@ record IsFollowed (f : File) (st : State) (closed : List File) : Type 0 where
   only : IsOnly f st
   one_of : IsOneOf f (tally f.number st) closed
 
-moved_on : (f : File) (there left : ℕ) (closed now : List File) → IsOneOf f there closed → left + length now ≡ there → (now ≡ []) ⊎ (now ≡ f ∷ []) → IsOneOf f left (closed ++ now)
-moved_on f there left closed now (inl open_still) count (inl none_now) = let e = ap length none_now in inl (omega (arith, open_still.0), rw (open_still.1, none_now) refl)
-moved_on f there left closed now (inl open_still) count (inr one_now) = let e = ap length one_now in inr (omega (arith, open_still.0), rw (open_still.1, one_now) refl)
-moved_on f there left closed now (inr gone) count (inl none_now) = let e = ap length none_now in inr (omega (arith, gone.0), rw (gone.1, none_now) refl)
+moved_on : (f : File) (there left : ℕ) (closed now : List File) → IsOneOf f there closed → left + length now ≡ there → (now ≡ []) ⊎ (now ≡ f ∷ [])
+    → IsOneOf f left (closed ++ now)
+moved_on f there left closed now (inl open_still) count (inl none_now) = let e = ap length none_now in
+    inl (omega (arith, open_still.0), rw (open_still.1, none_now) refl)
+moved_on f there left closed now (inl open_still) count (inr one_now) = let e = ap length one_now in
+    inr (omega (arith, open_still.0), rw (open_still.1, one_now) refl)
+moved_on f there left closed now (inr gone) count (inl none_now) = let e = ap length none_now in
+    inr (omega (arith, gone.0), rw (gone.1, none_now) refl)
 moved_on f there left closed now (inr gone) count (inr one_now) = let e = ap length one_now in absurd (omega (arith, gone.0))
 
 few_there : (f : File) (there : ℕ) (closed : List File) → IsOneOf f there closed → there ≤ 1
 few_there f there closed (inl open_still) = omega (arith, open_still.0)
 few_there f there closed (inr gone) = omega (arith, gone.0)
 
-followed_after : (f : File) (st : State) (closed : List File) (a : Action) → IsFollowed f st closed → Allows st a → IsFollowed f (after st a) (closed ++ closed_of f.number a)
+followed_after : (f : File) (st : State) (closed : List File) (a : Action) → IsFollowed f st closed → Allows st a
+    → IsFollowed f (after st a) (closed ++ closed_of f.number a)
 followed_after f st closed a before may = record {
   used = used_after st a f.number before.used;
   only = only_after f st a before.used before.only may;
@@ -139,7 +153,8 @@ followed_from_start f st start (slot, lt, is) =
     record {
       used = start.used slot f lt is;
       only = record {
-        at_slots = λ other g below other_is same. let place = start.distinct other slot g f below lt other_is is same in let e : Some g ≡ Some f = sym other_is ∙ ap st.at place ∙ is in cc;
+        at_slots = λ other g below other_is same. let place = start.distinct other slot g f below lt other_is is same in
+            let e : Some g ≡ Some f = sym other_is ∙ ap st.at place ∙ is in cc;
         removed = λ g removed_is. let e : None ≡ Some g = sym (start.settled.closed f.number) ∙ removed_is in cc;
       };
       one_of = inl (omega arith, refl);
@@ -152,12 +167,14 @@ empty_of (x ∷ xs) no_length = absurd (omega arith)
 -- no file has a fresh number
 only_fresh : (f : File) (st : State) → st.fresh f.number ≡ true → tally f.number st ≤ 1 → IsOnly f st
 only_fresh f st fresh few = let one : bit (st.fresh f.number) ≡ 1 = ap bit fresh in record {
-  at_slots = λ slot g lt is same. let there : named f.number (st.at slot) ≡ 1 = ap (named f.number) is ∙ named_same g f.number same in let at_least = placed_one f.number st.at slot st.size lt in absurd (omega arith);
+  at_slots = λ slot g lt is same. let there : named f.number (st.at slot) ≡ 1 = ap (named f.number) is ∙ named_same g f.number same in
+      let at_least = placed_one f.number st.at slot st.size lt in absurd (omega arith);
   removed = λ g is. let there : present (st.removed f.number) ≡ 1 = ap present is in absurd (omega arith);
 }
 
 module _ (f : File) (st : State) (closed : List File) (few : tally f.number st + length closed ≤ 1) where
-  installed_one : (a : Action) → Allows st a → st.fresh f.number ≡ true → closed_of f.number a ≡ [] → IsOneOf f (tally f.number (after st a)) (closed ++ closed_of f.number a)
+  installed_one : (a : Action) → Allows st a → st.fresh f.number ≡ true → closed_of f.number a ≡ []
+      → IsOneOf f (tally f.number (after st a)) (closed ++ closed_of f.number a)
   installed_one a may fresh none_closed =
       let one : bit (st.fresh f.number) ≡ 1 = ap bit fresh in
       let same = tally_after st a f.number may (omega arith) in
@@ -203,7 +220,8 @@ followed start (e ∷ h) f begins may (inr (inr now)) =
 
 module _ (f : File) (end : State) (closed : List File) (settled : IsSettled end) (end_of : IsFollowed f end closed) where
   all_placed : tally f.number end ≡ placed f.number end.at end.size
-  all_placed = let no_fresh : bit (end.fresh f.number) ≡ 0 = ap bit end_of.used in let none_waits : present (end.removed f.number) ≡ 0 = ap present (settled.closed f.number) in omega arith
+  all_placed = let no_fresh : bit (end.fresh f.number) ≡ 0 = ap bit end_of.used in
+      let none_waits : present (end.removed f.number) ≡ 0 = ap present (settled.closed f.number) in omega arith
 
   still_there : tally f.number end ≡ 1 → IsAtSlot end f
   still_there one =
@@ -223,7 +241,9 @@ module _ (f : File) (end : State) (closed : List File) (settled : IsSettled end)
     | inr gone ↦ inr (no_more_there gone.0, gone.1)
   ]
 
-pub every_removed_file_is_closed : (start end : State) (h : List Event) (f : File) → IsStart start → AllowsAll start (map action_of h) → end ≡ state_after start (map action_of h)
+pub every_removed_file_is_closed : (start end : State) (h : List Event) (f : File) → IsStart start → AllowsAll start (map action_of h)
+    → end ≡ state_after start (map action_of h)
     → IsSettled end → IsAtSlot start f ⊎ IsInstalled h f → IsStillThere h end f ⊎ IsClosedOnce h end f
 every_removed_file_is_closed start end h f begins may is settled was_there =
-    at_end f end (closes_of f.number h) settled (subst (λ (st : State). IsFollowed f st (closes_of f.number h)) (sym is) (followed start h f begins may was_there))
+    at_end f end (closes_of f.number h) settled
+    (subst (λ (st : State). IsFollowed f st (closes_of f.number h)) (sym is) (followed start h f begins may was_there))

@@ -1,5 +1,6 @@
 -- While a pass releases nothing, the file that it looked up keeps a hold.
-use Rattle.std.proofs.Common.{◌≡◌, ◌≢◌, ℕ, suc, ◌+◌, ◌-◌, ◌<◌, ◌≤◌, ◌==◌, List, [], ◌∷◌, ◌++◌, map, refl, sym, ap, subst, ◌∙◌, Option, Some, None, if◌then◌else◌, arith, inl, inr}
+use Rattle.std.proofs.Common.{◌≡◌, ◌≢◌, ℕ, suc, ◌+◌, ◌-◌, ◌<◌, ◌≤◌, ◌==◌, List, [], ◌∷◌, ◌++◌, map, refl, sym, ap, subst, ◌∙◌, Option, Some, None}
+use Rattle.std.proofs.Common.{if◌then◌else◌, arith, inl, inr}
 use Rattle.std.proofs.lemmas.Bool.{cases_lt}
 use Rattle.fx_plain.specs.State.{State}
 use Rattle.fx_plain.specs.Step.{Allows, after, changed_at}
@@ -36,12 +37,14 @@ given n (Close f) = 0
 
 raised : (holds : ℕ → ℕ) (f : File) (n : ℕ) → changed_at holds f.number (holds f.number + 1) n + 0 ≡ holds n + named n (Some f)
 raised holds f n = by_equality n f.number (λ b. (if b then holds f.number + 1 else holds n) + 0 ≡ holds n + named n (Some f))
-    (λ same. by_equality f.number n (λ b. (holds f.number + 1) + 0 ≡ holds n + (if b then 1 else 0)) (λ _. let e = ap holds same in omega arith) (λ apart. absurd (apart (sym same))))
+    (λ same. by_equality f.number n (λ b. (holds f.number + 1) + 0 ≡ holds n + (if b then 1 else 0)) (λ _. let e = ap holds same in
+    omega arith) (λ apart. absurd (apart (sym same))))
     (λ other. by_equality f.number n (λ b. holds n + 0 ≡ holds n + (if b then 1 else 0)) (λ same. absurd (other (sym same))) (λ _. refl))
 
 lowered : (holds : ℕ → ℕ) (f : File) (n : ℕ) → 0 < holds f.number → changed_at holds f.number (holds f.number - 1) n + named n (Some f) ≡ holds n + 0
 lowered holds f n some_hold = by_equality n f.number (λ b. (if b then holds f.number - 1 else holds n) + named n (Some f) ≡ holds n + 0)
-    (λ same. by_equality f.number n (λ b. (holds f.number - 1) + (if b then 1 else 0) ≡ holds n + 0) (λ _. let e = ap holds same in omega arith) (λ apart. absurd (apart (sym same))))
+    (λ same. by_equality f.number n (λ b. (holds f.number - 1) + (if b then 1 else 0) ≡ holds n + 0) (λ _. let e = ap holds same in
+    omega arith) (λ apart. absurd (apart (sym same))))
     (λ other. by_equality f.number n (λ b. holds n + (if b then 1 else 0) ≡ holds n + 0) (λ same. absurd (other (sym same))) (λ _. refl))
 
 holds_after : (st : State) (a : Action) (n : ℕ) → Allows st a → (after st a).holds n + given n a ≡ st.holds n + taken n a
@@ -65,7 +68,8 @@ covered_after : (claims others : ℕ → ℕ) (q holds left up down : ℕ) → (
 covered_after claims others q holds left up down off here now cover = record {
   below = λ bound. elim (cases_lt q bound) [
     | inl lt ↦ let e = changed_below claims others q off bound lt in let le = cover.below bound in omega arith
-    | inr ge ↦ let e = same_below claims others q off bound ge in let more = sum_grows claims bound q ge in let le : claims q + sum_below claims q ≤ holds = cover.below (suc q) in omega arith
+    | inr ge ↦ let e = same_below claims others q off bound ge in let more = sum_grows claims bound q ge in
+        let le : claims q + sum_below claims q ≤ holds = cover.below (suc q) in omega arith
   ];
 }
 
@@ -74,10 +78,14 @@ abbrev holding : ℕ → List Event → ℕ → ℕ
 holding n h pass = named n (held_by h pass)
 
 other_holds : (n : ℕ) (e : Event) (h : List Event) (k : ℕ) → k ≢ e.pass → holding n (e ∷ h) k ≡ holding n h k
-other_holds n e h k apart = by_equality e.pass k (λ b. named n (if b then held_after (held_by h k) e.action else held_by h k) ≡ named n (held_by h k)) (λ same. absurd (apart (sym same))) (λ _. refl)
+other_holds n e h k apart =
+    by_equality e.pass k (λ b. named n (if b then held_after (held_by h k) e.action else held_by h k) ≡ named n (held_by h k))
+    (λ same. absurd (apart (sym same))) (λ _. refl)
 
 own_held : (e : Event) (h : List Event) → held_by (e ∷ h) e.pass ≡ held_after (held_by h e.pass) e.action
-own_held e h = by_equality e.pass e.pass (λ b. (if b then held_after (held_by h e.pass) e.action else held_by h e.pass) ≡ held_after (held_by h e.pass) e.action) (λ _. refl) (λ apart. absurd (apart refl))
+own_held e h = by_equality e.pass e.pass
+    (λ b. (if b then held_after (held_by h e.pass) e.action else held_by h e.pass) ≡ held_after (held_by h e.pass) e.action) (λ _. refl)
+    (λ apart. absurd (apart refl))
 
 own_change : (n : ℕ) (held : Option File) (a : Action) → ReleasesItsOwn held a → named n (held_after held a) + given n a ≤ named n held + taken n a
 own_change n held (Look slot found) own = omega arith
@@ -90,11 +98,13 @@ own_change n held Full own = omega arith
 own_change n held (Close f) own = omega arith
 
 -- what passes hold is covered by the holds
-pub covered : (start : State) (h : List Event) (n : ℕ) → AllowsAll start (map action_of h) → AllReleaseTheirOwn h → IsCovered (holding n h) ((state_after start (map action_of h)).holds n)
+pub covered : (start : State) (h : List Event) (n : ℕ) → AllowsAll start (map action_of h) → AllReleaseTheirOwn h
+    → IsCovered (holding n h) ((state_after start (map action_of h)).holds n)
 covered start [] n may own = record { below = λ bound. let e = sum_zero (holding n []) bound (λ _ _. refl) in omega arith }
 covered start (e ∷ h) n may own =
     let st = state_after start (map action_of h) in
-    let change : holding n (e ∷ h) e.pass + given n e.action ≤ holding n h e.pass + taken n e.action = rw (own_held e h) (own_change n (held_by h e.pass) e.action own.1) in
+    let change : holding n (e ∷ h) e.pass + given n e.action ≤ holding n h e.pass + taken n e.action =
+    rw (own_held e h) (own_change n (held_by h e.pass) e.action own.1) in
     covered_after (holding n h) (holding n (e ∷ h)) e.pass (st.holds n) ((after st e.action).holds n) (taken n e.action) (given n e.action)
     (other_holds n e h) change (holds_after st e.action n may.1) (covered start h n may.0 own.0)
 
@@ -115,7 +125,8 @@ both_empty (x ∷ xs) ys is = cc
 -- where a pass releases nothing, it released nothing before, and its last step is no release
 kept_on : (p : ℕ) (e : Event) (since : List Event) → releases_in (part_of_pass p (e ∷ since)) ≡ []
     → (releases_in (part_of_pass p since) ≡ []) × (e.pass ≡ p → released_by e.action ≡ [])
-kept_on p e since = by_equality e.pass p (λ b. releases_in (if b then e ∷ part_of_pass p since else part_of_pass p since) ≡ [] → (releases_in (part_of_pass p since) ≡ []) × (e.pass ≡ p → released_by e.action ≡ []))
+kept_on p e since = by_equality e.pass p (λ b. releases_in (if b then e ∷ part_of_pass p since else part_of_pass p since) ≡ []
+    → (releases_in (part_of_pass p since) ≡ []) × (e.pass ≡ p → released_by e.action ≡ []))
     (λ same is. let (before, now) = both_empty (releases_in (part_of_pass p since)) (released_by e.action) is in (before, λ _. now))
     (λ other is. (is, λ same. absurd (other same)))
 
@@ -133,7 +144,8 @@ kept start h (e ∷ since) p n cover may own is =
     let st = state_after start (map action_of all) in
     let (before, now) = kept_on p e since is in
     let change : keeping p n (e ∷ all) e.pass + given n e.action ≤ keeping p n all e.pass + taken n e.action =
-    by_equality e.pass p (λ b. (if b then 1 else holding n (e ∷ all) e.pass) + given n e.action ≤ (if b then 1 else holding n all e.pass) + taken n e.action)
+    by_equality e.pass p (λ b.
+    (if b then 1 else holding n (e ∷ all) e.pass) + given n e.action ≤ (if b then 1 else holding n all e.pass) + taken n e.action)
     (λ same. let none_given = given_none n e.action (now same) in omega arith)
     (λ _. rw (own_held e all) (own_change n (held_by all e.pass) e.action own.1)) in
     covered_after (keeping p n all) (keeping p n (e ∷ all)) e.pass (st.holds n) ((after st e.action).holds n) (taken n e.action) (given n e.action)
@@ -149,7 +161,8 @@ no_close st (Clear slot found) n may held = refl
 no_close st (Take slot found) n may held = refl
 no_close st (Allocate slot f) n may held = refl
 no_close st Full n may held = refl
-no_close st (Close f) n may held = by_equality f.number n (λ b. (if b then f ∷ [] else []) ≡ []) (λ same. let e = ap st.holds same in absurd (omega (arith, may.1))) (λ _. refl)
+no_close st (Close f) n may held =
+    by_equality f.number n (λ b. (if b then f ∷ [] else []) ≡ []) (λ same. let e = ap st.holds same in absurd (omega (arith, may.1))) (λ _. refl)
 
 is_held : (p n : ℕ) (h : List Event) (holds : ℕ) → IsCovered (keeping p n h) holds → 0 < holds
 is_held p n h holds cover =
@@ -198,4 +211,5 @@ no_close_while_held start before since others look slot f may_all own_all is non
     let may = allowed_before start (since ++ h) others may_all in
     let own = released_before (since ++ h) others own_all in
     let cover = covered start h f.number (allowed_before start h since may) (released_before h since own) in
-    none_closed start h since look.pass f.number (looked before look slot f ((state_after start (map action_of h)).holds f.number) is cover) may own none_given
+    none_closed start h since look.pass f.number
+    (looked before look slot f ((state_after start (map action_of h)).holds f.number) is cover) may own none_given

@@ -1,5 +1,6 @@
 -- Each number is fresh, or at a slot, or removed, or closed, and passes from one to the next.
-use Rattle.std.proofs.Common.{◌≡◌, ◌≢◌, ℕ, ◌+◌, ◌<◌, ◌≤◌, Bool, true, false, List, [], ◌∷◌, map, length, refl, sym, ap, ◌∙◌, Option, Some, None, if◌then◌else◌, arith, inl, inr, length-append}
+use Rattle.std.proofs.Common.{◌≡◌, ◌≢◌, ℕ, ◌+◌, ◌<◌, ◌≤◌, Bool, true, false, List, [], ◌∷◌, map, length, refl, sym, ap, ◌∙◌, Option, Some, None}
+use Rattle.std.proofs.Common.{if◌then◌else◌, arith, inl, inr, length-append}
 use Rattle.std.proofs.lemmas.Bool.{cases_lt}
 use Rattle.fx_plain.specs.State.{State}
 use Rattle.fx_plain.specs.Step.{Allows, after, changed_at, with_removed}
@@ -40,14 +41,16 @@ placed_change : (n : ℕ) (at : ℕ → Option File) (slot size : ℕ) (x : Opti
     → placed n (changed_at at slot x) size + named n (at slot) ≡ placed n at size + named n x
 placed_change n at slot size x lt =
     let e : placed n (changed_at at slot x) size + named n (at slot) ≡ placed n at size + named n (changed_at at slot x slot) =
-    changed_below (λ s. named n (at s)) (λ s. named n (changed_at at slot x s)) slot (λ k apart. ap (named n) (changed_off at slot k x apart)) size lt in
+    changed_below (λ s. named n (at s)) (λ s. named n (changed_at at slot x s)) slot
+    (λ k apart. ap (named n) (changed_off at slot k x apart)) size lt in
     e ∙ ap (λ (y : Option File). placed n at size + named n y) (changed_there at slot slot x refl)
 
 pub placed_one : (n : ℕ) (at : ℕ → Option File) (slot size : ℕ) → slot < size → named n (at slot) ≤ placed n at size
 placed_one n at slot size lt = term_below (λ s. named n (at s)) size slot lt
 
 -- a fresh number is used up
-fresh_change : (fresh : ℕ → Bool) (f : File) (n : ℕ) → fresh f.number ≡ true → bit (changed_at fresh f.number false n) + named n (Some f) ≡ bit (fresh n)
+fresh_change : (fresh : ℕ → Bool) (f : File) (n : ℕ) → fresh f.number ≡ true
+    → bit (changed_at fresh f.number false n) + named n (Some f) ≡ bit (fresh n)
 fresh_change fresh f n is = by_equality n f.number (λ b. bit (if b then false else fresh n) + named n (Some f) ≡ bit (fresh n))
     (λ same. let e = named_same f n (sym same) in let d : bit (fresh n) ≡ 1 = ap bit (ap fresh same ∙ is) in omega arith)
     (λ apart. let e = named_other f n (λ same. apart (sym same)) in omega arith)
@@ -56,15 +59,18 @@ fresh_change fresh f n is = by_equality n f.number (λ b. bit (if b then false e
 removed_change : (removed : ℕ → Option File) (found : Option File) (n : ℕ) → named n found + present (removed n) ≤ 1
     → present (with_removed removed found n) ≡ present (removed n) + named n found
 removed_change removed None n few = omega arith
-removed_change removed (Some f) n few = by_equality n f.number (λ b. present (if b then Some f else removed n) ≡ present (removed n) + named n (Some f))
+removed_change removed (Some f) n few =
+    by_equality n f.number (λ b. present (if b then Some f else removed n) ≡ present (removed n) + named n (Some f))
     (λ same. let e = named_same f n (sym same) in omega arith)
     (λ apart. let e = named_other f n (λ same. apart (sym same)) in omega arith)
 
 close_change : (removed : ℕ → Option File) (f : File) (n : ℕ) → removed f.number ≡ Some f
     → present (changed_at removed f.number None n) + length (if_numbered n f) ≡ present (removed n)
 close_change removed f n is = by_equality n f.number (λ b. present (if b then None else removed n) + length (if_numbered n f) ≡ present (removed n))
-    (λ same. by_equality f.number n (λ b. 0 + length (if b then f ∷ [] else []) ≡ present (removed n)) (λ _. let d : present (removed n) ≡ 1 = ap present (ap removed same ∙ is) in omega arith) (λ apart. absurd (apart (sym same))))
-    (λ other. by_equality f.number n (λ b. present (removed n) + length (if b then f ∷ [] else []) ≡ present (removed n)) (λ same. absurd (other (sym same))) (λ _. omega arith))
+    (λ same. by_equality f.number n (λ b. 0 + length (if b then f ∷ [] else []) ≡ present (removed n)) (λ _. let d : present (removed n) ≡ 1 =
+    ap present (ap removed same ∙ is) in omega arith) (λ apart. absurd (apart (sym same))))
+    (λ other. by_equality f.number n (λ b. present (removed n) + length (if b then f ∷ [] else []) ≡ present (removed n))
+    (λ same. absurd (other (sym same))) (λ _. omega arith))
 
 emptied : (st : State) (n slot : ℕ) (found : Option File) → slot < st.size → found ≡ st.at slot → tally n st ≤ 1
     → bit (st.fresh n) + placed n (changed_at st.at slot None) st.size + present (with_removed st.removed found n) + 0 ≡ tally n st
@@ -75,8 +81,10 @@ emptied st n slot found lt is few =
     let more = removed_change st.removed found n (omega arith) in
     omega arith
 
-filled : (st : State) (n slot : ℕ) (f : File) (replaced : Option File) → slot < st.size → st.fresh f.number ≡ true → replaced ≡ st.at slot → tally n st ≤ 1
-    → bit (changed_at st.fresh f.number false n) + placed n (changed_at st.at slot (Some f)) st.size + present (with_removed st.removed replaced n) + 0 ≡ tally n st
+filled : (st : State) (n slot : ℕ) (f : File) (replaced : Option File) → slot < st.size → st.fresh f.number ≡ true → replaced ≡ st.at slot
+    → tally n st ≤ 1
+    → bit (changed_at st.fresh f.number false n) + placed n (changed_at st.at slot (Some f)) st.size + present
+    (with_removed st.removed replaced n) + 0 ≡ tally n st
 filled st n slot f replaced lt fresh is few =
     let there = ap (named n) is in
     let used = fresh_change st.fresh f n fresh in
@@ -109,7 +117,8 @@ tally_all start (e ∷ h) n few may =
 -- a fresh number is at no slot, at the start
 none_placed : (st : State) (n : ℕ) → IsStart st → st.fresh n ≡ true → placed n st.at st.size ≡ 0
 none_placed st n start fresh = sum_zero (λ slot. named n (st.at slot)) st.size (λ slot lt. elim (cases_lt 0 (named n (st.at slot))) [
-  | inl some_there ↦ let (f, is, same) = named_file n (st.at slot) some_there in let clash : false ≡ true = sym (start.used slot f lt is) ∙ ap st.fresh same ∙ fresh in cc
+  | inl some_there ↦ let (f, is, same) = named_file n (st.at slot) some_there in
+      let clash : false ≡ true = sym (start.used slot f lt is) ∙ ap st.fresh same ∙ fresh in cc
   | inr no_file ↦ omega arith
 ])
 
@@ -118,7 +127,8 @@ pub tally_start : (st : State) (n : ℕ) → IsStart st → tally n st ≤ 1
 tally_start st n start =
     let closed : present (st.removed n) ≡ 0 = ap present (start.settled.closed n) in
     let single : placed n st.at st.size ≤ 1 = sum_one (λ slot. named n (st.at slot)) st.size (λ slot. named_at_most_one n (st.at slot))
-    (λ j k below_j below_k at_j at_k. let (f, is_f, same_f) = named_file n (st.at j) at_j in let (g, is_g, same_g) = named_file n (st.at k) at_k in start.distinct j k f g below_j below_k is_f is_g (same_f ∙ sym same_g)) in
+    (λ j k below_j below_k at_j at_k. let (f, is_f, same_f) = named_file n (st.at j) at_j in let (g, is_g, same_g) = named_file n (st.at k) at_k in
+    start.distinct j k f g below_j below_k is_f is_g (same_f ∙ sym same_g)) in
     elim (st.fresh n) as (λ b. st.fresh n ≡ b → bit b + placed n st.at st.size + present (st.removed n) ≤ 1) [
       | true ↦ λ fresh. let no_slot = none_placed st n start fresh in omega arith
       | false ↦ λ fresh. omega arith

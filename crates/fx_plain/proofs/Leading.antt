@@ -17,7 +17,8 @@ leads_then first mid last h (action ∷ more) lead next =
 
 pub closes_in-then : (h more : List Action) → closes_in (h ▷▷ more) ≡ closes_in h ++ closes_in more
 closes_in-then h [] = sym (append-nil (closes_in h))
-closes_in-then h (action ∷ more) = ap (λ (files : List Closed). files ++ closed_by action) (closes_in-then h more) ∙ append_assoc (closes_in h) (closes_in more) (closed_by action)
+closes_in-then h (action ∷ more) = ap (λ (files : List Closed). files ++ closed_by action) (closes_in-then h more)
+    ∙ append_assoc (closes_in h) (closes_in more) (closed_by action)
 
 same_size_after : (st : State) (action : Action) → (after st action).size ≡ st.size
 same_size_after st (Look slot None) = refl

@@ -24,6 +24,7 @@ named_at_most_one n (Some f) = by_equality f.number n (λ b. (if b then 1 else 0
 -- a count that is not 0 is of a file of the number
 pub named_file : (n : ℕ) (found : Option File) → 0 < named n found → (f : File) × (found ≡ Some f) × (f.number ≡ n)
 named_file n None = λ some_there. absurd (omega arith)
-named_file n (Some f) = by_equality f.number n (λ b. 0 < (if b then 1 else 0) → (g : File) × (◌≡◌ {A = Option File} (Some f) (Some g)) × (g.number ≡ n))
+named_file n (Some f) = by_equality f.number n (λ b. 0 < (if b then 1 else 0)
+    → (g : File) × (◌≡◌ {A = Option File} (Some f) (Some g)) × (g.number ≡ n))
     (λ same _. (f, refl, same))
     (λ _ some_there. absurd (omega arith))

@@ -1,14 +1,16 @@
 -- The state of a table that was prepared.
-use Rattle.std.proofs.Common.{◌≡◌, ℕ, zero, suc, ◌+◌, ◌-◌, ◌<◌, ◌≤◌, ◌^◌, Bool, true, false, not, ◌&&◌, nat_lt, List, ◌++◌, length, length-append, replicate, refl, sym, ap, subst, ◌∙◌, slice_index, slice_index_or, Option, Some, None, arith, inl, inr}
+use Rattle.std.proofs.Common.{◌≡◌, ℕ, zero, suc, ◌+◌, ◌-◌, ◌<◌, ◌≤◌, ◌^◌, Bool, true, false, not, ◌&&◌, nat_lt, List, ◌++◌, length, length-append}
+use Rattle.std.proofs.Common.{replicate, refl, sym, ap, subst, ◌∙◌, slice_index, slice_index_or, Option, Some, None, arith, inl, inr}
 use Rattle.std.proofs.lemmas.List.{get_or_append_left, get_or-append-add, length-replicate}
 use Rattle.std.proofs.lemmas.Bool.{cases_lt, lt-ltb, le-ltb}
 use Rattle.std.proofs.Math.ListN.{get_or-eq_default}
 use Rattle.fx_base.specs.declared.open_file.Closed.{Closed}
-use Rattle.fx_plain.specs.State.{opening, file_numbered}
-use Rattle.fx_plain.specs.Contents.{Contents, IsTable, IsCounted, state_of, slot_at, node_at, file_at, placed_at, removed_at, is_fresh, is_retired, moved_node, file_named, file_in, opening_slot, file_count_of, removed_count_of, itself, Fresh, At, Gone}
-use Rattle.fx_plain.specs.Totals.{total}
+use Rattle.fx_plain.specs.State.{IsSettled, opening, file_numbered}
+use Rattle.fx_plain.specs.Contents.{Contents, IsTable, IsCounted, state_of, slot_at, node_at, file_at, placed_at, removed_at, is_fresh, is_retired}
+use Rattle.fx_plain.specs.Contents.{IsRenumbered, moved_node, file_named, file_in, opening_slot, removed_count_of, itself, Fresh, At, Gone}
 use Rattle.fx_plain.specs.declared.node.Node.{Node}
 use Rattle.fx_plain.proofs.Cells.{inside_of}
+use Rattle.fx_plain.proofs.Settled.{no_holds, none_removed}
 use Rattle.fx_plain.proofs.TotalLemmas.{total_nothing, total-replicate}
 
 read_replicate : {X : Type 0} (n i : ℕ) (x d : X) → i < n → slice_index_or (replicate n x) i d ≡ x
@@ -37,93 +39,122 @@ moved_opened : (slot : ℕ) (x : Option Closed) → removed_count_of (moved_node
 moved_opened slot None = refl
 moved_opened slot (Some f) = refl
 
-module _ (c : Contents) (slots : List (Option ℕ)) (moved : List Node) (numbers : ℕ) (t : IsTable c) (enough : length c.slots ≤ numbers) (few : numbers < 2 ^ 32) (same_len : length slots ≡ length c.slots) (count : length moved ≡ length c.slots)
-    (named : (u : ℕ) → u < length c.slots → slot_at slots u ≡ opening_slot (slot_at c.slots u) u)
-    (filed : (u : ℕ) → u < length c.slots → node_at moved u ≡ moved_node (file_named c.nodes (slot_at c.slots u)) u) where
+module _ (c : Contents) (slots : List (Option ℕ)) (moved : List Node) (numbers : ℕ) (t : IsTable c) (enough : length c.slots ≤ numbers)
+    (few : numbers < 2 ^ 32) (r : IsRenumbered c.slots c.nodes slots moved) where
   abbrev nodes : List Node
   nodes = moved ++ replicate (numbers - length c.slots) Fresh
 
   abbrev pub prepared : Contents
   prepared = record { slots = slots; range = c.range; nodes = nodes; holds = replicate numbers 0; numbers = numbers }
 
+  -- as the fields of a prepared table are
+  pub as_prepared : (now : List Node) (holds : List ℕ) → now ≡ moved ++ replicate (numbers - length moved) Fresh → holds ≡ replicate numbers 0
+      → record { slots = slots; range = c.range; nodes = now; holds = holds; numbers = numbers } ≡ prepared
+  as_prepared now holds nodes_are holds_are = λ i. record {
+    slots = slots;
+    range = c.range;
+    nodes = (nodes_are ∙ ap (λ (n : ℕ). moved ++ replicate (numbers - n) Fresh) r.count) i;
+    holds = holds_are i;
+    numbers = numbers;
+  }
+
   len_nodes : length nodes ≡ numbers
-  len_nodes = let a = length-append moved (replicate (numbers - length c.slots) Fresh) in let b : length (replicate (numbers - length c.slots) Fresh) ≡ numbers - length c.slots = length-replicate (numbers - length c.slots) Fresh in omega arith
+  len_nodes = let count = r.count in
+      let a = length-append moved (replicate (numbers - length c.slots) Fresh) in
+      let b : length (replicate (numbers - length c.slots) Fresh) ≡ numbers - length c.slots = length-replicate (numbers - length c.slots) Fresh in
+      omega arith
 
   node_low : (n : ℕ) → n < length c.slots → node_at nodes n ≡ moved_node (file_named c.nodes (slot_at c.slots n)) n
-  node_low n low = let below : n < length moved = omega arith in get_or_append_left moved (replicate (numbers - length c.slots) Fresh) Gone n below ∙ filed n low
+  node_low n low = let below : n < length moved = let count = r.count in omega arith in
+      get_or_append_left moved (replicate (numbers - length c.slots) Fresh) Gone n below ∙ r.filed n low
 
   node_mid : (n : ℕ) → length c.slots ≤ n → n < numbers → node_at nodes n ≡ Fresh
   node_mid n low high =
-      let at : length moved + (n - length c.slots) ≡ n = omega arith in
-      ap (node_at nodes) (sym at) ∙ get_or-append-add moved (replicate (numbers - length c.slots) Fresh) (n - length c.slots) Gone ∙ read_replicate (numbers - length c.slots) (n - length c.slots) Fresh Gone (omega arith)
+      let at : length moved + (n - length c.slots) ≡ n = let count = r.count in omega arith in
+      ap (node_at nodes) (sym at) ∙ get_or-append-add moved (replicate (numbers - length c.slots) Fresh) (n - length c.slots) Gone
+      ∙ read_replicate (numbers - length c.slots) (n - length c.slots) Fresh Gone (omega arith)
 
   node_high : (n : ℕ) → numbers ≤ n → node_at nodes n ≡ Gone
   node_high n high = let len = len_nodes in get_or-eq_default nodes Gone (omega arith)
 
   -- what holds of each kind of node holds of each
-  each_node : (P : ℕ → Node → Type 0) → ((n : ℕ) (x : Option Closed) → n < length c.slots → P n (moved_node x n)) → ((n : ℕ) → length c.slots ≤ n → n < numbers → P n Fresh) → ((n : ℕ) → numbers ≤ n → P n Gone) → (n : ℕ) → P n (node_at nodes n)
+  each_node : (P : ℕ → Node → Type 0) → ((n : ℕ) (x : Option Closed) → n < length c.slots → P n (moved_node x n))
+      → ((n : ℕ) → length c.slots ≤ n → n < numbers → P n Fresh) → ((n : ℕ) → numbers ≤ n → P n Gone) → (n : ℕ) → P n (node_at nodes n)
   each_node P low mid high n = elim (cases_lt n (length c.slots)) [
     | inl lt ↦ subst (P n) (sym (node_low n lt)) (low n (file_named c.nodes (slot_at c.slots n)) lt)
-    | inr ge ↦ elim (cases_lt n numbers) [ inl lt ↦ subst (P n) (sym (node_mid n ge lt)) (mid n ge lt) | inr past ↦ subst (P n) (sym (node_high n past)) (high n past) ]
+    | inr ge ↦ elim (cases_lt n numbers) [
+      | inl lt ↦ subst (P n) (sym (node_mid n ge lt)) (mid n ge lt)
+      | inr past ↦ subst (P n)
+          (sym (node_high n past)) (high n past)
+    ]
   ]
 
-  none_removed : (n : ℕ) → removed_at n (node_at nodes n) ≡ None
-  none_removed = each_node (λ n node. removed_at n node ≡ None) (λ n x lt. moved_removed n n x) (λ n ge lt. refl) (λ n ge. refl)
+  none_waits : (n : ℕ) → removed_at n (node_at nodes n) ≡ None
+  none_waits = each_node (λ n node. removed_at n node ≡ None) (λ n x lt. moved_removed n n x) (λ n ge lt. refl) (λ n ge. refl)
 
   fresh_is : (n : ℕ) → is_fresh (node_at nodes n) ≡ (not (nat_lt n (length c.slots)) && nat_lt n numbers)
   fresh_is = each_node (λ n node. is_fresh node ≡ (not (nat_lt n (length c.slots)) && nat_lt n numbers))
       (λ n x lt. moved_fresh n x ∙ sym (ap (λ (b : Bool). not b && nat_lt n numbers) (lt-ltb n (length c.slots) lt)))
       (λ n ge lt. sym (ap (λ (b : Bool). not b && nat_lt n numbers) (le-ltb n (length c.slots) ge) ∙ lt-ltb n numbers lt))
-      (λ n ge. sym (ap (λ (b : Bool × Bool). not b.0 && b.1) (λ i. (le-ltb n (length c.slots) (let e = enough in omega arith) i, le-ltb n numbers ge i))))
+      (λ n ge. sym (ap (λ (b : Bool × Bool). not b.0 && b.1)
+      (λ i. (le-ltb n (length c.slots) (let e = enough in omega arith) i, le-ltb n numbers ge i))))
 
-  named_node : (u : ℕ) → u < length c.slots → (x : Option ℕ) → slot_at c.slots u ≡ x → file_at nodes (opening_slot x u) ≡ file_numbered (file_at c.nodes x) u
+  named_node : (u : ℕ) → u < length c.slots → (x : Option ℕ) → slot_at c.slots u ≡ x
+      → file_at nodes (opening_slot x u) ≡ file_numbered (file_at c.nodes x) u
   named_node u inside None is = refl
   named_node u inside (Some m) is =
       let there = t.placed u m is in
-      let here : node_at nodes u ≡ At u there.0 = node_low u inside ∙ ap (λ (x : Option ℕ). moved_node (file_named c.nodes x) u) is ∙ ap (λ (node : Node). moved_node (file_in node) u) there.1 in
+      let here : node_at nodes u ≡ At u there.0 = node_low u inside ∙ ap (λ (x : Option ℕ). moved_node (file_named c.nodes x) u) is
+      ∙ ap (λ (node : Node). moved_node (file_in node) u) there.1 in
       ap (placed_at u) here ∙ sym (ap (λ (node : Node). file_numbered (placed_at m node) u) there.1)
 
   at_is : (u : ℕ) → file_at nodes (slot_at slots u) ≡ file_numbered (file_at c.nodes (slot_at c.slots u)) u
   at_is u = elim (cases_lt u (length c.slots)) [
-    | inl lt ↦ ap (file_at nodes) (named u lt) ∙ named_node u lt (slot_at c.slots u) refl
-    | inr ge ↦ ap (file_at nodes) (get_or-eq_default slots None (omega arith)) ∙ sym (ap (λ (x : Option ℕ). file_numbered (file_at c.nodes x) u) (get_or-eq_default c.slots None ge))
+    | inl lt ↦ ap (file_at nodes) (r.named u lt) ∙ named_node u lt (slot_at c.slots u) refl
+    | inr ge ↦ ap (file_at nodes) (get_or-eq_default slots None (let same = r.same_size in omega arith))
+        ∙ sym (ap (λ (x : Option ℕ). file_numbered (file_at c.nodes x) u) (get_or-eq_default c.slots None ge))
   ]
 
   pub state_of-prepared : state_of prepared ≡ opening (state_of c) numbers
   state_of-prepared = λ i. record {
-    size = same_len i;
+    size = r.same_size i;
     range = c.range;
     at = λ u. at_is u i;
-    removed = λ n. none_removed n i;
+    removed = λ n. none_waits n i;
     holds = λ n. all_zero numbers n i;
     fresh = λ n. fresh_is n i;
   }
 
-  named_placed : (u k : ℕ) → u < length c.slots → (x : Option ℕ) → slot_at c.slots u ≡ x → opening_slot x u ≡ Some k → (file : Closed) × (node_at nodes k ≡ At u file)
+  named_placed : (u k : ℕ) → u < length c.slots → (x : Option ℕ) → slot_at c.slots u ≡ x → opening_slot x u ≡ Some k
+      → (file : Closed) × (node_at nodes k ≡ At u file)
   named_placed u k inside None is same = cc
   named_placed u k inside (Some m) is same =
       let there = t.placed u m is in
-      let here : node_at nodes u ≡ At u there.0 = node_low u inside ∙ ap (λ (x : Option ℕ). moved_node (file_named c.nodes x) u) is ∙ ap (λ (node : Node). moved_node (file_in node) u) there.1 in
+      let here : node_at nodes u ≡ At u there.0 = node_low u inside ∙ ap (λ (x : Option ℕ). moved_node (file_named c.nodes x) u) is
+      ∙ ap (λ (node : Node). moved_node (file_in node) u) there.1 in
       let e : u ≡ k = cc in
       (there.0, ap (node_at nodes) (sym e) ∙ here)
 
   slot_inside : (u k : ℕ) → slot_at slots u ≡ Some k → u < length c.slots
-  slot_inside u k is = let lt = inside_of slots u None (λ (gone : slot_at slots u ≡ None). let e : Some k ≡ None = sym is ∙ gone in cc) in omega arith
+  slot_inside u k is = let lt = inside_of slots u None (λ (gone : slot_at slots u ≡ None). let e : Some k ≡ None = sym is ∙ gone in cc) in
+      let same = r.same_size in omega arith
 
   pub prepared_keeps : IsTable prepared
   prepared_keeps = record {
-    few_slots = let f = t.few_slots in omega arith;
-    range_inside = let r = t.range_inside in omega arith;
+    few_slots = let f = t.few_slots in let same = r.same_size in omega arith;
+    range_inside = let inside = t.range_inside in let same = r.same_size in omega arith;
     few_nodes = let len = len_nodes in omega arith;
     same_numbers = length-replicate numbers 0 ∙ sym len_nodes;
-    placed = λ u k is. let inside = slot_inside u k is in named_placed u k inside (slot_at c.slots u) refl (sym (named u inside) ∙ is);
-    held = each_node (λ n node. is_retired node ≡ true → 0 < slice_index (replicate numbers 0) n) (λ n x lt is. let e : false ≡ true = sym (moved_retired n x) ∙ is in cc) (λ n ge lt is. cc) (λ n ge is. cc);
+    placed = λ u k is. let inside = slot_inside u k is in named_placed u k inside (slot_at c.slots u) refl (sym (r.named u inside) ∙ is);
+    held = each_node (λ n node. is_retired node ≡ true → 0 < slice_index (replicate numbers 0) n) (λ n x lt is. let e : false ≡ true =
+        sym (moved_retired n x) ∙ is in cc) (λ n ge lt is. cc) (λ n ge is. cc);
   }
 
-  pub prepared_counted : (full held removed : ℕ) → IsCounted c full held removed → total file_count_of slots ≡ total file_count_of c.slots → IsCounted prepared full 0 0
-  prepared_counted full held removed k same_full = record {
-    full_slots = k.full_slots ∙ sym same_full;
-    all_holds = sym (total-replicate itself numbers 0 refl);
+  pub prepared_counted : (full held removed : ℕ) → IsCounted c full held removed → IsSettled (state_of c) → IsCounted prepared full held removed
+  prepared_counted full held removed k settled = record {
+    full_slots = k.full_slots ∙ sym r.same_full;
+    all_holds = no_holds c full held removed k settled ∙ sym (total-replicate itself numbers 0 refl);
     small_holds = λ n. let z = all_zero numbers n in omega arith;
-    all_removed = sym (total_nothing removed_count_of nodes Gone refl (each_node (λ n node. removed_count_of node ≡ 0) (λ n x lt. moved_opened n x) (λ n ge lt. refl) (λ n ge. refl)));
+    all_removed = none_removed c full held removed k settled ∙ sym (total_nothing removed_count_of nodes Gone refl
+        (each_node (λ n node. removed_count_of node ≡ 0) (λ n x lt. moved_opened n x) (λ n ge lt. refl) (λ n ge. refl)));
   }

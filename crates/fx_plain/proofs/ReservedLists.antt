@@ -1,5 +1,6 @@
 -- What stands in a list of which only a beginning is written.
-use Rattle.std.proofs.Common.{◌≡◌, ℕ, zero, suc, ◌+◌, ◌-◌, ◌<◌, ◌≤◌, List, [], ◌∷◌, ◌++◌, length, length-append, replicate, refl, sym, ap, subst, ◌∙◌, slice_index, slice_index_or, slice_set, append_assoc, Option, None, IsSome, arith, inl, inr}
+use Rattle.std.proofs.Common.{◌≡◌, ℕ, zero, suc, ◌+◌, ◌-◌, ◌<◌, ◌≤◌, List, [], ◌∷◌, ◌++◌, length, length-append, replicate, refl, sym, ap, subst, ◌∙◌}
+use Rattle.std.proofs.Common.{slice_index, slice_index_or, slice_set, append_assoc, Option, None, IsSome, arith, inl, inr}
 use Rattle.std.proofs.lemmas.List.{length-set, length-replicate, get_or_append_left, get_or-append-add, set-append_left}
 use Rattle.std.proofs.lemmas.Bool.{cases_lt}
 use Rattle.std.proofs.Math.ListN.{get_or-eq_default}
@@ -15,7 +16,8 @@ read_replicate (suc n) (suc i) x d inside = read_replicate n i x d (omega arith)
 
 module _ {X : Type 0} (rest : X) (len : ℕ) (xs : List X) where
   pub length-with_rest : length xs ≤ len → length (with_rest rest len xs) ≡ len
-  length-with_rest few = let a = length-append xs (replicate (len - length xs) rest) in let b : length (replicate (len - length xs) rest) ≡ len - length xs = length-replicate (len - length xs) rest in omega arith
+  length-with_rest few = let a = length-append xs (replicate (len - length xs) rest) in
+      let b : length (replicate (len - length xs) rest) ≡ len - length xs = length-replicate (len - length xs) rest in omega arith
 
   -- what was written is read
   pub read_written : (n : ℕ) (d : X) → n < length xs → slice_index_or (with_rest rest len xs) n d ≡ slice_index_or xs n d
@@ -26,7 +28,8 @@ module _ {X : Type 0} (rest : X) (len : ℕ) (xs : List X) where
   read_rest n d behind inside =
       let at : length xs + (n - length xs) ≡ n = omega arith in
       ap (λ (k : ℕ). slice_index_or (with_rest rest len xs) k d) (sym at)
-      ∙ get_or-append-add xs (replicate (len - length xs) rest) (n - length xs) d ∙ read_replicate (len - length xs) (n - length xs) rest d (omega arith)
+      ∙ get_or-append-add xs (replicate (len - length xs) rest) (n - length xs) d
+      ∙ read_replicate (len - length xs) (n - length xs) rest d (omega arith)
 
   -- and behind that nothing
   pub read_behind : (n : ℕ) (d : X) → length xs ≤ len → len ≤ n → slice_index_or (with_rest rest len xs) n d ≡ d
@@ -34,7 +37,8 @@ module _ {X : Type 0} (rest : X) (len : ℕ) (xs : List X) where
 
   -- a write of what was written is a write of the whole list
   pub with_rest-set : (n : ℕ) (x : X) → n < length xs → with_rest rest len (slice_set xs n x) ≡ slice_set (with_rest rest len xs) n x
-  with_rest-set n x inside = ap (λ (k : ℕ). slice_set xs n x ++ replicate (len - k) rest) (length-set xs n x) ∙ sym (set-append_left xs (replicate (len - length xs) rest) n x inside)
+  with_rest-set n x inside = ap (λ (k : ℕ). slice_set xs n x ++ replicate (len - k) rest) (length-set xs n x)
+      ∙ sym (set-append_left xs (replicate (len - length xs) rest) n x inside)
 
   -- one more of the rest may be written at any time
   pub with_rest-push : length xs < len → with_rest rest len (xs ++ rest ∷ []) ≡ with_rest rest len xs

@@ -1,7 +1,9 @@
 -- What the counts of a table say of its state.
-use Rattle.std.proofs.Common.{◌≡◌, ℕ, zero, suc, ◌+◌, ◌<◌, ◌≤◌, ◌^◌, true, false, List, [], ◌∷◌, length, length-append, replicate, refl, sym, ap, subst, ◌∙◌, Option, Some, None, IsSome, IfSome, arith}
+use Rattle.std.proofs.Common.{◌≡◌, ℕ, zero, suc, ◌+◌, ◌<◌, ◌≤◌, ◌^◌, true, false, List, [], ◌∷◌, length, length-append, replicate, refl, sym, ap}
+use Rattle.std.proofs.Common.{subst, ◌∙◌, Option, Some, None, IsSome, IfSome, arith}
 use Rattle.fx_plain.specs.State.{State, IsSettled, files_in_order, files_of, identities_of}
-use Rattle.fx_plain.specs.Contents.{Contents, IsTable, IsCounted, state_of, slot_at, node_at, file_at, placed_at, removed_at, file_count_of, removed_count_of, itself, Fresh, At, Leaving, Retired, Gone}
+use Rattle.fx_plain.specs.Contents.{Contents, IsTable, IsCounted, state_of, slot_at, node_at, file_at, placed_at, removed_at, file_count_of}
+use Rattle.fx_plain.specs.Contents.{removed_count_of, itself, Fresh, At, Leaving, Retired, Gone}
 use Rattle.fx_plain.specs.Totals.{total}
 use Rattle.fx_plain.specs.Table.{HasRoomForHold}
 use Rattle.fx_plain.specs.declared.event.File.{File}
@@ -33,7 +35,8 @@ pub no_holds : (c : Contents) (full held removed : ℕ) → IsCounted c full hel
 no_holds c full held removed k s = k.all_holds ∙ total_nothing itself c.holds 0 refl s.unheld
 
 pub none_removed : (c : Contents) (full held removed : ℕ) → IsCounted c full held removed → IsSettled (state_of c) → removed ≡ 0
-none_removed c full held removed k s = k.all_removed ∙ total_nothing removed_count_of c.nodes Gone refl (λ n. not_removed n (node_at c.nodes n) (s.closed n))
+none_removed c full held removed k s = k.all_removed
+    ∙ total_nothing removed_count_of c.nodes Gone refl (λ n. not_removed n (node_at c.nodes n) (s.closed n))
 
 -- the sum of the first so many
 abbrev upto : (ℕ → ℕ) → ℕ → ℕ
@@ -49,7 +52,8 @@ total_upto [] = refl
 total_upto (x ∷ xs) = let rest = total_upto xs in let front = upto_front (λ i. file_count_of (slot_at (x ∷ xs) i)) (length xs) in omega arith
 
 -- what a slot names stands there
-one_file : (c : Contents) (slot : ℕ) → IsTable c → (x : Option ℕ) → slot_at c.slots slot ≡ x → length (identities_of (file_at c.nodes x)) ≡ file_count_of x
+one_file : (c : Contents) (slot : ℕ) → IsTable c → (x : Option ℕ) → slot_at c.slots slot ≡ x
+    → length (identities_of (file_at c.nodes x)) ≡ file_count_of x
 one_file c slot t None is = refl
 one_file c slot t (Some n) is = ap (λ (node : Node). length (identities_of (placed_at n node))) (t.placed slot n is).1
 
@@ -70,10 +74,13 @@ slot_at-replicate (suc n) zero = refl
 slot_at-replicate (suc n) (suc i) = slot_at-replicate n i
 
 -- a table of empty slots
-pub sparse_keeps : (slots : List (Option ℕ)) (n : ℕ) (nodes : List Node) (holds : List ℕ) → slots ≡ replicate n None → n ≤ 256 → nodes ≡ [] → holds ≡ [] → length slots ≡ n
-    → IsTable (record { slots = slots; range = (0, n); nodes = nodes; holds = holds; numbers = n }) × IsCounted (record { slots = slots; range = (0, n); nodes = nodes; holds = holds; numbers = n }) 0 0 0
+pub sparse_keeps : (slots : List (Option ℕ)) (n : ℕ) (nodes : List Node) (holds : List ℕ) → slots ≡ replicate n None → n ≤ 256 → nodes ≡ []
+    → holds ≡ [] → length slots ≡ n
+    → IsTable (record { slots = slots; range = (0, n); nodes = nodes; holds = holds; numbers = n })
+    × IsCounted (record { slots = slots; range = (0, n); nodes = nodes; holds = holds; numbers = n }) 0 0 0
 sparse_keeps slots n nodes holds slots_are few no_nodes no_hold len =
-    subst (λ (x : List (Option ℕ) × List Node × List ℕ). IsTable (record { slots = x.0; range = (0, n); nodes = x.1; holds = x.2; numbers = n }) × IsCounted (record { slots = x.0; range = (0, n); nodes = x.1; holds = x.2; numbers = n }) 0 0 0)
+    subst (λ (x : List (Option ℕ) × List Node × List ℕ). IsTable (record { slots = x.0; range = (0, n); nodes = x.1; holds = x.2; numbers = n })
+    × IsCounted (record { slots = x.0; range = (0, n); nodes = x.1; holds = x.2; numbers = n }) 0 0 0)
     (λ i. (sym slots_are i, sym no_nodes i, sym no_hold i)) (
       record {
         few_slots = let l : length (replicate n None) ≡ n = sym (ap length slots_are) ∙ len in omega arith;
@@ -83,7 +90,13 @@ sparse_keeps slots n nodes holds slots_are few no_nodes no_hold len =
         placed = λ slot number is. let e : Some number ≡ None = sym is ∙ slot_at-replicate n slot in cc;
         held = λ number is. let e : false ≡ true = is in cc;
       },
-      record { full_slots = sym (total-replicate file_count_of n None refl); all_holds = refl; small_holds = λ number. omega arith; all_removed = refl },
+      record {
+        full_slots = sym (total-replicate file_count_of n None refl);
+        all_holds = refl;
+        small_holds = λ number. omega arith;
+        all_removed =
+            refl;
+      },
     )
 
 -- a slot that names a number has a file

@@ -11,7 +11,8 @@ module _ (f g : ℕ → ℕ) (q : ℕ) (off : (k : ℕ) → k ≢ q → g k ≡ 
   -- a change at or above the bound changes nothing
   pub same_below : (n : ℕ) → n ≤ q → sum_below g n ≡ sum_below f n
   same_below zero le = refl
-  same_below (suc n) le = let apart : n ≢ q = omega arith in let rest : sum_below g n ≡ sum_below f n = same_below n (omega arith) in let here = off n apart in omega arith
+  same_below (suc n) le = let apart : n ≢ q = omega arith in let rest : sum_below g n ≡ sum_below f n = same_below n (omega arith) in
+      let here = off n apart in omega arith
 
   -- a change below the bound shows in the sum
   pub changed_below : (n : ℕ) → q < n → sum_below g n + f q ≡ sum_below f n + g q
@@ -34,7 +35,8 @@ module _ (f : ℕ → ℕ) where
 
   pub sum_zero : (n : ℕ) → ((k : ℕ) → k < n → f k ≡ 0) → sum_below f n ≡ 0
   sum_zero zero none_there = refl
-  sum_zero (suc n) none_there = let rest : sum_below f n ≡ 0 = sum_zero n (λ k lt. none_there k (omega arith)) in let here = none_there n (omega arith) in omega arith
+  sum_zero (suc n) none_there = let rest : sum_below f n ≡ 0 = sum_zero n (λ k lt. none_there k (omega arith)) in
+      let here = none_there n (omega arith) in omega arith
 
   -- where at most one term is not 0, and that is 1, so is the sum
   pub sum_one : (n : ℕ) → ((k : ℕ) → f k ≤ 1) → ((j k : ℕ) → j < n → k < n → 0 < f j → 0 < f k → j ≡ k) → sum_below f n ≤ 1

@@ -3,7 +3,8 @@ use Rattle.std.proofs.Common.{◌≡◌, ℕ, zero, suc, ◌+◌, ◌*◌, ◌<�
 use Rattle.fx_plain.specs.Totals.{total}
 
 -- one element counts as the new one, and the others as before
-pub total_set : {X : Type 0} (f : X → ℕ) (xs : List X) (i : ℕ) (x d : X) → i < length xs → total f (slice_set xs i x) + f (slice_index_or xs i d) ≡ total f xs + f x
+pub total_set : {X : Type 0} (f : X → ℕ) (xs : List X) (i : ℕ) (x d : X) → i < length xs
+    → total f (slice_set xs i x) + f (slice_index_or xs i d) ≡ total f xs + f x
 total_set f [] i x d inside = absurd (omega arith)
 total_set f (y ∷ ys) zero x d inside = omega arith
 total_set f (y ∷ ys) (suc i) x d inside = let rest = total_set f ys i x d (omega arith) in omega arith

@@ -3,7 +3,8 @@ use Rattle.std.proofs.Common.{◌≡◌, ◌≢◌, ℕ, ◌<◌, true, List, le
 use Rattle.std.proofs.lemmas.List.{get_or-set_other}
 use Rattle.fx_base.specs.declared.open_file.Closed.{Closed}
 use Rattle.fx_plain.specs.Step.{changed_at}
-use Rattle.fx_plain.specs.Contents.{Contents, IsTable, state_of, slot_at, node_at, file_at, placed_at, leaving, removed_at, is_fresh, is_leaving, is_retired, file_in, Fresh, At, Leaving, Retired, Gone}
+use Rattle.fx_plain.specs.Contents.{Contents, IsTable, state_of, slot_at, node_at, file_at, placed_at, leaving, removed_at, is_fresh, is_leaving}
+use Rattle.fx_plain.specs.Contents.{is_retired, file_in, Fresh, At, Leaving, Retired, Gone}
 use Rattle.fx_plain.specs.declared.node.Node.{Node}
 use Rattle.fx_plain.proofs.Cells.{written, inside_of}
 
@@ -12,13 +13,16 @@ pub inside_of-At : (nodes : List Node) (n slot : ℕ) (file : Closed) → node_a
 inside_of-At nodes n slot file is = inside_of nodes n Gone (λ (gone : node_at nodes n ≡ Gone). cc)
 
 pub inside_of-Fresh : (nodes : List Node) (n : ℕ) → is_fresh (node_at nodes n) ≡ true → n < length nodes
-inside_of-Fresh nodes n fresh = inside_of nodes n Gone (λ (gone : node_at nodes n ≡ Gone). let e : is_fresh Gone ≡ true = ap is_fresh (sym gone) ∙ fresh in cc)
+inside_of-Fresh nodes n fresh =
+    inside_of nodes n Gone (λ (gone : node_at nodes n ≡ Gone). let e : is_fresh Gone ≡ true = ap is_fresh (sym gone) ∙ fresh in cc)
 
 pub inside_of-Leaving : (nodes : List Node) (n : ℕ) → is_leaving (node_at nodes n) ≡ true → n < length nodes
-inside_of-Leaving nodes n going = inside_of nodes n Gone (λ (gone : node_at nodes n ≡ Gone). let e : is_leaving Gone ≡ true = ap is_leaving (sym gone) ∙ going in cc)
+inside_of-Leaving nodes n going =
+    inside_of nodes n Gone (λ (gone : node_at nodes n ≡ Gone). let e : is_leaving Gone ≡ true = ap is_leaving (sym gone) ∙ going in cc)
 
 pub inside_of-Retired : (nodes : List Node) (n : ℕ) → is_retired (node_at nodes n) ≡ true → n < length nodes
-inside_of-Retired nodes n going = inside_of nodes n Gone (λ (gone : node_at nodes n ≡ Gone). let e : is_retired Gone ≡ true = ap is_retired (sym gone) ∙ going in cc)
+inside_of-Retired nodes n going =
+    inside_of nodes n Gone (λ (gone : node_at nodes n ≡ Gone). let e : is_retired Gone ≡ true = ap is_retired (sym gone) ∙ going in cc)
 
 -- a node has a file, at a slot or removed
 pub has_file-At : (nodes : List Node) (n slot : ℕ) (file : Closed) → node_at nodes n ≡ At slot file → IsSome (file_in (node_at nodes n))
@@ -57,22 +61,26 @@ abbrev pub IsOff : Node → Type 0
 IsOff node = (slot : ℕ) (file : Closed) → node ≢ At slot file
 
 -- a slot's file stays where a node that isn't at a slot is written
-pub same_file : (c : Contents) (n : ℕ) (v : Node) → IsTable c → IsOff (node_at c.nodes n) → (slot : ℕ) (x : Option ℕ) → slot_at c.slots slot ≡ x → file_at (slice_set c.nodes n v) x ≡ file_at c.nodes x
+pub same_file : (c : Contents) (n : ℕ) (v : Node) → IsTable c → IsOff (node_at c.nodes n) → (slot : ℕ) (x : Option ℕ) → slot_at c.slots slot ≡ x
+    → file_at (slice_set c.nodes n v) x ≡ file_at c.nodes x
 same_file c n v t off slot None is = refl
 same_file c n v t off slot (Some m) is =
     let at = t.placed slot m is in
     ap (placed_at m) (get_or-set_other c.nodes n m v Gone (λ (same : m ≡ n). off slot at.0 (ap (node_at c.nodes) (sym same) ∙ at.1)))
 
-pub state_of-holds : (c : Contents) (n h : ℕ) → n < length c.holds → state_of (record c { holds = slice_set c.holds n h }) ≡ record (state_of c) { holds = changed_at (state_of c).holds n h }
+pub state_of-holds : (c : Contents) (n h : ℕ) → n < length c.holds
+    → state_of (record c { holds = slice_set c.holds n h }) ≡ record (state_of c) { holds = changed_at (state_of c).holds n h }
 state_of-holds c n h inside = λ i. record (state_of c) { holds = written (λ q x. x) c.holds n h 0 inside i }
 
 pub state_of-nodes : (c : Contents) (n : ℕ) (v : Node) → IsTable c → n < length c.nodes → IsOff (node_at c.nodes n)
-    → state_of (record c { nodes = slice_set c.nodes n v }) ≡ record (state_of c) { removed = changed_at (state_of c).removed n (removed_at n v); fresh = changed_at (state_of c).fresh n (is_fresh v) }
+    → state_of (record c { nodes = slice_set c.nodes n v })
+    ≡ record (state_of c) { removed = changed_at (state_of c).removed n (removed_at n v); fresh = changed_at (state_of c).fresh n (is_fresh v) }
 state_of-nodes c n v t inside off = λ i. record (state_of c) {
   at = λ slot. same_file c n v t off slot (slot_at c.slots slot) refl i;
   removed = written removed_at c.nodes n v Gone inside i;
   fresh = written (λ q x. is_fresh x) c.nodes n v Gone inside i;
 }
 
-pub leaving-nodes : (c : Contents) (n : ℕ) (v : Node) → n < length c.nodes → leaving (record c { nodes = slice_set c.nodes n v }) ≡ changed_at (leaving c) n (is_leaving v)
+pub leaving-nodes : (c : Contents) (n : ℕ) (v : Node) → n < length c.nodes
+    → leaving (record c { nodes = slice_set c.nodes n v }) ≡ changed_at (leaving c) n (is_leaving v)
 leaving-nodes c n v inside = written (λ q x. is_leaving x) c.nodes n v Gone inside

@@ -1,6 +1,7 @@
 -- What contracts see of a table: lists. `state_of` is its state, `leaving` says which removed files wait for their
 -- retirement, and `numbers_of` how many numbers were prepared.
-use Rattle.std.specs.Prelude.{◌≡◌, ℕ, ◌+◌, ◌<◌, ◌≤◌, ◌^◌, Bool, true, false, List, length, Option, Some, None, slice_index, slice_index_or, slice_set, nat_lt, if◌then◌else◌}
+use Rattle.std.specs.Prelude.{◌≡◌, ℕ, ◌+◌, ◌<◌, ◌≤◌, ◌^◌, Bool, true, false, List, length, Option, Some, None, slice_index, slice_index_or, slice_set}
+use Rattle.std.specs.Prelude.{nat_lt, if◌then◌else◌}
 use Rattle.fx_base.specs.declared.open_file.Closed.{Closed}
 use Rattle.fx_plain.specs.State.{State}
 use Rattle.fx_plain.specs.Totals.{total}
@@ -141,6 +142,14 @@ opening_node slots nodes numbers number =
 abbrev pub opening_slot : Option ℕ → ℕ → Option ℕ
 opening_slot None slot = None
 opening_slot (Some number) slot = Some slot
+
+-- each slot has its own number now, and its file stands in the node of that number
+pub record IsRenumbered (slots : List (Option ℕ)) (nodes : List Node) (new : List (Option ℕ)) (moved : List Node) : Type 0 where
+  pub same_size : length new ≡ length slots
+  pub count : length moved ≡ length slots
+  pub named : (slot : ℕ) → slot < length slots → slot_at new slot ≡ opening_slot (slot_at slots slot) slot
+  pub filed : (slot : ℕ) → slot < length slots → node_at moved slot ≡ moved_node (file_named nodes (slot_at slots slot)) slot
+  pub same_full : total file_count_of new ≡ total file_count_of slots
 
 -- the nodes, without the file that a slot names
 abbrev pub nodes_without : List Node → Option ℕ → List Node

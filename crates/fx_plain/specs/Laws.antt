@@ -15,7 +15,8 @@ IsAtSlot st f = (slot : ℕ) × (slot < st.size) × (st.at slot ≡ Some f)
 -- new file will get
 pub record IsStart (st : State) : Type 0 where
   pub settled : IsSettled st
-  pub distinct : (slot other : ℕ) (f g : File) → slot < st.size → other < st.size → st.at slot ≡ Some f → st.at other ≡ Some g → f.number ≡ g.number → slot ≡ other
+  pub distinct : (slot other : ℕ) (f g : File) → slot < st.size → other < st.size → st.at slot ≡ Some f → st.at other ≡ Some g → f.number ≡ g.number
+      → slot ≡ other
   pub used : (slot : ℕ) (f : File) → slot < st.size → st.at slot ≡ Some f → st.fresh f.number ≡ false
 
 -- the file, if it has the number

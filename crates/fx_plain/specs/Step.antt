@@ -30,7 +30,8 @@ abbrev pub after : State → Action → State
 after st (Look slot None) = st
 after st (Look slot (Some f)) = record st { holds = changed_at st.holds f.number (st.holds f.number + 1) }
 after st (Release f) = record st { holds = changed_at st.holds f.number (st.holds f.number - 1) }
-after st (Put slot f replaced) = record st { at = changed_at st.at slot (Some f); fresh = changed_at st.fresh f.number false; removed = with_removed st.removed replaced }
+after st (Put slot f replaced) =
+    record st { at = changed_at st.at slot (Some f); fresh = changed_at st.fresh f.number false; removed = with_removed st.removed replaced }
 after st (Clear slot found) = record st { at = changed_at st.at slot None; removed = with_removed st.removed found }
 after st (Take slot found) = record st { at = changed_at st.at slot None; removed = with_removed st.removed found }
 after st (Allocate slot f) = record st { at = changed_at st.at slot (Some f); fresh = changed_at st.fresh f.number false }

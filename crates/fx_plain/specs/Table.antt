@@ -36,9 +36,9 @@ abbrev pub more_leaving : (ℕ → Bool) → Option File → ℕ → Bool
 more_leaving leaving None = leaving
 more_leaving leaving (Some f) = changed_at leaving f.number true
 
--- the action leads from the old table to the new one; the file that it found at its slot, if there was one, is leaving from
--- now on, and its number is the answer
-pub record Removes (old new : Contents) (action : Action) (found : Option File) (removed : Option ℕ) : Type 0 where
+-- the action leads from the old table to the new one and lets the file that it found at its slot leave, if there was one:
+-- its number is the answer
+pub record LetsLeave (old new : Contents) (action : Action) (found : Option File) (removed : Option ℕ) : Type 0 where
   pub answer : removed ≡ number_of found
   pub step : Steps (state_of old) action (state_of new)
   pub numbers : numbers_of new ≡ numbers_of old
@@ -46,7 +46,7 @@ pub record Removes (old new : Contents) (action : Action) (found : Option File) 
   pub leaving : leaving new ≡ more_leaving (leaving old) found
 
 -- a hold of the number's file is given up; the file is closed and comes out where it was retired and this was its last hold
-pub record Releases (old new : Contents) (number : ℕ) (out : Option Closed) : Type 0 where
+pub record EndsHold (old new : Contents) (number : ℕ) (out : Option Closed) : Type 0 where
   pub answer : out ≡ identity_of (closed_by_release old number)
   pub steps : (f : File) → f.number ≡ number
       → Leads (state_of old) ([] ▷ Release f ▷▷ close_of (closed_by_release old number)) (state_of new)

@@ -4,7 +4,7 @@ use Rattle.fx_table.specs.declared.limits.TheConstants.{FIRST_CHAIN_NUMBER, CHAI
 use Rattle.fx_plain.specs.History.{◌▷◌}
 use Rattle.fx_plain.specs.declared.event.Event.{Event}
 use Rattle.fx_plain.specs.declared.event.Action.{Action}
-use Rattle.fx_plain.specs.declared.event.Action.TheVariants.{Look, Release, Put, Clear, Take, Allocate, Full, Close}
+use Rattle.fx_plain.specs.declared.event.Action.TheVariants.{Put, Allocate}
 
 -- how many file numbers there are, and where the numbers of the last chain end
 abbrev pub numbers_for : ℕ → ℕ
@@ -16,14 +16,9 @@ chain_of_number number = (number - FIRST_CHAIN_NUMBER) / CHAIN_NUMBERS + 1
 
 -- the number behind the one that an action gave a file, or else the one before
 abbrev pub number_behind_action : ℕ → Action → ℕ
-number_behind_action n (Look slot found) = n
-number_behind_action n (Release f) = n
 number_behind_action n (Put slot f replaced) = f.number + 1
-number_behind_action n (Clear slot found) = n
-number_behind_action n (Take slot found) = n
 number_behind_action n (Allocate slot f) = f.number + 1
-number_behind_action n Full = n
-number_behind_action n (Close f) = n
+number_behind_action n _ = n
 
 -- the number behind the last one that the events gave a file, or the first of all
 abbrev pub number_behind : List Event → ℕ

@@ -4,7 +4,7 @@ ghost use Rattle.fx_plain.specs.declared.event.Action.TheVariants.{Look};
 ghost use Rattle.fx_plain.specs.Step.{Steps, changed_at};
 ghost use Rattle.fx_plain.specs.History.{Leads, close_of};
 ghost use Rattle.fx_plain.specs.Contents.{state_of, leaving, numbers_of, IsTable};
-ghost use Rattle.fx_plain.specs.Table.{identity_of, closed_by_retirement, HasRoomForHold, Releases};
+ghost use Rattle.fx_plain.specs.Table.{identity_of, closed_by_retirement, HasRoomForHold, EndsHold};
 
 use crate::table::PlainTable;
 use fx_base::OpenFile;
@@ -37,7 +37,7 @@ impl PlainTable {
     /// was its last hold. The caller knows that the file has a hold, as where [`PlainTable::is_held`].
     pub fn release(&mut self, number: u32) -> Option<OpenFile>
         requires { 0 < (state_of self.old).holds number }
-        ensures { Releases self.old self.new number result }
+        ensures { EndsHold self.old self.new number result }
     {
         let left = self.holds.end_hold(number);
         self.held -= 1;

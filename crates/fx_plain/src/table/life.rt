@@ -3,7 +3,7 @@ ghost use Rattle.std.specs.Prelude.{◌≡◌, ◌≤◌, ◌<◌, ◌+◌, ℕ,
 ghost use Rattle.std.specs.Option.{option_to_list};
 ghost use Rattle.fx_plain.specs.State.{vacant, opening, IsSettled, files_of, files_in_order};
 ghost use Rattle.fx_plain.specs.Totals.{total};
-ghost use Rattle.fx_plain.specs.Contents.{state_of, numbers_of, IsTable, slot_at, node_at, moved_node, file_in, file_named, nodes_without, opening_slot, file_at, AllPlaced, SameButPlaced, file_count_of, removed_count_of};
+ghost use Rattle.fx_plain.specs.Contents.{state_of, numbers_of, IsTable, slot_at, node_at, moved_node, file_in, file_named, nodes_without, opening_slot, file_at, AllPlaced, IsRenumbered, SameButPlaced, removed_count_of};
 
 use crate::hold_list::HoldList;
 use crate::node::Node;
@@ -111,15 +111,8 @@ fn renumber(slots: &mut Vec<Option<u32>>, nodes: &mut NodeList, moved: &mut Vec<
     requires few { vec_len slots.old < 2 ^ 32 }
     requires placed { AllPlaced slots.old.items nodes.old }
     requires room { (moved.old.items ≡ []) × (vec_len slots.old ≤ vec_capacity moved.old) }
-    ensures len { vec_len slots.new ≡ vec_len slots.old }
-    ensures count { vec_len moved.new ≡ vec_len slots.old }
+    ensures renumbered { IsRenumbered slots.old.items nodes.old slots.new.items moved.new.items }
     ensures capacity { vec_capacity moved.new ≡ vec_capacity moved.old }
-    ensures slots { (slot : ℕ) → slot < vec_len slots.old
-        → slot_at slots.new.items slot ≡ opening_slot (slot_at slots.old.items slot) slot }
-    ensures moved { (slot : ℕ) → slot < vec_len slots.old
-        → node_at moved.new.items slot
-        ≡ moved_node (file_named nodes.old (slot_at slots.old.items slot)) slot }
-    ensures full { total file_count_of slots.new.items ≡ total file_count_of slots.old.items }
 {
     for slot in 0..slots.len() {
         let node = move_file(slots, nodes, slot);

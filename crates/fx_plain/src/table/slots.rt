@@ -4,7 +4,7 @@ ghost use Rattle.fx_plain.specs.declared.event.Action.TheVariants.{Put, Clear, T
 ghost use Rattle.fx_plain.specs.State.{IsInRange};
 ghost use Rattle.fx_plain.specs.Step.{Steps, Allows};
 ghost use Rattle.fx_plain.specs.Contents.{state_of, leaving, numbers_of, IsTable};
-ghost use Rattle.fx_plain.specs.Table.{numbered, Removes};
+ghost use Rattle.fx_plain.specs.Table.{numbered, LetsLeave};
 
 use crate::node::Node;
 use crate::table::PlainTable;
@@ -18,7 +18,7 @@ impl PlainTable {
         requires slot { slot < (state_of self.old).size }
         requires fresh { (state_of self.old).fresh number ≡ true }
         ensures { let found = (state_of self.old).at slot in
-            Removes self.old self.new (Put slot (numbered number file) found) found result }
+            LetsLeave self.old self.new (Put slot (numbered number file) found) found result }
     {
         self.nodes.set_node(number, Node::At(slot, file));
         let replaced = self.slots[slot as usize];
@@ -83,7 +83,7 @@ impl PlainTable {
     pub fn clear(&mut self, slot: u32) -> Option<u32>
         requires { slot < (state_of self.old).size }
         ensures { let found = (state_of self.old).at slot in
-            Removes self.old self.new (Clear slot found) found result }
+            LetsLeave self.old self.new (Clear slot found) found result }
     {
         self.take(slot)
     }
@@ -93,7 +93,7 @@ impl PlainTable {
     pub fn take(&mut self, slot: u32) -> Option<u32>
         requires { slot < (state_of self.old).size }
         ensures { let found = (state_of self.old).at slot in
-            Removes self.old self.new (Take slot found) found result }
+            LetsLeave self.old self.new (Take slot found) found result }
     {
         let number = self.slots[slot as usize]?;
         self.slots[slot as usize] = None;

@@ -13,6 +13,7 @@ loop-preserved c =
     record {
       count = search rules;
       few = λ len lt few. let pushed = c.push_reserved.ensures.len in omega arith;
-      same = λ len lt. ap (with_rest Fresh len) c.push_reserved.ensures.items ∙ with_rest-push Fresh len c.loop.nodes.items (omega arith) ∙ i.same len lt;
+      same = λ len lt. ap (with_rest Fresh len) c.push_reserved.ensures.items ∙ with_rest-push Fresh len c.loop.nodes.items (omega arith)
+          ∙ i.same len lt;
       capacity = search rules;
     }

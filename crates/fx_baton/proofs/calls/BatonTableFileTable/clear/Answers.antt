@@ -19,8 +19,7 @@ pub give_back-requires : goal.give_back-requires
 give_back-requires g c =
     let h = lent_as c.borrow.ensures c.slot_mut-plain.result.now c.slot_mut-plain.ensures.value in
     let l = c.clear-removed in
-    clear_called h c.requires.idle c.args.slot l.new.self l.result c.is_none.result l.ensures.step l.ensures.leaving l.ensures.answer
-    (flag_is l.result c.is_none.result c.is_none.ensures) l.ensures.sound
+    clear_called h c.requires.idle c.args.slot l.new.self l.result c.is_none.result l.ensures (flag_is l.result c.is_none.result c.is_none.ensures)
 
 pub returns-clause-cleared : goal.returns-clause-cleared
 returns-clause-cleared g c =

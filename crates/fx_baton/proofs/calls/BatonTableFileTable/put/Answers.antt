@@ -1,10 +1,9 @@
 use Rattle.std.proofs.Common.{ℕ, sym, subst}
 use Rattle.std.specs.Prelude.{[]}
 use Rattle.fx_base.specs.declared.open_file.Closed.{Closed}
-use Rattle.fx_plain.specs.Step.{Steps}
 use Rattle.fx_plain.specs.Contents.{state_of}
 use Rattle.fx_plain.specs.History.{◌▷◌}
-use Rattle.fx_plain.specs.Table.{numbered}
+use Rattle.fx_plain.specs.Table.{numbered, LetsLeave}
 use Rattle.fx_plain.specs.declared.event.Action.TheVariants.{Put}
 use Rattle.fx_table.specs.Calls.{Adds, one_number}
 use Rattle.fx_baton.specs.Rule.{opening_of}
@@ -35,12 +34,11 @@ give_back-requires g c =
     let h = lent_as c.borrow.ensures now c.slot_mut-plain.ensures.value in
     let l = c.put-replaced in
     let number = c.next_number-number in
-    let step = subst
-    (λ (z : Closed). Steps (state_of now) (Put c.args.slot (numbered number.result z) ((state_of now).at c.args.slot)) (state_of l.new.self))
-    (sym c.identity-identity.ensures) l.ensures.step in
-    put_called h c.requires.idle c.requires.numbers c.args.slot number.result
-    c.identity-identity.result l.new.self l.result c.is_none.result number.ensures
-    step l.ensures.leaving l.ensures.answer (flag_is l.result c.is_none.result c.is_none.ensures) l.ensures.sound
+    let found = (state_of now).at c.args.slot in
+    let lets_leave = subst (λ (z : Closed). LetsLeave now l.new.self (Put c.args.slot (numbered number.result z) found) found l.result)
+    (sym c.identity-identity.ensures) l.ensures in
+    put_called h c.requires.idle c.requires.numbers c.args.slot number.result c.identity-identity.result l.new.self l.result
+    c.is_none.result number.ensures lets_leave (flag_is l.result c.is_none.result c.is_none.ensures)
 
 pub returns-clause-placed : goal.returns-clause-placed
 returns-clause-placed g c =

@@ -1,9 +1,6 @@
 use Rattle.std.proofs.Common.{◌≡◌, ℕ, ◌<◌, ap, subst, sym}
-use Rattle.std.specs.Prelude.{[]}
 use Rattle.fx_plain.specs.Contents.{state_of}
-use Rattle.fx_plain.specs.History.{Leads, close_of, ◌▷◌, ◌▷▷◌}
-use Rattle.fx_plain.specs.Table.{identity_of, closed_by_release}
-use Rattle.fx_plain.specs.declared.event.Action.TheVariants.{Release}
+use Rattle.fx_plain.specs.Table.{identity_of, closed_by_release, EndsHold}
 use Rattle.fx_table.specs.declared.values.Hold.{Hold}
 use Rattle.fx_baton.specs.Rule.{opening_of}
 use Rattle.fx_baton.specs.Passes.{view_of}
@@ -26,10 +23,8 @@ give_back-requires g c =
     let h = lent_as c.borrow.ensures now c.slot_mut-plain.ensures.value in
     let f = c.requires.held in
     let is : c.args.hold.node ≡ f.0.number = ap (λ (x : Hold). x.node) f.2 in
-    let d = c.release-closed.new.self in
-    let leads = subst (λ (n : ℕ). Leads (state_of now) ([] ▷ Release f.0 ▷▷ close_of (closed_by_release now n)) (state_of d)) is
-    (c.release-closed.ensures.steps f.0 (sym is)) in
-    release_called h f.0 f.1 d leads c.release-closed.ensures.leaving c.release-closed.ensures.sound
+    let l = c.release-closed in
+    release_called h f.0 f.1 l.new.self l.result (subst (λ (n : ℕ). EndsHold now l.new.self n l.result) is l.ensures)
 
 pub returns-clause-released : goal.returns-clause-released
 returns-clause-released g c =

@@ -24,8 +24,7 @@ pub give_back-requires : goal.give_back-requires
 give_back-requires g c =
     let h = lent_as c.borrow.ensures c.slot_mut-plain.result.now c.slot_mut-plain.ensures.value in
     let l = c.take-removed in
-    take_called h c.requires.idle c.args.slot l.new.self l.result c.is_none.result l.ensures.step l.ensures.leaving l.ensures.answer
-    (flag_is l.result c.is_none.result c.is_none.ensures) l.ensures.sound
+    take_called h c.requires.idle c.args.slot l.new.self l.result c.is_none.result l.ensures (flag_is l.result c.is_none.result c.is_none.ensures)
 
 pub returns-in-Some-clause-taken : goal.returns-in-Some-clause-taken
 returns-in-Some-clause-taken g c =

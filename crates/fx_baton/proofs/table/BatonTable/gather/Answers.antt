@@ -1,9 +1,6 @@
-use Rattle.std.proofs.Common.{List, ◌++◌, [], ◌∷◌, sym, ap, ◌∙◌, subst, arith}
+use Rattle.std.proofs.Common.{List, sym, subst, arith}
 use Rattle.std.specs.Prelude.{Contains}
 use Rattle.std.proofs.lemmas.List.Elements.{All-contains, Contains-push}
-use Rattle.fx_plain.specs.Contents.{Contents}
-use Rattle.atomic_table.specs.declared.shared.Seat.{Seat}
-use Rattle.fx_baton.specs.declared.view.View.{View}
 use Rattle.fx_baton.specs.declared.pass.BatonPass.{BatonPass}
 use Rattle.fx_baton.specs.Lives.{IsIdleSeatOf}
 use Rattle.fx_baton.proofs.SeatsKeepRule.{may_join}

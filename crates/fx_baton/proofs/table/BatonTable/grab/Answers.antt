@@ -1,8 +1,7 @@
 use Rattle.std.proofs.Common.{◌∙◌, ap, subst, arith, ⊎_elim}
 use mathlib.Core.Option.{none}
-use Rattle.std.specs.Prelude.{◌∷◌}
 use Rattle.atomic_table.specs.Table.{step}
-use Rattle.fx_baton.specs.Rule.{Seated, Grabs, Takes}
+use Rattle.fx_baton.specs.Rule.{Seated, Grabs}
 use Rattle.fx_baton.proofs.GrabKeepsRule.{may_exchange}
 use Rattle.fx_baton.proofs.table.BatonTable.grab.Goals as goal
 

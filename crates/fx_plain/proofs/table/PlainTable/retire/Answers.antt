@@ -18,36 +18,48 @@ pub invariant_of-self : goal.invariant_of-self
 invariant_of-self c =
     let going : leaving (the_view c.self.inside) c.args.number ≡ true = search rules in
     let keeps = retire_close_keeps (the_view c.self.inside) c.args.number c.self.invariant.0 going _ _ _ c.self.invariant.1 in
-    subst (λ (k : Contents). IsTable k × IsCounted k c.self.inside.full c.self.inside.held (c.self.inside.removed - 1)) (sym (with_nodes (the_view c.self.inside) c.take_file.new.self _ c.take_file.ensures.after)) (keeps.1, keeps.2)
+    subst (λ (k : Contents). IsTable k × IsCounted k c.self.inside.full c.self.inside.held (c.self.inside.removed - 1))
+    (sym (with_nodes (the_view c.self.inside) c.take_file.new.self _ c.take_file.ensures.after)) (keeps.1, keeps.2)
 
 pub returns-then-of-eq0-clause-steps : goal.returns-then-of-eq0-clause-steps
 returns-then-of-eq0-clause-steps c =
     let going : leaving (the_view c.self.inside) c.args.number ≡ true = search rules in
     let unheld : slice_index c.self.inside.holds c.args.number ≡ 0 = search rules in
-    carried (λ k m. Leads (state_of k) (close_of (closed_by_retirement k c.args.number)) (state_of m)) c.self.view_is (with_nodes (the_view c.self.inside) c.take_file.new.self _ c.take_file.ensures.after) (retire_closes (the_view c.self.inside) c.args.number c.self.invariant.0 going unheld)
+    carried (λ k m. Leads (state_of k) (close_of (closed_by_retirement k c.args.number)) (state_of m)) c.self.view_is
+    (with_nodes (the_view c.self.inside) c.take_file.new.self _ c.take_file.ensures.after)
+    (retire_closes (the_view c.self.inside) c.args.number c.self.invariant.0 going unheld)
 
 pub returns-then-of-eq0-clause-leaving : goal.returns-then-of-eq0-clause-leaving
 returns-then-of-eq0-clause-leaving c =
     let going : leaving (the_view c.self.inside) c.args.number ≡ true = search rules in
-    carried (λ k m. leaving m ≡ changed_at (leaving k) c.args.number false) c.self.view_is (with_nodes (the_view c.self.inside) c.take_file.new.self _ c.take_file.ensures.after) (closed_leaving (the_view c.self.inside) c.args.number c.self.invariant.0 going)
+    carried (λ k m. leaving m ≡ changed_at (leaving k) c.args.number false) c.self.view_is
+    (with_nodes (the_view c.self.inside) c.take_file.new.self _ c.take_file.ensures.after)
+    (closed_leaving (the_view c.self.inside) c.args.number c.self.invariant.0 going)
 
 pub invariant_of-self-2 : goal.invariant_of-self-2
 invariant_of-self-2 c =
     let going : leaving (the_view c.self.inside) c.args.number ≡ true = search rules in
-    let held : slice_index c.self.inside.holds c.args.number ≢ 0 = λ (zero : slice_index c.self.inside.holds c.args.number ≡ 0). c.if-of-eq0.false (c.of.ensures ∙ zero) in
-    subst (λ (k : Contents). IsTable k × IsCounted k c.self.inside.full c.self.inside.held c.self.inside.removed) (sym (with_nodes (the_view c.self.inside) c.retire.new.self _ c.retire.ensures))
+    let held : slice_index c.self.inside.holds c.args.number ≢ 0 =
+    λ (zero : slice_index c.self.inside.holds c.args.number ≡ 0). c.if-of-eq0.false (c.of.ensures ∙ zero) in
+    subst (λ (k : Contents). IsTable k × IsCounted k c.self.inside.full c.self.inside.held c.self.inside.removed)
+    (sym (with_nodes (the_view c.self.inside) c.retire.new.self _ c.retire.ensures))
     (retire_wait_keeps (the_view c.self.inside) c.args.number c.self.invariant.0 going _ _ _ c.self.invariant.1 held)
 
 pub returns-clause-steps : goal.returns-clause-steps
 returns-clause-steps c =
     let going : leaving (the_view c.self.inside) c.args.number ≡ true = search rules in
-    let held : slice_index c.self.inside.holds c.args.number ≢ 0 = λ (zero : slice_index c.self.inside.holds c.args.number ≡ 0). c.if-of-eq0.false (c.of.ensures ∙ zero) in
-    carried (λ k m. Leads (state_of k) (close_of (closed_by_retirement k c.args.number)) (state_of m)) c.self.view_is (with_nodes (the_view c.self.inside) c.retire.new.self _ c.retire.ensures) (retire_waits (the_view c.self.inside) c.args.number c.self.invariant.0 going held)
+    let held : slice_index c.self.inside.holds c.args.number ≢ 0 =
+    λ (zero : slice_index c.self.inside.holds c.args.number ≡ 0). c.if-of-eq0.false (c.of.ensures ∙ zero) in
+    carried (λ k m. Leads (state_of k) (close_of (closed_by_retirement k c.args.number)) (state_of m)) c.self.view_is
+    (with_nodes (the_view c.self.inside) c.retire.new.self _ c.retire.ensures)
+    (retire_waits (the_view c.self.inside) c.args.number c.self.invariant.0 going held)
 
 pub returns-clause-leaving : goal.returns-clause-leaving
 returns-clause-leaving c =
     let going : leaving (the_view c.self.inside) c.args.number ≡ true = search rules in
-    carried (λ k m. leaving m ≡ changed_at (leaving k) c.args.number false) c.self.view_is (with_nodes (the_view c.self.inside) c.retire.new.self _ c.retire.ensures) (retired_leaving (the_view c.self.inside) c.args.number c.self.invariant.0 going)
+    carried (λ k m. leaving m ≡ changed_at (leaving k) c.args.number false) c.self.view_is
+    (with_nodes (the_view c.self.inside) c.retire.new.self _ c.retire.ensures)
+    (retired_leaving (the_view c.self.inside) c.args.number c.self.invariant.0 going)
 
 pub take_file-requires : goal.take_file-requires
 take_file-requires c =
