@@ -1,8 +1,8 @@
 -- Lines of printable bytes, and their words.
-use Rattle.std.proofs.Common.{◌≡◌, ℕ, ◌≤◌, ◌<◌, Bool, true, false, nat_le, List, [], ◌∷◌, refl, sym, ap, ◌∙◌, arith, Result, Ok, Err}
+use Rattle.std.proofs.Common.{◌≡◌, ℕ, ◌≤◌, Bool, true, false, nat_le, List, [], ◌∷◌, refl, sym, ap, ◌∙◌, arith, Result, Ok, Err}
 use Rattle.std.specs.Prelude.{◌==◌, ◌&&◌, if◌then◌else◌, IsAscii, IsUtf8, MatchResult}
 use Rattle.std.specs.Result.{IsOk}
-use Rattle.std.specs.List.{list_all, slice_split, onto_first}
+use Rattle.std.specs.List.{list_all, onto_first}
 use Rattle.std.proofs.lemmas.Str.{IsUtf8-from_ascii}
 use Rattle.std.proofs.lemmas.Str.Ascii.{IsAscii-nil, IsAscii-cons}
 use Rattle.fx_script.specs.Lines.{is_printable, words}

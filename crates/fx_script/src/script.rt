@@ -45,6 +45,14 @@ impl Script {
         self.commands.as_slice()
     }
 
+    // Its files and its commands, apart.
+    pub(crate) fn into_parts(self) -> (Catalogue, Vec<Command>)
+        ensures catalogue { result.0 ≡ self.catalogue }
+        ensures commands { instructions_of result.1.items ≡ self.commands }
+    {
+        (self.catalogue, self.commands)
+    }
+
     // The script, where no request waits for its submission.
     fn of(reader: Reader) -> Result<Script, ScriptError>
         ensures { Reads (at_end (progress_of reader)) result }

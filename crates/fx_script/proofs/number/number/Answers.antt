@@ -1,6 +1,5 @@
-use Rattle.std.proofs.Common.{◌≡◌, ◌+◌, ◌*◌, true, get_or, take, sym, ap, ◌∙◌, arith}
+use Rattle.std.proofs.Common.{◌≡◌, ◌+◌, ◌*◌, true, get_or, sym, ap, ◌∙◌, arith}
 use Rattle.std.proofs.lemmas.List.Folds.{list_all_more}
-use Rattle.std.specs.Str.Parse.{digits_value}
 use Rattle.fx_script.proofs.Numbers.{value_more, too_large}
 use Rattle.fx_script.proofs.Conditions.{and_true}
 use Rattle.fx_script.specs.Words.{is_digit}

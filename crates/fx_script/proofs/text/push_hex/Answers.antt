@@ -1,4 +1,4 @@
-use Rattle.std.proofs.Common.{◌≡◌, ◌++◌, ◌∷◌, [], ap, ◌∙◌, string_bytes, List, ℕ}
+use Rattle.std.proofs.Common.{◌++◌, ap, ◌∙◌, string_bytes, List, ℕ}
 use Rattle.hex.specs.Hex.{encode_lower}
 use Rattle.fx_script.proofs.Hexes.{one_byte, all_bytes}
 use Rattle.fx_script.proofs.text.push_hex.Goals as goal

@@ -1,5 +1,4 @@
-use Rattle.std.proofs.Common.{◌≡◌, ◌+◌, ◌≤◌, ℕ, List, ◌∷◌, length, ap, arith}
-use Rattle.fx_script.specs.Lines.{lines}
+use Rattle.std.proofs.Common.{◌≡◌, ℕ, List, ◌∷◌, length, ap, arith}
 use Rattle.fx_script.specs.Parts.{parts_left}
 use Rattle.fx_script.proofs.LinesOf.{few_lines}
 use Rattle.fx_script.proofs.script.Script.read.Goals as goal
