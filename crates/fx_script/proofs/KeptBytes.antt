@@ -26,11 +26,16 @@ reading_of-take bytes = elim (cases_lt LONGEST_SCRIPT (length bytes)) [
   | inr short ↦ ap reading_of (take_all (LONGEST_SCRIPT + 1) bytes (omega arith))
 ]
 
-pub script_kept : (input : Option (List ℕ)) (kept : List ℕ) (meaning : Meaning) → IfSome input (λ bytes. kept ≡ take (LONGEST_SCRIPT + 1) bytes) → IsScript kept meaning → IsInput input meaning
+-- these are the bytes that are kept, where those of the input are known
+abbrev pub IsKept : Option (List ℕ) → List ℕ → Type 0
+IsKept input kept = IfSome input (λ bytes. kept ≡ take (LONGEST_SCRIPT + 1) bytes)
+
+pub script_kept : (input : Option (List ℕ)) (kept : List ℕ) (meaning : Meaning) → IsKept input kept → IsScript kept meaning → IsInput input meaning
 script_kept None kept meaning is script = tt
 script_kept (Some bytes) kept meaning is script = sym (reading_of-take bytes) ∙ (sym (ap reading_of is) ∙ script)
 
-pub fault_kept : (input : Option (List ℕ)) (kept : List ℕ) (error : ScriptError) → IfSome input (λ bytes. kept ≡ take (LONGEST_SCRIPT + 1) bytes) → IsFaultOf kept error → IsInputFault input (fault_told error)
+pub fault_kept : (input : Option (List ℕ)) (kept : List ℕ) (error : ScriptError)
+    → IsKept input kept → IsFaultOf kept error → IsInputFault input (fault_told error)
 fault_kept None kept (Fault line kind) is has = tt
 fault_kept (Some bytes) kept (Fault line kind) is has = sym (reading_of-take bytes) ∙ (sym (ap reading_of is) ∙ has)
 fault_kept input kept NoMemory is has = tt

@@ -8,4 +8,5 @@ use Rattle.fx_script.specs.Lines.{lines}
 
 -- at most one more than it has bytes
 pub few_lines : (bytes : List ℕ) → length (lines bytes) ≤ length bytes + 1
-few_lines bytes = let some : count_by (λ b. b == 10) bytes ≤ length bytes = count_by-le-length (λ b. b == 10) bytes in omega (arith, length-slice_split (λ b. b == 10) bytes)
+few_lines bytes = let some : count_by (λ b. b == 10) bytes ≤ length bytes = count_by-le-length (λ b. b == 10) bytes in omega
+    (arith, length-slice_split (λ b. b == 10) bytes)

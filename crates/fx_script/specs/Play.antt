@@ -48,7 +48,8 @@ Prints old (RegistersList list) new text =
     (IsRefused (ring_of old) (ring_of new) (codes "register") text)
 Prints old Unregisters new text =
     Answers (unregister_refusal (ring_of old))
-    ((ring_of new ≡ without_table (ring_of old)) × PrintsClosed (ring_of old) (files_of (ring_of old)) (result_line (codes "unregister") (pos 0)) text)
+    ((ring_of new ≡ without_table (ring_of old))
+    × PrintsClosed (ring_of old) (files_of (ring_of old)) (result_line (codes "unregister") (pos 0)) text)
     (IsRefused (ring_of old) (ring_of new) (codes "unregister") text)
 Prints old (SetsRange off len) new text =
     MatchOption (range_refusal (ring_of old) off len)
@@ -56,7 +57,8 @@ Prints old (SetsRange off len) new text =
     (IsRefused (ring_of old) (ring_of new) (codes "range") text)
 Prints old (UpdatesRing off list) new text =
     Answers (update_refusal (ring_of old) off list)
-    ((ring_of new ≡ updated (ring_of old) off list) × PrintsClosed (ring_of old) (removed_from (ring_of old).at off list) (result_line (codes "regupdate") (pos (length list))) text)
+    ((ring_of new ≡ updated (ring_of old) off list)
+    × PrintsClosed (ring_of old) (removed_from (ring_of old).at off list) (result_line (codes "regupdate") (pos (length list))) text)
     (IsRefused (ring_of old) (ring_of new) (codes "regupdate") text)
 Prints old (SubmitsAll asked) new text =
     MatchOption (fault_of asked)

@@ -24,7 +24,8 @@ got_text got = if length got == 0 then [] else codes " " ++ encode_lower got
 -- `S.C.M RES`, and the bytes of a read
 abbrev pub completion_line : Completed → List ℕ
 completion_line c =
-    decimal c.place.submission ++ (codes "." ++ (decimal c.place.chain ++ (codes "." ++ (decimal c.place.member ++ (codes " " ++ (signed_decimal c.res ++ (got_text c.got ++ codes "\n")))))))
+    decimal c.place.submission ++ (codes "." ++ (decimal c.place.chain ++ (codes "." ++ (decimal c.place.member
+    ++ (codes " " ++ (signed_decimal c.res ++ (got_text c.got ++ codes "\n")))))))
 
 -- a line for each completion
 abbrev pub completion_lines : List Completed → List ℕ

@@ -28,7 +28,8 @@ fn front(bytes: &[u8], most: usize) -> &[u8]
 // Reads to the end, and keeps so many bytes that a script which is too long is known to be. A read that is interrupted is
 // a failed one.
 pub fn read_all<I: Read>(alloc: Global, reader: &mut I) -> Result<Vec<u8>, PlayFault>
-    ensures kept { IfOk result (λ input. IfSome (I.remaining reader.old) (λ bytes. input.items ≡ take (LONGEST_SCRIPT + 1) bytes)) }
+    ensures kept { IfOk result (λ input. IfSome (I.remaining reader.old)
+        (λ bytes. input.items ≡ take (LONGEST_SCRIPT + 1) bytes)) }
     ensures fault { IfErr result (IsInputFault (I.remaining reader.old)) }
 {
     let mut input = Vec::new(alloc);

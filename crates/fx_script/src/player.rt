@@ -21,7 +21,8 @@ use std::sync::Wait;
 use std::thread::Threads;
 
 fn write_text<W: Write>(writer: &mut W, text: &str) -> Result<(), PlayFault>
-    ensures written { OnOk result (Appends (W.contents writer.old) (W.contents writer.new) text.now) }
+    ensures written { OnOk result
+        (Appends (W.contents writer.old) (W.contents writer.new) text.now) }
     ensures fault { IfErr result (λ fault. fault ≡ Write) }
 {
     writer
@@ -40,8 +41,11 @@ fn play_commands<T: FileTable, R: Threads + Wait + Sync, G: Gate, W: Write>(
     writer: &mut W,
 ) -> Result<(), PlayFault>
     requires workers { (1 ≤ workers) × (workers ≤ MAX_PASSES) }
-    ensures ok { OnOk result (Writes (PrintsAll ring.old (instructions_of commands.now)) (W.contents writer.old) (W.contents writer.new)) }
-    ensures fault { IfErr result (λ fault. IsPlayFault fault (Writes (PrintsFirst ring.old (instructions_of commands.now)) (W.contents writer.old) (W.contents writer.new))) }
+    ensures ok { OnOk result (Writes (PrintsAll ring.old (instructions_of commands.now))
+        (W.contents writer.old) (W.contents writer.new)) }
+    ensures fault { IfErr result (λ fault. IsPlayFault fault
+        (Writes (PrintsFirst ring.old (instructions_of commands.now))
+        (W.contents writer.old) (W.contents writer.new))) }
     ensures closed { OnOk result ((ring_of ring.new).size ≡ 0) }
 {
     for command in commands {
@@ -69,8 +73,10 @@ pub fn play<T: FileTable, R: Threads + Wait + Sync, G: Gate, W: Write>(
     writer: &mut W,
 ) -> Result<(), PlayFault>
     requires workers { (1 ≤ workers) × (workers ≤ MAX_PASSES) }
-    ensures ok { OnOk result (Writes (IsText script) (W.contents writer.old) (W.contents writer.new)) }
-    ensures fault { IfErr result (λ fault. IsPlayFault fault (Writes (IsTextOfFirst script) (W.contents writer.old) (W.contents writer.new))) }
+    ensures ok { OnOk result
+        (Writes (IsText script) (W.contents writer.old) (W.contents writer.new)) }
+    ensures fault { IfErr result (λ fault. IsPlayFault fault
+        (Writes (IsTextOfFirst script) (W.contents writer.old) (W.contents writer.new))) }
 {
     let (catalogue, commands) = script.into_parts();
     let mut ring = Ring::new(alloc, catalogue);

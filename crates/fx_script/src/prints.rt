@@ -37,7 +37,8 @@ fn sparse(alloc: Global, ring: &mut Ring, n: u32) -> Result<String, NoMemory>
 }
 
 fn register(alloc: Global, ring: &mut Ring, list: &[i32]) -> Result<String, NoMemory>
-    ensures { IfOk result (λ text. Prints ring.old (RegistersList list.now) ring.new (string_bytes text)) }
+    ensures { IfOk result (λ text.
+        Prints ring.old (RegistersList list.now) ring.new (string_bytes text)) }
 {
     match ring.register(alloc, list) {
         Ok(()) => result_line(alloc, "register", 0),
@@ -58,7 +59,8 @@ fn unregister(alloc: Global, ring: &mut Ring) -> Result<String, NoMemory>
 }
 
 fn range(alloc: Global, ring: &mut Ring, off: u32, len: u32) -> Result<String, NoMemory>
-    ensures { IfOk result (λ text. Prints ring.old (SetsRange off len) ring.new (string_bytes text)) }
+    ensures { IfOk result (λ text.
+        Prints ring.old (SetsRange off len) ring.new (string_bytes text)) }
 {
     match ring.alloc_range(off, len) {
         Ok(()) => result_line(alloc, "range", 0),
@@ -67,7 +69,8 @@ fn range(alloc: Global, ring: &mut Ring, off: u32, len: u32) -> Result<String, N
 }
 
 fn update(alloc: Global, ring: &mut Ring, off: u32, list: &[i32]) -> Result<String, NoMemory>
-    ensures { IfOk result (λ text. Prints ring.old (UpdatesRing off list.now) ring.new (string_bytes text)) }
+    ensures { IfOk result (λ text.
+        Prints ring.old (UpdatesRing off list.now) ring.new (string_bytes text)) }
 {
     match ring.update(alloc, off, list) {
         Ok((count, closes)) => {
@@ -87,7 +90,8 @@ fn submit<T: FileTable, R: Threads + Wait + Sync, G: Gate>(
     gate: &G,
 ) -> Result<String, NoMemory>
     requires workers { (1 ≤ workers) × (workers ≤ MAX_PASSES) }
-    ensures { IfOk result (λ text. Prints ring.old (SubmitsAll (all_asked requests.now)) ring.new (string_bytes text)) }
+    ensures { IfOk result (λ text.
+        Prints ring.old (SubmitsAll (all_asked requests.now)) ring.new (string_bytes text)) }
 {
     match ring.submit::<T, R, G>(rt, alloc, requests, workers, gate) {
         Ok(report) => report_text(alloc, &report, ring.catalogue()),
@@ -109,7 +113,8 @@ pub fn command_text<T: FileTable, R: Threads + Wait + Sync, G: Gate>(
     gate: &G,
 ) -> Result<String, NoMemory>
     requires workers { (1 ≤ workers) × (workers ≤ MAX_PASSES) }
-    ensures { IfOk result (λ text. Prints ring.old (instruction_of command.now) ring.new (string_bytes text)) }
+    ensures { IfOk result (λ text.
+        Prints ring.old (instruction_of command.now) ring.new (string_bytes text)) }
 {
     match command {
         Command::Sparse(n) => sparse(alloc, ring, *n),

@@ -39,8 +39,10 @@ pub fn run<T: FileTable, R: Threads + Wait + Sync, G: Gate, I: Read, W: Write>(
     writer: &mut W,
 ) -> Result<(), PlayFault>
     requires workers { (1 ≤ workers) × (workers ≤ MAX_PASSES) }
-    ensures ok { OnOk result (IsRun (I.remaining reader.old) (W.contents writer.old) (W.contents writer.new)) }
-    ensures fault { IfErr result (λ fault. IsRunFault fault (I.remaining reader.old) (W.contents writer.old) (W.contents writer.new)) }
+    ensures ok { OnOk result
+        (IsRun (I.remaining reader.old) (W.contents writer.old) (W.contents writer.new)) }
+    ensures fault { IfErr result (λ fault. IsRunFault fault
+        (I.remaining reader.old) (W.contents writer.old) (W.contents writer.new)) }
 {
     let script = read_script(alloc, reader)?;
     play::<T, R, G, W>(rt, alloc, script, workers, gate, writer)

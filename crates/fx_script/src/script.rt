@@ -23,7 +23,10 @@ impl Model for Script {
 
     ghost Value = { Meaning };
 
-    ghost view = { λ script. record { catalogue = script.catalogue; commands = instructions_of script.commands.items } };
+    ghost view = { λ script. record {
+      catalogue = script.catalogue;
+      commands = instructions_of script.commands.items;
+    } };
 }
 
 impl Script {

@@ -33,7 +33,8 @@ fn hex_digit(n: u8) -> char
 
 // Puts bytes behind a text, in lower case hexadecimal.
 fn push_hex(text: &mut String, bytes: &[u8]) -> Result<(), AllocError>
-    ensures { OnOk result (string_bytes text.new ≡ string_bytes text.old ++ encode_lower bytes.now) }
+    ensures { OnOk result
+        (string_bytes text.new ≡ string_bytes text.old ++ encode_lower bytes.now) }
 {
     for b in bytes {
         text.push(hex_digit(*b / 16))?;
@@ -55,7 +56,8 @@ fn push_got(text: &mut String, got: &[u8]) -> Result<(), AllocError>
 
 // Puts the line of a completion behind a text: its submission, chain and member, its result, and the bytes of a read.
 fn push_completion(text: &mut String, completion: &Completion) -> Result<(), AllocError>
-    ensures { OnOk result (string_bytes text.new ≡ string_bytes text.old ++ completion_line (completed_of completion.now)) }
+    ensures { OnOk result (string_bytes text.new
+        ≡ string_bytes text.old ++ completion_line (completed_of completion.now)) }
 {
     let submission = completion.place.submission;
     let chain = completion.place.chain;
@@ -68,7 +70,8 @@ fn push_completion(text: &mut String, completion: &Completion) -> Result<(), All
 
 // Puts a line for each completion behind a text, in their order.
 fn push_completions(text: &mut String, completions: &[Completion]) -> Result<(), AllocError>
-    ensures { OnOk result (string_bytes text.new ≡ string_bytes text.old ++ completion_lines (all_completed completions.now)) }
+    ensures { OnOk result (string_bytes text.new
+        ≡ string_bytes text.old ++ completion_lines (all_completed completions.now)) }
 {
     for completion in completions {
         push_completion(text, completion)?;
@@ -78,7 +81,8 @@ fn push_completions(text: &mut String, completions: &[Completion]) -> Result<(),
 
 // Puts the line of a closed file behind a text: its mark, `rK.I` or `S.C.M.E`, and its name.
 fn push_closed_line(text: &mut String, mark: Mark, name: &str) -> Result<(), AllocError>
-    ensures { OnOk result (string_bytes text.new ≡ string_bytes text.old ++ closed_line mark name.now) }
+    ensures { OnOk result
+        (string_bytes text.new ≡ string_bytes text.old ++ closed_line mark name.now) }
 {
     match mark {
         Mark::Registered { k, i } => write!(text, "closed r{k}.{i} {name}\n"),
@@ -101,7 +105,8 @@ fn push_closed_lines(
     files: &[Closed],
 ) -> Result<(), AllocError>
     requires { All (λ file. file.entry < length catalogue.now) files.now }
-    ensures { OnOk result (string_bytes text.new ≡ string_bytes text.old ++ closed_lines catalogue.now files.now) }
+    ensures { OnOk result (string_bytes text.new
+        ≡ string_bytes text.old ++ closed_lines catalogue.now files.now) }
 {
     for file in files {
         let name = catalogue.name_of(file.entry);
@@ -167,7 +172,8 @@ pub fn report_text(
     catalogue: &Catalogue,
 ) -> Result<String, NoMemory>
     requires { All (λ file. file.entry < length catalogue.now) report.now.closes.files }
-    ensures { IfOk result (λ text. string_bytes text ≡ report_text catalogue.now (reported report.now)) }
+    ensures { IfOk result (λ text.
+        string_bytes text ≡ report_text catalogue.now (reported report.now)) }
 {
     let completions = report.completions.as_slice();
     let files = report.closes.files();
@@ -189,7 +195,8 @@ pub fn with_closed_lines(
     files: &[Closed],
 ) -> Result<String, NoMemory>
     requires { All (λ file. file.entry < length catalogue.now) files.now }
-    ensures { IfOk result (λ text. string_bytes text ≡ first.now ++ closed_lines catalogue.now files.now) }
+    ensures { IfOk result (λ text.
+        string_bytes text ≡ first.now ++ closed_lines catalogue.now files.now) }
 {
     let room = files
         .len()
