@@ -18,7 +18,7 @@ help:
 	@echo 'make try          plays a script in seconds, by a run that proves nothing'
 	@echo 'make prove CRATE=name   checks one crate, and says in a few lines what of it is not proved'
 	@echo 'make test         runs everything that must hold'
-	@echo 'make examples     plays every example on the built program'
+	@echo 'make examples     plays every example on the built program, and the samples of docs/SCRIPT.md'
 	@echo 'make limits       plays scripts at the limits of the language and the table, and measures the memory that they take'
 	@echo 'make compare      plays random scripts and the largest submissions on the built program and on a second, unproved one'
 	@echo 'make mistakes     makes the mistakes that a user may make, and wants each answered'
@@ -48,6 +48,7 @@ test:
 examples:
 	@scripts/build-program
 	@scripts/check-examples bin/fixfiles
+	@scripts/check-page bin/fixfiles
 
 limits:
 	@scripts/build-program

@@ -106,6 +106,23 @@ def longest_script():
     return "sparse 0\n" * count + "\n" * (SCRIPT_BYTES % len("sparse 0\n")), "sparse -22\n" * count
 
 
+def all_submissions():
+    """65,535 empty submissions, and then one that the ring refuses."""
+    return "submit\n" * 65_536, "submit refused too-many-submissions\n"
+
+
+def all_registrations():
+    """65,535 lists are registered, and then one that the ring refuses."""
+    script = "file a.txt -\n" + "register 0\nunregister\n" * 65_535 + "register 0\n"
+    return script, "".join(f"register 0\nunregister 0\nclosed r{k}.0 a.txt\n" for k in range(1, 65_536)) + "register -11\n"
+
+
+def all_updates():
+    """Registrations and updates of the ring are counted together."""
+    script = "file a.txt -\nregister 0\n" + "regupdate 0 -2\n" * 65_535
+    return script + "unregister\n", "register 0\n" + "regupdate 1\n" * 65_534 + "regupdate -11\nunregister 0\nclosed r1.0 a.txt\n"
+
+
 def limits():
     """Each script at a limit: its name, the script, the text, and the line and the fault of a bad one."""
     yield "full_table", *full_table(), ""
@@ -115,6 +132,9 @@ def limits():
     yield "long_lists", *long_lists(), ""
     yield "bad_list_in_a_line_too_long", f"update 10 {','.join(['0'] * 4996)}\nsubmit\n", "", "line 1: long-line"
     yield "full_catalogue", *full_catalogue(), ""
+    yield "all_submissions", *all_submissions(), ""
+    yield "all_registrations", *all_registrations(), ""
+    yield "all_updates", *all_updates(), ""
     yield "text_of_8_megabytes", *large_text(1), ""
     yield "text_of_134_megabytes", *large_text(MEMBERS), ""
     script, text = longest_script()

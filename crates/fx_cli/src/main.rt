@@ -1,35 +1,42 @@
 //! The program `fixfiles`: reads a script from standard input and plays it.
 #![tactic(auto)]
 
-mod chains;
-mod command;
-mod fault;
-mod first;
-mod input;
-mod line;
-mod list;
-mod number;
-mod perform;
-mod play;
-mod removal;
-mod script;
-mod supply;
-mod text;
-mod update;
+mod arguments;
+mod ending;
 
-use fault::{message, status};
-use first::run;
+use arguments::workers;
+use ending::Ending;
+use fx_baton::BatonTable;
+use fx_chain::OpenGate;
+use fx_script::run;
 use std::io;
 use std::process::ExitCode;
 
+// How the program ends that could not play a script to its end.
+fn ended(rt: &HostRuntime, ending: Ending) -> ExitCode {
+    // What can't be told changes nothing.
+    let _ = ending.tell(rt);
+    ExitCode::from(ending.status())
+}
+
 fn main(rt: HostRuntime) -> ExitCode {
-    match run(rt.alloc(), &mut rt.reader(), &mut io::writer(&rt)) {
+    let alloc = rt.alloc();
+    let workers = match workers(&rt) {
+        Ok(workers) => workers,
+        Err(ending) => return ended(&rt, ending),
+    };
+    let (mut input, mut output) = (rt.reader(), io::writer(&rt));
+    let played = run::<BatonTable, _, _, _, _>(
+        &rt,
+        alloc,
+        workers,
+        &OpenGate,
+        &mut input,
+        &mut output,
+    );
+    match played {
         Ok(()) => ExitCode::SUCCESS,
-        Err(fault) => {
-            // A message that can't be written changes nothing.
-            let _ = rt.eprintln(message(fault));
-            ExitCode::from(status(fault))
-        }
+        Err(fault) => ended(&rt, Ending::Run(fault)),
     }
 }
 

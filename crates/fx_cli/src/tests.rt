@@ -1,7 +1,1 @@
-mod accepted;
-mod faults;
-mod lines;
-mod refused;
-mod registrations;
-mod runs;
-mod unsubmitted;
+mod rows;

@@ -9,7 +9,8 @@ use Rattle.std.proofs.lemmas.List.Splits.{slice_split_at}
 pub slice_split_read : (p : ℕ → Bool) (xs : List ℕ) (i : ℕ) → i < length xs → p (get_or xs i 0) ≡ true → All (λ x. p x ≡ false) (take i xs)
     → slice_split p xs ≡ take i xs ∷ slice_split p (drop (i + 1) xs)
 slice_split_read p xs i inside passes none =
-    let parts : xs ≡ take i xs ++ get_or xs i 0 ∷ drop (i + 1) xs = sym (take-append-drop i xs) ∙ ap (λ zs. take i xs ++ zs) (drop_more xs i 0 inside) in
+    let parts : xs ≡ take i xs ++ get_or xs i 0 ∷ drop (i + 1) xs = sym (take-append-drop i xs)
+    ∙ ap (λ zs. take i xs ++ zs) (drop_more xs i 0 inside) in
     ap (slice_split p) parts ∙ slice_split_at p (take i xs) (get_or xs i 0) (drop (i + 1) xs) none passes
 
 -- what holds of the elements so far and of the next one holds of one element more

@@ -1,9 +1,8 @@
 -- A byte string is a script or has a fault.
 use Rattle.std.proofs.Common.{◌≡◌, inl, inr, ℕ, List, refl, sym, ap, ◌∙◌}
 use Rattle.std.specs.Prelude.{Result, Ok, Err}
-use Rattle.fx_script.specs.declared.fault.ScriptFault.{ScriptFault}
-use Rattle.fx_script.specs.Laws.{IsOneScript, HasOneFault, IsScriptOrFaulty}
-use Rattle.fx_script.specs.Script.{Meaning, LineFault, IsScript, HasFault, reading_of}
+use Rattle.fx_script.specs.Laws.{IsScriptOrFaulty}
+use Rattle.fx_script.specs.Script.{Meaning, LineFault, reading_of}
 
 ok_same : {A B : Type 0} (x y : A) → ◌≡◌ {A = Result A B} (Ok x) (Ok y) → x ≡ y
 ok_same x y is = cc

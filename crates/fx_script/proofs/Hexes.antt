@@ -10,9 +10,11 @@ pub one_byte : (text one two all bytes : List ℕ) (i high low : ℕ) → i < le
     → text ++ encode_lower (drop i bytes) ≡ all → two ++ encode_lower (drop (i + 1) bytes) ≡ all
 one_byte text one two all bytes i high low inside first second is_high is_low before =
     let left : List ℕ = encode_lower (drop (i + 1) bytes) in
-    let next : encode_lower (drop i bytes) ≡ high ∷ low ∷ left = encode_with-drop lower_digits bytes i inside ∙ ap (λ (d : ℕ). d ∷ slice_index lower_digits (slice_index bytes i % 16) ∷ left) (sym is_high) ∙ ap (λ (d : ℕ). high ∷ d ∷ left) (sym is_low) in
+    let next : encode_lower (drop i bytes) ≡ high ∷ low ∷ left = encode_with-drop lower_digits bytes i inside
+    ∙ ap (λ (d : ℕ). d ∷ slice_index lower_digits (slice_index bytes i % 16) ∷ left) (sym is_high) ∙ ap (λ (d : ℕ). high ∷ d ∷ left) (sym is_low) in
     ap (λ (t : List ℕ). t ++ left) (second ∙ ap (λ (t : List ℕ). t ++ low ∷ []) first)
-    ∙ append_assoc (text ++ high ∷ []) (low ∷ []) left ∙ append_assoc text (high ∷ []) (low ∷ left) ∙ ap (λ (t : List ℕ). text ++ t) (sym next) ∙ before
+    ∙ append_assoc (text ++ high ∷ []) (low ∷ []) left ∙ append_assoc text (high ∷ []) (low ∷ left) ∙ ap (λ (t : List ℕ). text ++ t) (sym next)
+    ∙ before
 
 nothing_left : encode_lower [] ≡ []
 unfolding encode_with

@@ -5,3 +5,6 @@ pub mod Printable
 pub mod LinesOf
 pub mod Decided
 pub mod Hexes
+pub mod Turns
+pub mod KeptBytes
+pub mod PlaySteps

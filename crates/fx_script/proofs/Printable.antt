@@ -1,8 +1,8 @@
 -- Lines of printable bytes, and their words.
-use Rattle.std.proofs.Common.{◌≡◌, ℕ, ◌≤◌, ◌<◌, Bool, true, false, nat_le, List, [], ◌∷◌, refl, sym, ap, ◌∙◌, arith, Result, Ok, Err}
+use Rattle.std.proofs.Common.{◌≡◌, ℕ, ◌≤◌, Bool, true, false, nat_le, List, [], ◌∷◌, refl, sym, ap, ◌∙◌, arith, Result, Ok, Err}
 use Rattle.std.specs.Prelude.{◌==◌, ◌&&◌, if◌then◌else◌, IsAscii, IsUtf8, MatchResult}
 use Rattle.std.specs.Result.{IsOk}
-use Rattle.std.specs.List.{list_all, slice_split, onto_first}
+use Rattle.std.specs.List.{list_all, onto_first}
 use Rattle.std.proofs.lemmas.Str.{IsUtf8-from_ascii}
 use Rattle.std.proofs.lemmas.Str.Ascii.{IsAscii-nil, IsAscii-cons}
 use Rattle.fx_script.specs.Lines.{is_printable, words}
@@ -26,8 +26,10 @@ words_are_printable (b ∷ bs) all =
     (words_are_printable bs (and_right (nat_le 32 b && nat_le b 126) (is_printable bs) all))
 
 -- and so are those behind the first
-pub others_are_printable : (word : List ℕ) (others left : List (List ℕ)) → left ≡ word ∷ others → list_all is_printable left ≡ true → list_all is_printable others ≡ true
-others_are_printable word others left is all = and_right (is_printable word) (list_all is_printable others) (sym (ap (list_all is_printable) is) ∙ all)
+pub others_are_printable : (word : List ℕ) (others left : List (List ℕ)) → left ≡ word ∷ others → list_all is_printable left ≡ true
+    → list_all is_printable others ≡ true
+others_are_printable word others left is all = and_right (is_printable word) (list_all is_printable others) (sym (ap
+    (list_all is_printable) is) ∙ all)
 
 printable_is_ascii : (word : List ℕ) → is_printable word ≡ true → IsAscii word
 printable_is_ascii [] all = IsAscii-nil
@@ -40,6 +42,7 @@ pub printable_is_text : (word : List ℕ) → is_printable word ≡ true → IsU
 printable_is_text word all = IsUtf8-from_ascii word (printable_is_ascii word all)
 
 -- what fails only where the bytes are no text doesn't fail
-pub text_is_ok : {A E : Type 0} (r : Result A E) (word : List ℕ) (P : A → Type 0) (Q : E → Type 0) → MatchResult r P (λ e. ¬ (IsUtf8 word) × Q e) → IsUtf8 word → IsOk r
+pub text_is_ok : {A E : Type 0} (r : Result A E) (word : List ℕ) (P : A → Type 0) (Q : E → Type 0)
+    → MatchResult r P (λ e. ¬ (IsUtf8 word) × Q e) → IsUtf8 word → IsOk r
 text_is_ok (Ok x) word P Q cases is = refl
 text_is_ok (Err e) word P Q cases is = absurd (cases.0 is)

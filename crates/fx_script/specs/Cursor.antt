@@ -1,5 +1,5 @@
 -- How a line is read word by word: what is taken of the words that are left (this project's own).
-use Rattle.std.specs.Prelude.{◌≡◌, ℕ, List, [], ◌∷◌, Option, Result, Ok, Err}
+use Rattle.std.specs.Prelude.{◌≡◌, ℕ, List, [], ◌∷◌, Result, Ok, Err}
 use Rattle.std.specs.Borrow.{Bor}
 use Rattle.fx_script.specs.declared.fault.ScriptFault.{ScriptFault}
 use Rattle.fx_script.specs.declared.fault.ScriptFault.TheVariants.{WordCount}

@@ -1,5 +1,5 @@
 -- A line that was read, without where it lies in memory.
-use Rattle.std.specs.Prelude.{ℕ, ℤ, Bool, List, [], unwrap_or}
+use Rattle.std.specs.Prelude.{ℤ, List, [], unwrap_or}
 use Rattle.fx_chain.specs.Operation.{Operation, Opens, Reads, Closes, Updates}
 use Rattle.fx_script.specs.declared.line.Line.{Line}
 use Rattle.fx_script.specs.declared.line.Line.TheVariants.{File, Sparse, Register, Unregister, Range, Update, Request, Submit}

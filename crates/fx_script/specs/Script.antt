@@ -54,7 +54,8 @@ unless (Some fault) x = Err fault
 -- with one more file, where it may be added
 abbrev pub with_file : Progress → List ℕ → List ℕ → Result Progress ScriptFault
 with_file p name bytes =
-    unless (option_and_then line_fault_of (add_fault_of p.catalogue name bytes)) (record p { catalogue = p.catalogue ++ record { name = name; bytes = bytes } ∷ [] })
+    unless (option_and_then line_fault_of (add_fault_of p.catalogue name bytes))
+    (record p { catalogue = p.catalogue ++ record { name = name; bytes = bytes } ∷ [] })
 
 -- with one more `file` line
 abbrev pub after_file : Progress → List ℕ → List ℕ → Result Progress ScriptFault
@@ -62,13 +63,17 @@ after_file p name hex = do
   bytes ← ok_or (hex_of hex) BadHex
   with_file p name bytes
 
+-- with one more command
+abbrev pub with_command : Progress → Instruction → Progress
+with_command p command = record p { commands = p.commands ++ command ∷ [] }
+
 -- with one more line, the n-th
 abbrev pub after_line : ℕ → Progress → Line → Result Progress ScriptFault
 after_line n p (FileLine name hex) = after_file p name hex
-after_line n p (CommandLine instruction) = Ok (record p { commands = p.commands ++ instruction ∷ [] })
+after_line n p (CommandLine instruction) = Ok (with_command p instruction)
 after_line n p (RequestLine asked) =
     Ok (record p { waiting = p.waiting ++ asked ∷ []; first_waiting = if length p.waiting == 0 then n else p.first_waiting })
-after_line n p SubmitLine = Ok (record p { commands = p.commands ++ SubmitsAll p.waiting ∷ []; waiting = [] })
+after_line n p SubmitLine = Ok (record (with_command p (SubmitsAll p.waiting)) { waiting = [] })
 
 -- with the bytes of one more line, the n-th
 abbrev pub after_text : ℕ → Progress → List ℕ → Result Progress ScriptFault

@@ -10,7 +10,12 @@ use Rattle.fx_script.specs.Script.{Progress}
 
 -- what the lines so far say
 abbrev pub progress_of : Reader → Progress
-progress_of r = record { catalogue = r.catalogue; commands = instructions_of r.commands.items; waiting = all_asked r.waiting.items; first_waiting = r.first_waiting }
+progress_of r = record {
+  catalogue = r.catalogue;
+  commands = instructions_of r.commands.items;
+  waiting = all_asked r.waiting.items;
+  first_waiting = r.first_waiting;
+}
 
 -- the fault that is expected, or want of memory
 abbrev pub IsExpected : {A : Type 0} → LineError → Result A ScriptFault → Type 0

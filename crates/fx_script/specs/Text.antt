@@ -11,6 +11,7 @@ use Rattle.fx_chain.specs.declared.fault.CutFault.{CutFault}
 use Rattle.fx_chain.specs.declared.fault.CutKind.{CutKind}
 use Rattle.fx_chain.specs.declared.fault.CutKind.TheVariants.{BadFlags, LongRead, LongUpdate, ChainTooLong, TooManyFiles, TooManyChains}
 use Rattle.fx_chain.specs.Completed.{Completed}
+use Rattle.fx_ring.specs.Submission.{Reported}
 
 -- the word of a command and its result: `WORD RES`
 abbrev pub result_line : List ℕ → ℤ → List ℕ
@@ -23,7 +24,8 @@ got_text got = if length got == 0 then [] else codes " " ++ encode_lower got
 -- `S.C.M RES`, and the bytes of a read
 abbrev pub completion_line : Completed → List ℕ
 completion_line c =
-    decimal c.place.submission ++ (codes "." ++ (decimal c.place.chain ++ (codes "." ++ (decimal c.place.member ++ (codes " " ++ (signed_decimal c.res ++ (got_text c.got ++ codes "\n")))))))
+    decimal c.place.submission ++ (codes "." ++ (decimal c.place.chain ++ (codes "." ++ (decimal c.place.member
+    ++ (codes " " ++ (signed_decimal c.res ++ (got_text c.got ++ codes "\n")))))))
 
 -- a line for each completion
 abbrev pub completion_lines : List Completed → List ℕ
@@ -63,8 +65,8 @@ abbrev pub closed_lines : List FileEntry → List Closed → List ℕ
 closed_lines catalogue files = flat_map (λ file. closed_line file.mark (name_of catalogue file.entry)) files
 
 -- the lines of a submission: its completions, and the files that were closed
-abbrev pub report_lines : List FileEntry → List Completed → List Closed → List ℕ
-report_lines catalogue completions files = completion_lines completions ++ closed_lines catalogue files
+abbrev pub report_text : List FileEntry → Reported → List ℕ
+report_text catalogue report = completion_lines report.completions ++ closed_lines catalogue report.closes.files
 
 -- `teardown` and a line for each file that was left, where files were left
 abbrev pub teardown_text : List FileEntry → List Closed → List ℕ

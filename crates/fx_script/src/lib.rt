@@ -3,14 +3,19 @@
 
 mod command;
 mod fault;
+mod input;
 pub mod laws;
 mod limits;
 mod line;
 mod list;
 mod number;
 mod parts;
+mod play_fault;
+mod player;
+mod prints;
 mod reader;
 mod request;
+mod runner;
 mod script;
 mod text;
 mod words;
@@ -18,7 +23,11 @@ mod words;
 pub use command::Command;
 pub use fault::{ScriptError, ScriptFault};
 pub use limits::{LARGEST_NUMBER, LONGEST_LINE, LONGEST_SCRIPT};
+pub use play_fault::PlayFault;
+pub use player::play;
+pub use runner::run;
 pub use script::Script;
+pub use text::report_text;
 
 #[cfg(test)]
 mod tests;

@@ -3,7 +3,7 @@ ghost use Rattle.fx_chain.specs.Operation.{asked_of, is_fixed, is_link, operatio
 ghost use Rattle.fx_script.specs.Line.{RequestLine, is_read};
 ghost use Rattle.fx_script.specs.LineView.{line_in, operation_in};
 ghost use Rattle.fx_script.specs.Lines.{is_printable, is_skipped};
-ghost use Rattle.fx_script.specs.Script.{after_file, after_line, after_text, nothing};
+ghost use Rattle.fx_script.specs.Script.{after_file, after_line, after_text, nothing, with_command};
 ghost use Rattle.fx_script.specs.ScriptView.{progress_of, IsExpected, Takes};
 ghost use Rattle.fx_script.specs.Instruction.{instruction_of};
 ghost use Rattle.fx_script.specs.Words.{hex_of};
@@ -44,7 +44,8 @@ fn is_skipped(line: &[u8]) -> bool
 
 // The bytes of a file: hexadecimal digits, or `-` for none.
 fn file_bytes(alloc: Global, hex: &[u8]) -> Result<Vec<u8>, LineError>
-    ensures { MatchResult result (λ bytes. hex_of hex.now ≡ Some bytes.items) (λ e. IsExpected e (ok_or (hex_of hex.now) ScriptFault.BadHex)) }
+    ensures { MatchResult result (λ bytes. hex_of hex.now ≡ Some bytes.items)
+        (λ e. IsExpected e (ok_or (hex_of hex.now) ScriptFault.BadHex)) }
 {
     if hex == b"-".as_slice() {
         return Ok(Vec::new(alloc));
@@ -110,7 +111,8 @@ impl Reader {
 
     // Adds a file.
     fn take_file(&mut self, alloc: Global, name: &str, hex: &[u8]) -> Result<(), LineError>
-        ensures { Takes (after_file (progress_of self.old) name.now hex.now) result (progress_of self.new) }
+        ensures { Takes (after_file (progress_of self.old) name.now hex.now)
+            result (progress_of self.new) }
     {
         let bytes = file_bytes(alloc, hex)?;
         let name = String::from_str(alloc, name)?;
@@ -127,7 +129,8 @@ impl Reader {
 
     // Adds a command.
     fn take_command(&mut self, command: Command) -> Result<(), LineError>
-        ensures { Takes (Ok (record (progress_of self.old) { commands = (progress_of self.old).commands ++ instruction_of command ∷ [] })) result (progress_of self.new) }
+        ensures { Takes (Ok (with_command (progress_of self.old) (instruction_of command)))
+            result (progress_of self.new) }
     {
         self.commands.push(command)?;
         Ok(())
@@ -135,7 +138,8 @@ impl Reader {
 
     // Adds a request of the n-th line to those that wait.
     fn take_request(&mut self, n: u32, request: Request) -> Result<(), LineError>
-        ensures { Takes (after_line n (progress_of self.old) (RequestLine (asked_of request))) result (progress_of self.new) }
+        ensures { Takes (after_line n (progress_of self.old) (RequestLine (asked_of request)))
+            result (progress_of self.new) }
     {
         let first = self.waiting.is_empty();
         self.waiting.push(request)?;
@@ -147,7 +151,8 @@ impl Reader {
 
     // Takes what the n-th line says.
     fn take_line(&mut self, alloc: Global, n: u32, line: Line<'_>) -> Result<(), LineError>
-        ensures { Takes (after_line n (progress_of self.old) (line_in line.entry)) result (progress_of self.new) }
+        ensures { Takes (after_line n (progress_of self.old) (line_in line.entry))
+            result (progress_of self.new) }
     {
         match line {
             Line::File { name, hex } => self.take_file(alloc, name, hex),
@@ -172,7 +177,8 @@ impl Reader {
 
     // Takes the n-th line, skipped or not.
     pub fn take_text(&mut self, alloc: Global, n: u32, text: &[u8]) -> Result<(), LineError>
-        ensures { Takes (after_text n (progress_of self.old) text.now) result (progress_of self.new) }
+        ensures { Takes (after_text n (progress_of self.old) text.now)
+            result (progress_of self.new) }
     {
         if text.len() > LONGEST_LINE {
             return Err(LineError::Fault(ScriptFault::LongLine));

@@ -23,7 +23,10 @@ impl Model for Script {
 
     ghost Value = { Meaning };
 
-    ghost view = { λ script. record { catalogue = script.catalogue; commands = instructions_of script.commands.items } };
+    ghost view = { λ script. record {
+      catalogue = script.catalogue;
+      commands = instructions_of script.commands.items;
+    } };
 }
 
 impl Script {
@@ -43,6 +46,14 @@ impl Script {
         ensures { instructions_of result.now ≡ self.now.commands }
     {
         self.commands.as_slice()
+    }
+
+    // Its files and its commands, apart.
+    pub(crate) fn into_parts(self) -> (Catalogue, Vec<Command>)
+        ensures catalogue { result.0 ≡ self.catalogue }
+        ensures commands { instructions_of result.1.items ≡ self.commands }
+    {
+        (self.catalogue, self.commands)
     }
 
     // The script, where no request waits for its submission.

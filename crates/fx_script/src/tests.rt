@@ -4,3 +4,4 @@ mod faults;
 mod limits;
 mod order;
 mod reading;
+mod texts;

@@ -2,10 +2,12 @@
 ghost use Rattle.std.specs.Prelude.{◌≡◌, ◌<◌, ◌++◌, IfOk, OnOk, All, codes, length, slice_index, string_bytes};
 ghost use Rattle.hex.specs.Hex.{encode_lower, lower_digits};
 ghost use Rattle.fx_chain.specs.Completed.{completed_of, all_completed};
-ghost use Rattle.fx_script.specs.Text.{result_line, got_text, kind_name, refused_line, too_many_line, completion_line, completion_lines, closed_line, closed_lines, report_lines, teardown_text};
+ghost use Rattle.fx_ring.specs.Submission.{reported};
+ghost use Rattle.fx_script.specs.Text.{result_line, got_text, kind_name, refused_line, too_many_line, completion_line, completion_lines, closed_line, closed_lines, report_text, teardown_text};
 
-use fx_base::{Catalogue, Closed, Mark};
+use fx_base::{Catalogue, Closed, Mark, NoMemory};
 use fx_chain::{Completion, CutFault, CutKind};
+use fx_ring::Report;
 use std::alloc::{AllocError, Global};
 
 /// How many bytes the line of a completion has beside the bytes of a read: four numbers of at most eleven bytes.
@@ -15,10 +17,10 @@ const COMPLETION_ROOM: usize = 50;
 const CLOSED_ROOM: usize = 90;
 
 // The line of a command: its word and its result, 0 or more, or a negated error.
-pub fn result_line(alloc: Global, word: &str, res: i32) -> Result<String, AllocError>
+pub fn result_line(alloc: Global, word: &str, res: i64) -> Result<String, NoMemory>
     ensures { IfOk result (λ text. string_bytes text ≡ result_line word.now res) }
 {
-    format!(in alloc; "{word} {res}\n")
+    Ok(format!(in alloc; "{word} {res}\n")?)
 }
 
 fn hex_digit(n: u8) -> char
@@ -31,7 +33,8 @@ fn hex_digit(n: u8) -> char
 
 // Puts bytes behind a text, in lower case hexadecimal.
 fn push_hex(text: &mut String, bytes: &[u8]) -> Result<(), AllocError>
-    ensures { OnOk result (string_bytes text.new ≡ string_bytes text.old ++ encode_lower bytes.now) }
+    ensures { OnOk result
+        (string_bytes text.new ≡ string_bytes text.old ++ encode_lower bytes.now) }
 {
     for b in bytes {
         text.push(hex_digit(*b / 16))?;
@@ -53,7 +56,8 @@ fn push_got(text: &mut String, got: &[u8]) -> Result<(), AllocError>
 
 // Puts the line of a completion behind a text: its submission, chain and member, its result, and the bytes of a read.
 fn push_completion(text: &mut String, completion: &Completion) -> Result<(), AllocError>
-    ensures { OnOk result (string_bytes text.new ≡ string_bytes text.old ++ completion_line (completed_of completion.now)) }
+    ensures { OnOk result (string_bytes text.new
+        ≡ string_bytes text.old ++ completion_line (completed_of completion.now)) }
 {
     let submission = completion.place.submission;
     let chain = completion.place.chain;
@@ -66,7 +70,8 @@ fn push_completion(text: &mut String, completion: &Completion) -> Result<(), All
 
 // Puts a line for each completion behind a text, in their order.
 fn push_completions(text: &mut String, completions: &[Completion]) -> Result<(), AllocError>
-    ensures { OnOk result (string_bytes text.new ≡ string_bytes text.old ++ completion_lines (all_completed completions.now)) }
+    ensures { OnOk result (string_bytes text.new
+        ≡ string_bytes text.old ++ completion_lines (all_completed completions.now)) }
 {
     for completion in completions {
         push_completion(text, completion)?;
@@ -76,7 +81,8 @@ fn push_completions(text: &mut String, completions: &[Completion]) -> Result<(),
 
 // Puts the line of a closed file behind a text: its mark, `rK.I` or `S.C.M.E`, and its name.
 fn push_closed_line(text: &mut String, mark: Mark, name: &str) -> Result<(), AllocError>
-    ensures { OnOk result (string_bytes text.new ≡ string_bytes text.old ++ closed_line mark name.now) }
+    ensures { OnOk result
+        (string_bytes text.new ≡ string_bytes text.old ++ closed_line mark name.now) }
 {
     match mark {
         Mark::Registered { k, i } => write!(text, "closed r{k}.{i} {name}\n"),
@@ -99,7 +105,8 @@ fn push_closed_lines(
     files: &[Closed],
 ) -> Result<(), AllocError>
     requires { All (λ file. file.entry < length catalogue.now) files.now }
-    ensures { OnOk result (string_bytes text.new ≡ string_bytes text.old ++ closed_lines catalogue.now files.now) }
+    ensures { OnOk result (string_bytes text.new
+        ≡ string_bytes text.old ++ closed_lines catalogue.now files.now) }
 {
     for file in files {
         let name = catalogue.name_of(file.entry);
@@ -123,19 +130,20 @@ fn kind_name(kind: CutKind) -> &'static str
 }
 
 // The line of a refused submission: the name of the fault, and the place of its request, from 1.
-pub fn refused_line(alloc: Global, fault: CutFault) -> Result<String, AllocError>
+pub fn refused_line(alloc: Global, fault: CutFault) -> Result<String, NoMemory>
     ensures { IfOk result (λ text. string_bytes text ≡ refused_line fault) }
 {
     let name = kind_name(fault.kind);
     let at = fault.at;
-    format!(in alloc; "submit refused {name} {at}\n")
+    Ok(format!(in alloc; "submit refused {name} {at}\n")?)
 }
 
 // The line of a submission past the last that a ring accepts.
-pub fn too_many_line(alloc: Global) -> Result<String, AllocError>
+pub fn too_many_line(alloc: Global) -> Result<String, NoMemory>
     ensures { IfOk result (λ text. string_bytes text ≡ too_many_line) }
 {
-    String::from_str(alloc, "submit refused too-many-submissions\n")
+    let line = "submit refused too-many-submissions\n";
+    Ok(String::from_str(alloc, line)?)
 }
 
 // The room for a line for each completion.
@@ -153,16 +161,22 @@ fn room_of(completions: &[Completion]) -> usize {
     room
 }
 
-// The lines of a submission: one for each completion, and one for each closed file. Each entry is in the catalogue.
-pub fn report_lines(
+/// The text of a submission: a line for each completion, and one for each file that was closed. The caller has seen that
+/// each closed entry is below [`Catalogue::len`], as it is with the catalogue of the ring that gave the report.
+///
+/// # Errors
+/// `NoMemory` where the memory of the text is refused.
+pub fn report_text(
     alloc: Global,
+    report: &Report,
     catalogue: &Catalogue,
-    completions: &[Completion],
-    files: &[Closed],
-) -> Result<String, AllocError>
-    requires { All (λ file. file.entry < length catalogue.now) files.now }
-    ensures { IfOk result (λ text. string_bytes text ≡ report_lines catalogue.now (all_completed completions.now) files.now) }
+) -> Result<String, NoMemory>
+    requires { All (λ file. file.entry < length catalogue.now) report.now.closes.files }
+    ensures { IfOk result (λ text.
+        string_bytes text ≡ report_text catalogue.now (reported report.now)) }
 {
+    let completions = report.completions.as_slice();
+    let files = report.closes.files();
     let room = files
         .len()
         .saturating_mul(CLOSED_ROOM)
@@ -179,9 +193,10 @@ pub fn with_closed_lines(
     first: &str,
     catalogue: &Catalogue,
     files: &[Closed],
-) -> Result<String, AllocError>
+) -> Result<String, NoMemory>
     requires { All (λ file. file.entry < length catalogue.now) files.now }
-    ensures { IfOk result (λ text. string_bytes text ≡ first.now ++ closed_lines catalogue.now files.now) }
+    ensures { IfOk result (λ text.
+        string_bytes text ≡ first.now ++ closed_lines catalogue.now files.now) }
 {
     let room = files
         .len()
@@ -199,7 +214,7 @@ pub fn teardown_text(
     alloc: Global,
     catalogue: &Catalogue,
     files: &[Closed],
-) -> Result<String, AllocError>
+) -> Result<String, NoMemory>
     requires { All (λ file. file.entry < length catalogue.now) files.now }
     ensures { IfOk result (λ text. string_bytes text ≡ teardown_text catalogue.now files.now) }
 {

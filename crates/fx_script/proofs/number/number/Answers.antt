@@ -1,6 +1,5 @@
-use Rattle.std.proofs.Common.{◌≡◌, ◌+◌, ◌*◌, true, get_or, take, sym, ap, ◌∙◌, arith}
+use Rattle.std.proofs.Common.{◌≡◌, ◌+◌, ◌*◌, true, get_or, sym, ap, ◌∙◌, arith}
 use Rattle.std.proofs.lemmas.List.Folds.{list_all_more}
-use Rattle.std.specs.Str.Parse.{digits_value}
 use Rattle.fx_script.proofs.Numbers.{value_more, too_large}
 use Rattle.fx_script.proofs.Conditions.{and_true}
 use Rattle.fx_script.specs.Words.{is_digit}
@@ -11,7 +10,8 @@ returns-then-n c =
     let i = c.loop-digit.digit-index in
     let digit : is_digit (get_or c.args.word.now i 0) ≡ true = sym c.is_digit.ensures ∙ c.if-not-is_digit.false in
     let more = value_more c.args.word.now i c.from.result c.loop-digit-test.true digit c.from.ensures in
-    too_large c.args.word.now (i + 1) (c.loop-digit.n * 10 + c.from.result) (ap (λ v. v * 10 + c.from.result) c.loop-digit.invariant.value ∙ more) c.if-n.true
+    too_large c.args.word.now (i + 1) (c.loop-digit.n * 10 + c.from.result) (ap (λ v. v * 10 + c.from.result) c.loop-digit.invariant.value
+    ∙ more) c.if-n.true
 
 pub loop-digit-preserved : goal.loop-digit-preserved
 loop-digit-preserved c =
@@ -19,6 +19,7 @@ loop-digit-preserved c =
     let digit : is_digit (get_or c.args.word.now i 0) ≡ true = sym c.is_digit.ensures ∙ c.if-not-is_digit.false in
     record {
       digits = list_all_more is_digit c.args.word.now i 0 c.loop-digit-test.true ∙ and_true _ _ c.loop-digit.invariant.digits digit;
-      value = ap (λ v. v * 10 + c.from.result) c.loop-digit.invariant.value ∙ value_more c.args.word.now i c.from.result c.loop-digit-test.true digit c.from.ensures;
+      value = ap (λ v. v * 10 + c.from.result) c.loop-digit.invariant.value
+          ∙ value_more c.args.word.now i c.from.result c.loop-digit-test.true digit c.from.ensures;
       small = omega arith;
     }

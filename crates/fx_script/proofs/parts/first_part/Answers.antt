@@ -1,4 +1,4 @@
-use Rattle.std.proofs.Common.{◌≡◌, ◌==◌, ◌+◌, false, get_or, take, take_all, eq-eqb, arith}
+use Rattle.std.proofs.Common.{◌≡◌, ◌==◌, false, take_all, eq-eqb, arith}
 use Rattle.std.proofs.lemmas.List.{take_rest}
 use Rattle.std.proofs.lemmas.List.Splits.{slice_split_none}
 use Rattle.std.proofs.lemmas.Bool.Decides.{nat_tests}

@@ -1,0 +1,48 @@
+-- What was read and kept, turn by turn.
+use Rattle.std.proofs.Common.{◌≡◌, ℕ, zero, suc, ◌-◌, ◌≤◌, List, [], ◌∷◌, ◌++◌, length, take, refl, sym, ap, ◌∙◌, append_assoc, length-append, Option, Some, None, arith}
+use Rattle.std.specs.Prelude.{IfSome}
+use Rattle.std.specs.Io.KnownBytes.{Consumes, IsAtEnd}
+use Rattle.std.proofs.lemmas.List.{append-nil, length-take}
+
+-- what was read is gone from the reader, and the first n bytes of it were kept
+pub record Kept (n : ℕ) (old now : Option (List ℕ)) (input : List ℕ) : Type 0 where
+  pub read : List ℕ
+  pub gone : Consumes old now read
+  pub kept : input ≡ take n read
+
+pub take_append : (n : ℕ) (xs ys : List ℕ) → take n xs ++ take (n - length (take n xs)) ys ≡ take n (xs ++ ys)
+take_append zero xs ys = refl
+take_append (suc n) [] ys = let same : suc n - 0 ≡ suc n = omega arith in ap (λ (k : ℕ). take k ys) same
+take_append (suc n) (x ∷ xs) ys =
+    let less : suc n - suc (length (take n xs)) ≡ n - length (take n xs) = omega arith in
+    ap (λ zs. x ∷ zs) (ap (λ (k : ℕ). take n xs ++ take k ys) less ∙ take_append n xs ys)
+
+pub both_consumed : (a b c : Option (List ℕ)) (x y : List ℕ) → Consumes a b x → Consumes b c y → Consumes a c (x ++ y)
+both_consumed None b c x y first second = tt
+both_consumed (Some xs) None c x y first second = absurd first
+both_consumed (Some xs) (Some ys) None x y first second = absurd second
+both_consumed (Some xs) (Some ys) (Some zs) x y first second = first ∙ (ap (λ (l : List ℕ). x ++ l) second ∙ sym (append_assoc x y zs))
+
+-- one more read
+pub one_read : (n count : ℕ) (old now next : Option (List ℕ)) (input more buffer : List ℕ) → Kept n old now input
+    → Consumes now next (take count buffer)
+    → more ≡ input ++ take (n - length input) (take count buffer) → Kept n old next more
+one_read n count old now next input more buffer kept gone grown = record {
+  read = kept.read ++ take count buffer;
+  gone = both_consumed old now next kept.read (take count buffer) kept.gone gone;
+  kept = grown ∙ (ap (λ (xs : List ℕ). xs ++ take (n - length xs) (take count buffer)) kept.kept ∙ take_append n kept.read (take count buffer));
+}
+
+pub few_kept : (n : ℕ) (input more part : List ℕ) → length input ≤ n → more ≡ input ++ take (n - length input) part → length more ≤ n
+few_kept n input more part few grown = omega (arith, ap length grown, length-append {A = ℕ}, length-take {A = ℕ})
+
+-- a read that gave nothing at the end: all was read
+pub at_end : (n : ℕ) (old now next : Option (List ℕ)) (input : List ℕ) (count : ℕ) (buffer : List ℕ) → Kept n old now input
+    → Consumes now next (take count buffer) → count ≡ 0 → IsAtEnd next → IfSome old (λ bytes. input ≡ take n bytes)
+at_end n None now next input count buffer kept gone none end = tt
+at_end n (Some bytes) None next input count buffer kept gone none end = absurd kept.gone
+at_end n (Some bytes) (Some left) None input count buffer kept gone none end = absurd gone
+at_end n (Some bytes) (Some left) (Some last) input count buffer kept gone none end =
+    let nothing : left ≡ [] = gone ∙ (ap (λ (k : ℕ). take k buffer ++ last) none ∙ end) in
+    let all : bytes ≡ kept.read = kept.gone ∙ (ap (λ (l : List ℕ). kept.read ++ l) nothing ∙ append-nil kept.read) in
+    kept.kept ∙ ap (take n) (sym all)

@@ -1,0 +1,11 @@
+use Rattle.std.proofs.Common.{◌+◌, ◌≤◌, length}
+use Rattle.fx_script.specs.declared.limits.TheConstants.{LONGEST_SCRIPT}
+use Rattle.fx_script.proofs.Turns.{Kept}
+use Rattle.fx_script.proofs.input.read_all.Given as goal
+
+-- the first bytes of what the reader has given are kept
+abbrev pub invariant-reading : goal.invariant-reading
+invariant-reading g l = record {
+  kept : Kept (LONGEST_SCRIPT + 1) (g.I.Read.remaining l.fn.reader) (g.I.Read.remaining l.reader) l.input.items;
+  few : length l.input.items ≤ LONGEST_SCRIPT + 1;
+}

@@ -1,0 +1,10 @@
+use Rattle.std.proofs.Common.{rules, ◌≡◌, [], string_bytes, subst, sym}
+use Rattle.fx_ring.specs.Ring.{ring_of}
+use Rattle.fx_script.specs.Play.{PrintsEnd}
+use Rattle.fx_script.proofs.PlaySteps.{nothing_left}
+use Rattle.fx_script.proofs.prints.end_text.Goals as goal
+
+pub returns-then-size-eq0-clause-end : goal.returns-then-size-eq0-clause-end
+returns-then-size-eq0-clause-end c =
+    let none : string_bytes c.new.result ≡ [] = search rules in
+    subst (PrintsEnd (ring_of c.args.ring.now)) (sym none) (nothing_left (ring_of c.args.ring.now) (search rules))

@@ -1,0 +1,98 @@
+-- What a script may print: the answers of a ring to its commands, one after another (this project's own).
+use Rattle.std.specs.Prelude.{◌≡◌, ◌⊎◌, ℕ, pos, nat_le, List, [], ◌∷◌, ◌++◌, codes, length, Option, Some, None}
+use Rattle.std.specs.Bool.{MatchBool}
+use Rattle.std.specs.Option.{MatchOption}
+use Rattle.fx_base.specs.CloseListView.{CloseListView}
+use Rattle.fx_base.specs.declared.errno.Errno.{Errno}
+use Rattle.fx_base.specs.declared.errno.Errno.TheVariants.{ENOMEM}
+use Rattle.fx_base.specs.declared.open_file.Closed.{Closed}
+use Rattle.fx_chain.specs.Completed.{negated}
+use Rattle.fx_chain.specs.Faults.{fault_of}
+use Rattle.fx_chain.specs.Operation.{Asked}
+use Rattle.fx_ring.specs.Registration.{range_refusal, register_refusal, registered, registered_sparse, removed_from, sparse_refusal, unregister_refusal, update_refusal, updated}
+use Rattle.fx_ring.specs.Ring.{HasClosed, RingContents, RingState, files_of, new_ring, ring_of, without_table}
+use Rattle.fx_ring.specs.Submission.{IsOneHistory, Reported}
+use Rattle.fx_ring.specs.declared.ring.TheConstants.{MOST_SUBMISSIONS}
+use Rattle.fx_script.specs.Instruction.{Instruction, MakesSparse, RegistersList, Unregisters, SetsRange, UpdatesRing, SubmitsAll}
+use Rattle.fx_script.specs.Script.{Meaning}
+use Rattle.fx_script.specs.Text.{result_line, closed_lines, refused_line, report_text, teardown_text, too_many_line}
+
+-- what a call answers that takes memory: its refusal, if there is one, and else that it was accepted or found no memory
+abbrev pub Answers : Option Errno → Type 0 → (Errno → Type 0) → Type 0
+Answers (Some errno) accepted refused = refused errno
+Answers None accepted refused = accepted ⊎ refused ENOMEM
+
+-- a refused call: the ring is as before, and the line has the negated error
+abbrev pub IsRefused : RingState → RingState → List ℕ → List ℕ → Errno → Type 0
+IsRefused old new word text errno = (new ≡ old) × (text ≡ result_line word (negated errno))
+
+-- an accepted call that closed these files: its line, and one for each of them, in order of mark
+abbrev pub PrintsClosed : RingState → List Closed → List ℕ → List ℕ → Type 0
+PrintsClosed ring files line text =
+    (closes : CloseListView) × HasClosed files closes × (text ≡ line ++ closed_lines ring.catalogue closes.files)
+
+-- an accepted submission: its completions come from one legal history, and so do the files that it closed
+abbrev pub PrintsReport : RingContents → List Asked → RingContents → List ℕ → Type 0
+PrintsReport old asked new text =
+    (report : Reported) × IsOneHistory old asked report new × (text ≡ report_text old.catalogue report)
+
+-- a command leads from one ring to another, and prints this. The first case that applies
+abbrev pub Prints : RingContents → Instruction → RingContents → List ℕ → Type 0
+Prints old (MakesSparse n) new text =
+    Answers (sparse_refusal (ring_of old) n)
+    ((ring_of new ≡ registered_sparse (ring_of old) n) × (text ≡ result_line (codes "sparse") (pos 0)))
+    (IsRefused (ring_of old) (ring_of new) (codes "sparse") text)
+Prints old (RegistersList list) new text =
+    Answers (register_refusal (ring_of old) list)
+    ((ring_of new ≡ registered (ring_of old) list) × (text ≡ result_line (codes "register") (pos 0)))
+    (IsRefused (ring_of old) (ring_of new) (codes "register") text)
+Prints old Unregisters new text =
+    Answers (unregister_refusal (ring_of old))
+    ((ring_of new ≡ without_table (ring_of old))
+    × PrintsClosed (ring_of old) (files_of (ring_of old)) (result_line (codes "unregister") (pos 0)) text)
+    (IsRefused (ring_of old) (ring_of new) (codes "unregister") text)
+Prints old (SetsRange off len) new text =
+    MatchOption (range_refusal (ring_of old) off len)
+    ((ring_of new ≡ record (ring_of old) { range = (off, len) }) × (text ≡ result_line (codes "range") (pos 0)))
+    (IsRefused (ring_of old) (ring_of new) (codes "range") text)
+Prints old (UpdatesRing off list) new text =
+    Answers (update_refusal (ring_of old) off list)
+    ((ring_of new ≡ updated (ring_of old) off list)
+    × PrintsClosed (ring_of old) (removed_from (ring_of old).at off list) (result_line (codes "regupdate") (pos (length list))) text)
+    (IsRefused (ring_of old) (ring_of new) (codes "regupdate") text)
+Prints old (SubmitsAll asked) new text =
+    MatchOption (fault_of asked)
+    (MatchBool (nat_le MOST_SUBMISSIONS old.submissions)
+    ((ring_of new ≡ ring_of old) × (text ≡ too_many_line))
+    (PrintsReport old asked new text))
+    (λ fault. (ring_of new ≡ ring_of old) × (text ≡ refused_line fault))
+
+-- at the end of the script: a line for each file that is left, in order of mark
+abbrev pub PrintsEnd : RingState → List ℕ → Type 0
+PrintsEnd ring text = (closes : CloseListView) × HasClosed (files_of ring) closes × (text ≡ teardown_text ring.catalogue closes.files)
+
+-- the commands may print this, one after another, and the end of the script behind them
+abbrev pub PrintsAll : RingContents → List Instruction → List ℕ → Type 0
+PrintsAll ring [] text = PrintsEnd (ring_of ring) text
+PrintsAll ring (command ∷ commands) text =
+    (next : RingContents) × (line : List ℕ) × (others : List ℕ)
+    × Prints ring command next line × (text ≡ line ++ others) × PrintsAll next commands others
+
+-- the first so many of the commands, perhaps none of them, may print this
+abbrev pub PrintsFirst : RingContents → List Instruction → List ℕ → Type 0
+PrintsFirst ring [] text = text ≡ []
+PrintsFirst ring (command ∷ commands) text =
+    (text ≡ []) ⊎ ((next : RingContents) × (line : List ℕ) × (others : List ℕ)
+    × Prints ring command next line × (text ≡ line ++ others) × PrintsFirst next commands others)
+
+-- a ring of the script's files, without a table
+abbrev pub IsStart : Meaning → RingContents → Type 0
+IsStart meaning ring = ring_of ring ≡ new_ring meaning.catalogue
+
+-- the script may print this
+abbrev pub IsText : Meaning → List ℕ → Type 0
+IsText meaning text = (ring : RingContents) × IsStart meaning ring × PrintsAll ring meaning.commands text
+
+-- the first commands of the script may print this
+abbrev pub IsTextOfFirst : Meaning → List ℕ → Type 0
+IsTextOfFirst meaning text = (ring : RingContents) × IsStart meaning ring × PrintsFirst ring meaning.commands text

@@ -1,0 +1,9 @@
+-- How the reader's fault is told by the player.
+use Rattle.fx_script.specs.declared.fault.ScriptError.{ScriptError}
+use Rattle.fx_script.specs.declared.fault.ScriptError.TheVariants as error
+use Rattle.fx_script.specs.declared.play_fault.PlayFault.{PlayFault}
+use Rattle.fx_script.specs.declared.play_fault.PlayFault.TheVariants.{Script, NoMemory}
+
+abbrev pub fault_told : ScriptError → PlayFault
+fault_told (error.Fault line kind) = Script line kind
+fault_told error.NoMemory = NoMemory

@@ -1,0 +1,143 @@
+//! What each command prints: the answer of the ring to it.
+ghost use Rattle.std.specs.Prelude.{◌≡◌, ◌≤◌, IfOk, OnOk, pos, string_bytes};
+ghost use Rattle.fx_table.specs.declared.limits.TheConstants.{MAX_PASSES};
+ghost use Rattle.fx_chain.specs.Completed.{negated};
+ghost use Rattle.fx_chain.specs.Operation.{all_asked};
+ghost use Rattle.fx_ring.specs.Ring.{ring_of};
+ghost use Rattle.fx_script.specs.Instruction.{MakesSparse, RegistersList, Unregisters, SetsRange, UpdatesRing, SubmitsAll, instruction_of};
+ghost use Rattle.fx_script.specs.Play.{Prints, PrintsEnd};
+ghost use Rattle.fx_script.specs.Text.{result_line};
+
+use crate::command::Command;
+use crate::text::{
+    refused_line, report_text, result_line, teardown_text, too_many_line, with_closed_lines,
+};
+use fx_base::{Errno, NoMemory};
+use fx_chain::{Gate, Request};
+use fx_ring::{Ring, SubmitFault};
+use fx_table::FileTable;
+use std::alloc::Global;
+use std::sync::Wait;
+use std::thread::Threads;
+
+// The line of a refused call: its word, and its error, negated.
+fn refusal(alloc: Global, word: &str, errno: Errno) -> Result<String, NoMemory>
+    ensures { IfOk result (λ text. string_bytes text ≡ result_line word.now (negated errno)) }
+{
+    result_line(alloc, word, -i64::from(errno.code()))
+}
+
+fn sparse(alloc: Global, ring: &mut Ring, n: u32) -> Result<String, NoMemory>
+    ensures { IfOk result (λ text. Prints ring.old (MakesSparse n) ring.new (string_bytes text)) }
+{
+    match ring.register_sparse(alloc, n) {
+        Ok(()) => result_line(alloc, "sparse", 0),
+        Err(errno) => refusal(alloc, "sparse", errno),
+    }
+}
+
+fn register(alloc: Global, ring: &mut Ring, list: &[i32]) -> Result<String, NoMemory>
+    ensures { IfOk result (λ text.
+        Prints ring.old (RegistersList list.now) ring.new (string_bytes text)) }
+{
+    match ring.register(alloc, list) {
+        Ok(()) => result_line(alloc, "register", 0),
+        Err(errno) => refusal(alloc, "register", errno),
+    }
+}
+
+fn unregister(alloc: Global, ring: &mut Ring) -> Result<String, NoMemory>
+    ensures { IfOk result (λ text. Prints ring.old Unregisters ring.new (string_bytes text)) }
+{
+    match ring.unregister(alloc) {
+        Ok(closes) => {
+            let line = result_line(alloc, "unregister", 0)?;
+            with_closed_lines(alloc, line.as_str(), ring.catalogue(), closes.files())
+        }
+        Err(errno) => refusal(alloc, "unregister", errno),
+    }
+}
+
+fn range(alloc: Global, ring: &mut Ring, off: u32, len: u32) -> Result<String, NoMemory>
+    ensures { IfOk result (λ text.
+        Prints ring.old (SetsRange off len) ring.new (string_bytes text)) }
+{
+    match ring.alloc_range(off, len) {
+        Ok(()) => result_line(alloc, "range", 0),
+        Err(errno) => refusal(alloc, "range", errno),
+    }
+}
+
+fn update(alloc: Global, ring: &mut Ring, off: u32, list: &[i32]) -> Result<String, NoMemory>
+    ensures { IfOk result (λ text.
+        Prints ring.old (UpdatesRing off list.now) ring.new (string_bytes text)) }
+{
+    match ring.update(alloc, off, list) {
+        Ok((count, closes)) => {
+            let line = result_line(alloc, "regupdate", i64::from(count))?;
+            with_closed_lines(alloc, line.as_str(), ring.catalogue(), closes.files())
+        }
+        Err(errno) => refusal(alloc, "regupdate", errno),
+    }
+}
+
+fn submit<T: FileTable, R: Threads + Wait + Sync, G: Gate>(
+    rt: &R,
+    alloc: Global,
+    ring: &mut Ring,
+    requests: &[Request],
+    workers: u32,
+    gate: &G,
+) -> Result<String, NoMemory>
+    requires workers { (1 ≤ workers) × (workers ≤ MAX_PASSES) }
+    ensures { IfOk result (λ text.
+        Prints ring.old (SubmitsAll (all_asked requests.now)) ring.new (string_bytes text)) }
+{
+    match ring.submit::<T, R, G>(rt, alloc, requests, workers, gate) {
+        Ok(report) => report_text(alloc, &report, ring.catalogue()),
+        Err(SubmitFault::Cut(fault)) => refused_line(alloc, fault),
+        Err(SubmitFault::TooMany) => too_many_line(alloc),
+        Err(SubmitFault::NoMemory) => Err(NoMemory),
+        Err(SubmitFault::Workers) => unreachable!(),
+    }
+}
+
+// Gives a command to the ring, and gives what it prints. Want of memory in a call between submissions is printed; it is an
+// answer here where it is that of a submission or of a text.
+pub fn command_text<T: FileTable, R: Threads + Wait + Sync, G: Gate>(
+    rt: &R,
+    alloc: Global,
+    ring: &mut Ring,
+    command: &Command,
+    workers: u32,
+    gate: &G,
+) -> Result<String, NoMemory>
+    requires workers { (1 ≤ workers) × (workers ≤ MAX_PASSES) }
+    ensures { IfOk result (λ text.
+        Prints ring.old (instruction_of command.now) ring.new (string_bytes text)) }
+{
+    match command {
+        Command::Sparse(n) => sparse(alloc, ring, *n),
+        Command::Register(list) => register(alloc, ring, list.as_slice()),
+        Command::Unregister => unregister(alloc, ring),
+        Command::Range(off, len) => range(alloc, ring, *off, *len),
+        Command::Update(off, list) => update(alloc, ring, *off, list.as_slice()),
+        Command::Submit(requests) => {
+            submit::<T, R, G>(rt, alloc, ring, requests.as_slice(), workers, gate)
+        }
+    }
+}
+
+// Closes the files that are left at the end of a script, and gives what the end prints.
+pub fn end_text(alloc: Global, ring: &mut Ring) -> Result<String, NoMemory>
+    ensures end { IfOk result (λ text. PrintsEnd (ring_of ring.old) (string_bytes text)) }
+    ensures closed { OnOk result ((ring_of ring.new).size ≡ 0) }
+{
+    if ring.size() == 0 {
+        return Ok(String::new(alloc));
+    }
+    match ring.unregister(alloc) {
+        Ok(closes) => teardown_text(alloc, ring.catalogue(), closes.files()),
+        Err(_refused) => Err(NoMemory),
+    }
+}

@@ -1,0 +1,49 @@
+//! A run: a script is read and played.
+ghost use Rattle.std.specs.Prelude.{◌≤◌, IfErr, IfOk, OnOk};
+ghost use Rattle.fx_table.specs.declared.limits.TheConstants.{MAX_PASSES};
+ghost use Rattle.fx_script.specs.Run.{IsInput, IsInputFault, IsRun, IsRunFault};
+
+use crate::input::read_all;
+use crate::play_fault::PlayFault;
+use crate::player::play;
+use crate::script::Script;
+use fx_chain::Gate;
+use fx_table::FileTable;
+use std::alloc::Global;
+use std::io::{Read, Write};
+use std::sync::Wait;
+use std::thread::Threads;
+
+// Reads a script. Its bytes are given up, and what they say is kept.
+fn read_script<I: Read>(alloc: Global, reader: &mut I) -> Result<Script, PlayFault>
+    ensures script { IfOk result (IsInput (I.remaining reader.old)) }
+    ensures fault { IfErr result (IsInputFault (I.remaining reader.old)) }
+{
+    let input = read_all(alloc, reader)?;
+    let script = Script::read(alloc, input.as_slice())?;
+    Ok(script)
+}
+
+/// Reads a script to its end and plays it as [`play`] does. The caller has seen that there are 1 to
+/// [`fx_table::MAX_PASSES`] workers.
+///
+/// # Errors
+/// `Read` where a read fails, an interrupted one too, or where the end has not come after 8,388,608 reads, and `Script`
+/// where the input is no script, with its fault: nothing is written then. `Write` and `NoMemory` as [`play`].
+pub fn run<T: FileTable, R: Threads + Wait + Sync, G: Gate, I: Read, W: Write>(
+    rt: &R,
+    alloc: Global,
+    workers: u32,
+    gate: &G,
+    reader: &mut I,
+    writer: &mut W,
+) -> Result<(), PlayFault>
+    requires workers { (1 ≤ workers) × (workers ≤ MAX_PASSES) }
+    ensures ok { OnOk result
+        (IsRun (I.remaining reader.old) (W.contents writer.old) (W.contents writer.new)) }
+    ensures fault { IfErr result (λ fault. IsRunFault fault
+        (I.remaining reader.old) (W.contents writer.old) (W.contents writer.new)) }
+{
+    let script = read_script(alloc, reader)?;
+    play::<T, R, G, W>(rt, alloc, script, workers, gate, writer)
+}

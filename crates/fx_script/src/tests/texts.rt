@@ -1,0 +1,104 @@
+// Texts, of reports that were made by hand, and of faults.
+use crate::{PlayFault, ScriptFault, report_text};
+use fx_base::{Catalogue, CloseList, Mark};
+use fx_chain::{Completion, Place};
+use fx_ring::Report;
+use std::alloc::Global;
+use std::test::Fail;
+
+// A catalogue of `a.txt` and `b.txt`.
+fn two_files(alloc: Global) -> Result<Catalogue, Fail> {
+    let mut catalogue = Catalogue::new(alloc);
+    catalogue.add(String::from_str(alloc, "a.txt")?, b"hello".to_vec(alloc)?)?;
+    catalogue.add(String::from_str(alloc, "b.txt")?, b"hi".to_vec(alloc)?)?;
+    Ok(catalogue)
+}
+
+fn completion(
+    alloc: Global,
+    chain: u32,
+    member: u32,
+    res: i32,
+    got: &[u8],
+) -> Result<Completion, Fail> {
+    Ok(Completion {
+        place: Place {
+            submission: 7,
+            chain,
+            member,
+        },
+        res,
+        got: got.to_vec(alloc)?,
+    })
+}
+
+#[test]
+fn a_report(rt: HostRuntime) -> Result<(), Fail> {
+    let alloc = rt.alloc();
+    let catalogue = two_files(alloc)?;
+    let mut completions = Vec::new(alloc);
+    completions.push(completion(alloc, 1, 1, 0, b"".as_slice())?)?;
+    completions.push(completion(alloc, 1, 2, 5, b"\x00\x0f\xa0\xffj".as_slice())?)?;
+    completions.push(completion(alloc, 12, 16, -125, b"".as_slice())?)?;
+    let mut closes = CloseList::with_room(alloc, 2)?;
+    closes.close(catalogue.open(1, Mark::Registered { k: 3, i: 255 }));
+    closes.close(catalogue.open(
+        0,
+        Mark::Submitted {
+            submission: 7,
+            chain: 12,
+            member: 1,
+            entry: 15,
+        },
+    ));
+    let report = Report {
+        submission: 7,
+        completions,
+        closes,
+    };
+    let text = report_text(alloc, &report, &catalogue)?;
+    let lines =
+        "7.1.1 0\n7.1.2 5 000fa0ff6a\n7.12.16 -125\nclosed r3.255 b.txt\nclosed 7.12.1.15 a.txt\n";
+    assert_eq!(rt; text.as_str(), lines);
+    Ok(())
+}
+
+#[test]
+fn an_empty_report(rt: HostRuntime) -> Result<(), Fail> {
+    let alloc = rt.alloc();
+    let report = Report {
+        submission: 1,
+        completions: Vec::new(alloc),
+        closes: CloseList::with_room(alloc, 0)?,
+    };
+    let text = report_text(alloc, &report, &Catalogue::new(alloc))?;
+    assert_eq!(rt; text.as_str(), "");
+    Ok(())
+}
+
+#[test]
+fn every_fault_of_a_play(rt: HostRuntime) -> Result<(), Fail> {
+    let faults = [
+        (PlayFault::Read, "read failed"),
+        (
+            PlayFault::Script {
+                line: 0,
+                kind: ScriptFault::LongScript,
+            },
+            "line 0: long-script",
+        ),
+        (
+            PlayFault::Script {
+                line: 4_194_305,
+                kind: ScriptFault::UnknownCommand,
+            },
+            "line 4194305: unknown-command",
+        ),
+        (PlayFault::Write, "write failed"),
+        (PlayFault::NoMemory, "out of memory"),
+    ];
+    for (fault, text) in faults {
+        assert_eq!(rt; fault.to_string(rt.alloc())?.as_str(), text);
+    }
+    Ok(())
+}
