@@ -9,3 +9,4 @@ pub mod Cuts
 pub mod Tells
 pub mod Laws
 pub mod Opens
+pub mod Tables

@@ -5,6 +5,9 @@
 mod kinds;
 pub mod laws;
 pub mod layout;
+mod pass;
+mod queries;
+mod table;
 #[cfg(test)]
 mod tests;
 mod view;
@@ -13,4 +16,6 @@ pub use kinds::{
     Answer, Begin, Birth, Clear, Deal, Draw, End, Exchange, Gather, Install, Load, Look,
     OneHistory, Release, Rest, Retire, Take,
 };
+pub use pass::CountedPass;
+pub use table::CountedTable;
 pub use view::{Change, Log, Start, View, Work};

@@ -1,0 +1,22 @@
+use crate::view::View;
+use atomic_table::Seat;
+use fx_base::OpenFile;
+
+/// A pass of a [`crate::CountedTable`]. It is no `Drop`: a program that lets one go is not accepted. Two passes that lie
+/// side by side in a list are 128 bytes apart, so that threads that use them share no cache line.
+pub struct CountedPass {
+    pub(crate) seat: Seat<Option<OpenFile>, View>,
+    // The chain that was drawn last or 0, and whether there are no more.
+    pub(crate) chain: u32,
+    pub(crate) no_chains_left: bool,
+    pub(crate) numbers_left: u32,
+    pub(crate) looks_left: u32,
+    pub(crate) idle: bool,
+    pub(crate) spacing: Spacing,
+}
+
+// What keeps a pass away from the next one: the fields before it take 16 bytes.
+#[derive(Drop)]
+pub(crate) struct Spacing {
+    unused: [u64; 14],
+}
