@@ -19,3 +19,6 @@ pub mod SlotLaws
 pub mod Seats
 pub mod Chains
 pub mod Openings
+pub mod Going
+pub mod Naming
+pub mod Calling

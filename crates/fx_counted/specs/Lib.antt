@@ -9,4 +9,5 @@ pub mod Cuts
 pub mod Tells
 pub mod Laws
 pub mod Opens
+pub mod Goes
 pub mod Tables

@@ -2,6 +2,7 @@
 //! nobody waits.
 #![tactic(auto)]
 
+mod calls;
 mod kinds;
 pub mod laws;
 pub mod layout;

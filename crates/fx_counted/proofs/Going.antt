@@ -1,0 +1,165 @@
+-- Some steps in a row, and the pass behind them.
+use Rattle.std.proofs.Common.{◌≡◌, ℕ, ◌+◌, ◌≤◌, List, [], sym, refl, ap, ◌∙◌, subst, arith}
+use Rattle.atomic_table.specs.Seated.{TableId}
+use Rattle.fx_plain.specs.History.{◌▷▷◌}
+use Rattle.fx_plain.specs.declared.event.Action.{Action}
+use Rattle.fx_table.specs.Calls.{Use, no_use, both_uses, Adds}
+use Rattle.fx_table.specs.Pass.{IsFront}
+use Rattle.fx_table.specs.declared.values.Doing.TheVariants.{Idle as NowIdle, Holding as NowHolding, Retiring as NowRetiring}
+use Rattle.fx_plain.specs.declared.event.File.{File}
+use Rattle.fx_table.proofs.Calls.{adds_nothing, adds_then}
+use Rattle.fx_counted.specs.Goes.{Goes}
+use Rattle.fx_counted.specs.Laws.{HasPass}
+use Rattle.fx_counted.specs.Passes.{Sat, opening_of, pass_of, doing_in, chain_in, first_log}
+use Rattle.fx_counted.specs.Tables.{view_of, IsBetweenCalls, is_idle, IsSeated, IsPassOf}
+use Rattle.fx_counted.specs.Tells.{IsInside, Stepped}
+use Rattle.fx_counted.specs.declared.pass.CountedPass.{CountedPass}
+use Rattle.fx_counted.specs.declared.view.Change.{Change}
+use Rattle.fx_counted.specs.declared.view.Change.TheVariants.{Outside}
+use Rattle.fx_counted.specs.declared.view.Log.{Log}
+use Rattle.fx_counted.specs.declared.view.Start.{Start}
+use Rattle.fx_counted.specs.declared.view.Work.{Work}
+use Rattle.fx_counted.specs.declared.view.Work.TheVariants.{Idle, Placing, Holding, Retiring, Emptying}
+
+pub goes_one : (m m' : Sat) (xs : List Action) (a : Use) (w : Work) (c : Change) → Stepped m xs a w c m' → Goes m xs a w c 1 m'
+goes_one m m' xs a w c s = record {
+  one = s.one;
+  adds = s.adds;
+  work = s.work;
+  inside = s.inside;
+  change = s.change;
+  start = s.start;
+  steps = let e = s.steps in omega arith;
+}
+
+-- a pass that makes no step
+pub goes_none : (k : Start) (m : Sat) (x : Log) → HasPass k m x → IsFront (opening_of k) (pass_of m.0) → IsInside k m.0.work
+    → Goes m [] no_use m.0.work m.0.change 0 m
+goes_none k m x its front inside = record {
+  one = (x, its.1);
+  adds = subst (λ (z : Start). Adds (opening_of z) (pass_of m.0) [] (doing_in m.0.work) no_use (pass_of m.0)) (sym its.0)
+      (adds_nothing (opening_of k) (pass_of m.0) front);
+  work = refl;
+  inside = subst (λ (z : Start). IsInside z m.0.work) (sym its.0) inside;
+  change = refl;
+  start = refl;
+  steps = omega arith;
+}
+
+pub goes_then : (m m' m'' : Sat) (xs ys : List Action) (a b : Use) (w w' : Work) (c c' : Change) (n n' : ℕ) → Goes m xs a w c n m'
+    → Goes m' ys b w' c' n' m'' → Goes m (xs ▷▷ ys) (both_uses a b) w' c' (n + n') m''
+goes_then m m' m'' xs ys a b w w' c c' n n' g h = record {
+  one = h.one;
+  adds = adds_then (opening_of m.0.start) (pass_of m.0) (pass_of m'.0) (pass_of m''.0) xs ys (doing_in w) (doing_in w') a b g.adds
+      (subst (λ (z : Start). Adds (opening_of z) (pass_of m'.0) ys (doing_in w') b (pass_of m''.0)) g.start h.adds);
+  work = h.work;
+  inside = subst (λ (z : Start). IsInside z w') g.start h.inside;
+  change = h.change;
+  start = h.start ∙ g.start;
+  steps = let p = g.steps in let q = h.steps in omega arith;
+}
+
+-- the same pass and more steps allowed
+pub goes_at_most : (m m' : Sat) (xs : List Action) (a : Use) (w : Work) (c : Change) (n most : ℕ) → n ≤ most → Goes m xs a w c n m'
+    → Goes m xs a w c most m'
+goes_at_most m m' xs a w c n most few g = record {
+  one = g.one;
+  adds = g.adds;
+  work = g.work;
+  inside = g.inside;
+  change = g.change;
+  start = g.start;
+  steps = let p = g.steps in omega arith;
+}
+
+-- a seat with one pass behind some steps
+module _ (id : TableId) (k : Start) (p q : CountedPass) (fits : IsPassOf id k p) (xs : List Action) (a : Use) (w : Work) (n : ℕ)
+    (goes : Goes p.seat.me xs a w Outside n q.seat.me) where
+  abbrev old : Log
+  old = fits.log
+
+  abbrev new : Log
+  new = goes.one.0
+
+  -- what is told of the view is told of the log
+  new_is : first_log q.seat.me.0.logs ≡ new
+  new_is = ap first_log goes.one.1
+
+  old_is : first_log p.seat.me.0.logs ≡ old
+  old_is = ap first_log fits.seated.one
+
+  same_chain : chain_in new ≡ chain_in old
+  same_chain = sym (ap chain_in new_is) ∙ (goes.adds.chain ∙ ap chain_in old_is)
+
+  numbers : new.numbers_left + a.numbers ≡ old.numbers_left
+  numbers = let e = goes.adds.numbers_left in let f = ap (λ (x : Log). x.numbers_left) new_is in
+      let g = ap (λ (x : Log). x.numbers_left) old_is in omega arith
+
+  looks_now : new.looks_left + a.looks ≡ old.looks_left
+  looks_now = let e = goes.adds.looks_left in let f = ap (λ (x : Log). x.looks_left) new_is in
+      let g = ap (λ (x : Log). x.looks_left) old_is in omega arith
+
+  pub adds_so : Adds (opening_of k) (view_of p) xs (doing_in w) a (view_of q)
+  adds_so = subst (λ (z : Start). Adds (opening_of z) (view_of p) xs (doing_in w) a (view_of q)) fits.seated.start goes.adds
+
+  seated_now : IsBetweenCalls w → IsSeated k q.seat.me.0 new
+  seated_now rests = let s = fits.seated in record {
+    one = goes.one.1;
+    start = goes.start ∙ s.start;
+    front = adds_so.front;
+    work = subst IsBetweenCalls (sym goes.work) rests;
+    inside = subst (λ (z : Start × Work). IsInside z.0 z.1) (λ i. (s.start i, sym goes.work i)) goes.inside;
+    change = goes.change;
+    chain = let e = same_chain in let l = s.chain in omega arith;
+    few_left = let e = numbers in let l = s.few_left in omega arith;
+    left_inside = let e = numbers in let f = same_chain in let l = s.left_inside in omega arith;
+  }
+
+  -- a pass that knows what it has used up
+  pub still_pass : q.seat.table_id ≡ p.seat.table_id → q.seat.me.1 ≡ [] → IsBetweenCalls w → q.chain ≡ p.chain
+      → q.no_chains_left ≡ p.no_chains_left → q.numbers_left + a.numbers ≡ p.numbers_left → q.looks_left + a.looks ≡ p.looks_left
+      → q.idle ≡ is_idle w → IsPassOf id k q
+  still_pass table places rests chain told left looks_left idle = record {
+    table = table ∙ fits.table;
+    places = places;
+    log = new;
+    seated = seated_now rests;
+    knows = let o = fits.knows in record {
+      chain = chain ∙ (o.chain ∙ sym same_chain);
+      no_chains_left = told ∙ (o.no_chains_left
+          ∙ sym (sym (ap (λ (x : Log). x.no_chains_left) new_is) ∙ (goes.adds.no_chains_left ∙ ap (λ (x : Log). x.no_chains_left) old_is)));
+      numbers_left = let e = numbers in let f = o.numbers_left in omega arith;
+      looks_left = let e = looks_now in let f = o.looks_left in omega arith;
+      idle = idle ∙ ap is_idle (sym goes.work);
+    };
+  }
+
+-- what a pass does between two calls
+pub idle_work : (w : Work) → IsBetweenCalls w → doing_in w ≡ NowIdle → w ≡ Idle
+idle_work Idle r e = refl
+idle_work (Placing n) r e = absurd r
+idle_work (Holding f) r e = absurd (cc e)
+idle_work (Retiring f t) r e = absurd (cc e)
+idle_work (Emptying n) r e = absurd r
+
+pub holding_work : (w : Work) (f : File) → IsBetweenCalls w → doing_in w ≡ NowHolding f → w ≡ Holding f
+holding_work Idle f r e = absurd (cc e)
+holding_work (Placing n) f r e = absurd r
+holding_work (Holding g) f r e = let same : g ≡ f = cc e in ap (λ (z : File). Holding z) same
+holding_work (Retiring g t) f r e = absurd (cc e)
+holding_work (Emptying n) f r e = absurd r
+
+pub retiring_work : (w : Work) (f : File) (t : ℕ) → IsBetweenCalls w → doing_in w ≡ NowRetiring f t → w ≡ Retiring f t
+retiring_work Idle f t r e = absurd (cc e)
+retiring_work (Placing n) f t r e = absurd r
+retiring_work (Holding g) f t r e = absurd (cc e)
+retiring_work (Retiring g u) f t r e = let same : g ≡ f = cc e in let takes : u ≡ t = cc e in λ i. Retiring (same i) (takes i)
+retiring_work (Emptying n) f t r e = absurd r
+
+-- the pass of a seat
+pub its_pass : (id : TableId) (k : Start) (p : CountedPass) (fits : IsPassOf id k p) → HasPass k p.seat.me fits.log
+its_pass id k p fits = (fits.seated.start, fits.seated.one)
+
+pub goes_nowhere : (id : TableId) (k : Start) (p : CountedPass) (fits : IsPassOf id k p) → Goes p.seat.me [] no_use p.seat.me.0.work Outside 0 p.seat.me
+goes_nowhere id k p fits = subst (λ (c : Change). Goes p.seat.me [] no_use p.seat.me.0.work c 0 p.seat.me) fits.seated.change
+    (goes_none k p.seat.me fits.log (its_pass id k p fits) fits.seated.front fits.seated.inside)
