@@ -1,18 +1,21 @@
 -- Some steps in a row, and the pass behind them.
-use Rattle.std.proofs.Common.{◌≡◌, ℕ, ◌+◌, ◌≤◌, List, [], sym, refl, ap, ◌∙◌, subst, arith}
+use Rattle.std.proofs.Common.{◌≡◌, ℕ, ◌+◌, ◌≤◌, List, [], ◌∷◌, inl, sym, refl, ap, ◌∙◌, subst, arith}
+use Rattle.std.specs.Prelude.{Some}
 use Rattle.atomic_table.specs.Seated.{TableId}
-use Rattle.fx_plain.specs.History.{◌▷▷◌}
+use Rattle.fx_plain.specs.History.{◌▷◌, ◌▷▷◌}
 use Rattle.fx_plain.specs.declared.event.Action.{Action}
+use Rattle.fx_plain.specs.declared.event.Action.TheVariants.{Close}
 use Rattle.fx_table.specs.Calls.{Use, no_use, both_uses, Adds}
 use Rattle.fx_table.specs.Pass.{IsFront}
 use Rattle.fx_table.specs.declared.values.Doing.TheVariants.{Idle as NowIdle, Holding as NowHolding, Retiring as NowRetiring}
 use Rattle.fx_plain.specs.declared.event.File.{File}
 use Rattle.fx_table.proofs.Calls.{adds_nothing, adds_then}
 use Rattle.fx_counted.specs.Goes.{Goes}
-use Rattle.fx_counted.specs.Laws.{HasPass}
-use Rattle.fx_counted.specs.Passes.{Sat, opening_of, pass_of, doing_in, chain_in, first_log}
-use Rattle.fx_counted.specs.Tables.{view_of, IsBetweenCalls, is_idle, IsSeated, IsPassOf}
-use Rattle.fx_counted.specs.Tells.{IsInside, Stepped}
+use Rattle.fx_counted.specs.Moves.{HasPlace}
+use Rattle.fx_counted.specs.Laws.{HasPass, place_of}
+use Rattle.fx_counted.specs.Passes.{Sat, opening_of, pass_of, doing_in}
+use Rattle.fx_counted.specs.Tables.{view_of, IsBetweenCalls, IsPassOf}
+use Rattle.fx_counted.specs.Tells.{IsInside, Stepped, TakesOut}
 use Rattle.fx_counted.specs.declared.pass.CountedPass.{CountedPass}
 use Rattle.fx_counted.specs.declared.view.Change.{Change}
 use Rattle.fx_counted.specs.declared.view.Change.TheVariants.{Outside}
@@ -72,67 +75,11 @@ goes_at_most m m' xs a w c n most few g = record {
   steps = let p = g.steps in omega arith;
 }
 
--- a seat with one pass behind some steps
-module _ (id : TableId) (k : Start) (p q : CountedPass) (fits : IsPassOf id k p) (xs : List Action) (a : Use) (w : Work) (n : ℕ)
-    (goes : Goes p.seat.me xs a w Outside n q.seat.me) where
-  abbrev old : Log
-  old = fits.log
-
-  abbrev new : Log
-  new = goes.one.0
-
-  -- what is told of the view is told of the log
-  new_is : first_log q.seat.me.0.logs ≡ new
-  new_is = ap first_log goes.one.1
-
-  old_is : first_log p.seat.me.0.logs ≡ old
-  old_is = ap first_log fits.seated.one
-
-  same_chain : chain_in new ≡ chain_in old
-  same_chain = sym (ap chain_in new_is) ∙ (goes.adds.chain ∙ ap chain_in old_is)
-
-  numbers : new.numbers_left + a.numbers ≡ old.numbers_left
-  numbers = let e = goes.adds.numbers_left in let f = ap (λ (x : Log). x.numbers_left) new_is in
-      let g = ap (λ (x : Log). x.numbers_left) old_is in omega arith
-
-  looks_now : new.looks_left + a.looks ≡ old.looks_left
-  looks_now = let e = goes.adds.looks_left in let f = ap (λ (x : Log). x.looks_left) new_is in
-      let g = ap (λ (x : Log). x.looks_left) old_is in omega arith
-
-  pub adds_so : Adds (opening_of k) (view_of p) xs (doing_in w) a (view_of q)
-  adds_so = subst (λ (z : Start). Adds (opening_of z) (view_of p) xs (doing_in w) a (view_of q)) fits.seated.start goes.adds
-
-  seated_now : IsBetweenCalls w → IsSeated k q.seat.me.0 new
-  seated_now rests = let s = fits.seated in record {
-    one = goes.one.1;
-    start = goes.start ∙ s.start;
-    front = adds_so.front;
-    work = subst IsBetweenCalls (sym goes.work) rests;
-    inside = subst (λ (z : Start × Work). IsInside z.0 z.1) (λ i. (s.start i, sym goes.work i)) goes.inside;
-    change = goes.change;
-    chain = let e = same_chain in let l = s.chain in omega arith;
-    few_left = let e = numbers in let l = s.few_left in omega arith;
-    left_inside = let e = numbers in let f = same_chain in let l = s.left_inside in omega arith;
-  }
-
-  -- a pass that knows what it has used up
-  pub still_pass : q.seat.table_id ≡ p.seat.table_id → q.seat.me.1 ≡ [] → IsBetweenCalls w → q.chain ≡ p.chain
-      → q.no_chains_left ≡ p.no_chains_left → q.numbers_left + a.numbers ≡ p.numbers_left → q.looks_left + a.looks ≡ p.looks_left
-      → q.idle ≡ is_idle w → IsPassOf id k q
-  still_pass table places rests chain told left looks_left idle = record {
-    table = table ∙ fits.table;
-    places = places;
-    log = new;
-    seated = seated_now rests;
-    knows = let o = fits.knows in record {
-      chain = chain ∙ (o.chain ∙ sym same_chain);
-      no_chains_left = told ∙ (o.no_chains_left
-          ∙ sym (sym (ap (λ (x : Log). x.no_chains_left) new_is) ∙ (goes.adds.no_chains_left ∙ ap (λ (x : Log). x.no_chains_left) old_is)));
-      numbers_left = let e = numbers in let f = o.numbers_left in omega arith;
-      looks_left = let e = looks_now in let f = o.looks_left in omega arith;
-      idle = idle ∙ ap is_idle (sym goes.work);
-    };
-  }
+-- what the steps of a pass add to what callers see
+pub adds_so : (id : TableId) (k : Start) (p : CountedPass) (fits : IsPassOf id k p) (m' : Sat) (xs : List Action) (a : Use) (w : Work)
+    (c : Change) (n : ℕ) → Goes p.seat.me xs a w c n m' → Adds (opening_of k) (view_of p) xs (doing_in w) a (pass_of m'.0)
+adds_so id k p fits m' xs a w c n goes = subst (λ (z : Start). Adds (opening_of z) (view_of p) xs (doing_in w) a (pass_of m'.0))
+    fits.seated.start goes.adds
 
 -- what a pass does between two calls
 pub idle_work : (w : Work) → IsBetweenCalls w → doing_in w ≡ NowIdle → w ≡ Idle
@@ -163,3 +110,22 @@ its_pass id k p fits = (fits.seated.start, fits.seated.one)
 pub goes_nowhere : (id : TableId) (k : Start) (p : CountedPass) (fits : IsPassOf id k p) → Goes p.seat.me [] no_use p.seat.me.0.work Outside 0 p.seat.me
 goes_nowhere id k p fits = subst (λ (c : Change). Goes p.seat.me [] no_use p.seat.me.0.work c 0 p.seat.me) fits.seated.change
     (goes_none k p.seat.me fits.log (its_pass id k p fits) fits.seated.front fits.seated.inside)
+
+-- the pass has the place of a file that is closed
+pub out_place : (k : Start) (m m' : Sat) (xs : List Action) (f : File) (x : Log) → HasPass k m x → m.1 ≡ [] → TakesOut m xs f m'
+    → HasPlace k f.number (Some f.identity) m'
+out_place k m m' xs f x its empty out = let s = out.stepped in record {
+  log = s.one.0;
+  pass = (s.start ∙ its.0, s.one.1);
+  known = subst (λ (z : Start). IsInside z (Emptying f.number)) its.0 s.inside;
+  work = inl s.work;
+  place = out.carried ∙ λ i. (place_of (its.0 i) f.number, Some f.identity) ∷ empty i;
+}
+
+-- the file of a pass comes out: its close, and the step in which its place goes home
+pub out_and_home : (m m' m'' : Sat) (xs : List Action) (f : File) → TakesOut m xs f m' → Stepped m' [] no_use Idle m'.0.change m''
+    → Goes m (xs ▷ Close f) no_use Idle m.0.change 2 m''
+out_and_home m m' m'' xs f out home = subst (λ (c : Change). Goes m (xs ▷ Close f) no_use Idle c 2 m'') out.stepped.change
+    (goes_then m m' m'' (xs ▷ Close f) [] no_use no_use (Emptying f.number) Idle m.0.change m'.0.change 1 1
+    (goes_one m m' (xs ▷ Close f) no_use (Emptying f.number) m.0.change out.stepped)
+    (goes_one m' m'' [] no_use Idle m'.0.change home))

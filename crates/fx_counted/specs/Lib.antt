@@ -10,4 +10,5 @@ pub mod Tells
 pub mod Laws
 pub mod Opens
 pub mod Goes
+pub mod Moves
 pub mod Tables

@@ -1,15 +1,16 @@
 //! The calls of a pass between its draws: they wait for nobody, take no memory, and try nothing again. Each makes at
 //! most as many atomic steps as its clause says.
 ghost use Rattle.std.specs.Prelude.{◌≡◌, ◌+◌, ◌<◌, ◌≤◌};
-ghost use Rattle.fx_table.specs.Calls.{Looked};
+ghost use Rattle.fx_table.specs.Calls.{Looked, Released};
 ghost use Rattle.fx_table.specs.Opening.{size_of};
-ghost use Rattle.fx_table.specs.Pass.{IsIdle};
+ghost use Rattle.fx_table.specs.Pass.{IsIdle, IsHoldOf};
 ghost use Rattle.fx_counted.specs.Tables.{view_of, steps_taken, opening_of_table, IsPassOfTable};
 
-use crate::kinds::Look;
-use crate::layout::slot_place;
+use crate::kinds::{Look, Release};
+use crate::layout::{node_place, slot_place};
 use crate::pass::CountedPass;
 use crate::table::CountedTable;
+use fx_base::OpenFile;
 use fx_table::{Hold, LookFault};
 use fx_words::{entry_of, node_of};
 
@@ -46,5 +47,27 @@ impl CountedTable {
                 })
             }
         }
+    }
+
+    /// Gives up what the pass looked up, by the `Hold` that it got, in at most two atomic steps. The file comes out, to be
+    /// closed, where it was retired and this was its last hold. Then the pass is idle.
+    pub fn release(&self, pass: &mut CountedPass, hold: Hold) -> Option<OpenFile>
+        requires fits { IsPassOfTable self.now pass.old }
+        requires held { IsHoldOf (view_of pass.old) hold }
+        ensures fits { IsPassOfTable self.now pass.new }
+        ensures released { Released (opening_of_table self.now) (view_of pass.old) hold result (view_of pass.new) }
+        ensures steps { steps_taken pass.new ≤ steps_taken pass.old + 2 }
+    {
+        let Hold { node, entry: _ } = hold;
+        let word = node_place(self.size, node);
+        let found = self
+            .table
+            .shared
+            .fetch_sub::<Release>(&mut pass.seat, word, 1);
+        pass.idle = true;
+        if found != 1 {
+            return None;
+        }
+        Some(self.take_out(&mut pass.seat, node))
     }
 }

@@ -6,6 +6,7 @@ mod calls;
 mod kinds;
 pub mod laws;
 pub mod layout;
+mod moves;
 mod pass;
 mod queries;
 mod table;
