@@ -3,6 +3,7 @@
 #![tactic(auto)]
 
 mod calls;
+mod draw;
 mod kinds;
 pub mod laws;
 pub mod layout;
