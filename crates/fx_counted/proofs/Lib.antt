@@ -22,3 +22,8 @@ pub mod Openings
 pub mod Going
 pub mod Naming
 pub mod Calling
+pub mod Shells
+pub mod FirstWords
+pub mod FirstHomes
+pub mod Starting
+pub mod Dealing

@@ -12,3 +12,6 @@ pub mod Opens
 pub mod Goes
 pub mod Moves
 pub mod Tables
+pub mod Shells
+pub mod Firsts
+pub mod Lives

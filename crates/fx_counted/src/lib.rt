@@ -8,8 +8,10 @@ mod kinds;
 pub mod laws;
 pub mod layout;
 mod moves;
+mod open;
 mod pass;
 mod queries;
+mod shell;
 mod table;
 #[cfg(test)]
 mod tests;
