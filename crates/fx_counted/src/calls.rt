@@ -1,18 +1,18 @@
 //! The calls of a pass between its draws: they wait for nobody, take no memory, and try nothing again. Each makes at
 //! most as many atomic steps as its clause says.
 ghost use Rattle.std.specs.Prelude.{◌≡◌, ◌+◌, ◌<◌, ◌≤◌};
-ghost use Rattle.fx_table.specs.Calls.{Looked, Released};
+ghost use Rattle.fx_table.specs.Calls.{Looked, Released, HasRetired};
 ghost use Rattle.fx_table.specs.Opening.{size_of};
-ghost use Rattle.fx_table.specs.Pass.{IsIdle, IsHoldOf};
+ghost use Rattle.fx_table.specs.Pass.{IsIdle, IsHoldOf, IsRetiredOf};
 ghost use Rattle.fx_counted.specs.Tables.{view_of, steps_taken, opening_of_table, IsPassOfTable};
 
-use crate::kinds::{Look, Release};
+use crate::kinds::{Look, Release, Retire};
 use crate::layout::{node_place, slot_place};
 use crate::pass::CountedPass;
 use crate::table::CountedTable;
 use fx_base::OpenFile;
-use fx_table::{Hold, LookFault};
-use fx_words::{entry_of, node_of};
+use fx_table::{Hold, LookFault, Retired};
+use fx_words::{entry_of, node_of, retire_amount};
 
 impl CountedTable {
     /// Looks a slot below `size` up, by an idle pass (`is_idle`), in one atomic step. The file there has one more hold
@@ -66,6 +66,33 @@ impl CountedTable {
             .fetch_sub::<Release>(&mut pass.seat, word, 1);
         pass.idle = true;
         if found != 1 {
+            return None;
+        }
+        Some(self.take_out(&mut pass.seat, node))
+    }
+
+    /// Retires the file that the pass removed, by the `Retired` that it got, in at most two atomic steps. The file comes
+    /// out, to be closed, where nobody holds it now; else its last release hands it out. Then the pass is idle.
+    pub fn retire(&self, pass: &mut CountedPass, retired: Retired) -> Option<OpenFile>
+        requires fits { IsPassOfTable self.now pass.old }
+        requires removed { IsRetiredOf (view_of pass.old) retired }
+        ensures fits { IsPassOfTable self.now pass.new }
+        ensures retired { HasRetired (opening_of_table self.now) (view_of pass.old) retired result (view_of pass.new) }
+        ensures steps { steps_taken pass.new ≤ steps_taken pass.old + 2 }
+    {
+        let Retired {
+            node,
+            entry: _,
+            takes,
+        } = retired;
+        let word = node_place(self.size, node);
+        let amount = retire_amount(takes);
+        let found = self
+            .table
+            .shared
+            .fetch_sub::<Retire>(&mut pass.seat, word, amount);
+        pass.idle = true;
+        if found != amount {
             return None;
         }
         Some(self.take_out(&mut pass.seat, node))
