@@ -2,11 +2,11 @@
 use Rattle.std.proofs.Common.{◌≡◌, ℕ, ◌<◌, ◌≤◌, inl, inr, sym, ap, ◌∙◌, subst, arith}
 use Rattle.fx_table.specs.Opening.{size_of}
 use Rattle.fx_table.specs.declared.limits.TheConstants.{MAX_CHAINS}
-use Rattle.fx_counted.specs.Layout.{HasNode, slot_place, node_place, home_place}
+use Rattle.fx_counted.specs.Layout.{HasNode, slot_of, slot_place, node_place, home_place}
 use Rattle.fx_counted.specs.Passes.{slots_of, IsNumber}
 use Rattle.fx_counted.specs.Tables.{opening_of_table}
 use Rattle.fx_counted.specs.declared.table.CountedTable.{CountedTable}
-use Rattle.fx_counted.proofs.Places.{inside}
+use Rattle.fx_counted.proofs.Places.{inside, apart}
 
 -- the word of a slot is one of the table
 pub slot_inside : (t : CountedTable) (slot i : ℕ) → slot < size_of (opening_of_table t) → i ≡ slot_place slot
@@ -41,3 +41,7 @@ node_is_at t n i is = is ∙ ap (λ (z : ℕ). node_place z n) t.same_size
 
 pub home_is_at : (t : CountedTable) (n i : ℕ) → i ≡ home_place t.size n → i ≡ home_place (slots_of t.table.shared.key) n
 home_is_at t n i is = is ∙ ap (λ (z : ℕ). home_place z n) t.same_size
+
+-- the slot whose word lies there
+pub slot_at : (t : CountedTable) (slot i : ℕ) → i ≡ slot_place slot → slot_of i ≡ slot
+slot_at t slot i is = ap slot_of is ∙ (apart t.size t.chains t.few_slots).slot_back slot

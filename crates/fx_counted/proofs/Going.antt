@@ -10,6 +10,7 @@ use Rattle.fx_table.specs.Pass.{IsFront}
 use Rattle.fx_table.specs.declared.values.Doing.TheVariants.{Idle as NowIdle, Holding as NowHolding, Retiring as NowRetiring}
 use Rattle.fx_plain.specs.declared.event.File.{File}
 use Rattle.fx_table.proofs.Calls.{adds_nothing, adds_then}
+use Rattle.fx_counted.specs.Changing.{IsAtWork}
 use Rattle.fx_counted.specs.Goes.{Goes}
 use Rattle.fx_counted.specs.Moves.{HasPlace}
 use Rattle.fx_counted.specs.Laws.{HasPass, place_of}
@@ -193,3 +194,27 @@ out_and_home m m' m'' xs f out home = subst (λ (c : Change). Goes m (xs ▷ Clo
 pub let_go : (m m' : Sat) (xs : List Action) → m.0.change ≡ Outside → LetsGo m xs m' → Goes m xs no_use Idle Outside 1 m'
 let_go m m' xs outside went = subst (λ (c : Change). Goes m xs no_use Idle c 1 m') outside
     (goes_one m m' xs no_use Idle m.0.change went.stepped)
+
+-- a pass is still at work behind some steps
+pub still_at_work : (k : Start) (m m' : Sat) (x : Log) (xs : List Action) (a : Use) (w : Work) (c : Change) (n : ℕ) → HasPass k m x
+    → Goes m xs a w c n m' → IsAtWork k m'
+still_at_work k m m' x xs a w c n its goes = record {
+  log = goes.one.0;
+  pass = (goes.start ∙ its.0, goes.one.1);
+  front = subst (λ (z : Start). IsFront (opening_of z) (pass_of m'.0)) its.0 goes.adds.front;
+  inside = subst (λ (z : Start × Work). IsInside z.0 z.1) (λ i. (its.0 i, sym goes.work i)) goes.inside;
+}
+
+use_alone : (a : Use) → both_uses (both_uses no_use a) no_use ≡ a
+use_alone a = λ i. record {
+  numbers = (let e : 0 + a.numbers + 0 ≡ a.numbers = omega arith in e) i;
+  looks = (let e : 0 + a.looks + 0 ≡ a.looks = omega arith in e) i;
+}
+
+-- a step between a begin and an end, if there are such
+pub goes_around : (m m' m'' m''' : Sat) (action : Action) (a : Use) (w w' : Work) (c c' : Change) → Goes m [] no_use w c 1 m'
+    → Stepped m' ([] ▷ action) a w' c' m'' → Goes m'' [] no_use m''.0.work Outside 1 m''' → Goes m ([] ▷ action) a w' Outside 3 m'''
+goes_around m m' m'' m''' action a w w' c c' before s behind = subst (λ (z : Use). Goes m ([] ▷ action) z w' Outside 3 m''') (use_alone a)
+    (goes_then m m'' m''' ([] ▷ action) [] (both_uses no_use a) no_use w' w' c' Outside 2 1
+    (goes_then m m' m'' [] ([] ▷ action) no_use a w w' c c' 1 1 before (goes_one m' m'' ([] ▷ action) a w' c' s))
+    (subst (λ (z : Work). Goes m'' [] no_use z Outside 1 m''') s.work behind))

@@ -22,3 +22,5 @@ pub mod Openings
 pub mod Going
 pub mod Naming
 pub mod Calling
+pub mod Telling
+pub mod Removing

@@ -11,4 +11,5 @@ pub mod Laws
 pub mod Opens
 pub mod Goes
 pub mod Moves
+pub mod Changing
 pub mod Tables

@@ -1,18 +1,21 @@
 //! The calls of a pass between its draws: they wait for nobody, take no memory, and try nothing again. Each makes at
 //! most as many atomic steps as its clause says.
-ghost use Rattle.std.specs.Prelude.{◌≡◌, ◌+◌, ◌<◌, ◌≤◌};
-ghost use Rattle.fx_table.specs.Calls.{Looked, Released, HasRetired};
+ghost use Rattle.std.specs.Prelude.{◌≡◌, ◌+◌, ◌<◌, ◌≤◌, Option, option_map};
+ghost use Rattle.fx_plain.specs.declared.event.File.{File};
+ghost use Rattle.fx_table.specs.Calls.{Looked, Released, Cleared, HasRetired};
 ghost use Rattle.fx_table.specs.Opening.{size_of};
-ghost use Rattle.fx_table.specs.Pass.{IsIdle, IsHoldOf, IsRetiredOf};
+ghost use Rattle.fx_table.specs.Pass.{IsIdle, IsHoldOf, IsRetiredOf, retired_of};
+ghost use Rattle.fx_words.specs.Words.{takes_in};
+ghost use Rattle.fx_counted.specs.Agrees.{Names};
 ghost use Rattle.fx_counted.specs.Tables.{view_of, steps_taken, opening_of_table, IsPassOfTable};
 
-use crate::kinds::{Look, Release, Retire};
+use crate::kinds::{Clear, Look, Release, Retire};
 use crate::layout::{node_place, slot_place};
 use crate::pass::CountedPass;
 use crate::table::CountedTable;
 use fx_base::OpenFile;
 use fx_table::{Hold, LookFault, Retired};
-use fx_words::{entry_of, node_of, retire_amount};
+use fx_words::{entry_of, node_of, retire_amount, takes_of};
 
 impl CountedTable {
     /// Looks a slot below `size` up, by an idle pass (`is_idle`), in one atomic step. The file there has one more hold
@@ -96,5 +99,45 @@ impl CountedTable {
             return None;
         }
         Some(self.take_out(&mut pass.seat, node))
+    }
+
+    /// Empties a slot below `size` for an update, by an idle pass (`is_idle`), in at most three atomic steps. The file that
+    /// was there is to be retired (io_uring_register(2), "IORING_REGISTER_FILES_UPDATE", an entry of -1).
+    pub fn clear(&self, pass: &mut CountedPass, slot: u32) -> Option<Retired>
+        requires fits { IsPassOfTable self.now pass.old }
+        requires idle { IsIdle (view_of pass.old) }
+        requires slot { slot < size_of (opening_of_table self.now) }
+        ensures fits { IsPassOfTable self.now pass.new }
+        ensures cleared { Cleared (opening_of_table self.now) (view_of pass.old) slot result (view_of pass.new) }
+        ensures steps { steps_taken pass.new ≤ steps_taken pass.old + 3 }
+    {
+        let began = self.begin(&mut pass.seat, slot);
+        let found = self
+            .table
+            .shared
+            .swap::<Clear>(&mut pass.seat, slot_place(slot), 0);
+        let removed = removed_in(found);
+        self.end(
+            &mut pass.seat,
+            began,
+            if removed.is_none() { 0 } else { -1 },
+        );
+        pass.idle = removed.is_none();
+        removed
+    }
+}
+
+// The file that a slot's word names, as it is to be retired.
+fn removed_in(word: u64) -> Option<Retired>
+    ensures { (file : Option File) → Names word file
+        → result ≡ option_map (λ f. retired_of f (takes_in word)) file }
+{
+    match node_of(word) {
+        None => None,
+        Some(node) => Some(Retired {
+            node,
+            entry: entry_of(word),
+            takes: takes_of(word),
+        }),
     }
 }

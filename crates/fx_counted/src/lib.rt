@@ -3,6 +3,7 @@
 #![tactic(auto)]
 
 mod calls;
+mod in_range;
 mod kinds;
 pub mod laws;
 pub mod layout;

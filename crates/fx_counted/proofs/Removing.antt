@@ -1,0 +1,18 @@
+-- What a pass answers that removed a file from a slot, or found none.
+use Rattle.std.proofs.Common.{◌≡◌, ℕ, [], sym, refl, subst}
+use Rattle.std.specs.Prelude.{Option, Some, None, option_map}
+use Rattle.fx_plain.specs.History.{◌▷◌}
+use Rattle.fx_plain.specs.declared.event.File.{File}
+use Rattle.fx_plain.specs.declared.event.Action.TheVariants.{Clear}
+use Rattle.fx_table.specs.Calls.{Adds, no_use, Cleared}
+use Rattle.fx_table.specs.Opening.{Opening}
+use Rattle.fx_table.specs.Pass.{PassView, retired_of}
+use Rattle.fx_table.specs.declared.values.Retired.{Retired}
+use Rattle.fx_counted.specs.Passes.{doing_in}
+use Rattle.fx_counted.specs.Tells.{retires_now}
+
+pub cleared_so : (o : Opening) (v : PassView) (slot : ℕ) (file : Option File) (takes : ℕ) (result : Option Retired) (w : PassView)
+    → result ≡ option_map (λ f. retired_of f takes) file
+    → Adds o v ([] ▷ Clear slot file) (doing_in (retires_now file takes)) no_use w → Cleared o v slot result w
+cleared_so o v slot None takes result w is adds = subst (λ (r : Option Retired). Cleared o v slot r w) (sym is) adds
+cleared_so o v slot (Some f) takes result w is adds = subst (λ (r : Option Retired). Cleared o v slot r w) (sym is) (f, refl, adds)
