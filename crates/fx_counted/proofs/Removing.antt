@@ -1,12 +1,13 @@
 -- What a pass answers that removed a file from a slot, or found none.
-use Rattle.std.proofs.Common.{◌≡◌, ℕ, [], sym, refl, subst}
-use Rattle.std.specs.Prelude.{Option, Some, None, option_map}
+use Rattle.std.proofs.Common.{◌≡◌, ℕ, [], sym, refl, ap, ◌∙◌, subst}
+use Rattle.std.specs.Prelude.{Option, Some, None, option_map, Result, ok_or}
 use Rattle.fx_plain.specs.History.{◌▷◌}
 use Rattle.fx_plain.specs.declared.event.File.{File}
-use Rattle.fx_plain.specs.declared.event.Action.TheVariants.{Clear}
-use Rattle.fx_table.specs.Calls.{Adds, no_use, Cleared}
+use Rattle.fx_plain.specs.declared.event.Action.TheVariants.{Clear, Take}
+use Rattle.fx_table.specs.Calls.{Adds, no_use, Cleared, Taken}
 use Rattle.fx_table.specs.Opening.{Opening}
 use Rattle.fx_table.specs.Pass.{PassView, retired_of}
+use Rattle.fx_table.specs.declared.values.Empty.{Empty}
 use Rattle.fx_table.specs.declared.values.Retired.{Retired}
 use Rattle.fx_counted.specs.Passes.{doing_in}
 use Rattle.fx_counted.specs.Tells.{retires_now}
@@ -16,3 +17,12 @@ pub cleared_so : (o : Opening) (v : PassView) (slot : ℕ) (file : Option File) 
     → Adds o v ([] ▷ Clear slot file) (doing_in (retires_now file takes)) no_use w → Cleared o v slot result w
 cleared_so o v slot None takes result w is adds = subst (λ (r : Option Retired). Cleared o v slot r w) (sym is) adds
 cleared_so o v slot (Some f) takes result w is adds = subst (λ (r : Option Retired). Cleared o v slot r w) (sym is) (f, refl, adds)
+
+-- the same for a close
+pub taken_so : (o : Opening) (v : PassView) (slot : ℕ) (file : Option File) (takes : ℕ) (removed : Option Retired)
+    (result : Result Retired Empty) (empty : Empty) (w : PassView) → removed ≡ option_map (λ f. retired_of f takes) file
+    → result ≡ ok_or removed empty → Adds o v ([] ▷ Take slot file) (doing_in (retires_now file takes)) no_use w → Taken o v slot result w
+taken_so o v slot None takes removed result empty w is answer adds =
+    subst (λ (r : Result Retired Empty). Taken o v slot r w) (sym (answer ∙ ap (λ r. ok_or r empty) is)) adds
+taken_so o v slot (Some f) takes removed result empty w is answer adds =
+    subst (λ (r : Result Retired Empty). Taken o v slot r w) (sym (answer ∙ ap (λ r. ok_or r empty) is)) (f, refl, adds)

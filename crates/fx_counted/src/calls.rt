@@ -2,19 +2,19 @@
 //! most as many atomic steps as its clause says.
 ghost use Rattle.std.specs.Prelude.{◌≡◌, ◌+◌, ◌<◌, ◌≤◌, Option, option_map};
 ghost use Rattle.fx_plain.specs.declared.event.File.{File};
-ghost use Rattle.fx_table.specs.Calls.{Looked, Released, Cleared, HasRetired};
+ghost use Rattle.fx_table.specs.Calls.{Looked, Released, Cleared, Taken, HasRetired};
 ghost use Rattle.fx_table.specs.Opening.{size_of};
 ghost use Rattle.fx_table.specs.Pass.{IsIdle, IsHoldOf, IsRetiredOf, retired_of};
 ghost use Rattle.fx_words.specs.Words.{takes_in};
 ghost use Rattle.fx_counted.specs.Agrees.{Names};
 ghost use Rattle.fx_counted.specs.Tables.{view_of, steps_taken, opening_of_table, IsPassOfTable};
 
-use crate::kinds::{Clear, Look, Release, Retire};
+use crate::kinds::{Clear, Look, Release, Retire, Take};
 use crate::layout::{node_place, slot_place};
 use crate::pass::CountedPass;
 use crate::table::CountedTable;
 use fx_base::OpenFile;
-use fx_table::{Hold, LookFault, Retired};
+use fx_table::{Empty, Hold, LookFault, Retired};
 use fx_words::{entry_of, node_of, retire_amount, takes_of};
 
 impl CountedTable {
@@ -124,6 +124,34 @@ impl CountedTable {
         );
         pass.idle = removed.is_none();
         removed
+    }
+
+    /// Empties a slot below `size` for a close, by an idle pass (`is_idle`), in at most three atomic steps. The file that was
+    /// there is to be retired (io_uring_prep_close(3), `io_uring_prep_close_direct`).
+    ///
+    /// # Errors
+    /// `Empty` where the slot has no file.
+    pub fn take(&self, pass: &mut CountedPass, slot: u32) -> Result<Retired, Empty>
+        requires fits { IsPassOfTable self.now pass.old }
+        requires idle { IsIdle (view_of pass.old) }
+        requires slot { slot < size_of (opening_of_table self.now) }
+        ensures fits { IsPassOfTable self.now pass.new }
+        ensures taken { Taken (opening_of_table self.now) (view_of pass.old) slot result (view_of pass.new) }
+        ensures steps { steps_taken pass.new ≤ steps_taken pass.old + 3 }
+    {
+        let began = self.begin(&mut pass.seat, slot);
+        let found = self
+            .table
+            .shared
+            .swap::<Take>(&mut pass.seat, slot_place(slot), 0);
+        let removed = removed_in(found);
+        self.end(
+            &mut pass.seat,
+            began,
+            if removed.is_none() { 0 } else { -1 },
+        );
+        pass.idle = removed.is_none();
+        removed.ok_or(Empty)
     }
 }
 
