@@ -2,20 +2,20 @@
 //! most as many atomic steps as its clause says.
 ghost use Rattle.std.specs.Prelude.{◌≡◌, ◌+◌, ◌<◌, ◌≤◌, Option, option_map};
 ghost use Rattle.fx_plain.specs.declared.event.File.{File};
-ghost use Rattle.fx_table.specs.Calls.{Looked, Released, Cleared, Taken, HasRetired};
+ghost use Rattle.fx_table.specs.Calls.{Looked, Released, Placed, Cleared, Taken, HasRetired};
 ghost use Rattle.fx_table.specs.Opening.{size_of};
-ghost use Rattle.fx_table.specs.Pass.{IsIdle, IsHoldOf, IsRetiredOf, retired_of};
+ghost use Rattle.fx_table.specs.Pass.{IsIdle, IsHoldOf, IsRetiredOf, retired_of, next_number};
 ghost use Rattle.fx_words.specs.Words.{takes_in};
 ghost use Rattle.fx_counted.specs.Agrees.{Names};
 ghost use Rattle.fx_counted.specs.Tables.{view_of, steps_taken, opening_of_table, IsPassOfTable};
 
-use crate::kinds::{Clear, Look, Release, Retire, Take};
+use crate::kinds::{Clear, Install, Look, Release, Retire, Take};
 use crate::layout::{node_place, slot_place};
 use crate::pass::CountedPass;
 use crate::table::CountedTable;
 use fx_base::OpenFile;
-use fx_table::{Empty, Hold, LookFault, Retired};
-use fx_words::{entry_of, node_of, retire_amount, takes_of};
+use fx_table::{Empty, Hold, LookFault, Retired, numbers_for};
+use fx_words::{entry_of, node_of, retire_amount, slot_word, takes_of};
 
 impl CountedTable {
     /// Looks a slot below `size` up, by an idle pass (`is_idle`), in one atomic step. The file there has one more hold
@@ -101,6 +101,37 @@ impl CountedTable {
         Some(self.take_out(&mut pass.seat, node))
     }
 
+    /// Installs a file at a slot below `size`, under the next number of an idle pass (`is_idle`) that has one
+    /// (`numbers_left`), in at most four atomic steps. The file that it replaced is to be retired
+    /// (io_uring_prep_openat(3), `io_uring_prep_openat_direct`).
+    pub fn put(&self, pass: &mut CountedPass, slot: u32, file: OpenFile) -> Option<Retired>
+        requires fits { IsPassOfTable self.now pass.old }
+        requires idle { IsIdle (view_of pass.old) }
+        requires slot { slot < size_of (opening_of_table self.now) }
+        requires numbers { 0 < (view_of pass.old).numbers_left }
+        ensures fits { IsPassOfTable self.now pass.new }
+        ensures placed { Placed (opening_of_table self.now) (view_of pass.old) slot file result (view_of pass.new) }
+        ensures steps { steps_taken pass.new ≤ steps_taken pass.old + 4 }
+    {
+        let number = self.next_number(pass);
+        let word = slot_word(number, file.entry());
+        self.put_in(&mut pass.seat, number, file);
+        let began = self.begin(&mut pass.seat, slot);
+        let found = self
+            .table
+            .shared
+            .swap::<Install>(&mut pass.seat, slot_place(slot), word);
+        let replaced = removed_in(found);
+        self.end(
+            &mut pass.seat,
+            began,
+            if replaced.is_none() { 1 } else { 0 },
+        );
+        pass.numbers_left -= 1;
+        pass.idle = replaced.is_none();
+        replaced
+    }
+
     /// Empties a slot below `size` for an update, by an idle pass (`is_idle`), in at most three atomic steps. The file that
     /// was there is to be retired (io_uring_register(2), "IORING_REGISTER_FILES_UPDATE", an entry of -1).
     pub fn clear(&self, pass: &mut CountedPass, slot: u32) -> Option<Retired>
@@ -152,6 +183,14 @@ impl CountedTable {
         );
         pass.idle = removed.is_none();
         removed.ok_or(Empty)
+    }
+
+    // The number that the pass's next installation uses.
+    fn next_number(&self, pass: &CountedPass) -> u32
+        requires fits { IsPassOfTable self.now pass.now }
+        ensures number { result ≡ next_number (view_of pass.now) }
+    {
+        numbers_for(pass.chain) - pass.numbers_left
     }
 }
 
