@@ -1,23 +1,46 @@
-//! The calls of a pass between its draws: they wait for nobody, take no memory, and try nothing again. Each makes at
-//! most as many atomic steps as its clause says.
+//! The calls of a pass that wait for nobody, take no memory and try nothing again: each makes at most as many atomic
+//! steps as its clause says.
 ghost use Rattle.std.specs.Prelude.{◌≡◌, ◌+◌, ◌<◌, ◌≤◌, Option, option_map};
 ghost use Rattle.fx_plain.specs.declared.event.File.{File};
-ghost use Rattle.fx_table.specs.Calls.{Looked, Released, Placed, Cleared, Taken, HasRetired};
+ghost use Rattle.fx_table.specs.Calls.{Draws, Looked, Released, Placed, Cleared, Taken, HasRetired};
 ghost use Rattle.fx_table.specs.Opening.{size_of};
 ghost use Rattle.fx_table.specs.Pass.{IsIdle, IsHoldOf, IsRetiredOf, retired_of, next_number};
 ghost use Rattle.fx_words.specs.Words.{takes_in};
 ghost use Rattle.fx_counted.specs.Agrees.{Names};
 ghost use Rattle.fx_counted.specs.Tables.{view_of, steps_taken, opening_of_table, IsPassOfTable};
 
-use crate::kinds::{Clear, Install, Look, Release, Retire, Take};
-use crate::layout::{node_place, slot_place};
+use crate::kinds::{Clear, Draw, Install, Look, Release, Retire, Take};
+use crate::layout::{DRAW, node_place, slot_place};
 use crate::pass::CountedPass;
 use crate::table::CountedTable;
 use fx_base::OpenFile;
-use fx_table::{Empty, Hold, LookFault, Retired, numbers_for};
+use fx_table::{CHAIN_NUMBERS, Empty, Hold, LookFault, Retired, numbers_for};
 use fx_words::{entry_of, node_of, retire_amount, slot_word, takes_of};
 
 impl CountedTable {
+    /// The next chain of an idle pass (`is_idle`), in at most one atomic step, or `None` where there are no more. The chains
+    /// of a pass rise, and no chain is given twice. After `None` a pass is answered `None`, with no step.
+    pub fn draw(&self, pass: &mut CountedPass) -> Option<u32>
+        requires fits { IsPassOfTable self.now pass.old }
+        requires idle { IsIdle (view_of pass.old) }
+        ensures fits { IsPassOfTable self.now pass.new }
+        ensures drawn { Draws (opening_of_table self.now) (view_of pass.old) result (view_of pass.new) }
+        ensures steps { steps_taken pass.new ≤ steps_taken pass.old + 1 }
+    {
+        if pass.no_chains_left {
+            return None;
+        }
+        let given = self.table.shared.fetch_add::<Draw>(&mut pass.seat, DRAW, 1);
+        if given >= u64::from(self.chains) {
+            pass.no_chains_left = true;
+            return None;
+        }
+        let chain = given as u32 + 1;
+        pass.chain = chain;
+        pass.numbers_left = CHAIN_NUMBERS;
+        Some(chain)
+    }
+
     /// Looks a slot below `size` up, by an idle pass (`is_idle`), in one atomic step. The file there has one more hold
     /// until the pass releases it (io_uring_enter(2), "IOSQE_FIXED_FILE").
     ///
