@@ -24,3 +24,4 @@ pub mod Naming
 pub mod Calling
 pub mod Telling
 pub mod Removing
+pub mod Searching

@@ -12,4 +12,5 @@ pub mod Opens
 pub mod Goes
 pub mod Moves
 pub mod Changing
+pub mod Searching
 pub mod Tables

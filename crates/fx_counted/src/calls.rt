@@ -209,7 +209,7 @@ impl CountedTable {
     }
 
     // The number that the pass's next installation uses.
-    fn next_number(&self, pass: &CountedPass) -> u32
+    pub(crate) fn next_number(&self, pass: &CountedPass) -> u32
         requires fits { IsPassOfTable self.now pass.now }
         ensures number { result ≡ next_number (view_of pass.now) }
     {

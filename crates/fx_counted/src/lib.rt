@@ -3,6 +3,7 @@
 #![tactic(auto)]
 
 mod calls;
+mod free_slot;
 mod in_range;
 mod kinds;
 pub mod laws;
@@ -10,6 +11,7 @@ pub mod layout;
 mod moves;
 mod pass;
 mod queries;
+mod round;
 mod table;
 #[cfg(test)]
 mod tests;
