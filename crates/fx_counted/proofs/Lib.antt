@@ -25,3 +25,4 @@ pub mod Calling
 pub mod Telling
 pub mod Removing
 pub mod Searching
+pub mod Ending
