@@ -1,25 +1,29 @@
 -- The end, when one seat has all passes again, and does nothing: everything is settled, and one history stands behind it.
 use Rattle.std.proofs.Common.{◌≡◌, ◌≢◌, ℕ, zero, suc, ◌<◌, ◌≤◌, Bool, true, false, List, [], ◌∷◌, map, length, sym, refl, ap, ◌∙◌, subst, arith, eqb, ne_eqb, ◌⊎◌, inl, inr, ⊎_elim}
-use Rattle.std.specs.Prelude.{Some, None, Contains, sum_by}
+use Rattle.std.specs.Prelude.{Option, Some, None, Contains, sum_by}
 use mathlib.Core.Logic.{dite}
 use mathlib.Core.Option.{some, some-injective}
 use native.Mathlib.Decide.{ℕ_discrete, dec_le}
 use lib.ListN.{get_elem?}
+use Rattle.std.proofs.Math.ListN.{get_or-eq_default}
 use Rattle.std.proofs.lemmas.List.Sums.{sum_by-cons}
 use Rattle.fx_base.specs.declared.open_file.Closed.{Closed}
-use Rattle.fx_plain.specs.Contents.{Contents, state_of}
-use Rattle.fx_plain.specs.History.{IsSeenBy, part_of_pass}
-use Rattle.fx_plain.specs.State.{State, IsSettled}
+use Rattle.fx_plain.specs.Contents.{Contents, state_of, file_at}
+use Rattle.fx_plain.specs.History.{AllowsAll, IsSeenBy, action_of, part_of_pass}
+use Rattle.fx_plain.specs.State.{State, IsSettled, file_numbered}
+use Rattle.fx_plain.specs.Step.{Allows, after}
 use Rattle.fx_plain.specs.Table.{numbered}
 use Rattle.fx_plain.specs.declared.event.File.{File}
 use Rattle.fx_plain.specs.declared.event.Event.{Event}
+use Rattle.fx_plain.specs.declared.event.Action.{Action}
+use Rattle.fx_plain.specs.declared.event.Action.TheVariants.{Look, Release, Put, Clear, Take, Allocate, Full, Close}
 use Rattle.fx_table.specs.Closing.{ClosesTable, times_drawn}
 use Rattle.fx_table.specs.Numbers.{numbers_for}
-use Rattle.fx_table.specs.Opening.{HasSameFiles}
+use Rattle.fx_table.specs.Opening.{HasSameFiles, start_of}
 use Rattle.fx_table.specs.Pass.{PassView}
 use Rattle.fx_table.proofs.Members.{contains_none, contains_head, contains_tail, contains_cases, contains_map, contains_mapped}
-use Rattle.fx_table.proofs.SumLemmas.{sum_two, sum_only, sum_of, sum_map}
-use Rattle.fx_counted.specs.Agrees.{Names, Does, IsSeated, LogAgrees, NodeAgrees, OwnerAgrees, lengths, Agrees}
+use Rattle.fx_table.proofs.SumLemmas.{sum_two, sum_only, sum_of, sum_map, sum_zero}
+use Rattle.fx_counted.specs.Agrees.{Does, IsSeated, LogAgrees, NodeAgrees, OwnerAgrees, lengths, Agrees}
 use Rattle.fx_counted.specs.Counts.{looks}
 use Rattle.fx_counted.specs.Laws.{word_of, place_of}
 use Rattle.fx_counted.specs.Layout.{slot_place}
@@ -32,7 +36,7 @@ use Rattle.fx_counted.specs.declared.view.Work.{Work}
 use Rattle.fx_counted.specs.declared.view.Work.TheVariants.{Idle, Placing, Retiring, Emptying}
 use Rattle.fx_counted.proofs.Chains.{once_in, once_some, bit_here}
 use Rattle.fx_counted.proofs.Frames.{once_few}
-use Rattle.fx_counted.proofs.Histories.{part_mine, part_other, same_shape}
+use Rattle.fx_counted.proofs.Histories.{part_mine, part_other, same_shape, change_else}
 use Rattle.fx_counted.proofs.Keeping.{word_at}
 use Rattle.fx_counted.proofs.Ones.{one_if, times}
 
@@ -107,34 +111,36 @@ drawer (x ∷ l) c low = dite (ℕ_discrete (times c x.drawn) 0)
     (λ here. let d = found_by (λ n. eqb n c) x.drawn (omega (arith, here)) in
     (x, contains_head x l, subst (Contains x.drawn) (same_number d.0 c d.2) d.1))
 
-module _ (k : Start) (s : Shared) (r : Agrees k s) (seat : ℕ) (v : View) (at : get_elem? s.views seat ≡ some v) (idle : v.work ≡ Idle)
-    (all : length v.logs ≡ k.passes) where
+-- a slot behind the last one stays empty
+outside_step : (st : State) (a : Action) (slot : ℕ) → st.size ≤ slot → Allows st a → st.at slot ≡ None → (after st a).at slot ≡ None
+outside_step st (Look s None) slot l may none = none
+outside_step st (Look s (Some f)) slot l may none = none
+outside_step st (Release f) slot l may none = none
+outside_step st (Put s f x) slot l may none = let m = may.0 in change_else st.at s (Some f) slot (λ e. omega arith) ∙ none
+outside_step st (Clear s x) slot l may none = let m = may.0 in change_else st.at s None slot (λ e. omega arith) ∙ none
+outside_step st (Take s x) slot l may none = let m = may.0 in change_else st.at s None slot (λ e. omega arith) ∙ none
+outside_step st (Allocate s f) slot l may none = let m = may.0 in change_else st.at s (Some f) slot (λ e. omega arith) ∙ none
+outside_step st Full slot l may none = none
+outside_step st (Close f) slot l may none = none
+
+outside : (k : Start) (h : List Event) → AllowsAll (start_of (opening_of k)) (map action_of h) → (slot : ℕ) → slots_of k ≤ slot
+    → (state_after_all k h).at slot ≡ None
+outside k [] may slot l =
+    ap (λ (o : Option ℕ). file_numbered (file_at k.plain.value.nodes o) slot) (get_or-eq_default k.plain.value.slots None l)
+outside k (e ∷ h) may slot l = let size = (same_shape k h).0 in
+    outside_step (state_after_all k h) e.action slot (omega arith) may.1 (outside k h may.0 slot l)
+
+-- no pass does anything
+module _ (k : Start) (s : Shared) (r : Agrees k s) (all_idle : (i : ℕ) (u : View) → get_elem? s.views i ≡ some u → u.work ≡ Idle) where
   abbrev end : State
   end = state_after_all k r.history
 
-  empty_else : (i : ℕ) (u : View) → i ≢ seat → get_elem? s.views i ≡ some u → u.logs ≡ []
-  empty_else i u other e =
-      let a = sum_two lengths s.views seat i v u (λ j. other (sym j)) at e in
-      let b = r.whole in
-      length_none u.logs (omega arith)
-
-  idle_each : (i : ℕ) (u : View) → get_elem? s.views i ≡ some u → u.work ≡ Idle
-  idle_each i u e = dite (ℕ_discrete i seat)
-      (λ same. let is : v ≡ u = some-injective v u (sym at ∙ (ap (λ (j : ℕ). get_elem? s.views j) (sym same) ∙ e)) in
-      ap (λ (z : View). z.work) (sym is) ∙ idle)
-      (λ other. ((r.each_view i u e).empty (empty_else i u other e)).0)
-
   -- no pass works with a number
   nobody : (i : ℕ) (w : Work) → Does s.views i w → w ≡ Idle
-  nobody i w d = sym d.2 ∙ idle_each i d.0 d.1
+  nobody i w d = sym d.2 ∙ all_idle i d.0 d.1
 
   unheld : (n : ℕ) → end.holds n ≡ 0
-  unheld n =
-      let t = sum_only (held_of n) s.views seat v at
-      (λ i u other e. ap (holding n) (idle_each i u e)) in
-      let h = r.holds n in
-      let z = ap (holding n) idle in
-      omega arith
+  unheld n = r.holds n ∙ sum_zero (held_of n) s.views (λ u has. let i = place_in s.views u has in ap (holding n) (all_idle i.0 u i.1))
 
   abbrev word : ℕ → ℕ
   word n = word_at s.words (word_of k n)
@@ -164,37 +170,66 @@ module _ (k : Start) (s : Shared) (r : Agrees k s) (seat : ℕ) (v : View) (at :
     closed = λ n. ⊎_elim (λ has. none_removed n has) (λ absent. r.no_other n absent) (is_number k n);
   }
 
-  -- what lies at home at the end: the file of a number is at its slot, or there is none
-  abbrev pub IsAtHome : ℕ → Type 0
-  IsAtHome n = ((slot : ℕ) × (file : Closed) × (slot < slots_of k) × (end.at slot ≡ Some (numbered n file))
-      × (get_elem? s.homes (place_of k n) ≡ some (some (Some file))))
-      ⊎ (get_elem? s.homes (place_of k n) ≡ some (some None))
+  -- at the end the file that lies in the place of a number is at its slot
+  abbrev AtItsSlot : ℕ → Option Closed → Type 0
+  AtItsSlot n x = (file : Closed) → x ≡ Some file → (slot : ℕ) × (slot < slots_of k) × (end.at slot ≡ Some (numbered n file))
 
-  home_by : (n : ℕ) (ph : Phase) → Node n ph → OwnerAgrees s.views n ph → IsAtHome n
-  home_by n unborn a o = inr a.1
-  home_by n (spare p) a o = inr a.1
+  nothing : (n : ℕ) → AtItsSlot n None
+  nothing n file e = absurd (cc e)
+
+  home_by : (n : ℕ) (ph : Phase) → Node n ph → OwnerAgrees s.views n ph → (x : Option Closed) × (get_elem? s.homes (place_of k n) ≡ some (some x)) × AtItsSlot n x
+  home_by n unborn a o = (None, a.1, nothing n)
+  home_by n (spare p) a o = (None, a.1, nothing n)
   home_by n (placed i) a o = let bad = nobody i (Placing n) o in absurd (cc bad)
-  home_by n (seated slot file) a o = let size = (same_shape k r.history).0 in let l = a.2 in inl (slot, file, omega arith, a.3, a.1)
+  home_by n (seated slot file) a o = let size = (same_shape k r.history).0 in let l = a.2 in (
+    Some file,
+    a.1,
+    λ other e. let same : file ≡ other = cc e in
+        (slot, omega arith, a.3 ∙ ap (λ (z : Closed). Some (numbered n z)) same),
+  )
   home_by n (leaving i takes file) a o = let bad = nobody i (Retiring (numbered n file) takes) o in absurd (cc bad)
   home_by n (retired file) a o = let w = a.0 in let h = unheld n in let p = a.2 in absurd (omega arith)
   home_by n (emptied i) a o = let bad = nobody i (Emptying n) o in absurd (cc bad)
-  home_by n closed a o = inr a.1
+  home_by n closed a o = (None, a.1, nothing n)
 
-  pub home_at_end : (n : ℕ) → IsNumber k n → IsAtHome n
-  home_at_end n has = let a = node_is n has (r.phase n) refl in home_by n (r.phase n) a.0 a.1
+  pub home_file : (n : ℕ) → IsNumber k n → (x : Option Closed) × (get_elem? s.homes (place_of k n) ≡ some (some x)) × AtItsSlot n x
+  home_file n has = let a = node_is n has (r.phase n) refl in home_by n (r.phase n) a.0 a.1
 
-  -- the file at a slot lies in the place of its number, and the slot's word names it
-  pub file_at_end : (slot : ℕ) → slot < slots_of k → (f : File) → end.at slot ≡ Some f
+  seat_at : (slot : ℕ) → slot < slots_of k → (f : File) → end.at slot ≡ Some f
+      → IsSeated k (looks r.history) r.phase slot (word_at s.words (slot_place slot)) (Some f)
+  seat_at slot l f there =
+      subst (IsSeated k (looks r.history) r.phase slot (word_at s.words (slot_place slot))) there (r.each_slot slot l).seat
+
+  -- the file at a slot lies in the place of its number
+  pub file_home : (slot : ℕ) (f : File) → slot < slots_of k → end.at slot ≡ Some f
       → IsNumber k f.number × (get_elem? s.homes (place_of k f.number) ≡ some (some (Some f.identity)))
-      × Names (word_at s.words (slot_place slot)) (Some f)
-  file_at_end slot l f there =
-      let a = r.each_slot slot l in
-      let sat = subst (IsSeated k (looks r.history) r.phase slot (word_at s.words (slot_place slot))) there a.seat in
-      let node = (node_is f.number sat.0 (seated slot f.identity) sat.2).0 in
-      (sat.0, node.1, subst (Names (word_at s.words (slot_place slot))) there a.names)
+  file_home slot f l there = let sat = seat_at slot l f there in (sat.0, (node_is f.number sat.0 (seated slot f.identity) sat.2).0.1)
 
-  pub none_at_end : (slot : ℕ) → slot < slots_of k → end.at slot ≡ None → Names (word_at s.words (slot_place slot)) None
-  none_at_end slot l there = subst (Names (word_at s.words (slot_place slot))) there (r.each_slot slot l).names
+  -- files at different slots have different numbers
+  pub one_slot : (slot other : ℕ) (f g : File) → slot < slots_of k → other < slots_of k → end.at slot ≡ Some f → end.at other ≡ Some g
+      → f.number ≡ g.number → slot ≡ other
+  one_slot slot other f g l m there here same =
+      let a = seat_at slot l f there in
+      let b = seat_at other m g here in
+      let e : seated slot f.identity ≡ seated other g.identity = sym a.2 ∙ (ap r.phase same ∙ b.2) in
+      cc e
+
+  pub none_outside_end : (slot : ℕ) → slots_of k ≤ slot → end.at slot ≡ None
+  none_outside_end = outside k r.history r.legal.leads.0
+
+module _ (k : Start) (s : Shared) (r : Agrees k s) (seat : ℕ) (v : View) (at : get_elem? s.views seat ≡ some v) (idle : v.work ≡ Idle)
+    (all : length v.logs ≡ k.passes) where
+  empty_else : (i : ℕ) (u : View) → i ≢ seat → get_elem? s.views i ≡ some u → u.logs ≡ []
+  empty_else i u other e =
+      let a = sum_two lengths s.views seat i v u (λ j. other (sym j)) at e in
+      let b = r.whole in
+      length_none u.logs (omega arith)
+
+  pub idle_each : (i : ℕ) (u : View) → get_elem? s.views i ≡ some u → u.work ≡ Idle
+  idle_each i u e = dite (ℕ_discrete i seat)
+      (λ same. let is : v ≡ u = some-injective v u (sym at ∙ (ap (λ (j : ℕ). get_elem? s.views j) (sym same) ∙ e)) in
+      ap (λ (z : View). z.work) (sym is) ∙ idle)
+      (λ other. ((r.each_view i u e).empty (empty_else i u other e)).0)
 
   -- what each pass shows
   abbrev pub showing : Log → PassView
@@ -230,7 +265,7 @@ module _ (k : Start) (s : Shared) (r : Agrees k s) (seat : ℕ) (v : View) (at :
       let f = drawn c in
       omega arith
 
-  module _ (left : Contents) (files : HasSameFiles end (state_of left)) (at_rest : IsSettled (state_of left)) (some_passes : 0 < k.passes) where
+  module _ (left : Contents) (files : HasSameFiles (state_after_all k r.history) (state_of left)) (at_rest : IsSettled (state_of left)) (some_passes : 0 < k.passes) where
     all_drawn : ((w : PassView) → Contains (map showing v.logs) w → w.no_chains_left ≡ true) → (c : ℕ) → 0 < c → c ≤ k.chains
         → (w : PassView) × Contains (map showing v.logs) w × Contains w.drawn c
     all_drawn each c low high =
@@ -249,7 +284,7 @@ module _ (k : Start) (s : Shared) (r : Agrees k s) (seat : ℕ) (v : View) (at :
     closes_logs = record {
       history = r.history;
       legal = r.legal;
-      settled = settled_end;
+      settled = settled_end k s r idle_each;
       seen = λ w has. let x = contains_map showing v.logs w has in
           subst (λ (z : PassView). IsSeenBy z.front r.history) (sym x.2) (log_at x.0 x.1).seen;
       own = λ w has. let x = contains_map showing v.logs w has in

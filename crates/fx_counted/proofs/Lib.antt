@@ -26,3 +26,4 @@ pub mod Telling
 pub mod Removing
 pub mod Searching
 pub mod Ending
+pub mod Gathered

@@ -14,3 +14,4 @@ pub mod Moves
 pub mod Changing
 pub mod Searching
 pub mod Tables
+pub mod Lives

@@ -1,0 +1,43 @@
+-- Passes as they are dealt out and gathered.
+use Rattle.std.specs.Prelude.{◌≡◌, ℕ, ◌+◌, ◌-◌, true, false, List, [], ◌∷◌, ◌++◌, Option}
+use Rattle.atomic_table.specs.declared.shared.Seat.{Seat}
+use Rattle.fx_base.specs.declared.open_file.Closed.{Closed}
+use Rattle.fx_table.specs.declared.limits.TheConstants.{PASS_LOOKS}
+use Rattle.fx_counted.specs.Cuts.{new_logs, first_view}
+use Rattle.fx_counted.specs.declared.pass.CountedPass.{CountedPass}
+use Rattle.fx_counted.specs.declared.table.CountedTable.{CountedTable}
+use Rattle.fx_counted.specs.declared.view.Change.TheVariants.{Outside}
+use Rattle.fx_counted.specs.declared.view.Log.{Log}
+use Rattle.fx_counted.specs.declared.view.Start.{Start}
+use Rattle.fx_counted.specs.declared.view.View.{View}
+use Rattle.fx_counted.specs.declared.view.Work.TheVariants.{Idle}
+
+-- the view of a seat that has the new passes from p to the last
+abbrev pub dealt : Start → ℕ → View
+dealt k p = record { start = k; logs = new_logs p ((k.passes + 1) - p); work = Idle; change = Outside }
+
+abbrev pub logs_in : List CountedPass → List Log
+logs_in [] = []
+logs_in (p ∷ ps) = p.seat.me.0.logs ++ logs_in ps
+
+-- the pass of this seat has done nothing
+pub record IsNewPass (seat : Seat (Option Closed) View) (p : CountedPass) : Type 0 where
+  pub its_seat : p.seat ≡ seat
+  pub chain : p.chain ≡ 0
+  pub chains_left : p.no_chains_left ≡ false
+  pub numbers : p.numbers_left ≡ 0
+  pub looks : p.looks_left ≡ PASS_LOOKS
+  pub flag : p.idle ≡ true
+
+-- the seat of a table that was just opened
+pub record HasAllPasses (t : CountedTable) (seat : Seat (Option Closed) View) : Type 0 where
+  pub table : seat.table_id ≡ t.table.shared.table_id
+  pub me : seat.me ≡ (first_view t.table.shared.key, [])
+
+-- a seat of the table with some passes, which do nothing
+pub record IsIdleSeatOf (t : CountedTable) (seat : Seat (Option Closed) View) : Type 0 where
+  pub table : seat.table_id ≡ t.table.shared.table_id
+  pub places : seat.me.1 ≡ []
+  pub start : seat.me.0.start ≡ t.table.shared.key
+  pub work : seat.me.0.work ≡ Idle
+  pub change : seat.me.0.change ≡ Outside
