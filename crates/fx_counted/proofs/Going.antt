@@ -10,12 +10,13 @@ use Rattle.fx_table.specs.Pass.{IsFront}
 use Rattle.fx_table.specs.declared.values.Doing.TheVariants.{Idle as NowIdle, Holding as NowHolding, Retiring as NowRetiring}
 use Rattle.fx_plain.specs.declared.event.File.{File}
 use Rattle.fx_table.proofs.Calls.{adds_nothing, adds_then}
+use Rattle.fx_counted.specs.Changing.{IsAtWork}
 use Rattle.fx_counted.specs.Goes.{Goes}
 use Rattle.fx_counted.specs.Moves.{HasPlace}
 use Rattle.fx_counted.specs.Laws.{HasPass, place_of}
-use Rattle.fx_counted.specs.Passes.{Sat, opening_of, pass_of, doing_in}
-use Rattle.fx_counted.specs.Tables.{view_of, IsBetweenCalls, IsPassOf}
-use Rattle.fx_counted.specs.Tells.{IsInside, Stepped, TakesOut}
+use Rattle.fx_counted.specs.Passes.{Sat, opening_of, pass_of, doing_in, chain_in, first_log}
+use Rattle.fx_counted.specs.Tables.{view_of, is_idle, IsBetweenCalls, IsSeated, IsPassOf}
+use Rattle.fx_counted.specs.Tells.{IsInside, Stepped, TakesOut, LetsGo}
 use Rattle.fx_counted.specs.declared.pass.CountedPass.{CountedPass}
 use Rattle.fx_counted.specs.declared.view.Change.{Change}
 use Rattle.fx_counted.specs.declared.view.Change.TheVariants.{Outside}
@@ -81,6 +82,65 @@ pub adds_so : (id : TableId) (k : Start) (p : CountedPass) (fits : IsPassOf id k
 adds_so id k p fits m' xs a w c n goes = subst (λ (z : Start). Adds (opening_of z) (view_of p) xs (doing_in w) a (pass_of m'.0))
     fits.seated.start goes.adds
 
+-- a seat with one pass behind some steps
+module _ (id : TableId) (k : Start) (p q : CountedPass) (fits : IsPassOf id k p) (xs : List Action) (a : Use) (w : Work) (n : ℕ)
+    (goes : Goes p.seat.me xs a w Outside n q.seat.me) where
+  abbrev old : Log
+  old = fits.log
+
+  abbrev new : Log
+  new = goes.one.0
+
+  -- what is told of the view is told of the log
+  new_is : first_log q.seat.me.0.logs ≡ new
+  new_is = ap first_log goes.one.1
+
+  old_is : first_log p.seat.me.0.logs ≡ old
+  old_is = ap first_log fits.seated.one
+
+  same_chain : chain_in new ≡ chain_in old
+  same_chain = sym (ap chain_in new_is) ∙ (goes.adds.chain ∙ ap chain_in old_is)
+
+  numbers : new.numbers_left + a.numbers ≡ old.numbers_left
+  numbers = let e = goes.adds.numbers_left in let f = ap (λ (x : Log). x.numbers_left) new_is in
+      let g = ap (λ (x : Log). x.numbers_left) old_is in omega arith
+
+  looks_now : new.looks_left + a.looks ≡ old.looks_left
+  looks_now = let e = goes.adds.looks_left in let f = ap (λ (x : Log). x.looks_left) new_is in
+      let g = ap (λ (x : Log). x.looks_left) old_is in omega arith
+
+  seated_now : IsBetweenCalls w → IsSeated k q.seat.me.0 new
+  seated_now rests = let s = fits.seated in record {
+    one = goes.one.1;
+    start = goes.start ∙ s.start;
+    front = subst (λ (z : Start). IsFront (opening_of z) (pass_of q.seat.me.0)) fits.seated.start goes.adds.front;
+    work = subst IsBetweenCalls (sym goes.work) rests;
+    inside = subst (λ (z : Start × Work). IsInside z.0 z.1) (λ i. (s.start i, sym goes.work i)) goes.inside;
+    change = goes.change;
+    chain = let e = same_chain in let l = s.chain in omega arith;
+    few_left = let e = numbers in let l = s.few_left in omega arith;
+    left_inside = let e = numbers in let f = same_chain in let l = s.left_inside in omega arith;
+  }
+
+  -- a pass that knows what it has used up
+  pub still_pass : q.seat.table_id ≡ p.seat.table_id → q.seat.me.1 ≡ [] → IsBetweenCalls w → q.chain ≡ p.chain
+      → q.no_chains_left ≡ p.no_chains_left → q.numbers_left + a.numbers ≡ p.numbers_left → q.looks_left + a.looks ≡ p.looks_left
+      → q.idle ≡ is_idle w → IsPassOf id k q
+  still_pass table places rests chain told left looks_left idle = record {
+    table = table ∙ fits.table;
+    places = places;
+    log = new;
+    seated = seated_now rests;
+    knows = let o = fits.knows in record {
+      chain = chain ∙ (o.chain ∙ sym same_chain);
+      no_chains_left = told ∙ (o.no_chains_left
+          ∙ sym (sym (ap (λ (x : Log). x.no_chains_left) new_is) ∙ (goes.adds.no_chains_left ∙ ap (λ (x : Log). x.no_chains_left) old_is)));
+      numbers_left = let e = numbers in let f = o.numbers_left in omega arith;
+      looks_left = let e = looks_now in let f = o.looks_left in omega arith;
+      idle = idle ∙ ap is_idle (sym goes.work);
+    };
+  }
+
 -- what a pass does between two calls
 pub idle_work : (w : Work) → IsBetweenCalls w → doing_in w ≡ NowIdle → w ≡ Idle
 idle_work Idle r e = refl
@@ -129,3 +189,32 @@ out_and_home m m' m'' xs f out home = subst (λ (c : Change). Goes m (xs ▷ Clo
     (goes_then m m' m'' (xs ▷ Close f) [] no_use no_use (Emptying f.number) Idle m.0.change m'.0.change 1 1
     (goes_one m m' (xs ▷ Close f) no_use (Emptying f.number) m.0.change out.stepped)
     (goes_one m' m'' [] no_use Idle m'.0.change home))
+
+-- a pass outside a change that has done with its file
+pub let_go : (m m' : Sat) (xs : List Action) → m.0.change ≡ Outside → LetsGo m xs m' → Goes m xs no_use Idle Outside 1 m'
+let_go m m' xs outside went = subst (λ (c : Change). Goes m xs no_use Idle c 1 m') outside
+    (goes_one m m' xs no_use Idle m.0.change went.stepped)
+
+-- a pass is still at work behind some steps
+pub still_at_work : (k : Start) (m m' : Sat) (x : Log) (xs : List Action) (a : Use) (w : Work) (c : Change) (n : ℕ) → HasPass k m x
+    → Goes m xs a w c n m' → IsAtWork k m'
+still_at_work k m m' x xs a w c n its goes = record {
+  log = goes.one.0;
+  pass = (goes.start ∙ its.0, goes.one.1);
+  front = subst (λ (z : Start). IsFront (opening_of z) (pass_of m'.0)) its.0 goes.adds.front;
+  inside = subst (λ (z : Start × Work). IsInside z.0 z.1) (λ i. (its.0 i, sym goes.work i)) goes.inside;
+}
+
+use_alone : (a : Use) → both_uses (both_uses no_use a) no_use ≡ a
+use_alone a = λ i. record {
+  numbers = (let e : 0 + a.numbers + 0 ≡ a.numbers = omega arith in e) i;
+  looks = (let e : 0 + a.looks + 0 ≡ a.looks = omega arith in e) i;
+}
+
+-- a step between a begin and an end, if there are such
+pub goes_around : (m m' m'' m''' : Sat) (action : Action) (a : Use) (w w' : Work) (c c' : Change) → Goes m [] no_use w c 1 m'
+    → Stepped m' ([] ▷ action) a w' c' m'' → Goes m'' [] no_use m''.0.work Outside 1 m''' → Goes m ([] ▷ action) a w' Outside 3 m'''
+goes_around m m' m'' m''' action a w w' c c' before s behind = subst (λ (z : Use). Goes m ([] ▷ action) z w' Outside 3 m''') (use_alone a)
+    (goes_then m m'' m''' ([] ▷ action) [] (both_uses no_use a) no_use w' w' c' Outside 2 1
+    (goes_then m m' m'' [] ([] ▷ action) no_use a w w' c c' 1 1 before (goes_one m' m'' ([] ▷ action) a w' c' s))
+    (subst (λ (z : Work). Goes m'' [] no_use z Outside 1 m''') s.work behind))

@@ -27,3 +27,8 @@ pub mod FirstWords
 pub mod FirstHomes
 pub mod Starting
 pub mod Dealing
+pub mod Telling
+pub mod Removing
+pub mod Searching
+pub mod Ending
+pub mod Gathered

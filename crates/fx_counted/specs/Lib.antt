@@ -11,6 +11,8 @@ pub mod Laws
 pub mod Opens
 pub mod Goes
 pub mod Moves
+pub mod Changing
+pub mod Searching
 pub mod Tables
 pub mod Shells
 pub mod Firsts

@@ -3,7 +3,8 @@
 #![tactic(auto)]
 
 mod calls;
-mod draw;
+mod free_slot;
+mod in_range;
 mod kinds;
 pub mod laws;
 pub mod layout;
@@ -11,6 +12,7 @@ mod moves;
 mod open;
 mod pass;
 mod queries;
+mod round;
 mod shell;
 mod table;
 #[cfg(test)]

@@ -14,6 +14,7 @@ ghost use Rattle.fx_counted.specs.Tables.{view_of, opening_of_table, IsPassOfTab
 
 use crate::kinds::Deal;
 use crate::layout::{CONTROL, homes_for, slot_place, words_for};
+use crate::moves::BORN;
 use crate::pass::CountedPass;
 use crate::shell::{put_all, take_file};
 use crate::table::CountedTable;
@@ -25,9 +26,6 @@ use fx_table::{MAX_CHAINS, MAX_PASSES};
 use fx_words::{control_word, slot_word};
 use std::alloc::Global;
 use std::snapshot::Snapshot;
-
-// The node word of a file at a slot, before its first release.
-const BORN: u64 = 1 << 32;
 
 impl CountedTable {
     /// Shares a settled table (`PlainTable::is_settled`) between `passes` passes, 1 to [`fx_table::MAX_PASSES`], which play
