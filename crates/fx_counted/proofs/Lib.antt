@@ -32,3 +32,5 @@ pub mod Removing
 pub mod Searching
 pub mod Ending
 pub mod Gathered
+pub mod HomeComing
+pub mod Finishing

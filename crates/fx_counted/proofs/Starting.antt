@@ -51,7 +51,7 @@ module _ (k : Start) (words : List ℕ) (homes : List (Option Closed)) where
   }
 
 -- what lies in a place, by its number
-at_place : (xs : List (Option Closed)) (i : ℕ) (x : Option Closed) → get_elem? xs i ≡ some x → file_in_place xs i ≡ x
+pub at_place : (xs : List (Option Closed)) (i : ℕ) (x : Option Closed) → get_elem? xs i ≡ some x → file_in_place xs i ≡ x
 at_place [] i x e = absurd (some-ne-none x (sym e))
 at_place (y ∷ xs) zero x e = some-injective y x e
 at_place (y ∷ xs) (suc i) x e = at_place xs i x e

@@ -3,6 +3,7 @@
 #![tactic(auto)]
 
 mod calls;
+mod close;
 mod free_slot;
 mod in_range;
 mod kinds;

@@ -1,3 +1,4 @@
+ghost use Rattle.std.specs.Prelude.{◌≡◌};
 ghost use Rattle.fx_counted.specs.Lives.{IsNewPass};
 
 use crate::view::View;
@@ -38,5 +39,21 @@ impl CountedPass {
             idle: true,
             spacing: Spacing { unused: [0; 14] },
         }
+    }
+
+    // The seat of the pass.
+    pub(crate) fn into_seat(self) -> Seat<Option<OpenFile>, View>
+        ensures { result ≡ self.seat }
+    {
+        let CountedPass {
+            seat,
+            chain: _,
+            no_chains_left: _,
+            numbers_left: _,
+            looks_left: _,
+            idle: _,
+            spacing: _,
+        } = self;
+        seat
     }
 }
