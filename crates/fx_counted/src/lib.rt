@@ -4,6 +4,7 @@
 
 mod calls;
 mod close;
+mod file_table;
 mod free_slot;
 mod in_range;
 mod kinds;
