@@ -4,7 +4,7 @@ use Rattle.std.specs.Prelude.{sum_by, count_by}
 use Rattle.std.proofs.lemmas.List.{length-map}
 use Rattle.std.proofs.lemmas.List.Sums.{sum_by-cons}
 use mathlib.Core.Logic.{dite}
-use mathlib.Core.Option.{some, none, some-injective, some-ne-none}
+use mathlib.Core.Option.{some, some-injective, some-ne-none}
 use native.Mathlib.Decide.{ℕ_discrete, dec_le}
 use lib.ListN.{get_elem?}
 use Rattle.atomic_table.specs.Table.{opening}
@@ -13,18 +13,16 @@ use Rattle.fx_base.specs.declared.open_file.Closed.{Closed}
 use Rattle.fx_plain.specs.State.{State}
 use Rattle.fx_plain.specs.Table.{numbered}
 use Rattle.fx_plain.specs.declared.event.File.{File}
-use Rattle.fx_table.specs.declared.limits.TheConstants.{PASS_LOOKS}
 use Rattle.fx_table.specs.Numbers.{numbers_for}
-use Rattle.fx_table.specs.Opening.{size_of, range_of}
-use Rattle.fx_words.specs.Words.{born, slot_word_of, takes_in}
+use Rattle.fx_table.specs.Opening.{range_of}
+use Rattle.fx_words.specs.Words.{born, takes_in}
 use Rattle.fx_words.proofs.Parts.{name_made, entry_made, takes_made}
 use Rattle.fx_counted.specs.Agrees.{Names, IsSeated, SlotAgrees, NodeAgrees, OwnerAgrees, LogAgrees, ViewAgrees, Agrees}
-use Rattle.fx_counted.specs.Control.{full_in}
 use Rattle.fx_counted.specs.Cuts.{new_logs, first_view}
 use Rattle.fx_counted.specs.Laws.{word_of, place_of}
-use Rattle.fx_counted.specs.Layout.{slot_place, home_place}
+use Rattle.fx_counted.specs.Layout.{slot_place}
 use Rattle.fx_counted.specs.Opens.{word_for, node_for, home_for, first_file, OpensWith, OpeningKeeps}
-use Rattle.fx_counted.specs.Passes.{opening_of, slots_of, IsNumber, state_after_all, new_log, once, logs_of}
+use Rattle.fx_counted.specs.Passes.{opening_of, slots_of, IsNumber, state_after_all, new_log, once}
 use Rattle.fx_counted.specs.Phases.{Phase, unborn, seated, closed}
 use Rattle.fx_counted.specs.declared.view.Log.{Log}
 use Rattle.fx_counted.specs.declared.view.Start.{Start}

@@ -9,3 +9,11 @@ pub mod Cuts
 pub mod Tells
 pub mod Laws
 pub mod Opens
+pub mod Goes
+pub mod Moves
+pub mod Changing
+pub mod Searching
+pub mod Tables
+pub mod Shells
+pub mod Firsts
+pub mod Lives

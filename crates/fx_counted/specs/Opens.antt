@@ -13,7 +13,7 @@ use Rattle.fx_counted.specs.Agrees.{Agrees}
 use Rattle.fx_counted.specs.Control.{full_in}
 use Rattle.fx_counted.specs.Cuts.{first_view}
 use Rattle.fx_counted.specs.Layout.{control_place, draw_place, slot_place, node_place, words_for, home_place, homes_for}
-use Rattle.fx_counted.specs.Passes.{opening_of, slots_of, IsNumber, state_after_all}
+use Rattle.fx_counted.specs.Passes.{opening_of, slots_of, state_after_all}
 use Rattle.fx_counted.specs.declared.view.Start.{Start}
 
 -- the word of a slot, the node word of the slot's number, and what lies in the number's place

@@ -2,9 +2,21 @@
 //! nobody waits.
 #![tactic(auto)]
 
+mod calls;
+mod close;
+mod file_table;
+mod free_slot;
+mod in_range;
 mod kinds;
 pub mod laws;
 pub mod layout;
+mod moves;
+mod open;
+mod pass;
+mod queries;
+mod round;
+mod shell;
+mod table;
 #[cfg(test)]
 mod tests;
 mod view;
@@ -13,4 +25,6 @@ pub use kinds::{
     Answer, Begin, Birth, Clear, Deal, Draw, End, Exchange, Gather, Install, Load, Look,
     OneHistory, Release, Rest, Retire, Take,
 };
+pub use pass::CountedPass;
+pub use table::CountedTable;
 pub use view::{Change, Log, Start, View, Work};

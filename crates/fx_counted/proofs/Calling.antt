@@ -1,0 +1,61 @@
+-- What a call of a table needs for its steps.
+use Rattle.std.proofs.Common.{◌≡◌, ℕ, true, ◌<◌, ◌≤◌, inl, inr, sym, ap, ◌∙◌, subst, arith}
+use Rattle.fx_table.specs.Opening.{size_of, range_of}
+use Rattle.fx_words.specs.Words.{full_word_of}
+use Rattle.fx_table.specs.declared.limits.TheConstants.{MAX_CHAINS}
+use Rattle.fx_counted.specs.Changing.{InRange}
+use Rattle.fx_counted.specs.Layout.{HasNode, slot_of, slot_place, node_place, home_place}
+use Rattle.fx_counted.specs.Passes.{opening_of, slots_of, IsNumber}
+use Rattle.fx_counted.specs.Tables.{opening_of_table}
+use Rattle.fx_counted.specs.declared.view.Start.{Start}
+use Rattle.fx_counted.specs.declared.table.CountedTable.{CountedTable}
+use Rattle.fx_counted.proofs.Places.{inside, apart}
+
+-- the word of a slot is one of the table
+pub slot_inside : (t : CountedTable) (slot i : ℕ) → slot < size_of (opening_of_table t) → i ≡ slot_place slot
+    → i < t.table.shared.table_id.words
+slot_inside t slot i l is =
+    let size = t.same_size in
+    let near = (inside t.size t.chains t.few_slots).slot slot (omega arith) in
+    let words = t.words in
+    omega arith
+
+-- the number of a slot or of a chain of the table
+pub its_number : (t : CountedTable) (n : ℕ) → IsNumber t.table.shared.key n → HasNode t.size t.chains n
+its_number t n has = subst (λ (z : ℕ × ℕ). HasNode z.0 z.1 n) (λ i. (sym t.same_size i, sym t.key.0 i)) has
+
+more_chains : (size chains n : ℕ) → chains ≤ MAX_CHAINS → HasNode size chains n → HasNode size MAX_CHAINS n
+more_chains size chains n few (inl l) = inl l
+more_chains size chains n few (inr b) = let l = b.0 in let u = b.1 in inr (l, omega arith)
+
+pub has_node : (t : CountedTable) (n : ℕ) → IsNumber t.table.shared.key n → HasNode t.size MAX_CHAINS n
+has_node t n has = more_chains t.size t.chains n t.bounds.0 (its_number t n has)
+
+-- its word is one of the table
+pub node_inside : (t : CountedTable) (n i : ℕ) → IsNumber t.table.shared.key n → i ≡ node_place t.size n → i < t.table.shared.table_id.words
+node_inside t n i has is =
+    let near = (inside t.size t.chains t.few_slots).node n (its_number t n has) in
+    let words = t.words in
+    omega arith
+
+-- where it lies, as the laws of steps say it
+pub node_is_at : (t : CountedTable) (n i : ℕ) → i ≡ node_place t.size n → i ≡ node_place (slots_of t.table.shared.key) n
+node_is_at t n i is = is ∙ ap (λ (z : ℕ). node_place z n) t.same_size
+
+pub home_is_at : (t : CountedTable) (n i : ℕ) → i ≡ home_place t.size n → i ≡ home_place (slots_of t.table.shared.key) n
+home_is_at t n i is = is ∙ ap (λ (z : ℕ). home_place z n) t.same_size
+
+-- the slot whose word lies there
+pub slot_at : (t : CountedTable) (slot i : ℕ) → i ≡ slot_place slot → slot_of i ≡ slot
+slot_at t slot i is = ap slot_of is ∙ (apart t.size t.chains t.few_slots).slot_back slot
+
+-- a slot of the range is one of the table
+pub in_size : (t : CountedTable) (slot : ℕ) → InRange t.table.shared.key slot true → slot < size_of (opening_of_table t)
+in_size t slot r = let few = t.range_inside in let size = t.same_size in
+    let start = ap (λ (z : ℕ × ℕ). z.0) t.same_range in let len = ap (λ (z : ℕ × ℕ). z.1) t.same_range in
+    let below = r.1 in omega arith
+
+-- the word that says that the range is full
+pub full_of : (t : CountedTable) (k : Start) → k ≡ t.table.shared.key
+    → full_word_of t.range_len ≡ full_word_of (range_of (opening_of k)).1
+full_of t k is = ap (λ (z : ℕ × ℕ). full_word_of z.1) t.same_range ∙ ap (λ (z : Start). full_word_of (range_of (opening_of z)).1) (sym is)

@@ -1,0 +1,220 @@
+-- Some steps in a row, and the pass behind them.
+use Rattle.std.proofs.Common.{◌≡◌, ℕ, ◌+◌, ◌≤◌, List, [], ◌∷◌, inl, sym, refl, ap, ◌∙◌, subst, arith}
+use Rattle.std.specs.Prelude.{Some}
+use Rattle.atomic_table.specs.Seated.{TableId}
+use Rattle.fx_plain.specs.History.{◌▷◌, ◌▷▷◌}
+use Rattle.fx_plain.specs.declared.event.Action.{Action}
+use Rattle.fx_plain.specs.declared.event.Action.TheVariants.{Close}
+use Rattle.fx_table.specs.Calls.{Use, no_use, both_uses, Adds}
+use Rattle.fx_table.specs.Pass.{IsFront}
+use Rattle.fx_table.specs.declared.values.Doing.TheVariants.{Idle as NowIdle, Holding as NowHolding, Retiring as NowRetiring}
+use Rattle.fx_plain.specs.declared.event.File.{File}
+use Rattle.fx_table.proofs.Calls.{adds_nothing, adds_then}
+use Rattle.fx_counted.specs.Changing.{IsAtWork}
+use Rattle.fx_counted.specs.Goes.{Goes}
+use Rattle.fx_counted.specs.Moves.{HasPlace}
+use Rattle.fx_counted.specs.Laws.{HasPass, place_of}
+use Rattle.fx_counted.specs.Passes.{Sat, opening_of, pass_of, doing_in, chain_in, first_log}
+use Rattle.fx_counted.specs.Tables.{view_of, is_idle, IsBetweenCalls, IsSeated, IsPassOf}
+use Rattle.fx_counted.specs.Tells.{IsInside, Stepped, TakesOut, LetsGo}
+use Rattle.fx_counted.specs.declared.pass.CountedPass.{CountedPass}
+use Rattle.fx_counted.specs.declared.view.Change.{Change}
+use Rattle.fx_counted.specs.declared.view.Change.TheVariants.{Outside}
+use Rattle.fx_counted.specs.declared.view.Log.{Log}
+use Rattle.fx_counted.specs.declared.view.Start.{Start}
+use Rattle.fx_counted.specs.declared.view.Work.{Work}
+use Rattle.fx_counted.specs.declared.view.Work.TheVariants.{Idle, Placing, Holding, Retiring, Emptying}
+
+pub goes_one : (m m' : Sat) (xs : List Action) (a : Use) (w : Work) (c : Change) → Stepped m xs a w c m' → Goes m xs a w c 1 m'
+goes_one m m' xs a w c s = record {
+  one = s.one;
+  adds = s.adds;
+  work = s.work;
+  inside = s.inside;
+  change = s.change;
+  start = s.start;
+  steps = let e = s.steps in omega arith;
+}
+
+-- a pass that makes no step
+pub goes_none : (k : Start) (m : Sat) (x : Log) → HasPass k m x → IsFront (opening_of k) (pass_of m.0) → IsInside k m.0.work
+    → Goes m [] no_use m.0.work m.0.change 0 m
+goes_none k m x its front inside = record {
+  one = (x, its.1);
+  adds = subst (λ (z : Start). Adds (opening_of z) (pass_of m.0) [] (doing_in m.0.work) no_use (pass_of m.0)) (sym its.0)
+      (adds_nothing (opening_of k) (pass_of m.0) front);
+  work = refl;
+  inside = subst (λ (z : Start). IsInside z m.0.work) (sym its.0) inside;
+  change = refl;
+  start = refl;
+  steps = omega arith;
+}
+
+pub goes_then : (m m' m'' : Sat) (xs ys : List Action) (a b : Use) (w w' : Work) (c c' : Change) (n n' : ℕ) → Goes m xs a w c n m'
+    → Goes m' ys b w' c' n' m'' → Goes m (xs ▷▷ ys) (both_uses a b) w' c' (n + n') m''
+goes_then m m' m'' xs ys a b w w' c c' n n' g h = record {
+  one = h.one;
+  adds = adds_then (opening_of m.0.start) (pass_of m.0) (pass_of m'.0) (pass_of m''.0) xs ys (doing_in w) (doing_in w') a b g.adds
+      (subst (λ (z : Start). Adds (opening_of z) (pass_of m'.0) ys (doing_in w') b (pass_of m''.0)) g.start h.adds);
+  work = h.work;
+  inside = subst (λ (z : Start). IsInside z w') g.start h.inside;
+  change = h.change;
+  start = h.start ∙ g.start;
+  steps = let p = g.steps in let q = h.steps in omega arith;
+}
+
+-- the same pass and more steps allowed
+pub goes_at_most : (m m' : Sat) (xs : List Action) (a : Use) (w : Work) (c : Change) (n most : ℕ) → n ≤ most → Goes m xs a w c n m'
+    → Goes m xs a w c most m'
+goes_at_most m m' xs a w c n most few g = record {
+  one = g.one;
+  adds = g.adds;
+  work = g.work;
+  inside = g.inside;
+  change = g.change;
+  start = g.start;
+  steps = let p = g.steps in omega arith;
+}
+
+-- what the steps of a pass add to what callers see
+pub adds_so : (id : TableId) (k : Start) (p : CountedPass) (fits : IsPassOf id k p) (m' : Sat) (xs : List Action) (a : Use) (w : Work)
+    (c : Change) (n : ℕ) → Goes p.seat.me xs a w c n m' → Adds (opening_of k) (view_of p) xs (doing_in w) a (pass_of m'.0)
+adds_so id k p fits m' xs a w c n goes = subst (λ (z : Start). Adds (opening_of z) (view_of p) xs (doing_in w) a (pass_of m'.0))
+    fits.seated.start goes.adds
+
+-- a seat with one pass behind some steps
+module _ (id : TableId) (k : Start) (p q : CountedPass) (fits : IsPassOf id k p) (xs : List Action) (a : Use) (w : Work) (n : ℕ)
+    (goes : Goes p.seat.me xs a w Outside n q.seat.me) where
+  abbrev old : Log
+  old = fits.log
+
+  abbrev new : Log
+  new = goes.one.0
+
+  -- what is told of the view is told of the log
+  new_is : first_log q.seat.me.0.logs ≡ new
+  new_is = ap first_log goes.one.1
+
+  old_is : first_log p.seat.me.0.logs ≡ old
+  old_is = ap first_log fits.seated.one
+
+  same_chain : chain_in new ≡ chain_in old
+  same_chain = sym (ap chain_in new_is) ∙ (goes.adds.chain ∙ ap chain_in old_is)
+
+  numbers : new.numbers_left + a.numbers ≡ old.numbers_left
+  numbers = let e = goes.adds.numbers_left in let f = ap (λ (x : Log). x.numbers_left) new_is in
+      let g = ap (λ (x : Log). x.numbers_left) old_is in omega arith
+
+  looks_now : new.looks_left + a.looks ≡ old.looks_left
+  looks_now = let e = goes.adds.looks_left in let f = ap (λ (x : Log). x.looks_left) new_is in
+      let g = ap (λ (x : Log). x.looks_left) old_is in omega arith
+
+  seated_now : IsBetweenCalls w → IsSeated k q.seat.me.0 new
+  seated_now rests = let s = fits.seated in record {
+    one = goes.one.1;
+    start = goes.start ∙ s.start;
+    front = subst (λ (z : Start). IsFront (opening_of z) (pass_of q.seat.me.0)) fits.seated.start goes.adds.front;
+    work = subst IsBetweenCalls (sym goes.work) rests;
+    inside = subst (λ (z : Start × Work). IsInside z.0 z.1) (λ i. (s.start i, sym goes.work i)) goes.inside;
+    change = goes.change;
+    chain = let e = same_chain in let l = s.chain in omega arith;
+    few_left = let e = numbers in let l = s.few_left in omega arith;
+    left_inside = let e = numbers in let f = same_chain in let l = s.left_inside in omega arith;
+  }
+
+  -- a pass that knows what it has used up
+  pub still_pass : q.seat.table_id ≡ p.seat.table_id → q.seat.me.1 ≡ [] → IsBetweenCalls w → q.chain ≡ p.chain
+      → q.no_chains_left ≡ p.no_chains_left → q.numbers_left + a.numbers ≡ p.numbers_left → q.looks_left + a.looks ≡ p.looks_left
+      → q.idle ≡ is_idle w → IsPassOf id k q
+  still_pass table places rests chain told left looks_left idle = record {
+    table = table ∙ fits.table;
+    places = places;
+    log = new;
+    seated = seated_now rests;
+    knows = let o = fits.knows in record {
+      chain = chain ∙ (o.chain ∙ sym same_chain);
+      no_chains_left = told ∙ (o.no_chains_left
+          ∙ sym (sym (ap (λ (x : Log). x.no_chains_left) new_is) ∙ (goes.adds.no_chains_left ∙ ap (λ (x : Log). x.no_chains_left) old_is)));
+      numbers_left = let e = numbers in let f = o.numbers_left in omega arith;
+      looks_left = let e = looks_now in let f = o.looks_left in omega arith;
+      idle = idle ∙ ap is_idle (sym goes.work);
+    };
+  }
+
+-- what a pass does between two calls
+pub idle_work : (w : Work) → IsBetweenCalls w → doing_in w ≡ NowIdle → w ≡ Idle
+idle_work Idle r e = refl
+idle_work (Placing n) r e = absurd r
+idle_work (Holding f) r e = absurd (cc e)
+idle_work (Retiring f t) r e = absurd (cc e)
+idle_work (Emptying n) r e = absurd r
+
+pub holding_work : (w : Work) (f : File) → IsBetweenCalls w → doing_in w ≡ NowHolding f → w ≡ Holding f
+holding_work Idle f r e = absurd (cc e)
+holding_work (Placing n) f r e = absurd r
+holding_work (Holding g) f r e = let same : g ≡ f = cc e in ap (λ (z : File). Holding z) same
+holding_work (Retiring g t) f r e = absurd (cc e)
+holding_work (Emptying n) f r e = absurd r
+
+pub retiring_work : (w : Work) (f : File) (t : ℕ) → IsBetweenCalls w → doing_in w ≡ NowRetiring f t → w ≡ Retiring f t
+retiring_work Idle f t r e = absurd (cc e)
+retiring_work (Placing n) f t r e = absurd r
+retiring_work (Holding g) f t r e = absurd (cc e)
+retiring_work (Retiring g u) f t r e = let same : g ≡ f = cc e in let takes : u ≡ t = cc e in λ i. Retiring (same i) (takes i)
+retiring_work (Emptying n) f t r e = absurd r
+
+-- the pass of a seat
+pub its_pass : (id : TableId) (k : Start) (p : CountedPass) (fits : IsPassOf id k p) → HasPass k p.seat.me fits.log
+its_pass id k p fits = (fits.seated.start, fits.seated.one)
+
+pub goes_nowhere : (id : TableId) (k : Start) (p : CountedPass) (fits : IsPassOf id k p) → Goes p.seat.me [] no_use p.seat.me.0.work Outside 0 p.seat.me
+goes_nowhere id k p fits = subst (λ (c : Change). Goes p.seat.me [] no_use p.seat.me.0.work c 0 p.seat.me) fits.seated.change
+    (goes_none k p.seat.me fits.log (its_pass id k p fits) fits.seated.front fits.seated.inside)
+
+-- the pass has the place of a file that is closed
+pub out_place : (k : Start) (m m' : Sat) (xs : List Action) (f : File) (x : Log) → HasPass k m x → m.1 ≡ [] → TakesOut m xs f m'
+    → HasPlace k f.number (Some f.identity) m'
+out_place k m m' xs f x its empty out = let s = out.stepped in record {
+  log = s.one.0;
+  pass = (s.start ∙ its.0, s.one.1);
+  known = subst (λ (z : Start). IsInside z (Emptying f.number)) its.0 s.inside;
+  work = inl s.work;
+  place = out.carried ∙ λ i. (place_of (its.0 i) f.number, Some f.identity) ∷ empty i;
+}
+
+-- the file of a pass comes out: its close, and the step in which its place goes home
+pub out_and_home : (m m' m'' : Sat) (xs : List Action) (f : File) → TakesOut m xs f m' → Stepped m' [] no_use Idle m'.0.change m''
+    → Goes m (xs ▷ Close f) no_use Idle m.0.change 2 m''
+out_and_home m m' m'' xs f out home = subst (λ (c : Change). Goes m (xs ▷ Close f) no_use Idle c 2 m'') out.stepped.change
+    (goes_then m m' m'' (xs ▷ Close f) [] no_use no_use (Emptying f.number) Idle m.0.change m'.0.change 1 1
+    (goes_one m m' (xs ▷ Close f) no_use (Emptying f.number) m.0.change out.stepped)
+    (goes_one m' m'' [] no_use Idle m'.0.change home))
+
+-- a pass outside a change that has done with its file
+pub let_go : (m m' : Sat) (xs : List Action) → m.0.change ≡ Outside → LetsGo m xs m' → Goes m xs no_use Idle Outside 1 m'
+let_go m m' xs outside went = subst (λ (c : Change). Goes m xs no_use Idle c 1 m') outside
+    (goes_one m m' xs no_use Idle m.0.change went.stepped)
+
+-- a pass is still at work behind some steps
+pub still_at_work : (k : Start) (m m' : Sat) (x : Log) (xs : List Action) (a : Use) (w : Work) (c : Change) (n : ℕ) → HasPass k m x
+    → Goes m xs a w c n m' → IsAtWork k m'
+still_at_work k m m' x xs a w c n its goes = record {
+  log = goes.one.0;
+  pass = (goes.start ∙ its.0, goes.one.1);
+  front = subst (λ (z : Start). IsFront (opening_of z) (pass_of m'.0)) its.0 goes.adds.front;
+  inside = subst (λ (z : Start × Work). IsInside z.0 z.1) (λ i. (its.0 i, sym goes.work i)) goes.inside;
+}
+
+use_alone : (a : Use) → both_uses (both_uses no_use a) no_use ≡ a
+use_alone a = λ i. record {
+  numbers = (let e : 0 + a.numbers + 0 ≡ a.numbers = omega arith in e) i;
+  looks = (let e : 0 + a.looks + 0 ≡ a.looks = omega arith in e) i;
+}
+
+-- a step between a begin and an end, if there are such
+pub goes_around : (m m' m'' m''' : Sat) (action : Action) (a : Use) (w w' : Work) (c c' : Change) → Goes m [] no_use w c 1 m'
+    → Stepped m' ([] ▷ action) a w' c' m'' → Goes m'' [] no_use m''.0.work Outside 1 m''' → Goes m ([] ▷ action) a w' Outside 3 m'''
+goes_around m m' m'' m''' action a w w' c c' before s behind = subst (λ (z : Use). Goes m ([] ▷ action) z w' Outside 3 m''') (use_alone a)
+    (goes_then m m'' m''' ([] ▷ action) [] (both_uses no_use a) no_use w' w' c' Outside 2 1
+    (goes_then m m' m'' [] ([] ▷ action) no_use a w w' c c' 1 1 before (goes_one m' m'' ([] ▷ action) a w' c' s))
+    (subst (λ (z : Work). Goes m'' [] no_use z Outside 1 m''') s.work behind))

@@ -1,0 +1,41 @@
+-- What a pass answers that removed a file from a slot, or found none.
+use Rattle.std.proofs.Common.{◌≡◌, ℕ, [], sym, refl, ap, ◌∙◌, subst}
+use Rattle.std.specs.Prelude.{Option, Some, None, option_map, Result, ok_or}
+use Rattle.fx_base.specs.declared.open_file.Closed.{Closed}
+use Rattle.fx_plain.specs.History.{◌▷◌}
+use Rattle.fx_plain.specs.Table.{numbered}
+use Rattle.fx_plain.specs.declared.event.File.{File}
+use Rattle.fx_plain.specs.declared.event.Action.TheVariants.{Put, Clear, Take}
+use Rattle.fx_table.specs.Calls.{Adds, no_use, one_number, Placed, Cleared, Taken}
+use Rattle.fx_table.specs.Opening.{Opening}
+use Rattle.fx_table.specs.Pass.{PassView, next_number, retired_of}
+use Rattle.fx_table.specs.declared.values.Doing.TheVariants.{Idle as NowIdle, Retiring as NowRetiring}
+use Rattle.fx_table.specs.declared.values.Empty.{Empty}
+use Rattle.fx_table.specs.declared.values.Retired.{Retired}
+use Rattle.fx_counted.specs.Passes.{doing_in}
+use Rattle.fx_counted.specs.Tells.{retires_now}
+
+pub cleared_so : (o : Opening) (v : PassView) (slot : ℕ) (file : Option File) (takes : ℕ) (result : Option Retired) (w : PassView)
+    → result ≡ option_map (λ f. retired_of f takes) file
+    → Adds o v ([] ▷ Clear slot file) (doing_in (retires_now file takes)) no_use w → Cleared o v slot result w
+cleared_so o v slot None takes result w is adds = subst (λ (r : Option Retired). Cleared o v slot r w) (sym is) adds
+cleared_so o v slot (Some f) takes result w is adds = subst (λ (r : Option Retired). Cleared o v slot r w) (sym is) (f, refl, adds)
+
+-- the same for a close
+pub taken_so : (o : Opening) (v : PassView) (slot : ℕ) (file : Option File) (takes : ℕ) (removed : Option Retired)
+    (result : Result Retired Empty) (empty : Empty) (w : PassView) → removed ≡ option_map (λ f. retired_of f takes) file
+    → result ≡ ok_or removed empty → Adds o v ([] ▷ Take slot file) (doing_in (retires_now file takes)) no_use w → Taken o v slot result w
+taken_so o v slot None takes removed result empty w is answer adds =
+    subst (λ (r : Result Retired Empty). Taken o v slot r w) (sym (answer ∙ ap (λ r. ok_or r empty) is)) adds
+taken_so o v slot (Some f) takes removed result empty w is answer adds =
+    subst (λ (r : Result Retired Empty). Taken o v slot r w) (sym (answer ∙ ap (λ r. ok_or r empty) is)) (f, refl, adds)
+
+-- the same for an installation
+pub placed_so : (o : Opening) (v : PassView) (slot n : ℕ) (file : Closed) (replaced : Option File) (takes : ℕ) (result : Option Retired)
+    (w : PassView) → n ≡ next_number v → result ≡ option_map (λ f. retired_of f takes) replaced
+    → Adds o v ([] ▷ Put slot (numbered n file) replaced) (doing_in (retires_now replaced takes)) one_number w
+    → Placed o v slot file result w
+placed_so o v slot n file None takes result w next is adds = subst (λ (r : Option Retired). Placed o v slot file r w) (sym is)
+    (subst (λ (z : ℕ). Adds o v ([] ▷ Put slot (numbered z file) None) NowIdle one_number w) next adds)
+placed_so o v slot n file (Some f) takes result w next is adds = subst (λ (r : Option Retired). Placed o v slot file r w) (sym is)
+    (f, refl, subst (λ (z : ℕ). Adds o v ([] ▷ Put slot (numbered z file) (Some f)) (NowRetiring f takes) one_number w) next adds)

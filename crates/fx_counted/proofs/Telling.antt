@@ -1,0 +1,50 @@
+-- What a pass tells of a slot that it changes.
+use Rattle.std.proofs.Common.{◌≡◌, ℕ, ◌+◌, ◌-◌, ◌%◌, ◌^◌, Bool, true, false, inl, inr, sym, ap, ◌∙◌, subst, arith}
+use Rattle.std.specs.Prelude.{ℤ}
+use mathlib.Core.Option.{none}
+use Rattle.atomic_table.specs.Table.{step, Allows}
+use Rattle.fx_words.specs.Words.{one_change, end_amount_of}
+use Rattle.fx_counted.specs.Agrees.{Agrees}
+use Rattle.fx_counted.specs.Changing.{InRange, begun, difference, HasToTell}
+use Rattle.fx_counted.specs.Control.{in_change, added, removed_by}
+use Rattle.fx_counted.specs.Laws.{HasPass, MayChange}
+use Rattle.fx_counted.specs.Layout.{control_place}
+use Rattle.fx_counted.specs.Passes.{Sat}
+use Rattle.fx_counted.specs.Tells.{GoesOn, Answers}
+use Rattle.fx_counted.specs.declared.view.Change.{Change}
+use Rattle.fx_counted.specs.declared.view.Change.TheVariants.{Outside, Same, More, Less}
+use Rattle.fx_counted.specs.declared.view.Log.{Log}
+use Rattle.fx_counted.specs.declared.view.Start.{Start}
+use Rattle.fx_counted.proofs.ControlSteps.{begins_keep, ends_keep, answers_keep}
+
+pub begins_by : (k : Start) (slots id i amount : ℕ) (m : Sat) (x : Log) → HasPass k m x → m.0.change ≡ Outside → i ≡ control_place
+    → amount ≡ one_change
+    → Allows (Agrees k) slots id m i (λ word. (word + amount) % 2 ^ 64) (GoesOn Same (step slots i amount 0 none) m)
+begins_by k slots id i amount m x its outside place is =
+    subst (λ (a : ℕ). Allows (Agrees k) slots id m i (λ word. (word + a) % 2 ^ 64) (GoesOn Same (step slots i a 0 none) m)) (sym is)
+    (begins_keep k slots id i m x its outside place)
+
+amount_told : (c : Change) (delta : ℤ) (amount : ℕ) → in_change c ≡ 1 → difference c ≡ delta → amount ≡ end_amount_of delta
+    → amount + added c ≡ one_change + removed_by c
+amount_told Outside delta amount one d e = absurd (cc one)
+amount_told Same delta amount one d e = let f = e ∙ ap end_amount_of (sym d) in omega arith
+amount_told More delta amount one d e = let f = e ∙ ap end_amount_of (sym d) in omega arith
+amount_told Less delta amount one d e = let f = e ∙ ap end_amount_of (sym d) in omega arith
+
+pub ends_by : (k : Start) (slots id i amount : ℕ) (delta : ℤ) (m : Sat) (x : Log) → HasPass k m x → HasToTell true delta m.0.change
+    → amount ≡ end_amount_of delta → i ≡ control_place
+    → Allows (Agrees k) slots id m i (λ word. (word + (2 ^ 64 - amount)) % 2 ^ 64) (GoesOn Outside (step slots i amount 0 none) m)
+ends_by k slots id i amount delta m x its tells is place =
+    ends_keep k slots id i amount m x its tells.0 (amount_told m.0.change delta amount tells.0 tells.1 is) place
+
+-- a pass that began a change where it had to may change the slot
+pub may_change : (k : Start) (slot : ℕ) (began : Bool) (c : Change) → InRange k slot began → c ≡ begun began → MayChange k slot c
+may_change k slot true c range is = inl (range, is)
+may_change k slot false c range is = inr (range, is)
+
+pub answers_by : (k : Start) (slots id i amount : ℕ) (m : Sat) (x : Log) → HasPass k m x → m.0.change ≡ Same → i ≡ control_place
+    → amount ≡ one_change
+    → Allows (Agrees k) slots id m i (λ word. (word + (2 ^ 64 - amount)) % 2 ^ 64) (Answers (step slots i amount 0 none) m)
+answers_by k slots id i amount m x its same place is =
+    subst (λ (a : ℕ). Allows (Agrees k) slots id m i (λ word. (word + (2 ^ 64 - a)) % 2 ^ 64) (Answers (step slots i a 0 none) m)) (sym is)
+    (answers_keep k slots id i m x its same place)

@@ -1,0 +1,81 @@
+use Rattle.std.proofs.Common.{◌≡◌, ℕ, [], ◌∷◌, ap, ◌∙◌, subst, arith}
+use Rattle.std.specs.Prelude.{Some}
+use Rattle.fx_base.specs.declared.open_file.Closed.{Closed}
+use Rattle.fx_plain.specs.History.{◌▷◌}
+use Rattle.fx_plain.specs.Table.{numbered}
+use Rattle.fx_plain.specs.declared.event.Action.TheVariants.{Put}
+use Rattle.fx_words.specs.Words.{takes_in, slot_word_of}
+use Rattle.fx_table.specs.Calls.{Adds, no_use, one_number}
+use Rattle.fx_counted.specs.Control.{if_full}
+use Rattle.fx_counted.specs.Laws.{place_of}
+use Rattle.fx_counted.specs.Layout.{slot_of}
+use Rattle.fx_counted.specs.Passes.{pass_of, doing_in}
+use Rattle.fx_counted.specs.Tables.{view_of, opening_of_table}
+use Rattle.fx_counted.specs.Tells.{Stepped, retires_now, turned}
+use Rattle.fx_counted.specs.declared.view.Change.TheVariants.{Outside}
+use Rattle.fx_counted.specs.declared.view.Start.{Start}
+use Rattle.fx_counted.specs.declared.view.Work.TheVariants.{Placing}
+use Rattle.fx_counted.proofs.Calling.{slot_inside, slot_at}
+use Rattle.fx_counted.proofs.Going.{its_pass, adds_so, goes_one, goes_then, goes_around}
+use Rattle.fx_counted.proofs.Removing.{placed_so}
+use Rattle.fx_counted.proofs.SlotLaws.{installs_keep}
+use Rattle.fx_counted.proofs.Telling.{may_change}
+use Rattle.fx_counted.proofs.table.CountedTable.put.Goals as goal
+
+pub swap-found-requires : goal.swap-found-requires
+swap-found-requires c =
+    let t = c.args.self.now in
+    let k = t.table.shared.key in
+    let p = c.args.pass.now in
+    let fits = c.requires.fits in
+    let its = its_pass _ _ p fits in
+    let n = c.next_number-number.result in
+    let born = c.put_in.ensures in
+    let began = c.begin-began.ensures in
+    let goes = began.goes in
+    let seat = c.begin-began.new.seat in
+    let small = c.entry.type_inv in
+    let entry = c.entry.ensures in
+    let may = may_change k c.args.slot c.begin-began.result seat.me.0.change began.range goes.change in
+    let i = c.slot_place.result in
+    let place = c.slot_place.ensures in (
+      began.table ∙ (born.table ∙ fits.table),
+      slot_inside t c.args.slot i c.requires.slot place,
+      installs_keep k _ seat.id i c.args.slot n _ c.args.file seat.me goes.one.0 (goes.start ∙ (born.born.start ∙ its.0), goes.one.1)
+          (goes.work ∙ born.born.work) (began.places ∙ born.place.place) (omega arith) c.requires.slot may place
+          (c.slot_word-word.ensures ∙ ap (slot_word_of n) entry),
+    )
+
+pub returns-clause-placed : goal.returns-clause-placed
+returns-clause-placed c =
+    let t = c.args.self.now in
+    let k = t.table.shared.key in
+    let o = opening_of_table t in
+    let p = c.args.pass.now in
+    let v = view_of p in
+    let fits = c.requires.fits in
+    let its = its_pass _ _ p fits in
+    let n = c.next_number-number.result in
+    let file = c.args.file in
+    let m = p.seat.me in
+    let m₁ = c.put_in.new.seat.me in
+    let m₂ = c.begin-began.new.seat.me in
+    let m₃ = c.swap-found.new.seat.me in
+    let m₄ = c.end.new.seat.me in
+    let takes = takes_in c.swap-found.result in
+    let born = c.put_in.ensures in
+    let began = c.begin-began.ensures in
+    let went = c.swap-found.ensures.2 in
+    let start = began.goes.start ∙ (born.born.start ∙ its.0) in
+    let carried = began.places ∙ born.place.place in
+    let stepped = subst (λ (z : Start). (j : ℕ) (x : Closed) → m₂.0.work ≡ Placing j → m₂.1 ≡ (place_of z j, Some x) ∷ []
+    → Stepped m₂ ([] ▷ Put (slot_of c.slot_place.result) (numbered j x) went.replaced) one_number (retires_now went.replaced takes)
+    (turned m₂.0.change (if_full went.replaced) 1) m₃) start went.stepped n file (began.goes.work ∙ born.born.work) carried in
+    let around = goes_around m₁ m₂ m₃ m₄ (Put _ (numbered n file) went.replaced) one_number _ _ _ _ began.goes stepped c.end.ensures.goes in
+    let goes = goes_then m m₁ m₄ [] _ no_use one_number _ _ _ _ 1 3 (goes_one m m₁ [] no_use (Placing n) m.0.change born.born) around in
+    let adds = adds_so _ k p fits m₄ _ one_number (retires_now went.replaced takes) Outside 4 goes in
+    let here = slot_at t c.args.slot c.slot_place.result c.slot_place.ensures in
+    placed_so o v c.args.slot n file went.replaced takes c.removed_in-replaced.result (pass_of m₄.0) c.next_number-number.ensures.number
+    (c.removed_in-replaced.ensures went.replaced went.names)
+    (subst (λ (s : ℕ). Adds o v ([] ▷ Put s (numbered n file) went.replaced) (doing_in (retires_now went.replaced takes)) one_number
+    (pass_of m₄.0)) here adds)

@@ -1,0 +1,54 @@
+use Rattle.std.proofs.Common.{ℕ, [], sym, ap, ◌∙◌, arith, subst}
+use Rattle.std.specs.Prelude.{Some}
+use Rattle.fx_plain.specs.History.{◌▷◌}
+use Rattle.fx_plain.specs.declared.event.Action.TheVariants.{Release, Close}
+use Rattle.fx_table.specs.Calls.{no_use}
+use Rattle.fx_table.specs.declared.values.Hold.{Hold}
+use Rattle.fx_counted.specs.Layout.{node_place}
+use Rattle.fx_counted.specs.Moves.{HasPlace}
+use Rattle.fx_counted.specs.Tells.{IsInside}
+use Rattle.fx_counted.specs.declared.view.Work.TheVariants.{Idle}
+use Rattle.fx_counted.proofs.Calling.{node_inside, node_is_at}
+use Rattle.fx_counted.proofs.Going.{its_pass, holding_work, adds_so, out_place, out_and_home}
+use Rattle.fx_counted.proofs.Releases.{releases_keep}
+use Rattle.fx_counted.proofs.table.CountedTable.release.Goals as goal
+
+pub fetch_sub-found-requires : goal.fetch_sub-found-requires
+fetch_sub-found-requires c =
+    let t = c.args.self.now in
+    let p = c.args.pass.now in
+    let fits = c.requires.fits in
+    let f = c.requires.held.0 in
+    let work = holding_work p.seat.me.0.work f fits.seated.work c.requires.held.1 in
+    let known = subst (IsInside t.table.shared.key) work fits.seated.inside in
+    let is = c.node_place-word.ensures ∙ ap (λ (h : Hold). node_place t.size h.node) c.requires.held.2 in
+    let i = c.node_place-word.result in (
+      fits.table,
+      node_inside t f.number i known is,
+      releases_keep t.table.shared.key _ p.seat.id i f p.seat.me fits.log (its_pass _ _ p fits) work (node_is_at t f.number i is),
+    )
+
+pub returns-clause-released : goal.returns-clause-released
+returns-clause-released c =
+    let t = c.args.self.now in
+    let k = t.table.shared.key in
+    let p = c.args.pass.now in
+    let fits = c.requires.fits in
+    let f = c.requires.held.0 in
+    let work = holding_work p.seat.me.0.work f fits.seated.work c.requires.held.1 in
+    let m = p.seat.me in
+    let m' = c.fetch_sub-found.new.seat.me in
+    let m'' = c.take_out.new.seat.me in
+    let xs = [] ▷ Release f in
+    let node = ap (λ (h : Hold). h.node) c.requires.held.2 in
+    let out = c.fetch_sub-found.ensures.2.closes f work (omega (arith, c.if-found-ne1.false)) in
+    let place = out_place k m m' xs f fits.log (its_pass _ _ p fits) fits.places out in
+    let goes = out_and_home m m' m'' xs f out c.take_out.ensures.rests in (
+      f,
+      c.requires.held.1,
+      c.requires.held.2,
+      (
+        c.take_out.ensures.file f.identity (subst (λ (n : ℕ). HasPlace k n (Some f.identity) m') (sym node) place),
+        adds_so _ k p fits m'' (xs ▷ Close f) no_use Idle m.0.change 2 goes,
+      ),
+    )

@@ -1,0 +1,40 @@
+use Rattle.std.proofs.Common.{◌≡◌, ◌⊎◌, sym, ap, ◌∙◌, ◌∷◌, subst}
+use Rattle.std.specs.Prelude.{Some, None}
+use Rattle.atomic_table.specs.Table.{rest}
+use Rattle.fx_counted.specs.Laws.{HasPass}
+use Rattle.fx_counted.specs.Passes.{Sat}
+use Rattle.fx_counted.specs.declared.view.View.{View}
+use Rattle.fx_counted.specs.declared.view.Work.TheVariants.{Placing, Emptying}
+use Rattle.fx_counted.proofs.Births.{rests_keep}
+use Rattle.fx_counted.proofs.Calling.{has_node, node_inside, node_is_at, home_is_at}
+use Rattle.fx_counted.proofs.table.CountedTable.take_out.Goals as goal
+
+pub home_place-place-requires-clause-number : goal.home_place-place-requires-clause-number
+home_place-place-requires-clause-number c = has_node c.args.self.now c.args.number c.requires.place.1.known
+
+pub node_place-requires-clause-number : goal.node_place-requires-clause-number
+node_place-requires-clause-number c = has_node c.args.self.now c.args.number c.requires.place.1.known
+
+pub exchange-requires : goal.exchange-requires
+exchange-requires c =
+    let h = c.requires.place.1 in
+    let is = home_is_at c.args.self.now c.args.number c.home_place-place.result c.home_place-place.ensures in
+    (c.requires.table, (Some c.requires.place.0, h.place ∙ λ i. (sym is i, Some c.requires.place.0) ∷ sym (ap rest h.place) i))
+
+pub store-requires : goal.store-requires
+store-requires c =
+    let t = c.args.self.now in
+    let n = c.args.number in
+    let h = c.requires.place.1 in
+    let is = home_is_at t n c.home_place-place.result c.home_place-place.ensures in
+    let me = c.exchange.ensures.3 in
+    let view = ap (λ (z : Sat). z.0) me in
+    let m = c.exchange.new.seat.me in (
+      c.exchange.ensures.0 ∙ c.requires.table,
+      node_inside t n c.node_place.result h.known c.node_place.ensures,
+      rests_keep t.table.shared.key _ c.exchange.new.seat.id _ n m h.log
+          (subst (λ (v : View). HasPass t.table.shared.key (v, m.1) h.log) (sym view) h.pass)
+          (subst (λ (v : View). (v.work ≡ Emptying n) ⊎ (v.work ≡ Placing n)) (sym view) h.work)
+          (ap (λ (z : Sat). z.1) me ∙ λ i. (is i, None) ∷ ap rest h.place i)
+          (node_is_at t n c.node_place.result c.node_place.ensures),
+    )

@@ -1,0 +1,41 @@
+-- A pass that changes a slot, and tells of it where the slot is in the allocation range.
+use Rattle.std.specs.Prelude.{◌≡◌, ℕ, ℤ, pos, negsuc, ◌+◌, ◌<◌, ◌≤◌, ◌⊎◌, Bool, true, false}
+use Rattle.fx_table.specs.Opening.{range_of}
+use Rattle.fx_table.specs.Pass.{IsFront}
+use Rattle.fx_counted.specs.Control.{in_change}
+use Rattle.fx_counted.specs.Laws.{HasPass}
+use Rattle.fx_counted.specs.Passes.{Sat, opening_of, pass_of}
+use Rattle.fx_counted.specs.Tells.{IsInside}
+use Rattle.fx_counted.specs.declared.view.Change.{Change}
+use Rattle.fx_counted.specs.declared.view.Change.TheVariants.{Outside, Same, More, Less}
+use Rattle.fx_counted.specs.declared.view.Log.{Log}
+use Rattle.fx_counted.specs.declared.view.Start.{Start}
+
+-- a seat with one pass of the table, whose front is legal, and what it works with is the table's
+pub record IsAtWork (k : Start) (m : Sat) : Type 0 where
+  pub log : Log
+  pub pass : HasPass k m log
+  pub front : IsFront (opening_of k) (pass_of m.0)
+  pub inside : IsInside k m.0.work
+
+-- the slot is in the range, or it is not
+abbrev pub InRange : Start → ℕ → Bool → Type 0
+InRange k slot true = ((range_of (opening_of k)).0 ≤ slot) × (slot < (range_of (opening_of k)).0 + (range_of (opening_of k)).1)
+InRange k slot false = (slot < (range_of (opening_of k)).0) ⊎ ((range_of (opening_of k)).0 + (range_of (opening_of k)).1 ≤ slot)
+
+-- a pass that began a change has nothing to tell yet
+abbrev pub begun : Bool → Change
+begun true = Same
+begun false = Outside
+
+-- by how much the number of full slots has become greater since the pass told
+abbrev pub difference : Change → ℤ
+difference Outside = pos 0
+difference Same = pos 0
+difference More = pos 1
+difference Less = negsuc 0
+
+-- a pass that began a change is in it, with this difference; another one is not
+abbrev pub HasToTell : Bool → ℤ → Change → Type 0
+HasToTell true delta c = (in_change c ≡ 1) × (difference c ≡ delta)
+HasToTell false delta c = c ≡ Outside

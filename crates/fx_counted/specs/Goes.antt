@@ -1,0 +1,19 @@
+-- Some steps of a pass in a row.
+use Rattle.std.specs.Prelude.{◌≡◌, ℕ, ◌+◌, ◌≤◌, List, [], ◌∷◌}
+use Rattle.fx_plain.specs.declared.event.Action.{Action}
+use Rattle.fx_table.specs.Calls.{Use, Adds}
+use Rattle.fx_counted.specs.Passes.{Sat, opening_of, pass_of, steps_of, doing_in}
+use Rattle.fx_counted.specs.Tells.{IsInside}
+use Rattle.fx_counted.specs.declared.view.Change.{Change}
+use Rattle.fx_counted.specs.declared.view.Log.{Log}
+use Rattle.fx_counted.specs.declared.view.Work.{Work}
+
+-- At most so many steps of a seat with one pass: it took these actions and used this up, and now it does this work
+pub record Goes (m : Sat) (actions : List Action) (used : Use) (w : Work) (c : Change) (most : ℕ) (m' : Sat) : Type 0 where
+  pub one : (x : Log) × (m'.0.logs ≡ x ∷ [])
+  pub adds : Adds (opening_of m.0.start) (pass_of m.0) actions (doing_in w) used (pass_of m'.0)
+  pub work : m'.0.work ≡ w
+  pub inside : IsInside m.0.start w
+  pub change : m'.0.change ≡ c
+  pub start : m'.0.start ≡ m.0.start
+  pub steps : steps_of m'.0 ≤ steps_of m.0 + most

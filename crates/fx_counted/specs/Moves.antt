@@ -1,0 +1,26 @@
+-- A pass that has the place of a number.
+use Rattle.std.specs.Prelude.{◌≡◌, ℕ, ◌<◌, ◌⊎◌, [], ◌∷◌, Option}
+use Rattle.fx_base.specs.declared.open_file.Closed.{Closed}
+use Rattle.fx_counted.specs.Laws.{HasPass, place_of}
+use Rattle.fx_counted.specs.Passes.{Sat, IsNumber, next_in}
+use Rattle.fx_counted.specs.declared.view.Log.{Log}
+use Rattle.fx_counted.specs.declared.view.Start.{Start}
+use Rattle.fx_counted.specs.declared.view.Work.TheVariants.{Idle, Placing, Emptying}
+
+-- the seat's pass has the place of the number, to install its file or since its file is closed; and this is in the place
+pub record HasPlace (k : Start) (number : ℕ) (inside : Option Closed) (m : Sat) : Type 0 where
+  pub log : Log
+  pub pass : HasPass k m log
+  pub known : IsNumber k number
+  pub work : (m.0.work ≡ Emptying number) ⊎ (m.0.work ≡ Placing number)
+  pub place : m.1 ≡ (place_of k number, inside) ∷ []
+
+-- an idle pass whose next number is this one
+pub record MayPlace (k : Start) (number : ℕ) (m : Sat) : Type 0 where
+  pub log : Log
+  pub pass : HasPass k m log
+  pub idle : m.0.work ≡ Idle
+  pub some_left : 0 < log.numbers_left
+  pub next : number ≡ next_in log
+  pub known : IsNumber k number
+  pub places : m.1 ≡ []

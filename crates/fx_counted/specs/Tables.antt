@@ -1,0 +1,72 @@
+-- A table without a lock and its passes, as their callers see them.
+use Rattle.std.specs.Prelude.{◌≡◌, ℕ, ◌*◌, ◌≤◌, Bool, true, false, [], ◌∷◌}
+use Rattle.atomic_table.specs.Seated.{TableId}
+use Rattle.fx_table.specs.declared.limits.TheConstants.{CHAIN_NUMBERS}
+use Rattle.fx_table.specs.Opening.{Opening}
+use Rattle.fx_table.specs.Pass.{PassView, IsFront}
+use Rattle.fx_counted.specs.Passes.{opening_of, pass_of, steps_of, chain_in}
+use Rattle.fx_counted.specs.Tells.{IsInside}
+use Rattle.fx_counted.specs.declared.view.Change.TheVariants.{Outside}
+use Rattle.fx_counted.specs.declared.view.Log.{Log}
+use Rattle.fx_counted.specs.declared.view.Start.{Start}
+use Rattle.fx_counted.specs.declared.view.View.{View}
+use Rattle.fx_counted.specs.declared.view.Work.{Work}
+use Rattle.fx_counted.specs.declared.view.Work.TheVariants.{Idle, Placing, Holding, Retiring, Emptying}
+use Rattle.fx_counted.specs.declared.pass.CountedPass.{CountedPass}
+use Rattle.fx_counted.specs.declared.table.CountedTable.{CountedTable}
+
+abbrev pub view_of : CountedPass → PassView
+view_of p = pass_of p.seat.me.0
+
+-- how many atomic steps the pass has made
+abbrev pub steps_taken : CountedPass → ℕ
+steps_taken p = steps_of p.seat.me.0
+
+-- between two calls a pass has no number's place
+abbrev pub IsBetweenCalls : Work → Type 0
+IsBetweenCalls Idle = Unit {0}
+IsBetweenCalls (Placing number) = ⊥
+IsBetweenCalls (Holding f) = Unit {0}
+IsBetweenCalls (Retiring f takes) = Unit {0}
+IsBetweenCalls (Emptying number) = ⊥
+
+abbrev pub is_idle : Work → Bool
+is_idle Idle = true
+is_idle (Placing number) = false
+is_idle (Holding f) = false
+is_idle (Retiring f takes) = false
+is_idle (Emptying number) = false
+
+-- what the pass itself knows of its log, and of what it does
+pub record Knows (p : CountedPass) (x : Log) : Type 0 where
+  pub chain : p.chain ≡ chain_in x
+  pub no_chains_left : p.no_chains_left ≡ x.no_chains_left
+  pub numbers_left : p.numbers_left ≡ x.numbers_left
+  pub looks_left : p.looks_left ≡ x.looks_left
+  pub idle : p.idle ≡ is_idle p.seat.me.0.work
+
+-- a seat with one pass, which is between two calls
+pub record IsSeated (k : Start) (v : View) (x : Log) : Type 0 where
+  pub one : v.logs ≡ x ∷ []
+  pub start : v.start ≡ k
+  pub front : IsFront (opening_of k) (pass_of v)
+  pub work : IsBetweenCalls v.work
+  pub inside : IsInside k v.work
+  pub change : v.change ≡ Outside
+  pub chain : chain_in x ≤ k.chains
+  pub few_left : x.numbers_left ≤ CHAIN_NUMBERS
+  pub left_inside : x.numbers_left ≤ CHAIN_NUMBERS * chain_in x
+
+-- a pass of the table that began so
+pub record IsPassOf (id : TableId) (k : Start) (p : CountedPass) : Type 0 where
+  pub table : p.seat.table_id ≡ id
+  pub places : p.seat.me.1 ≡ []
+  pub log : Log
+  pub seated : IsSeated k p.seat.me.0 log
+  pub knows : Knows p log
+
+abbrev pub opening_of_table : CountedTable → Opening
+opening_of_table t = opening_of t.table.shared.key
+
+abbrev pub IsPassOfTable : CountedTable → CountedPass → Type 0
+IsPassOfTable t p = IsPassOf t.table.shared.table_id t.table.shared.key p

@@ -1,0 +1,50 @@
+// A change of a slot is told in the control word where the slot is in the allocation range: the pass begins before it,
+// and ends behind it.
+ghost use Rattle.std.specs.Prelude.{◌≡◌, []};
+ghost use Rattle.fx_table.specs.Calls.{no_use};
+ghost use Rattle.fx_counted.specs.Changing.{IsAtWork, InRange, begun, HasToTell};
+ghost use Rattle.fx_counted.specs.Goes.{Goes};
+ghost use Rattle.fx_counted.specs.declared.view.Change.TheVariants.{Outside};
+
+use crate::kinds::{Begin, End};
+use crate::layout::CONTROL;
+use crate::table::CountedTable;
+use crate::view::View;
+use atomic_table::Seat;
+use fx_base::OpenFile;
+use fx_words::{begin_amount, end_amount};
+
+impl CountedTable {
+    // Begins a change where the slot is in the range. Whether it is.
+    pub(crate) fn begin(&self, seat: &mut Seat<Option<OpenFile>, View>, slot: u32) -> bool
+        requires table { seat.old.table_id ≡ self.now.table.shared.table_id }
+        requires seated { IsAtWork self.now.table.shared.key seat.old.me }
+        requires change { seat.old.me.0.change ≡ Outside }
+        ensures table { seat.new.table_id ≡ seat.old.table_id }
+        ensures range { InRange self.now.table.shared.key slot result }
+        ensures goes { Goes seat.old.me [] no_use seat.old.me.0.work (begun result) 1 seat.new.me }
+        ensures places { seat.new.me.1 ≡ seat.old.me.1 }
+    {
+        let inside = self.range_start <= slot && slot < self.range_start + self.range_len;
+        if inside {
+            let control = &self.table.shared;
+            control.fetch_add::<Begin>(seat, CONTROL, begin_amount());
+        }
+        inside
+    }
+
+    // Ends the change that was begun, if one was, and tells by how much the number of full slots has become greater.
+    pub(crate) fn end(&self, seat: &mut Seat<Option<OpenFile>, View>, began: bool, delta: i32)
+        requires table { seat.old.table_id ≡ self.now.table.shared.table_id }
+        requires seated { IsAtWork self.now.table.shared.key seat.old.me }
+        requires change { HasToTell began delta seat.old.me.0.change }
+        ensures table { seat.new.table_id ≡ seat.old.table_id }
+        ensures goes { Goes seat.old.me [] no_use seat.old.me.0.work Outside 1 seat.new.me }
+        ensures places { seat.new.me.1 ≡ seat.old.me.1 }
+    {
+        if began {
+            let control = &self.table.shared;
+            control.fetch_sub::<End>(seat, CONTROL, end_amount(delta));
+        }
+    }
+}

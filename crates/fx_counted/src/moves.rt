@@ -1,0 +1,59 @@
+// An open file goes into the place of its number, or comes out, while the pass of a seat has the place.
+ghost use Rattle.std.specs.Prelude.{◌≡◌, [], Some};
+ghost use Rattle.fx_base.specs.declared.open_file.Closed.{Closed};
+ghost use Rattle.fx_table.specs.Calls.{no_use};
+ghost use Rattle.fx_counted.specs.Moves.{HasPlace, MayPlace};
+ghost use Rattle.fx_counted.specs.Tells.{Stepped};
+ghost use Rattle.fx_counted.specs.declared.view.Work.TheVariants.{Idle, Placing};
+
+use crate::kinds::{Birth, Rest};
+use crate::layout::{home_place, node_place};
+use crate::table::CountedTable;
+use crate::view::View;
+use atomic_table::Seat;
+use fx_base::OpenFile;
+
+// The word of a number whose file was not released yet.
+pub(crate) const BORN: u64 = 1 << 32;
+
+impl CountedTable {
+    // The place of the pass's next number comes to the pass, and the file goes into it.
+    pub(crate) fn put_in(
+        &self,
+        seat: &mut Seat<Option<OpenFile>, View>,
+        number: u32,
+        file: OpenFile,
+    )
+        requires table { seat.old.table_id ≡ self.now.table.shared.table_id }
+        requires next { MayPlace self.now.table.shared.key number seat.old.me }
+        ensures table { seat.new.table_id ≡ seat.old.table_id }
+        ensures born { Stepped seat.old.me [] no_use (Placing number) seat.old.me.0.change seat.new.me }
+        ensures place { HasPlace self.now.table.shared.key number (Some file) seat.new.me }
+    {
+        let shared = &self.table.shared;
+        shared.store::<Birth>(seat, node_place(self.size, number), BORN);
+        let place = home_place(self.size, number);
+        let before = shared.exchange(seat, place, Some(file));
+        let None = before else { unreachable!() };
+    }
+
+    // The file comes out of the place of its number, and the place goes home.
+    pub(crate) fn take_out(&self, seat: &mut Seat<Option<OpenFile>, View>, number: u32) -> OpenFile
+        requires table { seat.old.table_id ≡ self.now.table.shared.table_id }
+        requires place { let k = self.now.table.shared.key in
+            (file : Closed) × HasPlace k number (Some file) seat.old.me }
+        ensures table { seat.new.table_id ≡ seat.old.table_id }
+        ensures file { let k = self.now.table.shared.key in
+            (file : Closed) → HasPlace k number (Some file) seat.old.me → result ≡ file }
+        ensures rests { Stepped seat.old.me [] no_use Idle seat.old.me.0.change seat.new.me }
+        ensures empty { seat.new.me.1 ≡ [] }
+    {
+        let shared = &self.table.shared;
+        let place = home_place(self.size, number);
+        let Some(file) = shared.exchange(seat, place, None) else {
+            unreachable!()
+        };
+        shared.store::<Rest>(seat, node_place(self.size, number), 0);
+        file
+    }
+}
