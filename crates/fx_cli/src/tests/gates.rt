@@ -1,0 +1,122 @@
+// Workers that hold each other at a gate.
+use super::playing::played_at;
+use fx_chain::{Gate, Place};
+use std::process::Abort;
+use std::sync::atomic::{AtomicU32, Ordering};
+use std::thread;
+
+// How often a worker looks for another one.
+const MOST_TURNS: u32 = 50_000_000;
+
+// Turns until a bit of a word is set, and tells whether it was.
+fn comes(word: &AtomicU32, bit: u32) -> bool {
+    for turn in 0..MOST_TURNS {
+        if word.load(Ordering::SeqCst) & bit != 0 {
+            return true;
+        }
+        if turn % 1024 == 0 {
+            thread::yield_now();
+        }
+    }
+    false
+}
+
+// The third members of two chains wait for each other. A bit of `came` is a chain.
+#[derive(Drop)]
+struct Meeting {
+    came: AtomicU32,
+    late: AtomicU32,
+}
+
+impl Gate for Meeting {
+    fn before(&self, place: Place) {
+        if place.member != 3 {
+            return;
+        }
+        let (own, other) = if place.chain == 1 { (1, 2) } else { (2, 1) };
+        self.came.fetch_or(own, Ordering::SeqCst);
+        if !comes(&self.came, other) {
+            self.late.fetch_add(1, Ordering::SeqCst);
+        }
+    }
+
+    fn after(&self, _place: Place) {}
+}
+
+const TWO_CHAINS: &str = "file a.txt 68656c6c6f\nsparse 2\nopen a.txt at 0 link\nread 0 0 5 link\n\
+     close 0\nopen a.txt at 1 link\nread 1 0 5 link\nclose 1\nsubmit\n";
+
+const TWO_CHAINS_TEXT: &str = "sparse 0\n1.1.1 0\n1.1.2 5 68656c6c6f\n1.1.3 0\n1.2.1 0\n\
+     1.2.2 5 68656c6c6f\n1.2.3 0\nclosed 1.1.1.0 a.txt\nclosed 1.2.1.0 a.txt\n";
+
+// How many workers waited in vain, of so many.
+fn late<R: Abort>(rt: &R, gate: Meeting, written: &[u8], ended: bool) -> u32 {
+    assert!(rt; ended);
+    assert_eq!(rt; written, TWO_CHAINS_TEXT.as_bytes());
+    gate.late.load(Ordering::SeqCst)
+}
+
+#[test]
+fn two_workers_meet(rt: HostRuntime) {
+    let gate = Meeting {
+        came: AtomicU32::new(0),
+        late: AtomicU32::new(0),
+    };
+    let (written, ended) = played_at(&rt, rt.alloc(), 2, &gate, TWO_CHAINS.as_bytes());
+    assert_eq!(rt; late(&rt, gate, written.as_slice(), ended.is_ok()), 0);
+}
+
+#[test]
+fn one_thread_plays_all(rt: HostRuntime) {
+    let gate = Meeting {
+        came: AtomicU32::new(0),
+        late: AtomicU32::new(0),
+    };
+    let (written, ended) = played_at(&rt, rt.alloc(), 1, &gate, TWO_CHAINS.as_bytes());
+    assert_eq!(rt; late(&rt, gate, written.as_slice(), ended.is_ok()), 1);
+}
+
+// The second chain updates the slot between the open and the read of the first one. The bits of `done` are the first member
+// of the first chain and the one of the second.
+#[derive(Drop)]
+struct Between {
+    done: AtomicU32,
+    late: AtomicU32,
+}
+
+impl Gate for Between {
+    fn before(&self, place: Place) {
+        let awaited = match (place.chain, place.member) {
+            (2, 1) => 1,
+            (1, 2) => 2,
+            _ => return,
+        };
+        if !comes(&self.done, awaited) {
+            self.late.fetch_add(1, Ordering::SeqCst);
+        }
+    }
+
+    fn after(&self, place: Place) {
+        match (place.chain, place.member) {
+            (1, 1) => self.done.fetch_or(1, Ordering::SeqCst),
+            (2, 1) => self.done.fetch_or(2, Ordering::SeqCst),
+            _ => return,
+        };
+    }
+}
+
+#[test]
+fn an_update_between_an_open_and_its_read(rt: HostRuntime) {
+    let script = "file a.txt 68656c6c6f\nfile b.txt 6869\nsparse 1\nopen a.txt at 0 link\n\
+         read 0 0 5\nupdate 0 1\nsubmit\n";
+    let text = "sparse 0\n1.1.1 0\n1.1.2 2 6869\n1.2.1 1\nclosed 1.1.1.0 a.txt\nteardown\n\
+         closed 1.2.1.0 b.txt\n";
+    let gate = Between {
+        done: AtomicU32::new(0),
+        late: AtomicU32::new(0),
+    };
+    let (written, ended) = played_at(&rt, rt.alloc(), 2, &gate, script.as_bytes());
+    assert_eq!(rt; ended, Ok(()));
+    assert_eq!(rt; std::str::from_utf8(written.as_slice()), Ok(text));
+    assert_eq!(rt; gate.late.load(Ordering::SeqCst), 0);
+}

@@ -1,0 +1,68 @@
+// Scripts that are played by `run` over the table behind one word.
+use fx_baton::BatonTable;
+use fx_chain::{Gate, OpenGate};
+use fx_script::{PlayFault, run};
+use std::alloc::Global;
+use std::io::{Read, Write};
+use std::process::Abort;
+use std::sync::Wait;
+use std::thread::Threads;
+
+/// The script that the tests of readers and writers play, 83 bytes, and its text.
+pub const OPEN_READ_CLOSE: &str =
+    "file a.txt 68656c6c6f\nsparse 2\nopen a.txt at 0 link\nread 0 0 5 link\nclose 0\nsubmit\n";
+
+pub const OPEN_READ_CLOSE_TEXT: &str =
+    "sparse 0\n1.1.1 0\n1.1.2 5 68656c6c6f\n1.1.3 0\nclosed 1.1.1.0 a.txt\n";
+
+/// How a run on one worker ends.
+pub fn ended<R: Threads + Wait + Sync, I: Read, W: Write>(
+    rt: &R,
+    alloc: Global,
+    reader: &mut I,
+    writer: &mut W,
+) -> Result<(), PlayFault> {
+    run::<BatonTable, _, _, _, _>(rt, alloc, 1, &OpenGate, reader, writer)
+}
+
+/// What a script writes on so many workers, 1 to 16, at a gate, and how the run ends.
+pub fn played_at<R: Threads + Wait + Sync, G: Gate>(
+    rt: &R,
+    alloc: Global,
+    workers: u32,
+    gate: &G,
+    script: &[u8],
+) -> (Vec<u8>, Result<(), PlayFault>) {
+    let mut reader = script;
+    let mut written = Vec::new(alloc);
+    let workers = match workers {
+        1..=16 => workers,
+        _ => 1,
+    };
+    let ended = run::<BatonTable, _, _, _, _>(rt, alloc, workers, gate, &mut reader, &mut written);
+    (written, ended)
+}
+
+/// The script is played to its end on so many workers, and this text is what it writes.
+pub fn plays_on<R: Threads + Wait + Abort + Sync>(
+    rt: &R,
+    alloc: Global,
+    workers: u32,
+    script: &str,
+    text: &str,
+) {
+    let (written, ended) = played_at(rt, alloc, workers, &OpenGate, script.as_bytes());
+    assert_eq!(rt; ended, Ok(()), "{workers}: {script}");
+    assert_eq!(rt;
+        std::str::from_utf8(written.as_slice()),
+        Ok(text),
+        "{workers}: {script}"
+    );
+}
+
+/// The same on 1, 2, 3 and 16 workers.
+pub fn plays<R: Threads + Wait + Abort + Sync>(rt: &R, alloc: Global, script: &str, text: &str) {
+    for workers in [1, 2, 3, 16] {
+        plays_on(rt, alloc, workers, script, text);
+    }
+}
