@@ -9,7 +9,7 @@ $(error Call make in the folder of this Makefile: make -C '$(patsubst %/,%,$(dir
 endif
 
 .DEFAULT_GOAL := help
-.PHONY: help run try prove test examples limits compare steps mistakes break must-spend wrong-bodies layout bench gate clean
+.PHONY: help run try prove test examples limits compare refused-growths steps mistakes break must-spend wrong-bodies layout bench gate clean
 .NOTPARALLEL:
 
 help:
@@ -21,6 +21,7 @@ help:
 	@echo 'make examples     plays every example on the built program'
 	@echo 'make limits       plays scripts at the limits of the language and the table, and measures the memory that they take'
 	@echo 'make compare      plays random scripts and the largest submissions on the built program and on a second, unproved one'
+	@echo 'make refused-growths    plays scripts with each growth of the memory refused in its turn'
 	@echo 'make steps        takes the steps of the table without a lock in every order, for small programs'
 	@echo 'make mistakes     makes the mistakes that a user may make, and wants each answered'
 	@echo 'make break        makes the wrong change of README.md, and wants its line'
@@ -56,6 +57,10 @@ limits:
 compare:
 	@scripts/build-program
 	@scripts/compare bin/fixfiles
+
+refused-growths:
+	@scripts/build-program
+	@scripts/check-refused-growths bin/fixfiles
 
 steps:
 	@scripts/check-steps
