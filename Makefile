@@ -9,7 +9,7 @@ $(error Call make in the folder of this Makefile: make -C '$(patsubst %/,%,$(dir
 endif
 
 .DEFAULT_GOAL := help
-.PHONY: help run try prove test examples limits compare refused-growths steps mistakes break must-spend wrong-bodies layout bench gate clean
+.PHONY: help run try prove test examples limits compare mistakes break must-spend wrong-bodies layout bench gate clean
 .NOTPARALLEL:
 
 help:
@@ -57,6 +57,8 @@ limits:
 compare:
 	@scripts/build-program
 	@scripts/compare bin/fixfiles
+
+.PHONY: refused-growths steps
 
 refused-growths:
 	@scripts/build-program
