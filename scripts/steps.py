@@ -73,6 +73,8 @@ class Table:
         self.draws, self.drawn = passes, (*range(passes), None)
         self.calls, self.chain, self.given = (family.calls,) * passes, tuple(range(passes)), (0,) * passes
         self.told, self.work, self.next, self.rounds = (False,) * passes, ((),) * passes, ((),) * passes, (0,) * passes
+        # the kinds of events that this table or a copy has told
+        self.events = set()
 
     def copy(self):
         other = object.__new__(type(self))
@@ -141,6 +143,7 @@ class Table:
 
     def tell(self, who, event, *words):
         """Adds an event to the history."""
+        self.events.add(event)
         self.history = self.history.copy()
         getattr(self.history, event)(who, *words)
 
