@@ -66,6 +66,23 @@ def state_of(player):
     return tuple(player.slots), player.range, player.submissions, player.registrations
 
 
+def reached(first, moves):
+    """Each player with its place that moves lead to from the first one, once. What a move leads to comes before the next
+    move is tried."""
+    seen, stack = set(), [iter([first])]
+    while stack:
+        found = next(stack[-1], None)
+        if found is None:
+            stack.pop()
+            continue
+        player, at = found
+        key = state_of(player), at
+        if key not in seen:
+            seen.add(key)
+            yield found
+            stack.append(moves(player, at))
+
+
 class Search:
     """A search for the orders in which a model writes the lines of a text."""
 
@@ -89,22 +106,11 @@ class Search:
 
     def ends(self, player, chains):
         """Every player that is left when the chains have made their steps."""
-        seen, goal = set(), tuple(map(len, chains))
-        stack = [iter([(player, (0,) * len(chains))])]
-        while stack:
-            found = next(stack[-1], None)
-            if found is None:
-                stack.pop()
-                continue
-            after, at = found
-            if (state_of(after), at) in seen:
-                continue
-            seen.add((state_of(after), at))
+        goal = tuple(map(len, chains))
+        for after, at in reached((player, (0,) * len(chains)), lambda player, at: self.moves(player, chains, at)):
             self.spend()
             if at == goal:
                 yield after
-            else:
-                stack.append(self.moves(after, chains, at))
 
     def after_submission(self, player, requests, begin):
         end = begin + len(requests)
@@ -129,19 +135,14 @@ class Search:
             yield before, begin + len(lines)
 
     def ending(self, player, commands):
-        seen, stack = set(), [iter([(player, 0)])]
-        while stack:
-            found = next(stack[-1], None)
-            if found is None:
-                stack.pop()
-                continue
-            after, at = found
-            if (len(stack), at, state_of(after)) in seen:
-                continue
-            seen.add((len(stack), at, state_of(after)))
-            if len(stack) <= len(commands):
-                stack.append(self.after(after, commands[len(stack) - 1], at))
-            elif after.end() == self.lines[at:]:
+        def moves(player, at):
+            nth, begin = at
+            if nth < len(commands):
+                for after, line in self.after(player, commands[nth], begin):
+                    yield after, (nth + 1, line)
+
+        for after, (nth, line) in reached((player, (0, 0)), moves):
+            if nth == len(commands) and after.end() == self.lines[line:]:
                 return after
         return None
 

@@ -1,0 +1,125 @@
+"""The scripts of scripts/check-refused-growths, and what may come out where one growth of the program is refused.
+
+Of each script this may: its text, where the program did without; its text with one answer -12, as scripts/model.py writes
+it; or status 5 and the whole texts of its first commands. The scripts are such that the order of chains changes no text."""
+import re
+
+from limits import CHAINS, ENTRIES, MEMBERS, full_catalogue, linked, lines
+from model import Player, Script
+
+ENOMEM = 12
+NO_MEMORY = "fixfiles: out of memory\n"
+COMMANDS = ("sparse", "register", "unregister", "regupdate")
+
+
+def full_chains():
+    """1,023 chains of 16 members on 256 slots whose files have the same bytes. The first 256 chains each replace the file of
+    their own slot on the way; an open that finds no file ends each chain."""
+    slots = range(0, 256, ENTRIES)
+    script = ["file a.txt 68656c6c6f", "sparse 256", *(f"update {it} {','.join(['0'] * ENTRIES)}" for it in slots), "submit"]
+    for nth in range(CHAINS):
+        slot = nth % 256
+        middle = f"update {slot} 0" if nth < 256 else f"update {slot} -2"
+        reads = [f"read {slot} {it % 5} {1 - it % 2}" for it in range(MEMBERS - 2)]
+        script += linked(*reads[:7], middle, *reads[7:], f"open nothing at {slot}")
+    return lines(*script, "submit")
+
+
+def updates():
+    """16 chains of 16 updates of 16 entries, each chain on slots of its own: it installs four times, and empties between."""
+    install, empty, keep = (",".join([it] * ENTRIES) for it in ("0", "-1", "-2"))
+    script = ["file a.txt 68656c6c6f", "sparse 256"]
+    for slot in range(0, 256, ENTRIES):
+        members = [install, keep, empty, keep] * 3 + [install, keep, keep, keep]
+        script += linked(*(f"update {slot} {it}" for it in members))
+    return lines(*script, "submit")
+
+
+def registrations():
+    """Each call between submissions, and a request among them."""
+    script = ["file a.txt 68656c6c6f", "file b.txt -", "register 0,-1,1", "range 1 2", "open a.txt any", "submit"]
+    script += ["regupdate 0 1,-2,0", "unregister", "sparse 2", "regupdate 1 0", "read 1 0 4", "submit"]
+    return lines(*script, "unregister", "register 1,1")
+
+
+def scripts(open_read_close, has_lists):
+    """Each script by its name. A program from before lists were registered hasn't all of them."""
+    yield "open_read_close", open_read_close
+    if has_lists:
+        yield "registrations", registrations()
+    yield "full_catalogue", full_catalogue()[0]
+    yield "full_chains", full_chains()
+    yield "updates", updates()
+
+
+class Refusing(Player):
+    """The model, where one answer is -12: that of a command, by its place in the script, or that of a read, by its own."""
+
+    def __init__(self, files, refused=None):
+        super().__init__(files)
+        self.refused, self.nth, self.is_met = refused, 0, False
+
+    def would_answer(self, *command):
+        """The first word of what a command answers where there is memory."""
+        return self.copy().command_as_model(*command)[0].split(" ")[1]
+
+    def command_as_model(self, command, *words):
+        return super().command(command, *words)
+
+    def command(self, command, *words):
+        self.nth += 1
+        if self.nth - 1 == self.refused and command in COMMANDS and not self.would_answer(command, *words).startswith("-"):
+            self.is_met = True
+            return [f"{command} -{ENOMEM}"]
+        return super().command(command, *words)
+
+    def refusal_of_submission(self, requests):
+        """None: these submissions are accepted, and looking again takes its time."""
+        return None
+
+    def perform(self, place, request):
+        if place == self.refused and request[0] == "read" and request[1] < len(self.slots) and request[3] > 0:
+            self.is_met = True
+            return -ENOMEM, b""
+        return super().perform(place, request)
+
+
+class Outcomes:
+    """What may come out of a script."""
+
+    def __init__(self, script):
+        self.script = Script(script.encode())
+        player = Player(self.script.files)
+        parts = [player.command(*it) for it in self.script.commands] + [player.end()]
+        self.texts = ["".join(f"{line}\n" for line in part) for part in parts]
+        self.text = "".join(self.texts)
+
+    def kind(self, status, text, message):
+        """The name of an outcome, or None where it may not be."""
+        if (status, message) == (5, NO_MEMORY):
+            return self.beginning(text)
+        if (status, message) != (0, ""):
+            return None
+        return "the whole text" if text == self.text else self.answer(text)
+
+    def beginning(self, text):
+        """Status 5: the text of no command, of the first ones, or of all."""
+        written = ""
+        for part in self.texts:
+            if written == text:
+                break
+            written += part
+        if written != text:
+            return None
+        return "status 5 with " + ("no text" if not text else "all of it" if text == self.text else "a part of it")
+
+    def answer(self, text):
+        """Status 0: a text with one -12 is the model's with that answer."""
+        for line in re.findall(rf"^.* -{ENOMEM}$", text, re.MULTILINE)[:1]:
+            word = line.split(" ")[0]
+            places = [tuple(map(int, word.split(".")))] if "." in word else range(len(self.script.commands))
+            for place in places:
+                player = Refusing(self.script.files, place)
+                if player.play(self.script.commands) == text and player.is_met:
+                    return "a read answers -12" if "." in word else f"{word} answers -12"
+        return None
