@@ -9,10 +9,13 @@ use std::alloc::{AllocError, Global};
 use std::convert::AsStr;
 use std::env;
 use std::io::ErrorKind;
+use std::str::FromStr;
 
 const ABOUT: &str =
     "Plays a script on the fixed file table of io_uring: reads it from standard input, \
                      and prints what it answers";
+
+const TABLES: &[&str] = &["words", "baton"];
 
 const SCRIPTS: &str = "\
 A script has a command on each line. `file` lines name files and their bytes; `sparse` and `register`
@@ -25,6 +28,40 @@ make a table; `open`, `read`, `close` and `update` are requests, which the next 
     read 0 0 5 link
     close 0
     submit";
+
+/// Which table the workers share.
+#[derive(Clone, Copy, Debug, PartialEq, Eq)]
+pub enum Table {
+    /// The one without a lock, of packed words.
+    Words,
+    /// The one behind one word.
+    Baton,
+}
+
+/// There is no table of this name.
+#[derive(Clone, Copy, Debug, PartialEq, Eq)]
+pub struct NoTable;
+
+impl FromStr for Table {
+    type Err = NoTable;
+
+    fn from_str(name: &str) -> Result<Table, NoTable> {
+        match name {
+            "words" => Ok(Table::Words),
+            "baton" => Ok(Table::Baton),
+            _ => Err(NoTable),
+        }
+    }
+}
+
+/// How a script is played.
+#[derive(Clone, Copy, Debug, PartialEq, Eq)]
+pub struct Settings {
+    /// How many workers play a submission, 1 to 16.
+    pub workers: u32,
+    /// Which table they share.
+    pub table: Table,
+}
 
 // The words of the command line, the program's name first.
 fn words(rt: &HostRuntime) -> Result<Vec<String>, Ending> {
@@ -44,10 +81,17 @@ fn command<'a>(alloc: Global) -> Result<Command<'a>, AllocError> {
         .value_parser(value_parser!(u32).range(1..=16))
         .default_value("1")
         .help("How many threads play a submission, 1 to 16");
+    let table = Arg::new(alloc, "table")
+        .long("table")
+        .value_name("NAME")
+        .value_parser(TABLES)
+        .default_value("words")
+        .help("Which table they share: without a lock, or behind one word");
     Command::new(alloc, "fixfiles")
         .about(ABOUT)
         .after_help(SCRIPTS)
-        .arg(workers)
+        .arg(workers)?
+        .arg(table)
 }
 
 // The number of workers, which has a default and was seen to be in its range.
@@ -60,24 +104,27 @@ fn workers_of(matches: &ArgMatches<'_>) -> u32
     }
 }
 
-/// How many workers the words of a command line ask for.
+/// How the words of a command line ask for a script to be played.
 ///
 /// # Errors
 /// Clap's, where help is asked for or the words ask for something else, and want of memory.
-pub fn workers_in<S: AsStr>(alloc: Global, words: &[S]) -> Result<u32, Error>
-    ensures { IfOk result (λ workers. (1 ≤ workers) × (workers ≤ MAX_PASSES)) }
+pub fn settings_in<S: AsStr>(alloc: Global, words: &[S]) -> Result<Settings, Error>
+    ensures { IfOk result (λ asked. (1 ≤ asked.workers) × (asked.workers ≤ MAX_PASSES)) }
 {
     let matches = command(alloc)?.try_get_matches_from(words)?;
-    Ok(workers_of(&matches))
+    Ok(Settings {
+        workers: workers_of(&matches),
+        table: matches.get_one("table").unwrap_or(Table::Words),
+    })
 }
 
-/// How many workers the arguments of the program ask for.
+/// How the arguments of the program ask for a script to be played.
 ///
 /// # Errors
 /// Why no script is played, help included.
-pub fn workers(rt: &HostRuntime) -> Result<u32, Ending>
-    ensures { IfOk result (λ workers. (1 ≤ workers) × (workers ≤ MAX_PASSES)) }
+pub fn asked_settings(rt: &HostRuntime) -> Result<Settings, Ending>
+    ensures { IfOk result (λ asked. (1 ≤ asked.workers) × (asked.workers ≤ MAX_PASSES)) }
 {
     let words = words(rt)?;
-    Ok(workers_in(rt.alloc(), words.as_slice())?)
+    Ok(settings_in(rt.alloc(), words.as_slice())?)
 }

@@ -4,10 +4,11 @@
 mod arguments;
 mod ending;
 
-use arguments::workers;
+use arguments::{Settings, Table, asked_settings};
 use ending::Ending;
 use fx_baton::BatonTable;
 use fx_chain::OpenGate;
+use fx_counted::CountedTable;
 use fx_script::run;
 use std::io;
 use std::process::ExitCode;
@@ -20,20 +21,16 @@ fn ended(rt: &HostRuntime, ending: Ending) -> ExitCode {
 }
 
 fn main(rt: HostRuntime) -> ExitCode {
-    let alloc = rt.alloc();
-    let workers = match workers(&rt) {
-        Ok(workers) => workers,
+    let Settings { workers, table } = match asked_settings(&rt) {
+        Ok(settings) => settings,
         Err(ending) => return ended(&rt, ending),
     };
-    let (mut input, mut output) = (rt.reader(), io::writer(&rt));
-    let played = run::<BatonTable, _, _, _, _>(
-        &rt,
-        alloc,
-        workers,
-        &OpenGate,
-        &mut input,
-        &mut output,
-    );
+    let (alloc, gate) = (rt.alloc(), &OpenGate);
+    let (input, output) = (&mut rt.reader(), &mut io::writer(&rt));
+    let played = match table {
+        Table::Words => run::<CountedTable, _, _, _, _>(&rt, alloc, workers, gate, input, output),
+        Table::Baton => run::<BatonTable, _, _, _, _>(&rt, alloc, workers, gate, input, output),
+    };
     match played {
         Ok(()) => ExitCode::SUCCESS,
         Err(fault) => ended(&rt, Ending::Run(fault)),

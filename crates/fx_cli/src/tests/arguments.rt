@@ -1,5 +1,5 @@
 // What the words of a command line ask for.
-use crate::arguments::workers_in;
+use crate::arguments::{Table, settings_in};
 use crate::ending::Ending;
 use clap::error::ErrorKind;
 use fx_script::{PlayFault, ScriptFault};
@@ -8,10 +8,34 @@ use std::test::Fail;
 #[test]
 fn numbers_of_workers(rt: HostRuntime) -> Result<(), Fail> {
     let alloc = rt.alloc();
-    assert_eq!(rt; workers_in(alloc, &["fixfiles"])?, 1);
-    assert_eq!(rt; workers_in(alloc, &["fixfiles", "--workers", "1"])?, 1);
-    assert_eq!(rt; workers_in(alloc, &["fixfiles", "--workers", "16"])?, 16);
-    assert_eq!(rt; workers_in(alloc, &["fixfiles", "--workers=3"])?, 3);
+    assert_eq!(rt; settings_in(alloc, &["fixfiles"])?.workers, 1);
+    assert_eq!(rt;
+        settings_in(alloc, &["fixfiles", "--workers", "1"])?.workers,
+        1
+    );
+    assert_eq!(rt;
+        settings_in(alloc, &["fixfiles", "--workers", "16"])?.workers,
+        16
+    );
+    assert_eq!(rt;
+        settings_in(alloc, &["fixfiles", "--workers=3"])?.workers,
+        3
+    );
+    Ok(())
+}
+
+#[test]
+fn names_of_tables(rt: HostRuntime) -> Result<(), Fail> {
+    let alloc = rt.alloc();
+    assert_eq!(rt; settings_in(alloc, &["fixfiles"])?.table, Table::Words);
+    assert_eq!(rt;
+        settings_in(alloc, &["fixfiles", "--table", "words"])?.table,
+        Table::Words
+    );
+    assert_eq!(rt;
+        settings_in(alloc, &["fixfiles", "--table=baton"])?.table,
+        Table::Baton
+    );
     Ok(())
 }
 
@@ -23,14 +47,14 @@ fn words_that_ask_for_something_else(rt: HostRuntime) {
         ("--workers=-1", ErrorKind::ValueValidation),
         ("--workers=x", ErrorKind::ValueValidation),
         ("--workers", ErrorKind::InvalidValue),
-        ("--table", ErrorKind::UnknownArgument),
-        ("--table=baton", ErrorKind::UnknownArgument),
+        ("--table", ErrorKind::InvalidValue),
+        ("--table=plain", ErrorKind::InvalidValue),
         ("script", ErrorKind::UnknownArgument),
         ("--help", ErrorKind::DisplayHelp),
         ("-h", ErrorKind::DisplayHelp),
     ];
     for (word, kind) in words {
-        match workers_in(rt.alloc(), &["fixfiles", word]) {
+        match settings_in(rt.alloc(), &["fixfiles", word]) {
             Ok(_) => panic!(rt; "{word} is taken"),
             Err(error) => {
                 assert_eq!(rt; error.kind(), kind, "{word}");
