@@ -177,7 +177,8 @@ module _ (k : Start) (s : Shared) (r : Agrees k s) (all_idle : (i : ℕ) (u : Vi
   nothing : (n : ℕ) → AtItsSlot n None
   nothing n file e = absurd (cc e)
 
-  home_by : (n : ℕ) (ph : Phase) → Node n ph → OwnerAgrees s.views n ph → (x : Option Closed) × (get_elem? s.homes (place_of k n) ≡ some (some x)) × AtItsSlot n x
+  home_by : (n : ℕ) (ph : Phase) → Node n ph → OwnerAgrees s.views n ph
+      → (x : Option Closed) × (get_elem? s.homes (place_of k n) ≡ some (some x)) × AtItsSlot n x
   home_by n unborn a o = (None, a.1, nothing n)
   home_by n (spare p) a o = (None, a.1, nothing n)
   home_by n (placed i) a o = let bad = nobody i (Placing n) o in absurd (cc bad)
@@ -265,7 +266,8 @@ module _ (k : Start) (s : Shared) (r : Agrees k s) (seat : ℕ) (v : View) (at :
       let f = drawn c in
       omega arith
 
-  module _ (left : Contents) (files : HasSameFiles (state_after_all k r.history) (state_of left)) (at_rest : IsSettled (state_of left)) (some_passes : 0 < k.passes) where
+  module _ (left : Contents) (files : HasSameFiles (state_after_all k r.history) (state_of left)) (at_rest : IsSettled (state_of left))
+      (some_passes : 0 < k.passes) where
     all_drawn : ((w : PassView) → Contains (map showing v.logs) w → w.no_chains_left ≡ true) → (c : ℕ) → 0 < c → c ≤ k.chains
         → (w : PassView) × Contains (map showing v.logs) w × Contains w.drawn c
     all_drawn each c low high =

@@ -1,5 +1,5 @@
 -- Some steps in a row, and the pass behind them.
-use Rattle.std.proofs.Common.{◌≡◌, ℕ, ◌+◌, ◌≤◌, List, [], ◌∷◌, inl, sym, refl, ap, ◌∙◌, subst, arith}
+use Rattle.std.proofs.Common.{◌≡◌, ℕ, ◌+◌, List, [], ◌∷◌, inl, sym, refl, ap, ◌∙◌, subst, arith}
 use Rattle.std.specs.Prelude.{Some}
 use Rattle.atomic_table.specs.Seated.{TableId}
 use Rattle.fx_plain.specs.History.{◌▷◌, ◌▷▷◌}
@@ -9,7 +9,7 @@ use Rattle.fx_table.specs.Calls.{Use, no_use, both_uses, Adds}
 use Rattle.fx_table.specs.Pass.{IsFront}
 use Rattle.fx_table.specs.declared.values.Doing.TheVariants.{Idle as NowIdle, Holding as NowHolding, Retiring as NowRetiring}
 use Rattle.fx_plain.specs.declared.event.File.{File}
-use Rattle.fx_table.proofs.Calls.{adds_nothing, adds_then}
+use Rattle.fx_table.proofs.Calls.{adds_then}
 use Rattle.fx_counted.specs.Changing.{IsAtWork}
 use Rattle.fx_counted.specs.Goes.{Goes}
 use Rattle.fx_counted.specs.Moves.{HasPlace}
@@ -36,20 +36,6 @@ goes_one m m' xs a w c s = record {
   steps = let e = s.steps in omega arith;
 }
 
--- a pass that makes no step
-pub goes_none : (k : Start) (m : Sat) (x : Log) → HasPass k m x → IsFront (opening_of k) (pass_of m.0) → IsInside k m.0.work
-    → Goes m [] no_use m.0.work m.0.change 0 m
-goes_none k m x its front inside = record {
-  one = (x, its.1);
-  adds = subst (λ (z : Start). Adds (opening_of z) (pass_of m.0) [] (doing_in m.0.work) no_use (pass_of m.0)) (sym its.0)
-      (adds_nothing (opening_of k) (pass_of m.0) front);
-  work = refl;
-  inside = subst (λ (z : Start). IsInside z m.0.work) (sym its.0) inside;
-  change = refl;
-  start = refl;
-  steps = omega arith;
-}
-
 pub goes_then : (m m' m'' : Sat) (xs ys : List Action) (a b : Use) (w w' : Work) (c c' : Change) (n n' : ℕ) → Goes m xs a w c n m'
     → Goes m' ys b w' c' n' m'' → Goes m (xs ▷▷ ys) (both_uses a b) w' c' (n + n') m''
 goes_then m m' m'' xs ys a b w w' c c' n n' g h = record {
@@ -61,19 +47,6 @@ goes_then m m' m'' xs ys a b w w' c c' n n' g h = record {
   change = h.change;
   start = h.start ∙ g.start;
   steps = let p = g.steps in let q = h.steps in omega arith;
-}
-
--- the same pass and more steps allowed
-pub goes_at_most : (m m' : Sat) (xs : List Action) (a : Use) (w : Work) (c : Change) (n most : ℕ) → n ≤ most → Goes m xs a w c n m'
-    → Goes m xs a w c most m'
-goes_at_most m m' xs a w c n most few g = record {
-  one = g.one;
-  adds = g.adds;
-  work = g.work;
-  inside = g.inside;
-  change = g.change;
-  start = g.start;
-  steps = let p = g.steps in omega arith;
 }
 
 -- what the steps of a pass add to what callers see
@@ -166,10 +139,6 @@ retiring_work (Emptying n) f t r e = absurd r
 -- the pass of a seat
 pub its_pass : (id : TableId) (k : Start) (p : CountedPass) (fits : IsPassOf id k p) → HasPass k p.seat.me fits.log
 its_pass id k p fits = (fits.seated.start, fits.seated.one)
-
-pub goes_nowhere : (id : TableId) (k : Start) (p : CountedPass) (fits : IsPassOf id k p) → Goes p.seat.me [] no_use p.seat.me.0.work Outside 0 p.seat.me
-goes_nowhere id k p fits = subst (λ (c : Change). Goes p.seat.me [] no_use p.seat.me.0.work c 0 p.seat.me) fits.seated.change
-    (goes_none k p.seat.me fits.log (its_pass id k p fits) fits.seated.front fits.seated.inside)
 
 -- the pass has the place of a file that is closed
 pub out_place : (k : Start) (m m' : Sat) (xs : List Action) (f : File) (x : Log) → HasPass k m x → m.1 ≡ [] → TakesOut m xs f m'

@@ -1,5 +1,5 @@
 -- A pass that looks for a free slot: what its steps leave, one after another.
-use Rattle.std.proofs.Common.{◌≡◌, ℕ, ◌+◌, Bool, [], ◌∷◌, nat_eq, sym, refl, ap, ◌∙◌, subst, ◌≢◌, ne_eqb, eq-eqb}
+use Rattle.std.proofs.Common.{◌≡◌, ℕ, ◌+◌, Bool, [], ◌∷◌, nat_eq, sym, ap, ◌∙◌, subst, ◌≢◌, ne_eqb, eq-eqb}
 use Rattle.std.specs.Prelude.{Some}
 use mathlib.Core.Logic.{dite}
 use mathlib.Core.Option.{none}
@@ -21,7 +21,7 @@ use Rattle.fx_counted.specs.declared.view.Change.TheVariants.{Outside, Same, Mor
 use Rattle.fx_counted.specs.declared.view.Start.{Start}
 use Rattle.fx_counted.specs.declared.view.Work.{Work}
 use Rattle.fx_counted.specs.declared.view.Work.TheVariants.{Idle, Placing}
-use Rattle.fx_counted.proofs.Going.{goes_one, goes_none, goes_then, still_at_work}
+use Rattle.fx_counted.proofs.Going.{goes_one, goes_then, still_at_work}
 
 -- a step that leaves the pass at its work
 pub one_still : (m m' : Sat) (n : ℕ) (c : Change) → m.0.work ≡ Placing n → Stepped m [] no_use m.0.work c m' → m'.1 ≡ m.1
@@ -33,17 +33,6 @@ one_still m m' n c work s same = (
         (subst (λ (w : Work). Stepped m [] no_use w c m') work s),
   ),
   same,
-)
-
--- no step at all
-pub none_still : (k : Start) (m : Sat) (n : ℕ) (file : Closed) (c : Change) → IsPlacing k n file m → m.0.change ≡ c → StillPlaces n c m m
-none_still k m n file c p is = (
-  (
-    0,
-    subst (λ (z : Work × Change). Goes m [] no_use z.0 z.1 0 m) (λ i. (p.work i, is i))
-        (goes_none k m p.at.log p.at.pass p.at.front p.at.inside),
-  ),
-  refl,
 )
 
 pub still_then : (m m' m'' : Sat) (n : ℕ) (c c' : Change) → StillPlaces n c m m' → StillPlaces n c' m' m'' → StillPlaces n c' m m''

@@ -55,7 +55,8 @@ impl CountedTable {
         requires idle { IsIdle (view_of pass.old) }
         requires slot { slot < size_of (opening_of_table self.now) }
         ensures fits { IsPassOfTable self.now pass.new }
-        ensures looked { Looked (opening_of_table self.now) (view_of pass.old) slot result (view_of pass.new) }
+        ensures looked { Looked (opening_of_table self.now) (view_of pass.old) slot result
+            (view_of pass.new) }
         ensures steps { steps_taken pass.new ≤ steps_taken pass.old + 1 }
     {
         if pass.looks_left == 0 {
@@ -84,7 +85,8 @@ impl CountedTable {
         requires fits { IsPassOfTable self.now pass.old }
         requires held { IsHoldOf (view_of pass.old) hold }
         ensures fits { IsPassOfTable self.now pass.new }
-        ensures released { Released (opening_of_table self.now) (view_of pass.old) hold result (view_of pass.new) }
+        ensures released { Released (opening_of_table self.now) (view_of pass.old) hold result
+            (view_of pass.new) }
         ensures steps { steps_taken pass.new ≤ steps_taken pass.old + 2 }
     {
         let Hold { node, entry: _ } = hold;
@@ -106,7 +108,8 @@ impl CountedTable {
         requires fits { IsPassOfTable self.now pass.old }
         requires removed { IsRetiredOf (view_of pass.old) retired }
         ensures fits { IsPassOfTable self.now pass.new }
-        ensures retired { HasRetired (opening_of_table self.now) (view_of pass.old) retired result (view_of pass.new) }
+        ensures retired { HasRetired (opening_of_table self.now) (view_of pass.old) retired result
+            (view_of pass.new) }
         ensures steps { steps_taken pass.new ≤ steps_taken pass.old + 2 }
     {
         let Retired {
@@ -136,7 +139,8 @@ impl CountedTable {
         requires slot { slot < size_of (opening_of_table self.now) }
         requires numbers { 0 < (view_of pass.old).numbers_left }
         ensures fits { IsPassOfTable self.now pass.new }
-        ensures placed { Placed (opening_of_table self.now) (view_of pass.old) slot file result (view_of pass.new) }
+        ensures placed { Placed (opening_of_table self.now) (view_of pass.old) slot file result
+            (view_of pass.new) }
         ensures steps { steps_taken pass.new ≤ steps_taken pass.old + 4 }
     {
         let number = self.next_number(pass);
@@ -165,7 +169,8 @@ impl CountedTable {
         requires idle { IsIdle (view_of pass.old) }
         requires slot { slot < size_of (opening_of_table self.now) }
         ensures fits { IsPassOfTable self.now pass.new }
-        ensures cleared { Cleared (opening_of_table self.now) (view_of pass.old) slot result (view_of pass.new) }
+        ensures cleared { Cleared (opening_of_table self.now) (view_of pass.old) slot result
+            (view_of pass.new) }
         ensures steps { steps_taken pass.new ≤ steps_taken pass.old + 3 }
     {
         let began = self.begin(&mut pass.seat, slot);
@@ -193,7 +198,8 @@ impl CountedTable {
         requires idle { IsIdle (view_of pass.old) }
         requires slot { slot < size_of (opening_of_table self.now) }
         ensures fits { IsPassOfTable self.now pass.new }
-        ensures taken { Taken (opening_of_table self.now) (view_of pass.old) slot result (view_of pass.new) }
+        ensures taken { Taken (opening_of_table self.now) (view_of pass.old) slot result
+            (view_of pass.new) }
         ensures steps { steps_taken pass.new ≤ steps_taken pass.old + 3 }
     {
         let began = self.begin(&mut pass.seat, slot);

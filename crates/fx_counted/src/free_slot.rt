@@ -57,7 +57,8 @@ impl CountedTable {
         requires change { seat.old.me.0.change ≡ Same }
         ensures table { seat.new.table_id ≡ seat.old.table_id }
         ensures slot { IfSome result (λ slot. slot < self.now.size) }
-        ensures found { IfSome result (λ slot. HasAllocated number file slot More seat.old.me seat.new.me) }
+        ensures found { IfSome result
+            (λ slot. HasAllocated number file slot More seat.old.me seat.new.me) }
         ensures none { result ≡ None → StillPlaces number Same seat.old.me seat.new.me }
     {
         for slot in self.range_start..self.range_start + self.range_len {
@@ -74,7 +75,8 @@ impl CountedTable {
         requires placing { IsPlacing self.now.table.shared.key number file seat.old.me }
         requires change { seat.old.me.0.change ≡ Outside }
         ensures table { seat.new.table_id ≡ seat.old.table_id }
-        ensures ends { RoundEnds self.now.table.shared.key number file seat.old.me result seat.new.me }
+        ensures ends { RoundEnds self.now.table.shared.key number file seat.old.me result
+            seat.new.me }
     {
         let control = &self.table.shared;
         control.fetch_add::<Begin>(seat, CONTROL, begin_amount());
@@ -112,7 +114,8 @@ impl CountedTable {
         requires idle { IsIdle (view_of pass.old) }
         requires numbers { 0 < (view_of pass.old).numbers_left }
         ensures fits { IsPassOfTable self.now pass.new }
-        ensures allocated { Allocated (opening_of_table self.now) (view_of pass.old) file result (view_of pass.new) }
+        ensures allocated { Allocated (opening_of_table self.now) (view_of pass.old) file result
+            (view_of pass.new) }
     {
         let number = self.next_number(pass);
         let identity = file.identity();
@@ -139,7 +142,8 @@ impl CountedTable {
         requires change { seat.old.me.0.change ≡ Outside }
         ensures table { seat.new.table_id ≡ seat.old.table_id }
         ensures slot { IfSome result (λ slot. slot < self.now.size) }
-        ensures found { IfSome result (λ slot. HasAllocated number file slot Outside seat.old.me seat.new.me) }
+        ensures found { IfSome result
+            (λ slot. HasAllocated number file slot Outside seat.old.me seat.new.me) }
         ensures full { result ≡ None → HasFoundAllFull number seat.old.me seat.new.me }
     {
         for _ in rt.forever() {

@@ -27,7 +27,8 @@ impl CountedTable {
         requires table { seat.old.table_id ≡ self.now.table.shared.table_id }
         requires next { MayPlace self.now.table.shared.key number seat.old.me }
         ensures table { seat.new.table_id ≡ seat.old.table_id }
-        ensures born { Stepped seat.old.me [] no_use (Placing number) seat.old.me.0.change seat.new.me }
+        ensures born { Stepped seat.old.me [] no_use (Placing number) seat.old.me.0.change
+            seat.new.me }
         ensures place { HasPlace self.now.table.shared.key number (Some file) seat.new.me }
     {
         let shared = &self.table.shared;
