@@ -94,6 +94,8 @@ module _ (c : Contents) (nodes : List Node) (t : IsTable c) (settled : IsSettled
       few_nodes = let few = t.few_nodes in omega arith;
       same_numbers = t.same_numbers ∙ sym len;
       placed = λ slot number is. cc;
+      own = λ slot number is lt. cc;
+      used = λ n lt. absurd (omega arith);
       held = λ n is. t.held n (sym (same n).same_retired ∙ is);
     },
     record { full_slots = refl; all_holds = k.all_holds; small_holds = k.small_holds; all_removed = k.all_removed ∙ sym opened_same },

@@ -54,6 +54,8 @@ module _ (c : Contents) (slot n : ℕ) (file : Closed) (t : IsTable c) (inside :
     few_nodes = t.few_nodes;
     same_numbers = length-set c.holds n (slice_index c.holds n + 1) ∙ t.same_numbers;
     placed = t.placed;
+    own = t.own;
+    used = t.used;
     held = λ m is. by_equality m n (λ _. 0 < slice_index (slice_set c.holds n (slice_index c.holds n + 1)) m)
         (λ same. let now : slice_index (slice_set c.holds n (slice_index c.holds n + 1)) m ≡ slice_index c.holds n + 1 =
         ap (slice_index (slice_set c.holds n (slice_index c.holds n + 1))) same
@@ -97,8 +99,12 @@ closed_at c n = record c { nodes = slice_set c.nodes n Gone }
 
 -- what a write at a node keeps, where no slot names the node
 keeps_node : (c : Contents) (n : ℕ) (v : Node) → IsTable c → IsOff (node_at c.nodes n) → n < length c.nodes
-    → (is_retired v ≡ true → 0 < slice_index c.holds n) → IsTable (record c { nodes = slice_set c.nodes n v })
-keeps_node c n v t off inside still = record {
+    → (is_retired v ≡ true → 0 < slice_index c.holds n) → is_fresh v ≡ false → IsTable (record c { nodes = slice_set c.nodes n v })
+keeps_node c n v t off inside still unfresh = record {
+  own = t.own;
+  used = λ m lt. by_equality m n (λ _. is_fresh (node_at (slice_set c.nodes n v) m) ≡ false)
+      (λ same. ap is_fresh (ap (node_at (slice_set c.nodes n v)) same ∙ get_or-set_same c.nodes n v Gone inside) ∙ unfresh)
+      (λ other. ap is_fresh (get_or-set_other c.nodes n m v Gone other) ∙ t.used m lt);
   few_slots = t.few_slots;
   range_inside = t.range_inside;
   few_nodes = rw (length-set c.nodes n v) t.few_nodes;
@@ -186,7 +192,7 @@ module _ (c : Contents) (n : ℕ) (t : IsTable c) (going : leaving c n ≡ true)
       → (1 ≤ removed) × IsTable (closed_at c n) × IsCounted (closed_at c n) full held (removed - 1)
   retire_close_keeps full held removed k =
       let counted = closed_counted c n full held removed k node_inside (ap removed_count_of was_leaving.1) in
-      (counted.0, keeps_node c n Gone t off node_inside (λ (is : false ≡ true). cc), counted.1)
+      (counted.0, keeps_node c n Gone t off node_inside (λ (is : false ≡ true). cc) refl, counted.1)
 
   pub retire_wait_keeps : (full held removed : ℕ) → IsCounted c full held removed → slice_index c.holds n ≢ 0
       → IsTable (record c { nodes = slice_set c.nodes n (node_after_retirement (node_at c.nodes n)) })
@@ -197,7 +203,8 @@ module _ (c : Contents) (n : ℕ) (t : IsTable c) (going : leaving c n ≡ true)
       let now : removed_count_of (node_after_retirement (node_at c.nodes n)) ≡ 1 =
       ap (λ (x : Node). removed_count_of (node_after_retirement x)) was_leaving.1 in
       let r = k.all_removed in (
-        keeps_node c n (node_after_retirement (node_at c.nodes n)) t off node_inside (λ _. omega arith),
+        keeps_node c n (node_after_retirement (node_at c.nodes n)) t off node_inside (λ _. omega arith)
+            (ap (λ (x : Node). is_fresh (node_after_retirement x)) was_leaving.1),
         record { full_slots = k.full_slots; all_holds = k.all_holds; small_holds = k.small_holds; all_removed = omega arith },
       )
 
@@ -267,6 +274,8 @@ module _ (c : Contents) (n : ℕ) (t : IsTable c) (some_hold : 0 < slice_index c
     few_nodes = t.few_nodes;
     same_numbers = length-set c.holds n (slice_index c.holds n - 1) ∙ t.same_numbers;
     placed = t.placed;
+    own = t.own;
+    used = t.used;
     held = λ m is. by_equality m n (λ _. 0 < slice_index (slice_set c.holds n (slice_index c.holds n - 1)) m)
         (λ same. let now : slice_index (slice_set c.holds n (slice_index c.holds n - 1)) m ≡ slice_index c.holds n - 1 =
         ap (slice_index (slice_set c.holds n (slice_index c.holds n - 1))) same ∙ less_at in
@@ -346,6 +355,10 @@ module _ (c : Contents) (n : ℕ) (t : IsTable c) (some_hold : 0 < slice_index c
 
     pub let_go_keeps : IsTable let_go
     let_go_keeps = record {
+      own = t.own;
+      used = λ m lt. by_equality m n (λ _. is_fresh (node_at (slice_set c.nodes n Gone) m) ≡ false)
+          (λ same. ap is_fresh (ap (node_at (slice_set c.nodes n Gone)) same ∙ get_or-set_same c.nodes n Gone Gone retired_inside))
+          (λ other. ap is_fresh (get_or-set_other c.nodes n m Gone Gone other) ∙ t.used m lt);
       few_slots = t.few_slots;
       range_inside = t.range_inside;
       few_nodes = rw (length-set c.nodes n Gone) t.few_nodes;

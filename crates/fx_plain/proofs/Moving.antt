@@ -1,9 +1,11 @@
 -- Each file moves to the node of its slot's number, one slot after another.
 use Rattle.std.proofs.Common.{◌≡◌, ◌≢◌, ℕ, ◌+◌, ◌<◌, ◌≤◌, List, [], ◌∷◌, ◌++◌, length, refl, sym, ap, ◌∙◌, slice_set, Option, Some, None, IfSome}
 use Rattle.std.proofs.Common.{IsSome, arith}
-use Rattle.std.proofs.lemmas.List.{length-set, get_or-set_same, get_or-set_other, get_or_append_left}
+use Rattle.std.proofs.lemmas.List.{set-set, set-get_or, length-set, get_or-set_same, get_or-set_other, get_or_append_left}
 use Rattle.std.proofs.Math.Seq.{get_or-append_seam}
-use Rattle.fx_plain.specs.Contents.{AllPlaced, slot_at, node_at, file_named, file_in, opening_slot, nodes_without, file_count_of, Gone}
+use Rattle.fx_base.specs.declared.open_file.Closed.{Closed}
+use Rattle.fx_plain.specs.Contents.{AllPlaced, HaveOwnNumbers, IsRenumbered, slot_at, node_at, file_named, file_in, opening_slot, moved_node}
+use Rattle.fx_plain.specs.Contents.{nodes_without, file_count_of, At, Gone}
 use Rattle.fx_plain.specs.Totals.{total}
 use Rattle.fx_plain.specs.declared.node.Node.{Node}
 use Rattle.fx_plain.proofs.Cells.{by_equality}
@@ -73,3 +75,62 @@ pub moved_next : (moved : List Node) (s : ℕ) (node : Node) (expected : ℕ →
 moved_next moved s node expected len is before u lt = by_equality u s (λ _. node_at (moved ++ node ∷ []) u ≡ expected u)
     (λ same. ap (node_at (moved ++ node ∷ [])) (same ∙ sym len) ∙ get_or-append_seam moved node [] Gone ∙ is ∙ ap expected (sym same))
     (λ other. let below : u < length moved = omega arith in get_or_append_left moved (node ∷ []) Gone u below ∙ before u (omega arith))
+
+-- one slot more was worked off in the list of nodes that is there
+module _ (slots : List (Option ℕ)) (first nodes : List Node) (s : ℕ) (placed : AllPlaced slots first) (left : IsLeft slots first nodes s)
+    (own : HaveOwnNumbers slots) (inside : s < length slots) where
+  pub placed_here : (number : ℕ) → slot_at slots s ≡ Some number → (file : Closed) × (node_at nodes number ≡ At s file)
+  placed_here number at = let there = placed s number at in (there.0, left s number (omega arith) at ∙ there.1)
+
+  pub left_settled : (v : Node) → IsLeft slots first (slice_set (nodes_without nodes (slot_at slots s)) s v) (s + 1)
+  left_settled v = λ u m le at.
+      let apart : m ≢ s = λ (same : m ≡ s). let e : m ≡ u = own u m at (omega arith) in absurd (omega arith) in
+      get_or-set_other (nodes_without nodes (slot_at slots s)) s m v Gone apart ∙ left_next slots first nodes s placed left u m le at
+
+  earlier_stays : (x : Option ℕ) → slot_at slots s ≡ x → (u : ℕ) → u < s → node_at (nodes_without nodes x) u ≡ node_at nodes u
+  earlier_stays None is u lt = refl
+  earlier_stays (Some n) is u lt = get_or-set_other nodes n u Gone Gone
+      (λ (same : u ≡ n). let e : n ≡ s = own s n is (omega arith) in absurd (omega arith))
+
+  pub moved_settled : (expected : ℕ → Node) (v : Node) → s < length nodes → v ≡ expected s → ((u : ℕ) → u < s → node_at nodes u ≡ expected u)
+      → (u : ℕ) → u < s + 1 → node_at (slice_set (nodes_without nodes (slot_at slots s)) s v) u ≡ expected u
+  moved_settled expected v room is before u lt =
+      by_equality u s (λ _. node_at (slice_set (nodes_without nodes (slot_at slots s)) s v) u ≡ expected u)
+      (λ same. ap (node_at (slice_set (nodes_without nodes (slot_at slots s)) s v)) same
+      ∙ get_or-set_same (nodes_without nodes (slot_at slots s)) s v Gone (let len = length-without nodes (slot_at slots s) in omega arith)
+      ∙ is ∙ ap expected (sym same))
+      (λ other. get_or-set_other (nodes_without nodes (slot_at slots s)) s u v Gone other
+      ∙ earlier_stays (slot_at slots s) refl u (omega arith) ∙ before u (omega arith))
+
+-- a slot that has its own number already
+module _ (slots : List (Option ℕ)) (nodes : List Node) (s : ℕ) (at : slot_at slots s ≡ Some s) where
+  pub slot_settled : slots ≡ slice_set slots s (opening_slot (slot_at slots s) s)
+  slot_settled =
+      sym (ap (λ (x : Option ℕ). slice_set slots s (opening_slot x s)) at ∙ ap (slice_set slots s) (sym at) ∙ set-get_or slots s None)
+
+  pub node_settled : (file : Closed) → node_at nodes s ≡ At s file
+      → nodes ≡ slice_set (nodes_without nodes (slot_at slots s)) s (moved_node (file_named nodes (slot_at slots s)) s)
+  node_settled file named =
+      sym (ap (λ (x : Option ℕ). slice_set (nodes_without nodes x) s (moved_node (file_named nodes x) s)) at
+      ∙ set-set nodes s Gone (moved_node (file_in (node_at nodes s)) s)
+      ∙ ap (λ (node : Node). slice_set nodes s (moved_node (file_in node) s)) named
+      ∙ ap (slice_set nodes s) (sym named) ∙ set-get_or nodes s Gone)
+
+-- what is named stays where there are more nodes
+module _ (slots : List (Option ℕ)) (old new : List Node) (placed : AllPlaced slots old)
+    (kept : (n : ℕ) → IsSome (file_in (node_at old n)) → node_at new n ≡ node_at old n) where
+  pub placed_again : AllPlaced slots new
+  placed_again = λ u n at. let there = placed u n at in (there.0, kept n (has_file-At old n u there.0 there.1) ∙ there.1)
+
+  named_again : (u : ℕ) (x : Option ℕ) → slot_at slots u ≡ x → file_named new x ≡ file_named old x
+  named_again u None is = refl
+  named_again u (Some n) is = let there = placed u n is in ap file_in (kept n (has_file-At old n u there.0 there.1))
+
+  pub renumbered_again : (changed : List (Option ℕ)) (moved : List Node) → IsRenumbered slots new changed moved
+      → IsRenumbered slots old changed moved
+  renumbered_again changed moved r = record {
+    same_size = r.same_size;
+    named = r.named;
+    filed = λ u lt. r.filed u lt ∙ ap (λ x. moved_node x u) (named_again u (slot_at slots u) refl);
+    same_full = r.same_full;
+  }

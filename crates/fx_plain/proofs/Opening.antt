@@ -1,22 +1,17 @@
 -- The state of a table that was prepared.
-use Rattle.std.proofs.Common.{◌≡◌, ℕ, zero, suc, ◌+◌, ◌-◌, ◌<◌, ◌≤◌, ◌^◌, Bool, true, false, not, ◌&&◌, nat_lt, List, ◌++◌, length, length-append}
-use Rattle.std.proofs.Common.{replicate, refl, sym, ap, subst, ◌∙◌, slice_index, slice_index_or, Option, Some, None, arith, inl, inr}
-use Rattle.std.proofs.lemmas.List.{get_or_append_left, get_or-append-add, length-replicate}
+use Rattle.std.proofs.Common.{◌≡◌, ℕ, zero, suc, ◌<◌, ◌≤◌, ◌^◌, Bool, true, false, not, ◌&&◌, nat_lt, List, length}
+use Rattle.std.proofs.Common.{replicate, refl, sym, ap, subst, ◌∙◌, slice_index, Option, Some, None, arith, inl, inr}
+use Rattle.std.proofs.lemmas.List.{length-replicate}
 use Rattle.std.proofs.lemmas.Bool.{cases_lt, lt-ltb, le-ltb}
 use Rattle.std.proofs.Math.ListN.{get_or-eq_default}
 use Rattle.fx_base.specs.declared.open_file.Closed.{Closed}
 use Rattle.fx_plain.specs.State.{IsSettled, opening, file_numbered}
 use Rattle.fx_plain.specs.Contents.{Contents, IsTable, IsCounted, state_of, slot_at, node_at, file_at, placed_at, removed_at, is_fresh, is_retired}
-use Rattle.fx_plain.specs.Contents.{IsRenumbered, moved_node, file_named, file_in, opening_slot, removed_count_of, itself, Fresh, At, Gone}
+use Rattle.fx_plain.specs.Contents.{IsRenumbered, KeepsFirst, moved_node, file_named, file_in, opening_slot, removed_count_of, itself, Fresh, At, Gone}
 use Rattle.fx_plain.specs.declared.node.Node.{Node}
 use Rattle.fx_plain.proofs.Cells.{inside_of}
 use Rattle.fx_plain.proofs.Settled.{no_holds, none_removed}
 use Rattle.fx_plain.proofs.TotalLemmas.{total_nothing, total-replicate}
-
-read_replicate : {X : Type 0} (n i : ℕ) (x d : X) → i < n → slice_index_or (replicate n x) i d ≡ x
-read_replicate zero i x d inside = absurd (omega arith)
-read_replicate (suc n) zero x d inside = refl
-read_replicate (suc n) (suc i) x d inside = read_replicate n i x d (omega arith)
 
 all_zero : (n k : ℕ) → slice_index (replicate n 0) k ≡ 0
 all_zero zero k = refl
@@ -35,47 +30,29 @@ moved_retired : (slot : ℕ) (x : Option Closed) → is_retired (moved_node x sl
 moved_retired slot None = refl
 moved_retired slot (Some f) = refl
 
+opening_own : (slot number : ℕ) (x : Option ℕ) → opening_slot x slot ≡ Some number → number ≡ slot
+opening_own slot number None is = cc
+opening_own slot number (Some m) is = cc
+
 moved_opened : (slot : ℕ) (x : Option Closed) → removed_count_of (moved_node x slot) ≡ 0
 moved_opened slot None = refl
 moved_opened slot (Some f) = refl
 
-module _ (c : Contents) (slots : List (Option ℕ)) (moved : List Node) (numbers : ℕ) (t : IsTable c) (enough : length c.slots ≤ numbers)
-    (few : numbers < 2 ^ 32) (r : IsRenumbered c.slots c.nodes slots moved) where
-  abbrev nodes : List Node
-  nodes = moved ++ replicate (numbers - length c.slots) Fresh
-
+module _ (c : Contents) (slots : List (Option ℕ)) (moved nodes : List Node) (numbers : ℕ) (t : IsTable c) (enough : length c.slots ≤ numbers)
+    (few : numbers < 2 ^ 32) (r : IsRenumbered c.slots c.nodes slots moved) (first : KeepsFirst moved (length c.slots) numbers nodes) where
   abbrev pub prepared : Contents
   prepared = record { slots = slots; range = c.range; nodes = nodes; holds = replicate numbers 0; numbers = numbers }
 
   -- as the fields of a prepared table are
-  pub as_prepared : (now : List Node) (holds : List ℕ) → now ≡ moved ++ replicate (numbers - length moved) Fresh → holds ≡ replicate numbers 0
-      → record { slots = slots; range = c.range; nodes = now; holds = holds; numbers = numbers } ≡ prepared
-  as_prepared now holds nodes_are holds_are = λ i. record {
-    slots = slots;
-    range = c.range;
-    nodes = (nodes_are ∙ ap (λ (n : ℕ). moved ++ replicate (numbers - n) Fresh) r.count) i;
-    holds = holds_are i;
-    numbers = numbers;
-  }
-
-  len_nodes : length nodes ≡ numbers
-  len_nodes = let count = r.count in
-      let a = length-append moved (replicate (numbers - length c.slots) Fresh) in
-      let b : length (replicate (numbers - length c.slots) Fresh) ≡ numbers - length c.slots = length-replicate (numbers - length c.slots) Fresh in
-      omega arith
+  as_prepared : (holds : List ℕ) → holds ≡ replicate numbers 0
+      → record { slots = slots; range = c.range; nodes = nodes; holds = holds; numbers = numbers } ≡ prepared
+  as_prepared holds is = λ i. record { slots = slots; range = c.range; nodes = nodes; holds = is i; numbers = numbers }
 
   node_low : (n : ℕ) → n < length c.slots → node_at nodes n ≡ moved_node (file_named c.nodes (slot_at c.slots n)) n
-  node_low n low = let below : n < length moved = let count = r.count in omega arith in
-      get_or_append_left moved (replicate (numbers - length c.slots) Fresh) Gone n below ∙ r.filed n low
-
-  node_mid : (n : ℕ) → length c.slots ≤ n → n < numbers → node_at nodes n ≡ Fresh
-  node_mid n low high =
-      let at : length moved + (n - length c.slots) ≡ n = let count = r.count in omega arith in
-      ap (node_at nodes) (sym at) ∙ get_or-append-add moved (replicate (numbers - length c.slots) Fresh) (n - length c.slots) Gone
-      ∙ read_replicate (numbers - length c.slots) (n - length c.slots) Fresh Gone (omega arith)
+  node_low n low = first.same n low ∙ r.filed n low
 
   node_high : (n : ℕ) → numbers ≤ n → node_at nodes n ≡ Gone
-  node_high n high = let len = len_nodes in get_or-eq_default nodes Gone (omega arith)
+  node_high n high = let len = first.size in get_or-eq_default nodes Gone (omega arith)
 
   -- what holds of each kind of node holds of each
   each_node : (P : ℕ → Node → Type 0) → ((n : ℕ) (x : Option Closed) → n < length c.slots → P n (moved_node x n))
@@ -83,7 +60,7 @@ module _ (c : Contents) (slots : List (Option ℕ)) (moved : List Node) (numbers
   each_node P low mid high n = elim (cases_lt n (length c.slots)) [
     | inl lt ↦ subst (P n) (sym (node_low n lt)) (low n (file_named c.nodes (slot_at c.slots n)) lt)
     | inr ge ↦ elim (cases_lt n numbers) [
-      | inl lt ↦ subst (P n) (sym (node_mid n ge lt)) (mid n ge lt)
+      | inl lt ↦ subst (P n) (sym (first.fresh n ge lt)) (mid n ge lt)
       | inr past ↦ subst (P n)
           (sym (node_high n past)) (high n past)
     ]
@@ -115,7 +92,7 @@ module _ (c : Contents) (slots : List (Option ℕ)) (moved : List Node) (numbers
         ∙ sym (ap (λ (x : Option ℕ). file_numbered (file_at c.nodes x) u) (get_or-eq_default c.slots None ge))
   ]
 
-  pub state_of-prepared : state_of prepared ≡ opening (state_of c) numbers
+  state_of-prepared : state_of prepared ≡ opening (state_of c) numbers
   state_of-prepared = λ i. record {
     size = r.same_size i;
     range = c.range;
@@ -139,18 +116,21 @@ module _ (c : Contents) (slots : List (Option ℕ)) (moved : List Node) (numbers
   slot_inside u k is = let lt = inside_of slots u None (λ (gone : slot_at slots u ≡ None). let e : Some k ≡ None = sym is ∙ gone in cc) in
       let same = r.same_size in omega arith
 
-  pub prepared_keeps : IsTable prepared
+  prepared_keeps : IsTable prepared
   prepared_keeps = record {
+    own = λ u k is lt. opening_own u k (slot_at c.slots u) (sym (r.named u (slot_inside u k is)) ∙ is);
+    used = λ k lt. let below : k < length c.slots = let same = r.same_size in omega arith in
+        fresh_is k ∙ ap (λ (b : Bool). not b && nat_lt k numbers) (lt-ltb k (length c.slots) below);
     few_slots = let f = t.few_slots in let same = r.same_size in omega arith;
     range_inside = let inside = t.range_inside in let same = r.same_size in omega arith;
-    few_nodes = let len = len_nodes in omega arith;
-    same_numbers = length-replicate numbers 0 ∙ sym len_nodes;
+    few_nodes = let len = first.size in omega arith;
+    same_numbers = length-replicate numbers 0 ∙ sym first.size;
     placed = λ u k is. let inside = slot_inside u k is in named_placed u k inside (slot_at c.slots u) refl (sym (r.named u inside) ∙ is);
     held = each_node (λ n node. is_retired node ≡ true → 0 < slice_index (replicate numbers 0) n) (λ n x lt is. let e : false ≡ true =
         sym (moved_retired n x) ∙ is in cc) (λ n ge lt is. cc) (λ n ge is. cc);
   }
 
-  pub prepared_counted : (full held removed : ℕ) → IsCounted c full held removed → IsSettled (state_of c) → IsCounted prepared full held removed
+  prepared_counted : (full held removed : ℕ) → IsCounted c full held removed → IsSettled (state_of c) → IsCounted prepared full held removed
   prepared_counted full held removed k settled = record {
     full_slots = k.full_slots ∙ sym r.same_full;
     all_holds = no_holds c full held removed k settled ∙ sym (total-replicate itself numbers 0 refl);
@@ -158,3 +138,14 @@ module _ (c : Contents) (slots : List (Option ℕ)) (moved : List Node) (numbers
     all_removed = none_removed c full held removed k settled ∙ sym (total_nothing removed_count_of nodes Gone refl
         (each_node (λ n node. removed_count_of node ≡ 0) (λ n x lt. moved_opened n x) (λ n ge lt. refl) (λ n ge. refl)));
   }
+
+  -- the same of a table as its fields are
+  pub fields_keep : (holds : List ℕ) → holds ≡ replicate numbers 0 → (full held removed : ℕ) → IsCounted c full held removed
+      → IsSettled (state_of c) → IsTable (record { slots = slots; range = c.range; nodes = nodes; holds = holds; numbers = numbers })
+      × IsCounted (record { slots = slots; range = c.range; nodes = nodes; holds = holds; numbers = numbers }) full held removed
+  fields_keep holds is full held removed k settled = subst (λ (x : Contents). IsTable x × IsCounted x full held removed)
+      (sym (as_prepared holds is)) (prepared_keeps, prepared_counted full held removed k settled)
+
+  pub state_of-fields : (holds : List ℕ) → holds ≡ replicate numbers 0
+      → state_of (record { slots = slots; range = c.range; nodes = nodes; holds = holds; numbers = numbers }) ≡ opening (state_of c) numbers
+  state_of-fields holds is = ap state_of (as_prepared holds is) ∙ state_of-prepared

@@ -142,6 +142,14 @@ take_leaving c slot t = leaving-gave_way c.nodes (slot_at c.slots slot) slot (na
 
 pub take_keeps : (c : Contents) (slot : ℕ) → IsTable c → slot < length c.slots → IsTable (taken c slot)
 take_keeps c slot t inside = record {
+  own = λ u n. by_equality u slot (λ _. slot_at (slice_set c.slots slot None) u ≡ Some n → n < length (slice_set c.slots slot None) → n ≡ u)
+      (λ same at lt. let e : slot_at (slice_set c.slots slot None) u ≡ None =
+      ap (slot_at (slice_set c.slots slot None)) same ∙ get_or-set_same c.slots slot None None inside in cc)
+      (λ apart at lt. t.own u n (sym (get_or-set_other c.slots slot u None None apart) ∙ at)
+      (let len = length-set c.slots slot None in omega arith));
+  used = λ n lt. ap (λ (f : ℕ → Bool). f n)
+      (fresh-gave_way c.nodes (slot_at c.slots slot) slot (names_at c slot (slot_at c.slots slot) t refl))
+      ∙ t.used n (let len = length-set c.slots slot None in omega arith);
   few_slots = rw (length-set c.slots slot None) t.few_slots;
   range_inside = rw (length-set c.slots slot None) t.range_inside;
   few_nodes = rw (length-gave_way c.nodes (slot_at c.slots slot)) t.few_nodes;
@@ -219,6 +227,10 @@ module _ (c : Contents) (slot n : ℕ) (file : Closed) (t : IsTable c) (inside :
       ∙ ap (λ (r : ℕ → Option File). with_removed r ((state_of c).at slot))
       (written removed_at c.nodes n (At slot file) Gone n_inside ∙ unchanged (state_of c).removed n None (ap (removed_at n) (sym (fresh_is _ fresh))))
 
+  put_fresh : fresh_of (gave_way with_file (slot_at c.slots slot)) ≡ changed_at (state_of c).fresh n false
+  put_fresh = fresh-gave_way with_file (slot_at c.slots slot) slot (still_names (slot_at c.slots slot) refl)
+      ∙ written (λ q node. is_fresh node) c.nodes n (At slot file) Gone n_inside
+
   pub put_steps : Steps (state_of c) (Put slot (numbered n file) ((state_of c).at slot)) (state_of (put_at c slot n file))
   put_steps = (
     (inside, fresh, refl),
@@ -226,8 +238,7 @@ module _ (c : Contents) (slot n : ℕ) (file : Closed) (t : IsTable c) (inside :
       size = length-set c.slots slot (Some n) i;
       at = λ u. put_at_at u i;
       removed = put_removed i;
-      fresh = (fresh-gave_way with_file (slot_at c.slots slot) slot (still_names (slot_at c.slots slot) refl)
-          ∙ written (λ q node. is_fresh node) c.nodes n (At slot file) Gone n_inside) i;
+      fresh = put_fresh i;
     },
   )
 
@@ -250,6 +261,18 @@ module _ (c : Contents) (slot n : ℕ) (file : Closed) (t : IsTable c) (inside :
 
   pub put_keeps : IsTable (put_at c slot n file)
   put_keeps = record {
+    own = λ u m. by_equality u slot
+        (λ _. slot_at (slice_set c.slots slot (Some n)) u ≡ Some m → m < length (slice_set c.slots slot (Some n)) → m ≡ u)
+        (λ same at lt.
+        let e : Some n ≡ Some m = sym (ap (slot_at (slice_set c.slots slot (Some n))) same ∙ get_or-set_same c.slots slot (Some n) None inside) ∙ at in
+        let is : n ≡ m = cc in
+        let no : true ≡ false = sym fresh ∙ ap (λ (k : ℕ). is_fresh (node_at c.nodes k)) is
+        ∙ t.used m (let len = length-set c.slots slot (Some n) in omega arith) in cc)
+        (λ apart at lt. t.own u m (sym (get_or-set_other c.slots slot u (Some n) None apart) ∙ at)
+        (let len = length-set c.slots slot (Some n) in omega arith));
+    used = λ m lt. ap (λ (f : ℕ → Bool). f m) put_fresh
+        ∙ by_equality m n (λ b. (if b then false else is_fresh (node_at c.nodes m)) ≡ false) (λ _. refl)
+        (λ _. t.used m (let len = length-set c.slots slot (Some n) in omega arith));
     few_slots = rw (length-set c.slots slot (Some n)) t.few_slots;
     range_inside = rw (length-set c.slots slot (Some n)) t.range_inside;
     few_nodes = rw (length-gave_way with_file (slot_at c.slots slot), length-set c.nodes n (At slot file)) t.few_nodes;

@@ -88,6 +88,8 @@ sparse_keeps slots n nodes holds slots_are few no_nodes no_hold len =
         few_nodes = omega arith;
         same_numbers = refl;
         placed = λ slot number is. let e : Some number ≡ None = sym is ∙ slot_at-replicate n slot in cc;
+        own = λ slot number is lt. let e : Some number ≡ None = sym is ∙ slot_at-replicate n slot in cc;
+        used = λ number lt. refl;
         held = λ number is. let e : false ≡ true = is in cc;
       },
       record {

@@ -75,6 +75,10 @@ numbers_of c = c.numbers
 abbrev pub AllPlaced : List (Option ℕ) → List Node → Type 0
 AllPlaced slots nodes = (slot number : ℕ) → slot_at slots slot ≡ Some number → (file : Closed) × (node_at nodes number ≡ At slot file)
 
+-- no slot has the number of another one
+abbrev pub HaveOwnNumbers : List (Option ℕ) → Type 0
+HaveOwnNumbers slots = (slot number : ℕ) → slot_at slots slot ≡ Some number → number < length slots → number ≡ slot
+
 -- what every table keeps
 pub record IsTable (c : Contents) : Type 0 where
   pub few_slots : length c.slots ≤ MOST_SLOTS
@@ -82,6 +86,9 @@ pub record IsTable (c : Contents) : Type 0 where
   pub few_nodes : length c.nodes < 2 ^ 32
   pub same_numbers : length c.holds ≡ length c.nodes
   pub placed : AllPlaced c.slots c.nodes
+  -- a number below the size is that of its own slot, and no new file gets it
+  pub own : HaveOwnNumbers c.slots
+  pub used : (number : ℕ) → number < length c.slots → is_fresh (node_at c.nodes number) ≡ false
   -- a retired file that nobody holds is closed
   pub held : (number : ℕ) → is_retired (node_at c.nodes number) ≡ true → 0 < slice_index c.holds number
 
@@ -146,10 +153,15 @@ opening_slot (Some number) slot = Some slot
 -- each slot has its own number now, and its file stands in the node of that number
 pub record IsRenumbered (slots : List (Option ℕ)) (nodes : List Node) (new : List (Option ℕ)) (moved : List Node) : Type 0 where
   pub same_size : length new ≡ length slots
-  pub count : length moved ≡ length slots
   pub named : (slot : ℕ) → slot < length slots → slot_at new slot ≡ opening_slot (slot_at slots slot) slot
   pub filed : (slot : ℕ) → slot < length slots → node_at moved slot ≡ moved_node (file_named nodes (slot_at slots slot)) slot
   pub same_full : total file_count_of new ≡ total file_count_of slots
+
+-- the first nodes are kept, and those behind them are fresh
+pub record KeepsFirst (old : List Node) (kept len : ℕ) (new : List Node) : Type 0 where
+  pub size : length new ≡ len
+  pub same : (number : ℕ) → number < kept → node_at new number ≡ node_at old number
+  pub fresh : (number : ℕ) → kept ≤ number → number < len → node_at new number ≡ Fresh
 
 -- the nodes, without the file that a slot names
 abbrev pub nodes_without : List Node → Option ℕ → List Node

@@ -1,7 +1,7 @@
 //! The nodes of a table by number. Room for all of them is reserved at once, and a node is written when its number is
 //! reached, so that a table with many numbers costs no time for those that no file gets.
-ghost use Rattle.std.specs.Prelude.{◌≡◌, ◌-◌, ◌<◌, ◌≤◌, ℕ, [], ◌++◌, length, replicate, slice_index_or, slice_set, vec_len, vec_capacity, IsSome, MatchOption, Some, None};
-ghost use Rattle.fx_plain.specs.Contents.{node_at, is_fresh, is_leaving, is_retired, file_in, node_after_removal, node_after_retirement, Fresh, Gone};
+ghost use Rattle.std.specs.Prelude.{◌≡◌, ◌<◌, ◌≤◌, ℕ, [], false, length, take, slice_index_or, slice_set, vec_len, vec_capacity, IsSome, IsTrue, MatchOption, Some, None};
+ghost use Rattle.fx_plain.specs.Contents.{node_at, is_fresh, is_leaving, is_retired, file_in, node_after_removal, node_after_retirement, KeepsFirst, Fresh, Gone};
 ghost use Rattle.fx_plain.specs.Reserved.{with_rest};
 
 use crate::node::{
@@ -47,9 +47,36 @@ impl NodeList {
     pub(crate) fn new(written: Vec<Node>, len: u32) -> NodeList
         requires few { vec_len written ≤ len }
         requires room { len ≤ vec_capacity written }
-        ensures { result ≡ written.items ++ replicate (len - length written.items) Fresh }
+        ensures { KeepsFirst written.items (length written.items) len result }
     {
         NodeList { written, len }
+    }
+
+    // Room for so many nodes, if that takes no memory: whether it doesn't.
+    pub(crate) fn extend(&mut self, len: u32) -> bool
+        ensures enough { IsTrue result → len ≤ length self.new }
+        ensures kept { IsTrue result → (number : ℕ) → IsSome (file_in (node_at self.old number))
+            → node_at self.new number ≡ node_at self.old number }
+        ensures refused { result ≡ false → self.new ≡ self.old }
+    {
+        if len <= self.len {
+            return true;
+        }
+        if len as usize > self.written.capacity() {
+            return false;
+        }
+        self.len = len;
+        true
+    }
+
+    // Keeps the first nodes, and lets the files of the others go. There are `len` from now on, and the others are fresh.
+    pub(crate) fn cut(&mut self, kept: usize, len: u32)
+        requires kept { kept ≤ len }
+        requires len { len ≤ length self.old }
+        ensures { KeepsFirst self.old kept len self.new }
+    {
+        cut_off(&mut self.written, kept);
+        self.len = len;
     }
 
     pub(crate) fn allocator(&self) -> Global {
@@ -158,6 +185,18 @@ fn put_in(nodes: &mut Vec<Node>, at: usize, node: Node) -> Node
     ensures capacity { vec_capacity nodes.new ≡ vec_capacity nodes.old }
 {
     mem::replace(&mut nodes[at], node)
+}
+
+// Lets the nodes behind the first ones go.
+fn cut_off(nodes: &mut Vec<Node>, kept: usize)
+    ensures nodes { nodes.new.items ≡ take kept nodes.old.items }
+    ensures capacity { vec_capacity nodes.new ≡ vec_capacity nodes.old }
+{
+    for _ in kept..nodes.len() {
+        if let Some(node) = nodes.pop() {
+            spend_node(node);
+        }
+    }
 }
 
 // Fresh nodes up to this number, unless they are there already.

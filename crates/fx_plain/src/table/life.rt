@@ -1,9 +1,10 @@
 //! How a table is prepared for passes, emptied and given up.
-ghost use Rattle.std.specs.Prelude.{◌≡◌, ◌≤◌, ◌<◌, ◌+◌, ℕ, [], ◌++◌, ◌-◌, ◌^◌, ◌∷◌, length, OnOk, OnErr, IfOk, IfSome, IsSome, vec_len, vec_capacity, slice_set};
+ghost use Rattle.std.specs.Prelude.{◌≡◌, ◌≤◌, ◌<◌, ◌+◌, ℕ, [], ◌++◌, ◌-◌, ◌^◌, ◌∷◌, length, OnOk, OnErr, IfOk, IfSome, IsSome, Some, vec_len, vec_capacity, slice_set};
 ghost use Rattle.std.specs.Option.{option_to_list};
+ghost use Rattle.fx_base.specs.declared.open_file.Closed.{Closed};
 ghost use Rattle.fx_plain.specs.State.{vacant, opening, IsSettled, files_of, files_in_order};
 ghost use Rattle.fx_plain.specs.Totals.{total};
-ghost use Rattle.fx_plain.specs.Contents.{state_of, numbers_of, IsTable, slot_at, node_at, moved_node, file_in, file_named, nodes_without, opening_slot, file_at, AllPlaced, IsRenumbered, SameButPlaced, removed_count_of};
+ghost use Rattle.fx_plain.specs.Contents.{state_of, numbers_of, IsTable, slot_at, node_at, moved_node, file_in, file_named, nodes_without, opening_slot, file_at, AllPlaced, HaveOwnNumbers, IsRenumbered, SameButPlaced, removed_count_of, At};
 
 use crate::hold_list::HoldList;
 use crate::node::Node;
@@ -16,8 +17,8 @@ use std::mem;
 impl PlainTable {
     /// Makes a settled table ([`PlainTable::is_settled`]) ready for passes: the file at a slot gets the slot's number,
     /// and the numbers from the size up to `numbers - 1` are fresh. `numbers` is at least [`PlainTable::size`]. Files,
-    /// size and range stay. The memory of all numbers is reserved now, under 64 bytes for each; a number's part of it is
-    /// written once a file gets the number or one behind it (this project's own).
+    /// size and range stay. The memory of all numbers is reserved now, under 64 bytes for each, or was by an earlier
+    /// preparation; a number's part of it is written once a file gets the number or one behind it (this project's own).
     ///
     /// # Errors
     /// `NoMemory` where that memory is refused. The table is then as before.
@@ -31,6 +32,13 @@ impl PlainTable {
     {
         let alloc = self.nodes.allocator();
         let holds = HoldList::zeros(alloc, numbers)?;
+        if self.nodes.extend(numbers) {
+            renumber_in_place(&mut self.slots, &mut self.nodes);
+            self.nodes.cut(self.slots.len(), numbers);
+            self.holds = holds;
+            self.numbers = numbers;
+            return Ok(());
+        }
         let mut moved = Vec::with_capacity(alloc, numbers as usize)?;
         renumber(&mut self.slots, &mut self.nodes, &mut moved);
         let nodes = NodeList::new(moved, numbers);
@@ -112,11 +120,46 @@ fn renumber(slots: &mut Vec<Option<u32>>, nodes: &mut NodeList, moved: &mut Vec<
     requires placed { AllPlaced slots.old.items nodes.old }
     requires room { (moved.old.items ≡ []) × (vec_len slots.old ≤ vec_capacity moved.old) }
     ensures renumbered { IsRenumbered slots.old.items nodes.old slots.new.items moved.new.items }
+    ensures count { vec_len moved.new ≡ vec_len slots.old }
     ensures capacity { vec_capacity moved.new ≡ vec_capacity moved.old }
 {
     for slot in 0..slots.len() {
         let node = move_file(slots, nodes, slot);
         moved.push_reserved(node);
+    }
+}
+
+// Moves the file that a slot names to the node of the slot's own number, unless it stands there.
+fn settle(slots: &mut Vec<Option<u32>>, nodes: &mut NodeList, slot: usize)
+    requires slot { (slot < vec_len slots.old) × (slot < 2 ^ 32) }
+    requires node { slot < length nodes.old }
+    requires placed { (number : ℕ) → slot_at slots.old.items slot ≡ Some number
+        → (file : Closed) × (node_at nodes.old number ≡ At slot file) }
+    ensures slots { slots.new.items
+        ≡ slice_set slots.old.items slot (opening_slot (slot_at slots.old.items slot) slot) }
+    ensures nodes { nodes.new ≡ slice_set (nodes_without nodes.old (slot_at slots.old.items slot))
+        slot (moved_node (file_named nodes.old (slot_at slots.old.items slot)) slot) }
+{
+    if let Some(number) = slots[slot] {
+        if number as usize == slot {
+            return;
+        }
+    }
+    let node = move_file(slots, nodes, slot);
+    nodes.set_node(slot as u32, node);
+}
+
+// As `renumber` does, in the list of nodes that is there.
+fn renumber_in_place(slots: &mut Vec<Option<u32>>, nodes: &mut NodeList)
+    requires few { vec_len slots.old < 2 ^ 32 }
+    requires placed { AllPlaced slots.old.items nodes.old }
+    requires own { HaveOwnNumbers slots.old.items }
+    requires nodes { vec_len slots.old ≤ length nodes.old }
+    ensures renumbered { IsRenumbered slots.old.items nodes.old slots.new.items nodes.new }
+    ensures len { length nodes.new ≡ length nodes.old }
+{
+    for slot in 0..slots.len() {
+        settle(slots, nodes, slot);
     }
 }
 

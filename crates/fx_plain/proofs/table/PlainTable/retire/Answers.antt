@@ -73,3 +73,6 @@ retire-requires c =
 
 pub returns-then-of-eq0-clause-sound : goal.returns-then-of-eq0-clause-sound
 returns-then-of-eq0-clause-sound c = (invariant_of-self c).0
+
+pub returns-clause-sound : goal.returns-clause-sound
+returns-clause-sound c = (invariant_of-self-2 c).0

@@ -1,0 +1,16 @@
+use Rattle.std.proofs.Common.{◌≡◌, ◌≤◌, ◌<◌, ℕ, Some, length, vec_len}
+use Rattle.fx_plain.specs.Totals.{total}
+use Rattle.fx_plain.specs.Contents.{slot_at, node_at, moved_node, file_named, opening_slot, file_count_of}
+use Rattle.fx_plain.proofs.table.life.renumber_in_place.Given as goal
+
+-- the slots so far name their own numbers, whose nodes have their files, and what the others name is as it was
+abbrev pub invariant-loop-slot : goal.invariant-loop-slot
+invariant-loop-slot l = record {
+  len : vec_len l.slots ≡ vec_len l.fn.slots;
+  nodes_len : length l.nodes ≡ length l.fn.nodes;
+  done : (s : ℕ) → s < l.slot → slot_at l.slots.items s ≡ opening_slot (slot_at l.fn.slots.items s) s;
+  rest : (s : ℕ) → l.slot ≤ s → slot_at l.slots.items s ≡ slot_at l.fn.slots.items s;
+  moved : (s : ℕ) → s < l.slot → node_at l.nodes s ≡ moved_node (file_named l.fn.nodes (slot_at l.fn.slots.items s)) s;
+  left : (s number : ℕ) → l.slot ≤ s → slot_at l.fn.slots.items s ≡ Some number → node_at l.nodes number ≡ node_at l.fn.nodes number;
+  full : total file_count_of l.slots.items ≡ total file_count_of l.fn.slots.items;
+}

@@ -1,0 +1,14 @@
+use Rattle.std.proofs.Common.{rules, ◌≡◌, ◌<◌, Some, None, ap, ◌∙◌, length}
+use Rattle.fx_plain.specs.Contents.{slot_at}
+use Rattle.fx_plain.proofs.Removals.{seen_at}
+use Rattle.fx_plain.proofs.Moving.{node_settled}
+use Rattle.fx_plain.proofs.table.life.settle.Goals as goal
+
+pub returns-then-number-slot-clause-nodes : goal.returns-then-number-slot-clause-nodes
+returns-then-number-slot-clause-nodes c =
+    let slots = c.args.slots.now.items in
+    let inside : c.args.slot < length slots = search rules in
+    let at : slot_at slots c.args.slot ≡ Some c.args.slot =
+    seen_at slots c.args.slot None c.index.result.now (Some c.in-Some.number) inside c.index.ensures c.in-Some.is ∙ ap Some c.if-number-slot.true in
+    let there = c.requires.placed c.args.slot at in
+    node_settled slots c.args.nodes.now c.args.slot at there.0 there.1
