@@ -1,6 +1,8 @@
 // Texts, of reports that were made by hand, and of faults.
+ghost use Rattle.std.specs.Prelude.{◌<◌, All, IsTrue, length};
+
 use crate::{PlayFault, ScriptFault, report_text};
-use fx_base::{Catalogue, CloseList, Mark};
+use fx_base::{Catalogue, CloseList, Closed, Mark};
 use fx_chain::{Completion, Place};
 use fx_ring::Report;
 use std::alloc::Global;
@@ -32,10 +34,19 @@ fn completion(
     })
 }
 
+fn all_inside(catalogue: &Catalogue, files: &[Closed]) -> bool
+    ensures { IsTrue result → All (λ file. file.entry < length catalogue.now) files.now }
+{
+    files
+        .iter()
+        .all(|file| (file.entry as u32) < catalogue.len())
+}
+
 #[test]
 fn a_report(rt: HostRuntime) -> Result<(), Fail> {
     let alloc = rt.alloc();
     let catalogue = two_files(alloc)?;
+    assert_eq!(rt; catalogue.len(), 2);
     let mut completions = Vec::new(alloc);
     completions.push(completion(alloc, 1, 1, 0, b"".as_slice())?)?;
     completions.push(completion(alloc, 1, 2, 5, b"\x00\x0f\xa0\xffj".as_slice())?)?;
@@ -56,6 +67,7 @@ fn a_report(rt: HostRuntime) -> Result<(), Fail> {
         completions,
         closes,
     };
+    assert!(rt; all_inside(&catalogue, report.closes.files()));
     let text = report_text(alloc, &report, &catalogue)?;
     let lines =
         "7.1.1 0\n7.1.2 5 000fa0ff6a\n7.12.16 -125\nclosed r3.255 b.txt\nclosed 7.12.1.15 a.txt\n";
@@ -71,7 +83,9 @@ fn an_empty_report(rt: HostRuntime) -> Result<(), Fail> {
         completions: Vec::new(alloc),
         closes: CloseList::with_room(alloc, 0)?,
     };
-    let text = report_text(alloc, &report, &Catalogue::new(alloc))?;
+    let catalogue = Catalogue::new(alloc);
+    assert!(rt; all_inside(&catalogue, report.closes.files()));
+    let text = report_text(alloc, &report, &catalogue)?;
     assert_eq!(rt; text.as_str(), "");
     Ok(())
 }
