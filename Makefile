@@ -26,7 +26,7 @@ help:
 	@echo 'make must-spend   shows that a program that loses a file is refused'
 	@echo 'make wrong-bodies tries the wrong bodies for which the gate has no time'
 	@echo 'make layout       looks at the files of the repository'
-	@echo 'make bench        times what scripts do beside a plain program that does the same'
+	@echo 'make bench        times what scripts do beside a plain program that does the same, and the tables beside each other'
 	@echo 'make gate         proves and tests all crates from nothing'
 	@echo 'make clean        removes what was built; what was proved is kept'
 	@echo 'make kernel       plays a script on the io_uring of this machine'
@@ -73,7 +73,8 @@ layout:
 
 bench:
 	@scripts/build-program
-	@scripts/bench bin/fixfiles
+	@scripts/build-program table_bench table_bench
+	@scripts/bench bin/fixfiles bin/table_bench
 
 gate:
 	@scripts/need-toolchain

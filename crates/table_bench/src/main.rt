@@ -50,3 +50,6 @@ fn main(rt: HostRuntime) -> ExitCode {
         None => ExitCode::FAILURE,
     }
 }
+
+#[cfg(test)]
+mod tests;

@@ -25,8 +25,8 @@ pub(crate) struct Shape {
     pub(crate) range: u32,
 }
 
-// A table of this shape, where there is one and memory for it.
-fn shaped(alloc: Global, catalogue: &Catalogue, shape: Shape) -> Option<PlainTable>
+/// A table of this shape, where there is one and memory for it.
+pub(crate) fn shaped(alloc: Global, catalogue: &Catalogue, shape: Shape) -> Option<PlainTable>
     requires { 0 < length catalogue.now }
     ensures { IfSome result (λ plain. IsSettled (state_of plain)) }
 {
