@@ -19,15 +19,21 @@ pub(crate) struct Case {
 }
 
 // How many look-ups a thread makes: a pass has 1,048,576.
-const LOOKS: u32 = 50_000;
+const LOOKS: u32 = 200_000;
 
 // How many files a thread installs: the passes share 1,023 chains of 64 numbers.
 const INSTALLS: u32 = 15_000;
 
 fn job(name: &'static str, work: Work, times: u32, shape: Shape) -> Case {
+    let last_slot = shape.slots.wrapping_sub(1);
+    let job = Job {
+        work,
+        last_slot,
+        times,
+    };
     Case {
         name,
-        timed: Timed::Job(Job { work, times }, shape),
+        timed: Timed::Job(job, shape),
     }
 }
 
@@ -63,19 +69,19 @@ pub(crate) fn cases() -> [Case; 15] {
         job(
             "90 % look, 10 % replace, 256 slots",
             Work::Mixed,
-            LOOKS,
+            10 * INSTALLS,
             full(256),
         ),
         job(
             "90 % look, 10 % replace, 16 slots",
             Work::Mixed,
-            LOOKS,
+            10 * INSTALLS,
             full(16),
         ),
         job(
             "90 % look, 10 % replace, 1 slot",
             Work::Mixed,
-            LOOKS,
+            10 * INSTALLS,
             full(1),
         ),
         job(

@@ -9,6 +9,7 @@ mod measure;
 mod report;
 mod shared;
 mod subject;
+mod watch;
 mod work;
 
 use fx_base::Catalogue;

@@ -5,6 +5,7 @@ ghost use Rattle.fx_plain.specs.Contents.{state_of};
 ghost use Rattle.fx_table.specs.declared.limits.TheConstants.{MAX_CHAINS, MAX_PASSES};
 
 use crate::subject::Subject;
+use crate::watch::Watch;
 use crate::work::{Job, work_all};
 use fx_base::{Catalogue, Mark};
 use fx_plain::PlainTable;
@@ -77,6 +78,7 @@ pub(crate) fn time_of_work<S: Subject, R: Threads + Wait + Clock + Sync>(
     requires entry { 0 < length catalogue.now }
     requires threads { (1 ≤ threads) × (threads ≤ MAX_PASSES) }
 {
+    let watch = Watch::new(rt, threads).ok()?;
     let plain = shaped(alloc, catalogue, shape)?;
     match S::open(alloc, plain, MAX_CHAINS, threads) {
         Err(plain) => {
@@ -84,12 +86,9 @@ pub(crate) fn time_of_work<S: Subject, R: Threads + Wait + Clock + Sync>(
             None
         }
         Ok((subject, mut passes)) => {
-            let started = Instant::now(rt);
-            let last_slot = shape.slots.wrapping_sub(1);
-            work_all(rt, alloc, &subject, &mut passes, catalogue, job, last_slot);
-            let took = since(rt, started);
+            work_all(rt, alloc, &subject, &mut passes, catalogue, job, &watch);
             subject.close(passes).abandon();
-            took
+            watch.took()
         }
     }
 }

@@ -2,8 +2,10 @@
 ghost use Rattle.std.specs.Prelude.{◌≡◌, ◌<◌, ◌≤◌, length, All, vec_capacity, vec_len};
 
 use crate::subject::{READ_LEN, Subject};
+use crate::watch::Watch;
 use fx_base::{Catalogue, Mark};
 use std::alloc::Global;
+use std::rt::Clock;
 use std::sync::Wait;
 use std::thread;
 use std::thread::Threads;
@@ -21,10 +23,11 @@ pub(crate) enum Work {
     Allocate,
 }
 
-/// What a thread does, and how often.
+/// What a thread does, and how often. The slots are a power of 2, of which this is the last.
 #[derive(Clone, Copy)]
 pub(crate) struct Job {
     pub(crate) work: Work,
+    pub(crate) last_slot: u32,
     pub(crate) times: u32,
 }
 
@@ -36,21 +39,14 @@ fn next(number: u32) -> u32 {
 // Which installation a file is of says nothing here.
 const MARK: Mark = Mark::Registered { k: 0, i: 0 };
 
-fn look<S: Subject, R: Wait>(
-    rt: &R,
-    subject: &S,
-    pass: &mut S::Pass,
-    job: Job,
-    last_slot: u32,
-    seed: u32,
-)
+fn look<S: Subject, R: Wait>(rt: &R, subject: &S, pass: &mut S::Pass, job: Job, seed: u32)
     requires { S.ready subject.now pass.old }
     ensures { S.ready subject.now pass.new }
 {
     let mut random = seed;
     for _ in 0..job.times {
         random = next(random);
-        subject.look(rt, pass, (random >> 16) & last_slot);
+        subject.look(rt, pass, (random >> 16) & job.last_slot);
     }
 }
 
@@ -60,7 +56,6 @@ fn mix<S: Subject, R: Wait>(
     pass: &mut S::Pass,
     catalogue: &Catalogue,
     job: Job,
-    last_slot: u32,
     seed: u32,
 )
     requires ready { S.ready subject.now pass.old }
@@ -70,7 +65,7 @@ fn mix<S: Subject, R: Wait>(
     let mut random = seed;
     for i in 0..job.times {
         random = next(random);
-        let slot = (random >> 16) & last_slot;
+        let slot = (random >> 16) & job.last_slot;
         if i % 10 == 9 {
             subject.put(rt, pass, slot, catalogue.open(0, MARK));
         } else {
@@ -85,7 +80,6 @@ fn chain<S: Subject, R: Wait>(
     pass: &mut S::Pass,
     catalogue: &Catalogue,
     job: Job,
-    last_slot: u32,
     first_slot: u32,
     into: &mut Vec<u8>,
 )
@@ -95,7 +89,7 @@ fn chain<S: Subject, R: Wait>(
     ensures { S.ready subject.now pass.new }
 {
     for i in 0..job.times {
-        let slot = first_slot.wrapping_add(i % 64) & last_slot;
+        let slot = first_slot.wrapping_add(i % 64) & job.last_slot;
         subject.put(rt, pass, slot, catalogue.open(0, MARK));
         subject.read(rt, pass, slot, catalogue, into);
         subject.take(rt, pass, slot);
@@ -128,7 +122,6 @@ fn do_job<S: Subject, R: Wait>(
     pass: &mut S::Pass,
     catalogue: &Catalogue,
     job: Job,
-    last_slot: u32,
     i: u32,
 )
     requires ready { S.ready subject.now pass.old }
@@ -137,35 +130,47 @@ fn do_job<S: Subject, R: Wait>(
 {
     let seed = i.wrapping_mul(40_503).wrapping_add(1);
     match job.work {
-        Work::Look => look(rt, subject, pass, job, last_slot, seed),
-        Work::Mixed => mix(rt, subject, pass, catalogue, job, last_slot, seed),
+        Work::Look => look(rt, subject, pass, job, seed),
+        Work::Mixed => mix(rt, subject, pass, catalogue, job, seed),
         Work::Chain => {
             if let Ok(mut into) = Vec::with_capacity(alloc, READ_LEN as usize) {
-                chain(
-                    rt,
-                    subject,
-                    pass,
-                    catalogue,
-                    job,
-                    last_slot,
-                    i.wrapping_mul(64),
-                    &mut into,
-                );
+                let first_slot = i.wrapping_mul(64);
+                chain(rt, subject, pass, catalogue, job, first_slot, &mut into);
             }
         }
         Work::Allocate => allocate(rt, subject, pass, catalogue, job),
     }
 }
 
+// The i-th thread works when all are there.
+fn work_together<S: Subject, R: Wait + Clock>(
+    rt: &R,
+    alloc: Global,
+    subject: &S,
+    pass: &mut S::Pass,
+    catalogue: &Catalogue,
+    job: Job,
+    watch: &Watch,
+    i: usize,
+)
+    requires ready { S.ready subject.now pass.old }
+    requires entry { 0 < length catalogue.now }
+    ensures { S.ready subject.now pass.new }
+{
+    watch.begin(rt);
+    do_job(rt, alloc, subject, pass, catalogue, job, (i % 16) as u32);
+    watch.end(rt);
+}
+
 // Each pass in a thread of its own.
-fn do_jobs<S: Subject, R: Threads + Wait + Sync>(
+fn do_jobs<S: Subject, R: Threads + Wait + Clock + Sync>(
     rt: &R,
     alloc: Global,
     subject: &S,
     passes: &mut [S::Pass],
     catalogue: &Catalogue,
     job: Job,
-    last_slot: u32,
+    watch: &Watch,
 )
     requires some { 0 < length passes.old }
     requires ready { All (λ p. S.ready subject.now p) passes.old }
@@ -181,31 +186,19 @@ fn do_jobs<S: Subject, R: Threads + Wait + Sync>(
         &|i, pass: &mut S::Pass|
             requires { S.ready subject.now pass.old × (0 < length catalogue.now) }
             ensures { S.ready subject.entry.now pass.new }
-        {
-            do_job(
-                rt,
-                alloc,
-                subject,
-                pass,
-                catalogue,
-                job,
-                last_slot,
-                (i % 16) as u32,
-            )
-        },
+        { work_together(rt, alloc, subject, pass, catalogue, job, watch, i) },
     );
 }
 
-/// Each of the passes works in a thread of its own, at the same job. The table has a power of 2 of slots, of which this
-/// is the last.
-pub(crate) fn work_all<S: Subject, R: Threads + Wait + Sync>(
+/// Each of the passes works in a thread of its own, at the same job, while the watch runs.
+pub(crate) fn work_all<S: Subject, R: Threads + Wait + Clock + Sync>(
     rt: &R,
     alloc: Global,
     subject: &S,
     passes: &mut Vec<S::Pass>,
     catalogue: &Catalogue,
     job: Job,
-    last_slot: u32,
+    watch: &Watch,
 )
     requires ready { All (λ p. S.ready subject.now p) passes.old.items }
     requires entry { 0 < length catalogue.now }
@@ -213,14 +206,7 @@ pub(crate) fn work_all<S: Subject, R: Threads + Wait + Sync>(
     ensures count { vec_len passes.new ≡ vec_len passes.old }
 {
     if !passes.is_empty() {
-        do_jobs(
-            rt,
-            alloc,
-            subject,
-            passes.as_mut_slice(),
-            catalogue,
-            job,
-            last_slot,
-        );
+        let passes = passes.as_mut_slice();
+        do_jobs(rt, alloc, subject, passes, catalogue, job, watch);
     }
 }
