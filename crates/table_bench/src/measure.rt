@@ -5,17 +5,16 @@ ghost use Rattle.fx_plain.specs.Contents.{state_of};
 ghost use Rattle.fx_table.specs.declared.limits.TheConstants.{MAX_CHAINS, MAX_PASSES};
 
 use crate::subject::Subject;
-use crate::watch::Watch;
+use crate::watch::{Watch, used};
 use crate::work::{Job, work_all};
 use fx_base::{Catalogue, Mark};
 use fx_plain::PlainTable;
 use fx_table::MAX_CHAINS;
 use std::alloc::Global;
-use std::io;
 use std::rt::Clock;
 use std::sync::Wait;
 use std::thread::Threads;
-use std::time::Instant;
+use std::time::CpuClock;
 
 /// A table as a measurement begins with it: how many slots it has, with files at the first so many, and so many of its
 /// slots, from the first one on, are its allocation range.
@@ -60,14 +59,9 @@ fn fill(plain: &mut PlainTable, catalogue: &Catalogue, full: u32)
     }
 }
 
-// The nanoseconds since then.
-fn since<R: Clock>(rt: &R, started: io::Result<Instant>) -> Option<u64> {
-    u64::try_from(started.ok()?.elapsed(rt).ok()?.as_nanos()).ok()
-}
-
 /// The nanoseconds that so many threads need for a job each, on a new table of this shape. `None` where memory or the
 /// clock is refused.
-pub(crate) fn time_of_work<S: Subject, R: Threads + Wait + Clock + Sync>(
+pub(crate) fn time_of_work<S: Subject, R: Threads + Wait + Clock + CpuClock + Sync>(
     rt: &R,
     alloc: Global,
     catalogue: &Catalogue,
@@ -116,8 +110,8 @@ fn open_and_close<S: Subject>(
     plain
 }
 
-/// The nanoseconds of opening and closing a full table so often. `None` where memory or the clock is refused.
-pub(crate) fn time_of_life<S: Subject, R: Clock>(
+/// The processor's nanoseconds of opening and closing a full table so often. `None` where memory or the clock is refused.
+pub(crate) fn time_of_life<S: Subject, R: CpuClock>(
     rt: &R,
     alloc: Global,
     catalogue: &Catalogue,
@@ -136,9 +130,9 @@ pub(crate) fn time_of_life<S: Subject, R: Clock>(
         range: slots,
     };
     let plain = shaped(alloc, catalogue, shape)?;
-    let started = Instant::now(rt);
+    let before = used(rt);
     let plain = open_and_close::<S>(alloc, plain, chains, passes, times);
-    let took = since(rt, started);
+    let after = used(rt);
     plain.abandon();
-    took
+    after?.checked_sub(before?)
 }

@@ -15,6 +15,7 @@ use std::alloc::Global;
 use std::rt::Clock;
 use std::sync::Wait;
 use std::thread::Threads;
+use std::time::CpuClock;
 
 // The ratios of one table's times to another's, in hundredths.
 #[derive(Drop)]
@@ -48,7 +49,7 @@ impl Ratios {
     }
 }
 
-fn time<S: Subject, R: Threads + Wait + Clock + Sync>(
+fn time<S: Subject, R: Threads + Wait + Clock + CpuClock + Sync>(
     rt: &R,
     alloc: Global,
     catalogue: &Catalogue,
@@ -74,7 +75,7 @@ fn time<S: Subject, R: Threads + Wait + Clock + Sync>(
 }
 
 // Times the tables by turns, and prints a line for each two of them.
-fn report<R: Threads + Wait + Clock + Print + Sync>(
+fn report<R: Threads + Wait + Clock + CpuClock + Print + Sync>(
     rt: &R,
     alloc: Global,
     catalogue: &Catalogue,
@@ -105,7 +106,7 @@ fn report<R: Threads + Wait + Clock + Print + Sync>(
 
 /// Measures every case on 1, 2 and 4 threads, so many rounds, and prints a line for each two tables that are measured
 /// beside each other. `None` where memory, a clock or standard output is refused.
-pub(crate) fn report_all<R: Threads + Wait + Clock + Print + Sync>(
+pub(crate) fn report_all<R: Threads + Wait + Clock + CpuClock + Print + Sync>(
     rt: &R,
     alloc: Global,
     catalogue: &Catalogue,

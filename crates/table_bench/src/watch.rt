@@ -1,13 +1,19 @@
 //! How long threads work beside each other, from where all of them have been started.
 use std::rt::Clock;
 use std::sync::atomic::{AtomicU32, AtomicU64, Ordering};
-use std::time::Instant;
+use std::time::{CpuClock, Instant};
 use std::{io, thread};
 
 // How often a thread looks whether the others have been started: where one can't be, the rest begin without it.
 const MOST_LOOKS: u32 = 1_000_000;
 
-/// When the first of some threads began and when the last one ended, in nanoseconds from one moment on.
+/// The nanoseconds of the processor that this thread has used: other work on the machine disturbs them less than a clock.
+pub(crate) fn used<R: CpuClock>(rt: &R) -> Option<u64> {
+    u64::try_from(rt.thread_cpu_time().ok()?.as_nanos()).ok()
+}
+
+/// When the first of some threads began and when the last one ended, in nanoseconds from one moment on. A thread that is
+/// alone is measured by the processor's time, and several by the clock.
 #[derive(Drop)]
 pub(crate) struct Watch {
     base: Instant,
@@ -30,7 +36,10 @@ impl Watch {
     }
 
     // The nanoseconds up to now, or 0 where the clock can't be read.
-    fn now<R: Clock>(&self, rt: &R) -> u64 {
+    fn now<R: Clock + CpuClock>(&self, rt: &R) -> u64 {
+        if self.threads == 1 {
+            return used(rt).unwrap_or(0);
+        }
         match self.base.elapsed(rt) {
             Ok(since) => u64::try_from(since.as_nanos()).unwrap_or(0),
             Err(_) => 0,
@@ -38,7 +47,7 @@ impl Watch {
     }
 
     /// A thread begins, when all are there.
-    pub(crate) fn begin<R: Clock>(&self, rt: &R) {
+    pub(crate) fn begin<R: Clock + CpuClock>(&self, rt: &R) {
         self.started.fetch_add(1, Ordering::SeqCst);
         for _ in 0..MOST_LOOKS {
             if self.started.load(Ordering::SeqCst) >= self.threads {
@@ -50,7 +59,7 @@ impl Watch {
     }
 
     /// A thread has ended.
-    pub(crate) fn end<R: Clock>(&self, rt: &R) {
+    pub(crate) fn end<R: Clock + CpuClock>(&self, rt: &R) {
         self.last.fetch_max(self.now(rt), Ordering::SeqCst);
     }
 

@@ -9,6 +9,7 @@ use std::rt::Clock;
 use std::sync::Wait;
 use std::thread;
 use std::thread::Threads;
+use std::time::CpuClock;
 
 /// What is done again and again.
 #[derive(Clone, Copy)]
@@ -143,7 +144,7 @@ fn do_job<S: Subject, R: Wait>(
 }
 
 // The i-th thread works when all are there.
-fn work_together<S: Subject, R: Wait + Clock>(
+fn work_together<S: Subject, R: Wait + Clock + CpuClock>(
     rt: &R,
     alloc: Global,
     subject: &S,
@@ -163,7 +164,7 @@ fn work_together<S: Subject, R: Wait + Clock>(
 }
 
 // Each pass in a thread of its own.
-fn do_jobs<S: Subject, R: Threads + Wait + Clock + Sync>(
+fn do_jobs<S: Subject, R: Threads + Wait + Clock + CpuClock + Sync>(
     rt: &R,
     alloc: Global,
     subject: &S,
@@ -191,7 +192,7 @@ fn do_jobs<S: Subject, R: Threads + Wait + Clock + Sync>(
 }
 
 /// Each of the passes works in a thread of its own, at the same job, while the watch runs.
-pub(crate) fn work_all<S: Subject, R: Threads + Wait + Clock + Sync>(
+pub(crate) fn work_all<S: Subject, R: Threads + Wait + Clock + CpuClock + Sync>(
     rt: &R,
     alloc: Global,
     subject: &S,
