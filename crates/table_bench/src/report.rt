@@ -43,7 +43,8 @@ impl Ratios {
         let middle = self.hundredths.len() / 2;
         if let Some(median) = self.hundredths.get(middle).copied() {
             let (name, whole, part) = (self.name, median / 100, median % 100);
-            println!(rt; "{case}, {threads} threads: {name} {whole}.{part:02}").ok()?;
+            let by = if threads == 1 { "thread" } else { "threads" };
+            println!(rt; "{case}, {threads} {by}: {name} {whole}.{part:02}").ok()?;
         }
         Some(())
     }
