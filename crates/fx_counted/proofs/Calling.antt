@@ -1,10 +1,13 @@
 -- What a call of a table needs for its steps.
-use Rattle.std.proofs.Common.{◌≡◌, ℕ, ◌<◌, ◌≤◌, inl, inr, sym, ap, ◌∙◌, subst, arith}
-use Rattle.fx_table.specs.Opening.{size_of}
+use Rattle.std.proofs.Common.{◌≡◌, ℕ, true, ◌<◌, ◌≤◌, inl, inr, sym, ap, ◌∙◌, subst, arith}
+use Rattle.fx_table.specs.Opening.{size_of, range_of}
+use Rattle.fx_words.specs.Words.{full_word_of}
 use Rattle.fx_table.specs.declared.limits.TheConstants.{MAX_CHAINS}
+use Rattle.fx_counted.specs.Changing.{InRange}
 use Rattle.fx_counted.specs.Layout.{HasNode, slot_of, slot_place, node_place, home_place}
-use Rattle.fx_counted.specs.Passes.{slots_of, IsNumber}
+use Rattle.fx_counted.specs.Passes.{opening_of, slots_of, IsNumber}
 use Rattle.fx_counted.specs.Tables.{opening_of_table}
+use Rattle.fx_counted.specs.declared.view.Start.{Start}
 use Rattle.fx_counted.specs.declared.table.CountedTable.{CountedTable}
 use Rattle.fx_counted.proofs.Places.{inside, apart}
 
@@ -45,3 +48,14 @@ home_is_at t n i is = is ∙ ap (λ (z : ℕ). home_place z n) t.same_size
 -- the slot whose word lies there
 pub slot_at : (t : CountedTable) (slot i : ℕ) → i ≡ slot_place slot → slot_of i ≡ slot
 slot_at t slot i is = ap slot_of is ∙ (apart t.size t.chains t.few_slots).slot_back slot
+
+-- a slot of the range is one of the table
+pub in_size : (t : CountedTable) (slot : ℕ) → InRange t.table.shared.key slot true → slot < size_of (opening_of_table t)
+in_size t slot r = let few = t.range_inside in let size = t.same_size in
+    let start = ap (λ (z : ℕ × ℕ). z.0) t.same_range in let len = ap (λ (z : ℕ × ℕ). z.1) t.same_range in
+    let below = r.1 in omega arith
+
+-- the word that says that the range is full
+pub full_of : (t : CountedTable) (k : Start) → k ≡ t.table.shared.key
+    → full_word_of t.range_len ≡ full_word_of (range_of (opening_of k)).1
+full_of t k is = ap (λ (z : ℕ × ℕ). full_word_of z.1) t.same_range ∙ ap (λ (z : Start). full_word_of (range_of (opening_of z)).1) (sym is)

@@ -56,7 +56,7 @@ given_else lo hi p phase n out = go (dec_le lo n) (dec_le (n + 1) hi)
     go (no f) e = refl
     go (yes _) (no f) = refl
 
-once_in : (n p : ℕ) → 0 < p → p ≤ n → once n p ≡ 1
+pub once_in : (n p : ℕ) → 0 < p → p ≤ n → once n p ≡ 1
 once_in n zero a b = absurd (omega arith)
 once_in n (suc p) a b = ap one_if (lt-ltb p n (omega arith))
 
@@ -64,14 +64,14 @@ once_out : (n p : ℕ) → n < p → once n p ≡ 0
 once_out n zero b = refl
 once_out n (suc p) b = ap one_if (le-ltb p n (omega arith))
 
-once_some : (n p : ℕ) → 0 < once n p → p ≤ n
+pub once_some : (n p : ℕ) → 0 < once n p → p ≤ n
 once_some n zero a = omega arith
 once_some n (suc p) a = dite (dec_le (suc p) n) (λ l. l) (λ g. let z = once_out n (suc p) (omega (arith, g)) in absurd (omega arith))
 
-bit_here : (p q : ℕ) → q ≡ p → one_if (eqb q p) ≡ 1
+pub bit_here : (p q : ℕ) → q ≡ p → one_if (eqb q p) ≡ 1
 bit_here p q e = rw (eq-eqb q p e) refl
 
-bit_else : (p q : ℕ) → q ≢ p → one_if (eqb q p) ≡ 0
+pub bit_else : (p q : ℕ) → q ≢ p → one_if (eqb q p) ≡ 0
 bit_else p q e = rw (ne_eqb q p e) refl
 
 told_few : (l : List Log) → sum_by (λ y. one_if y.no_chains_left) l ≤ length l

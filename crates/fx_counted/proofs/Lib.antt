@@ -22,5 +22,15 @@ pub mod Openings
 pub mod Going
 pub mod Naming
 pub mod Calling
+pub mod Shells
+pub mod FirstWords
+pub mod FirstHomes
+pub mod Starting
+pub mod Dealing
 pub mod Telling
 pub mod Removing
+pub mod Searching
+pub mod Ending
+pub mod Gathered
+pub mod HomeComing
+pub mod Finishing

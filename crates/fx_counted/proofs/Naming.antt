@@ -1,6 +1,8 @@
 -- What is read from the word of a slot, by what the word names.
-use Rattle.std.proofs.Common.{◌≡◌, ℕ, sym, refl, ap, ◌∙◌}
+use Rattle.std.proofs.Common.{◌≡◌, ℕ, sym, refl, ap, ◌∙◌, ◌-◌, ◌≢◌, ne_eqb}
 use Rattle.std.specs.Prelude.{Option, Some, None}
+use mathlib.Core.Logic.{dite}
+use native.Mathlib.Decide.{ℕ_discrete}
 use Rattle.fx_plain.specs.Table.{number_of}
 use Rattle.fx_plain.specs.declared.event.File.{File}
 use Rattle.fx_words.specs.Words.{name_in, named, node_in, entry_in}
@@ -20,3 +22,11 @@ pub names_some : (word : ℕ) (file : Option File) (n : ℕ) → Names word file
     → (f : File) × (file ≡ Some f) × (n ≡ f.number) × (entry_in word ≡ f.identity.entry)
 names_some word None n e is = let bad : None ≡ Some n = sym (node_is word None e) ∙ is in absurd (cc bad)
 names_some word (Some f) n e is = let same : Some f.number ≡ Some n = sym (node_is word (Some f) e) ∙ is in (f, refl, sym (cc same), e.1)
+
+named_some : (name : ℕ) → name ≢ 0 → named name ≡ Some (name - 1)
+named_some name some = rw (ne_eqb name 0 some) refl
+
+-- a word that names nothing
+pub no_name : (word : ℕ) → node_in word ≡ None → name_in word ≡ 0
+no_name word is = dite (ℕ_discrete (name_in word) 0) (λ e. e)
+    (λ some. let bad : Some (name_in word - 1) ≡ None = sym (named_some (name_in word) some) ∙ is in absurd (cc bad))

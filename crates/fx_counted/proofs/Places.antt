@@ -4,16 +4,16 @@ use Rattle.fx_table.specs.Numbers.{numbers_for}
 use Rattle.fx_counted.specs.Layout.{node_place, words_for, home_place, homes_for, HasNode, PlacesAreInside, PlacesAreApart}
 
 module _ (size : ℕ) where
-  low_node : (n : ℕ) → n < size → node_place size n ≡ 17 + 8 * n
+  pub low_node : (n : ℕ) → n < size → node_place size n ≡ 17 + 8 * n
   low_node n l = ap (λ (b : Bool). cond b (17 + 8 * n) (16 + 8 * size + (n - 256))) (lt-ltb n size l)
 
-  high_node : (n : ℕ) → size ≤ n → node_place size n ≡ 16 + 8 * size + (n - 256)
+  pub high_node : (n : ℕ) → size ≤ n → node_place size n ≡ 16 + 8 * size + (n - 256)
   high_node n g = ap (λ (b : Bool). cond b (17 + 8 * n) (16 + 8 * size + (n - 256))) (le-ltb n size g)
 
-  low_home : (n : ℕ) → n < size → home_place size n ≡ n
+  pub low_home : (n : ℕ) → n < size → home_place size n ≡ n
   low_home n l = ap (λ (b : Bool). cond b n (size + (n - 256))) (lt-ltb n size l)
 
-  high_home : (n : ℕ) → size ≤ n → home_place size n ≡ size + (n - 256)
+  pub high_home : (n : ℕ) → size ≤ n → home_place size n ≡ size + (n - 256)
   high_home n g = ap (λ (b : Bool). cond b n (size + (n - 256))) (le-ltb n size g)
 
   module _ (chains : ℕ) (few : size ≤ 256) where

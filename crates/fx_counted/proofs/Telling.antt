@@ -10,12 +10,12 @@ use Rattle.fx_counted.specs.Control.{in_change, added, removed_by}
 use Rattle.fx_counted.specs.Laws.{HasPass, MayChange}
 use Rattle.fx_counted.specs.Layout.{control_place}
 use Rattle.fx_counted.specs.Passes.{Sat}
-use Rattle.fx_counted.specs.Tells.{GoesOn}
+use Rattle.fx_counted.specs.Tells.{GoesOn, Answers}
 use Rattle.fx_counted.specs.declared.view.Change.{Change}
 use Rattle.fx_counted.specs.declared.view.Change.TheVariants.{Outside, Same, More, Less}
 use Rattle.fx_counted.specs.declared.view.Log.{Log}
 use Rattle.fx_counted.specs.declared.view.Start.{Start}
-use Rattle.fx_counted.proofs.ControlSteps.{begins_keep, ends_keep}
+use Rattle.fx_counted.proofs.ControlSteps.{begins_keep, ends_keep, answers_keep}
 
 pub begins_by : (k : Start) (slots id i amount : ℕ) (m : Sat) (x : Log) → HasPass k m x → m.0.change ≡ Outside → i ≡ control_place
     → amount ≡ one_change
@@ -41,3 +41,10 @@ ends_by k slots id i amount delta m x its tells is place =
 pub may_change : (k : Start) (slot : ℕ) (began : Bool) (c : Change) → InRange k slot began → c ≡ begun began → MayChange k slot c
 may_change k slot true c range is = inl (range, is)
 may_change k slot false c range is = inr (range, is)
+
+pub answers_by : (k : Start) (slots id i amount : ℕ) (m : Sat) (x : Log) → HasPass k m x → m.0.change ≡ Same → i ≡ control_place
+    → amount ≡ one_change
+    → Allows (Agrees k) slots id m i (λ word. (word + (2 ^ 64 - amount)) % 2 ^ 64) (Answers (step slots i amount 0 none) m)
+answers_by k slots id i amount m x its same place is =
+    subst (λ (a : ℕ). Allows (Agrees k) slots id m i (λ word. (word + (2 ^ 64 - a)) % 2 ^ 64) (Answers (step slots i a 0 none) m)) (sym is)
+    (answers_keep k slots id i m x its same place)

@@ -12,4 +12,8 @@ pub mod Opens
 pub mod Goes
 pub mod Moves
 pub mod Changing
+pub mod Searching
 pub mod Tables
+pub mod Shells
+pub mod Firsts
+pub mod Lives

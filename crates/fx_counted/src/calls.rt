@@ -1,6 +1,6 @@
 //! The calls of a pass that wait for nobody, take no memory and try nothing again: each makes at most as many atomic
 //! steps as its clause says.
-ghost use Rattle.std.specs.Prelude.{◌≡◌, ◌+◌, ◌<◌, ◌≤◌, Option, option_map};
+ghost use Rattle.std.specs.Prelude.{◌≡◌, ◌+◌, ◌<◌, ◌≤◌, true, Option, option_map};
 ghost use Rattle.fx_plain.specs.declared.event.File.{File};
 ghost use Rattle.fx_table.specs.Calls.{Draws, Looked, Released, Placed, Cleared, Taken, HasRetired};
 ghost use Rattle.fx_table.specs.Opening.{size_of};
@@ -24,8 +24,11 @@ impl CountedTable {
         requires fits { IsPassOfTable self.now pass.old }
         requires idle { IsIdle (view_of pass.old) }
         ensures fits { IsPassOfTable self.now pass.new }
-        ensures drawn { Draws (opening_of_table self.now) (view_of pass.old) result (view_of pass.new) }
+        ensures drawn { let o = opening_of_table self.now in
+            Draws o (view_of pass.old) result (view_of pass.new) }
         ensures steps { steps_taken pass.new ≤ steps_taken pass.old + 1 }
+        ensures no_step { (view_of pass.old).no_chains_left ≡ true
+            → steps_taken pass.new ≡ steps_taken pass.old }
     {
         if pass.no_chains_left {
             return None;
@@ -209,7 +212,7 @@ impl CountedTable {
     }
 
     // The number that the pass's next installation uses.
-    fn next_number(&self, pass: &CountedPass) -> u32
+    pub(crate) fn next_number(&self, pass: &CountedPass) -> u32
         requires fits { IsPassOfTable self.now pass.now }
         ensures number { result ≡ next_number (view_of pass.now) }
     {

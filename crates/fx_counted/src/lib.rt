@@ -3,13 +3,19 @@
 #![tactic(auto)]
 
 mod calls;
+mod close;
+mod file_table;
+mod free_slot;
 mod in_range;
 mod kinds;
 pub mod laws;
 pub mod layout;
 mod moves;
+mod open;
 mod pass;
 mod queries;
+mod round;
+mod shell;
 mod table;
 #[cfg(test)]
 mod tests;

@@ -14,7 +14,7 @@ use atomic_table::Seat;
 use fx_base::OpenFile;
 
 // The word of a number whose file was not released yet.
-const BORN: u64 = 1 << 32;
+pub(crate) const BORN: u64 = 1 << 32;
 
 impl CountedTable {
     // The place of the pass's next number comes to the pass, and the file goes into it.

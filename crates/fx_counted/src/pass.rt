@@ -1,6 +1,10 @@
+ghost use Rattle.std.specs.Prelude.{◌≡◌};
+ghost use Rattle.fx_counted.specs.Lives.{IsNewPass};
+
 use crate::view::View;
 use atomic_table::Seat;
 use fx_base::OpenFile;
+use fx_table::PASS_LOOKS;
 
 /// A pass of a [`crate::CountedTable`]. It is no `Drop`: a program that lets one go is not accepted. Two passes that lie
 /// side by side in a list are 128 bytes apart, so that threads that use them share no cache line.
@@ -19,4 +23,37 @@ pub struct CountedPass {
 #[derive(Drop)]
 pub(crate) struct Spacing {
     unused: [u64; 14],
+}
+
+impl CountedPass {
+    // The pass of a seat that has done nothing.
+    pub(crate) fn new(seat: Seat<Option<OpenFile>, View>) -> CountedPass
+        ensures { IsNewPass seat result }
+    {
+        CountedPass {
+            seat,
+            chain: 0,
+            no_chains_left: false,
+            numbers_left: 0,
+            looks_left: PASS_LOOKS,
+            idle: true,
+            spacing: Spacing { unused: [0; 14] },
+        }
+    }
+
+    // The seat of the pass.
+    pub(crate) fn into_seat(self) -> Seat<Option<OpenFile>, View>
+        ensures { result ≡ self.seat }
+    {
+        let CountedPass {
+            seat,
+            chain: _,
+            no_chains_left: _,
+            numbers_left: _,
+            looks_left: _,
+            idle: _,
+            spacing: _,
+        } = self;
+        seat
+    }
 }

@@ -1,13 +1,16 @@
 ghost use Rattle.std.specs.Prelude.{◌≡◌, ◌≤◌, ◌+◌};
 ghost use Rattle.fx_table.specs.declared.limits.TheConstants.{MAX_CHAINS, MAX_PASSES};
 ghost use Rattle.fx_table.specs.Opening.{size_of, range_of};
+ghost use Rattle.fx_plain.specs.Contents.{state_of};
 ghost use Rattle.fx_counted.specs.Layout.{words_for, homes_for};
 ghost use Rattle.fx_counted.specs.Passes.{opening_of};
+ghost use Rattle.fx_counted.specs.Shells.{IsShellOf};
 
 use crate::kinds::OneHistory;
 use crate::view::{Start, View};
 use atomic_table::Table;
 use fx_base::OpenFile;
+use fx_plain::PlainTable;
 use std::alloc::Global;
 
 /// A file table that threads share without a lock. A look-up is one atomic addition to the slot's word, and a release
@@ -15,6 +18,8 @@ use std::alloc::Global;
 /// go is not accepted (this project's own).
 pub struct CountedTable {
     pub(crate) table: Table<Option<OpenFile>, View, Start, OneHistory, Global>,
+    // The table that was opened, without its files: they go back into it at the close, which so takes no memory.
+    pub(crate) shell: PlainTable,
     pub(crate) chains: u32,
     pub(crate) passes: u32,
     pub(crate) size: u32,
@@ -27,5 +32,7 @@ pub struct CountedTable {
     pub ghost same_range: { (range_start, range_len) ≡ range_of (opening_of table.shared.key) },
     pub ghost few_slots: { size ≤ 256 },
     pub ghost range_inside: { range_start + range_len ≤ size },
+    pub ghost emptied: { IsShellOf (state_of (opening_of table.shared.key).contents)
+        (state_of shell) },
     pub ghost bounds: { (chains ≤ MAX_CHAINS) × (1 ≤ passes) × (passes ≤ MAX_PASSES) },
 }

@@ -1,0 +1,175 @@
+-- What lies in the places at the settled end, and how it comes back.
+use Rattle.std.proofs.Common.{◌≡◌, ℕ, zero, suc, ◌+◌, ◌-◌, ◌<◌, List, [], ◌∷◌, length, set, sym, refl, ap, ◌∙◌, subst, arith, inl, inr}
+use Rattle.std.specs.Prelude.{Option, Some, None, slice_index}
+use mathlib.Core.Logic.{dite}
+use mathlib.Core.Option.{some, some-injective, some-ne-none}
+use native.Mathlib.Decide.{dec_le}
+use lib.ListN.{get_elem?}
+use Rattle.atomic_table.specs.Table.{Final, Seen}
+use Rattle.fx_base.specs.declared.open_file.Closed.{Closed}
+use Rattle.fx_plain.specs.Contents.{Contents, state_of}
+use Rattle.fx_plain.specs.State.{State}
+use Rattle.fx_plain.specs.Table.{number_of, identity_of}
+use Rattle.fx_plain.specs.declared.event.File.{File}
+use Rattle.fx_table.specs.Opening.{HasSameFiles}
+use Rattle.fx_table.specs.declared.limits.TheConstants.{MAX_CHAINS}
+use Rattle.fx_counted.specs.Agrees.{Names, Agrees}
+use Rattle.fx_counted.specs.Layout.{HasNode, slot_place, home_place, homes_for}
+use Rattle.fx_counted.specs.Lives.{AllAreIdle, Leaves}
+use Rattle.fx_counted.specs.Passes.{Shared, slots_of, IsNumber, state_after_all}
+use Rattle.fx_counted.specs.Shells.{IsShellOf, GetsFile, AreBack}
+use Rattle.fx_counted.specs.declared.table.CountedTable.{CountedTable}
+use Rattle.fx_counted.specs.declared.view.Start.{Start}
+use Rattle.fx_counted.specs.declared.view.View.{View}
+use Rattle.fx_counted.specs.declared.view.Work.TheVariants.{Idle}
+use Rattle.fx_counted.proofs.Calling.{has_node}
+use Rattle.fx_counted.proofs.Ending.{home_file, file_home, one_slot, none_outside_end}
+use Rattle.fx_counted.proofs.Frames.{inside_list}
+use Rattle.fx_counted.proofs.Histories.{same_shape}
+use Rattle.fx_counted.proofs.HomeComing.{number_at, file_of, file_at, without, emptied, AreAtHome, here_at, none_past, untouched}
+use Rattle.fx_counted.proofs.Naming.{node_is}
+use Rattle.fx_counted.proofs.Places.{apart, low_home, high_home}
+use Rattle.fx_counted.proofs.Shells.{IsPartlyBack, none_first, one_first}
+use Rattle.fx_counted.proofs.Starting.{at_place}
+
+pub word_at_place : (ws : List ℕ) (i w : ℕ) → get_elem? ws i ≡ some w → slice_index ws i ≡ w
+word_at_place [] i w e = absurd (some-ne-none w (sym e))
+word_at_place (x ∷ ws) zero w e = some-injective x w e
+word_at_place (x ∷ ws) (suc i) w e = word_at_place ws i w e
+
+-- one slot's file comes back, or there is none
+module _ (size : ℕ) (words : List ℕ) (chains : ℕ) (xs : List (Option Closed)) (home : AreAtHome size words chains xs) (shell : State)
+    (slot : ℕ) (inside : slot < size) (now : List (Option Closed)) (are : now ≡ emptied size words slot xs) (st : State)
+    (part : IsPartlyBack shell (file_at size words xs) slot size st) where
+  file_is : (n place : ℕ) (x : Option Closed) → number_at size words slot ≡ Some n → place ≡ home_place size n → get_elem? now place ≡ some x
+      → file_at size words xs slot ≡ x
+  file_is n place x named is there = here_at size words xs slot inside ∙ (ap (file_of size words xs) named
+      ∙ at_place xs (home_place size n) x (sym (untouched size words chains xs home slot slot n (omega arith) inside named)
+      ∙ (ap (λ (l : List (Option Closed)). get_elem? l (home_place size n)) (sym are) ∙ (ap (get_elem? now) (sym is) ∙ there))))
+
+  pub some_back : (n place : ℕ) (one : Closed) (st' : State) → number_at size words slot ≡ Some n → place ≡ home_place size n
+      → get_elem? now place ≡ some (Some one) → GetsFile st slot one st' → IsPartlyBack shell (file_at size words xs) (slot + 1) size st'
+  some_back n place one st' named is there gets =
+      one_first shell (file_at size words xs) st st' slot size one (file_is n place (Some one) named is there) gets part
+
+  pub none_back : (n place : ℕ) → number_at size words slot ≡ Some n → place ≡ home_place size n
+      → get_elem? now place ≡ some None → IsPartlyBack shell (file_at size words xs) (slot + 1) size st
+  none_back n place named is there = none_first shell (file_at size words xs) st slot size (file_is n place None named is there) inside part
+
+  pub none_named : number_at size words slot ≡ None → IsPartlyBack shell (file_at size words xs) (slot + 1) size st
+  none_named named = none_first shell (file_at size words xs) st slot size
+      (here_at size words xs slot inside ∙ ap (file_of size words xs) named) inside part
+
+  next : suc slot ≡ slot + 1
+  next = omega arith
+
+  pub place_emptied : (n place : ℕ) (new : List (Option Closed)) → number_at size words slot ≡ Some n → place ≡ home_place size n
+      → new ≡ set now place None → new ≡ emptied size words (slot + 1) xs
+  place_emptied n place new named is written = written ∙ ((λ i. set (are i) (is i) None)
+      ∙ (ap (λ (m : Option ℕ). without size words m (emptied size words slot xs)) (sym named) ∙ ap (λ (m : ℕ). emptied size words m xs) next))
+
+  pub none_emptied : number_at size words slot ≡ None → now ≡ emptied size words (slot + 1) xs
+  none_emptied named = are ∙ (ap (λ (m : Option ℕ). without size words m (emptied size words slot xs)) (sym named)
+      ∙ ap (λ (m : ℕ). emptied size words m xs) next)
+
+-- the places at the end
+module _ (k : Start) (s : Shared) (r : Agrees k s) (all_idle : (i : ℕ) (u : View) → get_elem? s.views i ≡ some u → u.work ≡ Idle)
+    (words : List ℕ) (xs : List (Option Closed)) (same : s.words ≡ words) (long : length s.homes ≡ length xs)
+    (at_home : (place : ℕ) (y : Option Closed) → get_elem? s.homes place ≡ some (some y) → get_elem? xs place ≡ some y) where
+  abbrev end : State
+  end = state_after_all k r.history
+
+  abbrev size : ℕ
+  size = slots_of k
+
+  number_is : (slot : ℕ) → slot < size → number_at size words slot ≡ number_of (end.at slot)
+  number_is slot l = node_is (slice_index words (slot_place slot)) (end.at slot)
+      (subst (λ (ws : List ℕ). Names (slice_index ws (slot_place slot)) (end.at slot)) same (r.each_slot slot l).names)
+
+  named : (slot n : ℕ) → slot < size → number_at size words slot ≡ Some n → (f : File) × (end.at slot ≡ Some f) × (f.number ≡ n)
+  named slot n l is = go (end.at slot) (sym (number_is slot l) ∙ is)
+    where
+      go : (found : Option File) → number_of found ≡ Some n → (f : File) × (found ≡ Some f) × (f.number ≡ n)
+      go None e = absurd (cc e)
+      go (Some f) e = (f, refl, cc e)
+
+  pub known : (slot n : ℕ) → slot < size → number_at size words slot ≡ Some n → IsNumber k n
+  known slot n l is = let f = named slot n l is in subst (IsNumber k) f.2 (file_home k s r all_idle slot f.0 l f.1).0
+
+  home_is : (slot n : ℕ) (l : slot < size) (is : number_at size words slot ≡ Some n)
+      → get_elem? xs (home_place size n) ≡ some (Some (named slot n l is).0.identity)
+  home_is slot n l is = let f = named slot n l is in
+      subst (λ (m : ℕ). get_elem? xs (home_place size m) ≡ some (Some f.0.identity)) f.2 (at_home _ _ (file_home k s r all_idle slot f.0 l f.1).1)
+
+  -- the number whose file would lie there
+  by_place : (place : ℕ) → place < homes_for size k.chains → (n : ℕ) × IsNumber k n × (home_place size n ≡ place)
+  by_place place l = dite (dec_le (suc place) size)
+      (λ low. (place, inl (omega (arith, low)), low_home size place (omega (arith, low))))
+      (λ high. let n : ℕ = 256 + (place - size) in
+      let few = r.shape.slots in
+      let e = high_home size n (omega (arith, few)) in (n, inr (omega arith, omega (arith, high, l, few)), omega (arith, e, high)))
+
+  pub are_at_home : AreAtHome size words k.chains xs
+  are_at_home = record {
+    count = sym long ∙ r.shape.homes;
+    inside = λ slot n l is. inside_list xs (home_place size n) _ (home_is slot n l is);
+    apart = λ slot other n m l l' ne is is'.
+        let f = named slot n l is in
+        let g = named other m l' is' in
+        (apart size k.chains r.shape.slots).homes n m (known slot n l is) (known other m l' is')
+        (λ same. ne (one_slot k s r all_idle slot other f.0 g.0 l l' f.1 g.1 (f.2 ∙ (same ∙ sym g.2))));
+    others = λ place file there.
+        let inside = inside_list xs place (Some file) there in
+        let wide = r.shape.homes in
+        let b = by_place place (omega (arith, inside, long, wide)) in
+        let h = home_file k s r all_idle b.0 b.1 in
+        let here = at_home place h.0 (ap (get_elem? s.homes) (sym b.2) ∙ h.1) in
+        let is : h.0 ≡ Some file = some-injective h.0 (Some file) (sym here ∙ there) in
+        let o = h.2 file is in
+        (o.0, b.0, o.1, number_is o.0 o.1 ∙ ap number_of o.2, b.2);
+  }
+
+  files_are : (slot : ℕ) → file_at size words xs slot ≡ identity_of (end.at slot)
+  files_are slot = dite (dec_le (suc slot) size)
+      (λ low. let l : slot < size = omega (arith, low) in here_at size words xs slot l
+      ∙ (ap (file_of size words xs) (number_is slot l) ∙ go slot l (end.at slot) refl))
+      (λ high. none_past size words xs slot (omega (arith, high)) ∙ sym (ap identity_of (none_outside_end k s r all_idle slot (omega (arith, high)))))
+    where
+      go : (slot : ℕ) → slot < size → (found : Option File) → end.at slot ≡ found → file_of size words xs (number_of found) ≡ identity_of found
+      go slot l None e = refl
+      go slot l (Some f) e = at_place xs (home_place size f.number) (Some f.identity) (at_home _ _ (file_home k s r all_idle slot f l e).1)
+
+  pub leaves_files : (shell : Contents) (left : Contents) → IsShellOf (state_of k.plain.value) (state_of shell)
+      → AreBack (state_of shell) (file_at size words xs) (state_of left) → HasSameFiles end (state_of left)
+  leaves_files shell left empty back = let shape = same_shape k r.history in record {
+    size = back.size ∙ (empty.size ∙ sym shape.0);
+    range = back.range ∙ (empty.range ∙ sym shape.1);
+    files = λ slot. back.files slot ∙ files_are slot;
+  }
+
+-- the end of a table whose passes are all idle
+module _ (t : CountedTable) (id : ℕ) (v : View) (words : List ℕ) (xs : List (Option Closed))
+    (final : Final (Seen (Agrees t.table.shared.key) id v) words xs) (idle : AllAreIdle t.table.shared.key id v) where
+  abbrev k : Start
+  k = t.table.shared.key
+
+  all_idle : (i : ℕ) (u : View) → get_elem? final.0.views i ≡ some u → u.work ≡ Idle
+  all_idle = idle final.0 final.1.0 final.1.1
+
+  pub home_at_end : AreAtHome t.size words t.chains xs
+  home_at_end = subst (λ (z : ℕ × ℕ). AreAtHome z.0 words z.1 xs) (λ i. (sym t.same_size i, sym t.key.0 i))
+      (are_at_home k final.0 final.1.0 all_idle words xs final.2 final.3 final.4)
+
+  pub known_at_end : (slot n : ℕ) → slot < t.size → number_at t.size words slot ≡ Some n → HasNode t.size MAX_CHAINS n
+  known_at_end slot n l is = let size = t.same_size in
+      has_node t n (known k final.0 final.1.0 all_idle words xs final.2 final.3 final.4 slot n (omega arith) is)
+
+  pub leaves_at_end : (left : Contents) → AreBack (state_of t.shell) (file_at t.size words xs) (state_of left) → Leaves k id v left
+  leaves_at_end left back = record {
+    last = final.0;
+    rule = final.1.0;
+    view = final.1.1;
+    files = leaves_files k final.0 final.1.0 all_idle words xs final.2 final.3 final.4 t.shell left t.emptied
+        (subst (λ (n : ℕ). AreBack (state_of t.shell) (file_at n words xs) (state_of left)) t.same_size back);
+    settled = back.settled;
+  }

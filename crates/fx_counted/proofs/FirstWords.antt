@@ -1,0 +1,159 @@
+-- The words of a table as they are written, one slot after the other.
+use Rattle.std.proofs.Common.{◌≡◌, ◌≢◌, true, false, ℕ, zero, suc, ◌+◌, ◌-◌, ◌*◌, ◌<◌, ◌≤◌, List, length, get_or, set, replicate, sym, refl, ap, ◌∙◌, arith, get_or-set_same, get_or-set_other}
+use Rattle.std.specs.Prelude.{Option, Some, None, option_map, slice_index, is_some}
+use mathlib.Core.Logic.{dite}
+use native.Mathlib.Decide.{ℕ_discrete}
+use lib.ListN.{length-set, length-replicate}
+use Rattle.fx_plain.specs.State.{State, file_numbered}
+use Rattle.fx_plain.specs.declared.event.File.{File}
+use Rattle.fx_words.specs.Words.{born, slot_word_of, control_word_of}
+use Rattle.fx_counted.specs.Control.{full_in, if_full}
+use Rattle.fx_counted.specs.Firsts.{first_at, AreFirstWords}
+use Rattle.fx_counted.specs.Layout.{control_place, draw_place, slot_place, node_place, words_for}
+use Rattle.fx_counted.specs.Opens.{word_for, node_for}
+use Rattle.fx_counted.proofs.Places.{low_node}
+
+-- the words of the slots below this one are written
+pub record AreWordsSoFar (st : State) (chains done : ℕ) (words : List ℕ) : Type 0 where
+  pub count : length words ≡ words_for st.size chains
+  pub entries : (slot : ℕ) (f : File) → slot < done → first_at st slot ≡ Some f → f.identity.entry < 256
+  pub control : slice_index words control_place ≡ control_word_of (full_in (first_at st) st.range.0 st.range.1)
+  pub draw : slice_index words draw_place ≡ 0
+  pub slots : (slot : ℕ) → slot < done → slice_index words (slot_place slot) ≡ word_for (first_at st slot)
+  pub nodes : (slot : ℕ) → slot < done → slice_index words (node_place st.size slot) ≡ node_for (first_at st slot)
+  pub rest : (place : ℕ) → 16 + 8 * done ≤ place → slice_index words place ≡ 0
+
+zeros_at : (n place : ℕ) → slice_index (replicate n 0) place ≡ 0
+zeros_at zero place = refl
+zeros_at (suc n) zero = refl
+zeros_at (suc n) (suc place) = zeros_at n place
+
+pub none_so_far : (st : State) (chains : ℕ) (zeros words : List ℕ) (full : ℕ) → zeros ≡ replicate (words_for st.size chains) 0
+    → full ≡ full_in (first_at st) st.range.0 st.range.1 → words ≡ set zeros control_place (control_word_of full) → AreWordsSoFar st chains 0 words
+none_so_far st chains zeros words full are is written = record {
+  count = long;
+  entries = λ slot f l there. absurd (omega arith);
+  control = ap (λ (l : List ℕ). get_or l 0 0) written
+      ∙ (get_or-set_same zeros 0 (control_word_of full) 0 (omega (arith, wide)) ∙ ap control_word_of is);
+  draw = zero_at 8 (omega arith);
+  slots = λ slot l. absurd (omega arith);
+  nodes = λ slot l. absurd (omega arith);
+  rest = λ place g. zero_at place (omega arith);
+}
+  where
+    wide : length zeros ≡ words_for st.size chains
+    wide = ap length are ∙ length-replicate (words_for st.size chains) 0
+
+    long : length words ≡ words_for st.size chains
+    long = ap length written ∙ (length-set zeros control_place (control_word_of full) ∙ wide)
+
+    zero_at : (place : ℕ) → 1 ≤ place → slice_index words place ≡ 0
+    zero_at place l = ap (λ (z : List ℕ). get_or z place 0) written
+        ∙ (get_or-set_other zeros 0 place (control_word_of full) 0 (omega arith)
+        ∙ (ap (λ (z : List ℕ). get_or z place 0) are ∙ zeros_at (words_for st.size chains) place))
+
+module _ (st : State) (chains slot : ℕ) (words : List ℕ) (inside : slot < st.size) (w : AreWordsSoFar st chains slot words) where
+  here : node_place st.size slot ≡ 17 + 8 * slot
+  here = low_node st.size slot inside
+
+  lower : (other : ℕ) → other < slot → node_place st.size other ≡ 17 + 8 * other
+  lower other l = low_node st.size other (omega arith)
+
+  -- an empty slot's words are 0
+  pub none_more : first_at st slot ≡ None → AreWordsSoFar st chains (slot + 1) words
+  none_more vacant = record {
+    count = w.count;
+    entries = λ s f l there. dite (ℕ_discrete s slot)
+        (λ same. let bad : Some f ≡ None = sym there ∙ (ap (first_at st) same ∙ vacant) in absurd (cc bad))
+        (λ ne. w.entries s f (omega (arith, ne)) there);
+    control = w.control;
+    draw = w.draw;
+    slots = λ s l. dite (ℕ_discrete s slot)
+        (λ same. w.rest (slot_place s) (omega (arith, same)) ∙ sym (ap word_for (ap (first_at st) same ∙ vacant)))
+        (λ ne. w.slots s (omega (arith, ne)));
+    nodes = λ s l. dite (ℕ_discrete s slot)
+        (λ same. let e = low_node st.size s (omega (arith, same)) in
+        w.rest (node_place st.size s) (omega (arith, same, e)) ∙ sym (ap node_for (ap (first_at st) same ∙ vacant)))
+        (λ ne. w.nodes s (omega (arith, ne)));
+    rest = λ place g. w.rest place (omega arith);
+  }
+
+  -- those of a slot with a file are written
+  pub one_more : (f : File) (entry : ℕ) (mid new : List ℕ) → first_at st slot ≡ Some f → f.number ≡ slot → entry ≡ f.identity.entry → entry < 256
+      → mid ≡ set words (slot_place slot) (slot_word_of slot entry) → new ≡ set mid (node_place st.size slot) born
+      → AreWordsSoFar st chains (slot + 1) new
+  one_more f entry mid new there number is small first second = record {
+    count = ap length second ∙ (length-set mid (node_place st.size slot) born ∙ (ap length first
+        ∙ (length-set words (slot_place slot) (slot_word_of slot entry) ∙ w.count)));
+    entries = λ s g l at. dite (ℕ_discrete s slot)
+        (λ same. let e : Some g ≡ Some f = sym at ∙ (ap (first_at st) same ∙ there) in let same_file : g ≡ f = cc e in
+        let k = ap (λ (x : File). x.identity.entry) same_file in omega (arith, k, is, small))
+        (λ ne. w.entries s g (omega (arith, ne)) at);
+    control = else 0 (omega arith) (let e = here in omega arith) ∙ w.control;
+    draw = else 8 (omega arith) (let e = here in omega arith) ∙ w.draw;
+    slots = λ s l. dite (ℕ_discrete s slot)
+        (λ same. ap (λ (n : ℕ). get_or new (slot_place n) 0) same ∙ (slot_is ∙ sym (ap word_for (ap (first_at st) same ∙ there))))
+        (λ ne. else (slot_place s) (omega (arith, ne)) (let e = here in omega arith) ∙ w.slots s (omega (arith, ne)));
+    nodes = λ s l. dite (ℕ_discrete s slot)
+        (λ same. ap (λ (n : ℕ). get_or new (node_place st.size n) 0) same ∙ (node_is ∙ sym (ap node_for (ap (first_at st) same ∙ there))))
+        (λ ne. let e = here in let d = lower s (omega (arith, ne)) in
+        else (node_place st.size s) (omega arith) (omega (arith, ne, e, d)) ∙ w.nodes s (omega (arith, ne)));
+    rest = λ place g. else place (omega arith) (let e = here in omega arith) ∙ w.rest place (omega arith);
+  }
+    where
+      else : (place : ℕ) → place ≢ slot_place slot → place ≢ node_place st.size slot → slice_index new place ≡ slice_index words place
+      else place a b = ap (λ (l : List ℕ). get_or l place 0) second ∙ (get_or-set_other mid (node_place st.size slot) place born 0 b
+          ∙ (ap (λ (l : List ℕ). get_or l place 0) first ∙ get_or-set_other words (slot_place slot) place (slot_word_of slot entry) 0 a))
+
+      slot_is : slice_index new (slot_place slot) ≡ slot_word_of f.number f.identity.entry
+      slot_is = ap (λ (l : List ℕ). get_or l (slot_place slot) 0) second
+          ∙ (get_or-set_other mid (node_place st.size slot) (slot_place slot) born 0 (let e = here in omega arith)
+          ∙ (ap (λ (l : List ℕ). get_or l (slot_place slot) 0) first
+          ∙ (get_or-set_same words (slot_place slot) (slot_word_of slot entry) 0 (let c = w.count in omega arith)
+          ∙ λ i. slot_word_of (sym number i) (is i))))
+
+      node_is : slice_index new (node_place st.size slot) ≡ born
+      node_is = ap (λ (l : List ℕ). get_or l (node_place st.size slot) 0) second
+          ∙ get_or-set_same mid (node_place st.size slot) born 0 (let e = here in let c = w.count in
+          let d = ap length first ∙ length-set words (slot_place slot) (slot_word_of slot entry) in omega arith)
+
+pub all_written : (st : State) (chains : ℕ) (words : List ℕ) → AreWordsSoFar st chains st.size words → AreFirstWords st chains words
+all_written st chains words w = record {
+  count = w.count;
+  entries = w.entries;
+  control = w.control;
+  draw = w.draw;
+  slots = w.slots;
+  nodes = w.nodes;
+  fresh = w.rest;
+}
+
+-- the file at a slot, by what is told of its entry
+pub none_told : (found : Option File) (slot : ℕ) → None ≡ option_map (λ (f : File). f.identity.entry) found → file_numbered found slot ≡ None
+none_told None slot e = refl
+none_told (Some f) slot e = absurd (cc e)
+
+pub some_told : (found : Option File) (slot entry : ℕ) → Some entry ≡ option_map (λ (f : File). f.identity.entry) found
+    → (f : File) × (file_numbered found slot ≡ Some f) × (f.number ≡ slot) × (entry ≡ f.identity.entry)
+some_told None slot entry e = absurd (cc e)
+some_told (Some f) slot entry e = (record f { number = slot }, refl, refl, cc e)
+
+pub full_if_some : (found : Option File) (slot : ℕ) (told : Option ℕ) → told ≡ option_map (λ (f : File). f.identity.entry) found
+    → true ≡ is_some told → if_full (file_numbered found slot) ≡ 1
+full_if_some None slot told is some = let bad : true ≡ false = some ∙ ap is_some is in absurd (cc bad)
+full_if_some (Some f) slot told is some = refl
+
+pub empty_if_none : (found : Option File) (slot : ℕ) (told : Option ℕ) → told ≡ option_map (λ (f : File). f.identity.entry) found
+    → false ≡ is_some told → if_full (file_numbered found slot) ≡ 0
+empty_if_none None slot told is none = refl
+empty_if_none (Some f) slot told is none = let bad : false ≡ true = none ∙ ap is_some is in absurd (cc bad)
+
+-- one slot more of the range is counted
+pub one_counted : (st : State) (off slot full new : ℕ) → off ≤ slot → full ≡ full_in (first_at st) off (slot - off)
+    → new ≡ full + if_full (first_at st slot) → new ≡ full_in (first_at st) off ((slot + 1) - off)
+one_counted st off slot full new low so is =
+    let more : suc (slot - off) ≡ (slot + 1) - off = omega arith in
+    let here : off + (slot - off) ≡ slot = omega arith in
+    let there = ap (λ (n : ℕ). if_full (first_at st n)) here in
+    let sum : new ≡ full_in (first_at st) off (suc (slot - off)) = omega (arith, so, is, there) in
+    sum ∙ ap (full_in (first_at st) off) more

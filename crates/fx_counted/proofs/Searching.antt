@@ -1,0 +1,128 @@
+-- A pass that looks for a free slot: what its steps leave, one after another.
+use Rattle.std.proofs.Common.{◌≡◌, ℕ, ◌+◌, Bool, [], ◌∷◌, nat_eq, sym, refl, ap, ◌∙◌, subst, ◌≢◌, ne_eqb, eq-eqb}
+use Rattle.std.specs.Prelude.{Some}
+use mathlib.Core.Logic.{dite}
+use mathlib.Core.Option.{none}
+use native.Mathlib.Decide.{ℕ_discrete}
+use Rattle.atomic_table.specs.Table.{step, rest}
+use Rattle.fx_base.specs.declared.open_file.Closed.{Closed}
+use Rattle.fx_plain.specs.History.{◌▷◌}
+use Rattle.fx_plain.specs.Table.{numbered}
+use Rattle.fx_plain.specs.declared.event.Action.TheVariants.{Allocate, Full}
+use Rattle.fx_table.specs.Calls.{no_use, one_number}
+use Rattle.fx_counted.specs.Goes.{Goes}
+use Rattle.fx_counted.specs.Laws.{place_of}
+use Rattle.fx_counted.specs.Layout.{slot_of}
+use Rattle.fx_counted.specs.Passes.{Sat}
+use Rattle.fx_counted.specs.Searching.{IsPlacing, StillPlaces, HasAllocated, HasFoundAllFull, Tries}
+use Rattle.fx_counted.specs.Tells.{Stepped, Exchanges}
+use Rattle.fx_counted.specs.declared.view.Change.{Change}
+use Rattle.fx_counted.specs.declared.view.Change.TheVariants.{Outside, Same, More}
+use Rattle.fx_counted.specs.declared.view.Start.{Start}
+use Rattle.fx_counted.specs.declared.view.Work.{Work}
+use Rattle.fx_counted.specs.declared.view.Work.TheVariants.{Idle, Placing}
+use Rattle.fx_counted.proofs.Going.{goes_one, goes_none, goes_then, still_at_work}
+
+-- a step that leaves the pass at its work
+pub one_still : (m m' : Sat) (n : ℕ) (c : Change) → m.0.work ≡ Placing n → Stepped m [] no_use m.0.work c m' → m'.1 ≡ m.1
+    → StillPlaces n c m m'
+one_still m m' n c work s same = (
+  (
+    1,
+    goes_one m m' [] no_use (Placing n) c
+        (subst (λ (w : Work). Stepped m [] no_use w c m') work s),
+  ),
+  same,
+)
+
+-- no step at all
+pub none_still : (k : Start) (m : Sat) (n : ℕ) (file : Closed) (c : Change) → IsPlacing k n file m → m.0.change ≡ c → StillPlaces n c m m
+none_still k m n file c p is = (
+  (
+    0,
+    subst (λ (z : Work × Change). Goes m [] no_use z.0 z.1 0 m) (λ i. (p.work i, is i))
+        (goes_none k m p.at.log p.at.pass p.at.front p.at.inside),
+  ),
+  refl,
+)
+
+pub still_then : (m m' m'' : Sat) (n : ℕ) (c c' : Change) → StillPlaces n c m m' → StillPlaces n c' m' m'' → StillPlaces n c' m m''
+still_then m m' m'' n c c' a b = (
+  (a.0.0 + b.0.0, goes_then m m' m'' [] [] no_use no_use (Placing n) (Placing n) c c' a.0.0 b.0.0 a.0.1 b.0.1),
+  b.1 ∙ a.1,
+)
+
+pub allocated_then : (m m' m'' : Sat) (n slot : ℕ) (file : Closed) (c c' : Change) → StillPlaces n c m m'
+    → HasAllocated n file slot c' m' m'' → HasAllocated n file slot c' m m''
+allocated_then m m' m'' n slot file c c' a b = (
+  (a.0.0 + b.0.0, goes_then m m' m'' [] ([] ▷ Allocate slot (numbered n file)) no_use one_number (Placing n) Idle c c' a.0.0 b.0.0 a.0.1 b.0.1),
+  b.1,
+)
+
+pub full_then : (m m' m'' : Sat) (n : ℕ) (c : Change) → StillPlaces n c m m' → HasFoundAllFull n m' m'' → HasFoundAllFull n m m''
+full_then m m' m'' n c a b = (
+  (a.0.0 + b.0.0, goes_then m m' m'' [] ([] ▷ Full) no_use no_use (Placing n) (Placing n) c Outside a.0.0 b.0.0 a.0.1 b.0.1),
+  b.1 ∙ a.1,
+)
+
+-- the pass goes on placing the file
+pub still_placing : (k : Start) (m m' : Sat) (n : ℕ) (file : Closed) (c : Change) → IsPlacing k n file m → StillPlaces n c m m'
+    → IsPlacing k n file m'
+still_placing k m m' n file c p s = record {
+  at = still_at_work k m m' p.at.log [] no_use (Placing n) c s.0.0 p.at.pass s.0.1;
+  work = s.0.1.work;
+  place = s.1 ∙ p.place;
+}
+
+-- whether the word was as it was loaded
+tries_by : (m m' : Sat) (n slot : ℕ) (file : Closed) (a b : ℕ) → (a ≡ b → HasAllocated n file slot More m m')
+    → (a ≢ b → StillPlaces n Same m m') → Tries n file slot m (nat_eq a b) m'
+tries_by m m' n slot file a b won lost = dite (ℕ_discrete a b)
+    (λ same. subst (λ (z : Bool). Tries n file slot m z m') (sym (eq-eqb a b same)) (won same))
+    (λ other. subst (λ (z : Bool). Tries n file slot m z m') (sym (ne_eqb a b other)) (lost other))
+
+-- a load that finds a free slot, and an exchange
+pub exchange_tried : (k : Start) (m m' m'' : Sat) (n slot i slots found old new : ℕ) (file : Closed) → IsPlacing k n file m
+    → slot_of i ≡ slot → Stepped m [] no_use m.0.work Same m' → m'.1 ≡ m.1
+    → Exchanges (step slots i old new none) m' found m'' → Tries n file slot m (nat_eq found old) m''
+exchange_tried k m m' m'' n slot i slots found old new file p here s same e =
+    let loaded = one_still m m' n Same p.work s same in
+    let work = s.work ∙ p.work in
+    let place = same ∙ p.place in
+    let start = s.start ∙ p.at.pass.0 in
+    let at_home : m'.1 ≡ (place_of m'.0.start n, Some file) ∷ [] = place ∙ λ i. (place_of (sym start i) n, Some file) ∷ [] in
+    tries_by m m'' n slot file found old
+    (λ is. let w = e.wins n file work at_home is in
+    let put = subst (λ (z : ℕ). Stepped m' ([] ▷ Allocate z (numbered n file)) one_number Idle More m'') here w.0 in
+    allocated_then m m' m'' n slot file Same More loaded ((1, goes_one m' m'' _ one_number Idle More put), w.1 ∙ ap rest place))
+    (λ other. let l = e.loses other in
+    still_then m m' m'' n Same Same loaded (one_still m' m'' n Same work
+    (subst (λ (z : Change). Stepped m' [] no_use m'.0.work z m'') s.change l.0) l.1))
+
+-- a pass that has told of the slot that it found
+pub allocated_told : (m m' m'' : Sat) (n slot : ℕ) (file : Closed) → HasAllocated n file slot More m m'
+    → Goes m' [] no_use m'.0.work Outside 1 m'' → m''.1 ≡ m'.1 → HasAllocated n file slot Outside m m''
+allocated_told m m' m'' n slot file a goes same = (
+  (
+    a.0.0 + 1,
+    goes_then m m' m'' ([] ▷ Allocate slot (numbered n file)) [] one_number no_use Idle Idle More Outside a.0.0 1 a.0.1
+        (subst (λ (w : Work). Goes m' [] no_use w Outside 1 m'') a.0.1.work goes),
+  ),
+  same ∙ a.1,
+)
+
+-- a pass that was answered that every slot is full, and one that wasn't
+pub answered_full : (m m' m'' : Sat) (n : ℕ) → StillPlaces n Same m m' → Stepped m' ([] ▷ Full) no_use m'.0.work Outside m'' → m''.1 ≡ m'.1
+    → HasFoundAllFull n m m''
+answered_full m m' m'' n still s same = full_then m m' m'' n Same still (
+  (
+    1,
+    goes_one m' m'' ([] ▷ Full) no_use (Placing n) Outside
+        (subst (λ (w : Work). Stepped m' ([] ▷ Full) no_use w Outside m'') still.0.1.work s),
+  ),
+  same,
+)
+
+pub answered_not : (m m' m'' : Sat) (n : ℕ) → StillPlaces n Same m m' → Stepped m' [] no_use m'.0.work Outside m'' → m''.1 ≡ m'.1
+    → StillPlaces n Outside m m''
+answered_not m m' m'' n still s same = still_then m m' m'' n Same Outside still (one_still m' m'' n Outside still.0.1.work s same)

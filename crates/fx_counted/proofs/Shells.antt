@@ -1,0 +1,191 @@
+-- Files leave a table of one thread, and come back.
+use Rattle.std.proofs.Common.{◌≡◌, ℕ, zero, suc, ◌+◌, ◌<◌, ◌≤◌, Bool, true, false, cond, List, [], ◌∷◌, ◌++◌, length, sym, refl, ap, ◌∙◌, subst, arith, eq-eqb, ◌⊎◌, inl, inr, ⊎_elim}
+use Rattle.std.specs.Prelude.{Option, Some, None}
+use Rattle.std.proofs.lemmas.List.{get_or_append_left}
+use mathlib.Core.Logic.{dite}
+use native.Mathlib.Decide.{ℕ_discrete, dec_le}
+use Rattle.fx_base.specs.declared.open_file.Closed.{Closed}
+use Rattle.fx_plain.specs.State.{State, IsSettled}
+use Rattle.fx_plain.specs.Contents.{Contents, state_of, file_at, slot_at}
+use Rattle.fx_plain.specs.History.{Leads, ◌▷◌}
+use Rattle.fx_plain.specs.Step.{Steps, changed_at, after}
+use Rattle.fx_plain.specs.Table.{numbered, number_of, identity_of, closed_by_retirement, more_leaving}
+use Rattle.fx_plain.specs.declared.event.File.{File}
+use Rattle.fx_plain.specs.declared.event.Action.TheVariants.{Put, Take, Close}
+use Rattle.fx_counted.specs.Shells.{IsShell, LosesFile, GetsFile, AreBack, file_in_place}
+use Rattle.fx_counted.proofs.Histories.{change_here, change_else}
+
+-- what a removal's answer says of the slot
+pub none_there : (found : Option File) → None ≡ number_of found → found ≡ None
+none_there None e = refl
+none_there (Some f) e = absurd (cc e)
+
+pub file_there : (found : Option File) (n : ℕ) → Some n ≡ number_of found → (f : File) × (found ≡ Some f) × (f.number ≡ n)
+file_there None n e = absurd (cc e)
+file_there (Some f) n e = (f, refl, sym (cc e))
+
+pub is_leaving : (leaving : ℕ → Bool) (found : Option File) (f : File) (n : ℕ) → found ≡ Some f → f.number ≡ n → more_leaving leaving found n ≡ true
+is_leaving leaving found f n there is = ap (λ (x : Option File). more_leaving leaving x n) there ∙ change_here leaving f.number true n (sym is)
+
+-- the last of a list of places, and those before it
+pub last_place : (xs : List (Option Closed)) (x : Option Closed) → file_in_place (xs ++ x ∷ []) (length xs) ≡ x
+last_place [] x = refl
+last_place (y ∷ xs) x = last_place xs x
+
+pub place_before : (xs : List (Option Closed)) (x : Option Closed) (k : ℕ) → k < length xs → file_in_place (xs ++ x ∷ []) k ≡ file_in_place xs k
+place_before xs x k l = get_or_append_left xs (x ∷ []) None k l
+
+-- a table has no file behind its slots
+pub none_outside : (c : Contents) (slot : ℕ) → (state_of c).size ≤ slot → (state_of c).at slot ≡ None
+none_outside c slot g = ap (file_at c.nodes) (go c.slots slot g)
+  where
+    go : (xs : List (Option ℕ)) (i : ℕ) → length xs ≤ i → slot_at xs i ≡ None
+    go [] i g = refl
+    go (x ∷ xs) zero g = absurd (omega arith)
+    go (x ∷ xs) (suc i) g = go xs i (omega arith)
+
+pub file_put : (a b : State) (slot : ℕ) (file : Closed) → a.at slot ≡ None → IsSettled a
+    → Steps a (Put slot (numbered (a.size + slot) file) (a.at slot)) b → GetsFile a slot file b
+file_put a b slot file vacant settled steps =
+    let f : File = numbered (a.size + slot) file in
+    let is : b ≡ after a (Put slot f None) = steps.1 ∙ ap (λ (x : Option File). after a (Put slot f x)) vacant in
+    subst (λ (z : State). GetsFile a slot file z) (sym is) record {
+      size = refl;
+      range = refl;
+      there = change_here a.at slot (Some f) slot refl;
+      others = λ other ne. change_else a.at slot (Some f) other ne;
+      settled = record { unheld = settled.unheld; closed = settled.closed };
+      fresh = λ n ne. change_else a.fresh (a.size + slot) false n ne;
+    }
+
+module _ (a : State) (slot : ℕ) (settled : IsSettled a) where
+  pub none_taken : (b : State) → a.at slot ≡ None → Steps a (Take slot (a.at slot)) b → LosesFile a slot b
+  none_taken b vacant steps =
+      let is : b ≡ after a (Take slot None) = steps.1 ∙ ap (λ (x : Option File). after a (Take slot x)) vacant in
+      subst (λ (z : State). LosesFile a slot z) (sym is) record {
+        size = refl;
+        range = refl;
+        gone = change_here a.at slot None slot refl;
+        others = λ other ne. change_else a.at slot None other ne;
+        settled = record { unheld = settled.unheld; closed = settled.closed };
+        fresh = refl;
+      }
+
+  module _ (f : File) (there : a.at slot ≡ Some f) where
+    abbrev taken : State
+    taken = after a (Take slot (Some f))
+
+    pub is_taken : (b : State) → Steps a (Take slot (a.at slot)) b → b ≡ taken
+    is_taken b steps = steps.1 ∙ ap (λ (x : Option File). after a (Take slot x)) there
+
+    pub comes_out : (c : Contents) → Steps a (Take slot (a.at slot)) (state_of c) → closed_by_retirement c f.number ≡ Some f
+    comes_out c steps =
+        let is = is_taken (state_of c) steps in
+        let none_held : (state_of c).holds f.number ≡ 0 = ap (λ (z : State). z.holds f.number) is ∙ settled.unheld f.number in
+        ap (λ (b : Bool). cond b ((state_of c).removed f.number) None) (eq-eqb ((state_of c).holds f.number) 0 none_held)
+        ∙ (ap (λ (z : State). z.removed f.number) is ∙ change_here a.removed f.number (Some f) f.number refl)
+
+    pub file_lost : (b d : State) → Steps a (Take slot (a.at slot)) b → Leads b ([] ▷ Close f) d → LosesFile a slot d
+    file_lost b d steps leads =
+        let is : d ≡ after taken (Close f) = leads.1 ∙ ap (λ (z : State). after z (Close f)) (is_taken b steps) in
+        subst (λ (z : State). LosesFile a slot z) (sym is) record {
+          size = refl;
+          range = refl;
+          gone = change_here a.at slot None slot refl;
+          others = λ other ne. change_else a.at slot None other ne;
+          settled = record {
+            unheld = settled.unheld;
+            closed = λ n. dite (ℕ_discrete n f.number)
+                (λ same. change_here (changed_at a.removed f.number (Some f)) f.number None n same)
+                (λ ne. change_else (changed_at a.removed f.number (Some f)) f.number None n ne
+                ∙ (change_else a.removed f.number (Some f) n ne ∙ settled.closed n));
+          };
+          fresh = refl;
+        }
+
+-- between these slots the files are still away
+pub record IsPartlyBack (shell : State) (file : ℕ → Option Closed) (from to : ℕ) (st : State) : Type 0 where
+  pub size : st.size ≡ shell.size
+  pub range : st.range ≡ shell.range
+  pub away : (slot : ℕ) → from ≤ slot → slot < to → st.at slot ≡ None
+  pub back : (slot : ℕ) → (slot < from) ⊎ (to ≤ slot) → identity_of (st.at slot) ≡ file slot
+  pub settled : IsSettled st
+  pub fresh : (slot : ℕ) → from ≤ slot → slot < to → slot < shell.size → st.fresh (shell.size + slot) ≡ true
+
+module _ (shell : State) (file : ℕ → Option Closed) where
+  pub all_away : (to : ℕ) → IsShell shell → ((slot : ℕ) → to ≤ slot → file slot ≡ None) → IsPartlyBack shell file 0 to shell
+  all_away to empty others = record {
+    size = refl;
+    range = refl;
+    away = λ slot l u. empty.vacant slot;
+    back = λ slot out. ⊎_elim (λ (l : slot < 0). absurd (omega arith))
+        (λ (g : to ≤ slot). ap identity_of (empty.vacant slot) ∙ sym (others slot g)) out;
+    settled = empty.settled;
+    fresh = λ slot l u inside. empty.fresh slot inside;
+  }
+
+  pub all_back : (st : State) (from to : ℕ) → to ≤ from → IsPartlyBack shell file from to st → AreBack shell file st
+  all_back st from to done p = record {
+    size = p.size;
+    range = p.range;
+    files = λ slot. p.back slot (dite (dec_le (slot + 1) from) (λ l. inl (omega (arith, l))) (λ g. inr (omega (arith, g, done))));
+    settled = p.settled;
+  }
+
+  -- the first or the last of them is none
+  pub none_first : (st : State) (from to : ℕ) → file from ≡ None → from < to → IsPartlyBack shell file from to st
+      → IsPartlyBack shell file (from + 1) to st
+  none_first st from to none some p = record {
+    size = p.size;
+    range = p.range;
+    away = λ slot l u. p.away slot (omega arith) u;
+    back = λ slot out. dite (ℕ_discrete slot from)
+        (λ same. ap (λ (n : ℕ). identity_of (st.at n)) same ∙ (ap identity_of (p.away from (omega arith) some) ∙ (sym none ∙ ap file (sym same))))
+        (λ ne. p.back slot (⊎_elim (λ (l : slot < from + 1). inl (omega (arith, ne))) (λ (g : to ≤ slot). inr g) out));
+    settled = p.settled;
+    fresh = λ slot l u inside. p.fresh slot (omega arith) u inside;
+  }
+
+  pub none_last : (st : State) (from to : ℕ) → file to ≡ None → from ≤ to → IsPartlyBack shell file from (to + 1) st
+      → IsPartlyBack shell file from to st
+  none_last st from to none some p = record {
+    size = p.size;
+    range = p.range;
+    away = λ slot l u. p.away slot l (omega arith);
+    back = λ slot out. dite (ℕ_discrete slot to)
+        (λ same. ap (λ (n : ℕ). identity_of (st.at n)) same ∙ (ap identity_of (p.away to some (omega arith)) ∙ (sym none ∙ ap file (sym same))))
+        (λ ne. p.back slot (⊎_elim (λ (l : slot < from). inl l) (λ (g : to ≤ slot). inr (omega (arith, ne))) out));
+    settled = p.settled;
+    fresh = λ slot l u inside. p.fresh slot l (omega arith) inside;
+  }
+
+  -- the first or the last of them comes back
+  pub one_first : (st st' : State) (from to : ℕ) (one : Closed) → file from ≡ Some one → GetsFile st from one st'
+      → IsPartlyBack shell file from to st → IsPartlyBack shell file (from + 1) to st'
+  one_first st st' from to one is gets p = record {
+    size = gets.size ∙ p.size;
+    range = gets.range ∙ p.range;
+    away = λ slot l u. gets.others slot (λ same. omega arith) ∙ p.away slot (omega arith) u;
+    back = λ slot out. dite (ℕ_discrete slot from)
+        (λ same. ap (λ (n : ℕ). identity_of (st'.at n)) same ∙ (ap identity_of gets.there ∙ (sym is ∙ ap file (sym same))))
+        (λ ne. ap identity_of (gets.others slot ne)
+        ∙ p.back slot (⊎_elim (λ (l : slot < from + 1). inl (omega (arith, ne))) (λ (g : to ≤ slot). inr g) out));
+    settled = gets.settled;
+    fresh = λ slot l u inside. let size = p.size in
+        gets.fresh (shell.size + slot) (λ same. omega (arith, same, size, l)) ∙ p.fresh slot (omega arith) u inside;
+  }
+
+  pub one_last : (st st' : State) (from to : ℕ) (one : Closed) → file to ≡ Some one → GetsFile st to one st'
+      → IsPartlyBack shell file from (to + 1) st → IsPartlyBack shell file from to st'
+  one_last st st' from to one is gets p = record {
+    size = gets.size ∙ p.size;
+    range = gets.range ∙ p.range;
+    away = λ slot l u. gets.others slot (λ same. omega arith) ∙ p.away slot l (omega arith);
+    back = λ slot out. dite (ℕ_discrete slot to)
+        (λ same. ap (λ (n : ℕ). identity_of (st'.at n)) same ∙ (ap identity_of gets.there ∙ (sym is ∙ ap file (sym same))))
+        (λ ne. ap identity_of (gets.others slot ne)
+        ∙ p.back slot (⊎_elim (λ (l : slot < from). inl l) (λ (g : to ≤ slot). inr (omega (arith, ne))) out));
+    settled = gets.settled;
+    fresh = λ slot l u inside. let size = p.size in
+        gets.fresh (shell.size + slot) (λ same. omega (arith, same, size, u)) ∙ p.fresh slot l (omega arith) inside;
+  }

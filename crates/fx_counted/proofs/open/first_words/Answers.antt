@@ -1,0 +1,47 @@
+use Rattle.std.proofs.Common.{◌≡◌, ◌<◌, ℕ, ◌+◌, List, Vec, Global, sym, ap, ◌∙◌, refl, subst, arith, replicate, set}
+use Rattle.fx_plain.specs.Contents.{state_of}
+use Rattle.fx_words.specs.Words.{slot_word_of, born}
+use Rattle.fx_counted.specs.Layout.{words_for, slot_place, control_place}
+use Rattle.fx_counted.proofs.FirstWords.{AreWordsSoFar, none_so_far, none_more, one_more, all_written, none_told, some_told}
+use Rattle.fx_counted.proofs.Places.{low_node}
+use Rattle.fx_counted.proofs.open.first_words.Goals.{in-Some, in_default}
+use Rattle.fx_counted.proofs.open.first_words.Goals as goal
+
+pub loop-slot-init : goal.loop-slot-init
+loop-slot-init c =
+    let st = state_of c.args.plain.now in
+    let size = c.size-size.ensures.value in
+    let zeros : List ℕ = c.in_ok-words.words.items in
+    let are : zeros ≡ replicate (words_for st.size c.args.chains) 0 =
+    c.in_ok-words.ensures.items_if_clones_equal (λ x e. e)
+    ∙ ap (λ (n : ℕ). replicate n 0) (c.words_for.ensures ∙ ap (λ (n : ℕ). words_for n c.args.chains) size) in
+    none_so_far st c.args.chains zeros _ c.full_in_range.result are c.full_in_range.ensures.full
+    (ap (λ (n : ℕ). set zeros control_place n) c.control_word.ensures)
+
+pub loop-slot-preserved : goal.loop-slot-preserved
+loop-slot-preserved c =
+    let st = state_of c.args.plain.now in
+    let slot = c.loop-slot.slot in
+    let size = c.size-size.ensures.value in
+    let test = c.loop-slot-test.true in
+    let inside : slot < st.size = omega (arith, size, test) in
+    elim c.match-entry_at.branch [
+      | in-Some w ↦ let t = some_told (st.at slot) slot w.in-Some.entry w.in-Some.ensures in
+          one_more st c.args.chains slot c.loop-slot.words.items inside c.loop-slot.invariant t.0 w.in-Some.entry _ c.match-entry_at.words.items
+          t.1 t.2 t.3 w.write_slot.ensures.entry refl (ap (λ (v : Vec ℕ Global). v.items) w.words-is
+          ∙ (w.write_slot.ensures.words
+          ∙ ap (λ (n : ℕ). set (set c.loop-slot.words.items (slot_place slot) (slot_word_of slot w.in-Some.entry)) n born)
+          (sym (low_node st.size slot inside))))
+      | in_default w ↦ subst (λ (v : Vec ℕ Global). AreWordsSoFar st c.args.chains (slot + 1) v.items) (sym w.words-is)
+          (none_more st c.args.chains slot c.loop-slot.words.items inside c.loop-slot.invariant (none_told (st.at slot) slot w.in_default.ensures))
+    ]
+
+pub returns : goal.returns
+returns c =
+    let st = state_of c.args.plain.now in
+    let size = c.size-size.ensures.value in
+    let past = c.loop-slot-test.false in
+    let end = c.loop-slot.auto.slot-end in
+    let whole : c.loop-slot.slot ≡ st.size = omega (arith, past, end, size) in
+    all_written st c.args.chains c.loop-slot.words.items
+    (subst (λ (n : ℕ). AreWordsSoFar st c.args.chains n c.loop-slot.words.items) whole c.loop-slot.invariant)

@@ -1,0 +1,6 @@
+use Rattle.fx_plain.specs.Contents.{state_of}
+use Rattle.fx_counted.proofs.FirstWords.{AreWordsSoFar}
+use Rattle.fx_counted.proofs.open.first_words.Given as goal
+
+abbrev pub invariant-loop-slot : goal.invariant-loop-slot
+invariant-loop-slot l = AreWordsSoFar (state_of l.plain) l.chains l.slot l.words.items

@@ -1,0 +1,64 @@
+use Rattle.std.proofs.Common.{◌≡◌, ◌-◌, ℕ, ap, ◌∙◌, arith}
+use Rattle.fx_plain.specs.Contents.{state_of}
+use Rattle.fx_counted.specs.Control.{full_in}
+use Rattle.fx_counted.specs.Firsts.{first_at}
+use Rattle.fx_counted.proofs.FirstWords.{full_if_some, empty_if_none, one_counted}
+use Rattle.fx_counted.proofs.open.full_in_range.Goals.{then-is_some, else-is_some}
+use Rattle.fx_counted.proofs.open.full_in_range.Goals as goal
+
+pub loop-slot-init : goal.loop-slot-init
+loop-slot-init c =
+    let st = state_of c.args.plain.now in
+    let start = ap (λ (r : ℕ × ℕ). r.0) c.range-start.ensures.value in
+    let none_yet : 0 ≡ c.range-start.result.0 - st.range.0 = omega (arith, start) in
+    record { full = ap (full_in (first_at st) st.range.0) none_yet; few = omega (arith, start) }
+
+pub overflow_add-full : goal.overflow_add-full
+overflow_add-full c =
+    let few = c.loop-slot.invariant.few in
+    let test = c.loop-slot-test.true in
+    let start = ap (λ (r : ℕ × ℕ). r.0) c.range-start.ensures.value in
+    let len = ap (λ (r : ℕ × ℕ). r.1) c.range-start.ensures.value in
+    let inside = c.range-start.ensures.inside in
+    let size = c.requires in
+    let fits = c.ranges.size.fits in
+    omega (arith, few, test, start, len, inside, size, fits)
+
+pub loop-slot-preserved : goal.loop-slot-preserved
+loop-slot-preserved c =
+    let st = state_of c.args.plain.now in
+    let i = c.loop-slot.invariant in
+    let few = i.few in
+    let slot = c.loop-slot.slot in
+    elim c.if-is_some.branch [
+      | then-is_some w ↦ record {
+        full = one_counted st st.range.0 slot c.loop-slot.full c.if-is_some.full (omega (arith, few)) i.full
+            (let one = full_if_some (st.at slot) slot c.entry_at.result c.entry_at.ensures w.if-is_some.ensures in
+            let is = w.full-is in omega (arith, one, is));
+        few = let is = w.full-is in omega (arith, few, is);
+      }
+      | else-is_some w ↦ record {
+        full = one_counted st st.range.0 slot c.loop-slot.full c.if-is_some.full (omega (arith, few)) i.full
+            (let one = empty_if_none (st.at slot) slot c.entry_at.result c.entry_at.ensures w.if-is_some.ensures in
+            let is = w.full-is in omega (arith, one, is));
+        few = let is = w.full-is in omega (arith, few, is);
+      }
+    ]
+
+pub returns-clause-full : goal.returns-clause-full
+returns-clause-full c =
+    let st = state_of c.args.plain.now in
+    let start = ap (λ (r : ℕ × ℕ). r.0) c.range-start.ensures.value in
+    let len = ap (λ (r : ℕ × ℕ). r.1) c.range-start.ensures.value in
+    let past = c.loop-slot-test.false in
+    let end = c.loop-slot.auto.slot-end (omega arith) in
+    let whole : c.loop-slot.slot - st.range.0 ≡ st.range.1 = omega (arith, past, end, start, len) in
+    c.loop-slot.invariant.full ∙ ap (full_in (first_at st) st.range.0) whole
+
+pub returns-clause-few : goal.returns-clause-few
+returns-clause-few c =
+    let start = ap (λ (r : ℕ × ℕ). r.0) c.range-start.ensures.value in
+    let len = ap (λ (r : ℕ × ℕ). r.1) c.range-start.ensures.value in
+    let few = c.loop-slot.invariant.few in
+    let end = c.loop-slot.auto.slot-end (omega arith) in
+    omega (arith, few, end, start, len)

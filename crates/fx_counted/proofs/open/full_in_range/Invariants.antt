@@ -1,0 +1,12 @@
+use Rattle.std.proofs.Common.{◌≡◌, ◌≤◌, ◌+◌, ◌-◌}
+use Rattle.fx_plain.specs.Contents.{state_of}
+use Rattle.fx_counted.specs.Control.{full_in}
+use Rattle.fx_counted.specs.Firsts.{first_at}
+use Rattle.fx_counted.proofs.open.full_in_range.Given as goal
+
+-- the full slots of the range so far
+abbrev pub invariant-loop-slot : goal.invariant-loop-slot
+invariant-loop-slot l = record {
+  full : l.full ≡ full_in (first_at (state_of l.plain)) l.plain.range.0 (l.slot - l.plain.range.0);
+  few : l.full + l.plain.range.0 ≤ l.slot;
+}

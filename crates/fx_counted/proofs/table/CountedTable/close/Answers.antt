@@ -1,0 +1,69 @@
+use Rattle.std.proofs.Common.{◌≡◌, List, [], ◌∷◌, ◌++◌, reverse, sym, ◌∙◌, ap, subst, arith}
+use Rattle.std.specs.Prelude.{Option, Contains}
+use Rattle.std.proofs.lemmas.List.{reverse-append}
+use Rattle.std.proofs.lemmas.List.Elements.{All-contains, Contains-append_left}
+use Rattle.atomic_table.specs.declared.shared.Seat.{Seat}
+use Rattle.fx_base.specs.declared.open_file.Closed.{Closed}
+use Rattle.fx_table.proofs.Members.{each_all}
+use Rattle.fx_table.specs.Pass.{IsIdle}
+use Rattle.fx_counted.specs.Lives.{IsIdleSeatOf, logs_in}
+use Rattle.fx_counted.specs.Tables.{view_of, IsPassOfTable}
+use Rattle.fx_counted.specs.declared.pass.CountedPass.{CountedPass}
+use Rattle.fx_counted.specs.declared.table.CountedTable.{CountedTable}
+use Rattle.fx_counted.specs.declared.view.View.{View}
+use Rattle.fx_counted.proofs.Gathered.{all_idle, closes}
+use Rattle.fx_counted.proofs.Going.{idle_work}
+use Rattle.fx_counted.proofs.table.CountedTable.close.Goals as goal
+
+-- the seat of an idle pass
+idle_seat : (t : CountedTable) (p : CountedPass) → IsPassOfTable t p → IsIdle (view_of p) → IsIdleSeatOf t p.seat
+idle_seat t p fits idle = record {
+  table = fits.table;
+  places = fits.places;
+  start = fits.seated.start;
+  work = idle_work p.seat.me.0.work fits.seated.work idle;
+  change = fits.seated.change;
+}
+
+pub gather-seat-requires-clause-passes : goal.gather-seat-requires-clause-passes
+gather-seat-requires-clause-passes c =
+    let t = c.args.self in
+    let ps : List CountedPass = c.args.passes.items in
+    let others : List CountedPass = c.pop.new.self.items in
+    each_all (λ (p : CountedPass). IsIdleSeatOf t p.seat) others (λ p h.
+    let all : Contains ps p = subst (λ (l : List CountedPass). Contains l p) (sym c.in-Some.ensures.items)
+    (Contains-append_left others (c.in-Some.first ∷ []) p h) in
+    idle_seat t p (All-contains (IsPassOfTable t) ps p c.requires.fits all)
+    (All-contains (λ (q : CountedPass). IsIdle (view_of q)) ps p c.requires.idle all))
+
+-- all passes, in the order in which they are gathered
+gathered : (ps others : List CountedPass) (first : CountedPass) (seat : Seat (Option Closed) View) (v : View) → ps ≡ others ++ first ∷ []
+    → seat ≡ first.seat → v.logs ≡ seat.me.0.logs ++ logs_in (reverse others) → v.logs ≡ logs_in (reverse ps)
+gathered ps others first seat v split is logs =
+    let turned : reverse ps ≡ first ∷ reverse others = ap (reverse {A = CountedPass}) split ∙ reverse-append others (first ∷ []) in
+    logs ∙ (ap (λ (z : Seat (Option Closed) View). z.me.0.logs ++ logs_in (reverse others)) is ∙ ap logs_in (sym turned))
+
+pub finish-requires-clause-idle : goal.finish-requires-clause-idle
+finish-requires-clause-idle c s r at =
+    let t = c.args.self.table.shared in
+    let ps : List CountedPass = c.args.passes.items in
+    let joined = c.gather-seat.ensures.seat in
+    let v = c.gather-seat.result.me.0 in
+    all_idle t.table_id t.key ps (λ p h. All-contains (IsPassOfTable c.args.self) ps p c.requires.fits h) c.requires.all s r
+    c.gather-seat.result.id v at
+    (gathered ps c.pop.new.self.items c.in-Some.first c.into_seat.result v c.in-Some.ensures.items c.into_seat.ensures c.gather-seat.ensures.logs)
+    joined.work joined.change
+
+pub returns : goal.returns
+returns c =
+    let t = c.args.self.table.shared in
+    let ps : List CountedPass = c.args.passes.items in
+    let joined = c.gather-seat.ensures.seat in
+    let v = c.gather-seat.result.me.0 in
+    let f = c.finish.ensures in
+    let all = c.args.self.key.1 in
+    let some_passes = c.args.self.bounds.1 in
+    closes t.table_id t.key ps (λ p h. All-contains (IsPassOfTable c.args.self) ps p c.requires.fits h) c.requires.all f.last f.rule
+    c.gather-seat.result.id v f.view
+    (gathered ps c.pop.new.self.items c.in-Some.first c.into_seat.result v c.in-Some.ensures.items c.into_seat.ensures c.gather-seat.ensures.logs)
+    joined.work joined.change (omega (arith, all, some_passes)) c.finish.result f.files f.settled

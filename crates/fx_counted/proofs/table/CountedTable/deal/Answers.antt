@@ -1,0 +1,79 @@
+use Rattle.std.proofs.Common.{◌≡◌, ◌+◌, ◌-◌, ◌≤◌, List, [], ◌∷◌, sym, ◌∙◌, ap, subst, arith, length, length-append}
+use Rattle.std.specs.Prelude.{All}
+use Rattle.std.proofs.lemmas.List.Elements.{All-push}
+use Rattle.fx_table.specs.Pass.{new_passes}
+use Rattle.fx_counted.specs.Cuts.{without_first, first_alone}
+use Rattle.fx_counted.specs.Passes.{Sat}
+use Rattle.fx_counted.specs.Tables.{IsPassOf}
+use Rattle.fx_counted.specs.declared.pass.CountedPass.{CountedPass}
+use Rattle.fx_counted.specs.declared.view.View.{View}
+use Rattle.fx_counted.proofs.Dealing.{rest_is_dealt, last_is_dealt, is_pass, is_new, one_more_view}
+use Rattle.fx_counted.proofs.Seats.{splits_keep}
+use Rattle.fx_counted.proofs.table.CountedTable.deal.Goals as goal
+
+pub split_seat-one-requires : goal.split_seat-one-requires
+split_seat-one-requires c =
+    let t = c.args.self.now in
+    let words = t.words in
+    let i = c.loop-number.invariant in
+    let seat = c.loop-number.seat in (
+      i.table,
+      omega arith,
+      splits_keep t.table.shared.key seat.id seat.me.0 (ap (λ (m : Sat). m.0.work) i.me) (ap (λ (m : Sat). m.0.change) i.me),
+    )
+
+pub loop-number-preserved : goal.loop-number-preserved
+loop-number-preserved c =
+    let s = c.split_seat-one.ensures in
+    let i = c.loop-number.invariant in
+    let t = c.args.self.now.table.shared in
+    let all = c.args.self.now.key.1 in
+    let p = c.loop-number.number in
+    let test = c.loop-number-test.true in
+    let high : p ≤ t.key.passes = omega (arith, all, test) in
+    let old : List CountedPass = c.loop-number.list.items in
+    let one = c.split_seat-one.result in
+    let new = c.new.result in
+    let me = s.4 ∙ ap (λ (m : Sat). (first_alone m.0, [])) i.me in
+    let pass = is_pass t.table_id t.key p i.low high one new c.new.ensures (s.3 ∙ i.table) me in
+    let shown = is_new t.table_id t.key p i.low high one new c.new.ensures (s.3 ∙ i.table) me in
+    record {
+      low = omega arith;
+      high = omega (arith, test);
+      table = s.0 ∙ i.table;
+      me = s.2 ∙ (ap (λ (m : Sat). (without_first m.0, m.1)) i.me ∙ ap (λ (v : View). (v, [])) (rest_is_dealt t.key p high));
+      list = subst (All (IsPassOf t.table_id t.key)) (sym c.push_reserved.ensures.items) (All-push (IsPassOf t.table_id t.key) old new i.list pass);
+      new = one_more_view old c.push_reserved.new.self.items new p i.low c.push_reserved.ensures.items i.new shown
+          ∙ ap new_passes (let e : p ≡ (p + 1) - 1 = omega arith in e);
+      count = let e = i.count in let f = ap (length {A = CountedPass}) c.push_reserved.ensures.items in
+          omega (arith, f, length-append old (new ∷ []));
+      room = let a = i.room in let b = c.push_reserved.ensures.capacity in omega arith;
+    }
+
+pub returns-clause-fits : goal.returns-clause-fits
+returns-clause-fits c =
+    let i = c.loop-number.invariant in
+    let t = c.args.self.now.table.shared in
+    let all = c.args.self.now.key.1 in
+    let p = c.loop-number.number in
+    let past = c.loop-number-test.false in
+    let most = i.high in
+    let last : p ≡ t.key.passes = omega (arith, past, most, all) in
+    let me = i.me ∙ ap (λ (v : View). (v, [])) (last_is_dealt t.key p last) in
+    let pass = is_pass t.table_id t.key p i.low (omega (arith, last)) c.loop-number.seat c.new-2.result c.new-2.ensures i.table me in
+    subst (All (IsPassOf t.table_id t.key)) (sym c.push_reserved-2.ensures.items)
+    (All-push (IsPassOf t.table_id t.key) c.loop-number.list.items c.new-2.result i.list pass)
+
+pub returns-clause-new : goal.returns-clause-new
+returns-clause-new c =
+    let i = c.loop-number.invariant in
+    let t = c.args.self.now.table.shared in
+    let all = c.args.self.now.key.1 in
+    let p = c.loop-number.number in
+    let past = c.loop-number-test.false in
+    let most = i.high in
+    let last : p ≡ t.key.passes = omega (arith, past, most, all) in
+    let me = i.me ∙ ap (λ (v : View). (v, [])) (last_is_dealt t.key p last) in
+    let shown = is_new t.table_id t.key p i.low (omega (arith, last)) c.loop-number.seat c.new-2.result c.new-2.ensures i.table me in
+    one_more_view c.loop-number.list.items c.push_reserved-2.new.self.items c.new-2.result p i.low
+    c.push_reserved-2.ensures.items i.new shown ∙ ap new_passes (last ∙ sym all)

@@ -1,0 +1,65 @@
+use Rattle.std.proofs.Common.{ℕ, [], inr, ◌∙◌, subst, arith}
+use Rattle.std.specs.Prelude.{Some}
+use Rattle.fx_base.specs.declared.open_file.Closed.{Closed}
+use Rattle.fx_plain.specs.History.{◌▷◌}
+use Rattle.fx_plain.specs.Table.{numbered}
+use Rattle.fx_plain.specs.declared.event.Action.TheVariants.{Allocate, Full}
+use Rattle.fx_table.specs.Calls.{Adds, no_use, one_number}
+use Rattle.fx_table.specs.declared.values.Doing.TheVariants.{Idle as NowIdle}
+use Rattle.fx_counted.specs.Moves.{HasPlace}
+use Rattle.fx_counted.specs.Passes.{pass_of}
+use Rattle.fx_counted.specs.Searching.{HasAllocated}
+use Rattle.fx_counted.specs.Tables.{view_of, opening_of_table}
+use Rattle.fx_counted.specs.declared.view.Change.TheVariants.{Outside}
+use Rattle.fx_counted.specs.declared.view.Work.TheVariants.{Idle, Placing}
+use Rattle.fx_counted.proofs.Going.{its_pass, adds_so, goes_one, goes_then}
+use Rattle.fx_counted.proofs.table.CountedTable.put_any.Goals as goal
+
+pub returns-in-Some-clause-allocated : goal.returns-in-Some-clause-allocated
+returns-in-Some-clause-allocated g c =
+    let t = c.args.self.now in
+    let k = t.table.shared.key in
+    let p = c.args.pass.now in
+    let v = view_of p in
+    let fits = c.requires.fits in
+    let n = c.next_number-number.result in
+    let slot = c.in-Some.slot in
+    let m = p.seat.me in
+    let m₁ = c.put_in.new.seat.me in
+    let m₂ = c.rounds.new.seat.me in
+    let size = t.same_size in
+    let below = c.in-Some.ensures.slot in
+    let found = subst (λ (f : Closed). HasAllocated n f slot Outside m₁ m₂) c.identity-identity.ensures c.in-Some.ensures.found in
+    let born = goes_one m m₁ [] no_use (Placing n) m.0.change c.put_in.ensures.born in
+    let placed = goes_then m m₁ m₂ [] _ no_use one_number (Placing n) Idle m.0.change Outside 1 found.0.0 born found.0.1 in
+    let adds = adds_so _ k p fits m₂ _ one_number Idle Outside _ placed in (
+      omega arith,
+      subst (λ (z : ℕ). Adds (opening_of_table t) v ([] ▷ Allocate slot (numbered z c.args.file)) NowIdle one_number
+          (pass_of m₂.0)) c.next_number-number.ensures.number adds,
+    )
+
+pub returns-in-None-clause-allocated : goal.returns-in-None-clause-allocated
+returns-in-None-clause-allocated g c =
+    let k = c.args.self.now.table.shared.key in
+    let p = c.args.pass.now in
+    let fits = c.requires.fits in
+    let its = its_pass _ _ p fits in
+    let n = c.next_number-number.result in
+    let m = p.seat.me in
+    let m₁ = c.put_in.new.seat.me in
+    let m₂ = c.rounds.new.seat.me in
+    let m₃ = c.take_out.new.seat.me in
+    let born = c.put_in.ensures in
+    let full = c.rounds.ensures.full c.in-None.is in
+    let place : HasPlace k n (Some c.args.file) m₂ = record {
+      log = full.0.1.one.0;
+      pass = (full.0.1.start ∙ (born.born.start ∙ its.0), full.0.1.one.1);
+      known = born.place.known;
+      work = inr full.0.1.work;
+      place = full.1 ∙ born.place.place;
+    } in
+    let first = goes_one m m₁ [] no_use (Placing n) m.0.change born.born in
+    let found = goes_then m m₁ m₂ [] ([] ▷ Full) no_use no_use (Placing n) (Placing n) m.0.change Outside 1 full.0.0 first full.0.1 in
+    let home = goes_one m₂ m₃ [] no_use Idle m₂.0.change c.take_out.ensures.rests in
+    let goes = goes_then m m₂ m₃ ([] ▷ Full) [] no_use no_use (Placing n) Idle Outside m₂.0.change _ 1 found home in
+    (c.take_out.ensures.file c.args.file place, adds_so _ k p fits m₃ ([] ▷ Full) no_use Idle m₂.0.change _ goes)

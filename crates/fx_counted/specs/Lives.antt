@@ -1,0 +1,63 @@
+-- Passes as they are dealt out and gathered.
+use Rattle.std.specs.Prelude.{◌≡◌, ℕ, ◌+◌, ◌-◌, true, false, List, [], ◌∷◌, ◌++◌, Option}
+use Rattle.atomic_table.specs.declared.shared.Seat.{Seat}
+use mathlib.Core.Option.{some}
+use lib.ListN.{get_elem?}
+use Rattle.fx_base.specs.declared.open_file.Closed.{Closed}
+use Rattle.fx_plain.specs.Contents.{Contents, state_of}
+use Rattle.fx_plain.specs.State.{IsSettled}
+use Rattle.fx_table.specs.Opening.{HasSameFiles}
+use Rattle.fx_table.specs.declared.limits.TheConstants.{PASS_LOOKS}
+use Rattle.fx_counted.specs.Agrees.{Agrees}
+use Rattle.fx_counted.specs.Cuts.{new_logs, first_view}
+use Rattle.fx_counted.specs.Passes.{Shared, state_after_all}
+use Rattle.fx_counted.specs.declared.pass.CountedPass.{CountedPass}
+use Rattle.fx_counted.specs.declared.table.CountedTable.{CountedTable}
+use Rattle.fx_counted.specs.declared.view.Change.TheVariants.{Outside}
+use Rattle.fx_counted.specs.declared.view.Log.{Log}
+use Rattle.fx_counted.specs.declared.view.Start.{Start}
+use Rattle.fx_counted.specs.declared.view.View.{View}
+use Rattle.fx_counted.specs.declared.view.Work.TheVariants.{Idle}
+
+-- the view of a seat that has the new passes from p to the last
+abbrev pub dealt : Start → ℕ → View
+dealt k p = record { start = k; logs = new_logs p ((k.passes + 1) - p); work = Idle; change = Outside }
+
+abbrev pub logs_in : List CountedPass → List Log
+logs_in [] = []
+logs_in (p ∷ ps) = p.seat.me.0.logs ++ logs_in ps
+
+-- the pass of this seat has done nothing
+pub record IsNewPass (seat : Seat (Option Closed) View) (p : CountedPass) : Type 0 where
+  pub its_seat : p.seat ≡ seat
+  pub chain : p.chain ≡ 0
+  pub chains_left : p.no_chains_left ≡ false
+  pub numbers : p.numbers_left ≡ 0
+  pub looks : p.looks_left ≡ PASS_LOOKS
+  pub flag : p.idle ≡ true
+
+-- the seat of a table that was just opened
+pub record HasAllPasses (t : CountedTable) (seat : Seat (Option Closed) View) : Type 0 where
+  pub table : seat.table_id ≡ t.table.shared.table_id
+  pub me : seat.me ≡ (first_view t.table.shared.key, [])
+
+-- a seat of the table with some passes, which do nothing
+pub record IsIdleSeatOf (t : CountedTable) (seat : Seat (Option Closed) View) : Type 0 where
+  pub table : seat.table_id ≡ t.table.shared.table_id
+  pub places : seat.me.1 ≡ []
+  pub start : seat.me.0.start ≡ t.table.shared.key
+  pub work : seat.me.0.work ≡ Idle
+  pub change : seat.me.0.change ≡ Outside
+
+-- whatever the last state is, no pass does anything
+abbrev pub AllAreIdle : Start → ℕ → View → Type 0
+AllAreIdle k id v = (s : Shared) → Agrees k s → get_elem? s.views id ≡ some v
+    → (seat : ℕ) (u : View) → get_elem? s.views seat ≡ some u → u.work ≡ Idle
+
+-- the files of the table are those of some last state
+pub record Leaves (k : Start) (id : ℕ) (v : View) (left : Contents) : Type 0 where
+  pub last : Shared
+  pub rule : Agrees k last
+  pub view : get_elem? last.views id ≡ some v
+  pub files : HasSameFiles (state_after_all k rule.history) (state_of left)
+  pub settled : IsSettled (state_of left)

@@ -1,0 +1,104 @@
+//! How a table is closed.
+ghost use Rattle.std.specs.Prelude.{◌≡◌, ◌<◌, ◌++◌, length, map, reverse, slice_set, All, None};
+ghost use Rattle.std.specs.Mem.Slots.{slots_items, slots_len, IsFull};
+ghost use mathlib.Core.Option.{some};
+ghost use lib.ListN.{get_elem?};
+ghost use Rattle.fx_table.specs.Closing.{ClosesTable};
+ghost use Rattle.fx_table.specs.Pass.{IsIdle};
+ghost use Rattle.fx_counted.specs.Lives.{IsIdleSeatOf, logs_in, AllAreIdle, Leaves};
+ghost use Rattle.fx_counted.specs.Tables.{view_of, opening_of_table, IsPassOfTable};
+
+use crate::kinds::Gather;
+use crate::layout::{home_place, homes_for, slot_place};
+use crate::pass::CountedPass;
+use crate::shell::put_file;
+use crate::table::CountedTable;
+use crate::view::View;
+use atomic_table::{Closed, Seat};
+use fx_base::OpenFile;
+use fx_plain::PlainTable;
+use fx_words::node_of;
+use std::alloc::Global;
+
+impl CountedTable {
+    /// Makes a table of one thread of it again, when all passes have come back, each of them idle (`is_idle`): as many as
+    /// `open` gave, in any order. It takes no memory, and so can't fail for want of it.
+    pub fn close(self, mut passes: Vec<CountedPass>) -> PlainTable
+        requires all { length passes.items ≡ (opening_of_table self).passes }
+        requires fits { All (IsPassOfTable self) passes.items }
+        requires idle { All (λ p. IsIdle (view_of p)) passes.items }
+        ensures { ClosesTable (opening_of_table self) (map view_of passes.items) result }
+    {
+        let Some(first) = passes.pop() else {
+            unreachable!()
+        };
+        let seat = self.gather(first.into_seat(), passes);
+        self.finish(seat)
+    }
+
+    // All passes in one seat.
+    fn gather(
+        &self,
+        mut seat: Seat<Option<OpenFile>, View>,
+        mut passes: Vec<CountedPass>,
+    ) -> Seat<Option<OpenFile>, View>
+        requires seat { IsIdleSeatOf self.now seat }
+        requires passes { All (λ p. IsIdleSeatOf self.now p.seat) passes.items }
+        ensures seat { IsIdleSeatOf self.now result }
+        ensures logs { result.me.0.logs ≡ seat.me.0.logs ++ logs_in (reverse passes.items) }
+    {
+        while let Some(pass) = passes.pop() {
+            let other = pass.into_seat();
+            self.table.shared.join_seat::<Gather>(&mut seat, other);
+        }
+        passes.destroy_empty();
+        seat
+    }
+
+    // The table that comes back, when all passes are in one seat: its files come out of their places.
+    fn finish(self, seat: Seat<Option<OpenFile>, View>) -> PlainTable
+        requires fits { seat.table_id ≡ self.table.shared.table_id }
+        requires idle { AllAreIdle self.table.shared.key seat.id seat.me.0 }
+        ensures { Leaves self.table.shared.key seat.id seat.me.0 result }
+    {
+        let CountedTable {
+            table,
+            mut shell,
+            chains,
+            passes: _,
+            size,
+            range_start: _,
+            range_len: _,
+        } = self;
+        let mut closed = table.close_with(seat);
+        for slot in 0..size {
+            if let Some(number) = node_of(closed.word(slot_place(slot))) {
+                if let Some(file) = take_home(&mut closed, home_place(size, number)) {
+                    put_file(&mut shell, slot, file);
+                }
+            }
+        }
+        for place in 0..homes_for(size, chains) {
+            let home = closed.take(place);
+            let None = home else { unreachable!() };
+        }
+        closed.free();
+        shell
+    }
+}
+
+// What lies in a place comes out, and nothing is left there.
+fn take_home(closed: &mut Closed<Option<OpenFile>, Global>, place: usize) -> Option<OpenFile>
+    requires inside { place < slots_len closed.old.slots }
+    requires full { IsFull closed.old.slots }
+    ensures value { get_elem? (slots_items closed.old.slots) place ≡ some result }
+    ensures items { slots_items closed.new.slots
+        ≡ slice_set (slots_items closed.old.slots) place None }
+    ensures count { slots_len closed.new.slots ≡ slots_len closed.old.slots }
+    ensures full { IsFull closed.new.slots }
+    ensures words { closed.new.words ≡ closed.old.words }
+{
+    let home = closed.take(place);
+    closed.slots.put(place, None);
+    home
+}

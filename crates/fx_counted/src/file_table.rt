@@ -1,0 +1,113 @@
+//! The table without a lock is a shared table. Of its calls `put_any` alone may wait.
+ghost use Rattle.std.specs.Prelude.{◌≡◌, length, map, All};
+ghost use Rattle.fx_table.specs.Closing.{ClosesTable};
+ghost use Rattle.fx_table.specs.Pass.{IsIdle};
+ghost use Rattle.fx_counted.specs.Tables.{view_of, opening_of_table, IsPassOfTable};
+
+use crate::pass::CountedPass;
+use crate::table::CountedTable;
+use fx_base::{NoMemory, OpenFile};
+use fx_plain::PlainTable;
+use fx_table::{Empty, FileTable, Hold, LookFault, Retired};
+use std::alloc::Global;
+use std::sync::Wait;
+
+impl FileTable for CountedTable {
+    ghost use Rattle.fx_counted.specs.Tables.{view_of, opening_of_table, IsPassOfTable};
+
+    type Pass = CountedPass;
+
+    ghost opening = { opening_of_table };
+
+    ghost fits = { IsPassOfTable };
+
+    ghost view = { view_of };
+
+    fn open(
+        alloc: Global,
+        plain: PlainTable,
+        chains: u32,
+        passes: u32,
+    ) -> Result<(CountedTable, Vec<CountedPass>), (PlainTable, NoMemory)> {
+        CountedTable::open(alloc, plain, chains, passes)
+    }
+
+    fn close(self, passes: Vec<CountedPass>) -> PlainTable
+        requires all { length passes.items ≡ (opening_of_table self).passes }
+        requires fits { All (IsPassOfTable self) passes.items }
+        requires idle { All (λ p. IsIdle (view_of p)) passes.items }
+        ensures { ClosesTable (opening_of_table self) (map view_of passes.items) result }
+    {
+        self.close(passes)
+    }
+
+    fn size(&self) -> u32 {
+        self.size()
+    }
+
+    fn range(&self) -> (u32, u32) {
+        self.range()
+    }
+
+    fn is_idle(&self, pass: &CountedPass) -> bool {
+        self.is_idle(pass)
+    }
+
+    fn looks_left(&self, pass: &CountedPass) -> u32 {
+        self.looks_left(pass)
+    }
+
+    fn numbers_left(&self, pass: &CountedPass) -> u32 {
+        self.numbers_left(pass)
+    }
+
+    fn draw(&self, pass: &mut CountedPass) -> Option<u32> {
+        self.draw(pass)
+    }
+
+    fn look<R: Wait>(&self, _rt: &R, pass: &mut CountedPass, slot: u32) -> Result<Hold, LookFault> {
+        self.look(pass, slot)
+    }
+
+    fn release<R: Wait>(&self, _rt: &R, pass: &mut CountedPass, hold: Hold) -> Option<OpenFile> {
+        self.release(pass, hold)
+    }
+
+    fn put<R: Wait>(
+        &self,
+        _rt: &R,
+        pass: &mut CountedPass,
+        slot: u32,
+        file: OpenFile,
+    ) -> Option<Retired> {
+        self.put(pass, slot, file)
+    }
+
+    fn put_any<R: Wait>(
+        &self,
+        rt: &R,
+        pass: &mut CountedPass,
+        file: OpenFile,
+    ) -> Result<u32, OpenFile> {
+        self.put_any(rt, pass, file)
+    }
+
+    fn clear<R: Wait>(&self, _rt: &R, pass: &mut CountedPass, slot: u32) -> Option<Retired> {
+        self.clear(pass, slot)
+    }
+
+    fn take<R: Wait>(&self, _rt: &R, pass: &mut CountedPass, slot: u32) -> Result<Retired, Empty> {
+        self.take(pass, slot)
+    }
+
+    fn retire<R: Wait>(
+        &self,
+        _rt: &R,
+        pass: &mut CountedPass,
+        retired: Retired,
+    ) -> Option<OpenFile> {
+        self.retire(pass, retired)
+    }
+
+    ghost fronts = { λ t p fits. fits.seated.front };
+}

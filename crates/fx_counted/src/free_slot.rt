@@ -1,0 +1,154 @@
+//! How a pass finds a free slot of the allocation range, or learns that there is none.
+ghost use Rattle.std.specs.Prelude.{◌≡◌, ◌<◌, true, IfSome, None};
+ghost use Rattle.fx_table.specs.Calls.{Allocated};
+ghost use Rattle.fx_table.specs.Pass.{IsIdle};
+ghost use Rattle.fx_counted.specs.Changing.{InRange};
+ghost use Rattle.fx_counted.specs.Searching.{IsPlacing, Tries, HasAllocated, StillPlaces, HasFoundAllFull, RoundEnds};
+ghost use Rattle.fx_counted.specs.Tables.{view_of, opening_of_table, IsPassOfTable};
+ghost use Rattle.fx_counted.specs.declared.view.Change.TheVariants.{Outside, Same, More};
+
+use crate::kinds::{Answer, Begin, Exchange, Load};
+use crate::layout::{CONTROL, slot_place};
+use crate::pass::CountedPass;
+use crate::round::Round;
+use crate::table::CountedTable;
+use crate::view::View;
+use atomic_table::Seat;
+use fx_base::{Closed, OpenFile};
+use fx_words::{begin_amount, node_of, says_full, slot_word};
+use std::sync::Wait;
+use std::thread;
+
+impl CountedTable {
+    // Whether the file went to the slot, which was free then.
+    fn try_slot(
+        &self,
+        seat: &mut Seat<Option<OpenFile>, View>,
+        number: u32,
+        file: Closed,
+        slot: u32,
+    ) -> bool
+        requires table { seat.old.table_id ≡ self.now.table.shared.table_id }
+        requires placing { IsPlacing self.now.table.shared.key number file seat.old.me }
+        requires change { seat.old.me.0.change ≡ Same }
+        requires range { InRange self.now.table.shared.key slot true }
+        ensures table { seat.new.table_id ≡ seat.old.table_id }
+        ensures tries { Tries number file slot seat.old.me result seat.new.me }
+    {
+        let shared = &self.table.shared;
+        let place = slot_place(slot);
+        let found = shared.load::<Load>(seat, place);
+        if node_of(found).is_some() {
+            return false;
+        }
+        let word = slot_word(number, file.entry);
+        shared.compare_exchange::<Exchange>(seat, place, found, word) == found
+    }
+
+    // The first slot of the range that was free when the scan came to it, with the file.
+    fn scan(
+        &self,
+        seat: &mut Seat<Option<OpenFile>, View>,
+        number: u32,
+        file: Closed,
+    ) -> Option<u32>
+        requires table { seat.old.table_id ≡ self.now.table.shared.table_id }
+        requires placing { IsPlacing self.now.table.shared.key number file seat.old.me }
+        requires change { seat.old.me.0.change ≡ Same }
+        ensures table { seat.new.table_id ≡ seat.old.table_id }
+        ensures slot { IfSome result (λ slot. slot < self.now.size) }
+        ensures found { IfSome result (λ slot. HasAllocated number file slot More seat.old.me seat.new.me) }
+        ensures none { result ≡ None → StillPlaces number Same seat.old.me seat.new.me }
+    {
+        for slot in self.range_start..self.range_start + self.range_len {
+            if self.try_slot(seat, number, file, slot) {
+                return Some(slot);
+            }
+        }
+        None
+    }
+
+    // One round: a scan in a change, which ends with the slot that was found, or with the question whether all are full.
+    fn round(&self, seat: &mut Seat<Option<OpenFile>, View>, number: u32, file: Closed) -> Round
+        requires table { seat.old.table_id ≡ self.now.table.shared.table_id }
+        requires placing { IsPlacing self.now.table.shared.key number file seat.old.me }
+        requires change { seat.old.me.0.change ≡ Outside }
+        ensures table { seat.new.table_id ≡ seat.old.table_id }
+        ensures ends { RoundEnds self.now.table.shared.key number file seat.old.me result seat.new.me }
+    {
+        let control = &self.table.shared;
+        control.fetch_add::<Begin>(seat, CONTROL, begin_amount());
+        match self.scan(seat, number, file) {
+            Some(slot) => {
+                self.end(seat, true, 1);
+                Round::At(slot)
+            }
+            None => {
+                let word = control.fetch_sub::<Answer>(seat, CONTROL, begin_amount());
+                if says_full(word, self.range_len) {
+                    Round::AllFull
+                } else {
+                    Round::Again
+                }
+            }
+        }
+    }
+
+    /// Installs a file at a free slot of the allocation range, under the next number of an idle pass (`is_idle`) that has
+    /// one (`numbers_left`). The answer is the slot (io_uring_prep_openat(3), "IORING_FILE_INDEX_ALLOC").
+    ///
+    /// It goes over the range in rounds until it has found a free slot, or every slot was full at one moment, and yields
+    /// its thread between two rounds.
+    ///
+    /// # Errors
+    /// The file comes back where every slot of the range has a file (ENFILE). It costs no number.
+    pub fn put_any<R: Wait>(
+        &self,
+        rt: &R,
+        pass: &mut CountedPass,
+        file: OpenFile,
+    ) -> Result<u32, OpenFile>
+        requires fits { IsPassOfTable self.now pass.old }
+        requires idle { IsIdle (view_of pass.old) }
+        requires numbers { 0 < (view_of pass.old).numbers_left }
+        ensures fits { IsPassOfTable self.now pass.new }
+        ensures allocated { Allocated (opening_of_table self.now) (view_of pass.old) file result (view_of pass.new) }
+    {
+        let number = self.next_number(pass);
+        let identity = file.identity();
+        self.put_in(&mut pass.seat, number, file);
+        match self.rounds(rt, &mut pass.seat, number, identity) {
+            Some(slot) => {
+                pass.numbers_left -= 1;
+                Ok(slot)
+            }
+            None => Err(self.take_out(&mut pass.seat, number)),
+        }
+    }
+
+    // Rounds until one answers.
+    fn rounds<R: Wait>(
+        &self,
+        rt: &R,
+        seat: &mut Seat<Option<OpenFile>, View>,
+        number: u32,
+        file: Closed,
+    ) -> Option<u32>
+        requires table { seat.old.table_id ≡ self.now.table.shared.table_id }
+        requires placing { IsPlacing self.now.table.shared.key number file seat.old.me }
+        requires change { seat.old.me.0.change ≡ Outside }
+        ensures table { seat.new.table_id ≡ seat.old.table_id }
+        ensures slot { IfSome result (λ slot. slot < self.now.size) }
+        ensures found { IfSome result (λ slot. HasAllocated number file slot Outside seat.old.me seat.new.me) }
+        ensures full { result ≡ None → HasFoundAllFull number seat.old.me seat.new.me }
+    {
+        for _ in rt.forever() {
+            match self.round(seat, number, file) {
+                Round::At(slot) => return Some(slot),
+                Round::AllFull => return None,
+                Round::Again => thread::yield_now(),
+            }
+        }
+        unreachable!()
+    }
+}

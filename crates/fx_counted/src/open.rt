@@ -1,0 +1,205 @@
+//! How a table is opened.
+ghost use Rattle.std.specs.Prelude.{◌≡◌, ◌+◌, ◌*◌, ◌<◌, ◌≤◌, [], map, slice_set, All, IfOk, IfErr, OnOk, OnErr, vec_len, vec_capacity};
+ghost use Rattle.fx_plain.specs.State.{IsSettled};
+ghost use Rattle.fx_plain.specs.Contents.{state_of};
+ghost use Rattle.fx_table.specs.Opening.{IsGivenBack, opening_with};
+ghost use Rattle.fx_table.specs.Pass.{new_passes};
+ghost use Rattle.fx_words.specs.Words.{slot_word_of, born};
+ghost use Rattle.fx_counted.specs.Control.{full_in};
+ghost use Rattle.fx_counted.specs.Firsts.{first_at, AreFirstWords, AreFirstHomes};
+ghost use Rattle.fx_counted.specs.Layout.{slot_place};
+ghost use Rattle.fx_counted.specs.Lives.{HasAllPasses};
+ghost use Rattle.fx_counted.specs.Shells.{IsShellOf};
+ghost use Rattle.fx_counted.specs.Tables.{view_of, opening_of_table, IsPassOfTable};
+
+use crate::kinds::Deal;
+use crate::layout::{CONTROL, homes_for, slot_place, words_for};
+use crate::moves::BORN;
+use crate::pass::CountedPass;
+use crate::shell::{put_all, take_file};
+use crate::table::CountedTable;
+use crate::view::{Start, View};
+use atomic_table::{Refused, Seat, Table};
+use fx_base::{NoMemory, OpenFile};
+use fx_plain::PlainTable;
+use fx_table::{MAX_CHAINS, MAX_PASSES};
+use fx_words::{control_word, slot_word};
+use std::alloc::Global;
+use std::snapshot::Snapshot;
+
+impl CountedTable {
+    /// Shares a settled table (`PlainTable::is_settled`) between `passes` passes, 1 to [`fx_table::MAX_PASSES`], which play
+    /// `chains` chains, at most [`fx_table::MAX_CHAINS`]. The file at slot `s` has number `s`, and chain `c`, from 1, the
+    /// numbers from `numbers_for(c - 1)` up to `numbers_for(c)` ([`fx_table::numbers_for`]). The passes are numbered from
+    /// 1, in the list's order. All memory is taken here.
+    ///
+    /// # Errors
+    /// `NoMemory` where memory is refused. The table comes back settled, with its files, size and range.
+    pub fn open(
+        alloc: Global,
+        plain: PlainTable,
+        chains: u32,
+        passes: u32,
+    ) -> Result<(CountedTable, Vec<CountedPass>), (PlainTable, NoMemory)>
+        requires settled { IsSettled (state_of plain) }
+        requires chains { chains ≤ MAX_CHAINS }
+        requires passes { (1 ≤ passes) × (passes ≤ MAX_PASSES) }
+        ensures opened { IfOk result (λ (t, _).
+            opening_of_table t ≡ opening_with plain chains passes) }
+        ensures fits { IfOk result (λ (t, list). All (IsPassOfTable t) list.items) }
+        ensures new { IfOk result (λ (_, list). map view_of list.items ≡ new_passes passes) }
+        ensures refused { IfErr result (λ (back, _). IsGivenBack plain back) }
+    {
+        let Ok(mut list) = Vec::with_capacity(alloc, passes as usize) else {
+            return Err((plain, NoMemory));
+        };
+        match CountedTable::start(alloc, plain, chains, passes) {
+            Ok((table, seat)) => {
+                table.deal(seat, &mut list);
+                Ok((table, list))
+            }
+            Err(refused) => {
+                list.destroy_empty();
+                Err(refused)
+            }
+        }
+    }
+
+    // The shared table, and a seat with all passes.
+    fn start(
+        alloc: Global,
+        mut plain: PlainTable,
+        chains: u32,
+        passes: u32,
+    ) -> Result<(CountedTable, Seat<Option<OpenFile>, View>), (PlainTable, NoMemory)>
+        requires settled { IsSettled (state_of plain) }
+        requires chains { chains ≤ MAX_CHAINS }
+        requires passes { (1 ≤ passes) × (passes ≤ MAX_PASSES) }
+        ensures opened { IfOk result (λ (t, _).
+            opening_of_table t ≡ opening_with plain chains passes) }
+        ensures seat { IfOk result (λ (t, seat). HasAllPasses t seat) }
+        ensures refused { IfErr result (λ (back, _). IsGivenBack plain back) }
+    {
+        let key = Start {
+            plain: Snapshot::of(&plain),
+            chains,
+            passes,
+        };
+        let size = plain.size();
+        let (range_start, range_len) = plain.range();
+        let Ok(words) = first_words(alloc, &plain, chains) else {
+            return Err((plain, NoMemory));
+        };
+        let Ok(homes) = first_homes(alloc, &mut plain, chains) else {
+            return Err((plain, NoMemory));
+        };
+        match Table::new(alloc, words.as_slice(), homes, &key) {
+            Ok((table, seat)) => Ok((
+                CountedTable {
+                    table,
+                    shell: plain,
+                    chains,
+                    passes,
+                    size,
+                    range_start,
+                    range_len,
+                },
+                seat,
+            )),
+            Err(Refused { slots }) => {
+                put_all(&mut plain, slots);
+                Err((plain, NoMemory))
+            }
+        }
+    }
+
+    // Each pass gets a seat of its own.
+    fn deal(&self, mut seat: Seat<Option<OpenFile>, View>, list: &mut Vec<CountedPass>)
+        requires seat { HasAllPasses self.now seat }
+        requires list { (list.old.items ≡ []) × (self.now.passes ≤ vec_capacity list.old) }
+        ensures fits { All (IsPassOfTable self.now) list.new.items }
+        ensures new { map view_of list.new.items ≡ new_passes self.now.passes }
+    {
+        let mut number = 1;
+        while number < self.passes {
+            let one = self.table.shared.split_seat::<Deal>(&mut seat);
+            list.push_reserved(CountedPass::new(one));
+            number += 1;
+        }
+        list.push_reserved(CountedPass::new(seat));
+    }
+}
+
+// How many slots of the allocation range have a file.
+fn full_in_range(plain: &PlainTable, size: u32) -> u32
+    requires { size ≡ (state_of plain.now).size }
+    ensures full { let st = state_of plain.now in
+        result ≡ full_in (first_at st) st.range.0 st.range.1 }
+    ensures few { result ≤ (state_of plain.now).range.1 }
+{
+    let (start, len) = plain.range();
+    let mut full = 0;
+    for slot in start..start + len {
+        if plain.entry_at(slot).is_some() {
+            full += 1;
+        }
+    }
+    full
+}
+
+// The words of a slot with a file, whose number is the slot's, and of this number.
+fn write_slot(words: &mut Vec<u64>, slot: u32, entry: u8)
+    requires slot { slot < 256 }
+    requires inside { 17 + 8 * slot < vec_len words.old }
+    ensures entry { entry < 256 }
+    ensures words { words.new.items ≡ slice_set (slice_set words.old.items
+        (slot_place slot) (slot_word_of slot entry)) (17 + 8 * slot) born }
+{
+    let place = slot_place(slot);
+    words[place] = slot_word(slot, entry);
+    words[place + 1] = BORN;
+}
+
+// The words of a table with the files of this one.
+fn first_words(alloc: Global, plain: &PlainTable, chains: u32) -> Result<Vec<u64>, NoMemory>
+    requires { chains ≤ MAX_CHAINS }
+    ensures { IfOk result (λ words. AreFirstWords (state_of plain.now) chains words.items) }
+{
+    let size = plain.size();
+    let mut words = vec![in alloc; 0; words_for(size, chains)]?;
+    words[CONTROL] = control_word(full_in_range(plain, size));
+    for slot in 0..size {
+        if let Some(entry) = plain.entry_at(slot) {
+            write_slot(&mut words, slot, entry);
+        }
+    }
+    Ok(words)
+}
+
+// The places of a table, with the files of this one, which loses them.
+fn first_homes(
+    alloc: Global,
+    plain: &mut PlainTable,
+    chains: u32,
+) -> Result<Vec<Option<OpenFile>>, NoMemory>
+    requires settled { IsSettled (state_of plain.old) }
+    requires chains { chains ≤ MAX_CHAINS }
+    ensures homes { IfOk result (λ homes. AreFirstHomes (state_of plain.old) chains homes.items) }
+    ensures shell { OnOk result (IsShellOf (state_of plain.old) (state_of plain.new)) }
+    ensures err { OnErr result (plain.new ≡ plain.old) }
+{
+    let size = plain.size();
+    let count = homes_for(size, chains);
+    let mut homes = Vec::with_capacity(alloc, count)?;
+    let Ok(()) = plain.prepare(2 * size) else {
+        homes.destroy_empty();
+        return Err(NoMemory);
+    };
+    for slot in 0..size {
+        homes.push_reserved(take_file(plain, slot));
+    }
+    for _ in size as usize..count {
+        homes.push_reserved(None);
+    }
+    Ok(homes)
+}
