@@ -10,6 +10,7 @@ use crate::shared::Shared;
 use crate::subject::Subject;
 use fx_base::Catalogue;
 use fx_baton::BatonTable;
+use fx_counted::CountedTable;
 use fx_table::MAX_CHAINS;
 use std::alloc::Global;
 use std::rt::Clock;
@@ -75,7 +76,88 @@ fn time<S: Subject, R: Threads + Wait + Clock + CpuClock + Sync>(
     }
 }
 
-// Times the tables by turns, and prints a line for each two of them.
+// The times of one round, in nanoseconds. A table is alone on one thread only.
+#[derive(Clone, Copy)]
+struct Round {
+    counted: u64,
+    baton: u64,
+    mutex: u64,
+    alone: Option<u64>,
+}
+
+// Times the tables by turns.
+fn time_all<R: Threads + Wait + Clock + CpuClock + Sync>(
+    rt: &R,
+    alloc: Global,
+    catalogue: &Catalogue,
+    timed: Timed,
+    threads: u32,
+) -> Option<Round>
+    requires entry { 0 < length catalogue.now }
+    requires threads { (1 ≤ threads) × (threads ≤ MAX_PASSES) }
+{
+    let counted = time::<Shared<CountedTable>, R>(rt, alloc, catalogue, timed, threads)?;
+    let baton = time::<Shared<BatonTable>, R>(rt, alloc, catalogue, timed, threads)?;
+    let mutex = time::<Locked, R>(rt, alloc, catalogue, timed, threads)?;
+    let alone = if threads == 1 {
+        Some(time::<Alone, R>(rt, alloc, catalogue, timed, threads)?)
+    } else {
+        None
+    };
+    Some(Round {
+        counted,
+        baton,
+        mutex,
+        alone,
+    })
+}
+
+// The lines of a case on so many threads.
+#[derive(Drop)]
+struct Lines {
+    counted_to_baton: Ratios,
+    counted_to_mutex: Ratios,
+    counted_to_alone: Ratios,
+    baton_to_mutex: Ratios,
+    baton_to_alone: Ratios,
+    mutex_to_alone: Ratios,
+}
+
+impl Lines {
+    fn new(alloc: Global) -> Lines {
+        Lines {
+            counted_to_baton: Ratios::new(alloc, "counted / baton"),
+            counted_to_mutex: Ratios::new(alloc, "counted / mutex"),
+            counted_to_alone: Ratios::new(alloc, "counted / alone"),
+            baton_to_mutex: Ratios::new(alloc, "baton / mutex"),
+            baton_to_alone: Ratios::new(alloc, "baton / alone"),
+            mutex_to_alone: Ratios::new(alloc, "mutex / alone"),
+        }
+    }
+
+    fn add(&mut self, round: Round) -> Option<()> {
+        self.counted_to_baton.add(round.counted, round.baton)?;
+        self.counted_to_mutex.add(round.counted, round.mutex)?;
+        self.baton_to_mutex.add(round.baton, round.mutex)?;
+        let Some(alone) = round.alone else {
+            return Some(());
+        };
+        self.counted_to_alone.add(round.counted, alone)?;
+        self.baton_to_alone.add(round.baton, alone)?;
+        self.mutex_to_alone.add(round.mutex, alone)
+    }
+
+    fn print<R: Print>(&mut self, rt: &R, case: &str, threads: u32) -> Option<()> {
+        self.counted_to_baton.print(rt, case, threads)?;
+        self.counted_to_mutex.print(rt, case, threads)?;
+        self.counted_to_alone.print(rt, case, threads)?;
+        self.baton_to_mutex.print(rt, case, threads)?;
+        self.baton_to_alone.print(rt, case, threads)?;
+        self.mutex_to_alone.print(rt, case, threads)
+    }
+}
+
+// Times the tables round after round, and prints the lines.
 fn report<R: Threads + Wait + Clock + CpuClock + Print + Sync>(
     rt: &R,
     alloc: Global,
@@ -87,22 +169,11 @@ fn report<R: Threads + Wait + Clock + CpuClock + Print + Sync>(
     requires entry { 0 < length catalogue.now }
     requires threads { (1 ≤ threads) × (threads ≤ MAX_PASSES) }
 {
-    let mut baton_to_mutex = Ratios::new(alloc, "baton / mutex");
-    let mut baton_to_alone = Ratios::new(alloc, "baton / alone");
-    let mut mutex_to_alone = Ratios::new(alloc, "mutex / alone");
+    let mut lines = Lines::new(alloc);
     for _ in 0..rounds {
-        let baton = time::<Shared<BatonTable>, R>(rt, alloc, catalogue, case.timed, threads)?;
-        let mutex = time::<Locked, R>(rt, alloc, catalogue, case.timed, threads)?;
-        baton_to_mutex.add(baton, mutex)?;
-        if threads == 1 {
-            let alone = time::<Alone, R>(rt, alloc, catalogue, case.timed, threads)?;
-            baton_to_alone.add(baton, alone)?;
-            mutex_to_alone.add(mutex, alone)?;
-        }
+        lines.add(time_all(rt, alloc, catalogue, case.timed, threads)?)?;
     }
-    baton_to_mutex.print(rt, case.name, threads)?;
-    baton_to_alone.print(rt, case.name, threads)?;
-    mutex_to_alone.print(rt, case.name, threads)
+    lines.print(rt, case.name, threads)
 }
 
 /// Measures every case on 1, 2 and 4 threads, so many rounds, and prints a line for each two tables that are measured

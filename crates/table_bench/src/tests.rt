@@ -9,6 +9,7 @@ use crate::shared::Shared;
 use crate::subject::{READ_LEN, Subject};
 use fx_base::{Catalogue, Mark};
 use fx_baton::BatonTable;
+use fx_counted::CountedTable;
 use std::alloc::Global;
 use std::process::Abort;
 use std::sync::Wait;
@@ -81,8 +82,13 @@ fn opens_works_and_closes<S: Subject, R: Wait + Abort>(rt: &R, alloc: Global) ->
 }
 
 #[test]
-fn shared_table(rt: HostRuntime) -> Result<(), Fail> {
+fn table_behind_one_word(rt: HostRuntime) -> Result<(), Fail> {
     opens_works_and_closes::<Shared<BatonTable>, _>(&rt, rt.alloc())
+}
+
+#[test]
+fn table_without_a_lock(rt: HostRuntime) -> Result<(), Fail> {
+    opens_works_and_closes::<Shared<CountedTable>, _>(&rt, rt.alloc())
 }
 
 #[test]
