@@ -103,15 +103,15 @@ pub(crate) fn cases() -> [Case; 15] {
             with(256, 240, 256),
         ),
         life("opening and closing, 1 chain, 1 slot", 1, 1, 200),
-        life("opening and closing, 64 chains, 1 slot", 1, 64, 200),
-        life("opening and closing, 1,023 chains, 1 slot", 1, 1023, 200),
+        life("opening and closing, 64 chains, 1 slot", 1, 64, 100),
+        life("opening and closing, 1,023 chains, 1 slot", 1, 1023, 30),
         life("opening and closing, 1 chain, 256 slots", 256, 1, 200),
-        life("opening and closing, 64 chains, 256 slots", 256, 64, 200),
+        life("opening and closing, 64 chains, 256 slots", 256, 64, 100),
         life(
             "opening and closing, 1,023 chains, 256 slots",
             256,
             1023,
-            200,
+            30,
         ),
     ]
 }
