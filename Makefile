@@ -9,7 +9,7 @@ $(error Call make in the folder of this Makefile: make -C '$(patsubst %/,%,$(dir
 endif
 
 .DEFAULT_GOAL := help
-.PHONY: help run try prove test examples limits compare mistakes break must-spend growths wrong-bodies layout bench gate clean
+.PHONY: help run try prove test examples limits refused-growths compare steps mistakes break must-spend growths wrong-bodies layout bench bench-rust gate clean kernel agree
 .NOTPARALLEL:
 
 help:
@@ -29,7 +29,8 @@ help:
 	@echo 'make growths      counts how often memory grows in the calls that need none'
 	@echo 'make wrong-bodies tries the wrong bodies for which the gate has no time'
 	@echo 'make layout       looks at the files of the repository'
-	@echo 'make bench        times what scripts do beside a plain program that does the same'
+	@echo 'make bench        times what scripts do beside a plain program that does the same, and the tables beside each other'
+	@echo 'make bench-rust   times a plain Rust table of the same words beside arc-swap and others'
 	@echo 'make gate         proves and tests all crates from nothing'
 	@echo 'make clean        removes what was built; what was proved is kept'
 	@echo 'make kernel       plays a script on the io_uring of this machine'
@@ -89,7 +90,11 @@ layout:
 
 bench:
 	@scripts/build-program
-	@scripts/bench bin/fixfiles
+	@scripts/build-program table_bench table_bench
+	@scripts/bench bin/fixfiles bin/table_bench
+
+bench-rust:
+	@scripts/bench-rust
 
 gate:
 	@scripts/need-toolchain

@@ -1,0 +1,3 @@
+mod FewHolds
+mod NewPasses
+mod Vacant

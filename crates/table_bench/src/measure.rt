@@ -1,0 +1,138 @@
+//! How long a job takes on a table, and how long a table's opening and closing.
+ghost use Rattle.std.specs.Prelude.{◌≡◌, ◌<◌, ◌≤◌, length, IfSome};
+ghost use Rattle.fx_plain.specs.State.{IsSettled};
+ghost use Rattle.fx_plain.specs.Contents.{state_of};
+ghost use Rattle.fx_table.specs.declared.limits.TheConstants.{MAX_CHAINS, MAX_PASSES};
+
+use crate::subject::Subject;
+use crate::watch::{Watch, used};
+use crate::work::{Job, work_all};
+use fx_base::{Catalogue, Mark};
+use fx_plain::PlainTable;
+use fx_table::MAX_CHAINS;
+use std::alloc::Global;
+use std::rt::Clock;
+use std::sync::Wait;
+use std::thread::Threads;
+use std::time::CpuClock;
+
+/// A table as a measurement begins with it: how many slots it has, with files at the first so many, and so many of its
+/// slots, from the first one on, are its allocation range.
+#[derive(Clone, Copy)]
+pub(crate) struct Shape {
+    pub(crate) slots: u32,
+    pub(crate) full: u32,
+    pub(crate) range: u32,
+}
+
+/// A table of this shape, where there is one and memory for it.
+pub(crate) fn shaped(alloc: Global, catalogue: &Catalogue, shape: Shape) -> Option<PlainTable>
+    requires { 0 < length catalogue.now }
+    ensures { IfSome result (λ plain. IsSettled (state_of plain)) }
+{
+    if shape.slots == 0 || shape.slots > 256 {
+        return None;
+    }
+    let Ok(mut plain) = PlainTable::sparse(alloc, shape.slots) else {
+        return None;
+    };
+    if plain.prepare(512).is_ok() {
+        fill(&mut plain, catalogue, shape.full);
+    }
+    if plain.set_range(0, shape.range).is_ok() && plain.is_settled() && plain.full() == shape.full {
+        return Some(plain);
+    }
+    plain.abandon();
+    None
+}
+
+// Puts files at the first so many slots.
+fn fill(plain: &mut PlainTable, catalogue: &Catalogue, full: u32)
+    requires { 0 < length catalogue.now }
+{
+    for slot in 0..full {
+        let number = slot.wrapping_add(256);
+        if slot < plain.size() && plain.is_fresh(number) {
+            let file = catalogue.open(0, Mark::Registered { k: 0, i: slot });
+            let _replaced = plain.put(slot, number, file);
+        }
+    }
+}
+
+/// The nanoseconds that so many threads need for a job each, on a new table of this shape. `None` where memory or the
+/// clock is refused.
+pub(crate) fn time_of_work<S: Subject, R: Threads + Wait + Clock + CpuClock + Sync>(
+    rt: &R,
+    alloc: Global,
+    catalogue: &Catalogue,
+    shape: Shape,
+    job: Job,
+    threads: u32,
+) -> Option<u64>
+    requires entry { 0 < length catalogue.now }
+    requires threads { (1 ≤ threads) × (threads ≤ MAX_PASSES) }
+{
+    let watch = Watch::new(rt, threads).ok()?;
+    let plain = shaped(alloc, catalogue, shape)?;
+    match S::open(alloc, plain, MAX_CHAINS, threads) {
+        Err(plain) => {
+            plain.abandon();
+            None
+        }
+        Ok((subject, mut passes)) => {
+            work_all(rt, alloc, &subject, &mut passes, catalogue, job, &watch);
+            subject.close(passes).abandon();
+            watch.took()
+        }
+    }
+}
+
+// Opens and closes a table so often.
+fn open_and_close<S: Subject>(
+    alloc: Global,
+    plain: PlainTable,
+    chains: u32,
+    passes: u32,
+    times: u32,
+) -> PlainTable
+    requires settled { IsSettled (state_of plain) }
+    requires chains { chains ≤ MAX_CHAINS }
+    requires passes { (1 ≤ passes) × (passes ≤ MAX_PASSES) }
+    ensures { IsSettled (state_of result) }
+{
+    let mut plain = plain;
+    for _ in 0..times {
+        plain = match S::open(alloc, plain, chains, passes) {
+            Ok((subject, passes)) => subject.close(passes),
+            Err(back) => back,
+        };
+    }
+    plain
+}
+
+/// The processor's nanoseconds of opening and closing a full table so often. `None` where memory or the clock is refused.
+pub(crate) fn time_of_life<S: Subject, R: CpuClock>(
+    rt: &R,
+    alloc: Global,
+    catalogue: &Catalogue,
+    slots: u32,
+    chains: u32,
+    passes: u32,
+    times: u32,
+) -> Option<u64>
+    requires entry { 0 < length catalogue.now }
+    requires chains { chains ≤ MAX_CHAINS }
+    requires passes { (1 ≤ passes) × (passes ≤ MAX_PASSES) }
+{
+    let shape = Shape {
+        slots,
+        full: slots,
+        range: slots,
+    };
+    let plain = shaped(alloc, catalogue, shape)?;
+    let before = used(rt);
+    let plain = open_and_close::<S>(alloc, plain, chains, passes, times);
+    let after = used(rt);
+    plain.abandon();
+    after?.checked_sub(before?)
+}
