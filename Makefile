@@ -9,7 +9,7 @@ $(error Call make in the folder of this Makefile: make -C '$(patsubst %/,%,$(dir
 endif
 
 .DEFAULT_GOAL := help
-.PHONY: help run try prove test examples limits refused-growths compare steps mistakes break must-spend growths wrong-bodies layout bench bench-rust gate clean kernel agree
+.PHONY: help run try prove test examples limits compare mistakes break must-spend growths wrong-bodies layout bench bench-rust gate clean
 .NOTPARALLEL:
 
 help:
