@@ -1,5 +1,8 @@
 //! The largest submissions, on any number of workers: what each request answers is the same in whichever order the
 //! chains are played, and every file that was installed is closed or left in the table, once.
+ghost use Rattle.std.specs.Prelude.{◌≡◌, ◌≤◌, ◌<◌};
+ghost use Rattle.ring_tests.specs.declared.largest.TheConstants.{CHAINS, MEMBERS};
+
 use crate::setting::{linked, open_at, read, submit, update};
 use fx_base::{Catalogue, CloseList, Closed, Mark};
 use fx_chain::{Completion, Place, Request};
@@ -37,7 +40,9 @@ fn largest_ring<R: Abort>(rt: &R, alloc: Global) -> Result<Ring, Fail> {
 
 // The request at a place of chains that open, read, update and read again, each four times. Each read is of its own part
 // of the large file.
-fn request_at(alloc: Global, chain: u32, member: u32) -> Result<Request, AllocError> {
+fn request_at(alloc: Global, chain: u32, member: u32) -> Result<Request, AllocError>
+    requires { (chain ≤ CHAINS) × (member ≤ MEMBERS) }
+{
     let slot = (chain * 7 + member) % 255;
     match member % 4 {
         1 => open_at(alloc, "small.txt", slot),
@@ -47,7 +52,9 @@ fn request_at(alloc: Global, chain: u32, member: u32) -> Result<Request, AllocEr
 }
 
 // What such a request answers.
-fn expect_answer<R: Abort>(rt: &R, completion: &Completion, chain: u32, member: u32) {
+fn expect_answer<R: Abort>(rt: &R, completion: &Completion, chain: u32, member: u32)
+    requires { (chain ≤ CHAINS) × (member ≤ MEMBERS) }
+{
     let place = Place {
         submission: 1,
         chain,
@@ -67,17 +74,22 @@ fn expect_answer<R: Abort>(rt: &R, completion: &Completion, chain: u32, member: 
     }
 }
 
+// The member at this place of a chain: all but the last are linked with the next one.
+fn in_chain(request: Request, member: u32) -> Request {
+    if member < MEMBERS {
+        linked(request)
+    } else {
+        request
+    }
+}
+
 // The chains of such requests.
 fn largest_submission(alloc: Global) -> Result<Vec<Request>, AllocError> {
     let mut requests = Vec::new(alloc);
     for chain in 1..CHAINS + 1 {
         for member in 1..MEMBERS + 1 {
             let request = request_at(alloc, chain, member)?;
-            requests.push(if member < MEMBERS {
-                linked(request)
-            } else {
-                request
-            })?;
+            requests.push(in_chain(request, member))?;
         }
     }
     Ok(requests)
@@ -86,9 +98,14 @@ fn largest_submission(alloc: Global) -> Result<Vec<Request>, AllocError> {
 // The answers to them, each once and in order of place.
 fn expect_answers<R: Abort>(rt: &R, completions: &[Completion]) {
     assert_eq!(rt; completions.len(), 16_368);
-    for (i, completion) in completions.iter().enumerate() {
-        let at = i as u32;
-        expect_answer(rt, completion, at / MEMBERS + 1, at % MEMBERS + 1);
+    let mut others = completions.iter();
+    for chain in 1..CHAINS + 1 {
+        for member in 1..MEMBERS + 1 {
+            match others.next() {
+                Some(completion) => expect_answer(rt, completion, chain, member),
+                None => panic!(rt; "a completion of each request"),
+            }
+        }
     }
 }
 
@@ -173,7 +190,9 @@ fn most_chains_of_most_members(rt: HostRuntime) -> Result<(), Fail> {
 
 // What an update of a chain does at this place of its list: it installs a file, leaves the slot or empties it, each for
 // every fourth slot and the last for twice as many. The next chain does it one slot earlier.
-fn entry_at(chain: u32, in_list: u32) -> i32 {
+fn entry_at(chain: u32, in_list: u32) -> i32
+    requires { (chain ≤ CHAINS) × (in_list < 16) }
+{
     match (chain + in_list) % 4 {
         0 => 1,
         2 => -2,
@@ -182,17 +201,34 @@ fn entry_at(chain: u32, in_list: u32) -> i32 {
 }
 
 // An update of 16 slots, by a member of a chain.
-fn update_at(alloc: Global, chain: u32, member: u32) -> Result<Request, AllocError> {
-    let mut list = [0; 16];
-    for (i, entry) in list.iter_mut().enumerate() {
-        *entry = entry_at(chain, i as u32);
+fn update_at(alloc: Global, chain: u32, member: u32) -> Result<Request, AllocError>
+    requires chain { chain ≤ CHAINS }
+    requires member { (1 ≤ member) × (member ≤ MEMBERS) }
+{
+    let mut list = Vec::new(alloc);
+    for in_list in 0..16 {
+        list.push(entry_at(chain, in_list))?;
     }
-    let request = update(alloc, 16 * (member - 1), &list)?;
-    Ok(if member < MEMBERS {
-        linked(request)
-    } else {
-        request
-    })
+    update(alloc, 16 * (member - 1), list.as_slice())
+}
+
+// The answers to such updates, each once and in order of place.
+fn expect_all_updated<R: Abort>(rt: &R, completions: &[Completion]) {
+    assert_eq!(rt; completions.len(), 16_368);
+    let mut others = completions.iter();
+    for chain in 1..CHAINS + 1 {
+        for member in 1..MEMBERS + 1 {
+            let place = Place {
+                submission: 1,
+                chain,
+                member,
+            };
+            match others.next() {
+                Some(completion) => assert_eq!(rt; (completion.place, completion.res), (place, 16)),
+                None => panic!(rt; "a completion of each request"),
+            }
+        }
+    }
 }
 
 #[test]
@@ -201,23 +237,15 @@ fn most_updates_of_most_slots(rt: HostRuntime) -> Result<(), Fail> {
     let mut requests = Vec::new(alloc);
     for chain in 1..CHAINS + 1 {
         for member in 1..MEMBERS + 1 {
-            requests.push(update_at(alloc, chain, member)?)?;
+            let request = update_at(alloc, chain, member)?;
+            requests.push(in_chain(request, member))?;
         }
     }
     for workers in [1, 2, 4, 16] {
         let mut tally = Tally::new(alloc)?;
         let mut ring = largest_ring(&rt, alloc)?;
         let report = submit(&rt, alloc, &mut ring, requests.as_slice(), workers);
-        assert_eq!(rt; report.completions.len(), 16_368);
-        for (i, completion) in report.completions.iter().enumerate() {
-            let at = i as u32;
-            let place = Place {
-                submission: 1,
-                chain: at / MEMBERS + 1,
-                member: at % MEMBERS + 1,
-            };
-            assert_eq!(rt; (completion.place, completion.res), (place, 16));
-        }
+        expect_all_updated(&rt, report.completions.as_slice());
         let left = left_in(&rt, alloc, ring);
         tally.add(&rt, report.closes.files());
         tally.add(&rt, left.files());

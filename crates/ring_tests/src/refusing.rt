@@ -9,12 +9,15 @@ use crate::calls::Calls;
 use crate::setting::{close, expect_as_before, open_any, read, ring_before_refusal};
 use fx_base::{NoMemory, OpenFile};
 use fx_baton::{BatonPass, BatonTable};
+use fx_chain::Request;
 use fx_plain::PlainTable;
 use fx_ring::SubmitFault;
 use fx_table::{Empty, FileTable, Hold, LookFault, Retired};
 use std::alloc::Global;
+use std::process::Abort;
 use std::sync::Wait;
 use std::test::Fail;
+use std::thread::Threads;
 
 // A table behind one word, but for `open`.
 struct RefusingTable {
@@ -118,23 +121,33 @@ impl FileTable for RefusingTable {
     ghost fronts = { λ t p fits. fits.seated.front };
 }
 
+// The requests are refused for want of memory as often as they are submitted.
+fn expect_no_memory<R: Threads + Wait + Abort + Sync>(
+    rt: &R,
+    alloc: Global,
+    requests: &[Request],
+    workers: u32,
+) -> Result<(), Fail> {
+    let calls = Calls::new(alloc, &[])?;
+    let mut ring = ring_before_refusal(rt, alloc)?;
+    for _ in 0..2 {
+        match ring.submit::<RefusingTable, R, Calls>(rt, alloc, requests, workers, &calls) {
+            Ok(_report) => panic!(rt; "a refusal"),
+            Err(fault) => assert_eq!(rt; fault, SubmitFault::NoMemory),
+        }
+    }
+    calls.expect(rt, &[]);
+    expect_as_before(rt, alloc, ring);
+    Ok(())
+}
+
 #[test]
 fn table_that_is_not_opened(rt: HostRuntime) -> Result<(), Fail> {
     let alloc = rt.alloc();
     let requests = [close(0), read(0, 0, 1), open_any(alloc, "b.txt")?];
     for workers in [1, 2, 16] {
-        for requests in [requests.as_slice(), [].as_slice()] {
-            let calls = Calls::new(alloc, &[])?;
-            let mut ring = ring_before_refusal(&rt, alloc)?;
-            for _ in 0..2 {
-                match ring.submit::<RefusingTable, _, _>(&rt, alloc, requests, workers, &calls) {
-                    Ok(_report) => panic!(rt; "a refusal"),
-                    Err(fault) => assert_eq!(rt; fault, SubmitFault::NoMemory),
-                }
-            }
-            calls.expect(&rt, &[]);
-            expect_as_before(&rt, alloc, ring);
-        }
+        expect_no_memory(&rt, alloc, &requests, workers)?;
+        expect_no_memory(&rt, alloc, &[], workers)?;
     }
     Ok(())
 }
