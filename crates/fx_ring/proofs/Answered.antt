@@ -6,7 +6,7 @@ use Rattle.fx_base.specs.Catalogue.{FileEntry}
 use Rattle.fx_base.specs.declared.errno.Errno.{Errno}
 use Rattle.fx_base.specs.declared.errno.Errno.TheVariants.{ENOENT, ENXIO, EBADF, ENOMEM, EINVAL, ENFILE}
 use Rattle.fx_plain.specs.declared.event.Action.{Action}
-use Rattle.fx_chain.specs.Answers.{Answers, OpensAt, ReadsAt, TakesAt, ReadsFrom, Empties, UpdatesFrom, Refuses, is_bad_entry}
+use Rattle.fx_chain.specs.Answers.{Answers, OpensAt, ReadsFrom, Empties, UpdatesFrom, Refuses, is_bad_entry}
 use Rattle.fx_chain.specs.Completed.{Completed, refusal, next_member}
 use Rattle.fx_chain.specs.Explains.{Explains, canceled, severs}
 use Rattle.fx_chain.specs.Operation.{Operation, Opens, Reads, Closes, Updates, Asked}
@@ -56,8 +56,10 @@ module _ (place : Place) (events : List Action) (c : Completed) where
       (λ _ applied. here _ refl applied.1))) it
 
   -- an answer has its request's place
-  pub answered_here : (catalogue : List FileEntry) (size : ℕ) (operation : Operation) → Answers catalogue size place operation events c → c.place ≡ place
-  answered_here catalogue size (Opens name target) it = either_way (has_name name catalogue) (λ _ found. opened_here size found.0 target found.2) (λ _. refused_here ENOENT) it
+  pub answered_here : (catalogue : List FileEntry) (size : ℕ) (operation : Operation) → Answers catalogue size place operation events c
+      → c.place ≡ place
+  answered_here catalogue size (Opens name target) it = either_way (has_name name catalogue) (λ _ found. opened_here size found.0 target found.2)
+      (λ _. refused_here ENOENT) it
   answered_here catalogue size (Reads slot off len) it = read_here catalogue size slot off len it
   answered_here catalogue size (Closes slot) it = emptied_here size slot it
   answered_here catalogue size (Updates off list) it = updated_here (length catalogue) size off list it
@@ -72,8 +74,9 @@ canceled_of_members : (place : Place) (requests : List Asked) → AreOfMembers p
 canceled_of_members place [] = refl
 canceled_of_members place (request ∷ requests) = (_, _, refl, refl, canceled_of_members (next_member place) requests)
 
-pub explained_of_members : (catalogue : List FileEntry) (size : ℕ) (place : Place) (requests : List Asked) (events : List Action) (completions : List Completed)
-    → Explains catalogue size place requests events completions → AreOfMembers place requests completions
+pub explained_of_members : (catalogue : List FileEntry) (size : ℕ) (place : Place) (requests : List Asked)
+    (events : List Action) (completions : List Completed) → Explains catalogue size place requests events completions
+    → AreOfMembers place requests completions
 explained_of_members catalogue size place [] events completions it = it.1
 explained_of_members catalogue size place (request ∷ requests) events completions (own, others, c, cs, parts, are, answers, behind) = (
   c,

@@ -1,5 +1,5 @@
 -- A worker goes on by one chain that its pass drew.
-use Rattle.std.proofs.Common.{◌≡◌, ◌≢◌, ◌⊎◌, ℕ, ◌+◌, ◌<◌, ◌≤◌, true, false, List, [], ◌∷◌, ◌++◌, map, length, refl, sym, ap, subst, ◌∙◌, All, Contains, Some, None, ⊎_elim, append_assoc, length-append, arith}
+use Rattle.std.proofs.Common.{◌≡◌, ◌≢◌, ◌⊎◌, ℕ, ◌+◌, ◌<◌, ◌≤◌, List, [], ◌∷◌, ◌++◌, map, length, refl, sym, ap, subst, ◌∙◌, All, Contains, Some, None, ⊎_elim, length-append, arith}
 use Rattle.std.proofs.lemmas.List.{map-append}
 use Rattle.std.proofs.lemmas.List.Elements.{All-append}
 use Rattle.fx_base.specs.Catalogue.{FileEntry}
@@ -7,10 +7,10 @@ use Rattle.fx_base.specs.CloseListView.{CloseListView}
 use Rattle.fx_base.specs.declared.open_file.Closed.{Closed}
 use Rattle.fx_plain.specs.declared.event.Event.{Event}
 use Rattle.fx_plain.specs.declared.event.Action.{Action}
-use Rattle.fx_plain.specs.History.{action_of, closes_in, part_of_chain, ◌▷◌, ◌▷▷◌}
+use Rattle.fx_plain.specs.History.{action_of, closes_in, part_of_chain, ◌▷◌}
 use Rattle.fx_plain.proofs.Leading.{closes_in-then}
 use Rattle.fx_table.specs.Opening.{Opening, size_of}
-use Rattle.fx_table.specs.Pass.{PassView, IsOfDrawnChains, event_of}
+use Rattle.fx_table.specs.Pass.{PassView, event_of}
 use Rattle.fx_table.specs.Calls.{Draws}
 use Rattle.fx_table.specs.declared.limits.TheConstants.{CHAIN_NUMBERS}
 use Rattle.fx_table.specs.declared.values.Doing.TheVariants.{Idle}
@@ -22,10 +22,10 @@ use Rattle.fx_chain.specs.Operation.{Asked}
 use Rattle.fx_chain.specs.Performs.{PlaysChain, player}
 use Rattle.fx_chain.specs.Weights.{all_weights}
 use Rattle.fx_chain.proofs.ChainGoesOn.{explained_count}
-use Rattle.fx_ring.specs.Work.{WorkerState, worker_state, run_of_chain, completions_of_chain, HasWorked, HasRoom}
+use Rattle.fx_ring.specs.Work.{worker_state, run_of_chain, completions_of_chain, HasWorked, HasRoom}
 use Rattle.fx_ring.proofs.Behind.{sum_behind}
 use Rattle.fx_ring.proofs.Kept.{only_first, only_second, not_first, not_second}
-use Rattle.fx_ring.proofs.Places.{IsOfChain, explained_of_chain}
+use Rattle.fx_ring.proofs.Places.{explained_of_chain}
 
 abbrev chain_of : Event → ℕ
 chain_of e = e.chain
@@ -216,10 +216,6 @@ module _ (o : Opening) (runs : List (List Asked)) (v w : PassView) (before : Lis
 
     pub number_next : x.number ≡ v.number
     number_next = played.2.acts.adds.number ∙ ap (λ (z : PassView). z.number) drew.3
-
-    -- the chains that are left are fewer
-    pub chain_next : x.chain ≡ chain
-    chain_next = played.2.acts.adds.chain ∙ ap (λ (z : PassView). z.chain) drew.3
 
 -- a worker whose pass was told that there are no more chains
 pub worked_all : (o : Opening) (catalogue : List FileEntry) (size submission : ℕ) (runs : List (List Asked)) (v w : PassView) (cs : List Completed)

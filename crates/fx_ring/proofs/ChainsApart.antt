@@ -1,8 +1,8 @@
 -- Where each chain's part of a history installs no mark twice, and marks of that chain alone, the history doesn't either.
-use Rattle.std.proofs.Common.{◌≡◌, ◌≢◌, ℕ, zero, suc, ◌==◌, Bool, true, false, cond, List, [], ◌∷◌, map, Contains, refl, sym, ap, subst, ◌∙◌, ⊎_elim, inl, inr, Some, arith, eq-eqb}
+use Rattle.std.proofs.Common.{◌≡◌, ℕ, suc, ◌==◌, Bool, true, false, cond, List, [], ◌∷◌, map, Contains, refl, sym, ap, subst, ◌∙◌, inl, inr, arith, eq-eqb}
 use Rattle.fx_base.specs.declared.mark.Mark.TheVariants.{Submitted}
 use Rattle.fx_plain.specs.History.{part_of_chain, action_of}
-use Rattle.fx_plain.specs.Laws.{IsInstalled, installed_by}
+use Rattle.fx_plain.specs.Laws.{IsInstalled}
 use Rattle.fx_plain.specs.declared.event.File.{File}
 use Rattle.fx_plain.specs.declared.event.Event.{Event}
 use Rattle.fx_plain.specs.declared.event.Action.{Action}
@@ -25,8 +25,12 @@ put_in_part (e ∷ h) f (inl before) =
     more : (b : Bool) (xs : List Event) → IsPut (map action_of xs) f → IsPut (map action_of (cond b (e ∷ xs) xs)) f
     more true xs is = inl is
     more false xs is = is
-put_in_part (e ∷ h) f (inr now) =
-    (e, (0, omega arith, refl), subst (λ b. IsPut (map action_of (cond b (e ∷ part_of_chain e.chain h) (part_of_chain e.chain h))) f) (sym (eq-eqb e.chain e.chain refl)) (inr now))
+put_in_part (e ∷ h) f (inr now) = (
+  e,
+  (0, omega arith, refl),
+  subst (λ b. IsPut (map action_of (cond b (e ∷ part_of_chain e.chain h) (part_of_chain e.chain h))) f)
+      (sym (eq-eqb e.chain e.chain refl)) (inr now),
+)
 
 pub installed_put : (h : List Event) (f : File) → IsInstalled h f → IsPut (map action_of h) f
 installed_put [] f is = is
@@ -36,7 +40,8 @@ installed_put (e ∷ h) f (inr now) = inr now
 module _ (submission : ℕ) where
   -- the parts of the chains of all events
   abbrev PartsPut : List Event → Type 0
-  PartsPut h = (e : Event) → Contains h e → HasNewMarks (part_actions e.chain h) × ((f : File) → IsPut (part_actions e.chain h) f → IsOfChain submission e.chain f)
+  PartsPut h = (e : Event) → Contains h e → HasNewMarks (part_actions e.chain h)
+      × ((f : File) → IsPut (part_actions e.chain h) f → IsOfChain submission e.chain f)
 
   earlier : (b : Bool) (chain : ℕ) (e : Event) (xs : List Event)
       → HasNewMarks (map action_of (cond b (e ∷ xs) xs)) × ((f : File) → IsPut (map action_of (cond b (e ∷ xs) xs)) f → IsOfChain submission chain f)
@@ -45,12 +50,14 @@ module _ (submission : ℕ) where
   earlier false chain e xs puts = puts
 
   parts_before : (e : Event) (h : List Event) → PartsPut (e ∷ h) → PartsPut h
-  parts_before e h parts d at = earlier (e.chain == d.chain) d.chain e (part_of_chain d.chain h) (parts d (suc at.0, let lt = at.1 in omega arith, at.2))
+  parts_before e h parts d at = earlier (e.chain == d.chain) d.chain e (part_of_chain d.chain h)
+      (parts d (suc at.0, let lt = at.1 in omega arith, at.2))
 
   pub whole_new : (h : List Event) → PartsPut h → HasNewMarks (map action_of h)
   whole_new [] parts = tt
   whole_new (e ∷ h) parts =
-      let own : part_of_chain e.chain (e ∷ h) ≡ e ∷ part_of_chain e.chain h = ap (λ b. cond b (e ∷ part_of_chain e.chain h) (part_of_chain e.chain h)) (eq-eqb e.chain e.chain refl) in
+      let own : part_of_chain e.chain (e ∷ h) ≡ e ∷ part_of_chain e.chain h =
+      ap (λ b. cond b (e ∷ part_of_chain e.chain h) (part_of_chain e.chain h)) (eq-eqb e.chain e.chain refl) in
       let here = parts e (0, omega arith, refl) in
       let fresh : HasNewMarks (e.action ∷ part_actions e.chain h) = subst (λ l. HasNewMarks (map action_of l)) own here.0 in (
         whole_new h (parts_before e h parts),
@@ -58,7 +65,8 @@ module _ (submission : ℕ) where
             let (d, at, there) = put_in_part h g before in
             let mine = here.1 f (subst (λ l. IsPut (map action_of l) f) (sym own) (inr now)) in
             let theirs = (parts_before e h parts d at).1 g there in
-            let marks : Submitted submission e.chain mine.0 mine.1 ≡ Submitted submission d.chain theirs.0 theirs.1 = sym mine.2 ∙ (same ∙ theirs.2) in
+            let marks : Submitted submission e.chain mine.0 mine.1 ≡ Submitted submission d.chain theirs.0 theirs.1 =
+            sym mine.2 ∙ (same ∙ theirs.2) in
             let chain : d.chain ≡ e.chain = cc in
             fresh.1 f g now (subst (λ c. IsPut (part_actions c h) g) chain there) same,
       )

@@ -1,5 +1,5 @@
 -- What the members of a chain install: files of the catalogue, each with a mark of its own.
-use Rattle.std.proofs.Common.{◌≡◌, ◌≢◌, ℕ, zero, suc, ◌+◌, ◌<◌, ◌≤◌, ◌==◌, ◌||◌, nat_le, nat_lt, ℤ, pos, negsuc, Bool, true, false, List, [], ◌∷◌, length, refl, sym, ap, subst, ◌∙◌, ⊎_elim, inl, inr, Option, Some, None, slice_get, option_map, arith}
+use Rattle.std.proofs.Common.{◌≡◌, ◌≢◌, ℕ, zero, suc, ◌+◌, ◌<◌, ◌≤◌, ◌==◌, ◌||◌, nat_le, nat_lt, ℤ, pos, negsuc, false, List, [], ◌∷◌, length, sym, ap, subst, ◌∙◌, ⊎_elim, inl, inr, Option, Some, None, option_map, arith}
 use Rattle.std.specs.List.{list_any}
 use Rattle.std.proofs.lemmas.Bool.{cases_lt, leb-false}
 use Rattle.std.proofs.lemmas.Option.{slice_get_past}
@@ -10,7 +10,7 @@ use Rattle.fx_base.specs.declared.errno.Errno.TheVariants.{ENOENT, ENXIO, EBADF,
 use Rattle.fx_base.specs.declared.mark.Mark.{Mark}
 use Rattle.fx_base.specs.declared.mark.Mark.TheVariants.{Submitted}
 use Rattle.fx_base.specs.declared.open_file.Closed.{Closed}
-use Rattle.fx_plain.specs.History.{◌▷◌, ◌▷▷◌}
+use Rattle.fx_plain.specs.History.{◌▷◌}
 use Rattle.fx_plain.specs.declared.event.File.{File}
 use Rattle.fx_plain.specs.declared.event.Action.{Action}
 use Rattle.fx_plain.specs.declared.event.Action.TheVariants.{Look, Release, Put, Clear, Take, Allocate, Full}
@@ -52,16 +52,20 @@ module _ (entries : ℕ) (place : Place) where
   here j entry f is inside = (ap (λ (x : Closed). x.mark) is, let same : f.identity.entry ≡ entry = ap (λ (x : Closed). x.entry) is in omega arith)
 
   -- the step that installs it
-  puts_here : (j entry slot : ℕ) (f : File) (replaced : Option File) → f.identity ≡ installed place j entry → entry < entries → Puts (Here j) ([] ▷ Put slot f replaced)
-  puts_here j entry slot f replaced is inside = puts_one (Here j) (Put slot f replaced) (λ g now. let e : f ≡ g = cc in subst (Here j) e (here j entry f is inside))
+  puts_here : (j entry slot : ℕ) (f : File) (replaced : Option File) → f.identity ≡ installed place j entry → entry < entries
+      → Puts (Here j) ([] ▷ Put slot f replaced)
+  puts_here j entry slot f replaced is inside = puts_one (Here j) (Put slot f replaced)
+      (λ g now. let e : f ≡ g = cc in subst (Here j) e (here j entry f is inside))
 
   allocates_here : (j entry slot : ℕ) (f : File) → f.identity ≡ installed place j entry → entry < entries → Puts (Here j) ([] ▷ Allocate slot f)
-  allocates_here j entry slot f is inside = puts_one (Here j) (Allocate slot f) (λ g now. let e : f ≡ g = cc in subst (Here j) e (here j entry f is inside))
+  allocates_here j entry slot f is inside = puts_one (Here j) (Allocate slot f)
+      (λ g now. let e : f ≡ g = cc in subst (Here j) e (here j entry f is inside))
 
   refuses_none : (P : File → Type 0) (errno : Errno) (events : List Action) (c : Completed) → Refuses place errno events c → Puts P events
   refuses_none P errno events c it = subst (Puts P) (sym it.0) (puts_none P [] (λ f is. is))
 
-  opens : (size entry : ℕ) (target : Target) (events : List Action) (c : Completed) → entry < entries → OpensAt size place entry target events c → Puts (Here 0) events
+  opens : (size entry : ℕ) (target : Target) (events : List Action) (c : Completed) → entry < entries → OpensAt size place entry target events c
+      → Puts (Here 0) events
   opens size entry (Slot slot) events c inside it =
       either_way (size == 0) (λ _. refuses_none (Here 0) ENXIO events c)
       (λ _. either_way (nat_le size slot) (λ _. refuses_none (Here 0) EINVAL events c)
@@ -79,7 +83,8 @@ module _ (entries : ℕ) (place : Place) where
     looks : (slot : ℕ) (found : Option File) → Puts P ([] ▷ Look slot found)
     looks slot found = puts_one P (Look slot found) no_file
 
-    reads : (catalogue : List FileEntry) (size slot off len : ℕ) (events : List Action) (c : Completed) → ReadsFrom catalogue size place slot off len events c → Puts P events
+    reads : (catalogue : List FileEntry) (size slot off len : ℕ) (events : List Action) (c : Completed)
+        → ReadsFrom catalogue size place slot off len events c → Puts P events
     reads catalogue size slot off len events c it =
         either_way (nat_le size slot) (λ _. refuses_none P EBADF events c)
         (λ _. ⊎_elim
@@ -88,7 +93,8 @@ module _ (entries : ℕ) (place : Place) where
         (λ none. subst (Puts P) (sym none.0) (looks slot None))
         (λ found. puts_may_close P ([] ▷ Look slot (Some found.0) ▷ Release found.0) (Some found.0) events found.1
         (puts_none P ([] ▷ Look slot (Some found.0) ▷ Release found.0)
-        (λ f. ⊎_elim (⊎_elim (λ before. before) (λ look. let e : None ≡ Some f = look in cc)) (λ release. let e : None ≡ Some f = release in cc)))))) it
+        (λ f. ⊎_elim (⊎_elim (λ before. before) (λ look. let e : None ≡ Some f = look in cc))
+        (λ release. let e : None ≡ Some f = release in cc)))))) it
 
     empties : (size slot : ℕ) (events : List Action) (c : Completed) → Empties size place slot events c → Puts P events
     empties size slot events c it =
@@ -98,7 +104,8 @@ module _ (entries : ℕ) (place : Place) where
         (λ none. subst (Puts P) (sym none.0) (puts_one P (Take slot None) no_file))
         (λ taken. puts_may_close P ([] ▷ Take slot (Some taken.0)) (Some taken.0) events taken.1 (puts_one P (Take slot (Some taken.0)) no_file)))) it
 
-  applies_entry : (j slot : ℕ) (z : ℤ) (events : List Action) → is_bad_entry entries z ≡ false → AppliesEntry place j slot z events → Puts (Here j) events
+  applies_entry : (j slot : ℕ) (z : ℤ) (events : List Action) → is_bad_entry entries z ≡ false → AppliesEntry place j slot z events
+      → Puts (Here j) events
   applies_entry j slot (pos entry) events good (f, replaced, is, may) =
       puts_may_close (Here j) ([] ▷ Put slot f replaced) replaced events may (puts_here j entry slot f replaced is (leb-false entries entry good))
   applies_entry j slot (negsuc zero) events good (removed, may) =
@@ -107,11 +114,13 @@ module _ (entries : ℕ) (place : Place) where
 
   later_place : (j : ℕ) (f g : File) → IsListed entries place (j + 1) f → Here j g → f.identity.mark ≢ g.identity.mark
   later_place j f g (k, le, of) at same =
-      let e : Submitted place.submission place.chain place.member k ≡ Submitted place.submission place.chain place.member j = sym of.0 ∙ (same ∙ at.0) in
+      let e : Submitted place.submission place.chain place.member k ≡ Submitted place.submission place.chain place.member j =
+      sym of.0 ∙ (same ∙ at.0) in
       let is : k ≡ j = cc in
       omega arith
 
-  applies_list : (j slot : ℕ) (list : List ℤ) (events : List Action) → list_any (is_bad_entry entries) list ≡ false → AppliesList place j slot list events → Puts (IsListed entries place j) events
+  applies_list : (j slot : ℕ) (list : List ℤ) (events : List Action) → list_any (is_bad_entry entries) list ≡ false
+      → AppliesList place j slot list events → Puts (IsListed entries place j) events
   applies_list j slot [] events good is = subst (Puts (IsListed entries place j)) (sym is) (puts_none (IsListed entries place j) [] (λ f it. it))
   applies_list j slot (z ∷ list) events good (own, others, is, one, more) =
       subst (Puts (IsListed entries place j)) (sym is)
@@ -122,7 +131,8 @@ module _ (entries : ℕ) (place : Place) where
       (applies_entry j slot z own (or_left _ _ good) one)
       (applies_list (j + 1) (slot + 1) list others (or_right _ _ good) more))
 
-  updates : (size off : ℕ) (list : List ℤ) (events : List Action) (c : Completed) → UpdatesFrom entries size place off list events c → Puts (IsListed entries place 0) events
+  updates : (size off : ℕ) (list : List ℤ) (events : List Action) (c : Completed) → UpdatesFrom entries size place off list events c
+      → Puts (IsListed entries place 0) events
   updates size off list events c it =
       either_way (size == 0) (λ _. refuses_none (IsListed entries place 0) ENXIO events c)
       (λ _. either_way (length list == 0 || nat_lt size (off + length list)) (λ _. refuses_none (IsListed entries place 0) EINVAL events c)
@@ -130,17 +140,20 @@ module _ (entries : ℕ) (place : Place) where
       (λ good applied. applies_list 0 off list events good applied.0))) it
 
 module _ (catalogue : List FileEntry) (size : ℕ) where
-  answer_puts : (place : Place) (operation : Operation) (events : List Action) (c : Completed) → Answers catalogue size place operation events c → Puts (IsListed (length catalogue) place 0) events
+  answer_puts : (place : Place) (operation : Operation) (events : List Action) (c : Completed) → Answers catalogue size place operation events c
+      → Puts (IsListed (length catalogue) place 0) events
   answer_puts place (Opens name target) events c it =
       either_way (has_name name catalogue)
       (λ _ found. puts_so (Here (length catalogue) place 0) (IsListed (length catalogue) place 0) events (λ f at. (0, omega arith, at))
       (opens (length catalogue) place size found.0 target events c (entry_named catalogue found.0 name found.1) found.2))
       (λ _. refuses_none (length catalogue) place (IsListed (length catalogue) place 0) ENOENT events c) it
-  answer_puts place (Reads slot off len) events c it = reads (length catalogue) place (IsListed (length catalogue) place 0) catalogue size slot off len events c it
+  answer_puts place (Reads slot off len) events c it =
+      reads (length catalogue) place (IsListed (length catalogue) place 0) catalogue size slot off len events c it
   answer_puts place (Closes slot) events c it = empties (length catalogue) place (IsListed (length catalogue) place 0) size slot events c it
   answer_puts place (Updates off list) events c it = updates (length catalogue) place size off list events c it
 
-  later_member : (place : Place) (f g : File) → IsOfMembers (length catalogue) (next_member place) f → IsListed (length catalogue) place 0 g → f.identity.mark ≢ g.identity.mark
+  later_member : (place : Place) (f g : File) → IsOfMembers (length catalogue) (next_member place) f → IsListed (length catalogue) place 0 g
+      → f.identity.mark ≢ g.identity.mark
   later_member place f g (m, j, le, of) (k, low, at) same =
       let e : Submitted place.submission place.chain m j ≡ Submitted place.submission place.chain place.member k = sym of.0 ∙ (same ∙ at.0) in
       let is : m ≡ place.member = cc in

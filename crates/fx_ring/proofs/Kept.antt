@@ -1,5 +1,5 @@
 -- The elements of a list that have one key, where others stand in front of them or behind them.
-use Rattle.std.proofs.Common.{◌≡◌, ◌≢◌, ℕ, ◌==◌, Bool, List, [], ◌∷◌, ◌++◌, filter, refl, ap, ◌∙◌, All, append-nil, eq-eqb, ne_eqb}
+use Rattle.std.proofs.Common.{◌≡◌, ◌≢◌, ℕ, ◌==◌, List, [], ◌∷◌, ◌++◌, filter, refl, ap, ◌∙◌, All, append-nil, eq-eqb, ne_eqb}
 use Rattle.std.proofs.lemmas.List.Elements.{All-head, All-tail, filter-append}
 
 module _ {X : Type 0} (key : X → ℕ) (c : ℕ) where

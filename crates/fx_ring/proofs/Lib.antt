@@ -19,3 +19,9 @@ pub mod Kept
 pub mod Places
 pub mod ChainPlayed
 pub mod Runs
+pub mod Numbered
+pub mod ClosesInParts
+pub mod Joined
+pub mod Gathered
+pub mod Scattered
+pub mod SameAt

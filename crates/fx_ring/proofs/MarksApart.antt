@@ -1,5 +1,5 @@
 -- A table whose files have marks apart keeps them apart, as long as each mark that is installed is a new one.
-use Rattle.std.proofs.Common.{◌≡◌, ◌≢◌, ◌⊎◌, ℕ, Bool, true, false, if◌then◌else◌, List, [], ◌∷◌, refl, sym, ap, subst, ◌∙◌, ⊎_elim, inl, inr, Option, Some, None}
+use Rattle.std.proofs.Common.{◌≡◌, ◌≢◌, ◌⊎◌, ℕ, if◌then◌else◌, List, [], ◌∷◌, refl, sym, subst, ◌∙◌, ⊎_elim, inl, inr, Option, Some, None}
 use Rattle.fx_plain.specs.State.{State}
 use Rattle.fx_plain.specs.Step.{after, changed_at}
 use Rattle.fx_plain.specs.History.{state_after}
@@ -38,7 +38,8 @@ module _ (P : File → Type 0) where
     distinct = apart.distinct;
   }
 
-  module _ (h : List Action) (a : Action) (at : ℕ → Option File) (place : ℕ) (fresh : HasNewMarks (a ∷ h)) (unlike : IsUnlike (a ∷ h)) (apart : IsApart h at) where
+  module _ (h : List Action) (a : Action) (at : ℕ → Option File) (place : ℕ) (fresh : HasNewMarks (a ∷ h)) (unlike : IsUnlike (a ∷ h))
+      (apart : IsApart h at) where
     -- the file that the step installs has a mark that no slot's file has
     no_other : (slot : ℕ) (f g : File) → installed_by a ≡ Some f → at slot ≡ Some g → f.identity.mark ≢ g.identity.mark
     no_other slot f g now is = ⊎_elim (λ was. unlike f g (inr now) was) (λ put. fresh.1 f g now put) (apart.from slot g is)
@@ -48,15 +49,19 @@ module _ (P : File → Type 0) where
         (λ _ now. inr (inr now))
         (λ _ is. ⊎_elim (λ was. inl was) (λ put. inr (inl put)) (apart.from slot f is))
 
-    changed_distinct : (slot other : ℕ) (f g : File) → changed_at at place (installed_by a) slot ≡ Some f → changed_at at place (installed_by a) other ≡ Some g
+    changed_distinct : (slot other : ℕ) (f g : File) → changed_at at place (installed_by a) slot ≡ Some f
+        → changed_at at place (installed_by a) other ≡ Some g
         → f.identity.mark ≡ g.identity.mark → slot ≡ other
     changed_distinct slot other f g =
         by_equality slot place
-        (λ b. ◌≡◌ {A = Option File} (if b then installed_by a else at slot) (Some f) → changed_at at place (installed_by a) other ≡ Some g → f.identity.mark ≡ g.identity.mark → slot ≡ other)
-        (λ here now. by_equality other place (λ b. ◌≡◌ {A = Option File} (if b then installed_by a else at other) (Some g) → f.identity.mark ≡ g.identity.mark → slot ≡ other)
+        (λ b. ◌≡◌ {A = Option File} (if b then installed_by a else at slot) (Some f) → changed_at at place (installed_by a) other ≡ Some g
+        → f.identity.mark ≡ g.identity.mark → slot ≡ other)
+        (λ here now. by_equality other place
+        (λ b. ◌≡◌ {A = Option File} (if b then installed_by a else at other) (Some g) → f.identity.mark ≡ g.identity.mark → slot ≡ other)
         (λ there too marks. here ∙ sym there)
         (λ there is marks. absurd (no_other other f g now is marks)))
-        (λ here is. by_equality other place (λ b. ◌≡◌ {A = Option File} (if b then installed_by a else at other) (Some g) → f.identity.mark ≡ g.identity.mark → slot ≡ other)
+        (λ here is. by_equality other place
+        (λ b. ◌≡◌ {A = Option File} (if b then installed_by a else at other) (Some g) → f.identity.mark ≡ g.identity.mark → slot ≡ other)
         (λ there now marks. absurd (no_other slot g f now is (sym marks)))
         (λ there are marks. apart.distinct slot other f g is are marks))
 

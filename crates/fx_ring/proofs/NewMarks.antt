@@ -64,7 +64,8 @@ puts_and_closes P steps removed puts = (
 )
 
 -- a close behind them installs nothing
-pub puts_may_close : (P : File → Type 0) (steps : List Action) (removed : Option File) (events : List Action) → MayClose steps removed events → Puts P steps → Puts P events
+pub puts_may_close : (P : File → Type 0) (steps : List Action) (removed : Option File) (events : List Action) → MayClose steps removed events
+    → Puts P steps → Puts P events
 puts_may_close P steps None events is puts = subst (Puts P) (sym is) puts
 puts_may_close P steps (Some removed) events may puts = ⊎_elim
     (λ is. subst (Puts P) (sym is) puts)

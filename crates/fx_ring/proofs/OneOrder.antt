@@ -1,5 +1,5 @@
 -- A list in strict order is the only one of its elements that is in order.
-use Rattle.std.proofs.Common.{◌≡◌, ℕ, zero, suc, ◌+◌, ◌<◌, ◌≤◌, ◌⊎◌, Bool, true, false, cond, List, [], ◌∷◌, length, All, Contains, sum_by, IsPermutation, refl, sym, ap, subst, ◌∙◌, ◌==◌, arith, inl, inr, ⊎_elim, slice_index_or, eq-eqb, ne_eqb}
+use Rattle.std.proofs.Common.{◌≡◌, ℕ, zero, suc, ◌+◌, ◌<◌, ◌≤◌, ◌⊎◌, cond, List, [], ◌∷◌, All, Contains, sum_by, IsPermutation, refl, sym, ap, subst, ◌∙◌, ◌==◌, arith, inl, inr, ⊎_elim, slice_index_or, eq-eqb, ne_eqb}
 use Rattle.std.specs.List.Sorted.{IsNonDecreasingBy}
 use Rattle.std.proofs.lemmas.List.Elements.{All-head, All-tail, All-contains}
 use Rattle.std.proofs.lemmas.List.Sums.{sum_by-cons, get_or-le-sum_by}
@@ -34,7 +34,8 @@ module _ {X : Type 0} (key : X → ℕ) where
   keyed_once : (x : X) (xs : List X) → Contains xs x → 1 ≤ keyed (key x) xs
   keyed_once x xs (k, lt, is) =
       let few = get_or-le-sum_by (λ y. cond (key y == key x) 1 0) xs k x lt in
-      let one : cond {A = ℕ} (key (slice_index_or xs k x) == key x) 1 0 ≡ 1 = ap (λ b. cond {A = ℕ} b 1 0) (eq-eqb (key (slice_index_or xs k x)) (key x) (ap key is)) in
+      let one : cond {A = ℕ} (key (slice_index_or xs k x) == key x) 1 0 ≡ 1 =
+      ap (λ b. cond {A = ℕ} b 1 0) (eq-eqb (key (slice_index_or xs k x)) (key x) (ap key is)) in
       omega arith
 
   keyed_behind : (k : ℕ) (x : X) (xs ys : List X) → keyed k (x ∷ xs) ≡ keyed k (x ∷ ys) → keyed k xs ≡ keyed k ys

@@ -1,6 +1,6 @@
 -- A list in parts, by a key of its elements.
-use Rattle.std.proofs.Common.{◌≡◌, ◌≢◌, ℕ, zero, suc, ◌+◌, ◌<◌, ◌≤◌, Bool, true, false, not, cond, List, [], ◌∷◌, ◌++◌, length, filter, All, IsPermutation, refl, sym, ap, subst, ◌∙◌, ◌==◌, arith, ne_eqb}
-use Rattle.std.proofs.lemmas.List.Elements.{All-head, All-tail, All-cons, All-nil, All-append, All-filter}
+use Rattle.std.proofs.Common.{◌≡◌, ◌≢◌, ℕ, zero, suc, ◌+◌, ◌<◌, ◌≤◌, Bool, not, cond, List, [], ◌∷◌, ◌++◌, filter, All, IsPermutation, refl, sym, ap, subst, ◌∙◌, ◌==◌, arith, ne_eqb}
+use Rattle.std.proofs.lemmas.List.Elements.{All-head, All-tail, All-cons, All-nil}
 use Rattle.std.proofs.lemmas.List.Sorted.{IsPermutation-refl, IsPermutation-trans, IsPermutation-append_right, IsPermutation-filter_both}
 use Rattle.fx_plain.proofs.Cells.{by_equality}
 
@@ -10,42 +10,45 @@ parts_from key first zero xs = []
 parts_from key first (suc n) xs = filter (λ x. key x == first) xs ++ parts_from key (first + 1) n xs
 
 module _ {X : Type 0} (key : X → ℕ) where
-  abbrev has : ℕ → X → Bool
+  abbrev pub has : ℕ → X → Bool
   has first x = key x == first
 
-  abbrev lacks : ℕ → X → Bool
+  abbrev pub lacks : ℕ → X → Bool
   lacks first x = not (key x == first)
 
   -- those that lack a key have another one as often as all have it
-  kept_lacking : (first other : ℕ) (xs : List X) → other ≢ first → filter (has other) (filter (lacks first) xs) ≡ filter (has other) xs
+  pub kept_lacking : (first other : ℕ) (xs : List X) → other ≢ first → filter (has other) (filter (lacks first) xs) ≡ filter (has other) xs
   kept_lacking first other [] apart = refl
   kept_lacking first other (x ∷ xs) apart =
       by_equality (key x) first
-      (λ b. filter (has other) (cond (not b) (x ∷ filter (lacks first) xs) (filter (lacks first) xs)) ≡ cond (key x == other) (x ∷ filter (has other) xs) (filter (has other) xs))
+      (λ b. filter (has other) (cond (not b) (x ∷ filter (lacks first) xs) (filter (lacks first) xs))
+      ≡ cond (key x == other) (x ∷ filter (has other) xs) (filter (has other) xs))
       (λ same. kept_lacking first other xs apart
       ∙ ap (λ b. cond b (x ∷ filter (has other) xs) (filter (has other) xs)) (sym (ne_eqb (key x) other (λ is. apart (sym is ∙ same)))))
       (λ _. ap (λ l. cond (key x == other) (x ∷ l) l) (kept_lacking first other xs apart))
 
   parts_lacking : (first low n : ℕ) (xs : List X) → first < low → parts_from key low n (filter (lacks first) xs) ≡ parts_from key low n xs
   parts_lacking first low zero xs above = refl
-  parts_lacking first low (suc n) xs above = λ i. kept_lacking first low xs (λ same. omega arith) i ++ parts_lacking first (low + 1) n xs (omega arith) i
+  parts_lacking first low (suc n) xs above =
+      λ i. kept_lacking first low xs (λ same. omega arith) i ++ parts_lacking first (low + 1) n xs (omega arith) i
 
   abbrev Within : ℕ → ℕ → X → Type 0
   Within first n x = (first ≤ key x) × (key x < first + n)
 
-  within_lacking : (first n : ℕ) (xs : List X) → All (Within first (suc n)) xs → All (Within (first + 1) n) (filter (lacks first) xs)
+  pub within_lacking : (first n : ℕ) (xs : List X) → All (Within first (suc n)) xs → All (Within (first + 1) n) (filter (lacks first) xs)
   within_lacking first n [] all = All-nil (Within (first + 1) n)
   within_lacking first n (x ∷ xs) all =
       let rest = within_lacking first n xs (All-tail (Within first (suc n)) x xs all) in
       let one = All-head (Within first (suc n)) x xs all in
       by_equality (key x) first (λ b. All (Within (first + 1) n) (cond (not b) (x ∷ filter (lacks first) xs) (filter (lacks first) xs)))
       (λ _. rest)
-      (λ apart. All-cons (Within (first + 1) n) x (filter (lacks first) xs) (let low = one.0 in let high = one.1 in (above (key x) first low apart, omega arith)) rest)
+      (λ apart. All-cons (Within (first + 1) n) x (filter (lacks first) xs)
+      (let low = one.0 in let high = one.1 in (above (key x) first low apart, omega arith)) rest)
     where
       above : (a b : ℕ) → b ≤ a → a ≢ b → b + 1 ≤ a
       above a b low apart = by_equality (b + 1) (a + 1) (λ _. b + 1 ≤ a) (λ same. absurd (apart (omega arith))) (λ other. omega arith)
 
-  none_within : (first : ℕ) (xs : List X) → All (Within first 0) xs → xs ≡ []
+  pub none_within : (first : ℕ) (xs : List X) → All (Within first 0) xs → xs ≡ []
   none_within first [] all = refl
   none_within first (x ∷ xs) all = let one = All-head (Within first 0) x xs all in let low = one.0 in let high = one.1 in absurd (omega arith)
 
@@ -54,7 +57,8 @@ module _ {X : Type 0} (key : X → ℕ) where
   parts_are_all first zero xs all = subst (λ l. IsPermutation l []) (sym (none_within first xs all)) (IsPermutation-refl [])
   parts_are_all first (suc n) xs all =
       let behind : IsPermutation (filter (lacks first) xs) (parts_from key (first + 1) n xs) =
-      subst (IsPermutation (filter (lacks first) xs)) (parts_lacking first (first + 1) n xs (omega arith)) (parts_are_all (first + 1) n (filter (lacks first) xs) (within_lacking first n xs all)) in
+      subst (IsPermutation (filter (lacks first) xs)) (parts_lacking first (first + 1) n xs (omega arith))
+      (parts_are_all (first + 1) n (filter (lacks first) xs) (within_lacking first n xs all)) in
       IsPermutation-trans xs (filter (has first) xs ++ filter (lacks first) xs) (parts_from key first (suc n) xs)
       (IsPermutation-filter_both (has first) (lacks first) (λ _. refl) xs)
       (IsPermutation-append_right (filter (has first) xs) (filter (lacks first) xs) (parts_from key (first + 1) n xs) behind)

@@ -9,7 +9,9 @@ use Rattle.fx_base.specs.declared.open_file.Closed.{Closed}
 use Rattle.fx_plain.specs.State.{State, IsSettled, opening, file_numbered, vacant, identities_of, files_in_order as files_in_order_of_state, files_of as files_of_state}
 use Rattle.fx_plain.specs.Table.{identity_of}
 use Rattle.fx_plain.specs.declared.event.File.{File}
-use Rattle.fx_ring.specs.Ring.{RingState, IsRing, HasClosed, AreEntries, files_in_order, files_of, with_table}
+use Rattle.fx_plain.specs.Contents.{Contents}
+use Rattle.fx_table.specs.Opening.{IsGivenBack}
+use Rattle.fx_ring.specs.Ring.{RingContents, RingState, IsAtRest, IsRing, HasClosed, AreEntries, files_in_order, files_of, ring_of, with_table}
 use Rattle.fx_ring.specs.Slots.{AreFresh, files_at}
 
 -- a table without files keeps what every ring keeps
@@ -100,3 +102,22 @@ ring_is ring st size range files same_size same_range same_files = λ i. record 
 -- a list of these files, once it is in order
 pub list_closed : (files given : List Closed) (closes : CloseListView) → given ≡ files → IsPermutation given closes.files → IsInOrderOfMark closes.files → HasClosed files closes
 list_closed files given closes is same order = record { same_files = subst (λ (l : List Closed). IsPermutation l closes.files) is same; in_order = order }
+
+-- a ring whose table came back where it could not be opened
+pub given_back_rings : (c : RingContents) (back : Contents) → IsGivenBack c.table back → ring_of (record c { table = back }) ≡ ring_of c
+given_back_rings c back given = λ i. record {
+  catalogue = c.catalogue;
+  size = given.files.size i;
+  range = given.files.range i;
+  at = λ slot. given.files.files slot i;
+  submissions = c.submissions;
+  registrations = c.registrations;
+}
+
+pub given_back_at_rest : (c : RingContents) (back : Contents) → IsAtRest c → IsGivenBack c.table back → IsAtRest (record c { table = back })
+given_back_at_rest c back rest given = record {
+  settled = given.settled;
+  ring = subst IsRing (sym (given_back_rings c back given)) rest.ring;
+  few_submissions = rest.few_submissions;
+  few_registrations = rest.few_registrations;
+}

@@ -1,13 +1,12 @@
 -- A ring behind a submission keeps what every ring keeps.
-use Rattle.std.proofs.Common.{◌≡◌, ◌≢◌, ◌⊎◌, ℕ, zero, suc, ◌+◌, ◌<◌, ◌≤◌, List, [], ◌∷◌, length, map, All, Contains, refl, sym, ap, subst, ◌∙◌, ⊎_elim, inl, inr, Option, Some, None, arith}
+use Rattle.std.proofs.Common.{◌≡◌, ◌≢◌, ℕ, ◌+◌, ◌<◌, ◌≤◌, List, [], ◌∷◌, length, map, Contains, refl, sym, ap, subst, ◌∙◌, ⊎_elim, inl, Option, Some, None, arith}
 use Rattle.fx_base.specs.Catalogue.{FileEntry}
 use Rattle.fx_base.specs.declared.mark.Mark.{Mark}
 use Rattle.fx_base.specs.declared.mark.Mark.TheVariants.{Registered, Submitted}
 use Rattle.fx_base.specs.declared.open_file.Closed.{Closed}
-use Rattle.fx_plain.specs.State.{State, IsSettled, opening, file_numbered}
+use Rattle.fx_plain.specs.State.{State, IsSettled, opening}
 use Rattle.fx_plain.specs.Contents.{state_of}
-use Rattle.fx_plain.specs.History.{action_of, closes_in, state_after}
-use Rattle.fx_plain.specs.Laws.{IsInstalled}
+use Rattle.fx_plain.specs.History.{action_of, closes_in}
 use Rattle.fx_plain.specs.Table.{identity_of}
 use Rattle.fx_plain.specs.declared.event.File.{File}
 use Rattle.fx_plain.specs.declared.event.Event.{Event}
@@ -45,7 +44,8 @@ file_told None told is = let e : None ≡ Some told = is in cc
 file_told (Some f) told is = let e : Some f.identity ≡ Some told = is in (f, refl, let same : f.identity ≡ told = cc in same)
 
 -- what was counted is counted once one more submission is
-counted_still : (ring next : RingState) (mark : Mark) → next.registrations ≡ ring.registrations → next.submissions ≡ ring.submissions + 1 → IsCounted ring mark → IsCounted next mark
+counted_still : (ring next : RingState) (mark : Mark) → next.registrations ≡ ring.registrations → next.submissions ≡ ring.submissions + 1
+    → IsCounted ring mark → IsCounted next mark
 counted_still ring next (Registered k i) same more counted = omega arith
 counted_still ring next (Submitted s c m j) same more counted = omega arith
 
@@ -54,7 +54,8 @@ not_yet : (ring : RingState) (mark : Mark) (c m j : ℕ) → IsCounted ring mark
 not_yet ring (Registered k i) c m j counted same = cc
 not_yet ring (Submitted s d n i) c m j counted same = let e : s ≡ ring.submissions + 1 = cc in omega arith
 
-module _ (old new : RingContents) (requests : List Asked) (report : Reported) (is : IsRing (ring_of old)) (one : IsOneHistory old requests report new) where
+module _ (old new : RingContents) (requests : List Asked) (report : Reported) (is : IsRing (ring_of old))
+    (one : IsOneHistory old requests report new) where
   abbrev before : RingState
   before = ring_of old
 
@@ -76,19 +77,23 @@ module _ (old new : RingContents) (requests : List Asked) (report : Reported) (i
   IsNew f = (c : ℕ) × IsOfChain report.submission c f × (f.identity.entry < length old.catalogue)
 
   at_start : (slot : ℕ) (f : File) → start.at slot ≡ Some f → before.at slot ≡ Some f.identity
-  at_start slot f at = sym (ap (λ (files : ℕ → Option Closed). files slot) (opening_files (state_of old.table) start (numbers_for (length (runs_of requests))) refl)) ∙ ap identity_of at
+  at_start slot f at =
+      let files = opening_files (state_of old.table) start (numbers_for (length (runs_of requests))) refl in
+      sym (ap (λ (told : ℕ → Option Closed). told slot) files) ∙ ap identity_of at
 
   began : IsApart WasThere [] start.at
   began = record {
     from = λ slot f at. inl (is.counted slot f.identity (at_start slot f at), is.entries slot f.identity (at_start slot f at));
-    distinct = λ slot other f g at at_other marks. is.distinct slot other f.identity g.identity (at_start slot f at) (at_start other g at_other) marks;
+    distinct = λ slot other f g at too marks. is.distinct slot other f.identity g.identity (at_start slot f at) (at_start other g too) marks;
   }
 
-  parts : (e : Event) → Contains one.history e → Puts (IsOfMembers (length old.catalogue) (first_member report.submission e.chain)) (part_actions e.chain one.history)
+  parts : (e : Event) → Contains one.history e
+      → Puts (IsOfMembers (length old.catalogue) (first_member report.submission e.chain)) (part_actions e.chain one.history)
   parts e there =
       let inside = one.chains e there in
       let high = inside.1 in
-      part_puts old.catalogue (state_of old.table).size report.submission 1 (runs_of requests) one.history report.completions one.explained e.chain inside.0 (omega arith)
+      part_puts old.catalogue (state_of old.table).size report.submission 1
+      (runs_of requests) one.history report.completions one.explained e.chain inside.0 (omega arith)
 
   put_is_new : (f : File) → IsPut actions f → IsNew f
   put_is_new f put =
@@ -97,7 +102,8 @@ module _ (old new : RingContents) (requests : List Asked) (report : Reported) (i
       (e.chain, (member.0, member.1, member.3.0), member.3.1)
 
   no_mark_twice : HasNewMarks actions
-  no_mark_twice = whole_new report.submission one.history (λ e there. ((parts e there).1, λ f own. let member = (parts e there).0 f own in (member.0, member.1, member.3.0)))
+  no_mark_twice = whole_new report.submission one.history
+      (λ e there. ((parts e there).1, λ f own. let member = (parts e there).0 f own in (member.0, member.1, member.3.0)))
 
   unlike : IsUnlike WasThere actions
   unlike f g put was same =
@@ -106,7 +112,8 @@ module _ (old new : RingContents) (requests : List Asked) (report : Reported) (i
       not_yet before g.identity.mark c m j was.0 e
 
   ended : IsApart WasThere actions one.end.at
-  ended = subst (λ (st : State). IsApart WasThere actions st.at) (sym one.legal.leads.1) (apart_after WasThere start actions began no_mark_twice unlike)
+  ended = subst (λ (st : State). IsApart WasThere actions st.at) (sym one.legal.leads.1)
+      (apart_after WasThere start actions began no_mark_twice unlike)
 
   put_counted : (f : File) → IsPut actions f → IsCounted behind f.identity.mark
   put_counted f put =
@@ -145,7 +152,8 @@ module _ (old new : RingContents) (requests : List Asked) (report : Reported) (i
 
   -- the files that it closed are of the catalogue
   pub submitted_entries : AreEntries (ring_of new) report.closes.files
-  submitted_entries = subst (λ (ring : RingState). AreEntries ring report.closes.files) (sym one.after) (entries_closed behind (closes_in actions) report.closes closed_entries one.closed)
+  submitted_entries = subst (λ (ring : RingState). AreEntries ring report.closes.files) (sym one.after)
+      (entries_closed behind (closes_in actions) report.closes closed_entries one.closed)
 
 -- a ring at rest is at rest again behind a submission
 pub submitted_at_rest : (old new : RingContents) (requests : List Asked) (report : Reported) → IsAtRest old → IsOneHistory old requests report new

@@ -1,9 +1,10 @@
 -- What workers come to, as lists that have their room from the start.
-use Rattle.std.specs.Prelude.{◌≡◌, ◌≤◌, List, [], length, vec_capacity}
+use Rattle.std.specs.Prelude.{◌≡◌, ◌≤◌, ℕ, List, [], length, All, vec_capacity}
 use Rattle.fx_base.specs.CloseListView.{CloseListView}
 use Rattle.fx_chain.specs.Operation.{Asked}
 use Rattle.fx_chain.specs.Weights.{all_weights}
 use Rattle.fx_ring.specs.declared.crew.Outcome.{Outcome}
+use Rattle.fx_ring.specs.declared.crew.Room.{Room}
 use Rattle.fx_ring.specs.declared.worker.Worker.{Worker}
 
 -- nothing has come yet, and there is room for a completion of each request and for all files that the requests may close
@@ -11,6 +12,14 @@ pub record HasRoomFor (requests : List Asked) (outcome : Outcome) : Type 0 where
   pub no_completions : outcome.completions.items ≡ []
   pub room : length requests ≤ vec_capacity outcome.completions
   pub closes : outcome.closes ≡ record { files = []; room = all_weights requests }
+
+-- the same for so many workers, and for all of them together
+pub record HasRoomForCrew {P : Type 0} (requests : List Asked) (workers : ℕ) (room : Room P) : Type 0 where
+  pub nobody : room.crew.items ≡ []
+  pub crew : workers ≤ vec_capacity room.crew
+  pub count : length room.outcomes.items ≡ workers
+  pub outcomes : All (HasRoomFor requests) room.outcomes.items
+  pub all : HasRoomFor requests room.all
 
 -- what a worker has come to
 abbrev pub outcome_of : {P : Type 0} → Worker P → Outcome

@@ -6,8 +6,10 @@ ghost use Rattle.fx_chain.specs.Accepted.{IsAccepted};
 ghost use Rattle.fx_chain.specs.Completed.{all_completed};
 ghost use Rattle.fx_chain.specs.Operation.{all_asked};
 ghost use Rattle.fx_chain.specs.Weights.{all_weights};
-ghost use Rattle.fx_ring.specs.Outcomes.{HasRoomFor, outcome_of};
+ghost use Rattle.fx_ring.specs.Outcomes.{HasRoomFor, HasRoomForCrew, outcome_of};
+ghost use Rattle.fx_ring.specs.Submission.{reported};
 
+use crate::report::Report;
 use crate::worker::Worker;
 use fx_base::{CloseList, NoMemory};
 use fx_chain::{Completion, Place, Request};
@@ -61,7 +63,8 @@ impl Outcome {
     ) -> Result<Vec<Outcome>, NoMemory>
         requires { IsAccepted (all_asked requests.now) }
         ensures count { IfOk result (λ outcomes. length outcomes.items ≡ workers) }
-        ensures room { IfOk result (λ outcomes. All (HasRoomFor (all_asked requests.now)) outcomes.items) }
+        ensures room { IfOk result (λ outcomes.
+            All (HasRoomFor (all_asked requests.now)) outcomes.items) }
     {
         let mut outcomes = Vec::with_capacity(alloc, workers as usize)?;
         for _ in 0..workers {
@@ -103,6 +106,65 @@ impl Outcome {
     {
         self.completions.sort_unstable_by_key(|c| rank(c.place));
         self.closes.sort();
+    }
+
+    /// The report of the submission that came to this.
+    pub(crate) fn report(self, submission: u32) -> Report
+        ensures { reported result ≡ record {
+          submission = submission;
+          completions = all_completed self.completions.items;
+          closes = self.closes;
+        } }
+    {
+        let Outcome {
+            completions,
+            closes,
+        } = self;
+        Report {
+            submission,
+            completions,
+            closes,
+        }
+    }
+}
+
+/// The lists that a submission fills, with their room. It is no `Drop` where a pass is none.
+pub(crate) struct Room<P> {
+    pub(crate) crew: Vec<Worker<P>>,
+    pub(crate) outcomes: Vec<Outcome>,
+    pub(crate) all: Outcome,
+}
+
+impl<P> Room<P> {
+    /// Room for the requests and so many workers.
+    pub(crate) fn new(
+        alloc: Global,
+        requests: &[Request],
+        workers: u32,
+    ) -> Result<Room<P>, NoMemory>
+        requires { IsAccepted (all_asked requests.now) }
+        ensures { IfOk result (λ room. HasRoomForCrew (all_asked requests.now) workers room) }
+    {
+        let outcomes = Outcome::for_each(alloc, requests, workers)?;
+        let all = Outcome::with_room(alloc, requests)?;
+        let crew = Vec::with_capacity(alloc, workers as usize)?;
+        Ok(Room {
+            crew,
+            outcomes,
+            all,
+        })
+    }
+
+    /// Gives the room up, with nobody in it.
+    pub(crate) fn give_up(self)
+        requires { self.crew.items ≡ [] }
+    {
+        let Room {
+            crew,
+            outcomes: _,
+            all: _,
+        } = self;
+        crew.destroy_empty();
     }
 }
 

@@ -1,29 +1,77 @@
-//! The play of a submission.
+//! Submissions.
 ghost use Rattle.std.specs.Prelude.{◌≡◌, ◌<◌, ◌≤◌, ◌+◌, ℕ, length, All, map, IfSome, IfNone, IfOk, IfErr, OnErr, Err, IsOkUnless};
 ghost use Rattle.fx_plain.specs.State.{IsSettled};
 ghost use Rattle.fx_plain.specs.Contents.{state_of};
-ghost use Rattle.fx_table.specs.Opening.{IsGivenBack, opening_with};
+ghost use Rattle.fx_table.specs.Opening.{IsGivenBack};
 ghost use Rattle.fx_table.specs.Pass.{new_passes};
 ghost use Rattle.fx_table.specs.declared.limits.TheConstants.{MAX_PASSES};
-ghost use Rattle.fx_chain.specs.Accepted.{IsAccepted};
+ghost use Rattle.fx_chain.specs.Accepted.{IsAccepted, IsChain, members_of};
 ghost use Rattle.fx_chain.specs.Operation.{all_asked};
 ghost use Rattle.fx_chain.specs.Runs.{runs_of};
+ghost use Rattle.fx_ring.specs.Outcomes.{HasRoomForCrew};
 ghost use Rattle.fx_ring.specs.Ring.{AreEntries, ring_of, ring_with};
 ghost use Rattle.fx_ring.specs.Submission.{IsOneHistory, reported, submit_refusal};
 ghost use Rattle.fx_ring.specs.declared.report.SubmitFault.TheVariants.{NoMemory as Refused};
 
-use crate::crew::{Outcome, gather, scatter};
+use crate::crew::{Room, gather, scatter};
 use crate::report::{Report, SubmitFault};
 use crate::ring::{MOST_SUBMISSIONS, Ring};
 use crate::worker::work_crew;
 use fx_base::{Catalogue, NoMemory};
-use fx_chain::{Gate, Request, check, cut};
+use fx_chain::{Chain, Gate, Request, check, cut};
 use fx_plain::PlainTable;
 use fx_table::{FileTable, MAX_PASSES};
 use std::alloc::Global;
 use std::mem;
 use std::sync::Wait;
 use std::thread::Threads;
+
+// Plays the chains of the requests on a table that was opened for them, as the next submission behind so many.
+fn play_open<T: FileTable, R: Threads + Wait + Sync, G: Gate>(
+    rt: &R,
+    alloc: Global,
+    table: T,
+    mut passes: Vec<T::Pass>,
+    room: Room<T::Pass>,
+    catalogue: &Catalogue,
+    submissions: u32,
+    requests: &[Request],
+    chains: &[Chain],
+    gate: &G,
+) -> (PlainTable, Report)
+    requires few { submissions < MOST_SUBMISSIONS }
+    requires accepted { IsAccepted (all_asked requests.now) }
+    requires members { map (members_of (all_asked requests.now)) chains.now
+        ≡ runs_of (all_asked requests.now) }
+    requires within { All (IsChain (all_asked requests.now)) chains.now }
+    requires chains { (T.opening table).chains ≡ length chains.now }
+    requires some { 1 ≤ (T.opening table).passes }
+    requires fits { All (T.fits table) passes.items }
+    requires new { map (λ p. T.view p) passes.items ≡ new_passes (T.opening table).passes }
+    requires room { HasRoomForCrew (all_asked requests.now) (T.opening table).passes room }
+    ensures settled { IsSettled (state_of result.0) }
+    ensures played { (registrations : ℕ) → IsOneHistory
+        (ring_with catalogue.now (T.opening table).contents submissions registrations)
+        (all_asked requests.now) (reported result.1)
+        (ring_with catalogue.now result.0 (submissions + 1) registrations) }
+{
+    let Room {
+        mut crew,
+        mut outcomes,
+        mut all,
+    } = room;
+    gather(&mut passes, &mut outcomes, &mut crew);
+    let submission = submissions + 1;
+    work_crew(
+        rt, alloc, &table, catalogue, submission, requests, chains, gate, &mut crew,
+    );
+    scatter(&mut crew, &mut passes, &mut outcomes);
+    crew.destroy_empty();
+    let left = table.close(passes);
+    all.join(outcomes);
+    all.sort();
+    (left, all.report(submission))
+}
 
 // Plays the requests on a table, as the next submission behind so many.
 fn play<T: FileTable, R: Threads + Wait + Sync, G: Gate>(
@@ -51,48 +99,28 @@ fn play<T: FileTable, R: Threads + Wait + Sync, G: Gate>(
         return Err((plain, NoMemory));
     };
     let passes = workers.min(1.max(chains.len() as u32));
-    let Ok(mut outcomes) = Outcome::for_each(alloc, requests, passes) else {
-        return Err((plain, NoMemory));
-    };
-    let Ok(mut all) = Outcome::with_room(alloc, requests) else {
-        return Err((plain, NoMemory));
-    };
-    let Ok(mut crew) = Vec::with_capacity(alloc, passes as usize) else {
+    let Ok(room) = Room::new(alloc, requests, passes) else {
         return Err((plain, NoMemory));
     };
     match T::open(alloc, plain, chains.len() as u32, passes) {
         Err(refused) => {
-            crew.destroy_empty();
+            room.give_up();
             Err(refused)
         }
-        Ok((table, mut passes)) => {
-            gather(&mut passes, &mut outcomes, &mut crew);
-            work_crew(
+        Ok((table, passes)) => {
+            let chains = chains.as_slice();
+            Ok(play_open(
                 rt,
                 alloc,
-                &table,
+                table,
+                passes,
+                room,
                 catalogue,
-                submissions + 1,
+                submissions,
                 requests,
-                chains.as_slice(),
+                chains,
                 gate,
-                &mut crew,
-            );
-            scatter(&mut crew, &mut passes, &mut outcomes);
-            crew.destroy_empty();
-            let left = table.close(passes);
-            all.join(outcomes);
-            all.sort();
-            let Outcome {
-                completions,
-                closes,
-            } = all;
-            let report = Report {
-                submission: submissions + 1,
-                completions,
-                closes,
-            };
-            Ok((left, report))
+            ))
         }
     }
 }
@@ -100,7 +128,8 @@ fn play<T: FileTable, R: Threads + Wait + Sync, G: Gate>(
 impl Ring {
     // Why a submission is refused, want of memory aside.
     fn submit_refusal(&self, requests: &[Request], workers: u32) -> Option<SubmitFault>
-        ensures value { result ≡ submit_refusal (ring_of self.now) (all_asked requests.now) workers }
+        ensures value { result
+            ≡ submit_refusal (ring_of self.now) (all_asked requests.now) workers }
         ensures accepted { IfNone result (IsAccepted (all_asked requests.now)) }
         ensures workers { IfNone result ((1 ≤ workers) × (workers ≤ MAX_PASSES)) }
         ensures few { IfNone result (self.now.submissions < MOST_SUBMISSIONS) }
@@ -117,21 +146,28 @@ impl Ring {
         None
     }
 
-    /// Plays the requests on the ring's table, by this many workers (io_uring_enter(2)). The requests that are linked
-    /// with each other make a chain, whose members start one after another; chains are played by whichever worker draws
-    /// them, each by one. Every worker is a thread of its own where one can be made, and one worker starts none; where
-    /// no thread can be made the workers play one after another, and the report says the same.
+    /// Plays a submission on the ring's table (io_uring_enter(2)). Requests that are linked with each other make a
+    /// chain, whose members start one after another; a request that isn't linked is a chain of its own. Each worker draws
+    /// a chain, plays it and draws the next one, and every chain is played once. Which table `T` the workers share, and
+    /// how many they are, makes no difference to what is said here; there are no more of them than chains.
     ///
-    /// The completions of the report are those that some sequential table would give, in one legal history of its
-    /// steps, in which each chain makes its own steps in order, and which leaves the files of the ring afterwards. The
-    /// report has a completion for each request and each file that was closed, once.
+    /// The workers are threads where threads can be made, and else they work one after another, with a report of which
+    /// the same holds. One worker starts no thread. The gate is called in front of each request that starts, and behind
+    /// its completion.
     ///
-    /// The gate is called in front of each request that starts and behind its completion.
+    /// The report and the table afterwards are those of one history of a table of one thread, which goes on from the files
+    /// of the ring. The completions of each chain are explained by the steps of its own members, in their order; there is
+    /// one for each request, in order of place. The closes are the files that the history closed, in order of mark, and
+    /// all of them are of the catalogue.
+    ///
+    /// The submission is counted, also where each of its requests fails. The catalogue, the size, the range and the count
+    /// of the registrations stay as they are.
     ///
     /// # Errors
-    /// In this order: `Workers` where there are not 1 to [`MAX_PASSES`] of them, `Cut` with the first request that has a
-    /// fault ([`check`]), `TooMany` after 65,535 accepted submissions, and `NoMemory` where memory is refused, before
-    /// any request starts. The ring has then the files, the size, the range and the counts that it had.
+    /// In this order: `Workers` where there are not 1 to [`MAX_PASSES`], `Cut` with the first request that has a fault
+    /// ([`fx_chain::check`]), `TooMany` after [`MOST_SUBMISSIONS`] accepted submissions, and `NoMemory` where memory is
+    /// refused. Then no request has started, and the ring has the files, the size, the range and the counts that it had.
+    /// Memory for the bytes of a read is taken while it is played: where that is refused, the read completes with ENOMEM.
     pub fn submit<T: FileTable, R: Threads + Wait + Sync, G: Gate>(
         &mut self,
         rt: &R,
@@ -146,7 +182,8 @@ impl Ring {
             (IsOkUnless result Refused) }
         ensures one_history { IfOk result (λ report.
             IsOneHistory self.old (all_asked requests.now) (reported report) self.new) }
-        ensures entries { IfOk result (λ report. AreEntries (ring_of self.new) report.closes.files) }
+        ensures entries { IfOk result (λ report.
+            AreEntries (ring_of self.new) report.closes.files) }
         ensures err { OnErr result (ring_of self.new ≡ ring_of self.old) }
     {
         if let Some(fault) = self.submit_refusal(requests, workers) {

@@ -1,4 +1,4 @@
-ghost use Rattle.std.specs.Prelude.{◌≡◌, ◌+◌, ◌-◌, ◌<◌, ◌≤◌, true, length, map, All, vec_capacity};
+ghost use Rattle.std.specs.Prelude.{◌≡◌, ◌<◌, ◌≤◌, true, length, map, All, vec_capacity};
 ghost use Rattle.fx_table.specs.Opening.{size_of};
 ghost use Rattle.fx_table.specs.Pass.{IsIdle};
 ghost use Rattle.fx_chain.specs.Accepted.{IsChain, IsShortRun, members_of};
@@ -15,10 +15,8 @@ use std::sync::Wait;
 use std::thread;
 use std::thread::Threads;
 
-/// A pass of a shared table, with what its chains came to. It is no `Drop` where the pass is none.
-///
-/// The used parts of two workers that lie side by side in a list are 64 bytes apart, so that threads that have one each
-/// share no cache line.
+/// A pass of a shared table, with what its chains came to. It is no `Drop`, as the pass is none. What is used of two
+/// workers that lie side by side in a list is 64 bytes apart, so that threads that have one each share no cache line.
 pub(crate) struct Worker<P> {
     pub(crate) pass: P,
     pub(crate) completions: Vec<Completion>,
@@ -75,7 +73,6 @@ fn work<T: FileTable, R: Wait, G: Gate>(
 )
     requires members { map (members_of (all_asked requests.now)) chains.now
         ≡ runs_of (all_asked requests.now) }
-    requires inside { All (λ chain. chain.first + chain.len ≤ length requests.now) chains.now }
     requires within { All (IsChain (all_asked requests.now)) chains.now }
     requires chains { (T.opening table.now).chains ≡ length chains.now }
     requires fits { T.fits table.now worker.old.pass }
@@ -113,7 +110,8 @@ fn work<T: FileTable, R: Wait, G: Gate>(
     }
 }
 
-// Each worker plays the chains that its pass draws, in a thread of its own where one can be made. One worker starts none.
+// Each worker plays the chains that its pass draws, in a thread of its own where one can be made. A worker alone starts
+// no thread.
 fn work_all<T: FileTable, R: Threads + Wait + Sync, G: Gate>(
     rt: &R,
     alloc: Global,
@@ -128,7 +126,6 @@ fn work_all<T: FileTable, R: Threads + Wait + Sync, G: Gate>(
     requires some { 0 < length workers.old }
     requires members { map (members_of (all_asked requests.now)) chains.now
         ≡ runs_of (all_asked requests.now) }
-    requires inside { All (λ chain. chain.first + chain.len ≤ length requests.now) chains.now }
     requires within { All (IsChain (all_asked requests.now)) chains.now }
     requires chains { (T.opening table.now).chains ≡ length chains.now }
     requires fits { All (λ w. T.fits table.now w.pass) workers.old }
@@ -156,7 +153,6 @@ fn work_all<T: FileTable, R: Threads + Wait + Sync, G: Gate>(
         &|_, worker: &mut Worker<T::Pass>|
             requires members { map (members_of (all_asked requests.now)) chains.now
                 ≡ runs_of (all_asked requests.now) }
-            requires inside { All (λ chain. chain.first + chain.len ≤ length requests.now) chains.now }
             requires within { All (IsChain (all_asked requests.now)) chains.now }
             requires chains { (T.opening table.now).chains ≡ length chains.now }
             requires fits { T.fits table.now worker.old.pass }
@@ -171,8 +167,8 @@ fn work_all<T: FileTable, R: Threads + Wait + Sync, G: Gate>(
             ensures fits { T.fits table.entry.now worker.new.pass }
             ensures idle { IsIdle (T.view worker.new.pass) }
             ensures all_drawn { (T.view worker.new.pass).no_chains_left ≡ true }
-            ensures worked { HasWorked catalogue.entry.now (size_of (T.opening table.entry.now)) submission
-                (runs_of (all_asked requests.entry.now))
+            ensures worked { HasWorked catalogue.entry.now (size_of (T.opening table.entry.now))
+                submission (runs_of (all_asked requests.entry.now))
                 (worker_state (T.view worker.new.pass) (all_completed worker.new.completions.items)
                 worker.new.closes) }
             ensures number { (T.view worker.new.pass).number ≡ (T.view worker.old.pass).number }
@@ -199,14 +195,14 @@ pub(crate) fn work_crew<T: FileTable, R: Threads + Wait + Sync, G: Gate>(
     requires some { 0 < length crew.old.items }
     requires members { map (members_of (all_asked requests.now)) chains.now
         ≡ runs_of (all_asked requests.now) }
-    requires inside { All (λ chain. chain.first + chain.len ≤ length requests.now) chains.now }
     requires within { All (IsChain (all_asked requests.now)) chains.now }
     requires chains { (T.opening table.now).chains ≡ length chains.now }
     requires fits { All (λ w. T.fits table.now w.pass) crew.old.items }
     requires idle { All (λ w. IsIdle (T.view w.pass)) crew.old.items }
     requires worked { All (λ w. HasWorked catalogue.now (size_of (T.opening table.now)) submission
         (runs_of (all_asked requests.now))
-        (worker_state (T.view w.pass) (all_completed w.completions.items) w.closes)) crew.old.items }
+        (worker_state (T.view w.pass) (all_completed w.completions.items) w.closes))
+        crew.old.items }
     requires room { All (λ w. HasRoom (runs_of (all_asked requests.now))
         (worker_state (T.view w.pass) (all_completed w.completions.items) w.closes)
         (vec_capacity w.completions)) crew.old.items }
@@ -215,7 +211,8 @@ pub(crate) fn work_crew<T: FileTable, R: Threads + Wait + Sync, G: Gate>(
     ensures all_drawn { All (λ w. (T.view w.pass).no_chains_left ≡ true) crew.new.items }
     ensures worked { All (λ w. HasWorked catalogue.now (size_of (T.opening table.now)) submission
         (runs_of (all_asked requests.now))
-        (worker_state (T.view w.pass) (all_completed w.completions.items) w.closes)) crew.new.items }
+        (worker_state (T.view w.pass) (all_completed w.completions.items) w.closes))
+        crew.new.items }
     ensures numbers { map (λ w. (T.view w.pass).number) crew.new.items
         ≡ map (λ w. (T.view w.pass).number) crew.old.items }
 {

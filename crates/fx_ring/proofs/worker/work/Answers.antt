@@ -1,8 +1,8 @@
-use Rattle.std.proofs.Common.{◌≡◌, ◌≤◌, ◌+◌, length, vec_len, vec_capacity, sym, ◌∙◌, arith}
+use Rattle.std.proofs.Common.{sym, ◌∙◌, arith}
 use Rattle.std.proofs.lemmas.List.{length-map}
-use Rattle.fx_chain.specs.Completed.{completed_of, all_completed}
-use Rattle.fx_chain.specs.Operation.{asked_of, all_asked}
-use Rattle.fx_ring.proofs.ChainPlayed.{enough_looks, enough_capacity, enough_room, worked_next, room_next, number_next, chain_next, worked_all}
+use Rattle.fx_chain.specs.Completed.{completed_of}
+use Rattle.fx_chain.specs.Operation.{asked_of}
+use Rattle.fx_ring.proofs.ChainPlayed.{enough_looks, enough_capacity, enough_room, worked_next, room_next, number_next, worked_all}
 use Rattle.fx_ring.proofs.Runs.{as_many}
 use Rattle.fx_ring.proofs.worker.work.Goals as goal
 

@@ -1,0 +1,132 @@
+-- What a crew is before it plays: new passes, with room for all.
+use Rattle.std.proofs.Common.{◌≡◌, ℕ, zero, suc, ◌+◌, ◌<◌, ◌≤◌, List, [], ◌∷◌, ◌++◌, map, flat_map, reverse, length, All, sum_by, drop, refl, sym, ap, subst, ◌∙◌, arith, ⊎_elim, vec_capacity}
+use Rattle.std.specs.Prelude.{Contains}
+use Rattle.std.proofs.lemmas.List.{length-map, length-reverse, reverse-append, map-append}
+use Rattle.std.proofs.lemmas.Simd.{map-map}
+use Rattle.std.proofs.lemmas.List.Concat.{length-flat_map}
+use Rattle.std.proofs.lemmas.List.Elements.{All-nil, All-cons, All-contains, All-weaker}
+use Rattle.std.proofs.lemmas.List.Sums.{sum_by-cons, sum_by-append}
+use Rattle.fx_base.specs.Catalogue.{FileEntry}
+use Rattle.fx_base.specs.CloseListView.{CloseListView}
+use Rattle.fx_table.specs.Pass.{PassView, IsIdle, new_pass, new_passes, new_passes_from}
+use Rattle.fx_table.proofs.Members.{contains_none, contains_map, contains_mapped, contains_reverse, contains_reversed, each_all}
+use Rattle.fx_chain.specs.Accepted.{IsAccepted, IsChain, IsShortRun, members_of}
+use Rattle.fx_chain.specs.Completed.{Completed, all_completed}
+use Rattle.fx_chain.specs.Operation.{Asked}
+use Rattle.fx_chain.specs.Runs.{runs_of}
+use Rattle.fx_chain.specs.Weights.{all_weights, weight_of}
+use Rattle.fx_chain.specs.declared.completion.Completion.{Completion}
+use Rattle.fx_chain.specs.declared.chain.Chain.{Chain}
+use Rattle.fx_chain.proofs.Accepted.{accepted-length}
+use Rattle.fx_chain.proofs.Runs.{are_runs}
+use Rattle.fx_ring.specs.Outcomes.{HasRoomFor, outcome_of}
+use Rattle.fx_ring.specs.Work.{HasWorked, HasRoom, WorkerState, worker_state}
+use Rattle.fx_ring.specs.declared.crew.Outcome.{Outcome}
+use Rattle.fx_ring.specs.declared.worker.Worker.{Worker}
+use Rattle.fx_ring.proofs.Numbered.{numbers_from}
+
+pub map_reversed : {X Y : Type 0} (f : X → Y) (xs : List X) → map f (reverse xs) ≡ reverse (map f xs)
+map_reversed f [] = refl
+map_reversed {X} {Y} f (x ∷ xs) =
+    ap (map f) (reverse-append (x ∷ []) xs) ∙ (map-append f (reverse xs) (x ∷ []) ∙ (ap (λ (l : List Y). l ++ f x ∷ []) (map_reversed f xs) ∙ sym (reverse-append (f x ∷ []) (map f xs))))
+
+-- what holds of all elements holds of their pieces, whichever way round
+module _ {A W : Type 0} (P : A → Type 0) (f : W → A) (ws : List W) (xs : List A) where
+  pub all_mapped : All P (map f ws) → All (λ w. P (f w)) ws
+  all_mapped a = each_all (λ w. P (f w)) ws (λ w h. All-contains P (map f ws) (f w) a (contains_mapped f ws w h))
+
+  pub all_gathered : map f ws ≡ reverse xs → All P xs → All (λ w. P (f w)) ws
+  all_gathered e a = each_all (λ w. P (f w)) ws (λ w h.
+      All-contains P xs (f w) a (contains_reverse xs (f w) (subst (λ (l : List A). Contains l (f w)) e (contains_mapped f ws w h))))
+
+  pub all_scattered : xs ≡ reverse (map f ws) → All (λ w. P (f w)) ws → All P xs
+  all_scattered e a = each_all P xs (λ x h.
+      let m = contains_map f ws x (contains_reverse (map f ws) x (subst (λ (l : List A). Contains l x) e h)) in
+      subst P (sym m.2) (All-contains (λ w. P (f w)) ws m.0 a m.1))
+
+-- a pass that has seen and done nothing
+abbrev pub IsNew : PassView → Type 0
+IsNew v = (m : ℕ) × (v ≡ new_pass m)
+
+new_from : (first n : ℕ) → All IsNew (new_passes_from first n)
+new_from first zero = All-nil IsNew
+new_from first (suc n) = All-cons IsNew (new_pass first) (new_passes_from (first + 1) n) (first, refl) (new_from (first + 1) n)
+
+length_from : (first n : ℕ) → length (new_passes_from first n) ≡ n
+length_from first zero = refl
+length_from first (suc n) = let r = length_from (first + 1) n in omega arith
+
+numbered_from : (first n : ℕ) → map (λ v. v.number) (new_passes_from first n) ≡ numbers_from first n
+numbered_from first zero = refl
+numbered_from first (suc n) = ap (λ (l : List ℕ). first ∷ l) (numbered_from (first + 1) n)
+
+module _ {P : Type 0} (V : P → PassView) (ps : List P) (n : ℕ) (new : map (λ p. V p) ps ≡ new_passes n) where
+  pub as_many_passes : length ps ≡ n
+  as_many_passes = let a = length-map ps V in let b = ap length new in let c = length_from 1 n in omega arith
+
+  pub all_new : All (λ p. IsNew (V p)) ps
+  all_new = all_mapped IsNew V ps [] (subst (All IsNew) (sym new) (new_from 1 n))
+
+  pub all_idle : All (λ p. IsIdle (V p)) ps
+  all_idle = All-weaker (λ p. IsNew (V p)) (λ p. IsIdle (V p)) (λ p is. ap (λ (v : PassView). v.doing) is.1) ps all_new
+
+  pub numbers_are : (crew : List (Worker P)) → map (λ w. w.pass) crew ≡ reverse ps → map (λ w. (V w.pass).number) crew ≡ reverse (numbers_from 1 n)
+  numbers_are crew gathered =
+      let number : P → ℕ = λ p. (V p).number in
+      sym (map-map number (λ w. w.pass) crew) ∙ (ap (map number) gathered ∙ (map_reversed number ps
+      ∙ ap reverse (sym (map-map (λ v. v.number) V ps) ∙ (ap (map (λ v. v.number)) new ∙ numbered_from 1 n))))
+
+weights_joined : (runs : List (List Asked)) → all_weights (flat_map (λ run. run) runs) ≡ sum_by all_weights runs
+weights_joined [] = refl
+weights_joined (run ∷ runs) =
+    let a = sum_by-append (λ request. weight_of request.operation) run (flat_map (λ run. run) runs) in
+    let b = sum_by-cons all_weights run runs in
+    let r = weights_joined runs in
+    omega arith
+
+-- the runs have all requests, and what those weigh
+pub runs_have_all : (requests : List Asked) → sum_by (λ run. length run) (runs_of requests) ≡ length requests
+runs_have_all requests = sym (length-flat_map (λ run. run) (runs_of requests)) ∙ ap length (are_runs requests).whole
+
+pub runs_weigh_all : (requests : List Asked) → sum_by all_weights (runs_of requests) ≡ all_weights requests
+runs_weigh_all requests = sym (weights_joined (runs_of requests)) ∙ ap all_weights (are_runs requests).whole
+
+-- the runs of chains within the limits are short
+pub runs_are_short : (requests : List Asked) (chains : List Chain) → map (members_of requests) chains ≡ runs_of requests → All (IsChain requests) chains → All (λ run. length run ≤ 16) (runs_of requests)
+runs_are_short requests chains members within = subst (All (λ run. length run ≤ 16)) members
+    (each_all (λ run. length run ≤ 16) (map (members_of requests) chains) (λ run h.
+    let m = contains_map (members_of requests) chains run h in
+    let short = (All-contains (IsChain requests) chains m.0 within m.1).run.members in
+    let same = ap length m.2 in
+    omega arith))
+
+module _ (catalogue : List FileEntry) (size submission : ℕ) (runs : List (List Asked)) where
+  begun : (m : ℕ) (closes : CloseListView) → closes.files ≡ [] → HasWorked catalogue size submission runs (worker_state (new_pass m) [] closes)
+  begun m closes none = record {
+    explained = λ c h. absurd (contains_none c h);
+    weighed = λ c h. absurd (contains_none c h);
+    inside = λ c h. absurd (contains_none c h);
+    reached = omega arith;
+    own = λ e h. absurd (contains_none e h);
+    completed = All-nil (λ c. Contains [] c.place.chain);
+    closed = none;
+  }
+
+  pub new_has_worked : (v : PassView) (outcome : Outcome) (requests : List Asked) → IsNew v → HasRoomFor requests outcome
+      → HasWorked catalogue size submission runs (worker_state v (all_completed outcome.completions.items) outcome.closes)
+  new_has_worked v outcome requests is room =
+      subst (λ (z : PassView). HasWorked catalogue size submission runs (worker_state z (all_completed outcome.completions.items) outcome.closes)) (sym is.1)
+      (subst (λ (cs : List Completed). HasWorked catalogue size submission runs (worker_state (new_pass is.0) cs outcome.closes)) (sym (ap all_completed room.no_completions))
+      (begun is.0 outcome.closes (ap (λ (l : CloseListView). l.files) room.closes)))
+
+pub new_has_room : (v : PassView) (outcome : Outcome) (requests : List Asked) → IsAccepted requests → IsNew v → HasRoomFor requests outcome
+    → HasRoom (runs_of requests) (worker_state v (all_completed outcome.completions.items) outcome.closes) (vec_capacity outcome.completions)
+new_has_room v outcome requests accepted is room =
+    let few = accepted-length requests accepted in
+    let all = runs_have_all requests in
+    let weights = runs_weigh_all requests in
+    let space = room.room in
+    let closes = ap (λ (l : CloseListView). l.room) room.closes in
+    let none = ap (λ (l : List Completion). length (all_completed l)) room.no_completions in
+    subst (λ (z : PassView). HasRoom (runs_of requests) (worker_state z (all_completed outcome.completions.items) outcome.closes) (vec_capacity outcome.completions)) (sym is.1)
+    (record { looks = omega arith; completions = omega arith; closes = omega arith })

@@ -1,0 +1,87 @@
+-- Lists with a part for each number from one on, and lists of which one element alone has a part.
+use Rattle.std.proofs.Common.{◌≡◌, ℕ, zero, suc, ◌+◌, ◌-◌, ◌<◌, ◌≤◌, List, [], ◌∷◌, ◌++◌, map, flat_map, filter, reverse, length, Bool, All, sum_by, slice_index_or, refl, sym, ap, subst, ◌∙◌, arith, append-nil, ⊎_elim}
+use Rattle.std.specs.Prelude.{Contains}
+use Rattle.std.proofs.lemmas.List.{reverse-append}
+use Rattle.std.proofs.lemmas.List.Concat.{flat_map-append}
+use Rattle.std.proofs.lemmas.List.Elements.{All-nil, All-append, filter-append}
+use Rattle.std.proofs.lemmas.List.Sorted.{IsPermutation-refl, IsPermutation-trans, IsPermutation-append_left, IsPermutation-append_comm}
+use Rattle.std.proofs.lemmas.List.Sums.{sum_by-cons}
+use Rattle.std.specs.List.Sorted.{IsPermutation}
+use Rattle.fx_table.proofs.Members.{contains_none, contains_head, contains_tail, contains_cases}
+use Rattle.fx_table.proofs.SumLemmas.{sum_of}
+
+-- so many numbers from the first on
+abbrev pub numbers_from : ℕ → ℕ → List ℕ
+numbers_from first zero = []
+numbers_from first (suc n) = first ∷ numbers_from (first + 1) n
+
+pub number_within : (first n k : ℕ) → Contains (numbers_from first n) k → (first ≤ k) × (k < first + n)
+number_within first zero k h = absurd (contains_none k h)
+number_within first (suc n) k h = ⊎_elim
+    (λ (is : k ≡ first). (omega arith, omega arith))
+    (λ t. let r = number_within (first + 1) n k t in let low = r.0 in let high = r.1 in (omega arith, omega arith))
+    (contains_cases first (numbers_from (first + 1) n) k h)
+
+-- the sum of what stands at each place, counted from 1, is that of the list
+pub sum_by_place : {X : Type 0} (f : X → ℕ) (d : X) (all xs : List X) (first : ℕ)
+    → ((k : ℕ) → k < length xs → slice_index_or all (first - 1 + k) d ≡ slice_index_or xs k d) → 1 ≤ first
+    → sum_by (λ c. f (slice_index_or all (c - 1) d)) (numbers_from first (length xs)) ≡ sum_by f xs
+sum_by_place f d all [] first at some = refl
+sum_by_place f d all (x ∷ xs) first at some =
+    let g : ℕ → ℕ = λ c. f (slice_index_or all (c - 1) d) in
+    let a = sum_by-cons g first (numbers_from (first + 1) (length xs)) in
+    let b = sum_by-cons f x xs in
+    let here : slice_index_or all (first - 1 + 0) d ≡ x = at 0 (omega arith) in
+    let place : first - 1 + 0 ≡ first - 1 = omega arith in
+    let one : g first ≡ f x = ap (λ (k : ℕ). f (slice_index_or all k d)) (sym place) ∙ ap f here in
+    let rest = sum_by_place f d all xs (first + 1)
+    (λ k inside. let e : first + 1 - 1 + k ≡ first - 1 + suc k = omega arith in ap (λ (j : ℕ). slice_index_or all j d) e ∙ at (suc k) (omega arith)) (omega arith) in
+    omega arith
+
+module _ {W X : Type 0} (g : W → List X) where
+  pub no_parts : (ws : List W) → ((w : W) → Contains ws w → g w ≡ []) → flat_map g ws ≡ []
+  no_parts [] none = refl
+  no_parts (w ∷ ws) none = ap (λ (l : List X). l ++ flat_map g ws) (none w (contains_head w ws)) ∙ no_parts ws (λ v h. none v (contains_tail w ws v h))
+
+  -- where one element is counted, and a part is empty where nothing is counted, that element's part is the whole
+  pub one_part : (count : W → ℕ) (ws : List W) (w : W) → sum_by count ws ≤ 1 → Contains ws w → 1 ≤ count w
+      → ((v : W) → Contains ws v → count v ≡ 0 → g v ≡ []) → flat_map g ws ≡ g w
+  one_part count [] w few h counted none = absurd (contains_none w h)
+  one_part count (v ∷ ws) w few h counted none =
+      let sum = sum_by-cons count v ws in
+      ⊎_elim
+      (λ (is : w ≡ v).
+      let same = ap count is in
+      ap (λ (l : List X). g v ++ l) (no_parts ws (λ u i. let part = sum_of count ws u i in none u (contains_tail v ws u i) (omega arith)))
+      ∙ append-nil (g v) ∙ ap g (sym is))
+      (λ t.
+      let part = sum_of count ws w t in
+      ap (λ (l : List X). l ++ flat_map g ws) (none v (contains_head v ws) (omega arith))
+      ∙ one_part count ws w (omega arith) t counted (λ u i. none u (contains_tail v ws u i)))
+      (contains_cases v ws w h)
+
+  pub all_parts : (P : X → Type 0) (ws : List W) → ((w : W) → Contains ws w → All P (g w)) → All P (flat_map g ws)
+  all_parts P [] each = All-nil P
+  all_parts P (w ∷ ws) each = All-append P (g w) (flat_map g ws) (each w (contains_head w ws)) (all_parts P ws (λ v h. each v (contains_tail w ws v h)))
+
+  pub filter_parts : (p : X → Bool) (ws : List W) → filter p (flat_map g ws) ≡ flat_map (λ w. filter p (g w)) ws
+  filter_parts p [] = refl
+  filter_parts p (w ∷ ws) = filter-append p (g w) (flat_map g ws) ∙ ap (λ (l : List X). filter p (g w) ++ l) (filter_parts p ws)
+
+  pub parts_reversed : (ws : List W) → IsPermutation (flat_map g ws) (flat_map g (reverse ws))
+  parts_reversed [] = IsPermutation-refl []
+  parts_reversed (w ∷ ws) =
+      let last : flat_map g (reverse (w ∷ ws)) ≡ flat_map g (reverse ws) ++ g w =
+      ap (flat_map g) (reverse-append (w ∷ []) ws) ∙ (flat_map-append g (reverse ws) (w ∷ []) ∙ ap (λ (l : List X). flat_map g (reverse ws) ++ l) (append-nil (g w))) in
+      subst (IsPermutation (g w ++ flat_map g ws)) (sym last)
+      (IsPermutation-trans (g w ++ flat_map g ws) (flat_map g ws ++ g w) (flat_map g (reverse ws) ++ g w)
+      (IsPermutation-append_comm (g w) (flat_map g ws)) (IsPermutation-append_left (g w) (flat_map g ws) (flat_map g (reverse ws)) (parts_reversed ws)))
+
+-- parts that are the same for each element
+pub same_parts : {W X : Type 0} (g h : W → List X) (ws : List W) → ((w : W) → Contains ws w → g w ≡ h w) → flat_map g ws ≡ flat_map h ws
+same_parts g h [] each = refl
+same_parts g h (w ∷ ws) each = λ i. each w (contains_head w ws) i ++ same_parts g h ws (λ v t. each v (contains_tail w ws v t)) i
+
+pub mapped_parts : {V W X : Type 0} (g : W → List X) (f : V → W) (vs : List V) → flat_map g (map f vs) ≡ flat_map (λ v. g (f v)) vs
+mapped_parts g f [] = refl
+mapped_parts {V} {W} {X} g f (v ∷ vs) = ap (λ (l : List X). g (f v) ++ l) (mapped_parts g f vs)
