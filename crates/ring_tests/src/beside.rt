@@ -8,7 +8,7 @@ use fx_chain::{Gate, Place, Request};
 use std::alloc::{AllocError, Global};
 use std::process::Abort;
 use std::sync::Wait;
-use std::sync::atomic::{AtomicU32, Ordering};
+use std::sync::atomic::{AtomicBool, AtomicU32, Ordering};
 use std::test::Fail;
 use std::thread;
 use std::thread::Threads;
@@ -16,13 +16,14 @@ use std::thread::Threads;
 // How many turns a chain waits for the others.
 const MOST_TURNS: u32 = 50_000_000;
 
-// A gate at which chains wait for each other, in front of their members at one place.
+// A gate at which chains wait for each other, in front of their members at one place. Once a chain has waited in vain, no
+// other one waits.
 #[derive(Drop)]
 struct Meeting {
     member: u32,
     chains: u32,
     came: AtomicU32,
-    gave_up: AtomicU32,
+    is_off: AtomicBool,
 }
 
 impl Meeting {
@@ -31,13 +32,13 @@ impl Meeting {
             member,
             chains,
             came: AtomicU32::new(0),
-            gave_up: AtomicU32::new(0),
+            is_off: AtomicBool::new(false),
         }
     }
 
-    // How many chains waited in vain.
-    fn gave_up(&self) -> u32 {
-        self.gave_up.load(Ordering::SeqCst)
+    // Whether the chains have met, and none waited in vain.
+    fn was_held(&self) -> bool {
+        self.came.load(Ordering::SeqCst) == self.chains && !self.is_off.load(Ordering::SeqCst)
     }
 }
 
@@ -48,14 +49,16 @@ impl Gate for Meeting {
         }
         self.came.fetch_add(1, Ordering::SeqCst);
         for turn in 0..MOST_TURNS {
-            if self.came.load(Ordering::SeqCst) == self.chains {
+            if self.came.load(Ordering::SeqCst) == self.chains
+                || self.is_off.load(Ordering::SeqCst)
+            {
                 return;
             }
             if turn % 1024 == 0 {
                 thread::yield_now();
             }
         }
-        self.gave_up.fetch_add(1, Ordering::SeqCst);
+        self.is_off.store(true, Ordering::SeqCst);
     }
 
     fn after(&self, _place: Place) {}
@@ -73,13 +76,13 @@ fn two_chains(alloc: Global) -> Result<[Request; 6], AllocError> {
     ])
 }
 
-// How many of the two chains waited in vain for the third member of the other one. The report is the same for all.
-fn waits_in_vain<R: Threads + Wait + Abort + Sync>(
+// Whether the third members of the two chains met. The report is the same for all.
+fn third_members_meet<R: Threads + Wait + Abort + Sync>(
     rt: &R,
     alloc: Global,
     requests: &[Request],
     workers: u32,
-) -> Result<u32, Fail> {
+) -> Result<bool, Fail> {
     let meeting = Meeting::new(3, 2);
     let mut ring = sparse_ring(rt, alloc, 2)?;
     let report = submit_with(rt, alloc, &mut ring, requests, workers, &meeting);
@@ -94,7 +97,7 @@ fn waits_in_vain<R: Threads + Wait + Abort + Sync>(
     expect_completed(rt, &report, 1, &completed);
     expect_closed(rt, &report, &[opened(1, 1, 1, 0), opened(1, 2, 1, 0)]);
     expect_left(rt, alloc, ring, &[]);
-    Ok(meeting.gave_up())
+    Ok(meeting.was_held())
 }
 
 #[test]
@@ -102,7 +105,7 @@ fn two_workers_play_beside_each_other(rt: HostRuntime) -> Result<(), Fail> {
     let alloc = rt.alloc();
     let requests = two_chains(alloc)?;
     for workers in [2, 3, 16] {
-        assert_eq!(rt; waits_in_vain(&rt, alloc, &requests, workers)?, 0);
+        assert!(rt; third_members_meet(&rt, alloc, &requests, workers)?);
     }
     Ok(())
 }
@@ -111,7 +114,7 @@ fn two_workers_play_beside_each_other(rt: HostRuntime) -> Result<(), Fail> {
 fn one_worker_waits_in_vain(rt: HostRuntime) -> Result<(), Fail> {
     let alloc = rt.alloc();
     let requests = two_chains(alloc)?;
-    assert_eq!(rt; waits_in_vain(&rt, alloc, &requests, 1)?, 1);
+    assert!(rt; !third_members_meet(&rt, alloc, &requests, 1)?);
     Ok(())
 }
 
@@ -129,7 +132,7 @@ fn sixteen_workers_play_beside_each_other(rt: HostRuntime) -> Result<(), Fail> {
     let report = submit_with(&rt, alloc, &mut ring, requests.as_slice(), 16, &meeting);
     expect_completed(&rt, &report, 1, completed.as_slice());
     expect_closed(&rt, &report, &[]);
-    assert_eq!(rt; meeting.gave_up(), 0);
+    assert!(rt; meeting.was_held());
     expect_left(&rt, alloc, ring, &[registered(1, 0, 0)]);
     Ok(())
 }
