@@ -1,5 +1,5 @@
 -- The files that a history closed, in parts by a key of its events.
-use Rattle.std.proofs.Common.{◌≡◌, ℕ, zero, suc, ◌+◌, ◌<◌, ◌≤◌, ◌==◌, Bool, true, false, not, cond, List, [], ◌∷◌, ◌++◌, map, filter, flat_map, length, All, refl, sym, ap, subst, ◌∙◌, arith, append_assoc}
+use Rattle.std.proofs.Common.{ℕ, zero, suc, ◌+◌, ◌<◌, ◌≤◌, ◌==◌, true, false, not, cond, List, [], ◌∷◌, ◌++◌, map, filter, flat_map, All, sym, ap, subst, arith, append_assoc}
 use Rattle.std.specs.List.Sorted.{IsPermutation}
 use Rattle.std.proofs.lemmas.List.Sorted.{IsPermutation-refl, IsPermutation-trans, IsPermutation-append_left, IsPermutation-append_right, IsPermutation-append_comm}
 use Rattle.fx_base.specs.declared.open_file.Closed.{Closed}
@@ -15,10 +15,12 @@ closes_of h = closes_in (map action_of h)
 pub moved_behind : (a b c : List Closed) → IsPermutation ((a ++ b) ++ c) ((a ++ c) ++ b)
 moved_behind a b c =
     subst (λ (l : List Closed). IsPermutation l ((a ++ c) ++ b)) (sym (append_assoc a b c))
-    (subst (IsPermutation (a ++ (b ++ c))) (sym (append_assoc a c b)) (IsPermutation-append_right a (b ++ c) (c ++ b) (IsPermutation-append_comm b c)))
+    (subst (IsPermutation (a ++ (b ++ c))) (sym (append_assoc a c b))
+    (IsPermutation-append_right a (b ++ c) (c ++ b) (IsPermutation-append_comm b c)))
 
 module _ (key : Event → ℕ) where
-  closes_split : (first : ℕ) (h : List Event) → IsPermutation (closes_of h) (closes_of (filter (has key first) h) ++ closes_of (filter (lacks key first) h))
+  closes_split : (first : ℕ) (h : List Event)
+      → IsPermutation (closes_of h) (closes_of (filter (has key first) h) ++ closes_of (filter (lacks key first) h))
   closes_split first [] = IsPermutation-refl []
   closes_split first (e ∷ h) =
       let mine : List Event = filter (has key first) h in
@@ -26,7 +28,8 @@ module _ (key : Event → ℕ) where
       let c : List Closed = closed_by e.action in
       let so_far : IsPermutation (closes_of h ++ c) ((closes_of mine ++ closes_of others) ++ c) =
       IsPermutation-append_left c (closes_of h) (closes_of mine ++ closes_of others) (closes_split first h) in
-      elim (key e == first) as (λ b. IsPermutation (closes_of h ++ c) (closes_of (cond b (e ∷ mine) mine) ++ closes_of (cond (not b) (e ∷ others) others))) [
+      elim (key e == first) as (λ b.
+      IsPermutation (closes_of h ++ c) (closes_of (cond b (e ∷ mine) mine) ++ closes_of (cond (not b) (e ∷ others) others))) [
         | true ↦ IsPermutation-trans (closes_of h ++ c) ((closes_of mine ++ closes_of others) ++ c) ((closes_of mine ++ c) ++ closes_of others)
             so_far (moved_behind (closes_of mine) (closes_of others) c)
         | false ↦ subst (IsPermutation (closes_of h ++ c)) (append_assoc (closes_of mine) (closes_of others) c) so_far
@@ -38,7 +41,8 @@ module _ (key : Event → ℕ) where
   -- where each key is one of so many from the first on, the parts are all
   pub closes_by_key : (first n : ℕ) (h : List Event) → All (λ e. (first ≤ key e) × (key e < first + n)) h
       → IsPermutation (closes_of h) (flat_map (closes_with h) (numbers_from first n))
-  closes_by_key first zero h all = subst (λ (l : List Event). IsPermutation (closes_of l) []) (sym (none_within key first h all)) (IsPermutation-refl [])
+  closes_by_key first zero h all =
+      subst (λ (l : List Event). IsPermutation (closes_of l) []) (sym (none_within key first h all)) (IsPermutation-refl [])
   closes_by_key first (suc n) h all =
       let others : List Event = filter (lacks key first) h in
       let behind : IsPermutation (closes_of others) (flat_map (closes_with h) (numbers_from (first + 1) n)) =

@@ -1,7 +1,7 @@
 -- What a crew is before it plays: new passes, with room for all.
-use Rattle.std.proofs.Common.{◌≡◌, ℕ, zero, suc, ◌+◌, ◌<◌, ◌≤◌, List, [], ◌∷◌, ◌++◌, map, flat_map, reverse, length, All, sum_by, drop, refl, sym, ap, subst, ◌∙◌, arith, ⊎_elim, vec_capacity}
+use Rattle.std.proofs.Common.{◌≡◌, ℕ, zero, suc, ◌+◌, ◌≤◌, List, [], ◌∷◌, ◌++◌, map, flat_map, reverse, length, All, sum_by, refl, sym, ap, subst, ◌∙◌, arith, vec_capacity}
 use Rattle.std.specs.Prelude.{Contains}
-use Rattle.std.proofs.lemmas.List.{length-map, length-reverse, reverse-append, map-append}
+use Rattle.std.proofs.lemmas.List.{length-map, reverse-append, map-append}
 use Rattle.std.proofs.lemmas.Simd.{map-map}
 use Rattle.std.proofs.lemmas.List.Concat.{length-flat_map}
 use Rattle.std.proofs.lemmas.List.Elements.{All-nil, All-cons, All-contains, All-weaker}
@@ -9,8 +9,8 @@ use Rattle.std.proofs.lemmas.List.Sums.{sum_by-cons, sum_by-append}
 use Rattle.fx_base.specs.Catalogue.{FileEntry}
 use Rattle.fx_base.specs.CloseListView.{CloseListView}
 use Rattle.fx_table.specs.Pass.{PassView, IsIdle, new_pass, new_passes, new_passes_from}
-use Rattle.fx_table.proofs.Members.{contains_none, contains_map, contains_mapped, contains_reverse, contains_reversed, each_all}
-use Rattle.fx_chain.specs.Accepted.{IsAccepted, IsChain, IsShortRun, members_of}
+use Rattle.fx_table.proofs.Members.{contains_none, contains_map, contains_mapped, contains_reverse, each_all}
+use Rattle.fx_chain.specs.Accepted.{IsAccepted, IsChain, members_of}
 use Rattle.fx_chain.specs.Completed.{Completed, all_completed}
 use Rattle.fx_chain.specs.Operation.{Asked}
 use Rattle.fx_chain.specs.Runs.{runs_of}
@@ -19,8 +19,8 @@ use Rattle.fx_chain.specs.declared.completion.Completion.{Completion}
 use Rattle.fx_chain.specs.declared.chain.Chain.{Chain}
 use Rattle.fx_chain.proofs.Accepted.{accepted-length}
 use Rattle.fx_chain.proofs.Runs.{are_runs}
-use Rattle.fx_ring.specs.Outcomes.{HasRoomFor, outcome_of}
-use Rattle.fx_ring.specs.Work.{HasWorked, HasRoom, WorkerState, worker_state}
+use Rattle.fx_ring.specs.Outcomes.{HasRoomFor}
+use Rattle.fx_ring.specs.Work.{HasWorked, HasRoom, worker_state}
 use Rattle.fx_ring.specs.declared.crew.Outcome.{Outcome}
 use Rattle.fx_ring.specs.declared.worker.Worker.{Worker}
 use Rattle.fx_ring.proofs.Numbered.{numbers_from}
@@ -28,7 +28,9 @@ use Rattle.fx_ring.proofs.Numbered.{numbers_from}
 pub map_reversed : {X Y : Type 0} (f : X → Y) (xs : List X) → map f (reverse xs) ≡ reverse (map f xs)
 map_reversed f [] = refl
 map_reversed {X} {Y} f (x ∷ xs) =
-    ap (map f) (reverse-append (x ∷ []) xs) ∙ (map-append f (reverse xs) (x ∷ []) ∙ (ap (λ (l : List Y). l ++ f x ∷ []) (map_reversed f xs) ∙ sym (reverse-append (f x ∷ []) (map f xs))))
+    ap (map f) (reverse-append (x ∷ []) xs)
+    ∙ (map-append f (reverse xs) (x ∷ [])
+    ∙ (ap (λ (l : List Y). l ++ f x ∷ []) (map_reversed f xs) ∙ sym (reverse-append (f x ∷ []) (map f xs))))
 
 -- what holds of all elements holds of their pieces, whichever way round
 module _ {A W : Type 0} (P : A → Type 0) (f : W → A) (ws : List W) (xs : List A) where
@@ -92,7 +94,8 @@ pub runs_weigh_all : (requests : List Asked) → sum_by all_weights (runs_of req
 runs_weigh_all requests = sym (weights_joined (runs_of requests)) ∙ ap all_weights (are_runs requests).whole
 
 -- the runs of chains within the limits are short
-pub runs_are_short : (requests : List Asked) (chains : List Chain) → map (members_of requests) chains ≡ runs_of requests → All (IsChain requests) chains → All (λ run. length run ≤ 16) (runs_of requests)
+pub runs_are_short : (requests : List Asked) (chains : List Chain) → map (members_of requests) chains ≡ runs_of requests
+    → All (IsChain requests) chains → All (λ run. length run ≤ 16) (runs_of requests)
 runs_are_short requests chains members within = subst (All (λ run. length run ≤ 16)) members
     (each_all (λ run. length run ≤ 16) (map (members_of requests) chains) (λ run h.
     let m = contains_map (members_of requests) chains run h in
@@ -115,8 +118,10 @@ module _ (catalogue : List FileEntry) (size submission : ℕ) (runs : List (List
   pub new_has_worked : (v : PassView) (outcome : Outcome) (requests : List Asked) → IsNew v → HasRoomFor requests outcome
       → HasWorked catalogue size submission runs (worker_state v (all_completed outcome.completions.items) outcome.closes)
   new_has_worked v outcome requests is room =
-      subst (λ (z : PassView). HasWorked catalogue size submission runs (worker_state z (all_completed outcome.completions.items) outcome.closes)) (sym is.1)
-      (subst (λ (cs : List Completed). HasWorked catalogue size submission runs (worker_state (new_pass is.0) cs outcome.closes)) (sym (ap all_completed room.no_completions))
+      subst (λ (z : PassView). HasWorked catalogue size submission runs (worker_state z (all_completed outcome.completions.items) outcome.closes))
+      (sym is.1)
+      (subst (λ (cs : List Completed). HasWorked catalogue size submission runs (worker_state (new_pass is.0) cs outcome.closes))
+      (sym (ap all_completed room.no_completions))
       (begun is.0 outcome.closes (ap (λ (l : CloseListView). l.files) room.closes)))
 
 pub new_has_room : (v : PassView) (outcome : Outcome) (requests : List Asked) → IsAccepted requests → IsNew v → HasRoomFor requests outcome
@@ -128,5 +133,6 @@ new_has_room v outcome requests accepted is room =
     let space = room.room in
     let closes = ap (λ (l : CloseListView). l.room) room.closes in
     let none = ap (λ (l : List Completion). length (all_completed l)) room.no_completions in
-    subst (λ (z : PassView). HasRoom (runs_of requests) (worker_state z (all_completed outcome.completions.items) outcome.closes) (vec_capacity outcome.completions)) (sym is.1)
+    subst (λ (z : PassView).
+    HasRoom (runs_of requests) (worker_state z (all_completed outcome.completions.items) outcome.closes) (vec_capacity outcome.completions)) (sym is.1)
     (record { looks = omega arith; completions = omega arith; closes = omega arith })

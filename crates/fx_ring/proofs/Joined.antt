@@ -1,5 +1,5 @@
 -- What the workers of a submission did, taken together.
-use Rattle.std.proofs.Common.{◌≡◌, ℕ, ◌+◌, ◌-◌, ◌*◌, ◌<◌, ◌≤◌, ◌==◌, true, false, cond, List, [], ◌∷◌, map, flat_map, filter, reverse, length, All, sum_by, count_by, slice_index_or, refl, sym, ap, subst, ◌∙◌, arith, eqb, eq-eqb, ⊎_elim}
+use Rattle.std.proofs.Common.{◌≡◌, ℕ, ◌+◌, ◌-◌, ◌<◌, ◌≤◌, ◌==◌, true, false, cond, List, [], ◌∷◌, map, flat_map, reverse, length, All, sum_by, count_by, slice_index_or, refl, sym, ap, subst, ◌∙◌, arith, eqb, eq-eqb, ⊎_elim}
 use Rattle.std.specs.Prelude.{Contains}
 use Rattle.std.specs.List.Sorted.{IsPermutation, IsNonDecreasingBy}
 use Rattle.std.proofs.lemmas.List.Elements.{All-head, All-tail, All-contains}
@@ -10,7 +10,7 @@ use Rattle.fx_base.specs.CloseList.{IsInOrderOfMark}
 use Rattle.fx_base.specs.CloseListView.{CloseListView}
 use Rattle.fx_base.specs.declared.open_file.Closed.{Closed}
 use Rattle.fx_plain.proofs.Cells.{by_equality}
-use Rattle.fx_plain.specs.State.{State, opening}
+use Rattle.fx_plain.specs.State.{opening}
 use Rattle.fx_plain.specs.Contents.{Contents, state_of}
 use Rattle.fx_plain.specs.History.{IsLegal, action_of, part_of_chain, part_of_pass}
 use Rattle.fx_plain.specs.declared.event.Event.{Event}
@@ -58,7 +58,8 @@ in_part p (x ∷ h) e i is = ⊎_elim
     (contains_cases x h e i)
 
 -- a worker that did not draw a chain has none of its completions
-none_of_chain : (c : ℕ) (drawn : List ℕ) (xs : List Completed) → All (λ x. Contains drawn x.place.chain) xs → count_by (λ d. eqb d c) drawn ≡ 0 → completions_of_chain c xs ≡ []
+none_of_chain : (c : ℕ) (drawn : List ℕ) (xs : List Completed) → All (λ x. Contains drawn x.place.chain) xs
+    → count_by (λ d. eqb d c) drawn ≡ 0 → completions_of_chain c xs ≡ []
 none_of_chain c drawn [] own zero = refl
 none_of_chain c drawn (x ∷ xs) own zero =
     let P : Completed → Type 0 = λ x. Contains drawn x.place.chain in
@@ -67,7 +68,8 @@ none_of_chain c drawn (x ∷ xs) own zero =
     (λ _. none_of_chain c drawn xs (All-tail P x xs own) zero)
 
 -- the workers of a submission have played all of its chains, and their passes have come back
-pub record HavePlayed (catalogue : List FileEntry) (submission : ℕ) (runs : List (List Asked)) (o : Opening) (crew : List WorkerState) (passes : List PassView) (left : Contents) : Type 0 where
+pub record HavePlayed (catalogue : List FileEntry) (submission : ℕ) (runs : List (List Asked)) (o : Opening) (crew : List WorkerState)
+    (passes : List PassView) (left : Contents) : Type 0 where
   pub worked : All (HasWorked catalogue (size_of o) submission runs) crew
   pub told : All (λ w. w.pass.no_chains_left ≡ true) crew
   pub chains : o.chains ≡ length runs
@@ -75,8 +77,8 @@ pub record HavePlayed (catalogue : List FileEntry) (submission : ℕ) (runs : Li
   pub numbers : map number_of crew ≡ reverse (numbers_from 1 o.passes)
   pub closing : ClosesTable o passes left
 
-module _ (catalogue : List FileEntry) (submission : ℕ) (runs : List (List Asked)) (o : Opening) (crew : List WorkerState) (passes : List PassView) (left : Contents)
-    (played : HavePlayed catalogue submission runs o crew passes left) where
+module _ (catalogue : List FileEntry) (submission : ℕ) (runs : List (List Asked)) (o : Opening) (crew : List WorkerState)
+    (passes : List PassView) (left : Contents) (played : HavePlayed catalogue submission runs o crew passes left) where
   abbrev closing : ClosesTable o passes left
   closing = played.closing
 
@@ -87,7 +89,8 @@ module _ (catalogue : List FileEntry) (submission : ℕ) (runs : List (List Aske
   worker_of v h = contains_map pass_of crew v (contains_reverse (map pass_of crew) v (subst (λ (l : List PassView). Contains l v) played.are h))
 
   view_of : (w : WorkerState) → Contains crew w → Contains passes w.pass
-  view_of w h = subst (λ (l : List PassView). Contains l w.pass) (sym played.are) (contains_reversed (map pass_of crew) w.pass (contains_mapped pass_of crew w h))
+  view_of w h = subst (λ (l : List PassView). Contains l w.pass) (sym played.are)
+      (contains_reversed (map pass_of crew) w.pass (contains_mapped pass_of crew w h))
 
   works : (w : WorkerState) → Contains crew w → HasWorked catalogue (size_of o) submission runs w
   works w h = All-contains (HasWorked catalogue (size_of o) submission runs) crew w played.worked h
@@ -101,7 +104,8 @@ module _ (catalogue : List FileEntry) (submission : ℕ) (runs : List (List Aske
       let a = closing.authors e h in
       let w = worker_of a.0 a.1 in
       let number : e.pass ≡ w.0.pass.number = a.2 ∙ ap (λ (v : PassView). v.number) w.2 in
-      (w.0, w.1, number, subst (λ (l : List Event). Contains l e) (closing.own w.0.pass (view_of w.0 w.1)) (in_part w.0.pass.number closing.history e h number))
+      let mine = in_part w.0.pass.number closing.history e h number in
+      (w.0, w.1, number, subst (λ (l : List Event). Contains l e) (closing.own w.0.pass (view_of w.0 w.1)) mine)
 
   drawn_inside : (w : WorkerState) → Contains crew w → (c : ℕ) → Contains w.pass.drawn c → (1 ≤ c) × (c ≤ length runs)
   drawn_inside w h c drew =
@@ -118,9 +122,10 @@ module _ (catalogue : List FileEntry) (submission : ℕ) (runs : List (List Aske
   drawer : (c : ℕ) → 1 ≤ c → c ≤ length runs → (w : WorkerState) × Contains crew w × Contains w.pass.drawn c
   drawer c low high =
       let chains = played.chains in
-      let given = closing.all_drawn
-      (λ v h. let w = worker_of v h in ap (λ (u : PassView). u.no_chains_left) w.2 ∙ All-contains (λ w. w.pass.no_chains_left ≡ true) crew w.0 played.told w.1)
-      c (omega arith) (omega arith) in
+      let told : (v : PassView) → Contains passes v → v.no_chains_left ≡ true = λ v h.
+      let w = worker_of v h in
+      ap (λ (u : PassView). u.no_chains_left) w.2 ∙ All-contains (λ w. w.pass.no_chains_left ≡ true) crew w.0 played.told w.1 in
+      let given = closing.all_drawn told c (omega arith) (omega arith) in
       let w = worker_of given.0 given.1 in
       (w.0, w.1, subst (λ (v : PassView). Contains v.drawn c) w.2 given.2)
 
@@ -132,7 +137,8 @@ module _ (catalogue : List FileEntry) (submission : ℕ) (runs : List (List Aske
       let e = closing.drawn_once c in
       omega arith
 
-  part_is : (c : ℕ) (w : WorkerState) → Contains crew w → Contains w.pass.drawn c → completions_of_chain c joined ≡ completions_of_chain c w.completions
+  part_is : (c : ℕ) (w : WorkerState) → Contains crew w → Contains w.pass.drawn c
+      → completions_of_chain c joined ≡ completions_of_chain c w.completions
   part_is c w h drew =
       filter_parts completed_by (λ x. x.place.chain == c) crew
       ∙ one_part (λ w. completions_of_chain c w.completions) (λ w. times_drawn c w.pass) crew w (once c) h (some_times c w.pass.drawn drew)
@@ -141,14 +147,15 @@ module _ (catalogue : List FileEntry) (submission : ℕ) (runs : List (List Aske
   history_is : (c : ℕ) (w : WorkerState) → Contains crew w → Contains w.pass.drawn c → part_of_chain c closing.history ≡ part_of_chain c w.pass.own
   history_is c w h drew = part_of_drawn o passes left c w.pass closing own_chains (view_of w h) drew
 
+  abbrev pub ExplainsChain : ℕ → List Event → List Completed → Type 0
+  ExplainsChain c h completions = Explains catalogue (size_of o) (first_member submission c) (run_of_chain runs c) (map action_of h) completions
+
   pub explained : (c : ℕ) → 1 ≤ c → c ≤ length runs
-      → Explains catalogue (size_of o) (first_member submission c) (run_of_chain runs c) (map action_of (part_of_chain c closing.history)) (completions_of_chain c joined)
+      → ExplainsChain c (part_of_chain c closing.history) (completions_of_chain c joined)
   explained c low high =
       let d = drawer c low high in
-      subst (λ (h : List Event). Explains catalogue (size_of o) (first_member submission c) (run_of_chain runs c) (map action_of h) (completions_of_chain c joined))
-      (sym (history_is c d.0 d.1 d.2))
-      (subst (Explains catalogue (size_of o) (first_member submission c) (run_of_chain runs c) (map action_of (part_of_chain c d.0.pass.own)))
-      (sym (part_is c d.0 d.1 d.2)) ((works d.0 d.1).explained c d.2))
+      subst (λ (h : List Event). ExplainsChain c h (completions_of_chain c joined)) (sym (history_is c d.0 d.1 d.2))
+      (subst (ExplainsChain c (part_of_chain c d.0.pass.own)) (sym (part_is c d.0 d.1 d.2)) ((works d.0 d.1).explained c d.2))
 
   pub inside : All (λ c. (1 ≤ c.place.chain) × (c.place.chain ≤ length runs)) joined
   inside = all_parts completed_by (λ c. (1 ≤ c.place.chain) × (c.place.chain ≤ length runs)) crew
@@ -161,7 +168,8 @@ module _ (catalogue : List FileEntry) (submission : ℕ) (runs : List (List Aske
   passes_inside : All (λ e. (1 ≤ e.pass) × (e.pass < 1 + o.passes)) closing.history
   passes_inside = each_all (λ e. (1 ≤ e.pass) × (e.pass < 1 + o.passes)) closing.history (λ e h.
       let a = author_of e h in
-      let mine : Contains (reverse (numbers_from 1 o.passes)) a.0.pass.number = subst (λ (l : List ℕ). Contains l a.0.pass.number) played.numbers (contains_mapped number_of crew a.0 a.1) in
+      let mine : Contains (reverse (numbers_from 1 o.passes)) a.0.pass.number =
+      subst (λ (l : List ℕ). Contains l a.0.pass.number) played.numbers (contains_mapped number_of crew a.0 a.1) in
       let r = number_within 1 o.passes a.0.pass.number (contains_reverse (numbers_from 1 o.passes) a.0.pass.number mine) in
       let is = a.2 in
       let low = r.0 in
@@ -176,10 +184,12 @@ module _ (catalogue : List FileEntry) (submission : ℕ) (runs : List (List Aske
       let back = parts_reversed part (numbers_from 1 o.passes) in
       let of_crew : flat_map part (reverse (numbers_from 1 o.passes)) ≡ flat_map closed_by_worker crew =
       ap (flat_map part) (sym played.numbers) ∙ mapped_parts part number_of crew
-      ∙ same_parts (λ w. part w.pass.number) closed_by_worker crew (λ w h. ap closes_of (closing.own w.pass (view_of w h)) ∙ sym (works w h).closed) in
+      ∙ same_parts (λ w. part w.pass.number) closed_by_worker crew
+      (λ w h. ap closes_of (closing.own w.pass (view_of w h)) ∙ sym (works w h).closed) in
       subst (IsPermutation (closes_of closing.history)) of_crew (IsPermutation-trans _ _ _ by_pass back)
 
-  weighed : (c : ℕ) → Contains (numbers_from 1 (length runs)) c → length (closes_of (part_of_chain c closing.history)) ≤ all_weights (run_of_chain runs c)
+  weighed : (c : ℕ) → Contains (numbers_from 1 (length runs)) c
+      → length (closes_of (part_of_chain c closing.history)) ≤ all_weights (run_of_chain runs c)
   weighed c h =
       let r = number_within 1 (length runs) c h in
       let low = r.0 in
@@ -196,16 +206,19 @@ module _ (catalogue : List FileEntry) (submission : ℕ) (runs : List (List Aske
       let all : All (λ e. (1 ≤ e.chain) × (e.chain < 1 + length runs)) closing.history =
       each_all (λ e. (1 ≤ e.chain) × (e.chain < 1 + length runs)) closing.history
       (λ e h. let r = events_inside e h in let low = r.0 in let high = r.1 in (omega arith, omega arith)) in
-      let a = length_permutation (closes_of closing.history) (flat_map part (numbers_from 1 (length runs))) (closes_by_key (λ e. e.chain) 1 (length runs) closing.history all) in
+      let a = length_permutation (closes_of closing.history) (flat_map part (numbers_from 1 (length runs)))
+      (closes_by_key (λ e. e.chain) 1 (length runs) closing.history all) in
       let b = length_permutation (closes_of closing.history) (flat_map closed_by_worker crew) closes_joined in
       let c = length-flat_map part (numbers_from 1 (length runs)) in
       let d = sum_le_of (λ c. length (part c)) (λ c. all_weights (run_of_chain runs c)) (numbers_from 1 (length runs)) weighed in
-      let e = sum_by_place all_weights [] runs runs 1 (λ k _. let e : 1 - 1 + k ≡ k = omega arith in ap (λ (j : ℕ). slice_index_or runs j []) e) (omega arith) in
+      let e = sum_by_place all_weights [] runs runs 1
+      (λ k _. let e : 1 - 1 + k ≡ k = omega arith in ap (λ (j : ℕ). slice_index_or runs j []) e) (omega arith) in
       omega arith
 
 -- the headline, once the completions are in order of place and the closes in order of mark
-module _ (catalogue : List FileEntry) (submissions : ℕ) (requests : List Asked) (o : Opening) (crew : List WorkerState) (passes : List PassView) (left : Contents)
-    (played : HavePlayed catalogue (submissions + 1) (runs_of requests) o crew passes left) (sorted : List Completed) (closes : CloseListView) where
+module _ (catalogue : List FileEntry) (submissions : ℕ) (requests : List Asked) (o : Opening) (crew : List WorkerState)
+    (passes : List PassView) (left : Contents) (played : HavePlayed catalogue (submissions + 1) (runs_of requests) o crew passes left)
+    (sorted : List Completed) (closes : CloseListView) where
   abbrev runs : List (List Asked)
   runs = runs_of requests
 
@@ -220,11 +233,13 @@ module _ (catalogue : List FileEntry) (submissions : ℕ) (requests : List Asked
   one_history short same rises closed in_order registrations = record {
     history = history;
     end = state_at o history;
-    legal = subst (λ (n : ℕ). IsLegal (opening (state_of o.contents) (numbers_for n)) history (state_at o history)) played.chains played.closing.legal;
+    legal = subst (λ (n : ℕ). IsLegal (opening (state_of o.contents) (numbers_for n)) history (state_at o history))
+        played.chains played.closing.legal;
     settled = played.closing.settled;
     chains = events_inside catalogue (submissions + 1) runs o crew passes left played;
     explained = in_order_explained catalogue (size_of o) (submissions + 1) history (flat_map completed_by crew) runs
-        (inside catalogue (submissions + 1) runs o crew passes left played) (explained catalogue (submissions + 1) runs o crew passes left played) sorted short same rises;
+        (inside catalogue (submissions + 1) runs o crew passes left played)
+        (explained catalogue (submissions + 1) runs o crew passes left played) sorted short same rises;
     closed = record {
       same_files = IsPermutation-trans _ _ _ (closes_joined catalogue (submissions + 1) runs o crew passes left played) closed;
       in_order = in_order;

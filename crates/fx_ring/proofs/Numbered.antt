@@ -35,13 +35,16 @@ sum_by_place f d all (x ∷ xs) first at some =
     let place : first - 1 + 0 ≡ first - 1 = omega arith in
     let one : g first ≡ f x = ap (λ (k : ℕ). f (slice_index_or all k d)) (sym place) ∙ ap f here in
     let rest = sum_by_place f d all xs (first + 1)
-    (λ k inside. let e : first + 1 - 1 + k ≡ first - 1 + suc k = omega arith in ap (λ (j : ℕ). slice_index_or all j d) e ∙ at (suc k) (omega arith)) (omega arith) in
+    (λ k inside.
+    let e : first + 1 - 1 + k ≡ first - 1 + suc k = omega arith in
+    ap (λ (j : ℕ). slice_index_or all j d) e ∙ at (suc k) (omega arith)) (omega arith) in
     omega arith
 
 module _ {W X : Type 0} (g : W → List X) where
   pub no_parts : (ws : List W) → ((w : W) → Contains ws w → g w ≡ []) → flat_map g ws ≡ []
   no_parts [] none = refl
-  no_parts (w ∷ ws) none = ap (λ (l : List X). l ++ flat_map g ws) (none w (contains_head w ws)) ∙ no_parts ws (λ v h. none v (contains_tail w ws v h))
+  no_parts (w ∷ ws) none =
+      ap (λ (l : List X). l ++ flat_map g ws) (none w (contains_head w ws)) ∙ no_parts ws (λ v h. none v (contains_tail w ws v h))
 
   -- where one element is counted, and a part is empty where nothing is counted, that element's part is the whole
   pub one_part : (count : W → ℕ) (ws : List W) (w : W) → sum_by count ws ≤ 1 → Contains ws w → 1 ≤ count w
@@ -62,7 +65,8 @@ module _ {W X : Type 0} (g : W → List X) where
 
   pub all_parts : (P : X → Type 0) (ws : List W) → ((w : W) → Contains ws w → All P (g w)) → All P (flat_map g ws)
   all_parts P [] each = All-nil P
-  all_parts P (w ∷ ws) each = All-append P (g w) (flat_map g ws) (each w (contains_head w ws)) (all_parts P ws (λ v h. each v (contains_tail w ws v h)))
+  all_parts P (w ∷ ws) each =
+      All-append P (g w) (flat_map g ws) (each w (contains_head w ws)) (all_parts P ws (λ v h. each v (contains_tail w ws v h)))
 
   pub filter_parts : (p : X → Bool) (ws : List W) → filter p (flat_map g ws) ≡ flat_map (λ w. filter p (g w)) ws
   filter_parts p [] = refl
@@ -72,10 +76,12 @@ module _ {W X : Type 0} (g : W → List X) where
   parts_reversed [] = IsPermutation-refl []
   parts_reversed (w ∷ ws) =
       let last : flat_map g (reverse (w ∷ ws)) ≡ flat_map g (reverse ws) ++ g w =
-      ap (flat_map g) (reverse-append (w ∷ []) ws) ∙ (flat_map-append g (reverse ws) (w ∷ []) ∙ ap (λ (l : List X). flat_map g (reverse ws) ++ l) (append-nil (g w))) in
+      ap (flat_map g) (reverse-append (w ∷ []) ws)
+      ∙ (flat_map-append g (reverse ws) (w ∷ []) ∙ ap (λ (l : List X). flat_map g (reverse ws) ++ l) (append-nil (g w))) in
       subst (IsPermutation (g w ++ flat_map g ws)) (sym last)
       (IsPermutation-trans (g w ++ flat_map g ws) (flat_map g ws ++ g w) (flat_map g (reverse ws) ++ g w)
-      (IsPermutation-append_comm (g w) (flat_map g ws)) (IsPermutation-append_left (g w) (flat_map g ws) (flat_map g (reverse ws)) (parts_reversed ws)))
+      (IsPermutation-append_comm (g w) (flat_map g ws))
+      (IsPermutation-append_left (g w) (flat_map g ws) (flat_map g (reverse ws)) (parts_reversed ws)))
 
 -- parts that are the same for each element
 pub same_parts : {W X : Type 0} (g h : W → List X) (ws : List W) → ((w : W) → Contains ws w → g w ≡ h w) → flat_map g ws ≡ flat_map h ws

@@ -1,5 +1,5 @@
 -- The numbers of a list, by their sign.
-use Rattle.std.proofs.Common.{◌≡◌, ℕ, zero, suc, ◌+◌, ◌<◌, ◌≤◌, Bool, true, false, ◌||◌, ℤ, pos, negsuc, int_le, int_lt, List, [], ◌∷◌, ◌++◌, length, refl, sym, ap, ◌∙◌, arith, nat_abs, nat_le, nat_lt}
+use Rattle.std.proofs.Common.{◌≡◌, ℕ, zero, suc, ◌<◌, Bool, true, false, ◌||◌, ℤ, pos, negsuc, int_le, int_lt, List, [], ◌∷◌, ◌++◌, refl, sym, ap, ◌∙◌, arith, nat_abs}
 use Rattle.std.proofs.lemmas.Bool.{ltb-true, le-leb, leb-false, ltb-false, le-ltb}
 use Rattle.std.specs.List.{list_any}
 use Rattle.fx_chain.specs.Answers.{is_bad_entry}

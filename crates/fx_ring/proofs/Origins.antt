@@ -1,5 +1,5 @@
 -- Where the files of a ring come from, once a list was worked off.
-use Rattle.std.proofs.Common.{◌≡◌, ◌≢◌, ◌⊎◌, ℕ, zero, suc, ◌+◌, ◌-◌, ◌<◌, ◌≤◌, Bool, true, false, ◌||◌, ℤ, pos, negsuc, List, [], ◌∷◌, ◌++◌, length, length-append, All, refl, sym, ap, subst, ◌∙◌, Option, Some, None, slice_get, inl, inr, ⊎_elim, option_to_list, arith}
+use Rattle.std.proofs.Common.{◌≡◌, ◌≢◌, ◌⊎◌, ℕ, zero, suc, ◌+◌, ◌-◌, ◌<◌, ◌≤◌, false, ℤ, pos, negsuc, List, [], ◌∷◌, ◌++◌, length, length-append, All, refl, sym, ap, subst, ◌∙◌, Option, Some, None, slice_get, inl, inr, ⊎_elim, arith}
 use Rattle.std.specs.List.{list_any}
 use Rattle.std.proofs.lemmas.Bool.{cases_lt, leb-false}
 use Rattle.std.proofs.lemmas.List.Elements.{All-append}
@@ -7,11 +7,11 @@ use Rattle.fx_base.specs.declared.mark.Mark.{Mark}
 use Rattle.fx_base.specs.declared.mark.Mark.TheVariants.{Registered, Submitted}
 use Rattle.fx_base.specs.declared.open_file.Closed.{Closed}
 use Rattle.fx_chain.specs.Answers.{is_bad_entry}
-use Rattle.fx_ring.specs.Ring.{RingState, IsRing, IsCounted, AreEntries}
+use Rattle.fx_ring.specs.Ring.{RingState, IsRing, IsCounted}
 use Rattle.fx_ring.specs.Registration.{file_listed, files_after, removed_by, removed_from, registered, updated, is_bad_file}
 use Rattle.fx_ring.proofs.Numbers.{or_left, or_right, good_files}
 use Rattle.fx_ring.proofs.Listed.{files_below, files_from}
-use Rattle.fx_ring.proofs.Rings.{only_one, entry_listed}
+use Rattle.fx_ring.proofs.Rings.{entry_listed}
 
 -- a file that the k-th list installed at its place i
 abbrev IsListed : ℕ → ℕ → ℕ → Closed → Type 0

@@ -1,5 +1,5 @@
 -- What the requests of a submission may close fits into a list, and a sort of completions is one of what they say.
-use Rattle.std.proofs.Common.{◌≡◌, ℕ, ◌+◌, ◌<◌, ◌≤◌, List, [], ◌∷◌, map, length, take, get_or, sum_by, ap, subst, sym, ◌∙◌, arith}
+use Rattle.std.proofs.Common.{◌≡◌, ℕ, ◌+◌, ◌<◌, ◌≤◌, List, [], ◌∷◌, map, length, take, get_or, sum_by, ap, arith}
 use Rattle.std.specs.List.Sorted.{IsNonDecreasingBy}
 use Rattle.std.proofs.lemmas.List.{get_or-map, length-map}
 use Rattle.std.proofs.lemmas.List.Sums.{sum_by_more_le}
@@ -28,7 +28,8 @@ one_more_fits requests i x inside is accepted =
     let few = few_closes requests accepted in
     omega arith
 
-pub IsNonDecreasingBy-map : {X Y : Type 0} (f : X → Y) (n : Y → ℕ) (xs : List X) → IsNonDecreasingBy (λ x. n (f x)) xs → IsNonDecreasingBy n (map f xs)
+pub IsNonDecreasingBy-map : {X Y : Type 0} (f : X → Y) (n : Y → ℕ) (xs : List X) → IsNonDecreasingBy (λ x. n (f x)) xs
+    → IsNonDecreasingBy n (map f xs)
 IsNonDecreasingBy-map f n [] rises i j d low inside = absurd (omega arith)
 IsNonDecreasingBy-map f n (x ∷ xs) rises i j d low inside =
     let len = length-map (x ∷ xs) f in

@@ -1,11 +1,9 @@
 -- What a crew has come to, as its passes and outcomes say it once they lie in lists of their own.
-use Rattle.std.proofs.Common.{◌≡◌, ℕ, ◌+◌, ◌≤◌, List, [], ◌∷◌, ◌++◌, map, flat_map, reverse, length, All, true, sum_by, refl, sym, ap, subst, ◌∙◌, arith, vec_len, vec_capacity}
-use Rattle.std.specs.List.Sorted.{IsPermutation}
+use Rattle.std.proofs.Common.{◌≡◌, ℕ, List, [], ◌∷◌, ◌++◌, map, flat_map, reverse, length, All, true, sum_by, refl, sym, ap, ◌∙◌, arith}
 use Rattle.std.proofs.lemmas.List.{length-map, reverse-reverse, map-append}
 use Rattle.std.proofs.lemmas.Simd.{map-map}
 use Rattle.std.proofs.lemmas.List.Concat.{length-flat_map}
 use Rattle.std.proofs.lemmas.List.Elements.{All-map}
-use Rattle.fx_base.specs.CloseListView.{CloseListView}
 use Rattle.fx_base.specs.declared.open_file.Closed.{Closed}
 use Rattle.fx_base.specs.Catalogue.{FileEntry}
 use Rattle.fx_plain.specs.Contents.{Contents}
@@ -13,7 +11,7 @@ use Rattle.fx_table.specs.Closing.{ClosesTable}
 use Rattle.fx_table.specs.Opening.{Opening, size_of}
 use Rattle.fx_table.specs.Pass.{PassView, new_passes}
 use Rattle.fx_table.proofs.SumLemmas.{sum_reverse}
-use Rattle.fx_chain.specs.Completed.{Completed, all_completed, completed_of}
+use Rattle.fx_chain.specs.Completed.{all_completed, completed_of}
 use Rattle.fx_chain.specs.Accepted.{members_of}
 use Rattle.fx_chain.specs.Operation.{all_asked}
 use Rattle.fx_chain.specs.Runs.{runs_of}
@@ -46,7 +44,8 @@ module _ {P : Type 0} (V : P → PassView) where
   abbrev pub states : List (Worker P) → List WorkerState
   states ws = map state_of_worker ws
 
-  pub scattered_views : (ws : List (Worker P)) (ps : List P) → ps ≡ reverse (map (λ w. w.pass) ws) → map (λ p. V p) ps ≡ reverse (map pass_of (states ws))
+  pub scattered_views : (ws : List (Worker P)) (ps : List P) → ps ≡ reverse (map (λ w. w.pass) ws)
+      → map (λ p. V p) ps ≡ reverse (map pass_of (states ws))
   scattered_views ws ps is =
       ap (map V) is ∙ (map_reversed V (map (λ w. w.pass) ws) ∙ ap reverse (map-map V (λ w. w.pass) ws ∙ sym (map-map pass_of state_of_worker ws)))
 
@@ -61,7 +60,8 @@ module _ {P : Type 0} (V : P → PassView) where
         ∙ (map_parts completed_of (λ w. w.completions.items) ws ∙ sym (mapped_parts completed_by state_of_worker ws)))
 
     pub files_joined : flat_map files_of (reverse outcomes) ≡ flat_map closed_by_worker (states ws)
-    files_joined = ap (flat_map files_of) turned ∙ (mapped_parts files_of (λ w. outcome_of w) ws ∙ sym (mapped_parts closed_by_worker state_of_worker ws))
+    files_joined = ap (flat_map files_of) turned
+        ∙ (mapped_parts files_of (λ w. outcome_of w) ws ∙ sym (mapped_parts closed_by_worker state_of_worker ws))
 
     pub as_many_completions : sum_by (λ outcome. length outcome.completions.items) outcomes ≡ length (flat_map completed_by (states ws))
     as_many_completions =
@@ -79,7 +79,8 @@ module _ {P : Type 0} (V : P → PassView) where
         omega arith
 
   -- a crew has played, once its passes are back: what each worker did is known, and each was told that no chains are left
-  module _ (catalogue : List FileEntry) (submission : ℕ) (requests : List Request) (chains : List Chain) (o : Opening) (ps : List P) (begun ws : List (Worker P)) (back : List P) (left : Contents)
+  module _ (catalogue : List FileEntry) (submission : ℕ) (requests : List Request) (chains : List Chain) (o : Opening)
+      (ps : List P) (begun ws : List (Worker P)) (back : List P) (left : Contents)
       (members : map (members_of (all_asked requests)) chains ≡ runs_of (all_asked requests)) (count : o.chains ≡ length chains)
       (new : map (λ p. V p) ps ≡ new_passes o.passes) (gathered : map (λ w. w.pass) begun ≡ reverse ps)
       (numbers : map (λ w. (V w.pass).number) ws ≡ map (λ w. (V w.pass).number) begun) (scattered : back ≡ reverse (map (λ w. w.pass) ws)) where

@@ -1,5 +1,5 @@
 -- What an update comes to, as its calls make it.
-use Rattle.std.proofs.Common.{◌≡◌, ℕ, ◌+◌, ◌≤◌, ℤ, List, [], ◌++◌, length, false, refl, sym, ap, subst, ◌∙◌, Option, arith, IsPermutation, append-nil}
+use Rattle.std.proofs.Common.{◌≡◌, ℕ, ◌+◌, ◌≤◌, ℤ, List, [], ◌++◌, length, false, sym, ap, subst, ◌∙◌, Option, arith, IsPermutation}
 use Rattle.std.specs.List.{list_any}
 use Rattle.fx_base.specs.CloseListView.{CloseListView}
 use Rattle.fx_base.specs.CloseList.{IsInOrderOfMark}
@@ -7,7 +7,7 @@ use Rattle.fx_base.specs.declared.open_file.Closed.{Closed}
 use Rattle.fx_plain.specs.State.{State, opening}
 use Rattle.fx_plain.specs.Contents.{state_of}
 use Rattle.fx_chain.specs.Answers.{is_bad_entry}
-use Rattle.fx_ring.specs.Ring.{RingContents, RingState, IsRing, HasClosed, AreEntries, ring_of, with_table}
+use Rattle.fx_ring.specs.Ring.{RingContents, IsRing, HasClosed, AreEntries, ring_of, with_table}
 use Rattle.fx_ring.specs.Registration.{files_after, removed_from, updated}
 use Rattle.fx_ring.specs.Slots.{SetsFiles, files_at}
 use Rattle.fx_ring.proofs.Origins.{updated_rings, removed_entries, few_removed}

@@ -1,6 +1,5 @@
 -- What workers come to, as lists that have their room from the start.
 use Rattle.std.specs.Prelude.{◌≡◌, ◌≤◌, ℕ, List, [], length, All, vec_capacity}
-use Rattle.fx_base.specs.CloseListView.{CloseListView}
 use Rattle.fx_chain.specs.Operation.{Asked}
 use Rattle.fx_chain.specs.Weights.{all_weights}
 use Rattle.fx_ring.specs.declared.crew.Outcome.{Outcome}

@@ -1,4 +1,4 @@
-use Rattle.std.proofs.Common.{◌≡◌, ◌+◌, ℕ, ℤ, List, true, pos, to_z, of_z, w32, length, slice_index_or, take, sym, ap, subst, ◌∙◌, rules, arith}
+use Rattle.std.proofs.Common.{◌≡◌, ◌+◌, ℕ, ℤ, List, pos, to_z, of_z, w32, length, slice_index_or, take, ap, subst, ◌∙◌, rules, arith}
 use Rattle.std.proofs.Math.Seq.{take-length}
 use Rattle.fx_plain.specs.Contents.{state_of}
 use Rattle.fx_ring.specs.Registration.{files_after, removed_from}

@@ -1,9 +1,9 @@
-use Rattle.std.proofs.Common.{◌≡◌, ◌+◌, ◌*◌, ◌≤◌, ℕ, [], Option, None, length, refl, sym, ap, subst, ◌∙◌, rules, arith}
+use Rattle.std.proofs.Common.{◌≡◌, ◌*◌, ℕ, Option, length, ap, ◌∙◌, arith}
 use Rattle.fx_base.specs.declared.open_file.Closed.{Closed}
-use Rattle.fx_plain.specs.State.{State, opening, vacant}
-use Rattle.fx_plain.specs.Contents.{Contents, state_of}
+use Rattle.fx_plain.specs.State.{State}
+use Rattle.fx_plain.specs.Contents.{state_of}
 use Rattle.fx_ring.specs.Registration.{files_after, removed_from}
-use Rattle.fx_ring.specs.Slots.{AreFresh, files_at}
+use Rattle.fx_ring.specs.Slots.{files_at}
 use Rattle.fx_ring.proofs.Numbers.{good_files}
 use Rattle.fx_ring.proofs.Origins.{none_removed}
 use Rattle.fx_ring.proofs.Rings.{opening_settled, opening_files, opening_fresh, vacant_settled, vacant_empty, vacant_files}

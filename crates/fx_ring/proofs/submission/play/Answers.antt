@@ -1,4 +1,4 @@
-use Rattle.std.proofs.Common.{◌≡◌, ℕ, ◌+◌, ap, subst}
+use Rattle.std.proofs.Common.{◌+◌, ap, subst}
 use Rattle.fx_plain.specs.Contents.{Contents}
 use Rattle.fx_table.specs.Opening.{Opening}
 use Rattle.fx_chain.specs.Operation.{all_asked}

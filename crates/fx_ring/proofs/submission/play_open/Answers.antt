@@ -1,10 +1,10 @@
-use Rattle.std.proofs.Common.{◌≡◌, ℕ, ◌≤◌, ◌+◌, All, List, [], ◌++◌, map, flat_map, length, reverse, sym, ap, subst, refl, ◌∙◌, arith, vec_capacity}
+use Rattle.std.proofs.Common.{◌≡◌, ◌+◌, List, ◌++◌, flat_map, length, reverse, sym, ap, subst, ◌∙◌, arith}
 use Rattle.fx_table.specs.Pass.{PassView, IsIdle}
 use Rattle.fx_table.specs.Opening.{Opening, size_of}
 use Rattle.fx_chain.specs.Operation.{Asked, all_asked}
 use Rattle.fx_chain.specs.Runs.{runs_of}
 use Rattle.fx_chain.specs.Completed.{Completed, all_completed}
-use Rattle.fx_ring.specs.Outcomes.{HasRoomFor, outcome_of}
+use Rattle.fx_ring.specs.Outcomes.{HasRoomFor}
 use Rattle.fx_ring.proofs.Gathered.{IsNew, all_gathered, all_scattered, all_new, all_idle, as_many_passes, new_has_worked, new_has_room, runs_have_all, runs_weigh_all, runs_are_short}
 use Rattle.fx_ring.specs.Ring.{ring_with}
 use Rattle.fx_ring.specs.Submission.{IsOneHistory, Reported}
@@ -35,14 +35,17 @@ work_crew-requires-clause-idle g c κs within =
 
 pub work_crew-requires-clause-worked : goal.work_crew-requires-clause-worked
 work_crew-requires-clause-worked g c κs within =
-    let new = all_gathered (λ p. IsNew (g.T.FileTable.view p)) _ _ _ c.gather.ensures.passes (all_new g.T.FileTable.view c.args.passes.items _ c.requires.new) in
+    let new = all_gathered (λ p. IsNew (g.T.FileTable.view p)) _ _ _ c.gather.ensures.passes
+    (all_new g.T.FileTable.view c.args.passes.items _ c.requires.new) in
     let room = all_gathered (HasRoomFor (all_asked c.args.requests.now)) _ _ _ c.gather.ensures.outcomes c.requires.room.outcomes in
-    λ k d l. new_has_worked c.args.catalogue.now (size_of (g.T.FileTable.opening c.args.table)) (c.args.submissions + 1) (runs_of (all_asked c.args.requests.now))
+    λ k d l. new_has_worked c.args.catalogue.now (size_of (g.T.FileTable.opening c.args.table)) (c.args.submissions + 1)
+    (runs_of (all_asked c.args.requests.now))
     _ _ _ (new k d l) (room k d l)
 
 pub work_crew-requires-clause-room : goal.work_crew-requires-clause-room
 work_crew-requires-clause-room g c κs within =
-    let new = all_gathered (λ p. IsNew (g.T.FileTable.view p)) _ _ _ c.gather.ensures.passes (all_new g.T.FileTable.view c.args.passes.items _ c.requires.new) in
+    let new = all_gathered (λ p. IsNew (g.T.FileTable.view p)) _ _ _ c.gather.ensures.passes
+    (all_new g.T.FileTable.view c.args.passes.items _ c.requires.new) in
     let room = all_gathered (HasRoomFor (all_asked c.args.requests.now)) _ _ _ c.gather.ensures.outcomes c.requires.room.outcomes in
     λ k d l. new_has_room _ _ (all_asked c.args.requests.now) c.requires.accepted (new k d l) (room k d l)
 
@@ -58,9 +61,9 @@ join-requires-clause-completions g c =
     let asked : List Asked = all_asked c.args.requests.now in
     let o : Opening = g.T.FileTable.opening c.args.table in
     let ws : List (Worker g.row.T-Pass.Denot) = c.work_crew.new.crew.items in
-    let played = crew_has_played V c.args.catalogue.now (c.args.submissions + 1) c.args.requests.now c.args.chains.now o c.args.passes.items c.gather.new.crew.items ws
-    c.scatter.new.passes.items c.close-left.result c.requires.members c.requires.chains c.requires.new c.gather.ensures.passes c.work_crew.ensures.numbers
-    c.scatter.ensures.passes c.work_crew.ensures.worked c.work_crew.ensures.all_drawn c.close-left.ensures in
+    let played = crew_has_played V c.args.catalogue.now (c.args.submissions + 1) c.args.requests.now c.args.chains.now o c.args.passes.items
+    c.gather.new.crew.items ws c.scatter.new.passes.items c.close-left.result c.requires.members c.requires.chains c.requires.new
+    c.gather.ensures.passes c.work_crew.ensures.numbers c.scatter.ensures.passes c.work_crew.ensures.worked c.work_crew.ensures.all_drawn c.close-left.ensures in
     let all = one_of_each c.args.catalogue.now (c.args.submissions + 1) (runs_of asked) o (states V ws) _ _ played in
     let sum = as_many_completions V ws c.scatter.new.outcomes.items c.scatter.ensures.outcomes in
     let have = runs_have_all asked in
@@ -75,9 +78,9 @@ join-requires-clause-closes g c =
     let asked : List Asked = all_asked c.args.requests.now in
     let o : Opening = g.T.FileTable.opening c.args.table in
     let ws : List (Worker g.row.T-Pass.Denot) = c.work_crew.new.crew.items in
-    let played = crew_has_played V c.args.catalogue.now (c.args.submissions + 1) c.args.requests.now c.args.chains.now o c.args.passes.items c.gather.new.crew.items ws
-    c.scatter.new.passes.items c.close-left.result c.requires.members c.requires.chains c.requires.new c.gather.ensures.passes c.work_crew.ensures.numbers
-    c.scatter.ensures.passes c.work_crew.ensures.worked c.work_crew.ensures.all_drawn c.close-left.ensures in
+    let played = crew_has_played V c.args.catalogue.now (c.args.submissions + 1) c.args.requests.now c.args.chains.now o c.args.passes.items
+    c.gather.new.crew.items ws c.scatter.new.passes.items c.close-left.result c.requires.members c.requires.chains c.requires.new
+    c.gather.ensures.passes c.work_crew.ensures.numbers c.scatter.ensures.passes c.work_crew.ensures.worked c.work_crew.ensures.all_drawn c.close-left.ensures in
     let few = closes_weigh c.args.catalogue.now (c.args.submissions + 1) (runs_of asked) o (states V ws) _ _ played in
     let sum = as_many_files V ws c.scatter.new.outcomes.items c.scatter.ensures.outcomes in
     let weigh = runs_weigh_all asked in
@@ -90,14 +93,16 @@ returns-clause-played g c =
     let asked : List Asked = all_asked c.args.requests.now in
     let o : Opening = g.T.FileTable.opening c.args.table in
     let ws : List (Worker g.row.T-Pass.Denot) = c.work_crew.new.crew.items in
-    let played = crew_has_played V c.args.catalogue.now (c.args.submissions + 1) c.args.requests.now c.args.chains.now o c.args.passes.items c.gather.new.crew.items ws
-    c.scatter.new.passes.items c.close-left.result c.requires.members c.requires.chains c.requires.new c.gather.ensures.passes c.work_crew.ensures.numbers
-    c.scatter.ensures.passes c.work_crew.ensures.worked c.work_crew.ensures.all_drawn c.close-left.ensures in
+    let played = crew_has_played V c.args.catalogue.now (c.args.submissions + 1) c.args.requests.now c.args.chains.now o c.args.passes.items
+    c.gather.new.crew.items ws c.scatter.new.passes.items c.close-left.result c.requires.members c.requires.chains c.requires.new
+    c.gather.ensures.passes c.work_crew.ensures.numbers c.scatter.ensures.passes c.work_crew.ensures.worked c.work_crew.ensures.all_drawn c.close-left.ensures in
     let completions : all_completed c.join.new.self.completions.items ≡ flat_map completed_by (states V ws) =
-    ap all_completed (c.join.ensures.completions ∙ ap (λ (l : List Completion). l ++ flat_map completions_of (reverse c.scatter.new.outcomes.items)) c.requires.room.all.no_completions)
+    ap all_completed (c.join.ensures.completions
+    ∙ ap (λ (l : List Completion). l ++ flat_map completions_of (reverse c.scatter.new.outcomes.items)) c.requires.room.all.no_completions)
     ∙ completions_joined V ws c.scatter.new.outcomes.items c.scatter.ensures.outcomes in
     let files : c.join.new.self.closes.files ≡ flat_map closed_by_worker (states V ws) =
-    c.join.ensures.closes ∙ (ap (λ (l : CloseListView). l.files ++ flat_map files_of (reverse c.scatter.new.outcomes.items)) c.requires.room.all.closes
+    c.join.ensures.closes
+    ∙ (ap (λ (l : CloseListView). l.files ++ flat_map files_of (reverse c.scatter.new.outcomes.items)) c.requires.room.all.closes
     ∙ files_joined V ws c.scatter.new.outcomes.items c.scatter.ensures.outcomes) in
     let one = one_history c.args.catalogue.now c.args.submissions asked o (states V ws) _ _ played
     (all_completed c.sort.new.self.completions.items) c.sort.new.self.closes

@@ -1,9 +1,8 @@
-use Rattle.std.proofs.Common.{◌≡◌, ◌+◌, ◌<◌, ℕ, ap, sym, subst, refl, ◌∙◌, false, length, rules, arith, Option, None}
+use Rattle.std.proofs.Common.{◌≡◌, ◌+◌, ◌<◌, ap, sym, subst, ◌∙◌, false, length, rules, arith, None}
 use Rattle.std.specs.List.{list_any}
-use Rattle.fx_base.specs.declared.open_file.Closed.{Closed}
-use Rattle.fx_plain.specs.State.{State, IsSettled}
+use Rattle.fx_plain.specs.State.{IsSettled}
 use Rattle.fx_plain.specs.Contents.{Contents, state_of}
-use Rattle.fx_ring.specs.Ring.{RingContents, RingState, IsRing, ring_of}
+use Rattle.fx_ring.specs.Ring.{RingContents, IsRing, ring_of}
 use Rattle.fx_ring.specs.Registration.{registered, is_bad_file, files_after}
 use Rattle.fx_ring.specs.Slots.{files_at}
 use Rattle.fx_ring.proofs.Origins.{registered_rings}

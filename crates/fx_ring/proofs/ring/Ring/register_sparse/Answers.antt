@@ -1,6 +1,6 @@
 use Rattle.std.proofs.Common.{◌≡◌, ap, sym, subst, refl, ◌∙◌}
 use Rattle.fx_plain.specs.State.{State, IsSettled, vacant}
-use Rattle.fx_plain.specs.Contents.{Contents, state_of}
+use Rattle.fx_plain.specs.Contents.{state_of}
 use Rattle.fx_plain.specs.Table.{identity_of}
 use Rattle.fx_ring.specs.Ring.{RingContents, ring_of, with_table}
 use Rattle.fx_ring.specs.Registration.{registered_sparse}

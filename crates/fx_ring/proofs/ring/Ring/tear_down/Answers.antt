@@ -1,5 +1,4 @@
-use Rattle.std.proofs.Common.{◌≡◌, [], ap, sym, subst, refl, ◌∙◌, ◌++◌, List, rules}
-use Rattle.fx_base.specs.declared.open_file.Closed.{Closed}
+use Rattle.std.proofs.Common.{◌≡◌, subst, rules}
 use Rattle.fx_plain.specs.State.{files_of}
 use Rattle.fx_plain.specs.Contents.{state_of}
 use Rattle.fx_ring.specs.Ring.{RingContents, AreEntries, HasClosed, files_of as files_of_ring, ring_of}

@@ -1,5 +1,4 @@
-use Rattle.std.proofs.Common.{◌≡◌, [], ap, sym, subst, refl, ◌∙◌, ◌++◌, List, rules}
-use Rattle.fx_base.specs.declared.open_file.Closed.{Closed}
+use Rattle.std.proofs.Common.{◌≡◌, ap, subst, ◌∙◌, rules}
 use Rattle.fx_plain.specs.State.{State, files_of}
 use Rattle.fx_plain.specs.Contents.{state_of}
 use Rattle.fx_plain.specs.Table.{identity_of}

@@ -1,4 +1,4 @@
-use Rattle.std.proofs.Common.{◌≡◌, ◌+◌, ◌<◌, ◌≤◌, ℕ, [], ap, sym, subst, refl, ◌∙◌, false, length, rules, arith, Option}
+use Rattle.std.proofs.Common.{◌≡◌, ◌+◌, ◌<◌, [], ap, subst, ◌∙◌, false, length, rules, arith}
 use Rattle.std.specs.List.{list_any}
 use Rattle.fx_plain.specs.Contents.{state_of}
 use Rattle.fx_chain.specs.Answers.{is_bad_entry}
