@@ -1,0 +1,102 @@
+//! A gate that notes its calls.
+use fx_chain::{Gate, Place};
+use std::alloc::{AllocError, Global};
+use std::process::Abort;
+use std::sync::atomic::{AtomicU32, Ordering};
+
+// The gate's calls for a member of a chain: how often each was called, and as which call of the gate, from 1.
+#[derive(Drop)]
+struct Noted {
+    before: AtomicU32,
+    before_at: AtomicU32,
+    after: AtomicU32,
+    after_at: AtomicU32,
+}
+
+/// A gate of the first submission that notes how often it is called for each member, and in which order.
+#[derive(Drop)]
+pub(crate) struct Calls {
+    chains: Vec<Vec<Noted>>,
+    made: AtomicU32,
+    elsewhere: AtomicU32,
+}
+
+fn is_noted(count: &AtomicU32, at: &AtomicU32, made: u32) {
+    count.fetch_add(1, Ordering::SeqCst);
+    at.store(made.wrapping_add(1), Ordering::SeqCst);
+}
+
+impl Calls {
+    /// A gate of chains with so many members each.
+    pub(crate) fn new(alloc: Global, members: &[u32]) -> Result<Calls, AllocError> {
+        let mut chains = Vec::new(alloc);
+        for count in members {
+            let mut chain = Vec::new(alloc);
+            for _ in 0..*count {
+                chain.push(Noted {
+                    before: AtomicU32::new(0),
+                    before_at: AtomicU32::new(0),
+                    after: AtomicU32::new(0),
+                    after_at: AtomicU32::new(0),
+                })?;
+            }
+            chains.push(chain)?;
+        }
+        Ok(Calls {
+            chains,
+            made: AtomicU32::new(0),
+            elsewhere: AtomicU32::new(0),
+        })
+    }
+
+    fn noted(&self, place: Place) -> Option<&Noted> {
+        if place.submission != 1 {
+            return None;
+        }
+        let chain = self.chains.get((place.chain as usize).checked_sub(1)?)?;
+        chain.get((place.member as usize).checked_sub(1)?)
+    }
+
+    /// The first so many members of each chain were started: the gate was called once in front of each and once behind
+    /// it, in their order. For the others it was never called.
+    pub(crate) fn expect<R: Abort>(&self, rt: &R, started: &[u32]) {
+        assert_eq!(rt; self.elsewhere.load(Ordering::SeqCst), 0);
+        assert_eq!(rt; self.chains.len(), started.len());
+        for (chain, count) in self.chains.iter().zip(started) {
+            let mut last = 0;
+            for (i, noted) in chain.iter().enumerate() {
+                let times = if i < *count as usize { 1 } else { 0 };
+                assert_eq!(rt; noted.before.load(Ordering::SeqCst), times);
+                assert_eq!(rt; noted.after.load(Ordering::SeqCst), times);
+                if times == 1 {
+                    let before = noted.before_at.load(Ordering::SeqCst);
+                    let after = noted.after_at.load(Ordering::SeqCst);
+                    assert!(rt; last < before && before < after);
+                    last = after;
+                }
+            }
+        }
+    }
+}
+
+impl Gate for Calls {
+    fn before(&self, place: Place) {
+        let made = self.made.fetch_add(1, Ordering::SeqCst);
+        match self.noted(place) {
+            Some(noted) => is_noted(&noted.before, &noted.before_at, made),
+            None => {
+                self.elsewhere.fetch_add(1, Ordering::SeqCst);
+            }
+        }
+    }
+
+    fn after(&self, place: Place) {
+        let made = self.made.fetch_add(1, Ordering::SeqCst);
+        match self.noted(place) {
+            Some(noted) => is_noted(&noted.after, &noted.after_at, made),
+            None => {
+                self.elsewhere.fetch_add(1, Ordering::SeqCst);
+            }
+        }
+    }
+}

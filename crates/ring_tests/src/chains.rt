@@ -1,0 +1,203 @@
+//! Chains of linked requests: what severs them, and for which members the gate is called. The values were worked out by
+//! hand.
+use crate::calls::Calls;
+use crate::setting::{
+    WORKERS, close, expect_closed, expect_completed, expect_left, full_ring, linked, open_at,
+    opened, read, registered, sparse_ring, submit, submit_with, update, updated,
+};
+use std::test::Fail;
+
+#[test]
+fn every_member_of_a_whole_chain_is_started(rt: HostRuntime) -> Result<(), Fail> {
+    let alloc = rt.alloc();
+    let open = linked(open_at(alloc, "a.txt", 0)?);
+    let requests = [open, linked(read(0, 0, 5)), close(0)];
+    for workers in WORKERS {
+        let calls = Calls::new(alloc, &[3])?;
+        let mut ring = sparse_ring(&rt, alloc, 2)?;
+        let report = submit_with(&rt, alloc, &mut ring, &requests, workers, &calls);
+        let completed = [(1, 1, 0, ""), (1, 2, 5, "hello"), (1, 3, 0, "")];
+        expect_completed(&rt, &report, 1, &completed);
+        expect_closed(&rt, &report, &[opened(1, 1, 1, 0)]);
+        calls.expect(&rt, &[3]);
+        expect_left(&rt, alloc, ring, &[]);
+    }
+    Ok(())
+}
+
+#[test]
+fn short_read_severs(rt: HostRuntime) -> Result<(), Fail> {
+    let alloc = rt.alloc();
+    let open = linked(open_at(alloc, "a.txt", 0)?);
+    let requests = [open, linked(read(0, 0, 6)), close(0)];
+    for workers in WORKERS {
+        let calls = Calls::new(alloc, &[3])?;
+        let mut ring = sparse_ring(&rt, alloc, 2)?;
+        let report = submit_with(&rt, alloc, &mut ring, &requests, workers, &calls);
+        let completed = [(1, 1, 0, ""), (1, 2, 5, "hello"), (1, 3, -125, "")];
+        expect_completed(&rt, &report, 1, &completed);
+        expect_closed(&rt, &report, &[]);
+        calls.expect(&rt, &[2]);
+        expect_left(&rt, alloc, ring, &[opened(1, 1, 1, 0)]);
+    }
+    Ok(())
+}
+
+#[test]
+fn read_at_the_end_severs(rt: HostRuntime) -> Result<(), Fail> {
+    let alloc = rt.alloc();
+    for off in [5, 2_147_483_647] {
+        let open = linked(open_at(alloc, "a.txt", 0)?);
+        let requests = [open, linked(read(0, off, 1)), close(0)];
+        for workers in WORKERS {
+            let calls = Calls::new(alloc, &[3])?;
+            let mut ring = sparse_ring(&rt, alloc, 1)?;
+            let report = submit_with(&rt, alloc, &mut ring, &requests, workers, &calls);
+            let completed = [(1, 1, 0, ""), (1, 2, 0, ""), (1, 3, -125, "")];
+            expect_completed(&rt, &report, 1, &completed);
+            expect_closed(&rt, &report, &[]);
+            calls.expect(&rt, &[2]);
+            expect_left(&rt, alloc, ring, &[opened(1, 1, 1, 0)]);
+        }
+    }
+    Ok(())
+}
+
+#[test]
+fn read_of_no_bytes_severs_nothing(rt: HostRuntime) -> Result<(), Fail> {
+    let alloc = rt.alloc();
+    let requests = [linked(read(0, 2_147_483_647, 0)), close(0)];
+    for workers in WORKERS {
+        let calls = Calls::new(alloc, &[2])?;
+        let mut ring = full_ring(&rt, alloc, &[1])?;
+        let report = submit_with(&rt, alloc, &mut ring, &requests, workers, &calls);
+        expect_completed(&rt, &report, 1, &[(1, 1, 0, ""), (1, 2, 0, "")]);
+        expect_closed(&rt, &report, &[registered(1, 0, 1)]);
+        calls.expect(&rt, &[2]);
+        expect_left(&rt, alloc, ring, &[]);
+    }
+    Ok(())
+}
+
+#[test]
+fn close_of_an_empty_slot_severs(rt: HostRuntime) -> Result<(), Fail> {
+    let alloc = rt.alloc();
+    let requests = [
+        linked(open_at(alloc, "a.txt", 0)?),
+        linked(close(0)),
+        linked(close(0)),
+        linked(read(0, 0, 1)),
+        close(0),
+    ];
+    let completed = [
+        (1, 1, 0, ""),
+        (1, 2, 0, ""),
+        (1, 3, -9, ""),
+        (1, 4, -125, ""),
+        (1, 5, -125, ""),
+    ];
+    for workers in WORKERS {
+        let calls = Calls::new(alloc, &[5])?;
+        let mut ring = sparse_ring(&rt, alloc, 1)?;
+        let report = submit_with(&rt, alloc, &mut ring, &requests, workers, &calls);
+        expect_completed(&rt, &report, 1, &completed);
+        expect_closed(&rt, &report, &[opened(1, 1, 1, 0)]);
+        calls.expect(&rt, &[3]);
+        expect_left(&rt, alloc, ring, &[]);
+    }
+    Ok(())
+}
+
+#[test]
+fn other_chains_go_on(rt: HostRuntime) -> Result<(), Fail> {
+    let alloc = rt.alloc();
+    let requests = [
+        linked(update(alloc, 0, &[9])?),
+        close(0),
+        linked(open_at(alloc, "b.txt", 1)?),
+        linked(read(1, 0, 2)),
+        close(1),
+        linked(open_at(alloc, "c.txt", 2)?),
+        linked(close(2)),
+        close(2),
+        read(3, 0, 1),
+    ];
+    let completed = [
+        (1, 1, -9, ""),
+        (1, 2, -125, ""),
+        (2, 1, 0, ""),
+        (2, 2, 2, "hi"),
+        (2, 3, 0, ""),
+        (3, 1, -2, ""),
+        (3, 2, -125, ""),
+        (3, 3, -125, ""),
+        (4, 1, 1, "h"),
+    ];
+    for workers in WORKERS {
+        let calls = Calls::new(alloc, &[2, 3, 3, 1])?;
+        let mut ring = full_ring(&rt, alloc, &[0, -1, -1, 0])?;
+        let report = submit_with(&rt, alloc, &mut ring, &requests, workers, &calls);
+        expect_completed(&rt, &report, 1, &completed);
+        expect_closed(&rt, &report, &[opened(1, 2, 1, 1)]);
+        calls.expect(&rt, &[1, 3, 1, 1]);
+        expect_left(
+            &rt,
+            alloc,
+            ring,
+            &[registered(1, 0, 0), registered(1, 3, 0)],
+        );
+    }
+    Ok(())
+}
+
+#[test]
+fn link_ends_with_the_submission(rt: HostRuntime) -> Result<(), Fail> {
+    let alloc = rt.alloc();
+    let first = [linked(open_at(alloc, "a.txt", 0)?)];
+    let second = [read(0, 0, 5)];
+    for workers in WORKERS {
+        let mut ring = sparse_ring(&rt, alloc, 1)?;
+        let report = submit(&rt, alloc, &mut ring, &first, workers);
+        expect_completed(&rt, &report, 1, &[(1, 1, 0, "")]);
+        expect_closed(&rt, &report, &[]);
+        let report = submit(&rt, alloc, &mut ring, &second, workers);
+        expect_completed(&rt, &report, 2, &[(1, 1, 5, "hello")]);
+        expect_closed(&rt, &report, &[]);
+        expect_left(&rt, alloc, ring, &[opened(1, 1, 1, 0)]);
+    }
+    Ok(())
+}
+
+#[test]
+fn files_are_replaced_in_a_chain(rt: HostRuntime) -> Result<(), Fail> {
+    let alloc = rt.alloc();
+    let requests = [
+        linked(update(alloc, 0, &[1])?),
+        linked(read(0, 0, 2)),
+        linked(open_at(alloc, "a.txt", 0)?),
+        linked(read(0, 0, 2)),
+        linked(open_at(alloc, "b.txt", 0)?),
+        read(0, 0, 2),
+    ];
+    let completed = [
+        (1, 1, 1, ""),
+        (1, 2, 2, "hi"),
+        (1, 3, 0, ""),
+        (1, 4, 2, "he"),
+        (1, 5, 0, ""),
+        (1, 6, 2, "hi"),
+    ];
+    let closed = [
+        registered(1, 0, 0),
+        updated(1, 1, 1, 0, 1),
+        opened(1, 1, 3, 0),
+    ];
+    for workers in WORKERS {
+        let mut ring = full_ring(&rt, alloc, &[0])?;
+        let report = submit(&rt, alloc, &mut ring, &requests, workers);
+        expect_completed(&rt, &report, 1, &completed);
+        expect_closed(&rt, &report, &closed);
+        expect_left(&rt, alloc, ring, &[opened(1, 1, 5, 1)]);
+    }
+    Ok(())
+}

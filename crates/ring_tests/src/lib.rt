@@ -1,0 +1,21 @@
+//! Submissions to a table that threads share. What a submission answers is the contract of `Ring::submit`; these tests
+//! show what it can't say: that there is a report at all, that threads run beside each other, and that the clauses say
+//! what was meant.
+#![tactic(auto)]
+
+#[cfg(test)]
+mod beside;
+#[cfg(test)]
+mod calls;
+#[cfg(test)]
+mod chains;
+#[cfg(test)]
+mod largest;
+#[cfg(test)]
+mod refused;
+#[cfg(test)]
+mod refusing;
+#[cfg(test)]
+mod requests;
+#[cfg(test)]
+mod setting;
