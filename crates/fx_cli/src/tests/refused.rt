@@ -1,10 +1,6 @@
 // Submissions that are refused, each by its line, and scripts that are.
 use super::playing::{played_at, plays};
-use bitflags::Flags;
-use fx_base::Catalogue;
-use fx_baton::BatonTable;
-use fx_chain::{CutFault, CutKind, Op, OpenGate, Request, SqeFlags};
-use fx_ring::{Ring, SubmitFault};
+use fx_chain::OpenGate;
 use fx_script::{PlayFault, ScriptFault};
 use std::alloc::{AllocError, Global};
 use std::test::Fail;
@@ -42,39 +38,6 @@ fn refused_submissions_by_name_and_place(rt: HostRuntime) -> Result<(), Fail> {
         plays(&rt, alloc, script.as_str(), text.as_str());
     }
     Ok(())
-}
-
-#[test]
-fn no_workers_and_seventeen(rt: HostRuntime) {
-    let alloc = rt.alloc();
-    let mut ring = Ring::new(alloc, Catalogue::new(alloc));
-    for workers in [0, 17, u32::MAX] {
-        let submitted = ring.submit::<BatonTable, _, _>(&rt, alloc, &[], workers, &OpenGate);
-        assert!(rt; matches!(submitted, Err(SubmitFault::Workers)), "{workers}");
-    }
-    assert_eq!(rt; ring.submissions(), 0);
-    ring.abandon();
-}
-
-#[test]
-fn a_read_that_names_no_slot(rt: HostRuntime) {
-    let alloc = rt.alloc();
-    let mut ring = Ring::new(alloc, Catalogue::new(alloc));
-    let read = Request {
-        op: Op::Read {
-            slot: 0,
-            off: 0,
-            len: 0,
-        },
-        flags: SqeFlags::empty(),
-    };
-    let submitted = ring.submit::<BatonTable, _, _>(&rt, alloc, &[read], 1, &OpenGate);
-    let fault = CutFault {
-        at: 1,
-        kind: CutKind::BadFlags,
-    };
-    assert!(rt; matches!(submitted, Err(SubmitFault::Cut(found)) if found == fault));
-    ring.abandon();
 }
 
 #[test]
