@@ -1,5 +1,6 @@
 // The script that opens, reads and closes, cut behind each of its bytes.
 use super::playing::{OPEN_READ_CLOSE, OPEN_READ_CLOSE_TEXT, played_at};
+use crate::arguments::Table;
 use fx_chain::OpenGate;
 use fx_script::PlayFault;
 
@@ -17,7 +18,7 @@ fn text_of(count: usize) -> Option<&'static str> {
 fn open_read_close_cut_behind_each_byte(rt: HostRuntime) {
     for count in 0..=83 {
         let script = &OPEN_READ_CLOSE.as_bytes()[..count];
-        let (written, ended) = played_at(&rt, rt.alloc(), 1, &OpenGate, script);
+        let (written, ended) = played_at(&rt, rt.alloc(), Table::Words, 1, &OpenGate, script);
         match text_of(count) {
             Some(text) => {
                 assert_eq!(rt; ended, Ok(()), "{count}");

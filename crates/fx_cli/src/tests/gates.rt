@@ -1,9 +1,13 @@
 // Workers that hold each other at a gate.
 use super::playing::played_at;
+use crate::arguments::Table;
 use fx_chain::{Gate, Place};
+use std::alloc::Global;
 use std::process::Abort;
+use std::sync::Wait;
 use std::sync::atomic::{AtomicU32, Ordering};
 use std::thread;
+use std::thread::Threads;
 
 // How often a worker looks for another one.
 const MOST_TURNS: u32 = 50_000_000;
@@ -56,24 +60,79 @@ fn late<R: Abort>(rt: &R, gate: Meeting, written: &[u8], ended: bool) -> u32 {
     gate.late.load(Ordering::SeqCst)
 }
 
-#[test]
-fn two_workers_meet(rt: HostRuntime) {
+// How many workers waited in vain for the third members of the two chains.
+fn waited<R: Threads + Wait + Abort + Sync>(
+    rt: &R,
+    alloc: Global,
+    table: Table,
+    workers: u32,
+) -> u32 {
     let gate = Meeting {
         came: AtomicU32::new(0),
         late: AtomicU32::new(0),
     };
-    let (written, ended) = played_at(&rt, rt.alloc(), 2, &gate, TWO_CHAINS.as_bytes());
-    assert_eq!(rt; late(&rt, gate, written.as_slice(), ended.is_ok()), 0);
+    let (written, ended) = played_at(rt, alloc, table, workers, &gate, TWO_CHAINS.as_bytes());
+    late(rt, gate, written.as_slice(), ended.is_ok())
+}
+
+#[test]
+fn two_workers_meet(rt: HostRuntime) {
+    assert_eq!(rt; waited(&rt, rt.alloc(), Table::Words, 2), 0);
+    assert_eq!(rt; waited(&rt, rt.alloc(), Table::Baton, 2), 0);
 }
 
 #[test]
 fn one_thread_plays_all(rt: HostRuntime) {
-    let gate = Meeting {
-        came: AtomicU32::new(0),
+    assert_eq!(rt; waited(&rt, rt.alloc(), Table::Words, 1), 1);
+    assert_eq!(rt; waited(&rt, rt.alloc(), Table::Baton, 1), 1);
+}
+
+// The first chain waits until the third one has completed.
+#[derive(Drop)]
+struct Third {
+    done: AtomicU32,
+    late: AtomicU32,
+}
+
+impl Gate for Third {
+    fn before(&self, place: Place) {
+        if place.chain == 1 && !comes(&self.done, 1) {
+            self.late.fetch_add(1, Ordering::SeqCst);
+        }
+    }
+
+    fn after(&self, place: Place) {
+        if place.chain == 3 {
+            self.done.store(1, Ordering::SeqCst);
+        }
+    }
+}
+
+// Whether the first of three chains waits in vain for the third one, on two workers.
+fn waits_in_vain<R: Threads + Wait + Abort + Sync>(rt: &R, alloc: Global, table: Table) -> bool {
+    let script = "file a.txt 68656c6c6f\nregister 0\nread 0 0 5\nread 0 0 5\nread 0 0 5\nsubmit\n";
+    let text = "register 0\n1.1.1 5 68656c6c6f\n1.2.1 5 68656c6c6f\n1.3.1 5 68656c6c6f\nteardown\n\
+         closed r1.0 a.txt\n";
+    let gate = Third {
+        done: AtomicU32::new(0),
         late: AtomicU32::new(0),
     };
-    let (written, ended) = played_at(&rt, rt.alloc(), 1, &gate, TWO_CHAINS.as_bytes());
-    assert_eq!(rt; late(&rt, gate, written.as_slice(), ended.is_ok()), 1);
+    let (written, ended) = played_at(rt, alloc, table, 2, &gate, script.as_bytes());
+    assert_eq!(rt; ended, Ok(()));
+    assert_eq!(rt; std::str::from_utf8(written.as_slice()), Ok(text));
+    gate.late.load(Ordering::SeqCst) == 1
+}
+
+// Over words the next chain goes to whoever is free.
+#[test]
+fn submit_shares_out_chains_itself(rt: HostRuntime) {
+    assert!(rt; !waits_in_vain(&rt, rt.alloc(), Table::Words));
+}
+
+// Behind one word the passes take turns: the first and the third chain are of one pass.
+#[test]
+fn passes_that_take_turns(rt: HostRuntime) {
+    assert!(rt; waits_in_vain(&rt, rt.alloc(), Table::Baton));
 }
 
 // The second chain updates the slot between the open and the read of the first one. The bits of `done` are the first member
@@ -111,12 +170,14 @@ fn an_update_between_an_open_and_its_read(rt: HostRuntime) {
          read 0 0 5\nupdate 0 1\nsubmit\n";
     let text = "sparse 0\n1.1.1 0\n1.1.2 2 6869\n1.2.1 1\nclosed 1.1.1.0 a.txt\nteardown\n\
          closed 1.2.1.0 b.txt\n";
-    let gate = Between {
-        done: AtomicU32::new(0),
-        late: AtomicU32::new(0),
-    };
-    let (written, ended) = played_at(&rt, rt.alloc(), 2, &gate, script.as_bytes());
-    assert_eq!(rt; ended, Ok(()));
-    assert_eq!(rt; std::str::from_utf8(written.as_slice()), Ok(text));
-    assert_eq!(rt; gate.late.load(Ordering::SeqCst), 0);
+    for table in [Table::Words, Table::Baton] {
+        let gate = Between {
+            done: AtomicU32::new(0),
+            late: AtomicU32::new(0),
+        };
+        let (written, ended) = played_at(&rt, rt.alloc(), table, 2, &gate, script.as_bytes());
+        assert_eq!(rt; ended, Ok(()));
+        assert_eq!(rt; std::str::from_utf8(written.as_slice()), Ok(text));
+        assert_eq!(rt; gate.late.load(Ordering::SeqCst), 0);
+    }
 }

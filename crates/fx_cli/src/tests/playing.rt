@@ -1,6 +1,8 @@
-// Scripts that are played by `run` over the table behind one word.
+// Scripts that are played by `run` over both tables.
+use crate::arguments::Table;
 use fx_baton::BatonTable;
 use fx_chain::{Gate, OpenGate};
+use fx_counted::CountedTable;
 use fx_script::{PlayFault, run};
 use std::alloc::Global;
 use std::io::{Read, Write};
@@ -25,10 +27,11 @@ pub fn ended<R: Threads + Wait + Sync, I: Read, W: Write>(
     run::<BatonTable, _, _, _, _>(rt, alloc, 1, &OpenGate, reader, writer)
 }
 
-/// What a script writes on so many workers, 1 to 16, at a gate, and how the run ends.
+/// What a script writes over a table on so many workers, 1 to 16, at a gate, and how the run ends.
 pub fn played_at<R: Threads + Wait + Sync, G: Gate>(
     rt: &R,
     alloc: Global,
+    table: Table,
     workers: u32,
     gate: &G,
     script: &[u8],
@@ -39,11 +42,15 @@ pub fn played_at<R: Threads + Wait + Sync, G: Gate>(
         1..=16 => workers,
         _ => 1,
     };
-    let ended = run::<BatonTable, _, _, _, _>(rt, alloc, workers, gate, &mut reader, &mut written);
+    let (input, output) = (&mut reader, &mut written);
+    let ended = match table {
+        Table::Words => run::<CountedTable, _, _, _, _>(rt, alloc, workers, gate, input, output),
+        Table::Baton => run::<BatonTable, _, _, _, _>(rt, alloc, workers, gate, input, output),
+    };
     (written, ended)
 }
 
-/// The script is played to its end on so many workers, and this text is what it writes.
+/// The script is played to its end over both tables on so many workers, and this text is what it writes.
 pub fn plays_on<R: Threads + Wait + Abort + Sync>(
     rt: &R,
     alloc: Global,
@@ -51,13 +58,15 @@ pub fn plays_on<R: Threads + Wait + Abort + Sync>(
     script: &str,
     text: &str,
 ) {
-    let (written, ended) = played_at(rt, alloc, workers, &OpenGate, script.as_bytes());
-    assert_eq!(rt; ended, Ok(()), "{workers}: {script}");
-    assert_eq!(rt;
-        std::str::from_utf8(written.as_slice()),
-        Ok(text),
-        "{workers}: {script}"
-    );
+    for table in [Table::Words, Table::Baton] {
+        let (written, ended) = played_at(rt, alloc, table, workers, &OpenGate, script.as_bytes());
+        assert_eq!(rt; ended, Ok(()), "{table:?}, {workers}: {script}");
+        assert_eq!(rt;
+            std::str::from_utf8(written.as_slice()),
+            Ok(text),
+            "{table:?}, {workers}: {script}"
+        );
+    }
 }
 
 /// The same on 1, 2, 3 and 16 workers.

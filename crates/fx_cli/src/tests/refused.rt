@@ -1,5 +1,6 @@
 // Submissions that are refused, each by its line, and scripts that are.
 use super::playing::{played_at, plays};
+use crate::arguments::Table;
 use fx_chain::OpenGate;
 use fx_script::{PlayFault, ScriptFault};
 use std::alloc::{AllocError, Global};
@@ -57,6 +58,7 @@ fn a_refused_script_writes_nothing(rt: HostRuntime) {
             let (written, ended) = played_at(
                 &rt,
                 rt.alloc(),
+                Table::Words,
                 workers,
                 &OpenGate,
                 script.as_bytes(),
