@@ -40,11 +40,11 @@ fn next(number: u32) -> u32 {
 // Which installation a file is of says nothing here.
 const MARK: Mark = Mark::Registered { k: 0, i: 0 };
 
-fn look<S: Subject, R: Wait>(rt: &R, subject: &S, pass: &mut S::Pass, job: Job, seed: u32)
+fn look<S: Subject, R: Wait>(rt: &R, subject: &S, pass: &mut S::Pass, job: Job, start: u32)
     requires { S.ready subject.now pass.old }
     ensures { S.ready subject.now pass.new }
 {
-    let mut random = seed;
+    let mut random = start;
     for _ in 0..job.times {
         random = next(random);
         subject.look(rt, pass, (random >> 16) & job.last_slot);
@@ -57,13 +57,13 @@ fn mix<S: Subject, R: Wait>(
     pass: &mut S::Pass,
     catalogue: &Catalogue,
     job: Job,
-    seed: u32,
+    start: u32,
 )
     requires ready { S.ready subject.now pass.old }
     requires entry { 0 < length catalogue.now }
     ensures { S.ready subject.now pass.new }
 {
-    let mut random = seed;
+    let mut random = start;
     for i in 0..job.times {
         random = next(random);
         let slot = (random >> 16) & job.last_slot;
@@ -129,10 +129,10 @@ fn do_job<S: Subject, R: Wait>(
     requires entry { 0 < length catalogue.now }
     ensures { S.ready subject.now pass.new }
 {
-    let seed = i.wrapping_mul(40_503).wrapping_add(1);
+    let start = i.wrapping_mul(40_503).wrapping_add(1);
     match job.work {
-        Work::Look => look(rt, subject, pass, job, seed),
-        Work::Mixed => mix(rt, subject, pass, catalogue, job, seed),
+        Work::Look => look(rt, subject, pass, job, start),
+        Work::Mixed => mix(rt, subject, pass, catalogue, job, start),
         Work::Chain => {
             if let Ok(mut into) = Vec::with_capacity(alloc, READ_LEN as usize) {
                 let first_slot = i.wrapping_mul(64);
