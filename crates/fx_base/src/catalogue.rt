@@ -19,7 +19,7 @@ pub const MOST_ENTRIES: usize = 256;
 /// How many bytes an entry may have.
 pub const LONGEST_ENTRY: usize = 4096;
 
-/// Why a file was not added, in the order in which the faults are looked for (this project's own).
+/// Why a file was not added, in the order in which the faults are looked for.
 #[derive(Clone, Copy, Debug, PartialEq, Eq)]
 pub enum AddFault {
     /// The catalogue has 256 entries.
@@ -169,7 +169,7 @@ impl Catalogue {
         part.len() as u32
     }
 
-    /// Adds an entry at the end. The others keep their places (this project's own).
+    /// Adds an entry at the end. The others keep their places.
     ///
     /// # Errors
     /// The first fault that applies, in the order of [`AddFault`]. The catalogue is then as before, and the name and

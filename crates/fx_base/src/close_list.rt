@@ -65,7 +65,7 @@ impl CloseList {
     /// Adds the files of another list at the end, in their order. They take as much of the room as there are files, and
     /// the other's room is given up. The caller has seen that there is room for all of them, as where
     /// [`CloseList::room`] is at least the number of the other's [`CloseList::files`], so it can't fail for want of
-    /// memory (this project's own).
+    /// memory.
     pub fn append(&mut self, other: CloseList)
         requires { length other.files ≤ self.old.room }
         ensures files { self.new.files ≡ self.old.files ++ other.files }
@@ -77,7 +77,7 @@ impl CloseList {
         self.room = room as u32;
     }
 
-    /// Orders the files by mark, in place. It can't fail for want of memory, and the room stays (this project's own).
+    /// Orders the files by mark, in place. It can't fail for want of memory, and the room stays.
     pub fn sort(&mut self)
         ensures same_files { IsPermutation self.old.files self.new.files }
         ensures in_order { IsInOrderOfMark self.new.files }

@@ -3,8 +3,7 @@ ghost use Rattle.std.specs.Prelude.{◌≡◌};
 use crate::mark::Mark;
 use std::marker::Model;
 
-/// What a list of closes says of a file: which installation it was, and the catalogue entry that it was opened from
-/// (this project's own).
+/// What a list of closes says of a file: which installation it was, and the catalogue entry that it was opened from.
 #[derive(Clone, Copy, Debug, PartialEq, Eq)]
 pub struct Closed {
     /// The installation.

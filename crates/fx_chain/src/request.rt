@@ -49,7 +49,7 @@ pub enum Op {
         /// The slot, from 0.
         slot: u32,
     },
-    /// Works a list off, from a slot on (io_uring_register_files(3)): -1 empties its slot, -2 leaves it, and each
+    /// Works a list off, from a slot on (io_uring_prep_files_update(3)): -1 empties its slot, -2 leaves it, and each
     /// other number installs that catalogue entry.
     Update {
         /// The slot of the first entry, from 0.
@@ -70,7 +70,7 @@ pub struct Request {
 
 impl Request {
     /// How many files the request installs: 1 for an open, the number of entries that are 0 or more for an update,
-    /// and else 0 (this project's own; each takes a number of the table).
+    /// and else 0. Each takes a number of the table (this project's own).
     pub fn installs(&self) -> usize
         ensures { result ≡ installs_of (operation_of self.now.op) }
     {
@@ -81,8 +81,8 @@ impl Request {
         }
     }
 
-    /// How many files the request may close: the length of the list for an update, and else 1 (this project's own;
-    /// each takes one of the room in a list of closes).
+    /// How many files the request may close: the length of the list for an update, and else 1. Each takes one of the
+    /// room in a list of closes.
     pub fn weight(&self) -> usize
         ensures { result ≡ weight_of (operation_of self.now.op) }
     {

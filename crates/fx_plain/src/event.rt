@@ -1,7 +1,7 @@
 use fx_base::Closed;
 
 /// A file of a table, as contracts see it: the number that the table gave it, and what its close will say. No value
-/// of it is made (this project's own).
+/// of it is made.
 pub struct File {
     /// No other file of the table ever has this number.
     pub number: u32,
@@ -32,7 +32,7 @@ pub enum Action {
 }
 
 /// An action and its author, as contracts see them: the pass that made it, and the chain that the pass had drawn
-/// last, or 0. No value of it is made (this project's own).
+/// last, or 0. No value of it is made.
 pub struct Event {
     /// The number of the pass, from 1.
     pub pass: u32,

@@ -55,7 +55,7 @@ pub enum ScriptFault {
     Unsubmitted,
 }
 
-/// Why bytes were not read as a script (this project's own).
+/// Why bytes were not read as a script.
 #[derive(Clone, Copy, Debug, PartialEq, Eq)]
 pub enum ScriptError {
     /// They are no script.

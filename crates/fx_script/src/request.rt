@@ -26,6 +26,7 @@ pub enum Action<'a> {
     Update { off: u32, list: List<'a> },
 }
 
+// The words behind `open NAME at`: the slot, and `link` or no more.
 fn open_at<'a>(file: &'a str, words: &mut Parts<'a>) -> Result<Line<'a>, ScriptFault>
     ensures { Gives line_in result (open_at file.now (parts_left words.old)) }
 {
@@ -36,6 +37,7 @@ fn open_at<'a>(file: &'a str, words: &mut Parts<'a>) -> Result<Line<'a>, ScriptF
     Ok(Line::Request(Action::Open { name, target }, link(last)?))
 }
 
+// The words behind `open NAME any`: `link` or no more.
 fn open_any<'a>(file: &'a str, words: &mut Parts<'a>) -> Result<Line<'a>, ScriptFault>
     ensures { Gives line_in result (open_any file.now (parts_left words.old)) }
 {
@@ -45,6 +47,7 @@ fn open_any<'a>(file: &'a str, words: &mut Parts<'a>) -> Result<Line<'a>, Script
     Ok(Line::Request(Action::Open { name, target }, link(last)?))
 }
 
+// The open that the words behind `open` ask for, or their first fault. They are printable, as those of a line are.
 pub fn open<'a>(words: &mut Parts<'a>) -> Result<Line<'a>, ScriptFault>
     requires { list_all is_printable (parts_left words.old) ≡ true }
     ensures { Gives line_in result (open_of (parts_left words.old)) }
@@ -60,6 +63,7 @@ pub fn open<'a>(words: &mut Parts<'a>) -> Result<Line<'a>, ScriptFault>
     }
 }
 
+// The read that the words behind `read` ask for, or their first fault.
 pub fn read<'a>(words: &mut Parts<'a>) -> Result<Line<'a>, ScriptFault>
     ensures { Gives line_in result (read_of (parts_left words.old)) }
 {
@@ -73,6 +77,7 @@ pub fn read<'a>(words: &mut Parts<'a>) -> Result<Line<'a>, ScriptFault>
     Ok(Line::Request(Action::Read { slot, off, len }, link(last)?))
 }
 
+// The close that the words behind `close` ask for, or their first fault.
 pub fn close<'a>(words: &mut Parts<'a>) -> Result<Line<'a>, ScriptFault>
     ensures { Gives line_in result (close_of (parts_left words.old)) }
 {
@@ -82,6 +87,7 @@ pub fn close<'a>(words: &mut Parts<'a>) -> Result<Line<'a>, ScriptFault>
     Ok(Line::Request(Action::Close { slot }, link(last)?))
 }
 
+// The update that the words behind `update` ask for, or their first fault.
 pub fn update<'a>(words: &mut Parts<'a>) -> Result<Line<'a>, ScriptFault>
     ensures { Gives line_in result (update_of (parts_left words.old)) }
 {

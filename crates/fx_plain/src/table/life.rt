@@ -77,7 +77,7 @@ impl PlainTable {
     }
 
     /// Lets every file of the table go without a list. It is the way out after a fault, and can't fail for want of
-    /// memory (this project's own).
+    /// memory.
     pub fn abandon(self) {
         let PlainTable {
             slots: _,
