@@ -9,18 +9,21 @@ $(error Call make in the folder of this Makefile: make -C '$(patsubst %/,%,$(dir
 endif
 
 .DEFAULT_GOAL := help
-.PHONY: help run try prove test examples limits compare mistakes break must-spend growths wrong-bodies layout bench bench-rust gate clean
+.PHONY: help run try kernel prove test examples limits compare agree refused-growths steps mistakes break must-spend growths
+.PHONY: wrong-bodies layout bench bench-rust gate clean
 .NOTPARALLEL:
 
 help:
 	@echo 'make run          builds the program at bin/fixfiles and plays examples/open_read_close.script'
 	@echo 'make run SCRIPT=path    plays another script'
 	@echo 'make try          plays a script in seconds, by a run that proves nothing'
+	@echo 'make kernel       plays a script on the io_uring of this machine'
 	@echo 'make prove CRATE=name   checks one crate, and says in a few lines what of it is not proved'
 	@echo 'make test         runs everything that must hold'
 	@echo 'make examples     plays every example on the built program, and the samples of docs/SCRIPT.md'
 	@echo 'make limits       plays scripts at the limits of the language and the table, and measures the memory that they take'
 	@echo 'make compare      plays random scripts and the largest submissions on the built program and on a second, unproved one'
+	@echo 'make agree        compares the io_uring of this machine with the model on every example and 500 random scripts'
 	@echo 'make refused-growths    plays scripts with each growth of the memory refused in its turn'
 	@echo 'make steps        takes the steps of the table without a lock in every order, for small programs'
 	@echo 'make mistakes     makes the mistakes that a user may make, and wants each answered'
@@ -33,8 +36,6 @@ help:
 	@echo 'make bench-rust   times a plain Rust table of the same words beside arc-swap and others'
 	@echo 'make gate         proves and tests all crates from nothing'
 	@echo 'make clean        removes what was built; what was proved is kept'
-	@echo 'make kernel       plays a script on the io_uring of this machine'
-	@echo 'make agree        compares that kernel with the model on every example and 500 random scripts'
 
 run:
 	@scripts/run-script
@@ -60,8 +61,6 @@ limits:
 compare:
 	@scripts/build-program
 	@scripts/compare bin/fixfiles
-
-.PHONY: refused-growths steps
 
 refused-growths:
 	@scripts/build-program
@@ -102,8 +101,6 @@ gate:
 
 clean:
 	@rm -rf bin build
-
-.PHONY: kernel agree
 
 kernel:
 	@scripts/play-on-kernel
