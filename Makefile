@@ -24,7 +24,7 @@ help:
 	@echo 'make limits       plays scripts at the limits of the language and the table, and measures the memory that they take'
 	@echo 'make compare      plays random scripts and the largest submissions on the built program and on a second, unproved one'
 	@echo 'make agree        compares the io_uring of this machine with the model on every example and 500 random scripts'
-	@echo 'make refused-growths    plays scripts with each growth of the memory refused in its turn'
+	@echo 'make refused-growths    plays scripts and makes calls with each growth of the memory refused in its turn'
 	@echo 'make steps        takes the steps of the table without a lock in every order, for small programs'
 	@echo 'make mistakes     makes the mistakes that a user may make, and wants each answered'
 	@echo 'make break        makes the wrong change of README.md, and wants its line'
@@ -64,7 +64,9 @@ compare:
 
 refused-growths:
 	@scripts/build-program
+	@scripts/build-program refused_calls refused_calls
 	@scripts/check-refused-growths bin/fixfiles
+	@scripts/check-refused-calls bin/refused_calls
 
 steps:
 	@scripts/check-steps

@@ -1,0 +1,129 @@
+//! The calls of a ring that take memory.
+use crate::setting::{new_ring, requests, ring_with};
+use crate::{ATTEMPTS, tell};
+use fx_base::NoMemory;
+use fx_chain::OpenGate;
+use fx_ring::Ring;
+use fx_table::FileTable;
+use std::alloc::Global;
+use std::fmt::Debug;
+use std::sync::Wait;
+use std::thread::Threads;
+
+// Memory was refused: tells what is left.
+fn refused<R: Print, F: Debug + Drop>(rt: &R, call: &str, fault: F, ring: &Ring) {
+    tell::refused(rt, call, fault);
+    tell::ring(rt, ring);
+}
+
+// Tells what there is, and tears the ring down, once more where memory was refused.
+fn end<R: Print>(rt: &R, alloc: Global, ring: Ring) {
+    tell::ring(rt, &ring);
+    let ring = match ring.tear_down(alloc) {
+        Ok(closes) => return tell::closes(rt, &closes),
+        Err((ring, NoMemory)) => ring,
+    };
+    refused(rt, "tear_down", NoMemory, &ring);
+    match ring.tear_down(alloc) {
+        Ok(closes) => tell::closes(rt, &closes),
+        Err((ring, NoMemory)) => {
+            refused(rt, "tear_down", NoMemory, &ring);
+            ring.abandon();
+        }
+    }
+}
+
+/// Registers a list of two files and an empty slot.
+pub(crate) fn register<R: Print>(rt: &R, alloc: Global) -> Option<()> {
+    let mut ring = new_ring(alloc)?;
+    for _ in 0..ATTEMPTS {
+        match ring.register(alloc, &[0, -1, 1]) {
+            Ok(()) => {
+                tell::done(rt, "register");
+                break;
+            }
+            Err(errno) => refused(rt, "register", errno, &ring),
+        }
+    }
+    end(rt, alloc, ring);
+    Some(())
+}
+
+/// Registers three empty slots.
+pub(crate) fn register_sparse<R: Print>(rt: &R, alloc: Global) -> Option<()> {
+    let mut ring = new_ring(alloc)?;
+    for _ in 0..ATTEMPTS {
+        match ring.register_sparse(alloc, 3) {
+            Ok(()) => {
+                tell::done(rt, "register_sparse");
+                break;
+            }
+            Err(errno) => refused(rt, "register_sparse", errno, &ring),
+        }
+    }
+    end(rt, alloc, ring);
+    Some(())
+}
+
+/// Replaces the file at slot 0, installs one at slot 1, and empties slot 2.
+pub(crate) fn update<R: Print>(rt: &R, alloc: Global) -> Option<()> {
+    let mut ring = ring_with(alloc, &[0, -1, 1], 1, 2)?;
+    for _ in 0..ATTEMPTS {
+        match ring.update(alloc, 0, &[1, 0, -1]) {
+            Ok((count, closes)) => {
+                tell::counted(rt, "update", count);
+                tell::closes(rt, &closes);
+                break;
+            }
+            Err(errno) => refused(rt, "update", errno, &ring),
+        }
+    }
+    end(rt, alloc, ring);
+    Some(())
+}
+
+/// Unregisters a table of two files.
+pub(crate) fn unregister<R: Print>(rt: &R, alloc: Global) -> Option<()> {
+    let mut ring = ring_with(alloc, &[0, -1, 1], 1, 2)?;
+    for _ in 0..ATTEMPTS {
+        match ring.unregister(alloc) {
+            Ok(closes) => {
+                tell::done(rt, "unregister");
+                tell::closes(rt, &closes);
+                break;
+            }
+            Err(errno) => refused(rt, "unregister", errno, &ring),
+        }
+    }
+    end(rt, alloc, ring);
+    Some(())
+}
+
+/// Tears a ring of two files down.
+pub(crate) fn tear_down<R: Print>(rt: &R, alloc: Global) -> Option<()> {
+    let ring = ring_with(alloc, &[0, -1, 1], 1, 2)?;
+    end(rt, alloc, ring);
+    Some(())
+}
+
+/// Submits a chain that reads and closes a file, and one that opens another file, to so many workers.
+pub(crate) fn submit<T: FileTable, R: Threads + Wait + Print + Sync>(
+    rt: &R,
+    alloc: Global,
+    workers: u32,
+) -> Option<()> {
+    let requests = requests(alloc)?;
+    let mut ring = ring_with(alloc, &[0, -1], 1, 1)?;
+    for _ in 0..ATTEMPTS {
+        match ring.submit::<T, R, OpenGate>(rt, alloc, requests.as_slice(), workers, &OpenGate) {
+            Ok(report) => {
+                tell::done(rt, "submit");
+                tell::report(rt, &report);
+                break;
+            }
+            Err(fault) => refused(rt, "submit", fault, &ring),
+        }
+    }
+    end(rt, alloc, ring);
+    Some(())
+}

@@ -1,0 +1,86 @@
+//! What the calls are made on. Each is `None` where memory is refused.
+ghost use Rattle.std.specs.Prelude.{IfSome};
+ghost use Rattle.fx_plain.specs.State.{IsSettled};
+ghost use Rattle.fx_plain.specs.Contents.{state_of};
+
+use bitflags::Flags;
+use fx_base::{Catalogue, Mark};
+use fx_chain::{Op, Request, SqeFlags, Target};
+use fx_plain::PlainTable;
+use fx_ring::Ring;
+use std::alloc::Global;
+
+/// Entry 0 is `a.txt`, with the bytes `hello`, and entry 1 is `b.txt`, with `hi`.
+pub(crate) fn two_files(alloc: Global) -> Option<Catalogue> {
+    let mut catalogue = Catalogue::new(alloc);
+    let first = String::from_str(alloc, "a.txt").ok()?;
+    catalogue.add(first, b"hello".to_vec(alloc).ok()?).ok()?;
+    let second = String::from_str(alloc, "b.txt").ok()?;
+    catalogue.add(second, b"hi".to_vec(alloc).ok()?).ok()?;
+    Some(catalogue)
+}
+
+/// A ring without a table, with these files.
+pub(crate) fn new_ring(alloc: Global) -> Option<Ring> {
+    Some(Ring::new(alloc, two_files(alloc)?))
+}
+
+/// The same with a table of a list, and with this allocation range.
+pub(crate) fn ring_with(alloc: Global, list: &[i32], off: u32, len: u32) -> Option<Ring> {
+    let mut ring = new_ring(alloc)?;
+    if ring.register(alloc, list).is_err() || ring.alloc_range(off, len).is_err() {
+        ring.abandon();
+        return None;
+    }
+    Some(ring)
+}
+
+// Puts an entry at a slot, under a fresh number.
+fn put(plain: &mut PlainTable, catalogue: &Catalogue, slot: u32, number: u32, entry: u8) {
+    if slot < plain.size() && plain.is_fresh(number) && u32::from(entry) < catalogue.len() {
+        let file = catalogue.open(entry, Mark::Registered { k: 1, i: slot });
+        let _replaced = plain.put(slot, number, file);
+    }
+}
+
+/// A settled table of four slots with the range 1 2: `a.txt` is at slot 0 and `b.txt` at slot 2. It was prepared for eight
+/// numbers, of which the last two are fresh.
+pub(crate) fn table_of_two_files(alloc: Global) -> Option<PlainTable>
+    ensures { IfSome result (λ plain. IsSettled (state_of plain)) }
+{
+    let catalogue = two_files(alloc)?;
+    let mut plain = PlainTable::sparse(alloc, 4).ok()?;
+    if plain.is_settled() && plain.size() <= 8 && plain.prepare(8).is_ok() {
+        put(&mut plain, &catalogue, 0, 4, 0);
+        put(&mut plain, &catalogue, 2, 5, 1);
+        if plain.set_range(1, 2).is_ok() && plain.is_settled() {
+            return Some(plain);
+        }
+    }
+    plain.abandon();
+    None
+}
+
+fn request(op: Op, flags: &[SqeFlags]) -> Request {
+    let mut all = SqeFlags::from_bits_retain(0);
+    for flag in flags {
+        all.insert(*flag);
+    }
+    Request { op, flags: all }
+}
+
+/// A chain that reads five bytes of slot 0 and closes it, and a chain that opens `b.txt` at any slot.
+pub(crate) fn requests(alloc: Global) -> Option<Vec<Request>> {
+    let name = String::from_str(alloc, "b.txt").ok()?;
+    let mut requests = Vec::with_capacity(alloc, 3).ok()?;
+    let read = Op::Read {
+        slot: 0,
+        off: 0,
+        len: 5,
+    };
+    requests.push_reserved(request(read, &[SqeFlags::FIXED_FILE, SqeFlags::IO_LINK]));
+    requests.push_reserved(request(Op::Close { slot: 0 }, &[]));
+    let target = Target::Any;
+    requests.push_reserved(request(Op::Open { name, target }, &[]));
+    Some(requests)
+}

@@ -1,0 +1,85 @@
+//! Tables of one thread: they are prepared, and shared between passes.
+ghost use Rattle.std.specs.Prelude.{◌≤◌, IfErr};
+ghost use Rattle.fx_plain.specs.State.{IsSettled};
+ghost use Rattle.fx_plain.specs.Contents.{state_of};
+ghost use Rattle.fx_table.specs.declared.limits.TheConstants.{MAX_PASSES};
+
+use crate::setting::table_of_two_files;
+use crate::{ATTEMPTS, tell};
+use fx_base::NoMemory;
+use fx_plain::PlainTable;
+use fx_table::{FileTable, MAX_PASSES};
+use std::alloc::Global;
+
+/// How many chains a shared table is opened for.
+const CHAINS: u32 = 2;
+
+/// A number past those that a table is prepared for here.
+const PAST_ALL: u32 = 400;
+
+/// Prepares a table of two files for so many numbers.
+pub(crate) fn prepare<R: Print>(rt: &R, alloc: Global, numbers: u32) -> Option<()> {
+    let mut plain = table_of_two_files(alloc)?;
+    for _ in 0..ATTEMPTS {
+        if !plain.is_settled() || numbers < plain.size() {
+            break;
+        }
+        match plain.prepare(numbers) {
+            Ok(()) => {
+                tell::done(rt, "prepare");
+                break;
+            }
+            Err(NoMemory) => {
+                tell::refused(rt, "prepare", NoMemory);
+                tell::table(rt, &plain);
+                tell::numbers(rt, &plain, PAST_ALL);
+            }
+        }
+    }
+    tell::table(rt, &plain);
+    tell::numbers(rt, &plain, PAST_ALL);
+    plain.abandon();
+    Some(())
+}
+
+// Opens a table and closes it. `Err` where memory is refused, with the table that comes back.
+fn open_and_close<T: FileTable, R: Print>(
+    rt: &R,
+    alloc: Global,
+    plain: PlainTable,
+    passes: u32,
+) -> Result<PlainTable, PlainTable>
+    requires settled { IsSettled (state_of plain) }
+    requires passes { (1 ≤ passes) × (passes ≤ MAX_PASSES) }
+    ensures { IfErr result (λ back. IsSettled (state_of back)) }
+{
+    match T::open(alloc, plain, CHAINS, passes) {
+        Ok((table, list)) => {
+            tell::done(rt, "open");
+            tell::shared(rt, &table, &list);
+            Ok(table.close(list))
+        }
+        Err((back, NoMemory)) => {
+            tell::refused(rt, "open", NoMemory);
+            tell::table(rt, &back);
+            Err(back)
+        }
+    }
+}
+
+/// Shares a table of two files between so many passes, and closes it again.
+pub(crate) fn open<T: FileTable, R: Print>(rt: &R, alloc: Global, passes: u32) -> Option<()> {
+    if passes == 0 || passes > MAX_PASSES {
+        return None;
+    }
+    let plain = table_of_two_files(alloc)?;
+    let left = match open_and_close::<T, R>(rt, alloc, plain, passes) {
+        Ok(closed) => closed,
+        Err(back) => match open_and_close::<T, R>(rt, alloc, back, passes) {
+            Ok(left) | Err(left) => left,
+        },
+    };
+    tell::table(rt, &left);
+    left.abandon();
+    Some(())
+}

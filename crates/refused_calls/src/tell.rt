@@ -1,0 +1,142 @@
+//! What the program tells. Nothing of it takes memory but its end, and what can't be written changes nothing.
+use fx_base::{Catalogue, CloseList, Closed, Mark};
+use fx_plain::PlainTable;
+use fx_ring::{Report, Ring};
+use fx_script::Script;
+use fx_table::FileTable;
+use std::alloc::Global;
+use std::fmt::Debug;
+
+/// The call did what it was asked for.
+pub(crate) fn done<R: Print>(rt: &R, call: &str) {
+    let _ = println!(rt; "{call}: done");
+}
+
+/// The call was refused.
+pub(crate) fn refused<R: Print, F: Debug + Drop>(rt: &R, call: &str, fault: F) {
+    let _ = println!(rt; "{call}: {fault:?}");
+}
+
+/// The call did what it was asked for, and its answer is a count.
+pub(crate) fn counted<R: Print>(rt: &R, call: &str, count: u32) {
+    let _ = println!(rt; "{call}: {count}");
+}
+
+/// A text, as it is.
+pub(crate) fn text<R: Print>(rt: &R, text: &[u8]) {
+    let _ = print!(rt; "{}", std::str::from_utf8(text).unwrap_or("no text"));
+}
+
+/// A file of a list or at a slot, by its mark and its entry.
+fn file<R: Print>(rt: &R, word: &str, file: Closed) {
+    let entry = file.entry;
+    let _ = match file.mark {
+        Mark::Registered { k, i } => println!(rt; "{word} r{k}.{i} {entry}"),
+        Mark::Submitted {
+            submission: s,
+            chain: c,
+            member: m,
+            entry: e,
+        } => println!(rt; "{word} {s}.{c}.{m}.{e} {entry}"),
+    };
+}
+
+/// The files that were closed.
+pub(crate) fn closes<R: Print>(rt: &R, closes: &CloseList) {
+    for closed in closes.files() {
+        file(rt, "closed", *closed);
+    }
+}
+
+/// What a ring says of its table and its counts.
+pub(crate) fn ring<R: Print>(rt: &R, ring: &Ring) {
+    let (start, len) = ring.range();
+    let (size, s, r) = (ring.size(), ring.submissions(), ring.registrations());
+    let _ = println!(rt;
+        "ring: {size} slots, range {start} {len}, submissions {s}, registrations {r}"
+    );
+}
+
+/// What a submission came to.
+pub(crate) fn report<R: Print>(rt: &R, report: &Report) {
+    let _ = println!(rt; "submission {}", report.submission);
+    for completion in &report.completions {
+        let (place, res) = (completion.place, completion.res);
+        let got = std::str::from_utf8(completion.got.as_slice()).unwrap_or("no text");
+        let _ = println!(rt;
+            "{}.{}.{} {res} {got}",
+            place.submission, place.chain, place.member
+        );
+    }
+    closes(rt, &report.closes);
+}
+
+/// What a table of one thread says of its size, its range and its files.
+pub(crate) fn table<R: Print>(rt: &R, table: &PlainTable) {
+    let (start, len) = table.range();
+    let (size, full, settled) = (table.size(), table.full(), table.is_settled());
+    let _ = println!(rt;
+        "table: {size} slots, range {start} {len}, {full} full, settled {settled}"
+    );
+    for slot in 0..table.size() {
+        if let (Some(mark), Some(entry)) = (table.mark_at(slot), table.entry_at(slot)) {
+            let _ = print!(rt; "slot {slot} ");
+            file(rt, "has", Closed { mark, entry });
+        }
+    }
+}
+
+/// How many file numbers a table was prepared for, and which of the numbers below `most` are fresh.
+pub(crate) fn numbers<R: Print>(rt: &R, table: &PlainTable, most: u32) {
+    let _ = println!(rt; "numbers {}", table.numbers());
+    let (mut fresh, mut last) = (0u32, 0);
+    for number in 0..most {
+        if table.is_fresh(number) {
+            if fresh == 0 {
+                let _ = println!(rt; "fresh from {number}");
+            }
+            fresh = fresh.saturating_add(1);
+            last = number;
+        }
+    }
+    let _ = println!(rt; "fresh {fresh}, the last one {last}");
+}
+
+/// The entries of a catalogue, and where a name is found.
+pub(crate) fn catalogue<R: Print>(rt: &R, catalogue: &Catalogue, name: &str) {
+    for entry in 0..catalogue.len() {
+        let entry = entry as u8;
+        let _ = println!(rt;
+            "entry {entry} {} {}",
+            catalogue.name_of(entry),
+            catalogue.size_of(entry)
+        );
+    }
+    let _ = match catalogue.find(name) {
+        Some(entry) => println!(rt; "{name} is entry {entry}"),
+        None => println!(rt; "{name} is no entry"),
+    };
+}
+
+/// What a shared table says of its size, its range and its passes.
+pub(crate) fn shared<T: FileTable, R: Print>(rt: &R, table: &T, passes: &Vec<T::Pass>) {
+    let (start, len) = table.range();
+    let (size, passes) = (table.size(), passes.len());
+    let _ = println!(rt; "shared: {size} slots, range {start} {len}, {passes} passes");
+}
+
+/// The catalogue and the commands of a script.
+pub(crate) fn script<R: Print>(rt: &R, script: &Script) {
+    catalogue(rt, script.catalogue(), "a.txt");
+    for command in script.commands() {
+        let _ = println!(rt; "{command:?}");
+    }
+}
+
+/// The end, and whether memory is refused there.
+pub(crate) fn end<R: Print>(rt: &R, alloc: Global) {
+    let _ = match String::from_str(alloc, "end") {
+        Ok(text) => println!(rt; "{text}"),
+        Err(_refused) => println!(rt; "end: refused"),
+    };
+}
