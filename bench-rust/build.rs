@@ -2,7 +2,8 @@
 use std::env;
 
 fn main() {
-    let object = env::var("TABLE_BENCH_OBJECT").expect("the path of the proved program's object file");
+    let object =
+        env::var("TABLE_BENCH_OBJECT").expect("the path of the proved program's object file");
     println!("cargo:rustc-link-arg={object}");
     println!("cargo:rerun-if-changed={object}");
     println!("cargo:rerun-if-env-changed=TABLE_BENCH_OBJECT");

@@ -12,7 +12,11 @@ struct Node {
 
 impl Node {
     fn new(file: File) -> Node {
-        Node { file: Some(file), holds: 0, retired: false }
+        Node {
+            file: Some(file),
+            holds: 0,
+            retired: false,
+        }
     }
 }
 
@@ -33,13 +37,21 @@ impl Plain {
     fn release(&mut self, number: usize) -> Option<File> {
         let node = &mut self.nodes[number];
         node.holds -= 1;
-        if node.holds == 0 && node.retired { node.file.take() } else { None }
+        if node.holds == 0 && node.retired {
+            node.file.take()
+        } else {
+            None
+        }
     }
 
     fn retire(&mut self, number: usize) -> Option<File> {
         let node = &mut self.nodes[number];
         node.retired = true;
-        if node.holds == 0 { node.file.take() } else { None }
+        if node.holds == 0 {
+            node.file.take()
+        } else {
+            None
+        }
     }
 }
 
@@ -61,7 +73,13 @@ impl Locked {
 
 impl Table for Locked {
     fn open(shape: Shape) -> Locked {
-        let Shape { slots, full, threads, installs, .. } = shape;
+        let Shape {
+            slots,
+            full,
+            threads,
+            installs,
+            ..
+        } = shape;
         let mut nodes = Vec::with_capacity(slots + threads * installs);
         nodes.extend((0..full).map(|_| Node::new(File { entry: 0, mark: 0 })));
         let slots = (0..slots).map(|n| (n < full).then_some(n)).collect();
@@ -69,13 +87,17 @@ impl Table for Locked {
     }
 
     fn look(&self, slot: usize) -> u64 {
-        let Some((number, entry)) = self.look_at(slot) else { return 0 };
+        let Some((number, entry)) = self.look_at(slot) else {
+            return 0;
+        };
         black_box(self.0.lock().unwrap().release(number));
         u64::from(entry)
     }
 
     fn read(&self, slot: usize, catalogue: &[Vec<u8>], into: &mut Vec<u8>) {
-        let Some((number, entry)) = self.look_at(slot) else { return };
+        let Some((number, entry)) = self.look_at(slot) else {
+            return;
+        };
         read_entry(catalogue, entry, into);
         black_box(self.0.lock().unwrap().release(number));
     }

@@ -14,8 +14,14 @@ use timing::time;
 use words::Words;
 use work::Work;
 
-const TABLES: [&str; 6] =
-    ["proved", "words", "arc-swap load", "arc-swap load_full", "crossbeam-epoch", "std's Mutex"];
+const TABLES: [&str; 6] = [
+    "proved",
+    "words",
+    "arc-swap load",
+    "arc-swap load_full",
+    "crossbeam-epoch",
+    "std's Mutex",
+];
 
 /// The seconds of each of the tables, in their order.
 fn round(name: &str, what: Work, slots: usize, threads: usize) -> [f64; 6] {
@@ -45,7 +51,9 @@ fn line(rounds: &[[f64; 6]], own: usize) -> String {
 }
 
 fn report(name: &str, what: Work, slots: usize, threads: usize, count: usize) {
-    let rounds: Vec<[f64; 6]> = (0..count).map(|_| round(name, what, slots, threads)).collect();
+    let rounds: Vec<[f64; 6]> = (0..count)
+        .map(|_| round(name, what, slots, threads))
+        .collect();
     let by = if threads == 1 { "thread" } else { "threads" };
     for own in [0, 1] {
         println!("{name}, {threads} {by}: {}", line(&rounds, own));
@@ -64,8 +72,16 @@ fn main() {
         ("90 % look, 10 % replace, 256 slots", Work::Mixed, 256),
         ("90 % look, 10 % replace, 16 slots", Work::Mixed, 16),
         ("90 % look, 10 % replace, 1 slot", Work::Mixed, 1),
-        ("own-slot chains, outside the range", Work::Chain { in_range: false }, 256),
-        ("own-slot chains, inside the range", Work::Chain { in_range: true }, 256),
+        (
+            "own-slot chains, outside the range",
+            Work::Chain { in_range: false },
+            256,
+        ),
+        (
+            "own-slot chains, inside the range",
+            Work::Chain { in_range: true },
+            256,
+        ),
         ("allocation and take, 240 of 256 full", Work::Allocate, 256),
     ];
     // arc-swap looks at every thread that it has met, so the rows of few threads come first

@@ -20,11 +20,19 @@ pub struct Arcs(Guards);
 impl Table for Guards {
     fn open(shape: Shape) -> Guards {
         let file = |n| (n < shape.full).then(|| Arc::new(FILE));
-        Guards((0..shape.slots).map(|n| Line(ArcSwapOption::new(file(n)))).collect())
+        Guards(
+            (0..shape.slots)
+                .map(|n| Line(ArcSwapOption::new(file(n))))
+                .collect(),
+        )
     }
 
     fn look(&self, slot: usize) -> u64 {
-        self.0[slot].0.load().as_ref().map_or(0, |file| u64::from(file.entry))
+        self.0[slot]
+            .0
+            .load()
+            .as_ref()
+            .map_or(0, |file| u64::from(file.entry))
     }
 
     fn read(&self, slot: usize, catalogue: &[Vec<u8>], into: &mut Vec<u8>) {
@@ -39,11 +47,14 @@ impl Table for Guards {
     }
 
     fn put_any(&self, _: usize, _: &mut usize, file: File) -> Option<usize> {
-        let file = Arc::new(file);
-        (0..self.0.len()).find(|slot| {
-            let slot = &self.0[*slot].0;
-            slot.load().is_none() && slot.compare_and_swap(&None::<Arc<File>>, Some(Arc::clone(&file))).is_none()
-        })
+        let file = Some(Arc::new(file));
+        let try_slot = |slot: &ArcSwapOption<File>| {
+            slot.load().is_none()
+                && slot
+                    .compare_and_swap(&None::<Arc<File>>, file.clone())
+                    .is_none()
+        };
+        self.0.iter().position(|it| try_slot(&it.0))
     }
 
     fn take(&self, slot: usize) {
@@ -57,12 +68,12 @@ impl Table for Arcs {
     }
 
     fn look(&self, slot: usize) -> u64 {
-        let file = self.0.0[slot].0.load_full();
+        let file = self.0 .0[slot].0.load_full();
         file.map_or(0, |file| u64::from(file.entry))
     }
 
     fn read(&self, slot: usize, catalogue: &[Vec<u8>], into: &mut Vec<u8>) {
-        if let Some(file) = self.0.0[slot].0.load_full() {
+        if let Some(file) = self.0 .0[slot].0.load_full() {
             read_entry(catalogue, file.entry, into);
         }
     }
@@ -84,7 +95,13 @@ pub struct Epochs(Vec<Line<Atomic<File>>>);
 
 impl Table for Epochs {
     fn open(shape: Shape) -> Epochs {
-        let file = |n| if n < shape.full { Atomic::new(FILE) } else { Atomic::null() };
+        let file = |n| {
+            if n < shape.full {
+                Atomic::new(FILE)
+            } else {
+                Atomic::null()
+            }
+        };
         Epochs((0..shape.slots).map(|n| Line(file(n))).collect())
     }
 
@@ -136,7 +153,9 @@ impl Table for Epochs {
 impl Drop for Epochs {
     fn drop(&mut self) {
         for line in &self.0 {
-            let file = line.0.swap(epoch::Shared::null(), SeqCst, unsafe { epoch::unprotected() });
+            let file = line.0.swap(epoch::Shared::null(), SeqCst, unsafe {
+                epoch::unprotected()
+            });
             if !file.is_null() {
                 drop(unsafe { file.into_owned() });
             }

@@ -18,8 +18,15 @@ extern "C" {
 fn now(threads: usize) -> f64 {
     const CLOCK_MONOTONIC: i32 = 1;
     const CLOCK_THREAD_CPUTIME_ID: i32 = 3;
-    let clock = if threads == 1 { CLOCK_THREAD_CPUTIME_ID } else { CLOCK_MONOTONIC };
-    let mut time = Timespec { seconds: 0, nanoseconds: 0 };
+    let clock = if threads == 1 {
+        CLOCK_THREAD_CPUTIME_ID
+    } else {
+        CLOCK_MONOTONIC
+    };
+    let mut time = Timespec {
+        seconds: 0,
+        nanoseconds: 0,
+    };
     unsafe { clock_gettime(clock, &mut time) };
     time.seconds as f64 + time.nanoseconds as f64 / 1e9
 }
@@ -30,7 +37,13 @@ fn shape(what: Work, slots: usize, threads: usize) -> Shape {
         Work::Allocate => (240, true),
         Work::Look | Work::Mixed => (slots, true),
     };
-    Shape { slots, full, in_range, threads, installs: INSTALLS }
+    Shape {
+        slots,
+        full,
+        in_range,
+        threads,
+        installs: INSTALLS,
+    }
 }
 
 /// The seconds from where all threads are there to where the last one ends.

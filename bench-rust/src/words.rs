@@ -60,7 +60,9 @@ impl Words {
     }
 
     fn retire(&self, word: u64) {
-        let Some(number) = number_in(word) else { return };
+        let Some(number) = number_in(word) else {
+            return;
+        };
         let amount = BORN - (word & 0xffff_ffff);
         if self.node(number).fetch_sub(amount, SeqCst) == amount {
             std::hint::black_box(self.come_out(number));
@@ -74,7 +76,8 @@ impl Words {
         self.control.fetch_add(ONE_CHANGE, SeqCst);
         let found = self.pairs[slot].slot.swap(word, SeqCst);
         let delta = u64::from(word >> 40 != 0).wrapping_sub(u64::from(found >> 40 != 0));
-        self.control.fetch_sub(ONE_CHANGE.wrapping_sub(delta), SeqCst);
+        self.control
+            .fetch_sub(ONE_CHANGE.wrapping_sub(delta), SeqCst);
         found
     }
 
@@ -106,10 +109,20 @@ fn try_slot(slot: &AtomicU64, word: u64) -> bool {
 
 impl Table for Words {
     fn open(shape: Shape) -> Words {
-        let Shape { slots, full, in_range, threads, installs } = shape;
+        let Shape {
+            slots,
+            full,
+            in_range,
+            threads,
+            installs,
+        } = shape;
         let numbers = slots + threads * installs;
         let pair = |slot| Pair {
-            slot: AtomicU64::new(if slot < full { (slot as u64 + 1) << 40 } else { 0 }),
+            slot: AtomicU64::new(if slot < full {
+                (slot as u64 + 1) << 40
+            } else {
+                0
+            }),
             node: AtomicU64::new(BORN),
         };
         let place = |n| UnsafeCell::new((n < full).then_some(File { entry: 0, mark: 0 }));
@@ -125,14 +138,18 @@ impl Table for Words {
 
     fn look(&self, slot: usize) -> u64 {
         let word = self.pairs[slot].slot.fetch_add(1, SeqCst);
-        let Some(number) = number_in(word) else { return 0 };
+        let Some(number) = number_in(word) else {
+            return 0;
+        };
         self.release(number);
         word
     }
 
     fn read(&self, slot: usize, catalogue: &[Vec<u8>], into: &mut Vec<u8>) {
         let word = self.pairs[slot].slot.fetch_add(1, SeqCst);
-        let Some(number) = number_in(word) else { return };
+        let Some(number) = number_in(word) else {
+            return;
+        };
         read_entry(catalogue, (word >> 32) as u8, into);
         self.release(number);
     }

@@ -23,7 +23,10 @@ fn next(random: u32) -> u32 {
 }
 
 fn file() -> File {
-    File { entry: 0, mark: black_box(0) }
+    File {
+        entry: 0,
+        mark: black_box(0),
+    }
 }
 
 fn look<T: Table>(table: &T, slots: usize, mut random: u32) {
