@@ -102,12 +102,12 @@ impl Table for Locked {
         black_box(self.0.lock().unwrap().release(number));
     }
 
-    fn put(&self, _: usize, _: &mut usize, slot: usize, file: File) {
+    fn put(&self, _: &mut usize, slot: usize, file: File) {
         let removed = self.0.lock().unwrap().install(slot, file);
         self.retire(removed);
     }
 
-    fn put_any(&self, _: usize, _: &mut usize, file: File) -> Option<usize> {
+    fn put_any(&self, _: &mut usize, file: File) -> Option<usize> {
         let mut plain = self.0.lock().unwrap();
         let slot = plain.slots.iter().position(Option::is_none)?;
         plain.install(slot, file);

@@ -42,11 +42,11 @@ impl Table for Guards {
         }
     }
 
-    fn put(&self, _: usize, _: &mut usize, slot: usize, file: File) {
+    fn put(&self, _: &mut usize, slot: usize, file: File) {
         drop(self.0[slot].0.swap(Some(Arc::new(file))));
     }
 
-    fn put_any(&self, _: usize, _: &mut usize, file: File) -> Option<usize> {
+    fn put_any(&self, _: &mut usize, file: File) -> Option<usize> {
         let file = Some(Arc::new(file));
         let try_slot = |slot: &ArcSwapOption<File>| {
             slot.load().is_none()
@@ -78,12 +78,12 @@ impl Table for Arcs {
         }
     }
 
-    fn put(&self, thread: usize, next: &mut usize, slot: usize, file: File) {
-        self.0.put(thread, next, slot, file);
+    fn put(&self, next: &mut usize, slot: usize, file: File) {
+        self.0.put(next, slot, file);
     }
 
-    fn put_any(&self, thread: usize, next: &mut usize, file: File) -> Option<usize> {
-        self.0.put_any(thread, next, file)
+    fn put_any(&self, next: &mut usize, file: File) -> Option<usize> {
+        self.0.put_any(next, file)
     }
 
     fn take(&self, slot: usize) {
@@ -118,7 +118,7 @@ impl Table for Epochs {
         }
     }
 
-    fn put(&self, _: usize, _: &mut usize, slot: usize, file: File) {
+    fn put(&self, _: &mut usize, slot: usize, file: File) {
         let guard = epoch::pin();
         let old = self.0[slot].0.swap(Owned::new(file), SeqCst, &guard);
         if !old.is_null() {
@@ -126,7 +126,7 @@ impl Table for Epochs {
         }
     }
 
-    fn put_any(&self, _: usize, _: &mut usize, file: File) -> Option<usize> {
+    fn put_any(&self, _: &mut usize, file: File) -> Option<usize> {
         let guard = epoch::pin();
         let mut file = Owned::new(file);
         for (n, Line(slot)) in self.0.iter().enumerate() {

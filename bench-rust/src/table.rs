@@ -34,11 +34,11 @@ pub trait Table: Sync + Sized {
     /// Looks a slot up, reads from its file and releases it. Each entry of the catalogue is the bytes of a file.
     fn read(&self, slot: usize, catalogue: &[Vec<u8>], into: &mut Vec<u8>);
 
-    /// Puts a file at a slot, and retires the one that was there. `next` counts the thread's installations.
-    fn put(&self, thread: usize, next: &mut usize, slot: usize, file: File);
+    /// Puts a file at a slot, and retires the one that was there. `next` is what the table knows of the thread, 0 at first.
+    fn put(&self, next: &mut usize, slot: usize, file: File);
 
     /// Puts a file at a free slot, which is the answer.
-    fn put_any(&self, thread: usize, next: &mut usize, file: File) -> Option<usize>;
+    fn put_any(&self, next: &mut usize, file: File) -> Option<usize>;
 
     /// Empties a slot and retires the file that was there.
     fn take(&self, slot: usize);

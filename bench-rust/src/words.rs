@@ -10,6 +10,10 @@ const BORN: u64 = 1 << 32;
 const ONE_CHANGE: u64 = 1 << 32;
 const BIAS: u64 = 65_536;
 
+// A thread draws the numbers of a chain at once.
+const CHAINS: usize = 1_023;
+const CHAIN_NUMBERS: usize = 64;
+
 /// The word of a slot and that of the file with the slot's number lie side by side, each pair on a cache line of its own.
 #[repr(align(64))]
 struct Pair {
@@ -17,14 +21,17 @@ struct Pair {
     node: AtomicU64,
 }
 
+#[repr(align(64))]
+struct Line(AtomicU64);
+
 pub struct Words {
     pairs: Vec<Pair>,
     nodes: Vec<AtomicU64>,
     places: Vec<UnsafeCell<Option<File>>>,
     control: AtomicU64,
+    /// How many chains were drawn.
+    draw: Line,
     in_range: bool,
-    /// How many numbers a thread has.
-    share: usize,
 }
 
 // A place is written by the thread that installs its number, and taken by the one that brings its word to 0.
@@ -38,9 +45,16 @@ impl Words {
         }
     }
 
-    fn install(&self, thread: usize, next: &mut usize, file: File) -> u64 {
-        let number = self.pairs.len() + thread * self.share + *next;
+    fn next_number(&self, next: &mut usize) -> usize {
+        if *next % CHAIN_NUMBERS == 0 {
+            *next = self.draw.0.fetch_add(1, SeqCst) as usize * CHAIN_NUMBERS;
+        }
         *next += 1;
+        self.pairs.len() + *next - 1
+    }
+
+    fn install(&self, next: &mut usize, file: File) -> u64 {
+        let number = self.next_number(next);
         self.node(number).store(BORN, SeqCst);
         let word = (number as u64 + 1) << 40 | u64::from(file.entry) << 32;
         unsafe { *self.places[number].get() = Some(file) };
@@ -113,10 +127,9 @@ impl Table for Words {
             slots,
             full,
             in_range,
-            threads,
-            installs,
+            ..
         } = shape;
-        let numbers = slots + threads * installs;
+        let numbers = slots + CHAINS * CHAIN_NUMBERS;
         let pair = |slot| Pair {
             slot: AtomicU64::new(if slot < full {
                 (slot as u64 + 1) << 40
@@ -131,8 +144,8 @@ impl Table for Words {
             nodes: (slots..numbers).map(|_| AtomicU64::new(0)).collect(),
             places: (0..numbers).map(place).collect(),
             control: AtomicU64::new(BIAS + if in_range { full as u64 } else { 0 }),
+            draw: Line(AtomicU64::new(0)),
             in_range,
-            share: installs,
         }
     }
 
@@ -154,13 +167,13 @@ impl Table for Words {
         self.release(number);
     }
 
-    fn put(&self, thread: usize, next: &mut usize, slot: usize, file: File) {
-        let word = self.install(thread, next, file);
+    fn put(&self, next: &mut usize, slot: usize, file: File) {
+        let word = self.install(next, file);
         self.retire(self.change(slot, word));
     }
 
-    fn put_any(&self, thread: usize, next: &mut usize, file: File) -> Option<usize> {
-        let word = self.install(thread, next, file);
+    fn put_any(&self, next: &mut usize, file: File) -> Option<usize> {
+        let word = self.install(next, file);
         let found = self.find_free(word);
         if found.is_none() {
             *next -= 1;

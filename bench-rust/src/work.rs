@@ -36,13 +36,13 @@ fn look<T: Table>(table: &T, slots: usize, mut random: u32) {
     }
 }
 
-fn mix<T: Table>(table: &T, slots: usize, mut random: u32, thread: usize) {
+fn mix<T: Table>(table: &T, slots: usize, mut random: u32) {
     let mut number = 0;
     for i in 0..10 * INSTALLS {
         random = next(random);
         let slot = (random >> 16) as usize & (slots - 1);
         if i % 10 == 9 {
-            table.put(thread, &mut number, slot, file());
+            table.put(&mut number, slot, file());
         } else {
             black_box(table.look(slot));
         }
@@ -54,17 +54,17 @@ fn chain<T: Table>(table: &T, slots: usize, thread: usize) {
     let (mut number, mut into) = (0, Vec::with_capacity(READ_LEN));
     for i in 0..INSTALLS {
         let slot = (64 * thread + i % 64) & (slots - 1);
-        table.put(thread, &mut number, slot, file());
+        table.put(&mut number, slot, file());
         table.read(slot, &catalogue, &mut into);
         black_box(&into);
         table.take(slot);
     }
 }
 
-fn allocate<T: Table>(table: &T, thread: usize) {
+fn allocate<T: Table>(table: &T) {
     let mut number = 0;
     for _ in 0..INSTALLS {
-        if let Some(slot) = table.put_any(thread, &mut number, file()) {
+        if let Some(slot) = table.put_any(&mut number, file()) {
             table.take(slot);
         }
     }
@@ -75,8 +75,8 @@ pub fn work<T: Table>(table: &T, work: Work, slots: usize, thread: usize) {
     let random = (thread as u32).wrapping_mul(40_503).wrapping_add(1);
     match work {
         Work::Look => look(table, slots, random),
-        Work::Mixed => mix(table, slots, random, thread),
+        Work::Mixed => mix(table, slots, random),
         Work::Chain { .. } => chain(table, slots, thread),
-        Work::Allocate => allocate(table, thread),
+        Work::Allocate => allocate(table),
     }
 }
