@@ -33,7 +33,7 @@ help:
 	@echo 'make wrong-bodies tries the wrong bodies for which the gate has no time'
 	@echo 'make layout       looks at the files of the repository'
 	@echo 'make bench        times what scripts do beside a plain program that does the same, and the tables beside each other'
-	@echo 'make bench-rust   times a plain Rust table of the same words beside arc-swap and others'
+	@echo 'make bench-rust   times the proved table in one process with plain Rust, arc-swap and others'
 	@echo 'make gate         proves and tests all crates from nothing'
 	@echo 'make clean        removes what was built; what was proved is kept'
 
@@ -95,6 +95,7 @@ bench:
 	@scripts/bench bin/fixfiles bin/table_bench
 
 bench-rust:
+	@scripts/build-program table_bench table_bench
 	@scripts/bench-rust
 
 gate:

@@ -17,6 +17,10 @@
  * A file of a list is first a descriptor of this process, as io_uring_register(2) has it. It is closed here as soon as
  * the command or the submission has ended. It has a closed line only if the kernel said by its result that it took it.
  *
+ * With the argument --times it tells for each submission, on standard error, how long the kernel had it: from the call
+ * that submits to the last completion. Making links and writing text are no part of that; the watch on the links' folder
+ * is, and so an open and a close take longer than without it.
+ *
  * What can't be seen: when within a command a file was closed, in which order, and by whom; who holds it meanwhile; that
  * an open was started and gave up before it had opened its file. A file that is opened and closed without having been in
  * the table has a closed line like any other, since the kernel did close it.
@@ -39,6 +43,7 @@ struct play {
 	const struct command **requests;	/* since the last submit */
 	unsigned request_count;
 	unsigned submissions, registrations;	/* that were accepted */
+	int tells_times;
 };
 
 static unsigned largest_submission(const struct script *script)
@@ -96,6 +101,15 @@ static void play_list(struct play *play, const struct command *command, const ch
 	write_answer(word, answer);
 }
 
+static void play_requests(struct play *play)
+{
+	unsigned count = play->request_count;
+	long long took = play_submission(&play->ring, &play->script, play->requests, count, ++play->submissions);
+	if (play->tells_times)
+		fprintf(stderr, "submission %u: %u requests, %lld ns\n", play->submissions, count, took);
+	play->request_count = 0;
+}
+
 static void play_command(struct play *play, const struct command *command)
 {
 	const unsigned *numbers = command->numbers;
@@ -112,8 +126,7 @@ static void play_command(struct play *play, const struct command *command)
 	case REGUPDATE:
 		return play_list(play, command, "regupdate");
 	default:
-		play_submission(ring, &play->script, play->requests, play->request_count, ++play->submissions);
-		play->request_count = 0;
+		play_requests(play);
 	}
 }
 
@@ -133,9 +146,10 @@ static void play_script(struct play *play)
 	free(play->requests);
 }
 
-int main(void)
+int main(int count, char **words)
 {
 	static struct play play;
+	play.tells_times = count > 1 && !strcmp(words[1], "--times");
 	if (!read_script(&play.script)) {
 		fprintf(stderr, "play-on-kernel: line %ld: not in the language\n", play.script.bad_line);
 		return BAD_SCRIPT;

@@ -5,6 +5,7 @@
 #include <limits.h>
 #include <stdio.h>
 #include <stdlib.h>
+#include <time.h>
 
 #include "files.h"
 
@@ -86,6 +87,13 @@ static void prepare(struct io_uring *ring, const struct script *script, struct m
 	io_uring_sqe_set_data(sqe, it);
 }
 
+static long long nanoseconds(void)
+{
+	struct timespec now;
+	clock_gettime(CLOCK_MONOTONIC, &now);
+	return now.tv_sec * 1000000000LL + now.tv_nsec;
+}
+
 static void submit(struct io_uring *ring, unsigned count)
 {
 	int submitted = count ? io_uring_submit(ring) : 0;
@@ -123,8 +131,8 @@ static void write_member(struct member *it, unsigned submission)
 		close_list(&it->list, it->res > 0 ? it->res : 0);
 }
 
-void play_submission(struct io_uring *ring, const struct script *script, const struct command **requests,
-		     unsigned count, unsigned number)
+long long play_submission(struct io_uring *ring, const struct script *script, const struct command **requests,
+			  unsigned count, unsigned number)
 {
 	struct member *members = memory_of(count * sizeof *members);
 	unsigned chain = 1, place = 1;
@@ -134,9 +142,12 @@ void play_submission(struct io_uring *ring, const struct script *script, const s
 		place = requests[at]->links ? place + 1 : 1;
 		chain += !requests[at]->links;
 	}
+	long long submitted = nanoseconds();
 	submit(ring, count);
 	wait_for_all(ring, count);
+	long long took = nanoseconds() - submitted;
 	for (unsigned at = 0; at < count; at++)
 		write_member(&members[at], number);
 	free(members);
+	return took;
 }

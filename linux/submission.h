@@ -19,8 +19,11 @@ struct descriptors open_list(const struct script *script, const struct command *
 /* Closes what `open_list` opened. The kernel took the entries before place `taken`. */
 void close_list(struct descriptors *list, unsigned taken);
 
-/* Submits the requests as the submission of that number, waits for all of them, and writes their lines. */
-void play_submission(struct io_uring *ring, const struct script *script, const struct command **requests,
-		     unsigned count, unsigned number);
+/*
+ * Submits the requests as the submission of that number, waits for all of them, and writes their lines. The answer is how
+ * many nanoseconds passed from the call that submits to the last completion.
+ */
+long long play_submission(struct io_uring *ring, const struct script *script, const struct command **requests,
+			  unsigned count, unsigned number);
 
 #endif

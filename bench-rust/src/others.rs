@@ -1,35 +1,60 @@
-//! The same table on arc-swap, on crossbeam-epoch, and behind a lock of std.
-use crate::{File, Table};
+//! The same table on arc-swap, which is looked up in two ways, and on crossbeam-epoch.
+use crate::table::{read_entry, File, Shape, Table};
 use arc_swap::ArcSwapOption;
 use crossbeam_epoch::{self as epoch, Atomic, Owned};
 use std::sync::atomic::Ordering::SeqCst;
-use std::sync::{Arc, Mutex};
+use std::sync::Arc;
 
-#[repr(align(128))]
+/// A cache line of its own, as the words of a slot have.
+#[repr(align(64))]
 pub struct Line<T>(T);
 
 const FILE: File = File { entry: 0, mark: 0 };
 
-pub struct Swaps(Vec<Line<ArcSwapOption<File>>>);
+/// A look-up is `load`: a guard, of which a thread has eight at once, beyond which it is as dear as `load_full`.
+pub struct Guards(Vec<Line<ArcSwapOption<File>>>);
 
-impl Table for Swaps {
-    fn open(slots: usize, full: usize, _: bool, _: usize, _: usize) -> Swaps {
-        Swaps((0..slots).map(|n| Line(ArcSwapOption::new((n < full).then(|| Arc::new(FILE))))).collect())
+/// A look-up is `load_full`: an `Arc` of its own, which lives as long as its user wants, as a hold does.
+pub struct Arcs(Guards);
+
+impl Table for Guards {
+    fn open(shape: Shape) -> Guards {
+        let file = |n| (n < shape.full).then(|| Arc::new(FILE));
+        Guards(
+            (0..shape.slots)
+                .map(|n| Line(ArcSwapOption::new(file(n))))
+                .collect(),
+        )
     }
 
     fn look(&self, slot: usize) -> u64 {
-        self.0[slot].0.load().as_ref().map_or(0, |file| u64::from(file.entry))
+        self.0[slot]
+            .0
+            .load()
+            .as_ref()
+            .map_or(0, |file| u64::from(file.entry))
     }
 
-    fn read(&self, slot: usize, bytes: &[u8; 64], into: &mut [u8; 64]) {
+    fn read(&self, slot: usize, catalogue: &[Vec<u8>], into: &mut Vec<u8>) {
         let file = self.0[slot].0.load();
-        if file.is_some() {
-            into.copy_from_slice(bytes);
+        if let Some(file) = &*file {
+            read_entry(catalogue, file.entry, into);
         }
     }
 
-    fn put(&self, _: usize, _: &mut usize, slot: usize, file: File) {
+    fn put(&self, _: &mut usize, slot: usize, file: File) {
         drop(self.0[slot].0.swap(Some(Arc::new(file))));
+    }
+
+    fn put_any(&self, _: &mut usize, file: File) -> Option<usize> {
+        let file = Some(Arc::new(file));
+        let try_slot = |slot: &ArcSwapOption<File>| {
+            slot.load().is_none()
+                && slot
+                    .compare_and_swap(&None::<Arc<File>>, file.clone())
+                    .is_none()
+        };
+        self.0.iter().position(|it| try_slot(&it.0))
     }
 
     fn take(&self, slot: usize) {
@@ -37,11 +62,47 @@ impl Table for Swaps {
     }
 }
 
+impl Table for Arcs {
+    fn open(shape: Shape) -> Arcs {
+        Arcs(Guards::open(shape))
+    }
+
+    fn look(&self, slot: usize) -> u64 {
+        let file = self.0 .0[slot].0.load_full();
+        file.map_or(0, |file| u64::from(file.entry))
+    }
+
+    fn read(&self, slot: usize, catalogue: &[Vec<u8>], into: &mut Vec<u8>) {
+        if let Some(file) = self.0 .0[slot].0.load_full() {
+            read_entry(catalogue, file.entry, into);
+        }
+    }
+
+    fn put(&self, next: &mut usize, slot: usize, file: File) {
+        self.0.put(next, slot, file);
+    }
+
+    fn put_any(&self, next: &mut usize, file: File) -> Option<usize> {
+        self.0.put_any(next, file)
+    }
+
+    fn take(&self, slot: usize) {
+        self.0.take(slot);
+    }
+}
+
 pub struct Epochs(Vec<Line<Atomic<File>>>);
 
 impl Table for Epochs {
-    fn open(slots: usize, full: usize, _: bool, _: usize, _: usize) -> Epochs {
-        Epochs((0..slots).map(|n| Line(if n < full { Atomic::new(FILE) } else { Atomic::null() })).collect())
+    fn open(shape: Shape) -> Epochs {
+        let file = |n| {
+            if n < shape.full {
+                Atomic::new(FILE)
+            } else {
+                Atomic::null()
+            }
+        };
+        Epochs((0..shape.slots).map(|n| Line(file(n))).collect())
     }
 
     fn look(&self, slot: usize) -> u64 {
@@ -50,19 +111,34 @@ impl Table for Epochs {
         unsafe { file.as_ref() }.map_or(0, |file| u64::from(file.entry))
     }
 
-    fn read(&self, slot: usize, bytes: &[u8; 64], into: &mut [u8; 64]) {
+    fn read(&self, slot: usize, catalogue: &[Vec<u8>], into: &mut Vec<u8>) {
         let guard = epoch::pin();
-        if !self.0[slot].0.load(SeqCst, &guard).is_null() {
-            into.copy_from_slice(bytes);
+        if let Some(file) = unsafe { self.0[slot].0.load(SeqCst, &guard).as_ref() } {
+            read_entry(catalogue, file.entry, into);
         }
     }
 
-    fn put(&self, _: usize, _: &mut usize, slot: usize, file: File) {
+    fn put(&self, _: &mut usize, slot: usize, file: File) {
         let guard = epoch::pin();
         let old = self.0[slot].0.swap(Owned::new(file), SeqCst, &guard);
         if !old.is_null() {
             unsafe { guard.defer_destroy(old) };
         }
+    }
+
+    fn put_any(&self, _: &mut usize, file: File) -> Option<usize> {
+        let guard = epoch::pin();
+        let mut file = Owned::new(file);
+        for (n, Line(slot)) in self.0.iter().enumerate() {
+            if !slot.load(SeqCst, &guard).is_null() {
+                continue;
+            }
+            match slot.compare_exchange(epoch::Shared::null(), file, SeqCst, SeqCst, &guard) {
+                Ok(_) => return Some(n),
+                Err(refused) => file = refused.new,
+            }
+        }
+        None
     }
 
     fn take(&self, slot: usize) {
@@ -77,89 +153,12 @@ impl Table for Epochs {
 impl Drop for Epochs {
     fn drop(&mut self) {
         for line in &self.0 {
-            let file = line.0.swap(epoch::Shared::null(), SeqCst, unsafe { epoch::unprotected() });
+            let file = line.0.swap(epoch::Shared::null(), SeqCst, unsafe {
+                epoch::unprotected()
+            });
             if !file.is_null() {
                 drop(unsafe { file.into_owned() });
             }
         }
-    }
-}
-
-/// A file's holds, and whether it was retired.
-struct Node {
-    file: Option<File>,
-    holds: u32,
-    retired: bool,
-}
-
-pub struct Plain {
-    slots: Vec<Option<usize>>,
-    nodes: Vec<Node>,
-}
-
-pub struct Locked(Mutex<Plain>);
-
-impl Plain {
-    fn release(&mut self, number: usize) -> Option<File> {
-        let node = &mut self.nodes[number];
-        node.holds -= 1;
-        if node.holds == 0 && node.retired { node.file.take() } else { None }
-    }
-
-    fn retire(&mut self, number: usize) -> Option<File> {
-        let node = &mut self.nodes[number];
-        node.retired = true;
-        if node.holds == 0 { node.file.take() } else { None }
-    }
-}
-
-impl Locked {
-    fn look_at(&self, slot: usize) -> Option<usize> {
-        let mut plain = self.0.lock().unwrap();
-        let number = plain.slots[slot]?;
-        plain.nodes[number].holds += 1;
-        Some(number)
-    }
-
-    fn retire(&self, removed: Option<usize>) {
-        if let Some(number) = removed {
-            std::hint::black_box(self.0.lock().unwrap().retire(number));
-        }
-    }
-}
-
-impl Table for Locked {
-    fn open(slots: usize, full: usize, _: bool, threads: usize, installs: usize) -> Locked {
-        let node = |_| Node { file: Some(FILE), holds: 0, retired: false };
-        let mut nodes = Vec::with_capacity(slots + threads * installs);
-        nodes.extend((0..full).map(node));
-        Locked(Mutex::new(Plain { slots: (0..slots).map(|n| (n < full).then_some(n)).collect(), nodes }))
-    }
-
-    fn look(&self, slot: usize) -> u64 {
-        let Some(number) = self.look_at(slot) else { return 0 };
-        std::hint::black_box(self.0.lock().unwrap().release(number));
-        number as u64
-    }
-
-    fn read(&self, slot: usize, bytes: &[u8; 64], into: &mut [u8; 64]) {
-        let Some(number) = self.look_at(slot) else { return };
-        into.copy_from_slice(bytes);
-        std::hint::black_box(self.0.lock().unwrap().release(number));
-    }
-
-    fn put(&self, _: usize, _: &mut usize, slot: usize, file: File) {
-        let removed = {
-            let mut plain = self.0.lock().unwrap();
-            let number = plain.nodes.len();
-            plain.nodes.push(Node { file: Some(file), holds: 0, retired: false });
-            plain.slots[slot].replace(number)
-        };
-        self.retire(removed);
-    }
-
-    fn take(&self, slot: usize) {
-        let removed = self.0.lock().unwrap().slots[slot].take();
-        self.retire(removed);
     }
 }

@@ -1,26 +1,37 @@
 //! The words of the table without a lock, in plain Rust and unproved: what the proved table is measured against. A slot's
 //! word has the number of its file and its takes, a file's word its releases; whoever brings it to 0 has the file.
-use crate::{File, Table};
+use crate::table::{read_entry, File, Shape, Table};
 use std::cell::UnsafeCell;
 use std::sync::atomic::{AtomicU64, Ordering::SeqCst};
 
 const BORN: u64 = 1 << 32;
 
-/// The word of a slot and that of the file with the slot's number lie side by side, each pair on cache lines of its own.
-#[repr(align(128))]
+// One pass more in a change of the range, in the control word, and what stands there beside the full slots.
+const ONE_CHANGE: u64 = 1 << 32;
+const BIAS: u64 = 65_536;
+
+// A thread draws the numbers of a chain at once.
+const CHAINS: usize = 1_023;
+const CHAIN_NUMBERS: usize = 64;
+
+/// The word of a slot and that of the file with the slot's number lie side by side, each pair on a cache line of its own.
+#[repr(align(64))]
 struct Pair {
     slot: AtomicU64,
     node: AtomicU64,
 }
+
+#[repr(align(64))]
+struct Line(AtomicU64);
 
 pub struct Words {
     pairs: Vec<Pair>,
     nodes: Vec<AtomicU64>,
     places: Vec<UnsafeCell<Option<File>>>,
     control: AtomicU64,
+    /// How many chains were drawn.
+    draw: Line,
     in_range: bool,
-    /// How many numbers a thread has.
-    share: usize,
 }
 
 // A place is written by the thread that installs its number, and taken by the one that brings its word to 0.
@@ -34,12 +45,20 @@ impl Words {
         }
     }
 
-    fn install(&self, thread: usize, next: &mut usize, file: File) -> u64 {
-        let number = self.pairs.len() + thread * self.share + *next;
+    fn next_number(&self, next: &mut usize) -> usize {
+        if *next % CHAIN_NUMBERS == 0 {
+            *next = self.draw.0.fetch_add(1, SeqCst) as usize * CHAIN_NUMBERS;
+        }
         *next += 1;
+        self.pairs.len() + *next - 1
+    }
+
+    fn install(&self, next: &mut usize, file: File) -> u64 {
+        let number = self.next_number(next);
         self.node(number).store(BORN, SeqCst);
+        let word = (number as u64 + 1) << 40 | u64::from(file.entry) << 32;
         unsafe { *self.places[number].get() = Some(file) };
-        (number as u64 + 1) << 40
+        word
     }
 
     fn come_out(&self, number: usize) -> File {
@@ -55,7 +74,9 @@ impl Words {
     }
 
     fn retire(&self, word: u64) {
-        let Some(number) = number_in(word) else { return };
+        let Some(number) = number_in(word) else {
+            return;
+        };
         let amount = BORN - (word & 0xffff_ffff);
         if self.node(number).fetch_sub(amount, SeqCst) == amount {
             std::hint::black_box(self.come_out(number));
@@ -66,11 +87,28 @@ impl Words {
         if !self.in_range {
             return self.pairs[slot].slot.swap(word, SeqCst);
         }
-        self.control.fetch_add(1 << 32, SeqCst);
+        self.control.fetch_add(ONE_CHANGE, SeqCst);
         let found = self.pairs[slot].slot.swap(word, SeqCst);
         let delta = u64::from(word >> 40 != 0).wrapping_sub(u64::from(found >> 40 != 0));
-        self.control.fetch_sub((1u64 << 32).wrapping_sub(delta), SeqCst);
+        self.control
+            .fetch_sub(ONE_CHANGE.wrapping_sub(delta), SeqCst);
         found
+    }
+
+    // Rounds over the range, until a free slot was found or all of them were full at one moment.
+    fn find_free(&self, word: u64) -> Option<usize> {
+        loop {
+            self.control.fetch_add(ONE_CHANGE, SeqCst);
+            if let Some(slot) = self.pairs.iter().position(|it| try_slot(&it.slot, word)) {
+                self.control.fetch_sub(ONE_CHANGE - 1, SeqCst);
+                return Some(slot);
+            }
+            let told = self.control.fetch_sub(ONE_CHANGE, SeqCst);
+            if told == ONE_CHANGE + BIAS + self.pairs.len() as u64 {
+                return None;
+            }
+            std::thread::yield_now();
+        }
     }
 }
 
@@ -78,11 +116,26 @@ fn number_in(word: u64) -> Option<usize> {
     ((word >> 40) as usize).checked_sub(1)
 }
 
+fn try_slot(slot: &AtomicU64, word: u64) -> bool {
+    let found = slot.load(SeqCst);
+    number_in(found).is_none() && slot.compare_exchange(found, word, SeqCst, SeqCst).is_ok()
+}
+
 impl Table for Words {
-    fn open(slots: usize, full: usize, in_range: bool, threads: usize, installs: usize) -> Words {
-        let numbers = slots + threads * installs;
+    fn open(shape: Shape) -> Words {
+        let Shape {
+            slots,
+            full,
+            in_range,
+            ..
+        } = shape;
+        let numbers = slots + CHAINS * CHAIN_NUMBERS;
         let pair = |slot| Pair {
-            slot: AtomicU64::new(if slot < full { (slot as u64 + 1) << 40 } else { 0 }),
+            slot: AtomicU64::new(if slot < full {
+                (slot as u64 + 1) << 40
+            } else {
+                0
+            }),
             node: AtomicU64::new(BORN),
         };
         let place = |n| UnsafeCell::new((n < full).then_some(File { entry: 0, mark: 0 }));
@@ -90,29 +143,43 @@ impl Table for Words {
             pairs: (0..slots).map(pair).collect(),
             nodes: (slots..numbers).map(|_| AtomicU64::new(0)).collect(),
             places: (0..numbers).map(place).collect(),
-            control: AtomicU64::new(0),
+            control: AtomicU64::new(BIAS + if in_range { full as u64 } else { 0 }),
+            draw: Line(AtomicU64::new(0)),
             in_range,
-            share: installs,
         }
     }
 
     fn look(&self, slot: usize) -> u64 {
         let word = self.pairs[slot].slot.fetch_add(1, SeqCst);
-        let Some(number) = number_in(word) else { return 0 };
+        let Some(number) = number_in(word) else {
+            return 0;
+        };
         self.release(number);
         word
     }
 
-    fn read(&self, slot: usize, bytes: &[u8; 64], into: &mut [u8; 64]) {
+    fn read(&self, slot: usize, catalogue: &[Vec<u8>], into: &mut Vec<u8>) {
         let word = self.pairs[slot].slot.fetch_add(1, SeqCst);
-        let Some(number) = number_in(word) else { return };
-        into.copy_from_slice(bytes);
+        let Some(number) = number_in(word) else {
+            return;
+        };
+        read_entry(catalogue, (word >> 32) as u8, into);
         self.release(number);
     }
 
-    fn put(&self, thread: usize, next: &mut usize, slot: usize, file: File) {
-        let word = self.install(thread, next, file);
+    fn put(&self, next: &mut usize, slot: usize, file: File) {
+        let word = self.install(next, file);
         self.retire(self.change(slot, word));
+    }
+
+    fn put_any(&self, next: &mut usize, file: File) -> Option<usize> {
+        let word = self.install(next, file);
+        let found = self.find_free(word);
+        if found.is_none() {
+            *next -= 1;
+            std::hint::black_box(number_in(word).map(|it| self.come_out(it)));
+        }
+        found
     }
 
     fn take(&self, slot: usize) {

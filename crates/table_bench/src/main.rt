@@ -6,6 +6,7 @@ mod cases;
 mod guarded;
 mod locked;
 mod measure;
+mod one;
 mod report;
 mod shared;
 mod subject;
@@ -13,6 +14,7 @@ mod watch;
 mod work;
 
 use fx_base::Catalogue;
+use one::report_one;
 use report::report_all;
 use std::alloc::Global;
 use std::env;
@@ -33,20 +35,42 @@ fn one_entry(alloc: Global) -> Option<Catalogue> {
     Some(catalogue)
 }
 
+// What the program is called for.
+enum Task {
+    // every row, so many rounds
+    All(u32),
+    // one row on so many threads
+    One(String, u32),
+}
+
+// One row where the environment names it, and else all of them.
+fn read_task(rt: &HostRuntime) -> Option<Task> {
+    match env::var(rt, "TABLE_BENCH_ROW") {
+        Err(_) => rounds(rt).map(Task::All),
+        Ok(row) => {
+            let threads: String = env::var(rt, "TABLE_BENCH_THREADS").ok()?;
+            Some(Task::One(row, threads.as_str().parse().ok()?))
+        }
+    }
+}
+
 fn main(rt: HostRuntime) -> ExitCode {
-    let Some(rounds) = rounds(&rt) else {
-        let _ = println!(rt;
-            "table_bench ROUNDS measures the file tables beside each other, so many rounds"
-        );
-        return ExitCode::SUCCESS;
-    };
     let Some(catalogue) = one_entry(rt.alloc()) else {
         return ExitCode::FAILURE;
     };
     if catalogue.is_empty() {
         return ExitCode::FAILURE;
     }
-    match report_all(&rt, rt.alloc(), &catalogue, rounds) {
+    let done = match read_task(&rt) {
+        Some(Task::All(rounds)) => report_all(&rt, rt.alloc(), &catalogue, rounds),
+        Some(Task::One(row, threads)) => {
+            report_one(&rt, rt.alloc(), &catalogue, row.as_str(), threads)
+        }
+        None => println!(rt;
+            "table_bench ROUNDS measures the file tables beside each other, so many rounds"
+        ).ok(),
+    };
+    match done {
         Some(()) => ExitCode::SUCCESS,
         None => ExitCode::FAILURE,
     }

@@ -51,7 +51,8 @@ impl Ratios {
     }
 }
 
-fn time<S: Subject, R: Threads + Wait + Clock + CpuClock + Sync>(
+/// The nanoseconds that a table needs, on so many threads. `None` where memory or a clock is refused.
+pub(crate) fn time<S: Subject, R: Threads + Wait + Clock + CpuClock + Sync>(
     rt: &R,
     alloc: Global,
     catalogue: &Catalogue,

@@ -1,0 +1,69 @@
+//! How long threads work on a table.
+use crate::table::{Shape, Table};
+use crate::work::{work, Work, INSTALLS};
+use std::sync::Barrier;
+
+#[repr(C)]
+struct Timespec {
+    seconds: i64,
+    nanoseconds: i64,
+}
+
+extern "C" {
+    fn clock_gettime(clock: i32, time: *mut Timespec) -> i32;
+}
+
+/// The seconds on the clock, or for a thread that works alone those of the processor that it has used: other work on the
+/// machine disturbs them less.
+fn now(threads: usize) -> f64 {
+    const CLOCK_MONOTONIC: i32 = 1;
+    const CLOCK_THREAD_CPUTIME_ID: i32 = 3;
+    let clock = if threads == 1 {
+        CLOCK_THREAD_CPUTIME_ID
+    } else {
+        CLOCK_MONOTONIC
+    };
+    let mut time = Timespec {
+        seconds: 0,
+        nanoseconds: 0,
+    };
+    unsafe { clock_gettime(clock, &mut time) };
+    time.seconds as f64 + time.nanoseconds as f64 / 1e9
+}
+
+fn shape(what: Work, slots: usize, threads: usize) -> Shape {
+    let (full, in_range) = match what {
+        Work::Chain { in_range } => (0, in_range),
+        Work::Allocate => (240, true),
+        Work::Look | Work::Mixed => (slots, true),
+    };
+    Shape {
+        slots,
+        full,
+        in_range,
+        threads,
+        installs: INSTALLS,
+    }
+}
+
+/// The seconds from where all threads are there to where the last one ends.
+pub fn time<T: Table>(what: Work, slots: usize, threads: usize) -> f64 {
+    let table = T::open(shape(what, slots, threads));
+    let barrier = Barrier::new(threads);
+    let spans: Vec<(f64, f64)> = std::thread::scope(|scope| {
+        let one = |thread| {
+            let (table, barrier) = (&table, &barrier);
+            scope.spawn(move || {
+                barrier.wait();
+                let begun = now(threads);
+                work(table, what, slots, thread);
+                (begun, now(threads))
+            })
+        };
+        let handles: Vec<_> = (0..threads).map(one).collect();
+        handles.into_iter().map(|it| it.join().unwrap()).collect()
+    });
+    let first = spans.iter().map(|it| it.0).fold(f64::INFINITY, f64::min);
+    let last = spans.iter().map(|it| it.1).fold(0.0, f64::max);
+    last - first
+}

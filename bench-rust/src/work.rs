@@ -1,0 +1,82 @@
+//! What a thread does with a table while it is measured: the same as the proved program does, slot by slot.
+use crate::table::{File, Table, READ_LEN};
+use std::hint::black_box;
+
+#[derive(Clone, Copy)]
+pub enum Work {
+    /// A slot at random is looked up and released.
+    Look,
+    /// The same nine times of ten; the tenth time the file there is replaced and retired.
+    Mixed,
+    /// A file is put at a slot that only this thread uses, looked up, read and released; it is taken and retired.
+    Chain { in_range: bool },
+    /// A file is put at a free slot of a range with 240 of 256 full, taken and retired.
+    Allocate,
+}
+
+pub const INSTALLS: usize = 15_000;
+
+const LOOKS: usize = 200_000;
+
+fn next(random: u32) -> u32 {
+    random.wrapping_mul(1_664_525).wrapping_add(1_013_904_223)
+}
+
+fn file() -> File {
+    File {
+        entry: 0,
+        mark: black_box(0),
+    }
+}
+
+fn look<T: Table>(table: &T, slots: usize, mut random: u32) {
+    for _ in 0..LOOKS {
+        random = next(random);
+        black_box(table.look((random >> 16) as usize & (slots - 1)));
+    }
+}
+
+fn mix<T: Table>(table: &T, slots: usize, mut random: u32) {
+    let mut number = 0;
+    for i in 0..10 * INSTALLS {
+        random = next(random);
+        let slot = (random >> 16) as usize & (slots - 1);
+        if i % 10 == 9 {
+            table.put(&mut number, slot, file());
+        } else {
+            black_box(table.look(slot));
+        }
+    }
+}
+
+fn chain<T: Table>(table: &T, slots: usize, thread: usize) {
+    let catalogue = black_box(vec![vec![7; READ_LEN]]);
+    let (mut number, mut into) = (0, Vec::with_capacity(READ_LEN));
+    for i in 0..INSTALLS {
+        let slot = (64 * thread + i % 64) & (slots - 1);
+        table.put(&mut number, slot, file());
+        table.read(slot, &catalogue, &mut into);
+        black_box(&into);
+        table.take(slot);
+    }
+}
+
+fn allocate<T: Table>(table: &T) {
+    let mut number = 0;
+    for _ in 0..INSTALLS {
+        if let Some(slot) = table.put_any(&mut number, file()) {
+            table.take(slot);
+        }
+    }
+}
+
+/// What the thread of this number does.
+pub fn work<T: Table>(table: &T, work: Work, slots: usize, thread: usize) {
+    let random = (thread as u32).wrapping_mul(40_503).wrapping_add(1);
+    match work {
+        Work::Look => look(table, slots, random),
+        Work::Mixed => mix(table, slots, random),
+        Work::Chain { .. } => chain(table, slots, thread),
+        Work::Allocate => allocate(table),
+    }
+}
