@@ -13,7 +13,7 @@ use Rattle.fx_plain.specs.Table.{numbered, identity_of, number_of, closed_by_rel
 use Rattle.fx_plain.specs.declared.event.File.{File}
 use Rattle.fx_plain.specs.declared.event.Action.TheVariants.{Look, Release, Put, Clear, Take, Allocate, Full, Close}
 use Rattle.fx_plain.proofs.Leading.{same_size}
-use Rattle.fx_table.specs.Numbers.{pass_of_number}
+use Rattle.fx_table.specs.Numbers.{pass_of_number, number_behind}
 use Rattle.fx_table.specs.Opening.{Opening, size_of, state_at}
 use Rattle.fx_table.specs.Pass.{PassView, hold_of, retired_of, next_number}
 use Rattle.fx_table.specs.Calls.{Adds, no_use, one_number, new_file, Releases, Retires, Placed, Cleared}
@@ -30,7 +30,7 @@ use Rattle.fx_baton.specs.declared.view.Call.TheVariants.{Full as FullCall, Clea
 use Rattle.fx_baton.specs.declared.pass.BatonPass.{BatonPass}
 use Rattle.fx_baton.specs.Rule.{opening_of, begin_of, holds_by, IsTurn}
 use Rattle.fx_baton.specs.Turns.{holds_now, retires_now, release_in, retirement_in, actions_of, doing_of, events_of, use_of, table_of_slots}
-use Rattle.fx_baton.specs.Passes.{view_of, is_idle, HasTable, UsesNext, HasCalled}
+use Rattle.fx_baton.specs.Passes.{view_of, is_idle, HasTable, UsesNext, HasCalled, first_own}
 use Rattle.fx_baton.proofs.Counts.{one_if}
 use Rattle.fx_baton.proofs.CallsAreTurns.{look_turn, put_turn, clear_turn, take_turn, allocate_turn, full_turn, letting_go_turn, file_released}
 use Rattle.fx_baton.proofs.CallsAreTurns.{retire_turn, file_retired, is_held, is_leaving}
@@ -130,11 +130,11 @@ module _ {id : TableId} {k : Start} {u : PassView} {c : Contents} {p : BatonPass
         subst (λ (n : ℕ). (pass_of_number k.passes n ≡ log.number) × (256 ≤ n) × (n < 256 + 64 * k.chains)) (sym number_is)
         (a.0 ∙ sym h.seated.number, a.1, a.2)
 
-    behind_own : Rattle.fx_table.specs.Numbers.number_behind log.own ≤ number
+    behind_own : number_behind log.own ≤ number
     behind_own =
-        let own = ap Rattle.fx_baton.specs.Passes.first_own h.seated.one in
+        let own = ap first_own h.seated.one in
         let l = h.seated.turns.unused in
-        let e = ap Rattle.fx_table.specs.Numbers.number_behind own in
+        let e = ap number_behind own in
         let n = number_is in
         omega arith
 

@@ -1,5 +1,6 @@
 -- A birth keeps the rule, and so does a rest.
-use Rattle.std.proofs.Common.{◌≡◌, ◌≢◌, ℕ, ◌+◌, ◌<◌, ◌≤◌, List, [], ◌∷◌, set, length, sym, refl, ap, ◌∙◌, subst, arith, length-set, Option, Some, None, ◌⊎◌, inr, ⊎_elim}
+use Rattle.std.proofs.Common.{◌≡◌, ◌≢◌, ℕ, ◌+◌, ◌<◌, ◌≤◌, List, [], ◌∷◌, set, length, sym, refl, ap}
+use Rattle.std.proofs.Common.{◌∙◌, subst, arith, length-set, Option, Some, None, ◌⊎◌, inr, ⊎_elim}
 use mathlib.Core.Logic.{dite}
 use mathlib.Core.Option.{some, none}
 use native.Mathlib.Decide.{ℕ_discrete}
@@ -25,6 +26,7 @@ use Rattle.fx_counted.proofs.Histories.{grows_none, change_here, change_else}
 use Rattle.fx_counted.proofs.Frames.{busy, does_now}
 use Rattle.fx_counted.proofs.Keeping.{word_at, now, logged, its_log, its_work, tells}
 use Rattle.fx_counted.proofs.NodeSteps.{one_same, near, far, NodeStep, node_agrees}
+use Rattle.fx_counted.specs.Counts.{looks}
 
 -- the file that a pass holds is open
 pub held_file : (k : Start) (phase : ℕ → Phase) (j : ℕ) (u : View) (f : File) → u.work ≡ Holding f
@@ -40,9 +42,9 @@ module _ (st : Shared) (v : View) (r : Agrees v.start st) (id : ℕ) (x : Log) (
 
   -- a number in its phase
   pub in_phase : (q : ℕ) → IsNumber v.start q → (ph : Phase) → r.phase q ≡ ph
-      → NodeAgrees (state_after_all v.start r.history) q (Rattle.fx_counted.specs.Counts.looks r.history q) (word_now q) (home_now q) ph
+      → NodeAgrees (state_after_all v.start r.history) q (looks r.history q) (word_now q) (home_now q) ph
   in_phase q its ph is = subst (NodeAgrees (state_after_all v.start r.history) q
-      (Rattle.fx_counted.specs.Counts.looks r.history q) (word_now q) (home_now q)) is (r.each_node q its)
+      (looks r.history q) (word_now q) (home_now q)) is (r.each_node q its)
 
   pub roomy : (q : ℕ) → IsNumber v.start q → place_of v.start q < length st.homes
   roomy q its = let a = r.shape.homes in let b = (near st v r id x here one).home q its in omega arith
@@ -107,7 +109,7 @@ module _ (st : Shared) (v : View) (r : Agrees v.start st) (id : ℕ) (x : Log) (
   module _ (q : ℕ) (its : IsNumber v.start q) (ph ph' : Phase) (is : r.phase q ≡ ph) (owned : owner ph ≡ id + 1)
       (no_file : file_in ph ≡ None) (not_new : ph ≢ unborn) (not_spare : (p : ℕ) → ph ≢ spare p)
       (d : held_in v.work ≡ None) (works : busy v.work ≡ q + 1) (none_held : (n : ℕ) → holding n v.work ≡ 0) where
-    rest_step : NodeAgrees (state_after_all v.start r.history) q (Rattle.fx_counted.specs.Counts.looks r.history q) 0
+    rest_step : NodeAgrees (state_after_all v.start r.history) q (looks r.history q) 0
         (some (some None)) ph' → OwnerAgrees
         (set st.views id (now v (logged x r.history x.numbers_left x.looks_left) Idle v.change)) q ph'
         → ((n : ℕ) → next_in x ≤ n → n < end_in x → changed_at r.phase q ph' n ≡ spare x.number)
@@ -129,7 +131,7 @@ module _ (st : Shared) (v : View) (r : Agrees v.start st) (id : ℕ) (x : Log) (
           ∙ (ap file_in is ∙ no_file) in let z : None ≡ Some f.identity = sym g ∙ e in cc z);
       free = λ m other bad. other (omega arith);
       node = subst (λ (e : Home). NodeAgrees (state_after_all v.start r.history) q
-          (Rattle.fx_counted.specs.Counts.looks r.history q) 0 e ph')
+          (looks r.history q) 0 e ph')
           (sym (set_here st.homes (place_of v.start q) (some None) (roomy q its))) node;
       known = known;
       held = o.held ∙ d;

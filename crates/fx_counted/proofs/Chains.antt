@@ -1,6 +1,8 @@
 -- A draw keeps the rule.
 use Rattle.std.specs.Prelude.{sum_by}
-use Rattle.std.proofs.Common.{◌≡◌, ◌≢◌, ℕ, zero, suc, ◌+◌, ◌%◌, ◌^◌, ◌<◌, ◌≤◌, Bool, true, false, cond, List, [], ◌∷◌, set, length, sym, refl, ap, ◌∙◌, subst, arith, eqb, eq-eqb, ne_eqb, lt-ltb, le-ltb, length-set, get_or-set_other, get_or-set_same, Option, Some, None, ◌⊎◌, inl, inr, ⊎_elim}
+use Rattle.std.proofs.Common.{◌≡◌, ◌≢◌, ℕ, zero, suc, ◌+◌, ◌%◌, ◌^◌, ◌<◌, ◌≤◌, Bool, true, false, cond, List, [], ◌∷◌}
+use Rattle.std.proofs.Common.{set, length, sym, refl, ap, ◌∙◌, subst, arith, eqb, eq-eqb, ne_eqb, lt-ltb, le-ltb}
+use Rattle.std.proofs.Common.{length-set, get_or-set_other, get_or-set_same, Option, Some, None, ◌⊎◌, inl, inr, ⊎_elim}
 use mathlib.Core.Logic.{dite}
 use mathlib.Core.Option.{some, none}
 use native.Mathlib.Decide.{ℕ_discrete, dec_le}
@@ -12,7 +14,7 @@ use Rattle.fx_table.specs.Numbers.{numbers_for}
 use Rattle.fx_table.specs.Pass.{PassView}
 use Rattle.std.proofs.lemmas.List.Sums.{sum_by-cons}
 use Rattle.fx_table.proofs.SumLemmas.{sum_set, sum_at, sum_le_at}
-use Rattle.fx_counted.specs.Agrees.{NodeAgrees, OwnerAgrees, LogAgrees, lengths, Agrees}
+use Rattle.fx_counted.specs.Agrees.{NodeAgrees, OwnerAgrees, LogAgrees, lengths, Agrees, PlacesNext, WorkAgrees}
 use Rattle.fx_counted.specs.Draws.{DrawsCount}
 use Rattle.fx_counted.specs.Laws.{word_of, place_of, DrawsKeep}
 use Rattle.fx_counted.specs.Layout.{control_place, draw_place, slot_place}
@@ -29,6 +31,7 @@ use Rattle.fx_counted.proofs.Keeping.{word_at, now, its_log, Step, step_kept}
 use Rattle.fx_counted.proofs.NodeSteps.{near, far}
 use Rattle.fx_counted.proofs.Unchanged.{slot_same, control_same}
 use Rattle.fx_counted.proofs.Ones.{one_if, times}
+use Rattle.fx_counted.specs.Counts.{looks}
 
 abbrev pick : {P : Type 0} → Dec P → Phase → Phase → Phase
 pick (yes _) a b = a
@@ -123,7 +126,7 @@ module _ (st : Shared) (v : View) (r : Agrees v.start st) (id : ℕ) (x : Log) (
     read_else place other = get_or-set_other st.words draw_place place (found + 1) 0 other
 
     draw_step : ((n : ℕ) → (r.phase n ≡ phase' n) ⊎ ((r.phase n ≡ unborn) × (phase' n ≡ spare x.number)))
-        → LogAgrees v.start r.history phase' id v.work y → Rattle.fx_counted.specs.Agrees.WorkAgrees v.start phase' id v.work
+        → LogAgrees v.start r.history phase' id v.work y → WorkAgrees v.start phase' id v.work
         → DrawsCount v.start.chains phase' (set st.views id w) (found + 1)
         → Step st v r id x here one y v.work v.change r.history phase' words' st.homes
     draw_step phases log work draws = let apart = far st v r id x here one in record {
@@ -140,16 +143,16 @@ module _ (st : Shared) (v : View) (r : Agrees v.start st) (id : ℕ) (x : Log) (
                 × (phase' f.number ≡ spare x.number)). absurd (cc (sym seat ∙ e.0))) (phases f.number),
           )) (r.each_slot s l);
       nodes = λ n has. subst (λ (z : ℕ). NodeAgrees (state_after_all v.start r.history) n
-          (Rattle.fx_counted.specs.Counts.looks r.history n) z (get_elem? st.homes (place_of v.start n)) (phase' n))
+          (looks r.history n) z (get_elem? st.homes (place_of v.start n)) (phase' n))
           (sym (read_else (word_of v.start n) (apart.node_and_draw n has)))
           (⊎_elim
           (λ (e : r.phase n ≡ phase' n). subst
-          (NodeAgrees (state_after_all v.start r.history) n (Rattle.fx_counted.specs.Counts.looks r.history n)
+          (NodeAgrees (state_after_all v.start r.history) n (looks r.history n)
           (word_at st.words (word_of v.start n)) (get_elem? st.homes (place_of v.start n))) e (r.each_node n has))
           (λ (e : (r.phase n ≡ unborn) × (phase' n ≡ spare x.number)). subst
-          (NodeAgrees (state_after_all v.start r.history) n (Rattle.fx_counted.specs.Counts.looks r.history n)
+          (NodeAgrees (state_after_all v.start r.history) n (looks r.history n)
           (word_at st.words (word_of v.start n)) (get_elem? st.homes (place_of v.start n))) (sym e.1)
-          (subst (NodeAgrees (state_after_all v.start r.history) n (Rattle.fx_counted.specs.Counts.looks r.history n)
+          (subst (NodeAgrees (state_after_all v.start r.history) n (looks r.history n)
           (word_at st.words (word_of v.start n)) (get_elem? st.homes (place_of v.start n))) e.0 (r.each_node n has)))
           (phases n));
       owners = λ n has. ⊎_elim
@@ -183,8 +186,8 @@ module _ (st : Shared) (v : View) (r : Agrees v.start st) (id : ℕ) (x : Log) (
     drawn_v c = let e : drawn_of c v ≡ 0 + times c x.drawn = ap (λ (l : List Log). sum_by (λ z. times c z.drawn) l) one in omega arith
 
   module _ (idle : v.work ≡ Idle) (untold : x.no_chains_left ≡ false) where
-    idle_work : (phase' : ℕ → Phase) → Rattle.fx_counted.specs.Agrees.WorkAgrees v.start phase' id v.work
-    idle_work phase' = subst (Rattle.fx_counted.specs.Agrees.WorkAgrees v.start phase' id) (sym idle) tt
+    idle_work : (phase' : ℕ → Phase) → WorkAgrees v.start phase' id v.work
+    idle_work phase' = subst (WorkAgrees v.start phase' id) (sym idle) tt
 
     -- there is a next chain
     module _ (more : found < v.start.chains) where
@@ -231,7 +234,8 @@ module _ (st : Shared) (v : View) (r : Agrees v.start st) (id : ℕ) (x : Log) (
                 let o2 : once (found + 1) c ≡ 0 = ap (once (found + 1)) none in omega arith)
                 (λ some_c. let o1 = once_in found c (omega (arith, some_c)) low in
                 let o2 = once_in (found + 1) c (omega (arith, some_c)) (omega (arith, low)) in omega arith))
-                (λ high. let o1 = once_out found c (omega (arith, high)) in let o2 = once_out (found + 1) c (omega (arith, high, other)) in omega arith));
+                (λ high. let o1 = once_out found c (omega (arith, high)) in
+                let o2 = once_out (found + 1) c (omega (arith, high, other)) in omega arith));
             counts = omega arith;
             all = λ some_told. absurd (omega arith);
             unused = λ n low high. given_else (numbers_for found) (numbers_for (found + 1)) x.number r.phase n
@@ -246,7 +250,7 @@ module _ (st : Shared) (v : View) (r : Agrees v.start st) (id : ℕ) (x : Log) (
         chain = omega arith;
         few_left = omega arith;
         left_inside = omega arith;
-        next = subst (Rattle.fx_counted.specs.Agrees.PlacesNext y) (sym idle) tt;
+        next = subst (PlacesNext y) (sym idle) tt;
         spares = λ n low high. given_in (numbers_for found) (numbers_for (found + 1)) x.number r.phase n (omega arith) high;
       }
 
@@ -303,7 +307,7 @@ module _ (st : Shared) (v : View) (r : Agrees v.start st) (id : ℕ) (x : Log) (
         chain = o.chain;
         few_left = o.few_left;
         left_inside = o.left_inside;
-        next = subst (Rattle.fx_counted.specs.Agrees.PlacesNext y') (sym idle) tt;
+        next = subst (PlacesNext y') (sym idle) tt;
         spares = o.spares;
       }
 

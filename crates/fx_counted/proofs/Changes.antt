@@ -1,5 +1,6 @@
 -- An installation and a removal keep the rule.
-use Rattle.std.proofs.Common.{◌≡◌, ◌≢◌, ℕ, ◌-◌, ◌<◌, ◌^◌, Bool, false, List, [], ◌∷◌, set, sym, refl, ap, ◌∙◌, subst, arith, length-set, Option, Some, None}
+use Rattle.std.proofs.Common.{◌≡◌, ◌≢◌, ℕ, ◌-◌, ◌<◌, ◌^◌, Bool, false, List, [], ◌∷◌, set, sym}
+use Rattle.std.proofs.Common.{refl, ap, ◌∙◌, subst, arith, length-set, Option, Some, None}
 use mathlib.Core.Logic.{dite}
 use mathlib.Core.Option.{some}
 use native.Mathlib.Decide.{ℕ_discrete}
@@ -12,6 +13,7 @@ use Rattle.fx_plain.specs.Table.{numbered}
 use Rattle.fx_plain.specs.declared.event.File.{File}
 use Rattle.fx_plain.specs.declared.event.Event.{Event}
 use Rattle.fx_plain.specs.declared.event.Action.{Action}
+use Rattle.fx_plain.specs.State.{State}
 use Rattle.fx_table.specs.Calls.{no_use, one_number}
 use Rattle.fx_table.specs.Opening.{range_of}
 use Rattle.fx_table.specs.Pass.{event_of}
@@ -35,6 +37,7 @@ use Rattle.fx_counted.proofs.Histories.{IsHistory, grows_one, part_mine, change_
 use Rattle.fx_counted.proofs.Keeping.{Homes, word_at, now, logged, its_log, its_work, tells}
 use Rattle.fx_counted.proofs.Swaps.{NotOf, removed_else, found, state, so, seat_of, not_old, elsewhere, w, Swap, swap_agrees}
 use Rattle.fx_counted.proofs.Unchanged.{node_same}
+use Rattle.fx_counted.specs.declared.view.Change.{Change}
 
 module _ (st : Shared) (v : View) (r : Agrees v.start st) (id : ℕ) (x : Log) (here : get_elem? st.views id ≡ some v)
     (one : v.logs ≡ x ∷ []) (s : ℕ) (inside : s < slots_of v.start) (stands : Stands (range_of (opening_of v.start)) s v.change)
@@ -42,7 +45,7 @@ module _ (st : Shared) (v : View) (r : Agrees v.start st) (id : ℕ) (x : Log) (
   abbrev f₀ : ℕ
   f₀ = found st v r id x here one s inside
 
-  abbrev pub s₀ : Rattle.fx_plain.specs.State.State
+  abbrev pub s₀ : State
   s₀ = state st v r id x here one s inside
 
   pub in_size : s < s₀.size
@@ -58,7 +61,7 @@ module _ (st : Shared) (v : View) (r : Agrees v.start st) (id : ℕ) (x : Log) (
   abbrev pub event : Action → Event
   event a = event_of (shown x v.work) a
 
-  abbrev pub after : Action → Rattle.fx_plain.specs.State.State
+  abbrev pub after : Action → State
   after a = state_after_all v.start (event a ∷ r.history)
 
   -- what a removal, and an installation of the file, do to the state
@@ -160,7 +163,7 @@ module _ (st : Shared) (v : View) (r : Agrees v.start st) (id : ℕ) (x : Log) (
     else_phase : (m : ℕ) (ph : Phase) → r.phase m ≡ ph → (ph ≡ placed id → ⊥) → phase₁ m ≡ ph
     else_phase m ph is other = change_else r.phase n (seated s file) m (λ same. other (sym is ∙ (ap r.phase same ∙ its.1))) ∙ is
 
-    abbrev c : Rattle.fx_counted.specs.declared.view.Change.Change
+    abbrev c : Change
     c = turned v.change (if_full old) 1
 
     abbrev w₁ : View

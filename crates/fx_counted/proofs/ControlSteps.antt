@@ -1,6 +1,7 @@
 -- Begin, end, answer and load keep the rule.
 use Rattle.std.specs.Prelude.{sum_by}
-use Rattle.std.proofs.Common.{◌≡◌, ◌≢◌, ℕ, zero, suc, ◌+◌, ◌-◌, ◌/◌, ◌%◌, ◌^◌, ◌<◌, ◌≤◌, List, [], ◌∷◌, set, length, sym, refl, ap, subst, arith, length-set, get_or-set_other, get_or-set_same, Option, IsSome}
+use Rattle.std.proofs.Common.{◌≡◌, ◌≢◌, ℕ, zero, suc, ◌+◌, ◌-◌, ◌/◌, ◌%◌, ◌^◌, ◌<◌, ◌≤◌, List, [], ◌∷◌, set, length, sym}
+use Rattle.std.proofs.Common.{refl, ap, subst, arith, length-set, get_or-set_other, get_or-set_same, Option, IsSome}
 use mathlib.Core.Logic.{dite}
 use mathlib.Core.Option.{some, none, some-injective, some-ne-none}
 use native.Mathlib.Decide.{ℕ_discrete}
@@ -36,6 +37,7 @@ use Rattle.fx_counted.proofs.Histories.{IsHistory, grows_none, grows_one, legal_
 use Rattle.fx_counted.proofs.Keeping.{word_at, now, logged, its_work, tells}
 use Rattle.fx_counted.proofs.NodeSteps.{near, far}
 use Rattle.fx_counted.proofs.Retirements.{sub_wraps}
+use Rattle.fx_counted.specs.Phases.{Phase}
 
 -- what one of them adds to the gap between two totals
 pub total_gap : {X : Type 0} (f g : X → ℕ) (xs : List X) (i : ℕ) (v : X) → get_elem? xs i ≡ some v
@@ -65,7 +67,7 @@ removes_inside Same = omega arith
 removes_inside More = omega arith
 removes_inside Less = omega arith
 
-is_inside : (k : Start) (phase : ℕ → Rattle.fx_counted.specs.Phases.Phase) (seat : ℕ) (d : Work) → WorkAgrees k phase seat d → IsInside k d
+is_inside : (k : Start) (phase : ℕ → Phase) (seat : ℕ) (d : Work) → WorkAgrees k phase seat d → IsInside k d
 is_inside k phase seat Idle o = tt
 is_inside k phase seat (Placing n) o = o.0
 is_inside k phase seat (Holding f) o = o.0

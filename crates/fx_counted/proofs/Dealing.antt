@@ -9,7 +9,7 @@ use Rattle.fx_table.specs.Pass.{PassView, IsFront, new_pass, new_passes, new_pas
 use Rattle.fx_counted.specs.Cuts.{new_logs, without_first, first_alone, rest_of, first_of}
 use Rattle.fx_counted.specs.Lives.{dealt, IsNewPass}
 use Rattle.fx_counted.specs.Passes.{Sat, opening_of, new_log, pass_of}
-use Rattle.fx_counted.specs.Tables.{view_of, IsPassOf, IsSeated}
+use Rattle.fx_counted.specs.Tables.{view_of, IsPassOf, IsSeated, is_idle}
 use Rattle.fx_counted.specs.declared.pass.CountedPass.{CountedPass}
 use Rattle.fx_counted.specs.declared.view.Log.{Log}
 use Rattle.fx_counted.specs.declared.view.Start.{Start}
@@ -82,6 +82,6 @@ module _ (id : TableId) (k : Start) (p : ℕ) (low : 1 ≤ p) (high : p ≤ k.pa
       no_chains_left = new.chains_left;
       numbers_left = new.numbers;
       looks_left = new.looks;
-      idle = new.flag ∙ sym (ap (λ (m : Sat). Rattle.fx_counted.specs.Tables.is_idle m.0.work) me);
+      idle = new.flag ∙ sym (ap (λ (m : Sat). is_idle m.0.work) me);
     };
   }

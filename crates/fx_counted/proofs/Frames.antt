@@ -1,6 +1,7 @@
 -- What a step of one seat leaves as it was.
 use Rattle.std.specs.Prelude.{sum_by}
-use Rattle.std.proofs.Common.{◌≡◌, ◌≢◌, ℕ, zero, suc, ◌+◌, ◌<◌, ◌≤◌, true, false, List, [], ◌∷◌, set, length, sym, refl, ap, ◌∙◌, subst, arith, eq-eqb, nat_lt, ◌⊎◌, inl, inr, ⊎_elim, Some, None}
+use Rattle.std.proofs.Common.{◌≡◌, ◌≢◌, ℕ, zero, suc, ◌+◌, ◌<◌, ◌≤◌, true, false, List, [], ◌∷◌, set, length, sym}
+use Rattle.std.proofs.Common.{refl, ap, ◌∙◌, subst, arith, eq-eqb, nat_lt, ◌⊎◌, inl, inr, ⊎_elim, eqb}
 use mathlib.Core.Option.{some, some-injective, some-ne-none}
 use lib.ListN.{get_elem?}
 use Rattle.atomic_table.proofs.Lists.{at_set, set_here, set_else}
@@ -77,7 +78,7 @@ pub once_few : (n p : ℕ) → once n p ≤ 1
 once_few n zero = omega arith
 once_few n (suc p) = elim (nat_lt p n) as (λ b. one_if b ≤ 1) [ true ↦ omega arith | false ↦ omega arith ]
 
-bit_one : (p q : ℕ) → q ≡ p → one_if (Rattle.std.proofs.Common.eqb q p) ≡ 1
+bit_one : (p q : ℕ) → q ≡ p → one_if (eqb q p) ≡ 1
 bit_one p q e = rw (eq-eqb q p e) refl
 
 -- a pass that one view has is in no other one
@@ -88,10 +89,10 @@ not_there k st r id j v u x here one other there i y at same =
     let t = sum_two (logs_of x.number) st.views j id u v other there here in
     let a = r.passes x.number in
     let b = once_few k.passes x.number in
-    let c : logs_of x.number v ≡ 0 + one_if (Rattle.std.proofs.Common.eqb x.number x.number) = ap
-    (λ (l : List Log). sum_by (λ z. one_if (Rattle.std.proofs.Common.eqb z.number x.number)) l) one in
+    let c : logs_of x.number v ≡ 0 + one_if (eqb x.number x.number) = ap
+    (λ (l : List Log). sum_by (λ z. one_if (eqb z.number x.number)) l) one in
     let d = bit_one x.number x.number refl in
-    let e = sum_at (λ z. one_if (Rattle.std.proofs.Common.eqb z.number x.number)) u.logs i y at in
+    let e = sum_at (λ z. one_if (eqb z.number x.number)) u.logs i y at in
     let f = bit_one x.number y.number same in
     omega arith
 

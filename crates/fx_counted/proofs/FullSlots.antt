@@ -1,5 +1,6 @@
 -- The control word when a slot changes.
-use Rattle.std.proofs.Common.{◌≡◌, ◌≢◌, ℕ, zero, suc, ◌+◌, ◌<◌, ◌≤◌, List, set, sym, refl, ap, ◌∙◌, ◌⊎◌, inl, inr, ⊎_elim, arith, Option, Some, None, IsSome}
+use Rattle.std.proofs.Common.{◌≡◌, ◌≢◌, ℕ, zero, suc, ◌+◌, ◌<◌, ◌≤◌, List, set, sym, refl, ap}
+use Rattle.std.proofs.Common.{◌∙◌, ◌⊎◌, inl, inr, ⊎_elim, arith, Option, Some, None, IsSome, subst}
 use mathlib.Core.Logic.{dite}
 use mathlib.Core.Option.{some}
 use native.Mathlib.Decide.{ℕ_discrete}
@@ -51,7 +52,7 @@ some_full (Some f) e = refl
 pub full_all : (at : ℕ → Option File) (off len : ℕ) → full_in at off len ≡ len → (slot : ℕ) → off ≤ slot → slot < off + len → IsSome (at slot)
 full_all at off zero e slot low high = absurd (omega arith)
 full_all at off (suc len) e slot low high = let a = full_few at off len in let b = full_one (at (off + len)) in dite (ℕ_discrete slot (off + len))
-    (λ same. Rattle.std.proofs.Common.subst (λ (i : ℕ). IsSome (at i)) (sym same) (some_full (at (off + len)) (omega arith)))
+    (λ same. subst (λ (i : ℕ). IsSome (at i)) (sym same) (some_full (at (off + len)) (omega arith)))
     (λ else. full_all at off len (omega arith) slot low (omega arith))
 
 -- where a slot is, and where the pass then stands

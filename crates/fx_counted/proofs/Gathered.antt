@@ -13,7 +13,8 @@ use Rattle.fx_plain.specs.State.{IsSettled}
 use Rattle.fx_table.specs.Closing.{ClosesTable, times_drawn}
 use Rattle.fx_table.specs.Opening.{HasSameFiles}
 use Rattle.fx_table.specs.Pass.{PassView}
-use Rattle.fx_table.proofs.Members.{contains_none, contains_head, contains_tail, contains_cases, contains_only, contains_map, contains_mapped, contains_reverse, contains_reversed}
+use Rattle.fx_table.proofs.Members.{contains_none, contains_head, contains_tail, contains_cases, contains_only}
+use Rattle.fx_table.proofs.Members.{contains_map, contains_mapped, contains_reverse, contains_reversed}
 use Rattle.fx_table.proofs.SumLemmas.{sum_map, sum_reverse}
 use Rattle.fx_counted.specs.Agrees.{Agrees}
 use Rattle.fx_counted.specs.Lives.{logs_in}

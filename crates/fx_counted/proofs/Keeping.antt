@@ -1,6 +1,7 @@
 -- A step of a seat with one pass keeps the rule, if it keeps what the step changes.
 use Rattle.std.specs.Prelude.{sum_by}
-use Rattle.std.proofs.Common.{◌≡◌, ◌≢◌, ℕ, zero, suc, ◌+◌, ◌*◌, ◌^◌, ◌<◌, ◌≤◌, List, [], ◌∷◌, ◌++◌, map, set, length, sym, refl, ap, ◌∙◌, subst, arith, get_or, Option, Some, None, ◌⊎◌, inl, inr, ⊎_elim}
+use Rattle.std.proofs.Common.{◌≡◌, ℕ, zero, suc, ◌+◌, ◌<◌, ◌≤◌, List, [], ◌∷◌, ◌++◌, map, set, length}
+use Rattle.std.proofs.Common.{sym, refl, ap, ◌∙◌, subst, arith, get_or, Option, None, inr, eq-eqb, eqb}
 use mathlib.Core.Option.{some, some-injective, some-ne-none}
 use mathlib.Core.Option as maybe
 use lib.ListN.{get_elem?}
@@ -11,7 +12,7 @@ use Rattle.fx_plain.specs.declared.event.Action.{Action}
 use Rattle.fx_table.specs.Calls.{Use, Adds}
 use Rattle.fx_table.specs.Opening.{range_of}
 use Rattle.fx_table.specs.Pass.{PassView, event_of}
-use Rattle.fx_table.proofs.SumLemmas.{sum_set}
+use Rattle.fx_table.proofs.SumLemmas.{sum_set, sum_at}
 use Rattle.fx_counted.specs.Agrees.{SlotAgrees, NodeAgrees, OwnerAgrees, WorkAgrees, LogAgrees, ViewAgrees, lengths, Agrees}
 use Rattle.fx_counted.specs.Control.{ControlCounts}
 use Rattle.fx_counted.specs.Counts.{looks, all_looks}
@@ -119,8 +120,8 @@ module _ (st : Shared) (v : View) (r : Agrees v.start st) (id : ℕ) (x : Log) (
       holds = λ n. let t = sum_set (held_of n) st.views id v (now v y d c) here in let a = r.holds n in let b = s.holds n in omega arith;
       look_ups = let t = sum_set looks_of st.views id v (now v y d c) here in let a = r.look_ups in
           let b = s.look_ups in let e = one_total (λ z. z.looks_left) in omega arith;
-      passes = λ p. total_same (λ z. one_if (Rattle.std.proofs.Common.eqb z.number p))
-          (ap (λ (q : ℕ). one_if (Rattle.std.proofs.Common.eqb q p)) s.number) ∙ r.passes p;
+      passes = λ p. total_same (λ z. one_if (eqb z.number p))
+          (ap (λ (q : ℕ). one_if (eqb q p)) s.number) ∙ r.passes p;
       whole = let t = sum_set lengths st.views id v (now v y d c) here in let e = ap (length {A = Log}) one in let a = r.whole in omega arith;
       authors = λ p none. let t = r.passes p in let u = total_its p in
           s.grows.parts p (λ same. let a = its_one p same in omega arith) ∙ r.authors p none;
@@ -129,10 +130,10 @@ module _ (st : Shared) (v : View) (r : Agrees v.start st) (id : ℕ) (x : Log) (
     }
       where
         total_its : (p : ℕ) → logs_of p v ≤ sum_by (logs_of p) st.views
-        total_its p = Rattle.fx_table.proofs.SumLemmas.sum_at (logs_of p) st.views id v here
+        total_its p = sum_at (logs_of p) st.views id v here
 
         its_one : (p : ℕ) → x.number ≡ p → logs_of p v ≡ 1
-        its_one p same = one_total (λ z. one_if (Rattle.std.proofs.Common.eqb z.number p)) ∙ rw (Rattle.std.proofs.Common.eq-eqb x.number p same) refl
+        its_one p same = one_total (λ z. one_if (eqb z.number p)) ∙ rw (eq-eqb x.number p same) refl
 
   -- what the step tells
   pub tells : (carried homes : List (ℕ × Option Closed)) (h' : List Event) (left looks_left : ℕ) (d : Work)

@@ -16,14 +16,15 @@ use Rattle.fx_table.specs.Opening.{range_of}
 use Rattle.fx_table.specs.Pass.{event_of}
 use Rattle.fx_words.specs.Words.{name_in, entry_in, takes_in}
 use Rattle.fx_words.proofs.Parts.{name_more, entry_more, takes_more}
-use Rattle.fx_counted.specs.Agrees.{Names, IsSeated, SlotAgrees, NodeAgrees, OwnerAgrees, Agrees}
+use Rattle.fx_counted.specs.Agrees.{Names, IsSeated, SlotAgrees, NodeAgrees, Agrees, PlacesNext, WorkAgrees}
 use Rattle.fx_counted.specs.Counts.{looks}
 use Rattle.fx_counted.specs.Control.{full_in}
 use Rattle.fx_counted.specs.Laws.{LooksKeep, word_of, place_of}
 use Rattle.fx_counted.specs.Layout.{slot_place, slot_of, control_place}
-use Rattle.fx_counted.specs.Passes.{Shared, opening_of, slots_of, IsNumber, state_after_all, shown, end_in, next_in, held_in, placing, held_of, holding, looks_of}
+use Rattle.fx_counted.specs.Passes.{Shared, opening_of, slots_of, IsNumber, state_after_all, shown}
+use Rattle.fx_counted.specs.Passes.{held_in, placing, held_of, holding, Sat}
 use Rattle.fx_counted.specs.Phases.{Phase, seated, file_in}
-use Rattle.fx_counted.specs.Tells.{Stepped, Looks, holds_now}
+use Rattle.fx_counted.specs.Tells.{Stepped, Looks, holds_now, IsInside}
 use Rattle.fx_counted.specs.declared.view.Log.{Log}
 use Rattle.fx_counted.specs.declared.view.Start.{Start}
 use Rattle.fx_counted.specs.declared.view.View.{View}
@@ -91,7 +92,7 @@ module _ (st : Shared) (v : View) (r : Agrees v.start st) (id : ℕ) (x : Log) (
       abbrev w : View
       w = now v y (holds_now file) v.change
 
-      told : (carried : List (ℕ × Option Closed)) → Rattle.fx_counted.specs.Tells.IsInside v.start (holds_now file)
+      told : (carried : List (ℕ × Option Closed)) → IsInside v.start (holds_now file)
           → Stepped (v, carried) ([] ▷ Look s file) one_look (holds_now file) v.change (w, carried)
       told carried its = tells st v r id x here one carried carried h' x.numbers_left (x.looks_left - 1)
           (holds_now file) v.change ([] ▷ Look s file) one_look (grows_one x.number r.history e refl) legal
@@ -109,8 +110,8 @@ module _ (st : Shared) (v : View) (r : Agrees v.start st) (id : ℕ) (x : Log) (
           → NodeAgrees (state_after_all v.start h') n (looks h' n) (word_at st.words (word_of v.start n))
           (get_elem? st.homes (place_of v.start n)) (r.phase n))
           (held : held_by h' x.number ≡ held_in (holds_now file))
-          (next : Rattle.fx_counted.specs.Agrees.PlacesNext y (holds_now file)) (placed : placing (holds_now file) ≡ 0)
-          (work : Rattle.fx_counted.specs.Agrees.WorkAgrees v.start r.phase id (holds_now file)) (holds : (n : ℕ)
+          (next : PlacesNext y (holds_now file)) (placed : placing (holds_now file) ≡ 0)
+          (work : WorkAgrees v.start r.phase id (holds_now file)) (holds : (n : ℕ)
           → (state_after_all v.start h').holds n ≡ old.holds n + holding n (holds_now file)) where
         look_step : SlotStep st v r id x here one s inside y (holds_now file) v.change h' r.phase word' st.homes
         look_step = let o = its_log st v r id x here one in let p = ap placing idle in record {
@@ -228,7 +229,7 @@ module _ (st : Shared) (v : View) (r : Agrees v.start st) (id : ℕ) (x : Log) (
         × Agrees v.start (stepped st (slot_place s) word' id carried w a)
         × Looks (step slots (slot_place s) 1 0 none) (v, carried) found (w, carried_after carried a)
 
-    at_slot : (m m' : Rattle.fx_counted.specs.Passes.Sat) (file : Option File)
+    at_slot : (m m' : Sat) (file : Option File)
         → Stepped m ([] ▷ Look s file) one_look (holds_now file) v.change m'
         → Stepped m ([] ▷ Look (slot_of (slot_place s)) file) one_look (holds_now file) v.change m'
     at_slot m m' file = subst (λ (z : ℕ). Stepped m ([] ▷ Look z file) one_look (holds_now file) v.change m')

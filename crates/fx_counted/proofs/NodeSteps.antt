@@ -1,5 +1,6 @@
 -- A step on the word and the place of one number, at which no slot changes.
-use Rattle.std.proofs.Common.{◌≡◌, ◌≢◌, ℕ, ◌+◌, ◌<◌, ◌≤◌, List, [], ◌∷◌, set, get_or, length, sym, refl, ap, ◌∙◌, subst, arith, length-set, get_or-set_other, get_or-set_same, Option, Some, None}
+use Rattle.std.proofs.Common.{◌≡◌, ◌≢◌, ℕ, ◌+◌, ◌<◌, ◌≤◌, List, [], ◌∷◌, set, length, sym, refl, ap, ◌∙◌}
+use Rattle.std.proofs.Common.{subst, arith, length-set, get_or-set_other, get_or-set_same, Option, Bool}
 use mathlib.Core.Logic.{dite}
 use mathlib.Core.Option.{some}
 use native.Mathlib.Decide.{ℕ_discrete}
@@ -136,7 +137,7 @@ module _ (st : Shared) (v : View) (r : Agrees v.start st) (id : ℕ) (x : Log) (
             (looks h' n) (word_at st.words (node_place (slots_of v.start) n))
             (word_at (set st.words i word') (node_place (slots_of v.start) n))
             (get_elem? st.homes (home_place (slots_of v.start) n)) (get_elem? homes' (home_place (slots_of v.start) n))
-            (ap (λ (g : ℕ → Rattle.std.proofs.Common.Bool). g n) s.told.fresh) (s.told.removed n other)
+            (ap (λ (g : ℕ → Bool). g n) s.told.fresh) (s.told.removed n other)
             (s.told.holds n other) (ap (λ (g : ℕ → ℕ). g n) s.told.looked)
             (word_else (node_place (slots_of v.start) n) (far.nodes n q has its other))
             (s.home_else n has other) s.told.size (r.phase n) (λ slot f is there. at_is slot) (r.each_node n has)));

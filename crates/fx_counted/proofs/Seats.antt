@@ -1,7 +1,8 @@
 -- A seat is split off, and one is joined back.
 use Rattle.std.specs.Prelude.{sum_by}
 use Rattle.std.proofs.lemmas.List.Sums.{sum_by-append}
-use Rattle.std.proofs.Common.{◌≡◌, ◌≢◌, ℕ, zero, suc, ◌+◌, List, [], ◌∷◌, ◌++◌, length, set, sym, refl, ap, ◌∙◌, subst, arith, ◌⊎◌, inl, inr, ⊎_elim, length-append}
+use Rattle.std.proofs.Common.{◌≡◌, ◌≢◌, ℕ, zero, suc, ◌+◌, List, [], ◌∷◌, ◌++◌, length, set, sym}
+use Rattle.std.proofs.Common.{refl, ap, ◌∙◌, subst, arith, ◌⊎◌, inl, inr, ⊎_elim, length-append, eqb}
 use mathlib.Core.Option.{some, some-injective, some-ne-none}
 use lib.ListN.{get_elem?}
 use Rattle.atomic_table.proofs.Lists.{at_set, set_else, at_snoc, at_longer}
@@ -122,8 +123,8 @@ module _ (k : Start) (id : ℕ) (v : View) (idle : v.work ≡ Idle) (out : v.cha
     holds = λ n. let e = ap (holding n) idle in let a = same_counts (held_of n) e e e in let b = r.holds n in omega arith;
     look_ups = let a = counts (sum_by (λ (y : Log). y.looks_left))
         (λ y m. sum_by-append (λ (y : Log). y.looks_left) (y ∷ []) m) refl in let b = r.look_ups in omega arith;
-    passes = λ p. counts (sum_by (λ (y : Log). one_if (Rattle.std.proofs.Common.eqb y.number p)))
-        (λ y m. sum_by-append (λ (y : Log). one_if (Rattle.std.proofs.Common.eqb y.number p)) (y ∷ []) m) refl ∙ r.passes p;
+    passes = λ p. counts (sum_by (λ (y : Log). one_if (eqb y.number p)))
+        (λ y m. sum_by-append (λ (y : Log). one_if (eqb y.number p)) (y ∷ []) m) refl ∙ r.passes p;
     whole = counts (length {A = Log}) (λ y m. omega arith) refl ∙ r.whole;
     authors = r.authors;
     control = let a = ap in_change out in let b = ap added out in let c = ap removed_by out in let u = r.control.upper in let l = r.control.lower in

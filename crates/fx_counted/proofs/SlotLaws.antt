@@ -1,5 +1,6 @@
 -- Swaps, loads and exchanges keep the rule.
-use Rattle.std.proofs.Common.{◌≡◌, ◌≢◌, ℕ, zero, suc, ◌+◌, ◌-◌, ◌*◌, ◌<◌, ◌≤◌, ◌^◌, Bool, List, [], ◌∷◌, set, get_or, length, sym, refl, ap, ◌∙◌, subst, arith, eqb, Option, Some, None, inl, inr}
+use Rattle.std.proofs.Common.{◌≡◌, ◌≢◌, ℕ, ◌+◌, ◌-◌, ◌<◌, ◌≤◌, ◌^◌, Bool, List, [], ◌∷◌, set, false}
+use Rattle.std.proofs.Common.{sym, refl, ap, ◌∙◌, subst, arith, eqb, Option, Some, None, inl}
 use Rattle.std.proofs.lemmas.List.{set-get_or}
 use mathlib.Core.Option.{some, none}
 use lib.ListN.{get_elem?}
@@ -37,6 +38,8 @@ use Rattle.fx_counted.proofs.ControlSteps.{goes_on}
 use Rattle.fx_counted.proofs.Histories.{legal_more, grows_none, same_shape}
 use Rattle.fx_counted.proofs.Keeping.{word_at, now, logged, its_work}
 use Rattle.fx_counted.proofs.NodeSteps.{far}
+use Rattle.fx_counted.proofs.Unchanged.{control_same}
+use Rattle.fx_counted.specs.Phases.{placed}
 
 placing_same : (n m : ℕ) → Placing n ≡ Placing m → n ≡ m
 placing_same n m e = cc e
@@ -90,9 +93,9 @@ module _ (st : Shared) (v : View) (r : Agrees v.start st) (id : ℕ) (x : Log) (
 
     put : (n : ℕ) (file : Closed) → v.work ≡ Placing n
         → Facts (Put s (numbered n file) old) (Some (numbered n file))
-        (changed_at (state_after_all v.start r.history).fresh n Rattle.std.proofs.Common.false)
+        (changed_at (state_after_all v.start r.history).fresh n false)
     put n file works = let its = subst (WorkAgrees v.start r.phase id) works (its_work st v r id x here one) in
-        let o = in_phase st v r id x here one n its.0 (Rattle.fx_counted.specs.Phases.placed id) its.1 in record {
+        let o = in_phase st v r id x here one n its.0 (placed id) its.1 in record {
           legal = legal_more v.start r.history
               (event st v r id x here one s inside stands old refl (Put s (numbered n file) old)) r.legal
               (in_size st v r id x here one s inside stands old refl, o.2, refl) tt;
@@ -233,7 +236,7 @@ module _ (st : Shared) (v : View) (r : Agrees v.start st) (id : ℕ) (x : Log) (
         slots = λ s. refl;
         nodes = λ n has. refl;
         drawn = refl;
-        control = Rattle.fx_counted.proofs.Unchanged.control_same st.views id v
+        control = control_same st.views id v
             (now v (logged x r.history x.numbers_left x.looks_left) v.work v.change) here
             (state_after_all v.start r.history).at (state_after_all v.start r.history).at _ _ _ refl refl refl r.control;
       })
@@ -303,9 +306,9 @@ module _ (slots id s n old_word : ℕ) (file : Closed) (m : Sat) (x : Log) (one 
     a = Allocate s (numbered n file)
 
     allocated : Does st v r id x here one s within stands None at_none a (Some (numbered n file))
-        (changed_at (state_after_all v.start r.history).fresh n Rattle.std.proofs.Common.false)
+        (changed_at (state_after_all v.start r.history).fresh n false)
     allocated = let its = subst (WorkAgrees v.start r.phase id) works (its_work st v r id x here one) in
-        let o = in_phase st v r id x here one n its.0 (Rattle.fx_counted.specs.Phases.placed id) its.1 in
+        let o = in_phase st v r id x here one n its.0 (placed id) its.1 in
         let z = (same_shape v.start r.history).1 in let p = ap (λ (p : ℕ × ℕ). p.0) z in let q = ap (λ (p : ℕ × ℕ). p.1) z in record {
           legal = legal_more v.start r.history (event st v r id x here one s within stands None at_none a) r.legal
               (in_size st v r id x here one s within stands None at_none, (omega arith, omega arith), at_none, o.2) tt;

@@ -19,6 +19,7 @@ use Rattle.fx_counted.specs.declared.view.Log.{Log}
 use Rattle.fx_counted.specs.declared.view.Start.{Start}
 use Rattle.fx_counted.specs.declared.view.View.{View}
 use Rattle.fx_counted.proofs.Ones.{one_if, times}
+use Rattle.fx_words.specs.Words.{takes_in}
 
 module _ (k : Start) (h h' : List Event) (phase phase' : ℕ → Phase) (slot : ℕ) where
   abbrev pub SameFile : Type 0
@@ -37,7 +38,7 @@ module _ (k : Start) (h h' : List Event) (phase phase' : ℕ → Phase) (slot : 
     names = subst (λ (z : ℕ × Option File). Names z.0 z.1) (λ i. (sym same_word i, sym same_file i)) so.names;
     seat = subst (λ (z : ℕ × Option File). IsSeated k (looks h') phase' slot z.0 z.1)
         (λ i. (sym same_word i, sym same_file i)) (seat_same word same ((state_after_all k h).at slot) refl so.seat);
-    takes = let t = so.takes in let e = ap Rattle.fx_words.specs.Words.takes_in same_word in omega arith;
+    takes = let t = so.takes in let e = ap takes_in same_word in omega arith;
   }
 
 -- a number of which nothing has changed

@@ -9,6 +9,7 @@ use Rattle.fx_plain.specs.State.{State}
 use Rattle.fx_plain.specs.Table.{numbered}
 use Rattle.fx_plain.specs.declared.event.File.{File}
 use Rattle.fx_plain.specs.declared.event.Event.{Event}
+use Rattle.fx_plain.specs.declared.table.TheConstants.{MOST_SLOTS}
 use Rattle.fx_table.specs.declared.limits.TheConstants.{MAX_CHAINS, MAX_PASSES, PASS_LOOKS}
 use Rattle.fx_table.specs.Opening.{start_of, range_of}
 use Rattle.fx_words.specs.Words.{name_in, entry_in, takes_in, born}
@@ -16,7 +17,8 @@ use Rattle.fx_counted.specs.Control.{ControlCounts}
 use Rattle.fx_counted.specs.Counts.{looks, all_looks}
 use Rattle.fx_counted.specs.Draws.{DrawsCount}
 use Rattle.fx_counted.specs.Layout.{control_place, draw_place, slot_place, node_place, words_for, home_place, homes_for}
-use Rattle.fx_counted.specs.Passes.{Shared, opening_of, slots_of, IsNumber, state_after_all, chain_in, end_in, next_in, held_in, placing, logs_of, looks_of, held_of, once}
+use Rattle.fx_counted.specs.Passes.{Shared, opening_of, slots_of, IsNumber, state_after_all, chain_in}
+use Rattle.fx_counted.specs.Passes.{end_in, next_in, held_in, placing, logs_of, looks_of, held_of, once}
 use Rattle.fx_counted.specs.Phases.{Phase, unborn, spare, placed, seated, leaving, retired, emptied, closed, file_in}
 use Rattle.fx_counted.specs.declared.view.Change.TheVariants.{Outside}
 use Rattle.fx_counted.specs.declared.view.Log.{Log}
@@ -117,7 +119,7 @@ pub record ViewAgrees (k : Start) (h : List Event) (phase : ℕ → Phase) (seat
 
 -- how large everything is
 pub record HasShape (k : Start) (s : Shared) : Type 0 where
-  pub slots : slots_of k ≤ 256
+  pub slots : slots_of k ≤ MOST_SLOTS
   pub range : (range_of (opening_of k)).0 + (range_of (opening_of k)).1 ≤ slots_of k
   pub chains : k.chains ≤ MAX_CHAINS
   pub passes : k.passes ≤ MAX_PASSES

@@ -1,6 +1,7 @@
 //! The law of each kind of step: where the rule holds before the step, it holds after it, whatever the table and the
 //! other passes are. A swap is three laws, since what it does is an installation, a clear or a take.
 ghost use Rattle.std.specs.Prelude.{ℕ, ◌≤◌};
+ghost use Rattle.fx_plain.specs.declared.table.TheConstants.{MOST_SLOTS};
 ghost use Rattle.fx_counted.specs.Layout.{PlacesAreInside, PlacesAreApart};
 ghost use Rattle.fx_counted.specs.Opens.{OpeningKeeps};
 ghost use Rattle.fx_counted.specs.Laws.{SplitsKeep, JoinsKeep, BirthsKeep, LooksKeep, InstallsKeep, ClearsKeep, TakesKeep, RetiresKeep, ReleasesKeep, RestsKeep, BeginsKeep, EndsKeep, AnswersKeep, LoadsKeep, ExchangesKeep, DrawsKeep};
@@ -97,10 +98,10 @@ pub fn draw_keeps_rule()
 
 /// Each word and each open file has its place inside.
 pub fn places_are_inside()
-    ensures { (size chains : ℕ) → size ≤ 256 → PlacesAreInside size chains }
+    ensures { (size chains : ℕ) → size ≤ MOST_SLOTS → PlacesAreInside size chains }
 {}
 
 /// Different words have different places, and so have the files of different numbers.
 pub fn places_are_apart()
-    ensures { (size chains : ℕ) → size ≤ 256 → PlacesAreApart size chains }
+    ensures { (size chains : ℕ) → size ≤ MOST_SLOTS → PlacesAreApart size chains }
 {}

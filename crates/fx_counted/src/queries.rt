@@ -2,16 +2,17 @@
 ghost use Rattle.std.specs.Prelude.{◌≡◌, ◌≤◌, ◌↔◌, IsTrue};
 ghost use Rattle.fx_table.specs.Opening.{size_of, range_of};
 ghost use Rattle.fx_table.specs.Pass.{IsIdle};
+ghost use Rattle.fx_plain.specs.declared.table.TheConstants.{MOST_SLOTS};
 ghost use Rattle.fx_counted.specs.Tables.{view_of, opening_of_table, IsPassOfTable};
 
 use crate::pass::CountedPass;
 use crate::table::CountedTable;
 
 impl CountedTable {
-    /// How many slots there are, at most 256.
+    /// How many slots there are, at most [`fx_plain::MOST_SLOTS`].
     pub fn size(&self) -> u32
         ensures value { result ≡ size_of (opening_of_table self.now) }
-        ensures few { result ≤ 256 }
+        ensures few { result ≤ MOST_SLOTS }
     {
         self.size
     }

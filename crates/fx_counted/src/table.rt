@@ -2,6 +2,7 @@ ghost use Rattle.std.specs.Prelude.{◌≡◌, ◌≤◌, ◌+◌};
 ghost use Rattle.fx_table.specs.declared.limits.TheConstants.{MAX_CHAINS, MAX_PASSES};
 ghost use Rattle.fx_table.specs.Opening.{size_of, range_of};
 ghost use Rattle.fx_plain.specs.Contents.{state_of};
+ghost use Rattle.fx_plain.specs.declared.table.TheConstants.{MOST_SLOTS};
 ghost use Rattle.fx_counted.specs.Layout.{words_for, homes_for};
 ghost use Rattle.fx_counted.specs.Passes.{opening_of};
 ghost use Rattle.fx_counted.specs.Shells.{IsShellOf};
@@ -30,7 +31,7 @@ pub struct CountedTable {
     pub ghost key: { (chains ≡ table.shared.key.chains) × (passes ≡ table.shared.key.passes) },
     pub ghost same_size: { size ≡ size_of (opening_of table.shared.key) },
     pub ghost same_range: { (range_start, range_len) ≡ range_of (opening_of table.shared.key) },
-    pub ghost few_slots: { size ≤ 256 },
+    pub ghost few_slots: { size ≤ MOST_SLOTS },
     pub ghost range_inside: { range_start + range_len ≤ size },
     pub ghost emptied: { IsShellOf (state_of (opening_of table.shared.key).contents)
         (state_of shell) },

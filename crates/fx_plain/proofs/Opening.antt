@@ -7,7 +7,8 @@ use Rattle.std.proofs.Math.ListN.{get_or-eq_default}
 use Rattle.fx_base.specs.declared.open_file.Closed.{Closed}
 use Rattle.fx_plain.specs.State.{IsSettled, opening, file_numbered}
 use Rattle.fx_plain.specs.Contents.{Contents, IsTable, IsCounted, state_of, slot_at, node_at, file_at, placed_at, removed_at, is_fresh, is_retired}
-use Rattle.fx_plain.specs.Contents.{IsRenumbered, KeepsFirst, moved_node, file_named, file_in, opening_slot, removed_count_of, itself, Fresh, At, Gone}
+use Rattle.fx_plain.specs.Contents.{IsRenumbered, KeepsFirst, moved_node, file_named, file_in}
+use Rattle.fx_plain.specs.Contents.{opening_slot, removed_count_of, itself, Fresh, At, Gone}
 use Rattle.fx_plain.specs.declared.node.Node.{Node}
 use Rattle.fx_plain.proofs.Cells.{inside_of}
 use Rattle.fx_plain.proofs.Settled.{no_holds, none_removed}

@@ -264,7 +264,8 @@ module _ (c : Contents) (slot n : ℕ) (file : Closed) (t : IsTable c) (inside :
     own = λ u m. by_equality u slot
         (λ _. slot_at (slice_set c.slots slot (Some n)) u ≡ Some m → m < length (slice_set c.slots slot (Some n)) → m ≡ u)
         (λ same at lt.
-        let e : Some n ≡ Some m = sym (ap (slot_at (slice_set c.slots slot (Some n))) same ∙ get_or-set_same c.slots slot (Some n) None inside) ∙ at in
+        let e : Some n ≡ Some m =
+        sym (ap (slot_at (slice_set c.slots slot (Some n))) same ∙ get_or-set_same c.slots slot (Some n) None inside) ∙ at in
         let is : n ≡ m = cc in
         let no : true ≡ false = sym fresh ∙ ap (λ (k : ℕ). is_fresh (node_at c.nodes k)) is
         ∙ t.used m (let len = length-set c.slots slot (Some n) in omega arith) in cc)

@@ -1,5 +1,6 @@
 -- What stands in a list of which only a beginning is written.
-use Rattle.std.proofs.Common.{take, ◌≡◌, ℕ, zero, suc, ◌+◌, ◌-◌, ◌<◌, ◌≤◌, List, [], ◌∷◌, ◌++◌, length, length-append, replicate, refl, sym, ap, subst, ◌∙◌}
+use Rattle.std.proofs.Common.{take, ◌≡◌, ℕ, zero, suc, ◌+◌, ◌-◌, ◌<◌, ◌≤◌, List, [], ◌∷◌, ◌++◌}
+use Rattle.std.proofs.Common.{length, length-append, replicate, refl, sym, ap, subst, ◌∙◌}
 use Rattle.std.proofs.Common.{slice_index, slice_index_or, slice_set, append_assoc, Option, None, IsSome, arith, inl, inr}
 use Rattle.std.proofs.lemmas.List.{get_or-take, length-set, length-replicate, get_or_append_left, get_or-append-add, set-append_left}
 use Rattle.std.proofs.lemmas.Bool.{cases_lt}

@@ -1,5 +1,6 @@
 -- A worker goes on by one chain that its pass drew.
-use Rattle.std.proofs.Common.{◌≡◌, ◌≢◌, ◌⊎◌, ℕ, ◌+◌, ◌<◌, ◌≤◌, List, [], ◌∷◌, ◌++◌, map, length, refl, sym, ap, subst, ◌∙◌, All, Contains, Some, None, ⊎_elim, length-append, arith}
+use Rattle.std.proofs.Common.{◌≡◌, ◌≢◌, ◌⊎◌, ℕ, ◌+◌, ◌<◌, ◌≤◌, List, [], ◌∷◌, ◌++◌, map, length, refl, sym}
+use Rattle.std.proofs.Common.{ap, subst, ◌∙◌, All, Contains, Some, None, ⊎_elim, length-append, arith}
 use Rattle.std.proofs.lemmas.List.{map-append}
 use Rattle.std.proofs.lemmas.List.Elements.{All-append}
 use Rattle.fx_base.specs.Catalogue.{FileEntry}
@@ -24,7 +25,7 @@ use Rattle.fx_chain.specs.Weights.{all_weights}
 use Rattle.fx_chain.proofs.ChainGoesOn.{explained_count}
 use Rattle.fx_ring.specs.Work.{worker_state, run_of_chain, completions_of_chain, HasWorked, HasRoom}
 use Rattle.fx_ring.proofs.Behind.{sum_behind}
-use Rattle.fx_ring.proofs.Kept.{only_first, only_second, not_first, not_second}
+use Rattle.fx_ring.proofs.OneKey.{only_first, only_second, not_first, not_second}
 use Rattle.fx_ring.proofs.Places.{explained_of_chain}
 
 abbrev chain_of : Event → ℕ

@@ -1,5 +1,6 @@
 -- The numbers of a list, by their sign.
-use Rattle.std.proofs.Common.{◌≡◌, ℕ, zero, suc, ◌<◌, Bool, true, false, ◌||◌, ℤ, pos, negsuc, int_le, int_lt, List, [], ◌∷◌, ◌++◌, refl, sym, ap, ◌∙◌, arith, nat_abs}
+use Rattle.std.proofs.Common.{◌≡◌, ℕ, zero, suc, ◌<◌, Bool, true, false, ◌||◌, ℤ, pos, negsuc, int_le}
+use Rattle.std.proofs.Common.{int_lt, List, [], ◌∷◌, ◌++◌, refl, sym, ap, ◌∙◌, arith, nat_abs}
 use Rattle.std.proofs.lemmas.Bool.{ltb-true, le-leb, leb-false, ltb-false, le-ltb}
 use Rattle.std.specs.List.{list_any}
 use Rattle.fx_chain.specs.Answers.{is_bad_entry}
@@ -48,6 +49,8 @@ good_files entries [] good = refl
 good_files entries (z ∷ list) good = both_good _ _ (good_file entries z (or_left _ _ good)) (good_files entries list (or_right _ _ good))
 
 -- a number of a good list is good
-pub good_behind : (entries : ℕ) (xs : List ℤ) (z : ℤ) (ys : List ℤ) (list : List ℤ) → list ≡ xs ++ z ∷ ys → list_any (is_bad_entry entries) list ≡ false → is_bad_entry entries z ≡ false
+pub good_behind : (entries : ℕ) (xs : List ℤ) (z : ℤ) (ys : List ℤ) (list : List ℤ) → list ≡ xs ++ z ∷ ys
+    → list_any (is_bad_entry entries) list ≡ false → is_bad_entry entries z ≡ false
 good_behind entries [] z ys list is good = or_left _ _ (ap (list_any (is_bad_entry entries)) (sym is) ∙ good)
-good_behind entries (x ∷ xs) z ys list is good = good_behind entries xs z ys (xs ++ z ∷ ys) refl (or_right _ _ (ap (list_any (is_bad_entry entries)) (sym is) ∙ good))
+good_behind entries (x ∷ xs) z ys list is good =
+    good_behind entries xs z ys (xs ++ z ∷ ys) refl (or_right _ _ (ap (list_any (is_bad_entry entries)) (sym is) ∙ good))

@@ -1,5 +1,6 @@
 -- Where the files of a ring come from, once a list was worked off.
-use Rattle.std.proofs.Common.{◌≡◌, ◌≢◌, ◌⊎◌, ℕ, zero, suc, ◌+◌, ◌-◌, ◌<◌, ◌≤◌, false, ℤ, pos, negsuc, List, [], ◌∷◌, ◌++◌, length, length-append, All, refl, sym, ap, subst, ◌∙◌, Option, Some, None, slice_get, inl, inr, ⊎_elim, arith}
+use Rattle.std.proofs.Common.{◌≡◌, ◌≢◌, ◌⊎◌, ℕ, zero, suc, ◌+◌, ◌-◌, ◌<◌, ◌≤◌, false, ℤ, pos, negsuc, List, [], ◌∷◌, ◌++◌, length}
+use Rattle.std.proofs.Common.{length-append, All, refl, sym, ap, subst, ◌∙◌, Option, Some, None, slice_get, inl, inr, ⊎_elim, arith}
 use Rattle.std.specs.List.{list_any}
 use Rattle.std.proofs.lemmas.Bool.{cases_lt, leb-false}
 use Rattle.std.proofs.lemmas.List.Elements.{All-append}
@@ -10,19 +11,22 @@ use Rattle.fx_chain.specs.Answers.{is_bad_entry}
 use Rattle.fx_ring.specs.Ring.{RingState, IsRing, IsCounted}
 use Rattle.fx_ring.specs.Registration.{file_listed, files_after, removed_by, removed_from, registered, updated, is_bad_file}
 use Rattle.fx_ring.proofs.Numbers.{or_left, or_right, good_files}
-use Rattle.fx_ring.proofs.Listed.{files_below, files_from}
-use Rattle.fx_ring.proofs.Rings.{entry_listed}
+use Rattle.fx_ring.proofs.ListSteps.{files_below, files_from}
+use Rattle.fx_ring.proofs.Rings.{IsEntry, entry_listed}
 
 -- a file that the k-th list installed at its place i
 abbrev IsListed : ℕ → ℕ → ℕ → Closed → Type 0
 IsListed entries k i file = (file.mark ≡ Registered k i) × (file.entry < entries)
 
-good_get : (entries : ℕ) (list : List ℤ) (j : ℕ) (z : ℤ) → list_any (is_bad_entry entries) list ≡ false → slice_get list j ≡ Some z → is_bad_entry entries z ≡ false
+good_get : (entries : ℕ) (list : List ℤ) (j : ℕ) (z : ℤ) → list_any (is_bad_entry entries) list ≡ false
+    → slice_get list j ≡ Some z → is_bad_entry entries z ≡ false
 good_get entries [] j z good is = cc
 good_get entries (y ∷ list) zero z good is = let same : y ≡ z = cc in ap (is_bad_entry entries) (sym same) ∙ or_left _ _ good
 good_get entries (y ∷ list) (suc j) z good is = good_get entries list j z (or_right _ _ good) is
 
-from_listed : (entries k i : ℕ) (x : Option ℤ) (before : Option Closed) (file : Closed) → ((z : ℤ) → x ≡ Some z → is_bad_entry entries z ≡ false) → file_listed k i x before ≡ Some file → (before ≡ Some file) ⊎ IsListed entries k i file
+from_listed : (entries k i : ℕ) (x : Option ℤ) (before : Option Closed) (file : Closed)
+    → ((z : ℤ) → x ≡ Some z → is_bad_entry entries z ≡ false) → file_listed k i x before ≡ Some file
+    → (before ≡ Some file) ⊎ IsListed entries k i file
 from_listed entries k i None before file good is = inl is
 from_listed entries k i (Some (pos e)) before file good is =
     let made : Closed = record { mark = Registered k i; entry = e } in
@@ -32,16 +36,19 @@ from_listed entries k i (Some (negsuc zero)) before file good is = cc
 from_listed entries k i (Some (negsuc (suc n))) before file good is = inl is
 
 -- a file was there before, or the list installed it
-from : (entries k : ℕ) (at : ℕ → Option Closed) (off : ℕ) (list : List ℤ) (slot : ℕ) (file : Closed) → list_any (is_bad_entry entries) list ≡ false → files_after k at off list slot ≡ Some file
+from : (entries k : ℕ) (at : ℕ → Option Closed) (off : ℕ) (list : List ℤ) (slot : ℕ) (file : Closed)
+    → list_any (is_bad_entry entries) list ≡ false → files_after k at off list slot ≡ Some file
     → (at slot ≡ Some file) ⊎ ((off ≤ slot) × IsListed entries k (slot - off) file)
 from entries k at off list slot file good is = elim (cases_lt slot off) [
   | inl below ↦ inl (sym (files_below k at off list slot below) ∙ is)
   | inr above ↦ ⊎_elim (λ was. inl was) (λ new. inr (above, new))
-      (from_listed entries k (slot - off) (slice_get list (slot - off)) (at slot) file (λ z at_z. good_get entries list (slot - off) z good at_z) (sym (files_from k at off list slot above) ∙ is))
+      (from_listed entries k (slot - off) (slice_get list (slot - off)) (at slot) file
+      (λ z at_z. good_get entries list (slot - off) z good at_z) (sym (files_from k at off list slot above) ∙ is))
 ]
 
 -- a mark that was counted still is
-counted_more : (ring next : RingState) (mark : Mark) → next.registrations ≡ ring.registrations + 1 → next.submissions ≡ ring.submissions → IsCounted ring mark → IsCounted next mark
+counted_more : (ring next : RingState) (mark : Mark)
+    → next.registrations ≡ ring.registrations + 1 → next.submissions ≡ ring.submissions → IsCounted ring mark → IsCounted next mark
 counted_more ring next (Registered k i) more same counted = omega arith
 counted_more ring next (Submitted s c m e) more same counted = omega arith
 
@@ -50,45 +57,64 @@ not_counted : (ring : RingState) (mark : Mark) (i : ℕ) → IsCounted ring mark
 not_counted ring (Registered k j) i counted = λ same. let e : k ≡ ring.registrations + 1 = cc in omega arith
 not_counted ring (Submitted s c m e) i counted = λ same. cc
 
-module _ (ring next : RingState) (at : ℕ → Option Closed) (off : ℕ) (list : List ℤ) (good : list_any (is_bad_entry (length ring.catalogue)) list ≡ false)
+module _ (ring next : RingState) (at : ℕ → Option Closed) (off : ℕ) (list : List ℤ)
+    (good : list_any (is_bad_entry (length ring.catalogue)) list ≡ false)
     (entries : (slot : ℕ) (file : Closed) → at slot ≡ Some file → file.entry < length ring.catalogue)
     (counted : (slot : ℕ) (file : Closed) → at slot ≡ Some file → IsCounted ring file.mark)
     (distinct : (slot other : ℕ) (file same : Closed) → at slot ≡ Some file → at other ≡ Some same → file.mark ≡ same.mark → slot ≡ other)
-    (catalogue : next.catalogue ≡ ring.catalogue) (more : next.registrations ≡ ring.registrations + 1) (submissions : next.submissions ≡ ring.submissions)
-    (after : next.at ≡ files_after (ring.registrations + 1) at off list) where
-  origin : (slot : ℕ) (file : Closed) → next.at slot ≡ Some file → (at slot ≡ Some file) ⊎ ((off ≤ slot) × IsListed (length ring.catalogue) (ring.registrations + 1) (slot - off) file)
-  origin slot file is = from (length ring.catalogue) (ring.registrations + 1) at off list slot file good (sym (ap (λ (a : ℕ → Option Closed). a slot) after) ∙ is)
+    (catalogue : next.catalogue ≡ ring.catalogue) (more : next.registrations ≡ ring.registrations + 1)
+    (submissions : next.submissions ≡ ring.submissions) (after : next.at ≡ files_after (ring.registrations + 1) at off list) where
+  origin : (slot : ℕ) (file : Closed) → next.at slot ≡ Some file
+      → (at slot ≡ Some file) ⊎ ((off ≤ slot) × IsListed (length ring.catalogue) (ring.registrations + 1) (slot - off) file)
+  origin slot file is =
+      from (length ring.catalogue) (ring.registrations + 1) at off list slot file good
+      (sym (ap (λ (a : ℕ → Option Closed). a slot) after) ∙ is)
 
   new_counted : (mark : Mark) (i : ℕ) → mark ≡ Registered (ring.registrations + 1) i → IsCounted next mark
   new_counted mark i is = subst (IsCounted next) (sym is) (omega arith)
 
   pub listed_rings : IsRing next
   listed_rings = record {
-    entries = λ slot file is. subst (λ (n : ℕ). file.entry < n) (ap length (sym catalogue)) (⊎_elim (λ was. entries slot file was) (λ new. new.1.1) (origin slot file is));
-    counted = λ slot file is. ⊎_elim (λ was. counted_more ring next file.mark more submissions (counted slot file was)) (λ new. new_counted file.mark (slot - off) new.1.0) (origin slot file is);
+    entries = λ slot file is. subst (λ (n : ℕ). file.entry < n) (ap length (sym catalogue))
+        (⊎_elim (λ was. entries slot file was) (λ new. new.1.1) (origin slot file is));
+    counted = λ slot file is. ⊎_elim
+        (λ was. counted_more ring next file.mark more submissions (counted slot file was))
+        (λ new. new_counted file.mark (slot - off) new.1.0) (origin slot file is);
     distinct = λ slot other file same is are marks. ⊎_elim
-        (λ was. ⊎_elim (λ were. distinct slot other file same was were marks) (λ new. absurd (not_counted ring file.mark (other - off) (counted slot file was) (marks ∙ new.1.0))) (origin other same are))
+        (λ was. ⊎_elim (λ were. distinct slot other file same was were marks)
+        (λ new. absurd (not_counted ring file.mark (other - off) (counted slot file was) (marks ∙ new.1.0))) (origin other same are))
         (λ new. ⊎_elim (λ were. absurd (not_counted ring same.mark (slot - off) (counted other same were) (sym marks ∙ new.1.0)))
-        (λ newer. let place : Registered (ring.registrations + 1) (slot - off) ≡ Registered (ring.registrations + 1) (other - off) = sym new.1.0 ∙ (marks ∙ newer.1.0) in
+        (λ newer.
+        let place : Registered (ring.registrations + 1) (slot - off) ≡ Registered (ring.registrations + 1) (other - off) =
+        sym new.1.0 ∙ (marks ∙ newer.1.0) in
         let apart : slot - off ≡ other - off = cc in let low = new.0 in let too = newer.0 in omega arith) (origin other same are))
         (origin slot file is);
   }
 
-pub updated_rings : (ring : RingState) (off : ℕ) (list : List ℤ) → IsRing ring → list_any (is_bad_entry (length ring.catalogue)) list ≡ false → IsRing (updated ring off list)
-updated_rings ring off list is good = listed_rings ring (updated ring off list) ring.at off list good is.entries is.counted is.distinct refl refl refl refl
+pub updated_rings : (ring : RingState) (off : ℕ) (list : List ℤ) → IsRing ring
+    → list_any (is_bad_entry (length ring.catalogue)) list ≡ false → IsRing (updated ring off list)
+updated_rings ring off list is good =
+    listed_rings ring (updated ring off list) ring.at off list good is.entries is.counted is.distinct refl refl refl refl
 
-pub registered_rings : (ring : RingState) (list : List ℤ) → list_any (is_bad_file (length ring.catalogue)) list ≡ false → IsRing (registered ring list)
-registered_rings ring list good = listed_rings ring (registered ring list) (λ _. None) 0 list (good_files (length ring.catalogue) list good) (λ slot file is. cc) (λ slot file is. cc) (λ slot other file same is are marks. cc) refl refl refl refl
+pub registered_rings : (ring : RingState) (list : List ℤ)
+    → list_any (is_bad_file (length ring.catalogue)) list ≡ false → IsRing (registered ring list)
+registered_rings ring list good =
+    listed_rings ring (registered ring list) (λ _. None) 0 list (good_files (length ring.catalogue) list good)
+    (λ slot file is. cc) (λ slot file is. cc) (λ slot other file same is are marks. cc) refl refl refl refl
 
 -- what a list removes is of the catalogue, where all was
-removed_entries_by : (entries : ℕ) (z : ℤ) (x : Option Closed) → ((file : Closed) → x ≡ Some file → file.entry < entries) → All (λ (file : Closed). file.entry < entries) (removed_by z x)
+removed_entries_by : (entries : ℕ) (z : ℤ) (x : Option Closed)
+    → ((file : Closed) → x ≡ Some file → IsEntry entries file) → All (IsEntry entries) (removed_by z x)
 removed_entries_by entries (pos e) x has = entry_listed entries x has
 removed_entries_by entries (negsuc zero) x has = entry_listed entries x has
 removed_entries_by entries (negsuc (suc n)) x has = λ k d inside. absurd (omega arith)
 
-pub removed_entries : (entries : ℕ) (at : ℕ → Option Closed) (slot : ℕ) (list : List ℤ) → ((s : ℕ) (file : Closed) → at s ≡ Some file → file.entry < entries) → All (λ (file : Closed). file.entry < entries) (removed_from at slot list)
+pub removed_entries : (entries : ℕ) (at : ℕ → Option Closed) (slot : ℕ) (list : List ℤ)
+    → ((s : ℕ) (file : Closed) → at s ≡ Some file → IsEntry entries file) → All (IsEntry entries) (removed_from at slot list)
 removed_entries entries at slot [] has = λ k d inside. absurd (omega arith)
-removed_entries entries at slot (z ∷ list) has = All-append (λ (file : Closed). file.entry < entries) (removed_by z (at slot)) (removed_from at (slot + 1) list) (removed_entries_by entries z (at slot) (has slot)) (removed_entries entries at (slot + 1) list has)
+removed_entries entries at slot (z ∷ list) has =
+    All-append (IsEntry entries) (removed_by z (at slot)) (removed_from at (slot + 1) list)
+    (removed_entries_by entries z (at slot) (has slot)) (removed_entries entries at (slot + 1) list has)
 
 none_removed_by : (z : ℤ) → removed_by z None ≡ []
 none_removed_by (pos e) = refl

@@ -1,5 +1,6 @@
 -- A list in parts, by a key of its elements.
-use Rattle.std.proofs.Common.{◌≡◌, ◌≢◌, ℕ, zero, suc, ◌+◌, ◌<◌, ◌≤◌, Bool, not, cond, List, [], ◌∷◌, ◌++◌, filter, All, IsPermutation, refl, sym, ap, subst, ◌∙◌, ◌==◌, arith, ne_eqb}
+use Rattle.std.proofs.Common.{◌≡◌, ◌≢◌, ℕ, zero, suc, ◌+◌, ◌<◌, ◌≤◌, Bool, not, cond, List, [], ◌∷◌, ◌++◌}
+use Rattle.std.proofs.Common.{filter, All, IsPermutation, refl, sym, ap, subst, ◌∙◌, ◌==◌, arith, ne_eqb}
 use Rattle.std.proofs.lemmas.List.Elements.{All-head, All-tail, All-cons, All-nil}
 use Rattle.std.proofs.lemmas.List.Sorted.{IsPermutation-refl, IsPermutation-trans, IsPermutation-append_right, IsPermutation-filter_both}
 use Rattle.fx_plain.proofs.Cells.{by_equality}

@@ -1,5 +1,6 @@
 -- The completions of a submission, once they are in order of place: they are the chains' parts, one after another.
-use Rattle.std.proofs.Common.{◌≡◌, ℕ, suc, ◌+◌, ◌-◌, ◌*◌, ◌<◌, ◌≤◌, List, [], ◌∷◌, ◌++◌, length, length-append, map, All, sum_by, IsPermutation, refl, sym, ap, subst, ◌∙◌, arith, slice_index_or}
+use Rattle.std.proofs.Common.{◌≡◌, ℕ, suc, ◌+◌, ◌-◌, ◌*◌, ◌<◌, ◌≤◌, List, [], ◌∷◌, ◌++◌, length, length-append}
+use Rattle.std.proofs.Common.{map, All, sum_by, IsPermutation, refl, sym, ap, subst, ◌∙◌, arith, slice_index_or}
 use Rattle.std.specs.List.Sorted.{IsNonDecreasingBy}
 use Rattle.std.proofs.lemmas.List.Elements.{All-head, All-tail, All-cons, All-nil, All-append, All-weaker}
 use Rattle.std.proofs.lemmas.List.Sums.{sum_by-cons}
@@ -14,7 +15,7 @@ use Rattle.fx_chain.specs.declared.completion.Place.{Place}
 use Rattle.fx_chain.specs.declared.fault.TheConstants.{MOST_MEMBERS}
 use Rattle.fx_ring.specs.Submission.{ExplainsParts}
 use Rattle.fx_ring.specs.Work.{completions_of_chain, run_of_chain}
-use Rattle.fx_ring.proofs.Answered.{AreOfMembers, explained_of_members}
+use Rattle.fx_ring.proofs.CompletionPlaces.{AreOfMembers, explained_of_members}
 use Rattle.fx_ring.proofs.Parts.{parts_from, parts_are_all}
 use Rattle.fx_ring.proofs.OneOrder.{Rises, one_list_in_order}
 

@@ -7,7 +7,7 @@ use Rattle.fx_chain.specs.Completed.{Completed, next_member}
 use Rattle.fx_chain.specs.Explains.{Explains}
 use Rattle.fx_chain.specs.Operation.{Asked}
 use Rattle.fx_chain.specs.declared.completion.Place.{Place}
-use Rattle.fx_ring.proofs.Answered.{AreOfMembers, explained_of_members}
+use Rattle.fx_ring.proofs.CompletionPlaces.{AreOfMembers, explained_of_members}
 
 -- the completion is of this chain
 abbrev pub IsOfChain : ℕ → Completed → Type 0

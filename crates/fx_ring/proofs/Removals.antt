@@ -1,5 +1,6 @@
 -- A file leaves its slot, and is closed at once.
-use Rattle.std.proofs.Common.{◌≡◌, ◌≢◌, ℕ, ◌+◌, ◌<◌, Bool, true, List, ◌++◌, length, refl, sym, ap, subst, ◌∙◌, Option, Some, None, if◌then◌else◌, option_to_list, arith}
+use Rattle.std.proofs.Common.{◌≡◌, ◌≢◌, ℕ, ◌+◌, ◌<◌, Bool, true, List, ◌++◌, length, refl, sym, ap}
+use Rattle.std.proofs.Common.{subst, ◌∙◌, Option, Some, None, if◌then◌else◌, option_to_list, arith}
 use Rattle.fx_base.specs.CloseListView.{CloseListView}
 use Rattle.fx_base.specs.declared.open_file.Closed.{Closed}
 use Rattle.fx_plain.specs.declared.event.File.{File}
@@ -19,23 +20,32 @@ pub changed_other : {X : Type 0} (f : ℕ → X) (k q : ℕ) (v : X) → q ≢ k
 changed_other f k q v apart = by_equality q k (λ b. (if b then v else f q) ≡ f q) (λ same. absurd (apart same)) (λ _. refl)
 
 -- the files of changed slots, their numbers aside
-files_changed : (at : ℕ → Option File) (slot : ℕ) (x : Option File) → (λ (s : ℕ). identity_of (changed_at at slot x s)) ≡ changed_at (λ s. identity_of (at s)) slot (identity_of x)
-files_changed at slot x = λ i s. by_equality s slot (λ b. identity_of (if b then x else at s) ≡ (if b then identity_of x else identity_of (at s))) (λ _. refl) (λ _. refl) i
+files_changed : (at : ℕ → Option File) (slot : ℕ) (x : Option File)
+    → (λ (s : ℕ). identity_of (changed_at at slot x s)) ≡ changed_at (λ s. identity_of (at s)) slot (identity_of x)
+files_changed at slot x = λ i s. by_equality s slot
+    (λ b. identity_of (if b then x else at s) ≡ (if b then identity_of x else identity_of (at s))) (λ _. refl) (λ _. refl) i
 
 -- a file that left a settled table may be retired
-pub can_retire : (first before : State) (leaves going : ℕ → Bool) (removed : Option File) (number : Option ℕ) → IsSettled first → before.holds ≡ first.holds → leaves ≡ more_leaving going removed → number ≡ number_of removed → CanRetire leaves before number
+pub can_retire : (first before : State) (leaves going : ℕ → Bool) (removed : Option File) (number : Option ℕ)
+    → IsSettled first → before.holds ≡ first.holds → leaves ≡ more_leaving going removed → number ≡ number_of removed
+    → CanRetire leaves before number
 can_retire first before leaves going None number s holds left is = subst (CanRetire leaves before) (sym is) tt
 can_retire first before leaves going (Some f) number s holds left is =
-    subst (CanRetire leaves before) (sym is) (ap (λ (l : ℕ → Bool). l f.number) left ∙ changed_same going f.number true, ap (λ (h : ℕ → ℕ). h f.number) holds ∙ s.unheld f.number)
+    subst (CanRetire leaves before) (sym is)
+    (ap (λ (l : ℕ → Bool). l f.number) left ∙ changed_same going f.number true, ap (λ (h : ℕ → ℕ). h f.number) holds ∙ s.unheld f.number)
 
 -- what was removed is found by its number
-pub removed_found : (first before : State) (removed : Option File) → before.removed ≡ with_removed first.removed removed → file_removed before (number_of removed) ≡ identity_of removed
+pub removed_found : (first before : State) (removed : Option File) → before.removed ≡ with_removed first.removed removed
+    → file_removed before (number_of removed) ≡ identity_of removed
 removed_found first before None out = refl
-removed_found first before (Some f) out = ap identity_of (ap (λ (r : ℕ → Option File). r f.number) out ∙ changed_same first.removed f.number (Some f))
+removed_found first before (Some f) out =
+    ap identity_of (ap (λ (r : ℕ → Option File). r f.number) out ∙ changed_same first.removed f.number (Some f))
 
-closes_found : (first before : State) (removed : Option File) → before.removed ≡ with_removed first.removed removed → closes_of_removed before (number_of removed) ≡ close_of removed
+closes_found : (first before : State) (removed : Option File) → before.removed ≡ with_removed first.removed removed
+    → closes_of_removed before (number_of removed) ≡ close_of removed
 closes_found first before None out = refl
-closes_found first before (Some f) out = ap close_of (ap (λ (r : ℕ → Option File). r f.number) out ∙ changed_same first.removed f.number (Some f))
+closes_found first before (Some f) out =
+    ap close_of (ap (λ (r : ℕ → Option File). r f.number) out ∙ changed_same first.removed f.number (Some f))
 
 -- a table whose removed file was closed
 record IsClosedUp (first before last : State) : Type 0 where
@@ -45,7 +55,9 @@ record IsClosedUp (first before last : State) : Type 0 where
   at : last.at ≡ before.at
   fresh : last.fresh ≡ before.fresh
 
-closed_up : (first before last : State) (removed : Option File) → IsSettled first → before.removed ≡ with_removed first.removed removed → before.holds ≡ first.holds → Leads before (close_of removed) last → IsClosedUp first before last
+closed_up : (first before last : State) (removed : Option File) → IsSettled first
+    → before.removed ≡ with_removed first.removed removed → before.holds ≡ first.holds → Leads before (close_of removed) last
+    → IsClosedUp first before last
 closed_up first before last None s out holds lead = record {
   settled = record {
     unheld = λ n. ap (λ (st : State). st.holds n) lead.1 ∙ ap (λ (h : ℕ → ℕ). h n) holds ∙ s.unheld n;
@@ -78,9 +90,11 @@ module _ (first before last : State) (slot : ℕ) (there : Option File) (removed
   found out = ap (file_removed before) is ∙ removed_found first before there out ∙ ap identity_of (sym was)
 
   closing : before.removed ≡ with_removed first.removed there → before.holds ≡ first.holds → IsClosedUp first before last
-  closing out holds = closed_up first before last there settled out holds (subst (λ (h : List Action). Leads before h last) (ap (closes_of_removed before) is ∙ closes_found first before there out) lead)
+  closing out holds = closed_up first before last there settled out holds
+      (subst (λ (h : List Action). Leads before h last) (ap (closes_of_removed before) is ∙ closes_found first before there out) lead)
 
-  sets : (x : Option File) → before.removed ≡ with_removed first.removed there → before.holds ≡ first.holds → before.size ≡ first.size → before.range ≡ first.range → before.at ≡ changed_at first.at slot x
+  sets : (x : Option File) → before.removed ≡ with_removed first.removed there → before.holds ≡ first.holds
+      → before.size ≡ first.size → before.range ≡ first.range → before.at ≡ changed_at first.at slot x
       → SetsSlot first last slot (identity_of x) earlier closed
   sets x out holds size range at =
       let up = closing out holds in
@@ -94,15 +108,24 @@ module _ (first before last : State) (slot : ℕ) (there : Option File) (removed
       }
 
   pub cleared : Steps first (Clear slot there) before → SetsSlot first last slot None earlier closed
-  cleared step = sets None (ap (λ (st : State). st.removed) step.1) (ap (λ (st : State). st.holds) step.1) (ap (λ (st : State). st.size) step.1) (ap (λ (st : State). st.range) step.1) (ap (λ (st : State). st.at) step.1)
+  cleared step = sets None (ap (λ (st : State). st.removed) step.1) (ap (λ (st : State). st.holds) step.1)
+      (ap (λ (st : State). st.size) step.1) (ap (λ (st : State). st.range) step.1) (ap (λ (st : State). st.at) step.1)
 
   pub cleared_fresh : Steps first (Clear slot there) before → last.fresh ≡ first.fresh
-  cleared_fresh step = (closing (ap (λ (st : State). st.removed) step.1) (ap (λ (st : State). st.holds) step.1)).fresh ∙ ap (λ (st : State). st.fresh) step.1
+  cleared_fresh step =
+      (closing (ap (λ (st : State). st.removed) step.1) (ap (λ (st : State). st.holds) step.1)).fresh
+      ∙ ap (λ (st : State). st.fresh) step.1
 
-  pub filled : (number : ℕ) (file : Closed) → Steps first (Put slot (numbered number file) there) before → SetsSlot first last slot (Some file) earlier closed
-  filled number file step = sets (Some (numbered number file)) (ap (λ (st : State). st.removed) step.1) (ap (λ (st : State). st.holds) step.1) (ap (λ (st : State). st.size) step.1) (ap (λ (st : State). st.range) step.1) (ap (λ (st : State). st.at) step.1)
+  pub filled : (number : ℕ) (file : Closed) → Steps first (Put slot (numbered number file) there) before
+      → SetsSlot first last slot (Some file) earlier closed
+  filled number file step = sets (Some (numbered number file))
+      (ap (λ (st : State). st.removed) step.1) (ap (λ (st : State). st.holds) step.1)
+      (ap (λ (st : State). st.size) step.1) (ap (λ (st : State). st.range) step.1) (ap (λ (st : State). st.at) step.1)
 
-  pub filled_fresh : (number : ℕ) (file : Closed) → Steps first (Put slot (numbered number file) there) before → (other : ℕ) → number < other → last.fresh other ≡ first.fresh other
+  pub filled_fresh : (number : ℕ) (file : Closed) → Steps first (Put slot (numbered number file) there) before
+      → (other : ℕ) → number < other → last.fresh other ≡ first.fresh other
   filled_fresh number file step other above =
-      ap (λ (g : ℕ → Bool). g other) ((closing (ap (λ (st : State). st.removed) step.1) (ap (λ (st : State). st.holds) step.1)).fresh ∙ ap (λ (st : State). st.fresh) step.1)
+      ap (λ (g : ℕ → Bool). g other)
+      ((closing (ap (λ (st : State). st.removed) step.1) (ap (λ (st : State). st.holds) step.1)).fresh
+      ∙ ap (λ (st : State). st.fresh) step.1)
       ∙ changed_other first.fresh number other _ (λ same. omega arith)

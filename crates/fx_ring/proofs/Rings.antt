@@ -1,18 +1,30 @@
 -- What a ring keeps, as its table changes.
-use Rattle.std.proofs.Common.{◌≡◌, ℕ, Bool, zero, suc, ◌<◌, List, [], ◌∷◌, ◌++◌, length, refl, sym, ap, subst, ◌∙◌, Option, Some, None, All, arith, not, ◌&&◌, nat_lt, option_to_list, IsPermutation}
+use Rattle.std.proofs.Common.{◌≡◌, ℕ, Bool, zero, suc, ◌<◌, List, [], ◌∷◌, ◌++◌, length, refl, sym, ap, subst, ◌∙◌}
+use Rattle.std.proofs.Common.{Option, Some, None, All, arith, not, ◌&&◌, nat_lt, option_to_list, IsPermutation}
 use Rattle.std.proofs.lemmas.List.Elements.{All-append}
 use Rattle.std.proofs.lemmas.List.Sorted.{All-permutation}
 use Rattle.std.proofs.lemmas.Bool.{lt-ltb, le-ltb}
 use Rattle.fx_base.specs.CloseListView.{CloseListView}
 use Rattle.fx_base.specs.CloseList.{IsInOrderOfMark}
 use Rattle.fx_base.specs.declared.open_file.Closed.{Closed}
-use Rattle.fx_plain.specs.State.{State, IsSettled, opening, file_numbered, vacant, identities_of, files_in_order as files_in_order_of_state, files_of as files_of_state}
+use Rattle.fx_plain.specs.State.{State, IsSettled, opening, file_numbered, vacant, identities_of}
+use Rattle.fx_plain.specs.State.{files_in_order as files_in_order_of_state, files_of as files_of_state}
 use Rattle.fx_plain.specs.Table.{identity_of}
 use Rattle.fx_plain.specs.declared.event.File.{File}
 use Rattle.fx_plain.specs.Contents.{Contents}
 use Rattle.fx_table.specs.Opening.{IsGivenBack}
-use Rattle.fx_ring.specs.Ring.{RingContents, RingState, IsAtRest, IsRing, HasClosed, AreEntries, files_in_order, files_of, ring_of, with_table}
+use Rattle.fx_ring.specs.Ring.{RingContents, RingState, IsAtRest, IsRing, HasClosed, AreEntries, files_in_order, files_of}
+use Rattle.fx_ring.specs.Ring.{ring_of, ring_with, with_table}
 use Rattle.fx_ring.specs.Slots.{AreFresh, files_at}
+use Rattle.fx_ring.specs.declared.ring.Ring.TheInside.{Inside}
+
+-- what a ring keeps, by its fields
+abbrev pub contents_of : Inside → RingContents
+contents_of ring = ring_with ring.catalogue ring.table ring.submissions ring.registrations
+
+-- the file is of a catalogue of so many entries
+abbrev pub IsEntry : ℕ → Closed → Type 0
+IsEntry entries file = file.entry < entries
 
 -- a table without files keeps what every ring keeps
 pub none_rings : (ring : RingState) → ring.at ≡ (λ _. None) → IsRing ring
@@ -35,24 +47,34 @@ pub only_one : {X : Type 0} (P : X → Type 0) (x : X) → P x → All P (x ∷ 
 only_one P x p zero d inside = p
 only_one P x p (suc k) d inside = absurd (omega arith)
 
-pub entry_listed : (entries : ℕ) (x : Option Closed) → ((file : Closed) → x ≡ Some file → file.entry < entries) → All (λ (file : Closed). file.entry < entries) (option_to_list x)
+pub entry_listed : (entries : ℕ) (x : Option Closed) → ((file : Closed) → x ≡ Some file → IsEntry entries file)
+    → All (IsEntry entries) (option_to_list x)
 entry_listed entries None has = λ k d inside. absurd (omega arith)
-entry_listed entries (Some file) has = only_one (λ (f : Closed). f.entry < entries) file (has file refl)
+entry_listed entries (Some file) has = only_one (IsEntry entries) file (has file refl)
 
-entries_in_order : (entries : ℕ) (at : ℕ → Option Closed) (n : ℕ) → ((slot : ℕ) (file : Closed) → at slot ≡ Some file → file.entry < entries) → All (λ (file : Closed). file.entry < entries) (files_in_order at n)
+entries_in_order : (entries : ℕ) (at : ℕ → Option Closed) (n : ℕ)
+    → ((slot : ℕ) (file : Closed) → at slot ≡ Some file → IsEntry entries file) → All (IsEntry entries) (files_in_order at n)
 entries_in_order entries at zero has = λ k d inside. absurd (omega arith)
-entries_in_order entries at (suc n) has = All-append (λ (file : Closed). file.entry < entries) (files_in_order at n) (option_to_list (at n)) (entries_in_order entries at n has) (entry_listed entries (at n) (has n))
+entries_in_order entries at (suc n) has = All-append (IsEntry entries) (files_in_order at n) (option_to_list (at n))
+    (entries_in_order entries at n has) (entry_listed entries (at n) (has n))
 
 pub entries_of : (ring : RingState) → IsRing ring → AreEntries ring (files_of ring)
 entries_of ring is = entries_in_order (length ring.catalogue) ring.at ring.size is.entries
 
 -- a list of all files of a table, once it is in order
-pub all_closed : (at : ℕ → Option File) (size : ℕ) (given : List Closed) (closes : CloseListView) → given ≡ files_in_order_of_state at size → IsPermutation given closes.files → IsInOrderOfMark closes.files → HasClosed (files_in_order (λ slot. identity_of (at slot)) size) closes
-all_closed at size given closes is same order = record { same_files = subst (λ (l : List Closed). IsPermutation l closes.files) (is ∙ sym (files_of-state at size)) same; in_order = order }
+pub all_closed : (at : ℕ → Option File) (size : ℕ) (given : List Closed) (closes : CloseListView)
+    → given ≡ files_in_order_of_state at size → IsPermutation given closes.files → IsInOrderOfMark closes.files
+    → HasClosed (files_in_order (λ slot. identity_of (at slot)) size) closes
+all_closed at size given closes is same order = record {
+  same_files = subst (λ (l : List Closed). IsPermutation l closes.files) (is ∙ sym (files_of-state at size)) same;
+  in_order = order;
+}
 
 -- what was closed is of the catalogue, where all of it was
-pub entries_closed : (ring : RingState) (files : List Closed) (closes : CloseListView) → AreEntries ring files → HasClosed files closes → AreEntries ring closes.files
-entries_closed ring files closes all closed = All-permutation (λ (file : Closed). file.entry < length ring.catalogue) files closes.files closed.same_files all
+pub entries_closed : (ring : RingState) (files : List Closed) (closes : CloseListView)
+    → AreEntries ring files → HasClosed files closes → AreEntries ring closes.files
+entries_closed ring files closes all closed =
+    All-permutation (IsEntry (length ring.catalogue)) files closes.files closed.same_files all
 
 -- a table that was emptied is settled
 pub emptied_settled : (st : State) (fresh : ℕ → Bool) → st ≡ record (vacant 0) { fresh = fresh } → IsSettled st
@@ -96,12 +118,19 @@ pub vacant_files : (st : State) (n : ℕ) → st ≡ vacant n → files_at st �
 vacant_files st n is = ap files_at is
 
 -- a ring by the parts of its table
-pub ring_is : (ring : RingState) (st : State) (size : ℕ) (range : ℕ × ℕ) (files : ℕ → Option Closed) → st.size ≡ size → st.range ≡ range → files_at st ≡ files → with_table ring st ≡ record ring { size = size; range = range; at = files }
-ring_is ring st size range files same_size same_range same_files = λ i. record ring { size = same_size i; range = same_range i; at = same_files i }
+pub ring_is : (ring : RingState) (st : State) (size : ℕ) (range : ℕ × ℕ) (files : ℕ → Option Closed)
+    → st.size ≡ size → st.range ≡ range → files_at st ≡ files
+    → with_table ring st ≡ record ring { size = size; range = range; at = files }
+ring_is ring st size range files same_size same_range same_files =
+    λ i. record ring { size = same_size i; range = same_range i; at = same_files i }
 
 -- a list of these files, once it is in order
-pub list_closed : (files given : List Closed) (closes : CloseListView) → given ≡ files → IsPermutation given closes.files → IsInOrderOfMark closes.files → HasClosed files closes
-list_closed files given closes is same order = record { same_files = subst (λ (l : List Closed). IsPermutation l closes.files) is same; in_order = order }
+pub list_closed : (files given : List Closed) (closes : CloseListView)
+    → given ≡ files → IsPermutation given closes.files → IsInOrderOfMark closes.files → HasClosed files closes
+list_closed files given closes is same order = record {
+  same_files = subst (λ (l : List Closed). IsPermutation l closes.files) is same;
+  in_order = order;
+}
 
 -- a ring whose table came back where it could not be opened
 pub given_back_rings : (c : RingContents) (back : Contents) → IsGivenBack c.table back → ring_of (record c { table = back }) ≡ ring_of c

@@ -21,18 +21,26 @@ module _ (c : RingContents) (off : ℕ) (list : List ℤ) (first new : State) (n
   pub room_for : length list ≤ given.room → length (removed_from (files_at first) off list) ≤ given.room
   room_for room = let few = few_removed (files_at first) off list in omega arith
 
-  module _ (sets : SetsFiles first new (files_after (c.registrations + 1) (files_at first) off list) (removed_from (files_at first) off list) given closes) where
+  module _ (sets : SetsFiles first new (files_after (c.registrations + 1) (files_at first) off list)
+      (removed_from (files_at first) off list) given closes) where
     pub updated_is : with_table (record (ring_of c) { registrations = c.registrations + 1 }) new ≡ updated (ring_of c) off list
-    updated_is = ring_is (record (ring_of c) { registrations = c.registrations + 1 }) new (state_of c.table).size (state_of c.table).range (files_after (c.registrations + 1) (files_at (state_of c.table)) off list)
+    updated_is = ring_is (record (ring_of c) { registrations = c.registrations + 1 }) new
+        (state_of c.table).size (state_of c.table).range (files_after (c.registrations + 1) (files_at (state_of c.table)) off list)
         (sets.size ∙ ap (λ (st : State). st.size) opened) (sets.range ∙ ap (λ (st : State). st.range) opened)
         (sets.at_slots ∙ ap (λ (a : ℕ → Option Closed). files_after (c.registrations + 1) a off list) files_first)
 
-    pub still_ring : IsRing (ring_of c) → list_any (is_bad_entry (length c.catalogue)) list ≡ false → IsRing (with_table (record (ring_of c) { registrations = c.registrations + 1 }) new)
+    pub still_ring : IsRing (ring_of c) → list_any (is_bad_entry (length c.catalogue)) list ≡ false
+        → IsRing (with_table (record (ring_of c) { registrations = c.registrations + 1 }) new)
     still_ring is good = subst IsRing (sym updated_is) (updated_rings (ring_of c) off list is good)
 
-    pub removed_closed : given.files ≡ [] → IsPermutation closes.files sorted.files → IsInOrderOfMark sorted.files → HasClosed (removed_from (ring_of c).at off list) sorted
+    pub removed_closed : given.files ≡ [] → IsPermutation closes.files sorted.files → IsInOrderOfMark sorted.files
+        → HasClosed (removed_from (ring_of c).at off list) sorted
     removed_closed none same order = list_closed (removed_from (files_at (state_of c.table)) off list) closes.files sorted
-        (sets.closed ∙ ap (λ (l : List Closed). l ++ removed_from (files_at first) off list) none ∙ ap (λ (a : ℕ → Option Closed). removed_from a off list) files_first) same order
+        (sets.closed ∙ ap (λ (l : List Closed). l ++ removed_from (files_at first) off list) none
+        ∙ ap (λ (a : ℕ → Option Closed). removed_from a off list) files_first) same order
 
-    pub removed_entries_closed : IsRing (ring_of c) → given.files ≡ [] → IsPermutation closes.files sorted.files → IsInOrderOfMark sorted.files → AreEntries (ring_of c) sorted.files
-    removed_entries_closed is none same order = entries_closed (ring_of c) (removed_from (ring_of c).at off list) sorted (removed_entries (length c.catalogue) (ring_of c).at off list is.entries) (removed_closed none same order)
+    pub removed_entries_closed : IsRing (ring_of c) → given.files ≡ []
+        → IsPermutation closes.files sorted.files → IsInOrderOfMark sorted.files → AreEntries (ring_of c) sorted.files
+    removed_entries_closed is none same order =
+        entries_closed (ring_of c) (removed_from (ring_of c).at off list) sorted
+        (removed_entries (length c.catalogue) (ring_of c).at off list is.entries) (removed_closed none same order)

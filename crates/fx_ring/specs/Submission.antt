@@ -1,5 +1,6 @@
 -- A submission: its completions come from one legal history of a sequential file table.
-use Rattle.std.specs.Prelude.{◌≡◌, ℕ, ◌+◌, ◌==◌, ◌||◌, ◌≤◌, nat_le, nat_lt, List, [], ◌∷◌, ◌++◌, length, map, Contains, Option, Some, None, if◌then◌else◌}
+use Rattle.std.specs.Prelude.{◌≡◌, ℕ, ◌+◌, ◌==◌, ◌||◌, ◌≤◌, nat_le, nat_lt, List, [], ◌∷◌}
+use Rattle.std.specs.Prelude.{◌++◌, length, map, Contains, Option, Some, None, if◌then◌else◌}
 use Rattle.fx_base.specs.Catalogue.{FileEntry}
 use Rattle.fx_base.specs.CloseListView.{CloseListView}
 use Rattle.fx_plain.specs.State.{State, IsSettled, opening}

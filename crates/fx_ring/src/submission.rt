@@ -176,9 +176,11 @@ impl Ring {
         workers: u32,
         gate: &G,
     ) -> Result<Report, SubmitFault>
-        ensures refused { IfSome (submit_refusal (ring_of self.old) (all_asked requests.now) workers)
+        ensures refused { IfSome
+            (submit_refusal (ring_of self.old) (all_asked requests.now) workers)
             (λ fault. result ≡ Err fault) }
-        ensures only_refusal { IfNone (submit_refusal (ring_of self.old) (all_asked requests.now) workers)
+        ensures only_refusal { IfNone
+            (submit_refusal (ring_of self.old) (all_asked requests.now) workers)
             (IsOkUnless result Refused) }
         ensures one_history { IfOk result (λ report.
             IsOneHistory self.old (all_asked requests.now) (reported report) self.new) }

@@ -9,7 +9,8 @@ use Rattle.fx_base.specs.declared.open_file.Closed.{Closed}
 use Rattle.fx_chain.specs.Completed.{negated}
 use Rattle.fx_chain.specs.Faults.{fault_of}
 use Rattle.fx_chain.specs.Operation.{Asked}
-use Rattle.fx_ring.specs.Registration.{range_refusal, register_refusal, registered, registered_sparse, removed_from, sparse_refusal, unregister_refusal, update_refusal, updated}
+use Rattle.fx_ring.specs.Registration.{range_refusal, register_refusal, registered, registered_sparse}
+use Rattle.fx_ring.specs.Registration.{removed_from, sparse_refusal, unregister_refusal, update_refusal, updated}
 use Rattle.fx_ring.specs.Ring.{HasClosed, RingContents, RingState, files_of, new_ring, ring_of, without_table}
 use Rattle.fx_ring.specs.Submission.{IsOneHistory, Reported}
 use Rattle.fx_ring.specs.declared.ring.TheConstants.{MOST_SUBMISSIONS}

@@ -1,5 +1,6 @@
 -- What the words of a script say (this project's own).
-use Rattle.std.specs.Prelude.{ℕ, suc, zero, ◌==◌, nat_le, Bool, ◌&&◌, ◌||◌, not, ℤ, pos, negsuc, List, [], ◌∷◌, length, drop, slice_index, codes, Option, Some, None, option_map, option_and_then, if◌then◌else◌}
+use Rattle.std.specs.Prelude.{ℕ, suc, zero, ◌==◌, nat_le, Bool, ◌&&◌, ◌||◌, not, ℤ, pos, negsuc, List, [], ◌∷◌, length}
+use Rattle.std.specs.Prelude.{drop, slice_index, codes, Option, Some, None, option_map, option_and_then, if◌then◌else◌}
 use Rattle.std.specs.List.{list_all}
 use Rattle.std.specs.Str.{bytes_eq}
 use Rattle.std.specs.Str.Parse.{digits_value}

@@ -18,7 +18,8 @@ pub word_made : (node entry : ℕ) → node ≤ last_node → entry < 2 ^ 8 → 
 word_made node entry few small = omega arith
 
 pub named_suc : (name node : ℕ) → name ≡ node + 1 → named name ≡ Some node
-named_suc name node is = ap named is ∙ rw (ne_eqb (node + 1) 0 (λ bad. omega arith)) (let e : node + 1 - 1 ≡ node = omega arith in ap (λ (n : ℕ). Some n) e)
+named_suc name node is = ap named is
+    ∙ rw (ne_eqb (node + 1) 0 (λ bad. omega arith)) (let e : node + 1 - 1 ≡ node = omega arith in ap (λ (n : ℕ). Some n) e)
 
 pub name_more : (word : ℕ) → takes_in word + 1 < 2 ^ 32 → name_in (word + 1) ≡ name_in word
 name_more word room = omega arith

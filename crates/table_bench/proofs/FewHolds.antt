@@ -1,5 +1,5 @@
 -- A look-up adds a hold at most, and no other call adds any.
-use Rattle.std.proofs.Common.{◌≡◌, ℕ, ◌+◌, ◌-◌, ◌≤◌, ◌==◌, true, false, [], if◌then◌else◌, Option, Some, None, subst, sym, arith}
+use Rattle.std.proofs.Common.{ℕ, ◌+◌, ◌-◌, ◌≤◌, ◌==◌, true, false, [], if◌then◌else◌, Option, Some, None, subst, sym, arith}
 use Rattle.fx_plain.specs.State.{State}
 use Rattle.fx_plain.specs.Step.{Steps, changed_at}
 use Rattle.fx_plain.specs.History.{◌▷◌, ◌▷▷◌, Leads, close_of}
@@ -16,7 +16,8 @@ few_changed holds place x most few fits n = elim (n == place) as (λ b. (if b th
 more : (most : ℕ) (st : State) → HasHoldsUpTo most st → HasHoldsUpTo (most + 1) st
 more most st few n = let a = few n in omega arith
 
-pub look_few : (most slot : ℕ) (found : Option File) (old new : State) → HasHoldsUpTo most old → Steps old (Look slot found) new → HasHoldsUpTo (most + 1) new
+pub look_few : (most slot : ℕ) (found : Option File) (old new : State) → HasHoldsUpTo most old → Steps old (Look slot found) new
+    → HasHoldsUpTo (most + 1) new
 look_few most slot None old new few step n = subst (λ (s : State). s.holds n ≤ most + 1) (sym step.1) (more most old few n)
 look_few most slot (Some f) old new few step n =
     let a = few f.number in

@@ -63,8 +63,8 @@ fn a_writer_that_is_full(rt: HostRuntime) -> Result<(), Fail> {
 #[test]
 fn a_writer_that_is_full_while_files_are_left(rt: HostRuntime) -> Result<(), Fail> {
     // Whole texts: a text for which there is no room is not begun, and no later one is written.
-    let script =
-        "file a.txt 68656c6c6f\nsparse 1\nopen a.txt at 0\nsubmit\nread 0 0 5\nsubmit\nread 0 0 1\nsubmit\n";
+    let script = "file a.txt 68656c6c6f\nsparse 1\nopen a.txt at 0\nsubmit\n\
+                  read 0 0 5\nsubmit\nread 0 0 1\nsubmit\n";
     let texts = [
         "sparse 0\n",
         "1.1.1 0\n",

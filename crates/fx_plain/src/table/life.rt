@@ -184,7 +184,8 @@ fn close_file(slot: Option<u32>, nodes: &mut NodeList, closes: &mut CloseList)
 // Closes the files of all slots, in order.
 fn close_all(slots: &Vec<Option<u32>>, nodes: &mut NodeList, closes: &mut CloseList)
     requires placed { AllPlaced slots.now.items nodes.old }
-    requires room { length (files_in_order (λ slot. file_at nodes.old (slot_at slots.now.items slot))
+    requires room { length
+        (files_in_order (λ slot. file_at nodes.old (slot_at slots.now.items slot))
         (length slots.now.items)) ≤ closes.old.room }
     ensures files { closes.new.files ≡ closes.old.files
         ++ files_in_order (λ slot. file_at nodes.old (slot_at slots.now.items slot))

@@ -69,8 +69,8 @@ fn every_command_as_it_is_written(rt: HostRuntime) -> Result<(), Fail> {
 
 #[test]
 fn every_request_as_it_is_written(rt: HostRuntime) -> Result<(), Fail> {
-    let text =
-        "open a.txt at 3 link\nopen b.txt any\nread 1 2 3 link\nclose 4\nupdate 5 0,-1,-2\nsubmit\n";
+    let text = "open a.txt at 3 link\nopen b.txt any\nread 1 2 3 link\nclose 4\n\
+                update 5 0,-1,-2\nsubmit\n";
     let Ok(script) = Script::read(rt.alloc(), text.as_bytes()) else {
         panic!(rt; "refused");
     };
@@ -98,7 +98,10 @@ fn every_request_as_it_is_written(rt: HostRuntime) -> Result<(), Fail> {
     );
     assert!(rt; matches!(&close.op, Op::Close { slot: 4 }));
     assert!(rt;
-        matches!(&update.op, Op::Update { off: 5, list } if list.as_slice() == [0, -1, -2].as_slice())
+        matches!(
+            &update.op,
+            Op::Update { off: 5, list } if list.as_slice() == [0, -1, -2].as_slice()
+        )
     );
     assert_eq!(rt; at.flags.bits(), 4);
     assert_eq!(rt; any.flags.bits(), 0);

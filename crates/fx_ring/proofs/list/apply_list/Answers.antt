@@ -3,7 +3,7 @@ use Rattle.std.proofs.Math.Seq.{take-length}
 use Rattle.fx_plain.specs.Contents.{state_of}
 use Rattle.fx_ring.specs.Registration.{files_after, removed_from}
 use Rattle.fx_ring.specs.Slots.{SetsFiles, files_at}
-use Rattle.fx_ring.proofs.Listed.{set_next, room_next, good_next, none_done}
+use Rattle.fx_ring.proofs.ListSteps.{set_next, room_next, good_next, none_done}
 use Rattle.fx_ring.proofs.list.apply_list.Goals as goal
 
 pub apply_number-requires-clause-settled : goal.apply_number-requires-clause-settled
@@ -18,16 +18,22 @@ apply_number-requires-clause-slot c =
 
 pub apply_number-requires-clause-good : goal.apply_number-requires-clause-good
 apply_number-requires-clause-good c =
-    let read : to_z w32 (of_z w32 (slice_index_or c.args.list.now c.loop-i.i (pos 0))) ≡ slice_index_or c.args.list.now c.loop-i.i (pos 0) = search rules in
-    good_next c.args.k c.args.off c.loop-i.i c.args.list.now _ (state_of c.args.table.now) (state_of c.loop-i.table) (state_of c.loop-i.table) c.args.closes.now c.loop-i.closes c.loop-i.closes c.loop-i-test.true read c.loop-i.invariant.sets (length c.args.catalogue.now) c.requires.good
+    let number = slice_index_or c.args.list.now c.loop-i.i (pos 0) in
+    let read : to_z w32 (of_z w32 number) ≡ number = search rules in
+    good_next c.args.k c.args.off c.loop-i.i c.args.list.now _ (state_of c.args.table.now) (state_of c.loop-i.table) (state_of c.loop-i.table)
+    c.args.closes.now c.loop-i.closes c.loop-i.closes c.loop-i-test.true read c.loop-i.invariant.sets
+    (length c.args.catalogue.now) c.requires.good
 
 pub apply_number-requires-clause-fresh : goal.apply_number-requires-clause-fresh
-apply_number-requires-clause-fresh c = c.loop-i.invariant.fresh (c.args.first + c.loop-i.i) (omega arith) (let inside = c.loop-i-test.true in omega arith)
+apply_number-requires-clause-fresh c =
+    c.loop-i.invariant.fresh (c.args.first + c.loop-i.i) (omega arith) (let inside = c.loop-i-test.true in omega arith)
 
 pub apply_number-requires-clause-room : goal.apply_number-requires-clause-room
 apply_number-requires-clause-room c =
-    let read : to_z w32 (of_z w32 (slice_index_or c.args.list.now c.loop-i.i (pos 0))) ≡ slice_index_or c.args.list.now c.loop-i.i (pos 0) = search rules in
-    room_next c.args.k c.args.off c.loop-i.i c.args.list.now _ (state_of c.args.table.now) (state_of c.loop-i.table) (state_of c.loop-i.table) c.args.closes.now c.loop-i.closes c.loop-i.closes c.loop-i-test.true read c.loop-i.invariant.sets c.requires.room
+    let number = slice_index_or c.args.list.now c.loop-i.i (pos 0) in
+    let read : to_z w32 (of_z w32 number) ≡ number = search rules in
+    room_next c.args.k c.args.off c.loop-i.i c.args.list.now _ (state_of c.args.table.now) (state_of c.loop-i.table) (state_of c.loop-i.table)
+    c.args.closes.now c.loop-i.closes c.loop-i.closes c.loop-i-test.true read c.loop-i.invariant.sets c.requires.room
 
 pub loop-i-init : goal.loop-i-init
 loop-i-init c = record {
@@ -37,9 +43,13 @@ loop-i-init c = record {
 
 pub loop-i-preserved : goal.loop-i-preserved
 loop-i-preserved c =
-    let read : to_z w32 (of_z w32 (slice_index_or c.args.list.now c.loop-i.i (pos 0))) ≡ slice_index_or c.args.list.now c.loop-i.i (pos 0) = search rules in
+    let number = slice_index_or c.args.list.now c.loop-i.i (pos 0) in
+    let read : to_z w32 (of_z w32 number) ≡ number = search rules in
     record {
-      sets = set_next c.args.k c.args.off c.loop-i.i c.args.list.now _ (state_of c.args.table.now) (state_of c.loop-i.table) (state_of c.apply_number.new.table) c.args.closes.now c.loop-i.closes c.apply_number.new.closes c.loop-i-test.true read c.loop-i.invariant.sets c.apply_number.ensures.files;
+      sets = set_next c.args.k c.args.off c.loop-i.i c.args.list.now _
+          (state_of c.args.table.now) (state_of c.loop-i.table) (state_of c.apply_number.new.table)
+          c.args.closes.now c.loop-i.closes c.apply_number.new.closes c.loop-i-test.true read c.loop-i.invariant.sets
+          c.apply_number.ensures.files;
       fresh = λ number low high. c.apply_number.ensures.fresh number (omega arith) ∙ c.loop-i.invariant.fresh number (omega arith) high;
     }
 
@@ -49,4 +59,6 @@ returns c =
     let below = c.loop-i.auto.i-end in
     let all : c.loop-i.i ≡ length c.args.list.now = omega arith in
     let end : take c.loop-i.i c.args.list.now ≡ c.args.list.now = ap (λ (n : ℕ). take n c.args.list.now) all ∙ take-length c.args.list.now in
-    subst (λ (l : List ℤ). SetsFiles (state_of c.args.table.now) (state_of c.loop-i.table) (files_after c.args.k (files_at (state_of c.args.table.now)) c.args.off l) (removed_from (files_at (state_of c.args.table.now)) c.args.off l) c.args.closes.now c.loop-i.closes) end c.loop-i.invariant.sets
+    let first = state_of c.args.table.now in
+    subst (λ (l : List ℤ). SetsFiles first (state_of c.loop-i.table) (files_after c.args.k (files_at first) c.args.off l)
+    (removed_from (files_at first) c.args.off l) c.args.closes.now c.loop-i.closes) end c.loop-i.invariant.sets

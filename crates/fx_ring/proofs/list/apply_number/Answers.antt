@@ -1,4 +1,5 @@
-use Rattle.std.proofs.Common.{◌≡◌, ◌<◌, ℕ, ℤ, true, false, pos, negsuc, int_le, int_lt, nat_abs, to_z, of_z, w32, Some, length, sym, ap, subst, ◌∙◌, rules}
+use Rattle.std.proofs.Common.{◌≡◌, ◌<◌, ℕ, ℤ, true, false, pos, negsuc, int_le, int_lt, nat_abs}
+use Rattle.std.proofs.Common.{to_z, of_z, w32, Some, length, sym, ap, subst, ◌∙◌, rules}
 use Rattle.std.proofs.lemmas.Int.{to_z-of_z}
 use Rattle.fx_base.specs.declared.open_file.Closed.{Closed}
 use Rattle.fx_plain.specs.Contents.{state_of}
@@ -12,7 +13,9 @@ pub overflow_cast-number : goal.overflow_cast-number
 overflow_cast-number c =
     let read : to_z w32 (of_z w32 c.args.number) ≡ c.args.number = to_z-of_z w32 c.args.number c.ranges.number in
     let positive : int_le (pos 0) c.args.number ≡ true = ap (λ (z : ℤ). int_le (pos 0) z) (sym read) ∙ c.if-number-ge0.true in
-    let inside : nat_abs (to_z w32 (of_z w32 c.args.number)) < length c.args.catalogue.now = subst (λ (z : ℤ). nat_abs z < length c.args.catalogue.now) (sym read) (entry_inside (length c.args.catalogue.now) c.args.number positive c.requires.good) in
+    let inside : nat_abs (to_z w32 (of_z w32 c.args.number)) < length c.args.catalogue.now =
+    subst (λ (z : ℤ). nat_abs z < length c.args.catalogue.now) (sym read)
+    (entry_inside (length c.args.catalogue.now) c.args.number positive c.requires.good) in
     search rules
 
 pub returns-then-number-ge0-clause-files : goal.returns-then-number-ge0-clause-files
@@ -20,10 +23,15 @@ returns-then-number-ge0-clause-files c =
     let read : to_z w32 (of_z w32 c.args.number) ≡ c.args.number = to_z-of_z w32 c.args.number c.ranges.number in
     let positive : int_le (pos 0) c.args.number ≡ true = ap (λ (z : ℤ). int_le (pos 0) z) (sym read) ∙ c.if-number-ge0.true in
     let st = state_of c.args.table.now in
-    let file : c.open-file.result ≡ record { mark = c.args.mark; entry = nat_abs c.args.number } = λ i. record { mark = c.open-file.ensures.mark i; entry = (c.open-file.ensures.entry ∙ ap nat_abs read) i } in
-    subst (λ (z : ℤ). SetsFiles st (state_of c.fill_slot.new.table) (changed_at (files_at st) c.args.slot (file_after c.args.mark z (files_at st c.args.slot))) (removed_by z (files_at st c.args.slot)) c.args.closes.now c.fill_slot.new.closes)
+    let was = files_at st c.args.slot in
+    let new = state_of c.fill_slot.new.table in
+    let file : c.open-file.result ≡ record { mark = c.args.mark; entry = nat_abs c.args.number } =
+    λ i. record { mark = c.open-file.ensures.mark i; entry = (c.open-file.ensures.entry ∙ ap nat_abs read) i } in
+    subst (λ (z : ℤ). SetsFiles st new (changed_at (files_at st) c.args.slot (file_after c.args.mark z was)) (removed_by z was)
+    c.args.closes.now c.fill_slot.new.closes)
     (sym (unsigned c.args.number positive))
-    (subst (λ (f : Closed). SetsFiles st (state_of c.fill_slot.new.table) (changed_at (files_at st) c.args.slot (Some f)) (removed_by (pos (nat_abs c.args.number)) (files_at st c.args.slot)) c.args.closes.now c.fill_slot.new.closes) file c.fill_slot.ensures.set)
+    (subst (λ (f : Closed). SetsFiles st new (changed_at (files_at st) c.args.slot (Some f)) (removed_by (pos (nat_abs c.args.number)) was)
+    c.args.closes.now c.fill_slot.new.closes) file c.fill_slot.ensures.set)
 
 pub returns-then-number-gtminus2-clause-files : goal.returns-then-number-gtminus2-clause-files
 returns-then-number-gtminus2-clause-files c =
@@ -31,7 +39,10 @@ returns-then-number-gtminus2-clause-files c =
     let negative : int_le (pos 0) c.args.number ≡ false = ap (λ (z : ℤ). int_le (pos 0) z) (sym read) ∙ c.if-number-ge0.false in
     let above : int_lt (negsuc 1) c.args.number ≡ true = ap (λ (z : ℤ). int_lt (negsuc 1) z) (sym read) ∙ c.if-number-gtminus2.true in
     let st = state_of c.args.table.now in
-    subst (λ (z : ℤ). SetsFiles st (state_of c.clear_slot.new.table) (changed_at (files_at st) c.args.slot (file_after c.args.mark z (files_at st c.args.slot))) (removed_by z (files_at st c.args.slot)) c.args.closes.now c.clear_slot.new.closes)
+    let was = files_at st c.args.slot in
+    let new = state_of c.clear_slot.new.table in
+    subst (λ (z : ℤ). SetsFiles st new (changed_at (files_at st) c.args.slot (file_after c.args.mark z was)) (removed_by z was)
+    c.args.closes.now c.clear_slot.new.closes)
     (sym (minus_one c.args.number negative above)) c.clear_slot.ensures.set
 
 pub returns-then-number-gtminus2-clause-fresh : goal.returns-then-number-gtminus2-clause-fresh

@@ -13,13 +13,18 @@ pub prepare-requires-clause-settled : goal.prepare-requires-clause-settled
 prepare-requires-clause-settled c = vacant_settled (state_of c.in_ok-table.table) (length c.args.list.now) c.in_ok-table.ensures.state
 
 pub dismiss-requires-clause-settled : goal.dismiss-requires-clause-settled
-dismiss-requires-clause-settled c = vacant_settled (state_of c.prepare.new.self) (length c.args.list.now) (ap state_of c.in_default.ensures.err ∙ c.in_ok-table.ensures.state)
+dismiss-requires-clause-settled c =
+    vacant_settled (state_of c.prepare.new.self) (length c.args.list.now)
+    (ap state_of c.in_default.ensures.err ∙ c.in_ok-table.ensures.state)
 
 pub dismiss-requires-clause-empty : goal.dismiss-requires-clause-empty
-dismiss-requires-clause-empty c = vacant_empty (state_of c.prepare.new.self) (length c.args.list.now) (ap state_of c.in_default.ensures.err ∙ c.in_ok-table.ensures.state)
+dismiss-requires-clause-empty c =
+    vacant_empty (state_of c.prepare.new.self) (length c.args.list.now)
+    (ap state_of c.in_default.ensures.err ∙ c.in_ok-table.ensures.state)
 
 pub apply_list-requires-clause-settled : goal.apply_list-requires-clause-settled
-apply_list-requires-clause-settled c = opening_settled (state_of c.in_ok-table.table) (state_of c.prepare.new.self) (2 * length c.args.list.now) c.in-Ok.ensures.ok
+apply_list-requires-clause-settled c =
+    opening_settled (state_of c.in_ok-table.table) (state_of c.prepare.new.self) (2 * length c.args.list.now) c.in-Ok.ensures.ok
 
 pub apply_list-requires-clause-good : goal.apply_list-requires-clause-good
 apply_list-requires-clause-good c = good_files (length c.args.catalogue.now) c.args.list.now c.requires.good
@@ -27,15 +32,23 @@ apply_list-requires-clause-good c = good_files (length c.args.catalogue.now) c.a
 pub apply_list-requires-clause-fresh : goal.apply_list-requires-clause-fresh
 apply_list-requires-clause-fresh c =
     let size : (state_of c.in_ok-table.table).size ≡ length c.args.list.now = ap (λ (st : State). st.size) c.in_ok-table.ensures.state in
-    λ number low high. opening_fresh (state_of c.in_ok-table.table) (state_of c.prepare.new.self) (2 * length c.args.list.now) c.in-Ok.ensures.ok number (omega arith) (omega arith)
+    λ number low high.
+    opening_fresh (state_of c.in_ok-table.table) (state_of c.prepare.new.self) (2 * length c.args.list.now) c.in-Ok.ensures.ok
+    number (omega arith) (omega arith)
 
 pub apply_list-requires-clause-room : goal.apply_list-requires-clause-room
 apply_list-requires-clause-room c =
-    let files = opening_files (state_of c.in_ok-table.table) (state_of c.prepare.new.self) (2 * length c.args.list.now) c.in-Ok.ensures.ok ∙ vacant_files (state_of c.in_ok-table.table) (length c.args.list.now) c.in_ok-table.ensures.state in
-    let none : length (removed_from (files_at (state_of c.prepare.new.self)) 0 c.args.list.now) ≡ 0 = ap (λ (a : ℕ → Option Closed). length (removed_from a 0 c.args.list.now)) files ∙ ap length (none_removed 0 c.args.list.now) in
+    let files =
+    opening_files (state_of c.in_ok-table.table) (state_of c.prepare.new.self) (2 * length c.args.list.now) c.in-Ok.ensures.ok
+    ∙ vacant_files (state_of c.in_ok-table.table) (length c.args.list.now) c.in_ok-table.ensures.state in
+    let none : length (removed_from (files_at (state_of c.prepare.new.self)) 0 c.args.list.now) ≡ 0 =
+    ap (λ (a : ℕ → Option Closed). length (removed_from a 0 c.args.list.now)) files
+    ∙ ap length (none_removed 0 c.args.list.now) in
     omega (arith, none)
 
 pub returns-clause-files : goal.returns-clause-files
 returns-clause-files c =
-    let files = opening_files (state_of c.in_ok-table.table) (state_of c.prepare.new.self) (2 * length c.args.list.now) c.in-Ok.ensures.ok ∙ vacant_files (state_of c.in_ok-table.table) (length c.args.list.now) c.in_ok-table.ensures.state in
+    let files =
+    opening_files (state_of c.in_ok-table.table) (state_of c.prepare.new.self) (2 * length c.args.list.now) c.in-Ok.ensures.ok
+    ∙ vacant_files (state_of c.in_ok-table.table) (length c.args.list.now) c.in_ok-table.ensures.state in
     c.apply_list.ensures.at_slots ∙ ap (λ (a : ℕ → Option Closed). files_after c.args.k a 0 c.args.list.now) files

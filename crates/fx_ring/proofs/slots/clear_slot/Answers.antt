@@ -6,13 +6,23 @@ use Rattle.fx_ring.proofs.slots.clear_slot.Goals as goal
 
 pub close_removed-requires-clause-removed : goal.close_removed-requires-clause-removed
 close_removed-requires-clause-removed c =
-    can_retire (state_of c.args.table.now) (state_of c.clear-removed.new.self) (leaving c.clear-removed.new.self) (leaving c.args.table.now) ((state_of c.args.table.now).at c.args.slot) c.clear-removed.result c.requires.settled
+    can_retire (state_of c.args.table.now) (state_of c.clear-removed.new.self)
+    (leaving c.clear-removed.new.self) (leaving c.args.table.now) ((state_of c.args.table.now).at c.args.slot)
+    c.clear-removed.result c.requires.settled
     (ap (λ (st : State). st.holds) c.clear-removed.ensures.step.1) c.clear-removed.ensures.leaving c.clear-removed.ensures.answer
 
 pub returns-clause-set : goal.returns-clause-set
-returns-clause-set c = cleared (state_of c.args.table.now) (state_of c.clear-removed.new.self) (state_of c.close_removed.new.table) c.args.slot ((state_of c.args.table.now).at c.args.slot) c.clear-removed.result c.args.closes.now c.close_removed.new.closes
-    c.requires.settled refl c.clear-removed.ensures.answer c.close_removed.ensures.steps c.close_removed.ensures.files c.close_removed.ensures.room c.clear-removed.ensures.step
+returns-clause-set c =
+    cleared (state_of c.args.table.now) (state_of c.clear-removed.new.self) (state_of c.close_removed.new.table)
+    c.args.slot ((state_of c.args.table.now).at c.args.slot) c.clear-removed.result c.args.closes.now c.close_removed.new.closes
+    c.requires.settled refl c.clear-removed.ensures.answer
+    c.close_removed.ensures.steps c.close_removed.ensures.files c.close_removed.ensures.room
+    c.clear-removed.ensures.step
 
 pub returns-clause-fresh : goal.returns-clause-fresh
-returns-clause-fresh c = cleared_fresh (state_of c.args.table.now) (state_of c.clear-removed.new.self) (state_of c.close_removed.new.table) c.args.slot ((state_of c.args.table.now).at c.args.slot) c.clear-removed.result c.args.closes.now c.close_removed.new.closes
-    c.requires.settled refl c.clear-removed.ensures.answer c.close_removed.ensures.steps c.close_removed.ensures.files c.close_removed.ensures.room c.clear-removed.ensures.step
+returns-clause-fresh c =
+    cleared_fresh (state_of c.args.table.now) (state_of c.clear-removed.new.self) (state_of c.close_removed.new.table)
+    c.args.slot ((state_of c.args.table.now).at c.args.slot) c.clear-removed.result c.args.closes.now c.close_removed.new.closes
+    c.requires.settled refl c.clear-removed.ensures.answer
+    c.close_removed.ensures.steps c.close_removed.ensures.files c.close_removed.ensures.room
+    c.clear-removed.ensures.step

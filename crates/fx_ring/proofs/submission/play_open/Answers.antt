@@ -5,7 +5,8 @@ use Rattle.fx_chain.specs.Operation.{Asked, all_asked}
 use Rattle.fx_chain.specs.Runs.{runs_of}
 use Rattle.fx_chain.specs.Completed.{Completed, all_completed}
 use Rattle.fx_ring.specs.Outcomes.{HasRoomFor}
-use Rattle.fx_ring.proofs.Gathered.{IsNew, all_gathered, all_scattered, all_new, all_idle, as_many_passes, new_has_worked, new_has_room, runs_have_all, runs_weigh_all, runs_are_short}
+use Rattle.fx_ring.proofs.NewCrew.{IsNew, all_gathered, all_scattered, all_new, all_idle, as_many_passes}
+use Rattle.fx_ring.proofs.NewCrew.{new_has_worked, new_has_room, runs_have_all, runs_weigh_all, runs_are_short}
 use Rattle.fx_ring.specs.Ring.{ring_with}
 use Rattle.fx_ring.specs.Submission.{IsOneHistory, Reported}
 use Rattle.fx_ring.specs.declared.worker.Worker.{Worker}
@@ -13,8 +14,9 @@ use Rattle.fx_chain.specs.declared.completion.Completion.{Completion}
 use Rattle.fx_base.specs.CloseListView.{CloseListView}
 use Rattle.fx_base.specs.declared.open_file.Closed.{Closed}
 use Rattle.std.specs.List.Sorted.{IsPermutation}
-use Rattle.fx_ring.proofs.Joined.{completed_by, closed_by_worker, one_of_each, closes_weigh, one_history}
-use Rattle.fx_ring.proofs.Scattered.{states, crew_has_played, completions_of, files_of, completions_joined, files_joined, as_many_completions, as_many_files}
+use Rattle.fx_ring.proofs.WorkersTogether.{completed_by, closed_by_worker, one_of_each, closes_weigh, one_history}
+use Rattle.fx_ring.proofs.PlayedCrew.{states, crew_has_played, completions_of, files_of}
+use Rattle.fx_ring.proofs.PlayedCrew.{completions_joined, files_joined, as_many_completions, as_many_files}
 use Rattle.fx_ring.proofs.submission.play_open.Goals as goal
 
 pub gather-requires-clause-count : goal.gather-requires-clause-count
@@ -63,7 +65,8 @@ join-requires-clause-completions g c =
     let ws : List (Worker g.row.T-Pass.Denot) = c.work_crew.new.crew.items in
     let played = crew_has_played V c.args.catalogue.now (c.args.submissions + 1) c.args.requests.now c.args.chains.now o c.args.passes.items
     c.gather.new.crew.items ws c.scatter.new.passes.items c.close-left.result c.requires.members c.requires.chains c.requires.new
-    c.gather.ensures.passes c.work_crew.ensures.numbers c.scatter.ensures.passes c.work_crew.ensures.worked c.work_crew.ensures.all_drawn c.close-left.ensures in
+    c.gather.ensures.passes c.work_crew.ensures.numbers c.scatter.ensures.passes
+    c.work_crew.ensures.worked c.work_crew.ensures.all_drawn c.close-left.ensures in
     let all = one_of_each c.args.catalogue.now (c.args.submissions + 1) (runs_of asked) o (states V ws) _ _ played in
     let sum = as_many_completions V ws c.scatter.new.outcomes.items c.scatter.ensures.outcomes in
     let have = runs_have_all asked in
@@ -80,7 +83,8 @@ join-requires-clause-closes g c =
     let ws : List (Worker g.row.T-Pass.Denot) = c.work_crew.new.crew.items in
     let played = crew_has_played V c.args.catalogue.now (c.args.submissions + 1) c.args.requests.now c.args.chains.now o c.args.passes.items
     c.gather.new.crew.items ws c.scatter.new.passes.items c.close-left.result c.requires.members c.requires.chains c.requires.new
-    c.gather.ensures.passes c.work_crew.ensures.numbers c.scatter.ensures.passes c.work_crew.ensures.worked c.work_crew.ensures.all_drawn c.close-left.ensures in
+    c.gather.ensures.passes c.work_crew.ensures.numbers c.scatter.ensures.passes
+    c.work_crew.ensures.worked c.work_crew.ensures.all_drawn c.close-left.ensures in
     let few = closes_weigh c.args.catalogue.now (c.args.submissions + 1) (runs_of asked) o (states V ws) _ _ played in
     let sum = as_many_files V ws c.scatter.new.outcomes.items c.scatter.ensures.outcomes in
     let weigh = runs_weigh_all asked in
@@ -95,7 +99,8 @@ returns-clause-played g c =
     let ws : List (Worker g.row.T-Pass.Denot) = c.work_crew.new.crew.items in
     let played = crew_has_played V c.args.catalogue.now (c.args.submissions + 1) c.args.requests.now c.args.chains.now o c.args.passes.items
     c.gather.new.crew.items ws c.scatter.new.passes.items c.close-left.result c.requires.members c.requires.chains c.requires.new
-    c.gather.ensures.passes c.work_crew.ensures.numbers c.scatter.ensures.passes c.work_crew.ensures.worked c.work_crew.ensures.all_drawn c.close-left.ensures in
+    c.gather.ensures.passes c.work_crew.ensures.numbers c.scatter.ensures.passes
+    c.work_crew.ensures.worked c.work_crew.ensures.all_drawn c.close-left.ensures in
     let completions : all_completed c.join.new.self.completions.items ≡ flat_map completed_by (states V ws) =
     ap all_completed (c.join.ensures.completions
     ∙ ap (λ (l : List Completion). l ++ flat_map completions_of (reverse c.scatter.new.outcomes.items)) c.requires.room.all.no_completions)

@@ -7,7 +7,8 @@ use Rattle.fx_base.specs.declared.open_file.Closed.{Closed}
 use Rattle.fx_plain.specs.Contents.{Contents, state_of}
 use Rattle.fx_words.specs.Words.{node_in}
 use Rattle.fx_counted.specs.Layout.{slot_place}
-use Rattle.fx_counted.proofs.Finishing.{word_at_place, home_at_end, known_at_end, leaves_at_end, some_back, none_back, none_named, place_emptied, none_emptied}
+use Rattle.fx_counted.proofs.Finishing.{word_at_place, home_at_end, known_at_end, leaves_at_end}
+use Rattle.fx_counted.proofs.Finishing.{some_back, none_back, none_named, place_emptied, none_emptied}
 use Rattle.fx_counted.proofs.HomeComing.{number_at, file_at, emptied, all_gone}
 use Rattle.fx_counted.proofs.Shells.{IsPartlyBack, all_back}
 use Rattle.fx_counted.proofs.table.CountedTable.finish.Goals.{in-Some+in-Some-take_home, in-Some+in_default-take_home, in_default}

@@ -1,22 +1,24 @@
 use Rattle.std.proofs.Common.{ap, sym, subst, ◌∙◌}
 use Rattle.fx_plain.specs.State.{State, IsSettled}
 use Rattle.fx_ring.specs.Ring.{RingContents, IsRing, ring_of, with_table}
-use Rattle.fx_ring.proofs.Rings.{ranged_rings}
+use Rattle.fx_ring.proofs.Rings.{contents_of, ranged_rings}
 use Rattle.fx_ring.proofs.ring.Ring.alloc_range.Goals as goal
 
 pub invariant_of-self-2 : goal.invariant_of-self-2
 invariant_of-self-2 c =
     let same = (c.in-Ok.ensures.ok).state in
     let was = c.self.invariant in
-    let before : RingContents = record { catalogue = c.self.inside.catalogue; table = c.self.inside.table; submissions = c.self.inside.submissions; registrations = c.self.inside.registrations } in
+    let before = contents_of c.self.inside in
     record {
       settled = subst IsSettled (sym same) (record { unheld = was.settled.unheld; closed = was.settled.closed });
-      ring = subst (λ (st : State). IsRing (with_table (ring_of before) st)) (sym same) (ranged_rings (ring_of before) (c.args.off, c.args.len) was.ring);
+      ring = subst (λ (st : State). IsRing (with_table (ring_of before) st)) (sym same)
+          (ranged_rings (ring_of before) (c.args.off, c.args.len) was.ring);
       few_submissions = was.few_submissions;
       few_registrations = was.few_registrations;
     }
 
 pub returns-clause-ok : goal.returns-clause-ok
 returns-clause-ok c =
-    let before : RingContents = record { catalogue = c.self.inside.catalogue; table = c.self.inside.table; submissions = c.self.inside.submissions; registrations = c.self.inside.registrations } in
-    ap (λ (st : State). with_table (ring_of before) st) (c.in-Ok.ensures.ok).state ∙ ap (λ (v : RingContents). record (ring_of v) { range = (c.args.off, c.args.len) }) c.self.view_is
+    let before = contents_of c.self.inside in
+    ap (λ (st : State). with_table (ring_of before) st) (c.in-Ok.ensures.ok).state
+    ∙ ap (λ (v : RingContents). record (ring_of v) { range = (c.args.off, c.args.len) }) c.self.view_is

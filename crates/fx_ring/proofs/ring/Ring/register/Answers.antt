@@ -2,33 +2,43 @@ use Rattle.std.proofs.Common.{◌≡◌, ◌+◌, ◌<◌, ap, sym, subst, ◌�
 use Rattle.std.specs.List.{list_any}
 use Rattle.fx_plain.specs.State.{IsSettled}
 use Rattle.fx_plain.specs.Contents.{Contents, state_of}
-use Rattle.fx_ring.specs.Ring.{RingContents, IsRing, ring_of}
+use Rattle.fx_ring.specs.Ring.{RingContents, RingState, IsRing, ring_of}
 use Rattle.fx_ring.specs.Registration.{registered, is_bad_file, files_after}
 use Rattle.fx_ring.specs.Slots.{files_at}
 use Rattle.fx_ring.proofs.Origins.{registered_rings}
-use Rattle.fx_ring.proofs.Rings.{ring_is}
+use Rattle.fx_ring.proofs.Rings.{contents_of, ring_is}
 use Rattle.fx_ring.proofs.ring.Ring.register.Goals as goal
 
 pub invariant_of-self : goal.invariant_of-self
 invariant_of-self c =
     let was = c.self.invariant in
-    let before : RingContents = record { catalogue = c.self.inside.catalogue; table = c.self.inside.table; submissions = c.self.inside.submissions; registrations = c.self.inside.registrations } in
+    let before = contents_of c.self.inside in
     let after = c.replace.ensures.after in
     let good : list_any (is_bad_file (length c.self.inside.catalogue)) c.args.list.now ≡ false = search rules in
     let few : c.self.inside.registrations < 65535 = search rules in
+    let k = c.self.inside.registrations + 1 in
+    let counted : RingState = record (ring_of before) { registrations = k } in
+    let is = ring_is counted (state_of c.replace.new.dest) (length c.args.list.now) (0, length c.args.list.now)
+    (files_after k (λ _. None) 0 c.args.list.now)
+    (ap (λ (t : Contents). (state_of t).size) after ∙ c.in-Ok.ensures.size)
+    (ap (λ (t : Contents). (state_of t).range) after ∙ c.in-Ok.ensures.range)
+    (ap (λ (t : Contents). files_at (state_of t)) after ∙ c.in-Ok.ensures.files) in
     record {
       settled = subst (λ (t : Contents). IsSettled (state_of t)) (sym after) c.in-Ok.ensures.settled;
-      ring = subst IsRing (sym (ring_is (record (ring_of before) { registrations = c.self.inside.registrations + 1 }) (state_of c.replace.new.dest) (length c.args.list.now) (0, length c.args.list.now) (files_after (c.self.inside.registrations + 1) (λ _. None) 0 c.args.list.now)
-          (ap (λ (t : Contents). (state_of t).size) after ∙ c.in-Ok.ensures.size) (ap (λ (t : Contents). (state_of t).range) after ∙ c.in-Ok.ensures.range) (ap (λ (t : Contents). files_at (state_of t)) after ∙ c.in-Ok.ensures.files)))
-          (registered_rings (ring_of before) c.args.list.now good);
+      ring = subst IsRing (sym is) (registered_rings (ring_of before) c.args.list.now good);
       few_submissions = was.few_submissions;
       few_registrations = omega arith;
     }
 
 pub returns-in-Ok-clause-ok : goal.returns-in-Ok-clause-ok
 returns-in-Ok-clause-ok c =
-    let before : RingContents = record { catalogue = c.self.inside.catalogue; table = c.self.inside.table; submissions = c.self.inside.submissions; registrations = c.self.inside.registrations } in
+    let before = contents_of c.self.inside in
     let after = c.replace.ensures.after in
-    ring_is (record (ring_of before) { registrations = c.self.inside.registrations + 1 }) (state_of c.replace.new.dest) (length c.args.list.now) (0, length c.args.list.now) (files_after (c.self.inside.registrations + 1) (λ _. None) 0 c.args.list.now)
-    (ap (λ (t : Contents). (state_of t).size) after ∙ c.in-Ok.ensures.size) (ap (λ (t : Contents). (state_of t).range) after ∙ c.in-Ok.ensures.range) (ap (λ (t : Contents). files_at (state_of t)) after ∙ c.in-Ok.ensures.files)
+    let k = c.self.inside.registrations + 1 in
+    let counted : RingState = record (ring_of before) { registrations = k } in
+    ring_is counted (state_of c.replace.new.dest) (length c.args.list.now) (0, length c.args.list.now)
+    (files_after k (λ _. None) 0 c.args.list.now)
+    (ap (λ (t : Contents). (state_of t).size) after ∙ c.in-Ok.ensures.size)
+    (ap (λ (t : Contents). (state_of t).range) after ∙ c.in-Ok.ensures.range)
+    (ap (λ (t : Contents). files_at (state_of t)) after ∙ c.in-Ok.ensures.files)
     ∙ ap (λ (v : RingContents). registered (ring_of v) c.args.list.now) c.self.view_is

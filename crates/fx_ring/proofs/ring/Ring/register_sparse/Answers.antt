@@ -4,7 +4,7 @@ use Rattle.fx_plain.specs.Contents.{state_of}
 use Rattle.fx_plain.specs.Table.{identity_of}
 use Rattle.fx_ring.specs.Ring.{RingContents, ring_of, with_table}
 use Rattle.fx_ring.specs.Registration.{registered_sparse}
-use Rattle.fx_ring.proofs.Rings.{none_rings}
+use Rattle.fx_ring.proofs.Rings.{contents_of, none_rings}
 use Rattle.fx_ring.proofs.ring.Ring.register_sparse.Goals as goal
 
 pub invariant_of-self : goal.invariant_of-self
@@ -21,5 +21,5 @@ invariant_of-self c =
 pub returns-in-Ok-clause-ok : goal.returns-in-Ok-clause-ok
 returns-in-Ok-clause-ok c =
     let same : state_of c.replace.new.dest ≡ vacant c.args.n = ap state_of c.replace.ensures.after ∙ c.in-Ok.ensures.state in
-    let before : RingContents = record { catalogue = c.self.inside.catalogue; table = c.self.inside.table; submissions = c.self.inside.submissions; registrations = c.self.inside.registrations } in
+    let before = contents_of c.self.inside in
     ap (λ (st : State). with_table (ring_of before) st) same ∙ ap (λ (v : RingContents). registered_sparse (ring_of v) c.args.n) c.self.view_is

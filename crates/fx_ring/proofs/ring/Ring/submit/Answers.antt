@@ -6,7 +6,7 @@ use Rattle.fx_chain.specs.Operation.{Asked, all_asked}
 use Rattle.fx_ring.specs.Ring.{RingContents, ring_of, ring_with}
 use Rattle.fx_ring.specs.Submission.{IsOneHistory, reported}
 use Rattle.fx_ring.specs.declared.ring.TheConstants.{MOST_SUBMISSIONS}
-use Rattle.fx_ring.proofs.Rings.{vacant_settled, given_back_rings, given_back_at_rest}
+use Rattle.fx_ring.proofs.Rings.{contents_of, vacant_settled, given_back_rings, given_back_at_rest}
 use Rattle.fx_ring.proofs.SubmittedRing.{submitted_at_rest, submitted_entries}
 use Rattle.fx_ring.proofs.ring.Ring.submit.Goals as goal
 
@@ -35,7 +35,7 @@ invariant_of-self g c =
 
 pub invariant_of-self-in-Err : goal.invariant_of-self-in-Err
 invariant_of-self-in-Err g c =
-    let before : RingContents = ring_with c.self.inside.catalogue c.self.inside.table c.self.inside.submissions c.self.inside.registrations in
+    let before = contents_of c.self.inside in
     let back : c.in-Err.back ≡ c.replace-in-Err.new.dest = sym c.replace-in-Err.ensures.after in
     given_back_at_rest before c.replace-in-Err.new.dest c.self.invariant
     (subst (λ (z : Contents × Contents). IsGivenBack z.0 z.1) (λ i. (c.replace-plain.ensures.value i, back i)) c.in-Err.ensures.refused)
@@ -51,7 +51,7 @@ returns-in-Ok-clause-entries g c =
 
 pub returns-in-Err-clause-err : goal.returns-in-Err-clause-err
 returns-in-Err-clause-err g c =
-    let before : RingContents = ring_with c.self.inside.catalogue c.self.inside.table c.self.inside.submissions c.self.inside.registrations in
+    let before = contents_of c.self.inside in
     let back : c.in-Err.back ≡ c.replace-in-Err.new.dest = sym c.replace-in-Err.ensures.after in
     given_back_rings before c.replace-in-Err.new.dest
     (subst (λ (z : Contents × Contents). IsGivenBack z.0 z.1) (λ i. (c.replace-plain.ensures.value i, back i)) c.in-Err.ensures.refused)

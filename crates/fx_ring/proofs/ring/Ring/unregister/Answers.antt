@@ -3,22 +3,24 @@ use Rattle.fx_plain.specs.State.{State, files_of}
 use Rattle.fx_plain.specs.Contents.{state_of}
 use Rattle.fx_plain.specs.Table.{identity_of}
 use Rattle.fx_ring.specs.Ring.{RingContents, AreEntries, HasClosed, files_of as files_of_ring, ring_of, with_table, without_table}
-use Rattle.fx_ring.proofs.Rings.{all_closed, emptied_settled, entries_closed, entries_of, none_rings}
+use Rattle.fx_ring.proofs.Rings.{contents_of, all_closed, emptied_settled, entries_closed, entries_of, none_rings}
 use Rattle.fx_ring.proofs.ring.Ring.unregister.Goals as goal
 
 pub returns-clause-closes : goal.returns-clause-closes
 returns-clause-closes c =
     let all : c.empty_into.new.closes.files ≡ files_of (state_of c.self.inside.table) = search rules in
     subst (λ (v : RingContents). HasClosed (files_of_ring (ring_of v)) c.sort.new.self) c.self.view_is
-    (all_closed (state_of c.self.inside.table).at (state_of c.self.inside.table).size c.empty_into.new.closes.files c.sort.new.self all c.sort.ensures.same_files c.sort.ensures.in_order)
+    (all_closed (state_of c.self.inside.table).at (state_of c.self.inside.table).size c.empty_into.new.closes.files c.sort.new.self
+    all c.sort.ensures.same_files c.sort.ensures.in_order)
 
 pub returns-clause-entries : goal.returns-clause-entries
 returns-clause-entries c =
     let all : c.empty_into.new.closes.files ≡ files_of (state_of c.self.inside.table) = search rules in
-    let before : RingContents = record { catalogue = c.self.inside.catalogue; table = c.self.inside.table; submissions = c.self.inside.submissions; registrations = c.self.inside.registrations } in
+    let before = contents_of c.self.inside in
     subst (λ (v : RingContents). AreEntries (ring_of v) c.sort.new.self.files) c.self.view_is
     (entries_closed (ring_of before) (files_of_ring (ring_of before)) c.sort.new.self (entries_of (ring_of before) c.self.invariant.ring)
-    (all_closed (state_of c.self.inside.table).at (state_of c.self.inside.table).size c.empty_into.new.closes.files c.sort.new.self all c.sort.ensures.same_files c.sort.ensures.in_order))
+    (all_closed (state_of c.self.inside.table).at (state_of c.self.inside.table).size c.empty_into.new.closes.files c.sort.new.self
+    all c.sort.ensures.same_files c.sort.ensures.in_order))
 
 pub invariant_of-self : goal.invariant_of-self
 invariant_of-self c =
@@ -32,5 +34,6 @@ invariant_of-self c =
 
 pub returns-clause-ok : goal.returns-clause-ok
 returns-clause-ok c =
-    let before : RingContents = record { catalogue = c.self.inside.catalogue; table = c.self.inside.table; submissions = c.self.inside.submissions; registrations = c.self.inside.registrations } in
-    ap (λ (st : State). with_table (ring_of before) st) c.empty_into.ensures.empty ∙ ap (λ (v : RingContents). without_table (ring_of v)) c.self.view_is
+    let before = contents_of c.self.inside in
+    ap (λ (st : State). with_table (ring_of before) st) c.empty_into.ensures.empty
+    ∙ ap (λ (v : RingContents). without_table (ring_of v)) c.self.view_is

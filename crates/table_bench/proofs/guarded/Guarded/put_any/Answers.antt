@@ -4,4 +4,7 @@ use Rattle.table_bench.proofs.guarded.Guarded.put_any.Goals as goal
 
 pub invariant_of-self : goal.invariant_of-self
 invariant_of-self c =
-    record { few_holds = allocate_few c.args.self.now.looks c.in-Ok.slot _ (state_of c.args.self.now.plain) (state_of c.put_any.new.self) c.args.self.now.few_holds c.in-Ok.ensures.ok }
+    record {
+      few_holds = allocate_few c.args.self.now.looks c.in-Ok.slot _ (state_of c.args.self.now.plain) (state_of c.put_any.new.self)
+          c.args.self.now.few_holds c.in-Ok.ensures.ok;
+    }

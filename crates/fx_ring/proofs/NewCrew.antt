@@ -1,5 +1,6 @@
 -- What a crew is before it plays: new passes, with room for all.
-use Rattle.std.proofs.Common.{◌≡◌, ℕ, zero, suc, ◌+◌, ◌≤◌, List, [], ◌∷◌, ◌++◌, map, flat_map, reverse, length, All, sum_by, refl, sym, ap, subst, ◌∙◌, arith, vec_capacity}
+use Rattle.std.proofs.Common.{◌≡◌, ℕ, zero, suc, ◌+◌, ◌≤◌, List, [], ◌∷◌, ◌++◌, map, flat_map, reverse}
+use Rattle.std.proofs.Common.{length, All, sum_by, refl, sym, ap, subst, ◌∙◌, arith, vec_capacity}
 use Rattle.std.specs.Prelude.{Contains}
 use Rattle.std.proofs.lemmas.List.{length-map, reverse-append, map-append}
 use Rattle.std.proofs.lemmas.Simd.{map-map}
@@ -23,7 +24,7 @@ use Rattle.fx_ring.specs.Outcomes.{HasRoomFor}
 use Rattle.fx_ring.specs.Work.{HasWorked, HasRoom, worker_state}
 use Rattle.fx_ring.specs.declared.crew.Outcome.{Outcome}
 use Rattle.fx_ring.specs.declared.worker.Worker.{Worker}
-use Rattle.fx_ring.proofs.Numbered.{numbers_from}
+use Rattle.fx_ring.proofs.NumberedParts.{numbers_from}
 
 pub map_reversed : {X Y : Type 0} (f : X → Y) (xs : List X) → map f (reverse xs) ≡ reverse (map f xs)
 map_reversed f [] = refl
@@ -134,5 +135,6 @@ new_has_room v outcome requests accepted is room =
     let closes = ap (λ (l : CloseListView). l.room) room.closes in
     let none = ap (λ (l : List Completion). length (all_completed l)) room.no_completions in
     subst (λ (z : PassView).
-    HasRoom (runs_of requests) (worker_state z (all_completed outcome.completions.items) outcome.closes) (vec_capacity outcome.completions)) (sym is.1)
+    HasRoom (runs_of requests) (worker_state z (all_completed outcome.completions.items) outcome.closes) (vec_capacity outcome.completions))
+    (sym is.1)
     (record { looks = omega arith; completions = omega arith; closes = omega arith })

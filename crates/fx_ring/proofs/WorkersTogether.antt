@@ -1,5 +1,6 @@
 -- What the workers of a submission did, taken together.
-use Rattle.std.proofs.Common.{◌≡◌, ℕ, ◌+◌, ◌-◌, ◌<◌, ◌≤◌, ◌==◌, true, false, cond, List, [], ◌∷◌, map, flat_map, reverse, length, All, sum_by, count_by, slice_index_or, refl, sym, ap, subst, ◌∙◌, arith, eqb, eq-eqb, ⊎_elim}
+use Rattle.std.proofs.Common.{◌≡◌, ℕ, ◌+◌, ◌-◌, ◌<◌, ◌≤◌, ◌==◌, true, false, cond, List, [], ◌∷◌, map, flat_map, reverse, length}
+use Rattle.std.proofs.Common.{All, sum_by, count_by, slice_index_or, refl, sym, ap, subst, ◌∙◌, arith, eqb, eq-eqb, ⊎_elim}
 use Rattle.std.specs.Prelude.{Contains}
 use Rattle.std.specs.List.Sorted.{IsPermutation, IsNonDecreasingBy}
 use Rattle.std.proofs.lemmas.List.Elements.{All-head, All-tail, All-contains}
@@ -19,7 +20,8 @@ use Rattle.fx_table.specs.Numbers.{numbers_for}
 use Rattle.fx_table.specs.Opening.{Opening, size_of, state_at}
 use Rattle.fx_table.specs.Pass.{PassView, IsOfDrawnChains}
 use Rattle.fx_table.proofs.Chains.{some_times, part_of_drawn}
-use Rattle.fx_table.proofs.Members.{contains_none, contains_head, contains_tail, contains_cases, contains_map, contains_mapped, contains_reverse, contains_reversed, each_all}
+use Rattle.fx_table.proofs.Members.{contains_none, contains_head, contains_tail, contains_cases, contains_map}
+use Rattle.fx_table.proofs.Members.{contains_mapped, contains_reverse, contains_reversed, each_all}
 use Rattle.fx_table.proofs.SumLemmas.{sum_reverse, sum_map, sum_le_of}
 use Rattle.fx_chain.specs.Completed.{Completed}
 use Rattle.fx_chain.specs.Explains.{Explains, first_member}
@@ -30,7 +32,8 @@ use Rattle.fx_ring.specs.Ring.{ring_with}
 use Rattle.fx_ring.specs.Submission.{IsOneHistory}
 use Rattle.fx_ring.specs.Work.{WorkerState, HasWorked, run_of_chain, completions_of_chain}
 use Rattle.fx_ring.proofs.ClosesInParts.{closes_of, closes_with, closes_by_key}
-use Rattle.fx_ring.proofs.Numbered.{numbers_from, number_within, sum_by_place, one_part, all_parts, filter_parts, parts_reversed, same_parts, mapped_parts}
+use Rattle.fx_ring.proofs.NumberedParts.{numbers_from, number_within, sum_by_place, one_part, all_parts}
+use Rattle.fx_ring.proofs.NumberedParts.{filter_parts, parts_reversed, same_parts, mapped_parts}
 use Rattle.fx_ring.proofs.PartsExplained.{place_key, one_of_each_request, in_order_explained}
 
 abbrev pub pass_of : WorkerState → PassView

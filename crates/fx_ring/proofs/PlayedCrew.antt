@@ -22,10 +22,10 @@ use Rattle.fx_ring.specs.Outcomes.{outcome_of}
 use Rattle.fx_ring.specs.Work.{HasWorked, WorkerState, worker_state}
 use Rattle.fx_ring.specs.declared.crew.Outcome.{Outcome}
 use Rattle.fx_ring.specs.declared.worker.Worker.{Worker}
-use Rattle.fx_ring.proofs.Gathered.{map_reversed, numbers_are}
-use Rattle.fx_ring.proofs.Joined.{HavePlayed, pass_of, number_of, completed_by, closed_by_worker}
+use Rattle.fx_ring.proofs.NewCrew.{map_reversed, numbers_are}
+use Rattle.fx_ring.proofs.WorkersTogether.{HavePlayed, pass_of, number_of, completed_by, closed_by_worker}
 use Rattle.fx_ring.proofs.Runs.{as_many}
-use Rattle.fx_ring.proofs.Numbered.{mapped_parts}
+use Rattle.fx_ring.proofs.NumberedParts.{mapped_parts}
 
 abbrev pub completions_of : Outcome → List Completion
 completions_of outcome = outcome.completions.items

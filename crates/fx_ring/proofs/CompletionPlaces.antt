@@ -1,5 +1,6 @@
 -- Where the completions of a chain stand.
-use Rattle.std.proofs.Common.{◌≡◌, ℕ, ◌+◌, ◌==◌, ◌||◌, nat_le, nat_lt, ℤ, Bool, true, false, List, [], ◌∷◌, length, MatchBool, refl, sym, ap, subst, ◌∙◌, ⊎_elim}
+use Rattle.std.proofs.Common.{◌≡◌, ℕ, ◌+◌, ◌==◌, ◌||◌, nat_le, nat_lt, ℤ, Bool, true, false, List}
+use Rattle.std.proofs.Common.{[], ◌∷◌, length, MatchBool, refl, sym, ap, subst, ◌∙◌, ⊎_elim}
 use Rattle.std.specs.List.{list_any}
 use Rattle.fx_base.specs.AddFault.{has_name}
 use Rattle.fx_base.specs.Catalogue.{FileEntry}
