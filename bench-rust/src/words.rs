@@ -21,6 +21,7 @@ struct Pair {
     node: AtomicU64,
 }
 
+/// A word on a cache line of its own.
 #[repr(align(64))]
 struct Line(AtomicU64);
 
@@ -28,7 +29,7 @@ pub struct Words {
     pairs: Vec<Pair>,
     nodes: Vec<AtomicU64>,
     places: Vec<UnsafeCell<Option<File>>>,
-    control: AtomicU64,
+    control: Line,
     /// How many chains were drawn.
     draw: Line,
     in_range: bool,
@@ -87,10 +88,11 @@ impl Words {
         if !self.in_range {
             return self.pairs[slot].slot.swap(word, SeqCst);
         }
-        self.control.fetch_add(ONE_CHANGE, SeqCst);
+        self.control.0.fetch_add(ONE_CHANGE, SeqCst);
         let found = self.pairs[slot].slot.swap(word, SeqCst);
         let delta = u64::from(word >> 40 != 0).wrapping_sub(u64::from(found >> 40 != 0));
         self.control
+            .0
             .fetch_sub(ONE_CHANGE.wrapping_sub(delta), SeqCst);
         found
     }
@@ -98,12 +100,12 @@ impl Words {
     // Rounds over the range, until a free slot was found or all of them were full at one moment.
     fn find_free(&self, word: u64) -> Option<usize> {
         loop {
-            self.control.fetch_add(ONE_CHANGE, SeqCst);
+            self.control.0.fetch_add(ONE_CHANGE, SeqCst);
             if let Some(slot) = self.pairs.iter().position(|it| try_slot(&it.slot, word)) {
-                self.control.fetch_sub(ONE_CHANGE - 1, SeqCst);
+                self.control.0.fetch_sub(ONE_CHANGE - 1, SeqCst);
                 return Some(slot);
             }
-            let told = self.control.fetch_sub(ONE_CHANGE, SeqCst);
+            let told = self.control.0.fetch_sub(ONE_CHANGE, SeqCst);
             if told == ONE_CHANGE + BIAS + self.pairs.len() as u64 {
                 return None;
             }
@@ -143,7 +145,9 @@ impl Table for Words {
             pairs: (0..slots).map(pair).collect(),
             nodes: (slots..numbers).map(|_| AtomicU64::new(0)).collect(),
             places: (0..numbers).map(place).collect(),
-            control: AtomicU64::new(BIAS + if in_range { full as u64 } else { 0 }),
+            control: Line(AtomicU64::new(
+                BIAS + if in_range { full as u64 } else { 0 },
+            )),
             draw: Line(AtomicU64::new(0)),
             in_range,
         }
