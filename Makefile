@@ -16,7 +16,7 @@ endif
 help:
 	@echo 'make run          builds the program at bin/fixfiles and plays examples/open_read_close.script'
 	@echo 'make run SCRIPT=path    plays another script'
-	@echo 'make try          plays a script in seconds, by a run that proves nothing'
+	@echo 'make try          plays a script in less than a minute, by a run that proves nothing'
 	@echo 'make kernel       plays a script on the io_uring of this machine'
 	@echo 'make prove CRATE=name   checks one crate, and says in a few lines what of it is not proved'
 	@echo 'make test         runs everything that must hold'
