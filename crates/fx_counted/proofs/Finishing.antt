@@ -17,7 +17,7 @@ use Rattle.fx_counted.specs.Agrees.{Names, Agrees}
 use Rattle.fx_counted.specs.Layout.{HasNode, slot_place, home_place, homes_for}
 use Rattle.fx_counted.specs.Lives.{AllAreIdle, Leaves}
 use Rattle.fx_counted.specs.Passes.{Shared, slots_of, IsNumber, state_after_all}
-use Rattle.fx_counted.specs.Shells.{IsShellOf, GetsFile, AreBack}
+use Rattle.fx_counted.specs.Shells.{IsShellOf, AreBack}
 use Rattle.fx_counted.specs.declared.table.CountedTable.{CountedTable}
 use Rattle.fx_counted.specs.declared.view.Start.{Start}
 use Rattle.fx_counted.specs.declared.view.View.{View}
@@ -29,7 +29,7 @@ use Rattle.fx_counted.proofs.Histories.{same_shape}
 use Rattle.fx_counted.proofs.HomeComing.{number_at, file_of, file_at, without, emptied, AreAtHome, here_at, none_past, untouched}
 use Rattle.fx_counted.proofs.Naming.{node_is}
 use Rattle.fx_counted.proofs.Places.{apart, low_home, high_home}
-use Rattle.fx_counted.proofs.Shells.{IsPartlyBack, none_first, one_first}
+use Rattle.fx_counted.proofs.Shells.{IsPartlyBack, GetsFile, none_first, one_first}
 use Rattle.fx_counted.proofs.Starting.{at_place}
 
 pub word_at_place : (ws : List ℕ) (i w : ℕ) → get_elem? ws i ≡ some w → slice_index ws i ≡ w

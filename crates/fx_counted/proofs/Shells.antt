@@ -1,5 +1,5 @@
 -- Files leave a table of one thread, and come back.
-use Rattle.std.proofs.Common.{◌≡◌, ℕ, zero, suc, ◌+◌, ◌<◌, ◌≤◌, Bool, true, false, cond, List, [], ◌∷◌, ◌++◌, length, sym, refl, ap, ◌∙◌, subst, arith, eq-eqb, ◌⊎◌, inl, inr, ⊎_elim}
+use Rattle.std.proofs.Common.{◌≡◌, ◌≢◌, ℕ, zero, suc, ◌+◌, ◌<◌, ◌≤◌, Bool, true, false, cond, List, [], ◌∷◌, ◌++◌, length, sym, refl, ap, ◌∙◌, subst, arith, eq-eqb, ◌⊎◌, inl, inr, ⊎_elim}
 use Rattle.std.specs.Prelude.{Option, Some, None}
 use Rattle.std.proofs.lemmas.List.{get_or_append_left}
 use mathlib.Core.Logic.{dite}
@@ -12,20 +12,8 @@ use Rattle.fx_plain.specs.Step.{Steps, changed_at, after}
 use Rattle.fx_plain.specs.Table.{numbered, number_of, identity_of, closed_by_retirement, more_leaving}
 use Rattle.fx_plain.specs.declared.event.File.{File}
 use Rattle.fx_plain.specs.declared.event.Action.TheVariants.{Put, Take, Close}
-use Rattle.fx_counted.specs.Shells.{IsShell, LosesFile, GetsFile, AreBack, file_in_place}
+use Rattle.fx_counted.specs.Shells.{IsShell, AreBack, file_in_place}
 use Rattle.fx_counted.proofs.Histories.{change_here, change_else}
-
--- what a removal's answer says of the slot
-pub none_there : (found : Option File) → None ≡ number_of found → found ≡ None
-none_there None e = refl
-none_there (Some f) e = absurd (cc e)
-
-pub file_there : (found : Option File) (n : ℕ) → Some n ≡ number_of found → (f : File) × (found ≡ Some f) × (f.number ≡ n)
-file_there None n e = absurd (cc e)
-file_there (Some f) n e = (f, refl, sym (cc e))
-
-pub is_leaving : (leaving : ℕ → Bool) (found : Option File) (f : File) (n : ℕ) → found ≡ Some f → f.number ≡ n → more_leaving leaving found n ≡ true
-is_leaving leaving found f n there is = ap (λ (x : Option File). more_leaving leaving x n) there ∙ change_here leaving f.number true n (sym is)
 
 -- the last of a list of places, and those before it
 pub last_place : (xs : List (Option Closed)) (x : Option Closed) → file_in_place (xs ++ x ∷ []) (length xs) ≡ x
@@ -44,64 +32,23 @@ none_outside c slot g = ap (file_at c.nodes) (go c.slots slot g)
     go (x ∷ xs) zero g = absurd (omega arith)
     go (x ∷ xs) (suc i) g = go xs i (omega arith)
 
-pub file_put : (a b : State) (slot : ℕ) (file : Closed) → a.at slot ≡ None → IsSettled a
-    → Steps a (Put slot (numbered (a.size + slot) file) (a.at slot)) b → GetsFile a slot file b
-file_put a b slot file vacant settled steps =
-    let f : File = numbered (a.size + slot) file in
-    let is : b ≡ after a (Put slot f None) = steps.1 ∙ ap (λ (x : Option File). after a (Put slot f x)) vacant in
-    subst (λ (z : State). GetsFile a slot file z) (sym is) record {
-      size = refl;
-      range = refl;
-      there = change_here a.at slot (Some f) slot refl;
-      others = λ other ne. change_else a.at slot (Some f) other ne;
-      settled = record { unheld = settled.unheld; closed = settled.closed };
-      fresh = λ n ne. change_else a.fresh (a.size + slot) false n ne;
-    }
+-- a file came to an empty slot, under the slot's number
+pub record GetsFile (old : State) (slot : ℕ) (file : Closed) (new : State) : Type 0 where
+  pub size : new.size ≡ old.size
+  pub range : new.range ≡ old.range
+  pub there : new.at slot ≡ Some (numbered slot file)
+  pub others : (other : ℕ) → other ≢ slot → new.at other ≡ old.at other
+  pub settled : IsSettled new
 
-module _ (a : State) (slot : ℕ) (settled : IsSettled a) where
-  pub none_taken : (b : State) → a.at slot ≡ None → Steps a (Take slot (a.at slot)) b → LosesFile a slot b
-  none_taken b vacant steps =
-      let is : b ≡ after a (Take slot None) = steps.1 ∙ ap (λ (x : Option File). after a (Take slot x)) vacant in
-      subst (λ (z : State). LosesFile a slot z) (sym is) record {
-        size = refl;
-        range = refl;
-        gone = change_here a.at slot None slot refl;
-        others = λ other ne. change_else a.at slot None other ne;
-        settled = record { unheld = settled.unheld; closed = settled.closed };
-        fresh = refl;
-      }
-
-  module _ (f : File) (there : a.at slot ≡ Some f) where
-    abbrev taken : State
-    taken = after a (Take slot (Some f))
-
-    pub is_taken : (b : State) → Steps a (Take slot (a.at slot)) b → b ≡ taken
-    is_taken b steps = steps.1 ∙ ap (λ (x : Option File). after a (Take slot x)) there
-
-    pub comes_out : (c : Contents) → Steps a (Take slot (a.at slot)) (state_of c) → closed_by_retirement c f.number ≡ Some f
-    comes_out c steps =
-        let is = is_taken (state_of c) steps in
-        let none_held : (state_of c).holds f.number ≡ 0 = ap (λ (z : State). z.holds f.number) is ∙ settled.unheld f.number in
-        ap (λ (b : Bool). cond b ((state_of c).removed f.number) None) (eq-eqb ((state_of c).holds f.number) 0 none_held)
-        ∙ (ap (λ (z : State). z.removed f.number) is ∙ change_here a.removed f.number (Some f) f.number refl)
-
-    pub file_lost : (b d : State) → Steps a (Take slot (a.at slot)) b → Leads b ([] ▷ Close f) d → LosesFile a slot d
-    file_lost b d steps leads =
-        let is : d ≡ after taken (Close f) = leads.1 ∙ ap (λ (z : State). after z (Close f)) (is_taken b steps) in
-        subst (λ (z : State). LosesFile a slot z) (sym is) record {
-          size = refl;
-          range = refl;
-          gone = change_here a.at slot None slot refl;
-          others = λ other ne. change_else a.at slot None other ne;
-          settled = record {
-            unheld = settled.unheld;
-            closed = λ n. dite (ℕ_discrete n f.number)
-                (λ same. change_here (changed_at a.removed f.number (Some f)) f.number None n same)
-                (λ ne. change_else (changed_at a.removed f.number (Some f)) f.number None n ne
-                ∙ (change_else a.removed f.number (Some f) n ne ∙ settled.closed n));
-          };
-          fresh = refl;
-        }
+pub file_put : (a b : State) (slot : ℕ) (file : Closed) → IsSettled a
+    → b ≡ record a { at = changed_at a.at slot (Some (numbered slot file)) } → GetsFile a slot file b
+file_put a b slot file settled is = subst (λ (z : State). GetsFile a slot file z) (sym is) record {
+  size = refl;
+  range = refl;
+  there = change_here a.at slot (Some (numbered slot file)) slot refl;
+  others = λ other ne. change_else a.at slot (Some (numbered slot file)) other ne;
+  settled = record { unheld = settled.unheld; closed = settled.closed };
+}
 
 -- between these slots the files are still away
 pub record IsPartlyBack (shell : State) (file : ℕ → Option Closed) (from to : ℕ) (st : State) : Type 0 where
@@ -110,7 +57,6 @@ pub record IsPartlyBack (shell : State) (file : ℕ → Option Closed) (from to 
   pub away : (slot : ℕ) → from ≤ slot → slot < to → st.at slot ≡ None
   pub back : (slot : ℕ) → (slot < from) ⊎ (to ≤ slot) → identity_of (st.at slot) ≡ file slot
   pub settled : IsSettled st
-  pub fresh : (slot : ℕ) → from ≤ slot → slot < to → slot < shell.size → st.fresh (shell.size + slot) ≡ true
 
 module _ (shell : State) (file : ℕ → Option Closed) where
   pub all_away : (to : ℕ) → IsShell shell → ((slot : ℕ) → to ≤ slot → file slot ≡ None) → IsPartlyBack shell file 0 to shell
@@ -121,7 +67,6 @@ module _ (shell : State) (file : ℕ → Option Closed) where
     back = λ slot out. ⊎_elim (λ (l : slot < 0). absurd (omega arith))
         (λ (g : to ≤ slot). ap identity_of (empty.vacant slot) ∙ sym (others slot g)) out;
     settled = empty.settled;
-    fresh = λ slot l u inside. empty.fresh slot inside;
   }
 
   pub all_back : (st : State) (from to : ℕ) → to ≤ from → IsPartlyBack shell file from to st → AreBack shell file st
@@ -143,7 +88,6 @@ module _ (shell : State) (file : ℕ → Option Closed) where
         (λ same. ap (λ (n : ℕ). identity_of (st.at n)) same ∙ (ap identity_of (p.away from (omega arith) some) ∙ (sym none ∙ ap file (sym same))))
         (λ ne. p.back slot (⊎_elim (λ (l : slot < from + 1). inl (omega (arith, ne))) (λ (g : to ≤ slot). inr g) out));
     settled = p.settled;
-    fresh = λ slot l u inside. p.fresh slot (omega arith) u inside;
   }
 
   pub none_last : (st : State) (from to : ℕ) → file to ≡ None → from ≤ to → IsPartlyBack shell file from (to + 1) st
@@ -156,7 +100,6 @@ module _ (shell : State) (file : ℕ → Option Closed) where
         (λ same. ap (λ (n : ℕ). identity_of (st.at n)) same ∙ (ap identity_of (p.away to some (omega arith)) ∙ (sym none ∙ ap file (sym same))))
         (λ ne. p.back slot (⊎_elim (λ (l : slot < from). inl l) (λ (g : to ≤ slot). inr (omega (arith, ne))) out));
     settled = p.settled;
-    fresh = λ slot l u inside. p.fresh slot l (omega arith) inside;
   }
 
   -- the first or the last of them comes back
@@ -171,8 +114,6 @@ module _ (shell : State) (file : ℕ → Option Closed) where
         (λ ne. ap identity_of (gets.others slot ne)
         ∙ p.back slot (⊎_elim (λ (l : slot < from + 1). inl (omega (arith, ne))) (λ (g : to ≤ slot). inr g) out));
     settled = gets.settled;
-    fresh = λ slot l u inside. let size = p.size in
-        gets.fresh (shell.size + slot) (λ same. omega (arith, same, size, l)) ∙ p.fresh slot (omega arith) u inside;
   }
 
   pub one_last : (st st' : State) (from to : ℕ) (one : Closed) → file to ≡ Some one → GetsFile st to one st'
@@ -186,6 +127,4 @@ module _ (shell : State) (file : ℕ → Option Closed) where
         (λ ne. ap identity_of (gets.others slot ne)
         ∙ p.back slot (⊎_elim (λ (l : slot < from). inl l) (λ (g : to ≤ slot). inr (omega (arith, ne))) out));
     settled = gets.settled;
-    fresh = λ slot l u inside. let size = p.size in
-        gets.fresh (shell.size + slot) (λ same. omega (arith, same, size, u)) ∙ p.fresh slot l (omega arith) inside;
   }

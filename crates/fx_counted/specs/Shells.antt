@@ -1,38 +1,19 @@
 -- The table of one thread from which a shared table was opened, while its files lie in the shared table's places.
-use Rattle.std.specs.Prelude.{◌≡◌, ◌≢◌, ℕ, ◌+◌, ◌<◌, true, List, Option, Some, None, slice_index_or}
+use Rattle.std.specs.Prelude.{◌≡◌, ℕ, List, Option, None, slice_index_or}
 use Rattle.fx_base.specs.declared.open_file.Closed.{Closed}
 use Rattle.fx_plain.specs.State.{State, IsSettled}
-use Rattle.fx_plain.specs.Table.{numbered, identity_of}
+use Rattle.fx_plain.specs.Table.{identity_of}
 
--- it has no file, and a number for each file that comes back
+-- it has no file
 pub record IsShell (st : State) : Type 0 where
   pub vacant : (slot : ℕ) → st.at slot ≡ None
   pub settled : IsSettled st
-  pub fresh : (slot : ℕ) → slot < st.size → st.fresh (st.size + slot) ≡ true
 
 -- it is as large as the other, with the same range
 pub record IsShellOf (st empty : State) : Type 0 where
   pub size : empty.size ≡ st.size
   pub range : empty.range ≡ st.range
   pub shell : IsShell empty
-
--- the file at a slot went away
-pub record LosesFile (old : State) (slot : ℕ) (new : State) : Type 0 where
-  pub size : new.size ≡ old.size
-  pub range : new.range ≡ old.range
-  pub gone : new.at slot ≡ None
-  pub others : (other : ℕ) → other ≢ slot → new.at other ≡ old.at other
-  pub settled : IsSettled new
-  pub fresh : new.fresh ≡ old.fresh
-
--- a file came to an empty slot, under the number that was kept for it
-pub record GetsFile (old : State) (slot : ℕ) (file : Closed) (new : State) : Type 0 where
-  pub size : new.size ≡ old.size
-  pub range : new.range ≡ old.range
-  pub there : new.at slot ≡ Some (numbered (old.size + slot) file)
-  pub others : (other : ℕ) → other ≢ slot → new.at other ≡ old.at other
-  pub settled : IsSettled new
-  pub fresh : (number : ℕ) → number ≢ old.size + slot → new.fresh number ≡ old.fresh number
 
 -- each of these files is at its slot
 pub record AreBack (shell : State) (file : ℕ → Option Closed) (st : State) : Type 0 where

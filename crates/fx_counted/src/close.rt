@@ -11,7 +11,6 @@ ghost use Rattle.fx_counted.specs.Tables.{view_of, opening_of_table, IsPassOfTab
 use crate::kinds::Gather;
 use crate::layout::{home_place, homes_for, slot_place};
 use crate::pass::CountedPass;
-use crate::shell::put_file;
 use crate::table::CountedTable;
 use crate::view::View;
 use atomic_table::{Closed, Seat};
@@ -74,7 +73,7 @@ impl CountedTable {
         for slot in 0..size {
             if let Some(number) = node_of(closed.word(slot_place(slot))) {
                 if let Some(file) = take_home(&mut closed, home_place(size, number)) {
-                    put_file(&mut shell, slot, file);
+                    shell.put_back(slot, file);
                 }
             }
         }

@@ -1,7 +1,7 @@
 //! How a table is opened.
 ghost use Rattle.std.specs.Prelude.{◌≡◌, ◌+◌, ◌*◌, ◌<◌, ◌≤◌, [], map, slice_set, All, IfOk, IfErr, OnOk, OnErr, vec_len, vec_capacity};
 ghost use Rattle.fx_plain.specs.State.{IsSettled};
-ghost use Rattle.fx_plain.specs.Contents.{state_of};
+ghost use Rattle.fx_plain.specs.Contents.{state_of, IsPrepared};
 ghost use Rattle.fx_table.specs.Opening.{IsGivenBack, opening_with};
 ghost use Rattle.fx_table.specs.Pass.{new_passes};
 ghost use Rattle.fx_words.specs.Words.{slot_word_of, born};
@@ -16,7 +16,7 @@ use crate::kinds::Deal;
 use crate::layout::{CONTROL, homes_for, slot_place, words_for};
 use crate::moves::BORN;
 use crate::pass::CountedPass;
-use crate::shell::{put_all, take_file};
+use crate::shell::{make_room, put_all};
 use crate::table::CountedTable;
 use crate::view::{Start, View};
 use atomic_table::{Refused, Seat, Table};
@@ -50,11 +50,12 @@ impl CountedTable {
         ensures new { IfOk result (λ (_, list). map view_of list.items ≡ new_passes passes) }
         ensures refused { IfErr result (λ (back, _). IsGivenBack plain back) }
     {
-        let Ok(mut list) = Vec::with_capacity(alloc, passes as usize) else {
+        let Ok(list) = Vec::with_capacity(alloc, passes as usize) else {
             return Err((plain, NoMemory));
         };
         match CountedTable::start(alloc, plain, chains, passes) {
             Ok((table, seat)) => {
+                let mut list = behind_the_table(alloc, list, passes);
                 table.deal(seat, &mut list);
                 Ok((table, list))
             }
@@ -130,6 +131,20 @@ impl CountedTable {
     }
 }
 
+// The list again, where there is memory for it, which lies behind the table's. The C library gives free memory at the end of
+// its own back to the system, and a small block behind it keeps it from that: a large table is opened and closed
+// several times as fast where its memory needn't be taken from the system anew.
+fn behind_the_table(alloc: Global, list: Vec<CountedPass>, passes: u32) -> Vec<CountedPass>
+    requires list { (list.items ≡ []) × (passes ≤ vec_capacity list) }
+    ensures list { (result.items ≡ []) × (passes ≤ vec_capacity result) }
+{
+    let Ok(behind) = Vec::with_capacity(alloc, passes as usize) else {
+        return list;
+    };
+    list.destroy_empty();
+    behind
+}
+
 // How many slots of the allocation range have a file.
 fn full_in_range(plain: &PlainTable, size: u32) -> u32
     requires { size ≡ (state_of plain.now).size }
@@ -186,19 +201,17 @@ fn first_homes(
     requires chains { chains ≤ MAX_CHAINS }
     ensures homes { IfOk result (λ homes. AreFirstHomes (state_of plain.old) chains homes.items) }
     ensures shell { OnOk result (IsShellOf (state_of plain.old) (state_of plain.new)) }
+    ensures prepared { OnOk result (IsPrepared plain.new) }
     ensures err { OnErr result (plain.new ≡ plain.old) }
 {
-    let size = plain.size();
-    let count = homes_for(size, chains);
+    let count = homes_for(plain.size(), chains);
     let mut homes = Vec::with_capacity(alloc, count)?;
-    let Ok(()) = plain.prepare(2 * size) else {
+    let Ok(()) = make_room(plain) else {
         homes.destroy_empty();
         return Err(NoMemory);
     };
-    for slot in 0..size {
-        homes.push_reserved(take_file(plain, slot));
-    }
-    for _ in size as usize..count {
+    plain.take_files(&mut homes);
+    for _ in homes.len()..count {
         homes.push_reserved(None);
     }
     Ok(homes)

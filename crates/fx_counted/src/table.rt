@@ -1,7 +1,7 @@
 ghost use Rattle.std.specs.Prelude.{◌≡◌, ◌≤◌, ◌+◌};
 ghost use Rattle.fx_table.specs.declared.limits.TheConstants.{MAX_CHAINS, MAX_PASSES};
 ghost use Rattle.fx_table.specs.Opening.{size_of, range_of};
-ghost use Rattle.fx_plain.specs.Contents.{state_of};
+ghost use Rattle.fx_plain.specs.Contents.{state_of, IsPrepared};
 ghost use Rattle.fx_plain.specs.declared.table.TheConstants.{MOST_SLOTS};
 ghost use Rattle.fx_counted.specs.Layout.{words_for, homes_for};
 ghost use Rattle.fx_counted.specs.Passes.{opening_of};
@@ -35,5 +35,6 @@ pub struct CountedTable {
     pub ghost range_inside: { range_start + range_len ≤ size },
     pub ghost emptied: { IsShellOf (state_of (opening_of table.shared.key).contents)
         (state_of shell) },
+    pub ghost room: { IsPrepared shell },
     pub ghost bounds: { (chains ≤ MAX_CHAINS) × (1 ≤ passes) × (passes ≤ MAX_PASSES) },
 }

@@ -8,6 +8,7 @@ pub mod Holding
 pub mod Settled
 pub mod Moving
 pub mod Emptying
+pub mod FilesOut
 pub mod Opening
 pub mod Sums
 pub mod Named

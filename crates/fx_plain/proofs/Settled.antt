@@ -17,7 +17,7 @@ not_opened n (Leaving file) is = absurd (omega arith)
 not_opened n (Retired file) is = absurd (omega arith)
 not_opened n Gone is = refl
 
-not_removed : (n : ℕ) (node : Node) → removed_at n node ≡ None → removed_count_of node ≡ 0
+pub not_removed : (n : ℕ) (node : Node) → removed_at n node ≡ None → removed_count_of node ≡ 0
 not_removed n Fresh is = refl
 not_removed n (At slot file) is = refl
 not_removed n (Leaving file) is = cc

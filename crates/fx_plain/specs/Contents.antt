@@ -92,6 +92,10 @@ pub record IsTable (c : Contents) : Type 0 where
   -- a retired file that nobody holds is closed
   pub held : (number : ℕ) → is_retired (node_at c.nodes number) ≡ true → 0 < slice_index c.holds number
 
+-- each slot's own number has room for a file
+abbrev pub IsPrepared : Contents → Type 0
+IsPrepared c = length c.slots ≤ length c.nodes
+
 abbrev pub file_count_of : Option ℕ → ℕ
 file_count_of None = 0
 file_count_of (Some number) = 1

@@ -1,5 +1,5 @@
 -- What the calls of a table answer.
-use Rattle.std.specs.Prelude.{◌≡◌, ℕ, ◌+◌, ◌<◌, ◌^◌, ◌==◌, not, ◌&&◌, Bool, true, if◌then◌else◌, [], Option, Some, None, option_map, IfSome}
+use Rattle.std.specs.Prelude.{◌≡◌, ℕ, zero, suc, ◌+◌, ◌<◌, ◌^◌, ◌==◌, not, ◌&&◌, Bool, true, if◌then◌else◌, List, [], ◌∷◌, ◌++◌, Option, Some, None, option_map, IfSome}
 use Rattle.fx_base.specs.declared.open_file.Closed.{Closed}
 use Rattle.fx_plain.specs.State.{State}
 use Rattle.fx_plain.specs.Step.{Steps, changed_at}
@@ -11,6 +11,11 @@ use Rattle.fx_plain.specs.declared.event.Action.TheVariants.{Release}
 
 abbrev pub identity_of : Option File → Option Closed
 identity_of found = option_map (λ f. f.identity) found
+
+-- what stands at the first so many slots, one after another: a file or none
+abbrev pub slots_in_order : (ℕ → Option File) → ℕ → List (Option Closed)
+slots_in_order at zero = []
+slots_in_order at (suc n) = slots_in_order at n ++ identity_of (at n) ∷ []
 
 abbrev pub number_of : Option File → Option ℕ
 number_of found = option_map (λ f. f.number) found

@@ -79,6 +79,12 @@ impl NodeList {
         self.len = len;
     }
 
+    pub(crate) fn len(&self) -> u32
+        ensures { result ≡ length self.now }
+    {
+        self.len
+    }
+
     pub(crate) fn allocator(&self) -> Global {
         *self.written.allocator()
     }

@@ -3,6 +3,7 @@ ghost use Rattle.fx_plain.specs.State.{vacant, IsSettled, files_of};
 ghost use Rattle.fx_plain.specs.Contents.{state_of, leaving, numbers_of, IsTable};
 ghost use Rattle.fx_plain.specs.Table.{SetsRange, identity_of};
 
+mod files;
 mod holds;
 mod life;
 mod slots;

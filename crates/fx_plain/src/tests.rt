@@ -195,6 +195,39 @@ fn allocation_takes_free_slots_of_the_range_until_none_is_left(
 }
 
 #[test]
+#[tactic(auto, using(crate::proofs::Settled::settled_has_room))]
+fn a_file_that_was_taken_comes_back_under_the_number_of_its_slot(
+    rt: HostRuntime,
+) -> Result<(), Fail> {
+    let catalogue = two_files(rt.alloc())?;
+    let mut table = PlainTable::sparse(rt.alloc(), 2)?;
+    let Ok(mut files) = Vec::with_capacity(rt.alloc(), 2) else {
+        panic!(rt; "no memory");
+    };
+    assert!(rt; table.is_settled() && !table.is_prepared());
+    assert_eq!(rt; table.prepare(67), Ok(()));
+    assert!(rt; table.is_fresh(66) && table.is_prepared());
+    assert_eq!(rt; table.put(1, 66, open(&rt, &catalogue, SECOND)), None);
+    assert!(rt; table.is_settled() && table.size() == 2);
+    table.take_files(&mut files);
+    assert_eq!(rt; table.full(), 0);
+    assert_eq!(rt; files.len(), 2);
+    assert!(rt; table.is_settled() && table.is_prepared() && table.size() == 2);
+    if let Some(file) = files.pop().flatten() {
+        table.put_back(1, file);
+    }
+    assert_eq!(rt; files.pop().flatten().map(spent), None);
+    assert!(rt; files.is_empty());
+    files.destroy_empty();
+    assert_eq!(rt; table.mark_at(1), Some(SECOND.mark));
+    assert_eq!(rt; table.full(), 1);
+    assert!(rt; table.is_settled() && table.size() == 2 && !table.is_fresh(66));
+    assert_eq!(rt; table.look(1), Some((1, 1)));
+    table.abandon();
+    Ok(())
+}
+
+#[test]
 fn an_emptied_table_has_closed_its_files_in_order_of_slot(rt: HostRuntime) -> Result<(), Fail> {
     let catalogue = two_files(rt.alloc())?;
     let mut closes = CloseList::with_room(rt.alloc(), 3)?;

@@ -4,7 +4,7 @@ ghost use Rattle.std.specs.Option.{option_to_list};
 ghost use Rattle.fx_base.specs.declared.open_file.Closed.{Closed};
 ghost use Rattle.fx_plain.specs.State.{vacant, opening, IsSettled, files_of, files_in_order};
 ghost use Rattle.fx_plain.specs.Totals.{total};
-ghost use Rattle.fx_plain.specs.Contents.{state_of, numbers_of, IsTable, slot_at, node_at, moved_node, file_in, file_named, nodes_without, opening_slot, file_at, AllPlaced, HaveOwnNumbers, IsRenumbered, SameButPlaced, removed_count_of, At};
+ghost use Rattle.fx_plain.specs.Contents.{state_of, numbers_of, IsTable, IsPrepared, slot_at, node_at, moved_node, file_in, file_named, nodes_without, opening_slot, file_at, AllPlaced, HaveOwnNumbers, IsRenumbered, SameButPlaced, removed_count_of, At};
 
 use crate::hold_list::HoldList;
 use crate::node::Node;
@@ -27,6 +27,7 @@ impl PlainTable {
         requires numbers { (state_of self.old).size ≤ numbers }
         ensures ok { OnOk result (state_of self.new ≡ opening (state_of self.old) numbers) }
         ensures numbers { OnOk result (numbers_of self.new ≡ numbers) }
+        ensures prepared { OnOk result (IsPrepared self.new) }
         ensures sound { IsTable self.new }
         ensures err { OnErr result (self.new ≡ self.old) }
     {

@@ -1,14 +1,7 @@
 use Rattle.std.proofs.Common.{◌≡◌, ◌≤◌, length, vec_capacity}
 use Rattle.fx_plain.specs.Contents.{state_of}
-use Rattle.fx_counted.proofs.FirstHomes.{HasMoved, AreHomesSoFar, AreHomesUpTo}
+use Rattle.fx_counted.proofs.FirstHomes.{AreHomesUpTo}
 use Rattle.fx_counted.proofs.open.first_homes.Given as goal
-
-abbrev pub invariant-loop-slot : goal.invariant-loop-slot
-invariant-loop-slot l = record {
-  moved : HasMoved (state_of l.fn.plain) l.slot (state_of l.plain);
-  homes : AreHomesSoFar (state_of l.fn.plain) l.slot l.homes.items;
-  room : l.count ≤ vec_capacity l.homes;
-}
 
 abbrev pub invariant-loop : goal.invariant-loop
 invariant-loop l = record {

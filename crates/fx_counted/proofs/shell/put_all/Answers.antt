@@ -4,14 +4,15 @@ use mathlib.Core.Logic.{dite}
 use native.Mathlib.Decide.{dec_le}
 use Rattle.fx_base.specs.declared.open_file.Closed.{Closed}
 use Rattle.fx_plain.specs.Contents.{state_of}
-use Rattle.fx_counted.specs.Shells.{GetsFile, file_in_place}
-use Rattle.fx_counted.proofs.Shells.{IsPartlyBack, last_place, place_before, all_away, all_back, none_last, one_last}
+use Rattle.fx_counted.specs.Shells.{file_in_place}
+use Rattle.fx_counted.proofs.Shells.{IsPartlyBack, GetsFile, file_put, last_place, place_before, all_away, all_back, none_last, one_last}
 use Rattle.fx_counted.proofs.shell.put_all.Goals as goal
 
 pub loop-file-init : goal.loop-file-init
 loop-file-init c = record {
   part = all_away (state_of c.args.plain.now) (file_in_place c.args.places.items) (length c.args.places.items) c.requires.shell
       (λ place g. c.requires.others place (let a = c.requires.count in omega arith));
+  prepared = c.requires.prepared;
   items = λ k l. refl;
 }
 
@@ -45,11 +46,11 @@ overflow_cast-slot c =
     let ok = c.pop.new.self.ok.0 in
     let l = is_slot (length c.args.plain.now.slots) (file_in_place all) c.requires.others (length c.pop.new.self.items)
     c.in-Some-file.file (at ∙ c.in-Some-file.is) in
-    let size = c.size-size.ensures in
-    omega (arith, len, ok, l, size.value, size.few)
+    let few = c.requires.few in
+    omega (arith, len, ok, l, few)
 
-pub put_file-requires-clause-slot : goal.put_file-requires-clause-slot
-put_file-requires-clause-slot c =
+pub put_back-requires-clause-slot : goal.put_back-requires-clause-slot
+put_back-requires-clause-slot c =
     let e = c.in-Some.ensures.items in
     let all : List (Option Closed) = c.args.places.items in
     let at = last_is all c.loop-file.places.items c.pop.new.self.items c.in-Some.file e c.loop-file.invariant.items in
@@ -60,30 +61,19 @@ put_file-requires-clause-slot c =
     let size = c.loop-file.invariant.part.size in
     omega (arith, len, ok, l, size)
 
-pub put_file-requires-clause-vacant : goal.put_file-requires-clause-vacant
-put_file-requires-clause-vacant c =
+pub put_back-requires-clause-empty : goal.put_back-requires-clause-empty
+put_back-requires-clause-empty c =
     let all : List (Option Closed) = c.args.places.items in
     let more = one_less all c.loop-file.places.items c.pop.new.self.items c.in-Some.file c.in-Some.ensures.items c.loop-file.invariant.items in
     let len = c.len-slot.ensures in
     let ok = c.pop.new.self.ok.0 in
     c.loop-file.invariant.part.away c.len-slot.result (omega arith) (omega (arith, more, len, ok))
 
-pub put_file-requires-clause-settled : goal.put_file-requires-clause-settled
-put_file-requires-clause-settled c = c.loop-file.invariant.part.settled
+pub put_back-requires-clause-settled : goal.put_back-requires-clause-settled
+put_back-requires-clause-settled c = c.loop-file.invariant.part.settled
 
-pub put_file-requires-clause-fresh : goal.put_file-requires-clause-fresh
-put_file-requires-clause-fresh c =
-    let all : List (Option Closed) = c.args.places.items in
-    let p = c.loop-file.invariant.part in
-    let more = one_less all c.loop-file.places.items c.pop.new.self.items c.in-Some.file c.in-Some.ensures.items c.loop-file.invariant.items in
-    let at = last_is all c.loop-file.places.items c.pop.new.self.items c.in-Some.file c.in-Some.ensures.items c.loop-file.invariant.items in
-    let len = c.len-slot.ensures in
-    let ok = c.pop.new.self.ok.0 in
-    let l = is_slot (length c.args.plain.now.slots) (file_in_place all) c.requires.others (length c.pop.new.self.items)
-    c.in-Some-file.file (at ∙ c.in-Some-file.is) in
-    let slot = c.len-slot.result in
-    subst (λ (n : ℕ). (state_of c.loop-file.plain).fresh (n + slot) ≡ true) (sym p.size)
-    (p.fresh slot (omega arith) (omega (arith, more, len, ok)) (omega (arith, len, ok, l)))
+pub put_back-requires-clause-prepared : goal.put_back-requires-clause-prepared
+put_back-requires-clause-prepared c = c.loop-file.invariant.prepared
 
 pub loop-file-preserved-in-Some-file : goal.loop-file-preserved-in-Some-file
 loop-file-preserved-in-Some-file c =
@@ -98,10 +88,12 @@ loop-file-preserved-in-Some-file c =
     let here : c.len-slot.result ≡ length now = omega (arith, len, ok) in
     let a = state_of c.args.plain.now in
     record {
-      part = one_last a (file_in_place all) (state_of c.loop-file.plain) (state_of c.put_file.new.plain) 0 (length now)
+      part = one_last a (file_in_place all) (state_of c.loop-file.plain) (state_of c.put_back.new.self) 0 (length now)
           c.in-Some-file.file (at ∙ c.in-Some-file.is)
-          (subst (λ (n : ℕ). GetsFile (state_of c.loop-file.plain) n c.in-Some-file.file (state_of c.put_file.new.plain)) here c.put_file.ensures)
+          (subst (λ (n : ℕ). GetsFile (state_of c.loop-file.plain) n c.in-Some-file.file (state_of c.put_back.new.self)) here
+          (file_put _ _ c.len-slot.result c.in-Some-file.file i.part.settled c.put_back.ensures.state))
           (subst (λ (n : ℕ). IsPartlyBack a (file_in_place all) 0 n (state_of c.loop-file.plain)) more i.part);
+      prepared = c.put_back.ensures.prepared;
       items = same_before all c.loop-file.places.items now c.in-Some.file e i.items;
     }
 
@@ -117,6 +109,7 @@ loop-file-preserved c =
     record {
       part = none_last a (file_in_place all) (state_of c.loop-file.plain) 0 (length now) (at ∙ c.in_default-file.is) (omega arith)
           (subst (λ (n : ℕ). IsPartlyBack a (file_in_place all) 0 n (state_of c.loop-file.plain)) more i.part);
+      prepared = i.prepared;
       items = same_before all c.loop-file.places.items now c.in-Some.file e i.items;
     }
 

@@ -1,5 +1,5 @@
 use Rattle.std.proofs.Common.{◌≡◌, ◌<◌, ℕ, length}
-use Rattle.fx_plain.specs.Contents.{state_of}
+use Rattle.fx_plain.specs.Contents.{state_of, IsPrepared}
 use Rattle.fx_counted.specs.Shells.{file_in_place}
 use Rattle.fx_counted.proofs.Shells.{IsPartlyBack}
 use Rattle.fx_counted.proofs.shell.put_all.Given as goal
@@ -8,6 +8,7 @@ use Rattle.fx_counted.proofs.shell.put_all.Given as goal
 abbrev pub invariant-loop-file : goal.invariant-loop-file
 invariant-loop-file l = record {
   part : IsPartlyBack (state_of l.fn.plain) (file_in_place l.fn.places.items) 0 (length l.places.items) (state_of l.plain);
+  prepared : IsPrepared l.plain;
   items : (k : ℕ) → k < length l.places.items → file_in_place l.places.items k ≡ file_in_place l.fn.places.items k;
 }
 

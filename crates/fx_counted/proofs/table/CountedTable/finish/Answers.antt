@@ -4,13 +4,13 @@ use mathlib.Core.Option.{some, some-injective}
 use lib.ListN.{get_elem?}
 use Rattle.std.specs.Mem.Slots.{slots_items, slots_len, IsFull}
 use Rattle.fx_base.specs.declared.open_file.Closed.{Closed}
-use Rattle.fx_plain.specs.Contents.{Contents, state_of}
+use Rattle.fx_plain.specs.Contents.{Contents, IsPrepared, state_of}
 use Rattle.fx_words.specs.Words.{node_in}
 use Rattle.fx_counted.specs.Layout.{slot_place}
 use Rattle.fx_counted.proofs.Finishing.{word_at_place, home_at_end, known_at_end, leaves_at_end}
 use Rattle.fx_counted.proofs.Finishing.{some_back, none_back, none_named, place_emptied, none_emptied}
 use Rattle.fx_counted.proofs.HomeComing.{number_at, file_at, emptied, all_gone}
-use Rattle.fx_counted.proofs.Shells.{IsPartlyBack, all_back}
+use Rattle.fx_counted.proofs.Shells.{IsPartlyBack, all_back, file_put}
 use Rattle.fx_counted.proofs.table.CountedTable.finish.Goals.{in-Some+in-Some-take_home, in-Some+in_default-take_home, in_default}
 use Rattle.fx_counted.proofs.table.CountedTable.finish.Goals as goal
 
@@ -60,8 +60,10 @@ loop-slot-preserved c =
       | in-Some+in-Some-take_home w ↦ let took = w.take_home.ensures in let n = w.in-Some.number in let is = w.closed-is in record {
         part = subst (λ (p : Contents). IsPartlyBack (state_of t.shell) (file_at t.size ws xs) (slot + 1) t.size (state_of p)) (sym w.shell-is)
             (some_back t.size ws t.chains xs home (state_of t.shell) slot c.loop-slot-test.true now i.items st i.part n w.home_place.result
-            w.in-Some-take_home.file (state_of w.put_file.new.plain) (named (Some n) w.in-Some.ensures) w.home_place.ensures
-            (took.value ∙ ap some w.in-Some-take_home.is) w.put_file.ensures);
+            w.in-Some-take_home.file (state_of w.put_back.new.self) (named (Some n) w.in-Some.ensures) w.home_place.ensures
+            (took.value ∙ ap some w.in-Some-take_home.is)
+            (file_put _ _ slot w.in-Some-take_home.file i.part.settled w.put_back.ensures.state));
+        prepared = subst IsPrepared (sym w.shell-is) w.put_back.ensures.prepared;
         items = ap (λ x. slots_items x.slots) is ∙ place_emptied t.size ws t.chains xs home (state_of t.shell) slot c.loop-slot-test.true now
             i.items st i.part n w.home_place.result _ (named (Some n) w.in-Some.ensures) w.home_place.ensures took.items;
         count = ap (λ x. slots_len x.slots) is ∙ (took.count ∙ i.count);
@@ -72,6 +74,7 @@ loop-slot-preserved c =
         part = subst (λ (p : Contents). IsPartlyBack (state_of t.shell) (file_at t.size ws xs) (slot + 1) t.size (state_of p)) (sym w.shell-is)
             (none_back t.size ws t.chains xs home (state_of t.shell) slot c.loop-slot-test.true now i.items st i.part n w.home_place.result
             (named (Some n) w.in-Some.ensures) w.home_place.ensures (took.value ∙ ap some w.in_default-take_home.is));
+        prepared = subst IsPrepared (sym w.shell-is) i.prepared;
         items = ap (λ x. slots_items x.slots) is ∙ place_emptied t.size ws t.chains xs home (state_of t.shell) slot c.loop-slot-test.true now
             i.items st i.part n w.home_place.result _ (named (Some n) w.in-Some.ensures) w.home_place.ensures took.items;
         count = ap (λ x. slots_len x.slots) is ∙ (took.count ∙ i.count);
@@ -82,6 +85,7 @@ loop-slot-preserved c =
         part = subst (λ (p : Contents). IsPartlyBack (state_of t.shell) (file_at t.size ws xs) (slot + 1) t.size (state_of p)) (sym w.shell-is)
             (none_named t.size ws t.chains xs home (state_of t.shell) slot c.loop-slot-test.true now i.items st i.part
             (named None w.in_default.ensures));
+        prepared = subst IsPrepared (sym w.shell-is) i.prepared;
         items = ap (λ x. slots_items x.slots) is ∙ none_emptied t.size ws t.chains xs home (state_of t.shell) slot c.loop-slot-test.true now
             i.items st i.part (named None w.in_default.ensures);
         count = ap (λ x. slots_len x.slots) is ∙ i.count;

@@ -1,7 +1,7 @@
 use Rattle.std.proofs.Common.{◌≡◌, ◌<◌, ℕ, false, get_or}
 use Rattle.std.specs.Mem.Slots.{slots_items, slots_filled, slots_len, IsFull}
 use Rattle.std.specs.Mem.Slots.Ownership.{Filled}
-use Rattle.fx_plain.specs.Contents.{state_of}
+use Rattle.fx_plain.specs.Contents.{state_of, IsPrepared}
 use Rattle.fx_counted.proofs.HomeComing.{file_at, emptied}
 use Rattle.fx_counted.proofs.Shells.{IsPartlyBack}
 use Rattle.fx_counted.proofs.table.CountedTable.finish.Given as goal
@@ -11,6 +11,7 @@ abbrev pub invariant-loop-slot : goal.invariant-loop-slot
 invariant-loop-slot l = record {
   part : IsPartlyBack (state_of l.fn.self.shell) (file_at l.size (slots_items l.initial.closed.words) (slots_items l.initial.closed.slots))
       l.slot l.size (state_of l.shell);
+  prepared : IsPrepared l.shell;
   items : slots_items l.closed.slots ≡ emptied l.size (slots_items l.initial.closed.words) l.slot (slots_items l.initial.closed.slots);
   count : slots_len l.closed.slots ≡ slots_len l.initial.closed.slots;
   full : IsFull l.closed.slots;
