@@ -14,6 +14,3 @@ pub use laws::{give_keeps_rule, grab_keeps_rule, join_keeps_rule, split_keeps_ru
 pub use pass::BatonPass;
 pub use table::BatonTable;
 pub use view::{Call, Log, Start, View};
-
-#[cfg(test)]
-mod tests;

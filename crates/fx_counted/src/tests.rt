@@ -1,17 +1,11 @@
-//! What no clause says: that the calls succeed, and that two threads get on beside each other.
+//! What can't be seen from outside: where words lie, and what they are after each call. The rows that every table plays are
+//! the tests of `table_tests`.
 ghost use Rattle.std.specs.Prelude.{◌≡◌, ◌≤◌, [], All};
 ghost use Rattle.fx_plain.specs.State.{IsSettled};
 ghost use Rattle.fx_plain.specs.Contents.{state_of};
 ghost use Rattle.fx_table.specs.Opening.{opening_with};
 
-mod allocation;
-mod churn;
 mod layout;
-mod limits;
-mod races;
-mod spent;
-mod threads;
-mod turns;
 mod words;
 
 use fx_base::{Catalogue, Mark, OpenFile};

@@ -1,4 +1,0 @@
-use Rattle.fx_baton.proofs.tests.threads.work.Given as goal
-
-abbrev pub invariant-loop-round : goal.invariant-loop-round
-invariant-loop-round g l = g.T.FileTable.fits l.table l.worker.pass

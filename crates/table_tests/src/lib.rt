@@ -1,0 +1,25 @@
+//! The rows that every table that threads share must play, over both: the table behind one word, and the one without a
+//! lock. What a call answers is the contract of `FileTable`; these tests show what it can't say: that the calls succeed,
+//! that threads get on beside each other, and the takes that each table tells.
+#![tactic(auto)]
+
+#[cfg(test)]
+mod allocation;
+#[cfg(test)]
+mod limits;
+#[cfg(test)]
+mod passes;
+#[cfg(test)]
+mod races;
+#[cfg(test)]
+mod setting;
+#[cfg(test)]
+mod spent;
+#[cfg(test)]
+mod stress;
+#[cfg(test)]
+mod tally;
+#[cfg(test)]
+mod turns;
+#[cfg(test)]
+mod turns_of_three;
