@@ -1,8 +1,8 @@
 //! Threads that really run beside each other: a gate holds a chain until other chains have come as far. No clause says
 //! that two threads ran, so that a player of all chains on one thread would be proved as well.
 use crate::setting::{
-    close, expect_closed, expect_completed, expect_left, full_ring, linked, open_at, opened, read,
-    registered, sparse_ring, submit_with,
+    Players, TABLES, close, expect_closed, expect_completed, expect_left, full_ring, linked,
+    open_at, opened, read, registered, sparse_ring, submit_with,
 };
 use fx_chain::{Gate, Place, Request};
 use std::alloc::{AllocError, Global};
@@ -81,11 +81,11 @@ fn third_members_meet<R: Threads + Wait + Abort + Sync>(
     rt: &R,
     alloc: Global,
     requests: &[Request],
-    workers: u32,
+    players: Players,
 ) -> Result<bool, Fail> {
     let meeting = Meeting::new(3, 2);
     let mut ring = sparse_ring(rt, alloc, 2)?;
-    let report = submit_with(rt, alloc, &mut ring, requests, workers, &meeting);
+    let report = submit_with(rt, alloc, &mut ring, requests, players, &meeting);
     let completed = [
         (1, 1, 0, ""),
         (1, 2, 5, "hello"),
@@ -104,8 +104,10 @@ fn third_members_meet<R: Threads + Wait + Abort + Sync>(
 fn two_workers_play_beside_each_other(rt: HostRuntime) -> Result<(), Fail> {
     let alloc = rt.alloc();
     let requests = two_chains(alloc)?;
-    for workers in [2, 3, 16] {
-        assert!(rt; third_members_meet(&rt, alloc, &requests, workers)?);
+    for table in TABLES {
+        for workers in [2, 3, 16] {
+            assert!(rt; third_members_meet(&rt, alloc, &requests, (table, workers))?);
+        }
     }
     Ok(())
 }
@@ -114,7 +116,9 @@ fn two_workers_play_beside_each_other(rt: HostRuntime) -> Result<(), Fail> {
 fn one_worker_waits_in_vain(rt: HostRuntime) -> Result<(), Fail> {
     let alloc = rt.alloc();
     let requests = two_chains(alloc)?;
-    assert!(rt; !third_members_meet(&rt, alloc, &requests, 1)?);
+    for table in TABLES {
+        assert!(rt; !third_members_meet(&rt, alloc, &requests, (table, 1))?);
+    }
     Ok(())
 }
 
@@ -127,12 +131,22 @@ fn sixteen_workers_play_beside_each_other(rt: HostRuntime) -> Result<(), Fail> {
         requests.push(read(0, 0, 5))?;
         completed.push((chain, 1, 5, "hello"))?;
     }
-    let meeting = Meeting::new(1, 16);
-    let mut ring = full_ring(&rt, alloc, &[0])?;
-    let report = submit_with(&rt, alloc, &mut ring, requests.as_slice(), 16, &meeting);
-    expect_completed(&rt, &report, 1, completed.as_slice());
-    expect_closed(&rt, &report, &[]);
-    assert!(rt; meeting.was_held());
-    expect_left(&rt, alloc, ring, &[registered(1, 0, 0)]);
+    for table in TABLES {
+        let meeting = Meeting::new(1, 16);
+        let mut ring = full_ring(&rt, alloc, &[0])?;
+        let players = (table, 16);
+        let report = submit_with(
+            &rt,
+            alloc,
+            &mut ring,
+            requests.as_slice(),
+            players,
+            &meeting,
+        );
+        expect_completed(&rt, &report, 1, completed.as_slice());
+        expect_closed(&rt, &report, &[]);
+        assert!(rt; meeting.was_held());
+        expect_left(&rt, alloc, ring, &[registered(1, 0, 0)]);
+    }
     Ok(())
 }

@@ -2,7 +2,7 @@
 //! hand.
 use crate::calls::Calls;
 use crate::setting::{
-    WORKERS, close, expect_closed, expect_completed, expect_left, full_ring, linked, open_at,
+    PLAYERS, close, expect_closed, expect_completed, expect_left, full_ring, linked, open_at,
     opened, read, registered, sparse_ring, submit, submit_with, update, updated,
 };
 use std::test::Fail;
@@ -12,10 +12,10 @@ fn every_member_of_a_whole_chain_is_started(rt: HostRuntime) -> Result<(), Fail>
     let alloc = rt.alloc();
     let open = linked(open_at(alloc, "a.txt", 0)?);
     let requests = [open, linked(read(0, 0, 5)), close(0)];
-    for workers in WORKERS {
+    for players in PLAYERS {
         let calls = Calls::new(alloc, &[3])?;
         let mut ring = sparse_ring(&rt, alloc, 2)?;
-        let report = submit_with(&rt, alloc, &mut ring, &requests, workers, &calls);
+        let report = submit_with(&rt, alloc, &mut ring, &requests, players, &calls);
         let completed = [(1, 1, 0, ""), (1, 2, 5, "hello"), (1, 3, 0, "")];
         expect_completed(&rt, &report, 1, &completed);
         expect_closed(&rt, &report, &[opened(1, 1, 1, 0)]);
@@ -30,10 +30,10 @@ fn short_read_severs(rt: HostRuntime) -> Result<(), Fail> {
     let alloc = rt.alloc();
     let open = linked(open_at(alloc, "a.txt", 0)?);
     let requests = [open, linked(read(0, 0, 6)), close(0)];
-    for workers in WORKERS {
+    for players in PLAYERS {
         let calls = Calls::new(alloc, &[3])?;
         let mut ring = sparse_ring(&rt, alloc, 2)?;
-        let report = submit_with(&rt, alloc, &mut ring, &requests, workers, &calls);
+        let report = submit_with(&rt, alloc, &mut ring, &requests, players, &calls);
         let completed = [(1, 1, 0, ""), (1, 2, 5, "hello"), (1, 3, -125, "")];
         expect_completed(&rt, &report, 1, &completed);
         expect_closed(&rt, &report, &[]);
@@ -49,10 +49,10 @@ fn read_at_the_end_severs(rt: HostRuntime) -> Result<(), Fail> {
     for off in [5, 2_147_483_647] {
         let open = linked(open_at(alloc, "a.txt", 0)?);
         let requests = [open, linked(read(0, off, 1)), close(0)];
-        for workers in WORKERS {
+        for players in PLAYERS {
             let calls = Calls::new(alloc, &[3])?;
             let mut ring = sparse_ring(&rt, alloc, 1)?;
-            let report = submit_with(&rt, alloc, &mut ring, &requests, workers, &calls);
+            let report = submit_with(&rt, alloc, &mut ring, &requests, players, &calls);
             let completed = [(1, 1, 0, ""), (1, 2, 0, ""), (1, 3, -125, "")];
             expect_completed(&rt, &report, 1, &completed);
             expect_closed(&rt, &report, &[]);
@@ -67,10 +67,10 @@ fn read_at_the_end_severs(rt: HostRuntime) -> Result<(), Fail> {
 fn read_of_no_bytes_severs_nothing(rt: HostRuntime) -> Result<(), Fail> {
     let alloc = rt.alloc();
     let requests = [linked(read(0, 2_147_483_647, 0)), close(0)];
-    for workers in WORKERS {
+    for players in PLAYERS {
         let calls = Calls::new(alloc, &[2])?;
         let mut ring = full_ring(&rt, alloc, &[1])?;
-        let report = submit_with(&rt, alloc, &mut ring, &requests, workers, &calls);
+        let report = submit_with(&rt, alloc, &mut ring, &requests, players, &calls);
         expect_completed(&rt, &report, 1, &[(1, 1, 0, ""), (1, 2, 0, "")]);
         expect_closed(&rt, &report, &[registered(1, 0, 1)]);
         calls.expect(&rt, &[2]);
@@ -96,10 +96,10 @@ fn close_of_an_empty_slot_severs(rt: HostRuntime) -> Result<(), Fail> {
         (1, 4, -125, ""),
         (1, 5, -125, ""),
     ];
-    for workers in WORKERS {
+    for players in PLAYERS {
         let calls = Calls::new(alloc, &[5])?;
         let mut ring = sparse_ring(&rt, alloc, 1)?;
-        let report = submit_with(&rt, alloc, &mut ring, &requests, workers, &calls);
+        let report = submit_with(&rt, alloc, &mut ring, &requests, players, &calls);
         expect_completed(&rt, &report, 1, &completed);
         expect_closed(&rt, &report, &[opened(1, 1, 1, 0)]);
         calls.expect(&rt, &[3]);
@@ -133,10 +133,10 @@ fn other_chains_go_on(rt: HostRuntime) -> Result<(), Fail> {
         (3, 3, -125, ""),
         (4, 1, 1, "h"),
     ];
-    for workers in WORKERS {
+    for players in PLAYERS {
         let calls = Calls::new(alloc, &[2, 3, 3, 1])?;
         let mut ring = full_ring(&rt, alloc, &[0, -1, -1, 0])?;
-        let report = submit_with(&rt, alloc, &mut ring, &requests, workers, &calls);
+        let report = submit_with(&rt, alloc, &mut ring, &requests, players, &calls);
         expect_completed(&rt, &report, 1, &completed);
         expect_closed(&rt, &report, &[opened(1, 2, 1, 1)]);
         calls.expect(&rt, &[1, 3, 1, 1]);
@@ -155,12 +155,12 @@ fn link_ends_with_the_submission(rt: HostRuntime) -> Result<(), Fail> {
     let alloc = rt.alloc();
     let first = [linked(open_at(alloc, "a.txt", 0)?)];
     let second = [read(0, 0, 5)];
-    for workers in WORKERS {
+    for players in PLAYERS {
         let mut ring = sparse_ring(&rt, alloc, 1)?;
-        let report = submit(&rt, alloc, &mut ring, &first, workers);
+        let report = submit(&rt, alloc, &mut ring, &first, players);
         expect_completed(&rt, &report, 1, &[(1, 1, 0, "")]);
         expect_closed(&rt, &report, &[]);
-        let report = submit(&rt, alloc, &mut ring, &second, workers);
+        let report = submit(&rt, alloc, &mut ring, &second, players);
         expect_completed(&rt, &report, 2, &[(1, 1, 5, "hello")]);
         expect_closed(&rt, &report, &[]);
         expect_left(&rt, alloc, ring, &[opened(1, 1, 1, 0)]);
@@ -192,9 +192,9 @@ fn files_are_replaced_in_a_chain(rt: HostRuntime) -> Result<(), Fail> {
         updated(1, 1, 1, 0, 1),
         opened(1, 1, 3, 0),
     ];
-    for workers in WORKERS {
+    for players in PLAYERS {
         let mut ring = full_ring(&rt, alloc, &[0])?;
-        let report = submit(&rt, alloc, &mut ring, &requests, workers);
+        let report = submit(&rt, alloc, &mut ring, &requests, players);
         expect_completed(&rt, &report, 1, &completed);
         expect_closed(&rt, &report, &closed);
         expect_left(&rt, alloc, ring, &[opened(1, 1, 5, 1)]);

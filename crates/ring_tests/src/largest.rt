@@ -3,7 +3,7 @@
 ghost use Rattle.std.specs.Prelude.{◌≡◌, ◌≤◌, ◌<◌};
 ghost use Rattle.ring_tests.specs.declared.largest.TheConstants.{CHAINS, MEMBERS};
 
-use crate::setting::{linked, open_at, read, submit, update};
+use crate::setting::{Players, TABLES, linked, open_at, read, submit, update};
 use fx_base::{Catalogue, CloseList, Closed, Mark};
 use fx_chain::{Completion, Place, Request};
 use fx_ring::Ring;
@@ -166,23 +166,36 @@ fn left_in<R: Abort>(rt: &R, alloc: Global, ring: Ring) -> CloseList {
     }
 }
 
+// The chains are played, and each file that they installed was closed or is left, once.
+fn expect_largest<R: Threads + Wait + Abort + Sync>(
+    rt: &R,
+    alloc: Global,
+    requests: &[Request],
+    players: Players,
+) -> Result<(), Fail> {
+    let mut tally = Tally::new(alloc)?;
+    let mut ring = largest_ring(rt, alloc)?;
+    let report = submit(rt, alloc, &mut ring, requests, players);
+    assert_eq!(rt; report.submission, 1);
+    expect_answers(rt, report.completions.as_slice());
+    tally.add(rt, report.closes.files());
+    tally.add(rt, left_in(rt, alloc, ring).files());
+    for chain in 1..CHAINS + 1 {
+        for member in 1..MEMBERS + 1 {
+            let number = number_of(chain, member, 0);
+            assert_eq!(rt; tally.counts.get(number), Some(&(member % 2)));
+        }
+    }
+    Ok(())
+}
+
 #[test]
 fn most_chains_of_most_members(rt: HostRuntime) -> Result<(), Fail> {
     let alloc = rt.alloc();
     let requests = largest_submission(alloc)?;
-    for workers in [1, 2, 4, 16] {
-        let mut tally = Tally::new(alloc)?;
-        let mut ring = largest_ring(&rt, alloc)?;
-        let report = submit(&rt, alloc, &mut ring, requests.as_slice(), workers);
-        assert_eq!(rt; report.submission, 1);
-        expect_answers(&rt, report.completions.as_slice());
-        tally.add(&rt, report.closes.files());
-        tally.add(&rt, left_in(&rt, alloc, ring).files());
-        for chain in 1..CHAINS + 1 {
-            for member in 1..MEMBERS + 1 {
-                let number = number_of(chain, member, 0);
-                assert_eq!(rt; tally.counts.get(number), Some(&(member % 2)));
-            }
+    for table in TABLES {
+        for workers in [1, 2, 4, 16] {
+            expect_largest(&rt, alloc, requests.as_slice(), (table, workers))?;
         }
     }
     Ok(())
@@ -231,6 +244,28 @@ fn expect_all_updated<R: Abort>(rt: &R, completions: &[Completion]) {
     }
 }
 
+// The updates are played, and each file that they installed was closed or is left, once.
+fn expect_largest_updates<R: Threads + Wait + Abort + Sync>(
+    rt: &R,
+    alloc: Global,
+    requests: &[Request],
+    players: Players,
+) -> Result<(), Fail> {
+    let mut tally = Tally::new(alloc)?;
+    let mut ring = largest_ring(rt, alloc)?;
+    let report = submit(rt, alloc, &mut ring, requests, players);
+    expect_all_updated(rt, report.completions.as_slice());
+    let left = left_in(rt, alloc, ring);
+    tally.add(rt, report.closes.files());
+    tally.add(rt, left.files());
+    expect_updated(rt, &tally);
+    let (_table, workers) = players;
+    if workers == 1 {
+        expect_last_chain(rt, left.files());
+    }
+    Ok(())
+}
+
 #[test]
 fn most_updates_of_most_slots(rt: HostRuntime) -> Result<(), Fail> {
     let alloc = rt.alloc();
@@ -241,17 +276,9 @@ fn most_updates_of_most_slots(rt: HostRuntime) -> Result<(), Fail> {
             requests.push(in_chain(request, member))?;
         }
     }
-    for workers in [1, 2, 4, 16] {
-        let mut tally = Tally::new(alloc)?;
-        let mut ring = largest_ring(&rt, alloc)?;
-        let report = submit(&rt, alloc, &mut ring, requests.as_slice(), workers);
-        expect_all_updated(&rt, report.completions.as_slice());
-        let left = left_in(&rt, alloc, ring);
-        tally.add(&rt, report.closes.files());
-        tally.add(&rt, left.files());
-        expect_updated(&rt, &tally);
-        if workers == 1 {
-            expect_last_chain(&rt, left.files());
+    for table in TABLES {
+        for workers in [1, 2, 4, 16] {
+            expect_largest_updates(&rt, alloc, requests.as_slice(), (table, workers))?;
         }
     }
     Ok(())

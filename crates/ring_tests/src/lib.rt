@@ -1,6 +1,6 @@
-//! Submissions to a table that threads share. What a submission answers is the contract of `Ring::submit`; these tests
-//! show what it can't say: that there is a report at all, that threads run beside each other, and that the clauses say
-//! what was meant.
+//! Submissions to both tables that threads share, the same to each. What a submission answers is the contract of
+//! `Ring::submit`; these tests show what it can't say: that there is a report at all, that threads run beside each other,
+//! and that the clauses say what was meant.
 #![tactic(auto)]
 
 #[cfg(test)]

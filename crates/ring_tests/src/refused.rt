@@ -1,10 +1,9 @@
 //! Submissions that are refused, each with its fault and its place, and the ring that is then as it was.
 use crate::calls::Calls;
 use crate::setting::{
-    close, expect_as_before, expect_left, full_ring, linked, open_at, read, registered,
-    ring_before_refusal, submit, update,
+    Players, TABLES, Table, close, expect_as_before, expect_left, full_ring, linked, open_at, read,
+    registered, ring_before_refusal, submit, try_submit, update,
 };
-use fx_baton::BatonTable;
 use fx_chain::{CutFault, CutKind, OpenGate, Request};
 use fx_ring::{Ring, SubmitFault};
 use std::alloc::{AllocError, Global};
@@ -21,14 +20,16 @@ fn expect_refused<R: Threads + Wait + Abort + Sync>(
     workers: u32,
     fault: SubmitFault,
 ) -> Result<(), Fail> {
-    let calls = Calls::new(alloc, &[])?;
-    let mut ring = ring_before_refusal(rt, alloc)?;
-    match ring.submit::<BatonTable, R, Calls>(rt, alloc, requests, workers, &calls) {
-        Ok(_report) => panic!(rt; "a refusal"),
-        Err(found) => assert_eq!(rt; found, fault),
+    for table in TABLES {
+        let calls = Calls::new(alloc, &[])?;
+        let mut ring = ring_before_refusal(rt, alloc)?;
+        match try_submit(rt, alloc, &mut ring, requests, (table, workers), &calls) {
+            Ok(_report) => panic!(rt; "a refusal"),
+            Err(found) => assert_eq!(rt; found, fault),
+        }
+        calls.expect(rt, &[]);
+        expect_as_before(rt, alloc, ring, table);
     }
-    calls.expect(rt, &[]);
-    expect_as_before(rt, alloc, ring);
     Ok(())
 }
 
@@ -149,42 +150,54 @@ fn fault_of<R: Threads + Wait + Abort + Sync>(
     alloc: Global,
     ring: &mut Ring,
     requests: &[Request],
-    workers: u32,
+    players: Players,
 ) -> SubmitFault {
-    match ring.submit::<BatonTable, R, OpenGate>(rt, alloc, requests, workers, &OpenGate) {
+    match try_submit(rt, alloc, ring, requests, players, &OpenGate) {
         Ok(_report) => panic!(rt; "a refusal"),
         Err(fault) => fault,
+    }
+}
+
+// The submission behind the last one is refused, by whoever is to play it, as often as it is made.
+fn expect_too_many<R: Threads + Wait + Abort + Sync>(
+    rt: &R,
+    alloc: Global,
+    ring: &mut Ring,
+    table: Table,
+) {
+    let long = [read(0, 0, 4097)];
+    let long_read = SubmitFault::Cut(CutFault {
+        at: 1,
+        kind: CutKind::LongRead,
+    });
+    for _ in 0..2 {
+        let fault = fault_of(rt, alloc, ring, &[], (table, 1));
+        assert_eq!(rt; fault, SubmitFault::TooMany);
+        let fault = fault_of(rt, alloc, ring, &[close(0)], (table, 2));
+        assert_eq!(rt; fault, SubmitFault::TooMany);
+        let fault = fault_of(rt, alloc, ring, &long, (table, 16));
+        assert_eq!(rt; fault, long_read);
+        let fault = fault_of(rt, alloc, ring, &long, (table, 17));
+        assert_eq!(rt; fault, SubmitFault::Workers);
+        let fault = fault_of(rt, alloc, ring, &[], (table, 0));
+        assert_eq!(rt; fault, SubmitFault::Workers);
     }
 }
 
 #[test]
 fn too_many_submissions(rt: HostRuntime) -> Result<(), Fail> {
     let alloc = rt.alloc();
-    let long = [read(0, 0, 4097)];
-    let long_read = CutFault {
-        at: 1,
-        kind: CutKind::LongRead,
-    };
-    let mut ring = full_ring(&rt, alloc, &[0])?;
-    for submission in 1..65_536 {
-        let report = submit(&rt, alloc, &mut ring, &[], 1);
-        assert_eq!(rt; report.submission, submission);
+    for table in TABLES {
+        let mut ring = full_ring(&rt, alloc, &[0])?;
+        for submission in 1..65_536 {
+            let report = submit(&rt, alloc, &mut ring, &[], (table, 1));
+            assert_eq!(rt; report.submission, submission);
+        }
+        assert_eq!(rt; ring.submissions(), 65_535);
+        expect_too_many(&rt, alloc, &mut ring, table);
+        assert_eq!(rt; (ring.submissions(), ring.registrations()), (65_535, 1));
+        assert_eq!(rt; (ring.size(), ring.range()), (1, (0, 1)));
+        expect_left(&rt, alloc, ring, &[registered(1, 0, 0)]);
     }
-    assert_eq!(rt; ring.submissions(), 65_535);
-    for _ in 0..2 {
-        let fault = fault_of(&rt, alloc, &mut ring, &[], 1);
-        assert_eq!(rt; fault, SubmitFault::TooMany);
-        let fault = fault_of(&rt, alloc, &mut ring, &[close(0)], 2);
-        assert_eq!(rt; fault, SubmitFault::TooMany);
-        let fault = fault_of(&rt, alloc, &mut ring, &long, 16);
-        assert_eq!(rt; fault, SubmitFault::Cut(long_read));
-        let fault = fault_of(&rt, alloc, &mut ring, &long, 17);
-        assert_eq!(rt; fault, SubmitFault::Workers);
-        let fault = fault_of(&rt, alloc, &mut ring, &[], 0);
-        assert_eq!(rt; fault, SubmitFault::Workers);
-    }
-    assert_eq!(rt; (ring.submissions(), ring.registrations()), (65_535, 1));
-    assert_eq!(rt; (ring.size(), ring.range()), (1, (0, 1)));
-    expect_left(&rt, alloc, ring, &[registered(1, 0, 0)]);
     Ok(())
 }

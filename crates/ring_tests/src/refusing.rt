@@ -6,7 +6,7 @@ ghost use Rattle.fx_baton.specs.Passes.{view_of};
 ghost use Rattle.fx_baton.specs.Tables.{opening_of_table, IsPassOfTable};
 
 use crate::calls::Calls;
-use crate::setting::{close, expect_as_before, open_any, read, ring_before_refusal};
+use crate::setting::{Table, close, expect_as_before, open_any, read, ring_before_refusal};
 use fx_base::{NoMemory, OpenFile};
 use fx_baton::{BatonPass, BatonTable};
 use fx_chain::Request;
@@ -137,7 +137,7 @@ fn expect_no_memory<R: Threads + Wait + Abort + Sync>(
         }
     }
     calls.expect(rt, &[]);
-    expect_as_before(rt, alloc, ring);
+    expect_as_before(rt, alloc, ring, Table::Baton);
     Ok(())
 }
 

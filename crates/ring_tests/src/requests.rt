@@ -1,8 +1,9 @@
 //! What each kind of request answers, by itself and on any number of workers; where that depends on the order of chains,
 //! on one worker, which plays them in their order. The values were worked out by hand.
 use crate::setting::{
-    WORKERS, close, expect_closed, expect_completed, expect_left, full_ring, linked, open_any,
-    open_at, opened, read, registered, ring_of_two_files, sparse_ring, submit, update, updated,
+    PLAYERS, TABLES, close, expect_closed, expect_completed, expect_left, full_ring, linked,
+    open_any, open_at, opened, read, registered, ring_of_two_files, sparse_ring, submit, update,
+    updated,
 };
 use std::test::Fail;
 
@@ -11,9 +12,9 @@ fn open_read_close(rt: HostRuntime) -> Result<(), Fail> {
     let alloc = rt.alloc();
     let open = linked(open_at(alloc, "a.txt", 0)?);
     let requests = [open, linked(read(0, 0, 5)), close(0)];
-    for workers in WORKERS {
+    for players in PLAYERS {
         let mut ring = sparse_ring(&rt, alloc, 2)?;
-        let report = submit(&rt, alloc, &mut ring, &requests, workers);
+        let report = submit(&rt, alloc, &mut ring, &requests, players);
         let completed = [(1, 1, 0, ""), (1, 2, 5, "hello"), (1, 3, 0, "")];
         expect_completed(&rt, &report, 1, &completed);
         expect_closed(&rt, &report, &[opened(1, 1, 1, 0)]);
@@ -27,10 +28,10 @@ fn open_read_close(rt: HostRuntime) -> Result<(), Fail> {
 #[test]
 fn empty_submission_is_counted(rt: HostRuntime) -> Result<(), Fail> {
     let alloc = rt.alloc();
-    for workers in WORKERS {
+    for players in PLAYERS {
         let mut ring = full_ring(&rt, alloc, &[0])?;
         for submission in [1, 2] {
-            let report = submit(&rt, alloc, &mut ring, &[], workers);
+            let report = submit(&rt, alloc, &mut ring, &[], players);
             expect_completed(&rt, &report, submission, &[]);
             expect_closed(&rt, &report, &[]);
             assert_eq!(rt; ring.submissions(), submission);
@@ -44,9 +45,9 @@ fn empty_submission_is_counted(rt: HostRuntime) -> Result<(), Fail> {
 fn open_at_a_slot_past_the_end(rt: HostRuntime) -> Result<(), Fail> {
     let alloc = rt.alloc();
     let requests = [open_at(alloc, "a.txt", 2)?, open_at(alloc, "a.txt", 1)?];
-    for workers in WORKERS {
+    for players in PLAYERS {
         let mut ring = sparse_ring(&rt, alloc, 2)?;
-        let report = submit(&rt, alloc, &mut ring, &requests, workers);
+        let report = submit(&rt, alloc, &mut ring, &requests, players);
         expect_completed(&rt, &report, 1, &[(1, 1, -22, ""), (2, 1, 0, "")]);
         expect_closed(&rt, &report, &[]);
         expect_left(&rt, alloc, ring, &[opened(1, 2, 1, 0)]);
@@ -58,9 +59,9 @@ fn open_at_a_slot_past_the_end(rt: HostRuntime) -> Result<(), Fail> {
 fn no_such_name_before_bad_slot(rt: HostRuntime) -> Result<(), Fail> {
     let alloc = rt.alloc();
     let requests = [open_at(alloc, "c.txt", 9)?, close(1)];
-    for workers in WORKERS {
+    for players in PLAYERS {
         let mut ring = sparse_ring(&rt, alloc, 1)?;
-        let report = submit(&rt, alloc, &mut ring, &requests, workers);
+        let report = submit(&rt, alloc, &mut ring, &requests, players);
         expect_completed(&rt, &report, 1, &[(1, 1, -2, ""), (2, 1, -22, "")]);
         expect_closed(&rt, &report, &[]);
         expect_left(&rt, alloc, ring, &[]);
@@ -85,9 +86,9 @@ fn without_a_table_each_request_answers_its_own_error(rt: HostRuntime) -> Result
         (4, 1, -6, ""),
         (5, 1, -6, ""),
     ];
-    for workers in WORKERS {
+    for players in PLAYERS {
         let mut ring = ring_of_two_files(alloc)?;
-        let report = submit(&rt, alloc, &mut ring, &requests, workers);
+        let report = submit(&rt, alloc, &mut ring, &requests, players);
         expect_completed(&rt, &report, 1, &completed);
         expect_closed(&rt, &report, &[]);
         assert_eq!(rt; (ring.size(), ring.range()), (0, (0, 0)));
@@ -105,17 +106,19 @@ fn allocation_fills_its_range(rt: HostRuntime) -> Result<(), Fail> {
         open_any(alloc, "a.txt")?,
     ];
     let again = [close(1), open_any(alloc, "a.txt")?];
-    let mut ring = sparse_ring(&rt, alloc, 4)?;
-    assert_eq!(rt; ring.alloc_range(1, 2), Ok(()));
-    let report = submit(&rt, alloc, &mut ring, &three, 1);
-    let completed = [(1, 1, 1, ""), (2, 1, 2, ""), (3, 1, -23, "")];
-    expect_completed(&rt, &report, 1, &completed);
-    expect_closed(&rt, &report, &[]);
-    assert_eq!(rt; ring.range(), (1, 2));
-    let report = submit(&rt, alloc, &mut ring, &again, 1);
-    expect_completed(&rt, &report, 2, &[(1, 1, 0, ""), (2, 1, 1, "")]);
-    expect_closed(&rt, &report, &[opened(1, 1, 1, 0)]);
-    expect_left(&rt, alloc, ring, &[opened(1, 2, 1, 0), opened(2, 2, 1, 0)]);
+    for table in TABLES {
+        let mut ring = sparse_ring(&rt, alloc, 4)?;
+        assert_eq!(rt; ring.alloc_range(1, 2), Ok(()));
+        let report = submit(&rt, alloc, &mut ring, &three, (table, 1));
+        let completed = [(1, 1, 1, ""), (2, 1, 2, ""), (3, 1, -23, "")];
+        expect_completed(&rt, &report, 1, &completed);
+        expect_closed(&rt, &report, &[]);
+        assert_eq!(rt; ring.range(), (1, 2));
+        let report = submit(&rt, alloc, &mut ring, &again, (table, 1));
+        expect_completed(&rt, &report, 2, &[(1, 1, 0, ""), (2, 1, 1, "")]);
+        expect_closed(&rt, &report, &[opened(1, 1, 1, 0)]);
+        expect_left(&rt, alloc, ring, &[opened(1, 2, 1, 0), opened(2, 2, 1, 0)]);
+    }
     Ok(())
 }
 
@@ -123,10 +126,10 @@ fn allocation_fills_its_range(rt: HostRuntime) -> Result<(), Fail> {
 fn empty_range_has_no_free_slot(rt: HostRuntime) -> Result<(), Fail> {
     let alloc = rt.alloc();
     let requests = [open_any(alloc, "a.txt")?];
-    for workers in WORKERS {
+    for players in PLAYERS {
         let mut ring = sparse_ring(&rt, alloc, 4)?;
         assert_eq!(rt; ring.alloc_range(0, 0), Ok(()));
-        let report = submit(&rt, alloc, &mut ring, &requests, workers);
+        let report = submit(&rt, alloc, &mut ring, &requests, players);
         expect_completed(&rt, &report, 1, &[(1, 1, -23, "")]);
         expect_closed(&rt, &report, &[]);
         expect_left(&rt, alloc, ring, &[]);
@@ -140,11 +143,13 @@ fn read_of_an_empty_slot(rt: HostRuntime) -> Result<(), Fail> {
     let open = linked(open_at(alloc, "a.txt", 0)?);
     let requests = [read(0, 0, 0), open, linked(read(0, 0, 0)), close(0)];
     let completed = [(1, 1, -9, ""), (2, 1, 0, ""), (2, 2, 0, ""), (2, 3, 0, "")];
-    let mut ring = sparse_ring(&rt, alloc, 1)?;
-    let report = submit(&rt, alloc, &mut ring, &requests, 1);
-    expect_completed(&rt, &report, 1, &completed);
-    expect_closed(&rt, &report, &[opened(1, 2, 1, 0)]);
-    expect_left(&rt, alloc, ring, &[]);
+    for table in TABLES {
+        let mut ring = sparse_ring(&rt, alloc, 1)?;
+        let report = submit(&rt, alloc, &mut ring, &requests, (table, 1));
+        expect_completed(&rt, &report, 1, &completed);
+        expect_closed(&rt, &report, &[opened(1, 2, 1, 0)]);
+        expect_left(&rt, alloc, ring, &[]);
+    }
     Ok(())
 }
 
@@ -171,9 +176,9 @@ fn read_gives_what_is_there_from_its_offset(rt: HostRuntime) -> Result<(), Fail>
         (7, 1, 2, "hi"),
         (8, 1, -9, ""),
     ];
-    for workers in WORKERS {
+    for players in PLAYERS {
         let mut ring = full_ring(&rt, alloc, &[0, 1])?;
-        let report = submit(&rt, alloc, &mut ring, &requests, workers);
+        let report = submit(&rt, alloc, &mut ring, &requests, players);
         expect_completed(&rt, &report, 1, &completed);
         expect_closed(&rt, &report, &[]);
         expect_left(
@@ -190,9 +195,9 @@ fn read_gives_what_is_there_from_its_offset(rt: HostRuntime) -> Result<(), Fail>
 fn update_clears_and_skips(rt: HostRuntime) -> Result<(), Fail> {
     let alloc = rt.alloc();
     let requests = [update(alloc, 0, &[-1, -2, 0])?];
-    for workers in WORKERS {
+    for players in PLAYERS {
         let mut ring = full_ring(&rt, alloc, &[0, 0, 0])?;
-        let report = submit(&rt, alloc, &mut ring, &requests, workers);
+        let report = submit(&rt, alloc, &mut ring, &requests, players);
         expect_completed(&rt, &report, 1, &[(1, 1, 3, "")]);
         expect_closed(&rt, &report, &[registered(1, 0, 0), registered(1, 2, 0)]);
         match ring.update(alloc, 2, &[0]) {
@@ -237,9 +242,9 @@ fn update_is_refused_whole(rt: HostRuntime) -> Result<(), Fail> {
         registered(1, 1, 0),
         registered(1, 2, 0),
     ];
-    for workers in WORKERS {
+    for players in PLAYERS {
         let mut ring = full_ring(&rt, alloc, &[0, 0, 0])?;
-        let report = submit(&rt, alloc, &mut ring, &requests, workers);
+        let report = submit(&rt, alloc, &mut ring, &requests, players);
         expect_completed(&rt, &report, 1, &completed);
         expect_closed(&rt, &report, &[]);
         expect_left(&rt, alloc, ring, &left);
@@ -251,9 +256,9 @@ fn update_is_refused_whole(rt: HostRuntime) -> Result<(), Fail> {
 fn update_replaces_a_registered_file(rt: HostRuntime) -> Result<(), Fail> {
     let alloc = rt.alloc();
     let requests = [linked(update(alloc, 0, &[1])?), read(0, 0, 2)];
-    for workers in WORKERS {
+    for players in PLAYERS {
         let mut ring = full_ring(&rt, alloc, &[0])?;
-        let report = submit(&rt, alloc, &mut ring, &requests, workers);
+        let report = submit(&rt, alloc, &mut ring, &requests, players);
         expect_completed(&rt, &report, 1, &[(1, 1, 1, ""), (1, 2, 2, "hi")]);
         expect_closed(&rt, &report, &[registered(1, 0, 0)]);
         expect_left(&rt, alloc, ring, &[updated(1, 1, 1, 0, 1)]);

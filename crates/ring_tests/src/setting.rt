@@ -4,15 +4,40 @@ use bitflags::Flags;
 use fx_base::{Catalogue, Closed, Mark};
 use fx_baton::BatonTable;
 use fx_chain::{Gate, Op, OpenGate, Place, Request, SqeFlags, Target};
-use fx_ring::{Report, Ring};
+use fx_counted::CountedTable;
+use fx_ring::{Report, Ring, SubmitFault};
 use std::alloc::{AllocError, Global};
 use std::process::Abort;
 use std::sync::Wait;
 use std::test::Fail;
 use std::thread::Threads;
 
-/// How many workers play a submission whose report doesn't depend on the order of its chains.
-pub(crate) const WORKERS: [u32; 4] = [1, 2, 3, 16];
+/// Which table the workers share.
+#[derive(Clone, Copy, Debug)]
+pub(crate) enum Table {
+    /// The one without a lock, of packed words.
+    Words,
+    /// The one behind one word.
+    Baton,
+}
+
+/// Both of them.
+pub(crate) const TABLES: [Table; 2] = [Table::Words, Table::Baton];
+
+/// Who plays a submission: so many workers, over a table.
+pub(crate) type Players = (Table, u32);
+
+/// Who plays one whose report doesn't depend on the order of its chains.
+pub(crate) const PLAYERS: [Players; 8] = [
+    (Table::Words, 1),
+    (Table::Words, 2),
+    (Table::Words, 3),
+    (Table::Words, 16),
+    (Table::Baton, 1),
+    (Table::Baton, 2),
+    (Table::Baton, 3),
+    (Table::Baton, 16),
+];
 
 /// A ring without a table. Entry 0 of its catalogue is `a.txt`, with the bytes `hello`, and entry 1 is `b.txt`, with `hi`.
 pub(crate) fn ring_of_two_files(alloc: Global) -> Result<Ring, Fail> {
@@ -89,18 +114,34 @@ pub(crate) fn linked(request: Request) -> Request {
     Request { op, flags }
 }
 
-/// Submits requests to the table behind one word, which accepts them.
+/// Submits requests.
+pub(crate) fn try_submit<R: Threads + Wait + Sync, G: Gate>(
+    rt: &R,
+    alloc: Global,
+    ring: &mut Ring,
+    requests: &[Request],
+    players: Players,
+    gate: &G,
+) -> Result<Report, SubmitFault> {
+    let (table, workers) = players;
+    match table {
+        Table::Words => ring.submit::<CountedTable, R, G>(rt, alloc, requests, workers, gate),
+        Table::Baton => ring.submit::<BatonTable, R, G>(rt, alloc, requests, workers, gate),
+    }
+}
+
+/// Submits requests, which are accepted.
 pub(crate) fn submit_with<R: Threads + Wait + Abort + Sync, G: Gate>(
     rt: &R,
     alloc: Global,
     ring: &mut Ring,
     requests: &[Request],
-    workers: u32,
+    players: Players,
     gate: &G,
 ) -> Report {
-    match ring.submit::<BatonTable, R, G>(rt, alloc, requests, workers, gate) {
+    match try_submit(rt, alloc, ring, requests, players, gate) {
         Ok(report) => report,
-        Err(fault) => panic!(rt; "a report of {workers} workers, and not {fault:?}"),
+        Err(fault) => panic!(rt; "a report by {players:?}, and not {fault:?}"),
     }
 }
 
@@ -110,9 +151,9 @@ pub(crate) fn submit<R: Threads + Wait + Abort + Sync>(
     alloc: Global,
     ring: &mut Ring,
     requests: &[Request],
-    workers: u32,
+    players: Players,
 ) -> Report {
-    submit_with(rt, alloc, ring, requests, workers, &OpenGate)
+    submit_with(rt, alloc, ring, requests, players, &OpenGate)
 }
 
 /// The report is of this submission and has these completions, each a chain, a member, a result and the bytes.
@@ -195,6 +236,7 @@ pub(crate) fn expect_as_before<R: Threads + Wait + Abort + Sync>(
     rt: &R,
     alloc: Global,
     mut ring: Ring,
+    table: Table,
 ) {
     assert_eq!(rt; (ring.size(), ring.range()), (2, (1, 1)));
     assert_eq!(rt; (ring.submissions(), ring.registrations()), (0, 1));
@@ -202,7 +244,7 @@ pub(crate) fn expect_as_before<R: Threads + Wait + Abort + Sync>(
         panic!(rt; "a request")
     };
     let requests = [read(0, 0, 5), open];
-    let report = submit(rt, alloc, &mut ring, &requests, 2);
+    let report = submit(rt, alloc, &mut ring, &requests, (table, 2));
     expect_completed(rt, &report, 1, &[(1, 1, 5, "hello"), (2, 1, 1, "")]);
     expect_closed(rt, &report, &[]);
     assert_eq!(rt; (ring.submissions(), ring.registrations()), (1, 1));
