@@ -148,38 +148,20 @@ fn full_range_and_freed_slot(rt: HostRuntime) -> Result<(), Fail> {
     fill_and_free::<CountedTable, _>(&rt, rt.alloc())
 }
 
-// One pass fills the range by puts, one of which replaces a file, and an allocation finds what it took from there.
+// One pass fills the range by puts, one of which replaces a file, and an allocation finds the slot that it then empties.
 fn fill_by_puts<T: FileTable, R: Wait + Abort>(rt: &R, alloc: Global) -> Result<(), Fail> {
     let catalogue = two_names(alloc)?;
     let plain = empty_table(rt, alloc, 2);
     let (table, mut passes) = open_table::<T, _>(rt, alloc, plain, 1, 1);
     let mut pass = one_pass(rt, &table, &mut passes);
     draws(rt, &table, &mut pass, Some(1));
-    put_over(
-        rt,
-        &table,
-        &mut pass,
-        0,
-        new_file(rt, &catalogue, 0, 1, 0),
-        None,
-    );
-    put_over(
-        rt,
-        &table,
-        &mut pass,
-        1,
-        new_file(rt, &catalogue, 0, 1, 1),
-        None,
-    );
-    let second = (257, Mark::Registered { k: 1, i: 1 });
-    put_over(
-        rt,
-        &table,
-        &mut pass,
-        1,
-        new_file(rt, &catalogue, 0, 1, 2),
-        Some(second),
-    );
+    let first = new_file(rt, &catalogue, 0, 1, 0);
+    put_over(rt, &table, &mut pass, 0, first, None);
+    let second = new_file(rt, &catalogue, 0, 1, 1);
+    put_over(rt, &table, &mut pass, 1, second, None);
+    let third = new_file(rt, &catalogue, 0, 1, 2);
+    let second = Some((257, Mark::Registered { k: 1, i: 1 }));
+    put_over(rt, &table, &mut pass, 1, third, second);
     is_full(rt, &table, &mut pass, new_file(rt, &catalogue, 0, 1, 3));
     take_out(
         rt,
