@@ -19,12 +19,14 @@ def build():
 
 
 def played(command, script, refused):
-    """The status, the text and the message of a command where that growth is refused, and how many growths there were."""
+    """The status, the text and the message of a command where that growth is refused, and how many growths there were. It is
+    run beside the library, since a space or a colon in the library's path would end that for the loader."""
+    folder, library = os.path.split(LIBRARY)
     with tempfile.NamedTemporaryFile() as growths:
         growths.write(bytes(8))
         growths.flush()
-        variables = {**os.environ, "LD_PRELOAD": LIBRARY, "GROWTHS": growths.name, "REFUSED_GROWTH": str(refused)}
-        it = subprocess.run(command, input=script, capture_output=True, timeout=120, env=variables)
+        variables = {**os.environ, "LD_PRELOAD": f"./{library}", "GROWTHS": growths.name, "REFUSED_GROWTH": str(refused)}
+        it = subprocess.run(command, input=script, capture_output=True, timeout=120, env=variables, cwd=folder)
         growths.seek(0)
         count = int.from_bytes(growths.read(8), sys.byteorder)
     return (it.returncode, it.stdout.decode(errors="replace"), it.stderr.decode(errors="replace")), count
