@@ -91,6 +91,7 @@ fn command<'a>(alloc: Global) -> Result<Command<'a>, AllocError> {
     Command::new(alloc, "fixfiles")
         .about(ABOUT)
         .after_help(SCRIPTS)
+        .override_usage("fixfiles [OPTIONS] < SCRIPT")
         .arg(workers)?
         .arg(table)
 }
