@@ -36,12 +36,6 @@ pub prepared_or_not : {E : Type 0} (old new : Contents) (numbers : ℕ) (r : Res
 prepared_or_not old new numbers (Ok x) is = prepared_again old new numbers is
 prepared_or_not old new numbers (Err e) is = tt
 
-pub still_there : (old new : Contents) → IsSettled (state_of old) → new ≡ old → IsGivenBack old new
-still_there old new settled is = subst (IsGivenBack old) (sym is) record {
-  files = record { size = refl; range = refl; files = λ slot. refl };
-  settled = settled;
-}
-
 -- what is left of a table whose files were taken out
 pub all_taken : (st : State) (same now : State) → HasSameFiles st same → IsSettled same → now ≡ record same { at = λ _. None } → IsShellOf st now
 all_taken st same now files settled is = subst (IsShellOf st) (sym is) record {

@@ -1,5 +1,6 @@
 -- The files of the slots come out of their places, one after the other.
-use Rattle.std.proofs.Common.{◌≡◌, ◌≢◌, ℕ, zero, suc, ◌<◌, ◌≤◌, Bool, cond, nat_lt, List, [], ◌∷◌, length, set, sym, refl, ap, ◌∙◌, subst, arith, lt-ltb, le-ltb}
+use Rattle.std.proofs.Common.{◌≡◌, ◌≢◌, ℕ, zero, suc, ◌<◌, ◌≤◌, Bool, cond, nat_lt, List, []}
+use Rattle.std.proofs.Common.{◌∷◌, length, set, sym, refl, ap, ◌∙◌, subst, arith, lt-ltb, le-ltb}
 use Rattle.std.specs.Prelude.{Option, Some, None, slice_index}
 use mathlib.Core.Logic.{dite}
 use mathlib.Core.Option.{some}

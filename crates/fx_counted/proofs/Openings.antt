@@ -1,5 +1,6 @@
 -- A table that is opened keeps the rule.
-use Rattle.std.proofs.Common.{◌≡◌, ◌≢◌, ℕ, zero, suc, ◌+◌, ◌-◌, ◌*◌, ◌/◌, ◌%◌, ◌<◌, ◌≤◌, Bool, true, false, not, ◌&&◌, nat_lt, cond, List, [], ◌∷◌, map, length, sym, refl, ap, ◌∙◌, subst, arith, eqb, lt-ltb, le-ltb, ◌⊎◌, inl, inr, ⊎_elim, Option, Some, None, slice_index}
+use Rattle.std.proofs.Common.{◌≡◌, ◌≢◌, ℕ, zero, suc, ◌+◌, ◌*◌, ◌<◌, ◌≤◌, Bool, not, ◌&&◌, nat_lt, cond, List, [], ◌∷◌, map, length}
+use Rattle.std.proofs.Common.{sym, refl, ap, ◌∙◌, subst, arith, eqb, lt-ltb, le-ltb, ◌⊎◌, inl, inr, ⊎_elim, Option, Some, None, slice_index, eq-eqb, ne_eqb}
 use Rattle.std.specs.Prelude.{sum_by, count_by}
 use Rattle.std.proofs.lemmas.List.{length-map}
 use Rattle.std.proofs.lemmas.List.Sums.{sum_by-cons}
@@ -10,7 +11,8 @@ use lib.ListN.{get_elem?}
 use Rattle.atomic_table.specs.Table.{opening}
 use Rattle.atomic_table.proofs.Lists.{at_map}
 use Rattle.fx_base.specs.declared.open_file.Closed.{Closed}
-use Rattle.fx_plain.specs.State.{State}
+use Rattle.fx_plain.specs.Contents.{state_of}
+use Rattle.fx_plain.specs.State.{State, file_numbered}
 use Rattle.fx_plain.specs.Table.{numbered}
 use Rattle.fx_plain.specs.declared.event.File.{File}
 use Rattle.fx_table.specs.Numbers.{numbers_for}
@@ -58,10 +60,10 @@ abbrev counted : ℕ → ℕ → ℕ → ℕ
 counted q p n = sum_by (λ (y : Log). one_if (eqb y.number q)) (new_logs p n)
 
 one_here : (q p : ℕ) → p ≡ q → one_if (eqb p q) ≡ 1
-one_here q p e = rw (Rattle.std.proofs.Common.eq-eqb p q e) refl
+one_here q p e = rw (eq-eqb p q e) refl
 
 one_else : (q p : ℕ) → p ≢ q → one_if (eqb p q) ≡ 0
-one_else q p e = rw (Rattle.std.proofs.Common.ne_eqb p q e) refl
+one_else q p e = rw (ne_eqb p q e) refl
 
 new_out : (q p n : ℕ) → (q < p) ⊎ (p + n ≤ q) → counted q p n ≡ 0
 new_out q p zero out = refl
@@ -105,9 +107,9 @@ module _ (k : Start) (words : List ℕ) (homes : List (Option Closed)) (o : Open
 
   -- the file at a slot has the slot's number
   its_number : (slot : ℕ) (f : File) → first_file k slot ≡ Some f → f.number ≡ slot
-  its_number slot f is = go ((Rattle.fx_plain.specs.Contents.state_of (opening_of k).contents).at slot) is
+  its_number slot f is = go ((state_of (opening_of k).contents).at slot) is
     where
-      go : (found : Option File) → Rattle.fx_plain.specs.State.file_numbered found slot ≡ Some f → f.number ≡ slot
+      go : (found : Option File) → file_numbered found slot ≡ Some f → f.number ≡ slot
       go None e = absurd (cc e)
       go (Some g) e = let z : record g { number = slot } ≡ f = cc e in sym (ap (λ (h : File). h.number) z)
 

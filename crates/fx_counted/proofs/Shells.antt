@@ -1,5 +1,6 @@
 -- Files leave a table of one thread, and come back.
-use Rattle.std.proofs.Common.{◌≡◌, ◌≢◌, ℕ, zero, suc, ◌+◌, ◌<◌, ◌≤◌, Bool, true, false, cond, List, [], ◌∷◌, ◌++◌, length, sym, refl, ap, ◌∙◌, subst, arith, eq-eqb, ◌⊎◌, inl, inr, ⊎_elim}
+use Rattle.std.proofs.Common.{◌≡◌, ◌≢◌, ℕ, zero, suc, ◌+◌, ◌<◌, ◌≤◌, List, [], ◌∷◌, ◌++◌}
+use Rattle.std.proofs.Common.{length, sym, refl, ap, ◌∙◌, subst, arith, ◌⊎◌, inl, inr, ⊎_elim}
 use Rattle.std.specs.Prelude.{Option, Some, None}
 use Rattle.std.proofs.lemmas.List.{get_or_append_left}
 use mathlib.Core.Logic.{dite}
@@ -7,11 +8,8 @@ use native.Mathlib.Decide.{ℕ_discrete, dec_le}
 use Rattle.fx_base.specs.declared.open_file.Closed.{Closed}
 use Rattle.fx_plain.specs.State.{State, IsSettled}
 use Rattle.fx_plain.specs.Contents.{Contents, state_of, file_at, slot_at}
-use Rattle.fx_plain.specs.History.{Leads, ◌▷◌}
-use Rattle.fx_plain.specs.Step.{Steps, changed_at, after}
-use Rattle.fx_plain.specs.Table.{numbered, number_of, identity_of, closed_by_retirement, more_leaving}
-use Rattle.fx_plain.specs.declared.event.File.{File}
-use Rattle.fx_plain.specs.declared.event.Action.TheVariants.{Put, Take, Close}
+use Rattle.fx_plain.specs.Step.{changed_at}
+use Rattle.fx_plain.specs.Table.{numbered, identity_of}
 use Rattle.fx_counted.specs.Shells.{IsShell, AreBack, file_in_place}
 use Rattle.fx_counted.proofs.Histories.{change_here, change_else}
 

@@ -50,12 +50,11 @@ impl CountedTable {
         ensures new { IfOk result (λ (_, list). map view_of list.items ≡ new_passes passes) }
         ensures refused { IfErr result (λ (back, _). IsGivenBack plain back) }
     {
-        let Ok(list) = Vec::with_capacity(alloc, passes as usize) else {
+        let Ok(mut list) = Vec::with_capacity(alloc, passes as usize) else {
             return Err((plain, NoMemory));
         };
         match CountedTable::start(alloc, plain, chains, passes) {
             Ok((table, seat)) => {
-                let mut list = behind_the_table(alloc, list, passes);
                 table.deal(seat, &mut list);
                 Ok((table, list))
             }
@@ -129,20 +128,6 @@ impl CountedTable {
         }
         list.push_reserved(CountedPass::new(seat));
     }
-}
-
-// The list again, where there is memory for it, which lies behind the table's. The C library gives free memory at the end of
-// its own back to the system, and a small block behind it keeps it from that: a large table is opened and closed
-// several times as fast where its memory needn't be taken from the system anew.
-fn behind_the_table(alloc: Global, list: Vec<CountedPass>, passes: u32) -> Vec<CountedPass>
-    requires list { (list.items ≡ []) × (passes ≤ vec_capacity list) }
-    ensures list { (result.items ≡ []) × (passes ≤ vec_capacity result) }
-{
-    let Ok(behind) = Vec::with_capacity(alloc, passes as usize) else {
-        return list;
-    };
-    list.destroy_empty();
-    behind
 }
 
 // How many slots of the allocation range have a file.

@@ -2,6 +2,7 @@
 ghost use Rattle.std.specs.Prelude.{◌≡◌, ◌≤◌, None, length, ℕ, OnOk, OnErr};
 ghost use Rattle.fx_plain.specs.State.{IsSettled};
 ghost use Rattle.fx_plain.specs.Contents.{state_of, IsPrepared};
+ghost use Rattle.fx_plain.specs.declared.table.TheConstants.{MOST_SLOTS};
 ghost use Rattle.fx_table.specs.Opening.{IsGivenBack};
 ghost use Rattle.fx_counted.specs.Shells.{IsShell, AreBack, file_in_place};
 
@@ -26,7 +27,7 @@ pub(crate) fn make_room(plain: &mut PlainTable) -> Result<(), NoMemory>
 pub(crate) fn put_all(plain: &mut PlainTable, mut places: Vec<Option<OpenFile>>)
     requires shell { IsShell (state_of plain.old) }
     requires prepared { IsPrepared plain.old }
-    requires few { (state_of plain.old).size ≤ 256 }
+    requires few { (state_of plain.old).size ≤ MOST_SLOTS }
     requires count { (state_of plain.old).size ≤ length places.items }
     requires others { (place : ℕ) → (state_of plain.old).size ≤ place
         → file_in_place places.items place ≡ None }

@@ -1,12 +1,13 @@
 -- The files of the slots are taken out, one slot after another, and a file comes back to the number of its slot.
-use Rattle.std.proofs.Common.{◌≡◌, ◌≢◌, ℕ, ◌+◌, ◌<◌, ◌≤◌, ◌^◌, Bool, true, false, List, ◌∷◌, [], ◌++◌, length, add-one, refl, sym, ap, subst, ◌∙◌, arith}
+use Rattle.std.proofs.Common.{◌≡◌, ◌≢◌, ℕ, ◌+◌, ◌<◌, ◌≤◌, ◌^◌, true, false, List, ◌∷◌, [], ◌++◌, length, add-one, refl, sym, ap, ◌∙◌, arith}
 use Rattle.std.proofs.Common.{slice_set, if◌then◌else◌, Option, Some, None}
 use Rattle.std.proofs.lemmas.List.{get_or-set_same, get_or-set_other, length-set}
 use Rattle.fx_base.specs.declared.open_file.Closed.{Closed}
 use Rattle.fx_plain.specs.declared.event.File.{File}
 use Rattle.fx_plain.specs.State.{IsSettled}
 use Rattle.fx_plain.specs.Step.{changed_at}
-use Rattle.fx_plain.specs.Contents.{Contents, IsTable, IsCounted, AllPlaced, SameButPlaced, state_of, slot_at, node_at, file_at, placed_at, removed_at}
+use Rattle.fx_plain.specs.Contents.{Contents, IsTable, IsCounted, AllPlaced, SameButPlaced}
+use Rattle.fx_plain.specs.Contents.{state_of, slot_at, node_at, file_at, placed_at, removed_at}
 use Rattle.fx_plain.specs.Contents.{is_fresh, is_retired, file_named, file_in, file_count_of, removed_count_of, At, Gone}
 use Rattle.fx_plain.specs.Table.{identity_of, numbered, slots_in_order}
 use Rattle.fx_plain.specs.Totals.{total}
@@ -105,7 +106,8 @@ module _ (c : Contents) (slot : ℕ) (file : Closed) (t : IsTable c) (settled : 
 
   removed_is : (n : ℕ) → (state_of with_file).removed n ≡ (state_of c).removed n
   removed_is n = by_equality n slot (λ _. (state_of with_file).removed n ≡ (state_of c).removed n)
-      (λ same. ap (state_of with_file).removed same ∙ (ap (removed_at slot) node_here ∙ (sym (settled.closed slot) ∙ ap (state_of c).removed (sym same))))
+      (λ same. ap (state_of with_file).removed same ∙ (ap (removed_at slot) node_here
+      ∙ (sym (settled.closed slot) ∙ ap (state_of c).removed (sym same))))
       (λ ne. ap (removed_at n) (node_else n ne))
 
   fresh_is : (n : ℕ) → (state_of with_file).fresh n ≡ (state_of c).fresh n

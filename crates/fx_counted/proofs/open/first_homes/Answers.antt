@@ -1,4 +1,4 @@
-use Rattle.std.proofs.Common.{◌≡◌, ◌*◌, ℕ, List, ap, ◌∙◌, arith, length, length-append, ◌∷◌, ◌++◌, []}
+use Rattle.std.proofs.Common.{ap, arith, length, length-append, ◌∷◌, []}
 use Rattle.std.specs.Prelude.{Option, None}
 use Rattle.fx_base.specs.declared.open_file.Closed.{Closed}
 use Rattle.fx_plain.specs.Contents.{state_of}

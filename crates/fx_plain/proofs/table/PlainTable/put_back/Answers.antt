@@ -1,4 +1,4 @@
-use Rattle.std.proofs.Common.{rules, ◌≡◌, ◌+◌, ◌<◌, ◌≤◌, ℕ, List, Some, length, sym, ap, subst, ◌∙◌, arith}
+use Rattle.std.proofs.Common.{rules, ◌+◌, ◌<◌, Some, length, sym, ap, subst, ◌∙◌, arith}
 use Rattle.fx_plain.specs.State.{IsSettled}
 use Rattle.fx_plain.specs.Step.{changed_at}
 use Rattle.fx_plain.specs.Contents.{Contents, IsTable, IsCounted, IsPrepared, state_of}
@@ -39,7 +39,8 @@ returns-clause-state c =
     let empty = unnamed v c.args.slot c.self.invariant.0 (ap (λ (k : Contents). (state_of k).at c.args.slot) c.self.view_is ∙ c.requires.empty) in
     ap state_of (as_with_file v c.args.slot c.args.file c.self.invariant.0 settled inside room empty c.set_node.new.self c.set_node.ensures)
     ∙ (state_of-with_file v c.args.slot c.args.file c.self.invariant.0 settled inside room empty
-    ∙ ap (λ (k : Contents). record (state_of k) { at = changed_at (state_of k).at c.args.slot (Some (numbered c.args.slot c.args.file)) }) c.self.view_is)
+    ∙ ap
+    (λ (k : Contents). record (state_of k) { at = changed_at (state_of k).at c.args.slot (Some (numbered c.args.slot c.args.file)) }) c.self.view_is)
 
 pub returns-clause-sound : goal.returns-clause-sound
 returns-clause-sound c = (invariant_of-self c).0
