@@ -1,4 +1,4 @@
-//! How the files of a table go elsewhere, and come back.
+//! How the files of a table go elsewhere, and come back (this project's own).
 ghost use Rattle.std.specs.Prelude.{◌≡◌, ◌+◌, ◌<◌, ◌≤◌, ◌↔◌, ◌++◌, ℕ, length, IsTrue, IfSome, IsSome, Some, None, vec_len, vec_capacity};
 ghost use Rattle.fx_plain.specs.State.{IsSettled};
 ghost use Rattle.fx_plain.specs.Step.{changed_at};
@@ -22,7 +22,7 @@ impl PlainTable {
 
     /// Takes the files of a settled table ([`PlainTable::is_settled`]) out, slot by slot: each slot's file, or `None`, goes
     /// to the end of the list. The caller has made room there for as many as there are slots, so it can't fail for want of
-    /// memory. Every slot is empty from now on. Size, range and numbers stay (this project's own).
+    /// memory. Every slot is empty from now on. Size, range and numbers stay.
     pub fn take_files(&mut self, files: &mut Vec<Option<OpenFile>>)
         requires settled { IsSettled (state_of self.old) }
         requires room { vec_len files.old + (state_of self.old).size ≤ vec_capacity files.old }
@@ -40,7 +40,7 @@ impl PlainTable {
 
     /// Puts a file at an empty slot of a settled table ([`PlainTable::is_settled`]), under the slot's own number, as a
     /// preparation does. The table has room for it ([`PlainTable::is_prepared`]), so it can't fail for want of memory. It is
-    /// the way back for a file that [`PlainTable::take_files`] took (this project's own).
+    /// the way back for a file that [`PlainTable::take_files`] took.
     pub fn put_back(&mut self, slot: u32, file: OpenFile)
         requires slot { slot < (state_of self.old).size }
         requires empty { (state_of self.old).at slot ≡ None }
