@@ -11,17 +11,19 @@ use Rattle.fx_chain.specs.Faults.{fault_after, fault_behind, first_fault, has_ba
 use Rattle.fx_chain.specs.declared.fault.CutKind.{CutKind}
 use Rattle.fx_chain.specs.declared.fault.CutKind.TheVariants.{BadFlags, LongRead, LongUpdate, ChainTooLong, TooManyFiles, TooManyChains}
 use Rattle.fx_chain.proofs.Runs.{runs-push, open_run-push, open_run-over}
+use Rattle.fx_chain.specs.declared.fault.TheConstants.{MOST_MEMBERS}
+use Rattle.fx_table.specs.declared.limits.TheConstants.{MAX_CHAINS, CHAIN_NUMBERS}
 
 -- the numbers of chains, of members and of installs behind some requests without a fault
 pub record IsCounted (front : List Asked) (chains members installs : ℕ) : Type 0 where
   pub chains_is : chains ≡ length (runs_of front)
   pub members_is : members ≡ length (open_run front)
   pub installs_is : installs ≡ all_installs (open_run front)
-  pub few : chains ≤ 1023
-  pub short : members ≤ 16
-  pub room : installs ≤ 64
-  pub place : length front ≤ 16 * chains
-  pub inside : 0 < members → length front + 16 ≤ 16 * chains + members
+  pub few : chains ≤ MAX_CHAINS
+  pub short : members ≤ MOST_MEMBERS
+  pub room : installs ≤ CHAIN_NUMBERS
+  pub place : length front ≤ MOST_MEMBERS * chains
+  pub inside : 0 < members → length front + MOST_MEMBERS ≤ MOST_MEMBERS * chains + members
 
 pub fault_behind-counted : (front : List Asked) (chains members installs : ℕ) (r : Asked) → IsCounted front chains members installs
     → fault_behind front r ≡ fault_after chains members installs r
@@ -35,9 +37,9 @@ pub record IsFine (chains members installs : ℕ) (r : Asked) : Type 0 where
   pub flags : has_bad_flags r.operation r.fixed ≡ false
   pub read : is_long_read r.operation ≡ false
   pub update : is_long_update r.operation ≡ false
-  pub not_full : members ≢ 16
-  pub room : installs + installs_of r.operation ≤ 64
-  pub not_last : members ≡ 0 → chains ≢ 1023
+  pub not_full : members ≢ MOST_MEMBERS
+  pub room : installs + installs_of r.operation ≤ CHAIN_NUMBERS
+  pub not_last : members ≡ 0 → chains ≢ MAX_CHAINS
 
 passed : {X : Type 0} (b : Bool) (x : X) (rest : Option X) → (if b then Some x else rest) ≡ None → (b ≡ false) × (rest ≡ None)
 passed true x rest none = cc
@@ -48,20 +50,20 @@ fine chains members installs r none =
     let a = passed (has_bad_flags r.operation r.fixed) BadFlags _ none in
     let b = passed (is_long_read r.operation) LongRead _ a.1 in
     let c = passed (is_long_update r.operation) LongUpdate _ b.1 in
-    let d = passed (members == 16) ChainTooLong _ c.1 in
-    let e = passed (nat_lt 64 (installs + installs_of r.operation)) TooManyFiles _ d.1 in
-    let f = passed (members == 0 && chains == 1023) TooManyChains _ e.1 in
+    let d = passed (members == MOST_MEMBERS) ChainTooLong _ c.1 in
+    let e = passed (nat_lt CHAIN_NUMBERS (installs + installs_of r.operation)) TooManyFiles _ d.1 in
+    let f = passed (members == 0 && chains == MAX_CHAINS) TooManyChains _ e.1 in
     record {
       flags = a.0;
       read = b.0;
       update = c.0;
-      not_full = eqb-false members 16 d.0;
-      room = ltb-false 64 (installs + installs_of r.operation) e.0;
+      not_full = eqb-false members MOST_MEMBERS d.0;
+      room = ltb-false CHAIN_NUMBERS (installs + installs_of r.operation) e.0;
       not_last = λ zero_is. elim
-          (and_cases (members == 0) (chains == 1023) f.0) [
+          (and_cases (members == 0) (chains == MAX_CHAINS) f.0) [
             | inl differs ↦ absurd
                 (eqb-false members 0 differs zero_is)
-            | inr differs ↦ eqb-false chains 1023 differs
+            | inr differs ↦ eqb-false chains MAX_CHAINS differs
           ];
     }
 
@@ -76,13 +78,13 @@ or_none links n = if links then n else 0
 
 -- the bounds on the numbers after one more request
 record IsBounded (at chains members : ℕ) : Type 0 where
-  pub few : chains ≤ 1023
-  pub short : members ≤ 16
-  pub place : at ≤ 16 * chains
-  pub inside : 0 < members → at + 16 ≤ 16 * chains + members
+  pub few : chains ≤ MAX_CHAINS
+  pub short : members ≤ MOST_MEMBERS
+  pub place : at ≤ MOST_MEMBERS * chains
+  pub inside : 0 < members → at + MOST_MEMBERS ≤ MOST_MEMBERS * chains + members
 
-bounded_step : (at chains members : ℕ) (links : Bool) → at ≤ 16 * chains → (0 < members → at + 16 ≤ 16 * chains + members) → chains ≤ 1023
-    → members ≤ 16 → members ≢ 16 → (members ≡ 0 → chains ≢ 1023)
+bounded_step : (at chains members : ℕ) (links : Bool) → at ≤ MOST_MEMBERS * chains → (0 < members → at + MOST_MEMBERS ≤ MOST_MEMBERS * chains + members) → chains ≤ MAX_CHAINS
+    → members ≤ MOST_MEMBERS → members ≢ MOST_MEMBERS → (members ≡ 0 → chains ≢ MAX_CHAINS)
     → IsBounded (at + 1) (chains_after chains members) (or_none links (members + 1))
 bounded_step at chains members links place inside few short full last = elim (cases_eq members 0) [
   | inl none ↦ let n = last none in
@@ -125,9 +127,9 @@ counted_step front chains members installs r is none =
           ∙ ap (λ (m : ℕ). m + installs_of r.operation) (sym is.installs_is)) refl;
       few = bounds.few;
       short = bounds.short;
-      room = elim r.links as (λ b. or_none b (installs + installs_of r.operation) ≤ 64) [ true ↦ f.room | false ↦ omega arith ];
-      place = subst (λ (n : ℕ). n ≤ 16 * chains_after chains members) (sym grown) bounds.place;
-      inside = λ some. subst (λ (n : ℕ). n + 16 ≤ 16 * chains_after chains members + or_none r.links (members + 1)) (sym grown) (bounds.inside some);
+      room = elim r.links as (λ b. or_none b (installs + installs_of r.operation) ≤ CHAIN_NUMBERS) [ true ↦ f.room | false ↦ omega arith ];
+      place = subst (λ (n : ℕ). n ≤ MOST_MEMBERS * chains_after chains members) (sym grown) bounds.place;
+      inside = λ some. subst (λ (n : ℕ). n + MOST_MEMBERS ≤ MOST_MEMBERS * chains_after chains members + or_none r.links (members + 1)) (sym grown) (bounds.inside some);
     }
 
 pub counted_none : IsCounted [] 0 0 0

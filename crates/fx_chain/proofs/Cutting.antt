@@ -1,6 +1,6 @@
 -- What `cut` keeps of the requests that it has seen.
 use Rattle.std.proofs.Common.{◌≡◌, inl, inr, ℕ, ◌+◌, ◌-◌, ◌<◌, ◌≤◌, ◌⊎◌, true, false, List, [], ◌∷◌, ◌++◌, length, take, drop, slice_index_or, refl}
-use Rattle.std.proofs.Common.{sym, ap, ◌∙◌, subst, arith}
+use Rattle.std.proofs.Common.{◌*◌, sym, ap, ◌∙◌, subst, arith}
 use Rattle.std.proofs.lemmas.List.{append-nil, append_assoc, map-append, take-append-drop, drop-drop, get_or-drop, length-drop, length-map}
 use Rattle.std.proofs.lemmas.List.{length-take-le}
 use Rattle.std.proofs.lemmas.List.Elements.{All-nil, All-push}
@@ -14,6 +14,8 @@ use Rattle.fx_chain.proofs.Accepted.{accepted-length}
 use Rattle.fx_chain.proofs.Asking.{asked_more, asked_none}
 use Rattle.fx_chain.proofs.Runs.{AllLink, IsLinked, Links, HasMembers, first_run, one_run}
 use Rattle.fx_chain.proofs.Splits.{but_last-push, is_over-push}
+use Rattle.fx_chain.specs.declared.fault.TheConstants.{MOST_MEMBERS}
+use Rattle.fx_table.specs.declared.limits.TheConstants.{MAX_CHAINS}
 
 -- the requests from one place up to another
 abbrev pub between : List Request → ℕ → ℕ → List Asked
@@ -24,7 +26,7 @@ from_place requests first = all_asked (drop first requests)
 
 -- the chains that were made are those of the runs that are over, and the run from `first` on goes on at `i`
 pub record IsCut (requests : List Request) (made : List Chain) (first i : ℕ) : Type 0 where
-  pub short : length requests ≤ 16368
+  pub short : length requests ≤ MOST_MEMBERS * MAX_CHAINS
   pub begun : first ≤ i
   pub none_open : length requests ≤ i → first ≡ i
   pub linked : AllLink (between requests first i)

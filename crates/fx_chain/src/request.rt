@@ -1,5 +1,4 @@
 ghost use Rattle.std.specs.Prelude.{◌≡◌, length, filter, pos, int_le};
-ghost use Rattle.fx_chain.specs.Accepted.{IsWithinLimits};
 ghost use Rattle.fx_chain.specs.Completed.{completed_of};
 ghost use Rattle.fx_chain.specs.Explains.{severs};
 ghost use Rattle.fx_chain.specs.Faults.{has_bad_flags, is_long_read, is_long_update};
@@ -100,10 +99,8 @@ impl Request {
     }
 
     /// Whether the request's chain is severed by its completion: it failed, or is a read that gave fewer bytes than
-    /// asked (io_uring_enter(2), "IOSQE_IO_LINK"). The caller has seen that no limit of its own refuses the request
-    /// ([`crate::check`]).
+    /// asked (io_uring_enter(2), "IOSQE_IO_LINK").
     pub fn severs(&self, completion: &Completion) -> bool
-        requires { IsWithinLimits (asked_of self.now) }
         ensures { result ≡ severs (asked_of self.now) (completed_of completion.now) }
     {
         if completion.res < 0 {
@@ -114,7 +111,7 @@ impl Request {
                 slot: _,
                 off: _,
                 len,
-            } => completion.res < len as i32,
+            } => (completion.res as i64) < len as i64,
             _ => false,
         }
     }

@@ -13,6 +13,7 @@ use Rattle.fx_chain.proofs.Cutting.{IsCut, cut_none, cut_ends, cut_goes_on, cut_
 use Rattle.fx_chain.proofs.chain.cut.Goals as goal
 use Rattle.fx_chain.proofs.chain.cut.Goals.{then-not-links+in_ok-push, then-not-links-via-then-not-links}
 use Rattle.fx_chain.proofs.chain.cut.Goals.{then-not-links-via-else-not-links+then-i-requests, else-not-links+else-i-requests}
+use Rattle.fx_table.specs.declared.limits.TheConstants.{MAX_CHAINS}
 
 pub loop-i-init : goal.loop-i-init
 loop-i-init c = subst (λ (made : List Chain). IsCut c.args.requests.now made 0 0) (sym c.new-chains.ensures.items)
@@ -74,6 +75,6 @@ returns-clause-few c =
     cut_all c.args.requests.now c.loop-i.chains.items c.loop-i.first c.loop-i.i c.loop-i.invariant (omega arith) in
     let same : length c.loop-i.chains.items ≡ length (runs_of asked) = sym (length-map c.loop-i.chains.items (members_of asked))
     ∙ ap (λ xs. length (map (members_of asked) xs)) made ∙ ap length (members-are-runs asked) in
-    let few : length (runs_of asked) ≤ 1023 = accepted-runs asked c.requires in
+    let few : length (runs_of asked) ≤ MAX_CHAINS = accepted-runs asked c.requires in
     let len = c.loop-i.chains.ok.0 in
     omega arith
