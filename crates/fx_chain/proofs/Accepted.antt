@@ -7,7 +7,7 @@ use Rattle.std.proofs.lemmas.List.Sums.{sum_by-cons}
 use Rattle.std.proofs.lemmas.List.{append-nil, append_assoc}
 use Rattle.std.proofs.lemmas.List.Elements.{All-nil, All-cons, All-head, All-tail}
 use Rattle.fx_chain.specs.Accepted.{IsAccepted, IsWithinLimits}
-use Rattle.fx_chain.specs.Operation.{Operation, Opens, Reads, Closes, Updates, Asked}
+use Rattle.fx_chain.specs.Operation.{Operation, Opens, Reads, Closes, Updates, Asked, is_link}
 use Rattle.fx_chain.specs.Runs.{runs_of}
 use Rattle.fx_chain.specs.Weights.{installs_of, weight_of, all_weights}
 use Rattle.fx_chain.specs.Faults.{fault_behind, first_fault, or_later, is_long_update}
@@ -44,8 +44,8 @@ passes front r counts none = record {
 counts_more : (front : List Asked) (r : Asked) → Counts front → fault_behind front r ≡ None → Counts (front ++ r ∷ [])
 counts_more front r counts none = record {
   chains = chains_after counts.chains counts.members;
-  members = or_none r.links (counts.members + 1);
-  installs = or_none r.links (counts.installs + installs_of r.operation);
+  members = or_none (is_link r.flags) (counts.members + 1);
+  installs = or_none (is_link r.flags) (counts.installs + installs_of r.operation);
   is = counted_step front counts.chains counts.members counts.installs r counts.is
       (sym (fault_behind-counted front counts.chains counts.members counts.installs r counts.is) ∙ none);
 }

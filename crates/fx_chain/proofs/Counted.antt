@@ -4,7 +4,7 @@ use Rattle.std.proofs.Common.{length, refl, sym, ap, ◌∙◌, subst, arith, Op
 use Rattle.std.proofs.lemmas.Bool.{cases_Bool, eqb-false, ltb-false, and_cases, eq-eqb, ne_eqb, cases_eq}
 use Rattle.std.proofs.lemmas.List.{length-append}
 use Rattle.std.proofs.lemmas.List.Sums.{sum_by-append}
-use Rattle.fx_chain.specs.Operation.{Asked}
+use Rattle.fx_chain.specs.Operation.{Asked, is_fixed, is_link}
 use Rattle.fx_chain.specs.Runs.{runs_of, open_run}
 use Rattle.fx_chain.specs.Weights.{installs_of, all_installs}
 use Rattle.fx_chain.specs.Faults.{fault_after, fault_behind, first_fault, has_bad_flags, is_long_read, is_long_update, or_later}
@@ -34,7 +34,7 @@ fault_behind-counted front chains members installs r is =
 
 -- what a request without a fault keeps to
 pub record IsFine (chains members installs : ℕ) (r : Asked) : Type 0 where
-  pub flags : has_bad_flags r.operation r.fixed ≡ false
+  pub flags : has_bad_flags r.operation (is_fixed r.flags) ≡ false
   pub read : is_long_read r.operation ≡ false
   pub update : is_long_update r.operation ≡ false
   pub not_full : members ≢ MOST_MEMBERS
@@ -47,7 +47,7 @@ passed false x rest none = (refl, none)
 
 pub fine : (chains members installs : ℕ) (r : Asked) → fault_after chains members installs r ≡ None → IsFine chains members installs r
 fine chains members installs r none =
-    let a = passed (has_bad_flags r.operation r.fixed) BadFlags _ none in
+    let a = passed (has_bad_flags r.operation (is_fixed r.flags)) BadFlags _ none in
     let b = passed (is_long_read r.operation) LongRead _ a.1 in
     let c = passed (is_long_update r.operation) LongUpdate _ b.1 in
     let d = passed (members == MOST_MEMBERS) ChainTooLong _ c.1 in
@@ -105,18 +105,18 @@ bounded_step at chains members links place inside few short full last = elim (ca
 
 -- the open run behind one more request
 open_run-after : {Y : Type 0} (F : List Asked → Y) (front : List Asked) (r : Asked) (n : Y) (none : Y) → F (open_run front ++ r ∷ []) ≡ n
-    → F [] ≡ none → (if r.links then n else none) ≡ F (open_run (front ++ r ∷ []))
-open_run-after F front r n none more nil = elim (cases_Bool r.links) [
+    → F [] ≡ none → (if (is_link r.flags) then n else none) ≡ F (open_run (front ++ r ∷ []))
+open_run-after F front r n none more nil = elim (cases_Bool (is_link r.flags)) [
   | inl links ↦ ap (λ (b : Bool). if b then n else none) links ∙ sym more ∙ ap F (sym (open_run-push front r links))
   | inr ends ↦ ap (λ (b : Bool). if b then n else none) ends ∙ sym nil ∙ ap F (sym (open_run-over front r ends))
 ]
 
 pub counted_step : (front : List Asked) (chains members installs : ℕ) (r : Asked) → IsCounted front chains members installs
     → fault_after chains members installs r ≡ None
-    → IsCounted (front ++ r ∷ []) (chains_after chains members) (or_none r.links (members + 1)) (or_none r.links (installs + installs_of r.operation))
+    → IsCounted (front ++ r ∷ []) (chains_after chains members) (or_none (is_link r.flags) (members + 1)) (or_none (is_link r.flags) (installs + installs_of r.operation))
 counted_step front chains members installs r is none =
     let f = fine chains members installs r none in
-    let bounds = bounded_step (length front) chains members r.links is.place is.inside is.few is.short f.not_full f.not_last in
+    let bounds = bounded_step (length front) chains members (is_link r.flags) is.place is.inside is.few is.short f.not_full f.not_last in
     let grown : length (front ++ r ∷ []) ≡ length front + 1 = length-append front (r ∷ []) in
     record {
       chains_is = ap (λ (c : ℕ). if members == 0 then c + 1 else c) is.chains_is
@@ -127,9 +127,9 @@ counted_step front chains members installs r is none =
           ∙ ap (λ (m : ℕ). m + installs_of r.operation) (sym is.installs_is)) refl;
       few = bounds.few;
       short = bounds.short;
-      room = elim r.links as (λ b. or_none b (installs + installs_of r.operation) ≤ CHAIN_NUMBERS) [ true ↦ f.room | false ↦ omega arith ];
+      room = elim (is_link r.flags) as (λ b. or_none b (installs + installs_of r.operation) ≤ CHAIN_NUMBERS) [ true ↦ f.room | false ↦ omega arith ];
       place = subst (λ (n : ℕ). n ≤ MOST_MEMBERS * chains_after chains members) (sym grown) bounds.place;
-      inside = λ some. subst (λ (n : ℕ). n + MOST_MEMBERS ≤ MOST_MEMBERS * chains_after chains members + or_none r.links (members + 1)) (sym grown) (bounds.inside some);
+      inside = λ some. subst (λ (n : ℕ). n + MOST_MEMBERS ≤ MOST_MEMBERS * chains_after chains members + or_none (is_link r.flags) (members + 1)) (sym grown) (bounds.inside some);
     }
 
 pub counted_none : IsCounted [] 0 0 0
@@ -157,11 +157,11 @@ first_fault-found front r behind kind found = ap (λ k. or_later (length front +
 -- the same, of numbers that are counted one by one
 pub counted_next : (front next : List Asked) (chains members installs c m n : ℕ) (r : Asked) → IsCounted front chains members installs
     → fault_after chains members installs r ≡ None
-    → next ≡ front ++ r ∷ [] → c ≡ chains_after chains members → m ≡ or_none r.links (members + 1)
-    → n ≡ or_none r.links (installs + installs_of r.operation) → IsCounted next c m n
+    → next ≡ front ++ r ∷ [] → c ≡ chains_after chains members → m ≡ or_none (is_link r.flags) (members + 1)
+    → n ≡ or_none (is_link r.flags) (installs + installs_of r.operation) → IsCounted next c m n
 counted_next front next chains members installs c m n r is none next_is c_is m_is n_is =
     subst (λ (xs : List Asked). IsCounted xs c m n) (sym next_is)
     (subst (λ (k : ℕ). IsCounted (front ++ r ∷ []) k m n) (sym c_is)
     (subst (λ (k : ℕ). IsCounted (front ++ r ∷ []) (chains_after chains members) k n) (sym m_is)
-    (subst (λ (k : ℕ). IsCounted (front ++ r ∷ []) (chains_after chains members) (or_none r.links (members + 1)) k) (sym n_is)
+    (subst (λ (k : ℕ). IsCounted (front ++ r ∷ []) (chains_after chains members) (or_none (is_link r.flags) (members + 1)) k) (sym n_is)
     (counted_step front chains members installs r is none))))

@@ -6,7 +6,7 @@ use Rattle.std.proofs.lemmas.List.{length-take-le}
 use Rattle.std.proofs.lemmas.List.Elements.{All-nil, All-push}
 use Rattle.fx_chain.specs.Accepted.{IsAccepted}
 use Rattle.fx_chain.specs.Chains.{chains_from, chains_of}
-use Rattle.fx_chain.specs.Operation.{Asked, asked_of, all_asked}
+use Rattle.fx_chain.specs.Operation.{Asked, asked_of, all_asked, is_link}
 use Rattle.fx_chain.specs.Runs.{is_over, runs_of}
 use Rattle.fx_chain.specs.declared.chain.Chain.{Chain}
 use Rattle.fx_chain.specs.declared.request.Request.{Request}
@@ -71,7 +71,7 @@ module _ (requests : List Request) (first i : ℕ) (x : Request) (begun : first 
   between_linked linked = subst IsLinked (sym between_more) (subst AllLink (sym (but_last-push (between requests first i) (asked_of x))) linked)
 
   -- the run up to this request is the first run
-  next_run : AllLink (between requests first i) → ((asked_of x).links ≡ false) ⊎ (length requests ≤ i + 1)
+  next_run : AllLink (between requests first i) → (is_link x.flags ≡ false) ⊎ (length requests ≤ i + 1)
       → runs_of (from_place requests first) ≡ between requests first (i + 1) ∷ runs_of (from_place requests (i + 1))
   next_run linked last = ap runs_of from_parts ∙ elim last [
     | inl ends ↦ first_run (between requests first (i + 1)) (from_place requests (i + 1)) (between_linked linked)
@@ -86,7 +86,7 @@ module _ (requests : List Request) (first i : ℕ) (x : Request) (begun : first 
   ]
 
   -- the run ends with this request
-  pub cut_ends : (made : List Chain) → IsCut requests made first i → ((asked_of x).links ≡ false) ⊎ (length requests ≤ i + 1)
+  pub cut_ends : (made : List Chain) → IsCut requests made first i → (is_link x.flags ≡ false) ⊎ (length requests ≤ i + 1)
       → IsCut requests (made ++ record { first = first; len = i + 1 - first } ∷ []) (i + 1) (i + 1)
   cut_ends made so last =
       let at : first + (i + 1 - first) ≡ i + 1 = omega arith in
@@ -105,7 +105,7 @@ module _ (requests : List Request) (first i : ℕ) (x : Request) (begun : first 
       }
 
   -- the run goes on behind this request
-  pub cut_goes_on : (made : List Chain) → IsCut requests made first i → (asked_of x).links ≡ true → i + 1 < length requests
+  pub cut_goes_on : (made : List Chain) → IsCut requests made first i → is_link x.flags ≡ true → i + 1 < length requests
       → IsCut requests made first (i + 1)
   cut_goes_on made so links more = record {
     short = so.short;

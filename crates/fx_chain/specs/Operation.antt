@@ -1,5 +1,5 @@
 -- A request, without where it lies in memory.
-use Rattle.std.specs.Prelude.{ℕ, ℤ, Bool, ◌==◌, List, map, string_bytes}
+use Rattle.std.specs.Prelude.{ℕ, ℤ, Bool, ◌==◌, ◌||◌, List, map, string_bytes}
 use Rattle.std.specs.Int.RustNames.{bit_and}
 use Rattle.fx_chain.specs.declared.flags.SqeFlags.{SqeFlags}
 use Rattle.fx_chain.specs.declared.request.Op.{Op}
@@ -27,18 +27,21 @@ operation_of (Update off list) = Updates off list.items
 abbrev pub is_fixed : SqeFlags → Bool
 is_fixed flags = bit_and flags.0 1 == 1
 
+-- the next request waits for this one, and starts whatever this one comes to
+abbrev pub is_hard_link : SqeFlags → Bool
+is_hard_link flags = bit_and flags.0 8 == 8
+
 -- the next request waits for this one
 abbrev pub is_link : SqeFlags → Bool
-is_link flags = bit_and flags.0 4 == 4
+is_link flags = bit_and flags.0 4 == 4 || is_hard_link flags
 
 -- what is asked
 pub record Asked : Type 0 where
   pub operation : Operation
-  pub fixed : Bool
-  pub links : Bool
+  pub flags : SqeFlags
 
 abbrev pub asked_of : Request → Asked
-asked_of request = record { operation = operation_of request.op; fixed = is_fixed request.flags; links = is_link request.flags }
+asked_of request = record { operation = operation_of request.op; flags = request.flags }
 
 abbrev pub all_asked : List Request → List Asked
 all_asked requests = map asked_of requests

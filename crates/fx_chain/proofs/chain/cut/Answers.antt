@@ -4,7 +4,7 @@ use Rattle.std.proofs.lemmas.List.{length-map}
 use Rattle.std.proofs.lemmas.List.Elements.{All-weaker}
 use Rattle.fx_chain.specs.Accepted.{IsChain, members_of}
 use Rattle.fx_chain.specs.Chains.{chains_of}
-use Rattle.fx_chain.specs.Operation.{asked_of, all_asked}
+use Rattle.fx_chain.specs.Operation.{asked_of, all_asked, is_link}
 use Rattle.fx_chain.specs.Runs.{runs_of}
 use Rattle.fx_chain.specs.declared.chain.Chain.{Chain}
 use Rattle.fx_chain.proofs.Accepted.{accepted-runs}
@@ -28,7 +28,7 @@ loop-i-preserved c =
     let so : IsCut requests c.loop-i.chains.items c.loop-i.first i = c.loop-i.invariant in
     elim c.if-not-links.branch [
       | then-not-links+in_ok-push w ↦
-          let last : ((asked_of x).links ≡ false) ⊎ (length requests ≤ i + 1) = elim w.then-not-links.branch [
+          let last : (is_link x.flags ≡ false) ⊎ (length requests ≤ i + 1) = elim w.then-not-links.branch [
             | then-not-links-via-then-not-links v ↦ inl (sym c.links.ensures ∙ v.if-not-links.true)
             | then-not-links-via-else-not-links+then-i-requests v ↦ inr (omega arith)
           ] in
@@ -39,7 +39,7 @@ loop-i-preserved c =
           (sym w.first-is)
           (cut_ends requests c.loop-i.first i x begun c.loop-i-test.true c.index-requests-i.is c.loop-i.chains.items so last))
       | else-not-links+else-i-requests w ↦
-          let links : (asked_of x).links ≡ true = sym c.links.ensures ∙ w.if-not-links.false in
+          let links : is_link x.flags ≡ true = sym c.links.ensures ∙ w.if-not-links.false in
           subst (λ (made : List Chain). IsCut requests made c.if-not-links.first (i + 1)) (sym (ap (λ (v : Vec Chain Global). v.items) w.chains-is))
           (subst (λ (n : ℕ). IsCut requests c.loop-i.chains.items n (i + 1)) (sym w.first-is)
           (cut_goes_on requests c.loop-i.first i x begun c.loop-i-test.true c.index-requests-i.is c.loop-i.chains.items so links (omega arith)))
