@@ -1,6 +1,6 @@
 -- A request, without where it lies in memory.
 use Rattle.std.specs.Prelude.{ℕ, ℤ, Bool, ◌==◌, ◌||◌, List, map, string_bytes}
-use Rattle.std.specs.Int.RustNames.{bit_and}
+use Rattle.std.specs.Int.RustNames.{bit_and, bit_or}
 use Rattle.fx_chain.specs.declared.flags.SqeFlags.{SqeFlags}
 use Rattle.fx_chain.specs.declared.request.Op.{Op}
 use Rattle.fx_chain.specs.declared.request.Op.TheVariants.{Open, Read, Close, Update}
@@ -22,6 +22,22 @@ operation_of (Open name target) = Opens (string_bytes name) target
 operation_of (Read slot off len) = Reads slot off len
 operation_of (Close slot) = Closes slot
 operation_of (Update off list) = Updates off list.items
+
+-- the flags, each by the value of its bit
+abbrev pub no_flags : SqeFlags
+no_flags = record { 0 = 0 }
+
+abbrev pub fixed_file : SqeFlags
+fixed_file = record { 0 = 1 }
+
+abbrev pub io_link : SqeFlags
+io_link = record { 0 = 4 }
+
+abbrev pub io_hardlink : SqeFlags
+io_hardlink = record { 0 = 8 }
+
+abbrev pub both_flags : SqeFlags → SqeFlags → SqeFlags
+both_flags one other = record { 0 = bit_or one.0 other.0 }
 
 -- the request names its file by a slot
 abbrev pub is_fixed : SqeFlags → Bool
