@@ -4,6 +4,7 @@
 
 mod crew;
 mod list;
+mod play;
 mod registration;
 mod report;
 mod ring;

@@ -14,6 +14,7 @@ ghost use Rattle.fx_ring.specs.Submission.{IsOneHistory, reported, submit_refusa
 ghost use Rattle.fx_ring.specs.declared.report.SubmitFault.TheVariants.{NoMemory as Refused};
 
 use crate::crew::{Room, gather, scatter};
+use crate::play::Play;
 use crate::report::{Report, SubmitFault};
 use crate::ring::{MOST_SUBMISSIONS, Ring};
 use crate::worker::work_crew;
@@ -63,7 +64,17 @@ fn play_open<T: FileTable, R: Threads + Wait + Sync, G: Gate>(
     gather(&mut passes, &mut outcomes, &mut crew);
     let submission = submissions + 1;
     work_crew(
-        rt, alloc, &table, catalogue, submission, requests, chains, gate, &mut crew,
+        &Play {
+            rt,
+            alloc,
+            table: &table,
+            catalogue,
+            submission,
+            requests,
+            chains,
+            gate,
+        },
+        &mut crew,
     );
     scatter(&mut crew, &mut passes, &mut outcomes);
     crew.destroy_empty();

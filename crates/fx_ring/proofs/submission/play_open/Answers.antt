@@ -28,34 +28,28 @@ gather-requires-clause-room g c =
     let room = c.requires.room.crew in
     omega arith
 
-pub work_crew-requires-clause-fits : goal.work_crew-requires-clause-fits
-work_crew-requires-clause-fits g c κs within = all_gathered (g.T.FileTable.fits c.args.table) _ _ _ c.gather.ensures.passes c.requires.fits
-
-pub work_crew-requires-clause-idle : goal.work_crew-requires-clause-idle
-work_crew-requires-clause-idle g c κs within =
-    all_gathered (λ p. IsIdle (g.T.FileTable.view p)) _ _ _ c.gather.ensures.passes (all_idle g.T.FileTable.view c.args.passes.items _ c.requires.new)
-
-pub work_crew-requires-clause-worked : goal.work_crew-requires-clause-worked
-work_crew-requires-clause-worked g c κs within =
-    let new = all_gathered (λ p. IsNew (g.T.FileTable.view p)) _ _ _ c.gather.ensures.passes
-    (all_new g.T.FileTable.view c.args.passes.items _ c.requires.new) in
+pub work_crew-requires-clause-ready : goal.work_crew-requires-clause-ready
+work_crew-requires-clause-ready g c κs within =
+    let V : g.row.T-Pass.Denot → PassView = λ p. g.T.FileTable.view p in
+    let fits = all_gathered (g.T.FileTable.fits c.args.table) _ _ _ c.gather.ensures.passes c.requires.fits in
+    let idle = all_gathered (λ p. IsIdle (V p)) _ _ _ c.gather.ensures.passes (all_idle V c.args.passes.items _ c.requires.new) in
+    let new = all_gathered (λ p. IsNew (V p)) _ _ _ c.gather.ensures.passes (all_new V c.args.passes.items _ c.requires.new) in
     let room = all_gathered (HasRoomFor (all_asked c.args.requests.now)) _ _ _ c.gather.ensures.outcomes c.requires.room.outcomes in
-    λ k d l. new_has_worked c.args.catalogue.now (size_of (g.T.FileTable.opening c.args.table)) (c.args.submissions + 1)
-    (runs_of (all_asked c.args.requests.now))
-    _ _ _ (new k d l) (room k d l)
-
-pub work_crew-requires-clause-room : goal.work_crew-requires-clause-room
-work_crew-requires-clause-room g c κs within =
-    let new = all_gathered (λ p. IsNew (g.T.FileTable.view p)) _ _ _ c.gather.ensures.passes
-    (all_new g.T.FileTable.view c.args.passes.items _ c.requires.new) in
-    let room = all_gathered (HasRoomFor (all_asked c.args.requests.now)) _ _ _ c.gather.ensures.outcomes c.requires.room.outcomes in
-    λ k d l. new_has_room _ _ (all_asked c.args.requests.now) c.requires.accepted (new k d l) (room k d l)
+    λ k d l. record {
+      between = record {
+        fits = fits k d l;
+        idle = idle k d l;
+        worked = new_has_worked c.args.catalogue.now (size_of (g.T.FileTable.opening c.args.table)) (c.args.submissions + 1)
+            (runs_of (all_asked c.args.requests.now)) _ _ _ (new k d l) (room k d l);
+      };
+      room = new_has_room _ _ (all_asked c.args.requests.now) c.requires.accepted (new k d l) (room k d l);
+    }
 
 pub close-left-requires-clause-fits : goal.close-left-requires-clause-fits
-close-left-requires-clause-fits g c = all_scattered (g.T.FileTable.fits c.args.table) _ _ _ c.scatter.ensures.passes c.work_crew.ensures.fits
+close-left-requires-clause-fits g c = all_scattered (g.T.FileTable.fits c.args.table) _ _ _ c.scatter.ensures.passes (λ k d l. (c.work_crew.ensures.done k d l).between.fits)
 
 pub close-left-requires-clause-idle : goal.close-left-requires-clause-idle
-close-left-requires-clause-idle g c = all_scattered (λ p. IsIdle (g.T.FileTable.view p)) _ _ _ c.scatter.ensures.passes c.work_crew.ensures.idle
+close-left-requires-clause-idle g c = all_scattered (λ p. IsIdle (g.T.FileTable.view p)) _ _ _ c.scatter.ensures.passes (λ k d l. (c.work_crew.ensures.done k d l).between.idle)
 
 pub join-requires-clause-completions : goal.join-requires-clause-completions
 join-requires-clause-completions g c =
@@ -66,7 +60,7 @@ join-requires-clause-completions g c =
     let played = crew_has_played V c.args.catalogue.now (c.args.submissions + 1) c.args.requests.now c.args.chains.now o c.args.passes.items
     c.gather.new.crew.items ws c.scatter.new.passes.items c.close-left.result c.requires.members c.requires.chains c.requires.new
     c.gather.ensures.passes c.work_crew.ensures.numbers c.scatter.ensures.passes
-    c.work_crew.ensures.worked c.work_crew.ensures.all_drawn c.close-left.ensures in
+    (λ k d l. (c.work_crew.ensures.done k d l).between.worked) (λ k d l. (c.work_crew.ensures.done k d l).all_drawn) c.close-left.ensures in
     let all = one_of_each c.args.catalogue.now (c.args.submissions + 1) (runs_of asked) o (states V ws) _ _ played in
     let sum = as_many_completions V ws c.scatter.new.outcomes.items c.scatter.ensures.outcomes in
     let have = runs_have_all asked in
@@ -84,7 +78,7 @@ join-requires-clause-closes g c =
     let played = crew_has_played V c.args.catalogue.now (c.args.submissions + 1) c.args.requests.now c.args.chains.now o c.args.passes.items
     c.gather.new.crew.items ws c.scatter.new.passes.items c.close-left.result c.requires.members c.requires.chains c.requires.new
     c.gather.ensures.passes c.work_crew.ensures.numbers c.scatter.ensures.passes
-    c.work_crew.ensures.worked c.work_crew.ensures.all_drawn c.close-left.ensures in
+    (λ k d l. (c.work_crew.ensures.done k d l).between.worked) (λ k d l. (c.work_crew.ensures.done k d l).all_drawn) c.close-left.ensures in
     let few = closes_weigh c.args.catalogue.now (c.args.submissions + 1) (runs_of asked) o (states V ws) _ _ played in
     let sum = as_many_files V ws c.scatter.new.outcomes.items c.scatter.ensures.outcomes in
     let weigh = runs_weigh_all asked in
@@ -100,7 +94,7 @@ returns-clause-played g c =
     let played = crew_has_played V c.args.catalogue.now (c.args.submissions + 1) c.args.requests.now c.args.chains.now o c.args.passes.items
     c.gather.new.crew.items ws c.scatter.new.passes.items c.close-left.result c.requires.members c.requires.chains c.requires.new
     c.gather.ensures.passes c.work_crew.ensures.numbers c.scatter.ensures.passes
-    c.work_crew.ensures.worked c.work_crew.ensures.all_drawn c.close-left.ensures in
+    (λ k d l. (c.work_crew.ensures.done k d l).between.worked) (λ k d l. (c.work_crew.ensures.done k d l).all_drawn) c.close-left.ensures in
     let completions : all_completed c.join.new.self.completions.items ≡ flat_map completed_by (states V ws) =
     ap all_completed (c.join.ensures.completions
     ∙ ap (λ (l : List Completion). l ++ flat_map completions_of (reverse c.scatter.new.outcomes.items)) c.requires.room.all.no_completions)
