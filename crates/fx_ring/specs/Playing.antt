@@ -12,7 +12,7 @@ use Rattle.fx_ring.specs.declared.worker.Worker.{Worker}
 
 -- where its pass is, and what its chains came to
 abbrev pub state_of_worker : {P : Type 0} → (P → PassView) → Worker P → WorkerState
-state_of_worker V w = worker_state (V w.pass) (all_completed w.completions.items) w.closes
+state_of_worker V w = worker_state (V w.pass) (all_completed w.outcome.completions.items) w.outcome.closes
 
 -- what all workers of a submission play
 pub record Setting : Type 0 where
@@ -34,7 +34,7 @@ pub record IsBetweenChains {P : Type 0} (V : P → PassView) (Fits : P → Type 
 -- it has room for what one more chain may come to
 pub record IsReady {P : Type 0} (V : P → PassView) (Fits : P → Type 0) (s : Setting) (w : Worker P) : Type 0 where
   pub between : IsBetweenChains V Fits s w
-  pub room : HasRoom s.runs (state_of_worker V w) (vec_capacity w.completions)
+  pub room : HasRoom s.runs (state_of_worker V w) (vec_capacity w.outcome.completions)
 
 -- no chains are left
 pub record IsDone {P : Type 0} (V : P → PassView) (Fits : P → Type 0) (s : Setting) (w : Worker P) : Type 0 where

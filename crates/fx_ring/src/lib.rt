@@ -4,6 +4,7 @@
 
 mod crew;
 mod list;
+mod outcome;
 mod play;
 mod registration;
 mod report;

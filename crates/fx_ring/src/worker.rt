@@ -6,9 +6,9 @@ ghost use Rattle.fx_ring.specs.Playing.{number_of_worker};
 ghost use Rattle.fx_ring.specs.PlaySetting.{IsReadyFor, IsDoneFor};
 ghost use Rattle.fx_ring.specs.Work.{run_of_chain};
 
+use crate::outcome::Outcome;
 use crate::play::Play;
-use fx_base::CloseList;
-use fx_chain::{Chain, Completion, Gate, Request, run_chain};
+use fx_chain::{Chain, Gate, Request, run_chain};
 use fx_table::FileTable;
 use std::sync::Wait;
 use std::thread;
@@ -18,8 +18,7 @@ use std::thread::Threads;
 /// workers that lie side by side in a list is 64 bytes apart, so that threads that have one each share no cache line.
 pub(crate) struct Worker<P> {
     pub(crate) pass: P,
-    pub(crate) completions: Vec<Completion>,
-    pub(crate) closes: CloseList,
+    pub(crate) outcome: Outcome,
     pub(crate) spacing: Spacing,
 }
 
@@ -30,15 +29,13 @@ pub(crate) struct Spacing {
 }
 
 impl<P> Worker<P> {
-    pub(crate) fn new(pass: P, completions: Vec<Completion>, closes: CloseList) -> Worker<P>
+    pub(crate) fn new(pass: P, outcome: Outcome) -> Worker<P>
         ensures pass { result.pass ≡ pass }
-        ensures completions { result.completions ≡ completions }
-        ensures closes { result.closes ≡ closes }
+        ensures outcome { result.outcome ≡ outcome }
     {
         Worker {
             pass,
-            completions,
-            closes,
+            outcome,
             spacing: Spacing { unused: [0; 8] },
         }
     }
@@ -75,8 +72,8 @@ fn work<T: FileTable, R: Wait, G: Gate>(play: &Play<'_, T, R, G>, worker: &mut W
             chain,
             members_of_chain(play.requests, play.chains, chain),
             play.gate,
-            &mut worker.completions,
-            &mut worker.closes,
+            &mut worker.outcome.completions,
+            &mut worker.outcome.closes,
         );
     }
 }

@@ -26,7 +26,7 @@ run_chain-requires-clause-out g c κs within =
     let o = g.T.FileTable.opening c.args.play.now.table.now in
     let count = c.args.play.now.count ∙ sym (as_many c.args.play.now.requests.now c.args.play.now.chains.now c.args.play.now.members) in
     let same = length-map c.members_of_chain.result.now asked_of in
-    let before = length-map c.loop-chain.worker.completions.items completed_of in
+    let before = length-map c.loop-chain.worker.outcome.completions.items completed_of in
     let enough = enough_capacity o _ _ _ _ _ _ _ _ c.loop-chain.invariant.ready.room count c.in-Some.ensures.drawn c.members_of_chain.ensures.run in
     omega arith
 
