@@ -61,17 +61,19 @@ fn work<T: FileTable, R: Wait, G: Gate>(play: &Play<'_, T, R, G>, worker: &mut W
     ensures done { IsDoneFor play.now worker.new }
     ensures number { number_of_worker T.view worker.new ≡ number_of_worker T.view worker.old }
 {
+    let submission = play.submission;
+    let number = submission.earlier + 1;
     while let Some(chain) = play.table.draw(&mut worker.pass) {
         run_chain(
-            play.rt,
-            play.alloc,
+            submission.rt,
+            submission.alloc,
             play.table,
             &mut worker.pass,
-            play.catalogue,
-            play.submission,
+            submission.catalogue,
+            number,
             chain,
-            members_of_chain(play.requests, play.chains, chain),
-            play.gate,
+            members_of_chain(submission.requests, play.chains, chain),
+            submission.gate,
             &mut worker.outcome.completions,
             &mut worker.outcome.closes,
         );
@@ -92,7 +94,7 @@ fn work_all<T: FileTable, R: Threads + Wait + Sync, G: Gate>(
 {
     let threads = workers.len();
     thread::for_each_mut(
-        play.rt,
+        play.submission.rt,
         workers,
         threads,
         &|_, worker: &mut Worker<T::Pass>|

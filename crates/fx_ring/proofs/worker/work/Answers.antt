@@ -10,7 +10,7 @@ use Rattle.fx_ring.proofs.worker.work.Goals as goal
 pub run_chain-requires-clause-looks : goal.run_chain-requires-clause-looks
 run_chain-requires-clause-looks g c κs within =
     let o = g.T.FileTable.opening c.args.play.now.table.now in
-    let count = c.args.play.now.count ∙ sym (as_many c.args.play.now.requests.now c.args.play.now.chains.now c.args.play.now.members) in
+    let count = c.args.play.now.count ∙ sym (as_many c.args.play.now.submission.now.requests.now c.args.play.now.chains.now c.args.play.now.members) in
     let same = length-map c.members_of_chain.result.now asked_of in
     let enough = enough_looks o _ _ _ _ _ _ _ _ c.loop-chain.invariant.ready.room count c.in-Some.ensures.drawn c.members_of_chain.ensures.run in
     omega arith
@@ -18,13 +18,13 @@ run_chain-requires-clause-looks g c κs within =
 pub run_chain-requires-clause-room : goal.run_chain-requires-clause-room
 run_chain-requires-clause-room g c κs within =
     let o = g.T.FileTable.opening c.args.play.now.table.now in
-    let count = c.args.play.now.count ∙ sym (as_many c.args.play.now.requests.now c.args.play.now.chains.now c.args.play.now.members) in
+    let count = c.args.play.now.count ∙ sym (as_many c.args.play.now.submission.now.requests.now c.args.play.now.chains.now c.args.play.now.members) in
     enough_room o _ _ _ _ _ _ _ _ c.loop-chain.invariant.ready.room count c.in-Some.ensures.drawn c.members_of_chain.ensures.run
 
 pub run_chain-requires-clause-out : goal.run_chain-requires-clause-out
 run_chain-requires-clause-out g c κs within =
     let o = g.T.FileTable.opening c.args.play.now.table.now in
-    let count = c.args.play.now.count ∙ sym (as_many c.args.play.now.requests.now c.args.play.now.chains.now c.args.play.now.members) in
+    let count = c.args.play.now.count ∙ sym (as_many c.args.play.now.submission.now.requests.now c.args.play.now.chains.now c.args.play.now.members) in
     let same = length-map c.members_of_chain.result.now asked_of in
     let before = length-map c.loop-chain.worker.outcome.completions.items completed_of in
     let enough = enough_capacity o _ _ _ _ _ _ _ _ c.loop-chain.invariant.ready.room count c.in-Some.ensures.drawn c.members_of_chain.ensures.run in
@@ -33,7 +33,7 @@ run_chain-requires-clause-out g c κs within =
 pub loop-chain-preserved : goal.loop-chain-preserved
 loop-chain-preserved g c =
     let o = g.T.FileTable.opening c.args.play.now.table.now in
-    let count = c.args.play.now.count ∙ sym (as_many c.args.play.now.requests.now c.args.play.now.chains.now c.args.play.now.members) in
+    let count = c.args.play.now.count ∙ sym (as_many c.args.play.now.submission.now.requests.now c.args.play.now.chains.now c.args.play.now.members) in
     let i = c.loop-chain.invariant.ready in
     let played = c.run_chain.ensures.played in
     record {
