@@ -22,7 +22,7 @@ use Rattle.fx_chain.proofs.Accepted.{accepted-length}
 use Rattle.fx_chain.proofs.Runs.{are_runs}
 use Rattle.fx_ring.specs.Outcomes.{HasRoomFor}
 use Rattle.fx_ring.specs.Work.{HasWorked, HasRoom, worker_state}
-use Rattle.fx_ring.specs.declared.crew.Outcome.{Outcome}
+use Rattle.fx_ring.specs.declared.outcome.Outcome.{Outcome}
 use Rattle.fx_ring.specs.declared.worker.Worker.{Worker}
 use Rattle.fx_ring.proofs.NumberedParts.{numbers_from}
 

@@ -18,9 +18,9 @@ use Rattle.fx_chain.specs.Runs.{runs_of}
 use Rattle.fx_chain.specs.declared.chain.Chain.{Chain}
 use Rattle.fx_chain.specs.declared.request.Request.{Request}
 use Rattle.fx_chain.specs.declared.completion.Completion.{Completion}
-use Rattle.fx_ring.specs.Outcomes.{outcome_of}
-use Rattle.fx_ring.specs.Work.{HasWorked, WorkerState, worker_state}
-use Rattle.fx_ring.specs.declared.crew.Outcome.{Outcome}
+use Rattle.fx_ring.specs.Playing.{state_of_worker}
+use Rattle.fx_ring.specs.Work.{HasWorked, WorkerState}
+use Rattle.fx_ring.specs.declared.outcome.Outcome.{Outcome}
 use Rattle.fx_ring.specs.declared.worker.Worker.{Worker}
 use Rattle.fx_ring.proofs.NewCrew.{map_reversed, numbers_are}
 use Rattle.fx_ring.proofs.WorkersTogether.{HavePlayed, pass_of, number_of, completed_by, closed_by_worker}
@@ -38,30 +38,27 @@ map_parts f g [] = refl
 map_parts {X} {Y} {Z} f g (x ∷ xs) = map-append f (g x) (flat_map g xs) ∙ ap (λ (l : List Z). map f (g x) ++ l) (map_parts f g xs)
 
 module _ {P : Type 0} (V : P → PassView) where
-  abbrev pub state_of_worker : Worker P → WorkerState
-  state_of_worker w = worker_state (V w.pass) (all_completed w.completions.items) w.closes
-
   abbrev pub states : List (Worker P) → List WorkerState
-  states ws = map state_of_worker ws
+  states ws = map (state_of_worker V) ws
 
   pub scattered_views : (ws : List (Worker P)) (ps : List P) → ps ≡ reverse (map (λ w. w.pass) ws)
       → map (λ p. V p) ps ≡ reverse (map pass_of (states ws))
   scattered_views ws ps is =
-      ap (map V) is ∙ (map_reversed V (map (λ w. w.pass) ws) ∙ ap reverse (map-map V (λ w. w.pass) ws ∙ sym (map-map pass_of state_of_worker ws)))
+      ap (map V) is ∙ (map_reversed V (map (λ w. w.pass) ws) ∙ ap reverse (map-map V (λ w. w.pass) ws ∙ sym (map-map pass_of (state_of_worker V) ws)))
 
-  module _ (ws : List (Worker P)) (outcomes : List Outcome) (is : outcomes ≡ reverse (map (λ w. outcome_of w) ws)) where
-    turned : reverse outcomes ≡ map (λ w. outcome_of w) ws
-    turned = ap reverse is ∙ reverse-reverse (map (λ w. outcome_of w) ws)
+  module _ (ws : List (Worker P)) (outcomes : List Outcome) (is : outcomes ≡ reverse (map (λ w. w.outcome) ws)) where
+    turned : reverse outcomes ≡ map (λ w. w.outcome) ws
+    turned = ap reverse is ∙ reverse-reverse (map (λ w. w.outcome) ws)
 
     pub completions_joined : all_completed (flat_map completions_of (reverse outcomes)) ≡ flat_map completed_by (states ws)
     completions_joined =
         ap (λ (l : List Outcome). all_completed (flat_map completions_of l)) turned
-        ∙ (ap all_completed (mapped_parts completions_of (λ w. outcome_of w) ws)
-        ∙ (map_parts completed_of (λ w. w.completions.items) ws ∙ sym (mapped_parts completed_by state_of_worker ws)))
+        ∙ (ap all_completed (mapped_parts completions_of (λ w. w.outcome) ws)
+        ∙ (map_parts completed_of (λ w. w.outcome.completions.items) ws ∙ sym (mapped_parts completed_by (state_of_worker V) ws)))
 
     pub files_joined : flat_map files_of (reverse outcomes) ≡ flat_map closed_by_worker (states ws)
     files_joined = ap (flat_map files_of) turned
-        ∙ (mapped_parts files_of (λ w. outcome_of w) ws ∙ sym (mapped_parts closed_by_worker state_of_worker ws))
+        ∙ (mapped_parts files_of (λ w. w.outcome) ws ∙ sym (mapped_parts closed_by_worker (state_of_worker V) ws))
 
     pub as_many_completions : sum_by (λ outcome. length outcome.completions.items) outcomes ≡ length (flat_map completed_by (states ws))
     as_many_completions =
@@ -84,14 +81,14 @@ module _ {P : Type 0} (V : P → PassView) where
       (members : map (members_of (all_asked requests)) chains ≡ runs_of (all_asked requests)) (count : o.chains ≡ length chains)
       (new : map (λ p. V p) ps ≡ new_passes o.passes) (gathered : map (λ w. w.pass) begun ≡ reverse ps)
       (numbers : map (λ w. (V w.pass).number) ws ≡ map (λ w. (V w.pass).number) begun) (scattered : back ≡ reverse (map (λ w. w.pass) ws)) where
-    pub crew_has_played : All (λ w. HasWorked catalogue (size_of o) submission (runs_of (all_asked requests)) (state_of_worker w)) ws
+    pub crew_has_played : All (λ w. HasWorked catalogue (size_of o) submission (runs_of (all_asked requests)) (state_of_worker V w)) ws
         → All (λ w. (V w.pass).no_chains_left ≡ true) ws → ClosesTable o (map (λ p. V p) back) left
         → HavePlayed catalogue submission (runs_of (all_asked requests)) o (states ws) (map (λ p. V p) back) left
     crew_has_played worked told closing = record {
-      worked = All-map (HasWorked catalogue (size_of o) submission (runs_of (all_asked requests))) state_of_worker ws worked;
-      told = All-map (λ w. w.pass.no_chains_left ≡ true) state_of_worker ws told;
+      worked = All-map (HasWorked catalogue (size_of o) submission (runs_of (all_asked requests))) (state_of_worker V) ws worked;
+      told = All-map (λ w. w.pass.no_chains_left ≡ true) (state_of_worker V) ws told;
       chains = count ∙ sym (as_many requests chains members);
       are = scattered_views ws back scattered;
-      numbers = map-map number_of state_of_worker ws ∙ (numbers ∙ numbers_are V ps o.passes new begun gathered);
+      numbers = map-map number_of (state_of_worker V) ws ∙ (numbers ∙ numbers_are V ps o.passes new begun gathered);
       closing = closing;
     }

@@ -4,3 +4,5 @@ pub mod Slots
 pub mod Submission
 pub mod Work
 pub mod Outcomes
+pub mod Playing
+pub mod PlaySetting

@@ -2,9 +2,8 @@
 use Rattle.std.specs.Prelude.{◌≡◌, ◌≤◌, ℕ, List, [], length, All, vec_capacity}
 use Rattle.fx_chain.specs.Operation.{Asked}
 use Rattle.fx_chain.specs.Weights.{all_weights}
-use Rattle.fx_ring.specs.declared.crew.Outcome.{Outcome}
+use Rattle.fx_ring.specs.declared.outcome.Outcome.{Outcome}
 use Rattle.fx_ring.specs.declared.crew.Room.{Room}
-use Rattle.fx_ring.specs.declared.worker.Worker.{Worker}
 
 -- nothing has come yet, and there is room for a completion of each request and for all files that the requests may close
 pub record HasRoomFor (requests : List Asked) (outcome : Outcome) : Type 0 where
@@ -19,7 +18,3 @@ pub record HasRoomForCrew {P : Type 0} (requests : List Asked) (workers : ℕ) (
   pub count : length room.outcomes.items ≡ workers
   pub outcomes : All (HasRoomFor requests) room.outcomes.items
   pub all : HasRoomFor requests room.all
-
--- what a worker has come to
-abbrev pub outcome_of : {P : Type 0} → Worker P → Outcome
-outcome_of w = record { completions = w.completions; closes = w.closes }

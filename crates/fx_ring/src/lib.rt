@@ -4,6 +4,8 @@
 
 mod crew;
 mod list;
+mod outcome;
+mod play;
 mod registration;
 mod report;
 mod ring;

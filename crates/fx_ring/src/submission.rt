@@ -10,10 +10,12 @@ ghost use Rattle.fx_chain.specs.Operation.{all_asked};
 ghost use Rattle.fx_chain.specs.Runs.{runs_of};
 ghost use Rattle.fx_ring.specs.Outcomes.{HasRoomForCrew};
 ghost use Rattle.fx_ring.specs.Ring.{AreEntries, ring_of, ring_with};
+ghost use Rattle.fx_ring.specs.PlaySetting.{IsPlayOf};
 ghost use Rattle.fx_ring.specs.Submission.{IsOneHistory, reported, submit_refusal};
 ghost use Rattle.fx_ring.specs.declared.report.SubmitFault.TheVariants.{NoMemory as Refused};
 
 use crate::crew::{Room, gather, scatter};
+use crate::play::{Play, Submission};
 use crate::report::{Report, SubmitFault};
 use crate::ring::{MOST_SUBMISSIONS, Ring};
 use crate::worker::work_crew;
@@ -26,34 +28,25 @@ use std::mem;
 use std::sync::Wait;
 use std::thread::Threads;
 
-// Plays the chains of the requests on a table that was opened for them, as the next submission behind so many.
-fn play_open<T: FileTable, R: Threads + Wait + Sync, G: Gate>(
-    rt: &R,
-    alloc: Global,
+// Plays the chains of a submission on a table that was opened for them.
+fn play_open<'a, T: FileTable, R: Threads + Wait + Sync, G: Gate>(
+    submission: &'a Submission<'a, R, G>,
+    chains: &'a [Chain],
     table: T,
     mut passes: Vec<T::Pass>,
     room: Room<T::Pass>,
-    catalogue: &Catalogue,
-    submissions: u32,
-    requests: &[Request],
-    chains: &[Chain],
-    gate: &G,
 ) -> (PlainTable, Report)
-    requires few { submissions < MOST_SUBMISSIONS }
-    requires accepted { IsAccepted (all_asked requests.now) }
-    requires members { map (members_of (all_asked requests.now)) chains.now
-        ≡ runs_of (all_asked requests.now) }
-    requires within { All (IsChain (all_asked requests.now)) chains.now }
+    requires members { map (members_of (all_asked submission.now.requests.now)) chains.now
+        ≡ runs_of (all_asked submission.now.requests.now) }
+    requires within { All (IsChain (all_asked submission.now.requests.now)) chains.now }
     requires chains { (T.opening table).chains ≡ length chains.now }
     requires some { 1 ≤ (T.opening table).passes }
     requires fits { All (T.fits table) passes.items }
     requires new { map (λ p. T.view p) passes.items ≡ new_passes (T.opening table).passes }
-    requires room { HasRoomForCrew (all_asked requests.now) (T.opening table).passes room }
+    requires room { HasRoomForCrew (all_asked submission.now.requests.now)
+        (T.opening table).passes room }
     ensures settled { IsSettled (state_of result.0) }
-    ensures played { (registrations : ℕ) → IsOneHistory
-        (ring_with catalogue.now (T.opening table).contents submissions registrations)
-        (all_asked requests.now) (reported result.1)
-        (ring_with catalogue.now result.0 (submissions + 1) registrations) }
+    ensures played { IsPlayOf submission.now (T.opening table).contents result.1 result.0 }
 {
     let Room {
         mut crew,
@@ -61,40 +54,35 @@ fn play_open<T: FileTable, R: Threads + Wait + Sync, G: Gate>(
         mut all,
     } = room;
     gather(&mut passes, &mut outcomes, &mut crew);
-    let submission = submissions + 1;
     work_crew(
-        rt, alloc, &table, catalogue, submission, requests, chains, gate, &mut crew,
+        &Play {
+            submission: &*submission,
+            table: &table,
+            chains: &*chains,
+        },
+        &mut crew,
     );
     scatter(&mut crew, &mut passes, &mut outcomes);
     crew.destroy_empty();
     let left = table.close(passes);
     all.join(outcomes);
     all.sort();
-    (left, all.report(submission))
+    (left, all.report(submission.earlier + 1))
 }
 
-// Plays the requests on a table, as the next submission behind so many.
+// Plays a submission on a table.
 fn play<T: FileTable, R: Threads + Wait + Sync, G: Gate>(
-    rt: &R,
-    alloc: Global,
+    submission: &Submission<'_, R, G>,
     plain: PlainTable,
-    catalogue: &Catalogue,
-    submissions: u32,
-    requests: &[Request],
     workers: u32,
-    gate: &G,
 ) -> Result<(PlainTable, Report), (PlainTable, NoMemory)>
     requires settled { IsSettled (state_of plain) }
-    requires accepted { IsAccepted (all_asked requests.now) }
     requires workers { (1 ≤ workers) × (workers ≤ MAX_PASSES) }
-    requires few { submissions < MOST_SUBMISSIONS }
     ensures refused { IfErr result (λ (back, _). IsGivenBack plain back) }
     ensures settled { IfOk result (λ (left, _). IsSettled (state_of left)) }
-    ensures played { IfOk result (λ (left, report). (registrations : ℕ)
-        → IsOneHistory (ring_with catalogue.now plain submissions registrations)
-        (all_asked requests.now) (reported report)
-        (ring_with catalogue.now left (submissions + 1) registrations)) }
+    ensures played { IfOk result (λ (left, report). IsPlayOf submission.now plain report left) }
 {
+    let (alloc, requests) = (submission.alloc, submission.requests);
     let Ok(chains) = cut(alloc, requests) else {
         return Err((plain, NoMemory));
     };
@@ -109,18 +97,7 @@ fn play<T: FileTable, R: Threads + Wait + Sync, G: Gate>(
         }
         Ok((table, passes)) => {
             let chains = chains.as_slice();
-            Ok(play_open(
-                rt,
-                alloc,
-                table,
-                passes,
-                room,
-                catalogue,
-                submissions,
-                requests,
-                chains,
-                gate,
-            ))
+            Ok(play_open(submission, chains, table, passes, room))
         }
     }
 }
@@ -192,16 +169,15 @@ impl Ring {
             return Err(fault);
         }
         let plain = mem::replace(&mut self.table, PlainTable::none(alloc));
-        match play::<T, R, G>(
+        let submission = Submission {
             rt,
             alloc,
-            plain,
-            &self.catalogue,
-            self.submissions,
+            catalogue: &self.catalogue,
+            earlier: self.submissions,
             requests,
-            workers,
             gate,
-        ) {
+        };
+        match play::<T, R, G>(&submission, plain, workers) {
             Ok((left, report)) => {
                 mem::replace(&mut self.table, left).dismiss();
                 self.submissions += 1;

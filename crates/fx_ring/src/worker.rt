@@ -1,16 +1,15 @@
-ghost use Rattle.std.specs.Prelude.{◌≡◌, ◌<◌, ◌≤◌, true, length, map, All, vec_capacity};
-ghost use Rattle.fx_table.specs.Opening.{size_of};
-ghost use Rattle.fx_table.specs.Pass.{IsIdle};
+ghost use Rattle.std.specs.Prelude.{◌≡◌, ◌<◌, ◌≤◌, length, map, All};
 ghost use Rattle.fx_chain.specs.Accepted.{IsChain, IsShortRun, members_of};
-ghost use Rattle.fx_chain.specs.Completed.{all_completed};
 ghost use Rattle.fx_chain.specs.Operation.{all_asked};
 ghost use Rattle.fx_chain.specs.Runs.{runs_of};
-ghost use Rattle.fx_ring.specs.Work.{HasWorked, HasRoom, run_of_chain, worker_state};
+ghost use Rattle.fx_ring.specs.Playing.{number_of_worker};
+ghost use Rattle.fx_ring.specs.PlaySetting.{IsReadyFor, IsDoneFor};
+ghost use Rattle.fx_ring.specs.Work.{run_of_chain};
 
-use fx_base::{Catalogue, CloseList};
-use fx_chain::{Chain, Completion, Gate, Request, run_chain};
+use crate::outcome::Outcome;
+use crate::play::Play;
+use fx_chain::{Chain, Gate, Request, run_chain};
 use fx_table::FileTable;
-use std::alloc::Global;
 use std::sync::Wait;
 use std::thread;
 use std::thread::Threads;
@@ -19,8 +18,7 @@ use std::thread::Threads;
 /// workers that lie side by side in a list is 64 bytes apart, so that threads that have one each share no cache line.
 pub(crate) struct Worker<P> {
     pub(crate) pass: P,
-    pub(crate) completions: Vec<Completion>,
-    pub(crate) closes: CloseList,
+    pub(crate) outcome: Outcome,
     pub(crate) spacing: Spacing,
 }
 
@@ -31,15 +29,13 @@ pub(crate) struct Spacing {
 }
 
 impl<P> Worker<P> {
-    pub(crate) fn new(pass: P, completions: Vec<Completion>, closes: CloseList) -> Worker<P>
+    pub(crate) fn new(pass: P, outcome: Outcome) -> Worker<P>
         ensures pass { result.pass ≡ pass }
-        ensures completions { result.completions ≡ completions }
-        ensures closes { result.closes ≡ closes }
+        ensures outcome { result.outcome ≡ outcome }
     {
         Worker {
             pass,
-            completions,
-            closes,
+            outcome,
             spacing: Spacing { unused: [0; 8] },
         }
     }
@@ -60,52 +56,26 @@ fn members_of_chain<'a>(requests: &'a [Request], chains: &[Chain], chain: u32) -
 }
 
 // Plays the chains that the worker's pass draws.
-fn work<T: FileTable, R: Wait, G: Gate>(
-    rt: &R,
-    alloc: Global,
-    table: &T,
-    catalogue: &Catalogue,
-    submission: u32,
-    requests: &[Request],
-    chains: &[Chain],
-    gate: &G,
-    worker: &mut Worker<T::Pass>,
-)
-    requires members { map (members_of (all_asked requests.now)) chains.now
-        ≡ runs_of (all_asked requests.now) }
-    requires within { All (IsChain (all_asked requests.now)) chains.now }
-    requires chains { (T.opening table.now).chains ≡ length chains.now }
-    requires fits { T.fits table.now worker.old.pass }
-    requires idle { IsIdle (T.view worker.old.pass) }
-    requires worked { HasWorked catalogue.now (size_of (T.opening table.now)) submission
-        (runs_of (all_asked requests.now))
-        (worker_state (T.view worker.old.pass) (all_completed worker.old.completions.items)
-        worker.old.closes) }
-    requires room { HasRoom (runs_of (all_asked requests.now))
-        (worker_state (T.view worker.old.pass) (all_completed worker.old.completions.items)
-        worker.old.closes) (vec_capacity worker.old.completions) }
-    ensures fits { T.fits table.now worker.new.pass }
-    ensures idle { IsIdle (T.view worker.new.pass) }
-    ensures all_drawn { (T.view worker.new.pass).no_chains_left ≡ true }
-    ensures worked { HasWorked catalogue.now (size_of (T.opening table.now)) submission
-        (runs_of (all_asked requests.now))
-        (worker_state (T.view worker.new.pass) (all_completed worker.new.completions.items)
-        worker.new.closes) }
-    ensures number { (T.view worker.new.pass).number ≡ (T.view worker.old.pass).number }
+fn work<T: FileTable, R: Wait, G: Gate>(play: &Play<'_, T, R, G>, worker: &mut Worker<T::Pass>)
+    requires ready { IsReadyFor play.now worker.old }
+    ensures done { IsDoneFor play.now worker.new }
+    ensures number { number_of_worker T.view worker.new ≡ number_of_worker T.view worker.old }
 {
-    while let Some(chain) = table.draw(&mut worker.pass) {
+    let submission = play.submission;
+    let number = submission.earlier + 1;
+    while let Some(chain) = play.table.draw(&mut worker.pass) {
         run_chain(
-            rt,
-            alloc,
-            table,
+            submission.rt,
+            submission.alloc,
+            play.table,
             &mut worker.pass,
-            catalogue,
-            submission,
+            submission.catalogue,
+            number,
             chain,
-            members_of_chain(requests, chains, chain),
-            gate,
-            &mut worker.completions,
-            &mut worker.closes,
+            members_of_chain(submission.requests, play.chains, chain),
+            submission.gate,
+            &mut worker.outcome.completions,
+            &mut worker.outcome.closes,
         );
     }
 }
@@ -113,118 +83,39 @@ fn work<T: FileTable, R: Wait, G: Gate>(
 // Each worker plays the chains that its pass draws, in a thread of its own where one can be made. A worker alone starts
 // no thread.
 fn work_all<T: FileTable, R: Threads + Wait + Sync, G: Gate>(
-    rt: &R,
-    alloc: Global,
-    table: &T,
-    catalogue: &Catalogue,
-    submission: u32,
-    requests: &[Request],
-    chains: &[Chain],
-    gate: &G,
+    play: &Play<'_, T, R, G>,
     workers: &mut [Worker<T::Pass>],
 )
     requires some { 0 < length workers.old }
-    requires members { map (members_of (all_asked requests.now)) chains.now
-        ≡ runs_of (all_asked requests.now) }
-    requires within { All (IsChain (all_asked requests.now)) chains.now }
-    requires chains { (T.opening table.now).chains ≡ length chains.now }
-    requires fits { All (λ w. T.fits table.now w.pass) workers.old }
-    requires idle { All (λ w. IsIdle (T.view w.pass)) workers.old }
-    requires worked { All (λ w. HasWorked catalogue.now (size_of (T.opening table.now)) submission
-        (runs_of (all_asked requests.now))
-        (worker_state (T.view w.pass) (all_completed w.completions.items) w.closes)) workers.old }
-    requires room { All (λ w. HasRoom (runs_of (all_asked requests.now))
-        (worker_state (T.view w.pass) (all_completed w.completions.items) w.closes)
-        (vec_capacity w.completions)) workers.old }
-    ensures fits { All (λ w. T.fits table.now w.pass) workers.new }
-    ensures idle { All (λ w. IsIdle (T.view w.pass)) workers.new }
-    ensures all_drawn { All (λ w. (T.view w.pass).no_chains_left ≡ true) workers.new }
-    ensures worked { All (λ w. HasWorked catalogue.now (size_of (T.opening table.now)) submission
-        (runs_of (all_asked requests.now))
-        (worker_state (T.view w.pass) (all_completed w.completions.items) w.closes)) workers.new }
-    ensures numbers { map (λ w. (T.view w.pass).number) workers.new
-        ≡ map (λ w. (T.view w.pass).number) workers.old }
+    requires ready { All (IsReadyFor play.now) workers.old }
+    ensures done { All (IsDoneFor play.now) workers.new }
+    ensures numbers { map (number_of_worker T.view) workers.new
+        ≡ map (number_of_worker T.view) workers.old }
 {
     let threads = workers.len();
     thread::for_each_mut(
-        rt,
+        play.submission.rt,
         workers,
         threads,
         &|_, worker: &mut Worker<T::Pass>|
-            requires members { map (members_of (all_asked requests.now)) chains.now
-                ≡ runs_of (all_asked requests.now) }
-            requires within { All (IsChain (all_asked requests.now)) chains.now }
-            requires chains { (T.opening table.now).chains ≡ length chains.now }
-            requires fits { T.fits table.now worker.old.pass }
-            requires idle { IsIdle (T.view worker.old.pass) }
-            requires worked { HasWorked catalogue.now (size_of (T.opening table.now)) submission
-                (runs_of (all_asked requests.now))
-                (worker_state (T.view worker.old.pass) (all_completed worker.old.completions.items)
-                worker.old.closes) }
-            requires room { HasRoom (runs_of (all_asked requests.now))
-                (worker_state (T.view worker.old.pass) (all_completed worker.old.completions.items)
-                worker.old.closes) (vec_capacity worker.old.completions) }
-            ensures fits { T.fits table.entry.now worker.new.pass }
-            ensures idle { IsIdle (T.view worker.new.pass) }
-            ensures all_drawn { (T.view worker.new.pass).no_chains_left ≡ true }
-            ensures worked { HasWorked catalogue.entry.now (size_of (T.opening table.entry.now))
-                submission (runs_of (all_asked requests.entry.now))
-                (worker_state (T.view worker.new.pass) (all_completed worker.new.completions.items)
-                worker.new.closes) }
-            ensures number { (T.view worker.new.pass).number ≡ (T.view worker.old.pass).number }
-        {
-            work(
-                rt, alloc, table, catalogue, submission, requests, chains, gate, worker,
-            )
-        },
+            requires ready { IsReadyFor play.now worker.old }
+            ensures done { IsDoneFor play.entry.now worker.new }
+            ensures number { number_of_worker T.view worker.new
+                ≡ number_of_worker T.view worker.old }
+        { work(play, worker) },
     );
 }
 
 /// The workers of a submission play its chains.
 pub(crate) fn work_crew<T: FileTable, R: Threads + Wait + Sync, G: Gate>(
-    rt: &R,
-    alloc: Global,
-    table: &T,
-    catalogue: &Catalogue,
-    submission: u32,
-    requests: &[Request],
-    chains: &[Chain],
-    gate: &G,
+    play: &Play<'_, T, R, G>,
     crew: &mut Vec<Worker<T::Pass>>,
 )
     requires some { 0 < length crew.old.items }
-    requires members { map (members_of (all_asked requests.now)) chains.now
-        ≡ runs_of (all_asked requests.now) }
-    requires within { All (IsChain (all_asked requests.now)) chains.now }
-    requires chains { (T.opening table.now).chains ≡ length chains.now }
-    requires fits { All (λ w. T.fits table.now w.pass) crew.old.items }
-    requires idle { All (λ w. IsIdle (T.view w.pass)) crew.old.items }
-    requires worked { All (λ w. HasWorked catalogue.now (size_of (T.opening table.now)) submission
-        (runs_of (all_asked requests.now))
-        (worker_state (T.view w.pass) (all_completed w.completions.items) w.closes))
-        crew.old.items }
-    requires room { All (λ w. HasRoom (runs_of (all_asked requests.now))
-        (worker_state (T.view w.pass) (all_completed w.completions.items) w.closes)
-        (vec_capacity w.completions)) crew.old.items }
-    ensures fits { All (λ w. T.fits table.now w.pass) crew.new.items }
-    ensures idle { All (λ w. IsIdle (T.view w.pass)) crew.new.items }
-    ensures all_drawn { All (λ w. (T.view w.pass).no_chains_left ≡ true) crew.new.items }
-    ensures worked { All (λ w. HasWorked catalogue.now (size_of (T.opening table.now)) submission
-        (runs_of (all_asked requests.now))
-        (worker_state (T.view w.pass) (all_completed w.completions.items) w.closes))
-        crew.new.items }
-    ensures numbers { map (λ w. (T.view w.pass).number) crew.new.items
-        ≡ map (λ w. (T.view w.pass).number) crew.old.items }
+    requires ready { All (IsReadyFor play.now) crew.old.items }
+    ensures done { All (IsDoneFor play.now) crew.new.items }
+    ensures numbers { map (number_of_worker T.view) crew.new.items
+        ≡ map (number_of_worker T.view) crew.old.items }
 {
-    work_all(
-        rt,
-        alloc,
-        table,
-        catalogue,
-        submission,
-        requests,
-        chains,
-        gate,
-        crew.as_mut_slice(),
-    );
+    work_all(play, crew.as_mut_slice());
 }

@@ -1,5 +1,4 @@
 use Rattle.std.proofs.Common.{◌≡◌, ◌≤◌, ◌++◌, ◌+◌, length, map, reverse, vec_capacity}
-use Rattle.fx_ring.specs.Outcomes.{outcome_of}
 use Rattle.fx_ring.proofs.crew.gather.Given as goal
 
 abbrev pub invariant-loop-pass : goal.invariant-loop-pass
@@ -9,7 +8,7 @@ invariant-loop-pass g l = record {
   passes_room : vec_capacity l.passes ≡ vec_capacity l.initial.passes;
   outcomes_room : vec_capacity l.outcomes ≡ vec_capacity l.initial.outcomes;
   passes : map (λ w. w.pass) l.crew.items ++ reverse l.passes.items ≡ reverse l.initial.passes.items;
-  outcomes : map (λ w. outcome_of w) l.crew.items ++ reverse l.outcomes.items ≡ reverse l.initial.outcomes.items;
+  outcomes : map (λ w. w.outcome) l.crew.items ++ reverse l.outcomes.items ≡ reverse l.initial.outcomes.items;
 }
 
 abbrev pub decreases-loop-pass : goal.decreases-loop-pass

@@ -1,5 +1,4 @@
 use Rattle.std.proofs.Common.{◌≡◌, ◌≤◌, ◌++◌, ◌+◌, length, map, reverse, vec_capacity}
-use Rattle.fx_ring.specs.Outcomes.{outcome_of}
 use Rattle.fx_ring.proofs.crew.scatter.Given as goal
 
 abbrev pub invariant-loop-worker : goal.invariant-loop-worker
@@ -7,7 +6,7 @@ invariant-loop-worker g l = record {
   passes_room : length l.passes.items + length l.crew.items ≤ vec_capacity l.passes;
   outcomes_room : length l.outcomes.items + length l.crew.items ≤ vec_capacity l.outcomes;
   passes : l.passes.items ++ reverse (map (λ w. w.pass) l.crew.items) ≡ reverse (map (λ w. w.pass) l.initial.crew.items);
-  outcomes : l.outcomes.items ++ reverse (map (λ w. outcome_of w) l.crew.items) ≡ reverse (map (λ w. outcome_of w) l.initial.crew.items);
+  outcomes : l.outcomes.items ++ reverse (map (λ w. w.outcome) l.crew.items) ≡ reverse (map (λ w. w.outcome) l.initial.crew.items);
 }
 
 abbrev pub decreases-loop-worker : goal.decreases-loop-worker

@@ -8,6 +8,6 @@ use Rattle.fx_ring.proofs.submission.play.Goals as goal
 
 pub returns-clause-played : goal.returns-clause-played
 returns-clause-played g c = λ registrations.
-    subst (λ (plain : Contents). IsOneHistory (ring_with c.args.catalogue.now plain c.args.submissions registrations) (all_asked c.args.requests.now)
-    (reported c.play_open.result.1) (ring_with c.args.catalogue.now c.play_open.result.0 (c.args.submissions + 1) registrations))
+    subst (λ (plain : Contents). IsOneHistory (ring_with c.args.submission.now.catalogue.now plain c.args.submission.now.earlier registrations) (all_asked c.args.submission.now.requests.now)
+    (reported c.play_open.result.1) (ring_with c.args.submission.now.catalogue.now c.play_open.result.0 (c.args.submission.now.earlier + 1) registrations))
     (ap (λ (o : Opening). o.contents) c.in-Ok-open.ensures.opened) (c.play_open.ensures.played registrations)

@@ -28,46 +28,40 @@ gather-requires-clause-room g c =
     let room = c.requires.room.crew in
     omega arith
 
-pub work_crew-requires-clause-fits : goal.work_crew-requires-clause-fits
-work_crew-requires-clause-fits g c κs within = all_gathered (g.T.FileTable.fits c.args.table) _ _ _ c.gather.ensures.passes c.requires.fits
-
-pub work_crew-requires-clause-idle : goal.work_crew-requires-clause-idle
-work_crew-requires-clause-idle g c κs within =
-    all_gathered (λ p. IsIdle (g.T.FileTable.view p)) _ _ _ c.gather.ensures.passes (all_idle g.T.FileTable.view c.args.passes.items _ c.requires.new)
-
-pub work_crew-requires-clause-worked : goal.work_crew-requires-clause-worked
-work_crew-requires-clause-worked g c κs within =
-    let new = all_gathered (λ p. IsNew (g.T.FileTable.view p)) _ _ _ c.gather.ensures.passes
-    (all_new g.T.FileTable.view c.args.passes.items _ c.requires.new) in
-    let room = all_gathered (HasRoomFor (all_asked c.args.requests.now)) _ _ _ c.gather.ensures.outcomes c.requires.room.outcomes in
-    λ k d l. new_has_worked c.args.catalogue.now (size_of (g.T.FileTable.opening c.args.table)) (c.args.submissions + 1)
-    (runs_of (all_asked c.args.requests.now))
-    _ _ _ (new k d l) (room k d l)
-
-pub work_crew-requires-clause-room : goal.work_crew-requires-clause-room
-work_crew-requires-clause-room g c κs within =
-    let new = all_gathered (λ p. IsNew (g.T.FileTable.view p)) _ _ _ c.gather.ensures.passes
-    (all_new g.T.FileTable.view c.args.passes.items _ c.requires.new) in
-    let room = all_gathered (HasRoomFor (all_asked c.args.requests.now)) _ _ _ c.gather.ensures.outcomes c.requires.room.outcomes in
-    λ k d l. new_has_room _ _ (all_asked c.args.requests.now) c.requires.accepted (new k d l) (room k d l)
+pub work_crew-requires-clause-ready : goal.work_crew-requires-clause-ready
+work_crew-requires-clause-ready g c κs within =
+    let V : g.row.T-Pass.Denot → PassView = λ p. g.T.FileTable.view p in
+    let fits = all_gathered (g.T.FileTable.fits c.args.table) _ _ _ c.gather.ensures.passes c.requires.fits in
+    let idle = all_gathered (λ p. IsIdle (V p)) _ _ _ c.gather.ensures.passes (all_idle V c.args.passes.items _ c.requires.new) in
+    let new = all_gathered (λ p. IsNew (V p)) _ _ _ c.gather.ensures.passes (all_new V c.args.passes.items _ c.requires.new) in
+    let room = all_gathered (HasRoomFor (all_asked c.args.submission.now.requests.now)) _ _ _ c.gather.ensures.outcomes c.requires.room.outcomes in
+    λ k d l. record {
+      between = record {
+        fits = fits k d l;
+        idle = idle k d l;
+        worked = new_has_worked c.args.submission.now.catalogue.now (size_of (g.T.FileTable.opening c.args.table)) (c.args.submission.now.earlier + 1)
+            (runs_of (all_asked c.args.submission.now.requests.now)) _ _ _ (new k d l) (room k d l);
+      };
+      room = new_has_room _ _ (all_asked c.args.submission.now.requests.now) c.args.submission.now.accepted (new k d l) (room k d l);
+    }
 
 pub close-left-requires-clause-fits : goal.close-left-requires-clause-fits
-close-left-requires-clause-fits g c = all_scattered (g.T.FileTable.fits c.args.table) _ _ _ c.scatter.ensures.passes c.work_crew.ensures.fits
+close-left-requires-clause-fits g c = all_scattered (g.T.FileTable.fits c.args.table) _ _ _ c.scatter.ensures.passes (λ k d l. (c.work_crew.ensures.done k d l).between.fits)
 
 pub close-left-requires-clause-idle : goal.close-left-requires-clause-idle
-close-left-requires-clause-idle g c = all_scattered (λ p. IsIdle (g.T.FileTable.view p)) _ _ _ c.scatter.ensures.passes c.work_crew.ensures.idle
+close-left-requires-clause-idle g c = all_scattered (λ p. IsIdle (g.T.FileTable.view p)) _ _ _ c.scatter.ensures.passes (λ k d l. (c.work_crew.ensures.done k d l).between.idle)
 
 pub join-requires-clause-completions : goal.join-requires-clause-completions
 join-requires-clause-completions g c =
     let V : g.row.T-Pass.Denot → PassView = λ p. g.T.FileTable.view p in
-    let asked : List Asked = all_asked c.args.requests.now in
+    let asked : List Asked = all_asked c.args.submission.now.requests.now in
     let o : Opening = g.T.FileTable.opening c.args.table in
     let ws : List (Worker g.row.T-Pass.Denot) = c.work_crew.new.crew.items in
-    let played = crew_has_played V c.args.catalogue.now (c.args.submissions + 1) c.args.requests.now c.args.chains.now o c.args.passes.items
+    let played = crew_has_played V c.args.submission.now.catalogue.now (c.args.submission.now.earlier + 1) c.args.submission.now.requests.now c.args.chains.now o c.args.passes.items
     c.gather.new.crew.items ws c.scatter.new.passes.items c.close-left.result c.requires.members c.requires.chains c.requires.new
     c.gather.ensures.passes c.work_crew.ensures.numbers c.scatter.ensures.passes
-    c.work_crew.ensures.worked c.work_crew.ensures.all_drawn c.close-left.ensures in
-    let all = one_of_each c.args.catalogue.now (c.args.submissions + 1) (runs_of asked) o (states V ws) _ _ played in
+    (λ k d l. (c.work_crew.ensures.done k d l).between.worked) (λ k d l. (c.work_crew.ensures.done k d l).all_drawn) c.close-left.ensures in
+    let all = one_of_each c.args.submission.now.catalogue.now (c.args.submission.now.earlier + 1) (runs_of asked) o (states V ws) _ _ played in
     let sum = as_many_completions V ws c.scatter.new.outcomes.items c.scatter.ensures.outcomes in
     let have = runs_have_all asked in
     let room = c.requires.room.all.room in
@@ -78,14 +72,14 @@ join-requires-clause-completions g c =
 pub join-requires-clause-closes : goal.join-requires-clause-closes
 join-requires-clause-closes g c =
     let V : g.row.T-Pass.Denot → PassView = λ p. g.T.FileTable.view p in
-    let asked : List Asked = all_asked c.args.requests.now in
+    let asked : List Asked = all_asked c.args.submission.now.requests.now in
     let o : Opening = g.T.FileTable.opening c.args.table in
     let ws : List (Worker g.row.T-Pass.Denot) = c.work_crew.new.crew.items in
-    let played = crew_has_played V c.args.catalogue.now (c.args.submissions + 1) c.args.requests.now c.args.chains.now o c.args.passes.items
+    let played = crew_has_played V c.args.submission.now.catalogue.now (c.args.submission.now.earlier + 1) c.args.submission.now.requests.now c.args.chains.now o c.args.passes.items
     c.gather.new.crew.items ws c.scatter.new.passes.items c.close-left.result c.requires.members c.requires.chains c.requires.new
     c.gather.ensures.passes c.work_crew.ensures.numbers c.scatter.ensures.passes
-    c.work_crew.ensures.worked c.work_crew.ensures.all_drawn c.close-left.ensures in
-    let few = closes_weigh c.args.catalogue.now (c.args.submissions + 1) (runs_of asked) o (states V ws) _ _ played in
+    (λ k d l. (c.work_crew.ensures.done k d l).between.worked) (λ k d l. (c.work_crew.ensures.done k d l).all_drawn) c.close-left.ensures in
+    let few = closes_weigh c.args.submission.now.catalogue.now (c.args.submission.now.earlier + 1) (runs_of asked) o (states V ws) _ _ played in
     let sum = as_many_files V ws c.scatter.new.outcomes.items c.scatter.ensures.outcomes in
     let weigh = runs_weigh_all asked in
     let room = ap (λ (l : CloseListView). l.room) c.requires.room.all.closes in
@@ -94,13 +88,13 @@ join-requires-clause-closes g c =
 pub returns-clause-played : goal.returns-clause-played
 returns-clause-played g c =
     let V : g.row.T-Pass.Denot → PassView = λ p. g.T.FileTable.view p in
-    let asked : List Asked = all_asked c.args.requests.now in
+    let asked : List Asked = all_asked c.args.submission.now.requests.now in
     let o : Opening = g.T.FileTable.opening c.args.table in
     let ws : List (Worker g.row.T-Pass.Denot) = c.work_crew.new.crew.items in
-    let played = crew_has_played V c.args.catalogue.now (c.args.submissions + 1) c.args.requests.now c.args.chains.now o c.args.passes.items
+    let played = crew_has_played V c.args.submission.now.catalogue.now (c.args.submission.now.earlier + 1) c.args.submission.now.requests.now c.args.chains.now o c.args.passes.items
     c.gather.new.crew.items ws c.scatter.new.passes.items c.close-left.result c.requires.members c.requires.chains c.requires.new
     c.gather.ensures.passes c.work_crew.ensures.numbers c.scatter.ensures.passes
-    c.work_crew.ensures.worked c.work_crew.ensures.all_drawn c.close-left.ensures in
+    (λ k d l. (c.work_crew.ensures.done k d l).between.worked) (λ k d l. (c.work_crew.ensures.done k d l).all_drawn) c.close-left.ensures in
     let completions : all_completed c.join.new.self.completions.items ≡ flat_map completed_by (states V ws) =
     ap all_completed (c.join.ensures.completions
     ∙ ap (λ (l : List Completion). l ++ flat_map completions_of (reverse c.scatter.new.outcomes.items)) c.requires.room.all.no_completions)
@@ -109,12 +103,12 @@ returns-clause-played g c =
     c.join.ensures.closes
     ∙ (ap (λ (l : CloseListView). l.files ++ flat_map files_of (reverse c.scatter.new.outcomes.items)) c.requires.room.all.closes
     ∙ files_joined V ws c.scatter.new.outcomes.items c.scatter.ensures.outcomes) in
-    let one = one_history c.args.catalogue.now c.args.submissions asked o (states V ws) _ _ played
+    let one = one_history c.args.submission.now.catalogue.now c.args.submission.now.earlier asked o (states V ws) _ _ played
     (all_completed c.sort.new.self.completions.items) c.sort.new.self.closes
     (runs_are_short asked c.args.chains.now c.requires.members c.requires.within)
     (subst (λ (l : List Completed). IsPermutation l (all_completed c.sort.new.self.completions.items)) completions c.sort.ensures.completions)
     c.sort.ensures.in_order
     (subst (λ (l : List Closed). IsPermutation l c.sort.new.self.closes.files) files c.sort.ensures.closes)
     c.sort.ensures.in_order_of_mark in
-    λ registrations. subst (λ (r : Reported). IsOneHistory (ring_with c.args.catalogue.now o.contents c.args.submissions registrations) asked r
-    (ring_with c.args.catalogue.now c.close-left.result (c.args.submissions + 1) registrations)) (sym c.report.ensures) (one registrations)
+    λ registrations. subst (λ (r : Reported). IsOneHistory (ring_with c.args.submission.now.catalogue.now o.contents c.args.submission.now.earlier registrations) asked r
+    (ring_with c.args.submission.now.catalogue.now c.close-left.result (c.args.submission.now.earlier + 1) registrations)) (sym c.report.ensures) (one registrations)

@@ -1,5 +1,6 @@
-use Rattle.std.proofs.Common.{sym, ◌∙◌, arith}
+use Rattle.std.proofs.Common.{sym, ap, ◌∙◌, arith}
 use Rattle.std.proofs.lemmas.List.{length-map}
+use Rattle.fx_table.specs.Pass.{PassView}
 use Rattle.fx_chain.specs.Completed.{completed_of}
 use Rattle.fx_chain.specs.Operation.{asked_of}
 use Rattle.fx_ring.proofs.ChainPlayed.{enough_looks, enough_capacity, enough_room, worked_next, room_next, number_next, worked_all}
@@ -8,43 +9,60 @@ use Rattle.fx_ring.proofs.worker.work.Goals as goal
 
 pub run_chain-requires-clause-looks : goal.run_chain-requires-clause-looks
 run_chain-requires-clause-looks g c κs within =
-    let o = g.T.FileTable.opening c.args.table.now in
-    let count = c.requires.chains ∙ sym (as_many c.args.requests.now c.args.chains.now c.requires.members) in
+    let o = g.T.FileTable.opening c.args.play.now.table.now in
+    let count = c.args.play.now.count ∙ sym (as_many c.args.play.now.submission.now.requests.now c.args.play.now.chains.now c.args.play.now.members) in
     let same = length-map c.members_of_chain.result.now asked_of in
-    let enough = enough_looks o _ _ _ _ _ _ _ _ c.loop-chain.invariant.room count c.in-Some.ensures.drawn c.members_of_chain.ensures.run in
+    let enough = enough_looks o _ _ _ _ _ _ _ _ c.loop-chain.invariant.ready.room count c.in-Some.ensures.drawn c.members_of_chain.ensures.run in
     omega arith
 
 pub run_chain-requires-clause-room : goal.run_chain-requires-clause-room
 run_chain-requires-clause-room g c κs within =
-    let o = g.T.FileTable.opening c.args.table.now in
-    let count = c.requires.chains ∙ sym (as_many c.args.requests.now c.args.chains.now c.requires.members) in
-    enough_room o _ _ _ _ _ _ _ _ c.loop-chain.invariant.room count c.in-Some.ensures.drawn c.members_of_chain.ensures.run
+    let o = g.T.FileTable.opening c.args.play.now.table.now in
+    let count = c.args.play.now.count ∙ sym (as_many c.args.play.now.submission.now.requests.now c.args.play.now.chains.now c.args.play.now.members) in
+    enough_room o _ _ _ _ _ _ _ _ c.loop-chain.invariant.ready.room count c.in-Some.ensures.drawn c.members_of_chain.ensures.run
 
 pub run_chain-requires-clause-out : goal.run_chain-requires-clause-out
 run_chain-requires-clause-out g c κs within =
-    let o = g.T.FileTable.opening c.args.table.now in
-    let count = c.requires.chains ∙ sym (as_many c.args.requests.now c.args.chains.now c.requires.members) in
+    let o = g.T.FileTable.opening c.args.play.now.table.now in
+    let count = c.args.play.now.count ∙ sym (as_many c.args.play.now.submission.now.requests.now c.args.play.now.chains.now c.args.play.now.members) in
     let same = length-map c.members_of_chain.result.now asked_of in
-    let before = length-map c.loop-chain.worker.completions.items completed_of in
-    let enough = enough_capacity o _ _ _ _ _ _ _ _ c.loop-chain.invariant.room count c.in-Some.ensures.drawn c.members_of_chain.ensures.run in
+    let before = length-map c.loop-chain.worker.outcome.completions.items completed_of in
+    let enough = enough_capacity o _ _ _ _ _ _ _ _ c.loop-chain.invariant.ready.room count c.in-Some.ensures.drawn c.members_of_chain.ensures.run in
     omega arith
 
 pub loop-chain-preserved : goal.loop-chain-preserved
 loop-chain-preserved g c =
-    let o = g.T.FileTable.opening c.args.table.now in
-    let count = c.requires.chains ∙ sym (as_many c.args.requests.now c.args.chains.now c.requires.members) in
-    let i = c.loop-chain.invariant in
+    let o = g.T.FileTable.opening c.args.play.now.table.now in
+    let count = c.args.play.now.count ∙ sym (as_many c.args.play.now.submission.now.requests.now c.args.play.now.chains.now c.args.play.now.members) in
+    let i = c.loop-chain.invariant.ready in
+    let played = c.run_chain.ensures.played in
     record {
-      fits = c.run_chain.ensures.fits;
-      idle = c.run_chain.ensures.played.2.acts.adds.now;
-      worked = worked_next o _ _ _ _ _ _ _ _ i.room count c.in-Some.ensures.drawn c.members_of_chain.ensures.run _ _ _ _ _ _
-          i.worked c.run_chain.ensures.capacity c.run_chain.ensures.played;
-      room = room_next o _ _ _ _ _ _ _ _ i.room count c.in-Some.ensures.drawn c.members_of_chain.ensures.run _ _ _ _ _ _
-          i.worked c.run_chain.ensures.capacity c.run_chain.ensures.played;
+      ready = record {
+        between = record {
+          fits = c.run_chain.ensures.fits;
+          idle = played.2.acts.adds.now;
+          worked = worked_next o _ _ _ _ _ _ _ _ i.room count c.in-Some.ensures.drawn c.members_of_chain.ensures.run _ _ _ _ _ _
+              i.between.worked c.run_chain.ensures.capacity played;
+        };
+        room = room_next o _ _ _ _ _ _ _ _ i.room count c.in-Some.ensures.drawn c.members_of_chain.ensures.run _ _ _ _ _ _
+            i.between.worked c.run_chain.ensures.capacity played;
+      };
       number = number_next o _ _ _ _ _ _ _ _ i.room count c.in-Some.ensures.drawn c.members_of_chain.ensures.run _ _ _ _ _ _
-          i.worked c.run_chain.ensures.capacity c.run_chain.ensures.played ∙ i.number;
+          i.between.worked c.run_chain.ensures.capacity played ∙ c.loop-chain.invariant.number;
     }
 
-pub returns-clause-worked : goal.returns-clause-worked
-returns-clause-worked g c =
-    worked_all (g.T.FileTable.opening c.args.table.now) _ _ _ _ _ _ _ _ c.loop-chain.invariant.worked c.in_default.ensures.drawn
+pub returns-clause-done : goal.returns-clause-done
+returns-clause-done g c =
+    let b = c.loop-chain.invariant.ready.between in
+    let drawn = c.in_default.ensures.drawn in
+    record {
+      between = record {
+        fits = c.in_default.ensures.fits;
+        idle = ap (λ (v : PassView). v.doing) drawn ∙ b.idle;
+        worked = worked_all (g.T.FileTable.opening c.args.play.now.table.now) _ _ _ _ _ _ _ _ b.worked drawn;
+      };
+      all_drawn = ap (λ (v : PassView). v.no_chains_left) drawn;
+    }
+
+pub returns-clause-number : goal.returns-clause-number
+returns-clause-number g c = ap (λ (v : PassView). v.number) c.in_default.ensures.drawn ∙ c.loop-chain.invariant.number

@@ -1,23 +1,13 @@
-use Rattle.std.proofs.Common.{◌≡◌, ◌-◌, vec_capacity}
-use Rattle.fx_table.specs.Opening.{size_of}
-use Rattle.fx_table.specs.Pass.{IsIdle}
-use Rattle.fx_chain.specs.Completed.{all_completed}
-use Rattle.fx_chain.specs.Operation.{all_asked}
-use Rattle.fx_chain.specs.Runs.{runs_of}
-use Rattle.fx_ring.specs.Work.{HasWorked, HasRoom, worker_state}
+use Rattle.std.proofs.Common.{◌≡◌, ◌-◌, ◌+◌}
+use Rattle.fx_ring.specs.Playing.{IsReady, setting_of, number_of_worker}
 use Rattle.fx_ring.proofs.worker.work.Given as goal
 
 abbrev pub invariant-loop-chain : goal.invariant-loop-chain
-invariant-loop-chain g l = record {
-  fits : g.T.FileTable.fits l.table l.worker.pass;
-  idle : IsIdle (g.T.FileTable.view l.worker.pass);
-  worked : HasWorked l.catalogue (size_of (g.T.FileTable.opening l.table)) l.submission (runs_of (all_asked l.requests))
-      (worker_state (g.T.FileTable.view l.worker.pass) (all_completed l.worker.completions.items) l.worker.closes);
-  room : HasRoom (runs_of (all_asked l.requests))
-      (worker_state (g.T.FileTable.view l.worker.pass) (all_completed l.worker.completions.items) l.worker.closes)
-      (vec_capacity l.worker.completions);
-  number : (g.T.FileTable.view l.worker.pass).number ≡ (g.T.FileTable.view l.initial.worker.pass).number;
+invariant-loop-chain g l = let p = l.play in record {
+  ready : IsReady g.T.FileTable.view (g.T.FileTable.fits p.table.now)
+      (setting_of p.submission.now.catalogue.now (g.T.FileTable.opening p.table.now) (p.submission.now.earlier + 1) p.submission.now.requests.now) l.worker;
+  number : number_of_worker g.T.FileTable.view l.worker ≡ number_of_worker g.T.FileTable.view l.initial.worker;
 }
 
 abbrev pub decreases-loop-chain : goal.decreases-loop-chain
-decreases-loop-chain g l = (g.T.FileTable.opening l.table).chains - (g.T.FileTable.view l.worker.pass).chain
+decreases-loop-chain g l = (g.T.FileTable.opening l.play.table.now).chains - (g.T.FileTable.view l.worker.pass).chain

@@ -1,7 +1,7 @@
 use Rattle.std.proofs.Common.{◌≡◌, take, sum_by}
 use Rattle.fx_chain.specs.Operation.{operation_of}
 use Rattle.fx_chain.specs.Weights.{weight_of}
-use Rattle.fx_ring.proofs.crew.weight_of_all.Given as goal
+use Rattle.fx_ring.proofs.outcome.weight_of_all.Given as goal
 
 abbrev pub invariant-loop-request : goal.invariant-loop-request
 invariant-loop-request l = l.weight ≡ sum_by (λ r. weight_of (operation_of r.op)) (take l.request-index l.requests)

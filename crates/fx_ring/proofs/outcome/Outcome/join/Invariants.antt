@@ -1,5 +1,5 @@
 use Rattle.std.proofs.Common.{◌≡◌, ◌≤◌, ◌++◌, ◌+◌, length, flat_map, sum_by, reverse, vec_len, vec_capacity}
-use Rattle.fx_ring.proofs.crew.Outcome.join.Given as goal
+use Rattle.fx_ring.proofs.outcome.Outcome.join.Given as goal
 
 abbrev pub invariant-loop-other : goal.invariant-loop-other
 invariant-loop-other l = record {

@@ -2,7 +2,7 @@ use Rattle.std.proofs.Common.{◌+◌, ◌*◌, rules}
 use Rattle.std.proofs.lemmas.List.Sorted.{IsPermutation-map, IsNonDecreasingBy-from_sort_by_key}
 use Rattle.fx_chain.specs.Completed.{completed_of}
 use Rattle.fx_ring.proofs.RoomForAll.{IsNonDecreasingBy-map}
-use Rattle.fx_ring.proofs.crew.Outcome.sort.Goals as goal
+use Rattle.fx_ring.proofs.outcome.Outcome.sort.Goals as goal
 
 pub returns-clause-completions : goal.returns-clause-completions
 returns-clause-completions c = IsPermutation-map completed_of _ _ c.sort_unstable_by_key.ensures.permutation

@@ -1,7 +1,7 @@
 use Rattle.std.proofs.Common.{◌≡◌, ◌≤◌, length, All, vec_capacity}
 use Rattle.fx_chain.specs.Operation.{all_asked}
 use Rattle.fx_ring.specs.Outcomes.{HasRoomFor}
-use Rattle.fx_ring.proofs.crew.Outcome.for_each.Given as goal
+use Rattle.fx_ring.proofs.outcome.Outcome.for_each.Given as goal
 
 abbrev pub invariant-loop : goal.invariant-loop
 invariant-loop l = record {

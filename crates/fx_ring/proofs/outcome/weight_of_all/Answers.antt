@@ -1,6 +1,6 @@
 use Rattle.std.proofs.Common.{arith}
 use Rattle.fx_ring.proofs.RoomForAll.{one_more_fits}
-use Rattle.fx_ring.proofs.crew.weight_of_all.Goals as goal
+use Rattle.fx_ring.proofs.outcome.weight_of_all.Goals as goal
 
 pub overflow_cast-weight : goal.overflow_cast-weight
 overflow_cast-weight c =

@@ -1,0 +1,128 @@
+//! What the chains of a submission come to: those of one worker, or all of them.
+ghost use Rattle.std.specs.Prelude.{◌≡◌, ◌+◌, ◌*◌, ◌≤◌, ◌++◌, length, flat_map, sum_by, reverse, All, IfOk, IsPermutation, vec_len, vec_capacity};
+ghost use Rattle.std.specs.List.Sorted.{IsNonDecreasingBy};
+ghost use Rattle.fx_base.specs.CloseList.{IsInOrderOfMark};
+ghost use Rattle.fx_chain.specs.Accepted.{IsAccepted};
+ghost use Rattle.fx_chain.specs.Completed.{all_completed};
+ghost use Rattle.fx_chain.specs.Operation.{all_asked};
+ghost use Rattle.fx_chain.specs.Weights.{all_weights};
+ghost use Rattle.fx_ring.specs.Outcomes.{HasRoomFor};
+ghost use Rattle.fx_ring.specs.Submission.{reported};
+
+use crate::report::Report;
+use fx_base::{CloseList, NoMemory};
+use fx_chain::{Completion, Place, Request};
+use std::alloc::Global;
+
+/// What some chains come to: those of a worker, or all of a submission.
+#[derive(Drop)]
+pub(crate) struct Outcome {
+    pub(crate) completions: Vec<Completion>,
+    pub(crate) closes: CloseList,
+}
+
+// The number of a place among those of a submission. A chain has at most 16 members.
+fn rank(place: Place) -> u64
+    ensures { result ≡ place.chain * 32 + place.member }
+{
+    u64::from(place.chain) * 32 + u64::from(place.member)
+}
+
+// How many files the requests may close together.
+fn weight_of_all(requests: &[Request]) -> u32
+    requires { IsAccepted (all_asked requests.now) }
+    ensures { result ≡ all_weights (all_asked requests.now) }
+{
+    let mut weight = 0;
+    for request in requests {
+        weight += request.weight() as u32;
+    }
+    weight
+}
+
+impl Outcome {
+    /// Nothing yet, with room for a completion of each request and for all files that the requests may close.
+    pub(crate) fn with_room(alloc: Global, requests: &[Request]) -> Result<Outcome, NoMemory>
+        requires { IsAccepted (all_asked requests.now) }
+        ensures { IfOk result (HasRoomFor (all_asked requests.now)) }
+    {
+        let completions = Vec::with_capacity(alloc, requests.len())?;
+        let closes = CloseList::with_room(alloc, weight_of_all(requests))?;
+        Ok(Outcome {
+            completions,
+            closes,
+        })
+    }
+
+    /// One for each of so many workers.
+    pub(crate) fn for_each(
+        alloc: Global,
+        requests: &[Request],
+        workers: u32,
+    ) -> Result<Vec<Outcome>, NoMemory>
+        requires { IsAccepted (all_asked requests.now) }
+        ensures count { IfOk result (λ outcomes. length outcomes.items ≡ workers) }
+        ensures room { IfOk result (λ outcomes.
+            All (HasRoomFor (all_asked requests.now)) outcomes.items) }
+    {
+        let mut outcomes = Vec::with_capacity(alloc, workers as usize)?;
+        for _ in 0..workers {
+            outcomes.push_reserved(Outcome::with_room(alloc, requests)?);
+        }
+        Ok(outcomes)
+    }
+
+    /// Takes what all the others came to. It can't fail for want of memory.
+    pub(crate) fn join(&mut self, mut others: Vec<Outcome>)
+        requires completions { vec_len self.old.completions
+            + sum_by (λ other. length other.completions.items) others.items
+            ≤ vec_capacity self.old.completions }
+        requires closes { sum_by (λ other. length other.closes.files) others.items
+            ≤ self.old.closes.room }
+        ensures completions { self.new.completions.items ≡ self.old.completions.items
+            ++ flat_map (λ other. other.completions.items) (reverse others.items) }
+        ensures closes { self.new.closes.files ≡ self.old.closes.files
+            ++ flat_map (λ other. other.closes.files) (reverse others.items) }
+    {
+        while let Some(other) = others.pop() {
+            let Outcome {
+                mut completions,
+                closes,
+            } = other;
+            self.completions.append(&mut completions).unwrap();
+            self.closes.append(closes);
+        }
+    }
+
+    /// Puts the completions in order of place, and the closes in order of mark.
+    pub(crate) fn sort(&mut self)
+        ensures completions { IsPermutation (all_completed self.old.completions.items)
+            (all_completed self.new.completions.items) }
+        ensures in_order { IsNonDecreasingBy (λ c. c.place.chain * 32 + c.place.member)
+            (all_completed self.new.completions.items) }
+        ensures closes { IsPermutation self.old.closes.files self.new.closes.files }
+        ensures in_order_of_mark { IsInOrderOfMark self.new.closes.files }
+    {
+        self.completions.sort_unstable_by_key(|c| rank(c.place));
+        self.closes.sort();
+    }
+
+    /// The report of the submission that came to this.
+    pub(crate) fn report(self, submission: u32) -> Report
+        ensures { reported result ≡ record {
+          submission = submission;
+          completions = all_completed self.completions.items;
+          closes = self.closes;
+        } }
+    {
+        let Outcome {
+            completions,
+            closes,
+        } = self;
+        Report {
+            submission,
+            completions,
+            closes,
+        }
+    }
+}

@@ -1,0 +1,37 @@
+ghost use Rattle.std.specs.Prelude.{◌≡◌, ◌<◌, length, map, All};
+ghost use Rattle.fx_chain.specs.Accepted.{IsAccepted, IsChain, members_of};
+ghost use Rattle.fx_chain.specs.Operation.{all_asked};
+ghost use Rattle.fx_chain.specs.Runs.{runs_of};
+ghost use Rattle.fx_ring.specs.declared.ring.TheConstants.{MOST_SUBMISSIONS};
+
+use crate::ring::MOST_SUBMISSIONS;
+use fx_base::Catalogue;
+use fx_chain::{Chain, Request};
+use fx_table::FileTable;
+use std::alloc::Global;
+
+/// An accepted submission, and what it is played with.
+#[derive(Drop)]
+pub(crate) struct Submission<'a, R, G> {
+    pub(crate) rt: &'a R,
+    pub(crate) alloc: Global,
+    pub(crate) catalogue: &'a Catalogue,
+    // How many submissions the ring accepted before this one, whose number is one more.
+    pub(crate) earlier: u32,
+    pub(crate) requests: &'a [Request],
+    pub(crate) gate: &'a G,
+    pub ghost few: { earlier < MOST_SUBMISSIONS },
+    pub ghost accepted: { IsAccepted (all_asked requests.now) },
+}
+
+/// What doesn't change while the workers of a submission play: its chains, on a table that was opened for so many.
+#[derive(Drop)]
+pub(crate) struct Play<'a, T: FileTable, R, G> {
+    pub(crate) submission: &'a Submission<'a, R, G>,
+    pub(crate) table: &'a T,
+    pub(crate) chains: &'a [Chain],
+    pub ghost members: { map (members_of (all_asked submission.now.requests.now)) chains.now
+        ≡ runs_of (all_asked submission.now.requests.now) },
+    pub ghost within: { All (IsChain (all_asked submission.now.requests.now)) chains.now },
+    pub ghost count: { (T.opening table.now).chains ≡ length chains.now },
+}
