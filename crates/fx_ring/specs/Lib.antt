@@ -4,3 +4,4 @@ pub mod Slots
 pub mod Submission
 pub mod Work
 pub mod Outcomes
+pub mod Laws
