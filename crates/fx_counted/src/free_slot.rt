@@ -104,7 +104,7 @@ impl CountedTable {
     ///
     /// # Errors
     /// The file comes back where every slot of the range has a file (ENFILE). It costs no number.
-    pub fn put_any<R: Wait>(
+    pub(crate) fn put_any<R: Wait>(
         &self,
         rt: &R,
         pass: &mut CountedPass,

@@ -35,7 +35,7 @@ impl CountedTable {
     ///
     /// # Errors
     /// `NoMemory` where memory is refused. The table comes back settled, with its files, size and range.
-    pub fn open(
+    pub(crate) fn open(
         alloc: Global,
         plain: PlainTable,
         chains: u32,
