@@ -1,5 +1,5 @@
 -- What the laws of histories say of a submission's history.
-use Rattle.std.proofs.Common.{◌≡◌, ℕ, ◌<◌, ◌≤◌, false, List, [], length, Option, Some, None, not, ◌&&◌, nat_lt, refl, sym, ap, ◌∙◌, subst}
+use Rattle.std.proofs.Common.{◌≡◌, ℕ, ◌<◌, false, List, length, Option, Some, None, not, ◌&&◌, nat_lt, refl, sym, ap, ◌∙◌, subst}
 use Rattle.std.proofs.lemmas.Bool.{lt-ltb}
 use Rattle.fx_plain.specs.State.{State, opening, file_numbered}
 use Rattle.fx_plain.specs.Contents.{state_of}
@@ -13,7 +13,6 @@ use Rattle.fx_plain.proofs.LawTallies.{closed_at_most_once}
 use Rattle.fx_table.specs.Numbers.{numbers_for}
 use Rattle.fx_chain.specs.Runs.{runs_of}
 use Rattle.fx_ring.specs.Laws.{NoHeldFileCloses, NoFileClosesTwice, NoFileIsLost, start_of_submission}
-use Rattle.fx_ring.specs.Submission.{IsOneHistory}
 
 none_is_some : {X : Type 0} (x : X) → Some x ≡ None → ⊥
 none_is_some x is = cc

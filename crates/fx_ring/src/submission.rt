@@ -27,8 +27,8 @@ use std::sync::Wait;
 use std::thread::Threads;
 
 // Plays the chains of the requests on a table that was opened for them, as the next submission behind so many.
-fn play_open<T: FileTable, R: Threads + Wait + Sync, G: Gate>(
-    rt: &R,
+fn play_open<T: FileTable, G: Gate>(
+    rt: &(impl Threads + Wait + Sync),
     alloc: Global,
     table: T,
     mut passes: Vec<T::Pass>,
@@ -74,8 +74,8 @@ fn play_open<T: FileTable, R: Threads + Wait + Sync, G: Gate>(
 }
 
 // Plays the requests on a table, as the next submission behind so many.
-fn play<T: FileTable, R: Threads + Wait + Sync, G: Gate>(
-    rt: &R,
+fn play<T: FileTable, G: Gate>(
+    rt: &(impl Threads + Wait + Sync),
     alloc: Global,
     plain: PlainTable,
     catalogue: &Catalogue,
@@ -168,9 +168,9 @@ impl Ring {
     /// ([`fx_chain::check`]), `TooMany` after [`MOST_SUBMISSIONS`] accepted submissions, and `NoMemory` where memory is
     /// refused. Then no request has started, and the ring has the files, the size, the range and the counts that it had.
     /// Memory for the bytes of a read is taken while it is played: where that is refused, the read completes with ENOMEM.
-    pub fn submit<T: FileTable, R: Threads + Wait + Sync, G: Gate>(
+    pub fn submit<T: FileTable, G: Gate>(
         &mut self,
-        rt: &R,
+        rt: &(impl Threads + Wait + Sync),
         alloc: Global,
         requests: &[Request],
         workers: u32,
@@ -192,7 +192,7 @@ impl Ring {
             return Err(fault);
         }
         let plain = mem::replace(&mut self.table, PlainTable::none(alloc));
-        match play::<T, R, G>(
+        match play::<T, G>(
             rt,
             alloc,
             plain,
