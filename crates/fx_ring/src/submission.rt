@@ -27,8 +27,8 @@ use std::sync::Wait;
 use std::thread::Threads;
 
 // Plays the chains of the requests on a table that was opened for them, as the next submission behind so many.
-fn play_open<T: FileTable, G: Gate>(
-    rt: &(impl Threads + Wait + Sync),
+fn play_open<T: FileTable, R: Threads + Wait + Sync, G: Gate>(
+    rt: &R,
     alloc: Global,
     table: T,
     mut passes: Vec<T::Pass>,
@@ -74,8 +74,8 @@ fn play_open<T: FileTable, G: Gate>(
 }
 
 // Plays the requests on a table, as the next submission behind so many.
-fn play<T: FileTable, G: Gate>(
-    rt: &(impl Threads + Wait + Sync),
+fn play<T: FileTable, R: Threads + Wait + Sync, G: Gate>(
+    rt: &R,
     alloc: Global,
     plain: PlainTable,
     catalogue: &Catalogue,
@@ -192,7 +192,7 @@ impl Ring {
             return Err(fault);
         }
         let plain = mem::replace(&mut self.table, PlainTable::none(alloc));
-        match play::<T, G>(
+        match play::<T, _, G>(
             rt,
             alloc,
             plain,
