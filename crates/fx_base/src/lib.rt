@@ -5,6 +5,7 @@
 mod catalogue;
 mod close_list;
 mod errno;
+pub mod laws;
 mod mark;
 mod name;
 mod no_memory;

@@ -28,8 +28,8 @@ fn main(rt: HostRuntime) -> ExitCode {
     let (alloc, gate) = (rt.alloc(), &OpenGate);
     let (input, output) = (&mut rt.reader(), &mut io::writer(&rt));
     let played = match table {
-        Table::Words => run::<CountedTable, _, _, _, _>(&rt, alloc, workers, gate, input, output),
-        Table::Baton => run::<BatonTable, _, _, _, _>(&rt, alloc, workers, gate, input, output),
+        Table::Words => run::<CountedTable, _, _, _>(&rt, alloc, workers, gate, input, output),
+        Table::Baton => run::<BatonTable, _, _, _>(&rt, alloc, workers, gate, input, output),
     };
     match played {
         Ok(()) => ExitCode::SUCCESS,

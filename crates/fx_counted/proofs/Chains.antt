@@ -77,7 +77,7 @@ bit_here p q e = rw (eq-eqb q p e) refl
 pub bit_else : (p q : ℕ) → q ≢ p → one_if (eqb q p) ≡ 0
 bit_else p q e = rw (ne_eqb q p e) refl
 
-told_few : (l : List Log) → sum_by (λ y. one_if y.no_chains_left) l ≤ length l
+pub told_few : (l : List Log) → sum_by (λ y. one_if y.no_chains_left) l ≤ length l
 told_few [] = omega arith
 told_few (y ∷ l) = let a = told_few l in let c = sum_by-cons (λ y. one_if y.no_chains_left) y l in let b = one_bit y.no_chains_left in omega arith
   where

@@ -49,19 +49,19 @@ total_gap f g (x ∷ xs) zero v e each = let p : f x ≡ f v = ap f (some-inject
 total_gap f g (x ∷ xs) (suc i) v e each = let a = each 0 x refl in let c = sum_by-cons f x xs in
     let d = sum_by-cons g x xs in let b = total_gap f g xs i v e (λ j y d. each (suc j) y d) in omega arith
 
-at_most_one : (c : Change) → in_change c ≤ 1
+pub at_most_one : (c : Change) → in_change c ≤ 1
 at_most_one Outside = omega arith
 at_most_one Same = omega arith
 at_most_one More = omega arith
 at_most_one Less = omega arith
 
-adds_inside : (c : Change) → added c ≤ in_change c
+pub adds_inside : (c : Change) → added c ≤ in_change c
 adds_inside Outside = omega arith
 adds_inside Same = omega arith
 adds_inside More = omega arith
 adds_inside Less = omega arith
 
-removes_inside : (c : Change) → removed_by c ≤ in_change c
+pub removes_inside : (c : Change) → removed_by c ≤ in_change c
 removes_inside Outside = omega arith
 removes_inside Same = omega arith
 removes_inside More = omega arith

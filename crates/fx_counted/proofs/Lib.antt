@@ -18,6 +18,7 @@ pub mod ControlSteps
 pub mod SlotLaws
 pub mod Seats
 pub mod Chains
+pub mod WordBounds
 pub mod Openings
 pub mod Going
 pub mod Naming

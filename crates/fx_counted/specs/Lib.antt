@@ -8,6 +8,7 @@ pub mod Agrees
 pub mod Cuts
 pub mod Tells
 pub mod Laws
+pub mod Bounds
 pub mod Opens
 pub mod Goes
 pub mod Moves

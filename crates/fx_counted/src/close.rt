@@ -20,9 +20,9 @@ use fx_words::node_of;
 use std::alloc::Global;
 
 impl CountedTable {
-    /// Makes a table of one thread of it again, when all passes have come back, each of them idle (`is_idle`): as many as
-    /// `open` gave, in any order. It takes no memory, and so can't fail for want of it.
-    pub fn close(self, mut passes: Vec<CountedPass>) -> PlainTable
+    // Makes a table of one thread of it again, when all passes have come back, each of them idle (`is_idle`): as many as
+    // `open` gave, in any order. It takes no memory, and so can't fail for want of it.
+    pub(crate) fn close(self, mut passes: Vec<CountedPass>) -> PlainTable
         requires all { length passes.items ≡ (opening_of_table self).passes }
         requires fits { All (IsPassOfTable self) passes.items }
         requires idle { All (λ p. IsIdle (view_of p)) passes.items }

@@ -96,15 +96,12 @@ impl CountedTable {
         }
     }
 
-    /// Installs a file at a free slot of the allocation range, under the next number of an idle pass (`is_idle`) that has
-    /// one (`numbers_left`). The answer is the slot (io_uring_prep_openat(3), "IORING_FILE_INDEX_ALLOC").
-    ///
-    /// It goes over the range in rounds until it has found a free slot, or every slot was full at one moment, and yields
-    /// its thread between two rounds.
-    ///
-    /// # Errors
-    /// The file comes back where every slot of the range has a file (ENFILE). It costs no number.
-    pub fn put_any<R: Wait>(
+    // Installs a file at a free slot of the allocation range, under the next number of an idle pass (`is_idle`) that has
+    // one (`numbers_left`). The answer is the slot (io_uring_prep_openat(3), "IORING_FILE_INDEX_ALLOC").
+    // It goes over the range in rounds until it has found a free slot, or every slot was full at one moment, and yields
+    // its thread between two rounds.
+    // The file comes back where every slot of the range has a file (ENFILE). It costs no number.
+    pub(crate) fn put_any<R: Wait>(
         &self,
         rt: &R,
         pass: &mut CountedPass,

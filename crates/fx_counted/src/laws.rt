@@ -3,6 +3,7 @@
 ghost use Rattle.std.specs.Prelude.{ℕ, ◌≤◌};
 ghost use Rattle.fx_plain.specs.declared.table.TheConstants.{MOST_SLOTS};
 ghost use Rattle.fx_counted.specs.Layout.{PlacesAreInside, PlacesAreApart};
+ghost use Rattle.fx_counted.specs.Bounds.{WordsAreBounded};
 ghost use Rattle.fx_counted.specs.Opens.{OpeningKeeps};
 ghost use Rattle.fx_counted.specs.Laws.{SplitsKeep, JoinsKeep, BirthsKeep, LooksKeep, InstallsKeep, ClearsKeep, TakesKeep, RetiresKeep, ReleasesKeep, RestsKeep, BeginsKeep, EndsKeep, AnswersKeep, LoadsKeep, ExchangesKeep, DrawsKeep};
 
@@ -94,6 +95,13 @@ pub fn exchange_keeps_rule()
 /// An idle pass that adds 1 to the draw word keeps the rule, and has the next chain or is told that there are no more.
 pub fn draw_keeps_rule()
     ensures { DrawsKeep }
+{}
+
+/// Where the rule holds, no word runs over. The takes of a slot, with all looks that are left, are at most 2^24. Releases
+/// alone don't take the node word of a file to 0 before the file is retired. The draw word is at most the number of chains
+/// and 16. At most 16 changes are in flight, and the lower half of the control word is between 65,520 and 65,808.
+pub fn words_are_bounded()
+    ensures { WordsAreBounded }
 {}
 
 /// Each word and each open file has its place inside.

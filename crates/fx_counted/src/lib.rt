@@ -9,7 +9,7 @@ mod free_slot;
 mod in_range;
 mod kinds;
 pub mod laws;
-pub mod layout;
+mod layout;
 mod moves;
 mod open;
 mod pass;
@@ -21,10 +21,5 @@ mod table;
 mod tests;
 mod view;
 
-pub use kinds::{
-    Answer, Begin, Birth, Clear, Deal, Draw, End, Exchange, Gather, Install, Load, Look,
-    OneHistory, Release, Rest, Retire, Take,
-};
 pub use pass::CountedPass;
 pub use table::CountedTable;
-pub use view::{Change, Log, Start, View, Work};

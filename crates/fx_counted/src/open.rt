@@ -28,14 +28,12 @@ use std::alloc::Global;
 use std::snapshot::Snapshot;
 
 impl CountedTable {
-    /// Shares a settled table (`PlainTable::is_settled`) between `passes` passes, 1 to [`fx_table::MAX_PASSES`], which play
-    /// `chains` chains, at most [`fx_table::MAX_CHAINS`]. The file at slot `s` has number `s`, and chain `c`, from 1, the
-    /// numbers from `numbers_for(c - 1)` up to `numbers_for(c)` ([`fx_table::numbers_for`]). The passes are numbered from
-    /// 1, in the list's order. All memory is taken here.
-    ///
-    /// # Errors
-    /// `NoMemory` where memory is refused. The table comes back settled, with its files, size and range.
-    pub fn open(
+    // Shares a settled table (`PlainTable::is_settled`) between `passes` passes, 1 to `fx_table::MAX_PASSES`, which play
+    // `chains` chains, at most `fx_table::MAX_CHAINS`. The file at slot `s` has number `s`, and chain `c`, from 1, the
+    // numbers from `numbers_for(c - 1)` up to `numbers_for(c)` (`fx_table::numbers_for`). The passes are numbered from
+    // 1, in the list's order. All memory is taken here.
+    // `NoMemory` where memory is refused. The table comes back settled, with its files, size and range.
+    pub(crate) fn open(
         alloc: Global,
         plain: PlainTable,
         chains: u32,

@@ -9,41 +9,41 @@ use crate::pass::CountedPass;
 use crate::table::CountedTable;
 
 impl CountedTable {
-    /// How many slots there are, at most [`fx_plain::MOST_SLOTS`].
-    pub fn size(&self) -> u32
+    // How many slots there are, at most `fx_plain::MOST_SLOTS`.
+    pub(crate) fn size(&self) -> u32
         ensures value { result ≡ size_of (opening_of_table self.now) }
         ensures few { result ≤ MOST_SLOTS }
     {
         self.size
     }
 
-    /// The allocation range: the first slot and the number of slots.
-    pub fn range(&self) -> (u32, u32)
+    // The allocation range: the first slot and the number of slots.
+    pub(crate) fn range(&self) -> (u32, u32)
         ensures { result ≡ range_of (opening_of_table self.now) }
     {
         (self.range_start, self.range_len)
     }
 
-    /// Whether the pass does nothing now.
-    pub fn is_idle(&self, pass: &CountedPass) -> bool
+    // Whether the pass does nothing now.
+    pub(crate) fn is_idle(&self, pass: &CountedPass) -> bool
         requires { IsPassOfTable self.now pass.now }
         ensures { IsTrue result ↔ IsIdle (view_of pass.now) }
     {
         pass.idle
     }
 
-    /// How many look-ups are left to the pass, of [`fx_table::PASS_LOOKS`] at first. Each `look` that isn't `Spent` uses
-    /// one.
-    pub fn looks_left(&self, pass: &CountedPass) -> u32
+    // How many look-ups are left to the pass, of `fx_table::PASS_LOOKS` at first. Each `look` that isn't `Spent` uses
+    // one.
+    pub(crate) fn looks_left(&self, pass: &CountedPass) -> u32
         requires { IsPassOfTable self.now pass.now }
         ensures { result ≡ (view_of pass.now).looks_left }
     {
         pass.looks_left
     }
 
-    /// How many files the pass can install before it draws again: 0 before the first draw, [`fx_table::CHAIN_NUMBERS`]
-    /// after each draw that gives a chain, and one less after each installation.
-    pub fn numbers_left(&self, pass: &CountedPass) -> u32
+    // How many files the pass can install before it draws again: 0 before the first draw, `fx_table::CHAIN_NUMBERS`
+    // after each draw that gives a chain, and one less after each installation.
+    pub(crate) fn numbers_left(&self, pass: &CountedPass) -> u32
         requires { IsPassOfTable self.now pass.now }
         ensures { result ≡ (view_of pass.now).numbers_left }
     {

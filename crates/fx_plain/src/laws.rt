@@ -1,7 +1,14 @@
-//! Laws of histories, over the steps of the model and legal histories alone. Each is the contract of a function that
-//! does nothing (this project's own).
+//! The limit of a table, and laws of histories, over the steps of the model and legal histories alone. Each is the
+//! contract of a function that does nothing (this project's own).
 
+ghost use Rattle.std.specs.Prelude.{◌≡◌};
 ghost use Rattle.fx_plain.specs.Laws.{NoCloseWhileHeld, ClosedAtMostOnce, EveryRemovedFileIsClosed, EveryFileWasThereOrInstalled, OpeningIsStart};
+ghost use Rattle.fx_plain.specs.declared.table.TheConstants.{MOST_SLOTS};
+
+/// A table has at most 256 slots.
+pub fn limits_are_numbers()
+    ensures most_slots { MOST_SLOTS ≡ 256 }
+{}
 
 /// A file that a pass looked up is not closed before the pass releases it.
 pub fn no_close_while_held()

@@ -25,3 +25,4 @@ pub mod WorkersTogether
 pub mod NewCrew
 pub mod PlayedCrew
 pub mod SameAt
+pub mod SubmissionLaws

@@ -6,3 +6,4 @@ pub mod Work
 pub mod Outcomes
 pub mod Playing
 pub mod PlaySetting
+pub mod Laws

@@ -3,6 +3,7 @@
 #![tactic(auto)]
 
 mod crew;
+pub mod laws;
 mod list;
 mod outcome;
 mod play;

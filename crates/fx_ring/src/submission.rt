@@ -145,9 +145,9 @@ impl Ring {
     /// ([`fx_chain::check`]), `TooMany` after [`MOST_SUBMISSIONS`] accepted submissions, and `NoMemory` where memory is
     /// refused. Then no request has started, and the ring has the files, the size, the range and the counts that it had.
     /// Memory for the bytes of a read is taken while it is played: where that is refused, the read completes with ENOMEM.
-    pub fn submit<T: FileTable, R: Threads + Wait + Sync, G: Gate>(
+    pub fn submit<T: FileTable, G: Gate>(
         &mut self,
-        rt: &R,
+        rt: &(impl Threads + Wait + Sync),
         alloc: Global,
         requests: &[Request],
         workers: u32,
@@ -177,7 +177,7 @@ impl Ring {
             requests,
             gate,
         };
-        match play::<T, R, G>(&submission, plain, workers) {
+        match play::<T, _, G>(&submission, plain, workers) {
             Ok((left, report)) => {
                 mem::replace(&mut self.table, left).dismiss();
                 self.submissions += 1;

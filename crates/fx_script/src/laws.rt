@@ -1,7 +1,19 @@
-//! Laws of scripts, over bytes alone. Each is the contract of a function that does nothing (this project's own).
+//! The limits of scripts, and laws of them, over bytes alone. Each is the contract of a function that does nothing (this
+//! project's own).
 
-ghost use Rattle.std.specs.Prelude.{ℕ, List};
+ghost use Rattle.std.specs.Prelude.{◌≡◌, ℕ, List};
 ghost use Rattle.fx_script.specs.Laws.{IsScriptOrFaulty};
+ghost use Rattle.fx_script.specs.declared.limits.TheConstants.{LONGEST_SCRIPT, LONGEST_LINE, LARGEST_NUMBER};
+ghost use Rattle.fx_script.specs.declared.input.TheConstants.{MOST_TURNS};
+
+/// A script has at most 4,194,304 bytes, each line at most 10,000, and no number above 2,147,483,647. A reader is asked
+/// for more at most 8,388,608 times.
+pub fn limits_are_numbers()
+    ensures longest_script { LONGEST_SCRIPT ≡ 4194304 }
+    ensures longest_line { LONGEST_LINE ≡ 10000 }
+    ensures largest_number { LARGEST_NUMBER ≡ 2147483647 }
+    ensures most_turns { MOST_TURNS ≡ 8388608 }
+{}
 
 /// Every byte string is a script, which says one thing, or has one fault on one line, and never both.
 pub fn every_byte_string_is_a_script_or_has_one_fault()

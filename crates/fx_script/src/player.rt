@@ -31,8 +31,8 @@ fn write_text<W: Write>(writer: &mut W, text: &str) -> Result<(), PlayFault>
 }
 
 // Plays the commands, writes what each prints, and closes the files that are left at the end.
-fn play_commands<T: FileTable, R: Threads + Wait + Sync, G: Gate, W: Write>(
-    rt: &R,
+fn play_commands<T: FileTable, G: Gate, W: Write>(
+    rt: &(impl Threads + Wait + Sync),
     alloc: Global,
     ring: &mut Ring,
     commands: &[Command],
@@ -49,7 +49,7 @@ fn play_commands<T: FileTable, R: Threads + Wait + Sync, G: Gate, W: Write>(
     ensures closed { OnOk result ((ring_of ring.new).size ≡ 0) }
 {
     for command in commands {
-        let text = command_text::<T, R, G>(rt, alloc, ring, command, workers, gate)?;
+        let text = command_text::<T, G>(rt, alloc, ring, command, workers, gate)?;
         write_text(writer, text.as_str())?;
     }
     let text = end_text(alloc, ring)?;
@@ -64,8 +64,8 @@ fn play_commands<T: FileTable, R: Threads + Wait + Sync, G: Gate, W: Write>(
 /// # Errors
 /// `Write` where a write fails: how much of its text went out is not known. `NoMemory` where memory is refused: what was
 /// written is then what the commands before print. The files that are open are let go.
-pub fn play<T: FileTable, R: Threads + Wait + Sync, G: Gate, W: Write>(
-    rt: &R,
+pub fn play<T: FileTable, G: Gate, W: Write>(
+    rt: &(impl Threads + Wait + Sync),
     alloc: Global,
     script: Script,
     workers: u32,
@@ -80,7 +80,7 @@ pub fn play<T: FileTable, R: Threads + Wait + Sync, G: Gate, W: Write>(
 {
     let (catalogue, commands) = script.into_parts();
     let mut ring = Ring::new(alloc, catalogue);
-    let result = play_commands::<T, R, G, W>(
+    let result = play_commands::<T, G, W>(
         rt,
         alloc,
         &mut ring,

@@ -81,8 +81,8 @@ fn update(alloc: Global, ring: &mut Ring, off: u32, list: &[i32]) -> Result<Stri
     }
 }
 
-fn submit<T: FileTable, R: Threads + Wait + Sync, G: Gate>(
-    rt: &R,
+fn submit<T: FileTable, G: Gate>(
+    rt: &(impl Threads + Wait + Sync),
     alloc: Global,
     ring: &mut Ring,
     requests: &[Request],
@@ -93,7 +93,7 @@ fn submit<T: FileTable, R: Threads + Wait + Sync, G: Gate>(
     ensures { IfOk result (λ text.
         Prints ring.old (SubmitsAll (all_asked requests.now)) ring.new (string_bytes text)) }
 {
-    match ring.submit::<T, R, G>(rt, alloc, requests, workers, gate) {
+    match ring.submit::<T, G>(rt, alloc, requests, workers, gate) {
         Ok(report) => report_text(alloc, &report, ring.catalogue()),
         Err(SubmitFault::Cut(fault)) => refused_line(alloc, fault),
         Err(SubmitFault::TooMany) => too_many_line(alloc),
@@ -104,8 +104,8 @@ fn submit<T: FileTable, R: Threads + Wait + Sync, G: Gate>(
 
 // Gives a command to the ring, and gives what it prints. Want of memory in a call between submissions is printed; it is an
 // answer here where it is that of a submission or of a text.
-pub fn command_text<T: FileTable, R: Threads + Wait + Sync, G: Gate>(
-    rt: &R,
+pub fn command_text<T: FileTable, G: Gate>(
+    rt: &(impl Threads + Wait + Sync),
     alloc: Global,
     ring: &mut Ring,
     command: &Command,
@@ -123,7 +123,7 @@ pub fn command_text<T: FileTable, R: Threads + Wait + Sync, G: Gate>(
         Command::Range(off, len) => range(alloc, ring, *off, *len),
         Command::Update(off, list) => update(alloc, ring, *off, list.as_slice()),
         Command::Submit(requests) => {
-            submit::<T, R, G>(rt, alloc, ring, requests.as_slice(), workers, gate)
+            submit::<T, G>(rt, alloc, ring, requests.as_slice(), workers, gate)
         }
     }
 }

@@ -30,20 +30,20 @@ fn read_script<I: Read>(alloc: Global, reader: &mut I) -> Result<Script, PlayFau
 /// # Errors
 /// `Read` where a read fails, an interrupted one too, or where the end has not come after 8,388,608 reads, and `Script`
 /// where the input is no script, with its fault: nothing is written then. `Write` and `NoMemory` as [`play`].
-pub fn run<T: FileTable, R: Threads + Wait + Sync, G: Gate, I: Read, W: Write>(
-    rt: &R,
+pub fn run<T: FileTable, G: Gate, R: Read, W: Write>(
+    rt: &(impl Threads + Wait + Sync),
     alloc: Global,
     workers: u32,
     gate: &G,
-    reader: &mut I,
+    reader: &mut R,
     writer: &mut W,
 ) -> Result<(), PlayFault>
     requires workers { (1 ≤ workers) × (workers ≤ MAX_PASSES) }
     ensures ok { OnOk result
-        (IsRun (I.remaining reader.old) (W.contents writer.old) (W.contents writer.new)) }
+        (IsRun (R.remaining reader.old) (W.contents writer.old) (W.contents writer.new)) }
     ensures fault { IfErr result (λ fault. IsRunFault fault
-        (I.remaining reader.old) (W.contents writer.old) (W.contents writer.new)) }
+        (R.remaining reader.old) (W.contents writer.old) (W.contents writer.new)) }
 {
     let script = read_script(alloc, reader)?;
-    play::<T, R, G, W>(rt, alloc, script, workers, gate, writer)
+    play::<T, G, W>(rt, alloc, script, workers, gate, writer)
 }

@@ -1,5 +1,17 @@
-//! What holds of every shared table, whatever it is made of (this project's own).
+//! The limits of every shared table, as numbers, and what holds of each, whatever it is made of (this project's own).
+ghost use Rattle.std.specs.Prelude.{◌≡◌};
 ghost use Rattle.fx_table.specs.Laws.{CallsCompose, ChainHasOnePass, CallsKeepDrawnChains, ChainIsPartOfItsPass};
+ghost use Rattle.fx_table.specs.declared.limits.TheConstants.{MAX_CHAINS, MAX_PASSES, PASS_LOOKS, FIRST_CHAIN_NUMBER, CHAIN_NUMBERS};
+
+/// A table plays at most 1,023 chains, by at most 16 passes, each of which has 1,048,576 look-ups. Each chain has 64
+/// file numbers, and the first chain's begin at 256.
+pub fn limits_are_numbers()
+    ensures max_chains { MAX_CHAINS ≡ 1023 }
+    ensures max_passes { MAX_PASSES ≡ 16 }
+    ensures pass_looks { PASS_LOOKS ≡ 1048576 }
+    ensures first_chain_number { FIRST_CHAIN_NUMBER ≡ 256 }
+    ensures chain_numbers { CHAIN_NUMBERS ≡ 64 }
+{}
 
 /// Two calls in a row add what both add.
 pub fn calls_compose()

@@ -91,7 +91,7 @@ pub trait FileTable: Sync {
         ensures { result ≡ (view pass.now).numbers_left };
 
     /// The next chain of an idle pass (`is_idle`), or `None` where there are no more. The chains of a pass rise, and no
-    /// chain is given twice. After `None` a pass is answered `None`. A draw takes no step.
+    /// chain is given twice. After `None` a pass is answered `None`. A draw adds nothing to the history.
     fn draw(&self, pass: &mut Self::Pass) -> Option<u32>
         requires fits { fits self.now pass.old }
         requires idle { IsIdle (view pass.old) }

@@ -115,7 +115,7 @@ pub(crate) fn submit<T: FileTable, R: Threads + Wait + Print + Sync>(
     let requests = requests(alloc)?;
     let mut ring = ring_with(alloc, &[0, -1], 1, 1)?;
     for _ in 0..ATTEMPTS {
-        match ring.submit::<T, R, OpenGate>(rt, alloc, requests.as_slice(), workers, &OpenGate) {
+        match ring.submit::<T, OpenGate>(rt, alloc, requests.as_slice(), workers, &OpenGate) {
             Ok(report) => {
                 tell::done(rt, "submit");
                 tell::report(rt, &report);

@@ -79,7 +79,7 @@ pub(crate) fn text_of_report<R: Threads + Wait + Print + Sync>(
 ) -> Option<()> {
     let requests = requests(alloc)?;
     let mut ring = ring_with(alloc, &[0, -1], 1, 1)?;
-    let submitted = ring.submit::<BatonTable, R, OpenGate>(
+    let submitted = ring.submit::<BatonTable, OpenGate>(
         rt,
         alloc,
         requests.as_slice(),
@@ -112,7 +112,7 @@ pub(crate) fn run_script<T: FileTable, R: Threads + Wait + Print + Sync>(
     let mut reader = OPEN_READ_CLOSE.as_bytes();
     let mut written = Vec::with_capacity(alloc, 128).ok()?;
     let (input, output) = (&mut reader, &mut written);
-    match run::<T, R, OpenGate, _, _>(rt, alloc, workers, &OpenGate, input, output) {
+    match run::<T, OpenGate, _, _>(rt, alloc, workers, &OpenGate, input, output) {
         Ok(()) => tell::done(rt, "run"),
         Err(fault) => tell::refused(rt, "run", fault),
     }

@@ -131,7 +131,7 @@ fn expect_no_memory<R: Threads + Wait + Abort + Sync>(
     let calls = Calls::new(alloc, &[])?;
     let mut ring = ring_before_refusal(rt, alloc)?;
     for _ in 0..2 {
-        match ring.submit::<RefusingTable, R, Calls>(rt, alloc, requests, workers, &calls) {
+        match ring.submit::<RefusingTable, Calls>(rt, alloc, requests, workers, &calls) {
             Ok(_report) => panic!(rt; "a refusal"),
             Err(fault) => assert_eq!(rt; fault, SubmitFault::NoMemory),
         }

@@ -125,8 +125,8 @@ pub(crate) fn try_submit<R: Threads + Wait + Sync, G: Gate>(
 ) -> Result<Report, SubmitFault> {
     let (table, workers) = players;
     match table {
-        Table::Words => ring.submit::<CountedTable, R, G>(rt, alloc, requests, workers, gate),
-        Table::Baton => ring.submit::<BatonTable, R, G>(rt, alloc, requests, workers, gate),
+        Table::Words => ring.submit::<CountedTable, G>(rt, alloc, requests, workers, gate),
+        Table::Baton => ring.submit::<BatonTable, G>(rt, alloc, requests, workers, gate),
     }
 }
 

@@ -24,7 +24,7 @@ pub fn ended<R: Threads + Wait + Sync, I: Read, W: Write>(
     reader: &mut I,
     writer: &mut W,
 ) -> Result<(), PlayFault> {
-    run::<BatonTable, _, _, _, _>(rt, alloc, 1, &OpenGate, reader, writer)
+    run::<BatonTable, _, _, _>(rt, alloc, 1, &OpenGate, reader, writer)
 }
 
 /// What a script writes over a table on so many workers, 1 to 16, at a gate, and how the run ends.
@@ -44,8 +44,8 @@ pub fn played_at<R: Threads + Wait + Sync, G: Gate>(
     };
     let (input, output) = (&mut reader, &mut written);
     let ended = match table {
-        Table::Words => run::<CountedTable, _, _, _, _>(rt, alloc, workers, gate, input, output),
-        Table::Baton => run::<BatonTable, _, _, _, _>(rt, alloc, workers, gate, input, output),
+        Table::Words => run::<CountedTable, _, _, _>(rt, alloc, workers, gate, input, output),
+        Table::Baton => run::<BatonTable, _, _, _>(rt, alloc, workers, gate, input, output),
     };
     (written, ended)
 }

@@ -1,0 +1,45 @@
+-- How large the words of the table without a lock become: each number stays within its bits.
+use Rattle.std.specs.Prelude.{◌≡◌, ℕ, ◌+◌, ◌/◌, ◌%◌, ◌^◌, ◌<◌, ◌≤◌, Some, slice_index, sum_by}
+use mathlib.Core.Option.{some}
+use lib.ListN.{get_elem?}
+use Rattle.fx_plain.specs.declared.event.File.{File}
+use Rattle.fx_words.specs.Words.{node_in, takes_in, one_change}
+use Rattle.fx_counted.specs.Agrees.{Agrees}
+use Rattle.fx_counted.specs.Layout.{control_place, draw_place, slot_place, node_place}
+use Rattle.fx_counted.specs.Passes.{Shared, slots_of, looks_of}
+use Rattle.fx_counted.specs.declared.view.Start.{Start}
+use Rattle.fx_counted.specs.declared.view.View.{View}
+use Rattle.fx_counted.specs.declared.view.Work.TheVariants.{Retiring}
+
+abbrev pub slot_word_in : Shared → ℕ → ℕ
+slot_word_in s slot = slice_index s.words (slot_place slot)
+
+abbrev pub node_word_in : Start → Shared → ℕ → ℕ
+node_word_in k s number = slice_index s.words (node_place (slots_of k) number)
+
+abbrev pub control_word_in : Shared → ℕ
+control_word_in s = slice_index s.words control_place
+
+abbrev pub draw_word_in : Shared → ℕ
+draw_word_in s = slice_index s.words draw_place
+
+pub record AreBounded (k : Start) (s : Shared) : Type 0 where
+  -- 16 passes began with 2^20 looks each: the takes of a slot, of 32 bits, with all looks that are left
+  pub takes : (slot : ℕ) → slot < slots_of k
+      → takes_in (slot_word_in s slot) + sum_by looks_of s.views ≤ 2 ^ 24
+  -- releases alone don't take the node word of a file to 0, while a slot names it
+  pub named : (slot number : ℕ) → slot < slots_of k → node_in (slot_word_in s slot) ≡ Some number
+      → 2 ^ 32 ≤ node_word_in k s number + 2 ^ 24
+  -- nor behind its removal, until it is retired
+  pub leaving : (seat takes : ℕ) (v : View) (f : File) → get_elem? s.views seat ≡ some v
+      → v.work ≡ Retiring f takes → 2 ^ 32 ≤ node_word_in k s f.number + 2 ^ 24
+  -- each of 16 passes is told once that there are no more chains
+  pub draws : draw_word_in s ≤ k.chains + 16
+  -- at most 16 passes are in a change, and each may have one full slot of at most 256 to tell
+  pub changes : control_word_in s / one_change ≤ 16
+  pub least : 65520 ≤ control_word_in s % one_change
+  pub most : control_word_in s % one_change ≤ 65808
+
+-- between any two steps
+abbrev pub WordsAreBounded : Type 0
+WordsAreBounded = (k : Start) (s : Shared) → Agrees k s → AreBounded k s
