@@ -1,0 +1,5 @@
+pub mod Begins
+pub mod Accesses
+pub mod Requests
+pub mod Removed
+pub mod Ordered
