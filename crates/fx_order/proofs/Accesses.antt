@@ -1,6 +1,6 @@
 -- The accesses among the steps of a history: all steps but releases and closes, without the numbers of files.
-use Rattle.std.proofs.Common.{◌≡◌, ℕ, ◌+◌, ◌<◌, ◌≤◌, ◌==◌, List, [], ◌∷◌, ◌++◌, map, filter, refl, sym, ap, subst, ◌∙◌, append_assoc, Option, Some, None}
-use Rattle.std.proofs.Common.{if◌then◌else◌, IsSome, cond, All}
+use Rattle.std.proofs.Common.{◌≡◌, ℕ, ◌==◌, List, [], ◌∷◌, ◌++◌, map, filter, refl, sym, ap, subst, ◌∙◌, append_assoc, Option, Some, None}
+use Rattle.std.proofs.Common.{if◌then◌else◌, IsSome, cond}
 use Rattle.std.proofs.lemmas.List.{append-nil, map-append}
 use Rattle.std.proofs.lemmas.List.Elements.{filter-append}
 use Rattle.fx_base.specs.declared.open_file.Closed.{Closed}
@@ -13,7 +13,7 @@ use Rattle.fx_plain.specs.Step.{Allows, after, changed_at}
 use Rattle.fx_plain.specs.History.{◌▷▷◌, state_after, AllowsAll, action_of, part_of_chain}
 use Rattle.fx_plain.specs.Table.{identity_of}
 use Rattle.fx_plain.proofs.Cells.{by_equality}
-use Rattle.fx_order.specs.Access.{Table, Access, Looks, Puts, Clears, Takes, Allocates, FindsFull, Permits, PermitsAll, table_with, table_after}
+use Rattle.fx_order.specs.Access.{Table, Access, Looks, Puts, Clears, Takes, Allocates, FindsFull, PermitsAll, table_with, table_after}
 use Rattle.fx_order.specs.Access.{ChainAccess, access_of, accesses_of, accesses_of_chain}
 
 -- a state without the numbers of its files, its holds and what it has given up
@@ -71,13 +71,14 @@ accesses_of_chain-by_chain chain author [] = by_equality author chain (λ b. ◌
 accesses_of_chain-by_chain chain author (access ∷ accesses) =
     by_equality author chain
     (λ b. map access_of (cond b (by_chain author access ∷ filter (λ x. x.chain == chain) (map (by_chain author) accesses))
-        (filter (λ x. x.chain == chain) (map (by_chain author) accesses)))
-        ≡ (if b then access ∷ accesses else []))
+    (filter (λ x. x.chain == chain) (map (by_chain author) accesses)))
+    ≡ (if b then access ∷ accesses else []))
     (λ same. ap (λ (l : List Access). access ∷ l) (accesses_of_chain-by_chain chain author accesses ∙ chosen same))
     (λ other. accesses_of_chain-by_chain chain author accesses ∙ not_chosen other)
   where
     chosen : author ≡ chain → (if author == chain then accesses else []) ≡ accesses
     chosen same = by_equality author chain (λ b. (if b then accesses else []) ≡ accesses) (λ _. refl) (λ other. absurd (other same))
+
     not_chosen : (author ≡ chain → ⊥) → (if author == chain then accesses else []) ≡ []
     not_chosen other = by_equality author chain (λ b. (if b then accesses else []) ≡ []) (λ same. absurd (other same)) (λ _. refl)
 
@@ -91,7 +92,7 @@ accesses_of_chain-order_in chain (e ∷ h) =
     ∙ (λ i. rest i ++ accesses_of_chain-by_chain chain e.chain (accesses_by e.action) i)
     ∙ by_equality e.chain chain
     (λ b. accesses_in (map action_of (part_of_chain chain h)) ++ (if b then accesses_by e.action else [])
-        ≡ accesses_in (map action_of (cond b (e ∷ part_of_chain chain h) (part_of_chain chain h))))
+    ≡ accesses_in (map action_of (cond b (e ∷ part_of_chain chain h) (part_of_chain chain h))))
     (λ _. refl)
     (λ _. append-nil (accesses_in (map action_of (part_of_chain chain h))))
 
@@ -146,12 +147,13 @@ pub permitted_along : (start : State) (h : List Action) → AllowsAll start h
 permitted_along start [] may = (tt, refl)
 permitted_along start (a ∷ h) may =
     let earlier : PermitsAll (shown start) (accesses_in h) × (shown (state_after start h) ≡ table_after (shown start) (accesses_in h)) =
-        permitted_along start h may.0 in
-    (PermitsAll-append (shown start) (accesses_in h) (accesses_by a) earlier.0
-        (subst (λ (table : Table). PermitsAll table (accesses_by a)) earlier.1 (permitted_by (state_after start h) a may.1)),
-    shown-after (state_after start h) a
-        ∙ (ap (λ (table : Table). table_after table (accesses_by a)) earlier.1
-        ∙ sym (table_after-append (shown start) (accesses_in h) (accesses_by a))))
+    permitted_along start h may.0 in (
+      PermitsAll-append (shown start) (accesses_in h) (accesses_by a) earlier.0
+          (subst (λ (table : Table). PermitsAll table (accesses_by a)) earlier.1 (permitted_by (state_after start h) a may.1)),
+      shown-after (state_after start h) a
+          ∙ (ap (λ (table : Table). table_after table (accesses_by a)) earlier.1
+          ∙ sym (table_after-append (shown start) (accesses_in h) (accesses_by a))),
+    )
 
 same_identity : (x : Option File) (slot : ℕ) → identity_of (file_numbered x slot) ≡ identity_of x
 same_identity None slot = refl

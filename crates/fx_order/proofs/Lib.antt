@@ -3,3 +3,8 @@ pub mod Accesses
 pub mod Requests
 pub mod Removed
 pub mod Ordered
+pub mod AtOnce
+pub mod Made
+pub mod Installs
+pub mod Answered
+pub mod Histories

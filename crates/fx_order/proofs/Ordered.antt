@@ -1,20 +1,19 @@
 -- What one history leads to, the order of its accesses leads to.
-use Rattle.std.proofs.Common.{◌≡◌, ℕ, ◌+◌, ◌≤◌, List, [], ◌∷◌, ◌++◌, map, length, refl, sym, ap, subst, ◌∙◌, All, Contains, Option, IsPermutation}
+use Rattle.std.proofs.Common.{◌≡◌, ℕ, ◌+◌, ◌≤◌, List, [], ◌∷◌, map, length, refl, sym, ap, subst, ◌∙◌, All, Contains, Option, IsPermutation}
 use Rattle.std.proofs.lemmas.List.Elements.{All-nil, All-cons, All-append}
 use Rattle.std.proofs.lemmas.List.Sorted.{IsPermutation-trans}
 use Rattle.fx_base.specs.declared.open_file.Closed.{Closed}
 use Rattle.fx_plain.specs.declared.event.Event.{Event}
 use Rattle.fx_plain.specs.declared.event.Action.{Action}
-use Rattle.fx_plain.specs.declared.event.Action.TheVariants.{Look, Release, Put, Clear, Take, Allocate, Full, Close}
 use Rattle.fx_plain.specs.State.{State, opening}
 use Rattle.fx_plain.specs.Contents.{state_of}
-use Rattle.fx_plain.specs.History.{action_of, state_after, closes_in}
+use Rattle.fx_plain.specs.History.{action_of, closes_in}
 use Rattle.fx_order.proofs.Begins.{opening_is_start}
 use Rattle.fx_table.specs.Numbers.{numbers_for}
 use Rattle.fx_table.proofs.Members.{contains_head, contains_tail}
 use Rattle.fx_chain.specs.Operation.{Asked}
 use Rattle.fx_chain.specs.Runs.{runs_of}
-use Rattle.fx_ring.specs.Ring.{RingContents, RingState, HasClosed, ring_of}
+use Rattle.fx_ring.specs.Ring.{RingContents, RingState, ring_of}
 use Rattle.fx_ring.specs.Submission.{IsOneHistory, Reported}
 use Rattle.fx_order.specs.Access.{Table, Access, Looks, Puts, Clears, Takes, Allocates, FindsFull, ChainAccess, PermitsAll, table_with}
 use Rattle.fx_order.specs.Access.{table_after, removed_in, accesses_of}
@@ -23,7 +22,7 @@ use Rattle.fx_order.proofs.Accesses.{shown, accesses_by, accesses_in, order_in, 
 use Rattle.fx_order.proofs.Requests.{all_explained}
 use Rattle.fx_order.proofs.Removed.{removed_is_closed}
 
-abbrev IsWithin : ℕ → ℕ → Type 0
+abbrev pub IsWithin : ℕ → ℕ → Type 0
 IsWithin chains chain = (1 ≤ chain) × (chain ≤ chains)
 
 by_within : (chains chain : ℕ) (accesses : List Access) → IsWithin chains chain → All (λ x. IsWithin chains x.chain) (map (by_chain chain) accesses)
@@ -66,12 +65,12 @@ each_history_is_an_order old new requests report h =
     let along = permitted_along start acts h.legal.leads.0 in
     let begins : shown start ≡ table_of (ring_of old) = shown-opening st (numbers_for (length (runs_of requests))) in
     let table : shown h.end ≡ table_after (table_of (ring_of old)) (accesses_of order) =
-        ap shown h.legal.leads.1 ∙ (along.1 ∙ (λ i. table_after (begins i) (sym are i))) in
+    ap shown h.legal.leads.1 ∙ (along.1 ∙ (λ i. table_after (begins i) (sym are i))) in
     let outline : shown h.end ≡ table_with_files (table_of (ring_of old)) (table_after (table_of (ring_of old)) (accesses_of order)).at =
-        table ∙ same_outline (table_of (ring_of old)) (accesses_of order) in
+    table ∙ same_outline (table_of (ring_of old)) (accesses_of order) in
     let same_files : IsPermutation (removed_in (accesses_of order)) (closes_in acts) =
-        subst (λ (l : List Access). IsPermutation (removed_in l) (closes_in acts)) (sym are)
-        (removed_is_closed start h.end h.history (opening_is_start st (numbers_for (length (runs_of requests)))) h.legal.leads.0 h.legal.leads.1 h.settled) in
+    subst (λ (l : List Access). IsPermutation (removed_in l) (closes_in acts)) (sym are)
+    (removed_is_closed start h.end h.history (opening_is_start st (numbers_for (length (runs_of requests)))) h.legal.leads.0 h.legal.leads.1 h.settled) in
     record {
       order = order;
       permitted = subst (λ (t : Table). PermitsAll t (accesses_of order)) begins (subst (PermitsAll (shown start)) (sym are) along.0);

@@ -1,9 +1,9 @@
 -- The files that a history closes are those that its accesses took from their slots.
-use Rattle.std.proofs.Common.{◌≡◌, ◌≢◌, ℕ, zero, suc, ◌+◌, ◌<◌, ◌≤◌, ◌==◌, Bool, true, false, List, [], ◌∷◌, ◌++◌, map, length, refl, sym, ap, subst, ◌∙◌}
-use Rattle.std.proofs.Common.{append_assoc, Option, Some, None, if◌then◌else◌, cond, arith, IsPermutation}
+use Rattle.std.proofs.Common.{◌≡◌, ◌≢◌, ℕ, ◌<◌, ◌≤◌, ◌==◌, Bool, List, [], ◌∷◌, ◌++◌, map, refl, sym, ap, subst, ◌∙◌}
+use Rattle.std.proofs.Common.{append_assoc, Option, Some, None, if◌then◌else◌, arith, IsPermutation}
 use Rattle.std.proofs.lemmas.List.{append-nil}
 use Rattle.std.proofs.lemmas.List.Sorted.{IsPermutation-refl, IsPermutation-sym, IsPermutation-trans, IsPermutation-cons, IsPermutation-to_front}
-use Rattle.std.proofs.lemmas.List.Sorted.{IsPermutation-middle, IsPermutation-map, IsPermutation-pop_more, IsPermutation-append_left}
+use Rattle.std.proofs.lemmas.List.Sorted.{IsPermutation-middle, IsPermutation-map, IsPermutation-pop_more}
 use Rattle.std.specs.Option.{option_to_list}
 use Rattle.fx_base.specs.declared.open_file.Closed.{Closed}
 use Rattle.fx_plain.specs.declared.event.File.{File}
@@ -11,13 +11,13 @@ use Rattle.fx_plain.specs.declared.event.Event.{Event}
 use Rattle.fx_plain.specs.declared.event.Action.{Action}
 use Rattle.fx_plain.specs.declared.event.Action.TheVariants.{Look, Release, Put, Clear, Take, Allocate, Full, Close}
 use Rattle.fx_plain.specs.State.{State, IsSettled}
-use Rattle.fx_plain.specs.Step.{Allows, after, changed_at, with_removed}
+use Rattle.fx_plain.specs.Step.{Allows, after, with_removed}
 use Rattle.fx_plain.specs.History.{state_after, AllowsAll, action_of, closes_in, closed_by}
 use Rattle.fx_plain.specs.Laws.{IsStart}
 use Rattle.fx_plain.specs.Table.{identity_of}
 use Rattle.fx_plain.proofs.Cells.{by_equality}
 use Rattle.fx_plain.proofs.Named.{named, named_itself}
-use Rattle.fx_plain.proofs.LawTallies.{bit, present, placed, placed_one, tally, tally_all, tally_start}
+use Rattle.fx_plain.proofs.LawTallies.{present, placed_one, tally, tally_all, tally_start}
 use Rattle.fx_order.specs.Access.{Access, removed_by, removed_in}
 use Rattle.fx_order.proofs.Accesses.{accesses_in, accesses_by}
 
@@ -44,7 +44,7 @@ found_without_other k n [] other = refl
 found_without_other k n (f ∷ files) other =
     by_equality n f.number (λ b. found_in k (if b then files else f ∷ without n files) ≡ found_in k (f ∷ files))
     (λ same. by_equality k f.number (λ b. found_in k files ≡ (if b then Some f else found_in k files))
-        (λ too. absurd (other (too ∙ sym same))) (λ _. refl))
+    (λ too. absurd (other (too ∙ sym same))) (λ _. refl))
     (λ _. ap (λ (x : Option File). if k == f.number then Some f else x) (found_without_other k n files other))
 
 found_without : (n : ℕ) (files : List File) → AreApart files → found_in n (without n files) ≡ None
@@ -66,11 +66,11 @@ moved_to_front : (n : ℕ) (f : File) (files : List File) → found_in n files �
 moved_to_front n f [] = λ is. absurd (cc)
 moved_to_front n f (g ∷ files) =
     by_equality n g.number (λ b. ◌≡◌ {A = Option File} (if b then Some g else found_in n files) (Some f)
-        → IsPermutation (g ∷ files) (f ∷ (if b then files else g ∷ without n files)))
+    → IsPermutation (g ∷ files) (f ∷ (if b then files else g ∷ without n files)))
     (λ _ is. let one : g ≡ f = cc in subst (IsPermutation (g ∷ files)) (ap (λ (x : File). x ∷ files) one) (IsPermutation-refl (g ∷ files)))
     (λ _ is. IsPermutation-trans (g ∷ files) (g ∷ f ∷ without n files) (f ∷ g ∷ without n files)
-        (IsPermutation-cons g files (f ∷ without n files) (moved_to_front n f files is))
-        (IsPermutation-middle (g ∷ []) f (without n files)))
+    (IsPermutation-cons g files (f ∷ without n files) (moved_to_front n f files is))
+    (IsPermutation-middle (g ∷ []) f (without n files)))
 
 -- the files that wait for their close
 record Waits (st : State) (waiting : List File) : Type 0 where
@@ -183,7 +183,7 @@ none_waits : (st : State) (waiting : List File) → IsSettled st → Waits st wa
 none_waits st [] settled waits = refl
 none_waits st (f ∷ waiting) settled waits =
     let here : found_in f.number (f ∷ waiting) ≡ Some f =
-        by_equality f.number f.number (λ b. (if b then Some f else found_in f.number waiting) ≡ Some f) (λ _. refl) (λ other. absurd (other refl)) in
+    by_equality f.number f.number (λ b. (if b then Some f else found_in f.number waiting) ≡ Some f) (λ _. refl) (λ other. absurd (other refl)) in
     let is : None ≡ Some f = sym (settled.closed f.number) ∙ (waits.found f.number ∙ here) in
     absurd (cc)
 
@@ -194,7 +194,7 @@ pub removed_is_closed : (start end : State) (h : List Event) → IsStart start �
 removed_is_closed start end h begins may is settled =
     let all = accounts_along start h begins may in
     let none : all.waiting ≡ [] =
-        none_waits (state_after start (map action_of h)) all.waiting (subst IsSettled is settled) all.waits in
+    none_waits (state_after start (map action_of h)) all.waiting (subst IsSettled is settled) all.waits in
     subst (IsPermutation (removed_in (accesses_in (map action_of h))))
     (ap (λ (l : List File). closes_in (map action_of h) ++ map identity l) none ∙ append-nil (closes_in (map action_of h)))
     all.same_files

@@ -1,5 +1,5 @@
 -- A submission: its requests are done one at a time, in an order that keeps each chain's (an update entry by entry).
-use Rattle.std.specs.Prelude.{◌≡◌, ℕ, ◌+◌, ◌≤◌, List, length, All}
+use Rattle.std.specs.Prelude.{◌≡◌, ◌+◌, ◌≤◌, List, length, All}
 use Rattle.fx_chain.specs.Operation.{Asked}
 use Rattle.fx_chain.specs.Runs.{runs_of}
 use Rattle.fx_ring.specs.Ring.{RingState, HasClosed}
