@@ -1,4 +1,5 @@
--- What a script may print of two chains, one of which opens a file at a slot and the other one closes the slot.
+-- What a script may print of two chains: one opens a file at a slot, and the other one closes the
+-- slot.
 use Rattle.std.specs.Prelude.{◌≡◌, ◌⊎◌, ℕ, List, [], codes, Some}
 use Rattle.fx_script.specs.Run.{IsRun}
 

@@ -7,4 +7,5 @@ pub mod AtOnce
 pub mod Made
 pub mod Installs
 pub mod Answered
+pub mod Shown
 pub mod Histories

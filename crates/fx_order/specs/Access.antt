@@ -1,5 +1,5 @@
--- What a request does to a table that is only its size, its allocation range and the file at each slot. A request that comes
--- to the table does so once, and an update once for each entry of its list.
+-- What a request does to a table that is only its size, its allocation range and the file at each
+-- slot. A request that comes to the table does so once, and an update once for each entry of its list.
 use Rattle.std.specs.Prelude.{◌≡◌, ℕ, ◌+◌, ◌<◌, ◌≤◌, ◌==◌, List, [], ◌∷◌, ◌++◌, map, filter, Option, Some, None, IsSome}
 use Rattle.std.specs.Option.{option_to_list}
 use Rattle.fx_base.specs.declared.open_file.Closed.{Closed}
@@ -13,7 +13,8 @@ pub record Table : Type 0 where
   -- the file at each slot
   pub at : ℕ → Option Closed
 
--- one access of a table. Slots come first, then the file that is installed, then the file that was found there
+-- one access of a table. Slots come first, then the file that is installed, then the file that was
+-- found there
 pub data Access : Type 0 where
   -- a read looks at a slot
   Looks : ℕ → Option Closed → Access
@@ -43,7 +44,8 @@ Permits table (Puts slot file removed) = IsAt table slot removed
 Permits table (Clears slot removed) = IsAt table slot removed
 Permits table (Takes slot removed) = IsAt table slot removed
 Permits table (Allocates slot file) = IsAt table slot None × IsInRange table slot
-Permits table FindsFull = (slot : ℕ) → slot < table.size → IsInRange table slot → IsSome (table.at slot)
+Permits table FindsFull =
+    (slot : ℕ) → slot < table.size → IsInRange table slot → IsSome (table.at slot)
 
 abbrev pub with_file : Table → ℕ → Option Closed → Table
 with_file table slot file = record table { at = changed_at table.at slot file }
@@ -67,7 +69,8 @@ removed_by _ = None
 -- the accesses may be made one after another, the first one first
 abbrev pub PermitsAll : Table → List Access → Type 0
 PermitsAll table [] = Unit {0}
-PermitsAll table (access ∷ accesses) = Permits table access × PermitsAll (table_with table access) accesses
+PermitsAll table (access ∷ accesses) =
+    Permits table access × PermitsAll (table_with table access) accesses
 
 -- the table after all of them
 abbrev pub table_after : Table → List Access → Table

@@ -1,9 +1,9 @@
 -- What orders have to do with histories.
-use Rattle.std.specs.Prelude.{◌≤◌, List}
+use Rattle.std.specs.Prelude.{◌≡◌, ◌≤◌, List}
 use Rattle.fx_plain.specs.declared.table.TheConstants.{MOST_SLOTS}
 use Rattle.fx_chain.specs.Accepted.{IsAccepted}
 use Rattle.fx_chain.specs.Operation.{Asked}
-use Rattle.fx_ring.specs.Ring.{RingContents, ring_of}
+use Rattle.fx_ring.specs.Ring.{RingContents, RingState, ring_of}
 use Rattle.fx_ring.specs.Submission.{IsOneHistory, Reported}
 use Rattle.fx_order.specs.Order.{IsOneOrder}
 
@@ -17,8 +17,8 @@ EachHistoryIsAnOrder =
 -- what one order of an accepted submission leads to, one history leads to
 abbrev pub EachOrderIsAHistory : Type 0
 EachOrderIsAHistory =
-    (old new : RingContents) (requests : List Asked) (report : Reported)
+    (old : RingContents) (requests : List Asked) (report : Reported) (left : RingState)
     → (ring_of old).size ≤ MOST_SLOTS
     → IsAccepted requests
-    → IsOneOrder (ring_of old) requests report (ring_of new)
-    → IsOneHistory old requests report new
+    → IsOneOrder (ring_of old) requests report left
+    → (new : RingContents) × (ring_of new ≡ left) × IsOneHistory old requests report new
