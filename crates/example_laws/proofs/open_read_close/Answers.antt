@@ -1,0 +1,5 @@
+use Rattle.example_laws.proofs.ReadTexts.{open_read_close_prints}
+use Rattle.example_laws.proofs.open_read_close.Goals as goal
+
+pub returns : goal.returns
+returns c = open_read_close_prints

@@ -1,0 +1,3 @@
+pub mod OpenReadClose
+pub mod ShortReadSevers
+pub mod CloseBesideAnOpen

@@ -1,0 +1,27 @@
+-- What a script may print in which a chain opens a file, reads it whole and closes it.
+use Rattle.std.specs.Prelude.{◌≡◌, ◌⊎◌, ℕ, List, [], ◌++◌, codes, Some}
+use Rattle.fx_script.specs.Run.{IsRun}
+
+abbrev pub script : List ℕ
+script =
+    codes "# A chain opens a file at a slot, reads it whole and closes it\n"
+    ++ (codes "file a.txt 68656c6c6f\nsparse 2\nopen a.txt at 0 link\n"
+    ++ codes "read 0 0 5 link\nclose 0\nsubmit\n")
+
+abbrev pub text : List ℕ
+text = codes "sparse 0\n1.1.1 0\n1.1.2 5 68656c6c6f\n1.1.3 0\nclosed 1.1.1.0 a.txt\n"
+
+-- where there was no memory for the bytes of the read
+abbrev pub without_bytes : List ℕ
+without_bytes =
+    codes "sparse 0\n1.1.1 0\n1.1.2 -12\n1.1.3 -125\nteardown\nclosed 1.1.1.0 a.txt\n"
+
+-- where there was no memory for the table
+abbrev pub without_table : List ℕ
+without_table = codes "sparse -12\n1.1.1 -6\n1.1.2 -125\n1.1.3 -125\n"
+
+-- a run of the script that came to its end wrote one of these
+abbrev pub OpenReadClosePrints : Type 0
+OpenReadClosePrints =
+    (written : List ℕ) → IsRun (Some script) (Some []) (Some written)
+    → (written ≡ text) ⊎ (written ≡ without_bytes) ⊎ (written ≡ without_table)

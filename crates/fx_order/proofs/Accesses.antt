@@ -1,0 +1,164 @@
+-- The accesses among the steps of a history: all steps but releases and closes, without the numbers of files.
+use Rattle.std.proofs.Common.{◌≡◌, ℕ, ◌==◌, List, [], ◌∷◌, ◌++◌, map, filter, refl, sym, ap, subst, ◌∙◌, append_assoc, Option, Some, None}
+use Rattle.std.proofs.Common.{if◌then◌else◌, IsSome, cond}
+use Rattle.std.proofs.lemmas.List.{append-nil, map-append}
+use Rattle.std.proofs.lemmas.List.Elements.{filter-append}
+use Rattle.fx_base.specs.declared.open_file.Closed.{Closed}
+use Rattle.fx_plain.specs.declared.event.File.{File}
+use Rattle.fx_plain.specs.declared.event.Event.{Event}
+use Rattle.fx_plain.specs.declared.event.Action.{Action}
+use Rattle.fx_plain.specs.declared.event.Action.TheVariants.{Look, Release, Put, Clear, Take, Allocate, Full, Close}
+use Rattle.fx_plain.specs.State.{State, opening, file_numbered}
+use Rattle.fx_plain.specs.Step.{Allows, after, changed_at}
+use Rattle.fx_plain.specs.History.{◌▷▷◌, state_after, AllowsAll, action_of, part_of_chain}
+use Rattle.fx_plain.specs.Table.{identity_of}
+use Rattle.fx_plain.proofs.Cells.{by_equality}
+use Rattle.fx_order.specs.Access.{Table, Access, Looks, Puts, Clears, Takes, Allocates, FindsFull, PermitsAll, table_with, table_after}
+use Rattle.fx_order.specs.Access.{ChainAccess, access_of, accesses_of, accesses_of_chain}
+
+-- a state without the numbers of its files, its holds and what it has given up
+abbrev pub shown : State → Table
+shown st = record { size = st.size; range = st.range; at = λ slot. identity_of (st.at slot) }
+
+-- the access that an action is, if it is one
+abbrev pub accesses_by : Action → List Access
+accesses_by (Look slot found) = Looks slot (identity_of found) ∷ []
+accesses_by (Release f) = []
+accesses_by (Put slot f replaced) = Puts slot f.identity (identity_of replaced) ∷ []
+accesses_by (Clear slot found) = Clears slot (identity_of found) ∷ []
+accesses_by (Take slot found) = Takes slot (identity_of found) ∷ []
+accesses_by (Allocate slot f) = Allocates slot f.identity ∷ []
+accesses_by Full = FindsFull ∷ []
+accesses_by (Close f) = []
+
+-- the accesses of a history, the first one first
+abbrev pub accesses_in : List Action → List Access
+accesses_in [] = []
+accesses_in (action ∷ h) = accesses_in h ++ accesses_by action
+
+pub accesses_in-then : (h more : List Action) → accesses_in (h ▷▷ more) ≡ accesses_in h ++ accesses_in more
+accesses_in-then h [] = sym (append-nil (accesses_in h))
+accesses_in-then h (action ∷ more) = ap (λ (l : List Access). l ++ accesses_by action) (accesses_in-then h more)
+    ∙ append_assoc (accesses_in h) (accesses_in more) (accesses_by action)
+
+abbrev pub by_chain : ℕ → Access → ChainAccess
+by_chain chain access = record { chain = chain; access = access }
+
+-- the same, each with its chain
+abbrev pub order_in : List Event → List ChainAccess
+order_in [] = []
+order_in (e ∷ h) = order_in h ++ map (by_chain e.chain) (accesses_by e.action)
+
+accesses_of-by_chain : (chain : ℕ) (accesses : List Access) → accesses_of (map (by_chain chain) accesses) ≡ accesses
+accesses_of-by_chain chain [] = refl
+accesses_of-by_chain chain (access ∷ accesses) = ap (λ (l : List Access). access ∷ l) (accesses_of-by_chain chain accesses)
+
+pub accesses_of-order_in : (h : List Event) → accesses_of (order_in h) ≡ accesses_in (map action_of h)
+accesses_of-order_in [] = refl
+accesses_of-order_in (e ∷ h) =
+    map-append access_of (order_in h) (map (by_chain e.chain) (accesses_by e.action))
+    ∙ (λ i. accesses_of-order_in h i ++ accesses_of-by_chain e.chain (accesses_by e.action) i)
+
+pub accesses_of_chain-append : (chain : ℕ) (xs ys : List ChainAccess)
+    → accesses_of_chain chain (xs ++ ys) ≡ accesses_of_chain chain xs ++ accesses_of_chain chain ys
+accesses_of_chain-append chain xs ys =
+    ap (λ (l : List ChainAccess). map access_of l) (filter-append (λ x. x.chain == chain) xs ys)
+    ∙ map-append access_of (filter (λ x. x.chain == chain) xs) (filter (λ x. x.chain == chain) ys)
+
+accesses_of_chain-by_chain : (chain author : ℕ) (accesses : List Access)
+    → accesses_of_chain chain (map (by_chain author) accesses) ≡ (if author == chain then accesses else [])
+accesses_of_chain-by_chain chain author [] = by_equality author chain (λ b. ◌≡◌ {A = List Access} [] (if b then [] else [])) (λ _. refl) (λ _. refl)
+accesses_of_chain-by_chain chain author (access ∷ accesses) =
+    by_equality author chain
+    (λ b. map access_of (cond b (by_chain author access ∷ filter (λ x. x.chain == chain) (map (by_chain author) accesses))
+    (filter (λ x. x.chain == chain) (map (by_chain author) accesses)))
+    ≡ (if b then access ∷ accesses else []))
+    (λ same. ap (λ (l : List Access). access ∷ l) (accesses_of_chain-by_chain chain author accesses ∙ chosen same))
+    (λ other. accesses_of_chain-by_chain chain author accesses ∙ not_chosen other)
+  where
+    chosen : author ≡ chain → (if author == chain then accesses else []) ≡ accesses
+    chosen same = by_equality author chain (λ b. (if b then accesses else []) ≡ accesses) (λ _. refl) (λ other. absurd (other same))
+
+    not_chosen : (author ≡ chain → ⊥) → (if author == chain then accesses else []) ≡ []
+    not_chosen other = by_equality author chain (λ b. (if b then accesses else []) ≡ []) (λ same. absurd (other same)) (λ _. refl)
+
+-- a chain's accesses are those of its part of the history
+pub accesses_of_chain-order_in : (chain : ℕ) (h : List Event)
+    → accesses_of_chain chain (order_in h) ≡ accesses_in (map action_of (part_of_chain chain h))
+accesses_of_chain-order_in chain [] = refl
+accesses_of_chain-order_in chain (e ∷ h) =
+    let rest = accesses_of_chain-order_in chain h in
+    accesses_of_chain-append chain (order_in h) (map (by_chain e.chain) (accesses_by e.action))
+    ∙ (λ i. rest i ++ accesses_of_chain-by_chain chain e.chain (accesses_by e.action) i)
+    ∙ by_equality e.chain chain
+    (λ b. accesses_in (map action_of (part_of_chain chain h)) ++ (if b then accesses_by e.action else [])
+    ≡ accesses_in (map action_of (cond b (e ∷ part_of_chain chain h) (part_of_chain chain h))))
+    (λ _. refl)
+    (λ _. append-nil (accesses_in (map action_of (part_of_chain chain h))))
+
+-- accesses one after another
+
+pub table_after-append : (table : Table) (xs ys : List Access) → table_after table (xs ++ ys) ≡ table_after (table_after table xs) ys
+table_after-append table [] ys = refl
+table_after-append table (x ∷ xs) ys = table_after-append (table_with table x) xs ys
+
+pub PermitsAll-append : (table : Table) (xs ys : List Access) → PermitsAll table xs → PermitsAll (table_after table xs) ys → PermitsAll table (xs ++ ys)
+PermitsAll-append table [] ys first second = second
+PermitsAll-append table (x ∷ xs) ys first second = (first.0, PermitsAll-append (table_with table x) xs ys first.1 second)
+
+-- a step is its access
+
+pub identities-changed_at : (at : ℕ → Option File) (slot : ℕ) (x : Option File)
+    → (λ k. identity_of (changed_at at slot x k)) ≡ changed_at (λ k. identity_of (at k)) slot (identity_of x)
+identities-changed_at at slot x = λ i k.
+    by_equality k slot (λ b. identity_of (if b then x else at k) ≡ (if b then identity_of x else identity_of (at k))) (λ _. refl) (λ _. refl) i
+
+abbrev table_of_files : State → (ℕ → Option Closed) → Table
+table_of_files st at = record { size = st.size; range = st.range; at = at }
+
+pub shown-after : (st : State) (a : Action) → shown (after st a) ≡ table_after (shown st) (accesses_by a)
+shown-after st (Look slot None) = refl
+shown-after st (Look slot (Some f)) = refl
+shown-after st (Release f) = refl
+shown-after st (Put slot f replaced) = ap (table_of_files st) (identities-changed_at st.at slot (Some f))
+shown-after st (Clear slot found) = ap (table_of_files st) (identities-changed_at st.at slot None)
+shown-after st (Take slot found) = ap (table_of_files st) (identities-changed_at st.at slot None)
+shown-after st (Allocate slot f) = ap (table_of_files st) (identities-changed_at st.at slot (Some f))
+shown-after st Full = refl
+shown-after st (Close f) = refl
+
+some_identity : (x : Option File) → IsSome x → IsSome (identity_of x)
+some_identity None is = absurd (cc is)
+some_identity (Some f) is = refl
+
+pub permitted_by : (st : State) (a : Action) → Allows st a → PermitsAll (shown st) (accesses_by a)
+permitted_by st (Look slot found) may = ((may.0, ap identity_of may.1), tt)
+permitted_by st (Release f) may = tt
+permitted_by st (Put slot f replaced) may = ((may.0, ap identity_of may.2), tt)
+permitted_by st (Clear slot found) may = ((may.0, ap identity_of may.1), tt)
+permitted_by st (Take slot found) may = ((may.0, ap identity_of may.1), tt)
+permitted_by st (Allocate slot f) may = (((may.0, ap identity_of (sym may.2)), may.1), tt)
+permitted_by st Full may = ((λ slot lt inside. some_identity (st.at slot) (may slot lt inside)), tt)
+permitted_by st (Close f) may = tt
+
+-- the accesses of a history are permitted, and lead to the same files
+pub permitted_along : (start : State) (h : List Action) → AllowsAll start h
+    → PermitsAll (shown start) (accesses_in h) × (shown (state_after start h) ≡ table_after (shown start) (accesses_in h))
+permitted_along start [] may = (tt, refl)
+permitted_along start (a ∷ h) may =
+    let earlier : PermitsAll (shown start) (accesses_in h) × (shown (state_after start h) ≡ table_after (shown start) (accesses_in h)) =
+    permitted_along start h may.0 in (
+      PermitsAll-append (shown start) (accesses_in h) (accesses_by a) earlier.0
+          (subst (λ (table : Table). PermitsAll table (accesses_by a)) earlier.1 (permitted_by (state_after start h) a may.1)),
+      shown-after (state_after start h) a
+          ∙ (ap (λ (table : Table). table_after table (accesses_by a)) earlier.1
+          ∙ sym (table_after-append (shown start) (accesses_in h) (accesses_by a))),
+    )
+
+same_identity : (x : Option File) (slot : ℕ) → identity_of (file_numbered x slot) ≡ identity_of x
+same_identity None slot = refl
+same_identity (Some f) slot = refl
+
+-- passes begin with the files of the table
+pub shown-opening : (st : State) (numbers : ℕ) → shown (opening st numbers) ≡ shown st
+shown-opening st numbers = ap (table_of_files st) (λ i slot. same_identity (st.at slot) slot i)

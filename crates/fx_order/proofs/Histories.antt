@@ -1,0 +1,72 @@
+-- What one order leads to, the history of its accesses leads to.
+use Rattle.std.proofs.Common.{◌≡◌, ℕ, ◌+◌, ◌*◌, ◌<◌, ◌≤◌, true, List, [], map, length, refl, sym, ap, subst, ◌∙◌, arith}
+use Rattle.std.proofs.lemmas.Bool.{lt-ltb, le-ltb}
+use Rattle.std.proofs.lemmas.List.{append-nil}
+use Rattle.fx_base.specs.declared.open_file.Closed.{Closed}
+use Rattle.fx_plain.specs.declared.event.Action.{Action}
+use Rattle.fx_plain.specs.State.{State, opening}
+use Rattle.fx_plain.specs.Contents.{state_of}
+use Rattle.fx_plain.specs.History.{action_of, state_after, AllReleaseTheirOwn}
+use Rattle.fx_table.specs.Numbers.{numbers_for}
+use Rattle.fx_chain.specs.Accepted.{IsAccepted}
+use Rattle.fx_chain.specs.Operation.{Asked}
+use Rattle.fx_chain.specs.Runs.{runs_of}
+use Rattle.fx_ring.specs.Ring.{RingContents, RingState, HasClosed, ring_of}
+use Rattle.fx_ring.specs.Submission.{IsOneHistory, Reported}
+use Rattle.fx_order.specs.Access.{Table, PermitsAll, table_after, accesses_of}
+use Rattle.fx_order.specs.Order.{IsOneOrder, table_of}
+use Rattle.fx_order.proofs.Accesses.{shown, shown-opening}
+use Rattle.fx_order.proofs.Answered.{all_chains_explained}
+use Rattle.fx_order.proofs.Installs.{few_installs}
+use Rattle.fx_order.proofs.Made.{Made, made, installs_in}
+use Rattle.fx_order.proofs.Shown.{NonePast, none_past_accesses, none_past_table, ring_with_files, shows_ring}
+use Rattle.fx_order.proofs.Ordered.{ring_after, same_outline}
+
+-- a number behind the slots, below the last one, is fresh
+fresh_number : (st : State) (chains n : ℕ) → st.size ≤ n → n < numbers_for chains → (opening st (numbers_for chains)).fresh n ≡ true
+fresh_number st chains n low high = rw (le-ltb n st.size low, lt-ltb n (numbers_for chains) high) refl
+
+history_of_order : (old new : RingContents) (requests : List Asked) (report : Reported) → (ring_of old).size ≤ 256
+    → IsAccepted requests → IsOneOrder (ring_of old) requests report (ring_of new) → IsOneHistory old requests report new
+history_of_order old new requests report few accepted o =
+    let st : State = state_of old.table in
+    let chains : ℕ = length (runs_of requests) in
+    let start : State = opening st (numbers_for chains) in
+    let begins : shown start ≡ table_of (ring_of old) = shown-opening st (numbers_for chains) in
+    let installs : installs_in (accesses_of o.order) ≤ 64 * chains =
+    few_installs old.catalogue st.size report.submission requests o.order report.completions accepted o.chains o.done in
+    let m : Made chains start o.order =
+    made chains o.order start 256 (record { unheld = λ n. refl; closed = λ n. refl })
+    (λ n low high. fresh_number st chains n (omega arith) (omega arith))
+    o.chains (subst (λ (t : Table). PermitsAll t (accesses_of o.order)) (sym begins) o.permitted) in
+    let acts : List Action = map action_of m.history in
+    let table : shown (state_after start acts) ≡ table_after (table_of (ring_of old)) (accesses_of o.order) =
+    m.shows ∙ ap (λ (t : Table). table_after t (accesses_of o.order)) begins in
+    record {
+      history = m.history;
+      end = state_after start acts;
+      legal = record {
+        leads = (m.allowed, refl);
+        releases = subst AllReleaseTheirOwn (append-nil m.history) (m.releases [] tt);
+      };
+      settled = m.settled;
+      chains = m.authors;
+      explained = all_chains_explained old.catalogue st.size report.submission 1 (runs_of requests) o.order m.history report.completions m.parts o.done;
+      closed = subst (λ (l : List Closed). HasClosed l report.closes) (sym m.closes) o.closed;
+      submission = o.submission;
+      after = o.after ∙ sym (ap (ring_after (ring_of old) (old.submissions + 1)) (table ∙ same_outline (table_of (ring_of old)) (accesses_of o.order)));
+    }
+
+-- and there is a table that has the files which the order leaves
+pub each_order_is_a_history : (old : RingContents) (requests : List Asked) (report : Reported) (left : RingState) → (ring_of old).size ≤ 256
+    → IsAccepted requests → IsOneOrder (ring_of old) requests report left
+    → (new : RingContents) × (ring_of new ≡ left) × IsOneHistory old requests report new
+each_order_is_a_history old requests report left few accepted o =
+    let kept : NonePast left.size left.at =
+    subst (λ (r : RingState). NonePast r.size r.at) (sym o.after)
+    (none_past_accesses (table_of (ring_of old)) (accesses_of o.order) o.permitted (none_past_table old)) in
+    let same : ring_of (ring_with_files left) ≡ left = shows_ring left kept in (
+      ring_with_files left,
+      same,
+      history_of_order old (ring_with_files left) requests report few accepted (subst (IsOneOrder (ring_of old) requests report) (sym same) o),
+    )

@@ -1,0 +1,199 @@
+-- An order of a submission without a fault installs no more files than its chains have numbers.
+use Rattle.std.proofs.Common.{◌≡◌, ◌≢◌, inl, inr, ℕ, zero, suc, ◌+◌, ◌*◌, ◌<◌, ◌≤◌, ◌==◌, ◌||◌, nat_le, nat_lt, ℤ, pos, negsuc, Bool, true, false, not, cond}
+use Rattle.std.proofs.Common.{List, [], ◌∷◌, ◌++◌, filter, length, sym, ap, subst, arith, All}
+use Rattle.std.specs.Bool.{MatchBool}
+use Rattle.std.specs.List.{list_any}
+use Rattle.std.proofs.lemmas.List.Elements.{All-head, All-tail, All-map, All-weaker}
+use Rattle.std.proofs.lemmas.List.Sums.{sum_by-cons}
+use Rattle.fx_base.specs.Catalogue.{FileEntry}
+use Rattle.fx_base.specs.AddFault.{has_name}
+use Rattle.fx_base.specs.declared.errno.Errno.{Errno}
+use Rattle.fx_base.specs.declared.errno.Errno.TheVariants.{ENOENT, ENXIO, EBADF, ENOMEM, EINVAL, ENFILE}
+use Rattle.fx_chain.specs.Accepted.{IsAccepted, IsChain, members_of}
+use Rattle.fx_chain.specs.Answers.{is_bad_entry}
+use Rattle.fx_chain.specs.Chains.{chains_of}
+use Rattle.fx_chain.specs.Completed.{Completed, next_member}
+use Rattle.fx_chain.specs.Explains.{severs, first_member}
+use Rattle.fx_chain.specs.Operation.{Operation, Opens, Reads, Closes, Updates, Asked}
+use Rattle.fx_chain.specs.Runs.{runs_of}
+use Rattle.fx_chain.specs.Weights.{entry_installs, list_installs, installs_of, all_installs}
+use Rattle.fx_chain.specs.declared.chain.Chain.{Chain}
+use Rattle.fx_chain.specs.declared.completion.Place.{Place}
+use Rattle.fx_chain.specs.declared.request.Target.{Target}
+use Rattle.fx_chain.specs.declared.request.Target.TheVariants.{Slot, Any}
+use Rattle.fx_chain.proofs.Chains.{accepted-chains, members-are-runs}
+use Rattle.fx_chain.proofs.EntryKinds.{list_installs-cons}
+use Rattle.fx_plain.proofs.Cells.{by_equality}
+use Rattle.fx_ring.proofs.Parts.{has, lacks, kept_lacking, within_lacking, none_within}
+use Rattle.fx_order.specs.Access.{Access, ChainAccess, accesses_of, accesses_of_chain}
+use Rattle.fx_order.specs.Requests.{IsRefused, IsOpenDone, IsReadDone, IsCloseDone, IsEntryDone, AreEntriesDone, IsUpdateDone, IsRequestDone}
+use Rattle.fx_order.specs.Requests.{IsChainDone, AreChainsDone}
+use Rattle.fx_order.proofs.AtOnce.{installs}
+use Rattle.fx_order.proofs.Made.{installs_in}
+
+installs_in-append : (xs ys : List Access) → installs_in (xs ++ ys) ≡ installs_in xs + installs_in ys
+installs_in-append [] ys = omega arith
+installs_in-append (x ∷ xs) ys = let rest = installs_in-append xs ys in omega arith
+
+either_case : (b : Bool) (P Q R : Type 0) → (P → R) → (Q → R) → MatchBool b P Q → R
+either_case true P Q R yes_so not_so given = yes_so given
+either_case false P Q R yes_so not_so given = not_so given
+
+-- accesses that install so many files at most
+abbrev InstallAtMost : ℕ → List Access → Type 0
+InstallAtMost most accesses = installs_in accesses ≤ most
+
+are_few : (most : ℕ) (accesses those : List Access) → accesses ≡ those → installs_in those ≤ most → InstallAtMost most accesses
+are_few most accesses those is few = let same = ap installs_in is in omega arith
+
+refused_few : (most : ℕ) (place : Place) (errno : Errno) (accesses : List Access) (c : Completed) → IsRefused place errno accesses c
+    → InstallAtMost most accesses
+refused_few most place errno accesses c refused = are_few most accesses [] refused.0 (omega arith)
+
+open_few : (size : ℕ) (place : Place) (entry : ℕ) (target : Target) (accesses : List Access) (c : Completed)
+    → IsOpenDone size place entry target accesses c → InstallAtMost 1 accesses
+open_few size place entry (Slot slot) accesses c =
+    either_case (size == 0) _ _ _ (refused_few 1 place ENXIO accesses c)
+    (either_case (nat_le size slot) _ _ _ (refused_few 1 place EINVAL accesses c)
+    (λ x. are_few 1 accesses _ x.1.0 (omega arith)))
+open_few size place entry Any accesses c =
+    either_case (size == 0) _ _ _ (refused_few 1 place ENFILE accesses c)
+    (λ x. elim x [
+      | inl y ↦ are_few 1 accesses _ y.1.0 (omega arith)
+      | inr y ↦ are_few 1 accesses _ y.0 (omega arith)
+    ])
+
+read_few : (catalogue : List FileEntry) (size : ℕ) (place : Place) (slot off len : ℕ) (accesses : List Access) (c : Completed)
+    → IsReadDone catalogue size place slot off len accesses c → InstallAtMost 0 accesses
+read_few catalogue size place slot off len accesses c =
+    either_case (nat_le size slot) _ _ _ (refused_few 0 place EBADF accesses c)
+    (λ x. elim x [
+      | inl y ↦ refused_few 0 place ENOMEM accesses c y.1
+      | inr y ↦ elim y [
+        | inl z ↦ are_few 0 accesses _ z.0 (omega arith)
+        | inr z ↦ are_few 0 accesses _ z.1.0 (omega arith)
+      ]
+    ])
+
+close_few : (size : ℕ) (place : Place) (slot : ℕ) (accesses : List Access) (c : Completed) → IsCloseDone size place slot accesses c
+    → InstallAtMost 0 accesses
+close_few size place slot accesses c =
+    either_case (size == 0) _ _ _ (refused_few 0 place ENXIO accesses c)
+    (either_case (nat_le size slot) _ _ _ (refused_few 0 place EINVAL accesses c)
+    (λ x. elim x [
+      | inl y ↦ are_few 0 accesses _ y.0 (omega arith)
+      | inr y ↦ are_few 0 accesses _ y.1.0 (omega arith)
+    ]))
+
+entry_few : (place : Place) (in_list slot : ℕ) (entry : ℤ) (accesses : List Access) → IsEntryDone place in_list slot entry accesses
+    → InstallAtMost (entry_installs entry) accesses
+entry_few place in_list slot (pos entry) accesses x = are_few 1 accesses _ x.1 (omega arith)
+entry_few place in_list slot (negsuc zero) accesses x = are_few 0 accesses _ x.1 (omega arith)
+entry_few place in_list slot (negsuc (suc n)) accesses x = are_few 0 accesses _ x (omega arith)
+
+list_few : (place : Place) (in_list slot : ℕ) (list : List ℤ) (accesses : List Access) → AreEntriesDone place in_list slot list accesses
+    → InstallAtMost (list_installs list) accesses
+list_few place in_list slot [] accesses x = are_few 0 accesses [] x (omega arith)
+list_few place in_list slot (entry ∷ list) accesses x =
+    let one : installs_in x.0 ≤ entry_installs entry = entry_few place in_list slot entry x.0 x.3 in
+    let more : installs_in x.1 ≤ list_installs list = list_few place (in_list + 1) (slot + 1) list x.1 x.4 in
+    let both = installs_in-append x.0 x.1 in
+    let all = list_installs-cons entry list in
+    are_few (list_installs (entry ∷ list)) accesses (x.0 ++ x.1) x.2 (omega arith)
+
+update_few : (entries size : ℕ) (place : Place) (off : ℕ) (list : List ℤ) (accesses : List Access) (c : Completed)
+    → IsUpdateDone entries size place off list accesses c → InstallAtMost (list_installs list) accesses
+update_few entries size place off list accesses c =
+    either_case (size == 0) _ _ _ (refused_few (list_installs list) place ENXIO accesses c)
+    (either_case (length list == 0 || nat_lt size (off + length list)) _ _ _ (refused_few (list_installs list) place EINVAL accesses c)
+    (either_case (list_any (is_bad_entry entries) list) _ _ _ (refused_few (list_installs list) place EBADF accesses c)
+    (λ x. list_few place 0 off list accesses x.0)))
+
+request_few : (catalogue : List FileEntry) (size : ℕ) (place : Place) (operation : Operation) (accesses : List Access) (c : Completed)
+    → IsRequestDone catalogue size place operation accesses c → InstallAtMost (installs_of operation) accesses
+request_few catalogue size place (Opens name target) accesses c =
+    either_case (has_name name catalogue) _ _ _ (λ x. open_few size place x.0 target accesses c x.2) (refused_few 1 place ENOENT accesses c)
+request_few catalogue size place (Reads slot off len) accesses c = read_few catalogue size place slot off len accesses c
+request_few catalogue size place (Closes slot) accesses c = close_few size place slot accesses c
+request_few catalogue size place (Updates off list) accesses c = update_few (length catalogue) size place off list accesses c
+
+chain_few : (catalogue : List FileEntry) (size : ℕ) (place : Place) (requests : List Asked) (accesses : List Access) (cs : List Completed)
+    → IsChainDone catalogue size place requests accesses cs → InstallAtMost (all_installs requests) accesses
+chain_few catalogue size place [] accesses cs x = are_few (all_installs []) accesses [] x.0 (omega arith)
+chain_few catalogue size place (request ∷ requests) accesses cs x =
+    let one : installs_in x.0 ≤ installs_of request.operation = request_few catalogue size place request.operation x.0 x.2 x.6 in
+    let more : installs_in x.1 ≤ all_installs requests =
+    either_case (severs request x.2) _ _ (InstallAtMost (all_installs requests) x.1)
+    (λ y. are_few (all_installs requests) x.1 [] y.0 (omega arith))
+    (chain_few catalogue size (next_member place) requests x.1 x.3) x.7 in
+    let both = installs_in-append x.0 x.1 in
+    let all = sum_by-cons (λ (r : Asked). installs_of r.operation) request requests in
+    are_few (all_installs (request ∷ requests)) accesses (x.0 ++ x.1) x.4 (omega arith)
+
+-- each chain's accesses install no more than its requests may
+chains_few : (catalogue : List FileEntry) (size submission first : ℕ) (runs : List (List Asked)) (order : List ChainAccess) (cs : List Completed)
+    (most : ℕ) → All (λ run. all_installs run ≤ most) runs → AreChainsDone catalogue size submission first runs order cs
+    → (chain : ℕ) → first ≤ chain → chain < first + length runs → installs_in (accesses_of_chain chain order) ≤ most
+chains_few catalogue size submission first [] order cs most few x chain low high = absurd (omega arith)
+chains_few catalogue size submission first (run ∷ runs) order cs most few x chain low high =
+    by_equality chain first (λ _. installs_in (accesses_of_chain chain order) ≤ most)
+    (λ same.
+    let mine : installs_in (accesses_of_chain first order) ≤ all_installs run =
+    chain_few catalogue size (first_member submission first) run (accesses_of_chain first order) x.0 x.3 in
+    let at_most : all_installs run ≤ most = All-head (λ (r : List Asked). all_installs r ≤ most) run runs few in
+    let is = ap (λ (c : ℕ). installs_in (accesses_of_chain c order)) same in
+    omega arith)
+    (λ other. chains_few catalogue size submission (first + 1) runs order x.1 most (All-tail (λ (r : List Asked). all_installs r ≤ most) run runs few) x.4
+    chain (above chain first low other) (omega arith))
+  where
+    above : (a b : ℕ) → b ≤ a → a ≢ b → b + 1 ≤ a
+    above a b low apart = by_equality (b + 1) (a + 1) (λ _. b + 1 ≤ a) (λ same. absurd (apart (omega arith))) (λ other. omega arith)
+
+abbrev chain_of : ChainAccess → ℕ
+chain_of x = x.chain
+
+split_few : (first : ℕ) (order : List ChainAccess)
+    → installs_in (accesses_of order)
+    ≡ installs_in (accesses_of (filter (has chain_of first) order)) + installs_in (accesses_of (filter (lacks chain_of first) order))
+split_few first [] = omega arith
+split_few first (x ∷ order) =
+    let rest = split_few first order in
+    elim (x.chain == first) as (λ b. installs x.access + installs_in (accesses_of order)
+    ≡ installs_in (accesses_of (cond b (x ∷ filter (has chain_of first) order) (filter (has chain_of first) order)))
+    + installs_in (accesses_of (cond (not b) (x ∷ filter (lacks chain_of first) order) (filter (lacks chain_of first) order)))) [
+      | true ↦ omega arith
+      | false ↦ omega arith
+    ]
+
+order_few : (first n most : ℕ) (order : List ChainAccess) → All (λ x. (first ≤ x.chain) × (x.chain < first + n)) order
+    → ((chain : ℕ) → first ≤ chain → chain < first + n → installs_in (accesses_of_chain chain order) ≤ most)
+    → installs_in (accesses_of order) ≤ most * n
+order_few first zero most order within few =
+    let none = ap (λ (o : List ChainAccess). installs_in (accesses_of o)) (none_within chain_of first order within) in omega arith
+order_few first (suc n) most order within few =
+    let others : List ChainAccess = filter (lacks chain_of first) order in
+    let split = split_few first order in
+    let mine : installs_in (accesses_of_chain first order) ≤ most = few first (omega arith) (omega arith) in
+    let rest : installs_in (accesses_of others) ≤ most * n =
+    order_few (first + 1) n most others (within_lacking chain_of first n order within)
+    (λ chain low high. subst (λ (o : List ChainAccess). installs_in (accesses_of o) ≤ most)
+    (sym (kept_lacking chain_of first chain order (λ same. omega arith))) (few chain (omega arith) (omega arith))) in
+    omega arith
+
+-- no chain of a submission without a fault installs more files than it has numbers
+few_a_chain : (requests : List Asked) → IsAccepted requests → All (λ run. all_installs run ≤ 64) (runs_of requests)
+few_a_chain requests accepted =
+    subst (All (λ (run : List Asked). all_installs run ≤ 64)) (members-are-runs requests)
+    (All-map (λ (run : List Asked). all_installs run ≤ 64) (members_of requests) (chains_of (runs_of requests))
+    (All-weaker (IsChain requests) (λ (chain : Chain). all_installs (members_of requests chain) ≤ 64) (λ chain is. is.run.installs)
+    (chains_of (runs_of requests)) (accepted-chains requests accepted)))
+
+pub few_installs : (catalogue : List FileEntry) (size submission : ℕ) (requests : List Asked) (order : List ChainAccess) (cs : List Completed)
+    → IsAccepted requests → All (λ x. (1 ≤ x.chain) × (x.chain ≤ length (runs_of requests))) order
+    → AreChainsDone catalogue size submission 1 (runs_of requests) order cs
+    → installs_in (accesses_of order) ≤ 64 * length (runs_of requests)
+few_installs catalogue size submission requests order cs accepted within chains =
+    order_few 1 (length (runs_of requests)) 64 order
+    (All-weaker (λ x. (1 ≤ x.chain) × (x.chain ≤ length (runs_of requests))) (λ x. (1 ≤ x.chain) × (x.chain < 1 + length (runs_of requests)))
+    (λ x is. let low = is.0 in let high = is.1 in (omega arith, omega arith)) order within)
+    (chains_few catalogue size submission 1 (runs_of requests) order cs 64 (few_a_chain requests accepted) chains)

@@ -1,0 +1,11 @@
+pub mod Begins
+pub mod Accesses
+pub mod Requests
+pub mod Removed
+pub mod Ordered
+pub mod AtOnce
+pub mod Made
+pub mod Installs
+pub mod Answered
+pub mod Shown
+pub mod Histories

@@ -1,0 +1,85 @@
+-- What one history leads to, the order of its accesses leads to.
+use Rattle.std.proofs.Common.{◌≡◌, ℕ, ◌+◌, ◌≤◌, List, [], ◌∷◌, map, length, refl, sym, ap, subst, ◌∙◌, All, Contains, Option, IsPermutation}
+use Rattle.std.proofs.lemmas.List.Elements.{All-nil, All-cons, All-append}
+use Rattle.std.proofs.lemmas.List.Sorted.{IsPermutation-trans}
+use Rattle.fx_base.specs.declared.open_file.Closed.{Closed}
+use Rattle.fx_plain.specs.declared.event.Event.{Event}
+use Rattle.fx_plain.specs.declared.event.Action.{Action}
+use Rattle.fx_plain.specs.State.{State, opening}
+use Rattle.fx_plain.specs.Contents.{state_of}
+use Rattle.fx_plain.specs.History.{action_of, closes_in}
+use Rattle.fx_order.proofs.Begins.{opening_is_start}
+use Rattle.fx_table.specs.Numbers.{numbers_for}
+use Rattle.fx_table.proofs.Members.{contains_head, contains_tail}
+use Rattle.fx_chain.specs.Operation.{Asked}
+use Rattle.fx_chain.specs.Runs.{runs_of}
+use Rattle.fx_ring.specs.Ring.{RingContents, RingState, ring_of}
+use Rattle.fx_ring.specs.Submission.{IsOneHistory, Reported}
+use Rattle.fx_order.specs.Access.{Table, Access, Looks, Puts, Clears, Takes, Allocates, FindsFull, ChainAccess, PermitsAll, table_with}
+use Rattle.fx_order.specs.Access.{table_after, removed_in, accesses_of}
+use Rattle.fx_order.specs.Order.{IsOneOrder, table_of}
+use Rattle.fx_order.proofs.Accesses.{shown, accesses_by, accesses_in, order_in, by_chain, accesses_of-order_in, permitted_along, shown-opening}
+use Rattle.fx_order.proofs.Requests.{all_explained}
+use Rattle.fx_order.proofs.Removed.{removed_is_closed}
+
+abbrev pub IsWithin : ℕ → ℕ → Type 0
+IsWithin chains chain = (1 ≤ chain) × (chain ≤ chains)
+
+by_within : (chains chain : ℕ) (accesses : List Access) → IsWithin chains chain → All (λ x. IsWithin chains x.chain) (map (by_chain chain) accesses)
+by_within chains chain [] within = All-nil (λ x. IsWithin chains x.chain)
+by_within chains chain (access ∷ accesses) within =
+    All-cons (λ x. IsWithin chains x.chain) (by_chain chain access) (map (by_chain chain) accesses) within (by_within chains chain accesses within)
+
+order_within : (chains : ℕ) (h : List Event) → ((e : Event) → Contains h e → IsWithin chains e.chain) → All (λ x. IsWithin chains x.chain) (order_in h)
+order_within chains [] each = All-nil (λ x. IsWithin chains x.chain)
+order_within chains (e ∷ h) each =
+    All-append (λ x. IsWithin chains x.chain) (order_in h) (map (by_chain e.chain) (accesses_by e.action))
+    (order_within chains h (λ f has. each f (contains_tail e h f has)))
+    (by_within chains e.chain (accesses_by e.action) (each e (contains_head e h)))
+
+abbrev table_with_files : Table → (ℕ → Option Closed) → Table
+table_with_files table at = record table { at = at }
+
+-- accesses leave the size and the range as they are
+pub same_outline : (table : Table) (accesses : List Access) → table_after table accesses ≡ table_with_files table (table_after table accesses).at
+same_outline table [] = refl
+same_outline table (Looks slot found ∷ accesses) = same_outline table accesses
+same_outline table (Puts slot file removed ∷ accesses) = same_outline (table_with table (Puts slot file removed)) accesses
+same_outline table (Clears slot removed ∷ accesses) = same_outline (table_with table (Clears slot removed)) accesses
+same_outline table (Takes slot removed ∷ accesses) = same_outline (table_with table (Takes slot removed)) accesses
+same_outline table (Allocates slot file ∷ accesses) = same_outline (table_with table (Allocates slot file)) accesses
+same_outline table (FindsFull ∷ accesses) = same_outline table accesses
+
+-- a ring with another table, and so many submissions counted
+abbrev pub ring_after : RingState → ℕ → Table → RingState
+ring_after ring submissions table = record ring { size = table.size; range = table.range; at = table.at; submissions = submissions }
+
+pub each_history_is_an_order : (old new : RingContents) (requests : List Asked) (report : Reported) → IsOneHistory old requests report new
+    → IsOneOrder (ring_of old) requests report (ring_of new)
+each_history_is_an_order old new requests report h =
+    let st : State = state_of old.table in
+    let start : State = opening st (numbers_for (length (runs_of requests))) in
+    let acts : List Action = map action_of h.history in
+    let order : List ChainAccess = order_in h.history in
+    let are : accesses_of order ≡ accesses_in acts = accesses_of-order_in h.history in
+    let along = permitted_along start acts h.legal.leads.0 in
+    let begins : shown start ≡ table_of (ring_of old) = shown-opening st (numbers_for (length (runs_of requests))) in
+    let table : shown h.end ≡ table_after (table_of (ring_of old)) (accesses_of order) =
+    ap shown h.legal.leads.1 ∙ (along.1 ∙ (λ i. table_after (begins i) (sym are i))) in
+    let outline : shown h.end ≡ table_with_files (table_of (ring_of old)) (table_after (table_of (ring_of old)) (accesses_of order)).at =
+    table ∙ same_outline (table_of (ring_of old)) (accesses_of order) in
+    let same_files : IsPermutation (removed_in (accesses_of order)) (closes_in acts) =
+    subst (λ (l : List Access). IsPermutation (removed_in l) (closes_in acts)) (sym are)
+    (removed_is_closed start h.end h.history (opening_is_start st (numbers_for (length (runs_of requests)))) h.legal.leads.0 h.legal.leads.1 h.settled) in
+    record {
+      order = order;
+      permitted = subst (λ (t : Table). PermitsAll t (accesses_of order)) begins (subst (PermitsAll (shown start)) (sym are) along.0);
+      chains = order_within (length (runs_of requests)) h.history h.chains;
+      done = all_explained old.catalogue st.size report.submission 1 (runs_of requests) h.history report.completions h.explained;
+      closed = record {
+        same_files = IsPermutation-trans (removed_in (accesses_of order)) (closes_in acts) report.closes.files same_files h.closed.same_files;
+        in_order = h.closed.in_order;
+      };
+      submission = h.submission;
+      after = h.after ∙ ap (ring_after (ring_of old) (old.submissions + 1)) outline;
+    }

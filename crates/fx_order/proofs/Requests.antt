@@ -1,0 +1,161 @@
+-- What explains an answer by steps explains it by their accesses.
+use Rattle.std.proofs.Common.{◌≡◌, inl, inr, ℕ, zero, suc, ◌+◌, ◌==◌, ◌||◌, nat_le, nat_lt, ℤ, pos, negsuc, Bool, true, false, List, [], ◌∷◌}
+use Rattle.std.proofs.Common.{length, map, sym, ap, subst, ◌∙◌, Option, Some, None}
+use Rattle.std.specs.Bool.{MatchBool}
+use Rattle.std.specs.List.{list_any}
+use Rattle.std.proofs.lemmas.List.{append-nil}
+use Rattle.fx_base.specs.Catalogue.{FileEntry}
+use Rattle.fx_base.specs.AddFault.{has_name}
+use Rattle.fx_base.specs.declared.errno.Errno.{Errno}
+use Rattle.fx_base.specs.declared.errno.Errno.TheVariants.{ENOENT, ENXIO, EBADF, ENOMEM, EINVAL, ENFILE}
+use Rattle.fx_base.specs.declared.open_file.Closed.{Closed}
+use Rattle.fx_plain.specs.declared.event.File.{File}
+use Rattle.fx_plain.specs.declared.event.Event.{Event}
+use Rattle.fx_plain.specs.declared.event.Action.{Action}
+use Rattle.fx_plain.specs.declared.event.Action.TheVariants.{Look, Release, Put, Clear, Take}
+use Rattle.fx_plain.specs.History.{◌▷◌, action_of, part_of_chain}
+use Rattle.fx_plain.specs.Table.{identity_of}
+use Rattle.fx_chain.specs.Answers.{Refuses, MayClose, OpensAt, ReadsFrom, Empties, AppliesEntry, AppliesList, UpdatesFrom, Answers}
+use Rattle.fx_chain.specs.Answers.{is_bad_entry}
+use Rattle.fx_chain.specs.Completed.{Completed, next_member}
+use Rattle.fx_chain.specs.Explains.{Explains, severs, first_member}
+use Rattle.fx_chain.specs.Operation.{Operation, Opens, Reads, Closes, Updates, Asked}
+use Rattle.fx_chain.specs.declared.completion.Place.{Place}
+use Rattle.fx_chain.specs.declared.request.Target.{Target}
+use Rattle.fx_chain.specs.declared.request.Target.TheVariants.{Slot, Any}
+use Rattle.fx_ring.specs.Submission.{ExplainsParts}
+use Rattle.fx_order.specs.Access.{Access, Puts, Allocates}
+use Rattle.fx_order.specs.Requests.{IsRefused, IsOpenDone, IsReadDone, IsCloseDone, IsEntryDone, AreEntriesDone, IsUpdateDone, IsRequestDone}
+use Rattle.fx_order.specs.Requests.{IsChainDone, AreChainsDone}
+use Rattle.fx_order.proofs.Accesses.{accesses_in, accesses_in-then, order_in, accesses_of_chain-order_in}
+
+pub same_cases : (b : Bool) (P Q R S : Type 0) → (P → R) → (Q → S) → MatchBool b P Q → MatchBool b R S
+same_cases true P Q R S yes_so not_so given = yes_so given
+same_cases false P Q R S yes_so not_so given = not_so given
+
+accesses_may_close : (steps : List Action) (removed : Option File) (events : List Action) → MayClose steps removed events
+    → accesses_in events ≡ accesses_in steps
+accesses_may_close steps None events is = ap accesses_in is
+accesses_may_close steps (Some f) events closes = elim closes [
+  | inl is ↦ ap accesses_in is
+  | inr is ↦ ap accesses_in is ∙ append-nil (accesses_in steps)
+]
+
+refused : (place : Place) (errno : Errno) (events : List Action) (c : Completed) → Refuses place errno events c
+    → IsRefused place errno (accesses_in events) c
+refused place errno events c refuses = (ap accesses_in refuses.0, refuses.1)
+
+opened : (size : ℕ) (place : Place) (entry : ℕ) (target : Target) (events : List Action) (c : Completed)
+    → OpensAt size place entry target events c → IsOpenDone size place entry target (accesses_in events) c
+opened size place entry (Slot slot) events c =
+    same_cases (size == 0) _ _ _ _ (refused place ENXIO events c)
+    (same_cases (nat_le size slot) _ _ _ _ (refused place EINVAL events c)
+    (λ x. (
+      identity_of x.1,
+      (
+        accesses_may_close ([] ▷ Put slot x.0 x.1) x.1 events x.3
+            ∙ ap (λ (file : Closed). Puts slot file (identity_of x.1) ∷ []) x.2,
+        x.4,
+      ),
+    )))
+opened size place entry Any events c =
+    same_cases (size == 0) _ _ _ _ (refused place ENFILE events c)
+    (λ x. elim x [
+      | inl y ↦ inl (y.0, (ap accesses_in y.3 ∙ ap (λ (file : Closed). Allocates y.0 file ∷ []) y.2, y.4))
+      | inr y ↦ inr (ap accesses_in y.0, y.1)
+    ])
+
+read : (catalogue : List FileEntry) (size : ℕ) (place : Place) (slot off len : ℕ) (events : List Action) (c : Completed)
+    → ReadsFrom catalogue size place slot off len events c → IsReadDone catalogue size place slot off len (accesses_in events) c
+read catalogue size place slot off len events c =
+    same_cases (nat_le size slot) _ _ _ _ (refused place EBADF events c)
+    (λ x. elim x [
+      | inl y ↦ inl (y.0, refused place ENOMEM events c y.1)
+      | inr y ↦ elim y [
+        | inl z ↦ inr (inl (ap accesses_in z.0, z.1))
+        | inr z ↦ inr (inr (
+          z.0.identity,
+          (accesses_may_close ([] ▷ Look slot (Some z.0) ▷ Release z.0) (Some z.0) events z.1, z.2),
+        ))
+      ]
+    ])
+
+emptied : (size : ℕ) (place : Place) (slot : ℕ) (events : List Action) (c : Completed) → Empties size place slot events c
+    → IsCloseDone size place slot (accesses_in events) c
+emptied size place slot events c =
+    same_cases (size == 0) _ _ _ _ (refused place ENXIO events c)
+    (same_cases (nat_le size slot) _ _ _ _ (refused place EINVAL events c)
+    (λ x. elim x [
+      | inl y ↦ inl (ap accesses_in y.0, y.1)
+      | inr y ↦ inr (y.0.identity, (accesses_may_close ([] ▷ Take slot (Some y.0)) (Some y.0) events y.1, y.2))
+    ]))
+
+entry_applied : (place : Place) (in_list slot : ℕ) (entry : ℤ) (events : List Action) → AppliesEntry place in_list slot entry events
+    → IsEntryDone place in_list slot entry (accesses_in events)
+entry_applied place in_list slot (pos entry) events x = (
+  identity_of x.1,
+  accesses_may_close ([] ▷ Put slot x.0 x.1) x.1 events x.3
+      ∙ ap (λ (file : Closed). Puts slot file (identity_of x.1) ∷ []) x.2,
+)
+entry_applied place in_list slot (negsuc zero) events x =
+    (identity_of x.0, accesses_may_close ([] ▷ Clear slot x.0) x.0 events x.1)
+entry_applied place in_list slot (negsuc (suc n)) events x = ap accesses_in x
+
+list_applied : (place : Place) (in_list slot : ℕ) (list : List ℤ) (events : List Action) → AppliesList place in_list slot list events
+    → AreEntriesDone place in_list slot list (accesses_in events)
+list_applied place in_list slot [] events x = ap accesses_in x
+list_applied place in_list slot (entry ∷ list) events x = (
+  accesses_in x.0,
+  accesses_in x.1,
+  ap accesses_in x.2 ∙ accesses_in-then x.0 x.1,
+  entry_applied place in_list slot entry x.0 x.3,
+  list_applied place (in_list + 1) (slot + 1) list x.1 x.4,
+)
+
+updated : (entries size : ℕ) (place : Place) (off : ℕ) (list : List ℤ) (events : List Action) (c : Completed)
+    → UpdatesFrom entries size place off list events c → IsUpdateDone entries size place off list (accesses_in events) c
+updated entries size place off list events c =
+    same_cases (size == 0) _ _ _ _ (refused place ENXIO events c)
+    (same_cases (length list == 0 || nat_lt size (off + length list)) _ _ _ _ (refused place EINVAL events c)
+    (same_cases (list_any (is_bad_entry entries) list) _ _ _ _ (refused place EBADF events c)
+    (λ x. (list_applied place 0 off list events x.0, x.1))))
+
+answered : (catalogue : List FileEntry) (size : ℕ) (place : Place) (operation : Operation) (events : List Action) (c : Completed)
+    → Answers catalogue size place operation events c → IsRequestDone catalogue size place operation (accesses_in events) c
+answered catalogue size place (Opens name target) events c =
+    same_cases (has_name name catalogue) _ _ _ _ (λ x. (x.0, x.1, opened size place x.0 target events c x.2)) (refused place ENOENT events c)
+answered catalogue size place (Reads slot off len) events c = read catalogue size place slot off len events c
+answered catalogue size place (Closes slot) events c = emptied size place slot events c
+answered catalogue size place (Updates off list) events c = updated (length catalogue) size place off list events c
+
+-- what explains a chain
+pub explained : (catalogue : List FileEntry) (size : ℕ) (place : Place) (requests : List Asked) (events : List Action)
+    (completions : List Completed) → Explains catalogue size place requests events completions
+    → IsChainDone catalogue size place requests (accesses_in events) completions
+explained catalogue size place [] events completions x = (ap accesses_in x.0, x.1)
+explained catalogue size place (request ∷ requests) events completions x = (
+  accesses_in x.0,
+  accesses_in x.1,
+  x.2,
+  x.3,
+  ap accesses_in x.4 ∙ accesses_in-then x.0 x.1,
+  x.5,
+  answered catalogue size place request.operation x.0 x.2 x.6,
+  same_cases (severs request x.2) _ _ _ _ (λ y. (ap accesses_in y.0, y.1))
+      (explained catalogue size (next_member place) requests x.1 x.3) x.7,
+)
+
+-- and all chains
+pub all_explained : (catalogue : List FileEntry) (size submission chain : ℕ) (runs : List (List Asked)) (h : List Event)
+    (completions : List Completed) → ExplainsParts catalogue size submission chain runs h completions
+    → AreChainsDone catalogue size submission chain runs (order_in h) completions
+all_explained catalogue size submission chain [] h completions x = x
+all_explained catalogue size submission chain (run ∷ runs) h completions x = (
+  x.0,
+  x.1,
+  x.2,
+  subst (λ (accesses : List Access). IsChainDone catalogue size (first_member submission chain) run accesses x.0)
+      (sym (accesses_of_chain-order_in chain h))
+      (explained catalogue size (first_member submission chain) run (map action_of (part_of_chain chain h)) x.0 x.3),
+  all_explained catalogue size submission (chain + 1) runs h x.1 x.4,
+)

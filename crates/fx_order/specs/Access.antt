@@ -1,0 +1,98 @@
+-- What a request does to a table that is only its size, its allocation range and the file at each
+-- slot. A request that comes to the table does so once, and an update once for each entry of its list.
+use Rattle.std.specs.Prelude.{◌≡◌, ℕ, ◌+◌, ◌<◌, ◌≤◌, ◌==◌, List, [], ◌∷◌, ◌++◌, map, filter, Option, Some, None, IsSome}
+use Rattle.std.specs.Option.{option_to_list}
+use Rattle.fx_base.specs.declared.open_file.Closed.{Closed}
+use Rattle.fx_plain.specs.Step.{changed_at}
+
+pub record Table : Type 0 where
+  -- how many slots there are, from 0
+  pub size : ℕ
+  -- where the allocation range begins, and how long it is
+  pub range : ℕ × ℕ
+  -- the file at each slot
+  pub at : ℕ → Option Closed
+
+-- one access of a table. Slots come first, then the file that is installed, then the file that was
+-- found there
+pub data Access : Type 0 where
+  -- a read looks at a slot
+  Looks : ℕ → Option Closed → Access
+  -- an open, or an entry of an update, installs a file at a slot
+  Puts : ℕ → Closed → Option Closed → Access
+  -- an entry of an update empties a slot
+  Clears : ℕ → Option Closed → Access
+  -- a close empties a slot
+  Takes : ℕ → Option Closed → Access
+  -- an open installs a file at a free slot of the allocation range
+  Allocates : ℕ → Closed → Access
+  -- an open finds no free slot in the allocation range
+  FindsFull : Access
+
+-- the slot is one of the allocation range
+abbrev pub IsInRange : Table → ℕ → Type 0
+IsInRange table slot = (table.range.0 ≤ slot) × (slot < table.range.0 + table.range.1)
+
+-- the slot is one of the table, and this is what is there
+abbrev pub IsAt : Table → ℕ → Option Closed → Type 0
+IsAt table slot found = (slot < table.size) × (found ≡ table.at slot)
+
+-- what an access asks of the table before it
+abbrev pub Permits : Table → Access → Type 0
+Permits table (Looks slot found) = IsAt table slot found
+Permits table (Puts slot file removed) = IsAt table slot removed
+Permits table (Clears slot removed) = IsAt table slot removed
+Permits table (Takes slot removed) = IsAt table slot removed
+Permits table (Allocates slot file) = IsAt table slot None × IsInRange table slot
+Permits table FindsFull =
+    (slot : ℕ) → slot < table.size → IsInRange table slot → IsSome (table.at slot)
+
+abbrev pub with_file : Table → ℕ → Option Closed → Table
+with_file table slot file = record table { at = changed_at table.at slot file }
+
+-- the table after an access
+abbrev pub table_with : Table → Access → Table
+table_with table (Looks slot found) = table
+table_with table (Puts slot file removed) = with_file table slot (Some file)
+table_with table (Clears slot removed) = with_file table slot None
+table_with table (Takes slot removed) = with_file table slot None
+table_with table (Allocates slot file) = with_file table slot (Some file)
+table_with table FindsFull = table
+
+-- the file that an access takes from its slot, if there is one
+abbrev pub removed_by : Access → Option Closed
+removed_by (Puts slot file removed) = removed
+removed_by (Clears slot removed) = removed
+removed_by (Takes slot removed) = removed
+removed_by _ = None
+
+-- the accesses may be made one after another, the first one first
+abbrev pub PermitsAll : Table → List Access → Type 0
+PermitsAll table [] = Unit {0}
+PermitsAll table (access ∷ accesses) =
+    Permits table access × PermitsAll (table_with table access) accesses
+
+-- the table after all of them
+abbrev pub table_after : Table → List Access → Table
+table_after table [] = table
+table_after table (access ∷ accesses) = table_after (table_with table access) accesses
+
+-- the files that they took from their slots, one after another
+abbrev pub removed_in : List Access → List Closed
+removed_in [] = []
+removed_in (access ∷ accesses) = option_to_list (removed_by access) ++ removed_in accesses
+
+-- an access, and the chain whose request makes it
+pub record ChainAccess : Type 0 where
+  pub chain : ℕ
+  pub access : Access
+
+abbrev pub access_of : ChainAccess → Access
+access_of x = x.access
+
+abbrev pub accesses_of : List ChainAccess → List Access
+accesses_of order = map access_of order
+
+-- the accesses of one chain, in their order
+abbrev pub accesses_of_chain : ℕ → List ChainAccess → List Access
+accesses_of_chain chain order = accesses_of (filter (λ x. x.chain == chain) order)

@@ -1,0 +1,4 @@
+pub mod Access
+pub mod Requests
+pub mod Order
+pub mod Laws

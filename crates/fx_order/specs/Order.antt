@@ -1,0 +1,35 @@
+-- A submission: its requests are done one at a time, in an order that keeps each chain's (an update
+-- entry by entry).
+use Rattle.std.specs.Prelude.{◌≡◌, ◌+◌, ◌≤◌, List, length, All}
+use Rattle.fx_chain.specs.Operation.{Asked}
+use Rattle.fx_chain.specs.Runs.{runs_of}
+use Rattle.fx_ring.specs.Ring.{RingState, HasClosed}
+use Rattle.fx_ring.specs.Submission.{Reported}
+use Rattle.fx_order.specs.Access.{Table, ChainAccess, PermitsAll, table_after, removed_in, accesses_of}
+use Rattle.fx_order.specs.Requests.{AreChainsDone}
+
+-- the table of a ring
+abbrev pub table_of : RingState → Table
+table_of ring = record { size = ring.size; range = ring.range; at = ring.at }
+
+-- A submission leads from one ring to another by one order of its requests' accesses
+pub record IsOneOrder (old : RingState) (requests : List Asked) (report : Reported)
+    (new : RingState) : Type 0 where
+  -- the first one stands first, and each may be made at the table that those before it left
+  pub order : List ChainAccess
+  pub permitted : PermitsAll (table_of old) (accesses_of order)
+  -- they are all of the submission's chains
+  pub chains : All (λ x. (1 ≤ x.chain) × (x.chain ≤ length (runs_of requests))) order
+  -- each chain's members make their accesses in the chain's order, and the report has all their
+  -- completions
+  pub done : AreChainsDone old.catalogue old.size report.submission 1 (runs_of requests) order
+      report.completions
+  -- the report's closes are the files that were taken from their slots, in order of mark
+  pub closed : HasClosed (removed_in (accesses_of order)) report.closes
+  -- the files at the slots are those that the order left; the submission is counted, and all else
+  -- stays
+  pub submission : report.submission ≡ old.submissions + 1
+  pub after : new ≡ record old {
+    at = (table_after (table_of old) (accesses_of order)).at;
+    submissions = old.submissions + 1;
+  }

@@ -1,0 +1,126 @@
+-- What a request may answer that is done at once, by its accesses of a table of some size: for each
+-- request its cases, of which the first one that applies counts. And what a chain may answer.
+use Rattle.std.specs.Prelude.{◌≡◌, ◌⊎◌, ℕ, zero, suc, ◌+◌, ◌<◌, ℤ, pos, negsuc, ◌==◌, ◌||◌, nat_le, nat_lt, List, [], ◌∷◌, ◌++◌, length, Option, Some, None}
+use Rattle.std.specs.Bool.{MatchBool}
+use Rattle.std.specs.List.{list_any}
+use Rattle.fx_base.specs.declared.errno.Errno.{Errno}
+use Rattle.fx_base.specs.declared.errno.Errno.TheVariants.{ENOENT, ENXIO, EBADF, ENOMEM, EINVAL, ENFILE}
+use Rattle.fx_base.specs.declared.open_file.Closed.{Closed}
+use Rattle.fx_base.specs.Catalogue.{FileEntry, name_at, bytes_at}
+use Rattle.fx_base.specs.AddFault.{has_name}
+use Rattle.fx_chain.specs.Answers.{installed, is_bad_entry}
+use Rattle.fx_chain.specs.Completed.{Completed, completed, refusal, next_member}
+use Rattle.fx_chain.specs.Explains.{canceled, first_member, severs}
+use Rattle.fx_chain.specs.Operation.{Operation, Opens, Reads, Closes, Updates, Asked}
+use Rattle.fx_chain.specs.declared.completion.Place.{Place}
+use Rattle.fx_chain.specs.declared.request.Target.{Target}
+use Rattle.fx_chain.specs.declared.request.Target.TheVariants.{Slot, Any}
+use Rattle.fx_order.specs.Access.{Access, Looks, Puts, Clears, Takes, Allocates, FindsFull, ChainAccess, accesses_of_chain}
+
+-- the request made this one access, and answers so
+abbrev pub Makes : Access → Completed → List Access → Completed → Type 0
+Makes access answer accesses c = (accesses ≡ access ∷ []) × (c ≡ answer)
+
+-- the request didn't come to the table, and fails
+abbrev pub IsRefused : Place → Errno → List Access → Completed → Type 0
+IsRefused place errno accesses c = (accesses ≡ []) × (c ≡ refusal place errno)
+
+-- an open of a catalogue entry
+abbrev pub IsOpenDone : ℕ → Place → ℕ → Target → List Access → Completed → Type 0
+IsOpenDone size place entry (Slot slot) accesses c =
+    MatchBool (size == 0) (IsRefused place ENXIO accesses c)
+    (MatchBool (nat_le size slot) (IsRefused place EINVAL accesses c)
+    ((removed : Option Closed)
+    × Makes (Puts slot (installed place 0 entry) removed) (completed place (pos 0) []) accesses c))
+IsOpenDone size place entry Any accesses c =
+    MatchBool (size == 0) (IsRefused place ENFILE accesses c)
+    (((slot : ℕ)
+    × Makes (Allocates slot (installed place 0 entry)) (completed place (pos slot) []) accesses c)
+    ⊎ Makes FindsFull (refusal place ENFILE) accesses c)
+
+-- what a read of a file gives
+abbrev pub gives : List FileEntry → Place → Closed → ℕ → ℕ → Completed
+gives catalogue place file off len =
+    completed place (pos (length (bytes_at catalogue file.entry off len)))
+    (bytes_at catalogue file.entry off len)
+
+-- a read of some bytes at a slot
+abbrev pub IsReadDone : List FileEntry → ℕ → Place → ℕ → ℕ → ℕ → List Access → Completed → Type 0
+IsReadDone catalogue size place slot off len accesses c =
+    MatchBool (nat_le size slot) (IsRefused place EBADF accesses c)
+    (((0 < len) × IsRefused place ENOMEM accesses c)
+    ⊎ Makes (Looks slot None) (refusal place EBADF) accesses c
+    ⊎ ((file : Closed)
+    × Makes (Looks slot (Some file)) (gives catalogue place file off len) accesses c))
+
+-- a close of a slot
+abbrev pub IsCloseDone : ℕ → Place → ℕ → List Access → Completed → Type 0
+IsCloseDone size place slot accesses c =
+    MatchBool (size == 0) (IsRefused place ENXIO accesses c)
+    (MatchBool (nat_le size slot) (IsRefused place EINVAL accesses c)
+    (Makes (Takes slot None) (refusal place EBADF) accesses c
+    ⊎ ((removed : Closed)
+    × Makes (Takes slot (Some removed)) (completed place (pos 0) []) accesses c)))
+
+-- one entry of an update: its place in the list, and its slot. -1 empties the slot, another number of
+-- 0 or more installs that catalogue entry, and the others leave the slot
+abbrev pub IsEntryDone : Place → ℕ → ℕ → ℤ → List Access → Type 0
+IsEntryDone place in_list slot (pos entry) accesses =
+    (removed : Option Closed) × (accesses ≡ Puts slot (installed place in_list entry) removed ∷ [])
+IsEntryDone place in_list slot (negsuc zero) accesses =
+    (removed : Option Closed) × (accesses ≡ Clears slot removed ∷ [])
+IsEntryDone place in_list slot (negsuc (suc n)) accesses = accesses ≡ []
+
+-- the entries of an update from a place in its list on, one after another
+abbrev pub AreEntriesDone : Place → ℕ → ℕ → List ℤ → List Access → Type 0
+AreEntriesDone place in_list slot [] accesses = accesses ≡ []
+AreEntriesDone place in_list slot (entry ∷ list) accesses =
+    (own : List Access) × (others : List Access) × (accesses ≡ own ++ others)
+    × IsEntryDone place in_list slot entry own
+    × AreEntriesDone place (in_list + 1) (slot + 1) list others
+
+-- an update of the slots from one on
+abbrev pub IsUpdateDone : ℕ → ℕ → Place → ℕ → List ℤ → List Access → Completed → Type 0
+IsUpdateDone entries size place off list accesses c =
+    MatchBool (size == 0) (IsRefused place ENXIO accesses c)
+    (MatchBool (length list == 0 || nat_lt size (off + length list))
+    (IsRefused place EINVAL accesses c)
+    (MatchBool (list_any (is_bad_entry entries) list) (IsRefused place EBADF accesses c)
+    (AreEntriesDone place 0 off list accesses × (c ≡ completed place (pos (length list)) []))))
+
+-- the request may answer so, having made these accesses
+abbrev pub IsRequestDone : List FileEntry → ℕ → Place → Operation → List Access → Completed → Type 0
+IsRequestDone catalogue size place (Opens name target) accesses c =
+    MatchBool (has_name name catalogue)
+    ((entry : ℕ) × (name_at catalogue entry ≡ Some name)
+    × IsOpenDone size place entry target accesses c)
+    (IsRefused place ENOENT accesses c)
+IsRequestDone catalogue size place (Reads slot off len) accesses c =
+    IsReadDone catalogue size place slot off len accesses c
+IsRequestDone catalogue size place (Closes slot) accesses c = IsCloseDone size place slot accesses c
+IsRequestDone catalogue size place (Updates off list) accesses c =
+    IsUpdateDone (length catalogue) size place off list accesses c
+
+-- the members of a chain from this place on make these accesses, one after another, and answer so: up
+-- to and with the first one that severs the chain; the others are canceled
+abbrev pub IsChainDone :
+    List FileEntry → ℕ → Place → List Asked → List Access → List Completed → Type 0
+IsChainDone catalogue size place [] accesses completions = (accesses ≡ []) × (completions ≡ [])
+IsChainDone catalogue size place (request ∷ requests) accesses completions =
+    (own : List Access) × (others : List Access) × (c : Completed) × (cs : List Completed)
+    × (accesses ≡ own ++ others) × (completions ≡ c ∷ cs)
+    × IsRequestDone catalogue size place request.operation own c
+    × MatchBool (severs request c)
+    ((others ≡ []) × (cs ≡ canceled (next_member place) requests))
+    (IsChainDone catalogue size (next_member place) requests others cs)
+
+-- the completions are those of the chains from this one on, in order of place; each chain makes its
+-- own accesses of the order
+abbrev pub AreChainsDone :
+    List FileEntry → ℕ → ℕ → ℕ → List (List Asked) → List ChainAccess → List Completed → Type 0
+AreChainsDone catalogue size submission chain [] order completions = completions ≡ []
+AreChainsDone catalogue size submission chain (run ∷ runs) order completions =
+    (own : List Completed) × (others : List Completed) × (completions ≡ own ++ others)
+    × IsChainDone catalogue size (first_member submission chain) run
+    (accesses_of_chain chain order) own
+    × AreChainsDone catalogue size submission (chain + 1) runs order others
