@@ -1,14 +1,10 @@
 -- What stands in a list of which only a beginning is written.
-use Rattle.std.proofs.Common.{take, ◌≡◌, ℕ, zero, suc, ◌+◌, ◌-◌, ◌<◌, ◌≤◌, List, [], ◌∷◌, ◌++◌}
-use Rattle.std.proofs.Common.{length, length-append, replicate, refl, sym, ap, subst, ◌∙◌}
-use Rattle.std.proofs.Common.{slice_index, slice_index_or, slice_set, append_assoc, Option, None, IsSome, arith, inl, inr}
-use Rattle.std.proofs.lemmas.List.{get_or-take, length-set, length-replicate, get_or_append_left, get_or-append-add, set-append_left}
-use Rattle.std.proofs.lemmas.Bool.{cases_lt}
-use Rattle.std.proofs.Math.ListN.{get_or-eq_default}
-use Rattle.fx_base.specs.declared.open_file.Closed.{Closed}
-use Rattle.fx_plain.specs.Contents.{KeepsFirst, node_at, file_in, Fresh, Gone}
-use Rattle.fx_plain.specs.Reserved.{with_rest}
-use Rattle.fx_plain.specs.declared.node.Node.{Node}
+use Rattle.fx_plain.proofs.Words.{take, ◌≡◌, ◌≢◌, ℕ, zero, suc, ◌+◌, ◌-◌, ◌<◌, ◌≤◌, List, [], ◌∷◌, ◌++◌, length, length-append, replicate, refl, sym}
+use Rattle.fx_plain.proofs.Words.{ap, subst, ◌∙◌, slice_index, slice_index_or, slice_set, append_assoc, IsSome, arith, inl, inr, length-set}
+use Rattle.fx_plain.proofs.Words.{length-replicate, get_or_append_left, cases_lt, get_or-eq_default, KeepsFirst, node_at, file_in, Fresh, Gone}
+use Rattle.fx_plain.proofs.Words.{with_rest, Node}
+use Rattle.std.proofs.lemmas.List.{get_or-take, get_or-append-add, set-append_left}
+use Rattle.std.proofs.lemmas.Grind.{common_steps}
 
 read_replicate : {X : Type 0} (n i : ℕ) (x d : X) → i < n → slice_index_or (replicate n x) i d ≡ x
 read_replicate zero i x d inside = absurd (omega arith)
@@ -51,46 +47,34 @@ module _ {X : Type 0} (rest : X) (len : ℕ) (xs : List X) where
       joined ∙ ap (λ (k : ℕ). xs ++ replicate k rest) same
 
 length-take_le : (n : ℕ) (xs : List Node) → length (take n xs) ≤ n
-length-take_le zero xs = omega arith
-length-take_le (suc n) [] = omega arith
-length-take_le (suc n) (x ∷ xs) = let rest = length-take_le n xs in omega arith
+length-take_le n xs = grind (arith, common_steps)
 
 length-take_all : (n : ℕ) (xs : List Node) → length (take n xs) ≤ length xs
-length-take_all zero xs = omega arith
-length-take_all (suc n) [] = omega arith
-length-take_all (suc n) (x ∷ xs) = let rest = length-take_all n xs in omega arith
+length-take_all n xs = grind (arith, common_steps)
 
 inside_of-take : (n : ℕ) (xs : List Node) (i : ℕ) → i < n → i < length xs → i < length (take n xs)
-inside_of-take zero xs i lt inside = absurd (omega arith)
-inside_of-take (suc n) [] i lt inside = absurd (omega arith)
-inside_of-take (suc n) (x ∷ xs) zero lt inside = omega arith
-inside_of-take (suc n) (x ∷ xs) (suc i) lt inside = let rest = inside_of-take n xs i (omega arith) (omega arith) in omega arith
+inside_of-take n xs i lt inside = grind (arith, common_steps)
 
-none_is_none : (λ (x : Option Closed). IsSome x) None → ⊥
-none_is_none has = cc has
-
-no_file : (node : Node) → file_in node ≡ None → IsSome (file_in node) → ⊥
-no_file node none has = none_is_none (subst (λ (x : Option Closed). IsSome x) none has)
+-- what is read as neither the rest nor the default was written
+inside_written : {X : Type 0} (rest d : X) (len : ℕ) (xs : List X) (n : ℕ) → length xs ≤ len → slice_index_or (with_rest rest len xs) n d ≢ rest
+    → slice_index_or (with_rest rest len xs) n d ≢ d → n < length xs
+inside_written rest d len xs n few no_rest no_default = elim (cases_lt n (length xs)) [
+  | inl lt ↦ lt
+  | inr behind ↦ elim (cases_lt n len) [
+    | inl lt ↦ absurd (no_rest (read_rest rest len xs n d behind lt))
+    | inr past ↦ absurd (no_default (read_behind rest len xs n d few past))
+  ]
+]
 
 -- a node with a file was written
 pub written_inside : (len : ℕ) (xs : List Node) (n : ℕ) → length xs ≤ len → IsSome (file_in (node_at (with_rest Fresh len xs) n)) → n < length xs
-written_inside len xs n few has = elim (cases_lt n (length xs)) [
-  | inl lt ↦ lt
-  | inr behind ↦ elim (cases_lt n len) [
-    | inl lt ↦ absurd (no_file Fresh refl (subst (λ (node : Node). IsSome (file_in node)) (read_rest Fresh len xs n Gone behind lt) has))
-    | inr past ↦ absurd (no_file Gone refl (subst (λ (node : Node). IsSome (file_in node)) (read_behind Fresh len xs n Gone few past) has))
-  ]
-]
+written_inside len xs n few has = inside_written Fresh Gone len xs n few
+    (λ is. let none : IsSome (file_in Fresh) = subst (λ (node : Node). IsSome (file_in node)) is has in cc none)
+    (λ is. let none : IsSome (file_in Gone) = subst (λ (node : Node). IsSome (file_in node)) is has in cc none)
 
 -- and a number with a hold
 pub held_inside : (len : ℕ) (xs : List ℕ) (n : ℕ) → length xs ≤ len → 0 < slice_index (with_rest 0 len xs) n → n < length xs
-held_inside len xs n few has = elim (cases_lt n (length xs)) [
-  | inl lt ↦ lt
-  | inr behind ↦ elim (cases_lt n len) [
-    | inl lt ↦ let zero_is : slice_index (with_rest 0 len xs) n ≡ 0 = read_rest 0 len xs n 0 behind lt in absurd (omega arith)
-    | inr past ↦ let zero_is : slice_index (with_rest 0 len xs) n ≡ 0 = read_behind 0 len xs n 0 few past in absurd (omega arith)
-  ]
-]
+held_inside len xs n few has = inside_written 0 0 len xs n few (λ is. omega (arith, is)) (λ is. omega (arith, is))
 
 -- a list of which a beginning is written keeps it
 pub new_keeps : (xs : List Node) (len : ℕ) → length xs ≤ len → KeepsFirst xs (length xs) len (with_rest Fresh len xs)

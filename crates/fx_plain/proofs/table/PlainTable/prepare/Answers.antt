@@ -1,7 +1,5 @@
-use Rattle.std.proofs.Common.{◌≡◌, ◌≤◌, ℕ, List, sym, ap, subst, ◌∙◌, length, arith}
-use Rattle.fx_plain.specs.State.{IsSettled, opening}
-use Rattle.fx_plain.specs.Contents.{Contents, IsRenumbered, KeepsFirst, state_of}
-use Rattle.fx_plain.specs.declared.node.Node.{Node}
+use Rattle.fx_plain.proofs.Words.{◌≡◌, ◌≤◌, ℕ, List, sym, ap, subst, ◌∙◌, length, arith, IsSettled, opening, Contents, IsRenumbered, KeepsFirst}
+use Rattle.fx_plain.proofs.Words.{state_of, Node}
 use Rattle.fx_plain.specs.contracts.table.PlainTable.{the_view}
 use Rattle.fx_plain.proofs.Moving.{renumbered_again}
 use Rattle.fx_plain.proofs.Opening.{fields_keep, state_of-fields}
