@@ -1,22 +1,8 @@
 -- A step that changes no slot and no number, and leaves the pass at its work.
-use Rattle.std.proofs.Common.{◌≡◌, ℕ, List, [], ◌∷◌, set, length, sym, refl, ap, ◌∙◌, subst, arith}
-use mathlib.Core.Option.{some}
-use lib.ListN.{get_elem?}
-use Rattle.fx_plain.specs.History.{held_by}
-use Rattle.fx_plain.specs.State.{State}
-use Rattle.fx_plain.specs.declared.event.Event.{Event}
-use Rattle.fx_table.specs.Opening.{range_of}
-use Rattle.fx_counted.specs.Agrees.{NodeAgrees, PlacesNext, Agrees}
-use Rattle.fx_counted.specs.Control.{ControlCounts}
-use Rattle.fx_counted.specs.Counts.{looks, all_looks}
-use Rattle.fx_counted.specs.Laws.{word_of, place_of}
-use Rattle.fx_counted.specs.Layout.{control_place, draw_place, slot_place}
-use Rattle.fx_counted.specs.Passes.{Shared, opening_of, IsNumber, state_after_all, next_in}
-use Rattle.fx_counted.specs.declared.view.Change.{Change}
-use Rattle.fx_counted.specs.declared.view.Log.{Log}
-use Rattle.fx_counted.specs.declared.view.View.{View}
-use Rattle.fx_counted.specs.declared.view.Work.{Work}
-use Rattle.fx_counted.specs.declared.view.Work.TheVariants.{Idle, Placing, Holding, Retiring, Emptying}
+use Rattle.fx_counted.proofs.Words.{◌≡◌, ℕ, List, [], ◌∷◌, set, length, sym, refl, ap, ◌∙◌, subst, arith, some, get_elem?, held_by, State, Event}
+use Rattle.fx_counted.proofs.Words.{range_of, NodeAgrees, PlacesNext, Agrees, ControlCounts, looks, all_looks, word_of, place_of, control_place}
+use Rattle.fx_counted.proofs.Words.{draw_place, slot_place, Shared, opening_of, IsNumber, state_after_all, next_in, Change, Log, View, Work, Idle}
+use Rattle.fx_counted.proofs.Words.{Placing, Holding, Retiring, Emptying}
 use Rattle.fx_counted.proofs.Frames.{stays_same, owner_same}
 use Rattle.fx_counted.proofs.Histories.{Grows, IsHistory, seen_all}
 use Rattle.fx_counted.proofs.Keeping.{word_at, now, logged, its_log, its_work, Step, step_kept}

@@ -1,37 +1,23 @@
 -- A draw keeps the rule.
-use Rattle.std.specs.Prelude.{sum_by}
-use Rattle.std.proofs.Common.{◌≡◌, ◌≢◌, ℕ, zero, suc, ◌+◌, ◌%◌, ◌^◌, ◌<◌, ◌≤◌, Bool, true, false, cond, List, [], ◌∷◌}
-use Rattle.std.proofs.Common.{set, length, sym, refl, ap, ◌∙◌, subst, arith, eqb, eq-eqb, ne_eqb, lt-ltb, le-ltb}
-use Rattle.std.proofs.Common.{length-set, get_or-set_other, get_or-set_same, Option, Some, None, ◌⊎◌, inl, inr, ⊎_elim}
-use mathlib.Core.Logic.{dite}
-use mathlib.Core.Option.{some, none}
-use native.Mathlib.Decide.{ℕ_discrete, dec_le}
-use lib.ListN.{get_elem?}
-use Rattle.atomic_table.specs.Table.{keeps, Allows, Act, Valid, stepped, carried_after, step}
-use Rattle.fx_base.specs.declared.open_file.Closed.{Closed}
+use Rattle.fx_counted.proofs.Words.{sum_by, ◌≡◌, ◌≢◌, ℕ, zero, suc, ◌+◌, ◌%◌, ◌^◌, ◌<◌, ◌≤◌, Bool, true, false, cond, List, [], ◌∷◌, set, length, sym}
+use Rattle.fx_counted.proofs.Words.{refl, ap, ◌∙◌, subst, arith, eqb, eq-eqb, ne_eqb, lt-ltb, le-ltb, get_or-set_other, get_or-set_same, Option, Some}
+use Rattle.fx_counted.proofs.Words.{None, ◌⊎◌, inl, inr, ⊎_elim, dite, some, none, ℕ_discrete, dec_le, get_elem?, keeps, Act, Valid, stepped}
+use Rattle.fx_counted.proofs.Words.{carried_after, step, Closed, numbers_for, PassView, sum_by-cons, sum_set, sum_at, sum_le_at, NodeAgrees}
+use Rattle.fx_counted.proofs.Words.{OwnerAgrees, LogAgrees, lengths, Agrees, PlacesNext, WorkAgrees, DrawsCount, word_of, place_of, control_place}
+use Rattle.fx_counted.proofs.Words.{draw_place, slot_place, Shared, Sat, opening_of, state_after_all, chain_in, shown, first_log, drawn_of, told_of}
+use Rattle.fx_counted.proofs.Words.{once, placing, Phase, unborn, spare, owner, file_in, Log, Start, View, Idle, looks}
+use Rattle.std.proofs.Common.{length-set}
+use Rattle.atomic_table.specs.Table.{Allows}
 use Rattle.fx_table.specs.Calls.{Draws}
-use Rattle.fx_table.specs.Numbers.{numbers_for}
-use Rattle.fx_table.specs.Pass.{PassView}
-use Rattle.std.proofs.lemmas.List.Sums.{sum_by-cons}
-use Rattle.fx_table.proofs.SumLemmas.{sum_set, sum_at, sum_le_at}
-use Rattle.fx_counted.specs.Agrees.{NodeAgrees, OwnerAgrees, LogAgrees, lengths, Agrees, PlacesNext, WorkAgrees}
-use Rattle.fx_counted.specs.Draws.{DrawsCount}
-use Rattle.fx_counted.specs.Laws.{word_of, place_of, DrawsKeep}
-use Rattle.fx_counted.specs.Layout.{control_place, draw_place, slot_place}
-use Rattle.fx_counted.specs.Passes.{Shared, Sat, opening_of, state_after_all, first_or, chain_in, shown, first_log, drawn_of, told_of, once, placing}
-use Rattle.fx_counted.specs.Phases.{Phase, unborn, spare, owner, file_in}
+use Rattle.fx_counted.specs.Laws.{DrawsKeep}
+use Rattle.fx_counted.specs.Passes.{first_or}
 use Rattle.fx_counted.specs.Tells.{DrawTells}
-use Rattle.fx_counted.specs.declared.view.Log.{Log}
-use Rattle.fx_counted.specs.declared.view.Start.{Start}
-use Rattle.fx_counted.specs.declared.view.View.{View}
-use Rattle.fx_counted.specs.declared.view.Work.TheVariants.{Idle}
 use Rattle.fx_counted.proofs.Frames.{owner_same}
 use Rattle.fx_counted.proofs.Histories.{grows_none}
 use Rattle.fx_counted.proofs.Keeping.{word_at, now, its_log, Step, step_kept}
 use Rattle.fx_counted.proofs.NodeSteps.{near, far}
 use Rattle.fx_counted.proofs.Unchanged.{slot_same, control_same}
 use Rattle.fx_counted.proofs.Ones.{one_if, times}
-use Rattle.fx_counted.specs.Counts.{looks}
 
 abbrev pick : {P : Type 0} → Dec P → Phase → Phase → Phase
 pick (yes _) a b = a

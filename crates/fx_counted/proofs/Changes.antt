@@ -1,35 +1,12 @@
 -- An installation and a removal keep the rule.
-use Rattle.std.proofs.Common.{◌≡◌, ◌≢◌, ℕ, ◌-◌, ◌<◌, ◌^◌, Bool, false, List, [], ◌∷◌, set, sym}
-use Rattle.std.proofs.Common.{refl, ap, ◌∙◌, subst, arith, length-set, Option, Some, None}
-use mathlib.Core.Logic.{dite}
-use mathlib.Core.Option.{some}
-use native.Mathlib.Decide.{ℕ_discrete}
-use lib.ListN.{get_elem?}
-use Rattle.atomic_table.proofs.Lists.{set_here, set_else}
-use Rattle.fx_base.specs.declared.open_file.Closed.{Closed}
-use Rattle.fx_plain.specs.History.{◌▷◌, held_by, held_after}
-use Rattle.fx_plain.specs.Step.{changed_at, with_removed}
-use Rattle.fx_plain.specs.Table.{numbered}
-use Rattle.fx_plain.specs.declared.event.File.{File}
-use Rattle.fx_plain.specs.declared.event.Event.{Event}
-use Rattle.fx_plain.specs.declared.event.Action.{Action}
-use Rattle.fx_plain.specs.State.{State}
-use Rattle.fx_table.specs.Calls.{no_use, one_number}
-use Rattle.fx_table.specs.Opening.{range_of}
-use Rattle.fx_table.specs.Pass.{event_of}
-use Rattle.fx_words.specs.Words.{takes_in, slot_word_of}
-use Rattle.fx_words.proofs.Parts.{name_made, entry_made, takes_made}
-use Rattle.fx_counted.specs.Agrees.{Names, NodeAgrees, OwnerAgrees, WorkAgrees, PlacesNext, Agrees}
-use Rattle.fx_counted.specs.Control.{if_full}
-use Rattle.fx_counted.specs.Counts.{looks, all_looks}
-use Rattle.fx_counted.specs.Laws.{word_of, place_of}
-use Rattle.fx_counted.specs.Layout.{slot_place}
-use Rattle.fx_counted.specs.Passes.{Shared, opening_of, slots_of, IsNumber, state_after_all, shown, next_in, held_in, placing, holding}
-use Rattle.fx_counted.specs.Phases.{Phase, unborn, spare, placed, seated, owner, file_in}
-use Rattle.fx_counted.specs.Tells.{IsInside, Stepped, retires_now, turned}
-use Rattle.fx_counted.specs.declared.view.Log.{Log}
-use Rattle.fx_counted.specs.declared.view.View.{View}
-use Rattle.fx_counted.specs.declared.view.Work.TheVariants.{Idle, Placing}
+use Rattle.fx_counted.proofs.Words.{◌≡◌, ◌≢◌, ℕ, ◌-◌, ◌<◌, ◌^◌, Bool, false, List, [], ◌∷◌, set, sym, refl, ap, ◌∙◌, subst, arith, Option, Some, None}
+use Rattle.fx_counted.proofs.Words.{dite, some, ℕ_discrete, get_elem?, set_here, set_else, Closed, ◌▷◌, held_by, held_after, changed_at, with_removed}
+use Rattle.fx_counted.proofs.Words.{numbered, File, Event, Action, State, no_use, one_number, range_of, event_of, takes_in, slot_word_of, name_made}
+use Rattle.fx_counted.proofs.Words.{entry_made, takes_made, Names, NodeAgrees, OwnerAgrees, WorkAgrees, PlacesNext, Agrees, if_full, looks, all_looks}
+use Rattle.fx_counted.proofs.Words.{word_of, place_of, slot_place, Shared, opening_of, slots_of, IsNumber, state_after_all, shown, next_in, held_in}
+use Rattle.fx_counted.proofs.Words.{placing, holding, Phase, unborn, spare, placed, seated, owner, file_in, IsInside, Stepped, retires_now, turned}
+use Rattle.fx_counted.proofs.Words.{Log, View, Idle, Placing, Change}
+use Rattle.std.proofs.Common.{length-set}
 use Rattle.fx_counted.proofs.Births.{in_phase, roomy, else_place, held_file}
 use Rattle.fx_counted.proofs.Frames.{busy, stays_same, owner_stays}
 use Rattle.fx_counted.proofs.FullSlots.{Stands, control_swap}
@@ -37,7 +14,6 @@ use Rattle.fx_counted.proofs.Histories.{IsHistory, grows_one, part_mine, change_
 use Rattle.fx_counted.proofs.Keeping.{Homes, word_at, now, logged, its_log, its_work, tells}
 use Rattle.fx_counted.proofs.Swaps.{NotOf, removed_else, found, state, so, seat_of, not_old, elsewhere, w, Swap, swap_agrees}
 use Rattle.fx_counted.proofs.Unchanged.{node_same}
-use Rattle.fx_counted.specs.declared.view.Change.{Change}
 
 module _ (st : Shared) (v : View) (r : Agrees v.start st) (id : ℕ) (x : Log) (here : get_elem? st.views id ≡ some v)
     (one : v.logs ≡ x ∷ []) (s : ℕ) (inside : s < slots_of v.start) (stands : Stands (range_of (opening_of v.start)) s v.change)

@@ -1,43 +1,20 @@
 -- Begin, end, answer and load keep the rule.
-use Rattle.std.specs.Prelude.{sum_by}
-use Rattle.std.proofs.Common.{◌≡◌, ◌≢◌, ℕ, zero, suc, ◌+◌, ◌-◌, ◌/◌, ◌%◌, ◌^◌, ◌<◌, ◌≤◌, List, [], ◌∷◌, set, length, sym}
-use Rattle.std.proofs.Common.{refl, ap, subst, arith, length-set, get_or-set_other, get_or-set_same, Option, IsSome}
-use mathlib.Core.Logic.{dite}
-use mathlib.Core.Option.{some, none, some-injective, some-ne-none}
-use native.Mathlib.Decide.{ℕ_discrete}
-use lib.ListN.{get_elem?}
-use Rattle.atomic_table.specs.Table.{keeps, Allows, step}
-use Rattle.std.proofs.lemmas.List.Sums.{sum_by-cons}
-use Rattle.fx_base.specs.declared.open_file.Closed.{Closed}
-use Rattle.fx_plain.specs.History.{◌▷◌}
-use Rattle.fx_plain.specs.declared.event.File.{File}
-use Rattle.fx_plain.specs.declared.event.Event.{Event}
-use Rattle.fx_plain.specs.declared.event.Action.TheVariants.{Full}
-use Rattle.fx_table.specs.Calls.{no_use}
-use Rattle.fx_table.specs.Opening.{range_of}
-use Rattle.fx_table.specs.Pass.{event_of}
-use Rattle.fx_table.proofs.SumLemmas.{sum_set, sum_at, sum_le_at}
-use Rattle.fx_words.specs.Words.{one_change, full_word_of}
-use Rattle.fx_counted.specs.Agrees.{WorkAgrees, lengths, Agrees}
-use Rattle.fx_counted.specs.Control.{in_change, added, removed_by, changes_of, added_of, removed_of, full_in, ControlCounts}
-use Rattle.fx_counted.specs.Laws.{word_of, BeginsKeep, EndsKeep, AnswersKeep}
-use Rattle.fx_counted.specs.Layout.{control_place, draw_place, slot_place}
-use Rattle.fx_counted.specs.Passes.{Shared, Sat, opening_of, state_after_all, shown}
-use Rattle.fx_counted.specs.Tells.{IsInside, Stepped, GoesOn, Answers}
-use Rattle.fx_counted.specs.declared.view.Change.{Change}
-use Rattle.fx_counted.specs.declared.view.Change.TheVariants.{Outside, Same, More, Less}
-use Rattle.fx_counted.specs.declared.view.Log.{Log}
-use Rattle.fx_counted.specs.declared.view.Start.{Start}
-use Rattle.fx_counted.specs.declared.view.View.{View}
-use Rattle.fx_counted.specs.declared.view.Work.{Work}
-use Rattle.fx_counted.specs.declared.view.Work.TheVariants.{Idle, Placing, Holding, Retiring, Emptying}
+use Rattle.fx_counted.proofs.Words.{sum_by, ◌≡◌, ◌≢◌, ℕ, zero, suc, ◌+◌, ◌-◌, ◌/◌, ◌%◌, ◌^◌, ◌<◌, ◌≤◌, List, [], ◌∷◌, set, length, sym, refl, ap}
+use Rattle.fx_counted.proofs.Words.{subst, arith, get_or-set_other, get_or-set_same, Option, IsSome, dite, some, none, some-injective, some-ne-none}
+use Rattle.fx_counted.proofs.Words.{ℕ_discrete, get_elem?, keeps, step, sum_by-cons, Closed, ◌▷◌, File, Event, Full, no_use, range_of, event_of}
+use Rattle.fx_counted.proofs.Words.{sum_set, sum_at, sum_le_at, one_change, full_word_of, WorkAgrees, lengths, Agrees, in_change, added, removed_by}
+use Rattle.fx_counted.proofs.Words.{changes_of, added_of, removed_of, full_in, ControlCounts, word_of, control_place, draw_place, slot_place, Shared}
+use Rattle.fx_counted.proofs.Words.{Sat, opening_of, state_after_all, shown, IsInside, Stepped, GoesOn, Answers, Change, Outside, Same, More, Less}
+use Rattle.fx_counted.proofs.Words.{Log, Start, View, Work, Idle, Placing, Holding, Retiring, Emptying, Phase}
+use Rattle.std.proofs.Common.{length-set}
+use Rattle.atomic_table.specs.Table.{Allows}
+use Rattle.fx_counted.specs.Laws.{BeginsKeep, EndsKeep, AnswersKeep}
 use Rattle.fx_counted.proofs.Calm.{Calm, calm_agrees}
 use Rattle.fx_counted.proofs.FullSlots.{full_few, full_all}
 use Rattle.fx_counted.proofs.Histories.{IsHistory, grows_none, grows_one, legal_more, held_mine, part_mine, same_shape}
 use Rattle.fx_counted.proofs.Keeping.{word_at, now, logged, its_work, tells}
 use Rattle.fx_counted.proofs.NodeSteps.{near, far}
 use Rattle.fx_counted.proofs.Retirements.{sub_wraps}
-use Rattle.fx_counted.specs.Phases.{Phase}
 
 -- what one of them adds to the gap between two totals
 pub total_gap : {X : Type 0} (f g : X → ℕ) (xs : List X) (i : ℕ) (v : X) → get_elem? xs i ≡ some v

@@ -1,41 +1,18 @@
 -- The end, when one seat has all passes again, and does nothing: everything is settled, and one history stands behind it.
-use Rattle.std.proofs.Common.{◌≡◌, ◌≢◌, ℕ, zero, suc, ◌<◌, ◌≤◌, Bool, true, false, List, [], ◌∷◌, map}
-use Rattle.std.proofs.Common.{length, sym, refl, ap, ◌∙◌, subst, arith, eqb, ne_eqb, ◌⊎◌, inl, inr, ⊎_elim}
-use Rattle.std.specs.Prelude.{Option, Some, None, Contains, sum_by}
-use mathlib.Core.Logic.{dite}
-use mathlib.Core.Option.{some, some-injective}
-use native.Mathlib.Decide.{ℕ_discrete, dec_le}
-use lib.ListN.{get_elem?}
+use Rattle.fx_counted.proofs.Words.{◌≡◌, ◌≢◌, ℕ, zero, suc, ◌<◌, ◌≤◌, Bool, true, false, List, [], ◌∷◌, map, length, sym, refl, ap, ◌∙◌, subst, arith}
+use Rattle.fx_counted.proofs.Words.{eqb, ne_eqb, ◌⊎◌, inl, inr, ⊎_elim, Option, Some, None, Contains, sum_by, dite, some, some-injective, ℕ_discrete}
+use Rattle.fx_counted.proofs.Words.{dec_le, get_elem?, sum_by-cons, Closed, Contents, state_of, file_at, IsSeenBy, part_of_pass, State, IsSettled}
+use Rattle.fx_counted.proofs.Words.{file_numbered, after, numbered, File, Event, Action, Look, Release, Put, Clear, Take, Allocate, Full, Close}
+use Rattle.fx_counted.proofs.Words.{ClosesTable, times_drawn, numbers_for, HasSameFiles, start_of, PassView, contains_none, contains_head}
+use Rattle.fx_counted.proofs.Words.{contains_tail, contains_cases, contains_map, contains_mapped, sum_two, sum_map, Does, LogAgrees, NodeAgrees}
+use Rattle.fx_counted.proofs.Words.{OwnerAgrees, lengths, Agrees, looks, word_of, place_of, slot_place, Shared, opening_of, slots_of, IsNumber}
+use Rattle.fx_counted.proofs.Words.{state_after_all, shown, held_of, logs_of, drawn_of, told_of, once, holding, Phase, unborn, spare, placed, seated}
+use Rattle.fx_counted.proofs.Words.{leaving, retired, emptied, closed, Log, Start, View, Work, Idle, Placing, Retiring, Emptying}
 use Rattle.std.proofs.Math.ListN.{get_or-eq_default}
-use Rattle.std.proofs.lemmas.List.Sums.{sum_by-cons}
-use Rattle.fx_base.specs.declared.open_file.Closed.{Closed}
-use Rattle.fx_plain.specs.Contents.{Contents, state_of, file_at}
-use Rattle.fx_plain.specs.History.{AllowsAll, IsSeenBy, action_of, part_of_pass}
-use Rattle.fx_plain.specs.State.{State, IsSettled, file_numbered}
-use Rattle.fx_plain.specs.Step.{Allows, after}
-use Rattle.fx_plain.specs.Table.{numbered}
-use Rattle.fx_plain.specs.declared.event.File.{File}
-use Rattle.fx_plain.specs.declared.event.Event.{Event}
-use Rattle.fx_plain.specs.declared.event.Action.{Action}
-use Rattle.fx_plain.specs.declared.event.Action.TheVariants.{Look, Release, Put, Clear, Take, Allocate, Full, Close}
-use Rattle.fx_table.specs.Closing.{ClosesTable, times_drawn}
-use Rattle.fx_table.specs.Numbers.{numbers_for}
-use Rattle.fx_table.specs.Opening.{HasSameFiles, start_of}
-use Rattle.fx_table.specs.Pass.{PassView}
-use Rattle.fx_table.proofs.Members.{contains_none, contains_head, contains_tail, contains_cases, contains_map, contains_mapped}
-use Rattle.fx_table.proofs.SumLemmas.{sum_two, sum_only, sum_of, sum_map, sum_zero}
-use Rattle.fx_counted.specs.Agrees.{Does, IsSeated, LogAgrees, NodeAgrees, OwnerAgrees, lengths, Agrees}
-use Rattle.fx_counted.specs.Counts.{looks}
-use Rattle.fx_counted.specs.Laws.{word_of, place_of}
-use Rattle.fx_counted.specs.Layout.{slot_place}
-use Rattle.fx_counted.specs.Passes.{Shared, opening_of, slots_of, IsNumber, state_after_all}
-use Rattle.fx_counted.specs.Passes.{shown, held_of, logs_of, drawn_of, told_of, once, holding}
-use Rattle.fx_counted.specs.Phases.{Phase, unborn, spare, placed, seated, leaving, retired, emptied, closed}
-use Rattle.fx_counted.specs.declared.view.Log.{Log}
-use Rattle.fx_counted.specs.declared.view.Start.{Start}
-use Rattle.fx_counted.specs.declared.view.View.{View}
-use Rattle.fx_counted.specs.declared.view.Work.{Work}
-use Rattle.fx_counted.specs.declared.view.Work.TheVariants.{Idle, Placing, Retiring, Emptying}
+use Rattle.fx_plain.specs.History.{AllowsAll, action_of}
+use Rattle.fx_plain.specs.Step.{Allows}
+use Rattle.fx_table.proofs.SumLemmas.{sum_only, sum_of, sum_zero}
+use Rattle.fx_counted.specs.Agrees.{IsSeated}
 use Rattle.fx_counted.proofs.Chains.{once_in, once_some, bit_here}
 use Rattle.fx_counted.proofs.Frames.{once_few}
 use Rattle.fx_counted.proofs.Histories.{part_mine, part_other, same_shape, change_else}

@@ -1,27 +1,10 @@
 -- What lies in the places at the settled end, and how it comes back.
-use Rattle.std.proofs.Common.{◌≡◌, ℕ, zero, suc, ◌+◌, ◌-◌, ◌<◌, List, [], ◌∷◌, length, set, sym, refl, ap, ◌∙◌, subst, arith, inl, inr}
-use Rattle.std.specs.Prelude.{Option, Some, None, slice_index}
-use mathlib.Core.Logic.{dite}
-use mathlib.Core.Option.{some, some-injective, some-ne-none}
-use native.Mathlib.Decide.{dec_le}
-use lib.ListN.{get_elem?}
+use Rattle.fx_counted.proofs.Words.{◌≡◌, ℕ, zero, suc, ◌+◌, ◌-◌, ◌<◌, List, [], ◌∷◌, length, set, sym, refl, ap, ◌∙◌, subst, arith, inl, inr, Option}
+use Rattle.fx_counted.proofs.Words.{Some, None, slice_index, dite, some, some-injective, some-ne-none, dec_le, get_elem?, Closed, Contents, state_of}
+use Rattle.fx_counted.proofs.Words.{State, number_of, identity_of, File, HasSameFiles, MAX_CHAINS, Names, Agrees, HasNode, slot_place, home_place}
+use Rattle.fx_counted.proofs.Words.{homes_for, Shared, slots_of, IsNumber, state_after_all, IsShellOf, AreBack, CountedTable, Start, View, Idle}
 use Rattle.atomic_table.specs.Table.{Final, Seen}
-use Rattle.fx_base.specs.declared.open_file.Closed.{Closed}
-use Rattle.fx_plain.specs.Contents.{Contents, state_of}
-use Rattle.fx_plain.specs.State.{State}
-use Rattle.fx_plain.specs.Table.{number_of, identity_of}
-use Rattle.fx_plain.specs.declared.event.File.{File}
-use Rattle.fx_table.specs.Opening.{HasSameFiles}
-use Rattle.fx_table.specs.declared.limits.TheConstants.{MAX_CHAINS}
-use Rattle.fx_counted.specs.Agrees.{Names, Agrees}
-use Rattle.fx_counted.specs.Layout.{HasNode, slot_place, home_place, homes_for}
 use Rattle.fx_counted.specs.Lives.{AllAreIdle, Leaves}
-use Rattle.fx_counted.specs.Passes.{Shared, slots_of, IsNumber, state_after_all}
-use Rattle.fx_counted.specs.Shells.{IsShellOf, AreBack}
-use Rattle.fx_counted.specs.declared.table.CountedTable.{CountedTable}
-use Rattle.fx_counted.specs.declared.view.Start.{Start}
-use Rattle.fx_counted.specs.declared.view.View.{View}
-use Rattle.fx_counted.specs.declared.view.Work.TheVariants.{Idle}
 use Rattle.fx_counted.proofs.Calling.{has_node}
 use Rattle.fx_counted.proofs.Ending.{home_file, file_home, one_slot, none_outside_end}
 use Rattle.fx_counted.proofs.Frames.{inside_list}

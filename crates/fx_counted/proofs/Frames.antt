@@ -1,22 +1,9 @@
 -- What a step of one seat leaves as it was.
-use Rattle.std.specs.Prelude.{sum_by}
-use Rattle.std.proofs.Common.{◌≡◌, ◌≢◌, ℕ, zero, suc, ◌+◌, ◌<◌, ◌≤◌, true, false, List, [], ◌∷◌, set, length, sym}
-use Rattle.std.proofs.Common.{refl, ap, ◌∙◌, subst, arith, eq-eqb, nat_lt, ◌⊎◌, inl, inr, ⊎_elim, eqb}
-use mathlib.Core.Option.{some, some-injective, some-ne-none}
-use lib.ListN.{get_elem?}
-use Rattle.atomic_table.proofs.Lists.{at_set, set_here, set_else}
-use Rattle.fx_plain.specs.declared.event.File.{File}
-use Rattle.fx_plain.specs.declared.event.Event.{Event}
-use Rattle.fx_plain.specs.Table.{numbered}
-use Rattle.fx_table.proofs.SumLemmas.{sum_at, sum_two}
-use Rattle.fx_counted.specs.Agrees.{Does, OwnerAgrees, WorkAgrees, ViewAgrees, Agrees}
-use Rattle.fx_counted.specs.Passes.{Shared, logs_of, once}
-use Rattle.fx_counted.specs.Phases.{Phase, unborn, spare, placed, seated, leaving, retired, emptied, closed, owner, file_in}
-use Rattle.fx_counted.specs.declared.view.Log.{Log}
-use Rattle.fx_counted.specs.declared.view.Start.{Start}
-use Rattle.fx_counted.specs.declared.view.View.{View}
-use Rattle.fx_counted.specs.declared.view.Work.{Work}
-use Rattle.fx_counted.specs.declared.view.Work.TheVariants.{Idle, Placing, Holding, Retiring, Emptying}
+use Rattle.fx_counted.proofs.Words.{sum_by, ◌≡◌, ◌≢◌, ℕ, zero, suc, ◌+◌, ◌<◌, ◌≤◌, true, false, List, [], ◌∷◌, set, length, sym, refl, ap, ◌∙◌, subst}
+use Rattle.fx_counted.proofs.Words.{arith, eq-eqb, nat_lt, ◌⊎◌, inl, inr, ⊎_elim, eqb, some, some-injective, some-ne-none, get_elem?, at_set}
+use Rattle.fx_counted.proofs.Words.{set_here, set_else, File, Event, numbered, sum_at, sum_two, Does, OwnerAgrees, WorkAgrees, ViewAgrees, Agrees}
+use Rattle.fx_counted.proofs.Words.{Shared, logs_of, once, Phase, unborn, spare, placed, seated, leaving, retired, emptied, closed, owner, file_in}
+use Rattle.fx_counted.proofs.Words.{Log, Start, View, Work, Idle, Placing, Holding, Retiring, Emptying}
 use Rattle.fx_counted.proofs.Histories.{Grows}
 use Rattle.fx_counted.proofs.Ones.{one_if}
 

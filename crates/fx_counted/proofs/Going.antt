@@ -1,29 +1,14 @@
 -- Some steps in a row, and the pass behind them.
-use Rattle.std.proofs.Common.{◌≡◌, ℕ, ◌+◌, List, [], ◌∷◌, inl, sym, refl, ap, ◌∙◌, subst, arith}
-use Rattle.std.specs.Prelude.{Some}
-use Rattle.atomic_table.specs.Seated.{TableId}
-use Rattle.fx_plain.specs.History.{◌▷◌, ◌▷▷◌}
-use Rattle.fx_plain.specs.declared.event.Action.{Action}
-use Rattle.fx_plain.specs.declared.event.Action.TheVariants.{Close}
-use Rattle.fx_table.specs.Calls.{Use, no_use, both_uses, Adds}
-use Rattle.fx_table.specs.Pass.{IsFront}
+use Rattle.fx_counted.proofs.Words.{◌≡◌, ℕ, ◌+◌, List, [], ◌∷◌, inl, sym, refl, ap, ◌∙◌, subst, arith, Some, TableId, ◌▷◌, Action, Close, Use, no_use}
+use Rattle.fx_counted.proofs.Words.{Adds, IsFront, File, Goes, HasPlace, HasPass, place_of, Sat, opening_of, pass_of, doing_in, chain_in, first_log}
+use Rattle.fx_counted.proofs.Words.{view_of, is_idle, IsPassOf, IsInside, Stepped, TakesOut, LetsGo, CountedPass, Change, Outside, Log, Start, Work}
+use Rattle.fx_counted.proofs.Words.{Idle, Placing, Holding, Retiring, Emptying}
+use Rattle.fx_plain.specs.History.{◌▷▷◌}
+use Rattle.fx_table.specs.Calls.{both_uses}
 use Rattle.fx_table.specs.declared.values.Doing.TheVariants.{Idle as NowIdle, Holding as NowHolding, Retiring as NowRetiring}
-use Rattle.fx_plain.specs.declared.event.File.{File}
 use Rattle.fx_table.proofs.Calls.{adds_then}
 use Rattle.fx_counted.specs.Changing.{IsAtWork}
-use Rattle.fx_counted.specs.Goes.{Goes}
-use Rattle.fx_counted.specs.Moves.{HasPlace}
-use Rattle.fx_counted.specs.Laws.{HasPass, place_of}
-use Rattle.fx_counted.specs.Passes.{Sat, opening_of, pass_of, doing_in, chain_in, first_log}
-use Rattle.fx_counted.specs.Tables.{view_of, is_idle, IsBetweenCalls, IsSeated, IsPassOf}
-use Rattle.fx_counted.specs.Tells.{IsInside, Stepped, TakesOut, LetsGo}
-use Rattle.fx_counted.specs.declared.pass.CountedPass.{CountedPass}
-use Rattle.fx_counted.specs.declared.view.Change.{Change}
-use Rattle.fx_counted.specs.declared.view.Change.TheVariants.{Outside}
-use Rattle.fx_counted.specs.declared.view.Log.{Log}
-use Rattle.fx_counted.specs.declared.view.Start.{Start}
-use Rattle.fx_counted.specs.declared.view.Work.{Work}
-use Rattle.fx_counted.specs.declared.view.Work.TheVariants.{Idle, Placing, Holding, Retiring, Emptying}
+use Rattle.fx_counted.specs.Tables.{IsBetweenCalls, IsSeated}
 
 pub goes_one : (m m' : Sat) (xs : List Action) (a : Use) (w : Work) (c : Change) → Stepped m xs a w c m' → Goes m xs a w c 1 m'
 goes_one m m' xs a w c s = record {

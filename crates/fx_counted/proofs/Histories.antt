@@ -1,19 +1,11 @@
 -- Histories that grow by one event.
-use Rattle.std.proofs.Common.{◌≡◌, ◌≢◌, ℕ, ◌+◌, ◌≤◌, true, false, cond, List, [], ◌∷◌, ◌++◌, length}
-use Rattle.std.proofs.Common.{sym, refl, ap, ◌∙◌, arith, eqb, eq-eqb, ne_eqb, length-append}
-use Rattle.std.specs.Prelude.{Some, None}
-use mathlib.Core.Logic.{dite}
-use native.Mathlib.Decide.{ℕ_discrete}
-use Rattle.fx_plain.specs.State.{State}
-use Rattle.fx_plain.specs.Step.{Allows, after, changed_at}
-use Rattle.fx_plain.specs.History.{held_after, held_by, ReleasesItsOwn, IsLegal, IsSeenBy, part_of_pass}
-use Rattle.fx_plain.specs.declared.event.Event.{Event}
-use Rattle.fx_plain.specs.declared.event.Action.{Action}
-use Rattle.fx_plain.specs.declared.event.Action.TheVariants.{Look, Release, Put, Clear, Take, Allocate, Full, Close}
-use Rattle.fx_table.specs.Opening.{start_of, range_of}
-use Rattle.fx_counted.specs.Counts.{looks_after, looks, look_in, all_looks}
-use Rattle.fx_counted.specs.Passes.{opening_of, slots_of, state_after_all}
-use Rattle.fx_counted.specs.declared.view.Start.{Start}
+use Rattle.fx_counted.proofs.Words.{◌≡◌, ◌≢◌, ℕ, ◌+◌, ◌≤◌, true, false, cond, List, [], ◌∷◌, ◌++◌, length, sym, refl, ap, ◌∙◌, arith, eqb, eq-eqb}
+use Rattle.fx_counted.proofs.Words.{ne_eqb, length-append, Some, None, dite, ℕ_discrete, State, after, changed_at, held_after, held_by, IsSeenBy}
+use Rattle.fx_counted.proofs.Words.{part_of_pass, Event, Action, Look, Release, Put, Clear, Take, Allocate, Full, Close, start_of, range_of, looks}
+use Rattle.fx_counted.proofs.Words.{all_looks, opening_of, slots_of, state_after_all, Start}
+use Rattle.fx_plain.specs.Step.{Allows}
+use Rattle.fx_plain.specs.History.{ReleasesItsOwn, IsLegal}
+use Rattle.fx_counted.specs.Counts.{looks_after, look_in}
 
 module _ {A : Type 0} (f : ℕ → A) (i : ℕ) (a : A) where
   pub change_here : (j : ℕ) → j ≡ i → changed_at f i a j ≡ a

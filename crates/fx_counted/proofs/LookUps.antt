@@ -1,34 +1,16 @@
 -- A look-up keeps the rule.
-use Rattle.std.proofs.Common.{◌≡◌, ◌≢◌, ℕ, ◌+◌, ◌-◌, ◌%◌, ◌^◌, ◌<◌, List, [], ◌∷◌, set, sym, refl, ap, ◌∙◌, subst, arith, Option, Some, None}
-use mathlib.Core.Logic.{dite}
-use mathlib.Core.Option.{some, none}
-use native.Mathlib.Decide.{ℕ_discrete}
-use lib.ListN.{get_elem?}
-use Rattle.atomic_table.specs.Table.{Act, keeps, Allows, Valid, stepped, carried_after, step}
-use Rattle.fx_base.specs.declared.open_file.Closed.{Closed}
-use Rattle.fx_plain.specs.History.{◌▷◌, held_by}
-use Rattle.fx_plain.specs.State.{State}
-use Rattle.fx_plain.specs.declared.event.File.{File}
-use Rattle.fx_plain.specs.declared.event.Event.{Event}
-use Rattle.fx_plain.specs.declared.event.Action.TheVariants.{Look}
+use Rattle.fx_counted.proofs.Words.{◌≡◌, ◌≢◌, ℕ, ◌+◌, ◌-◌, ◌%◌, ◌^◌, ◌<◌, List, [], ◌∷◌, set, sym, refl, ap, ◌∙◌, subst, arith, Option, Some, None}
+use Rattle.fx_counted.proofs.Words.{dite, some, none, ℕ_discrete, get_elem?, Act, keeps, Valid, stepped, carried_after, step, Closed, ◌▷◌, held_by}
+use Rattle.fx_counted.proofs.Words.{State, File, Event, Look, range_of, event_of, name_in, entry_in, takes_in, Names, SlotAgrees, NodeAgrees, Agrees}
+use Rattle.fx_counted.proofs.Words.{PlacesNext, WorkAgrees, looks, full_in, word_of, place_of, slot_place, slot_of, control_place, Shared, opening_of}
+use Rattle.fx_counted.proofs.Words.{slots_of, IsNumber, state_after_all, shown, held_in, placing, held_of, holding, Sat, Phase, seated, file_in}
+use Rattle.fx_counted.proofs.Words.{Stepped, IsInside, Log, Start, View, Idle}
+use Rattle.atomic_table.specs.Table.{Allows}
 use Rattle.fx_table.specs.Calls.{one_look}
-use Rattle.fx_table.specs.Opening.{range_of}
-use Rattle.fx_table.specs.Pass.{event_of}
-use Rattle.fx_words.specs.Words.{name_in, entry_in, takes_in}
 use Rattle.fx_words.proofs.Parts.{name_more, entry_more, takes_more}
-use Rattle.fx_counted.specs.Agrees.{Names, IsSeated, SlotAgrees, NodeAgrees, Agrees, PlacesNext, WorkAgrees}
-use Rattle.fx_counted.specs.Counts.{looks}
-use Rattle.fx_counted.specs.Control.{full_in}
-use Rattle.fx_counted.specs.Laws.{LooksKeep, word_of, place_of}
-use Rattle.fx_counted.specs.Layout.{slot_place, slot_of, control_place}
-use Rattle.fx_counted.specs.Passes.{Shared, opening_of, slots_of, IsNumber, state_after_all, shown}
-use Rattle.fx_counted.specs.Passes.{held_in, placing, held_of, holding, Sat}
-use Rattle.fx_counted.specs.Phases.{Phase, seated, file_in}
-use Rattle.fx_counted.specs.Tells.{Stepped, Looks, holds_now, IsInside}
-use Rattle.fx_counted.specs.declared.view.Log.{Log}
-use Rattle.fx_counted.specs.declared.view.Start.{Start}
-use Rattle.fx_counted.specs.declared.view.View.{View}
-use Rattle.fx_counted.specs.declared.view.Work.TheVariants.{Idle}
+use Rattle.fx_counted.specs.Agrees.{IsSeated}
+use Rattle.fx_counted.specs.Laws.{LooksKeep}
+use Rattle.fx_counted.specs.Tells.{Looks, holds_now}
 use Rattle.fx_counted.proofs.Frames.{busy, stays_same, owner_stays}
 use Rattle.fx_counted.proofs.Histories.{IsHistory, grows_one, legal_more, held_mine, part_mine, change_here, change_else, same_shape, seen_all}
 use Rattle.fx_counted.proofs.Keeping.{word_at, now, logged, its_log, tells}

@@ -1,13 +1,8 @@
 -- What is read from the word of a slot, by what the word names.
-use Rattle.std.proofs.Common.{◌≡◌, ℕ, sym, refl, ap, ◌∙◌, ◌-◌, ◌≢◌, ne_eqb}
-use Rattle.std.specs.Prelude.{Option, Some, None}
-use mathlib.Core.Logic.{dite}
-use native.Mathlib.Decide.{ℕ_discrete}
-use Rattle.fx_plain.specs.Table.{number_of}
-use Rattle.fx_plain.specs.declared.event.File.{File}
-use Rattle.fx_words.specs.Words.{name_in, named, node_in, entry_in}
+use Rattle.fx_counted.proofs.Words.{◌≡◌, ℕ, sym, refl, ap, ◌∙◌, ◌-◌, ◌≢◌, ne_eqb, Option, Some, None, dite, ℕ_discrete, number_of, File, name_in}
+use Rattle.fx_counted.proofs.Words.{node_in, entry_in, Names}
+use Rattle.fx_words.specs.Words.{named}
 use Rattle.fx_words.proofs.Parts.{named_suc}
-use Rattle.fx_counted.specs.Agrees.{Names}
 
 pub node_is : (word : ℕ) (file : Option File) → Names word file → node_in word ≡ number_of file
 node_is word None e = ap named e

@@ -1,6 +1,5 @@
 -- Counts by ones.
-use Rattle.std.proofs.Common.{ℕ, Bool, cond, eqb, List}
-use Rattle.std.specs.Prelude.{count_by}
+use Rattle.fx_counted.proofs.Words.{ℕ, Bool, cond, eqb, List, count_by}
 
 abbrev pub one_if : Bool → ℕ
 one_if b = cond b 1 0

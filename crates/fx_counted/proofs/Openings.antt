@@ -1,35 +1,18 @@
 -- A table that is opened keeps the rule.
-use Rattle.std.proofs.Common.{◌≡◌, ◌≢◌, ℕ, zero, suc, ◌+◌, ◌*◌, ◌<◌, ◌≤◌, Bool, not, ◌&&◌, nat_lt, cond, List, [], ◌∷◌, map, length}
-use Rattle.std.proofs.Common.{sym, refl, ap, ◌∙◌, subst, arith, eqb, lt-ltb, le-ltb, ◌⊎◌, inl, inr, ⊎_elim, Option, Some, None, slice_index, eq-eqb, ne_eqb}
-use Rattle.std.specs.Prelude.{sum_by, count_by}
+use Rattle.fx_counted.proofs.Words.{◌≡◌, ◌≢◌, ℕ, zero, suc, ◌+◌, ◌*◌, ◌<◌, ◌≤◌, Bool, nat_lt, cond, List, [], ◌∷◌, map, length, sym, refl, ap, ◌∙◌}
+use Rattle.fx_counted.proofs.Words.{subst, arith, eqb, lt-ltb, le-ltb, ◌⊎◌, inl, inr, ⊎_elim, Option, Some, None, slice_index, eq-eqb, ne_eqb, sum_by}
+use Rattle.fx_counted.proofs.Words.{count_by, sum_by-cons, dite, some, some-injective, some-ne-none, ℕ_discrete, dec_le, get_elem?, Closed, state_of}
+use Rattle.fx_counted.proofs.Words.{State, file_numbered, numbered, File, numbers_for, range_of, born, takes_in, name_made, entry_made, takes_made}
+use Rattle.fx_counted.proofs.Words.{Names, SlotAgrees, NodeAgrees, OwnerAgrees, LogAgrees, ViewAgrees, Agrees, new_logs, word_of, place_of}
+use Rattle.fx_counted.proofs.Words.{slot_place, word_for, node_for, home_for, OpensWith, opening_of, slots_of, IsNumber, state_after_all, new_log}
+use Rattle.fx_counted.proofs.Words.{once, Phase, unborn, seated, closed, Log, Start, View, Idle}
+use Rattle.std.proofs.Common.{not, ◌&&◌}
 use Rattle.std.proofs.lemmas.List.{length-map}
-use Rattle.std.proofs.lemmas.List.Sums.{sum_by-cons}
-use mathlib.Core.Logic.{dite}
-use mathlib.Core.Option.{some, some-injective, some-ne-none}
-use native.Mathlib.Decide.{ℕ_discrete, dec_le}
-use lib.ListN.{get_elem?}
 use Rattle.atomic_table.specs.Table.{opening}
 use Rattle.atomic_table.proofs.Lists.{at_map}
-use Rattle.fx_base.specs.declared.open_file.Closed.{Closed}
-use Rattle.fx_plain.specs.Contents.{state_of}
-use Rattle.fx_plain.specs.State.{State, file_numbered}
-use Rattle.fx_plain.specs.Table.{numbered}
-use Rattle.fx_plain.specs.declared.event.File.{File}
-use Rattle.fx_table.specs.Numbers.{numbers_for}
-use Rattle.fx_table.specs.Opening.{range_of}
-use Rattle.fx_words.specs.Words.{born, takes_in}
-use Rattle.fx_words.proofs.Parts.{name_made, entry_made, takes_made}
-use Rattle.fx_counted.specs.Agrees.{Names, IsSeated, SlotAgrees, NodeAgrees, OwnerAgrees, LogAgrees, ViewAgrees, Agrees}
-use Rattle.fx_counted.specs.Cuts.{new_logs, first_view}
-use Rattle.fx_counted.specs.Laws.{word_of, place_of}
-use Rattle.fx_counted.specs.Layout.{slot_place}
-use Rattle.fx_counted.specs.Opens.{word_for, node_for, home_for, first_file, OpensWith, OpeningKeeps}
-use Rattle.fx_counted.specs.Passes.{opening_of, slots_of, IsNumber, state_after_all, new_log, once}
-use Rattle.fx_counted.specs.Phases.{Phase, unborn, seated, closed}
-use Rattle.fx_counted.specs.declared.view.Log.{Log}
-use Rattle.fx_counted.specs.declared.view.Start.{Start}
-use Rattle.fx_counted.specs.declared.view.View.{View}
-use Rattle.fx_counted.specs.declared.view.Work.TheVariants.{Idle}
+use Rattle.fx_counted.specs.Agrees.{IsSeated}
+use Rattle.fx_counted.specs.Cuts.{first_view}
+use Rattle.fx_counted.specs.Opens.{first_file, OpeningKeeps}
 use Rattle.fx_counted.proofs.FullSlots.{full_few}
 use Rattle.fx_counted.proofs.Ones.{one_if}
 

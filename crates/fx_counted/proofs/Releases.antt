@@ -1,32 +1,14 @@
 -- A release keeps the rule.
-use Rattle.std.proofs.Common.{◌≡◌, ◌≢◌, ℕ, ◌+◌, ◌-◌, ◌%◌, ◌^◌, ◌<◌, List, [], ◌∷◌, set, sym}
-use Rattle.std.proofs.Common.{refl, ap, ◌∙◌, subst, arith, length-set, Option, Some, None}
-use mathlib.Core.Logic.{dite}
-use mathlib.Core.Option.{some, none}
-use native.Mathlib.Decide.{ℕ_discrete}
-use lib.ListN.{get_elem?}
-use Rattle.atomic_table.specs.Table.{Act, keeps, takes, Allows, Valid, stepped, carried_after, step}
-use Rattle.atomic_table.proofs.Lists.{set_here, set_else}
-use Rattle.fx_base.specs.declared.open_file.Closed.{Closed}
-use Rattle.fx_plain.specs.History.{◌▷◌}
-use Rattle.fx_plain.specs.State.{State}
-use Rattle.fx_plain.specs.Table.{numbered}
-use Rattle.fx_plain.specs.declared.event.File.{File}
-use Rattle.fx_plain.specs.declared.event.Event.{Event}
-use Rattle.fx_plain.specs.declared.event.Action.TheVariants.{Release, Close}
-use Rattle.fx_table.specs.Calls.{no_use}
-use Rattle.fx_table.specs.Pass.{event_of}
-use Rattle.fx_table.proofs.SumLemmas.{sum_at, sum_two}
-use Rattle.fx_counted.specs.Agrees.{NodeAgrees, WorkAgrees, Agrees}
-use Rattle.fx_counted.specs.Counts.{looks}
-use Rattle.fx_counted.specs.Laws.{word_of, place_of, ReleasesKeep}
-use Rattle.fx_counted.specs.Passes.{Shared, IsNumber, state_after_all, shown, held_in, placing, held_of, holding}
-use Rattle.fx_counted.specs.Phases.{Phase, unborn, spare, placed, seated, leaving, retired, emptied, closed, owner, file_in}
-use Rattle.fx_counted.specs.Tells.{LetsGo, TakesOut, Releases}
-use Rattle.fx_counted.specs.declared.view.Log.{Log}
-use Rattle.fx_counted.specs.declared.view.Start.{Start}
-use Rattle.fx_counted.specs.declared.view.View.{View}
-use Rattle.fx_counted.specs.declared.view.Work.TheVariants.{Idle, Holding, Emptying}
+use Rattle.fx_counted.proofs.Words.{◌≡◌, ◌≢◌, ℕ, ◌+◌, ◌-◌, ◌%◌, ◌^◌, ◌<◌, List, [], ◌∷◌, set, sym, refl, ap, ◌∙◌, subst, arith, Option, Some, None}
+use Rattle.fx_counted.proofs.Words.{dite, some, none, ℕ_discrete, get_elem?, Act, keeps, takes, Valid, stepped, carried_after, step, set_here}
+use Rattle.fx_counted.proofs.Words.{set_else, Closed, ◌▷◌, State, numbered, File, Event, Release, Close, no_use, event_of, sum_at, sum_two}
+use Rattle.fx_counted.proofs.Words.{NodeAgrees, WorkAgrees, Agrees, looks, word_of, place_of, Shared, IsNumber, state_after_all, shown, held_in}
+use Rattle.fx_counted.proofs.Words.{placing, held_of, holding, Phase, unborn, spare, placed, seated, leaving, retired, emptied, closed, owner}
+use Rattle.fx_counted.proofs.Words.{file_in, LetsGo, TakesOut, Log, Start, View, Idle, Holding, Emptying}
+use Rattle.std.proofs.Common.{length-set}
+use Rattle.atomic_table.specs.Table.{Allows}
+use Rattle.fx_counted.specs.Laws.{ReleasesKeep}
+use Rattle.fx_counted.specs.Tells.{Releases}
 use Rattle.fx_counted.proofs.Births.{in_phase, word_now, home_now, roomy, else_place}
 use Rattle.fx_counted.proofs.Retirements.{sub_wraps, holding_it, holding_else, few_looks, its_hold, spares_stay}
 use Rattle.fx_counted.proofs.Frames.{busy, does_now, owner_stays}

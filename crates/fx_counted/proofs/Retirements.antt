@@ -1,32 +1,14 @@
 -- A retirement keeps the rule.
-use Rattle.std.proofs.Common.{◌≡◌, ◌≢◌, ℕ, ◌+◌, ◌-◌, ◌%◌, ◌^◌, ◌<◌, ◌≤◌, List, [], ◌∷◌, set, sym, refl}
-use Rattle.std.proofs.Common.{ap, ◌∙◌, subst, arith, eq-eqb, ne_eqb, length-set, Option, Some, None}
-use mathlib.Core.Logic.{dite}
-use mathlib.Core.Option.{some, none}
-use native.Mathlib.Decide.{ℕ_discrete}
-use lib.ListN.{get_elem?}
-use Rattle.atomic_table.specs.Table.{Act, keeps, takes, Allows, Valid, stepped, carried_after, step}
-use Rattle.atomic_table.proofs.Lists.{set_here, set_else}
-use Rattle.fx_base.specs.declared.open_file.Closed.{Closed}
-use Rattle.fx_plain.specs.History.{◌▷◌}
-use Rattle.fx_plain.specs.Step.{changed_at}
-use Rattle.fx_plain.specs.declared.event.File.{File}
-use Rattle.fx_plain.specs.declared.event.Event.{Event}
-use Rattle.fx_plain.specs.declared.event.Action.TheVariants.{Close}
-use Rattle.fx_table.specs.Calls.{no_use}
-use Rattle.fx_table.specs.Pass.{event_of}
-use Rattle.fx_table.proofs.SumLemmas.{sum_at}
-use Rattle.fx_words.specs.Words.{retire_amount_of}
-use Rattle.fx_counted.specs.Agrees.{NodeAgrees, WorkAgrees, Agrees}
-use Rattle.fx_counted.specs.Counts.{looks}
-use Rattle.fx_counted.specs.Laws.{word_of, place_of, RetiresKeep}
-use Rattle.fx_counted.specs.Passes.{Shared, IsNumber, state_after_all, shown, end_in, next_in, held_in, placing, held_of, holding}
-use Rattle.fx_counted.specs.Phases.{Phase, unborn, spare, leaving, retired, emptied, owner, file_in}
-use Rattle.fx_counted.specs.Tells.{TakesOut, Retires}
-use Rattle.fx_counted.specs.declared.view.Log.{Log}
-use Rattle.fx_counted.specs.declared.view.Start.{Start}
-use Rattle.fx_counted.specs.declared.view.View.{View}
-use Rattle.fx_counted.specs.declared.view.Work.TheVariants.{Idle, Holding, Retiring, Emptying}
+use Rattle.fx_counted.proofs.Words.{◌≡◌, ◌≢◌, ℕ, ◌+◌, ◌-◌, ◌%◌, ◌^◌, ◌<◌, ◌≤◌, List, [], ◌∷◌, set, sym, refl, ap, ◌∙◌, subst, arith, eq-eqb, ne_eqb}
+use Rattle.fx_counted.proofs.Words.{Option, Some, None, dite, some, none, ℕ_discrete, get_elem?, Act, keeps, takes, Valid, stepped, carried_after}
+use Rattle.fx_counted.proofs.Words.{step, set_here, set_else, Closed, ◌▷◌, changed_at, File, Event, Close, no_use, event_of, sum_at, retire_amount_of}
+use Rattle.fx_counted.proofs.Words.{NodeAgrees, WorkAgrees, Agrees, looks, word_of, place_of, Shared, IsNumber, state_after_all, shown, end_in}
+use Rattle.fx_counted.proofs.Words.{next_in, held_in, placing, held_of, holding, Phase, unborn, spare, leaving, retired, emptied, owner, file_in}
+use Rattle.fx_counted.proofs.Words.{TakesOut, Log, Start, View, Idle, Holding, Retiring, Emptying}
+use Rattle.std.proofs.Common.{length-set}
+use Rattle.atomic_table.specs.Table.{Allows}
+use Rattle.fx_counted.specs.Laws.{RetiresKeep}
+use Rattle.fx_counted.specs.Tells.{Retires}
 use Rattle.fx_counted.proofs.Births.{in_phase, word_now, home_now, roomy, else_place}
 use Rattle.fx_counted.proofs.Frames.{busy, does_now}
 use Rattle.fx_counted.proofs.Histories.{IsHistory, grows_none, grows_one, legal_more, held_mine, part_mine, change_here, change_else, looks_few}

@@ -1,16 +1,10 @@
 -- Files leave a table of one thread, and come back.
-use Rattle.std.proofs.Common.{◌≡◌, ◌≢◌, ℕ, zero, suc, ◌+◌, ◌<◌, ◌≤◌, List, [], ◌∷◌, ◌++◌}
-use Rattle.std.proofs.Common.{length, sym, refl, ap, ◌∙◌, subst, arith, ◌⊎◌, inl, inr, ⊎_elim}
-use Rattle.std.specs.Prelude.{Option, Some, None}
+use Rattle.fx_counted.proofs.Words.{◌≡◌, ◌≢◌, ℕ, zero, suc, ◌+◌, ◌<◌, ◌≤◌, List, [], ◌∷◌, ◌++◌, length, sym, refl, ap, ◌∙◌, subst, arith, ◌⊎◌, inl}
+use Rattle.fx_counted.proofs.Words.{inr, ⊎_elim, Option, Some, None, dite, ℕ_discrete, dec_le, Closed, State, IsSettled, Contents, state_of, file_at}
+use Rattle.fx_counted.proofs.Words.{changed_at, numbered, identity_of, AreBack, file_in_place}
 use Rattle.std.proofs.lemmas.List.{get_or_append_left}
-use mathlib.Core.Logic.{dite}
-use native.Mathlib.Decide.{ℕ_discrete, dec_le}
-use Rattle.fx_base.specs.declared.open_file.Closed.{Closed}
-use Rattle.fx_plain.specs.State.{State, IsSettled}
-use Rattle.fx_plain.specs.Contents.{Contents, state_of, file_at, slot_at}
-use Rattle.fx_plain.specs.Step.{changed_at}
-use Rattle.fx_plain.specs.Table.{numbered, identity_of}
-use Rattle.fx_counted.specs.Shells.{IsShell, AreBack, file_in_place}
+use Rattle.fx_plain.specs.Contents.{slot_at}
+use Rattle.fx_counted.specs.Shells.{IsShell}
 use Rattle.fx_counted.proofs.Histories.{change_here, change_else}
 
 -- the last of a list of places, and those before it

@@ -1,36 +1,16 @@
 -- Swaps, loads and exchanges keep the rule.
-use Rattle.std.proofs.Common.{◌≡◌, ◌≢◌, ℕ, ◌+◌, ◌-◌, ◌<◌, ◌≤◌, ◌^◌, Bool, List, [], ◌∷◌, set, false}
-use Rattle.std.proofs.Common.{sym, refl, ap, ◌∙◌, subst, arith, eqb, Option, Some, None, inl}
+use Rattle.fx_counted.proofs.Words.{◌≡◌, ◌≢◌, ℕ, ◌+◌, ◌-◌, ◌<◌, ◌≤◌, ◌^◌, Bool, List, [], ◌∷◌, set, false, sym, refl, ap, ◌∙◌, subst, arith, eqb}
+use Rattle.fx_counted.proofs.Words.{Option, Some, None, inl, some, none, get_elem?, Act, keeps, gives, rest, Valid, stepped, carried_after, step}
+use Rattle.fx_counted.proofs.Words.{Closed, ◌▷◌, changed_at, numbered, File, Event, Action, Put, Clear, Take, Allocate, Use, no_use, one_number}
+use Rattle.fx_counted.proofs.Words.{range_of, name_in, takes_in, slot_word_of, Names, WorkAgrees, Agrees, if_full, HasPass, MayChange, place_of}
+use Rattle.fx_counted.proofs.Words.{slot_place, slot_of, Shared, Sat, opening_of, slots_of, state_after_all, Stepped, Exchanges, GoesOn, retires_now}
+use Rattle.fx_counted.proofs.Words.{turned, Change, Same, Log, Start, View, Work, Idle, Placing, placed}
 use Rattle.std.proofs.lemmas.List.{set-get_or}
-use mathlib.Core.Option.{some, none}
-use lib.ListN.{get_elem?}
 use prog.Atomic.{either}
-use Rattle.atomic_table.specs.Table.{Act, keeps, gives, rest, Allows, Valid, stepped, carried_after, step}
+use Rattle.atomic_table.specs.Table.{Allows}
 use Rattle.atomic_table.proofs.Lists.{exchanged}
-use Rattle.fx_base.specs.declared.open_file.Closed.{Closed}
-use Rattle.fx_plain.specs.History.{◌▷◌}
-use Rattle.fx_plain.specs.Step.{changed_at}
-use Rattle.fx_plain.specs.Table.{numbered}
-use Rattle.fx_plain.specs.declared.event.File.{File}
-use Rattle.fx_plain.specs.declared.event.Event.{Event}
-use Rattle.fx_plain.specs.declared.event.Action.{Action}
-use Rattle.fx_plain.specs.declared.event.Action.TheVariants.{Put, Clear, Take, Allocate}
-use Rattle.fx_table.specs.Calls.{Use, no_use, one_number}
-use Rattle.fx_table.specs.Opening.{range_of}
-use Rattle.fx_words.specs.Words.{name_in, takes_in, slot_word_of}
-use Rattle.fx_counted.specs.Agrees.{Names, WorkAgrees, Agrees}
-use Rattle.fx_counted.specs.Control.{if_full}
-use Rattle.fx_counted.specs.Laws.{MayChange, place_of, ClearsKeep, TakesKeep, InstallsKeep, LoadsKeep, ExchangesKeep}
-use Rattle.fx_counted.specs.Layout.{slot_place, slot_of}
-use Rattle.fx_counted.specs.Passes.{Shared, Sat, opening_of, slots_of, state_after_all}
-use Rattle.fx_counted.specs.Tells.{Stepped, Installs, Removes, Exchanges, GoesOn, retires_now, turned}
-use Rattle.fx_counted.specs.declared.view.Change.{Change}
-use Rattle.fx_counted.specs.declared.view.Change.TheVariants.{Same}
-use Rattle.fx_counted.specs.declared.view.Log.{Log}
-use Rattle.fx_counted.specs.declared.view.Start.{Start}
-use Rattle.fx_counted.specs.declared.view.View.{View}
-use Rattle.fx_counted.specs.declared.view.Work.{Work}
-use Rattle.fx_counted.specs.declared.view.Work.TheVariants.{Idle, Placing}
+use Rattle.fx_counted.specs.Laws.{ClearsKeep, TakesKeep, InstallsKeep, LoadsKeep, ExchangesKeep}
+use Rattle.fx_counted.specs.Tells.{Installs, Removes}
 use Rattle.fx_counted.proofs.Births.{in_phase}
 use Rattle.fx_counted.proofs.Calm.{calm_agrees}
 use Rattle.fx_counted.proofs.Changes.{in_size, names_old, event, Does, removal_agrees, removal_tells, installation_agrees, installation_tells}
@@ -39,7 +19,6 @@ use Rattle.fx_counted.proofs.Histories.{legal_more, grows_none, same_shape}
 use Rattle.fx_counted.proofs.Keeping.{word_at, now, logged, its_work}
 use Rattle.fx_counted.proofs.NodeSteps.{far}
 use Rattle.fx_counted.proofs.Unchanged.{control_same}
-use Rattle.fx_counted.specs.Phases.{placed}
 
 placing_same : (n m : ℕ) → Placing n ≡ Placing m → n ≡ m
 placing_same n m e = cc e
@@ -114,61 +93,47 @@ module _ (st : Shared) (v : View) (r : Agrees v.start st) (id : ℕ) (x : Log) (
       → Stepped m ([] ▷ action s) used d c m' → Stepped m ([] ▷ action (slot_of (slot_place s))) used d c m'
   at_slot m m' action used d c = subst (λ (z : ℕ). Stepped m ([] ▷ action z) used d c m') (sym ((far st v r id x here one).slot_back s))
 
-clears_at : (slots id s : ℕ) (m : Sat) (x : Log) → m.0.logs ≡ x ∷ [] → m.0.work ≡ Idle → s < slots_of m.0.start
-    → MayChange m.0.start s m.0.change → Allows (Agrees m.0.start) slots id m (slot_place s) (λ _. 0)
-    (Removes Clear (step slots (slot_place s) 0 0 none) m)
-clears_at slots id s m x one idle inside stands st r deep here fits = let old : Option File =
-    (state_after_all m.0.start r.history).at s in let f₀ : ℕ = word_at st.words (slot_place s) in
-    let e : Event = event st m.0 r id x here one s inside stands old refl (Clear s old) in
-    let w : View = now m.0 (logged x (e ∷ r.history) x.numbers_left x.looks_left) (retires_now old (takes_in f₀))
-    (turned m.0.change (if_full old) 0) in (
-      w,
-      keeps,
-      tt,
-      removal_agrees st m.0 r id x here one s inside stands old refl idle (Clear s old) (cleared st m.0 r id x here one s inside stands),
-      record {
-        file = old;
-        names = names_old st m.0 r id x here one s inside stands old refl;
-        stepped = at_slot st m.0 r id x here one s inside m (w, m.1) (λ z. Clear z old) no_use
-            (retires_now old (takes_in f₀)) (turned m.0.change (if_full old) 0)
-            (removal_tells st m.0 r id x here one s inside stands old refl idle (Clear s old) (cleared st m.0 r id x here one s inside stands) m.1);
-        carried = refl;
-      },
-    )
+-- a removal, by an action that does to the slot what a removal does
+module _ (act : ℕ → Option File → Action)
+    (does : (st : Shared) (v : View) (r : Agrees v.start st) (id : ℕ) (x : Log) (here : get_elem? st.views id ≡ some v)
+    (one : v.logs ≡ x ∷ []) (s : ℕ) (inside : s < slots_of v.start) (stands : MayChange v.start s v.change)
+    → Facts st v r id x here one s inside stands (act s (old st v r id x here one s inside)) None (state_after_all v.start r.history).fresh) where
+  removes_at : (slots id s : ℕ) (m : Sat) (x : Log) → m.0.logs ≡ x ∷ [] → m.0.work ≡ Idle → s < slots_of m.0.start
+      → MayChange m.0.start s m.0.change → Allows (Agrees m.0.start) slots id m (slot_place s) (λ _. 0)
+      (Removes act (step slots (slot_place s) 0 0 none) m)
+  removes_at slots id s m x one idle inside stands st r deep here fits = let was : Option File =
+      (state_after_all m.0.start r.history).at s in let f₀ : ℕ = word_at st.words (slot_place s) in
+      let e : Event = event st m.0 r id x here one s inside stands was refl (act s was) in
+      let w : View = now m.0 (logged x (e ∷ r.history) x.numbers_left x.looks_left) (retires_now was (takes_in f₀))
+      (turned m.0.change (if_full was) 0) in
+      let it = does st m.0 r id x here one s inside stands in (
+        w,
+        keeps,
+        tt,
+        removal_agrees st m.0 r id x here one s inside stands was refl idle (act s was) it,
+        record {
+          file = was;
+          names = names_old st m.0 r id x here one s inside stands was refl;
+          stepped = at_slot st m.0 r id x here one s inside m (w, m.1) (λ z. act z was) no_use
+              (retires_now was (takes_in f₀)) (turned m.0.change (if_full was) 0)
+              (removal_tells st m.0 r id x here one s inside stands was refl idle (act s was) it m.1);
+          carried = refl;
+        },
+      )
+
+  removes_keep : (k : Start) (slots id i slot : ℕ) (m : Sat) (x : Log) → HasPass k m x → m.0.work ≡ Idle
+      → slot < slots_of k → MayChange k slot m.0.change → i ≡ slot_place slot
+      → Allows (Agrees k) slots id m i (λ _. 0) (Removes act (step slots i 0 0 none) m)
+  removes_keep k slots id i s m x has idle inside stands place = subst (λ (k : Start). s < slots_of k
+      → MayChange k s m.0.change → Allows (Agrees k) slots id m i (λ _. 0) (Removes act (step slots i 0 0 none) m)) has.0
+      (λ within may. subst (λ (i : ℕ). Allows (Agrees m.0.start) slots id m i (λ _. 0)
+      (Removes act (step slots i 0 0 none) m)) (sym place) (removes_at slots id s m x has.1 idle within may)) inside stands
 
 pub clears_keep : ClearsKeep
-clears_keep k slots id i s m x has idle inside stands place = subst (λ (k : Start). s < slots_of k
-    → MayChange k s m.0.change → Allows (Agrees k) slots id m i (λ _. 0) (Removes Clear (step slots i 0 0 none) m)) has.0
-    (λ within may. subst (λ (i : ℕ). Allows (Agrees m.0.start) slots id m i (λ _. 0)
-    (Removes Clear (step slots i 0 0 none) m)) (sym place) (clears_at slots id s m x has.1 idle within may)) inside stands
-
-takes_at : (slots id s : ℕ) (m : Sat) (x : Log) → m.0.logs ≡ x ∷ [] → m.0.work ≡ Idle → s < slots_of m.0.start
-    → MayChange m.0.start s m.0.change → Allows (Agrees m.0.start) slots id m (slot_place s) (λ _. 0)
-    (Removes Take (step slots (slot_place s) 0 0 none) m)
-takes_at slots id s m x one idle inside stands st r deep here fits = let old : Option File =
-    (state_after_all m.0.start r.history).at s in let f₀ : ℕ = word_at st.words (slot_place s) in
-    let e : Event = event st m.0 r id x here one s inside stands old refl (Take s old) in
-    let w : View = now m.0 (logged x (e ∷ r.history) x.numbers_left x.looks_left) (retires_now old (takes_in f₀))
-    (turned m.0.change (if_full old) 0) in (
-      w,
-      keeps,
-      tt,
-      removal_agrees st m.0 r id x here one s inside stands old refl idle (Take s old) (taken st m.0 r id x here one s inside stands),
-      record {
-        file = old;
-        names = names_old st m.0 r id x here one s inside stands old refl;
-        stepped = at_slot st m.0 r id x here one s inside m (w, m.1) (λ z. Take z old) no_use
-            (retires_now old (takes_in f₀)) (turned m.0.change (if_full old) 0)
-            (removal_tells st m.0 r id x here one s inside stands old refl idle (Take s old) (taken st m.0 r id x here one s inside stands) m.1);
-        carried = refl;
-      },
-    )
+clears_keep = removes_keep Clear cleared
 
 pub takes_keep : TakesKeep
-takes_keep k slots id i s m x has idle inside stands place = subst (λ (k : Start). s < slots_of k
-    → MayChange k s m.0.change → Allows (Agrees k) slots id m i (λ _. 0) (Removes Take (step slots i 0 0 none) m)) has.0
-    (λ within may. subst (λ (i : ℕ). Allows (Agrees m.0.start) slots id m i (λ _. 0)
-    (Removes Take (step slots i 0 0 none) m)) (sym place) (takes_at slots id s m x has.1 idle within may)) inside stands
+takes_keep = removes_keep Take taken
 
 installs_at : (slots id s n : ℕ) (file : Closed) (m : Sat) (x : Log) → m.0.logs ≡ x ∷ [] → m.0.work ≡ Placing n
     → m.1 ≡ (place_of m.0.start n, Some file) ∷ [] → file.entry < 2 ^ 8 → s < slots_of m.0.start

@@ -1,33 +1,11 @@
 -- What a swap of a slot's word has to keep, whatever comes to the slot.
-use Rattle.std.proofs.Common.{◌≡◌, ◌≢◌, ℕ, ◌<◌, ◌≤◌, List, [], ◌∷◌, set, length, sym, refl, ap, ◌∙◌, subst, arith, Option, Some, None}
-use mathlib.Core.Logic.{dite}
-use mathlib.Core.Option.{some}
-use native.Mathlib.Decide.{ℕ_discrete}
-use lib.ListN.{get_elem?}
-use Rattle.fx_base.specs.declared.open_file.Closed.{Closed}
-use Rattle.fx_plain.specs.History.{held_by, held_after}
-use Rattle.fx_plain.specs.Step.{changed_at, with_removed}
-use Rattle.fx_plain.specs.State.{State}
-use Rattle.fx_plain.specs.Table.{numbered}
-use Rattle.fx_plain.specs.declared.event.File.{File}
-use Rattle.fx_plain.specs.declared.event.Event.{Event}
-use Rattle.fx_plain.specs.declared.event.Action.{Action}
-use Rattle.fx_table.specs.Opening.{range_of}
-use Rattle.fx_table.specs.Pass.{event_of}
-use Rattle.fx_words.specs.Words.{takes_in}
-use Rattle.fx_counted.specs.Agrees.{Names, IsSeated, SlotAgrees, NodeAgrees, OwnerAgrees, WorkAgrees, PlacesNext, Agrees}
-use Rattle.fx_counted.specs.Control.{ControlCounts}
-use Rattle.fx_counted.specs.Counts.{looks, all_looks}
-use Rattle.fx_counted.specs.Laws.{word_of, place_of}
-use Rattle.fx_counted.specs.Layout.{control_place, slot_place}
-use Rattle.fx_counted.specs.Passes.{Shared, opening_of, slots_of, IsNumber, state_after_all, shown, end_in, next_in, held_in, placing, holding}
-use Rattle.fx_counted.specs.Phases.{Phase, unborn, spare, seated, leaving, owner, file_in}
-use Rattle.fx_counted.specs.Tells.{retires_now}
-use Rattle.fx_counted.specs.declared.view.Change.{Change}
-use Rattle.fx_counted.specs.declared.view.Log.{Log}
-use Rattle.fx_counted.specs.declared.view.View.{View}
-use Rattle.fx_counted.specs.declared.view.Work.{Work}
-use Rattle.fx_counted.specs.declared.view.Work.TheVariants.{Retiring}
+use Rattle.fx_counted.proofs.Words.{◌≡◌, ◌≢◌, ℕ, ◌<◌, ◌≤◌, List, [], ◌∷◌, set, length, sym, refl, ap, ◌∙◌, subst, arith, Option, Some, None, dite}
+use Rattle.fx_counted.proofs.Words.{some, ℕ_discrete, get_elem?, Closed, held_by, held_after, changed_at, with_removed, State, numbered, File, Event}
+use Rattle.fx_counted.proofs.Words.{Action, range_of, event_of, takes_in, Names, SlotAgrees, NodeAgrees, OwnerAgrees, WorkAgrees, PlacesNext, Agrees}
+use Rattle.fx_counted.proofs.Words.{ControlCounts, looks, all_looks, word_of, place_of, control_place, slot_place, Shared, opening_of, slots_of}
+use Rattle.fx_counted.proofs.Words.{IsNumber, state_after_all, shown, end_in, next_in, held_in, placing, holding, Phase, unborn, spare, seated}
+use Rattle.fx_counted.proofs.Words.{leaving, owner, file_in, retires_now, Change, Log, View, Work, Retiring}
+use Rattle.fx_counted.specs.Agrees.{IsSeated}
 use Rattle.fx_counted.proofs.Frames.{Stays, KeepsHeld, does_now}
 use Rattle.fx_counted.proofs.Histories.{IsHistory, grows_one, held_mine, change_here, change_else, seen_all}
 use Rattle.fx_counted.proofs.Keeping.{Homes, word_at, now, logged, its_log}

@@ -1,25 +1,11 @@
 -- What a step leaves as it was: slots, numbers, the control word and the draw word.
-use Rattle.std.specs.Prelude.{sum_by}
-use Rattle.std.proofs.Common.{◌≡◌, ℕ, ◌+◌, ◌/◌, ◌%◌, ◌≤◌, List, [], ◌∷◌, set, sym, refl, ap, ◌∙◌, subst, arith, Option, Some, None}
-use mathlib.Core.Option.{some}
-use lib.ListN.{get_elem?}
-use Rattle.fx_base.specs.declared.open_file.Closed.{Closed}
-use Rattle.fx_plain.specs.State.{State}
-use Rattle.fx_plain.specs.Table.{numbered}
-use Rattle.fx_plain.specs.declared.event.File.{File}
-use Rattle.fx_plain.specs.declared.event.Event.{Event}
-use Rattle.fx_table.proofs.SumLemmas.{sum_set}
-use Rattle.fx_counted.specs.Agrees.{Names, IsSeated, SlotAgrees, Home, NodeAgrees}
-use Rattle.fx_counted.specs.Control.{in_change, added, removed_by, changes_of, added_of, removed_of, full_in, ControlCounts}
-use Rattle.fx_counted.specs.Counts.{looks, all_looks}
-use Rattle.fx_counted.specs.Draws.{DrawsCount}
-use Rattle.fx_counted.specs.Passes.{state_after_all, drawn_of, told_of}
-use Rattle.fx_counted.specs.Phases.{Phase, unborn, spare, placed, seated, leaving, retired, emptied, closed}
-use Rattle.fx_counted.specs.declared.view.Log.{Log}
-use Rattle.fx_counted.specs.declared.view.Start.{Start}
-use Rattle.fx_counted.specs.declared.view.View.{View}
+use Rattle.fx_counted.proofs.Words.{sum_by, ◌≡◌, ℕ, ◌+◌, ◌/◌, ◌%◌, ◌≤◌, List, [], ◌∷◌, set, sym, refl, ap, ◌∙◌, subst, arith, Option, Some, None}
+use Rattle.fx_counted.proofs.Words.{some, get_elem?, Closed, State, numbered, File, Event, sum_set, Names, SlotAgrees, Home, NodeAgrees, in_change}
+use Rattle.fx_counted.proofs.Words.{added, removed_by, changes_of, added_of, removed_of, full_in, ControlCounts, looks, all_looks, DrawsCount}
+use Rattle.fx_counted.proofs.Words.{state_after_all, drawn_of, told_of, Phase, unborn, spare, placed, seated, leaving, retired, emptied, closed, Log}
+use Rattle.fx_counted.proofs.Words.{Start, View, takes_in}
+use Rattle.fx_counted.specs.Agrees.{IsSeated}
 use Rattle.fx_counted.proofs.Ones.{one_if, times}
-use Rattle.fx_words.specs.Words.{takes_in}
 
 module _ (k : Start) (h h' : List Event) (phase phase' : ℕ → Phase) (slot : ℕ) where
   abbrev pub SameFile : Type 0

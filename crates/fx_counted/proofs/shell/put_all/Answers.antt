@@ -1,10 +1,5 @@
-use Rattle.std.proofs.Common.{◌≡◌, ◌<◌, ◌≤◌, ◌+◌, ℕ, length, List, [], ◌∷◌, ◌++◌, refl, sym, ap, ◌∙◌, subst, arith, length-append}
-use Rattle.std.specs.Prelude.{Option, Some, None}
-use mathlib.Core.Logic.{dite}
-use native.Mathlib.Decide.{dec_le}
-use Rattle.fx_base.specs.declared.open_file.Closed.{Closed}
-use Rattle.fx_plain.specs.Contents.{state_of}
-use Rattle.fx_counted.specs.Shells.{file_in_place}
+use Rattle.fx_counted.proofs.Words.{◌≡◌, ◌<◌, ◌≤◌, ◌+◌, ℕ, length, List, [], ◌∷◌, ◌++◌, refl, sym, ap, ◌∙◌, subst, arith, length-append, Option, Some}
+use Rattle.fx_counted.proofs.Words.{None, dite, dec_le, Closed, state_of, file_in_place}
 use Rattle.fx_counted.proofs.Shells.{IsPartlyBack, GetsFile, file_put, last_place, place_before, all_away, all_back, none_last, one_last}
 use Rattle.fx_counted.proofs.shell.put_all.Goals as goal
 

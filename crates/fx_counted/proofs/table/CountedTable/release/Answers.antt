@@ -1,13 +1,5 @@
-use Rattle.std.proofs.Common.{ℕ, [], sym, ap, ◌∙◌, arith, subst}
-use Rattle.std.specs.Prelude.{Some}
-use Rattle.fx_plain.specs.History.{◌▷◌}
-use Rattle.fx_plain.specs.declared.event.Action.TheVariants.{Release, Close}
-use Rattle.fx_table.specs.Calls.{no_use}
+use Rattle.fx_counted.proofs.Words.{ℕ, [], sym, ap, ◌∙◌, arith, subst, Some, ◌▷◌, Release, Close, no_use, node_place, HasPlace, IsInside, Idle}
 use Rattle.fx_table.specs.declared.values.Hold.{Hold}
-use Rattle.fx_counted.specs.Layout.{node_place}
-use Rattle.fx_counted.specs.Moves.{HasPlace}
-use Rattle.fx_counted.specs.Tells.{IsInside}
-use Rattle.fx_counted.specs.declared.view.Work.TheVariants.{Idle}
 use Rattle.fx_counted.proofs.Calling.{node_inside, node_is_at}
 use Rattle.fx_counted.proofs.Going.{its_pass, holding_work, adds_so, out_place, out_and_home}
 use Rattle.fx_counted.proofs.Releases.{releases_keep}
