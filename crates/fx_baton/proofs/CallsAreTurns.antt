@@ -1,28 +1,13 @@
 -- What each call of the plain table is as a turn.
-use Rattle.std.proofs.Common.{◌≡◌, ◌≢◌, ℕ, ◌+◌, ◌-◌, ◌<◌, ◌≤◌, Bool, true, false, cond, List, [], ◌∷◌, map, sym, refl, ap, ◌∙◌, subst, arith, eqb}
-use Rattle.std.proofs.Common.{eq-eqb, ◌⊎◌, inl, inr, ⊎_elim}
-use mathlib.Core.Logic.{dite}
-use native.Mathlib.Decide.{ℕ_discrete}
-use Rattle.std.specs.Prelude.{Option, Some, None, not, ◌&&◌, ◌==◌, if◌then◌else◌}
-use Rattle.fx_plain.specs.State.{State}
-use Rattle.fx_plain.specs.Step.{Steps, changed_at, with_removed}
-use Rattle.fx_plain.specs.Contents.{Contents, state_of, leaving}
-use Rattle.fx_plain.specs.History.{Leads, IsLegal, ReleasesItsOwn, held_by, close_of, ◌▷◌, ◌▷▷◌}
-use Rattle.fx_plain.specs.Table.{more_leaving, closed_by_release, closed_by_retirement}
-use Rattle.fx_plain.specs.declared.event.File.{File}
-use Rattle.fx_plain.specs.declared.event.Event.{Event}
-use Rattle.fx_plain.specs.declared.event.Action.{Action}
-use Rattle.fx_plain.specs.declared.event.Action.TheVariants.{Look, Release, Put, Clear, Take, Allocate, Full, Close}
-use Rattle.fx_table.specs.Numbers.{pass_of_number, number_behind}
-use Rattle.fx_table.specs.Files.{HasFile}
-use Rattle.fx_table.specs.declared.values.Doing.TheVariants.{Idle, Holding, Retiring}
+use Rattle.fx_baton.proofs.Words.{◌≡◌, ◌≢◌, ℕ, ◌+◌, ◌-◌, ◌<◌, ◌≤◌, Bool, true, false, cond, List, [], ◌∷◌, map, sym, refl, ap, ◌∙◌, subst, arith}
+use Rattle.fx_baton.proofs.Words.{eqb, eq-eqb, ◌⊎◌, inl, inr, ⊎_elim, dite, ℕ_discrete, Option, Some, None, not, ◌&&◌, ◌==◌, if◌then◌else◌, State}
+use Rattle.fx_baton.proofs.Words.{Steps, changed_at, with_removed, Contents, state_of, leaving, Leads, IsLegal, ReleasesItsOwn, held_by, close_of}
+use Rattle.fx_baton.proofs.Words.{◌▷◌, ◌▷▷◌, more_leaving, closed_by_release, closed_by_retirement, File, Event, Action, Look, Release, Put, Clear}
+use Rattle.fx_baton.proofs.Words.{Take, Allocate, Full, Close, pass_of_number, number_behind, HasFile, Idle, Holding, Retiring, legal_then}
+use Rattle.fx_baton.proofs.Words.{held_mine, one_author, Log, View, begin_of, file_held, file_in_hand, holds_by, removals_by, leaving_count}
+use Rattle.fx_baton.proofs.Words.{HasFreshNumbers, log_behind, Knows, IsTurn, by, holds_now, retires_now}
 use Rattle.fx_table.proofs.Changes.{changed_here, changed_else}
 use Rattle.fx_table.proofs.FileLemmas.{some_file, none_file, stays_put, apart_from, leaving_file, removed_file, still_there, now_removed, not_closed}
-use Rattle.fx_table.proofs.Histories.{legal_then, held_mine, one_author}
-use Rattle.fx_baton.specs.declared.view.Log.{Log}
-use Rattle.fx_baton.specs.declared.view.View.{View}
-use Rattle.fx_baton.specs.Rule.{begin_of, file_held, file_in_hand, holds_by, removals_by, leaving_count, HasFreshNumbers, log_behind, Knows, IsTurn}
-use Rattle.fx_baton.specs.Turns.{by, holds_now, retires_now}
 use Rattle.fx_baton.proofs.Counts.{one_if, none_if, one_true}
 
 true_not_false : true ≡ false → ⊥

@@ -1,27 +1,12 @@
 -- A seat is split off, and one is joined back.
-use Rattle.std.proofs.Common.{◌≡◌, ◌≢◌, ℕ, ◌+◌, List, [], ◌∷◌, ◌++◌, length, set, sym, refl, ap, ◌∙◌, subst, arith, ◌⊎◌, inl, inr, ⊎_elim}
-use Rattle.std.proofs.Common.{length-append}
-use mathlib.Core.Option.{some}
-use lib.ListN.{get_elem?}
-use Rattle.std.specs.Prelude.{Some, None, Contains, sum_by}
-use Rattle.std.proofs.lemmas.List.Elements.{Contains-append_cases}
-use Rattle.std.proofs.lemmas.List.Sums.{sum_by-append}
-use Rattle.atomic_table.specs.Table.{Splits, Joins}
-use Rattle.atomic_table.proofs.Lists.{at_set, set_else, at_snoc, at_longer}
-use Rattle.fx_plain.specs.Contents.{Contents}
-use Rattle.fx_plain.specs.declared.event.File.{File}
-use Rattle.fx_plain.specs.declared.event.Event.{Event}
-use Rattle.fx_table.specs.declared.values.Doing.{Doing}
-use Rattle.fx_table.specs.declared.values.Doing.TheVariants.{Idle}
-use Rattle.fx_table.proofs.Members.{contains_none, contains_head, contains_tail, contains_only}
-use Rattle.fx_table.proofs.SumLemmas.{sum_set}
-use Rattle.fx_baton.specs.declared.view.Log.{Log}
-use Rattle.fx_baton.specs.declared.view.View.{View}
-use Rattle.fx_baton.specs.declared.view.Start.{Start}
+use Rattle.fx_baton.proofs.Words.{◌≡◌, ◌≢◌, ℕ, ◌+◌, List, [], ◌∷◌, ◌++◌, length, set, sym, refl, ap, ◌∙◌, subst, arith, ◌⊎◌, inl, inr, ⊎_elim}
+use Rattle.fx_baton.proofs.Words.{length-append, some, get_elem?, Some, None, Contains, sum_by, Contains-append_cases, sum_by-append, Splits, Joins}
+use Rattle.fx_baton.proofs.Words.{at_set, set_else, at_snoc, at_longer, Contents, File, Event, Doing, Idle, contains_none, contains_head}
+use Rattle.fx_baton.proofs.Words.{contains_tail, contains_only, sum_set, Log, View, Start, Shared, logs_of, holds_by, removals_by, file_in_hand}
+use Rattle.fx_baton.proofs.Words.{IsLog, IsView, IsHome, IsAway, IsKept, rest_of, first_of, view_without_first, view_of_first, joined_view}
+use Rattle.fx_baton.proofs.Words.{empty_view}
 use Rattle.fx_baton.proofs.Counts.{logs_more}
 use Rattle.fx_baton.proofs.StepsKeepRule.{not_holder}
-use Rattle.fx_baton.specs.Rule.{Shared, logs_of, holds_by, removals_by, file_in_hand, IsLog, IsView, IsHome, IsAway, IsKept, rest_of, first_of}
-use Rattle.fx_baton.specs.Rule.{view_without_first, view_of_first, joined_view, empty_view}
 
 idle_file : (d : Doing) (f : File) → d ≡ Idle → file_in_hand d ≡ Some f → ⊥
 idle_file d f e g = let no : None ≡ Some f = sym (ap file_in_hand e) ∙ g in cc no
