@@ -1,6 +1,6 @@
 -- A birth keeps the rule, and so does a rest.
-use Rattle.fx_counted.proofs.Words.{◌≡◌, ◌≢◌, ℕ, ◌+◌, ◌<◌, ◌≤◌, List, [], ◌∷◌, set, length, sym, refl, ap, ◌∙◌, subst, arith, Option, Some, None, ◌⊎◌}
-use Rattle.fx_counted.proofs.Words.{inr, ⊎_elim, dite, some, none, ℕ_discrete, get_elem?, takes, gives, rest, stepped, step, set_here, set_else}
+use Rattle.fx_counted.proofs.Words.{◌≡◌, ◌≢◌, ℕ, ◌+◌, ◌<◌, ◌≤◌, List, [], ◌∷◌, set, length, sym, refl, ap, ◌∙◌, subst, arith, Option, Some, None}
+use Rattle.fx_counted.proofs.Words.{◌⊎◌, inr, ⊎_elim, dite, some, none, ℕ_discrete, get_elem?, takes, gives, rest, stepped, step, set_here, set_else}
 use Rattle.fx_counted.proofs.Words.{Closed, File, changed_at, no_use, next_number, born, Home, NodeAgrees, OwnerAgrees, WorkAgrees, PlacesNext}
 use Rattle.fx_counted.proofs.Words.{Agrees, word_of, place_of, Shared, first_log, pass_of, Sat, IsNumber, state_after_all, end_in, next_in, held_in}
 use Rattle.fx_counted.proofs.Words.{placing, held_of, holding, Phase, unborn, spare, placed, emptied, closed, owner, file_in, Stepped, Log, Start}

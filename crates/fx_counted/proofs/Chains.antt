@@ -1,7 +1,7 @@
 -- A draw keeps the rule.
-use Rattle.fx_counted.proofs.Words.{sum_by, ◌≡◌, ◌≢◌, ℕ, zero, suc, ◌+◌, ◌%◌, ◌^◌, ◌<◌, ◌≤◌, Bool, true, false, cond, List, [], ◌∷◌, set, length, sym}
-use Rattle.fx_counted.proofs.Words.{refl, ap, ◌∙◌, subst, arith, eqb, eq-eqb, ne_eqb, lt-ltb, le-ltb, get_or-set_other, get_or-set_same, Option, Some}
-use Rattle.fx_counted.proofs.Words.{None, ◌⊎◌, inl, inr, ⊎_elim, dite, some, none, ℕ_discrete, dec_le, get_elem?, keeps, Act, Valid, stepped}
+use Rattle.fx_counted.proofs.Words.{sum_by, ◌≡◌, ◌≢◌, ℕ, zero, suc, ◌+◌, ◌%◌, ◌^◌, ◌<◌, ◌≤◌, Bool, true, false, cond, List, [], ◌∷◌, set, length}
+use Rattle.fx_counted.proofs.Words.{sym, refl, ap, ◌∙◌, subst, arith, eqb, eq-eqb, ne_eqb, lt-ltb, le-ltb, get_or-set_other, get_or-set_same, Option}
+use Rattle.fx_counted.proofs.Words.{Some, None, ◌⊎◌, inl, inr, ⊎_elim, dite, some, none, ℕ_discrete, dec_le, get_elem?, keeps, Act, Valid, stepped}
 use Rattle.fx_counted.proofs.Words.{carried_after, step, Closed, numbers_for, PassView, sum_by-cons, sum_set, sum_at, sum_le_at, NodeAgrees}
 use Rattle.fx_counted.proofs.Words.{OwnerAgrees, LogAgrees, lengths, Agrees, PlacesNext, WorkAgrees, DrawsCount, word_of, place_of, control_place}
 use Rattle.fx_counted.proofs.Words.{draw_place, slot_place, Shared, Sat, opening_of, state_after_all, chain_in, shown, first_log, drawn_of, told_of}
@@ -240,12 +240,7 @@ module _ (st : Shared) (v : View) (r : Agrees v.start st) (id : ℕ) (x : Log) (
         spares = λ n low high. given_in (numbers_for found) (numbers_for (found + 1)) x.number r.phase n (omega arith) high;
       }
 
-      drawn_agrees : Agrees v.start record {
-        words = set st.words draw_place
-            (found + 1);
-        homes = st.homes;
-        views = set st.views id (now v y v.work v.change);
-      }
+      drawn_agrees : Agrees v.start (stepped st draw_place (found + 1) id [] (now v y v.work v.change) keeps)
       drawn_agrees = step_kept st v r id x here one y v.work v.change r.history phase'
           (set st.words draw_place (found + 1)) st.homes (draw_step y refl refl refl phase' phases log (idle_work phase') counts)
 
@@ -297,12 +292,7 @@ module _ (st : Shared) (v : View) (r : Agrees v.start st) (id : ℕ) (x : Log) (
         spares = o.spares;
       }
 
-      told_agrees : Agrees v.start record {
-        words = set st.words draw_place
-            (found + 1);
-        homes = st.homes;
-        views = set st.views id (now v y' v.work v.change);
-      }
+      told_agrees : Agrees v.start (stepped st draw_place (found + 1) id [] (now v y' v.work v.change) keeps)
       told_agrees = step_kept st v r id x here one y' v.work v.change r.history r.phase
           (set st.words draw_place (found + 1)) st.homes
           (draw_step y' refl refl refl r.phase (λ n. inl refl) log' (idle_work r.phase) counts')

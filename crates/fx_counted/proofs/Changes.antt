@@ -1,11 +1,11 @@
 -- An installation and a removal keep the rule.
-use Rattle.fx_counted.proofs.Words.{◌≡◌, ◌≢◌, ℕ, ◌-◌, ◌<◌, ◌^◌, Bool, false, List, [], ◌∷◌, set, sym, refl, ap, ◌∙◌, subst, arith, Option, Some, None}
-use Rattle.fx_counted.proofs.Words.{dite, some, ℕ_discrete, get_elem?, set_here, set_else, Closed, ◌▷◌, held_by, held_after, changed_at, with_removed}
-use Rattle.fx_counted.proofs.Words.{numbered, File, Event, Action, State, no_use, one_number, range_of, event_of, takes_in, slot_word_of, name_made}
-use Rattle.fx_counted.proofs.Words.{entry_made, takes_made, Names, NodeAgrees, OwnerAgrees, WorkAgrees, PlacesNext, Agrees, if_full, looks, all_looks}
-use Rattle.fx_counted.proofs.Words.{word_of, place_of, slot_place, Shared, opening_of, slots_of, IsNumber, state_after_all, shown, next_in, held_in}
-use Rattle.fx_counted.proofs.Words.{placing, holding, Phase, unborn, spare, placed, seated, owner, file_in, IsInside, Stepped, retires_now, turned}
-use Rattle.fx_counted.proofs.Words.{Log, View, Idle, Placing, Change}
+use Rattle.fx_counted.proofs.Words.{◌≡◌, ◌≢◌, ℕ, ◌-◌, ◌<◌, ◌^◌, Bool, false, List, [], ◌∷◌, set, sym, refl, ap, ◌∙◌, subst, arith, Option, Some}
+use Rattle.fx_counted.proofs.Words.{None, dite, some, ℕ_discrete, get_elem?, set_here, set_else, Closed, ◌▷◌, held_by, held_after, changed_at}
+use Rattle.fx_counted.proofs.Words.{with_removed, numbered, File, Event, Action, State, no_use, one_number, range_of, event_of, takes_in}
+use Rattle.fx_counted.proofs.Words.{slot_word_of, name_made, entry_made, takes_made, Names, NodeAgrees, OwnerAgrees, WorkAgrees, PlacesNext, Agrees}
+use Rattle.fx_counted.proofs.Words.{if_full, looks, all_looks, word_of, place_of, slot_place, Shared, opening_of, slots_of, IsNumber}
+use Rattle.fx_counted.proofs.Words.{state_after_all, shown, next_in, held_in, placing, holding, Phase, unborn, spare, placed, seated, owner, file_in}
+use Rattle.fx_counted.proofs.Words.{IsInside, Stepped, retires_now, turned, Log, View, Idle, Placing, Change, keeps, stepped}
 use Rattle.std.proofs.Common.{length-set}
 use Rattle.fx_counted.proofs.Births.{in_phase, roomy, else_place, held_file}
 use Rattle.fx_counted.proofs.Frames.{busy, stays_same, owner_stays}
@@ -89,23 +89,15 @@ module _ (st : Shared) (v : View) (r : Agrees v.start st) (id : ℕ) (x : Log) (
       control = control_swap s₀.at (range_of (opening_of v.start)) st.views id v _ _ s old None here was stands refl r.control;
     }
 
-    pub removal_agrees : Agrees v.start record {
-      words = set st.words
-          (slot_place s) 0;
-      homes = st.homes;
-      views = set st.views id
-          (now v (logged x (event a ∷ r.history) x.numbers_left x.looks_left) (retires_now old (takes_in f₀))
-          (turned v.change (if_full old) 0));
-    }
+    abbrev removed_view : View
+    removed_view = now v (logged x (event a ∷ r.history) x.numbers_left x.looks_left) (retires_now old (takes_in f₀)) (turned v.change (if_full old) 0)
+
+    pub removal_agrees : Agrees v.start (stepped st (slot_place s) 0 id [] removed_view keeps)
     removal_agrees = swap_agrees st v r id x here one s inside old was a 0 None st.homes r.phase x.numbers_left
         (turned v.change (if_full old) 0) removal
 
     pub removal_tells : (carried : List (ℕ × Option Closed))
-        → Stepped (v, carried) ([] ▷ a) no_use (retires_now old (takes_in f₀)) (turned v.change (if_full old) 0) (
-          now v (logged x (event a ∷ r.history) x.numbers_left x.looks_left) (retires_now old (takes_in f₀))
-              (turned v.change (if_full old) 0),
-          carried,
-        )
+        → Stepped (v, carried) ([] ▷ a) no_use (retires_now old (takes_in f₀)) (turned v.change (if_full old) 0) (removed_view, carried)
     removal_tells carried = tells st v r id x here one carried carried
         (event a ∷ r.history) x.numbers_left x.looks_left (retires_now old (takes_in f₀))
         (turned v.change (if_full old) 0) ([] ▷ a) no_use
@@ -223,18 +215,19 @@ module _ (st : Shared) (v : View) (r : Agrees v.start st) (id : ℕ) (x : Log) (
       control = control_swap s₀.at (range_of (opening_of v.start)) st.views id v _ _ s old (Some (numbered n file)) here was stands refl r.control;
     }
 
+    abbrev installed_view : View
+    installed_view = now v (logged x (event a ∷ r.history) (x.numbers_left - 1) x.looks_left) (retires_now old (takes_in f₀)) c
+
     pub installation_agrees : Agrees v.start record {
-      words = set st.words (slot_place s)
-          (slot_word_of n file.entry);
+      words = set st.words (slot_place s) (slot_word_of n file.entry);
       homes = homes';
-      views = set st.views id
-          (now v (logged x (event a ∷ r.history) (x.numbers_left - 1) x.looks_left) (retires_now old (takes_in f₀)) c);
+      views = set st.views id installed_view;
     }
     installation_agrees = swap_agrees st v r id x here one s inside old was a (slot_word_of n file.entry)
         (Some (numbered n file)) homes' phase₁ (x.numbers_left - 1) c installation
 
     pub installation_tells : (carried homes : List (ℕ × Option Closed)) → Stepped (v, carried) ([] ▷ a) one_number (retires_now old (takes_in f₀)) c
-        (now v (logged x (event a ∷ r.history) (x.numbers_left - 1) x.looks_left) (retires_now old (takes_in f₀)) c, homes)
+        (installed_view, homes)
     installation_tells carried homes = tells st v r id x here one carried homes (event a ∷ r.history)
         (x.numbers_left - 1) x.looks_left (retires_now old (takes_in f₀)) c ([] ▷ a) one_number
         (grows_one x.number r.history (event a) refl) does.legal (part_mine x.number (event a) r.history refl)

@@ -1,9 +1,9 @@
 -- What a step of one seat leaves as it was.
-use Rattle.fx_counted.proofs.Words.{sum_by, ◌≡◌, ◌≢◌, ℕ, zero, suc, ◌+◌, ◌<◌, ◌≤◌, true, false, List, [], ◌∷◌, set, length, sym, refl, ap, ◌∙◌, subst}
-use Rattle.fx_counted.proofs.Words.{arith, eq-eqb, nat_lt, ◌⊎◌, inl, inr, ⊎_elim, eqb, some, some-injective, some-ne-none, get_elem?, at_set}
+use Rattle.fx_counted.proofs.Words.{sum_by, ◌≡◌, ◌≢◌, ℕ, zero, suc, ◌+◌, ◌<◌, ◌≤◌, true, false, List, [], ◌∷◌, set, length, sym, refl, ap, ◌∙◌}
+use Rattle.fx_counted.proofs.Words.{subst, arith, eq-eqb, nat_lt, ◌⊎◌, inl, inr, ⊎_elim, eqb, some, some-injective, some-ne-none, get_elem?, at_set}
 use Rattle.fx_counted.proofs.Words.{set_here, set_else, File, Event, numbered, sum_at, sum_two, Does, OwnerAgrees, WorkAgrees, ViewAgrees, Agrees}
-use Rattle.fx_counted.proofs.Words.{Shared, logs_of, once, Phase, unborn, spare, placed, seated, leaving, retired, emptied, closed, owner, file_in}
-use Rattle.fx_counted.proofs.Words.{Log, Start, View, Work, Idle, Placing, Holding, Retiring, Emptying}
+use Rattle.fx_counted.proofs.Words.{Shared, logs_of, once, Phase, spare, placed, leaving, emptied, owner, file_in, Log, Start, View, Work, Idle}
+use Rattle.fx_counted.proofs.Words.{Placing, Holding, Retiring, Emptying}
 use Rattle.fx_counted.proofs.Histories.{Grows}
 use Rattle.fx_counted.proofs.Ones.{one_if}
 
@@ -102,14 +102,10 @@ does_now views id v w d here is = (w, set_here views id w (inside_list views id 
 pub owner_map : (views views' : List View) (n : ℕ)
     → ((j : ℕ) (d : Work) → busy d ≡ n + 1 → Does views j d → Does views' j d) → (ph : Phase) → OwnerAgrees views n ph
     → OwnerAgrees views' n ph
-owner_map views views' n f unborn o = tt
-owner_map views views' n f (spare q) o = tt
 owner_map views views' n f (placed j) o = f j (Placing n) refl o
-owner_map views views' n f (seated s g) o = tt
 owner_map views views' n f (leaving j t g) o = f j (Retiring (numbered n g) t) refl o
-owner_map views views' n f (retired g) o = tt
 owner_map views views' n f (emptied j) o = f j (Emptying n) refl o
-owner_map views views' n f closed o = tt
+owner_map views views' n f _ o = tt
 
 module _ (views : List View) (id : ℕ) (v w : View) (here : get_elem? views id ≡ some v) where
   does_else : (j : ℕ) (d : Work) → j ≢ id → Does views j d → Does (set views id w) j d

@@ -1,8 +1,8 @@
 -- Some steps in a row, and the pass behind them.
-use Rattle.fx_counted.proofs.Words.{◌≡◌, ℕ, ◌+◌, List, [], ◌∷◌, inl, sym, refl, ap, ◌∙◌, subst, arith, Some, TableId, ◌▷◌, Action, Close, Use, no_use}
-use Rattle.fx_counted.proofs.Words.{Adds, IsFront, File, Goes, HasPlace, HasPass, place_of, Sat, opening_of, pass_of, doing_in, chain_in, first_log}
-use Rattle.fx_counted.proofs.Words.{view_of, is_idle, IsPassOf, IsInside, Stepped, TakesOut, LetsGo, CountedPass, Change, Outside, Log, Start, Work}
-use Rattle.fx_counted.proofs.Words.{Idle, Placing, Holding, Retiring, Emptying}
+use Rattle.fx_counted.proofs.Words.{◌≡◌, ℕ, ◌+◌, List, [], ◌∷◌, inl, sym, refl, ap, ◌∙◌, subst, arith, Some, TableId, ◌▷◌, Action, Close, Use}
+use Rattle.fx_counted.proofs.Words.{no_use, Adds, IsFront, File, Goes, HasPlace, HasPass, place_of, Sat, opening_of, pass_of, doing_in, chain_in}
+use Rattle.fx_counted.proofs.Words.{first_log, view_of, is_idle, IsPassOf, IsInside, Stepped, TakesOut, LetsGo, CountedPass, Change, Outside, Log}
+use Rattle.fx_counted.proofs.Words.{Start, Work, Idle, Placing, Holding, Retiring, Emptying}
 use Rattle.fx_plain.specs.History.{◌▷▷◌}
 use Rattle.fx_table.specs.Calls.{both_uses}
 use Rattle.fx_table.specs.declared.values.Doing.TheVariants.{Idle as NowIdle, Holding as NowHolding, Retiring as NowRetiring}
@@ -108,18 +108,12 @@ idle_work (Retiring f t) r e = absurd (cc e)
 idle_work (Emptying n) r e = absurd r
 
 pub holding_work : (w : Work) (f : File) → IsBetweenCalls w → doing_in w ≡ NowHolding f → w ≡ Holding f
-holding_work Idle f r e = absurd (cc e)
-holding_work (Placing n) f r e = absurd r
 holding_work (Holding g) f r e = let same : g ≡ f = cc e in ap (λ (z : File). Holding z) same
-holding_work (Retiring g t) f r e = absurd (cc e)
-holding_work (Emptying n) f r e = absurd r
+holding_work _ f r e = absurd (cc e)
 
 pub retiring_work : (w : Work) (f : File) (t : ℕ) → IsBetweenCalls w → doing_in w ≡ NowRetiring f t → w ≡ Retiring f t
-retiring_work Idle f t r e = absurd (cc e)
-retiring_work (Placing n) f t r e = absurd r
-retiring_work (Holding g) f t r e = absurd (cc e)
 retiring_work (Retiring g u) f t r e = let same : g ≡ f = cc e in let takes : u ≡ t = cc e in λ i. Retiring (same i) (takes i)
-retiring_work (Emptying n) f t r e = absurd r
+retiring_work _ f t r e = absurd (cc e)
 
 -- the pass of a seat
 pub its_pass : (id : TableId) (k : Start) (p : CountedPass) (fits : IsPassOf id k p) → HasPass k p.seat.me fits.log

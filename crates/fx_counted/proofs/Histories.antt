@@ -1,8 +1,8 @@
 -- Histories that grow by one event.
 use Rattle.fx_counted.proofs.Words.{◌≡◌, ◌≢◌, ℕ, ◌+◌, ◌≤◌, true, false, cond, List, [], ◌∷◌, ◌++◌, length, sym, refl, ap, ◌∙◌, arith, eqb, eq-eqb}
 use Rattle.fx_counted.proofs.Words.{ne_eqb, length-append, Some, None, dite, ℕ_discrete, State, after, changed_at, held_after, held_by, IsSeenBy}
-use Rattle.fx_counted.proofs.Words.{part_of_pass, Event, Action, Look, Release, Put, Clear, Take, Allocate, Full, Close, start_of, range_of, looks}
-use Rattle.fx_counted.proofs.Words.{all_looks, opening_of, slots_of, state_after_all, Start}
+use Rattle.fx_counted.proofs.Words.{part_of_pass, Event, Action, Look, start_of, range_of, looks, all_looks, opening_of, slots_of, state_after_all}
+use Rattle.fx_counted.proofs.Words.{Start}
 use Rattle.fx_plain.specs.Step.{Allows}
 use Rattle.fx_plain.specs.History.{ReleasesItsOwn, IsLegal}
 use Rattle.fx_counted.specs.Counts.{looks_after, look_in}
@@ -66,14 +66,7 @@ legal_more k h e legal may own = record { leads = ((legal.leads.0, may), refl); 
 
 after_shape : (st : State) (a : Action) → ((after st a).size ≡ st.size) × ((after st a).range ≡ st.range)
 after_shape st (Look slot None) = (refl, refl)
-after_shape st (Look slot (Some f)) = (refl, refl)
-after_shape st (Release f) = (refl, refl)
-after_shape st (Put slot f replaced) = (refl, refl)
-after_shape st (Clear slot found) = (refl, refl)
-after_shape st (Take slot found) = (refl, refl)
-after_shape st (Allocate slot f) = (refl, refl)
-after_shape st Full = (refl, refl)
-after_shape st (Close f) = (refl, refl)
+after_shape st _ = (refl, refl)
 
 -- no history changes the size or the range
 pub same_shape : (k : Start) (h : List Event) → ((state_after_all k h).size ≡ slots_of k) × ((state_after_all k h).range ≡ range_of (opening_of k))
@@ -93,13 +86,7 @@ looks_step f all few (Look slot None) n = let m = few n in omega arith
 looks_step f all few (Look slot (Some g)) n = dite (ℕ_discrete n g.number)
     (λ (e : n ≡ g.number). let m = few g.number in let is = change_here f g.number (f g.number + 1) n e in omega arith)
     (λ e. let m = few n in let is = change_else f g.number (f g.number + 1) n e in omega arith)
-looks_step f all few (Release g) n = let m = few n in omega arith
-looks_step f all few (Put slot g replaced) n = let m = few n in omega arith
-looks_step f all few (Clear slot found) n = let m = few n in omega arith
-looks_step f all few (Take slot found) n = let m = few n in omega arith
-looks_step f all few (Allocate slot g) n = let m = few n in omega arith
-looks_step f all few Full n = let m = few n in omega arith
-looks_step f all few (Close g) n = let m = few n in omega arith
+looks_step f all few _ n = let m = few n in omega arith
 
 -- the looks of one file are at most all looks
 pub looks_few : (h : List Event) (n : ℕ) → looks h n ≤ all_looks h

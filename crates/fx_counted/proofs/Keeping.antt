@@ -1,10 +1,11 @@
 -- A step of a seat with one pass keeps the rule, if it keeps what the step changes.
-use Rattle.fx_counted.proofs.Words.{sum_by, ◌≡◌, ℕ, zero, suc, ◌+◌, ◌<◌, ◌≤◌, List, [], ◌∷◌, ◌++◌, map, set, length, sym, refl, ap, ◌∙◌, subst, arith}
-use Rattle.fx_counted.proofs.Words.{get_or, Option, None, inr, eq-eqb, eqb, some, some-injective, some-ne-none, get_elem?, Closed, part_of_pass}
-use Rattle.fx_counted.proofs.Words.{Event, Action, Use, Adds, range_of, PassView, event_of, sum_set, sum_at, SlotAgrees, NodeAgrees, OwnerAgrees}
-use Rattle.fx_counted.proofs.Words.{WorkAgrees, LogAgrees, ViewAgrees, lengths, Agrees, ControlCounts, looks, all_looks, DrawsCount, control_place}
-use Rattle.fx_counted.proofs.Words.{draw_place, slot_place, node_place, home_place, Shared, opening_of, slots_of, IsNumber, state_after_all, shown}
-use Rattle.fx_counted.proofs.Words.{first_log, doing_in, logs_of, looks_of, held_of, Phase, IsInside, Stepped, Change, Log, View, Work}
+use Rattle.fx_counted.proofs.Words.{sum_by, ◌≡◌, ℕ, zero, suc, ◌+◌, ◌<◌, ◌≤◌, List, [], ◌∷◌, ◌++◌, map, set, length, sym, refl, ap, ◌∙◌, subst}
+use Rattle.fx_counted.proofs.Words.{arith, get_or, Option, None, inr, eq-eqb, eqb, some, some-injective, some-ne-none, get_elem?, Closed}
+use Rattle.fx_counted.proofs.Words.{part_of_pass, Event, Action, Use, Adds, range_of, PassView, event_of, sum_set, sum_at, SlotAgrees, NodeAgrees}
+use Rattle.fx_counted.proofs.Words.{OwnerAgrees, WorkAgrees, LogAgrees, ViewAgrees, lengths, Agrees, ControlCounts, looks, all_looks, DrawsCount}
+use Rattle.fx_counted.proofs.Words.{control_place, draw_place, slot_place, node_place, home_place, Shared, opening_of, slots_of, IsNumber}
+use Rattle.fx_counted.proofs.Words.{state_after_all, shown, first_log, doing_in, logs_of, looks_of, held_of, Phase, IsInside, Stepped, Change, Log}
+use Rattle.fx_counted.proofs.Words.{View, Work}
 use mathlib.Core.Option as maybe
 use Rattle.fx_counted.proofs.Histories.{Grows, IsHistory}
 use Rattle.fx_counted.proofs.Frames.{Stays, KeepsHeld, view_stays, not_there, views_after}

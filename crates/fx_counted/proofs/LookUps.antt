@@ -2,9 +2,9 @@
 use Rattle.fx_counted.proofs.Words.{◌≡◌, ◌≢◌, ℕ, ◌+◌, ◌-◌, ◌%◌, ◌^◌, ◌<◌, List, [], ◌∷◌, set, sym, refl, ap, ◌∙◌, subst, arith, Option, Some, None}
 use Rattle.fx_counted.proofs.Words.{dite, some, none, ℕ_discrete, get_elem?, Act, keeps, Valid, stepped, carried_after, step, Closed, ◌▷◌, held_by}
 use Rattle.fx_counted.proofs.Words.{State, File, Event, Look, range_of, event_of, name_in, entry_in, takes_in, Names, SlotAgrees, NodeAgrees, Agrees}
-use Rattle.fx_counted.proofs.Words.{PlacesNext, WorkAgrees, looks, full_in, word_of, place_of, slot_place, slot_of, control_place, Shared, opening_of}
-use Rattle.fx_counted.proofs.Words.{slots_of, IsNumber, state_after_all, shown, held_in, placing, held_of, holding, Sat, Phase, seated, file_in}
-use Rattle.fx_counted.proofs.Words.{Stepped, IsInside, Log, Start, View, Idle}
+use Rattle.fx_counted.proofs.Words.{PlacesNext, WorkAgrees, looks, full_in, word_of, place_of, slot_place, slot_of, control_place, Shared}
+use Rattle.fx_counted.proofs.Words.{opening_of, slots_of, IsNumber, state_after_all, shown, held_in, placing, held_of, holding, Sat, Phase, seated}
+use Rattle.fx_counted.proofs.Words.{file_in, Stepped, IsInside, Log, Start, View, Idle}
 use Rattle.atomic_table.specs.Table.{Allows}
 use Rattle.fx_table.specs.Calls.{one_look}
 use Rattle.fx_words.proofs.Parts.{name_more, entry_more, takes_more}
@@ -134,19 +134,12 @@ module _ (st : Shared) (v : View) (r : Agrees v.start st) (id : ℕ) (x : Log) (
         look_agrees : Agrees v.start record { words = set st.words (slot_place s) word'; homes = st.homes; views = set st.views id w }
         look_agrees = slot_agrees st v r id x here one s inside y (holds_now file) v.change h' r.phase word' st.homes look_step
 
-    missed : (is : old.at s ≡ None) → Agrees v.start record {
-      words = set st.words
-          (slot_place s) word';
-      homes = st.homes;
-      views = set st.views id (w None is);
-    }
+    missed : (is : old.at s ≡ None) → Agrees v.start (stepped st (slot_place s) word' id [] (w None is) keeps)
     missed is = look_agrees None is refl refl refl refl
         record {
           names = subst (Names word') (sym is) (names_now None (subst (Names found) is so.names));
-          seat = subst
-              (IsSeated v.start (looks r.history) r.phase s word') (sym is) tt;
-          takes = let a = so.takes in
-              let b = takes_now in omega arith;
+          seat = subst (IsSeated v.start (looks r.history) r.phase s word') (sym is) tt;
+          takes = let a = so.takes in let b = takes_now in omega arith;
         }
         (λ i l other f there seat. refl)
         (λ n has. r.each_node n has)

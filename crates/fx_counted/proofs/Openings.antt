@@ -1,11 +1,11 @@
 -- A table that is opened keeps the rule.
 use Rattle.fx_counted.proofs.Words.{◌≡◌, ◌≢◌, ℕ, zero, suc, ◌+◌, ◌*◌, ◌<◌, ◌≤◌, Bool, nat_lt, cond, List, [], ◌∷◌, map, length, sym, refl, ap, ◌∙◌}
-use Rattle.fx_counted.proofs.Words.{subst, arith, eqb, lt-ltb, le-ltb, ◌⊎◌, inl, inr, ⊎_elim, Option, Some, None, slice_index, eq-eqb, ne_eqb, sum_by}
-use Rattle.fx_counted.proofs.Words.{count_by, sum_by-cons, dite, some, some-injective, some-ne-none, ℕ_discrete, dec_le, get_elem?, Closed, state_of}
-use Rattle.fx_counted.proofs.Words.{State, file_numbered, numbered, File, numbers_for, range_of, born, takes_in, name_made, entry_made, takes_made}
-use Rattle.fx_counted.proofs.Words.{Names, SlotAgrees, NodeAgrees, OwnerAgrees, LogAgrees, ViewAgrees, Agrees, new_logs, word_of, place_of}
-use Rattle.fx_counted.proofs.Words.{slot_place, word_for, node_for, home_for, OpensWith, opening_of, slots_of, IsNumber, state_after_all, new_log}
-use Rattle.fx_counted.proofs.Words.{once, Phase, unborn, seated, closed, Log, Start, View, Idle}
+use Rattle.fx_counted.proofs.Words.{subst, arith, eqb, lt-ltb, le-ltb, ◌⊎◌, inl, inr, ⊎_elim, Option, Some, None, slice_index, eq-eqb, ne_eqb}
+use Rattle.fx_counted.proofs.Words.{sum_by, count_by, sum_by-cons, dite, some, some-injective, some-ne-none, ℕ_discrete, dec_le, get_elem?, Closed}
+use Rattle.fx_counted.proofs.Words.{state_of, State, file_numbered, numbered, File, numbers_for, range_of, born, takes_in, name_made, entry_made}
+use Rattle.fx_counted.proofs.Words.{takes_made, Names, SlotAgrees, NodeAgrees, OwnerAgrees, LogAgrees, ViewAgrees, Agrees, new_logs, word_of}
+use Rattle.fx_counted.proofs.Words.{place_of, slot_place, word_for, node_for, home_for, OpensWith, opening_of, slots_of, IsNumber, state_after_all}
+use Rattle.fx_counted.proofs.Words.{new_log, once, Phase, unborn, seated, closed, Log, Start, View, Idle}
 use Rattle.std.proofs.Common.{not, ◌&&◌}
 use Rattle.std.proofs.lemmas.List.{length-map}
 use Rattle.atomic_table.specs.Table.{opening}

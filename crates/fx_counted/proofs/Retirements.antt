@@ -1,10 +1,10 @@
 -- A retirement keeps the rule.
 use Rattle.fx_counted.proofs.Words.{◌≡◌, ◌≢◌, ℕ, ◌+◌, ◌-◌, ◌%◌, ◌^◌, ◌<◌, ◌≤◌, List, [], ◌∷◌, set, sym, refl, ap, ◌∙◌, subst, arith, eq-eqb, ne_eqb}
 use Rattle.fx_counted.proofs.Words.{Option, Some, None, dite, some, none, ℕ_discrete, get_elem?, Act, keeps, takes, Valid, stepped, carried_after}
-use Rattle.fx_counted.proofs.Words.{step, set_here, set_else, Closed, ◌▷◌, changed_at, File, Event, Close, no_use, event_of, sum_at, retire_amount_of}
-use Rattle.fx_counted.proofs.Words.{NodeAgrees, WorkAgrees, Agrees, looks, word_of, place_of, Shared, IsNumber, state_after_all, shown, end_in}
-use Rattle.fx_counted.proofs.Words.{next_in, held_in, placing, held_of, holding, Phase, unborn, spare, leaving, retired, emptied, owner, file_in}
-use Rattle.fx_counted.proofs.Words.{TakesOut, Log, Start, View, Idle, Holding, Retiring, Emptying}
+use Rattle.fx_counted.proofs.Words.{step, set_here, set_else, Closed, ◌▷◌, changed_at, File, Event, Close, no_use, event_of, sum_at}
+use Rattle.fx_counted.proofs.Words.{retire_amount_of, NodeAgrees, WorkAgrees, Agrees, looks, word_of, place_of, Shared, IsNumber, state_after_all}
+use Rattle.fx_counted.proofs.Words.{shown, end_in, next_in, held_in, placing, held_of, holding, Phase, unborn, spare, leaving, retired, emptied}
+use Rattle.fx_counted.proofs.Words.{owner, file_in, TakesOut, Log, Start, View, Idle, Holding, Retiring, Emptying}
 use Rattle.std.proofs.Common.{length-set}
 use Rattle.atomic_table.specs.Table.{Allows}
 use Rattle.fx_counted.specs.Laws.{RetiresKeep}
@@ -112,8 +112,7 @@ module _ (st : Shared) (v : View) (r : Agrees v.start st) (id : ℕ) (x : Log) (
             fresh = refl;
             looked = refl;
             all = omega arith;
-            removed =
-                λ m other. change_else (state_after_all v.start r.history).removed q None m other;
+            removed = change_else (state_after_all v.start r.history).removed q None;
             holds = λ m other. refl;
           };
           homes = length-set st.homes (place_of v.start q) none;
@@ -128,8 +127,7 @@ module _ (st : Shared) (v : View) (r : Agrees v.start st) (id : ℕ) (x : Log) (
           free = λ m other bad. let b = ap busy works in other (omega arith);
           node = (
             omega arith,
-            set_here st.homes (place_of v.start q) none
-                (roomy st v r id x here one q mine.0),
+            set_here st.homes (place_of v.start q) none (roomy st v r id x here one q mine.0),
             z,
             change_here (state_after_all v.start r.history).removed q None q refl,
           );

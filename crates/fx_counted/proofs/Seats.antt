@@ -1,9 +1,9 @@
 -- A seat is split off, and one is joined back.
 use Rattle.fx_counted.proofs.Words.{sum_by, sum_by-append, ◌≡◌, ◌≢◌, ℕ, zero, suc, ◌+◌, List, [], ◌∷◌, ◌++◌, length, set, sym, refl, ap, ◌∙◌, subst}
-use Rattle.fx_counted.proofs.Words.{arith, ◌⊎◌, inl, inr, ⊎_elim, length-append, eqb, some, some-injective, some-ne-none, get_elem?, at_set, set_else}
-use Rattle.fx_counted.proofs.Words.{at_longer, Event, sum_set, Does, WorkAgrees, LogAgrees, ViewAgrees, Agrees, lengths, in_change, added, removed_by}
-use Rattle.fx_counted.proofs.Words.{changes_of, added_of, removed_of, rest_of, first_of, without_first, first_alone, Shared, drawn_of, told_of}
-use Rattle.fx_counted.proofs.Words.{looks_of, logs_of, held_of, holding, Phase, Outside, Log, Start, View, Work, Idle}
+use Rattle.fx_counted.proofs.Words.{arith, ◌⊎◌, inl, inr, ⊎_elim, length-append, eqb, some, some-injective, some-ne-none, get_elem?, at_set}
+use Rattle.fx_counted.proofs.Words.{set_else, at_longer, Event, sum_set, Does, WorkAgrees, LogAgrees, ViewAgrees, Agrees, lengths, in_change, added}
+use Rattle.fx_counted.proofs.Words.{removed_by, changes_of, added_of, removed_of, rest_of, first_of, without_first, first_alone, Shared, drawn_of}
+use Rattle.fx_counted.proofs.Words.{told_of, looks_of, logs_of, held_of, holding, Phase, Outside, Log, Start, View, Work, Idle}
 use Rattle.atomic_table.proofs.Lists.{at_snoc}
 use Rattle.fx_counted.specs.Cuts.{together, spent}
 use Rattle.fx_counted.specs.Laws.{SplitsKeep, JoinsKeep}

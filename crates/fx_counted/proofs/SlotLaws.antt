@@ -12,7 +12,7 @@ use Rattle.atomic_table.proofs.Lists.{exchanged}
 use Rattle.fx_counted.specs.Laws.{ClearsKeep, TakesKeep, InstallsKeep, LoadsKeep, ExchangesKeep}
 use Rattle.fx_counted.specs.Tells.{Installs, Removes}
 use Rattle.fx_counted.proofs.Births.{in_phase}
-use Rattle.fx_counted.proofs.Calm.{calm_agrees}
+use Rattle.fx_counted.proofs.Calm.{no_event, calm_agrees}
 use Rattle.fx_counted.proofs.Changes.{in_size, names_old, event, Does, removal_agrees, removal_tells, installation_agrees, installation_tells}
 use Rattle.fx_counted.proofs.ControlSteps.{goes_on}
 use Rattle.fx_counted.proofs.Histories.{legal_more, grows_none, same_shape}
@@ -177,32 +177,18 @@ installs_keep k slots id i s n new file m x has works carries small inside stand
 -- a step that writes what it read
 module _ (st : Shared) (v : View) (r : Agrees v.start st) (id : ℕ) (x : Log) (here : get_elem? st.views id ≡ some v)
     (one : v.logs ≡ x ∷ []) (i : ℕ) where
-  read_agrees : Agrees v.start record {
-    words = set st.words i
-        (word_at st.words i);
-    homes = st.homes;
-    views = set st.views id
-        (now v (logged x r.history x.numbers_left x.looks_left) v.work v.change);
-  }
-  read_agrees = subst (λ (l : List ℕ). Agrees v.start record {
-    words = l;
-    homes = st.homes;
-    views = set st.views id
-        (now v (logged x r.history x.numbers_left x.looks_left) v.work v.change);
-  }) (sym (set-get_or st.words i 0))
+  abbrev still : View
+  still = now v (logged x r.history x.numbers_left x.looks_left) v.work v.change
+
+  read_agrees : Agrees v.start (stepped st i (word_at st.words i) id [] still keeps)
+  read_agrees = subst (λ (l : List ℕ). Agrees v.start record { words = l; homes = st.homes; views = set st.views id still }) (sym (set-get_or st.words i 0))
       (calm_agrees st v r id x here one r.history v.change st.words record {
-        grows = grows_none x.number r.history;
-        legal = r.legal;
-        state = refl;
-        looked = refl;
-        all = refl;
-        held = refl;
+        quiet = no_event st v r id x here one;
         words = refl;
         slots = λ s. refl;
         nodes = λ n has. refl;
         drawn = refl;
-        control = control_same st.views id v
-            (now v (logged x r.history x.numbers_left x.looks_left) v.work v.change) here
+        control = control_same st.views id v still here
             (state_after_all v.start r.history).at (state_after_all v.start r.history).at _ _ _ refl refl refl r.control;
       })
 

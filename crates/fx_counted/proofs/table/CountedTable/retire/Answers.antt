@@ -1,5 +1,5 @@
-use Rattle.fx_counted.proofs.Words.{ℕ, ◌<◌, ◌≢◌, ◌≡◌, [], refl, sym, ap, ◌∙◌, arith, subst, Some, ◌▷◌, Close, File, no_use, Retired, retire_amount_of}
-use Rattle.fx_counted.proofs.Words.{Goes, node_place, HasPlace, Sat, pass_of, state_after_all, IsInside, LetsGo, TakesOut, CountedPass, Change}
+use Rattle.fx_counted.proofs.Words.{ℕ, ◌<◌, ◌≢◌, ◌≡◌, [], refl, sym, ap, ◌∙◌, arith, subst, Some, ◌▷◌, Close, File, no_use, Retired}
+use Rattle.fx_counted.proofs.Words.{retire_amount_of, Goes, node_place, HasPlace, Sat, pass_of, state_after_all, IsInside, LetsGo, TakesOut, Change}
 use Rattle.fx_counted.proofs.Words.{Outside, Start, Idle, Retiring}
 use Rattle.fx_counted.proofs.Calling.{node_inside, node_is_at}
 use Rattle.fx_counted.proofs.Going.{its_pass, retiring_work, adds_so, still_pass, let_go, out_place, out_and_home}
