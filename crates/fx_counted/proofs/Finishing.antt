@@ -12,7 +12,7 @@ use Rattle.fx_counted.proofs.Histories.{same_shape}
 use Rattle.fx_counted.proofs.HomeComing.{number_at, file_of, file_at, without, emptied, AreAtHome, here_at, none_past, untouched}
 use Rattle.fx_counted.proofs.Naming.{node_is}
 use Rattle.fx_counted.proofs.Places.{apart, low_home, high_home}
-use Rattle.fx_counted.proofs.Shells.{IsPartlyBack, GetsFile, none_first, one_first}
+use Rattle.fx_counted.proofs.Shells.{IsPartlyBack, Becomes, first_back, none_given}
 use Rattle.fx_counted.proofs.Starting.{at_place}
 
 pub word_at_place : (ws : List ℕ) (i w : ℕ) → get_elem? ws i ≡ some w → slice_index ws i ≡ w
@@ -31,17 +31,20 @@ module _ (size : ℕ) (words : List ℕ) (chains : ℕ) (xs : List (Option Close
       ∙ (ap (λ (l : List (Option Closed)). get_elem? l (home_place size n)) (sym are) ∙ (ap (get_elem? now) (sym is) ∙ there))))
 
   pub some_back : (n place : ℕ) (one : Closed) (st' : State) → number_at size words slot ≡ Some n → place ≡ home_place size n
-      → get_elem? now place ≡ some (Some one) → GetsFile st slot one st' → IsPartlyBack shell (file_at size words xs) (slot + 1) size st'
-  some_back n place one st' named is there gets =
-      one_first shell (file_at size words xs) st st' slot size one (file_is n place (Some one) named is there) gets part
+      → get_elem? now place ≡ some (Some one) → Becomes st slot (Some one) st' → IsPartlyBack shell (file_at size words xs) (slot + 1) size st'
+  some_back n place one st' named is there gets = first_back shell (file_at size words xs) st st' slot size
+      (subst (λ (x : Option Closed). Becomes st slot x st') (sym (file_is n place (Some one) named is there)) gets) part
+
+  not_back : file_at size words xs slot ≡ None → IsPartlyBack shell (file_at size words xs) (slot + 1) size st
+  not_back none = first_back shell (file_at size words xs) st st slot size
+      (none_given shell (file_at size words xs) st slot slot size (omega arith) inside none part) part
 
   pub none_back : (n place : ℕ) → number_at size words slot ≡ Some n → place ≡ home_place size n
       → get_elem? now place ≡ some None → IsPartlyBack shell (file_at size words xs) (slot + 1) size st
-  none_back n place named is there = none_first shell (file_at size words xs) st slot size (file_is n place None named is there) inside part
+  none_back n place named is there = not_back (file_is n place None named is there)
 
   pub none_named : number_at size words slot ≡ None → IsPartlyBack shell (file_at size words xs) (slot + 1) size st
-  none_named named = none_first shell (file_at size words xs) st slot size
-      (here_at size words xs slot inside ∙ ap (file_of size words xs) named) inside part
+  none_named named = not_back (here_at size words xs slot inside ∙ ap (file_of size words xs) named)
 
   next : suc slot ≡ slot + 1
   next = omega arith

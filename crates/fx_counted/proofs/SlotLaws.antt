@@ -4,7 +4,7 @@ use Rattle.fx_counted.proofs.Words.{Option, Some, None, inl, some, none, get_ele
 use Rattle.fx_counted.proofs.Words.{Closed, ◌▷◌, changed_at, numbered, File, Event, Action, Put, Clear, Take, Allocate, Use, no_use, one_number}
 use Rattle.fx_counted.proofs.Words.{range_of, name_in, takes_in, slot_word_of, Names, WorkAgrees, Agrees, if_full, HasPass, MayChange, place_of}
 use Rattle.fx_counted.proofs.Words.{slot_place, slot_of, Shared, Sat, opening_of, slots_of, state_after_all, Stepped, Exchanges, GoesOn, retires_now}
-use Rattle.fx_counted.proofs.Words.{turned, Change, Same, Log, Start, View, Work, Idle, Placing, placed}
+use Rattle.fx_counted.proofs.Words.{turned, Change, Same, Log, Start, View, Work, Idle, Placing, placed, event_of, shown}
 use Rattle.std.proofs.lemmas.List.{set-get_or}
 use prog.Atomic.{either}
 use Rattle.atomic_table.specs.Table.{Allows}
@@ -13,11 +13,12 @@ use Rattle.fx_counted.specs.Laws.{ClearsKeep, TakesKeep, InstallsKeep, LoadsKeep
 use Rattle.fx_counted.specs.Tells.{Installs, Removes}
 use Rattle.fx_counted.proofs.Births.{in_phase}
 use Rattle.fx_counted.proofs.Calm.{no_event, calm_agrees}
-use Rattle.fx_counted.proofs.Changes.{in_size, names_old, event, Does, removal_agrees, removal_tells, installation_agrees, installation_tells}
+use Rattle.fx_counted.proofs.Changes.{in_size, names_old, removal_agrees, removal_tells, installation_agrees, installation_tells}
 use Rattle.fx_counted.proofs.ControlSteps.{goes_on}
 use Rattle.fx_counted.proofs.Histories.{legal_more, grows_none, same_shape}
 use Rattle.fx_counted.proofs.Keeping.{word_at, now, logged, its_work}
 use Rattle.fx_counted.proofs.NodeSteps.{far}
+use Rattle.fx_counted.proofs.Swaps.{Effect}
 use Rattle.fx_counted.proofs.Unchanged.{control_same}
 
 placing_same : (n m : ℕ) → Placing n ≡ Placing m → n ≡ m
@@ -40,53 +41,26 @@ module _ (st : Shared) (v : View) (r : Agrees v.start st) (id : ℕ) (x : Log) (
 
   module _ (stands : MayChange v.start s v.change) where
     abbrev Facts : Action → Option File → (ℕ → Bool) → Type 0
-    Facts = Does st v r id x here one s inside stands old refl
+    Facts = Effect st v r id x here one s inside old refl
+
+    in_range : s < (state_after_all v.start r.history).size
+    in_range = in_size st v r id x here one s inside stands old refl
 
     cleared : Facts (Clear s old) None (state_after_all v.start r.history).fresh
-    cleared = record {
-      legal = legal_more v.start r.history (event st v r id x here one s inside stands old refl (Clear s old)) r.legal
-          (in_size st v r id x here one s inside stands old refl, refl) tt;
-      at = refl;
-      removed = refl;
-      holds = refl;
-      fresh_is = refl;
-      size = refl;
-      looked = refl;
-      all = omega arith;
-      held = refl;
-    }
+    cleared = let legal = legal_more v.start r.history (event_of (shown x v.work) (Clear s old)) r.legal (in_range, refl) tt in
+        record { legal = legal; state = refl; looked = refl; all = omega arith; held = refl }
 
     taken : Facts (Take s old) None (state_after_all v.start r.history).fresh
-    taken = record {
-      legal = legal_more v.start r.history (event st v r id x here one s inside stands old refl (Take s old)) r.legal
-          (in_size st v r id x here one s inside stands old refl, refl) tt;
-      at = refl;
-      removed = refl;
-      holds = refl;
-      fresh_is = refl;
-      size = refl;
-      looked = refl;
-      all = omega arith;
-      held = refl;
-    }
+    taken = let legal = legal_more v.start r.history (event_of (shown x v.work) (Take s old)) r.legal (in_range, refl) tt in
+        record { legal = legal; state = refl; looked = refl; all = omega arith; held = refl }
 
     put : (n : ℕ) (file : Closed) → v.work ≡ Placing n
         → Facts (Put s (numbered n file) old) (Some (numbered n file))
         (changed_at (state_after_all v.start r.history).fresh n false)
     put n file works = let its = subst (WorkAgrees v.start r.phase id) works (its_work st v r id x here one) in
-        let o = in_phase st v r id x here one n its.0 (placed id) its.1 in record {
-          legal = legal_more v.start r.history
-              (event st v r id x here one s inside stands old refl (Put s (numbered n file) old)) r.legal
-              (in_size st v r id x here one s inside stands old refl, o.2, refl) tt;
-          at = refl;
-          removed = refl;
-          holds = refl;
-          fresh_is = refl;
-          size = refl;
-          looked = refl;
-          all = omega arith;
-          held = refl;
-        }
+        let o = in_phase st v r id x here one n its.0 (placed id) its.1 in
+        let legal = legal_more v.start r.history (event_of (shown x v.work) (Put s (numbered n file) old)) r.legal (in_range, o.2, refl) tt in
+        record { legal = legal; state = refl; looked = refl; all = omega arith; held = refl }
 
   -- the slot of a word's place
   at_slot : (m m' : Sat) (action : ℕ → Action) (used : Use) (d : Work) (c : Change)
@@ -103,7 +77,7 @@ module _ (act : ℕ → Option File → Action)
       (Removes act (step slots (slot_place s) 0 0 none) m)
   removes_at slots id s m x one idle inside stands st r deep here fits = let was : Option File =
       (state_after_all m.0.start r.history).at s in let f₀ : ℕ = word_at st.words (slot_place s) in
-      let e : Event = event st m.0 r id x here one s inside stands was refl (act s was) in
+      let e : Event = event_of (shown x m.0.work) (act s was) in
       let w : View = now m.0 (logged x (e ∷ r.history) x.numbers_left x.looks_left) (retires_now was (takes_in f₀))
       (turned m.0.change (if_full was) 0) in
       let it = does st m.0 r id x here one s inside stands in (
@@ -143,7 +117,7 @@ installs_at : (slots id s n : ℕ) (file : Closed) (m : Sat) (x : Log) → m.0.l
 installs_at slots id s n file m x one works carries small inside stands st r deep here fits = let old : Option File =
     (state_after_all m.0.start r.history).at s in let f₀ : ℕ = word_at st.words (slot_place s) in
     let a : Action = Put s (numbered n file) old in let does = put st m.0 r id x here one s inside stands n file works in
-    let e : Event = event st m.0 r id x here one s inside stands old refl a in
+    let e : Event = event_of (shown x m.0.work) a in
     let w : View = now m.0 (logged x (e ∷ r.history) (x.numbers_left - 1) x.looks_left)
     (retires_now old (takes_in f₀)) (turned m.0.change (if_full old) 1) in (
       w,
@@ -256,25 +230,17 @@ module _ (slots id s n old_word : ℕ) (file : Closed) (m : Sat) (x : Log) (one 
     abbrev a : Action
     a = Allocate s (numbered n file)
 
-    allocated : Does st v r id x here one s within stands None at_none a (Some (numbered n file))
+    allocated : Effect st v r id x here one s within None at_none a (Some (numbered n file))
         (changed_at (state_after_all v.start r.history).fresh n false)
     allocated = let its = subst (WorkAgrees v.start r.phase id) works (its_work st v r id x here one) in
         let o = in_phase st v r id x here one n its.0 (placed id) its.1 in
-        let z = (same_shape v.start r.history).1 in let p = ap (λ (p : ℕ × ℕ). p.0) z in let q = ap (λ (p : ℕ × ℕ). p.1) z in record {
-          legal = legal_more v.start r.history (event st v r id x here one s within stands None at_none a) r.legal
-              (in_size st v r id x here one s within stands None at_none, (omega arith, omega arith), at_none, o.2) tt;
-          at = refl;
-          removed = refl;
-          holds = refl;
-          fresh_is = refl;
-          size = refl;
-          looked = refl;
-          all = omega arith;
-          held = refl;
-        }
+        let z = (same_shape v.start r.history).1 in let p = ap (λ (p : ℕ × ℕ). p.0) z in let q = ap (λ (p : ℕ × ℕ). p.1) z in
+        let legal = legal_more v.start r.history (event_of (shown x v.work) a) r.legal
+        (in_size st v r id x here one s within stands None at_none, (omega arith, omega arith), at_none, o.2) tt in
+        record { legal = legal; state = refl; looked = refl; all = omega arith; held = refl }
 
     abbrev w : View
-    w = now v (logged x (event st v r id x here one s within stands None at_none a ∷ r.history)
+    w = now v (logged x (event_of (shown x v.work) a ∷ r.history)
         (x.numbers_left - 1) x.looks_left) Idle (turned v.change 0 1)
 
     won : Goal new
