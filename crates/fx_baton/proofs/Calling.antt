@@ -1,5 +1,5 @@
 -- What a pass needs for each call of the table that it has, and what it has to show behind it.
-use Rattle.fx_baton.proofs.Words.{◌≡◌, ℕ, ◌+◌, ◌*◌, ◌<◌, ◌≤◌, ◌^◌, Bool, true, false, List, [], ◌∷◌, map, sym, refl, ap, ◌∙◌, subst, arith, is_none}
+use Rattle.fx_baton.proofs.Words.{◌≡◌, ℕ, ◌+◌, ◌*◌, ◌<◌, ◌≤◌, ◌^◌, Bool, true, false, [], ◌∷◌, map, sym, refl, ap, ◌∙◌, subst, arith, is_none}
 use Rattle.fx_baton.proofs.Words.{Option, Some, None, option_map, IfSome, is_some, not, TableId, rest, Closed, State, Steps, changed_at, Contents}
 use Rattle.fx_baton.proofs.Words.{IsTable, state_of, leaving, Leads, action_of, close_of, ◌▷◌, ◌▷▷◌, numbered, identity_of, number_of}
 use Rattle.fx_baton.proofs.Words.{closed_by_release, closed_by_retirement, HasRoomForHold, EndsHold, LetsLeave, File, Look, Release, Put, Clear}
@@ -18,10 +18,6 @@ use Rattle.fx_baton.specs.declared.view.Call.TheVariants.{Full as FullCall, Clea
 use Rattle.fx_baton.proofs.Counts.{one_if}
 use Rattle.fx_baton.proofs.CallsAreTurns.{look_turn, put_turn, clear_turn, take_turn, allocate_turn, full_turn, letting_go_turn, file_released}
 use Rattle.fx_baton.proofs.CallsAreTurns.{retire_turn, file_retired, is_held, is_leaving}
-
--- what the seat has in its slot
-pub lent_is : {l : List (ℕ × Contents)} {c now : Contents} {others : List (ℕ × Contents)} → l ≡ (0, c) ∷ [] → l ≡ (0, now) ∷ others → c ≡ now
-lent_is e f = ap table_of_slots (sym e ∙ f)
 
 module _ {id : TableId} {k : Start} {u : PassView} {p : BatonPass} where
   -- the table may be lent

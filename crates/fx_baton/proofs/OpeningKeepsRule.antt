@@ -32,10 +32,6 @@ same_files st now n e = subst (HasSameFiles st) (sym e)
 opens_settled : (st now : State) (n : ℕ) → now ≡ opening st n → IsSettled now
 opens_settled st now n e = subst IsSettled (sym e) record { unheld = λ m. refl; closed = λ m. refl }
 
--- a table that was not prepared comes back as it was, and one that was prepared has the same files
-pub back_as_it_was : (plain : Contents) → IsSettled (state_of plain) → IsGivenBack plain plain
-back_as_it_was plain settled = record { files = record { size = refl; range = refl; files = λ slot. refl }; settled = settled }
-
 pub back_prepared : (plain back : Contents) (n : ℕ) → state_of back ≡ opening (state_of plain) n → IsGivenBack plain back
 back_prepared plain back n e = record {
   files = same_files (state_of plain) (state_of back) n e;

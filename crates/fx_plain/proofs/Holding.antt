@@ -1,10 +1,10 @@
 -- A file gets a hold, loses one, or is retired.
 use Rattle.fx_plain.proofs.Words.{◌≡◌, ◌≢◌, ℕ, ◌+◌, ◌-◌, ◌<◌, ◌≤◌, ◌^◌, ◌==◌, ◌&&◌, not, Bool, true, false, if◌then◌else◌, List, [], length, refl}
 use Rattle.fx_plain.proofs.Words.{sym, ap, subst, ◌∙◌, slice_index, slice_index_or, slice_set, Option, Some, None, IfSome, arith, length-set}
-use Rattle.fx_plain.proofs.Words.{get_or-set_same, get_or-set_other, get_or_default, Closed, File, Look, Release, Steps, changed_at, after, Leads}
-use Rattle.fx_plain.proofs.Words.{close_of, ◌▷▷◌, Contents, IsTable, IsCounted, state_of, slot_at, node_at, file_at, placed_at, leaving, removed_at}
-use Rattle.fx_plain.proofs.Words.{is_fresh, is_leaving, is_retired, file_in, node_after_retirement, removed_count_of, itself, At, Leaving, Retired}
-use Rattle.fx_plain.proofs.Words.{Gone, numbered, identity_of, closed_by_retirement, HasRoomForHold, EndsHold, Node, get_or-le-sum_by, sum_by-set}
+use Rattle.fx_plain.proofs.Words.{get_or-set_same, get_or-set_other, Closed, File, Look, Release, Steps, changed_at, after, Leads, close_of, ◌▷▷◌}
+use Rattle.fx_plain.proofs.Words.{Contents, IsTable, IsCounted, state_of, slot_at, node_at, file_at, placed_at, leaving, removed_at, is_fresh}
+use Rattle.fx_plain.proofs.Words.{is_leaving, is_retired, file_in, node_after_retirement, removed_count_of, itself, At, Leaving, Retired, Gone}
+use Rattle.fx_plain.proofs.Words.{numbered, identity_of, closed_by_retirement, HasRoomForHold, EndsHold, Node, get_or-le-sum_by, sum_by-set}
 use Rattle.fx_plain.specs.History.{◌▷◌}
 use Rattle.fx_plain.specs.Table.{closed_by_release}
 use Rattle.fx_plain.proofs.Cells.{by_equality, each_set, unchanged, written, inside_of}
@@ -116,9 +116,6 @@ module _ (c : Contents) (n : ℕ) (t : IsTable c) (going : leaving c n ≡ true)
   off : IsOff (node_at c.nodes n)
   off = off_told is_leaving (node_at c.nodes n) (λ _ _. refl) going
 
-  pub retire_inside : n < length c.holds
-  retire_inside = let lt = node_inside in let e = t.same_numbers in omega arith
-
   -- a file that nobody holds is closed as it is retired
   pub retire_closes : slice_index c.holds n ≡ 0 → Leads (state_of c) (close_of (closed_by_retirement c n)) (state_of (closed_at c n))
   retire_closes unheld =
@@ -131,11 +128,6 @@ module _ (c : Contents) (n : ℕ) (t : IsTable c) (going : leaving c n ≡ true)
             ∙ ap (λ (f : ℕ → Bool). record (state_of c) { removed = changed_at (state_of c).removed n None; fresh = f })
             (unchanged (state_of c).fresh n false (ap is_fresh (sym was_leaving.1))),
       )
-
-  pub retire_answers : slice_index c.holds n ≡ 0 → identity_of (closed_by_retirement c n) ≡ file_in (node_at c.nodes n)
-  retire_answers unheld =
-      ap (λ (h : ℕ). identity_of (if h == 0 then (state_of c).removed n else None)) unheld
-      ∙ ap (λ (node : Node). identity_of (removed_at n node)) was_leaving.1 ∙ sym (ap file_in was_leaving.1)
 
   -- a held file stays, and is retired
   abbrev pub retired_at : Contents
@@ -176,14 +168,6 @@ module _ (c : Contents) (n : ℕ) (t : IsTable c) (going : leaving c n ≡ true)
         keeps_node c n (Retired was_leaving.0) t off node_inside (λ _. omega arith) refl,
         record { full_slots = k.full_slots; all_holds = k.all_holds; small_holds = k.small_holds; all_removed = omega arith },
       )
-
--- the file that was seen in a node is the one that stands there
-pub file_seen : (nodes : List Node) (number slot : ℕ) (file seen : Closed) (x : Node) → x ≡ slice_index_or nodes number x
-    → node_at nodes number ≡ At slot file → file_in x ≡ Some seen → file ≡ seen
-file_seen nodes number slot file seen x read named is =
-    let inside = inside_of-At nodes number slot file named in
-    let same : x ≡ At slot file = read ∙ get_or_default nodes number x Gone inside ∙ named in
-    let e : Some file ≡ Some seen = sym (ap file_in same) ∙ is in cc
 
 pub with_holds : (c : Contents) (holds now : List ℕ) → holds ≡ now → record c { holds = holds } ≡ record c { holds = now }
 with_holds c holds now is = λ i. record c { holds = is i }

@@ -101,10 +101,6 @@ module _ (slots : List (Option ℕ)) (first nodes : List Node) (s : ℕ) (placed
 
 -- a slot that has its own number already
 module _ (slots : List (Option ℕ)) (nodes : List Node) (s : ℕ) (at : slot_at slots s ≡ Some s) where
-  pub slot_settled : slots ≡ slice_set slots s (opening_slot (slot_at slots s) s)
-  slot_settled =
-      sym (ap (λ (x : Option ℕ). slice_set slots s (opening_slot x s)) at ∙ ap (slice_set slots s) (sym at) ∙ set-get_or slots s None)
-
   pub node_settled : (file : Closed) → node_at nodes s ≡ At s file
       → nodes ≡ slice_set (nodes_without nodes (slot_at slots s)) s (moved_node (file_named nodes (slot_at slots s)) s)
   node_settled file named =
@@ -116,9 +112,6 @@ module _ (slots : List (Option ℕ)) (nodes : List Node) (s : ℕ) (at : slot_at
 -- what is named stays where there are more nodes
 module _ (slots : List (Option ℕ)) (old new : List Node) (placed : AllPlaced slots old)
     (kept : (n : ℕ) → IsSome (file_in (node_at old n)) → node_at new n ≡ node_at old n) where
-  pub placed_again : AllPlaced slots new
-  placed_again = λ u n at. let there = placed u n at in (there.0, kept n (has_file-At old n u there.0 there.1) ∙ there.1)
-
   named_again : (u : ℕ) (x : Option ℕ) → slot_at slots u ≡ x → file_named new x ≡ file_named old x
   named_again u None is = refl
   named_again u (Some n) is = let there = placed u n is in ap file_in (kept n (has_file-At old n u there.0 there.1))

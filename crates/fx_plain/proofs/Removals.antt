@@ -29,10 +29,6 @@ abbrev pub Names : List Node → Option ℕ → ℕ → Type 0
 Names nodes None slot = Unit {0}
 Names nodes (Some old) slot = (file : Closed) × (node_at nodes old ≡ At slot file)
 
-pub names_at : (c : Contents) (slot : ℕ) (x : Option ℕ) → IsTable c → slot_at c.slots slot ≡ x → Names c.nodes x slot
-names_at c slot None t is = tt
-names_at c slot (Some old) t is = t.placed slot old is
-
 pub removed-gave_way : (nodes : List Node) (x : Option ℕ) (slot : ℕ) → Names nodes x slot
     → removed_of (gave_way nodes x) ≡ with_removed (removed_of nodes) (file_at nodes x)
 removed-gave_way nodes None slot named = refl
