@@ -2,8 +2,8 @@
 use Rattle.fx_baton.proofs.Words.{◌≡◌, ℕ, ◌+◌, ◌-◌, ◌*◌, ◌≤◌, Bool, List, [], ◌∷◌, ◌++◌, map, sym, refl, ap, ◌∙◌, subst, arith, Option, Some, None}
 use Rattle.fx_baton.proofs.Words.{TableId, Seat, State, Contents, state_of, IsLegal, IsSeenBy, part_of_pass, close_of, ◌▷◌, ◌▷▷◌, closed_by_release}
 use Rattle.fx_baton.proofs.Words.{closed_by_retirement, File, Event, Action, Release, number_behind, Opening, state_at, PassView, IsFront}
-use Rattle.fx_baton.proofs.Words.{next_number, HasDrawnInTurn, Use, Adds, Doing, Idle, Holding, Retiring, seen_again, seen_further, part_mine, Log}
-use Rattle.fx_baton.proofs.Words.{View, Start, Call, BatonPass, Seated, opening_of, begin_of, Knows, Takes, log_behind, view_behind, by, actions_of}
+use Rattle.fx_baton.proofs.Words.{next_number, HasDrawnInTurn, Use, Adds, Doing, Holding, Retiring, seen_again, seen_further, part_mine, Log, View}
+use Rattle.fx_baton.proofs.Words.{Start, Call, BatonPass, Seated, opening_of, begin_of, Knows, Takes, log_behind, view_behind, by, actions_of}
 use Rattle.fx_baton.proofs.Words.{doing_of, use_of, events_of, table_of_slots, table_of_loan, first_front, first_own, view_of, is_idle, IsPassOf}
 use Rattle.fx_baton.proofs.Words.{HasTable, HasSeenMore, UsesNext, HasCalled, HasGivenBack, pass_behind}
 use Rattle.fx_baton.specs.declared.view.Call.TheVariants.{Look as LookCall, Release as ReleaseCall, Put as PutCall, Allocate as AllocateCall}
@@ -118,19 +118,11 @@ next_behind : (c : Contents) (v : PassView) (now : ℕ) (doing : Doing) (call : 
     → v.numbers_left ≤ 64 * v.chain → now + (use_of call).numbers ≡ v.numbers_left → UsesNext v call
     → number_behind (events_of c v.number v.chain doing call ++ own) ≤ (256 + 64 * v.chain) - now
 next_behind c v now doing (LookCall slot) own next inside used uses = omega arith
-next_behind c v now Idle ReleaseCall own next inside used uses = omega arith
 next_behind c v now (Holding f) ReleaseCall own next inside used uses =
     let e = next_release v.number v.chain f (closed_by_release c f.number) own in omega arith
-next_behind c v now (Retiring f t) ReleaseCall own next inside used uses = omega arith
-next_behind c v now doing (PutCall slot number file) own next inside used uses = omega arith
-next_behind c v now doing (AllocateCall slot number file) own next inside used uses = omega arith
-next_behind c v now doing FullCall own next inside used uses = omega arith
-next_behind c v now doing (ClearCall slot) own next inside used uses = omega arith
-next_behind c v now doing (TakeCall slot) own next inside used uses = omega arith
-next_behind c v now Idle RetireCall own next inside used uses = omega arith
-next_behind c v now (Holding f) RetireCall own next inside used uses = omega arith
 next_behind c v now (Retiring f t) RetireCall own next inside used uses =
     let e = next_close v.number v.chain (closed_by_retirement c f.number) own in omega arith
+next_behind c v now _ _ own next inside used uses = omega arith
 
 -- a pass that saw more, and then did something, did it behind what it had seen at first
 adds_behind : (o : Opening) (u v w : PassView) (actions : List Action) (doing : Doing) (used : Use) → HasSeenMore u v
