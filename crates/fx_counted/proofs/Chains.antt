@@ -1,7 +1,7 @@
 -- A draw keeps the rule.
 use Rattle.fx_counted.proofs.Words.{sum_by, ◌≡◌, ◌≢◌, ℕ, zero, suc, ◌+◌, ◌%◌, ◌^◌, ◌<◌, ◌≤◌, Bool, true, false, cond, List, [], ◌∷◌, set, length}
-use Rattle.fx_counted.proofs.Words.{sym, refl, ap, ◌∙◌, subst, arith, eqb, eq-eqb, ne_eqb, lt-ltb, le-ltb, get_or-set_other, get_or-set_same, Option}
-use Rattle.fx_counted.proofs.Words.{Some, None, ◌⊎◌, inl, inr, ⊎_elim, dite, some, none, ℕ_discrete, dec_le, get_elem?, keeps, Act, Valid, stepped}
+use Rattle.fx_counted.proofs.Words.{sym, refl, ap, ◌∙◌, subst, arith, eqb, lt-ltb, le-ltb, get_or-set_other, get_or-set_same, Option, Some, None}
+use Rattle.fx_counted.proofs.Words.{◌⊎◌, inl, inr, ⊎_elim, dite, some, none, ℕ_discrete, dec_le, get_elem?, keeps, Act, Valid, stepped}
 use Rattle.fx_counted.proofs.Words.{carried_after, step, Closed, numbers_for, PassView, sum_by-cons, sum_set, sum_at, sum_le_at, NodeAgrees}
 use Rattle.fx_counted.proofs.Words.{OwnerAgrees, LogAgrees, lengths, Agrees, PlacesNext, WorkAgrees, DrawsCount, word_of, place_of, control_place}
 use Rattle.fx_counted.proofs.Words.{draw_place, slot_place, Shared, Sat, opening_of, state_after_all, chain_in, shown, first_log, drawn_of, told_of}
@@ -17,7 +17,7 @@ use Rattle.fx_counted.proofs.Histories.{grows_none}
 use Rattle.fx_counted.proofs.Keeping.{word_at, now, its_log, Step, step_kept}
 use Rattle.fx_counted.proofs.NodeSteps.{near, far}
 use Rattle.fx_counted.proofs.Unchanged.{slot_same, control_same}
-use Rattle.fx_counted.proofs.Ones.{one_if, times}
+use Rattle.fx_counted.proofs.Ones.{one_if, times, bit_here, bit_else}
 
 abbrev pick : {P : Type 0} → Dec P → Phase → Phase → Phase
 pick (yes _) a b = a
@@ -57,11 +57,15 @@ pub once_some : (n p : ℕ) → 0 < once n p → p ≤ n
 once_some n zero a = omega arith
 once_some n (suc p) a = dite (dec_le (suc p) n) (λ l. l) (λ g. let z = once_out n (suc p) (omega (arith, g)) in absurd (omega arith))
 
-pub bit_here : (p q : ℕ) → q ≡ p → one_if (eqb q p) ≡ 1
-bit_here p q e = rw (eq-eqb q p e) refl
-
-pub bit_else : (p q : ℕ) → q ≢ p → one_if (eqb q p) ≡ 0
-bit_else p q e = rw (ne_eqb q p e) refl
+-- one chain more was given
+once_more : (n c : ℕ) → once (n + 1) c ≡ once n c + one_if (eqb (n + 1) c)
+once_more n zero = let e = bit_else 0 (n + 1) (λ is. omega arith) in omega arith
+once_more n (suc p) = dite (ℕ_discrete n p)
+    (λ same. let b = bit_here (suc p) (n + 1) (omega (arith, same)) in let o1 = once_out n (suc p) (omega (arith, same)) in
+    let o2 = once_in (n + 1) (suc p) (omega arith) (omega (arith, same)) in omega arith)
+    (λ other. let b = bit_else (suc p) (n + 1) (λ is. other (omega (arith, is))) in dite (dec_le (suc p) n)
+    (λ low. let o1 = once_in n (suc p) (omega arith) low in let o2 = once_in (n + 1) (suc p) (omega arith) (omega (arith, low)) in omega arith)
+    (λ high. let o1 = once_out n (suc p) (omega (arith, high)) in let o2 = once_out (n + 1) (suc p) (omega (arith, high, other)) in omega arith))
 
 told_few : (l : List Log) → sum_by (λ y. one_if y.no_chains_left) l ≤ length l
 told_few [] = omega arith
@@ -212,16 +216,7 @@ module _ (st : Shared) (v : View) (r : Agrees v.start st) (id : ℕ) (x : Log) (
             each = λ c. let s = sum_set (drawn_of c) st.views id v w here in let e = d.each c in
                 let dv = drawn_v y refl refl refl phase' c in
                 let co = sum_by-cons (λ d. one_if (eqb d c)) (found + 1) x.drawn in let gg = ap (λ (n : ℕ). once n c) g in
-                dite (ℕ_discrete (found + 1) c)
-                (λ same. let b = bit_here c (found + 1) same in let o1 = once_out found c (omega (arith, same)) in
-                let o2 = once_in (found + 1) c (omega (arith, same)) (omega (arith, same)) in omega arith)
-                (λ other. let b = bit_else c (found + 1) other in dite (dec_le c found)
-                (λ low. dite (ℕ_discrete c 0) (λ none. let o1 : once found c ≡ 0 = ap (once found) none in
-                let o2 : once (found + 1) c ≡ 0 = ap (once (found + 1)) none in omega arith)
-                (λ some_c. let o1 = once_in found c (omega (arith, some_c)) low in
-                let o2 = once_in (found + 1) c (omega (arith, some_c)) (omega (arith, low)) in omega arith))
-                (λ high. let o1 = once_out found c (omega (arith, high)) in
-                let o2 = once_out (found + 1) c (omega (arith, high, other)) in omega arith));
+                let more = once_more found c in omega arith;
             counts = omega arith;
             all = λ some_told. absurd (omega arith);
             unused = λ n low high. given_else (numbers_for found) (numbers_for (found + 1)) x.number r.phase n

@@ -13,11 +13,11 @@ use Rattle.fx_plain.specs.History.{AllowsAll, action_of}
 use Rattle.fx_plain.specs.Step.{Allows}
 use Rattle.fx_table.proofs.SumLemmas.{sum_only, sum_of, sum_zero}
 use Rattle.fx_counted.specs.Agrees.{IsSeated}
-use Rattle.fx_counted.proofs.Chains.{once_in, once_some, bit_here}
+use Rattle.fx_counted.proofs.Chains.{once_in, once_some}
 use Rattle.fx_counted.proofs.Frames.{once_few}
 use Rattle.fx_counted.proofs.Histories.{part_mine, part_other, same_shape, change_else}
 use Rattle.fx_counted.proofs.Keeping.{word_at}
-use Rattle.fx_counted.proofs.Ones.{one_if, times}
+use Rattle.fx_counted.proofs.Ones.{one_if, times, bit_here}
 
 length_none : (l : List Log) → length l ≡ 0 → l ≡ []
 length_none [] e = refl

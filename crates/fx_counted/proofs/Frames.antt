@@ -1,11 +1,11 @@
 -- What a step of one seat leaves as it was.
 use Rattle.fx_counted.proofs.Words.{sum_by, ◌≡◌, ◌≢◌, ℕ, zero, suc, ◌+◌, ◌<◌, ◌≤◌, true, false, List, [], ◌∷◌, set, length, sym, refl, ap, ◌∙◌}
-use Rattle.fx_counted.proofs.Words.{subst, arith, eq-eqb, nat_lt, ◌⊎◌, inl, inr, ⊎_elim, eqb, some, some-injective, some-ne-none, get_elem?, at_set}
+use Rattle.fx_counted.proofs.Words.{subst, arith, nat_lt, ◌⊎◌, inl, inr, ⊎_elim, eqb, some, some-injective, some-ne-none, get_elem?, at_set}
 use Rattle.fx_counted.proofs.Words.{set_here, set_else, File, Event, numbered, sum_at, sum_two, Does, OwnerAgrees, WorkAgrees, ViewAgrees, Agrees}
 use Rattle.fx_counted.proofs.Words.{Shared, logs_of, once, Phase, spare, placed, leaving, emptied, owner, file_in, Log, Start, View, Work, Idle}
 use Rattle.fx_counted.proofs.Words.{Placing, Holding, Retiring, Emptying}
 use Rattle.fx_counted.proofs.Histories.{Grows}
-use Rattle.fx_counted.proofs.Ones.{one_if}
+use Rattle.fx_counted.proofs.Ones.{one_if, bit_here}
 
 -- the number that a pass alone works with, plus 1, or 0
 abbrev pub busy : Work → ℕ
@@ -65,9 +65,6 @@ pub once_few : (n p : ℕ) → once n p ≤ 1
 once_few n zero = omega arith
 once_few n (suc p) = elim (nat_lt p n) as (λ b. one_if b ≤ 1) [ true ↦ omega arith | false ↦ omega arith ]
 
-bit_one : (p q : ℕ) → q ≡ p → one_if (eqb q p) ≡ 1
-bit_one p q e = rw (eq-eqb q p e) refl
-
 -- a pass that one view has is in no other one
 pub not_there : (k : Start) (st : Shared) → Agrees k st → (id j : ℕ) (v u : View) (x : Log)
     → get_elem? st.views id ≡ some v → v.logs ≡ x ∷ [] → j ≢ id → get_elem? st.views j ≡ some u
@@ -78,9 +75,9 @@ not_there k st r id j v u x here one other there i y at same =
     let b = once_few k.passes x.number in
     let c : logs_of x.number v ≡ 0 + one_if (eqb x.number x.number) = ap
     (λ (l : List Log). sum_by (λ z. one_if (eqb z.number x.number)) l) one in
-    let d = bit_one x.number x.number refl in
+    let d = bit_here x.number x.number refl in
     let e = sum_at (λ z. one_if (eqb z.number x.number)) u.logs i y at in
-    let f = bit_one x.number y.number same in
+    let f = bit_here x.number y.number same in
     omega arith
 
 -- each view after a step of the view id

@@ -1,11 +1,11 @@
 -- A table that is opened keeps the rule.
-use Rattle.fx_counted.proofs.Words.{◌≡◌, ◌≢◌, ℕ, zero, suc, ◌+◌, ◌*◌, ◌<◌, ◌≤◌, Bool, nat_lt, cond, List, [], ◌∷◌, map, length, sym, refl, ap, ◌∙◌}
-use Rattle.fx_counted.proofs.Words.{subst, arith, eqb, lt-ltb, le-ltb, ◌⊎◌, inl, inr, ⊎_elim, Option, Some, None, slice_index, eq-eqb, ne_eqb}
-use Rattle.fx_counted.proofs.Words.{sum_by, count_by, sum_by-cons, dite, some, some-injective, some-ne-none, ℕ_discrete, dec_le, get_elem?, Closed}
-use Rattle.fx_counted.proofs.Words.{state_of, State, file_numbered, numbered, File, numbers_for, range_of, born, takes_in, name_made, entry_made}
-use Rattle.fx_counted.proofs.Words.{takes_made, Names, SlotAgrees, NodeAgrees, OwnerAgrees, LogAgrees, ViewAgrees, Agrees, new_logs, word_of}
-use Rattle.fx_counted.proofs.Words.{place_of, slot_place, word_for, node_for, home_for, OpensWith, opening_of, slots_of, IsNumber, state_after_all}
-use Rattle.fx_counted.proofs.Words.{new_log, once, Phase, unborn, seated, closed, Log, Start, View, Idle}
+use Rattle.fx_counted.proofs.Words.{◌≡◌, ℕ, zero, suc, ◌+◌, ◌*◌, ◌<◌, ◌≤◌, Bool, nat_lt, cond, List, [], ◌∷◌, map, length, sym, refl, ap, ◌∙◌, subst}
+use Rattle.fx_counted.proofs.Words.{arith, eqb, lt-ltb, le-ltb, ◌⊎◌, inl, inr, ⊎_elim, Option, Some, None, slice_index, sum_by, count_by}
+use Rattle.fx_counted.proofs.Words.{sum_by-cons, dite, some, some-injective, some-ne-none, ℕ_discrete, dec_le, get_elem?, Closed, state_of, State}
+use Rattle.fx_counted.proofs.Words.{file_numbered, numbered, File, numbers_for, range_of, born, takes_in, name_made, entry_made, takes_made, Names}
+use Rattle.fx_counted.proofs.Words.{SlotAgrees, NodeAgrees, OwnerAgrees, LogAgrees, ViewAgrees, Agrees, new_logs, word_of, place_of, slot_place}
+use Rattle.fx_counted.proofs.Words.{word_for, node_for, home_for, OpensWith, opening_of, slots_of, IsNumber, state_after_all, new_log, once, Phase}
+use Rattle.fx_counted.proofs.Words.{unborn, seated, closed, Log, Start, View, Idle}
 use Rattle.std.proofs.Common.{not, ◌&&◌}
 use Rattle.std.proofs.lemmas.List.{length-map}
 use Rattle.atomic_table.specs.Table.{opening}
@@ -14,7 +14,7 @@ use Rattle.fx_counted.specs.Agrees.{IsSeated}
 use Rattle.fx_counted.specs.Cuts.{first_view}
 use Rattle.fx_counted.specs.Opens.{first_file, OpeningKeeps}
 use Rattle.fx_counted.proofs.FullSlots.{full_few}
-use Rattle.fx_counted.proofs.Ones.{one_if}
+use Rattle.fx_counted.proofs.Ones.{one_if, bit_here, bit_else}
 
 at_new : (p n i : ℕ) (x : Log) → get_elem? (new_logs p n) i ≡ some x → (q : ℕ) × (x ≡ new_log q)
 at_new p zero i x e = absurd (some-ne-none x (sym e))
@@ -42,17 +42,11 @@ none_told p (suc n) = let a = none_told (suc p) n in
 abbrev counted : ℕ → ℕ → ℕ → ℕ
 counted q p n = sum_by (λ (y : Log). one_if (eqb y.number q)) (new_logs p n)
 
-one_here : (q p : ℕ) → p ≡ q → one_if (eqb p q) ≡ 1
-one_here q p e = rw (eq-eqb p q e) refl
-
-one_else : (q p : ℕ) → p ≢ q → one_if (eqb p q) ≡ 0
-one_else q p e = rw (ne_eqb p q e) refl
-
 new_out : (q p n : ℕ) → (q < p) ⊎ (p + n ≤ q) → counted q p n ≡ 0
 new_out q p zero out = refl
 new_out q p (suc n) out =
     let b = sum_by-cons (λ (y : Log). one_if (eqb y.number q)) (new_log p) (new_logs (suc p) n) in
-    let c = one_else q p (λ e. ⊎_elim (λ (l : q < p). absurd (omega arith)) (λ (g : p + suc n ≤ q). absurd (omega arith)) out) in
+    let c = bit_else q p (λ e. ⊎_elim (λ (l : q < p). absurd (omega arith)) (λ (g : p + suc n ≤ q). absurd (omega arith)) out) in
     let a = new_out q (suc p) n (⊎_elim (λ (l : q < p). inl (omega arith)) (λ (g : p + suc n ≤ q). inr (omega arith)) out) in
     omega arith
 
@@ -61,8 +55,8 @@ new_in q p zero low high = absurd (omega arith)
 new_in q p (suc n) low high =
     let b = sum_by-cons (λ (y : Log). one_if (eqb y.number q)) (new_log p) (new_logs (suc p) n) in
     dite (ℕ_discrete p q)
-    (λ e. let c = one_here q p e in let a = new_out q (suc p) n (inl (omega (arith, e))) in omega arith)
-    (λ ne. let c = one_else q p ne in let a = new_in q (suc p) n (omega (arith, ne)) (omega arith) in omega arith)
+    (λ e. let c = bit_here q p e in let a = new_out q (suc p) n (inl (omega (arith, e))) in omega arith)
+    (λ ne. let c = bit_else q p ne in let a = new_in q (suc p) n (omega (arith, ne)) (omega arith) in omega arith)
 
 once_is : (n q : ℕ) → counted q 1 n ≡ once n q
 once_is n zero = new_out 0 1 n (inl (omega arith))

@@ -4,17 +4,18 @@ use Rattle.fx_counted.proofs.Words.{dite, some, none, ℕ_discrete, get_elem?, A
 use Rattle.fx_counted.proofs.Words.{set_else, Closed, ◌▷◌, State, numbered, File, Event, Release, Close, no_use, event_of, sum_at, sum_two}
 use Rattle.fx_counted.proofs.Words.{NodeAgrees, WorkAgrees, Agrees, looks, word_of, place_of, Shared, IsNumber, state_after_all, shown, held_in}
 use Rattle.fx_counted.proofs.Words.{placing, held_of, holding, Phase, seated, leaving, retired, emptied, owner, file_in, LetsGo, TakesOut, Log}
-use Rattle.fx_counted.proofs.Words.{Start, View, Idle, Holding, Emptying}
+use Rattle.fx_counted.proofs.Words.{Start, View, Idle, Holding, Emptying, eqb}
 use Rattle.std.proofs.Common.{length-set}
 use Rattle.atomic_table.specs.Table.{Allows}
 use Rattle.fx_counted.specs.Laws.{ReleasesKeep}
 use Rattle.fx_counted.specs.Tells.{Releases}
 use Rattle.fx_counted.proofs.Births.{in_phase, word_now, home_now, roomy, else_place}
-use Rattle.fx_counted.proofs.Retirements.{sub_wraps, holding_it, holding_else, few_looks, its_hold, spares_stay}
+use Rattle.fx_counted.proofs.Retirements.{sub_wraps, holding_it, few_looks, its_hold, spares_stay}
 use Rattle.fx_counted.proofs.Frames.{busy, does_now, owner_stays}
 use Rattle.fx_counted.proofs.Histories.{IsHistory, grows_one, grows_more, legal_more, held_mine, part_mine, change_here, change_else}
 use Rattle.fx_counted.proofs.Keeping.{now, logged, its_log, its_work, tells}
 use Rattle.fx_counted.proofs.NodeSteps.{NodeStep, node_agrees}
+use Rattle.fx_counted.proofs.Ones.{one_if, one_less_at}
 
 module _ (st : Shared) (v : View) (r : Agrees v.start st) (id : ℕ) (x : Log) (here : get_elem? st.views id ≡ some v)
     (one : v.logs ≡ x ∷ []) (f : File) (works : v.work ≡ Holding f) where
@@ -93,10 +94,7 @@ module _ (st : Shared) (v : View) (r : Agrees v.start st) (id : ℕ) (x : Log) (
   last is_one _ is has = absurd (cc has)
 
   holds_more : (m : ℕ) → new.holds m + held_of m v ≡ old.holds m + 0
-  holds_more m = let w = ap (holding m) works in dite (ℕ_discrete m q)
-      (λ same. let a = holding_it m f same in let b = change_here old.holds q (old.holds q - 1) m same in
-      let c = ap old.holds same in let d = held_now in omega arith)
-      (λ other. let a = holding_else m f other in let b = other_holds m other in omega arith)
+  holds_more m = let w : held_of m v ≡ one_if (eqb q m) = ap (holding m) works in let e = one_less_at old.holds q m held_now in omega arith
 
   not_busy : (n : ℕ) → busy v.work ≢ n + 1
   not_busy n bad = let b = ap busy works in omega arith

@@ -1,10 +1,10 @@
 -- A retirement keeps the rule.
-use Rattle.fx_counted.proofs.Words.{◌≡◌, ◌≢◌, ℕ, ◌+◌, ◌-◌, ◌%◌, ◌^◌, ◌<◌, ◌≤◌, List, [], ◌∷◌, set, sym, refl, ap, ◌∙◌, subst, arith, eq-eqb, ne_eqb}
-use Rattle.fx_counted.proofs.Words.{Option, Some, None, dite, some, none, ℕ_discrete, get_elem?, Act, keeps, takes, Valid, stepped, carried_after}
-use Rattle.fx_counted.proofs.Words.{step, set_here, set_else, Closed, ◌▷◌, changed_at, File, Event, Close, no_use, event_of, sum_at}
-use Rattle.fx_counted.proofs.Words.{retire_amount_of, NodeAgrees, WorkAgrees, Agrees, looks, word_of, place_of, Shared, IsNumber, state_after_all}
-use Rattle.fx_counted.proofs.Words.{shown, end_in, next_in, held_in, placing, held_of, holding, Phase, unborn, spare, leaving, retired, emptied}
-use Rattle.fx_counted.proofs.Words.{owner, file_in, TakesOut, Log, Start, View, Idle, Holding, Retiring, Emptying}
+use Rattle.fx_counted.proofs.Words.{◌≡◌, ◌≢◌, ℕ, ◌+◌, ◌-◌, ◌%◌, ◌^◌, ◌<◌, ◌≤◌, List, [], ◌∷◌, set, sym, refl, ap, ◌∙◌, subst, arith, eq-eqb, Option}
+use Rattle.fx_counted.proofs.Words.{Some, None, dite, some, none, ℕ_discrete, get_elem?, Act, keeps, takes, Valid, stepped, carried_after, step}
+use Rattle.fx_counted.proofs.Words.{set_here, set_else, Closed, ◌▷◌, changed_at, File, Event, Close, no_use, event_of, sum_at, retire_amount_of}
+use Rattle.fx_counted.proofs.Words.{NodeAgrees, WorkAgrees, Agrees, looks, word_of, place_of, Shared, IsNumber, state_after_all, shown, end_in}
+use Rattle.fx_counted.proofs.Words.{next_in, held_in, placing, held_of, holding, Phase, unborn, spare, leaving, retired, emptied, owner, file_in}
+use Rattle.fx_counted.proofs.Words.{TakesOut, Log, Start, View, Idle, Holding, Retiring, Emptying}
 use Rattle.std.proofs.Common.{length-set}
 use Rattle.atomic_table.specs.Table.{Allows}
 use Rattle.fx_counted.specs.Laws.{RetiresKeep}
@@ -20,9 +20,6 @@ sub_wraps n k le fits more = omega arith
 
 pub holding_it : (n : ℕ) (f : File) → n ≡ f.number → holding n (Holding f) ≡ 1
 holding_it n f same = rw (eq-eqb f.number n (sym same)) refl
-
-pub holding_else : (n : ℕ) (f : File) → n ≢ f.number → holding n (Holding f) ≡ 0
-holding_else n f other = rw (ne_eqb f.number n (λ e. other (sym e))) refl
 
 module _ (st : Shared) (v : View) (r : Agrees v.start st) (id : ℕ) (x : Log) (here : get_elem? st.views id ≡ some v) (one : v.logs ≡ x ∷ []) where
   -- the looks of a file are few

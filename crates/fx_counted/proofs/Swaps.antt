@@ -1,10 +1,10 @@
 -- What a swap of a slot's word has to keep, whatever comes to the slot.
 use Rattle.fx_counted.proofs.Words.{◌≡◌, ◌≢◌, ℕ, ◌<◌, ◌≤◌, List, [], ◌∷◌, set, length, sym, refl, ap, ◌∙◌, subst, arith, Option, Some, None, dite}
 use Rattle.fx_counted.proofs.Words.{some, ℕ_discrete, get_elem?, Closed, held_by, held_after, changed_at, with_removed, State, numbered, File, Event}
-use Rattle.fx_counted.proofs.Words.{Bool, Action, range_of, event_of, takes_in, Names, SlotAgrees, NodeAgrees, OwnerAgrees, WorkAgrees, PlacesNext, Agrees}
-use Rattle.fx_counted.proofs.Words.{ControlCounts, looks, all_looks, word_of, place_of, control_place, slot_place, Shared, opening_of, slots_of}
-use Rattle.fx_counted.proofs.Words.{IsNumber, state_after_all, shown, end_in, next_in, held_in, placing, holding, Phase, unborn, spare, seated}
-use Rattle.fx_counted.proofs.Words.{leaving, owner, file_in, retires_now, Change, Log, View, Work, Retiring}
+use Rattle.fx_counted.proofs.Words.{Bool, Action, range_of, event_of, takes_in, Names, SlotAgrees, NodeAgrees, OwnerAgrees, WorkAgrees, PlacesNext}
+use Rattle.fx_counted.proofs.Words.{Agrees, ControlCounts, looks, all_looks, word_of, place_of, control_place, slot_place, Shared, opening_of}
+use Rattle.fx_counted.proofs.Words.{slots_of, IsNumber, state_after_all, shown, end_in, next_in, held_in, placing, holding, Phase, unborn, spare}
+use Rattle.fx_counted.proofs.Words.{seated, leaving, owner, file_in, retires_now, Change, Log, View, Work, Retiring}
 use Rattle.fx_counted.specs.Agrees.{IsSeated}
 use Rattle.fx_counted.proofs.Frames.{Stays, KeepsHeld, does_now}
 use Rattle.fx_counted.proofs.Histories.{IsHistory, grows_one, held_mine, change_here, change_else, seen_all}
