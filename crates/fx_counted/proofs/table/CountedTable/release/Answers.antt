@@ -13,8 +13,8 @@ fetch_sub-found-requires c =
     let f = c.requires.held.0 in
     let work = holding_work p.seat.me.0.work f fits.seated.work c.requires.held.1 in
     let known = subst (IsInside t.table.shared.key) work fits.seated.inside in
-    let is = c.node_place-word.ensures ∙ ap (λ (h : Hold). node_place t.size h.node) c.requires.held.2 in
-    let i = c.node_place-word.result in (
+    let is = c.node_place-place.ensures ∙ ap (λ (h : Hold). node_place t.size h.node) c.requires.held.2 in
+    let i = c.node_place-place.result in (
       fits.table,
       node_inside t f.number i known is,
       releases_keep t.table.shared.key _ p.seat.id i f p.seat.me fits.log (its_pass _ _ p fits) work (node_is_at t f.number i is),

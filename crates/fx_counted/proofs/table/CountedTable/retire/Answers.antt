@@ -14,11 +14,11 @@ fetch_sub-found-requires c =
     let fits = c.requires.fits in
     let (f, takes, doing, value) = c.requires.removed in
     let work = retiring_work p.seat.me.0.work f takes fits.seated.work doing in
-    let is = c.node_place-word.ensures ∙ ap (λ (r : Retired). node_place t.size r.node) value in (
+    let is = c.node_place-place.ensures ∙ ap (λ (r : Retired). node_place t.size r.node) value in (
       fits.table,
-      node_inside t f.number c.node_place-word.result (subst (IsInside t.table.shared.key) work fits.seated.inside) is,
+      node_inside t f.number c.node_place-place.result (subst (IsInside t.table.shared.key) work fits.seated.inside) is,
       retires_keep t.table.shared.key _ p.seat.id _ c.retire_amount-amount.result takes f p.seat.me fits.log (its_pass _ _ p fits) work
-          (node_is_at t f.number c.node_place-word.result is) (c.retire_amount-amount.ensures ∙ ap (λ (r : Retired). retire_amount_of r.takes) value),
+          (node_is_at t f.number c.node_place-place.result is) (c.retire_amount-amount.ensures ∙ ap (λ (r : Retired). retire_amount_of r.takes) value),
     )
 
 -- what the step told, by the file that the pass removed
