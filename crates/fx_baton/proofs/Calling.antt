@@ -1,43 +1,23 @@
 -- What a pass needs for each call of the table that it has, and what it has to show behind it.
-use Rattle.std.proofs.Common.{◌≡◌, ℕ, ◌+◌, ◌*◌, ◌<◌, ◌≤◌, ◌^◌, Bool, true, false, List, [], ◌∷◌, map, sym, refl, ap, ◌∙◌, subst, arith, is_none}
-use Rattle.std.specs.Prelude.{Option, Some, None, option_map, IfSome, is_some, not}
-use Rattle.atomic_table.specs.Seated.{TableId}
-use Rattle.atomic_table.specs.Table.{rest}
+use Rattle.fx_baton.proofs.Words.{◌≡◌, ℕ, ◌+◌, ◌*◌, ◌<◌, ◌≤◌, ◌^◌, Bool, true, false, [], ◌∷◌, map, sym, refl, ap, ◌∙◌, subst, arith, is_none}
+use Rattle.fx_baton.proofs.Words.{Option, Some, None, option_map, IfSome, is_some, not, TableId, rest, Closed, State, Steps, changed_at, Contents}
+use Rattle.fx_baton.proofs.Words.{IsTable, state_of, leaving, Leads, action_of, close_of, ◌▷◌, ◌▷▷◌, numbered, identity_of, number_of}
+use Rattle.fx_baton.proofs.Words.{closed_by_release, closed_by_retirement, HasRoomForHold, EndsHold, LetsLeave, File, Look, Release, Put, Clear}
+use Rattle.fx_baton.proofs.Words.{Take, Allocate, Full, Close, pass_of_number, number_behind, Opening, size_of, state_at, PassView, hold_of}
+use Rattle.fx_baton.proofs.Words.{retired_of, next_number, Adds, no_use, one_number, new_file, Releases, Retires, Placed, Cleared, Doing, Idle}
+use Rattle.fx_baton.proofs.Words.{Holding, Retiring, Log, View, Start, Call, BatonPass, opening_of, begin_of, holds_by, IsTurn, holds_now}
+use Rattle.fx_baton.proofs.Words.{retires_now, release_in, retirement_in, actions_of, doing_of, events_of, use_of, table_of_slots, view_of, is_idle}
+use Rattle.fx_baton.proofs.Words.{HasTable, UsesNext, HasCalled, first_own}
 use Rattle.atomic_table.specs.Lent.{seat_with}
-use Rattle.fx_base.specs.declared.open_file.Closed.{Closed}
-use Rattle.fx_plain.specs.State.{State}
-use Rattle.fx_plain.specs.Step.{Steps, Allows, changed_at}
-use Rattle.fx_plain.specs.Contents.{Contents, IsTable, state_of, leaving}
-use Rattle.fx_plain.specs.History.{Leads, action_of, close_of, ◌▷◌, ◌▷▷◌}
-use Rattle.fx_plain.specs.Table.{numbered, identity_of, number_of, closed_by_release, closed_by_retirement, HasRoomForHold, EndsHold, LetsLeave}
-use Rattle.fx_plain.specs.declared.event.File.{File}
-use Rattle.fx_plain.specs.declared.event.Action.TheVariants.{Look, Release, Put, Clear, Take, Allocate, Full, Close}
+use Rattle.fx_plain.specs.Step.{Allows}
 use Rattle.fx_plain.proofs.Leading.{same_size}
-use Rattle.fx_table.specs.Numbers.{pass_of_number, number_behind}
-use Rattle.fx_table.specs.Opening.{Opening, size_of, state_at}
-use Rattle.fx_table.specs.Pass.{PassView, hold_of, retired_of, next_number}
-use Rattle.fx_table.specs.Calls.{Adds, no_use, one_number, new_file, Releases, Retires, Placed, Cleared}
-use Rattle.fx_table.specs.declared.values.Doing.{Doing}
-use Rattle.fx_table.specs.declared.values.Doing.TheVariants.{Idle, Holding, Retiring}
 use Rattle.fx_table.specs.declared.values.Retired.{Retired}
 use Rattle.fx_table.proofs.Turns.{next_is_its_own}
-use Rattle.fx_baton.specs.declared.view.Log.{Log}
-use Rattle.fx_baton.specs.declared.view.View.{View}
-use Rattle.fx_baton.specs.declared.view.Start.{Start}
-use Rattle.fx_baton.specs.declared.view.Call.{Call}
 use Rattle.fx_baton.specs.declared.view.Call.TheVariants.{Look as LookCall, Release as ReleaseCall, Put as PutCall, Allocate as AllocateCall}
 use Rattle.fx_baton.specs.declared.view.Call.TheVariants.{Full as FullCall, Clear as ClearCall, Take as TakeCall, Retire as RetireCall}
-use Rattle.fx_baton.specs.declared.pass.BatonPass.{BatonPass}
-use Rattle.fx_baton.specs.Rule.{opening_of, begin_of, holds_by, IsTurn}
-use Rattle.fx_baton.specs.Turns.{holds_now, retires_now, release_in, retirement_in, actions_of, doing_of, events_of, use_of, table_of_slots}
-use Rattle.fx_baton.specs.Passes.{view_of, is_idle, HasTable, UsesNext, HasCalled, first_own}
 use Rattle.fx_baton.proofs.Counts.{one_if}
 use Rattle.fx_baton.proofs.CallsAreTurns.{look_turn, put_turn, clear_turn, take_turn, allocate_turn, full_turn, letting_go_turn, file_released}
 use Rattle.fx_baton.proofs.CallsAreTurns.{retire_turn, file_retired, is_held, is_leaving}
-
--- what the seat has in its slot
-pub lent_is : {l : List (ℕ × Contents)} {c now : Contents} {others : List (ℕ × Contents)} → l ≡ (0, c) ∷ [] → l ≡ (0, now) ∷ others → c ≡ now
-lent_is e f = ap table_of_slots (sym e ∙ f)
 
 module _ {id : TableId} {k : Start} {u : PassView} {p : BatonPass} where
   -- the table may be lent

@@ -1,29 +1,14 @@
 -- What each call of the plain table is as a turn.
-use Rattle.std.proofs.Common.{◌≡◌, ◌≢◌, ℕ, ◌+◌, ◌-◌, ◌<◌, ◌≤◌, Bool, true, false, cond, List, [], ◌∷◌, map, sym, refl, ap, ◌∙◌, subst, arith, eqb}
-use Rattle.std.proofs.Common.{eq-eqb, ◌⊎◌, inl, inr, ⊎_elim}
-use mathlib.Core.Logic.{dite}
-use native.Mathlib.Decide.{ℕ_discrete}
-use Rattle.std.specs.Prelude.{Option, Some, None, not, ◌&&◌, ◌==◌, if◌then◌else◌}
-use Rattle.fx_plain.specs.State.{State}
-use Rattle.fx_plain.specs.Step.{Steps, changed_at, with_removed}
-use Rattle.fx_plain.specs.Contents.{Contents, state_of, leaving}
-use Rattle.fx_plain.specs.History.{Leads, IsLegal, ReleasesItsOwn, held_by, close_of, ◌▷◌, ◌▷▷◌}
-use Rattle.fx_plain.specs.Table.{more_leaving, closed_by_release, closed_by_retirement}
-use Rattle.fx_plain.specs.declared.event.File.{File}
-use Rattle.fx_plain.specs.declared.event.Event.{Event}
-use Rattle.fx_plain.specs.declared.event.Action.{Action}
-use Rattle.fx_plain.specs.declared.event.Action.TheVariants.{Look, Release, Put, Clear, Take, Allocate, Full, Close}
-use Rattle.fx_table.specs.Numbers.{pass_of_number, number_behind}
-use Rattle.fx_table.specs.Files.{HasFile}
-use Rattle.fx_table.specs.declared.values.Doing.TheVariants.{Idle, Holding, Retiring}
+use Rattle.fx_baton.proofs.Words.{◌≡◌, ◌≢◌, ℕ, ◌+◌, ◌-◌, ◌<◌, ◌≤◌, Bool, true, false, cond, List, [], ◌∷◌, map, sym, refl, ap, ◌∙◌, subst, arith}
+use Rattle.fx_baton.proofs.Words.{eqb, eq-eqb, ◌⊎◌, inl, inr, ⊎_elim, dite, ℕ_discrete, Option, Some, None, not, ◌&&◌, ◌==◌, if◌then◌else◌, State}
+use Rattle.fx_baton.proofs.Words.{Steps, changed_at, with_removed, Contents, state_of, leaving, Leads, IsLegal, ReleasesItsOwn, held_by, close_of}
+use Rattle.fx_baton.proofs.Words.{◌▷◌, ◌▷▷◌, more_leaving, closed_by_release, closed_by_retirement, File, Event, Action, Look, Release, Put, Clear}
+use Rattle.fx_baton.proofs.Words.{Take, Allocate, Full, Close, pass_of_number, number_behind, HasFile, Idle, Holding, Retiring, legal_then}
+use Rattle.fx_baton.proofs.Words.{held_mine, one_author, Log, View, begin_of, file_held, file_in_hand, holds_by, removals_by, leaving_count}
+use Rattle.fx_baton.proofs.Words.{HasFreshNumbers, log_behind, Knows, IsTurn, by, holds_now, retires_now}
 use Rattle.fx_table.proofs.Changes.{changed_here, changed_else}
 use Rattle.fx_table.proofs.FileLemmas.{some_file, none_file, stays_put, apart_from, leaving_file, removed_file, still_there, now_removed, not_closed}
-use Rattle.fx_table.proofs.Histories.{legal_then, held_mine, one_author}
-use Rattle.fx_baton.specs.declared.view.Log.{Log}
-use Rattle.fx_baton.specs.declared.view.View.{View}
-use Rattle.fx_baton.specs.Rule.{begin_of, file_held, file_in_hand, holds_by, removals_by, leaving_count, HasFreshNumbers, log_behind, Knows, IsTurn}
-use Rattle.fx_baton.specs.Turns.{by, holds_now, retires_now}
-use Rattle.fx_baton.proofs.Counts.{one_if, none_if, one_true}
+use Rattle.fx_baton.proofs.Counts.{one_if, one_more_at, one_less_at, flag_set, flag_back, one_true}
 
 true_not_false : true ≡ false → ⊥
 true_not_false e = cc
@@ -53,6 +38,15 @@ module _ (v : View) (x : Log) (c d : Contents) (chain : ℕ) (known : Knows v x 
   -- leaving files, where none was added
   leaves_same : (n : ℕ) → leaving d ≡ leaving c → leaving_count d n ≡ leaving_count c n
   leaves_same n leaves = ap (λ (z : ℕ → Bool). cond {A = ℕ} (z n) 1 0) leaves
+
+  -- where a file is closed that nobody holds, the others stay
+  files_but : (f : File) → (state_of d).holds f.number ≡ 0 → leaving d f.number ≡ false
+      → ((g : File) → g.number ≢ f.number → HasFile (state_of c) g → HasFile (state_of d) g)
+      → (g : File) → HasFile (state_of c) g → (0 < (state_of d).holds g.number) ⊎ (leaving d g.number ≡ true) → HasFile (state_of d) g
+  files_but f unheld retired kept g i stays = dite (ℕ_discrete g.number f.number)
+      (λ e. absurd (⊎_elim (λ (some_holds : 0 < (state_of d).holds g.number). let q = ap (state_of d).holds e in omega (arith, q, some_holds))
+      (λ still. true_not_false (sym still ∙ (ap (leaving d) e ∙ retired))) stays))
+      (λ other. kept g other i)
 
   -- numbers that no installation uses stay fresh
   module _ (fresh : (state_of d).fresh ≡ (state_of c).fresh) where
@@ -107,14 +101,8 @@ module _ (v : View) (x : Log) (c d : Contents) (chain : ℕ) (known : Knows v x 
     look_turn slot (Some g) step leaves = record {
       authors = one_author x.number chain ([] ▷ Look slot (Some g));
       legal = legal_one (Look slot (Some g)) step tt;
-      held = λ n.
-          let more : ℕ = (state_of c).holds g.number + 1 in
-          let a : (state_of d).holds n ≡ changed_at (state_of c).holds g.number more n = ap (λ (s : State). s.holds n) step.1 in
-          let b = ap (holds_by n) idle in
-          dite (ℕ_discrete n g.number)
-          (λ e. let p = changed_here (state_of c).holds g.number more n e in let q = ap (state_of c).holds e in
-          let r = one_if g.number n (sym e) in omega arith)
-          (λ e. let p = changed_else (state_of c).holds g.number more n e in let r = none_if g.number n (λ i. e (sym i)) in omega arith);
+      held = λ n. let a = ap (λ (s : State). s.holds n) step.1 in let b = ap (holds_by n) idle in
+          let e = one_more_at (state_of c).holds g.number n in omega arith;
       leaves = λ n. let e = leaves_same n leaves in let b = ap (removals_by n) idle in omega arith;
       files = λ f i _. subst (λ (s : State). HasFile s f) (sym step.1) i;
       now = held_mine x.number chain (Look slot (Some g)) x.front;
@@ -128,19 +116,9 @@ module _ (v : View) (x : Log) (c d : Contents) (chain : ℕ) (known : Knows v x 
         → (n : ℕ) → leaving_count d n + removals_by n v.doing ≡ leaving_count c n + removals_by n (retires_now o)
     leaves_more slot None is leaves n = let e = leaves_same n leaves in let b = ap (removals_by n) idle in omega arith
     leaves_more slot (Some f) is leaves n =
-        let one : (ℕ → Bool) → ℕ = λ z. cond {A = ℕ} (z n) 1 0 in
-        let a : leaving_count d n ≡ one (changed_at (leaving c) f.number true) = ap one leaves in
+        let a : leaving_count d n ≡ cond {A = ℕ} (changed_at (leaving c) f.number true n) 1 0 = ap (λ (z : ℕ → Bool). cond {A = ℕ} (z n) 1 0) leaves in
         let b = ap (removals_by n) idle in
-        let before : leaving_count c f.number ≡ 0 = ap (λ (z : Bool). cond {A = ℕ} z 1 0) (stays_put c known.sound slot f (sym is)) in
-        dite (ℕ_discrete n f.number)
-        (λ e.
-        let p : one (changed_at (leaving c) f.number true) ≡ 1 = ap (λ (z : Bool). cond {A = ℕ} z 1 0)
-        (changed_here (leaving c) f.number true n e) in
-        let q = ap (leaving_count c) e in let r = one_if f.number n (sym e) in omega arith)
-        (λ e.
-        let p : one (changed_at (leaving c) f.number true) ≡ leaving_count c n =
-        ap (λ (z : Bool). cond {A = ℕ} z 1 0) (changed_else (leaving c) f.number true n e) in
-        let r = none_if f.number n (λ i. e (sym i)) in omega arith)
+        let e = flag_set (leaving c) f.number n (stays_put c known.sound slot f (sym is)) in omega arith
 
     -- A slot gets another file, or none, and what stood there is removed
     module _ (a : Action) (slot : ℕ) (new found : Option File) (step : Steps (state_of c) a (state_of d)) (is : found ≡ (state_of c).at slot)
@@ -210,13 +188,8 @@ module _ (v : View) (x : Log) (c d : Contents) (chain : ℕ) (known : Knows v x 
     one_less : (n : ℕ) → 0 < (state_of c).holds f.number
         → (state_of d).holds n ≡ changed_at (state_of c).holds f.number ((state_of c).holds f.number - 1) n
         → (state_of d).holds n + holds_by n v.doing ≡ (state_of c).holds n + holds_by n Idle
-    one_less n positive a =
-        let less : ℕ = (state_of c).holds f.number - 1 in
-        let b : holds_by n v.doing ≡ cond {A = ℕ} (eqb f.number n) 1 0 = ap (holds_by n) holds in
-        dite (ℕ_discrete n f.number)
-        (λ e. let p = changed_here (state_of c).holds f.number less n e in let q = ap (state_of c).holds e in
-        let r = one_if f.number n (sym e) in omega arith)
-        (λ e. let p = changed_else (state_of c).holds f.number less n e in let r = none_if f.number n (λ i. e (sym i)) in omega arith)
+    one_less n positive a = let b : holds_by n v.doing ≡ cond {A = ℕ} (eqb f.number n) 1 0 = ap (holds_by n) holds in
+        let e = one_less_at (state_of c).holds f.number n positive in omega arith
 
     none_leaves : leaving d ≡ leaving c → (n : ℕ) → leaving_count d n + removals_by n v.doing ≡ leaving_count c n + removals_by n Idle
     none_leaves leaves n = let a = leaves_same n leaves in let b = ap (removals_by n) holds in omega arith
@@ -242,17 +215,8 @@ module _ (v : View) (x : Log) (c d : Contents) (chain : ℕ) (known : Knows v x 
           ((known.legal.releases, held_one), tt);
       held = λ n. one_less n leads.0.0.1 (ap (λ (s : State). s.holds n) leads.1);
       leaves = none_leaves leaves;
-      files = λ g i stays. dite (ℕ_discrete g.number f.number)
-          (λ e. absurd (⊎_elim
-          (λ (some_holds : 0 < (state_of d).holds g.number).
-          let less : ℕ = (state_of c).holds f.number - 1 in
-          let a : (state_of d).holds f.number ≡ changed_at (state_of c).holds f.number less f.number = ap
-          (λ (s : State). s.holds f.number) leads.1 in
-          let b : changed_at (state_of c).holds f.number less f.number ≡ 0 = leads.0.1.1 in
-          let q = ap (state_of d).holds e in omega (arith, a, b, q, some_holds))
-          (λ still. true_not_false (sym still ∙ (ap (λ (z : ℕ → Bool). z g.number) leaves ∙ (ap (leaving c) e ∙ retired))))
-          stays))
-          (λ other. subst (λ (s : State). HasFile s g) (sym leads.1) (not_closed (state_of c) f g other i));
+      files = files_but f (ap (λ (s : State). s.holds f.number) leads.1 ∙ leads.0.1.1) (ap (λ (z : ℕ → Bool). z f.number) leaves ∙ retired)
+          (λ g other i. subst (λ (s : State). HasFile s g) (sym leads.1) (not_closed (state_of c) f g other i));
       now = held_mine x.number chain (Close f) (x.front ▷▷ done ([] ▷ Release f)) ∙ held_mine x.number chain (Release f) x.front;
       file = λ g e. absurd (none_file g e);
       fresh = still_fresh (ap (λ (s : State). s.fresh) leads.1) (x.own ▷▷ done ([] ▷ Release f ▷ Close f)) refl;
@@ -300,19 +264,9 @@ module _ (v : View) (x : Log) (c d : Contents) (chain : ℕ) (known : Knows v x 
     leaves_less : leaving d ≡ changed_at (leaving c) f.number false
         → (n : ℕ) → leaving_count d n + removals_by n v.doing ≡ leaving_count c n + removals_by n Idle
     leaves_less leaves n =
-        let one : (ℕ → Bool) → ℕ = λ z. cond {A = ℕ} (z n) 1 0 in
-        let a : leaving_count d n ≡ one (changed_at (leaving c) f.number false) = ap one leaves in
+        let a : leaving_count d n ≡ cond {A = ℕ} (changed_at (leaving c) f.number false n) 1 0 = ap (λ (z : ℕ → Bool). cond {A = ℕ} (z n) 1 0) leaves in
         let b : removals_by n v.doing ≡ cond {A = ℕ} (eqb f.number n) 1 0 = ap (removals_by n) removes in
-        let before : leaving_count c f.number ≡ 1 = ap (λ (z : Bool). cond {A = ℕ} z 1 0) is_leaving in
-        dite (ℕ_discrete n f.number)
-        (λ e.
-        let p : one (changed_at (leaving c) f.number false) ≡ 0 = ap (λ (z : Bool). cond {A = ℕ} z 1 0)
-        (changed_here (leaving c) f.number false n e) in
-        let q = ap (leaving_count c) e in let r = one_if f.number n (sym e) in omega arith)
-        (λ e.
-        let p : one (changed_at (leaving c) f.number false) ≡ leaving_count c n =
-        ap (λ (z : Bool). cond {A = ℕ} z 1 0) (changed_else (leaving c) f.number false n e) in
-        let r = none_if f.number n (λ i. e (sym i)) in omega arith)
+        let e = flag_back (leaving c) f.number n is_leaving in omega arith
 
     same_holds : ((n : ℕ) → (state_of d).holds n ≡ (state_of c).holds n) → (n : ℕ)
         → (state_of d).holds n + holds_by n v.doing ≡ (state_of c).holds n + holds_by n Idle
@@ -338,15 +292,9 @@ module _ (v : View) (x : Log) (c d : Contents) (chain : ℕ) (known : Knows v x 
       legal = legal_one (Close f) (leads.0.1, leads.1) tt;
       held = same_holds (λ n. ap (λ (s : State). s.holds n) leads.1);
       leaves = leaves_less leaves;
-      files = λ g i stays. dite (ℕ_discrete g.number f.number)
-          (λ e. absurd (⊎_elim
-          (λ (some_holds : 0 < (state_of d).holds g.number).
-          let a : (state_of d).holds f.number ≡ (state_of c).holds f.number = ap (λ (s : State). s.holds f.number) leads.1 in
-          let b : (state_of c).holds f.number ≡ 0 = leads.0.1.1 in
-          let q = ap (state_of d).holds e in omega (arith, a, b, q, some_holds))
-          (λ still. true_not_false (sym still ∙ (ap (λ (z : ℕ → Bool). z g.number) leaves ∙ changed_here (leaving c) f.number false g.number e)))
-          stays))
-          (λ other. subst (λ (s : State). HasFile s g) (sym leads.1) (not_closed (state_of c) f g other i));
+      files = files_but f (ap (λ (s : State). s.holds f.number) leads.1 ∙ leads.0.1.1)
+          (ap (λ (z : ℕ → Bool). z f.number) leaves ∙ changed_here (leaving c) f.number false f.number refl)
+          (λ g other i. subst (λ (s : State). HasFile s g) (sym leads.1) (not_closed (state_of c) f g other i));
       now = held_mine x.number chain (Close f) x.front ∙ held_nothing;
       file = λ g e. absurd (none_file g e);
       fresh = still_fresh (ap (λ (s : State). s.fresh) leads.1) (x.own ▷▷ done ([] ▷ Close f)) refl;

@@ -1,38 +1,16 @@
 -- When all passes have come back, one history stands behind them.
-use Rattle.std.proofs.Common.{◌≡◌, ◌≢◌, ℕ, ◌<◌, ◌≤◌, cond, List, [], ◌∷◌, map, length, reverse, sym, refl, ap, ◌∙◌, subst, arith}
-use Rattle.std.proofs.Common.{eqb, ⊎_elim, length-append}
-use mathlib.Core.Logic.{dite}
-use native.Mathlib.Decide.{ℕ_discrete}
-use mathlib.Core.Option.{some}
-use lib.ListN.{get_elem?}
-use Rattle.std.specs.Prelude.{Some, None, Contains, sum_by, count_by}
+use Rattle.fx_baton.proofs.Words.{◌≡◌, ◌≢◌, ℕ, ◌<◌, ◌≤◌, cond, List, [], ◌∷◌, map, length, reverse, sym, refl, ap, ◌∙◌, subst, arith, eqb, ⊎_elim}
+use Rattle.fx_baton.proofs.Words.{length-append, dite, ℕ_discrete, some, get_elem?, Some, None, Contains, sum_by, count_by, Contains-append_left}
+use Rattle.fx_baton.proofs.Words.{Contains-append_right, Contains-append_cases, sum_by-append, sum_by-cons, TableId, State, IsSettled, Contents}
+use Rattle.fx_baton.proofs.Words.{state_of, node_at, removed_at, is_retired, is_leaving, Node, Fresh, At, Leaving, Gone, IsSeenBy, part_of_pass}
+use Rattle.fx_baton.proofs.Words.{Event, pass_of_chain, state_at, HasSameFiles, PassView, HasDrawnInTurn, ClosesTable, times_drawn, Idle}
+use Rattle.fx_baton.proofs.Words.{contains_none, contains_head, contains_tail, contains_cases, contains_map, contains_mapped, contains_reverse}
+use Rattle.fx_baton.proofs.Words.{contains_reversed, sum_two, sum_only, sum_map, sum_reverse, Log, View, Start, BatonPass, Shared, opening_of}
+use Rattle.fx_baton.proofs.Words.{logs_of, new_logs, holds_by, removals_by, leaving_count, IsLog, IsHome, IsAway, IsKept, first_front, first_own}
+use Rattle.fx_baton.proofs.Words.{view_of, IsPassOf, logs_in}
 use Rattle.std.proofs.lemmas.List.{length-reverse}
-use Rattle.std.proofs.lemmas.List.Elements.{Contains-append_left, Contains-append_right, Contains-append_cases}
-use Rattle.std.proofs.lemmas.List.Sums.{sum_by-append, sum_by-cons}
-use Rattle.atomic_table.specs.Seated.{TableId}
-use Rattle.fx_plain.specs.State.{State, IsSettled}
-use Rattle.fx_plain.specs.Contents.{Contents, state_of, node_at, removed_at, is_retired, is_leaving}
-use Rattle.fx_plain.specs.declared.node.Node.{Node}
-use Rattle.fx_plain.specs.declared.node.Node.TheVariants.{Fresh, At, Leaving, Retired, Gone}
-use Rattle.fx_plain.specs.History.{IsSeenBy, part_of_pass}
-use Rattle.fx_plain.specs.declared.event.Event.{Event}
-use Rattle.fx_table.specs.Numbers.{pass_of_chain}
-use Rattle.fx_table.specs.Opening.{state_at, HasSameFiles}
-use Rattle.fx_table.specs.Pass.{PassView}
-use Rattle.fx_table.specs.Turns.{HasDrawnInTurn}
-use Rattle.fx_table.specs.Closing.{ClosesTable, times_drawn}
-use Rattle.fx_table.specs.declared.values.Doing.TheVariants.{Idle}
-use Rattle.fx_table.proofs.Members.{contains_none, contains_head, contains_tail, contains_cases, contains_map, contains_mapped, contains_reverse}
-use Rattle.fx_table.proofs.Members.{contains_reversed}
-use Rattle.fx_table.proofs.SumLemmas.{sum_two, sum_only, sum_map, sum_reverse}
+use Rattle.fx_plain.specs.declared.node.Node.TheVariants.{Retired}
 use Rattle.fx_table.proofs.Turns.{drawn_inside, drawn_few, all_are_drawn}
-use Rattle.fx_baton.specs.declared.view.Log.{Log}
-use Rattle.fx_baton.specs.declared.view.View.{View}
-use Rattle.fx_baton.specs.declared.view.Start.{Start}
-use Rattle.fx_baton.specs.declared.pass.BatonPass.{BatonPass}
-use Rattle.fx_baton.specs.Rule.{Shared, opening_of, logs_of, new_logs, holds_by, removals_by, leaving_count, IsLog, IsHome, IsAway, IsKept}
-use Rattle.fx_baton.specs.Passes.{first_front, first_own, view_of, IsPassOf}
-use Rattle.fx_baton.specs.Lives.{logs_in}
 use Rattle.fx_baton.proofs.Counts.{log_found, logs_more, at_most_one, one_of}
 use Rattle.fx_baton.proofs.StepsKeepRule.{not_holder}
 use Rattle.fx_baton.proofs.GrabKeepsRule.{only_log}

@@ -1,18 +1,8 @@
 -- How often a pass stands among the logs of views, and what a pass's doing counts for.
-use Rattle.std.proofs.Common.{◌≡◌, ◌≢◌, ℕ, zero, suc, ◌+◌, ◌<◌, ◌≤◌, Bool, true, false, cond, List, [], ◌∷◌, map, length, refl, ap}
-use Rattle.std.proofs.Common.{arith, eqb, eq-eqb, ne_eqb, ◌⊎◌, inl, inr}
-use mathlib.Core.Logic.{dite}
-use native.Mathlib.Decide.{ℕ_discrete, dec_lt}
-use Rattle.std.specs.Prelude.{Some, None, Contains}
-use Rattle.std.proofs.lemmas.List.Sums.{sum_by-cons}
-use Rattle.fx_plain.specs.declared.event.File.{File}
-use Rattle.fx_plain.specs.declared.event.Event.{Event}
-use Rattle.fx_table.specs.declared.values.Doing.{Doing}
-use Rattle.fx_table.specs.declared.values.Doing.TheVariants.{Idle, Holding, Retiring}
-use Rattle.fx_table.proofs.Members.{contains_head, contains_tail}
-use Rattle.fx_table.proofs.SumLemmas.{sum_of}
-use Rattle.fx_baton.specs.declared.view.Log.{Log}
-use Rattle.fx_baton.specs.Rule.{logs_of, new_log, new_logs, file_in_hand, holds_by, removals_by, log_behind}
+use Rattle.fx_baton.proofs.Words.{◌≡◌, ◌≢◌, ℕ, zero, suc, ◌+◌, ◌<◌, ◌≤◌, Bool, true, false, cond, List, [], ◌∷◌, map, length, refl, ap, arith, eqb}
+use Rattle.fx_baton.proofs.Words.{eq-eqb, ne_eqb, ◌⊎◌, inl, inr, dite, ℕ_discrete, dec_lt, Some, None, Contains, sum_by-cons, File, Event, Doing}
+use Rattle.fx_baton.proofs.Words.{Idle, Holding, Retiring, contains_head, contains_tail, sum_of, Log, logs_of, new_log, new_logs, file_in_hand}
+use Rattle.fx_baton.proofs.Words.{holds_by, removals_by, log_behind, changed_at, ◌-◌}
 
 -- one more or none, by a test
 pub one_if : (n m : ℕ) → n ≡ m → cond {A = ℕ} (eqb n m) 1 0 ≡ 1
@@ -20,6 +10,19 @@ one_if n m e = rw (eq-eqb n m e)
 
 pub none_if : (n m : ℕ) → n ≢ m → cond {A = ℕ} (eqb n m) 1 0 ≡ 0
 none_if n m e = rw (ne_eqb n m e)
+
+-- one more or one less at a number, and a flag that is set there or taken back
+pub one_more_at : (f : ℕ → ℕ) (q n : ℕ) → changed_at f q (f q + 1) n ≡ f n + cond {A = ℕ} (eqb q n) 1 0
+one_more_at f q n = grind arith
+
+pub one_less_at : (f : ℕ → ℕ) (q n : ℕ) → 0 < f q → changed_at f q (f q - 1) n + cond {A = ℕ} (eqb q n) 1 0 ≡ f n
+one_less_at f q n some = grind arith
+
+pub flag_set : (f : ℕ → Bool) (q n : ℕ) → f q ≡ false → cond {A = ℕ} (changed_at f q true n) 1 0 ≡ cond {A = ℕ} (f n) 1 0 + cond {A = ℕ} (eqb q n) 1 0
+flag_set f q n is = grind arith
+
+pub flag_back : (f : ℕ → Bool) (q n : ℕ) → f q ≡ true → cond {A = ℕ} (changed_at f q false n) 1 0 + cond {A = ℕ} (eqb q n) 1 0 ≡ cond {A = ℕ} (f n) 1 0
+flag_back f q n is = grind arith
 
 pub one_true : (b : Bool) → 1 ≤ cond {A = ℕ} b 1 0 → b ≡ true
 one_true true l = refl

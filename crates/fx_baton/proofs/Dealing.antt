@@ -1,20 +1,9 @@
 -- The passes that are dealt out.
-use Rattle.std.proofs.Common.{◌≡◌, ℕ, zero, suc, ◌+◌, ◌-◌, ◌≤◌, true, false, List, [], ◌∷◌, ◌++◌, map, sym, refl, ◌∙◌, ap, subst, arith}
+use Rattle.fx_baton.proofs.Words.{◌≡◌, ℕ, zero, suc, ◌+◌, ◌-◌, ◌≤◌, true, false, List, [], ◌∷◌, ◌++◌, map, sym, refl, ◌∙◌, ap, subst, arith, TableId}
+use Rattle.fx_baton.proofs.Words.{Seat, Contents, PassView, IsFront, new_pass, new_passes, new_passes_from, HasDrawnInTurn, Idle, Log, View, Start}
+use Rattle.fx_baton.proofs.Words.{BatonPass, Seated, opening_of, new_log, new_logs, rest_of, first_of, view_without_first, view_of_first}
+use Rattle.fx_baton.proofs.Words.{chains_of_pass, first_front, first_own, view_of, is_idle, IsPassOf, dealt, IsNewPass}
 use mathlib.Core.List.{map-append}
-use Rattle.atomic_table.specs.Seated.{TableId}
-use Rattle.atomic_table.specs.declared.shared.Seat.{Seat}
-use Rattle.fx_plain.specs.Contents.{Contents}
-use Rattle.fx_table.specs.Pass.{PassView, IsFront, new_pass, new_passes, new_passes_from}
-use Rattle.fx_table.specs.Turns.{HasDrawnInTurn}
-use Rattle.fx_table.specs.declared.values.Doing.TheVariants.{Idle}
-use Rattle.fx_baton.specs.declared.view.Log.{Log}
-use Rattle.fx_baton.specs.declared.view.View.{View}
-use Rattle.fx_baton.specs.declared.view.Start.{Start}
-use Rattle.fx_baton.specs.declared.pass.BatonPass.{BatonPass}
-use Rattle.fx_baton.specs.Rule.{Seated, opening_of, new_log, new_logs, rest_of, first_of, view_without_first, view_of_first}
-use Rattle.fx_table.specs.Numbers.{chains_of_pass}
-use Rattle.fx_baton.specs.Passes.{first_front, first_own, view_of, is_idle, IsPassOf}
-use Rattle.fx_baton.specs.Lives.{dealt, IsNewPass}
 
 deal_more : (p n : ℕ) → p ≤ n → new_logs p ((n + 1) - p) ≡ new_log p ∷ new_logs (p + 1) ((n + 1) - (p + 1))
 deal_more p n l = let e : (n + 1) - p ≡ suc ((n + 1) - (p + 1)) = omega arith in let f : suc p ≡ p + 1 = omega arith in

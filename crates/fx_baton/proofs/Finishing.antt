@@ -1,13 +1,6 @@
 -- The table that comes back when it was closed.
-use Rattle.std.proofs.Common.{◌≡◌, ℕ, List, sym, ◌∙◌, ap}
-use mathlib.Core.Option.{some, some-injective}
-use lib.ListN.{get_elem?}
-use Rattle.atomic_table.specs.Table.{Final, Seen}
-use Rattle.fx_plain.specs.Contents.{Contents}
-use Rattle.fx_baton.specs.declared.view.View.{View}
-use Rattle.fx_baton.specs.declared.view.Start.{Start}
-use Rattle.fx_baton.specs.Rule.{IsKept}
-use Rattle.fx_baton.specs.Lives.{AllIsHome, Leaves}
+use Rattle.fx_baton.proofs.Words.{◌≡◌, ℕ, List, sym, ◌∙◌, ap, some, some-injective, get_elem?, Final, Seen, Contents, View, Start, IsKept, AllIsHome}
+use Rattle.fx_baton.proofs.Words.{Leaves}
 
 pub leaves : (k : Start) (id : ℕ) (v : View) (ws : List ℕ) (xs : List Contents) → Final (Seen (IsKept k) id v) ws xs → AllIsHome k id v
     → (c : Contents) → get_elem? xs 0 ≡ some c → Leaves k id v c

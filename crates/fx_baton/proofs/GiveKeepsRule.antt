@@ -1,26 +1,11 @@
 -- A seat with one pass that has the table may give it back.
-use Rattle.std.proofs.Common.{◌≡◌, ◌≢◌, ℕ, ◌+◌, ◌<◌, true, List, [], ◌∷◌, ◌++◌, map, set, sym, refl, ap, ◌∙◌, subst, inl, inr, ⊎_elim, ◌⊎◌}
+use Rattle.fx_baton.proofs.Words.{◌≡◌, ◌≢◌, ℕ, ◌+◌, ◌<◌, true, List, [], ◌∷◌, ◌++◌, map, set, sym, refl, ap, ◌∙◌, subst, inl, inr, ⊎_elim, ◌⊎◌, dite}
+use Rattle.fx_baton.proofs.Words.{ℕ_discrete, some, none, some-injective, get_elem?, Some, None, Contains, step, gives, at_set, Contents, state_of}
+use Rattle.fx_baton.proofs.Words.{leaving, IsTable, IsLegal, IsSeenBy, held_by, ◌▷▷◌, Event, Doing, seen_again, Log, View, Start, pass_of_number}
+use Rattle.fx_baton.proofs.Words.{HasFile, Shared, Seated, begin_of, holds_by, removals_by, leaving_count, HasFreshNumbers, IsLog, IsHome, IsAway}
+use Rattle.fx_baton.proofs.Words.{IsKept, log_behind, view_behind, Gives, IsTurn, part_mine}
 use Rattle.std.proofs.lemmas.List.{length-map}
-use mathlib.Core.Logic.{dite}
-use native.Mathlib.Decide.{ℕ_discrete}
-use mathlib.Core.Option.{some, none, some-injective}
-use lib.ListN.{get_elem?}
-use Rattle.std.specs.Prelude.{Some, None, Contains}
-use Rattle.atomic_table.specs.Table.{step, gives, Allows}
-use Rattle.atomic_table.proofs.Lists.{at_set}
-use Rattle.fx_plain.specs.Contents.{Contents, state_of, leaving, IsTable}
-use Rattle.fx_plain.specs.History.{IsLegal, IsSeenBy, held_by, ◌▷▷◌}
-use Rattle.fx_plain.specs.declared.event.Event.{Event}
-use Rattle.fx_table.specs.declared.values.Doing.{Doing}
-use Rattle.fx_table.proofs.Calls.{seen_again}
-use Rattle.fx_baton.specs.declared.view.Log.{Log}
-use Rattle.fx_baton.specs.declared.view.View.{View}
-use Rattle.fx_baton.specs.declared.view.Start.{Start}
-use Rattle.fx_table.specs.Numbers.{pass_of_number}
-use Rattle.fx_table.specs.Files.{HasFile}
-use Rattle.fx_baton.specs.Rule.{Shared, Seated, begin_of, holds_by, removals_by, leaving_count, HasFreshNumbers, IsLog, IsHome, IsAway, IsKept}
-use Rattle.fx_baton.specs.Rule.{log_behind, view_behind, Gives, IsTurn}
-use Rattle.fx_table.proofs.Histories.{part_mine}
+use Rattle.atomic_table.specs.Table.{Allows}
 use Rattle.fx_baton.proofs.Counts.{logs_behind}
 use Rattle.fx_baton.proofs.StepsKeepRule.{Turns, keeps_rule}
 use Rattle.fx_baton.proofs.GrabKeepsRule.{only_log, has_one, not_empty, started}

@@ -1,22 +1,11 @@
 -- A seat with one pass may try the word, and take the table where it is at home.
-use Rattle.std.proofs.Common.{◌≡◌, ℕ, zero, suc, ◌≤◌, ◌==◌, List, [], ◌∷◌, length, set, get_or, sym, refl, ap, ◌∙◌, subst, arith, inl, inr, ⊎_elim}
-use mathlib.Core.Option.{some, none, some-ne-none}
+use Rattle.fx_baton.proofs.Words.{◌≡◌, ℕ, zero, suc, ◌≤◌, ◌==◌, List, [], ◌∷◌, length, set, get_or, sym, refl, ap, ◌∙◌, subst, arith, inl, inr}
+use Rattle.fx_baton.proofs.Words.{⊎_elim, some, none, some-ne-none, get_elem?, None, Contains, step, takes, keeps, set_else, set_again, Contents}
+use Rattle.fx_baton.proofs.Words.{state_of, IsLegal, Event, seen_again, contains_none, contains_head, contains_only, sum_at, sum_le_at, Log, View}
+use Rattle.fx_baton.proofs.Words.{Start, Shared, Seated, begin_of, logs_of, holds_by, removals_by, HasFreshNumbers, IsLog, IsView, IsHome, IsAway}
+use Rattle.fx_baton.proofs.Words.{IsKept, Knows, lent_view, Grabs}
 use prog.Atomic.{either}
-use lib.ListN.{get_elem?}
-use Rattle.std.specs.Prelude.{None, Contains}
-use Rattle.atomic_table.specs.Table.{step, takes, keeps, Allows}
-use Rattle.atomic_table.proofs.Lists.{set_else, set_again}
-use Rattle.fx_plain.specs.Contents.{Contents, state_of}
-use Rattle.fx_plain.specs.History.{IsLegal}
-use Rattle.fx_plain.specs.declared.event.Event.{Event}
-use Rattle.fx_table.proofs.Calls.{seen_again}
-use Rattle.fx_table.proofs.Members.{contains_none, contains_head, contains_only}
-use Rattle.fx_table.proofs.SumLemmas.{sum_at, sum_le_at}
-use Rattle.fx_baton.specs.declared.view.Log.{Log}
-use Rattle.fx_baton.specs.declared.view.View.{View}
-use Rattle.fx_baton.specs.declared.view.Start.{Start}
-use Rattle.fx_baton.specs.Rule.{Shared, Seated, begin_of, logs_of, holds_by, removals_by, HasFreshNumbers, IsLog, IsView, IsHome}
-use Rattle.fx_baton.specs.Rule.{IsAway, IsKept, Knows, lent_view, Grabs}
+use Rattle.atomic_table.specs.Table.{Allows}
 use Rattle.fx_baton.proofs.Counts.{holds_small}
 use Rattle.fx_baton.proofs.StepsKeepRule.{Turns, keeps_rule}
 

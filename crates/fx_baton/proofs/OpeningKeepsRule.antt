@@ -1,25 +1,12 @@
 -- The rule holds when a table is opened.
-use Rattle.std.proofs.Common.{◌≡◌, ℕ, zero, suc, ◌<◌, ◌≤◌, Bool, true, false, cond, List, [], ◌∷◌, sym, refl, ap, ◌∙◌, subst, arith}
-use Rattle.std.proofs.Common.{inl, inr, ⊎_elim}
-use mathlib.Core.Option.{some, some-injective, some-ne-none}
-use lib.ListN.{get_elem?}
+use Rattle.fx_baton.proofs.Words.{◌≡◌, ℕ, zero, suc, ◌<◌, ◌≤◌, Bool, true, false, cond, List, [], ◌∷◌, sym, refl, ap, ◌∙◌, subst, arith, inl, inr}
+use Rattle.fx_baton.proofs.Words.{⊎_elim, some, some-injective, some-ne-none, get_elem?, Option, Some, None, nat_lt, not, ◌&&◌, Contains, State}
+use Rattle.fx_baton.proofs.Words.{opening, file_numbered, IsSettled, Contents, state_of, IsTable, is_leaving, node_at, removed_at, Node, Fresh, At}
+use Rattle.fx_baton.proofs.Words.{Leaving, Gone, File, identity_of, numbers_for, HasSameFiles, IsGivenBack, contains_none, contains_cases, Idle, Log}
+use Rattle.fx_baton.proofs.Words.{View, Start, IsKept, IsLog, IsView, HasFreshNumbers, leaving_count, begin_of, first_view, new_logs, new_log}
 use Rattle.std.proofs.lemmas.Bool.{lt-ltb, ltb-true}
-use Rattle.std.specs.Prelude.{Option, Some, None, nat_lt, not, ◌&&◌, Contains}
 use Rattle.atomic_table.specs.Table.{opening as table_opening}
-use Rattle.fx_plain.specs.State.{State, opening, file_numbered, IsSettled}
-use Rattle.fx_plain.specs.Contents.{Contents, state_of, IsTable, is_leaving, node_at, removed_at}
-use Rattle.fx_plain.specs.declared.node.Node.{Node}
-use Rattle.fx_plain.specs.declared.node.Node.TheVariants.{Fresh, At, Leaving, Retired, Gone}
-use Rattle.fx_plain.specs.declared.event.File.{File}
-use Rattle.fx_plain.specs.Table.{identity_of}
-use Rattle.fx_table.specs.Numbers.{numbers_for}
-use Rattle.fx_table.specs.Opening.{HasSameFiles, IsGivenBack}
-use Rattle.fx_table.proofs.Members.{contains_none, contains_cases}
-use Rattle.fx_table.specs.declared.values.Doing.TheVariants.{Idle}
-use Rattle.fx_baton.specs.declared.view.Log.{Log}
-use Rattle.fx_baton.specs.declared.view.View.{View}
-use Rattle.fx_baton.specs.declared.view.Start.{Start}
-use Rattle.fx_baton.specs.Rule.{IsKept, IsLog, IsView, HasFreshNumbers, leaving_count, begin_of, first_view, new_logs, new_log}
+use Rattle.fx_plain.specs.declared.node.Node.TheVariants.{Retired}
 use Rattle.fx_baton.proofs.Counts.{length_new}
 
 new_is : (q n : ℕ) (x : Log) → Contains (new_logs q n) x → x ≡ new_log x.number
@@ -44,10 +31,6 @@ same_files st now n e = subst (HasSameFiles st) (sym e)
 
 opens_settled : (st now : State) (n : ℕ) → now ≡ opening st n → IsSettled now
 opens_settled st now n e = subst IsSettled (sym e) record { unheld = λ m. refl; closed = λ m. refl }
-
--- a table that was not prepared comes back as it was, and one that was prepared has the same files
-pub back_as_it_was : (plain : Contents) → IsSettled (state_of plain) → IsGivenBack plain plain
-back_as_it_was plain settled = record { files = record { size = refl; range = refl; files = λ slot. refl }; settled = settled }
 
 pub back_prepared : (plain back : Contents) (n : ℕ) → state_of back ≡ opening (state_of plain) n → IsGivenBack plain back
 back_prepared plain back n e = record {

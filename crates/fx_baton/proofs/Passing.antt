@@ -1,36 +1,13 @@
 -- A pass that takes the table, and one that puts it back.
-use Rattle.std.proofs.Common.{◌≡◌, ℕ, ◌+◌, ◌-◌, ◌*◌, ◌≤◌, Bool, List, [], ◌∷◌, ◌++◌, map, sym, refl, ap, ◌∙◌, subst, arith}
-use Rattle.std.specs.Prelude.{Option, Some, None}
-use Rattle.atomic_table.specs.Seated.{TableId}
-use Rattle.atomic_table.specs.declared.shared.Seat.{Seat}
-use Rattle.fx_plain.specs.State.{State}
-use Rattle.fx_plain.specs.Contents.{Contents, state_of}
-use Rattle.fx_plain.specs.History.{IsLegal, IsSeenBy, part_of_pass, close_of, ◌▷◌, ◌▷▷◌}
-use Rattle.fx_plain.specs.Table.{closed_by_release, closed_by_retirement}
-use Rattle.fx_plain.specs.declared.event.File.{File}
-use Rattle.fx_plain.specs.declared.event.Event.{Event}
-use Rattle.fx_plain.specs.declared.event.Action.{Action}
-use Rattle.fx_plain.specs.declared.event.Action.TheVariants.{Release}
-use Rattle.fx_table.specs.Numbers.{number_behind}
-use Rattle.fx_table.specs.Opening.{Opening, state_at}
-use Rattle.fx_table.specs.Pass.{PassView, IsFront, next_number}
-use Rattle.fx_table.specs.Turns.{HasDrawnInTurn}
-use Rattle.fx_table.specs.Calls.{Use, Adds}
-use Rattle.fx_table.specs.declared.values.Doing.{Doing}
-use Rattle.fx_table.specs.declared.values.Doing.TheVariants.{Idle, Holding, Retiring}
-use Rattle.fx_table.proofs.Calls.{seen_again, seen_further}
-use Rattle.fx_table.proofs.Histories.{part_mine}
-use Rattle.fx_baton.specs.declared.view.Log.{Log}
-use Rattle.fx_baton.specs.declared.view.View.{View}
-use Rattle.fx_baton.specs.declared.view.Start.{Start}
-use Rattle.fx_baton.specs.declared.view.Call.{Call}
+use Rattle.fx_baton.proofs.Words.{◌≡◌, ℕ, ◌+◌, ◌-◌, ◌*◌, ◌≤◌, Bool, List, [], ◌∷◌, ◌++◌, map, sym, refl, ap, ◌∙◌, subst, arith, Option, Some, None}
+use Rattle.fx_baton.proofs.Words.{TableId, Seat, State, Contents, state_of, IsLegal, IsSeenBy, part_of_pass, close_of, ◌▷◌, ◌▷▷◌, closed_by_release}
+use Rattle.fx_baton.proofs.Words.{closed_by_retirement, File, Event, Action, Release, number_behind, Opening, state_at, PassView, IsFront}
+use Rattle.fx_baton.proofs.Words.{next_number, HasDrawnInTurn, Use, Adds, Doing, Holding, Retiring, seen_again, seen_further, part_mine, Log, View}
+use Rattle.fx_baton.proofs.Words.{Start, Call, BatonPass, Seated, opening_of, begin_of, Knows, Takes, log_behind, view_behind, by, actions_of}
+use Rattle.fx_baton.proofs.Words.{doing_of, use_of, events_of, table_of_slots, table_of_loan, first_front, first_own, view_of, is_idle, IsPassOf}
+use Rattle.fx_baton.proofs.Words.{HasTable, HasSeenMore, UsesNext, HasCalled, HasGivenBack, pass_behind}
 use Rattle.fx_baton.specs.declared.view.Call.TheVariants.{Look as LookCall, Release as ReleaseCall, Put as PutCall, Allocate as AllocateCall}
 use Rattle.fx_baton.specs.declared.view.Call.TheVariants.{Full as FullCall, Clear as ClearCall, Take as TakeCall, Retire as RetireCall}
-use Rattle.fx_baton.specs.declared.pass.BatonPass.{BatonPass}
-use Rattle.fx_baton.specs.Rule.{Seated, opening_of, begin_of, Knows, Takes, log_behind, view_behind}
-use Rattle.fx_baton.specs.Turns.{by, actions_of, doing_of, use_of, events_of, table_of_slots, table_of_loan}
-use Rattle.fx_baton.specs.Passes.{first_front, first_own, view_of, is_idle, IsPassOf, HasTable, HasSeenMore, UsesNext, HasCalled, HasGivenBack}
-use Rattle.fx_baton.specs.Passes.{pass_behind}
 
 -- a legal history leads to the state at its end
 pub ends_there : (k : Start) (h : List Event) (end : State) → IsLegal (begin_of k) h end → IsLegal (begin_of k) h (state_at (opening_of k) h)
@@ -141,19 +118,11 @@ next_behind : (c : Contents) (v : PassView) (now : ℕ) (doing : Doing) (call : 
     → v.numbers_left ≤ 64 * v.chain → now + (use_of call).numbers ≡ v.numbers_left → UsesNext v call
     → number_behind (events_of c v.number v.chain doing call ++ own) ≤ (256 + 64 * v.chain) - now
 next_behind c v now doing (LookCall slot) own next inside used uses = omega arith
-next_behind c v now Idle ReleaseCall own next inside used uses = omega arith
 next_behind c v now (Holding f) ReleaseCall own next inside used uses =
     let e = next_release v.number v.chain f (closed_by_release c f.number) own in omega arith
-next_behind c v now (Retiring f t) ReleaseCall own next inside used uses = omega arith
-next_behind c v now doing (PutCall slot number file) own next inside used uses = omega arith
-next_behind c v now doing (AllocateCall slot number file) own next inside used uses = omega arith
-next_behind c v now doing FullCall own next inside used uses = omega arith
-next_behind c v now doing (ClearCall slot) own next inside used uses = omega arith
-next_behind c v now doing (TakeCall slot) own next inside used uses = omega arith
-next_behind c v now Idle RetireCall own next inside used uses = omega arith
-next_behind c v now (Holding f) RetireCall own next inside used uses = omega arith
 next_behind c v now (Retiring f t) RetireCall own next inside used uses =
     let e = next_close v.number v.chain (closed_by_retirement c f.number) own in omega arith
+next_behind c v now _ _ own next inside used uses = omega arith
 
 -- a pass that saw more, and then did something, did it behind what it had seen at first
 adds_behind : (o : Opening) (u v w : PassView) (actions : List Action) (doing : Doing) (used : Use) → HasSeenMore u v

@@ -1,27 +1,12 @@
 -- A seat is split off, and one is joined back.
-use Rattle.std.proofs.Common.{◌≡◌, ◌≢◌, ℕ, ◌+◌, List, [], ◌∷◌, ◌++◌, length, set, sym, refl, ap, ◌∙◌, subst, arith, ◌⊎◌, inl, inr, ⊎_elim}
-use Rattle.std.proofs.Common.{length-append}
-use mathlib.Core.Option.{some}
-use lib.ListN.{get_elem?}
-use Rattle.std.specs.Prelude.{Some, None, Contains, sum_by}
-use Rattle.std.proofs.lemmas.List.Elements.{Contains-append_cases}
-use Rattle.std.proofs.lemmas.List.Sums.{sum_by-append}
-use Rattle.atomic_table.specs.Table.{Splits, Joins}
-use Rattle.atomic_table.proofs.Lists.{at_set, set_else, at_snoc, at_longer}
-use Rattle.fx_plain.specs.Contents.{Contents}
-use Rattle.fx_plain.specs.declared.event.File.{File}
-use Rattle.fx_plain.specs.declared.event.Event.{Event}
-use Rattle.fx_table.specs.declared.values.Doing.{Doing}
-use Rattle.fx_table.specs.declared.values.Doing.TheVariants.{Idle}
-use Rattle.fx_table.proofs.Members.{contains_none, contains_head, contains_tail, contains_only}
-use Rattle.fx_table.proofs.SumLemmas.{sum_set}
-use Rattle.fx_baton.specs.declared.view.Log.{Log}
-use Rattle.fx_baton.specs.declared.view.View.{View}
-use Rattle.fx_baton.specs.declared.view.Start.{Start}
+use Rattle.fx_baton.proofs.Words.{◌≡◌, ◌≢◌, ℕ, ◌+◌, List, [], ◌∷◌, ◌++◌, length, set, sym, refl, ap, ◌∙◌, subst, arith, ◌⊎◌, inl, inr, ⊎_elim}
+use Rattle.fx_baton.proofs.Words.{length-append, some, get_elem?, Some, None, Contains, sum_by, Contains-append_cases, sum_by-append, Splits, Joins}
+use Rattle.fx_baton.proofs.Words.{at_set, set_else, at_snoc, at_longer, Contents, File, Event, Doing, Idle, contains_none, contains_head}
+use Rattle.fx_baton.proofs.Words.{contains_tail, contains_only, sum_set, Log, View, Start, Shared, logs_of, holds_by, removals_by, file_in_hand}
+use Rattle.fx_baton.proofs.Words.{IsLog, IsView, IsHome, IsAway, IsKept, rest_of, first_of, view_without_first, view_of_first, joined_view}
+use Rattle.fx_baton.proofs.Words.{empty_view}
 use Rattle.fx_baton.proofs.Counts.{logs_more}
 use Rattle.fx_baton.proofs.StepsKeepRule.{not_holder}
-use Rattle.fx_baton.specs.Rule.{Shared, logs_of, holds_by, removals_by, file_in_hand, IsLog, IsView, IsHome, IsAway, IsKept, rest_of, first_of}
-use Rattle.fx_baton.specs.Rule.{view_without_first, view_of_first, joined_view, empty_view}
 
 idle_file : (d : Doing) (f : File) → d ≡ Idle → file_in_hand d ≡ Some f → ⊥
 idle_file d f e g = let no : None ≡ Some f = sym (ap file_in_hand e) ∙ g in cc no
@@ -68,15 +53,15 @@ module _ (k : Start) (id : ℕ) (v : View) (idle : v.doing ≡ Idle) (free : v.l
       omega arith
 
   -- what holds of both parts and of the other views holds of all
-  at_parts : (P : View → Type 0) (s : Shared) → P (view_without_first v) → P (view_of_first v)
-      → ((i : ℕ) (u : View) → i ≢ id → get_elem? s.views i ≡ some u → P u)
-      → (i : ℕ) (u : View) → get_elem? (set s.views id (view_without_first v) ++ view_of_first v ∷ []) i ≡ some u → P u
+  at_parts : (P : ℕ → View → Type 0) (s : Shared) → ((i : ℕ) → P i (view_without_first v)) → ((i : ℕ) → P i (view_of_first v))
+      → ((i : ℕ) (u : View) → i ≢ id → get_elem? s.views i ≡ some u → P i u)
+      → (i : ℕ) (u : View) → get_elem? (set s.views id (view_without_first v) ++ view_of_first v ∷ []) i ≡ some u → P i u
   at_parts P s a b c i u e = ⊎_elim
       (λ m. ⊎_elim
-      (λ (n : (i ≡ id) × (view_without_first v ≡ u)). subst P n.1 a)
+      (λ (n : (i ≡ id) × (view_without_first v ≡ u)). subst (P i) n.1 (a i))
       (λ (n : (i ≢ id) × (get_elem? s.views i ≡ some u)). c i u n.0 n.1)
       (at_set s.views id i (view_without_first v) u m))
-      (λ m. subst P m b)
+      (λ m. subst (P i) m (b i))
       (at_snoc (set s.views id (view_without_first v)) (view_of_first v) u i e)
 
   pub may_split : Splits (IsKept k) id v (view_without_first v) (view_of_first v)
@@ -90,7 +75,7 @@ module _ (k : Start) (id : ℕ) (v : View) (idle : v.doing ≡ Idle) (free : v.l
         legal = r.legal;
         sound = r.sound;
         place = ⊎_elim
-            (λ (home : IsHome r.contents s). inl (home.0, home.1, at_parts (λ z. z.loan ≡ None) s free free (λ i u _ e. home.2 i u e)))
+            (λ (home : IsHome r.contents s). inl (home.0, home.1, at_parts (λ _ z. z.loan ≡ None) s (λ _. free) (λ _. free) (λ i u _ e. home.2 i u e)))
             (λ (away : IsAway r.contents r.history s).
             let apart = not_holder r.contents r.history s away id v at free in
             inr record {
@@ -102,19 +87,14 @@ module _ (k : Start) (id : ℕ) (v : View) (idle : v.doing ≡ Idle) (free : v.l
                   (set_else s.views id away.holder (view_without_first v) apart ∙ away.at);
               loan = away.loan;
               whole = away.whole;
-              others = λ i u n e. ⊎_elim
-                  (λ m. ⊎_elim
-                  (λ (q : (i ≡ id) × (view_without_first v ≡ u)). ap (λ (z : View). z.loan) (sym q.1) ∙ free)
-                  (λ (q : (i ≢ id) × (get_elem? s.views i ≡ some u)). away.others i u n q.1)
-                  (at_set s.views id i (view_without_first v) u m))
-                  (λ m. ap (λ (z : View). z.loan) (sym m) ∙ free)
-                  (at_snoc (set s.views id (view_without_first v)) (view_of_first v) u i e);
+              others = λ i u n e. at_parts (λ j z. j ≢ away.holder → z.loan ≡ None) s (λ _ _. free) (λ _ _. free)
+                  (λ j w _ there apart. away.others j w apart there) i u e n;
             })
             r.place;
-        views = at_parts (IsView k r.history r.contents) s
-            (part_view k r.history r.contents v (view_without_first v) idle idle free
+        views = at_parts (λ _. IsView k r.history r.contents) s
+            (λ _. part_view k r.history r.contents v (view_without_first v) idle idle free
             (λ x h. mine.logs x (has_rest v.logs x h)) (start_of_part rest_of refl))
-            (part_view k r.history r.contents v (view_of_first v) idle idle free
+            (λ _. part_view k r.history r.contents v (view_of_first v) idle idle free
             (λ x h. mine.logs x (has_first v.logs x h)) (start_of_part first_of refl))
             (λ i u _ e. r.views i u e);
         numbers = λ p. counts s at (logs_of p) (λ y m. let a = logs_more p y m in let b = logs_more p y [] in omega arith) refl ∙ r.numbers p;
@@ -139,12 +119,13 @@ module _ (k : Start) (id : ℕ) (v : View) (idle : v.doing ≡ Idle) (free : v.l
     w_at = sym (set_else s.views id other (joined_view v w) apart) ∙ there
 
     -- what holds of the new views and of the others holds of all
-    at_each : (P : View → Type 0) → P empty_view → P (joined_view v w)
-        → ((i : ℕ) (u : View) → i ≢ other → i ≢ id → get_elem? s.views i ≡ some u → P u) → (i : ℕ) (u : View) → get_elem? both_set i ≡ some u → P u
+    at_each : (P : ℕ → View → Type 0) → ((i : ℕ) → P i empty_view) → ((i : ℕ) → P i (joined_view v w))
+        → ((i : ℕ) (u : View) → i ≢ other → i ≢ id → get_elem? s.views i ≡ some u → P i u)
+        → (i : ℕ) (u : View) → get_elem? both_set i ≡ some u → P i u
     at_each P a b c i u e = ⊎_elim
-        (λ (m : (i ≡ other) × (empty_view ≡ u)). subst P m.1 a)
+        (λ (m : (i ≡ other) × (empty_view ≡ u)). subst (P i) m.1 (a i))
         (λ (m : (i ≢ other) × (get_elem? one_set i ≡ some u)). ⊎_elim
-        (λ (n : (i ≡ id) × (joined_view v w ≡ u)). subst P n.1 b)
+        (λ (n : (i ≡ id) × (joined_view v w ≡ u)). subst (P i) n.1 (b i))
         (λ (n : (i ≢ id) × (get_elem? s.views i ≡ some u)). c i u m.0 n.0 n.1)
         (at_set s.views id i (joined_view v w) u m.1))
         (at_set one_set other i empty_view u e)
@@ -169,7 +150,7 @@ module _ (k : Start) (id : ℕ) (v : View) (idle : v.doing ≡ Idle) (free : v.l
 
     joined_place : IsHome r.contents joined ⊎ IsAway r.contents r.history joined
     joined_place = ⊎_elim
-        (λ (home : IsHome r.contents s). inl (home.0, home.1, at_each (λ z. z.loan ≡ None) refl free (λ i u _ _ e. home.2 i u e)))
+        (λ (home : IsHome r.contents s). inl (home.0, home.1, at_each (λ _ z. z.loan ≡ None) (λ _. refl) (λ _. free) (λ i u _ _ e. home.2 i u e)))
         (λ (away : IsAway r.contents r.history s).
         let not_this = not_holder r.contents r.history s away id v at free in
         let not_that = not_holder r.contents r.history s away other w w_at w_free in
@@ -181,13 +162,8 @@ module _ (k : Start) (id : ℕ) (v : View) (idle : v.doing ≡ Idle) (free : v.l
           at = set_else one_set other away.holder empty_view not_that ∙ (set_else s.views id away.holder (joined_view v w) not_this ∙ away.at);
           loan = away.loan;
           whole = away.whole;
-          others = λ i u n e. ⊎_elim
-              (λ (m : (i ≡ other) × (empty_view ≡ u)). ap (λ (z : View). z.loan) (sym m.1))
-              (λ (m : (i ≢ other) × (get_elem? one_set i ≡ some u)). ⊎_elim
-              (λ (q : (i ≡ id) × (joined_view v w ≡ u)). ap (λ (z : View). z.loan) (sym q.1) ∙ free)
-              (λ (q : (i ≢ id) × (get_elem? s.views i ≡ some u)). away.others i u n q.1)
-              (at_set s.views id i (joined_view v w) u m.1))
-              (at_set one_set other i empty_view u e);
+          others = λ i u n e. at_each (λ j z. j ≢ away.holder → z.loan ≡ None) (λ _ _. refl) (λ _ _. free)
+              (λ j w _ _ there apart. away.others j w apart there) i u e n;
         })
         r.place
 
@@ -203,7 +179,7 @@ module _ (k : Start) (id : ℕ) (v : View) (idle : v.doing ≡ Idle) (free : v.l
     sound = r.sound;
     place = joined_place s r at apart there;
     views =
-        at_each s r at apart there (IsView k r.history r.contents) (was_emptied s r at apart there) (view_joined s r at apart there)
+        at_each s r at apart there (λ _. IsView k r.history r.contents) (λ _. was_emptied s r at apart there) (λ _. view_joined s r at apart there)
         (λ i u _ _ e. r.views i u e);
     numbers = λ p. both_counts s r at apart there (λ z. logs_of p z.logs) refl (sum_by-append _ v.logs w.logs) ∙ r.numbers p;
     count = both_counts s r at apart there (λ z. length z.logs) refl (length-append v.logs w.logs) ∙ r.count;

@@ -1,23 +1,9 @@
 -- A step of one seat keeps the rule.
-use Rattle.std.proofs.Common.{◌≡◌, ◌≢◌, ℕ, ◌+◌, ◌<◌, ◌≤◌, true, List, length, set, sym, refl, ap, ◌∙◌, subst, arith, ◌⊎◌, inl, inr, ⊎_elim}
-use mathlib.Core.Option.{some, some-injective}
-use lib.ListN.{get_elem?}
-use Rattle.std.specs.Prelude.{Some, None, Contains, sum_by}
-use Rattle.std.proofs.lemmas.List.Elements.{Contains-append_cases}
-use Rattle.atomic_table.proofs.Lists.{at_set, set_else}
-use Rattle.fx_plain.specs.Contents.{Contents, state_of, leaving, IsTable}
-use Rattle.fx_plain.specs.History.{IsLegal, ◌▷▷◌}
-use Rattle.fx_plain.specs.declared.event.File.{File}
-use Rattle.fx_plain.specs.declared.event.Event.{Event}
-use Rattle.fx_table.specs.Numbers.{pass_of_number}
-use Rattle.fx_table.specs.Files.{HasFile}
-use Rattle.fx_table.proofs.Calls.{seen_further}
-use Rattle.fx_table.proofs.Histories.{part_other, held_other}
-use Rattle.fx_table.proofs.SumLemmas.{sum_set, sum_at, sum_two}
-use Rattle.fx_baton.specs.declared.view.Log.{Log}
-use Rattle.fx_baton.specs.declared.view.View.{View}
-use Rattle.fx_baton.specs.declared.view.Start.{Start}
-use Rattle.fx_baton.specs.Rule.{Shared, begin_of, logs_of, file_in_hand, holds_by, removals_by, leaving_count, IsLog, IsView, IsHome, IsAway, IsKept}
+use Rattle.fx_baton.proofs.Words.{◌≡◌, ◌≢◌, ℕ, ◌+◌, ◌<◌, ◌≤◌, true, List, length, set, sym, refl, ap, ◌∙◌, subst, arith, ◌⊎◌, inl, inr, ⊎_elim, some}
+use Rattle.fx_baton.proofs.Words.{some-injective, get_elem?, Some, None, Contains, sum_by, Contains-append_cases, at_set, set_else, Contents}
+use Rattle.fx_baton.proofs.Words.{state_of, leaving, IsTable, IsLegal, ◌▷▷◌, File, Event, pass_of_number, HasFile, seen_further, part_other}
+use Rattle.fx_baton.proofs.Words.{held_other, sum_set, sum_at, sum_two, Log, View, Start, Shared, begin_of, logs_of, file_in_hand, holds_by}
+use Rattle.fx_baton.proofs.Words.{removals_by, leaving_count, IsLog, IsView, IsHome, IsAway, IsKept}
 use Rattle.fx_baton.proofs.Counts.{some_log, at_most_one, in_range, hand_is_counted, one_true}
 
 -- a seat without the table is not the one that has it

@@ -1,32 +1,18 @@
 -- A birth keeps the rule, and so does a rest.
-use Rattle.std.proofs.Common.{◌≡◌, ◌≢◌, ℕ, ◌+◌, ◌<◌, ◌≤◌, List, [], ◌∷◌, set, length, sym, refl, ap}
-use Rattle.std.proofs.Common.{◌∙◌, subst, arith, length-set, Option, Some, None, ◌⊎◌, inr, ⊎_elim}
-use mathlib.Core.Logic.{dite}
-use mathlib.Core.Option.{some, none}
-use native.Mathlib.Decide.{ℕ_discrete}
-use lib.ListN.{get_elem?}
-use Rattle.atomic_table.specs.Table.{takes, gives, rest, Allows, stepped, step}
-use Rattle.atomic_table.proofs.Lists.{set_here, set_else}
-use Rattle.fx_base.specs.declared.open_file.Closed.{Closed}
-use Rattle.fx_plain.specs.declared.event.File.{File}
-use Rattle.fx_plain.specs.Step.{changed_at}
-use Rattle.fx_table.specs.Calls.{no_use}
-use Rattle.fx_table.specs.Pass.{next_number}
-use Rattle.fx_words.specs.Words.{born}
-use Rattle.fx_counted.specs.Agrees.{Home, NodeAgrees, OwnerAgrees, WorkAgrees, PlacesNext, Agrees}
-use Rattle.fx_counted.specs.Laws.{word_of, place_of, BirthsKeep, RestsKeep}
-use Rattle.fx_counted.specs.Passes.{Shared, first_log, pass_of, Sat, IsNumber, state_after_all, end_in, next_in, held_in, placing, held_of, holding}
-use Rattle.fx_counted.specs.Phases.{Phase, unborn, spare, placed, emptied, closed, owner, file_in}
-use Rattle.fx_counted.specs.Tells.{Stepped, Births, Rests}
-use Rattle.fx_counted.specs.declared.view.Log.{Log}
-use Rattle.fx_counted.specs.declared.view.Start.{Start}
-use Rattle.fx_counted.specs.declared.view.View.{View}
-use Rattle.fx_counted.specs.declared.view.Work.TheVariants.{Idle, Placing, Holding, Emptying}
+use Rattle.fx_counted.proofs.Words.{◌≡◌, ◌≢◌, ℕ, ◌+◌, ◌<◌, ◌≤◌, List, [], ◌∷◌, set, length, sym, refl, ap, ◌∙◌, subst, arith, Option, Some, None}
+use Rattle.fx_counted.proofs.Words.{◌⊎◌, inr, ⊎_elim, dite, some, none, ℕ_discrete, get_elem?, takes, gives, rest, stepped, step, set_here, set_else}
+use Rattle.fx_counted.proofs.Words.{Closed, File, changed_at, no_use, next_number, born, Home, NodeAgrees, OwnerAgrees, WorkAgrees, PlacesNext}
+use Rattle.fx_counted.proofs.Words.{Agrees, word_of, place_of, Shared, first_log, pass_of, Sat, IsNumber, state_after_all, end_in, next_in, held_in}
+use Rattle.fx_counted.proofs.Words.{placing, held_of, holding, Phase, unborn, spare, placed, emptied, closed, owner, file_in, Stepped, Log, Start}
+use Rattle.fx_counted.proofs.Words.{View, Idle, Placing, Holding, Emptying, looks}
+use Rattle.std.proofs.Common.{length-set}
+use Rattle.atomic_table.specs.Table.{Allows}
+use Rattle.fx_counted.specs.Laws.{BirthsKeep, RestsKeep}
+use Rattle.fx_counted.specs.Tells.{Births, Rests}
 use Rattle.fx_counted.proofs.Histories.{grows_none, change_here, change_else}
 use Rattle.fx_counted.proofs.Frames.{busy, does_now}
 use Rattle.fx_counted.proofs.Keeping.{word_at, now, logged, its_log, its_work, tells}
 use Rattle.fx_counted.proofs.NodeSteps.{one_same, near, far, NodeStep, node_agrees}
-use Rattle.fx_counted.specs.Counts.{looks}
 
 -- the file that a pass holds is open
 pub held_file : (k : Start) (phase : ℕ → Phase) (j : ℕ) (u : View) (f : File) → u.work ≡ Holding f

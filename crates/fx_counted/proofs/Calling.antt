@@ -1,14 +1,8 @@
 -- What a call of a table needs for its steps.
-use Rattle.std.proofs.Common.{◌≡◌, ℕ, true, ◌<◌, ◌≤◌, inl, inr, sym, ap, ◌∙◌, subst, arith}
-use Rattle.fx_table.specs.Opening.{size_of, range_of}
-use Rattle.fx_words.specs.Words.{full_word_of}
-use Rattle.fx_table.specs.declared.limits.TheConstants.{MAX_CHAINS}
-use Rattle.fx_counted.specs.Changing.{InRange}
-use Rattle.fx_counted.specs.Layout.{HasNode, slot_of, slot_place, node_place, home_place}
-use Rattle.fx_counted.specs.Passes.{opening_of, slots_of, IsNumber}
-use Rattle.fx_counted.specs.Tables.{opening_of_table}
-use Rattle.fx_counted.specs.declared.view.Start.{Start}
-use Rattle.fx_counted.specs.declared.table.CountedTable.{CountedTable}
+use Rattle.fx_counted.proofs.Words.{◌≡◌, ℕ, true, ◌<◌, ◌≤◌, inl, inr, sym, ap, ◌∙◌, subst, arith, range_of, full_word_of, MAX_CHAINS, InRange}
+use Rattle.fx_counted.proofs.Words.{HasNode, slot_of, slot_place, node_place, home_place, opening_of, slots_of, IsNumber, opening_of_table, Start}
+use Rattle.fx_counted.proofs.Words.{CountedTable}
+use Rattle.fx_table.specs.Opening.{size_of}
 use Rattle.fx_counted.proofs.Places.{inside, apart}
 
 -- the word of a slot is one of the table

@@ -1,92 +1,83 @@
 -- A step that changes no slot and no number, and leaves the pass at its work.
-use Rattle.std.proofs.Common.{◌≡◌, ℕ, List, [], ◌∷◌, set, length, sym, refl, ap, ◌∙◌, subst, arith}
-use mathlib.Core.Option.{some}
-use lib.ListN.{get_elem?}
-use Rattle.fx_plain.specs.History.{held_by}
-use Rattle.fx_plain.specs.State.{State}
-use Rattle.fx_plain.specs.declared.event.Event.{Event}
-use Rattle.fx_table.specs.Opening.{range_of}
-use Rattle.fx_counted.specs.Agrees.{NodeAgrees, PlacesNext, Agrees}
-use Rattle.fx_counted.specs.Control.{ControlCounts}
-use Rattle.fx_counted.specs.Counts.{looks, all_looks}
-use Rattle.fx_counted.specs.Laws.{word_of, place_of}
-use Rattle.fx_counted.specs.Layout.{control_place, draw_place, slot_place}
-use Rattle.fx_counted.specs.Passes.{Shared, opening_of, IsNumber, state_after_all, next_in}
-use Rattle.fx_counted.specs.declared.view.Change.{Change}
-use Rattle.fx_counted.specs.declared.view.Log.{Log}
-use Rattle.fx_counted.specs.declared.view.View.{View}
-use Rattle.fx_counted.specs.declared.view.Work.{Work}
-use Rattle.fx_counted.specs.declared.view.Work.TheVariants.{Idle, Placing, Holding, Retiring, Emptying}
+use Rattle.fx_counted.proofs.Words.{◌≡◌, ℕ, List, [], ◌∷◌, set, length, sym, refl, ap, ◌∙◌, subst, arith, some, get_elem?, held_by, State, Event}
+use Rattle.fx_counted.proofs.Words.{range_of, NodeAgrees, PlacesNext, Agrees, ControlCounts, looks, all_looks, word_of, place_of, control_place}
+use Rattle.fx_counted.proofs.Words.{draw_place, slot_place, Shared, opening_of, IsNumber, state_after_all, next_in, Change, Log, View, Work, Placing}
 use Rattle.fx_counted.proofs.Frames.{stays_same, owner_same}
-use Rattle.fx_counted.proofs.Histories.{Grows, IsHistory, seen_all}
+use Rattle.fx_counted.proofs.Histories.{Grows, grows_none, IsHistory, seen_all}
 use Rattle.fx_counted.proofs.Keeping.{word_at, now, logged, its_log, its_work, Step, step_kept}
 use Rattle.fx_counted.proofs.Unchanged.{slot_same, draws_same}
 
 places_same : (x y : Log) (d : Work) → next_in y ≡ next_in x → y.numbers_left ≡ x.numbers_left → PlacesNext x d → PlacesNext y d
-places_same x y Idle next left o = tt
 places_same x y (Placing n) next left o = (o.0 ∙ sym next, let a = o.1 in omega arith)
-places_same x y (Holding f) next left o = tt
-places_same x y (Retiring f t) next left o = tt
-places_same x y (Emptying n) next left o = tt
+places_same x y _ next left o = tt
 
 module _ (st : Shared) (v : View) (r : Agrees v.start st) (id : ℕ) (x : Log) (here : get_elem? st.views id ≡ some v)
-    (one : v.logs ≡ x ∷ []) (h' : List Event) (c : Change) (words' : List ℕ) where
-  abbrev pub y : Log
-  y = logged x h' x.numbers_left x.looks_left
-
-  abbrev w : View
-  w = now v y v.work c
-
-  pub record Calm : Type 0 where
+    (one : v.logs ≡ x ∷ []) (h' : List Event) where
+  -- the history tells of nothing new
+  pub record Quiet : Type 0 where
     pub grows : Grows x.number r.history h'
     pub legal : IsHistory v.start h'
     pub state : state_after_all v.start h' ≡ state_after_all v.start r.history
     pub looked : looks h' ≡ looks r.history
     pub all : all_looks h' ≡ all_looks r.history
     pub held : held_by h' x.number ≡ held_by r.history x.number
-    pub words : length words' ≡ length st.words
-    pub slots : (s : ℕ) → word_at words' (slot_place s) ≡ word_at st.words (slot_place s)
-    pub nodes : (n : ℕ) → IsNumber v.start n → word_at words' (word_of v.start n) ≡ word_at st.words (word_of v.start n)
-    pub drawn : word_at words' draw_place ≡ word_at st.words draw_place
-    pub control : ControlCounts (state_after_all v.start r.history).at (range_of (opening_of v.start))
-        (set st.views id w) (word_at words' control_place)
 
-  module _ (p : Calm) where
-    calm_step : Step st v r id x here one y v.work c h' r.phase words' st.homes
-    calm_step = let o = its_log st v r id x here one in record {
-      words = p.words;
-      homes = refl;
-      number = refl;
-      grows = p.grows;
-      legal = p.legal;
-      slots = λ s l. slot_same v.start r.history h' r.phase r.phase s (word_at st.words (slot_place s))
-          (word_at words' (slot_place s)) (p.slots s) (ap (λ (z : State). z.at s) p.state) (let a = p.all in omega arith)
-          (λ f there seat. (ap (λ (g : ℕ → ℕ). g f.number) p.looked, refl)) (r.each_slot s l);
-      nodes = λ n has. subst (λ (z : State × ℕ
-          × ℕ). NodeAgrees z.0 n z.1 z.2 (get_elem? st.homes (place_of v.start n)) (r.phase n))
-          (λ i. (sym p.state i, sym p.looked i n, sym (p.nodes n has) i)) (r.each_node n has);
-      owners = λ n has. owner_same st.views id v w here refl n (r.phase n) (r.each_owner n has);
-      no_other = λ n absent. ap (λ (z : State). z.removed n) p.state ∙ r.no_other n absent;
-      stays = stays_same id x.number r.phase;
-      keeps = λ j u f other there holds. refl;
-      log = record {
-        seen = seen_all h';
-        own = refl;
-        held = p.held ∙ o.held;
-        chain = o.chain;
-        few_left = o.few_left;
-        left_inside = o.left_inside;
-        next = places_same x y v.work refl refl o.next;
-        spares = o.spares;
-      };
-      work = its_work st v r id x here one;
-      holds = λ n. let e = ap (λ (z : State). z.holds n) p.state in omega arith;
-      look_ups = let a = p.all in omega arith;
-      control = subst (λ (z : State). ControlCounts z.at (range_of (opening_of v.start)) (set st.views id w)
-          (word_at words' control_place)) (sym p.state) p.control;
-      draws = draws_same st.views id v w here v.start.chains r.phase r.phase (word_at st.words draw_place)
-          (word_at words' draw_place) x y one refl refl refl p.drawn (λ n is. is) r.draws;
-    }
+  module _ (c : Change) (words' : List ℕ) where
+    abbrev pub y : Log
+    y = logged x h' x.numbers_left x.looks_left
 
-    pub calm_agrees : Agrees v.start record { words = words'; homes = st.homes; views = set st.views id w }
-    calm_agrees = step_kept st v r id x here one y v.work c h' r.phase words' st.homes calm_step
+    abbrev w : View
+    w = now v y v.work c
+
+    pub record Calm : Type 0 where
+      pub quiet : Quiet
+      pub words : length words' ≡ length st.words
+      pub slots : (s : ℕ) → word_at words' (slot_place s) ≡ word_at st.words (slot_place s)
+      pub nodes : (n : ℕ) → IsNumber v.start n → word_at words' (word_of v.start n) ≡ word_at st.words (word_of v.start n)
+      pub drawn : word_at words' draw_place ≡ word_at st.words draw_place
+      pub control : ControlCounts (state_after_all v.start r.history).at (range_of (opening_of v.start))
+          (set st.views id w) (word_at words' control_place)
+
+    module _ (p : Calm) where
+      calm_step : Step st v r id x here one y v.work c h' r.phase words' st.homes
+      calm_step = let o = its_log st v r id x here one in record {
+        words = p.words;
+        homes = refl;
+        number = refl;
+        grows = p.quiet.grows;
+        legal = p.quiet.legal;
+        slots = λ s l. slot_same v.start r.history h' r.phase r.phase s (word_at st.words (slot_place s))
+            (word_at words' (slot_place s)) (p.slots s) (ap (λ (z : State). z.at s) p.quiet.state) (let a = p.quiet.all in omega arith)
+            (λ f there seat. (ap (λ (g : ℕ → ℕ). g f.number) p.quiet.looked, refl)) (r.each_slot s l);
+        nodes = λ n has. subst (λ (z : State × ℕ
+            × ℕ). NodeAgrees z.0 n z.1 z.2 (get_elem? st.homes (place_of v.start n)) (r.phase n))
+            (λ i. (sym p.quiet.state i, sym p.quiet.looked i n, sym (p.nodes n has) i)) (r.each_node n has);
+        owners = λ n has. owner_same st.views id v w here refl n (r.phase n) (r.each_owner n has);
+        no_other = λ n absent. ap (λ (z : State). z.removed n) p.quiet.state ∙ r.no_other n absent;
+        stays = stays_same id x.number r.phase;
+        keeps = λ j u f other there holds. refl;
+        log = record {
+          seen = seen_all h';
+          own = refl;
+          held = p.quiet.held ∙ o.held;
+          chain = o.chain;
+          few_left = o.few_left;
+          left_inside = o.left_inside;
+          next = places_same x y v.work refl refl o.next;
+          spares = o.spares;
+        };
+        work = its_work st v r id x here one;
+        holds = λ n. let e = ap (λ (z : State). z.holds n) p.quiet.state in omega arith;
+        look_ups = let a = p.quiet.all in omega arith;
+        control = subst (λ (z : State). ControlCounts z.at (range_of (opening_of v.start)) (set st.views id w)
+            (word_at words' control_place)) (sym p.quiet.state) p.control;
+        draws = draws_same st.views id v w here v.start.chains r.phase r.phase (word_at st.words draw_place)
+            (word_at words' draw_place) x y one refl refl refl p.drawn (λ n is. is) r.draws;
+      }
+
+      pub calm_agrees : Agrees v.start record { words = words'; homes = st.homes; views = set st.views id w }
+      calm_agrees = step_kept st v r id x here one y v.work c h' r.phase words' st.homes calm_step
+
+module _ (st : Shared) (v : View) (r : Agrees v.start st) (id : ℕ) (x : Log) (here : get_elem? st.views id ≡ some v) (one : v.logs ≡ x ∷ []) where
+  pub no_event : Quiet st v r id x here one r.history
+  no_event = record { grows = grows_none x.number r.history; legal = r.legal; state = refl; looked = refl; all = refl; held = refl }

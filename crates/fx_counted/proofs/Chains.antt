@@ -1,37 +1,23 @@
 -- A draw keeps the rule.
-use Rattle.std.specs.Prelude.{sum_by}
-use Rattle.std.proofs.Common.{◌≡◌, ◌≢◌, ℕ, zero, suc, ◌+◌, ◌%◌, ◌^◌, ◌<◌, ◌≤◌, Bool, true, false, cond, List, [], ◌∷◌}
-use Rattle.std.proofs.Common.{set, length, sym, refl, ap, ◌∙◌, subst, arith, eqb, eq-eqb, ne_eqb, lt-ltb, le-ltb}
-use Rattle.std.proofs.Common.{length-set, get_or-set_other, get_or-set_same, Option, Some, None, ◌⊎◌, inl, inr, ⊎_elim}
-use mathlib.Core.Logic.{dite}
-use mathlib.Core.Option.{some, none}
-use native.Mathlib.Decide.{ℕ_discrete, dec_le}
-use lib.ListN.{get_elem?}
-use Rattle.atomic_table.specs.Table.{keeps, Allows, Act, Valid, stepped, carried_after, step}
-use Rattle.fx_base.specs.declared.open_file.Closed.{Closed}
+use Rattle.fx_counted.proofs.Words.{sum_by, ◌≡◌, ◌≢◌, ℕ, zero, suc, ◌+◌, ◌%◌, ◌^◌, ◌<◌, ◌≤◌, Bool, true, false, cond, List, [], ◌∷◌, set, length}
+use Rattle.fx_counted.proofs.Words.{sym, refl, ap, ◌∙◌, subst, arith, eqb, lt-ltb, le-ltb, get_or-set_other, get_or-set_same, Option, Some, None}
+use Rattle.fx_counted.proofs.Words.{◌⊎◌, inl, inr, ⊎_elim, dite, some, none, ℕ_discrete, dec_le, get_elem?, keeps, Act, Valid, stepped}
+use Rattle.fx_counted.proofs.Words.{carried_after, step, Closed, numbers_for, PassView, sum_by-cons, sum_set, sum_at, sum_le_at, NodeAgrees}
+use Rattle.fx_counted.proofs.Words.{OwnerAgrees, LogAgrees, lengths, Agrees, PlacesNext, WorkAgrees, DrawsCount, word_of, place_of, control_place}
+use Rattle.fx_counted.proofs.Words.{draw_place, slot_place, Shared, Sat, opening_of, state_after_all, chain_in, shown, first_log, drawn_of, told_of}
+use Rattle.fx_counted.proofs.Words.{once, placing, Phase, unborn, spare, owner, file_in, Log, Start, View, Idle, looks}
+use Rattle.std.proofs.Common.{length-set}
+use Rattle.atomic_table.specs.Table.{Allows}
 use Rattle.fx_table.specs.Calls.{Draws}
-use Rattle.fx_table.specs.Numbers.{numbers_for}
-use Rattle.fx_table.specs.Pass.{PassView}
-use Rattle.std.proofs.lemmas.List.Sums.{sum_by-cons}
-use Rattle.fx_table.proofs.SumLemmas.{sum_set, sum_at, sum_le_at}
-use Rattle.fx_counted.specs.Agrees.{NodeAgrees, OwnerAgrees, LogAgrees, lengths, Agrees, PlacesNext, WorkAgrees}
-use Rattle.fx_counted.specs.Draws.{DrawsCount}
-use Rattle.fx_counted.specs.Laws.{word_of, place_of, DrawsKeep}
-use Rattle.fx_counted.specs.Layout.{control_place, draw_place, slot_place}
-use Rattle.fx_counted.specs.Passes.{Shared, Sat, opening_of, state_after_all, first_or, chain_in, shown, first_log, drawn_of, told_of, once, placing}
-use Rattle.fx_counted.specs.Phases.{Phase, unborn, spare, owner, file_in}
+use Rattle.fx_counted.specs.Laws.{DrawsKeep}
+use Rattle.fx_counted.specs.Passes.{first_or}
 use Rattle.fx_counted.specs.Tells.{DrawTells}
-use Rattle.fx_counted.specs.declared.view.Log.{Log}
-use Rattle.fx_counted.specs.declared.view.Start.{Start}
-use Rattle.fx_counted.specs.declared.view.View.{View}
-use Rattle.fx_counted.specs.declared.view.Work.TheVariants.{Idle}
 use Rattle.fx_counted.proofs.Frames.{owner_same}
 use Rattle.fx_counted.proofs.Histories.{grows_none}
 use Rattle.fx_counted.proofs.Keeping.{word_at, now, its_log, Step, step_kept}
 use Rattle.fx_counted.proofs.NodeSteps.{near, far}
 use Rattle.fx_counted.proofs.Unchanged.{slot_same, control_same}
-use Rattle.fx_counted.proofs.Ones.{one_if, times}
-use Rattle.fx_counted.specs.Counts.{looks}
+use Rattle.fx_counted.proofs.Ones.{one_if, times, bit_here, bit_else}
 
 abbrev pick : {P : Type 0} → Dec P → Phase → Phase → Phase
 pick (yes _) a b = a
@@ -71,11 +57,15 @@ pub once_some : (n p : ℕ) → 0 < once n p → p ≤ n
 once_some n zero a = omega arith
 once_some n (suc p) a = dite (dec_le (suc p) n) (λ l. l) (λ g. let z = once_out n (suc p) (omega (arith, g)) in absurd (omega arith))
 
-pub bit_here : (p q : ℕ) → q ≡ p → one_if (eqb q p) ≡ 1
-bit_here p q e = rw (eq-eqb q p e) refl
-
-pub bit_else : (p q : ℕ) → q ≢ p → one_if (eqb q p) ≡ 0
-bit_else p q e = rw (ne_eqb q p e) refl
+-- one chain more was given
+once_more : (n c : ℕ) → once (n + 1) c ≡ once n c + one_if (eqb (n + 1) c)
+once_more n zero = let e = bit_else 0 (n + 1) (λ is. omega arith) in omega arith
+once_more n (suc p) = dite (ℕ_discrete n p)
+    (λ same. let b = bit_here (suc p) (n + 1) (omega (arith, same)) in let o1 = once_out n (suc p) (omega (arith, same)) in
+    let o2 = once_in (n + 1) (suc p) (omega arith) (omega (arith, same)) in omega arith)
+    (λ other. let b = bit_else (suc p) (n + 1) (λ is. other (omega (arith, is))) in dite (dec_le (suc p) n)
+    (λ low. let o1 = once_in n (suc p) (omega arith) low in let o2 = once_in (n + 1) (suc p) (omega arith) (omega (arith, low)) in omega arith)
+    (λ high. let o1 = once_out n (suc p) (omega (arith, high)) in let o2 = once_out (n + 1) (suc p) (omega (arith, high, other)) in omega arith))
 
 pub told_few : (l : List Log) → sum_by (λ y. one_if y.no_chains_left) l ≤ length l
 told_few [] = omega arith
@@ -226,16 +216,7 @@ module _ (st : Shared) (v : View) (r : Agrees v.start st) (id : ℕ) (x : Log) (
             each = λ c. let s = sum_set (drawn_of c) st.views id v w here in let e = d.each c in
                 let dv = drawn_v y refl refl refl phase' c in
                 let co = sum_by-cons (λ d. one_if (eqb d c)) (found + 1) x.drawn in let gg = ap (λ (n : ℕ). once n c) g in
-                dite (ℕ_discrete (found + 1) c)
-                (λ same. let b = bit_here c (found + 1) same in let o1 = once_out found c (omega (arith, same)) in
-                let o2 = once_in (found + 1) c (omega (arith, same)) (omega (arith, same)) in omega arith)
-                (λ other. let b = bit_else c (found + 1) other in dite (dec_le c found)
-                (λ low. dite (ℕ_discrete c 0) (λ none. let o1 : once found c ≡ 0 = ap (once found) none in
-                let o2 : once (found + 1) c ≡ 0 = ap (once (found + 1)) none in omega arith)
-                (λ some_c. let o1 = once_in found c (omega (arith, some_c)) low in
-                let o2 = once_in (found + 1) c (omega (arith, some_c)) (omega (arith, low)) in omega arith))
-                (λ high. let o1 = once_out found c (omega (arith, high)) in
-                let o2 = once_out (found + 1) c (omega (arith, high, other)) in omega arith));
+                let more = once_more found c in omega arith;
             counts = omega arith;
             all = λ some_told. absurd (omega arith);
             unused = λ n low high. given_else (numbers_for found) (numbers_for (found + 1)) x.number r.phase n
@@ -254,12 +235,7 @@ module _ (st : Shared) (v : View) (r : Agrees v.start st) (id : ℕ) (x : Log) (
         spares = λ n low high. given_in (numbers_for found) (numbers_for (found + 1)) x.number r.phase n (omega arith) high;
       }
 
-      drawn_agrees : Agrees v.start record {
-        words = set st.words draw_place
-            (found + 1);
-        homes = st.homes;
-        views = set st.views id (now v y v.work v.change);
-      }
+      drawn_agrees : Agrees v.start (stepped st draw_place (found + 1) id [] (now v y v.work v.change) keeps)
       drawn_agrees = step_kept st v r id x here one y v.work v.change r.history phase'
           (set st.words draw_place (found + 1)) st.homes (draw_step y refl refl refl phase' phases log (idle_work phase') counts)
 
@@ -311,12 +287,7 @@ module _ (st : Shared) (v : View) (r : Agrees v.start st) (id : ℕ) (x : Log) (
         spares = o.spares;
       }
 
-      told_agrees : Agrees v.start record {
-        words = set st.words draw_place
-            (found + 1);
-        homes = st.homes;
-        views = set st.views id (now v y' v.work v.change);
-      }
+      told_agrees : Agrees v.start (stepped st draw_place (found + 1) id [] (now v y' v.work v.change) keeps)
       told_agrees = step_kept st v r id x here one y' v.work v.change r.history r.phase
           (set st.words draw_place (found + 1)) st.homes
           (draw_step y' refl refl refl r.phase (λ n. inl refl) log' (idle_work r.phase) counts')

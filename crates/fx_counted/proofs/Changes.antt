@@ -1,43 +1,19 @@
 -- An installation and a removal keep the rule.
-use Rattle.std.proofs.Common.{◌≡◌, ◌≢◌, ℕ, ◌-◌, ◌<◌, ◌^◌, Bool, false, List, [], ◌∷◌, set, sym}
-use Rattle.std.proofs.Common.{refl, ap, ◌∙◌, subst, arith, length-set, Option, Some, None}
-use mathlib.Core.Logic.{dite}
-use mathlib.Core.Option.{some}
-use native.Mathlib.Decide.{ℕ_discrete}
-use lib.ListN.{get_elem?}
-use Rattle.atomic_table.proofs.Lists.{set_here, set_else}
-use Rattle.fx_base.specs.declared.open_file.Closed.{Closed}
-use Rattle.fx_plain.specs.History.{◌▷◌, held_by, held_after}
-use Rattle.fx_plain.specs.Step.{changed_at, with_removed}
-use Rattle.fx_plain.specs.Table.{numbered}
-use Rattle.fx_plain.specs.declared.event.File.{File}
-use Rattle.fx_plain.specs.declared.event.Event.{Event}
-use Rattle.fx_plain.specs.declared.event.Action.{Action}
-use Rattle.fx_plain.specs.State.{State}
-use Rattle.fx_table.specs.Calls.{no_use, one_number}
-use Rattle.fx_table.specs.Opening.{range_of}
-use Rattle.fx_table.specs.Pass.{event_of}
-use Rattle.fx_words.specs.Words.{takes_in, slot_word_of}
-use Rattle.fx_words.proofs.Parts.{name_made, entry_made, takes_made}
-use Rattle.fx_counted.specs.Agrees.{Names, NodeAgrees, OwnerAgrees, WorkAgrees, PlacesNext, Agrees}
-use Rattle.fx_counted.specs.Control.{if_full}
-use Rattle.fx_counted.specs.Counts.{looks, all_looks}
-use Rattle.fx_counted.specs.Laws.{word_of, place_of}
-use Rattle.fx_counted.specs.Layout.{slot_place}
-use Rattle.fx_counted.specs.Passes.{Shared, opening_of, slots_of, IsNumber, state_after_all, shown, next_in, held_in, placing, holding}
-use Rattle.fx_counted.specs.Phases.{Phase, unborn, spare, placed, seated, owner, file_in}
-use Rattle.fx_counted.specs.Tells.{IsInside, Stepped, retires_now, turned}
-use Rattle.fx_counted.specs.declared.view.Log.{Log}
-use Rattle.fx_counted.specs.declared.view.View.{View}
-use Rattle.fx_counted.specs.declared.view.Work.TheVariants.{Idle, Placing}
+use Rattle.fx_counted.proofs.Words.{◌≡◌, ◌≢◌, ℕ, ◌-◌, ◌<◌, ◌^◌, false, List, [], ◌∷◌, set, sym, refl, ap, ◌∙◌, subst, arith, Option, Some, None}
+use Rattle.fx_counted.proofs.Words.{dite, some, ℕ_discrete, get_elem?, set_here, set_else, Closed, ◌▷◌, changed_at, numbered, File, Action, State}
+use Rattle.fx_counted.proofs.Words.{no_use, one_number, range_of, event_of, takes_in, slot_word_of, name_made, entry_made, takes_made, Names}
+use Rattle.fx_counted.proofs.Words.{NodeAgrees, OwnerAgrees, WorkAgrees, PlacesNext, Agrees, if_full, looks, word_of, place_of, slot_place, Shared}
+use Rattle.fx_counted.proofs.Words.{opening_of, slots_of, IsNumber, state_after_all, shown, next_in, held_in, placing, holding, Phase, unborn, spare}
+use Rattle.fx_counted.proofs.Words.{placed, seated, owner, file_in, IsInside, Stepped, retires_now, turned, Log, View, Idle, Placing, Change, keeps}
+use Rattle.fx_counted.proofs.Words.{stepped}
+use Rattle.std.proofs.Common.{length-set}
 use Rattle.fx_counted.proofs.Births.{in_phase, roomy, else_place, held_file}
 use Rattle.fx_counted.proofs.Frames.{busy, stays_same, owner_stays}
 use Rattle.fx_counted.proofs.FullSlots.{Stands, control_swap}
 use Rattle.fx_counted.proofs.Histories.{IsHistory, grows_one, part_mine, change_here, change_else, same_shape}
 use Rattle.fx_counted.proofs.Keeping.{Homes, word_at, now, logged, its_log, its_work, tells}
-use Rattle.fx_counted.proofs.Swaps.{NotOf, removed_else, found, state, so, seat_of, not_old, elsewhere, w, Swap, swap_agrees}
+use Rattle.fx_counted.proofs.Swaps.{NotOf, Effect, h', removed_else, found, state, so, seat_of, not_old, elsewhere, w, Swap, swap_agrees}
 use Rattle.fx_counted.proofs.Unchanged.{node_same}
-use Rattle.fx_counted.specs.declared.view.Change.{Change}
 
 module _ (st : Shared) (v : View) (r : Agrees v.start st) (id : ℕ) (x : Log) (here : get_elem? st.views id ≡ some v)
     (one : v.logs ≡ x ∷ []) (s : ℕ) (inside : s < slots_of v.start) (stands : Stands (range_of (opening_of v.start)) s v.change)
@@ -58,35 +34,15 @@ module _ (st : Shared) (v : View) (r : Agrees v.start st) (id : ℕ) (x : Log) (
   pub names_old : Names f₀ old
   names_old = subst (Names f₀) was (so st v r id x here one s inside).names
 
-  abbrev pub event : Action → Event
-  event a = event_of (shown x v.work) a
-
   abbrev pub after : Action → State
-  after a = state_after_all v.start (event a ∷ r.history)
-
-  -- what a removal, and an installation of the file, do to the state
-  pub record Does (a : Action) (new : Option File) (fresh : ℕ → Bool) : Type 0 where
-    pub legal : IsHistory v.start (event a ∷ r.history)
-    pub at : (after a).at ≡ changed_at s₀.at s new
-    pub removed : (after a).removed ≡ with_removed s₀.removed old
-    pub holds : (after a).holds ≡ s₀.holds
-    pub fresh_is : (after a).fresh ≡ fresh
-    pub size : (after a).size ≡ s₀.size
-    pub looked : looks (event a ∷ r.history) ≡ looks r.history
-    pub all : all_looks (event a ∷ r.history) ≡ all_looks r.history
-    pub held : held_after (held_by r.history x.number) a ≡ held_by r.history x.number
+  after a = state_after_all v.start (h' st v r id x here one s inside old was a)
 
   -- a removal
-  module _ (idle : v.work ≡ Idle) (a : Action) (does : Does a None s₀.fresh) where
+  module _ (idle : v.work ≡ Idle) (a : Action) (does : Effect st v r id x here one s inside old was a None s₀.fresh) where
     removal : Swap st v r id x here one s inside old was a 0 None st.homes r.phase x.numbers_left (turned v.change (if_full old) 0)
     removal = let o = its_log st v r id x here one in record {
-      legal = does.legal;
-      at = does.at;
-      removed = does.removed;
-      holds = does.holds;
-      looked = does.looked;
-      all = does.all;
-      held = does.held;
+      fresh = s₀.fresh;
+      does = does;
       homes = refl;
       names = refl;
       no_takes = refl;
@@ -96,10 +52,10 @@ module _ (st : Shared) (v : View) (r : Agrees v.start st) (id : ℕ) (x : Log) (
       stays = stays_same id x.number r.phase;
       keeps = λ j u f other there holds. refl;
       unused = λ n is. is;
-      nodes = λ n has other. node_same s₀ (after a) n (looks r.history n) (looks r.history n) _ _ _ _ (ap (λ (g : ℕ
-          → Bool). g n) does.fresh_is) (ap (λ (g : ℕ → Option File). g n) does.removed ∙ removed_else s₀.removed old n other)
-          (ap (λ (g : ℕ → ℕ). g n) does.holds) refl refl refl does.size (r.phase n)
-          (λ i g is there. ap (λ (g : ℕ → Option File). g i) does.at
+      nodes = λ n has other. node_same s₀ (after a) n (looks r.history n) (looks r.history n) _ _ _ _
+          (ap (λ (z : State). z.fresh n) does.state) (ap (λ (z : State). z.removed n) does.state ∙ removed_else s₀.removed old n other)
+          (ap (λ (z : State). z.holds n) does.state) refl refl refl (ap (λ (z : State). z.size) does.state) (r.phase n)
+          (λ i g is there. ap (λ (z : State). z.at i) does.state
           ∙ change_else s₀.at s None i (elsewhere st v r id x here one s inside old was n i g other there))
           (r.each_node n has);
       old_home = λ f is. refl;
@@ -113,32 +69,24 @@ module _ (st : Shared) (v : View) (r : Agrees v.start st) (id : ℕ) (x : Log) (
       control = control_swap s₀.at (range_of (opening_of v.start)) st.views id v _ _ s old None here was stands refl r.control;
     }
 
-    pub removal_agrees : Agrees v.start record {
-      words = set st.words
-          (slot_place s) 0;
-      homes = st.homes;
-      views = set st.views id
-          (now v (logged x (event a ∷ r.history) x.numbers_left x.looks_left) (retires_now old (takes_in f₀))
-          (turned v.change (if_full old) 0));
-    }
+    abbrev removed_view : View
+    removed_view = now v (logged x (event_of (shown x v.work) a ∷ r.history) x.numbers_left x.looks_left) (retires_now old (takes_in f₀)) (turned v.change (if_full old) 0)
+
+    pub removal_agrees : Agrees v.start (stepped st (slot_place s) 0 id [] removed_view keeps)
     removal_agrees = swap_agrees st v r id x here one s inside old was a 0 None st.homes r.phase x.numbers_left
         (turned v.change (if_full old) 0) removal
 
     pub removal_tells : (carried : List (ℕ × Option Closed))
-        → Stepped (v, carried) ([] ▷ a) no_use (retires_now old (takes_in f₀)) (turned v.change (if_full old) 0) (
-          now v (logged x (event a ∷ r.history) x.numbers_left x.looks_left) (retires_now old (takes_in f₀))
-              (turned v.change (if_full old) 0),
-          carried,
-        )
+        → Stepped (v, carried) ([] ▷ a) no_use (retires_now old (takes_in f₀)) (turned v.change (if_full old) 0) (removed_view, carried)
     removal_tells carried = tells st v r id x here one carried carried
-        (event a ∷ r.history) x.numbers_left x.looks_left (retires_now old (takes_in f₀))
+        (event_of (shown x v.work) a ∷ r.history) x.numbers_left x.looks_left (retires_now old (takes_in f₀))
         (turned v.change (if_full old) 0) ([] ▷ a) no_use
-        (grows_one x.number r.history (event a) refl) does.legal (part_mine x.number (event a) r.history refl)
+        (grows_one x.number r.history (event_of (shown x v.work) a) refl) does.legal (part_mine x.number (event_of (shown x v.work) a) r.history refl)
         (omega arith) (omega arith) (inside_now old refl)
 
   -- an installation
   module _ (n : ℕ) (file : Closed) (works : v.work ≡ Placing n) (small : file.entry < 2 ^ 8) (a : Action)
-      (does : Does a (Some (numbered n file)) (changed_at s₀.fresh n false)) where
+      (does : Effect st v r id x here one s inside old was a (Some (numbered n file)) (changed_at s₀.fresh n false)) where
     its : IsNumber v.start n × (r.phase n ≡ placed id)
     its = subst (WorkAgrees v.start r.phase id) works (its_work st v r id x here one)
 
@@ -169,42 +117,34 @@ module _ (st : Shared) (v : View) (r : Agrees v.start st) (id : ℕ) (x : Log) (
     abbrev w₁ : View
     w₁ = w st v r id x here one s inside old was a (slot_word_of n file.entry) (Some (numbered n file)) homes' phase₁ (x.numbers_left - 1) c
 
-    Node : ℕ → Phase → Type 0
+    abbrev Node : ℕ → Phase → Type 0
     Node m ph = NodeAgrees (after a) m (looks r.history m) (word_at st.words (word_of v.start m)) (get_elem? homes' (place_of v.start m)) ph
 
-    node_here : NodeAgrees (after a) n (looks r.history n) (word_at st.words (word_of v.start n))
-        (get_elem? homes' (place_of v.start n)) (seated s file)
-    node_here = let o = node in let h = ap (λ (g : ℕ → ℕ). g n) does.holds in (
+    node_here : Node n (seated s file)
+    node_here = let o = node in let h = ap (λ (z : State). z.holds n) does.state in (
       omega arith,
       set_here st.homes (place_of v.start n) (some (Some file)) (roomy st v r id x here one n its.0),
-      (let z = in_size in let q = does.size in omega arith),
-      ap (λ (g : ℕ → Option File). g s) does.at ∙ change_here s₀.at s (Some (numbered n file)) s refl,
-      ap (λ (g : ℕ → Option File). g n) does.removed ∙ (removed_else s₀.removed old n apart_old ∙ o.5),
+      (let z = in_size in let q = ap (λ (z : State). z.size) does.state in omega arith),
+      ap (λ (z : State). z.at s) does.state ∙ change_here s₀.at s (Some (numbered n file)) s refl,
+      ap (λ (z : State). z.removed n) does.state ∙ (removed_else s₀.removed old n apart_old ∙ o.5),
     )
 
-    node_else : (m : ℕ) → IsNumber v.start m → m ≢ n → NotOf m old
-        → NodeAgrees (after a) m (looks r.history m) (word_at st.words (word_of v.start m))
-        (get_elem? homes' (place_of v.start m)) (r.phase m)
+    node_else : (m : ℕ) → IsNumber v.start m → m ≢ n → NotOf m old → Node m (r.phase m)
     node_else m has other apart = node_same s₀ (after a) m (looks r.history m) (looks r.history m) _ _ _ _
-        (ap (λ (g : ℕ → Bool). g m) does.fresh_is ∙ change_else s₀.fresh n false m other)
-        (ap (λ (g : ℕ → Option File). g m) does.removed ∙ removed_else s₀.removed old m apart)
-        (ap (λ (g : ℕ → ℕ). g m) does.holds) refl refl
+        (ap (λ (z : State). z.fresh m) does.state ∙ change_else s₀.fresh n false m other)
+        (ap (λ (z : State). z.removed m) does.state ∙ removed_else s₀.removed old m apart)
+        (ap (λ (z : State). z.holds m) does.state) refl refl
         (set_else st.homes (place_of v.start n) (place_of v.start m) (some (Some file))
-        (else_place st v r id x here one n its.0 m has other)) does.size (r.phase m)
-        (λ i g is there. ap (λ (g : ℕ → Option File). g i) does.at
+        (else_place st v r id x here one n its.0 m has other)) (ap (λ (z : State). z.size) does.state) (r.phase m)
+        (λ i g is there. ap (λ (z : State). z.at i) does.state
         ∙ change_else s₀.at s (Some (numbered n file)) i
         (elsewhere st v r id x here one s inside old was m i g apart there)) (r.each_node m has)
 
     installation : Swap st v r id x here one s inside old was a (slot_word_of n file.entry)
         (Some (numbered n file)) homes' phase₁ (x.numbers_left - 1) c
     installation = let o = its_log st v r id x here one in record {
-      legal = does.legal;
-      at = does.at;
-      removed = does.removed;
-      holds = does.holds;
-      looked = does.looked;
-      all = does.all;
-      held = does.held;
+      fresh = changed_at s₀.fresh n false;
+      does = does;
       homes = length-set st.homes (place_of v.start n) (some (Some file));
       names = (name_made n file.entry small, entry_made n file.entry small);
       no_takes = takes_made n file.entry;
@@ -221,13 +161,8 @@ module _ (st : Shared) (v : View) (r : Agrees v.start st) (id : ℕ) (x : Log) (
           let z : None ≡ Some f.identity = sym (ap file_in bad) ∙ e in cc z));
       unused = λ m is. else_phase m unborn is (λ bad. cc bad);
       nodes = λ m has apart. dite (ℕ_discrete m n)
-          (λ same. subst (λ (m : ℕ). NodeAgrees (after a) m (looks r.history m) (word_at st.words (word_of v.start m))
-          (get_elem? homes' (place_of v.start m)) (phase₁ m)) (sym same)
-          (subst (NodeAgrees (after a) n (looks r.history n) (word_at st.words (word_of v.start n))
-          (get_elem? homes' (place_of v.start n))) (sym here_phase) node_here))
-          (λ other. subst (NodeAgrees (after a) m (looks r.history m) (word_at st.words (word_of v.start m))
-          (get_elem? homes' (place_of v.start m))) (sym (change_else r.phase n (seated s file) m other))
-          (node_else m has other apart));
+          (λ same. subst (λ (m : ℕ). Node m (phase₁ m)) (sym same) (subst (Node n) (sym here_phase) node_here))
+          (λ other. subst (Node m) (sym (change_else r.phase n (seated s file) m other)) (node_else m has other apart));
       old_home = λ f is. let q = seat_of st v r id x here one s inside f (was ∙ is) in
           set_else st.homes (place_of v.start n) (place_of v.start f.number) (some (Some file))
           (else_place st v r id x here one n its.0 f.number q.0
@@ -247,19 +182,20 @@ module _ (st : Shared) (v : View) (r : Agrees v.start st) (id : ℕ) (x : Log) (
       control = control_swap s₀.at (range_of (opening_of v.start)) st.views id v _ _ s old (Some (numbered n file)) here was stands refl r.control;
     }
 
+    abbrev installed_view : View
+    installed_view = now v (logged x (event_of (shown x v.work) a ∷ r.history) (x.numbers_left - 1) x.looks_left) (retires_now old (takes_in f₀)) c
+
     pub installation_agrees : Agrees v.start record {
-      words = set st.words (slot_place s)
-          (slot_word_of n file.entry);
+      words = set st.words (slot_place s) (slot_word_of n file.entry);
       homes = homes';
-      views = set st.views id
-          (now v (logged x (event a ∷ r.history) (x.numbers_left - 1) x.looks_left) (retires_now old (takes_in f₀)) c);
+      views = set st.views id installed_view;
     }
     installation_agrees = swap_agrees st v r id x here one s inside old was a (slot_word_of n file.entry)
         (Some (numbered n file)) homes' phase₁ (x.numbers_left - 1) c installation
 
     pub installation_tells : (carried homes : List (ℕ × Option Closed)) → Stepped (v, carried) ([] ▷ a) one_number (retires_now old (takes_in f₀)) c
-        (now v (logged x (event a ∷ r.history) (x.numbers_left - 1) x.looks_left) (retires_now old (takes_in f₀)) c, homes)
-    installation_tells carried homes = tells st v r id x here one carried homes (event a ∷ r.history)
+        (installed_view, homes)
+    installation_tells carried homes = tells st v r id x here one carried homes (event_of (shown x v.work) a ∷ r.history)
         (x.numbers_left - 1) x.looks_left (retires_now old (takes_in f₀)) c ([] ▷ a) one_number
-        (grows_one x.number r.history (event a) refl) does.legal (part_mine x.number (event a) r.history refl)
+        (grows_one x.number r.history (event_of (shown x v.work) a) refl) does.legal (part_mine x.number (event_of (shown x v.work) a) r.history refl)
         (let z = next in omega arith) (omega arith) (inside_now old refl)

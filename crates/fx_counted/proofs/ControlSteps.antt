@@ -1,43 +1,20 @@
 -- Begin, end, answer and load keep the rule.
-use Rattle.std.specs.Prelude.{sum_by}
-use Rattle.std.proofs.Common.{◌≡◌, ◌≢◌, ℕ, zero, suc, ◌+◌, ◌-◌, ◌/◌, ◌%◌, ◌^◌, ◌<◌, ◌≤◌, List, [], ◌∷◌, set, length, sym}
-use Rattle.std.proofs.Common.{refl, ap, subst, arith, length-set, get_or-set_other, get_or-set_same, Option, IsSome}
-use mathlib.Core.Logic.{dite}
-use mathlib.Core.Option.{some, none, some-injective, some-ne-none}
-use native.Mathlib.Decide.{ℕ_discrete}
-use lib.ListN.{get_elem?}
-use Rattle.atomic_table.specs.Table.{keeps, Allows, step}
-use Rattle.std.proofs.lemmas.List.Sums.{sum_by-cons}
-use Rattle.fx_base.specs.declared.open_file.Closed.{Closed}
-use Rattle.fx_plain.specs.History.{◌▷◌}
-use Rattle.fx_plain.specs.declared.event.File.{File}
-use Rattle.fx_plain.specs.declared.event.Event.{Event}
-use Rattle.fx_plain.specs.declared.event.Action.TheVariants.{Full}
-use Rattle.fx_table.specs.Calls.{no_use}
-use Rattle.fx_table.specs.Opening.{range_of}
-use Rattle.fx_table.specs.Pass.{event_of}
-use Rattle.fx_table.proofs.SumLemmas.{sum_set, sum_at, sum_le_at}
-use Rattle.fx_words.specs.Words.{one_change, full_word_of}
-use Rattle.fx_counted.specs.Agrees.{WorkAgrees, lengths, Agrees}
-use Rattle.fx_counted.specs.Control.{in_change, added, removed_by, changes_of, added_of, removed_of, full_in, ControlCounts}
-use Rattle.fx_counted.specs.Laws.{word_of, BeginsKeep, EndsKeep, AnswersKeep}
-use Rattle.fx_counted.specs.Layout.{control_place, draw_place, slot_place}
-use Rattle.fx_counted.specs.Passes.{Shared, Sat, opening_of, state_after_all, shown}
-use Rattle.fx_counted.specs.Tells.{IsInside, Stepped, GoesOn, Answers}
-use Rattle.fx_counted.specs.declared.view.Change.{Change}
-use Rattle.fx_counted.specs.declared.view.Change.TheVariants.{Outside, Same, More, Less}
-use Rattle.fx_counted.specs.declared.view.Log.{Log}
-use Rattle.fx_counted.specs.declared.view.Start.{Start}
-use Rattle.fx_counted.specs.declared.view.View.{View}
-use Rattle.fx_counted.specs.declared.view.Work.{Work}
-use Rattle.fx_counted.specs.declared.view.Work.TheVariants.{Idle, Placing, Holding, Retiring, Emptying}
-use Rattle.fx_counted.proofs.Calm.{Calm, calm_agrees}
+use Rattle.fx_counted.proofs.Words.{sum_by, ◌≡◌, ◌≢◌, ℕ, zero, suc, ◌+◌, ◌-◌, ◌/◌, ◌%◌, ◌^◌, ◌<◌, ◌≤◌, List, [], ◌∷◌, set, length, sym, refl, ap}
+use Rattle.fx_counted.proofs.Words.{subst, arith, get_or-set_other, get_or-set_same, Option, IsSome, dite, some, none, some-injective, some-ne-none}
+use Rattle.fx_counted.proofs.Words.{ℕ_discrete, get_elem?, keeps, step, sum_by-cons, Closed, ◌▷◌, File, Event, Full, no_use, range_of, event_of}
+use Rattle.fx_counted.proofs.Words.{sum_set, sum_at, sum_le_at, one_change, full_word_of, WorkAgrees, lengths, Agrees, in_change, added, removed_by}
+use Rattle.fx_counted.proofs.Words.{changes_of, added_of, removed_of, full_in, ControlCounts, word_of, control_place, draw_place, slot_place, Shared}
+use Rattle.fx_counted.proofs.Words.{Sat, opening_of, state_after_all, shown, IsInside, Stepped, GoesOn, Answers, Change, Outside, Same, Log, Start}
+use Rattle.fx_counted.proofs.Words.{View, Work, Idle, Phase}
+use Rattle.std.proofs.Common.{length-set}
+use Rattle.atomic_table.specs.Table.{Allows}
+use Rattle.fx_counted.specs.Laws.{BeginsKeep, EndsKeep, AnswersKeep}
+use Rattle.fx_counted.proofs.Calm.{Quiet, no_event, Calm, calm_agrees}
 use Rattle.fx_counted.proofs.FullSlots.{full_few, full_all}
 use Rattle.fx_counted.proofs.Histories.{IsHistory, grows_none, grows_one, legal_more, held_mine, part_mine, same_shape}
 use Rattle.fx_counted.proofs.Keeping.{word_at, now, logged, its_work, tells}
 use Rattle.fx_counted.proofs.NodeSteps.{near, far}
 use Rattle.fx_counted.proofs.Retirements.{sub_wraps}
-use Rattle.fx_counted.specs.Phases.{Phase}
 
 -- what one of them adds to the gap between two totals
 pub total_gap : {X : Type 0} (f g : X → ℕ) (xs : List X) (i : ℕ) (v : X) → get_elem? xs i ≡ some v
@@ -51,28 +28,19 @@ total_gap f g (x ∷ xs) (suc i) v e each = let a = each 0 x refl in let c = sum
 
 pub at_most_one : (c : Change) → in_change c ≤ 1
 at_most_one Outside = omega arith
-at_most_one Same = omega arith
-at_most_one More = omega arith
-at_most_one Less = omega arith
+at_most_one _ = omega arith
 
 pub adds_inside : (c : Change) → added c ≤ in_change c
 adds_inside Outside = omega arith
-adds_inside Same = omega arith
-adds_inside More = omega arith
-adds_inside Less = omega arith
+adds_inside _ = omega arith
 
 pub removes_inside : (c : Change) → removed_by c ≤ in_change c
 removes_inside Outside = omega arith
-removes_inside Same = omega arith
-removes_inside More = omega arith
-removes_inside Less = omega arith
+removes_inside _ = omega arith
 
 is_inside : (k : Start) (phase : ℕ → Phase) (seat : ℕ) (d : Work) → WorkAgrees k phase seat d → IsInside k d
 is_inside k phase seat Idle o = tt
-is_inside k phase seat (Placing n) o = o.0
-is_inside k phase seat (Holding f) o = o.0
-is_inside k phase seat (Retiring f t) o = o.0
-is_inside k phase seat (Emptying n) o = o.0
+is_inside k phase seat _ o = o.0
 
 module _ (st : Shared) (v : View) (r : Agrees v.start st) (id : ℕ) (x : Log) (here : get_elem? st.views id ≡ some v) (one : v.logs ≡ x ∷ []) where
   abbrev word : ℕ
@@ -119,54 +87,37 @@ module _ (st : Shared) (v : View) (r : Agrees v.start st) (id : ℕ) (x : Log) (
     read_else : (place : ℕ) → place ≢ control_place → word_at words' place ≡ word_at st.words place
     read_else place other = get_or-set_other st.words control_place place y 0 other
 
-    -- with no event
-    quiet : (c : Change) → ControlCounts at_now range
-        (set st.views id (now v (logged x r.history x.numbers_left x.looks_left) v.work c)) y
-        → Calm st v r id x here one r.history c words'
-    quiet c control = let apart = far st v r id x here one in record {
-      grows = grows_none x.number r.history;
-      legal = r.legal;
-      state = refl;
-      looked = refl;
-      all = refl;
-      held = refl;
+    wrote : (h' : List Event) (c : Change) → Quiet st v r id x here one h' → ControlCounts at_now range
+        (set st.views id (now v (logged x h' x.numbers_left x.looks_left) v.work c)) y → Calm st v r id x here one h' c words'
+    wrote h' c quiet control = let apart = far st v r id x here one in record {
+      quiet = quiet;
       words = length-set st.words control_place y;
       slots = λ s. read_else (slot_place s) (apart.slot_and_control s);
       nodes = λ n has. read_else (word_of v.start n) (apart.node_and_control n has);
       drawn = read_else draw_place (λ same. apart.control_and_draw (sym same));
-      control = subst (ControlCounts at_now range
-          (set st.views id (now v (logged x r.history x.numbers_left x.looks_left) v.work c)))
+      control = subst (ControlCounts at_now range (set st.views id (now v (logged x h' x.numbers_left x.looks_left) v.work c)))
           (sym (get_or-set_same st.words control_place y 0 wide)) control;
     }
 
-    abbrev e : Event
-    e = event_of (shown x v.work) Full
+  abbrev e : Event
+  e = event_of (shown x v.work) Full
 
-    -- with the event that every slot of the range is full
-    full_legal : ((slot : ℕ) → range.0 ≤ slot → slot < range.0 + range.1 → IsSome (at_now slot)) → IsHistory v.start (e ∷ r.history)
-    full_legal each = legal_more v.start r.history e r.legal
-        (λ slot small in_range. let z = (same_shape v.start r.history).1 in let a = ap (λ (p : ℕ × ℕ). p.0) z in
-        let b = ap (λ (p : ℕ × ℕ). p.1) z in let i = in_range.0 in let j = in_range.1 in
-        each slot (omega arith) (omega arith)) tt
+  -- with the event that every slot of the range is full
+  full_legal : ((slot : ℕ) → range.0 ≤ slot → slot < range.0 + range.1 → IsSome (at_now slot)) → IsHistory v.start (e ∷ r.history)
+  full_legal each = legal_more v.start r.history e r.legal
+      (λ slot small in_range. let z = (same_shape v.start r.history).1 in let a = ap (λ (p : ℕ × ℕ). p.0) z in
+      let b = ap (λ (p : ℕ × ℕ). p.1) z in let i = in_range.0 in let j = in_range.1 in
+      each slot (omega arith) (omega arith)) tt
 
-    told_full : (c : Change) → ((slot : ℕ) → range.0 ≤ slot → slot < range.0 + range.1 → IsSome (at_now slot))
-        → ControlCounts at_now range (set st.views id (now v (logged x (e ∷ r.history) x.numbers_left x.looks_left) v.work c)) y
-        → Calm st v r id x here one (e ∷ r.history) c words'
-    told_full c each control = let apart = far st v r id x here one in record {
-      grows = grows_one x.number r.history e refl;
-      legal = full_legal each;
-      state = refl;
-      looked = refl;
-      all = omega arith;
-      held = held_mine x.number e r.history refl;
-      words = length-set st.words control_place y;
-      slots = λ s. read_else (slot_place s) (apart.slot_and_control s);
-      nodes = λ n has. read_else (word_of v.start n) (apart.node_and_control n has);
-      drawn = read_else draw_place (λ same. apart.control_and_draw (sym same));
-      control = subst (ControlCounts at_now range
-          (set st.views id (now v (logged x (e ∷ r.history) x.numbers_left x.looks_left) v.work c)))
-          (sym (get_or-set_same st.words control_place y 0 wide)) control;
-    }
+  told_full : ((slot : ℕ) → range.0 ≤ slot → slot < range.0 + range.1 → IsSome (at_now slot)) → Quiet st v r id x here one (e ∷ r.history)
+  told_full each = record {
+    grows = grows_one x.number r.history e refl;
+    legal = full_legal each;
+    state = refl;
+    looked = refl;
+    all = omega arith;
+    held = held_mine x.number e r.history refl;
+  }
 
   pub goes_on : (c : Change) (carried : List (ℕ × Option Closed))
       → Stepped (v, carried) [] no_use v.work c (now v (logged x r.history x.numbers_left x.looks_left) v.work c, carried)
@@ -216,7 +167,7 @@ begins_at slots id m x one out st r deep here fits = let y : ℕ = (word_at st.w
   keeps,
   tt,
   calm_agrees st m.0 r id x here one r.history Same (set st.words control_place y)
-      (quiet st m.0 r id x here one y Same (begun st m.0 r id x here one fits out)),
+      (wrote st m.0 r id x here one y r.history Same (no_event st m.0 r id x here one) (begun st m.0 r id x here one fits out)),
   record { stepped = goes_on st m.0 r id x here one Same m.1; carried = refl },
 )
 
@@ -236,7 +187,8 @@ ends_at slots id amount m x one in_now amount_is st r deep here fits = let y : �
   keeps,
   tt,
   calm_agrees st m.0 r id x here one r.history Outside (set st.words control_place y)
-      (quiet st m.0 r id x here one y Outside (ended st m.0 r id x here one fits r.history amount in_now amount_is)),
+      (wrote st m.0 r id x here one y r.history Outside (no_event st m.0 r id x here one)
+      (ended st m.0 r id x here one fits r.history amount in_now amount_is)),
   record { stepped = goes_on st m.0 r id x here one Outside m.1; carried = refl },
 )
 
@@ -262,10 +214,10 @@ answers_at slots id m x one same st r deep here fits = let y : ℕ =
       keeps,
       tt,
       calm_agrees st m.0 r id x here one (e ∷ r.history) Outside (set st.words control_place y)
-          (told_full st m.0 r id x here one y Outside each (counts (e ∷ r.history))),
+          (wrote st m.0 r id x here one y (e ∷ r.history) Outside (told_full st m.0 r id x here one each) (counts (e ∷ r.history))),
       record {
         full = λ _. tells st m.0 r id x here one m.1 m.1 (e ∷ r.history) x.numbers_left x.looks_left m.0.work Outside
-            ([] ▷ Full) no_use (grows_one x.number r.history e refl) (full_legal st m.0 r id x here one y each)
+            ([] ▷ Full) no_use (grows_one x.number r.history e refl) (full_legal st m.0 r id x here one each)
             (part_mine x.number e r.history refl) (omega arith) (omega arith) (its_inside st m.0 r id x here one);
         not_full = λ not_so. absurd (not_so says);
         carried = refl;
@@ -275,7 +227,8 @@ answers_at slots id m x one same st r deep here fits = let y : ℕ =
       now m.0 (logged x r.history x.numbers_left x.looks_left) m.0.work Outside,
       keeps,
       tt,
-      calm_agrees st m.0 r id x here one r.history Outside (set st.words control_place y) (quiet st m.0 r id x here one y Outside (counts r.history)),
+      calm_agrees st m.0 r id x here one r.history Outside (set st.words control_place y)
+          (wrote st m.0 r id x here one y r.history Outside (no_event st m.0 r id x here one) (counts r.history)),
       record { full = λ says. absurd (not_so says); not_full = λ _. goes_on st m.0 r id x here one Outside m.1; carried = refl },
     ))
 

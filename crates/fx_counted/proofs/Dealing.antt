@@ -1,19 +1,11 @@
 -- The passes that are dealt out.
-use Rattle.std.proofs.Common.{◌≡◌, ℕ, zero, suc, ◌+◌, ◌-◌, ◌≤◌, List, [], ◌∷◌, ◌++◌, map, sym, refl, ◌∙◌, ap, subst, arith}
-use Rattle.std.specs.Prelude.{Option}
+use Rattle.fx_counted.proofs.Words.{◌≡◌, ℕ, zero, suc, ◌+◌, ◌-◌, ◌≤◌, List, [], ◌∷◌, ◌++◌, map, sym, refl, ◌∙◌, ap, subst, arith, Option, TableId}
+use Rattle.fx_counted.proofs.Words.{Seat, Closed, PassView, IsFront, new_passes, new_logs, without_first, first_alone, rest_of, first_of, dealt, Sat}
+use Rattle.fx_counted.proofs.Words.{opening_of, new_log, pass_of, view_of, IsPassOf, is_idle, CountedPass, Log, Start, View}
 use mathlib.Core.List.{map-append}
-use Rattle.atomic_table.specs.Seated.{TableId}
-use Rattle.atomic_table.specs.declared.shared.Seat.{Seat}
-use Rattle.fx_base.specs.declared.open_file.Closed.{Closed}
-use Rattle.fx_table.specs.Pass.{PassView, IsFront, new_pass, new_passes, new_passes_from}
-use Rattle.fx_counted.specs.Cuts.{new_logs, without_first, first_alone, rest_of, first_of}
-use Rattle.fx_counted.specs.Lives.{dealt, IsNewPass}
-use Rattle.fx_counted.specs.Passes.{Sat, opening_of, new_log, pass_of}
-use Rattle.fx_counted.specs.Tables.{view_of, IsPassOf, IsSeated, is_idle}
-use Rattle.fx_counted.specs.declared.pass.CountedPass.{CountedPass}
-use Rattle.fx_counted.specs.declared.view.Log.{Log}
-use Rattle.fx_counted.specs.declared.view.Start.{Start}
-use Rattle.fx_counted.specs.declared.view.View.{View}
+use Rattle.fx_table.specs.Pass.{new_pass, new_passes_from}
+use Rattle.fx_counted.specs.Lives.{IsNewPass}
+use Rattle.fx_counted.specs.Tables.{IsSeated}
 
 deal_more : (p n : ℕ) → p ≤ n → new_logs p ((n + 1) - p) ≡ new_log p ∷ new_logs (p + 1) ((n + 1) - (p + 1))
 deal_more p n l = let e : (n + 1) - p ≡ suc ((n + 1) - (p + 1)) = omega arith in let f : suc p ≡ p + 1 = omega arith in

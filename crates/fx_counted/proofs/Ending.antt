@@ -1,46 +1,23 @@
 -- The end, when one seat has all passes again, and does nothing: everything is settled, and one history stands behind it.
-use Rattle.std.proofs.Common.{◌≡◌, ◌≢◌, ℕ, zero, suc, ◌<◌, ◌≤◌, Bool, true, false, List, [], ◌∷◌, map}
-use Rattle.std.proofs.Common.{length, sym, refl, ap, ◌∙◌, subst, arith, eqb, ne_eqb, ◌⊎◌, inl, inr, ⊎_elim}
-use Rattle.std.specs.Prelude.{Option, Some, None, Contains, sum_by}
-use mathlib.Core.Logic.{dite}
-use mathlib.Core.Option.{some, some-injective}
-use native.Mathlib.Decide.{ℕ_discrete, dec_le}
-use lib.ListN.{get_elem?}
+use Rattle.fx_counted.proofs.Words.{◌≡◌, ◌≢◌, ℕ, zero, suc, ◌<◌, ◌≤◌, Bool, true, false, List, [], ◌∷◌, map, length, sym, refl, ap, ◌∙◌, subst}
+use Rattle.fx_counted.proofs.Words.{arith, eqb, ne_eqb, ◌⊎◌, inl, inr, ⊎_elim, Option, Some, None, Contains, sum_by, dite, some, some-injective}
+use Rattle.fx_counted.proofs.Words.{ℕ_discrete, dec_le, get_elem?, sum_by-cons, Closed, Contents, state_of, file_at, IsSeenBy, part_of_pass, State}
+use Rattle.fx_counted.proofs.Words.{IsSettled, file_numbered, after, numbered, File, Event, Action, Look, Put, Clear, Take, Allocate, ClosesTable}
+use Rattle.fx_counted.proofs.Words.{times_drawn, numbers_for, HasSameFiles, start_of, PassView, contains_none, contains_head, contains_tail}
+use Rattle.fx_counted.proofs.Words.{contains_cases, contains_map, contains_mapped, sum_two, sum_map, Does, LogAgrees, NodeAgrees, OwnerAgrees}
+use Rattle.fx_counted.proofs.Words.{lengths, Agrees, looks, word_of, place_of, slot_place, Shared, opening_of, slots_of, IsNumber, state_after_all}
+use Rattle.fx_counted.proofs.Words.{shown, held_of, logs_of, drawn_of, told_of, once, holding, Phase, unborn, spare, placed, seated, leaving}
+use Rattle.fx_counted.proofs.Words.{retired, emptied, closed, Log, Start, View, Work, Idle, Placing, Retiring, Emptying}
 use Rattle.std.proofs.Math.ListN.{get_or-eq_default}
-use Rattle.std.proofs.lemmas.List.Sums.{sum_by-cons}
-use Rattle.fx_base.specs.declared.open_file.Closed.{Closed}
-use Rattle.fx_plain.specs.Contents.{Contents, state_of, file_at}
-use Rattle.fx_plain.specs.History.{AllowsAll, IsSeenBy, action_of, part_of_pass}
-use Rattle.fx_plain.specs.State.{State, IsSettled, file_numbered}
-use Rattle.fx_plain.specs.Step.{Allows, after}
-use Rattle.fx_plain.specs.Table.{numbered}
-use Rattle.fx_plain.specs.declared.event.File.{File}
-use Rattle.fx_plain.specs.declared.event.Event.{Event}
-use Rattle.fx_plain.specs.declared.event.Action.{Action}
-use Rattle.fx_plain.specs.declared.event.Action.TheVariants.{Look, Release, Put, Clear, Take, Allocate, Full, Close}
-use Rattle.fx_table.specs.Closing.{ClosesTable, times_drawn}
-use Rattle.fx_table.specs.Numbers.{numbers_for}
-use Rattle.fx_table.specs.Opening.{HasSameFiles, start_of}
-use Rattle.fx_table.specs.Pass.{PassView}
-use Rattle.fx_table.proofs.Members.{contains_none, contains_head, contains_tail, contains_cases, contains_map, contains_mapped}
-use Rattle.fx_table.proofs.SumLemmas.{sum_two, sum_only, sum_of, sum_map, sum_zero}
-use Rattle.fx_counted.specs.Agrees.{Does, IsSeated, LogAgrees, NodeAgrees, OwnerAgrees, lengths, Agrees}
-use Rattle.fx_counted.specs.Counts.{looks}
-use Rattle.fx_counted.specs.Laws.{word_of, place_of}
-use Rattle.fx_counted.specs.Layout.{slot_place}
-use Rattle.fx_counted.specs.Passes.{Shared, opening_of, slots_of, IsNumber, state_after_all}
-use Rattle.fx_counted.specs.Passes.{shown, held_of, logs_of, drawn_of, told_of, once, holding}
-use Rattle.fx_counted.specs.Phases.{Phase, unborn, spare, placed, seated, leaving, retired, emptied, closed}
-use Rattle.fx_counted.specs.declared.view.Log.{Log}
-use Rattle.fx_counted.specs.declared.view.Start.{Start}
-use Rattle.fx_counted.specs.declared.view.View.{View}
-use Rattle.fx_counted.specs.declared.view.Work.{Work}
-use Rattle.fx_counted.specs.declared.view.Work.TheVariants.{Idle, Placing, Retiring, Emptying}
-use Rattle.fx_counted.proofs.Chains.{once_in, once_some, bit_here}
+use Rattle.fx_plain.specs.History.{AllowsAll, action_of}
+use Rattle.fx_plain.specs.Step.{Allows}
+use Rattle.fx_table.proofs.SumLemmas.{sum_only, sum_of, sum_zero}
+use Rattle.fx_counted.specs.Agrees.{IsSeated}
+use Rattle.fx_counted.proofs.Chains.{once_in, once_some}
 use Rattle.fx_counted.proofs.Frames.{once_few}
 use Rattle.fx_counted.proofs.Histories.{part_mine, part_other, same_shape, change_else}
 use Rattle.fx_counted.proofs.Keeping.{word_at}
-use Rattle.fx_counted.proofs.Ones.{one_if, times}
+use Rattle.fx_counted.proofs.Ones.{one_if, times, bit_here}
 
 length_none : (l : List Log) → length l ≡ 0 → l ≡ []
 length_none [] e = refl
@@ -115,15 +92,12 @@ drawer (x ∷ l) c low = dite (ℕ_discrete (times c x.drawn) 0)
 
 -- a slot behind the last one stays empty
 outside_step : (st : State) (a : Action) (slot : ℕ) → st.size ≤ slot → Allows st a → st.at slot ≡ None → (after st a).at slot ≡ None
-outside_step st (Look s None) slot l may none = none
-outside_step st (Look s (Some f)) slot l may none = none
-outside_step st (Release f) slot l may none = none
 outside_step st (Put s f x) slot l may none = let m = may.0 in change_else st.at s (Some f) slot (λ e. omega arith) ∙ none
 outside_step st (Clear s x) slot l may none = let m = may.0 in change_else st.at s None slot (λ e. omega arith) ∙ none
 outside_step st (Take s x) slot l may none = let m = may.0 in change_else st.at s None slot (λ e. omega arith) ∙ none
 outside_step st (Allocate s f) slot l may none = let m = may.0 in change_else st.at s (Some f) slot (λ e. omega arith) ∙ none
-outside_step st Full slot l may none = none
-outside_step st (Close f) slot l may none = none
+outside_step st (Look s None) slot l may none = none
+outside_step st _ slot l may none = none
 
 outside : (k : Start) (h : List Event) → AllowsAll (start_of (opening_of k)) (map action_of h) → (slot : ℕ) → slots_of k ≤ slot
     → (state_after_all k h).at slot ≡ None
@@ -154,14 +128,12 @@ module _ (k : Start) (s : Shared) (r : Agrees k s) (all_idle : (i : ℕ) (u : Vi
   node_is n has ph is = (subst (Node n) is (r.each_node n has), subst (OwnerAgrees s.views n) is (r.each_owner n has))
 
   removed_by : (n : ℕ) (ph : Phase) → Node n ph → OwnerAgrees s.views n ph → end.removed n ≡ None
-  removed_by n unborn a o = a.5
-  removed_by n (spare p) a o = a.5
-  removed_by n (placed i) a o = a.5
   removed_by n (seated slot file) a o = a.4
   removed_by n (leaving i takes file) a o = let bad = nobody i (Retiring (numbered n file) takes) o in absurd (cc bad)
   removed_by n (retired file) a o = let w = a.0 in let h = unheld n in let p = a.2 in absurd (omega arith)
   removed_by n (emptied i) a o = a.3
   removed_by n closed a o = a.3
+  removed_by n _ a o = a.5
 
   none_removed : (n : ℕ) → IsNumber k n → end.removed n ≡ None
   none_removed n has = let a = node_is n has (r.phase n) refl in removed_by n (r.phase n) a.0 a.1

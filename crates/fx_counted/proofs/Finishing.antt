@@ -1,27 +1,10 @@
 -- What lies in the places at the settled end, and how it comes back.
-use Rattle.std.proofs.Common.{◌≡◌, ℕ, zero, suc, ◌+◌, ◌-◌, ◌<◌, List, [], ◌∷◌, length, set, sym, refl, ap, ◌∙◌, subst, arith, inl, inr}
-use Rattle.std.specs.Prelude.{Option, Some, None, slice_index}
-use mathlib.Core.Logic.{dite}
-use mathlib.Core.Option.{some, some-injective, some-ne-none}
-use native.Mathlib.Decide.{dec_le}
-use lib.ListN.{get_elem?}
+use Rattle.fx_counted.proofs.Words.{◌≡◌, ℕ, zero, suc, ◌+◌, ◌-◌, ◌<◌, List, [], ◌∷◌, length, set, sym, refl, ap, ◌∙◌, subst, arith, inl, inr, Option}
+use Rattle.fx_counted.proofs.Words.{Some, None, slice_index, dite, some, some-injective, some-ne-none, dec_le, get_elem?, Closed, Contents, state_of}
+use Rattle.fx_counted.proofs.Words.{State, number_of, identity_of, File, HasSameFiles, MAX_CHAINS, Names, Agrees, HasNode, slot_place, home_place}
+use Rattle.fx_counted.proofs.Words.{homes_for, Shared, slots_of, IsNumber, state_after_all, IsShellOf, AreBack, CountedTable, Start, View, Idle}
 use Rattle.atomic_table.specs.Table.{Final, Seen}
-use Rattle.fx_base.specs.declared.open_file.Closed.{Closed}
-use Rattle.fx_plain.specs.Contents.{Contents, state_of}
-use Rattle.fx_plain.specs.State.{State}
-use Rattle.fx_plain.specs.Table.{number_of, identity_of}
-use Rattle.fx_plain.specs.declared.event.File.{File}
-use Rattle.fx_table.specs.Opening.{HasSameFiles}
-use Rattle.fx_table.specs.declared.limits.TheConstants.{MAX_CHAINS}
-use Rattle.fx_counted.specs.Agrees.{Names, Agrees}
-use Rattle.fx_counted.specs.Layout.{HasNode, slot_place, home_place, homes_for}
 use Rattle.fx_counted.specs.Lives.{AllAreIdle, Leaves}
-use Rattle.fx_counted.specs.Passes.{Shared, slots_of, IsNumber, state_after_all}
-use Rattle.fx_counted.specs.Shells.{IsShellOf, AreBack}
-use Rattle.fx_counted.specs.declared.table.CountedTable.{CountedTable}
-use Rattle.fx_counted.specs.declared.view.Start.{Start}
-use Rattle.fx_counted.specs.declared.view.View.{View}
-use Rattle.fx_counted.specs.declared.view.Work.TheVariants.{Idle}
 use Rattle.fx_counted.proofs.Calling.{has_node}
 use Rattle.fx_counted.proofs.Ending.{home_file, file_home, one_slot, none_outside_end}
 use Rattle.fx_counted.proofs.Frames.{inside_list}
@@ -29,7 +12,7 @@ use Rattle.fx_counted.proofs.Histories.{same_shape}
 use Rattle.fx_counted.proofs.HomeComing.{number_at, file_of, file_at, without, emptied, AreAtHome, here_at, none_past, untouched}
 use Rattle.fx_counted.proofs.Naming.{node_is}
 use Rattle.fx_counted.proofs.Places.{apart, low_home, high_home}
-use Rattle.fx_counted.proofs.Shells.{IsPartlyBack, GetsFile, none_first, one_first}
+use Rattle.fx_counted.proofs.Shells.{IsPartlyBack, Becomes, first_back, none_given}
 use Rattle.fx_counted.proofs.Starting.{at_place}
 
 pub word_at_place : (ws : List ℕ) (i w : ℕ) → get_elem? ws i ≡ some w → slice_index ws i ≡ w
@@ -48,17 +31,20 @@ module _ (size : ℕ) (words : List ℕ) (chains : ℕ) (xs : List (Option Close
       ∙ (ap (λ (l : List (Option Closed)). get_elem? l (home_place size n)) (sym are) ∙ (ap (get_elem? now) (sym is) ∙ there))))
 
   pub some_back : (n place : ℕ) (one : Closed) (st' : State) → number_at size words slot ≡ Some n → place ≡ home_place size n
-      → get_elem? now place ≡ some (Some one) → GetsFile st slot one st' → IsPartlyBack shell (file_at size words xs) (slot + 1) size st'
-  some_back n place one st' named is there gets =
-      one_first shell (file_at size words xs) st st' slot size one (file_is n place (Some one) named is there) gets part
+      → get_elem? now place ≡ some (Some one) → Becomes st slot (Some one) st' → IsPartlyBack shell (file_at size words xs) (slot + 1) size st'
+  some_back n place one st' named is there gets = first_back shell (file_at size words xs) st st' slot size
+      (subst (λ (x : Option Closed). Becomes st slot x st') (sym (file_is n place (Some one) named is there)) gets) part
+
+  not_back : file_at size words xs slot ≡ None → IsPartlyBack shell (file_at size words xs) (slot + 1) size st
+  not_back none = first_back shell (file_at size words xs) st st slot size
+      (none_given shell (file_at size words xs) st slot slot size (omega arith) inside none part) part
 
   pub none_back : (n place : ℕ) → number_at size words slot ≡ Some n → place ≡ home_place size n
       → get_elem? now place ≡ some None → IsPartlyBack shell (file_at size words xs) (slot + 1) size st
-  none_back n place named is there = none_first shell (file_at size words xs) st slot size (file_is n place None named is there) inside part
+  none_back n place named is there = not_back (file_is n place None named is there)
 
   pub none_named : number_at size words slot ≡ None → IsPartlyBack shell (file_at size words xs) (slot + 1) size st
-  none_named named = none_first shell (file_at size words xs) st slot size
-      (here_at size words xs slot inside ∙ ap (file_of size words xs) named) inside part
+  none_named named = not_back (here_at size words xs slot inside ∙ ap (file_of size words xs) named)
 
   next : suc slot ≡ slot + 1
   next = omega arith

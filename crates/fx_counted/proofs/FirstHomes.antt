@@ -1,20 +1,11 @@
 -- The files of the slots move to the places of a shared table.
-use Rattle.std.proofs.Common.{◌≡◌, ℕ, zero, suc, ◌<◌, ◌≤◌, List, [], ◌∷◌, ◌++◌, length, sym, refl, ap, ◌∙◌, subst, arith, length-append}
-use Rattle.std.specs.Prelude.{Option, Some, None, Result, Ok, Err, OnOk}
-use mathlib.Core.Logic.{dite}
-use mathlib.Core.Option.{some}
-use native.Mathlib.Decide.{ℕ_discrete}
-use lib.ListN.{get_elem?}
-use Rattle.atomic_table.proofs.Lists.{at_last, at_longer}
-use Rattle.fx_base.specs.declared.open_file.Closed.{Closed}
-use Rattle.fx_plain.specs.Contents.{Contents, state_of}
-use Rattle.fx_plain.specs.State.{State, IsSettled, opening, file_numbered}
-use Rattle.fx_plain.specs.Table.{identity_of, slots_in_order}
-use Rattle.fx_plain.specs.declared.event.File.{File}
-use Rattle.fx_table.specs.Opening.{HasSameFiles, IsGivenBack}
-use Rattle.fx_counted.specs.Firsts.{AreFirstHomes}
-use Rattle.fx_counted.specs.Layout.{homes_for}
-use Rattle.fx_counted.specs.Shells.{IsShellOf}
+use Rattle.fx_counted.proofs.Words.{◌≡◌, ℕ, zero, suc, ◌<◌, ◌≤◌, List, [], ◌∷◌, ◌++◌, length, sym, refl, ap, ◌∙◌, subst, arith, length-append}
+use Rattle.fx_counted.proofs.Words.{Option, Some, None, Result, dite, some, ℕ_discrete, get_elem?, at_longer, Closed, Contents, state_of, State}
+use Rattle.fx_counted.proofs.Words.{IsSettled, file_numbered, identity_of, File, HasSameFiles, IsGivenBack, AreFirstHomes, homes_for, IsShellOf}
+use Rattle.std.specs.Prelude.{Ok, Err, OnOk}
+use Rattle.atomic_table.proofs.Lists.{at_last}
+use Rattle.fx_plain.specs.State.{opening}
+use Rattle.fx_plain.specs.Table.{slots_in_order}
 
 same_identity : (found : Option File) (slot : ℕ) → identity_of (file_numbered found slot) ≡ identity_of found
 same_identity None slot = refl

@@ -1,17 +1,11 @@
 -- The words of a table as they are written, one slot after the other.
-use Rattle.std.proofs.Common.{◌≡◌, ◌≢◌, true, false, ℕ, zero, suc, ◌+◌, ◌-◌, ◌*◌, ◌<◌, ◌≤◌, List, length, get_or}
-use Rattle.std.proofs.Common.{set, replicate, sym, refl, ap, ◌∙◌, arith, get_or-set_same, get_or-set_other}
-use Rattle.std.specs.Prelude.{Option, Some, None, option_map, slice_index, is_some}
-use mathlib.Core.Logic.{dite}
-use native.Mathlib.Decide.{ℕ_discrete}
+use Rattle.fx_counted.proofs.Words.{◌≡◌, ◌≢◌, true, false, ℕ, zero, suc, ◌+◌, ◌-◌, ◌*◌, ◌<◌, ◌≤◌, List, length, get_or, set, replicate, sym, refl, ap}
+use Rattle.fx_counted.proofs.Words.{◌∙◌, arith, get_or-set_same, get_or-set_other, Option, Some, None, option_map, slice_index, dite, ℕ_discrete}
+use Rattle.fx_counted.proofs.Words.{State, file_numbered, File, born, slot_word_of, full_in, if_full, first_at, AreFirstWords, control_place}
+use Rattle.fx_counted.proofs.Words.{draw_place, slot_place, node_place, words_for, word_for, node_for}
+use Rattle.std.specs.Prelude.{is_some}
 use lib.ListN.{length-set, length-replicate}
-use Rattle.fx_plain.specs.State.{State, file_numbered}
-use Rattle.fx_plain.specs.declared.event.File.{File}
-use Rattle.fx_words.specs.Words.{born, slot_word_of, control_word_of}
-use Rattle.fx_counted.specs.Control.{full_in, if_full}
-use Rattle.fx_counted.specs.Firsts.{first_at, AreFirstWords}
-use Rattle.fx_counted.specs.Layout.{control_place, draw_place, slot_place, node_place, words_for}
-use Rattle.fx_counted.specs.Opens.{word_for, node_for}
+use Rattle.fx_words.specs.Words.{control_word_of}
 use Rattle.fx_counted.proofs.Places.{low_node}
 
 -- the words of the slots below this one are written

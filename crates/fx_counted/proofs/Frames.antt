@@ -1,24 +1,11 @@
 -- What a step of one seat leaves as it was.
-use Rattle.std.specs.Prelude.{sum_by}
-use Rattle.std.proofs.Common.{◌≡◌, ◌≢◌, ℕ, zero, suc, ◌+◌, ◌<◌, ◌≤◌, true, false, List, [], ◌∷◌, set, length, sym}
-use Rattle.std.proofs.Common.{refl, ap, ◌∙◌, subst, arith, eq-eqb, nat_lt, ◌⊎◌, inl, inr, ⊎_elim, eqb}
-use mathlib.Core.Option.{some, some-injective, some-ne-none}
-use lib.ListN.{get_elem?}
-use Rattle.atomic_table.proofs.Lists.{at_set, set_here, set_else}
-use Rattle.fx_plain.specs.declared.event.File.{File}
-use Rattle.fx_plain.specs.declared.event.Event.{Event}
-use Rattle.fx_plain.specs.Table.{numbered}
-use Rattle.fx_table.proofs.SumLemmas.{sum_at, sum_two}
-use Rattle.fx_counted.specs.Agrees.{Does, OwnerAgrees, WorkAgrees, ViewAgrees, Agrees}
-use Rattle.fx_counted.specs.Passes.{Shared, logs_of, once}
-use Rattle.fx_counted.specs.Phases.{Phase, unborn, spare, placed, seated, leaving, retired, emptied, closed, owner, file_in}
-use Rattle.fx_counted.specs.declared.view.Log.{Log}
-use Rattle.fx_counted.specs.declared.view.Start.{Start}
-use Rattle.fx_counted.specs.declared.view.View.{View}
-use Rattle.fx_counted.specs.declared.view.Work.{Work}
-use Rattle.fx_counted.specs.declared.view.Work.TheVariants.{Idle, Placing, Holding, Retiring, Emptying}
+use Rattle.fx_counted.proofs.Words.{sum_by, ◌≡◌, ◌≢◌, ℕ, zero, suc, ◌+◌, ◌<◌, ◌≤◌, true, false, List, [], ◌∷◌, set, length, sym, refl, ap, ◌∙◌}
+use Rattle.fx_counted.proofs.Words.{subst, arith, nat_lt, ◌⊎◌, inl, inr, ⊎_elim, eqb, some, some-injective, some-ne-none, get_elem?, at_set}
+use Rattle.fx_counted.proofs.Words.{set_here, set_else, File, Event, numbered, sum_at, sum_two, Does, OwnerAgrees, WorkAgrees, ViewAgrees, Agrees}
+use Rattle.fx_counted.proofs.Words.{Shared, logs_of, once, Phase, spare, placed, leaving, emptied, owner, file_in, Log, Start, View, Work, Idle}
+use Rattle.fx_counted.proofs.Words.{Placing, Holding, Retiring, Emptying}
 use Rattle.fx_counted.proofs.Histories.{Grows}
-use Rattle.fx_counted.proofs.Ones.{one_if}
+use Rattle.fx_counted.proofs.Ones.{one_if, bit_here}
 
 -- the number that a pass alone works with, plus 1, or 0
 abbrev pub busy : Work → ℕ
@@ -78,9 +65,6 @@ pub once_few : (n p : ℕ) → once n p ≤ 1
 once_few n zero = omega arith
 once_few n (suc p) = elim (nat_lt p n) as (λ b. one_if b ≤ 1) [ true ↦ omega arith | false ↦ omega arith ]
 
-bit_one : (p q : ℕ) → q ≡ p → one_if (eqb q p) ≡ 1
-bit_one p q e = rw (eq-eqb q p e) refl
-
 -- a pass that one view has is in no other one
 pub not_there : (k : Start) (st : Shared) → Agrees k st → (id j : ℕ) (v u : View) (x : Log)
     → get_elem? st.views id ≡ some v → v.logs ≡ x ∷ [] → j ≢ id → get_elem? st.views j ≡ some u
@@ -91,9 +75,9 @@ not_there k st r id j v u x here one other there i y at same =
     let b = once_few k.passes x.number in
     let c : logs_of x.number v ≡ 0 + one_if (eqb x.number x.number) = ap
     (λ (l : List Log). sum_by (λ z. one_if (eqb z.number x.number)) l) one in
-    let d = bit_one x.number x.number refl in
+    let d = bit_here x.number x.number refl in
     let e = sum_at (λ z. one_if (eqb z.number x.number)) u.logs i y at in
-    let f = bit_one x.number y.number same in
+    let f = bit_here x.number y.number same in
     omega arith
 
 -- each view after a step of the view id
@@ -115,14 +99,10 @@ does_now views id v w d here is = (w, set_here views id w (inside_list views id 
 pub owner_map : (views views' : List View) (n : ℕ)
     → ((j : ℕ) (d : Work) → busy d ≡ n + 1 → Does views j d → Does views' j d) → (ph : Phase) → OwnerAgrees views n ph
     → OwnerAgrees views' n ph
-owner_map views views' n f unborn o = tt
-owner_map views views' n f (spare q) o = tt
 owner_map views views' n f (placed j) o = f j (Placing n) refl o
-owner_map views views' n f (seated s g) o = tt
 owner_map views views' n f (leaving j t g) o = f j (Retiring (numbered n g) t) refl o
-owner_map views views' n f (retired g) o = tt
 owner_map views views' n f (emptied j) o = f j (Emptying n) refl o
-owner_map views views' n f closed o = tt
+owner_map views views' n f _ o = tt
 
 module _ (views : List View) (id : ℕ) (v w : View) (here : get_elem? views id ≡ some v) where
   does_else : (j : ℕ) (d : Work) → j ≢ id → Does views j d → Does (set views id w) j d

@@ -1,18 +1,8 @@
 -- The control word when a slot changes.
-use Rattle.std.proofs.Common.{◌≡◌, ◌≢◌, ℕ, zero, suc, ◌+◌, ◌<◌, ◌≤◌, List, set, sym, refl, ap}
-use Rattle.std.proofs.Common.{◌∙◌, ◌⊎◌, inl, inr, ⊎_elim, arith, Option, Some, None, IsSome, subst}
-use mathlib.Core.Logic.{dite}
-use mathlib.Core.Option.{some}
-use native.Mathlib.Decide.{ℕ_discrete}
-use lib.ListN.{get_elem?}
-use Rattle.fx_plain.specs.Step.{changed_at}
-use Rattle.fx_plain.specs.declared.event.File.{File}
-use Rattle.fx_table.proofs.SumLemmas.{sum_set}
-use Rattle.fx_counted.specs.Control.{in_change, added, removed_by, changes_of, added_of, removed_of, if_full, full_in, ControlCounts}
-use Rattle.fx_counted.specs.Tells.{changed, turned}
-use Rattle.fx_counted.specs.declared.view.Change.{Change}
-use Rattle.fx_counted.specs.declared.view.Change.TheVariants.{Outside, Same}
-use Rattle.fx_counted.specs.declared.view.View.{View}
+use Rattle.fx_counted.proofs.Words.{◌≡◌, ◌≢◌, ℕ, zero, suc, ◌+◌, ◌<◌, ◌≤◌, List, set, sym, refl, ap, ◌∙◌, ◌⊎◌, inl, inr, ⊎_elim, arith, Option, Some}
+use Rattle.fx_counted.proofs.Words.{None, IsSome, subst, dite, some, ℕ_discrete, get_elem?, changed_at, File, sum_set, in_change, added, removed_by}
+use Rattle.fx_counted.proofs.Words.{changes_of, added_of, removed_of, if_full, full_in, ControlCounts, turned, Change, Outside, Same, View}
+use Rattle.fx_counted.specs.Tells.{changed}
 use Rattle.fx_counted.proofs.Histories.{change_here, change_else}
 
 pub full_else : (at : ℕ → Option File) (s : ℕ) (new : Option File) (off len : ℕ) → ((i : ℕ) → i < len → off + i ≢ s)

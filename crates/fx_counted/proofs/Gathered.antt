@@ -1,31 +1,14 @@
 -- All passes in one seat: what the one history says of each of them.
-use Rattle.std.proofs.Common.{◌≡◌, ℕ, ◌<◌, ◌≤◌, List, [], ◌∷◌, map, length, reverse, sym, refl, ap, ◌∙◌, subst, arith, ⊎_elim, length-append}
-use Rattle.std.specs.Prelude.{Contains, sum_by}
-use mathlib.Core.Option.{some}
-use lib.ListN.{get_elem?}
+use Rattle.fx_counted.proofs.Words.{◌≡◌, ℕ, ◌<◌, ◌≤◌, List, [], ◌∷◌, map, length, reverse, sym, refl, ap, ◌∙◌, subst, arith, ⊎_elim, length-append}
+use Rattle.fx_counted.proofs.Words.{Contains, sum_by, some, get_elem?, Contains-append_left, sum_by-append, sum_by-cons, TableId, Contents, state_of}
+use Rattle.fx_counted.proofs.Words.{IsSeenBy, part_of_pass, IsSettled, ClosesTable, times_drawn, HasSameFiles, PassView, contains_none}
+use Rattle.fx_counted.proofs.Words.{contains_head, contains_tail, contains_cases, contains_map, contains_mapped, sum_map, Agrees, logs_in, Shared}
+use Rattle.fx_counted.proofs.Words.{opening_of, state_after_all, first_log, view_of, IsPassOf, CountedPass, Log, Start, View, Outside, Idle}
 use Rattle.std.proofs.lemmas.List.{length-reverse}
-use Rattle.std.proofs.lemmas.List.Elements.{Contains-append_left, Contains-append_right, Contains-append_cases}
-use Rattle.std.proofs.lemmas.List.Sums.{sum_by-append, sum_by-cons}
-use Rattle.atomic_table.specs.Seated.{TableId}
-use Rattle.fx_plain.specs.Contents.{Contents, state_of}
-use Rattle.fx_plain.specs.History.{IsSeenBy, part_of_pass}
-use Rattle.fx_plain.specs.State.{IsSettled}
-use Rattle.fx_table.specs.Closing.{ClosesTable, times_drawn}
-use Rattle.fx_table.specs.Opening.{HasSameFiles}
-use Rattle.fx_table.specs.Pass.{PassView}
-use Rattle.fx_table.proofs.Members.{contains_none, contains_head, contains_tail, contains_cases, contains_only}
-use Rattle.fx_table.proofs.Members.{contains_map, contains_mapped, contains_reverse, contains_reversed}
-use Rattle.fx_table.proofs.SumLemmas.{sum_map, sum_reverse}
-use Rattle.fx_counted.specs.Agrees.{Agrees}
-use Rattle.fx_counted.specs.Lives.{logs_in}
-use Rattle.fx_counted.specs.Passes.{Shared, opening_of, state_after_all, first_log}
-use Rattle.fx_counted.specs.Tables.{view_of, IsPassOf}
-use Rattle.fx_counted.specs.declared.pass.CountedPass.{CountedPass}
-use Rattle.fx_counted.specs.declared.view.Log.{Log}
-use Rattle.fx_counted.specs.declared.view.Start.{Start}
-use Rattle.fx_counted.specs.declared.view.View.{View}
-use Rattle.fx_counted.specs.declared.view.Change.TheVariants.{Outside}
-use Rattle.fx_counted.specs.declared.view.Work.TheVariants.{Idle}
+use Rattle.std.proofs.lemmas.List.Elements.{Contains-append_right, Contains-append_cases}
+use Rattle.fx_table.proofs.Members.{contains_only}
+use Rattle.fx_table.proofs.Members.{contains_reverse, contains_reversed}
+use Rattle.fx_table.proofs.SumLemmas.{sum_reverse}
 use Rattle.fx_counted.proofs.Ending.{showing, closes_logs, idle_each}
 use Rattle.fx_counted.proofs.Ones.{times}
 

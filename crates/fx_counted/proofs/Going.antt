@@ -1,29 +1,14 @@
 -- Some steps in a row, and the pass behind them.
-use Rattle.std.proofs.Common.{◌≡◌, ℕ, ◌+◌, List, [], ◌∷◌, inl, sym, refl, ap, ◌∙◌, subst, arith}
-use Rattle.std.specs.Prelude.{Some}
-use Rattle.atomic_table.specs.Seated.{TableId}
-use Rattle.fx_plain.specs.History.{◌▷◌, ◌▷▷◌}
-use Rattle.fx_plain.specs.declared.event.Action.{Action}
-use Rattle.fx_plain.specs.declared.event.Action.TheVariants.{Close}
-use Rattle.fx_table.specs.Calls.{Use, no_use, both_uses, Adds}
-use Rattle.fx_table.specs.Pass.{IsFront}
+use Rattle.fx_counted.proofs.Words.{◌≡◌, ℕ, ◌+◌, List, [], ◌∷◌, inl, sym, refl, ap, ◌∙◌, subst, arith, Some, TableId, ◌▷◌, Action, Close, Use}
+use Rattle.fx_counted.proofs.Words.{no_use, Adds, IsFront, File, Goes, HasPlace, HasPass, place_of, Sat, opening_of, pass_of, doing_in, chain_in}
+use Rattle.fx_counted.proofs.Words.{first_log, view_of, is_idle, IsPassOf, IsInside, Stepped, TakesOut, LetsGo, CountedPass, Change, Outside, Log}
+use Rattle.fx_counted.proofs.Words.{Start, Work, Idle, Placing, Holding, Retiring, Emptying}
+use Rattle.fx_plain.specs.History.{◌▷▷◌}
+use Rattle.fx_table.specs.Calls.{both_uses}
 use Rattle.fx_table.specs.declared.values.Doing.TheVariants.{Idle as NowIdle, Holding as NowHolding, Retiring as NowRetiring}
-use Rattle.fx_plain.specs.declared.event.File.{File}
 use Rattle.fx_table.proofs.Calls.{adds_then}
 use Rattle.fx_counted.specs.Changing.{IsAtWork}
-use Rattle.fx_counted.specs.Goes.{Goes}
-use Rattle.fx_counted.specs.Moves.{HasPlace}
-use Rattle.fx_counted.specs.Laws.{HasPass, place_of}
-use Rattle.fx_counted.specs.Passes.{Sat, opening_of, pass_of, doing_in, chain_in, first_log}
-use Rattle.fx_counted.specs.Tables.{view_of, is_idle, IsBetweenCalls, IsSeated, IsPassOf}
-use Rattle.fx_counted.specs.Tells.{IsInside, Stepped, TakesOut, LetsGo}
-use Rattle.fx_counted.specs.declared.pass.CountedPass.{CountedPass}
-use Rattle.fx_counted.specs.declared.view.Change.{Change}
-use Rattle.fx_counted.specs.declared.view.Change.TheVariants.{Outside}
-use Rattle.fx_counted.specs.declared.view.Log.{Log}
-use Rattle.fx_counted.specs.declared.view.Start.{Start}
-use Rattle.fx_counted.specs.declared.view.Work.{Work}
-use Rattle.fx_counted.specs.declared.view.Work.TheVariants.{Idle, Placing, Holding, Retiring, Emptying}
+use Rattle.fx_counted.specs.Tables.{IsBetweenCalls, IsSeated}
 
 pub goes_one : (m m' : Sat) (xs : List Action) (a : Use) (w : Work) (c : Change) → Stepped m xs a w c m' → Goes m xs a w c 1 m'
 goes_one m m' xs a w c s = record {
@@ -123,18 +108,12 @@ idle_work (Retiring f t) r e = absurd (cc e)
 idle_work (Emptying n) r e = absurd r
 
 pub holding_work : (w : Work) (f : File) → IsBetweenCalls w → doing_in w ≡ NowHolding f → w ≡ Holding f
-holding_work Idle f r e = absurd (cc e)
-holding_work (Placing n) f r e = absurd r
 holding_work (Holding g) f r e = let same : g ≡ f = cc e in ap (λ (z : File). Holding z) same
-holding_work (Retiring g t) f r e = absurd (cc e)
-holding_work (Emptying n) f r e = absurd r
+holding_work _ f r e = absurd (cc e)
 
 pub retiring_work : (w : Work) (f : File) (t : ℕ) → IsBetweenCalls w → doing_in w ≡ NowRetiring f t → w ≡ Retiring f t
-retiring_work Idle f t r e = absurd (cc e)
-retiring_work (Placing n) f t r e = absurd r
-retiring_work (Holding g) f t r e = absurd (cc e)
 retiring_work (Retiring g u) f t r e = let same : g ≡ f = cc e in let takes : u ≡ t = cc e in λ i. Retiring (same i) (takes i)
-retiring_work (Emptying n) f t r e = absurd r
+retiring_work _ f t r e = absurd (cc e)
 
 -- the pass of a seat
 pub its_pass : (id : TableId) (k : Start) (p : CountedPass) (fits : IsPassOf id k p) → HasPass k p.seat.me fits.log

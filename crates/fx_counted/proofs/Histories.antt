@@ -1,19 +1,10 @@
 -- Histories that grow by one event.
-use Rattle.std.proofs.Common.{◌≡◌, ◌≢◌, ℕ, ◌+◌, ◌≤◌, true, false, cond, List, [], ◌∷◌, ◌++◌, length}
-use Rattle.std.proofs.Common.{sym, refl, ap, ◌∙◌, arith, eqb, eq-eqb, ne_eqb, length-append}
-use Rattle.std.specs.Prelude.{Some, None}
-use mathlib.Core.Logic.{dite}
-use native.Mathlib.Decide.{ℕ_discrete}
-use Rattle.fx_plain.specs.State.{State}
-use Rattle.fx_plain.specs.Step.{Allows, after, changed_at}
-use Rattle.fx_plain.specs.History.{held_after, held_by, ReleasesItsOwn, IsLegal, IsSeenBy, part_of_pass}
-use Rattle.fx_plain.specs.declared.event.Event.{Event}
-use Rattle.fx_plain.specs.declared.event.Action.{Action}
-use Rattle.fx_plain.specs.declared.event.Action.TheVariants.{Look, Release, Put, Clear, Take, Allocate, Full, Close}
-use Rattle.fx_table.specs.Opening.{start_of, range_of}
-use Rattle.fx_counted.specs.Counts.{looks_after, looks, look_in, all_looks}
-use Rattle.fx_counted.specs.Passes.{opening_of, slots_of, state_after_all}
-use Rattle.fx_counted.specs.declared.view.Start.{Start}
+use Rattle.fx_counted.proofs.Words.{◌≡◌, ◌≢◌, ℕ, ◌+◌, ◌≤◌, List, [], ◌∷◌, sym, refl, ap, ◌∙◌, arith, eq-eqb, ne_eqb, Some, None, dite, ℕ_discrete}
+use Rattle.fx_counted.proofs.Words.{State, after, changed_at, held_after, held_by, IsSeenBy, part_of_pass, Event, Action, Look, start_of, range_of}
+use Rattle.fx_counted.proofs.Words.{looks, all_looks, opening_of, slots_of, state_after_all, Start}
+use Rattle.fx_plain.specs.Step.{Allows}
+use Rattle.fx_plain.specs.History.{ReleasesItsOwn, IsLegal}
+use Rattle.fx_counted.specs.Counts.{looks_after, look_in}
 
 module _ {A : Type 0} (f : ℕ → A) (i : ℕ) (a : A) where
   pub change_here : (j : ℕ) → j ≡ i → changed_at f i a j ≡ a
@@ -33,15 +24,6 @@ held_mine p e h is = rw (eq-eqb e.pass p is) refl
 
 pub held_other : (p : ℕ) (e : Event) (h : List Event) → e.pass ≢ p → held_by (e ∷ h) p ≡ held_by h p
 held_other p e h is = rw (ne_eqb e.pass p is) refl
-
-pub part_append : (p : ℕ) (g h : List Event) → part_of_pass p (g ++ h) ≡ part_of_pass p g ++ part_of_pass p h
-part_append p [] h = refl
-part_append p (e ∷ g) h = elim (eqb e.pass p) as
-    (λ b. cond b (e ∷ part_of_pass p (g ++ h)) (part_of_pass p (g ++ h)) ≡ cond b (e ∷ part_of_pass p g)
-    (part_of_pass p g) ++ part_of_pass p h) [
-      | true ↦ ap (λ (l : List Event). e ∷ l) (part_append p g h)
-      | false ↦ part_append p g h
-    ]
 
 pub seen_all : (h : List Event) → IsSeenBy h h
 seen_all h = ([], refl)
@@ -74,40 +56,19 @@ legal_more k h e legal may own = record { leads = ((legal.leads.0, may), refl); 
 
 after_shape : (st : State) (a : Action) → ((after st a).size ≡ st.size) × ((after st a).range ≡ st.range)
 after_shape st (Look slot None) = (refl, refl)
-after_shape st (Look slot (Some f)) = (refl, refl)
-after_shape st (Release f) = (refl, refl)
-after_shape st (Put slot f replaced) = (refl, refl)
-after_shape st (Clear slot found) = (refl, refl)
-after_shape st (Take slot found) = (refl, refl)
-after_shape st (Allocate slot f) = (refl, refl)
-after_shape st Full = (refl, refl)
-after_shape st (Close f) = (refl, refl)
+after_shape st _ = (refl, refl)
 
 -- no history changes the size or the range
 pub same_shape : (k : Start) (h : List Event) → ((state_after_all k h).size ≡ slots_of k) × ((state_after_all k h).range ≡ range_of (opening_of k))
 same_shape k [] = (refl, refl)
 same_shape k (e ∷ h) = let a = after_shape (state_after_all k h) e.action in let b = same_shape k h in (a.0 ∙ b.0, a.1 ∙ b.1)
 
-no_more : (k f : List Event) → k ++ f ≡ f → k ≡ []
-no_more [] f e = refl
-no_more (x ∷ k) f e = absurd (omega (arith, ap length e, length-append k f))
-
--- what came since a front has no event of its pass
-pub part_since : (p : ℕ) (h k f : List Event) → h ≡ k ++ f → part_of_pass p h ≡ part_of_pass p f → part_of_pass p k ≡ []
-part_since p h k f is own = no_more (part_of_pass p k) (part_of_pass p f) (sym (part_append p k f) ∙ (ap (part_of_pass p) (sym is) ∙ own))
-
 looks_step : (f : ℕ → ℕ) (all : ℕ) → ((n : ℕ) → f n ≤ all) → (a : Action) (n : ℕ) → looks_after f a n ≤ all + look_in a
 looks_step f all few (Look slot None) n = let m = few n in omega arith
 looks_step f all few (Look slot (Some g)) n = dite (ℕ_discrete n g.number)
     (λ (e : n ≡ g.number). let m = few g.number in let is = change_here f g.number (f g.number + 1) n e in omega arith)
     (λ e. let m = few n in let is = change_else f g.number (f g.number + 1) n e in omega arith)
-looks_step f all few (Release g) n = let m = few n in omega arith
-looks_step f all few (Put slot g replaced) n = let m = few n in omega arith
-looks_step f all few (Clear slot found) n = let m = few n in omega arith
-looks_step f all few (Take slot found) n = let m = few n in omega arith
-looks_step f all few (Allocate slot g) n = let m = few n in omega arith
-looks_step f all few Full n = let m = few n in omega arith
-looks_step f all few (Close g) n = let m = few n in omega arith
+looks_step f all few _ n = let m = few n in omega arith
 
 -- the looks of one file are at most all looks
 pub looks_few : (h : List Event) (n : ℕ) → looks h n ≤ all_looks h

@@ -1,16 +1,8 @@
 -- The files of the slots come out of their places, one after the other.
-use Rattle.std.proofs.Common.{◌≡◌, ◌≢◌, ℕ, zero, suc, ◌<◌, ◌≤◌, Bool, cond, nat_lt, List, []}
-use Rattle.std.proofs.Common.{◌∷◌, length, set, sym, refl, ap, ◌∙◌, subst, arith, lt-ltb, le-ltb}
-use Rattle.std.specs.Prelude.{Option, Some, None, slice_index}
-use mathlib.Core.Logic.{dite}
-use mathlib.Core.Option.{some}
-use native.Mathlib.Decide.{ℕ_discrete}
-use lib.ListN.{get_elem?, length-set}
-use Rattle.atomic_table.proofs.Lists.{set_here, set_else}
-use Rattle.fx_base.specs.declared.open_file.Closed.{Closed}
-use Rattle.fx_words.specs.Words.{node_in}
-use Rattle.fx_counted.specs.Layout.{slot_place, home_place, homes_for}
-use Rattle.fx_counted.specs.Shells.{file_in_place}
+use Rattle.fx_counted.proofs.Words.{◌≡◌, ◌≢◌, ℕ, zero, suc, ◌<◌, ◌≤◌, Bool, cond, nat_lt, List, [], ◌∷◌, length, set, sym, refl, ap, ◌∙◌, subst}
+use Rattle.fx_counted.proofs.Words.{arith, lt-ltb, le-ltb, Option, Some, None, slice_index, dite, some, ℕ_discrete, get_elem?, set_here, set_else}
+use Rattle.fx_counted.proofs.Words.{Closed, node_in, slot_place, home_place, homes_for, file_in_place}
+use lib.ListN.{length-set}
 use Rattle.fx_counted.proofs.Frames.{inside_list}
 
 pub elem_there : (xs : List (Option Closed)) (i : ℕ) → i < length xs → (x : Option Closed) × (get_elem? xs i ≡ some x)

@@ -1,30 +1,12 @@
 -- A step of a seat with one pass keeps the rule, if it keeps what the step changes.
-use Rattle.std.specs.Prelude.{sum_by}
-use Rattle.std.proofs.Common.{◌≡◌, ℕ, zero, suc, ◌+◌, ◌<◌, ◌≤◌, List, [], ◌∷◌, ◌++◌, map, set, length}
-use Rattle.std.proofs.Common.{sym, refl, ap, ◌∙◌, subst, arith, get_or, Option, None, inr, eq-eqb, eqb}
-use mathlib.Core.Option.{some, some-injective, some-ne-none}
+use Rattle.fx_counted.proofs.Words.{sum_by, ◌≡◌, ℕ, zero, suc, ◌+◌, ◌<◌, ◌≤◌, List, [], ◌∷◌, ◌++◌, map, set, length, sym, refl, ap, ◌∙◌, subst}
+use Rattle.fx_counted.proofs.Words.{arith, get_or, Option, None, inr, eq-eqb, eqb, some, some-injective, some-ne-none, get_elem?, Closed}
+use Rattle.fx_counted.proofs.Words.{part_of_pass, Event, Action, Use, Adds, range_of, PassView, event_of, sum_set, sum_at, SlotAgrees, NodeAgrees}
+use Rattle.fx_counted.proofs.Words.{OwnerAgrees, WorkAgrees, LogAgrees, ViewAgrees, lengths, Agrees, ControlCounts, looks, all_looks, DrawsCount}
+use Rattle.fx_counted.proofs.Words.{control_place, draw_place, slot_place, node_place, home_place, Shared, opening_of, slots_of, IsNumber}
+use Rattle.fx_counted.proofs.Words.{state_after_all, shown, first_log, doing_in, logs_of, looks_of, held_of, Phase, IsInside, Stepped, Change, Log}
+use Rattle.fx_counted.proofs.Words.{View, Work}
 use mathlib.Core.Option as maybe
-use lib.ListN.{get_elem?}
-use Rattle.fx_base.specs.declared.open_file.Closed.{Closed}
-use Rattle.fx_plain.specs.History.{part_of_pass}
-use Rattle.fx_plain.specs.declared.event.Event.{Event}
-use Rattle.fx_plain.specs.declared.event.Action.{Action}
-use Rattle.fx_table.specs.Calls.{Use, Adds}
-use Rattle.fx_table.specs.Opening.{range_of}
-use Rattle.fx_table.specs.Pass.{PassView, event_of}
-use Rattle.fx_table.proofs.SumLemmas.{sum_set, sum_at}
-use Rattle.fx_counted.specs.Agrees.{SlotAgrees, NodeAgrees, OwnerAgrees, WorkAgrees, LogAgrees, ViewAgrees, lengths, Agrees}
-use Rattle.fx_counted.specs.Control.{ControlCounts}
-use Rattle.fx_counted.specs.Counts.{looks, all_looks}
-use Rattle.fx_counted.specs.Draws.{DrawsCount}
-use Rattle.fx_counted.specs.Layout.{control_place, draw_place, slot_place, node_place, home_place}
-use Rattle.fx_counted.specs.Passes.{Shared, opening_of, slots_of, IsNumber, state_after_all, shown, first_log, doing_in, logs_of, looks_of, held_of}
-use Rattle.fx_counted.specs.Phases.{Phase}
-use Rattle.fx_counted.specs.Tells.{IsInside, Stepped}
-use Rattle.fx_counted.specs.declared.view.Change.{Change}
-use Rattle.fx_counted.specs.declared.view.Log.{Log}
-use Rattle.fx_counted.specs.declared.view.View.{View}
-use Rattle.fx_counted.specs.declared.view.Work.{Work}
 use Rattle.fx_counted.proofs.Histories.{Grows, IsHistory}
 use Rattle.fx_counted.proofs.Frames.{Stays, KeepsHeld, view_stays, not_there, views_after}
 use Rattle.fx_counted.proofs.Ones.{one_if}

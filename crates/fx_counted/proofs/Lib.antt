@@ -1,3 +1,4 @@
+pub mod Words
 pub mod Ones
 pub mod Places
 pub mod Histories

@@ -1,39 +1,21 @@
 -- A look-up keeps the rule.
-use Rattle.std.proofs.Common.{◌≡◌, ◌≢◌, ℕ, ◌+◌, ◌-◌, ◌%◌, ◌^◌, ◌<◌, List, [], ◌∷◌, set, sym, refl, ap, ◌∙◌, subst, arith, Option, Some, None}
-use mathlib.Core.Logic.{dite}
-use mathlib.Core.Option.{some, none}
-use native.Mathlib.Decide.{ℕ_discrete}
-use lib.ListN.{get_elem?}
-use Rattle.atomic_table.specs.Table.{Act, keeps, Allows, Valid, stepped, carried_after, step}
-use Rattle.fx_base.specs.declared.open_file.Closed.{Closed}
-use Rattle.fx_plain.specs.History.{◌▷◌, held_by}
-use Rattle.fx_plain.specs.State.{State}
-use Rattle.fx_plain.specs.declared.event.File.{File}
-use Rattle.fx_plain.specs.declared.event.Event.{Event}
-use Rattle.fx_plain.specs.declared.event.Action.TheVariants.{Look}
+use Rattle.fx_counted.proofs.Words.{◌≡◌, ◌≢◌, ℕ, ◌+◌, ◌-◌, ◌%◌, ◌^◌, ◌<◌, List, [], ◌∷◌, set, sym, refl, ap, ◌∙◌, subst, arith, Option, Some, None}
+use Rattle.fx_counted.proofs.Words.{dite, some, none, ℕ_discrete, get_elem?, Act, keeps, Valid, stepped, carried_after, step, Closed, ◌▷◌, held_by}
+use Rattle.fx_counted.proofs.Words.{State, File, Event, Look, range_of, event_of, name_in, entry_in, takes_in, Names, SlotAgrees, NodeAgrees, Agrees}
+use Rattle.fx_counted.proofs.Words.{PlacesNext, WorkAgrees, looks, full_in, word_of, place_of, slot_place, slot_of, control_place, Shared}
+use Rattle.fx_counted.proofs.Words.{opening_of, slots_of, IsNumber, state_after_all, shown, held_in, placing, held_of, holding, Sat, Phase, seated}
+use Rattle.fx_counted.proofs.Words.{file_in, Stepped, IsInside, Log, Start, View, Idle, eqb}
+use Rattle.atomic_table.specs.Table.{Allows}
 use Rattle.fx_table.specs.Calls.{one_look}
-use Rattle.fx_table.specs.Opening.{range_of}
-use Rattle.fx_table.specs.Pass.{event_of}
-use Rattle.fx_words.specs.Words.{name_in, entry_in, takes_in}
 use Rattle.fx_words.proofs.Parts.{name_more, entry_more, takes_more}
-use Rattle.fx_counted.specs.Agrees.{Names, IsSeated, SlotAgrees, NodeAgrees, Agrees, PlacesNext, WorkAgrees}
-use Rattle.fx_counted.specs.Counts.{looks}
-use Rattle.fx_counted.specs.Control.{full_in}
-use Rattle.fx_counted.specs.Laws.{LooksKeep, word_of, place_of}
-use Rattle.fx_counted.specs.Layout.{slot_place, slot_of, control_place}
-use Rattle.fx_counted.specs.Passes.{Shared, opening_of, slots_of, IsNumber, state_after_all, shown}
-use Rattle.fx_counted.specs.Passes.{held_in, placing, held_of, holding, Sat}
-use Rattle.fx_counted.specs.Phases.{Phase, seated, file_in}
-use Rattle.fx_counted.specs.Tells.{Stepped, Looks, holds_now, IsInside}
-use Rattle.fx_counted.specs.declared.view.Log.{Log}
-use Rattle.fx_counted.specs.declared.view.Start.{Start}
-use Rattle.fx_counted.specs.declared.view.View.{View}
-use Rattle.fx_counted.specs.declared.view.Work.TheVariants.{Idle}
+use Rattle.fx_counted.specs.Agrees.{IsSeated}
+use Rattle.fx_counted.specs.Laws.{LooksKeep}
+use Rattle.fx_counted.specs.Tells.{Looks, holds_now}
 use Rattle.fx_counted.proofs.Frames.{busy, stays_same, owner_stays}
 use Rattle.fx_counted.proofs.Histories.{IsHistory, grows_one, legal_more, held_mine, part_mine, change_here, change_else, same_shape, seen_all}
 use Rattle.fx_counted.proofs.Keeping.{word_at, now, logged, its_log, tells}
 use Rattle.fx_counted.proofs.NodeSteps.{far}
-use Rattle.fx_counted.proofs.Retirements.{holding_it, holding_else}
+use Rattle.fx_counted.proofs.Ones.{one_if, bit_here, one_more_at}
 use Rattle.fx_counted.proofs.SlotSteps.{SlotStep, slot_agrees}
 use Rattle.fx_counted.proofs.Unchanged.{node_same, control_same}
 
@@ -152,19 +134,12 @@ module _ (st : Shared) (v : View) (r : Agrees v.start st) (id : ℕ) (x : Log) (
         look_agrees : Agrees v.start record { words = set st.words (slot_place s) word'; homes = st.homes; views = set st.views id w }
         look_agrees = slot_agrees st v r id x here one s inside y (holds_now file) v.change h' r.phase word' st.homes look_step
 
-    missed : (is : old.at s ≡ None) → Agrees v.start record {
-      words = set st.words
-          (slot_place s) word';
-      homes = st.homes;
-      views = set st.views id (w None is);
-    }
+    missed : (is : old.at s ≡ None) → Agrees v.start (stepped st (slot_place s) word' id [] (w None is) keeps)
     missed is = look_agrees None is refl refl refl refl
         record {
           names = subst (Names word') (sym is) (names_now None (subst (Names found) is so.names));
-          seat = subst
-              (IsSeated v.start (looks r.history) r.phase s word') (sym is) tt;
-          takes = let a = so.takes in
-              let b = takes_now in omega arith;
+          seat = subst (IsSeated v.start (looks r.history) r.phase s word') (sym is) tt;
+          takes = let a = so.takes in let b = takes_now in omega arith;
         }
         (λ i l other f there seat. refl)
         (λ n has. r.each_node n has)
@@ -180,17 +155,14 @@ module _ (st : Shared) (v : View) (r : Agrees v.start st) (id : ℕ) (x : Log) (
       seat : IsNumber v.start q × (takes_in found ≡ looks r.history q) × (r.phase q ≡ seated s f.identity)
       seat = subst (IsSeated v.start (looks r.history) r.phase s found) is so.seat
 
-      looks_here : (n : ℕ) → n ≡ q → looks h₁ n ≡ looks r.history n + 1
-      looks_here n same = change_here (looks r.history) q (looks r.history q + 1) n same ∙ ap (λ (m : ℕ). looks r.history m + 1) (sym same)
+      looks_now : (n : ℕ) → looks h₁ n ≡ looks r.history n + one_if (eqb q n)
+      looks_now n = one_more_at (looks r.history) q n
 
       looks_else_is : (n : ℕ) → n ≢ q → looks h₁ n ≡ looks r.history n
       looks_else_is n other = change_else (looks r.history) q (looks r.history q + 1) n other
 
-      holds_here : (n : ℕ) → n ≡ q → (state_after_all v.start h₁).holds n ≡ old.holds n + 1
-      holds_here n same = change_here old.holds q (old.holds q + 1) n same ∙ ap (λ (m : ℕ). old.holds m + 1) (sym same)
-
-      holds_else : (n : ℕ) → n ≢ q → (state_after_all v.start h₁).holds n ≡ old.holds n
-      holds_else n other = change_else old.holds q (old.holds q + 1) n other
+      holds_now_is : (n : ℕ) → (state_after_all v.start h₁).holds n ≡ old.holds n + one_if (eqb q n)
+      holds_now_is n = one_more_at old.holds q n
 
       abbrev Node : ℕ → Phase → Type 0
       Node n ph = NodeAgrees (state_after_all v.start h₁) n (looks h₁ n) (word_at st.words (word_of v.start n))
@@ -201,9 +173,9 @@ module _ (st : Shared) (v : View) (r : Agrees v.start st) (id : ℕ) (x : Log) (
           (λ same. let ph : r.phase n ≡ seated s f.identity = ap r.phase same ∙ seat.2 in
           let o = subst (NodeAgrees old n (looks r.history n) (word_at st.words (word_of v.start n))
           (get_elem? st.homes (place_of v.start n))) ph (r.each_node n has) in
-          let a = looks_here n same in let b = holds_here n same in subst (Node n) (sym ph) (omega arith, o.1, o.2, o.3, o.4))
+          let a = looks_now n in let b = holds_now_is n in subst (Node n) (sym ph) (omega arith, o.1, o.2, o.3, o.4))
           (λ other. node_same old (state_after_all v.start h₁) n (looks r.history n) (looks h₁ n) _ _ _ _ refl refl
-          (holds_else n other) (looks_else_is n other) refl refl refl (r.phase n) (λ i g seat_is there. refl)
+          (change_else old.holds q (old.holds q + 1) n other) (looks_else_is n other) refl refl refl (r.phase n) (λ i g seat_is there. refl)
           (r.each_node n has))
 
       hit : Agrees v.start record { words = set st.words (slot_place s) word'; homes = st.homes; views = set st.views id (w (Some f) is) }
@@ -213,7 +185,7 @@ module _ (st : Shared) (v : View) (r : Agrees v.start st) (id : ℕ) (x : Log) (
             seat = subst (IsSeated v.start (looks h₁) r.phase s word') (sym is) (
               seat.0,
               takes_now
-                  ∙ (ap (λ (m : ℕ). m + 1) seat.1 ∙ sym (looks_here q refl)),
+                  ∙ (let a = seat.1 in let b = looks_now q in let e = bit_here q q refl in omega arith),
               seat.2,
             );
             takes = let a = so.takes in let b = takes_now in omega arith;
@@ -221,8 +193,7 @@ module _ (st : Shared) (v : View) (r : Agrees v.start st) (id : ℕ) (x : Log) (
           (λ i l other g there its. looks_else_is g.number (λ same. other (ap slot_in (sym its ∙ (ap r.phase same ∙ seat.2)))))
           node_now
           (held_mine x.number (e (Some f) is) r.history refl) tt refl (seat.0, ap file_in seat.2)
-          (λ n. dite (ℕ_discrete n q) (λ same. let a = holds_here n same in let b = holding_it n f same in
-          omega arith) (λ other. let a = holds_else n other in let b = holding_else n f other in omega arith))
+          holds_now_is
 
     abbrev Goal : ℕ → List (ℕ × Option Closed) → Type 0
     Goal slots carried = (w : View) × (a : Act (Option Closed)) × Valid st.homes carried a

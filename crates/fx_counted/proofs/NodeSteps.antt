@@ -1,26 +1,11 @@
 -- A step on the word and the place of one number, at which no slot changes.
-use Rattle.std.proofs.Common.{◌≡◌, ◌≢◌, ℕ, ◌+◌, ◌<◌, ◌≤◌, List, [], ◌∷◌, set, length, sym, refl, ap, ◌∙◌}
-use Rattle.std.proofs.Common.{subst, arith, length-set, get_or-set_other, get_or-set_same, Option, Bool}
-use mathlib.Core.Logic.{dite}
-use mathlib.Core.Option.{some}
-use native.Mathlib.Decide.{ℕ_discrete}
-use lib.ListN.{get_elem?}
-use Rattle.fx_base.specs.declared.open_file.Closed.{Closed}
-use Rattle.fx_plain.specs.History.{held_by}
-use Rattle.fx_plain.specs.Step.{changed_at}
-use Rattle.fx_plain.specs.declared.event.File.{File}
-use Rattle.fx_plain.specs.declared.event.Event.{Event}
-use Rattle.fx_table.specs.Opening.{range_of}
-use Rattle.fx_counted.specs.Agrees.{NodeAgrees, OwnerAgrees, WorkAgrees, PlacesNext, Agrees}
-use Rattle.fx_counted.specs.Control.{full_in}
-use Rattle.fx_counted.specs.Counts.{looks, all_looks}
-use Rattle.fx_counted.specs.Layout.{control_place, draw_place, slot_place, node_place, home_place, PlacesAreInside, PlacesAreApart}
-use Rattle.fx_counted.specs.Passes.{Shared, opening_of, slots_of, IsNumber, state_after_all, end_in, next_in, held_in, placing, held_of}
-use Rattle.fx_counted.specs.Phases.{Phase, unborn, spare, seated, owner, file_in}
-use Rattle.fx_counted.specs.declared.view.Log.{Log}
-use Rattle.fx_counted.specs.declared.view.View.{View}
-use Rattle.fx_counted.specs.declared.view.Work.{Work}
-use Rattle.fx_counted.specs.declared.view.Work.TheVariants.{Holding}
+use Rattle.fx_counted.proofs.Words.{◌≡◌, ◌≢◌, ℕ, ◌+◌, ◌<◌, ◌≤◌, List, [], ◌∷◌, set, length, sym, refl, ap, ◌∙◌, subst, arith, get_or-set_other}
+use Rattle.fx_counted.proofs.Words.{get_or-set_same, Option, Bool, dite, some, ℕ_discrete, get_elem?, Closed, held_by, changed_at, File, Event}
+use Rattle.fx_counted.proofs.Words.{range_of, NodeAgrees, OwnerAgrees, WorkAgrees, PlacesNext, Agrees, full_in, looks, all_looks, control_place}
+use Rattle.fx_counted.proofs.Words.{draw_place, slot_place, node_place, home_place, PlacesAreInside, PlacesAreApart, Shared, opening_of, slots_of}
+use Rattle.fx_counted.proofs.Words.{IsNumber, state_after_all, end_in, next_in, held_in, placing, held_of, Phase, unborn, spare, seated, owner}
+use Rattle.fx_counted.proofs.Words.{file_in, Log, View, Work, Holding}
+use Rattle.std.proofs.Common.{length-set}
 use Rattle.fx_counted.proofs.Places.{inside, apart}
 use Rattle.fx_counted.proofs.Histories.{Grows, IsHistory, change_here, change_else, seen_all}
 use Rattle.fx_counted.proofs.Frames.{busy, owner_stays}

@@ -1,37 +1,20 @@
 -- A table that is opened keeps the rule.
-use Rattle.std.proofs.Common.{◌≡◌, ◌≢◌, ℕ, zero, suc, ◌+◌, ◌*◌, ◌<◌, ◌≤◌, Bool, not, ◌&&◌, nat_lt, cond, List, [], ◌∷◌, map, length}
-use Rattle.std.proofs.Common.{sym, refl, ap, ◌∙◌, subst, arith, eqb, lt-ltb, le-ltb, ◌⊎◌, inl, inr, ⊎_elim, Option, Some, None, slice_index, eq-eqb, ne_eqb}
-use Rattle.std.specs.Prelude.{sum_by, count_by}
+use Rattle.fx_counted.proofs.Words.{◌≡◌, ℕ, zero, suc, ◌+◌, ◌*◌, ◌<◌, ◌≤◌, Bool, nat_lt, cond, List, [], ◌∷◌, map, length, sym, refl, ap, ◌∙◌, subst}
+use Rattle.fx_counted.proofs.Words.{arith, eqb, lt-ltb, le-ltb, ◌⊎◌, inl, inr, ⊎_elim, Option, Some, None, slice_index, sum_by, count_by}
+use Rattle.fx_counted.proofs.Words.{sum_by-cons, dite, some, some-injective, some-ne-none, ℕ_discrete, dec_le, get_elem?, Closed, state_of, State}
+use Rattle.fx_counted.proofs.Words.{file_numbered, numbered, File, numbers_for, range_of, born, takes_in, name_made, entry_made, takes_made, Names}
+use Rattle.fx_counted.proofs.Words.{SlotAgrees, NodeAgrees, OwnerAgrees, LogAgrees, ViewAgrees, Agrees, new_logs, word_of, place_of, slot_place}
+use Rattle.fx_counted.proofs.Words.{word_for, node_for, home_for, OpensWith, opening_of, slots_of, IsNumber, state_after_all, new_log, once, Phase}
+use Rattle.fx_counted.proofs.Words.{unborn, seated, closed, Log, Start, View, Idle}
+use Rattle.std.proofs.Common.{not, ◌&&◌}
 use Rattle.std.proofs.lemmas.List.{length-map}
-use Rattle.std.proofs.lemmas.List.Sums.{sum_by-cons}
-use mathlib.Core.Logic.{dite}
-use mathlib.Core.Option.{some, some-injective, some-ne-none}
-use native.Mathlib.Decide.{ℕ_discrete, dec_le}
-use lib.ListN.{get_elem?}
 use Rattle.atomic_table.specs.Table.{opening}
 use Rattle.atomic_table.proofs.Lists.{at_map}
-use Rattle.fx_base.specs.declared.open_file.Closed.{Closed}
-use Rattle.fx_plain.specs.Contents.{state_of}
-use Rattle.fx_plain.specs.State.{State, file_numbered}
-use Rattle.fx_plain.specs.Table.{numbered}
-use Rattle.fx_plain.specs.declared.event.File.{File}
-use Rattle.fx_table.specs.Numbers.{numbers_for}
-use Rattle.fx_table.specs.Opening.{range_of}
-use Rattle.fx_words.specs.Words.{born, takes_in}
-use Rattle.fx_words.proofs.Parts.{name_made, entry_made, takes_made}
-use Rattle.fx_counted.specs.Agrees.{Names, IsSeated, SlotAgrees, NodeAgrees, OwnerAgrees, LogAgrees, ViewAgrees, Agrees}
-use Rattle.fx_counted.specs.Cuts.{new_logs, first_view}
-use Rattle.fx_counted.specs.Laws.{word_of, place_of}
-use Rattle.fx_counted.specs.Layout.{slot_place}
-use Rattle.fx_counted.specs.Opens.{word_for, node_for, home_for, first_file, OpensWith, OpeningKeeps}
-use Rattle.fx_counted.specs.Passes.{opening_of, slots_of, IsNumber, state_after_all, new_log, once}
-use Rattle.fx_counted.specs.Phases.{Phase, unborn, seated, closed}
-use Rattle.fx_counted.specs.declared.view.Log.{Log}
-use Rattle.fx_counted.specs.declared.view.Start.{Start}
-use Rattle.fx_counted.specs.declared.view.View.{View}
-use Rattle.fx_counted.specs.declared.view.Work.TheVariants.{Idle}
+use Rattle.fx_counted.specs.Agrees.{IsSeated}
+use Rattle.fx_counted.specs.Cuts.{first_view}
+use Rattle.fx_counted.specs.Opens.{first_file, OpeningKeeps}
 use Rattle.fx_counted.proofs.FullSlots.{full_few}
-use Rattle.fx_counted.proofs.Ones.{one_if}
+use Rattle.fx_counted.proofs.Ones.{one_if, bit_here, bit_else}
 
 at_new : (p n i : ℕ) (x : Log) → get_elem? (new_logs p n) i ≡ some x → (q : ℕ) × (x ≡ new_log q)
 at_new p zero i x e = absurd (some-ne-none x (sym e))
@@ -59,17 +42,11 @@ none_told p (suc n) = let a = none_told (suc p) n in
 abbrev counted : ℕ → ℕ → ℕ → ℕ
 counted q p n = sum_by (λ (y : Log). one_if (eqb y.number q)) (new_logs p n)
 
-one_here : (q p : ℕ) → p ≡ q → one_if (eqb p q) ≡ 1
-one_here q p e = rw (eq-eqb p q e) refl
-
-one_else : (q p : ℕ) → p ≢ q → one_if (eqb p q) ≡ 0
-one_else q p e = rw (ne_eqb p q e) refl
-
 new_out : (q p n : ℕ) → (q < p) ⊎ (p + n ≤ q) → counted q p n ≡ 0
 new_out q p zero out = refl
 new_out q p (suc n) out =
     let b = sum_by-cons (λ (y : Log). one_if (eqb y.number q)) (new_log p) (new_logs (suc p) n) in
-    let c = one_else q p (λ e. ⊎_elim (λ (l : q < p). absurd (omega arith)) (λ (g : p + suc n ≤ q). absurd (omega arith)) out) in
+    let c = bit_else q p (λ e. ⊎_elim (λ (l : q < p). absurd (omega arith)) (λ (g : p + suc n ≤ q). absurd (omega arith)) out) in
     let a = new_out q (suc p) n (⊎_elim (λ (l : q < p). inl (omega arith)) (λ (g : p + suc n ≤ q). inr (omega arith)) out) in
     omega arith
 
@@ -78,8 +55,8 @@ new_in q p zero low high = absurd (omega arith)
 new_in q p (suc n) low high =
     let b = sum_by-cons (λ (y : Log). one_if (eqb y.number q)) (new_log p) (new_logs (suc p) n) in
     dite (ℕ_discrete p q)
-    (λ e. let c = one_here q p e in let a = new_out q (suc p) n (inl (omega (arith, e))) in omega arith)
-    (λ ne. let c = one_else q p ne in let a = new_in q (suc p) n (omega (arith, ne)) (omega arith) in omega arith)
+    (λ e. let c = bit_here q p e in let a = new_out q (suc p) n (inl (omega (arith, e))) in omega arith)
+    (λ ne. let c = bit_else q p ne in let a = new_in q (suc p) n (omega (arith, ne)) (omega arith) in omega arith)
 
 once_is : (n q : ℕ) → counted q 1 n ≡ once n q
 once_is n zero = new_out 0 1 n (inl (omega arith))

@@ -1,7 +1,6 @@
 -- Places are inside, and apart.
-use Rattle.std.proofs.Common.{◌≡◌, ℕ, ◌+◌, ◌-◌, ◌*◌, ◌<◌, ◌≤◌, Bool, cond, ap, arith, lt-ltb, le-ltb, ⊎_elim}
-use Rattle.fx_table.specs.Numbers.{numbers_for}
-use Rattle.fx_counted.specs.Layout.{node_place, words_for, home_place, homes_for, HasNode, PlacesAreInside, PlacesAreApart}
+use Rattle.fx_counted.proofs.Words.{◌≡◌, ℕ, ◌+◌, ◌-◌, ◌*◌, ◌<◌, ◌≤◌, Bool, cond, ap, arith, lt-ltb, le-ltb, ⊎_elim, numbers_for, node_place}
+use Rattle.fx_counted.proofs.Words.{words_for, home_place, homes_for, HasNode, PlacesAreInside, PlacesAreApart}
 
 module _ (size : ℕ) where
   pub low_node : (n : ℕ) → n < size → node_place size n ≡ 17 + 8 * n

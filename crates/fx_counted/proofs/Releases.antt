@@ -1,38 +1,21 @@
 -- A release keeps the rule.
-use Rattle.std.proofs.Common.{◌≡◌, ◌≢◌, ℕ, ◌+◌, ◌-◌, ◌%◌, ◌^◌, ◌<◌, List, [], ◌∷◌, set, sym}
-use Rattle.std.proofs.Common.{refl, ap, ◌∙◌, subst, arith, length-set, Option, Some, None}
-use mathlib.Core.Logic.{dite}
-use mathlib.Core.Option.{some, none}
-use native.Mathlib.Decide.{ℕ_discrete}
-use lib.ListN.{get_elem?}
-use Rattle.atomic_table.specs.Table.{Act, keeps, takes, Allows, Valid, stepped, carried_after, step}
-use Rattle.atomic_table.proofs.Lists.{set_here, set_else}
-use Rattle.fx_base.specs.declared.open_file.Closed.{Closed}
-use Rattle.fx_plain.specs.History.{◌▷◌}
-use Rattle.fx_plain.specs.State.{State}
-use Rattle.fx_plain.specs.Table.{numbered}
-use Rattle.fx_plain.specs.declared.event.File.{File}
-use Rattle.fx_plain.specs.declared.event.Event.{Event}
-use Rattle.fx_plain.specs.declared.event.Action.TheVariants.{Release, Close}
-use Rattle.fx_table.specs.Calls.{no_use}
-use Rattle.fx_table.specs.Pass.{event_of}
-use Rattle.fx_table.proofs.SumLemmas.{sum_at, sum_two}
-use Rattle.fx_counted.specs.Agrees.{NodeAgrees, WorkAgrees, Agrees}
-use Rattle.fx_counted.specs.Counts.{looks}
-use Rattle.fx_counted.specs.Laws.{word_of, place_of, ReleasesKeep}
-use Rattle.fx_counted.specs.Passes.{Shared, IsNumber, state_after_all, shown, held_in, placing, held_of, holding}
-use Rattle.fx_counted.specs.Phases.{Phase, unborn, spare, placed, seated, leaving, retired, emptied, closed, owner, file_in}
-use Rattle.fx_counted.specs.Tells.{LetsGo, TakesOut, Releases}
-use Rattle.fx_counted.specs.declared.view.Log.{Log}
-use Rattle.fx_counted.specs.declared.view.Start.{Start}
-use Rattle.fx_counted.specs.declared.view.View.{View}
-use Rattle.fx_counted.specs.declared.view.Work.TheVariants.{Idle, Holding, Emptying}
+use Rattle.fx_counted.proofs.Words.{◌≡◌, ◌≢◌, ℕ, ◌+◌, ◌-◌, ◌%◌, ◌^◌, ◌<◌, List, [], ◌∷◌, set, sym, refl, ap, ◌∙◌, subst, arith, Option, Some, None}
+use Rattle.fx_counted.proofs.Words.{dite, some, none, ℕ_discrete, get_elem?, Act, keeps, takes, Valid, stepped, carried_after, step, set_here}
+use Rattle.fx_counted.proofs.Words.{set_else, Closed, ◌▷◌, State, numbered, File, Event, Release, Close, no_use, event_of, sum_at, sum_two}
+use Rattle.fx_counted.proofs.Words.{NodeAgrees, WorkAgrees, Agrees, looks, word_of, place_of, Shared, IsNumber, state_after_all, shown, held_in}
+use Rattle.fx_counted.proofs.Words.{placing, held_of, holding, Phase, seated, leaving, retired, emptied, owner, file_in, LetsGo, TakesOut, Log}
+use Rattle.fx_counted.proofs.Words.{Start, View, Idle, Holding, Emptying, eqb}
+use Rattle.std.proofs.Common.{length-set}
+use Rattle.atomic_table.specs.Table.{Allows}
+use Rattle.fx_counted.specs.Laws.{ReleasesKeep}
+use Rattle.fx_counted.specs.Tells.{Releases}
 use Rattle.fx_counted.proofs.Births.{in_phase, word_now, home_now, roomy, else_place}
-use Rattle.fx_counted.proofs.Retirements.{sub_wraps, holding_it, holding_else, few_looks, its_hold, spares_stay}
+use Rattle.fx_counted.proofs.Retirements.{sub_wraps, holding_it, few_looks, its_hold, spares_stay}
 use Rattle.fx_counted.proofs.Frames.{busy, does_now, owner_stays}
 use Rattle.fx_counted.proofs.Histories.{IsHistory, grows_one, grows_more, legal_more, held_mine, part_mine, change_here, change_else}
 use Rattle.fx_counted.proofs.Keeping.{now, logged, its_log, its_work, tells}
 use Rattle.fx_counted.proofs.NodeSteps.{NodeStep, node_agrees}
+use Rattle.fx_counted.proofs.Ones.{one_if, one_less_at}
 
 module _ (st : Shared) (v : View) (r : Agrees v.start st) (id : ℕ) (x : Log) (here : get_elem? st.views id ≡ some v)
     (one : v.logs ≡ x ∷ []) (f : File) (works : v.work ≡ Holding f) where
@@ -72,14 +55,14 @@ module _ (st : Shared) (v : View) (r : Agrees v.start st) (id : ℕ) (x : Log) (
   one_less : new.holds q ≡ old.holds q - 1
   one_less = change_here old.holds q (old.holds q - 1) q refl
 
+  other_holds : (m : ℕ) → m ≢ q → new.holds m ≡ old.holds m
+  other_holds = change_else old.holds q (old.holds q - 1)
+
   -- what the number is, by its phase
   abbrev Now : ℕ → Phase → Type 0
   Now w ph = NodeAgrees new q (looks r.history q) w (home_now st v r id x here one q) ph
 
   still : word < 18446744073709551616 → word ≢ 1 → (ph : Phase) → r.phase q ≡ ph → file_in ph ≡ Some f.identity → Now less ph
-  still fits more unborn is has = absurd (cc has)
-  still fits more (spare p) is has = absurd (cc has)
-  still fits more (placed j) is has = absurd (cc has)
   still fits more (seated s g) is has = let n = in_phase st v r id x here one q mine.0 (seated s g) is in
       let c = few_looks st v r id x here one q in let h = held_now in let z = one_less in
       let e : less ≡ word - 1 = sub_wraps word 1 (omega arith) fits (omega arith) in (omega arith, n.1, n.2, n.3, n.4)
@@ -88,8 +71,7 @@ module _ (st : Shared) (v : View) (r : Agrees v.start st) (id : ℕ) (x : Log) (
       let e : less ≡ word - 1 = sub_wraps word 1 (omega arith) fits (omega arith) in (omega arith, n.1, n.2, n.3)
   still fits more (retired g) is has = let n = in_phase st v r id x here one q mine.0 (retired g) is in let h = held_now in let z = one_less in
       let e : less ≡ word - 1 = sub_wraps word 1 (omega arith) fits (omega arith) in (omega arith, n.1, omega arith, n.3)
-  still fits more (emptied j) is has = absurd (cc has)
-  still fits more closed is has = absurd (cc has)
+  still fits more _ is has = absurd (cc has)
 
   -- where the word was 1, the file was retired, and this is its last hold
   pub record IsLast : Type 0 where
@@ -99,9 +81,6 @@ module _ (st : Shared) (v : View) (r : Agrees v.start st) (id : ℕ) (x : Log) (
     pub holds : old.holds q ≡ 1
 
   last : word ≡ 1 → (ph : Phase) → r.phase q ≡ ph → file_in ph ≡ Some f.identity → IsLast
-  last is_one unborn is has = absurd (cc has)
-  last is_one (spare p) is has = absurd (cc has)
-  last is_one (placed j) is has = absurd (cc has)
   last is_one (seated s g) is has = let n = in_phase st v r id x here one q mine.0 (seated s g) is in
       let c = few_looks st v r id x here one q in let h = held_now in absurd (omega arith)
   last is_one (leaving j t g) is has = let n = in_phase st v r id x here one q mine.0 (leaving j t g) is in
@@ -112,14 +91,10 @@ module _ (st : Shared) (v : View) (r : Agrees v.start st) (id : ℕ) (x : Log) (
     removed = n.3 ∙ ap (λ (g : Closed). Some (numbered q g)) same;
     holds = sym n.0 ∙ is_one;
   }
-  last is_one (emptied j) is has = absurd (cc has)
-  last is_one closed is has = absurd (cc has)
+  last is_one _ is has = absurd (cc has)
 
   holds_more : (m : ℕ) → new.holds m + held_of m v ≡ old.holds m + 0
-  holds_more m = let w = ap (holding m) works in dite (ℕ_discrete m q)
-      (λ same. let a = holding_it m f same in let b = change_here old.holds q (old.holds q - 1) m same in
-      let c = ap old.holds same in let d = held_now in omega arith)
-      (λ other. let a = holding_else m f other in let b = change_else old.holds q (old.holds q - 1) m other in omega arith)
+  holds_more m = let w : held_of m v ≡ one_if (eqb q m) = ap (holding m) works in let e = one_less_at old.holds q m held_now in omega arith
 
   not_busy : (n : ℕ) → busy v.work ≢ n + 1
   not_busy n bad = let b = ap busy works in omega arith
@@ -128,16 +103,7 @@ module _ (st : Shared) (v : View) (r : Agrees v.start st) (id : ℕ) (x : Log) (
   waits fits more = let o = its_log st v r id x here one in record {
     grows = grows_one x.number r.history freeing refl;
     legal = freed_legal;
-    told = record {
-      at = refl;
-      size = refl;
-      fresh = refl;
-      looked = refl;
-      all = omega arith;
-      removed =
-          λ m other. refl;
-      holds = λ m other. change_else old.holds q (old.holds q - 1) m other;
-    };
+    told = record { at = refl; size = refl; fresh = refl; looked = refl; all = omega arith; removed = λ m other. refl; holds = other_holds };
     homes = refl;
     home_else = λ m has other. refl;
     seat = λ s g is. is;
@@ -181,8 +147,8 @@ module _ (st : Shared) (v : View) (r : Agrees v.start st) (id : ℕ) (x : Log) (
             fresh = refl;
             looked = refl;
             all = omega arith;
-            removed = λ m other. change_else old.removed q None m other;
-            holds = λ m other. change_else old.holds q (old.holds q - 1) m other;
+            removed = change_else old.removed q None;
+            holds = other_holds;
           };
           homes = length-set st.homes (place_of v.start q) none;
           home_else = λ m has other. set_else st.homes (place_of v.start q) (place_of v.start m) none

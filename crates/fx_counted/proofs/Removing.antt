@@ -1,19 +1,12 @@
 -- What a pass answers that removed a file from a slot, or found none.
-use Rattle.std.proofs.Common.{◌≡◌, ℕ, [], sym, refl, ap, ◌∙◌, subst}
-use Rattle.std.specs.Prelude.{Option, Some, None, option_map, Result, ok_or}
-use Rattle.fx_base.specs.declared.open_file.Closed.{Closed}
-use Rattle.fx_plain.specs.History.{◌▷◌}
-use Rattle.fx_plain.specs.Table.{numbered}
-use Rattle.fx_plain.specs.declared.event.File.{File}
-use Rattle.fx_plain.specs.declared.event.Action.TheVariants.{Put, Clear, Take}
-use Rattle.fx_table.specs.Calls.{Adds, no_use, one_number, Placed, Cleared, Taken}
+use Rattle.fx_counted.proofs.Words.{◌≡◌, ℕ, [], sym, refl, ap, ◌∙◌, subst, Option, Some, None, option_map, Result, Closed, ◌▷◌, numbered, File, Put}
+use Rattle.fx_counted.proofs.Words.{Clear, Take, Adds, no_use, one_number, PassView, next_number, Retired, doing_in, retires_now}
+use Rattle.std.specs.Prelude.{ok_or}
+use Rattle.fx_table.specs.Calls.{Placed, Cleared, Taken}
 use Rattle.fx_table.specs.Opening.{Opening}
-use Rattle.fx_table.specs.Pass.{PassView, next_number, retired_of}
+use Rattle.fx_table.specs.Pass.{retired_of}
 use Rattle.fx_table.specs.declared.values.Doing.TheVariants.{Idle as NowIdle, Retiring as NowRetiring}
 use Rattle.fx_table.specs.declared.values.Empty.{Empty}
-use Rattle.fx_table.specs.declared.values.Retired.{Retired}
-use Rattle.fx_counted.specs.Passes.{doing_in}
-use Rattle.fx_counted.specs.Tells.{retires_now}
 
 pub cleared_so : (o : Opening) (v : PassView) (slot : ℕ) (file : Option File) (takes : ℕ) (result : Option Retired) (w : PassView)
     → result ≡ option_map (λ f. retired_of f takes) file

@@ -1,32 +1,14 @@
 -- A retirement keeps the rule.
-use Rattle.std.proofs.Common.{◌≡◌, ◌≢◌, ℕ, ◌+◌, ◌-◌, ◌%◌, ◌^◌, ◌<◌, ◌≤◌, List, [], ◌∷◌, set, sym, refl}
-use Rattle.std.proofs.Common.{ap, ◌∙◌, subst, arith, eq-eqb, ne_eqb, length-set, Option, Some, None}
-use mathlib.Core.Logic.{dite}
-use mathlib.Core.Option.{some, none}
-use native.Mathlib.Decide.{ℕ_discrete}
-use lib.ListN.{get_elem?}
-use Rattle.atomic_table.specs.Table.{Act, keeps, takes, Allows, Valid, stepped, carried_after, step}
-use Rattle.atomic_table.proofs.Lists.{set_here, set_else}
-use Rattle.fx_base.specs.declared.open_file.Closed.{Closed}
-use Rattle.fx_plain.specs.History.{◌▷◌}
-use Rattle.fx_plain.specs.Step.{changed_at}
-use Rattle.fx_plain.specs.declared.event.File.{File}
-use Rattle.fx_plain.specs.declared.event.Event.{Event}
-use Rattle.fx_plain.specs.declared.event.Action.TheVariants.{Close}
-use Rattle.fx_table.specs.Calls.{no_use}
-use Rattle.fx_table.specs.Pass.{event_of}
-use Rattle.fx_table.proofs.SumLemmas.{sum_at}
-use Rattle.fx_words.specs.Words.{retire_amount_of}
-use Rattle.fx_counted.specs.Agrees.{NodeAgrees, WorkAgrees, Agrees}
-use Rattle.fx_counted.specs.Counts.{looks}
-use Rattle.fx_counted.specs.Laws.{word_of, place_of, RetiresKeep}
-use Rattle.fx_counted.specs.Passes.{Shared, IsNumber, state_after_all, shown, end_in, next_in, held_in, placing, held_of, holding}
-use Rattle.fx_counted.specs.Phases.{Phase, unborn, spare, leaving, retired, emptied, owner, file_in}
-use Rattle.fx_counted.specs.Tells.{TakesOut, Retires}
-use Rattle.fx_counted.specs.declared.view.Log.{Log}
-use Rattle.fx_counted.specs.declared.view.Start.{Start}
-use Rattle.fx_counted.specs.declared.view.View.{View}
-use Rattle.fx_counted.specs.declared.view.Work.TheVariants.{Idle, Holding, Retiring, Emptying}
+use Rattle.fx_counted.proofs.Words.{◌≡◌, ◌≢◌, ℕ, ◌+◌, ◌-◌, ◌%◌, ◌^◌, ◌<◌, ◌≤◌, List, [], ◌∷◌, set, sym, refl, ap, ◌∙◌, subst, arith, eq-eqb, Option}
+use Rattle.fx_counted.proofs.Words.{Some, None, dite, some, none, ℕ_discrete, get_elem?, Act, keeps, takes, Valid, stepped, carried_after, step}
+use Rattle.fx_counted.proofs.Words.{set_here, set_else, Closed, ◌▷◌, changed_at, File, Event, Close, no_use, event_of, sum_at, retire_amount_of}
+use Rattle.fx_counted.proofs.Words.{NodeAgrees, WorkAgrees, Agrees, looks, word_of, place_of, Shared, IsNumber, state_after_all, shown, end_in}
+use Rattle.fx_counted.proofs.Words.{next_in, held_in, placing, held_of, holding, Phase, unborn, spare, leaving, retired, emptied, owner, file_in}
+use Rattle.fx_counted.proofs.Words.{TakesOut, Log, Start, View, Idle, Holding, Retiring, Emptying}
+use Rattle.std.proofs.Common.{length-set}
+use Rattle.atomic_table.specs.Table.{Allows}
+use Rattle.fx_counted.specs.Laws.{RetiresKeep}
+use Rattle.fx_counted.specs.Tells.{Retires}
 use Rattle.fx_counted.proofs.Births.{in_phase, word_now, home_now, roomy, else_place}
 use Rattle.fx_counted.proofs.Frames.{busy, does_now}
 use Rattle.fx_counted.proofs.Histories.{IsHistory, grows_none, grows_one, legal_more, held_mine, part_mine, change_here, change_else, looks_few}
@@ -38,9 +20,6 @@ sub_wraps n k le fits more = omega arith
 
 pub holding_it : (n : ℕ) (f : File) → n ≡ f.number → holding n (Holding f) ≡ 1
 holding_it n f same = rw (eq-eqb f.number n (sym same)) refl
-
-pub holding_else : (n : ℕ) (f : File) → n ≢ f.number → holding n (Holding f) ≡ 0
-holding_else n f other = rw (ne_eqb f.number n (λ e. other (sym e))) refl
 
 module _ (st : Shared) (v : View) (r : Agrees v.start st) (id : ℕ) (x : Log) (here : get_elem? st.views id ≡ some v) (one : v.logs ≡ x ∷ []) where
   -- the looks of a file are few
@@ -130,8 +109,7 @@ module _ (st : Shared) (v : View) (r : Agrees v.start st) (id : ℕ) (x : Log) (
             fresh = refl;
             looked = refl;
             all = omega arith;
-            removed =
-                λ m other. change_else (state_after_all v.start r.history).removed q None m other;
+            removed = change_else (state_after_all v.start r.history).removed q None;
             holds = λ m other. refl;
           };
           homes = length-set st.homes (place_of v.start q) none;
@@ -146,8 +124,7 @@ module _ (st : Shared) (v : View) (r : Agrees v.start st) (id : ℕ) (x : Log) (
           free = λ m other bad. let b = ap busy works in other (omega arith);
           node = (
             omega arith,
-            set_here st.homes (place_of v.start q) none
-                (roomy st v r id x here one q mine.0),
+            set_here st.homes (place_of v.start q) none (roomy st v r id x here one q mine.0),
             z,
             change_here (state_after_all v.start r.history).removed q None q refl,
           );

@@ -1,26 +1,9 @@
 -- A pass that looks for a free slot: what its steps leave, one after another.
-use Rattle.std.proofs.Common.{◌≡◌, ℕ, ◌+◌, Bool, [], ◌∷◌, nat_eq, sym, ap, ◌∙◌, subst, ◌≢◌, ne_eqb, eq-eqb}
-use Rattle.std.specs.Prelude.{Some}
-use mathlib.Core.Logic.{dite}
-use mathlib.Core.Option.{none}
-use native.Mathlib.Decide.{ℕ_discrete}
-use Rattle.atomic_table.specs.Table.{step, rest}
-use Rattle.fx_base.specs.declared.open_file.Closed.{Closed}
-use Rattle.fx_plain.specs.History.{◌▷◌}
-use Rattle.fx_plain.specs.Table.{numbered}
-use Rattle.fx_plain.specs.declared.event.Action.TheVariants.{Allocate, Full}
-use Rattle.fx_table.specs.Calls.{no_use, one_number}
-use Rattle.fx_counted.specs.Goes.{Goes}
-use Rattle.fx_counted.specs.Laws.{place_of}
-use Rattle.fx_counted.specs.Layout.{slot_of}
-use Rattle.fx_counted.specs.Passes.{Sat}
-use Rattle.fx_counted.specs.Searching.{IsPlacing, StillPlaces, HasAllocated, HasFoundAllFull, Tries}
-use Rattle.fx_counted.specs.Tells.{Stepped, Exchanges}
-use Rattle.fx_counted.specs.declared.view.Change.{Change}
-use Rattle.fx_counted.specs.declared.view.Change.TheVariants.{Outside, Same, More}
-use Rattle.fx_counted.specs.declared.view.Start.{Start}
-use Rattle.fx_counted.specs.declared.view.Work.{Work}
-use Rattle.fx_counted.specs.declared.view.Work.TheVariants.{Idle, Placing}
+use Rattle.fx_counted.proofs.Words.{◌≡◌, ℕ, ◌+◌, Bool, [], ◌∷◌, sym, ap, ◌∙◌, subst, ◌≢◌, ne_eqb, eq-eqb, Some, dite, none, ℕ_discrete, step, rest}
+use Rattle.fx_counted.proofs.Words.{Closed, ◌▷◌, numbered, Allocate, Full, no_use, one_number, Goes, place_of, slot_of, Sat, StillPlaces}
+use Rattle.fx_counted.proofs.Words.{HasAllocated, Tries, Stepped, Exchanges, Change, Outside, Same, More, Start, Work, Idle, Placing}
+use Rattle.std.proofs.Common.{nat_eq}
+use Rattle.fx_counted.specs.Searching.{IsPlacing, HasFoundAllFull}
 use Rattle.fx_counted.proofs.Going.{goes_one, goes_then, still_at_work}
 
 -- a step that leaves the pass at its work

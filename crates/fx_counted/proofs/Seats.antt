@@ -1,25 +1,12 @@
 -- A seat is split off, and one is joined back.
-use Rattle.std.specs.Prelude.{sum_by}
-use Rattle.std.proofs.lemmas.List.Sums.{sum_by-append}
-use Rattle.std.proofs.Common.{◌≡◌, ◌≢◌, ℕ, zero, suc, ◌+◌, List, [], ◌∷◌, ◌++◌, length, set, sym}
-use Rattle.std.proofs.Common.{refl, ap, ◌∙◌, subst, arith, ◌⊎◌, inl, inr, ⊎_elim, length-append, eqb}
-use mathlib.Core.Option.{some, some-injective, some-ne-none}
-use lib.ListN.{get_elem?}
-use Rattle.atomic_table.proofs.Lists.{at_set, set_else, at_snoc, at_longer}
-use Rattle.fx_plain.specs.declared.event.Event.{Event}
-use Rattle.fx_table.proofs.SumLemmas.{sum_set}
-use Rattle.fx_counted.specs.Agrees.{Does, WorkAgrees, LogAgrees, ViewAgrees, Agrees, lengths}
-use Rattle.fx_counted.specs.Control.{in_change, added, removed_by, changes_of, added_of, removed_of}
-use Rattle.fx_counted.specs.Cuts.{rest_of, first_of, without_first, first_alone, together, spent}
+use Rattle.fx_counted.proofs.Words.{sum_by, sum_by-append, ◌≡◌, ◌≢◌, ℕ, zero, suc, ◌+◌, List, [], ◌∷◌, ◌++◌, length, set, sym, refl, ap, ◌∙◌, subst}
+use Rattle.fx_counted.proofs.Words.{arith, ◌⊎◌, inl, inr, ⊎_elim, length-append, eqb, some, some-injective, some-ne-none, get_elem?, at_set}
+use Rattle.fx_counted.proofs.Words.{set_else, at_longer, Event, sum_set, Does, WorkAgrees, LogAgrees, ViewAgrees, Agrees, lengths, in_change, added}
+use Rattle.fx_counted.proofs.Words.{removed_by, changes_of, added_of, removed_of, rest_of, first_of, without_first, first_alone, Shared, drawn_of}
+use Rattle.fx_counted.proofs.Words.{told_of, looks_of, logs_of, held_of, holding, Phase, Outside, Log, Start, View, Work, Idle}
+use Rattle.atomic_table.proofs.Lists.{at_snoc}
+use Rattle.fx_counted.specs.Cuts.{together, spent}
 use Rattle.fx_counted.specs.Laws.{SplitsKeep, JoinsKeep}
-use Rattle.fx_counted.specs.Passes.{Shared, drawn_of, told_of, looks_of, logs_of, held_of, holding}
-use Rattle.fx_counted.specs.Phases.{Phase}
-use Rattle.fx_counted.specs.declared.view.Change.TheVariants.{Outside}
-use Rattle.fx_counted.specs.declared.view.Log.{Log}
-use Rattle.fx_counted.specs.declared.view.Start.{Start}
-use Rattle.fx_counted.specs.declared.view.View.{View}
-use Rattle.fx_counted.specs.declared.view.Work.{Work}
-use Rattle.fx_counted.specs.declared.view.Work.TheVariants.{Idle}
 use Rattle.fx_counted.proofs.Frames.{busy, owner_map}
 use Rattle.fx_counted.proofs.Ones.{one_if, times}
 

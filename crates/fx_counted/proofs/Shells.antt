@@ -1,16 +1,10 @@
 -- Files leave a table of one thread, and come back.
-use Rattle.std.proofs.Common.{◌≡◌, ◌≢◌, ℕ, zero, suc, ◌+◌, ◌<◌, ◌≤◌, List, [], ◌∷◌, ◌++◌}
-use Rattle.std.proofs.Common.{length, sym, refl, ap, ◌∙◌, subst, arith, ◌⊎◌, inl, inr, ⊎_elim}
-use Rattle.std.specs.Prelude.{Option, Some, None}
+use Rattle.fx_counted.proofs.Words.{◌≡◌, ◌≢◌, ℕ, zero, suc, ◌+◌, ◌<◌, ◌≤◌, List, [], ◌∷◌, ◌++◌, length, sym, refl, ap, ◌∙◌, subst, arith, ◌⊎◌, inl}
+use Rattle.fx_counted.proofs.Words.{inr, ⊎_elim, Option, Some, None, dite, ℕ_discrete, dec_le, Closed, State, IsSettled, Contents, state_of, file_at}
+use Rattle.fx_counted.proofs.Words.{changed_at, numbered, identity_of, AreBack, file_in_place}
 use Rattle.std.proofs.lemmas.List.{get_or_append_left}
-use mathlib.Core.Logic.{dite}
-use native.Mathlib.Decide.{ℕ_discrete, dec_le}
-use Rattle.fx_base.specs.declared.open_file.Closed.{Closed}
-use Rattle.fx_plain.specs.State.{State, IsSettled}
-use Rattle.fx_plain.specs.Contents.{Contents, state_of, file_at, slot_at}
-use Rattle.fx_plain.specs.Step.{changed_at}
-use Rattle.fx_plain.specs.Table.{numbered, identity_of}
-use Rattle.fx_counted.specs.Shells.{IsShell, AreBack, file_in_place}
+use Rattle.fx_plain.specs.Contents.{slot_at}
+use Rattle.fx_counted.specs.Shells.{IsShell}
 use Rattle.fx_counted.proofs.Histories.{change_here, change_else}
 
 -- the last of a list of places, and those before it
@@ -30,23 +24,28 @@ none_outside c slot g = ap (file_at c.nodes) (go c.slots slot g)
     go (x ∷ xs) zero g = absurd (omega arith)
     go (x ∷ xs) (suc i) g = go xs i (omega arith)
 
--- a file came to an empty slot, under the slot's number
-pub record GetsFile (old : State) (slot : ℕ) (file : Closed) (new : State) : Type 0 where
+-- the slot has this file now, or none, and the others have what they had
+pub record Becomes (old : State) (slot : ℕ) (file : Option Closed) (new : State) : Type 0 where
   pub size : new.size ≡ old.size
   pub range : new.range ≡ old.range
-  pub there : new.at slot ≡ Some (numbered slot file)
+  pub there : identity_of (new.at slot) ≡ file
   pub others : (other : ℕ) → other ≢ slot → new.at other ≡ old.at other
   pub settled : IsSettled new
 
+-- a file came to an empty slot, under the slot's number
 pub file_put : (a b : State) (slot : ℕ) (file : Closed) → IsSettled a
-    → b ≡ record a { at = changed_at a.at slot (Some (numbered slot file)) } → GetsFile a slot file b
-file_put a b slot file settled is = subst (λ (z : State). GetsFile a slot file z) (sym is) record {
+    → b ≡ record a { at = changed_at a.at slot (Some (numbered slot file)) } → Becomes a slot (Some file) b
+file_put a b slot file settled is = subst (Becomes a slot (Some file)) (sym is) record {
   size = refl;
   range = refl;
-  there = change_here a.at slot (Some (numbered slot file)) slot refl;
+  there = ap identity_of (change_here a.at slot (Some (numbered slot file)) slot refl);
   others = λ other ne. change_else a.at slot (Some (numbered slot file)) other ne;
   settled = record { unheld = settled.unheld; closed = settled.closed };
 }
+
+none_came : (st : State) (slot : ℕ) → st.at slot ≡ None → IsSettled st → Becomes st slot None st
+none_came st slot none settled =
+    record { size = refl; range = refl; there = ap identity_of none; others = λ other ne. refl; settled = settled }
 
 -- between these slots the files are still away
 pub record IsPartlyBack (shell : State) (file : ℕ → Option Closed) (from to : ℕ) (st : State) : Type 0 where
@@ -75,54 +74,33 @@ module _ (shell : State) (file : ℕ → Option Closed) where
     settled = p.settled;
   }
 
-  -- the first or the last of them is none
-  pub none_first : (st : State) (from to : ℕ) → file from ≡ None → from < to → IsPartlyBack shell file from to st
-      → IsPartlyBack shell file (from + 1) to st
-  none_first st from to none some p = record {
-    size = p.size;
-    range = p.range;
-    away = λ slot l u. p.away slot (omega arith) u;
-    back = λ slot out. dite (ℕ_discrete slot from)
-        (λ same. ap (λ (n : ℕ). identity_of (st.at n)) same ∙ (ap identity_of (p.away from (omega arith) some) ∙ (sym none ∙ ap file (sym same))))
-        (λ ne. p.back slot (⊎_elim (λ (l : slot < from + 1). inl (omega (arith, ne))) (λ (g : to ≤ slot). inr g) out));
-    settled = p.settled;
-  }
-
-  pub none_last : (st : State) (from to : ℕ) → file to ≡ None → from ≤ to → IsPartlyBack shell file from (to + 1) st
-      → IsPartlyBack shell file from to st
-  none_last st from to none some p = record {
-    size = p.size;
-    range = p.range;
-    away = λ slot l u. p.away slot l (omega arith);
-    back = λ slot out. dite (ℕ_discrete slot to)
-        (λ same. ap (λ (n : ℕ). identity_of (st.at n)) same ∙ (ap identity_of (p.away to some (omega arith)) ∙ (sym none ∙ ap file (sym same))))
-        (λ ne. p.back slot (⊎_elim (λ (l : slot < from). inl l) (λ (g : to ≤ slot). inr (omega (arith, ne))) out));
-    settled = p.settled;
-  }
-
-  -- the first or the last of them comes back
-  pub one_first : (st st' : State) (from to : ℕ) (one : Closed) → file from ≡ Some one → GetsFile st from one st'
-      → IsPartlyBack shell file from to st → IsPartlyBack shell file (from + 1) to st'
-  one_first st st' from to one is gets p = record {
+  -- one of them is back, or there was none
+  one_back : (st st' : State) (slot from to from' to' : ℕ) → ((s : ℕ) → from' ≤ s → s < to' → (from ≤ s) × (s < to) × (s ≢ slot))
+      → ((s : ℕ) → s ≢ slot → (s < from') ⊎ (to' ≤ s) → (s < from) ⊎ (to ≤ s)) → Becomes st slot (file slot) st'
+      → IsPartlyBack shell file from to st → IsPartlyBack shell file from' to' st'
+  one_back st st' slot from to from' to' inner outer gets p = record {
     size = gets.size ∙ p.size;
     range = gets.range ∙ p.range;
-    away = λ slot l u. gets.others slot (λ same. omega arith) ∙ p.away slot (omega arith) u;
-    back = λ slot out. dite (ℕ_discrete slot from)
-        (λ same. ap (λ (n : ℕ). identity_of (st'.at n)) same ∙ (ap identity_of gets.there ∙ (sym is ∙ ap file (sym same))))
-        (λ ne. ap identity_of (gets.others slot ne)
-        ∙ p.back slot (⊎_elim (λ (l : slot < from + 1). inl (omega (arith, ne))) (λ (g : to ≤ slot). inr g) out));
+    away = λ s l u. let i = inner s l u in gets.others s i.2 ∙ p.away s i.0 i.1;
+    back = λ s out. dite (ℕ_discrete s slot)
+        (λ same. ap (λ (n : ℕ). identity_of (st'.at n)) same ∙ (gets.there ∙ ap file (sym same)))
+        (λ ne. ap identity_of (gets.others s ne) ∙ p.back s (outer s ne out));
     settled = gets.settled;
   }
 
-  pub one_last : (st st' : State) (from to : ℕ) (one : Closed) → file to ≡ Some one → GetsFile st to one st'
-      → IsPartlyBack shell file from (to + 1) st → IsPartlyBack shell file from to st'
-  one_last st st' from to one is gets p = record {
-    size = gets.size ∙ p.size;
-    range = gets.range ∙ p.range;
-    away = λ slot l u. gets.others slot (λ same. omega arith) ∙ p.away slot l (omega arith);
-    back = λ slot out. dite (ℕ_discrete slot to)
-        (λ same. ap (λ (n : ℕ). identity_of (st'.at n)) same ∙ (ap identity_of gets.there ∙ (sym is ∙ ap file (sym same))))
-        (λ ne. ap identity_of (gets.others slot ne)
-        ∙ p.back slot (⊎_elim (λ (l : slot < from). inl l) (λ (g : to ≤ slot). inr (omega (arith, ne))) out));
-    settled = gets.settled;
-  }
+  -- the first of them, or the last
+  pub first_back : (st st' : State) (from to : ℕ) → Becomes st from (file from) st' → IsPartlyBack shell file from to st
+      → IsPartlyBack shell file (from + 1) to st'
+  first_back st st' from to = one_back st st' from from to (from + 1) to (λ s l u. (omega arith, u, λ same. omega arith))
+      (λ s ne out. ⊎_elim (λ (l : s < from + 1). inl (omega (arith, ne))) (λ (g : to ≤ s). inr g) out)
+
+  pub last_back : (st st' : State) (from to : ℕ) → Becomes st to (file to) st' → IsPartlyBack shell file from (to + 1) st
+      → IsPartlyBack shell file from to st'
+  last_back st st' from to = one_back st st' to from (to + 1) from to (λ s l u. (l, omega arith, λ same. omega arith))
+      (λ s ne out. ⊎_elim (λ (l : s < from). inl l) (λ (g : to ≤ s). inr (omega (arith, ne))) out)
+
+  -- a place without a file gives none to its slot
+  pub none_given : (st : State) (slot from to : ℕ) → from ≤ slot → slot < to → file slot ≡ None → IsPartlyBack shell file from to st
+      → Becomes st slot (file slot) st
+  none_given st slot from to low high none p =
+      subst (λ (x : Option Closed). Becomes st slot x st) (sym none) (none_came st slot (p.away slot low high) p.settled)

@@ -1,45 +1,25 @@
 -- Swaps, loads and exchanges keep the rule.
-use Rattle.std.proofs.Common.{◌≡◌, ◌≢◌, ℕ, ◌+◌, ◌-◌, ◌<◌, ◌≤◌, ◌^◌, Bool, List, [], ◌∷◌, set, false}
-use Rattle.std.proofs.Common.{sym, refl, ap, ◌∙◌, subst, arith, eqb, Option, Some, None, inl}
+use Rattle.fx_counted.proofs.Words.{◌≡◌, ◌≢◌, ℕ, ◌+◌, ◌-◌, ◌<◌, ◌≤◌, ◌^◌, Bool, List, [], ◌∷◌, set, false, sym, refl, ap, ◌∙◌, subst, arith, eqb}
+use Rattle.fx_counted.proofs.Words.{Option, Some, None, inl, some, none, get_elem?, Act, keeps, gives, rest, Valid, stepped, carried_after, step}
+use Rattle.fx_counted.proofs.Words.{Closed, ◌▷◌, changed_at, numbered, File, Event, Action, Put, Clear, Take, Allocate, Use, no_use, one_number}
+use Rattle.fx_counted.proofs.Words.{range_of, name_in, takes_in, slot_word_of, Names, WorkAgrees, Agrees, if_full, HasPass, MayChange, place_of}
+use Rattle.fx_counted.proofs.Words.{slot_place, slot_of, Shared, Sat, opening_of, slots_of, state_after_all, Stepped, Exchanges, GoesOn, retires_now}
+use Rattle.fx_counted.proofs.Words.{turned, Change, Same, Log, Start, View, Work, Idle, Placing, placed, event_of, shown}
 use Rattle.std.proofs.lemmas.List.{set-get_or}
-use mathlib.Core.Option.{some, none}
-use lib.ListN.{get_elem?}
 use prog.Atomic.{either}
-use Rattle.atomic_table.specs.Table.{Act, keeps, gives, rest, Allows, Valid, stepped, carried_after, step}
+use Rattle.atomic_table.specs.Table.{Allows}
 use Rattle.atomic_table.proofs.Lists.{exchanged}
-use Rattle.fx_base.specs.declared.open_file.Closed.{Closed}
-use Rattle.fx_plain.specs.History.{◌▷◌}
-use Rattle.fx_plain.specs.Step.{changed_at}
-use Rattle.fx_plain.specs.Table.{numbered}
-use Rattle.fx_plain.specs.declared.event.File.{File}
-use Rattle.fx_plain.specs.declared.event.Event.{Event}
-use Rattle.fx_plain.specs.declared.event.Action.{Action}
-use Rattle.fx_plain.specs.declared.event.Action.TheVariants.{Put, Clear, Take, Allocate}
-use Rattle.fx_table.specs.Calls.{Use, no_use, one_number}
-use Rattle.fx_table.specs.Opening.{range_of}
-use Rattle.fx_words.specs.Words.{name_in, takes_in, slot_word_of}
-use Rattle.fx_counted.specs.Agrees.{Names, WorkAgrees, Agrees}
-use Rattle.fx_counted.specs.Control.{if_full}
-use Rattle.fx_counted.specs.Laws.{MayChange, place_of, ClearsKeep, TakesKeep, InstallsKeep, LoadsKeep, ExchangesKeep}
-use Rattle.fx_counted.specs.Layout.{slot_place, slot_of}
-use Rattle.fx_counted.specs.Passes.{Shared, Sat, opening_of, slots_of, state_after_all}
-use Rattle.fx_counted.specs.Tells.{Stepped, Installs, Removes, Exchanges, GoesOn, retires_now, turned}
-use Rattle.fx_counted.specs.declared.view.Change.{Change}
-use Rattle.fx_counted.specs.declared.view.Change.TheVariants.{Same}
-use Rattle.fx_counted.specs.declared.view.Log.{Log}
-use Rattle.fx_counted.specs.declared.view.Start.{Start}
-use Rattle.fx_counted.specs.declared.view.View.{View}
-use Rattle.fx_counted.specs.declared.view.Work.{Work}
-use Rattle.fx_counted.specs.declared.view.Work.TheVariants.{Idle, Placing}
+use Rattle.fx_counted.specs.Laws.{ClearsKeep, TakesKeep, InstallsKeep, LoadsKeep, ExchangesKeep}
+use Rattle.fx_counted.specs.Tells.{Installs, Removes}
 use Rattle.fx_counted.proofs.Births.{in_phase}
-use Rattle.fx_counted.proofs.Calm.{calm_agrees}
-use Rattle.fx_counted.proofs.Changes.{in_size, names_old, event, Does, removal_agrees, removal_tells, installation_agrees, installation_tells}
+use Rattle.fx_counted.proofs.Calm.{no_event, calm_agrees}
+use Rattle.fx_counted.proofs.Changes.{in_size, names_old, removal_agrees, removal_tells, installation_agrees, installation_tells}
 use Rattle.fx_counted.proofs.ControlSteps.{goes_on}
 use Rattle.fx_counted.proofs.Histories.{legal_more, grows_none, same_shape}
 use Rattle.fx_counted.proofs.Keeping.{word_at, now, logged, its_work}
 use Rattle.fx_counted.proofs.NodeSteps.{far}
+use Rattle.fx_counted.proofs.Swaps.{Effect}
 use Rattle.fx_counted.proofs.Unchanged.{control_same}
-use Rattle.fx_counted.specs.Phases.{placed}
 
 placing_same : (n m : ℕ) → Placing n ≡ Placing m → n ≡ m
 placing_same n m e = cc e
@@ -61,114 +41,73 @@ module _ (st : Shared) (v : View) (r : Agrees v.start st) (id : ℕ) (x : Log) (
 
   module _ (stands : MayChange v.start s v.change) where
     abbrev Facts : Action → Option File → (ℕ → Bool) → Type 0
-    Facts = Does st v r id x here one s inside stands old refl
+    Facts = Effect st v r id x here one s inside old refl
+
+    in_range : s < (state_after_all v.start r.history).size
+    in_range = in_size st v r id x here one s inside stands old refl
 
     cleared : Facts (Clear s old) None (state_after_all v.start r.history).fresh
-    cleared = record {
-      legal = legal_more v.start r.history (event st v r id x here one s inside stands old refl (Clear s old)) r.legal
-          (in_size st v r id x here one s inside stands old refl, refl) tt;
-      at = refl;
-      removed = refl;
-      holds = refl;
-      fresh_is = refl;
-      size = refl;
-      looked = refl;
-      all = omega arith;
-      held = refl;
-    }
+    cleared = let legal = legal_more v.start r.history (event_of (shown x v.work) (Clear s old)) r.legal (in_range, refl) tt in
+        record { legal = legal; state = refl; looked = refl; all = omega arith; held = refl }
 
     taken : Facts (Take s old) None (state_after_all v.start r.history).fresh
-    taken = record {
-      legal = legal_more v.start r.history (event st v r id x here one s inside stands old refl (Take s old)) r.legal
-          (in_size st v r id x here one s inside stands old refl, refl) tt;
-      at = refl;
-      removed = refl;
-      holds = refl;
-      fresh_is = refl;
-      size = refl;
-      looked = refl;
-      all = omega arith;
-      held = refl;
-    }
+    taken = let legal = legal_more v.start r.history (event_of (shown x v.work) (Take s old)) r.legal (in_range, refl) tt in
+        record { legal = legal; state = refl; looked = refl; all = omega arith; held = refl }
 
     put : (n : ℕ) (file : Closed) → v.work ≡ Placing n
         → Facts (Put s (numbered n file) old) (Some (numbered n file))
         (changed_at (state_after_all v.start r.history).fresh n false)
     put n file works = let its = subst (WorkAgrees v.start r.phase id) works (its_work st v r id x here one) in
-        let o = in_phase st v r id x here one n its.0 (placed id) its.1 in record {
-          legal = legal_more v.start r.history
-              (event st v r id x here one s inside stands old refl (Put s (numbered n file) old)) r.legal
-              (in_size st v r id x here one s inside stands old refl, o.2, refl) tt;
-          at = refl;
-          removed = refl;
-          holds = refl;
-          fresh_is = refl;
-          size = refl;
-          looked = refl;
-          all = omega arith;
-          held = refl;
-        }
+        let o = in_phase st v r id x here one n its.0 (placed id) its.1 in
+        let legal = legal_more v.start r.history (event_of (shown x v.work) (Put s (numbered n file) old)) r.legal (in_range, o.2, refl) tt in
+        record { legal = legal; state = refl; looked = refl; all = omega arith; held = refl }
 
   -- the slot of a word's place
   at_slot : (m m' : Sat) (action : ℕ → Action) (used : Use) (d : Work) (c : Change)
       → Stepped m ([] ▷ action s) used d c m' → Stepped m ([] ▷ action (slot_of (slot_place s))) used d c m'
   at_slot m m' action used d c = subst (λ (z : ℕ). Stepped m ([] ▷ action z) used d c m') (sym ((far st v r id x here one).slot_back s))
 
-clears_at : (slots id s : ℕ) (m : Sat) (x : Log) → m.0.logs ≡ x ∷ [] → m.0.work ≡ Idle → s < slots_of m.0.start
-    → MayChange m.0.start s m.0.change → Allows (Agrees m.0.start) slots id m (slot_place s) (λ _. 0)
-    (Removes Clear (step slots (slot_place s) 0 0 none) m)
-clears_at slots id s m x one idle inside stands st r deep here fits = let old : Option File =
-    (state_after_all m.0.start r.history).at s in let f₀ : ℕ = word_at st.words (slot_place s) in
-    let e : Event = event st m.0 r id x here one s inside stands old refl (Clear s old) in
-    let w : View = now m.0 (logged x (e ∷ r.history) x.numbers_left x.looks_left) (retires_now old (takes_in f₀))
-    (turned m.0.change (if_full old) 0) in (
-      w,
-      keeps,
-      tt,
-      removal_agrees st m.0 r id x here one s inside stands old refl idle (Clear s old) (cleared st m.0 r id x here one s inside stands),
-      record {
-        file = old;
-        names = names_old st m.0 r id x here one s inside stands old refl;
-        stepped = at_slot st m.0 r id x here one s inside m (w, m.1) (λ z. Clear z old) no_use
-            (retires_now old (takes_in f₀)) (turned m.0.change (if_full old) 0)
-            (removal_tells st m.0 r id x here one s inside stands old refl idle (Clear s old) (cleared st m.0 r id x here one s inside stands) m.1);
-        carried = refl;
-      },
-    )
+-- a removal, by an action that does to the slot what a removal does
+module _ (act : ℕ → Option File → Action)
+    (does : (st : Shared) (v : View) (r : Agrees v.start st) (id : ℕ) (x : Log) (here : get_elem? st.views id ≡ some v)
+    (one : v.logs ≡ x ∷ []) (s : ℕ) (inside : s < slots_of v.start) (stands : MayChange v.start s v.change)
+    → Facts st v r id x here one s inside stands (act s (old st v r id x here one s inside)) None (state_after_all v.start r.history).fresh) where
+  removes_at : (slots id s : ℕ) (m : Sat) (x : Log) → m.0.logs ≡ x ∷ [] → m.0.work ≡ Idle → s < slots_of m.0.start
+      → MayChange m.0.start s m.0.change → Allows (Agrees m.0.start) slots id m (slot_place s) (λ _. 0)
+      (Removes act (step slots (slot_place s) 0 0 none) m)
+  removes_at slots id s m x one idle inside stands st r deep here fits = let was : Option File =
+      (state_after_all m.0.start r.history).at s in let f₀ : ℕ = word_at st.words (slot_place s) in
+      let e : Event = event_of (shown x m.0.work) (act s was) in
+      let w : View = now m.0 (logged x (e ∷ r.history) x.numbers_left x.looks_left) (retires_now was (takes_in f₀))
+      (turned m.0.change (if_full was) 0) in
+      let it = does st m.0 r id x here one s inside stands in (
+        w,
+        keeps,
+        tt,
+        removal_agrees st m.0 r id x here one s inside stands was refl idle (act s was) it,
+        record {
+          file = was;
+          names = names_old st m.0 r id x here one s inside stands was refl;
+          stepped = at_slot st m.0 r id x here one s inside m (w, m.1) (λ z. act z was) no_use
+              (retires_now was (takes_in f₀)) (turned m.0.change (if_full was) 0)
+              (removal_tells st m.0 r id x here one s inside stands was refl idle (act s was) it m.1);
+          carried = refl;
+        },
+      )
+
+  removes_keep : (k : Start) (slots id i slot : ℕ) (m : Sat) (x : Log) → HasPass k m x → m.0.work ≡ Idle
+      → slot < slots_of k → MayChange k slot m.0.change → i ≡ slot_place slot
+      → Allows (Agrees k) slots id m i (λ _. 0) (Removes act (step slots i 0 0 none) m)
+  removes_keep k slots id i s m x has idle inside stands place = subst (λ (k : Start). s < slots_of k
+      → MayChange k s m.0.change → Allows (Agrees k) slots id m i (λ _. 0) (Removes act (step slots i 0 0 none) m)) has.0
+      (λ within may. subst (λ (i : ℕ). Allows (Agrees m.0.start) slots id m i (λ _. 0)
+      (Removes act (step slots i 0 0 none) m)) (sym place) (removes_at slots id s m x has.1 idle within may)) inside stands
 
 pub clears_keep : ClearsKeep
-clears_keep k slots id i s m x has idle inside stands place = subst (λ (k : Start). s < slots_of k
-    → MayChange k s m.0.change → Allows (Agrees k) slots id m i (λ _. 0) (Removes Clear (step slots i 0 0 none) m)) has.0
-    (λ within may. subst (λ (i : ℕ). Allows (Agrees m.0.start) slots id m i (λ _. 0)
-    (Removes Clear (step slots i 0 0 none) m)) (sym place) (clears_at slots id s m x has.1 idle within may)) inside stands
-
-takes_at : (slots id s : ℕ) (m : Sat) (x : Log) → m.0.logs ≡ x ∷ [] → m.0.work ≡ Idle → s < slots_of m.0.start
-    → MayChange m.0.start s m.0.change → Allows (Agrees m.0.start) slots id m (slot_place s) (λ _. 0)
-    (Removes Take (step slots (slot_place s) 0 0 none) m)
-takes_at slots id s m x one idle inside stands st r deep here fits = let old : Option File =
-    (state_after_all m.0.start r.history).at s in let f₀ : ℕ = word_at st.words (slot_place s) in
-    let e : Event = event st m.0 r id x here one s inside stands old refl (Take s old) in
-    let w : View = now m.0 (logged x (e ∷ r.history) x.numbers_left x.looks_left) (retires_now old (takes_in f₀))
-    (turned m.0.change (if_full old) 0) in (
-      w,
-      keeps,
-      tt,
-      removal_agrees st m.0 r id x here one s inside stands old refl idle (Take s old) (taken st m.0 r id x here one s inside stands),
-      record {
-        file = old;
-        names = names_old st m.0 r id x here one s inside stands old refl;
-        stepped = at_slot st m.0 r id x here one s inside m (w, m.1) (λ z. Take z old) no_use
-            (retires_now old (takes_in f₀)) (turned m.0.change (if_full old) 0)
-            (removal_tells st m.0 r id x here one s inside stands old refl idle (Take s old) (taken st m.0 r id x here one s inside stands) m.1);
-        carried = refl;
-      },
-    )
+clears_keep = removes_keep Clear cleared
 
 pub takes_keep : TakesKeep
-takes_keep k slots id i s m x has idle inside stands place = subst (λ (k : Start). s < slots_of k
-    → MayChange k s m.0.change → Allows (Agrees k) slots id m i (λ _. 0) (Removes Take (step slots i 0 0 none) m)) has.0
-    (λ within may. subst (λ (i : ℕ). Allows (Agrees m.0.start) slots id m i (λ _. 0)
-    (Removes Take (step slots i 0 0 none) m)) (sym place) (takes_at slots id s m x has.1 idle within may)) inside stands
+takes_keep = removes_keep Take taken
 
 installs_at : (slots id s n : ℕ) (file : Closed) (m : Sat) (x : Log) → m.0.logs ≡ x ∷ [] → m.0.work ≡ Placing n
     → m.1 ≡ (place_of m.0.start n, Some file) ∷ [] → file.entry < 2 ^ 8 → s < slots_of m.0.start
@@ -178,7 +117,7 @@ installs_at : (slots id s n : ℕ) (file : Closed) (m : Sat) (x : Log) → m.0.l
 installs_at slots id s n file m x one works carries small inside stands st r deep here fits = let old : Option File =
     (state_after_all m.0.start r.history).at s in let f₀ : ℕ = word_at st.words (slot_place s) in
     let a : Action = Put s (numbered n file) old in let does = put st m.0 r id x here one s inside stands n file works in
-    let e : Event = event st m.0 r id x here one s inside stands old refl a in
+    let e : Event = event_of (shown x m.0.work) a in
     let w : View = now m.0 (logged x (e ∷ r.history) (x.numbers_left - 1) x.looks_left)
     (retires_now old (takes_in f₀)) (turned m.0.change (if_full old) 1) in (
       w,
@@ -212,32 +151,18 @@ installs_keep k slots id i s n new file m x has works carries small inside stand
 -- a step that writes what it read
 module _ (st : Shared) (v : View) (r : Agrees v.start st) (id : ℕ) (x : Log) (here : get_elem? st.views id ≡ some v)
     (one : v.logs ≡ x ∷ []) (i : ℕ) where
-  read_agrees : Agrees v.start record {
-    words = set st.words i
-        (word_at st.words i);
-    homes = st.homes;
-    views = set st.views id
-        (now v (logged x r.history x.numbers_left x.looks_left) v.work v.change);
-  }
-  read_agrees = subst (λ (l : List ℕ). Agrees v.start record {
-    words = l;
-    homes = st.homes;
-    views = set st.views id
-        (now v (logged x r.history x.numbers_left x.looks_left) v.work v.change);
-  }) (sym (set-get_or st.words i 0))
+  abbrev still : View
+  still = now v (logged x r.history x.numbers_left x.looks_left) v.work v.change
+
+  read_agrees : Agrees v.start (stepped st i (word_at st.words i) id [] still keeps)
+  read_agrees = subst (λ (l : List ℕ). Agrees v.start record { words = l; homes = st.homes; views = set st.views id still }) (sym (set-get_or st.words i 0))
       (calm_agrees st v r id x here one r.history v.change st.words record {
-        grows = grows_none x.number r.history;
-        legal = r.legal;
-        state = refl;
-        looked = refl;
-        all = refl;
-        held = refl;
+        quiet = no_event st v r id x here one;
         words = refl;
         slots = λ s. refl;
         nodes = λ n has. refl;
         drawn = refl;
-        control = control_same st.views id v
-            (now v (logged x r.history x.numbers_left x.looks_left) v.work v.change) here
+        control = control_same st.views id v still here
             (state_after_all v.start r.history).at (state_after_all v.start r.history).at _ _ _ refl refl refl r.control;
       })
 
@@ -305,25 +230,17 @@ module _ (slots id s n old_word : ℕ) (file : Closed) (m : Sat) (x : Log) (one 
     abbrev a : Action
     a = Allocate s (numbered n file)
 
-    allocated : Does st v r id x here one s within stands None at_none a (Some (numbered n file))
+    allocated : Effect st v r id x here one s within None at_none a (Some (numbered n file))
         (changed_at (state_after_all v.start r.history).fresh n false)
     allocated = let its = subst (WorkAgrees v.start r.phase id) works (its_work st v r id x here one) in
         let o = in_phase st v r id x here one n its.0 (placed id) its.1 in
-        let z = (same_shape v.start r.history).1 in let p = ap (λ (p : ℕ × ℕ). p.0) z in let q = ap (λ (p : ℕ × ℕ). p.1) z in record {
-          legal = legal_more v.start r.history (event st v r id x here one s within stands None at_none a) r.legal
-              (in_size st v r id x here one s within stands None at_none, (omega arith, omega arith), at_none, o.2) tt;
-          at = refl;
-          removed = refl;
-          holds = refl;
-          fresh_is = refl;
-          size = refl;
-          looked = refl;
-          all = omega arith;
-          held = refl;
-        }
+        let z = (same_shape v.start r.history).1 in let p = ap (λ (p : ℕ × ℕ). p.0) z in let q = ap (λ (p : ℕ × ℕ). p.1) z in
+        let legal = legal_more v.start r.history (event_of (shown x v.work) a) r.legal
+        (in_size st v r id x here one s within stands None at_none, (omega arith, omega arith), at_none, o.2) tt in
+        record { legal = legal; state = refl; looked = refl; all = omega arith; held = refl }
 
     abbrev w : View
-    w = now v (logged x (event st v r id x here one s within stands None at_none a ∷ r.history)
+    w = now v (logged x (event_of (shown x v.work) a ∷ r.history)
         (x.numbers_left - 1) x.looks_left) Idle (turned v.change 0 1)
 
     won : Goal new

@@ -1,22 +1,10 @@
 -- A step on the word of one slot.
-use Rattle.std.proofs.Common.{◌≡◌, ◌≢◌, ℕ, ◌+◌, ◌<◌, ◌≤◌, List, [], ◌∷◌, set, length, sym, refl, ap}
-use Rattle.std.proofs.Common.{◌∙◌, subst, arith, length-set, get_or-set_other, get_or-set_same, None}
-use mathlib.Core.Logic.{dite}
-use mathlib.Core.Option.{some}
-use native.Mathlib.Decide.{ℕ_discrete}
-use lib.ListN.{get_elem?}
-use Rattle.fx_plain.specs.declared.event.Event.{Event}
-use Rattle.fx_table.specs.Opening.{range_of}
-use Rattle.fx_counted.specs.Agrees.{SlotAgrees, NodeAgrees, OwnerAgrees, WorkAgrees, LogAgrees, Agrees}
-use Rattle.fx_counted.specs.Control.{ControlCounts}
-use Rattle.fx_counted.specs.Counts.{looks, all_looks}
-use Rattle.fx_counted.specs.Layout.{control_place, draw_place, slot_place, node_place, home_place}
-use Rattle.fx_counted.specs.Passes.{Shared, opening_of, slots_of, IsNumber, state_after_all, held_of}
-use Rattle.fx_counted.specs.Phases.{Phase, unborn}
-use Rattle.fx_counted.specs.declared.view.Change.{Change}
-use Rattle.fx_counted.specs.declared.view.Log.{Log}
-use Rattle.fx_counted.specs.declared.view.View.{View}
-use Rattle.fx_counted.specs.declared.view.Work.{Work}
+use Rattle.fx_counted.proofs.Words.{◌≡◌, ◌≢◌, ℕ, ◌+◌, ◌<◌, ◌≤◌, List, [], ◌∷◌, set, length, sym, refl, ap, ◌∙◌, subst, arith, get_or-set_other}
+use Rattle.fx_counted.proofs.Words.{get_or-set_same, None, dite, some, ℕ_discrete, get_elem?, Event, range_of, SlotAgrees, NodeAgrees, OwnerAgrees}
+use Rattle.fx_counted.proofs.Words.{WorkAgrees, LogAgrees, Agrees, ControlCounts, looks, all_looks, control_place, draw_place, slot_place}
+use Rattle.fx_counted.proofs.Words.{node_place, home_place, Shared, opening_of, slots_of, IsNumber, state_after_all, held_of, Phase, unborn, Change}
+use Rattle.fx_counted.proofs.Words.{Log, View, Work}
+use Rattle.std.proofs.Common.{length-set}
 use Rattle.fx_counted.proofs.Histories.{Grows, IsHistory}
 use Rattle.fx_counted.proofs.Frames.{Stays, KeepsHeld}
 use Rattle.fx_counted.proofs.Keeping.{Homes, word_at, now, Step, step_kept}

@@ -1,22 +1,9 @@
 -- A table that begins with the words and places of a table of one thread keeps the rule; and what comes back where memory is refused.
-use Rattle.std.proofs.Common.{◌≡◌, ℕ, zero, suc, ◌+◌, ◌≤◌, List, [], ◌∷◌, length, sym, refl, ap, ◌∙◌, arith}
-use Rattle.std.specs.Prelude.{Option, Some, None}
-use mathlib.Core.Logic.{dite}
-use mathlib.Core.Option.{some, some-injective, some-ne-none}
-use native.Mathlib.Decide.{dec_le}
-use lib.ListN.{get_elem?}
-use Rattle.fx_base.specs.declared.open_file.Closed.{Closed}
-use Rattle.fx_plain.specs.Contents.{Contents, state_of}
-use Rattle.fx_plain.specs.State.{State, file_numbered}
-use Rattle.fx_plain.specs.Table.{identity_of}
-use Rattle.fx_plain.specs.declared.event.File.{File}
-use Rattle.fx_table.specs.Opening.{IsGivenBack}
-use Rattle.fx_table.specs.declared.limits.TheConstants.{MAX_CHAINS, MAX_PASSES}
-use Rattle.fx_counted.specs.Firsts.{AreFirstWords, AreFirstHomes}
-use Rattle.fx_counted.specs.Layout.{home_place, homes_for}
-use Rattle.fx_counted.specs.Opens.{home_for, OpensWith}
-use Rattle.fx_counted.specs.Shells.{IsShellOf, AreBack, file_in_place}
-use Rattle.fx_counted.specs.declared.view.Start.{Start}
+use Rattle.fx_counted.proofs.Words.{◌≡◌, ℕ, zero, suc, ◌+◌, ◌≤◌, List, [], ◌∷◌, length, sym, refl, ap, ◌∙◌, arith, Option, Some, None, dite, some}
+use Rattle.fx_counted.proofs.Words.{some-injective, some-ne-none, dec_le, get_elem?, Closed, Contents, state_of, State, file_numbered, identity_of}
+use Rattle.fx_counted.proofs.Words.{File, IsGivenBack, MAX_CHAINS, AreFirstWords, AreFirstHomes, home_place, homes_for, home_for, OpensWith}
+use Rattle.fx_counted.proofs.Words.{IsShellOf, AreBack, file_in_place, Start}
+use Rattle.fx_table.specs.declared.limits.TheConstants.{MAX_PASSES}
 use Rattle.fx_counted.proofs.Places.{high_node, low_home, high_home}
 use Rattle.fx_counted.proofs.Shells.{none_outside}
 

@@ -1,33 +1,11 @@
 -- What a swap of a slot's word has to keep, whatever comes to the slot.
-use Rattle.std.proofs.Common.{◌≡◌, ◌≢◌, ℕ, ◌<◌, ◌≤◌, List, [], ◌∷◌, set, length, sym, refl, ap, ◌∙◌, subst, arith, Option, Some, None}
-use mathlib.Core.Logic.{dite}
-use mathlib.Core.Option.{some}
-use native.Mathlib.Decide.{ℕ_discrete}
-use lib.ListN.{get_elem?}
-use Rattle.fx_base.specs.declared.open_file.Closed.{Closed}
-use Rattle.fx_plain.specs.History.{held_by, held_after}
-use Rattle.fx_plain.specs.Step.{changed_at, with_removed}
-use Rattle.fx_plain.specs.State.{State}
-use Rattle.fx_plain.specs.Table.{numbered}
-use Rattle.fx_plain.specs.declared.event.File.{File}
-use Rattle.fx_plain.specs.declared.event.Event.{Event}
-use Rattle.fx_plain.specs.declared.event.Action.{Action}
-use Rattle.fx_table.specs.Opening.{range_of}
-use Rattle.fx_table.specs.Pass.{event_of}
-use Rattle.fx_words.specs.Words.{takes_in}
-use Rattle.fx_counted.specs.Agrees.{Names, IsSeated, SlotAgrees, NodeAgrees, OwnerAgrees, WorkAgrees, PlacesNext, Agrees}
-use Rattle.fx_counted.specs.Control.{ControlCounts}
-use Rattle.fx_counted.specs.Counts.{looks, all_looks}
-use Rattle.fx_counted.specs.Laws.{word_of, place_of}
-use Rattle.fx_counted.specs.Layout.{control_place, slot_place}
-use Rattle.fx_counted.specs.Passes.{Shared, opening_of, slots_of, IsNumber, state_after_all, shown, end_in, next_in, held_in, placing, holding}
-use Rattle.fx_counted.specs.Phases.{Phase, unborn, spare, seated, leaving, owner, file_in}
-use Rattle.fx_counted.specs.Tells.{retires_now}
-use Rattle.fx_counted.specs.declared.view.Change.{Change}
-use Rattle.fx_counted.specs.declared.view.Log.{Log}
-use Rattle.fx_counted.specs.declared.view.View.{View}
-use Rattle.fx_counted.specs.declared.view.Work.{Work}
-use Rattle.fx_counted.specs.declared.view.Work.TheVariants.{Retiring}
+use Rattle.fx_counted.proofs.Words.{◌≡◌, ◌≢◌, ℕ, ◌<◌, ◌≤◌, List, [], ◌∷◌, set, length, sym, refl, ap, ◌∙◌, subst, arith, Option, Some, None, dite}
+use Rattle.fx_counted.proofs.Words.{some, ℕ_discrete, get_elem?, Closed, held_by, held_after, changed_at, with_removed, State, numbered, File, Event}
+use Rattle.fx_counted.proofs.Words.{Bool, Action, range_of, event_of, takes_in, Names, SlotAgrees, NodeAgrees, OwnerAgrees, WorkAgrees, PlacesNext}
+use Rattle.fx_counted.proofs.Words.{Agrees, ControlCounts, looks, all_looks, word_of, place_of, control_place, slot_place, Shared, opening_of}
+use Rattle.fx_counted.proofs.Words.{slots_of, IsNumber, state_after_all, shown, end_in, next_in, held_in, placing, holding, Phase, unborn, spare}
+use Rattle.fx_counted.proofs.Words.{seated, leaving, owner, file_in, retires_now, Change, Log, View, Work, Retiring}
+use Rattle.fx_counted.specs.Agrees.{IsSeated}
 use Rattle.fx_counted.proofs.Frames.{Stays, KeepsHeld, does_now}
 use Rattle.fx_counted.proofs.Histories.{IsHistory, grows_one, held_mine, change_here, change_else, seen_all}
 use Rattle.fx_counted.proofs.Keeping.{Homes, word_at, now, logged, its_log}
@@ -105,15 +83,25 @@ module _ (st : Shared) (v : View) (r : Agrees v.start st) (id : ℕ) (x : Log) (
         go (Some f) was other = let z : Some f ≡ Some (numbered n g) = sym was ∙ (ap state.at (sym same) ∙ there) in
             other (let e : f ≡ numbered n g = cc z in sym (ap (λ (f : File). f.number) e))
 
-    module _ (a : Action) (word' : ℕ) (new : Option File) (homes' : Homes) (phase₁ : ℕ → Phase) (left : ℕ) (c : Change) where
+    module _ (a : Action) where
       abbrev pub e : Event
       e = event_of (shown x v.work) a
 
       abbrev pub h' : List Event
       h' = e ∷ r.history
 
+      -- what a removal, and an installation of a file, do to the state
+      pub record Effect (new : Option File) (fresh : ℕ → Bool) : Type 0 where
+        pub legal : IsHistory v.start h'
+        pub state : state_after_all v.start h'
+            ≡ record state { at = changed_at state.at s new; removed = with_removed state.removed old; fresh = fresh }
+        pub looked : looks h' ≡ looks r.history
+        pub all : all_looks h' ≡ all_looks r.history
+        pub held : held_after (held_by r.history x.number) a ≡ held_by r.history x.number
+
+    module _ (a : Action) (word' : ℕ) (new : Option File) (homes' : Homes) (phase₁ : ℕ → Phase) (left : ℕ) (c : Change) where
       abbrev pub y : Log
-      y = logged x h' left x.looks_left
+      y = logged x (h' a) left x.looks_left
 
       abbrev pub d : Work
       d = retires_now old (takes_in found)
@@ -125,16 +113,11 @@ module _ (st : Shared) (v : View) (r : Agrees v.start st) (id : ℕ) (x : Log) (
       phase' = gone_out id old (takes_in found) phase₁
 
       abbrev pub next_state : State
-      next_state = state_after_all v.start h'
+      next_state = state_after_all v.start (h' a)
 
       pub record Swap : Type 0 where
-        pub legal : IsHistory v.start h'
-        pub at : next_state.at ≡ changed_at state.at s new
-        pub removed : next_state.removed ≡ with_removed state.removed old
-        pub holds : next_state.holds ≡ state.holds
-        pub looked : looks h' ≡ looks r.history
-        pub all : all_looks h' ≡ all_looks r.history
-        pub held : held_after (held_by r.history x.number) a ≡ held_by r.history x.number
+        pub fresh : ℕ → Bool
+        pub does : Effect a new fresh
         pub homes : length homes' ≡ length st.homes
         -- what comes to the slot
         pub names : Names word' new
@@ -165,11 +148,11 @@ module _ (st : Shared) (v : View) (r : Agrees v.start st) (id : ℕ) (x : Log) (
             let n = subst (NodeAgrees state f.number (looks r.history f.number)
             (word_at st.words (word_of v.start f.number)) (get_elem? st.homes (place_of v.start f.number))) its.2
             (r.each_node f.number its.0) in
-            let h = ap (λ (g : ℕ → ℕ). g f.number) p.holds in (
+            let h = ap (λ (z : State). z.holds f.number) p.does.state in (
               omega arith,
               p.old_home f is ∙ n.1,
               its.1,
-              ap (λ (g : ℕ → Option File). g f.number) p.removed
+              ap (λ (z : State). z.removed f.number) p.does.state
                   ∙ (ap (λ (o : Option File). with_removed state.removed o f.number) is
                   ∙ change_here state.removed f.number (Some f) f.number refl),
             )
@@ -181,45 +164,44 @@ module _ (st : Shared) (v : View) (r : Agrees v.start st) (id : ℕ) (x : Log) (
         else_phase : (n : ℕ) → NotOf n old → phase' n ≡ phase₁ n
         else_phase n other = out_else id old (takes_in found) phase₁ n other
 
-        swap_step : SlotStep st v r id x here one s inside y d c h' phase' word' homes'
+        swap_step : SlotStep st v r id x here one s inside y d c (h' a) phase' word' homes'
         swap_step = let o = its_log st v r id x here one in record {
           homes = p.homes;
           number = refl;
           drawn = refl;
           told = refl;
-          grows = grows_one x.number r.history e refl;
-          legal = p.legal;
-          slot = let at_is : next_state.at s ≡ new = ap (λ (g : ℕ → Option File). g s) p.at ∙ change_here state.at s new s refl in record {
+          grows = grows_one x.number r.history (e a) refl;
+          legal = p.does.legal;
+          slot = let at_is : next_state.at s ≡ new = ap (λ (z : State). z.at s) p.does.state ∙ change_here state.at s new s refl in record {
             names = subst (Names word') (sym at_is) p.names;
-            seat = subst (IsSeated v.start (looks h') phase' s word') (sym at_is) (seat_now new refl p.seat);
+            seat = subst (IsSeated v.start (looks (h' a)) phase' s word') (sym at_is) (seat_now new refl p.seat);
             takes = let z = p.no_takes in omega arith;
           };
           others = λ i l other. (
-            ap (λ (g : ℕ → Option File). g i) p.at ∙ change_else state.at s new i other,
+            ap (λ (z : State). z.at i) p.does.state ∙ change_else state.at s new i other,
             λ f there its. (
-              ap (λ (g : ℕ → ℕ). g f.number) p.looked,
+              ap (λ (g : ℕ → ℕ). g f.number) p.does.looked,
               else_phase f.number (not_old f.number (seated i f.identity) its (λ g bad. other (cc bad)))
                   ∙ (p.seats f.number i f.identity its ∙ sym its),
             ),
           );
-          more = let z = p.all in omega arith;
-          nodes = λ n has. by_old old n (NodeAgrees next_state n (looks h' n) (word_at st.words (word_of v.start n))
+          more = let z = p.does.all in omega arith;
+          nodes = λ n has. by_old old n (NodeAgrees next_state n (looks (h' a) n) (word_at st.words (word_of v.start n))
               (get_elem? homes' (place_of v.start n)) (phase' n))
-              (λ f is same. subst (λ (m : ℕ). NodeAgrees next_state m (looks h' m)
+              (λ f is same. subst (λ (m : ℕ). NodeAgrees next_state m (looks (h' a) m)
               (word_at st.words (word_of v.start m)) (get_elem? homes' (place_of v.start m)) (phase' m)) (sym same)
               (subst (λ (z : ℕ × Phase). NodeAgrees next_state f.number z.0
               (word_at st.words (word_of v.start f.number)) (get_elem? homes' (place_of v.start f.number)) z.1)
-              (λ i. (sym p.looked i f.number, sym (out_here f is) i)) (old_node f is)))
+              (λ i. (sym p.does.looked i f.number, sym (out_here f is) i)) (old_node f is)))
               (λ other. subst (λ (z : ℕ × Phase). NodeAgrees next_state n z.0 (word_at st.words (word_of v.start n))
-              (get_elem? homes' (place_of v.start n)) z.1) (λ i. (sym p.looked i n, sym (else_phase n other) i))
+              (get_elem? homes' (place_of v.start n)) z.1) (λ i. (sym p.does.looked i n, sym (else_phase n other) i))
               (p.nodes n has other));
           owners = λ n has. by_old old n (OwnerAgrees (set st.views id w) n (phase' n))
               (λ f is same. subst (λ (m : ℕ). OwnerAgrees (set st.views id w) m (phase' m)) (sym same)
               (subst (OwnerAgrees (set st.views id w) f.number) (sym (out_here f is))
               (does_now st.views id v w (Retiring f (takes_in found)) here (ap (λ (o : Option File). retires_now o (takes_in found)) is))))
               (λ other. subst (OwnerAgrees (set st.views id w) n) (sym (else_phase n other)) (p.owners n has other));
-          no_other = λ n absent. ap (λ (g : ℕ
-              → Option File). g n) p.removed
+          no_other = λ n absent. ap (λ (z : State). z.removed n) p.does.state
               ∙ (removed_else state.removed old n (absent_old n absent old refl) ∙ r.no_other n absent);
           stays = record {
             owned = λ n some not_mine. else_phase n (not_old n (r.phase n) refl (λ f bad. some (ap owner bad))) ∙ p.stays.owned n some not_mine;
@@ -232,9 +214,9 @@ module _ (st : Shared) (v : View) (r : Agrees v.start st) (id : ℕ) (x : Log) (
               (λ apart. ap file_in (else_phase f.number apart) ∙ p.keeps j u f other there holds);
           unused = λ n is. else_phase n (not_old n unborn is (λ f bad. cc bad)) ∙ p.unused n is;
           log = record {
-            seen = seen_all h';
+            seen = seen_all (h' a);
             own = refl;
-            held = held_mine x.number e r.history refl ∙ (p.held ∙ (o.held ∙ (p.none_held.0 ∙ sym (retires_held old (takes_in found)))));
+            held = held_mine x.number (e a) r.history refl ∙ (p.does.held ∙ (o.held ∙ (p.none_held.0 ∙ sym (retires_held old (takes_in found)))));
             chain = o.chain;
             few_left = let a = o.few_left in let b = p.fewer in omega arith;
             left_inside = let a = o.left_inside in let b = p.fewer in omega arith;
@@ -243,16 +225,16 @@ module _ (st : Shared) (v : View) (r : Agrees v.start st) (id : ℕ) (x : Log) (
           };
           work = works old refl;
           holds = λ n. let a = p.none_held.1 n in let b = retires_holds old (takes_in found) n in
-              let g = ap (λ (g : ℕ → ℕ). g n) p.holds in omega arith;
-          look_ups = let z = p.all in omega arith;
-          control = subst (λ (g : ℕ → Option File). ControlCounts g (range_of (opening_of v.start))
-              (set st.views id w) (word_at st.words control_place)) (sym p.at) p.control;
+              let g = ap (λ (z : State). z.holds n) p.does.state in omega arith;
+          look_ups = let z = p.does.all in omega arith;
+          control = subst (λ (z : State). ControlCounts z.at (range_of (opening_of v.start))
+              (set st.views id w) (word_at st.words control_place)) (sym p.does.state) p.control;
         }
           where
             seat_now : (file : Option File) → new ≡ file → IsSeated v.start (looks r.history) phase₁ s word' file
-                → IsSeated v.start (looks h') phase' s word' file
+                → IsSeated v.start (looks (h' a)) phase' s word' file
             seat_now None is z = tt
-            seat_now (Some f) is z = (z.0, z.1 ∙ sym (ap (λ (g : ℕ → ℕ). g f.number) p.looked), else_phase f.number (p.new_apart f is) ∙ z.2)
+            seat_now (Some f) is z = (z.0, z.1 ∙ sym (ap (λ (g : ℕ → ℕ). g f.number) p.does.looked), else_phase f.number (p.new_apart f is) ∙ z.2)
 
             absent_old : (n : ℕ) → (IsNumber v.start n → ⊥) → (file : Option File) → old ≡ file → NotOf n file
             absent_old n absent None is = tt
@@ -263,4 +245,4 @@ module _ (st : Shared) (v : View) (r : Agrees v.start st) (id : ℕ) (x : Log) (
             works (Some f) is = ((seat_of f (was ∙ is)).0, out_here f is)
 
         pub swap_agrees : Agrees v.start record { words = set st.words (slot_place s) word'; homes = homes'; views = set st.views id w }
-        swap_agrees = slot_agrees st v r id x here one s inside y d c h' phase' word' homes' swap_step
+        swap_agrees = slot_agrees st v r id x here one s inside y d c (h' a) phase' word' homes' swap_step

@@ -1,20 +1,10 @@
 -- What a pass tells of a slot that it changes.
-use Rattle.std.proofs.Common.{◌≡◌, ℕ, ◌+◌, ◌-◌, ◌%◌, ◌^◌, Bool, true, false, inl, inr, sym, ap, ◌∙◌, subst, arith}
+use Rattle.fx_counted.proofs.Words.{◌≡◌, ℕ, ◌+◌, ◌-◌, ◌%◌, ◌^◌, Bool, true, false, inl, inr, sym, ap, ◌∙◌, subst, arith, none, step, one_change}
+use Rattle.fx_counted.proofs.Words.{end_amount_of, Agrees, InRange, HasToTell, in_change, added, removed_by, HasPass, MayChange, control_place, Sat}
+use Rattle.fx_counted.proofs.Words.{GoesOn, Answers, Change, Outside, Same, More, Less, Log, Start}
 use Rattle.std.specs.Prelude.{ℤ}
-use mathlib.Core.Option.{none}
-use Rattle.atomic_table.specs.Table.{step, Allows}
-use Rattle.fx_words.specs.Words.{one_change, end_amount_of}
-use Rattle.fx_counted.specs.Agrees.{Agrees}
-use Rattle.fx_counted.specs.Changing.{InRange, begun, difference, HasToTell}
-use Rattle.fx_counted.specs.Control.{in_change, added, removed_by}
-use Rattle.fx_counted.specs.Laws.{HasPass, MayChange}
-use Rattle.fx_counted.specs.Layout.{control_place}
-use Rattle.fx_counted.specs.Passes.{Sat}
-use Rattle.fx_counted.specs.Tells.{GoesOn, Answers}
-use Rattle.fx_counted.specs.declared.view.Change.{Change}
-use Rattle.fx_counted.specs.declared.view.Change.TheVariants.{Outside, Same, More, Less}
-use Rattle.fx_counted.specs.declared.view.Log.{Log}
-use Rattle.fx_counted.specs.declared.view.Start.{Start}
+use Rattle.atomic_table.specs.Table.{Allows}
+use Rattle.fx_counted.specs.Changing.{begun, difference}
 use Rattle.fx_counted.proofs.ControlSteps.{begins_keep, ends_keep, answers_keep}
 
 pub begins_by : (k : Start) (slots id i amount : ℕ) (m : Sat) (x : Log) → HasPass k m x → m.0.change ≡ Outside → i ≡ control_place

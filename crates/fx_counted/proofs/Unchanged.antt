@@ -1,25 +1,11 @@
 -- What a step leaves as it was: slots, numbers, the control word and the draw word.
-use Rattle.std.specs.Prelude.{sum_by}
-use Rattle.std.proofs.Common.{◌≡◌, ℕ, ◌+◌, ◌/◌, ◌%◌, ◌≤◌, List, [], ◌∷◌, set, sym, refl, ap, ◌∙◌, subst, arith, Option, Some, None}
-use mathlib.Core.Option.{some}
-use lib.ListN.{get_elem?}
-use Rattle.fx_base.specs.declared.open_file.Closed.{Closed}
-use Rattle.fx_plain.specs.State.{State}
-use Rattle.fx_plain.specs.Table.{numbered}
-use Rattle.fx_plain.specs.declared.event.File.{File}
-use Rattle.fx_plain.specs.declared.event.Event.{Event}
-use Rattle.fx_table.proofs.SumLemmas.{sum_set}
-use Rattle.fx_counted.specs.Agrees.{Names, IsSeated, SlotAgrees, Home, NodeAgrees}
-use Rattle.fx_counted.specs.Control.{in_change, added, removed_by, changes_of, added_of, removed_of, full_in, ControlCounts}
-use Rattle.fx_counted.specs.Counts.{looks, all_looks}
-use Rattle.fx_counted.specs.Draws.{DrawsCount}
-use Rattle.fx_counted.specs.Passes.{state_after_all, drawn_of, told_of}
-use Rattle.fx_counted.specs.Phases.{Phase, unborn, spare, placed, seated, leaving, retired, emptied, closed}
-use Rattle.fx_counted.specs.declared.view.Log.{Log}
-use Rattle.fx_counted.specs.declared.view.Start.{Start}
-use Rattle.fx_counted.specs.declared.view.View.{View}
+use Rattle.fx_counted.proofs.Words.{sum_by, ◌≡◌, ℕ, ◌+◌, ◌/◌, ◌%◌, ◌≤◌, List, [], ◌∷◌, set, sym, refl, ap, ◌∙◌, subst, arith, Option, Some, None}
+use Rattle.fx_counted.proofs.Words.{some, get_elem?, Closed, State, numbered, File, Event, sum_set, Names, SlotAgrees, Home, NodeAgrees, in_change}
+use Rattle.fx_counted.proofs.Words.{added, removed_by, changes_of, added_of, removed_of, full_in, ControlCounts, looks, all_looks, DrawsCount}
+use Rattle.fx_counted.proofs.Words.{state_after_all, drawn_of, told_of, Phase, unborn, seated, leaving, retired, emptied, closed, Log, Start, View}
+use Rattle.fx_counted.proofs.Words.{takes_in}
+use Rattle.fx_counted.specs.Agrees.{IsSeated}
 use Rattle.fx_counted.proofs.Ones.{one_if, times}
-use Rattle.fx_words.specs.Words.{takes_in}
 
 module _ (k : Start) (h h' : List Event) (phase phase' : ℕ → Phase) (slot : ℕ) where
   abbrev pub SameFile : Type 0
@@ -42,62 +28,16 @@ module _ (k : Start) (h h' : List Event) (phase phase' : ℕ → Phase) (slot : 
   }
 
 -- a number of which nothing has changed
-pub node_same : (st st' : State) (n looks looks' word word' : ℕ) (home home' : Home) → st'.fresh n ≡ st.fresh n
-    → st'.removed n ≡ st.removed n → st'.holds n ≡ st.holds n → looks' ≡ looks → word' ≡ word → home' ≡ home
-    → st'.size ≡ st.size → (ph : Phase) → ((s : ℕ) (f : Closed) → ph ≡ seated s f → st.at s ≡ Some (numbered n f)
-    → st'.at s ≡ st.at s) → NodeAgrees st n looks word home ph → NodeAgrees st' n looks' word' home' ph
-node_same st st' n l l' w w' e e' fresh removed holds looked worded homed sized unborn at o = (
-  worded ∙ o.0,
-  homed
-      ∙ o.1,
-  fresh ∙ o.2,
-  looked ∙ o.3,
-  holds ∙ o.4,
-  removed ∙ o.5,
-)
-node_same st st' n l l' w w' e e' fresh removed holds looked worded homed sized (spare q) at o = (
-  worded ∙ o.0,
-  homed
-      ∙ o.1,
-  fresh ∙ o.2,
-  looked ∙ o.3,
-  holds ∙ o.4,
-  removed ∙ o.5,
-)
-node_same st st' n l l' w w' e e' fresh removed holds looked worded homed sized (placed j) at o = (
-  worded ∙ o.0,
-  homed
-      ∙ o.1,
-  fresh ∙ o.2,
-  looked ∙ o.3,
-  holds ∙ o.4,
-  removed ∙ o.5,
-)
-node_same st st' n l l' w w' e e' fresh removed holds looked worded homed sized (seated s f) at o = (
-  (let a = o.0 in
-      omega arith),
-  homed ∙ o.1,
-  (let a = o.2 in omega arith),
-  at s f refl o.3 ∙ o.3,
-  removed ∙ o.4,
-)
-node_same st st' n l l' w w' e e' fresh removed holds looked worded homed sized (leaving j t f) at o =
-    ((let a = o.0 in omega arith), homed ∙ o.1, o.2 ∙ sym looked, removed ∙ o.3)
-node_same st st' n l l' w w' e e' fresh removed holds looked worded homed sized (retired f) at o = (
-  worded
-      ∙ (o.0 ∙ sym holds),
-  homed ∙ o.1,
-  (let a = o.2 in omega arith),
-  removed ∙ o.3,
-)
-node_same st st' n l l' w w' e e' fresh removed holds looked worded homed sized (emptied j) at o = (
-  worded
-      ∙ o.0,
-  homed ∙ o.1,
-  holds ∙ o.2,
-  removed ∙ o.3,
-)
-node_same st st' n l l' w w' e e' fresh removed holds looked worded homed sized closed at o = (worded ∙ o.0, homed ∙ o.1, holds ∙ o.2, removed ∙ o.3)
+module _ (st st' : State) (n l l' word word' : ℕ) (home home' : Home) (fresh : st'.fresh n ≡ st.fresh n) (removed : st'.removed n ≡ st.removed n)
+    (holds : st'.holds n ≡ st.holds n) (looked : l' ≡ l) (worded : word' ≡ word) (homed : home' ≡ home) (sized : st'.size ≡ st.size) where
+  pub node_same : (ph : Phase) → ((s : ℕ) (f : Closed) → ph ≡ seated s f → st.at s ≡ Some (numbered n f) → st'.at s ≡ st.at s)
+      → NodeAgrees st n l word home ph → NodeAgrees st' n l' word' home' ph
+  node_same (seated s f) at o = ((let a = o.0 in omega arith), homed ∙ o.1, (let a = o.2 in omega arith), at s f refl o.3 ∙ o.3, removed ∙ o.4)
+  node_same (leaving j t f) at o = ((let a = o.0 in omega arith), homed ∙ o.1, o.2 ∙ sym looked, removed ∙ o.3)
+  node_same (retired f) at o = (worded ∙ (o.0 ∙ sym holds), homed ∙ o.1, (let a = o.2 in omega arith), removed ∙ o.3)
+  node_same (emptied j) at o = (worded ∙ o.0, homed ∙ o.1, holds ∙ o.2, removed ∙ o.3)
+  node_same closed at o = (worded ∙ o.0, homed ∙ o.1, holds ∙ o.2, removed ∙ o.3)
+  node_same _ at o = (worded ∙ o.0, homed ∙ o.1, fresh ∙ o.2, looked ∙ o.3, holds ∙ o.4, removed ∙ o.5)
 
 module _ (views : List View) (id : ℕ) (v w : View) (here : get_elem? views id ≡ some v) where
   -- the control word, where no slot of the range and no change does

@@ -10,7 +10,7 @@ use Rattle.fx_plain.specs.Table.{numbered}
 use Rattle.fx_plain.specs.declared.event.File.{File}
 use Rattle.fx_plain.specs.declared.event.Event.{Event}
 use Rattle.fx_plain.specs.declared.table.TheConstants.{MOST_SLOTS}
-use Rattle.fx_table.specs.declared.limits.TheConstants.{MAX_CHAINS, MAX_PASSES, PASS_LOOKS}
+use Rattle.fx_table.specs.declared.limits.TheConstants.{CHAIN_NUMBERS, MAX_CHAINS, MAX_PASSES, PASS_LOOKS}
 use Rattle.fx_table.specs.Opening.{start_of, range_of}
 use Rattle.fx_words.specs.Words.{name_in, entry_in, takes_in, born}
 use Rattle.fx_counted.specs.Control.{ControlCounts}
@@ -104,8 +104,8 @@ pub record LogAgrees (k : Start) (h : List Event) (phase : ℕ → Phase) (seat 
   pub own : part_of_pass x.number h ≡ part_of_pass x.number x.front
   pub held : held_by h x.number ≡ held_in work
   pub chain : chain_in x ≤ k.chains
-  pub few_left : x.numbers_left ≤ 64
-  pub left_inside : x.numbers_left ≤ 64 * chain_in x
+  pub few_left : x.numbers_left ≤ CHAIN_NUMBERS
+  pub left_inside : x.numbers_left ≤ CHAIN_NUMBERS * chain_in x
   -- the numbers that are left to it are its own
   pub next : PlacesNext x work
   pub spares : (n : ℕ) → next_in x + placing work ≤ n → n < end_in x → phase n ≡ spare x.number

@@ -5,7 +5,8 @@ use lib.ListN.{get_elem?}
 use Rattle.atomic_table.specs.Table.{opening}
 use Rattle.fx_base.specs.declared.open_file.Closed.{Closed}
 use Rattle.fx_plain.specs.declared.event.File.{File}
-use Rattle.fx_table.specs.declared.limits.TheConstants.{MAX_CHAINS, MAX_PASSES}
+use Rattle.fx_plain.specs.declared.table.TheConstants.{MOST_SLOTS}
+use Rattle.fx_table.specs.declared.limits.TheConstants.{FIRST_CHAIN_NUMBER, MAX_CHAINS, MAX_PASSES}
 use Rattle.fx_table.specs.Numbers.{numbers_for}
 use Rattle.fx_table.specs.Opening.{range_of}
 use Rattle.fx_words.specs.Words.{born, slot_word_of, control_word_of}
@@ -36,7 +37,7 @@ first_file k slot = (state_after_all k []).at slot
 -- Words and places of a table that begins so: each file at a slot has no takes and no releases, no pass is in a change,
 -- and no chain is drawn
 pub record OpensWith (k : Start) (words : List ℕ) (homes : List (Option Closed)) : Type 0 where
-  pub slots : slots_of k ≤ 256
+  pub slots : slots_of k ≤ MOST_SLOTS
   pub range : (range_of (opening_of k)).0 + (range_of (opening_of k)).1 ≤ slots_of k
   pub chains : k.chains ≤ MAX_CHAINS
   pub passes : k.passes ≤ MAX_PASSES
@@ -48,8 +49,8 @@ pub record OpensWith (k : Start) (words : List ℕ) (homes : List (Option Closed
   pub slot_words : (slot : ℕ) → slot < slots_of k → slice_index words (slot_place slot) ≡ word_for (first_file k slot)
   pub node_words : (slot : ℕ) → slot < slots_of k → slice_index words (node_place (slots_of k) slot) ≡ node_for (first_file k slot)
   pub files : (slot : ℕ) → slot < slots_of k → get_elem? homes (home_place (slots_of k) slot) ≡ some (home_for (first_file k slot))
-  pub fresh_words : (n : ℕ) → 256 ≤ n → n < numbers_for k.chains → slice_index words (node_place (slots_of k) n) ≡ 0
-  pub fresh_places : (n : ℕ) → 256 ≤ n → n < numbers_for k.chains → get_elem? homes (home_place (slots_of k) n) ≡ some None
+  pub fresh_words : (n : ℕ) → FIRST_CHAIN_NUMBER ≤ n → n < numbers_for k.chains → slice_index words (node_place (slots_of k) n) ≡ 0
+  pub fresh_places : (n : ℕ) → FIRST_CHAIN_NUMBER ≤ n → n < numbers_for k.chains → get_elem? homes (home_place (slots_of k) n) ≡ some None
 
 -- a table that begins so keeps the rule, with one seat that has all passes
 abbrev pub OpeningKeeps : Type 0

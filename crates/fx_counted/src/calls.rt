@@ -90,11 +90,11 @@ impl CountedTable {
         ensures steps { steps_taken pass.new ≤ steps_taken pass.old + 2 }
     {
         let Hold { node, entry: _ } = hold;
-        let word = node_place(self.size, node);
+        let place = node_place(self.size, node);
         let found = self
             .table
             .shared
-            .fetch_sub::<Release>(&mut pass.seat, word, 1);
+            .fetch_sub::<Release>(&mut pass.seat, place, 1);
         pass.idle = true;
         if found != 1 {
             return None;
@@ -117,12 +117,12 @@ impl CountedTable {
             entry: _,
             takes,
         } = retired;
-        let word = node_place(self.size, node);
+        let place = node_place(self.size, node);
         let amount = retire_amount(takes);
         let found = self
             .table
             .shared
-            .fetch_sub::<Retire>(&mut pass.seat, word, amount);
+            .fetch_sub::<Retire>(&mut pass.seat, place, amount);
         pass.idle = true;
         if found != amount {
             return None;

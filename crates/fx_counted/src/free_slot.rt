@@ -78,15 +78,15 @@ impl CountedTable {
         ensures ends { RoundEnds self.now.table.shared.key number file seat.old.me result
             seat.new.me }
     {
-        let control = &self.table.shared;
-        control.fetch_add::<Begin>(seat, CONTROL, begin_amount());
+        let shared = &self.table.shared;
+        shared.fetch_add::<Begin>(seat, CONTROL, begin_amount());
         match self.scan(seat, number, file) {
             Some(slot) => {
                 self.end(seat, true, 1);
                 Round::At(slot)
             }
             None => {
-                let word = control.fetch_sub::<Answer>(seat, CONTROL, begin_amount());
+                let word = shared.fetch_sub::<Answer>(seat, CONTROL, begin_amount());
                 if says_full(word, self.range_len) {
                     Round::AllFull
                 } else {

@@ -27,8 +27,8 @@ impl CountedTable {
     {
         let inside = self.range_start <= slot && slot < self.range_start + self.range_len;
         if inside {
-            let control = &self.table.shared;
-            control.fetch_add::<Begin>(seat, CONTROL, begin_amount());
+            let shared = &self.table.shared;
+            shared.fetch_add::<Begin>(seat, CONTROL, begin_amount());
         }
         inside
     }
@@ -43,8 +43,8 @@ impl CountedTable {
         ensures places { seat.new.me.1 ≡ seat.old.me.1 }
     {
         if began {
-            let control = &self.table.shared;
-            control.fetch_sub::<End>(seat, CONTROL, end_amount(delta));
+            let shared = &self.table.shared;
+            shared.fetch_sub::<End>(seat, CONTROL, end_amount(delta));
         }
     }
 }

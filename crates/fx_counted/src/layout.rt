@@ -2,6 +2,7 @@
 //! other slot's calls change: a slot's word has beside it the node word of the number that the slot has at first, and
 //! nothing else (this project's own).
 ghost use Rattle.std.specs.Prelude.{◌≡◌, ◌<◌, ◌≤◌};
+ghost use Rattle.fx_plain.specs.declared.table.TheConstants.{MOST_SLOTS};
 ghost use Rattle.fx_counted.specs.Layout.{control_place, draw_place, slot_place, node_place, words_for, home_place, homes_for, HasNode};
 
 use fx_table::{CHAIN_NUMBERS, FIRST_CHAIN_NUMBER, MAX_CHAINS};
@@ -12,9 +13,9 @@ pub const CONTROL: usize = 0;
 /// Where the draw word lies.
 pub const DRAW: usize = 8;
 
-/// How many words a table of so many slots, at most 256, and chains has.
+/// How many words a table of so many slots, at most [`fx_plain::MOST_SLOTS`], and chains has.
 pub fn words_for(size: u32, chains: u32) -> usize
-    requires size { size ≤ 256 }
+    requires size { size ≤ MOST_SLOTS }
     requires chains { chains ≤ MAX_CHAINS }
     ensures { result ≡ words_for size chains }
 {
@@ -23,7 +24,7 @@ pub fn words_for(size: u32, chains: u32) -> usize
 
 /// How many places for open files it has.
 pub fn homes_for(size: u32, chains: u32) -> usize
-    requires size { size ≤ 256 }
+    requires size { size ≤ MOST_SLOTS }
     requires chains { chains ≤ MAX_CHAINS }
     ensures { result ≡ homes_for size chains }
 {
@@ -32,7 +33,7 @@ pub fn homes_for(size: u32, chains: u32) -> usize
 
 /// Where the word of a slot lies.
 pub fn slot_place(slot: u32) -> usize
-    requires { slot < 256 }
+    requires { slot < MOST_SLOTS }
     ensures { result ≡ slot_place slot }
 {
     16 + 8 * slot as usize
@@ -40,7 +41,7 @@ pub fn slot_place(slot: u32) -> usize
 
 /// Where the node word of a number lies, which is that of a slot or of a chain.
 pub fn node_place(size: u32, number: u32) -> usize
-    requires size { size ≤ 256 }
+    requires size { size ≤ MOST_SLOTS }
     requires number { HasNode size MAX_CHAINS number }
     ensures { result ≡ node_place size number }
 {
@@ -53,7 +54,7 @@ pub fn node_place(size: u32, number: u32) -> usize
 
 /// Where the open file of a number lies.
 pub fn home_place(size: u32, number: u32) -> usize
-    requires size { size ≤ 256 }
+    requires size { size ≤ MOST_SLOTS }
     requires number { HasNode size MAX_CHAINS number }
     ensures { result ≡ home_place size number }
 {

@@ -2,6 +2,7 @@
 ghost use Rattle.std.specs.Prelude.{◌≡◌, ◌+◌, ◌*◌, ◌<◌, ◌≤◌, [], map, slice_set, All, IfOk, IfErr, OnOk, OnErr, vec_len, vec_capacity};
 ghost use Rattle.fx_plain.specs.State.{IsSettled};
 ghost use Rattle.fx_plain.specs.Contents.{state_of, IsPrepared};
+ghost use Rattle.fx_plain.specs.declared.table.TheConstants.{MOST_SLOTS};
 ghost use Rattle.fx_table.specs.Opening.{IsGivenBack, opening_with};
 ghost use Rattle.fx_table.specs.Pass.{new_passes};
 ghost use Rattle.fx_words.specs.Words.{slot_word_of, born};
@@ -147,7 +148,7 @@ fn full_in_range(plain: &PlainTable, size: u32) -> u32
 
 // The words of a slot with a file, whose number is the slot's, and of this number.
 fn write_slot(words: &mut Vec<u64>, slot: u32, entry: u8)
-    requires slot { slot < 256 }
+    requires slot { slot < MOST_SLOTS }
     requires inside { 17 + 8 * slot < vec_len words.old }
     ensures entry { entry < 256 }
     ensures words { words.new.items ≡ slice_set (slice_set words.old.items

@@ -1,11 +1,8 @@
 -- Functions of a place, where one place of a list was written.
-use Rattle.std.proofs.Common.{◌≡◌, ◌≢◌, ℕ, ◌<◌, Bool, true, false, List, length, refl, sym, ap, ◌∙◌, slice_index_or, slice_set, ◌==◌, if◌then◌else◌}
-use Rattle.std.proofs.Common.{inl, inr}
-use Rattle.std.proofs.lemmas.List.{get_or-set_same, get_or-set_other}
-use Rattle.std.proofs.lemmas.Bool.{eqb-true, cases_lt}
-use Rattle.std.proofs.Math.ListN.{get_or-eq_default}
+use Rattle.fx_plain.proofs.Words.{◌≡◌, ◌≢◌, ℕ, zero, suc, replicate, ◌<◌, Bool, true, false, List, length, refl, sym, ap, ◌∙◌, slice_index_or}
+use Rattle.fx_plain.proofs.Words.{slice_set, subst, ◌==◌, if◌then◌else◌, inl, inr, get_or-set_same, get_or-set_other, eqb-true, cases_lt}
+use Rattle.fx_plain.proofs.Words.{get_or-eq_default, changed_at}
 use Rattle.std.proofs.lemmas.Bool.Decides.{not_from_Decides, Decides-eqb}
-use Rattle.fx_plain.specs.Step.{changed_at}
 
 -- either two numbers are equal, and the test says so, or they are not
 pub by_equality : (q k : ℕ) (P : Bool → Type 0) → (q ≡ k → P true) → (q ≢ k → P false) → P (q == k)
@@ -40,3 +37,16 @@ inside_of xs k d differs = elim (cases_lt k (length xs)) [ inl lt ↦ lt | inr l
 -- a change that a second one at the same place covers
 pub covered : {Y : Type 0} (f : ℕ → Y) (j k : ℕ) (x y z : Y) → x ≡ f j → changed_at (changed_at f j x) k y ≡ changed_at f k y
 covered f j k x y z is = ap (λ g. changed_at g k y) (unchanged f j x is)
+
+-- what holds of the element that is written, and of each other one as it was, holds of each
+pub each_set : {X : Type 0} (P : ℕ → X → Type 0) (xs : List X) (k : ℕ) (v d : X) → k < length xs → P k v
+    → (m : ℕ) → (m ≢ k → P m (slice_index_or xs m d)) → P m (slice_index_or (slice_set xs k v) m d)
+each_set P xs k v d inside here m others = by_equality m k (λ _. P m (slice_index_or (slice_set xs k v) m d))
+    (λ same. subst (λ (j : ℕ). P j (slice_index_or (slice_set xs k v) j d)) (sym same) (subst (P k) (sym (get_or-set_same xs k v d inside)) here))
+    (λ other. subst (P m) (sym (get_or-set_other xs k m v d other)) (others other))
+
+-- each element of such a list, and what is read behind it
+pub read_default : {X : Type 0} (n i : ℕ) (d : X) → slice_index_or (replicate n d) i d ≡ d
+read_default zero i d = refl
+read_default (suc n) zero d = refl
+read_default (suc n) (suc i) d = read_default n i d

@@ -1,81 +1,58 @@
 -- Each file of a table was there at the start or was installed: what holds of all those holds of every file.
-use Rattle.std.proofs.Common.{◌≡◌, ◌⊎◌, ℕ, ◌<◌, List, [], ◌∷◌, map, refl, sym, subst, ◌∙◌, slice_index_or, Option, Some, None, All, if◌then◌else◌}
-use Rattle.std.proofs.Common.{arith, inl, inr}
+use Rattle.fx_plain.proofs.Words.{◌≡◌, ◌⊎◌, ℕ, ◌<◌, List, [], ◌∷◌, map, refl, sym, ap, subst, ◌∙◌, slice_index_or, Option, Some, None, if◌then◌else◌}
+use Rattle.fx_plain.proofs.Words.{arith, inl, inr, Closed, State, Allows, after, changed_at, with_removed, state_after, AllowsAll, action_of}
+use Rattle.fx_plain.proofs.Words.{closes_in, closed_by, IsAtSlot, IsInstalled, installed_by, File, Event, Action, Look, Put, Clear, Take, Allocate}
+use Rattle.fx_plain.proofs.Words.{Close}
+use Rattle.std.proofs.Common.{All}
+use Rattle.fx_plain.specs.History.{IsLegal}
+use Rattle.fx_plain.specs.Laws.{IsClosed}
 use Rattle.std.proofs.lemmas.List.Elements.{All-append}
-use Rattle.fx_base.specs.declared.open_file.Closed.{Closed}
-use Rattle.fx_plain.specs.State.{State}
-use Rattle.fx_plain.specs.Step.{Allows, after, changed_at, with_removed}
-use Rattle.fx_plain.specs.History.{state_after, AllowsAll, action_of, closes_in, closed_by, IsLegal}
-use Rattle.fx_plain.specs.Laws.{IsAtSlot, IsInstalled, IsClosed, installed_by}
-use Rattle.fx_plain.specs.declared.event.File.{File}
-use Rattle.fx_plain.specs.declared.event.Event.{Event}
-use Rattle.fx_plain.specs.declared.event.Action.{Action}
-use Rattle.fx_plain.specs.declared.event.Action.TheVariants.{Look, Release, Put, Clear, Take, Allocate, Full, Close}
 use Rattle.fx_plain.proofs.Cells.{by_equality}
 
-module _ (P : File → Type 0) where
-  -- it holds of the file, if there is one
-  abbrev pub HoldsOf : Option File → Type 0
-  HoldsOf found = (f : File) → found ≡ Some f → P f
+-- what holds of each file at a slot, and of each removed file by its number
+module _ (P : File → Type 0) (Q : ℕ → File → Type 0) (both : (f : File) → P f → Q f.number f) where
+  pub record HoldsOfFiles (st : State) : Type 0 where
+    pub at_slots : (slot : ℕ) → slot < st.size → (f : File) → st.at slot ≡ Some f → P f
+    pub removed : (number : ℕ) (f : File) → st.removed number ≡ Some f → Q number f
 
-  -- it holds of each file at a slot, and of each that waits for its close
-  pub record HoldsOfAll (st : State) : Type 0 where
-    pub at_slots : (slot : ℕ) → slot < st.size → HoldsOf (st.at slot)
-    pub removed : (number : ℕ) → HoldsOf (st.removed number)
+  module _ (st : State) (all : HoldsOfFiles st) where
+    at_changed : (slot : ℕ) (x : Option File) → ((f : File) → x ≡ Some f → P f) → (s : ℕ) → s < st.size → (f : File)
+        → changed_at st.at slot x s ≡ Some f → P f
+    at_changed slot x new s lt f = by_equality s slot (λ b. (if b then x else st.at s) ≡ Some f → P f) (λ _. new f) (λ _. all.at_slots s lt f)
 
-  holds_of_changed : (g : ℕ → Option File) (place : ℕ) (x : Option File) (q : ℕ) → HoldsOf x → HoldsOf (g q) → HoldsOf (changed_at g place x q)
-  holds_of_changed g place x q new old f = by_equality q place (λ b. (if b then x else g q) ≡ Some f → P f) (λ _. new f) (λ _. old f)
+    more_removed : (slot : ℕ) (found : Option File) → slot < st.size → found ≡ st.at slot → (n : ℕ) (f : File)
+        → with_removed st.removed found n ≡ Some f → Q n f
+    more_removed slot None lt is n f = all.removed n f
+    more_removed slot (Some g) lt is n f = by_equality n g.number (λ b. (if b then Some g else st.removed n) ≡ Some f → Q n f)
+        (λ same found. let e : g ≡ f = cc in subst (λ (k : ℕ). Q k f) (sym (same ∙ ap (λ (x : File). x.number) e))
+        (both f (all.at_slots slot lt f (sym is ∙ found)))) (λ _. all.removed n f)
 
-  holds_of_none : HoldsOf None
-  holds_of_none f is = cc
+    emptied : (slot : ℕ) (found : Option File) → slot < st.size → found ≡ st.at slot → HoldsOfFiles (after st (Take slot found))
+    emptied slot found lt is = record { at_slots = at_changed slot None (λ f is. cc); removed = more_removed slot found lt is }
 
-  holds_of_one : (f : File) → P f → HoldsOf (Some f)
-  holds_of_one f it g is = let e : f ≡ g = cc in subst P e it
-
-  holds_of_removed : (removed : ℕ → Option File) (found : Option File) → HoldsOf found → ((q : ℕ) → HoldsOf (removed q)) → (q : ℕ)
-      → HoldsOf (with_removed removed found q)
-  holds_of_removed removed None new old q = old q
-  holds_of_removed removed (Some g) new old q = holds_of_changed removed g.number (Some g) q new (old q)
-
-  module _ (st : State) (all : HoldsOfAll st) where
-    holds_of_found : (slot : ℕ) (found : Option File) → slot < st.size → found ≡ st.at slot → HoldsOf found
-    holds_of_found slot found lt is f found_is = all.at_slots slot lt f (sym is ∙ found_is)
-
-    holds_after_emptied : (slot : ℕ) (found : Option File) → slot < st.size → found ≡ st.at slot → HoldsOfAll (after st (Take slot found))
-    holds_after_emptied slot found lt is = record {
-      at_slots = λ s below. holds_of_changed st.at slot None s holds_of_none (all.at_slots s below);
-      removed = holds_of_removed st.removed found (holds_of_found slot found lt is) all.removed;
-    }
-
-    holds_after : (a : Action) → Allows st a → HoldsOf (installed_by a) → HoldsOfAll (after st a)
-    holds_after (Look slot None) may new = all
-    holds_after (Look slot (Some f)) may new = record { at_slots = all.at_slots; removed = all.removed }
-    holds_after (Release f) may new = record { at_slots = all.at_slots; removed = all.removed }
-    holds_after (Put slot f replaced) may new = record {
-      at_slots = λ s below. holds_of_changed st.at slot (Some f) s new (all.at_slots s below);
-      removed = holds_of_removed st.removed replaced (holds_of_found slot replaced may.0 may.2) all.removed;
-    }
-    holds_after (Clear slot found) may new = holds_after_emptied slot found may.0 may.1
-    holds_after (Take slot found) may new = holds_after_emptied slot found may.0 may.1
-    holds_after (Allocate slot f) may new = record {
-      at_slots = λ s below. holds_of_changed st.at slot (Some f) s new (all.at_slots s below);
-      removed = all.removed;
-    }
-    holds_after Full may new = all
-    holds_after (Close f) may new = record {
+    pub holds_after : (a : Action) → Allows st a → ((f : File) → installed_by a ≡ Some f → P f) → HoldsOfFiles (after st a)
+    holds_after (Put slot f replaced) may new = record { at_slots = at_changed slot (Some f) new; removed = more_removed slot replaced may.0 may.2 }
+    holds_after (Clear slot found) may new = emptied slot found may.0 may.1
+    holds_after (Take slot found) may new = emptied slot found may.0 may.1
+    holds_after (Allocate slot f) may new = record { at_slots = at_changed slot (Some f) new; removed = all.removed }
+    holds_after (Close g) may new = record {
       at_slots = all.at_slots;
-      removed = λ n. holds_of_changed st.removed f.number None n holds_of_none (all.removed n);
+      removed = λ n f. by_equality n g.number (λ b. ◌≡◌ {A = Option File} (if b then None else st.removed n) (Some f) → Q n f) (λ _ is. cc)
+          (λ _. all.removed n f);
     }
+    holds_after (Look slot None) may new = all
+    holds_after _ may new = record { at_slots = all.at_slots; removed = all.removed }
 
-    holds_of_closed : (a : Action) → Allows st a → (f : File) → a ≡ Close f → P f
-    holds_of_closed a may f is = let now : Allows st (Close f) = subst (Allows st) is may in all.removed f.number f now.0
+module _ (P : File → Type 0) where
+  abbrev pub HoldsOfAll : State → Type 0
+  HoldsOfAll st = HoldsOfFiles P (λ _. P) (λ _ p. p) st
 
   -- what holds of each file at the start and of each that was installed holds of each file at the end
   pub holds_at_end : (start : State) (h : List Event) → HoldsOfAll start → AllowsAll start (map action_of h) → ((f : File) → IsInstalled h f → P f)
       → HoldsOfAll (state_after start (map action_of h))
   holds_at_end start [] all may new = all
   holds_at_end start (e ∷ h) all may new =
-      holds_after (state_after start (map action_of h)) (holds_at_end start h all may.0 (λ f is. new f (inl is))) e.action may.1
+      holds_after P (λ _. P) (λ _ p. p) (state_after start (map action_of h)) (holds_at_end start h all may.0 (λ f is. new f (inl is))) e.action may.1
       (λ f is. new f (inr is))
 
   -- and of each file that was closed
@@ -84,7 +61,9 @@ module _ (P : File → Type 0) where
   holds_of_closes start [] all may new f is = absurd is
   holds_of_closes start (e ∷ h) all may new f (inl before) = holds_of_closes start h all may.0 (λ g is. new g (inl is)) f before
   holds_of_closes start (e ∷ h) all may new f (inr now) =
-      holds_of_closed (state_after start (map action_of h)) (holds_at_end start h all may.0 (λ g is. new g (inl is))) e.action may.1 f now
+      let st = state_after start (map action_of h) in
+      let allowed : Allows st (Close f) = subst (Allows st) now may.1 in
+      (holds_at_end start h all may.0 (λ g is. new g (inl is))).removed f.number f allowed.0
 
 pub every_file_was_there_or_installed : (start end : State) (h : List Event) (f : File) → ((number : ℕ) → start.removed number ≡ None)
     → IsLegal start h end
@@ -100,15 +79,9 @@ every_file_was_there_or_installed start end h f none legal is =
     ]
 
 closed_now : (P : Closed → Type 0) (a : Action) → ((f : File) → a ≡ Close f → P f.identity) → All P (closed_by a)
-closed_now P (Look slot found) all = λ k d inside. absurd (omega arith)
-closed_now P (Release f) all = λ k d inside. absurd (omega arith)
-closed_now P (Put slot f replaced) all = λ k d inside. absurd (omega arith)
-closed_now P (Clear slot found) all = λ k d inside. absurd (omega arith)
-closed_now P (Take slot found) all = λ k d inside. absurd (omega arith)
-closed_now P (Allocate slot f) all = λ k d inside. absurd (omega arith)
-closed_now P Full all = λ k d inside. absurd (omega arith)
 closed_now P (Close f) all = λ k d inside. let zero_is : k ≡ 0 = omega arith in
     subst (λ (n : ℕ). P (slice_index_or (f.identity ∷ []) n d)) (sym zero_is) (all f refl)
+closed_now P _ all = λ k d inside. absurd (omega arith)
 
 -- what holds of each file that was closed holds of the list of closes
 pub all_closes_in : (P : Closed → Type 0) (h : List Event) → ((f : File) → IsClosed h f → P f.identity) → All P (closes_in (map action_of h))

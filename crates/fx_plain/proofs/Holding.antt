@@ -1,21 +1,16 @@
 -- A file gets a hold, loses one, or is retired.
-use Rattle.std.proofs.Common.{◌≡◌, ◌≢◌, ℕ, ◌+◌, ◌-◌, ◌<◌, ◌≤◌, ◌^◌, ◌==◌, ◌&&◌, not, Bool, true, false, if◌then◌else◌, List, [], length, refl, sym}
-use Rattle.std.proofs.Common.{ap, subst, ◌∙◌, slice_index, slice_index_or, slice_set, Option, Some, None, IfSome, arith}
-use Rattle.std.proofs.lemmas.List.{length-set, get_or-set_same, get_or-set_other, get_or_default}
-use Rattle.fx_base.specs.declared.open_file.Closed.{Closed}
-use Rattle.fx_plain.specs.declared.event.File.{File}
-use Rattle.fx_plain.specs.declared.event.Action.TheVariants.{Look, Release}
-use Rattle.fx_plain.specs.Step.{Steps, changed_at, after}
-use Rattle.fx_plain.specs.History.{Leads, close_of, ◌▷◌, ◌▷▷◌}
-use Rattle.fx_plain.specs.Contents.{Contents, IsTable, IsCounted, state_of, slot_at, node_at, file_at, placed_at, leaving, removed_at, is_fresh}
-use Rattle.fx_plain.specs.Contents.{is_leaving, is_retired, file_in, node_after_retirement, removed_count_of, itself, Fresh, At, Leaving, Retired}
-use Rattle.fx_plain.specs.Contents.{Gone}
-use Rattle.fx_plain.specs.Table.{numbered, identity_of, closed_by_release, closed_by_retirement, HasRoomForHold, EndsHold}
-use Rattle.fx_plain.specs.declared.node.Node.{Node}
-use Rattle.fx_plain.proofs.Cells.{by_equality, unchanged, written, inside_of}
-use Rattle.fx_plain.proofs.TotalLemmas.{total_set, total_below, total_one}
-use Rattle.fx_plain.proofs.Writes.{IsOff, inside_of-At, inside_of-Leaving, inside_of-Retired, leaving_is, retired_is, state_of-holds, state_of-nodes}
-use Rattle.fx_plain.proofs.Writes.{leaving-nodes, same_file}
+use Rattle.fx_plain.proofs.Words.{◌≡◌, ◌≢◌, ℕ, ◌+◌, ◌-◌, ◌<◌, ◌≤◌, ◌^◌, ◌==◌, ◌&&◌, not, Bool, true, false, if◌then◌else◌, List, [], length, refl}
+use Rattle.fx_plain.proofs.Words.{sym, ap, subst, ◌∙◌, slice_index, slice_index_or, slice_set, Option, Some, None, IfSome, arith, length-set}
+use Rattle.fx_plain.proofs.Words.{get_or-set_same, get_or-set_other, Closed, File, Look, Release, Steps, changed_at, after, Leads, close_of, ◌▷▷◌}
+use Rattle.fx_plain.proofs.Words.{Contents, IsTable, IsCounted, state_of, slot_at, node_at, file_at, placed_at, leaving, removed_at, is_fresh}
+use Rattle.fx_plain.proofs.Words.{is_leaving, is_retired, file_in, node_after_retirement, removed_count_of, itself, At, Leaving, Retired, Gone}
+use Rattle.fx_plain.proofs.Words.{numbered, identity_of, closed_by_retirement, HasRoomForHold, EndsHold, Node, get_or-le-sum_by, sum_by-set}
+use Rattle.fx_plain.specs.History.{◌▷◌}
+use Rattle.fx_plain.specs.Table.{closed_by_release}
+use Rattle.fx_plain.proofs.Cells.{by_equality, each_set, unchanged, written, inside_of}
+use Rattle.fx_plain.proofs.SumLemmas.{sum_below_all}
+use Rattle.fx_plain.proofs.Writes.{IsOff, inside_of-At, inside_told, leaving_is, retired_is, state_of-holds, state_of-nodes, leaving-nodes}
+use Rattle.fx_plain.proofs.Writes.{same_file}
 
 -- the file at a slot
 pub at_is : (c : Contents) (slot number : ℕ) (file : Closed) → slot_at c.slots slot ≡ Some number → node_at c.nodes number ≡ At slot file
@@ -29,114 +24,97 @@ held_more c n = record c { holds = slice_set c.holds n (slice_index c.holds n + 
 abbrev pub held_less : Contents → ℕ → Contents
 held_less c n = record c { holds = slice_set c.holds n (slice_index c.holds n - 1) }
 
+-- what other holds of a number keep
+module _ (c : Contents) (n h : ℕ) (inside : n < length c.holds) where
+  holds_keep : IsTable c → (is_retired (node_at c.nodes n) ≡ true → 0 < h) → IsTable (record c { holds = slice_set c.holds n h })
+  holds_keep t some = record {
+    few_slots = t.few_slots;
+    range_inside = t.range_inside;
+    few_nodes = t.few_nodes;
+    same_numbers = length-set c.holds n h ∙ t.same_numbers;
+    placed = t.placed;
+    own = t.own;
+    used = t.used;
+    held = λ m. each_set (λ q x. is_retired (node_at c.nodes q) ≡ true → 0 < x) c.holds n h 0 inside some m (λ _. t.held m);
+  }
+
+  holds_counted : (full held removed held' : ℕ) → IsCounted c full held removed → h < 2 ^ 32 → held' + slice_index c.holds n ≡ held + h
+      → IsCounted (record c { holds = slice_set c.holds n h }) full held' removed
+  holds_counted full held removed held' k fits sum = let changed = sum_by-set itself c.holds n h 0 inside in let all = k.all_holds in record {
+    full_slots = k.full_slots;
+    all_holds = omega arith;
+    small_holds = λ m. each_set (λ _ x. x < 2 ^ 32) c.holds n h 0 inside fits m (λ _. k.small_holds m);
+    all_removed = k.all_removed;
+  }
+
 module _ (c : Contents) (slot n : ℕ) (file : Closed) (t : IsTable c) (inside : slot < length c.slots) (at : slot_at c.slots slot ≡ Some n)
     (named : node_at c.nodes n ≡ At slot file) where
-  hold_inside : n < length c.holds
-  hold_inside = let lt = inside_of-At c.nodes n slot file named in let e = t.same_numbers in omega arith
+  pub look_inside : n < length c.holds
+  look_inside = let lt = inside_of-At c.nodes n slot file named in let e = t.same_numbers in omega arith
 
   pub look_steps : Steps (state_of c) (Look slot ((state_of c).at slot)) (state_of (held_more c n))
   look_steps = (
     (inside, refl),
-    state_of-holds c n _ hold_inside
+    state_of-holds c n _ look_inside
         ∙ sym (ap (λ (x : Option File). after (state_of c) (Look slot x)) (at_is c slot n file at named)),
   )
 
   pub look_fits : HasRoomForHold (state_of c) slot → slice_index c.holds n + 1 < 2 ^ 32
   look_fits room = subst (λ (x : Option File). IfSome x (λ f. (state_of c).holds f.number + 1 < 2 ^ 32)) (at_is c slot n file at named) room
 
-  pub look_inside : n < length c.holds
-  look_inside = hold_inside
-
   pub look_keeps : IsTable (held_more c n)
-  look_keeps = record {
-    few_slots = t.few_slots;
-    range_inside = t.range_inside;
-    few_nodes = t.few_nodes;
-    same_numbers = length-set c.holds n (slice_index c.holds n + 1) ∙ t.same_numbers;
-    placed = t.placed;
-    own = t.own;
-    used = t.used;
-    held = λ m is. by_equality m n (λ _. 0 < slice_index (slice_set c.holds n (slice_index c.holds n + 1)) m)
-        (λ same. let now : slice_index (slice_set c.holds n (slice_index c.holds n + 1)) m ≡ slice_index c.holds n + 1 =
-        ap (slice_index (slice_set c.holds n (slice_index c.holds n + 1))) same
-        ∙ get_or-set_same c.holds n (slice_index c.holds n + 1) 0 hold_inside in omega arith)
-        (λ other. let now : slice_index (slice_set c.holds n (slice_index c.holds n + 1)) m ≡ slice_index c.holds m =
-        get_or-set_other c.holds n m (slice_index c.holds n + 1) 0 other in let was = t.held m is in omega arith);
-  }
+  look_keeps = holds_keep c n (slice_index c.holds n + 1) look_inside t (λ _. omega arith)
 
   pub look_counted : (full held removed : ℕ) → IsCounted c full held removed → slice_index c.holds n + 1 < 2 ^ 32
       → (held + 1 < 2 ^ 64) × IsCounted (held_more c n) full (held + 1) removed
   look_counted full held removed k fits =
-      let all = total_below 4294967295 itself c.holds (λ i. let one = k.small_holds i in omega arith) in
-      let len = t.same_numbers in
-      let few = t.few_nodes in
-      let h = k.all_holds in
-      let changed = total_set itself c.holds n (slice_index c.holds n + 1) 0 hold_inside in (
-        omega arith,
-        record {
-          full_slots = k.full_slots;
-          all_holds = omega arith;
-          small_holds = λ m. by_equality m n (λ _. slice_index (slice_set c.holds n (slice_index c.holds n + 1)) m < 2 ^ 32)
-              (λ same. let now : slice_index (slice_set c.holds n (slice_index c.holds n + 1)) m ≡ slice_index c.holds n + 1 =
-              ap (slice_index (slice_set c.holds n (slice_index c.holds n + 1))) same
-              ∙ get_or-set_same c.holds n (slice_index c.holds n + 1) 0 hold_inside in omega arith)
-              (λ other. let now : slice_index (slice_set c.holds n (slice_index c.holds n + 1)) m ≡ slice_index c.holds m =
-              get_or-set_other c.holds n m (slice_index c.holds n + 1) 0 other in let was = k.small_holds m in omega arith);
-          all_removed = k.all_removed;
-        },
-      )
+      let all = sum_below_all 4294967295 itself c.holds (λ i. let one = k.small_holds i in omega arith) in
+      let len = t.same_numbers in let few = t.few_nodes in let h = k.all_holds in
+      (omega arith, holds_counted c n _ look_inside full held removed (held + 1) k fits (omega arith))
 
 -- a node that tells of a removed file is at no slot
-off_leaving : (node : Node) → is_leaving node ≡ true → IsOff node
-off_leaving node going slot file is = let l = leaving_is node going in let e : Leaving l.0 ≡ At slot file = sym l.1 ∙ is in cc
+off_told : (told : Node → Bool) (node : Node) → ((slot : ℕ) (file : Closed) → told (At slot file) ≡ false) → told node ≡ true → IsOff node
+off_told told node none going slot file is = let e : false ≡ true = sym (none slot file) ∙ ap told (sym is) ∙ going in cc
 
-off_retired : (node : Node) → is_retired node ≡ true → IsOff node
-off_retired node going slot file is = let l = retired_is node going in let e : Retired l.0 ≡ At slot file = sym l.1 ∙ is in cc
+-- a table with another node, and one without the file of a number
+abbrev pub with_node : Contents → ℕ → Node → Contents
+with_node c n node = record c { nodes = slice_set c.nodes n node }
 
--- a table without the file of a number
 abbrev pub closed_at : Contents → ℕ → Contents
-closed_at c n = record c { nodes = slice_set c.nodes n Gone }
+closed_at c n = with_node c n Gone
 
 -- what a write at a node keeps, where no slot names the node
 keeps_node : (c : Contents) (n : ℕ) (v : Node) → IsTable c → IsOff (node_at c.nodes n) → n < length c.nodes
-    → (is_retired v ≡ true → 0 < slice_index c.holds n) → is_fresh v ≡ false → IsTable (record c { nodes = slice_set c.nodes n v })
+    → (is_retired v ≡ true → 0 < slice_index c.holds n) → is_fresh v ≡ false → IsTable (with_node c n v)
 keeps_node c n v t off inside still unfresh = record {
   own = t.own;
-  used = λ m lt. by_equality m n (λ _. is_fresh (node_at (slice_set c.nodes n v) m) ≡ false)
-      (λ same. ap is_fresh (ap (node_at (slice_set c.nodes n v)) same ∙ get_or-set_same c.nodes n v Gone inside) ∙ unfresh)
-      (λ other. ap is_fresh (get_or-set_other c.nodes n m v Gone other) ∙ t.used m lt);
+  used = λ m lt. each_set (λ _ x. is_fresh x ≡ false) c.nodes n v Gone inside unfresh m (λ _. t.used m lt);
   few_slots = t.few_slots;
   range_inside = t.range_inside;
   few_nodes = rw (length-set c.nodes n v) t.few_nodes;
   same_numbers = t.same_numbers ∙ sym (length-set c.nodes n v);
   placed = λ u m at. let there = t.placed u m at in
       (there.0, get_or-set_other c.nodes n m v Gone (λ (same : m ≡ n). off u there.0 (ap (node_at c.nodes) (sym same) ∙ there.1)) ∙ there.1);
-  held = λ m. by_equality m n (λ _. is_retired (node_at (slice_set c.nodes n v) m) ≡ true → 0 < slice_index c.holds m)
-      (λ same is. subst (λ (k : ℕ). 0 < slice_index c.holds k) (sym same)
-      (still (ap is_retired (sym (ap (node_at (slice_set c.nodes n v)) same ∙ get_or-set_same c.nodes n v Gone inside)) ∙ is)))
-      (λ other is. t.held m (ap is_retired (sym (get_or-set_other c.nodes n m v Gone other)) ∙ is));
+  held = λ m. each_set (λ q x. is_retired x ≡ true → 0 < slice_index c.holds q) c.nodes n v Gone inside still m (λ _. t.held m);
 }
 
 -- the counts, where a node's file is gone
 closed_counted : (c : Contents) (n full held removed : ℕ) → IsCounted c full held removed → n < length c.nodes
     → removed_count_of (node_at c.nodes n) ≡ 1 → (1 ≤ removed) × IsCounted (closed_at c n) full held (removed - 1)
 closed_counted c n full held removed k inside one =
-    let changed = total_set removed_count_of c.nodes n Gone Gone inside in
+    let changed = sum_by-set removed_count_of c.nodes n Gone Gone inside in
     let r = k.all_removed in
     (omega arith, record { full_slots = k.full_slots; all_holds = k.all_holds; small_holds = k.small_holds; all_removed = omega arith })
 
 module _ (c : Contents) (n : ℕ) (t : IsTable c) (going : leaving c n ≡ true) where
-  was_leaving : (file : Closed) × (node_at c.nodes n ≡ Leaving file)
+  pub was_leaving : (file : Closed) × (node_at c.nodes n ≡ Leaving file)
   was_leaving = leaving_is (node_at c.nodes n) going
 
   node_inside : n < length c.nodes
-  node_inside = inside_of-Leaving c.nodes n going
+  node_inside = inside_told is_leaving c.nodes n refl going
 
   off : IsOff (node_at c.nodes n)
-  off = off_leaving (node_at c.nodes n) going
-
-  pub retire_inside : n < length c.holds
-  retire_inside = let lt = node_inside in let e = t.same_numbers in omega arith
+  off = off_told is_leaving (node_at c.nodes n) (λ _ _. refl) going
 
   -- a file that nobody holds is closed as it is retired
   pub retire_closes : slice_index c.holds n ≡ 0 → Leads (state_of c) (close_of (closed_by_retirement c n)) (state_of (closed_at c n))
@@ -151,42 +129,29 @@ module _ (c : Contents) (n : ℕ) (t : IsTable c) (going : leaving c n ≡ true)
             (unchanged (state_of c).fresh n false (ap is_fresh (sym was_leaving.1))),
       )
 
-  pub retire_answers : slice_index c.holds n ≡ 0 → identity_of (closed_by_retirement c n) ≡ file_in (node_at c.nodes n)
-  retire_answers unheld =
-      ap (λ (h : ℕ). identity_of (if h == 0 then (state_of c).removed n else None)) unheld
-      ∙ ap (λ (node : Node). identity_of (removed_at n node)) was_leaving.1 ∙ sym (ap file_in was_leaving.1)
-
   -- a held file stays, and is retired
-  pub retire_waits : slice_index c.holds n ≢ 0
-      → Leads (state_of c) (close_of (closed_by_retirement c n))
-      (state_of (record c { nodes = slice_set c.nodes n (node_after_retirement (node_at c.nodes n)) }))
-  retire_waits held =
-      let none : closed_by_retirement c n ≡ None =
-      by_equality (slice_index c.holds n) 0 (λ b. (if b then (state_of c).removed n else None) ≡ None) (λ is. absurd (held is)) (λ other. refl) in
-      subst (λ (x : Option File).
-      Leads (state_of c) (close_of x) (state_of (record c { nodes = slice_set c.nodes n (node_after_retirement (node_at c.nodes n)) })))
-      (sym none) (
-        tt,
-        state_of-nodes c n (node_after_retirement (node_at c.nodes n)) t node_inside off
-            ∙ λ i. record (state_of c) {
-              removed = unchanged (state_of c).removed n (removed_at n (node_after_retirement (node_at c.nodes n)))
-                  (ap (λ (x : Node). removed_at n (node_after_retirement x)) was_leaving.1 ∙ sym (ap (removed_at n) was_leaving.1)) i;
-              fresh = unchanged (state_of c).fresh n (is_fresh (node_after_retirement (node_at c.nodes n)))
-                  (ap (λ (x : Node). is_fresh (node_after_retirement x)) was_leaving.1 ∙ sym (ap is_fresh was_leaving.1)) i;
-            },
-      )
+  abbrev pub retired_at : Contents
+  retired_at = with_node c n (Retired was_leaving.0)
 
-  pub none_closed : slice_index c.holds n ≢ 0 → identity_of (closed_by_retirement c n) ≡ None
-  none_closed held = by_equality (slice_index c.holds n) 0 (λ b. identity_of (if b then (state_of c).removed n else None) ≡ None)
-      (λ is. absurd (held is)) (λ other. refl)
+  pub as_retired : (nodes : List Node) → nodes ≡ slice_set c.nodes n (node_after_retirement (node_at c.nodes n)) → record c { nodes = nodes } ≡ retired_at
+  as_retired nodes is = λ i. record c { nodes = (is ∙ ap (λ (x : Node). slice_set c.nodes n (node_after_retirement x)) was_leaving.1) i }
+
+  pub retire_waits : slice_index c.holds n ≢ 0 → Leads (state_of c) (close_of (closed_by_retirement c n)) (state_of retired_at)
+  retire_waits held =
+      let none : closed_by_retirement c n ≡ None = grind arith in
+      subst (λ (x : Option File). Leads (state_of c) (close_of x) (state_of retired_at)) (sym none) (
+        tt,
+        state_of-nodes c n (Retired was_leaving.0) t node_inside off ∙ λ i. record (state_of c) {
+          removed = unchanged (state_of c).removed n (Some (numbered n was_leaving.0)) (sym (ap (removed_at n) was_leaving.1)) i;
+          fresh = unchanged (state_of c).fresh n false (sym (ap is_fresh was_leaving.1)) i;
+        },
+      )
 
   pub closed_leaving : leaving (closed_at c n) ≡ changed_at (leaving c) n false
   closed_leaving = leaving-nodes c n Gone node_inside
 
-  pub retired_leaving : leaving (record c { nodes = slice_set c.nodes n (node_after_retirement (node_at c.nodes n)) })
-      ≡ changed_at (leaving c) n false
-  retired_leaving = leaving-nodes c n (node_after_retirement (node_at c.nodes n)) node_inside
-      ∙ ap (changed_at (leaving c) n) (ap (λ (x : Node). is_leaving (node_after_retirement x)) was_leaving.1)
+  pub retired_leaving : leaving retired_at ≡ changed_at (leaving c) n false
+  retired_leaving = leaving-nodes c n (Retired was_leaving.0) node_inside
 
   pub retire_close_keeps : (full held removed : ℕ) → IsCounted c full held removed
       → (1 ≤ removed) × IsTable (closed_at c n) × IsCounted (closed_at c n) full held (removed - 1)
@@ -195,26 +160,14 @@ module _ (c : Contents) (n : ℕ) (t : IsTable c) (going : leaving c n ≡ true)
       (counted.0, keeps_node c n Gone t off node_inside (λ (is : false ≡ true). cc) refl, counted.1)
 
   pub retire_wait_keeps : (full held removed : ℕ) → IsCounted c full held removed → slice_index c.holds n ≢ 0
-      → IsTable (record c { nodes = slice_set c.nodes n (node_after_retirement (node_at c.nodes n)) })
-      × IsCounted (record c { nodes = slice_set c.nodes n (node_after_retirement (node_at c.nodes n)) }) full held removed
+      → IsTable retired_at × IsCounted retired_at full held removed
   retire_wait_keeps full held removed k some_hold =
-      let changed = total_set removed_count_of c.nodes n (node_after_retirement (node_at c.nodes n)) Gone node_inside in
+      let changed = sum_by-set removed_count_of c.nodes n (Retired was_leaving.0) Gone node_inside in
       let was : removed_count_of (node_at c.nodes n) ≡ 1 = ap removed_count_of was_leaving.1 in
-      let now : removed_count_of (node_after_retirement (node_at c.nodes n)) ≡ 1 =
-      ap (λ (x : Node). removed_count_of (node_after_retirement x)) was_leaving.1 in
       let r = k.all_removed in (
-        keeps_node c n (node_after_retirement (node_at c.nodes n)) t off node_inside (λ _. omega arith)
-            (ap (λ (x : Node). is_fresh (node_after_retirement x)) was_leaving.1),
+        keeps_node c n (Retired was_leaving.0) t off node_inside (λ _. omega arith) refl,
         record { full_slots = k.full_slots; all_holds = k.all_holds; small_holds = k.small_holds; all_removed = omega arith },
       )
-
--- the file that was seen in a node is the one that stands there
-pub file_seen : (nodes : List Node) (number slot : ℕ) (file seen : Closed) (x : Node) → x ≡ slice_index_or nodes number x
-    → node_at nodes number ≡ At slot file → file_in x ≡ Some seen → file ≡ seen
-file_seen nodes number slot file seen x read named is =
-    let inside = inside_of-At nodes number slot file named in
-    let same : x ≡ At slot file = read ∙ get_or_default nodes number x Gone inside ∙ named in
-    let e : Some file ≡ Some seen = sym (ap file_in same) ∙ is in cc
 
 pub with_holds : (c : Contents) (holds now : List ℕ) → holds ≡ now → record c { holds = holds } ≡ record c { holds = now }
 with_holds c holds now is = λ i. record c { holds = is i }
@@ -224,26 +177,15 @@ with_nodes c nodes now is = λ i. record c { nodes = is i }
 
 none_by_release : (n : ℕ) (last : Bool) (node : Node) → is_retired node ≡ false
     → (if last && not (is_leaving node) then removed_at n node else None) ≡ None
-none_by_release n true Fresh unretired = refl
-none_by_release n false Fresh unretired = refl
-none_by_release n true (At slot file) unretired = refl
-none_by_release n false (At slot file) unretired = refl
-none_by_release n true (Leaving file) unretired = refl
-none_by_release n false (Leaving file) unretired = refl
 none_by_release n last (Retired file) unretired = cc
-none_by_release n true Gone unretired = refl
-none_by_release n false Gone unretired = refl
+none_by_release n true (Leaving file) unretired = refl
+none_by_release n false _ unretired = refl
+none_by_release n true _ unretired = refl
 
 -- a hold is given up
 module _ (c : Contents) (n : ℕ) (t : IsTable c) (some_hold : 0 < slice_index c.holds n) where
   pub less_inside : n < length c.holds
   less_inside = inside_of c.holds n 0 (λ (zero_is : slice_index_or c.holds n 0 ≡ 0). omega arith)
-
-  less_at : slice_index (slice_set c.holds n (slice_index c.holds n - 1)) n ≡ slice_index c.holds n - 1
-  less_at = get_or-set_same c.holds n (slice_index c.holds n - 1) 0 less_inside
-
-  less_else : (m : ℕ) → m ≢ n → slice_index (slice_set c.holds n (slice_index c.holds n - 1)) m ≡ slice_index c.holds m
-  less_else m other = get_or-set_other c.holds n m (slice_index c.holds n - 1) 0 other
 
   state_of-less : (f : File) → f.number ≡ n → state_of (held_less c n) ≡ after (state_of c) (Release f)
   state_of-less f same = state_of-holds c n (slice_index c.holds n - 1) less_inside
@@ -251,37 +193,12 @@ module _ (c : Contents) (n : ℕ) (t : IsTable c) (some_hold : 0 < slice_index c
 
   pub less_counted : (full held removed : ℕ) → IsCounted c full held removed → (1 ≤ held) × IsCounted (held_less c n) full (held - 1) removed
   less_counted full held removed k =
-      let h = k.all_holds in
-      let one = total_one itself c.holds n 0 less_inside in
-      let changed = total_set itself c.holds n (slice_index c.holds n - 1) 0 less_inside in (
-        omega arith,
-        record {
-          full_slots = k.full_slots;
-          all_holds = omega arith;
-          small_holds = λ m. by_equality m n (λ _. slice_index (slice_set c.holds n (slice_index c.holds n - 1)) m < 2 ^ 32)
-              (λ same. let now : slice_index (slice_set c.holds n (slice_index c.holds n - 1)) m ≡ slice_index c.holds n - 1 =
-              ap (slice_index (slice_set c.holds n (slice_index c.holds n - 1))) same ∙ less_at in let was = k.small_holds n in omega arith)
-              (λ other. let now = less_else m other in let was = k.small_holds m in omega arith);
-          all_removed = k.all_removed;
-        },
-      )
+      let h = k.all_holds in let small = k.small_holds n in let one = get_or-le-sum_by itself c.holds n 0 less_inside in
+      (omega arith, holds_counted c n _ less_inside full held removed (held - 1) k (omega arith) (omega arith))
 
   -- a file that isn't retired, or has another hold, stays open
   less_keeps : (is_retired (node_at c.nodes n) ≡ true → 1 < slice_index c.holds n) → IsTable (held_less c n)
-  less_keeps others = record {
-    few_slots = t.few_slots;
-    range_inside = t.range_inside;
-    few_nodes = t.few_nodes;
-    same_numbers = length-set c.holds n (slice_index c.holds n - 1) ∙ t.same_numbers;
-    placed = t.placed;
-    own = t.own;
-    used = t.used;
-    held = λ m is. by_equality m n (λ _. 0 < slice_index (slice_set c.holds n (slice_index c.holds n - 1)) m)
-        (λ same. let now : slice_index (slice_set c.holds n (slice_index c.holds n - 1)) m ≡ slice_index c.holds n - 1 =
-        ap (slice_index (slice_set c.holds n (slice_index c.holds n - 1))) same ∙ less_at in
-        let more = others (ap (λ (k : ℕ). is_retired (node_at c.nodes k)) (sym same) ∙ is) in omega arith)
-        (λ other. let now = less_else m other in let was = t.held m is in omega arith);
-  }
+  less_keeps others = holds_keep c n (slice_index c.holds n - 1) less_inside t (λ is. let more = others is in omega arith)
 
   -- a release that closes nothing
   stays_open : closed_by_release c n ≡ None → (f : File) → f.number ≡ n
@@ -310,7 +227,7 @@ module _ (c : Contents) (n : ℕ) (t : IsTable c) (some_hold : 0 < slice_index c
     was_retired = retired_is (node_at c.nodes n) closed
 
     retired_inside : n < length c.nodes
-    retired_inside = inside_of-Retired c.nodes n closed
+    retired_inside = inside_told is_retired c.nodes n refl closed
 
     -- the table without the last hold and without the file
     abbrev pub let_go : Contents
@@ -326,7 +243,7 @@ module _ (c : Contents) (n : ℕ) (t : IsTable c) (some_hold : 0 < slice_index c
     closing = ap (λ (x : ℕ × Bool). if x.0 == 1 && not x.1 then (state_of c).removed n else None) (λ i. (last i, not_leaving i)) ∙ removed_is
 
     same_elsewhere : (slot : ℕ) → (state_of let_go).at slot ≡ (state_of c).at slot
-    same_elsewhere slot = same_file c n Gone t (off_retired (node_at c.nodes n) closed) slot (slot_at c.slots slot) refl
+    same_elsewhere slot = same_file c n Gone t (off_told is_retired (node_at c.nodes n) (λ _ _. refl) closed) slot (slot_at c.slots slot) refl
 
     pub let_go_steps : (f : File) → f.number ≡ n → Leads (state_of c) ([] ▷ Release f ▷▷ close_of (closed_by_release c n)) (state_of let_go)
     let_go_steps f same =
@@ -354,27 +271,9 @@ module _ (c : Contents) (n : ℕ) (t : IsTable c) (some_hold : 0 < slice_index c
     let_go_leaving = leaving-nodes c n Gone retired_inside ∙ unchanged (leaving c) n false (sym not_leaving)
 
     pub let_go_keeps : IsTable let_go
-    let_go_keeps = record {
-      own = t.own;
-      used = λ m lt. by_equality m n (λ _. is_fresh (node_at (slice_set c.nodes n Gone) m) ≡ false)
-          (λ same. ap is_fresh (ap (node_at (slice_set c.nodes n Gone)) same ∙ get_or-set_same c.nodes n Gone Gone retired_inside))
-          (λ other. ap is_fresh (get_or-set_other c.nodes n m Gone Gone other) ∙ t.used m lt);
-      few_slots = t.few_slots;
-      range_inside = t.range_inside;
-      few_nodes = rw (length-set c.nodes n Gone) t.few_nodes;
-      same_numbers = length-set c.holds n (slice_index c.holds n - 1) ∙ t.same_numbers ∙ sym (length-set c.nodes n Gone);
-      placed = λ u m at. let there = t.placed u m at in (
-        there.0,
-        get_or-set_other c.nodes n m Gone Gone
-            (λ (same : m ≡ n). off_retired (node_at c.nodes n) closed u there.0 (ap (node_at c.nodes) (sym same) ∙ there.1)) ∙ there.1,
-      );
-      held = λ m. by_equality m n (λ _. is_retired (node_at (slice_set c.nodes n Gone) m) ≡ true
-          → 0 < slice_index (slice_set c.holds n (slice_index c.holds n - 1)) m)
-          (λ same is. let e : false ≡ true =
-          sym (ap is_retired (ap (node_at (slice_set c.nodes n Gone)) same ∙ get_or-set_same c.nodes n Gone Gone retired_inside)) ∙ is in cc)
-          (λ other is. let now = less_else m other in let was = t.held m (ap is_retired (sym (get_or-set_other c.nodes n m Gone Gone other)) ∙ is) in
-          omega arith);
-    }
+    let_go_keeps = Rattle.fx_plain.proofs.Holding.less_keeps (closed_at c n) n (keeps_node c n Gone t
+        (off_told is_retired (node_at c.nodes n) (λ _ _. refl) closed) retired_inside (λ (is : false ≡ true). cc) refl) some_hold
+        (λ is. let e : false ≡ true = ap is_retired (sym (get_or-set_same c.nodes n Gone Gone retired_inside)) ∙ is in cc)
 
     pub let_go_releases : (out : Option Closed) → out ≡ file_in (node_at c.nodes n) → EndsHold c let_go n out
     let_go_releases out is =
@@ -385,11 +284,5 @@ module _ (c : Contents) (n : ℕ) (t : IsTable c) (some_hold : 0 < slice_index c
         let less = (less_counted full held removed k).1 in
         let gone = closed_counted c n full held removed k retired_inside (ap removed_count_of was_retired.1) in (
           gone.0,
-          record {
-            full_slots = less.full_slots;
-            all_holds = less.all_holds;
-            small_holds = less.small_holds;
-            all_removed =
-                gone.1.all_removed;
-          },
+          record { full_slots = less.full_slots; all_holds = less.all_holds; small_holds = less.small_holds; all_removed = gone.1.all_removed },
         )

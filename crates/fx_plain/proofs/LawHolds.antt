@@ -1,62 +1,26 @@
 -- While a pass releases nothing, the file that it looked up keeps a hold.
-use Rattle.std.proofs.Common.{◌≡◌, ◌≢◌, ℕ, suc, ◌+◌, ◌-◌, ◌<◌, ◌≤◌, ◌==◌, List, [], ◌∷◌, ◌++◌, map, refl, sym, ap, subst, ◌∙◌, Option, Some, None}
-use Rattle.std.proofs.Common.{if◌then◌else◌, arith, inl, inr}
-use Rattle.std.proofs.lemmas.Bool.{cases_lt}
-use Rattle.fx_plain.specs.State.{State}
-use Rattle.fx_plain.specs.Step.{Allows, after, changed_at}
-use Rattle.fx_plain.specs.History.{state_after, AllowsAll, action_of, held_after, held_by, ReleasesItsOwn, AllReleaseTheirOwn, part_of_pass}
-use Rattle.fx_plain.specs.Laws.{closed_of, closes_of, released_by, releases_in}
-use Rattle.fx_plain.specs.declared.event.File.{File}
-use Rattle.fx_plain.specs.declared.event.Event.{Event}
-use Rattle.fx_plain.specs.declared.event.Action.{Action}
-use Rattle.fx_plain.specs.declared.event.Action.TheVariants.{Look, Release, Put, Clear, Take, Allocate, Full, Close}
+use Rattle.fx_plain.proofs.Words.{◌≡◌, ◌≢◌, ℕ, suc, ◌+◌, ◌<◌, ◌≤◌, ◌==◌, List, [], ◌∷◌, ◌++◌, map, refl, ap, subst, ◌∙◌, Option, Some, if◌then◌else◌}
+use Rattle.fx_plain.proofs.Words.{arith, inl, inr, cases_lt, State, Allows, after, state_after, AllowsAll, action_of, closed_of, closes_of, File}
+use Rattle.fx_plain.proofs.Words.{Event, Action, Look, Release, Close}
+use Rattle.fx_plain.specs.History.{held_after, held_by, ReleasesItsOwn, AllReleaseTheirOwn, part_of_pass}
+use Rattle.fx_plain.specs.Laws.{released_by, releases_in}
 use Rattle.fx_plain.proofs.Cells.{by_equality}
-use Rattle.fx_plain.proofs.Named.{named, named_itself}
+use Rattle.fx_plain.proofs.Named.{named, named_same}
 use Rattle.fx_plain.proofs.Sums.{sum_below, same_below, changed_below, sum_grows, sum_zero}
 
 -- the holds of a number that an action takes, and those that it gives up
 abbrev taken : ℕ → Action → ℕ
 taken n (Look slot found) = named n found
-taken n (Release f) = 0
-taken n (Put slot f replaced) = 0
-taken n (Clear slot found) = 0
-taken n (Take slot found) = 0
-taken n (Allocate slot f) = 0
-taken n Full = 0
-taken n (Close f) = 0
+taken n _ = 0
 
 abbrev given : ℕ → Action → ℕ
-given n (Look slot found) = 0
 given n (Release f) = named n (Some f)
-given n (Put slot f replaced) = 0
-given n (Clear slot found) = 0
-given n (Take slot found) = 0
-given n (Allocate slot f) = 0
-given n Full = 0
-given n (Close f) = 0
-
-raised : (holds : ℕ → ℕ) (f : File) (n : ℕ) → changed_at holds f.number (holds f.number + 1) n + 0 ≡ holds n + named n (Some f)
-raised holds f n = by_equality n f.number (λ b. (if b then holds f.number + 1 else holds n) + 0 ≡ holds n + named n (Some f))
-    (λ same. by_equality f.number n (λ b. (holds f.number + 1) + 0 ≡ holds n + (if b then 1 else 0)) (λ _. let e = ap holds same in
-    omega arith) (λ apart. absurd (apart (sym same))))
-    (λ other. by_equality f.number n (λ b. holds n + 0 ≡ holds n + (if b then 1 else 0)) (λ same. absurd (other (sym same))) (λ _. refl))
-
-lowered : (holds : ℕ → ℕ) (f : File) (n : ℕ) → 0 < holds f.number → changed_at holds f.number (holds f.number - 1) n + named n (Some f) ≡ holds n + 0
-lowered holds f n some_hold = by_equality n f.number (λ b. (if b then holds f.number - 1 else holds n) + named n (Some f) ≡ holds n + 0)
-    (λ same. by_equality f.number n (λ b. (holds f.number - 1) + (if b then 1 else 0) ≡ holds n + 0) (λ _. let e = ap holds same in
-    omega arith) (λ apart. absurd (apart (sym same))))
-    (λ other. by_equality f.number n (λ b. holds n + (if b then 1 else 0) ≡ holds n + 0) (λ same. absurd (other (sym same))) (λ _. refl))
+given n _ = 0
 
 holds_after : (st : State) (a : Action) (n : ℕ) → Allows st a → (after st a).holds n + given n a ≡ st.holds n + taken n a
-holds_after st (Look slot None) n may = refl
-holds_after st (Look slot (Some f)) n may = raised st.holds f n
-holds_after st (Release f) n may = lowered st.holds f n may
-holds_after st (Put slot f replaced) n may = refl
-holds_after st (Clear slot found) n may = refl
-holds_after st (Take slot found) n may = refl
-holds_after st (Allocate slot f) n may = refl
-holds_after st Full n may = refl
-holds_after st (Close f) n may = refl
+holds_after st (Look slot (Some f)) n may = grind arith
+holds_after st (Release f) n may = grind arith
+holds_after st _ n may = refl
 
 -- passes claim no more holds than there are
 pub record IsCovered (claims : ℕ → ℕ) (holds : ℕ) : Type 0 where
@@ -78,24 +42,14 @@ abbrev holding : ℕ → List Event → ℕ → ℕ
 holding n h pass = named n (held_by h pass)
 
 other_holds : (n : ℕ) (e : Event) (h : List Event) (k : ℕ) → k ≢ e.pass → holding n (e ∷ h) k ≡ holding n h k
-other_holds n e h k apart =
-    by_equality e.pass k (λ b. named n (if b then held_after (held_by h k) e.action else held_by h k) ≡ named n (held_by h k))
-    (λ same. absurd (apart (sym same))) (λ _. refl)
+other_holds n e h k apart = grind arith
 
 own_held : (e : Event) (h : List Event) → held_by (e ∷ h) e.pass ≡ held_after (held_by h e.pass) e.action
-own_held e h = by_equality e.pass e.pass
-    (λ b. (if b then held_after (held_by h e.pass) e.action else held_by h e.pass) ≡ held_after (held_by h e.pass) e.action) (λ _. refl)
-    (λ apart. absurd (apart refl))
+own_held e h = grind arith
 
 own_change : (n : ℕ) (held : Option File) (a : Action) → ReleasesItsOwn held a → named n (held_after held a) + given n a ≤ named n held + taken n a
-own_change n held (Look slot found) own = omega arith
 own_change n held (Release f) own = let e : named n held ≡ named n (Some f) = ap (named n) own in omega arith
-own_change n held (Put slot f replaced) own = omega arith
-own_change n held (Clear slot found) own = omega arith
-own_change n held (Take slot found) own = omega arith
-own_change n held (Allocate slot f) own = omega arith
-own_change n held Full own = omega arith
-own_change n held (Close f) own = omega arith
+own_change n held _ own = omega arith
 
 -- what passes hold is covered by the holds
 pub covered : (start : State) (h : List Event) (n : ℕ) → AllowsAll start (map action_of h) → AllReleaseTheirOwn h
@@ -109,14 +63,8 @@ covered start (e ∷ h) n may own =
     (other_holds n e h) change (holds_after st e.action n may.1) (covered start h n may.0 own.0)
 
 given_none : (n : ℕ) (a : Action) → released_by a ≡ [] → given n a ≡ 0
-given_none n (Look slot found) is = refl
 given_none n (Release f) is = cc
-given_none n (Put slot f replaced) is = refl
-given_none n (Clear slot found) is = refl
-given_none n (Take slot found) is = refl
-given_none n (Allocate slot f) is = refl
-given_none n Full is = refl
-given_none n (Close f) is = refl
+given_none n _ is = refl
 
 both_empty : (xs ys : List File) → xs ++ ys ≡ [] → (xs ≡ []) × (ys ≡ [])
 both_empty [] ys is = (refl, is)
@@ -134,54 +82,37 @@ kept_on p e since = by_equality e.pass p (λ b. releases_in (if b then e ∷ par
 abbrev keeping : ℕ → ℕ → List Event → ℕ → ℕ
 keeping p n h k = if k == p then 1 else holding n h k
 
--- the hold that a pass keeps is no other pass's
+-- a number with a hold isn't closed
+no_close : (st : State) (a : Action) (n : ℕ) → Allows st a → 0 < st.holds n → closed_of n a ≡ []
+no_close st (Close f) n may held = let unheld = may.1 in grind arith
+no_close st _ n may held = refl
+
+is_held : (p n : ℕ) (h : List Event) (holds : ℕ) → IsCovered (keeping p n h) holds → 0 < holds
+is_held p n h holds cover =
+    let own : keeping p n h p ≡ 1 = grind arith in
+    let some_hold : keeping p n h p + sum_below (keeping p n h) p ≤ holds = cover.below (suc p) in omega arith
+
+-- the hold that a pass keeps is no other pass's, and the number isn't closed
 kept : (start : State) (h since : List Event) (p n : ℕ) → IsCovered (keeping p n h) ((state_after start (map action_of h)).holds n)
     → AllowsAll start (map action_of (since ++ h)) → AllReleaseTheirOwn (since ++ h) → releases_in (part_of_pass p since) ≡ []
-    → IsCovered (keeping p n (since ++ h)) ((state_after start (map action_of (since ++ h))).holds n)
-kept start h [] p n cover may own is = cover
+    → IsCovered (keeping p n (since ++ h)) ((state_after start (map action_of (since ++ h))).holds n) × (closes_of n since ≡ [])
+kept start h [] p n cover may own is = (cover, refl)
 kept start h (e ∷ since) p n cover may own is =
     let all = since ++ h in
     let st = state_after start (map action_of all) in
     let (before, now) = kept_on p e since is in
+    let (held, earlier) = kept start h since p n cover may.0 own.0 before in
     let change : keeping p n (e ∷ all) e.pass + given n e.action ≤ keeping p n all e.pass + taken n e.action =
     by_equality e.pass p (λ b.
     (if b then 1 else holding n (e ∷ all) e.pass) + given n e.action ≤ (if b then 1 else holding n all e.pass) + taken n e.action)
     (λ same. let none_given = given_none n e.action (now same) in omega arith)
     (λ _. rw (own_held e all) (own_change n (held_by all e.pass) e.action own.1)) in
-    covered_after (keeping p n all) (keeping p n (e ∷ all)) e.pass (st.holds n) ((after st e.action).holds n) (taken n e.action) (given n e.action)
-    (λ k apart. ap (λ (x : ℕ). if k == p then 1 else x) (other_holds n e all k apart)) change (holds_after st e.action n may.1)
-    (kept start h since p n cover may.0 own.0 before)
-
--- a number with a hold isn't closed
-no_close : (st : State) (a : Action) (n : ℕ) → Allows st a → 0 < st.holds n → closed_of n a ≡ []
-no_close st (Look slot found) n may held = refl
-no_close st (Release f) n may held = refl
-no_close st (Put slot f replaced) n may held = refl
-no_close st (Clear slot found) n may held = refl
-no_close st (Take slot found) n may held = refl
-no_close st (Allocate slot f) n may held = refl
-no_close st Full n may held = refl
-no_close st (Close f) n may held =
-    by_equality f.number n (λ b. (if b then f ∷ [] else []) ≡ []) (λ same. let e = ap st.holds same in absurd (omega (arith, may.1))) (λ _. refl)
-
-is_held : (p n : ℕ) (h : List Event) (holds : ℕ) → IsCovered (keeping p n h) holds → 0 < holds
-is_held p n h holds cover =
-    let own : keeping p n h p ≡ 1 = by_equality p p (λ b. (if b then 1 else holding n h p) ≡ 1) (λ _. refl) (λ apart. absurd (apart refl)) in
-    let some_hold : keeping p n h p + sum_below (keeping p n h) p ≤ holds = cover.below (suc p) in
-    omega arith
-
-none_closed : (start : State) (h since : List Event) (p n : ℕ) → IsCovered (keeping p n h) ((state_after start (map action_of h)).holds n)
-    → AllowsAll start (map action_of (since ++ h)) → AllReleaseTheirOwn (since ++ h) → releases_in (part_of_pass p since) ≡ []
-    → closes_of n since ≡ []
-none_closed start h [] p n cover may own is = refl
-none_closed start h (e ∷ since) p n cover may own is =
-    let all = since ++ h in
-    let st = state_after start (map action_of all) in
-    let (before, now) = kept_on p e since is in
-    let now_held = is_held p n all (st.holds n) (kept start h since p n cover may.0 own.0 before) in
-    let earlier = none_closed start h since p n cover may.0 own.0 before in
-    let here = no_close st e.action n may.1 now_held in
-    rw (earlier, here) refl
+    let here = no_close st e.action n may.1 (is_held p n all (st.holds n) held) in (
+      covered_after (keeping p n all) (keeping p n (e ∷ all)) e.pass (st.holds n) ((after st e.action).holds n) (taken n e.action)
+          (given n e.action) (λ k apart. ap (λ (x : ℕ). if k == p then 1 else x) (other_holds n e all k apart)) change
+          (holds_after st e.action n may.1) held,
+      rw (earlier, here) refl,
+    )
 
 -- a look-up that found a file gives its pass a hold
 looked : (before : List Event) (look : Event) (slot : ℕ) (f : File) (holds : ℕ) → look.action ≡ Look slot (Some f)
@@ -190,7 +121,7 @@ looked before look slot f holds is cover =
     let n = f.number in
     let h = look ∷ before in
     let found : held_by h look.pass ≡ Some f = own_held look before ∙ ap (held_after (held_by before look.pass)) is in
-    let one : holding n h look.pass ≡ 1 = ap (named n) found ∙ named_itself f in
+    let one : holding n h look.pass ≡ 1 = ap (named n) found ∙ named_same f n refl in
     let agree : (k : ℕ) → holding n h k ≡ keeping look.pass n h k =
     λ k. by_equality k look.pass (λ b. holding n h k ≡ (if b then 1 else holding n h k)) (λ same. ap (holding n h) same ∙ one) (λ _. refl) in
     subst (λ (claims : ℕ → ℕ). IsCovered claims holds) (λ i k. agree k i) cover
@@ -211,5 +142,5 @@ no_close_while_held start before since others look slot f may_all own_all is non
     let may = allowed_before start (since ++ h) others may_all in
     let own = released_before (since ++ h) others own_all in
     let cover = covered start h f.number (allowed_before start h since may) (released_before h since own) in
-    none_closed start h since look.pass f.number
-    (looked before look slot f ((state_after start (map action_of h)).holds f.number) is cover) may own none_given
+    (kept start h since look.pass f.number
+    (looked before look slot f ((state_after start (map action_of h)).holds f.number) is cover) may own none_given).1

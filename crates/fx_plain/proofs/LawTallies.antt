@@ -1,17 +1,9 @@
 -- Each number is fresh, or at a slot, or removed, or closed, and passes from one to the next.
-use Rattle.std.proofs.Common.{◌≡◌, ◌≢◌, ℕ, ◌+◌, ◌<◌, ◌≤◌, Bool, true, false, List, [], ◌∷◌, map, length, refl, sym, ap, ◌∙◌, Option, Some, None}
-use Rattle.std.proofs.Common.{if◌then◌else◌, arith, inl, inr, length-append}
-use Rattle.std.proofs.lemmas.Bool.{cases_lt}
-use Rattle.fx_plain.specs.State.{State}
-use Rattle.fx_plain.specs.Step.{Allows, after, changed_at, with_removed}
-use Rattle.fx_plain.specs.History.{state_after, AllowsAll, action_of}
-use Rattle.fx_plain.specs.Laws.{IsStart, if_numbered, closed_of, closes_of}
-use Rattle.fx_plain.specs.declared.event.File.{File}
-use Rattle.fx_plain.specs.declared.event.Event.{Event}
-use Rattle.fx_plain.specs.declared.event.Action.{Action}
-use Rattle.fx_plain.specs.declared.event.Action.TheVariants.{Look, Release, Put, Clear, Take, Allocate, Full, Close}
-use Rattle.fx_plain.proofs.Cells.{by_equality}
-use Rattle.fx_plain.proofs.Named.{named, named_same, named_other, named_at_most_one, named_file}
+use Rattle.fx_plain.proofs.Words.{◌≡◌, ℕ, ◌+◌, ◌<◌, ◌≤◌, Bool, true, false, List, [], ◌∷◌, map, length, refl, sym, ap, ◌∙◌, Option, Some, None}
+use Rattle.fx_plain.proofs.Words.{arith, inl, inr, length-append, cases_lt, State, Allows, after, changed_at, with_removed, state_after, AllowsAll}
+use Rattle.fx_plain.proofs.Words.{action_of, IsStart, closed_of, closes_of, File, Event, Action, Look, Put, Clear, Take, Allocate, Close}
+use Rattle.fx_plain.specs.Laws.{if_numbered}
+use Rattle.fx_plain.proofs.Named.{named, named_at_most_one, named_file}
 use Rattle.fx_plain.proofs.Sums.{sum_below, changed_below, term_below, sum_zero, sum_one}
 
 abbrev pub bit : Bool → ℕ
@@ -30,20 +22,12 @@ placed n at size = sum_below (λ slot. named n (at slot)) size
 abbrev pub tally : ℕ → State → ℕ
 tally n st = bit (st.fresh n) + placed n st.at st.size + present (st.removed n)
 
-module _ {Y : Type 0} (f : ℕ → Y) (k q : ℕ) (v : Y) where
-  pub changed_there : q ≡ k → changed_at f k v q ≡ v
-  changed_there is = by_equality q k (λ b. (if b then v else f q) ≡ v) (λ _. refl) (λ apart. absurd (apart is))
-
-  pub changed_off : q ≢ k → changed_at f k v q ≡ f q
-  changed_off apart = by_equality q k (λ b. (if b then v else f q) ≡ f q) (λ is. absurd (apart is)) (λ _. refl)
-
 placed_change : (n : ℕ) (at : ℕ → Option File) (slot size : ℕ) (x : Option File) → slot < size
     → placed n (changed_at at slot x) size + named n (at slot) ≡ placed n at size + named n x
 placed_change n at slot size x lt =
     let e : placed n (changed_at at slot x) size + named n (at slot) ≡ placed n at size + named n (changed_at at slot x slot) =
-    changed_below (λ s. named n (at s)) (λ s. named n (changed_at at slot x s)) slot
-    (λ k apart. ap (named n) (changed_off at slot k x apart)) size lt in
-    e ∙ ap (λ (y : Option File). placed n at size + named n y) (changed_there at slot slot x refl)
+    changed_below (λ s. named n (at s)) (λ s. named n (changed_at at slot x s)) slot (λ k apart. grind arith) size lt in
+    e ∙ ap (λ (y : Option File). placed n at size + named n y) (grind arith)
 
 pub placed_one : (n : ℕ) (at : ℕ → Option File) (slot size : ℕ) → slot < size → named n (at slot) ≤ placed n at size
 placed_one n at slot size lt = term_below (λ s. named n (at s)) size slot lt
@@ -51,26 +35,17 @@ placed_one n at slot size lt = term_below (λ s. named n (at s)) size slot lt
 -- a fresh number is used up
 fresh_change : (fresh : ℕ → Bool) (f : File) (n : ℕ) → fresh f.number ≡ true
     → bit (changed_at fresh f.number false n) + named n (Some f) ≡ bit (fresh n)
-fresh_change fresh f n is = by_equality n f.number (λ b. bit (if b then false else fresh n) + named n (Some f) ≡ bit (fresh n))
-    (λ same. let e = named_same f n (sym same) in let d : bit (fresh n) ≡ 1 = ap bit (ap fresh same ∙ is) in omega arith)
-    (λ apart. let e = named_other f n (λ same. apart (sym same)) in omega arith)
+fresh_change fresh f n is = grind arith
 
 -- a removed file waits, where its number had none
 removed_change : (removed : ℕ → Option File) (found : Option File) (n : ℕ) → named n found + present (removed n) ≤ 1
     → present (with_removed removed found n) ≡ present (removed n) + named n found
 removed_change removed None n few = omega arith
-removed_change removed (Some f) n few =
-    by_equality n f.number (λ b. present (if b then Some f else removed n) ≡ present (removed n) + named n (Some f))
-    (λ same. let e = named_same f n (sym same) in omega arith)
-    (λ apart. let e = named_other f n (λ same. apart (sym same)) in omega arith)
+removed_change removed (Some f) n few = grind arith
 
 close_change : (removed : ℕ → Option File) (f : File) (n : ℕ) → removed f.number ≡ Some f
     → present (changed_at removed f.number None n) + length (if_numbered n f) ≡ present (removed n)
-close_change removed f n is = by_equality n f.number (λ b. present (if b then None else removed n) + length (if_numbered n f) ≡ present (removed n))
-    (λ same. by_equality f.number n (λ b. 0 + length (if b then f ∷ [] else []) ≡ present (removed n)) (λ _. let d : present (removed n) ≡ 1 =
-    ap present (ap removed same ∙ is) in omega arith) (λ apart. absurd (apart (sym same))))
-    (λ other. by_equality f.number n (λ b. present (removed n) + length (if b then f ∷ [] else []) ≡ present (removed n))
-    (λ same. absurd (other (sym same))) (λ _. omega arith))
+close_change removed f n is = grind arith
 
 emptied : (st : State) (n slot : ℕ) (found : Option File) → slot < st.size → found ≡ st.at slot → tally n st ≤ 1
     → bit (st.fresh n) + placed n (changed_at st.at slot None) st.size + present (with_removed st.removed found n) + 0 ≡ tally n st
@@ -95,15 +70,13 @@ filled st n slot f replaced lt fresh is few =
 
 -- a step moves a number on, and counts each close
 pub tally_after : (st : State) (a : Action) (n : ℕ) → Allows st a → tally n st ≤ 1 → tally n (after st a) + length (closed_of n a) ≡ tally n st
-tally_after st (Look slot None) n may few = omega arith
-tally_after st (Look slot (Some f)) n may few = omega arith
-tally_after st (Release f) n may few = omega arith
 tally_after st (Put slot f replaced) n may few = filled st n slot f replaced may.0 may.1 may.2 few
 tally_after st (Clear slot found) n may few = emptied st n slot found may.0 may.1 few
 tally_after st (Take slot found) n may few = emptied st n slot found may.0 may.1 few
 tally_after st (Allocate slot f) n may few = filled st n slot f None may.0 may.3 (sym may.2) few
-tally_after st Full n may few = omega arith
 tally_after st (Close f) n may few = let e = close_change st.removed f n may.0 in omega arith
+tally_after st (Look slot None) n may few = omega arith
+tally_after st _ n may few = omega arith
 
 pub tally_all : (start : State) (h : List Event) (n : ℕ) → tally n start ≤ 1 → AllowsAll start (map action_of h)
     → tally n (state_after start (map action_of h)) + length (closes_of n h) ≡ tally n start

@@ -1,12 +1,7 @@
 -- Histories that go on from one another.
-use Rattle.std.proofs.Common.{◌≡◌, List, [], ◌∷◌, ◌++◌, refl, sym, ap, subst, ◌∙◌, append_assoc, Some, None}
+use Rattle.fx_plain.proofs.Words.{◌≡◌, List, [], ◌∷◌, ◌++◌, refl, sym, ap, subst, ◌∙◌, append_assoc, None, Closed, Action, Look, State, Allows}
+use Rattle.fx_plain.proofs.Words.{after, ◌▷▷◌, Leads, state_after, closes_in, closed_by}
 use Rattle.std.proofs.lemmas.List.{append-nil}
-use Rattle.fx_base.specs.declared.open_file.Closed.{Closed}
-use Rattle.fx_plain.specs.declared.event.Action.{Action}
-use Rattle.fx_plain.specs.declared.event.Action.TheVariants.{Look, Release, Put, Clear, Take, Allocate, Full, Close}
-use Rattle.fx_plain.specs.State.{State}
-use Rattle.fx_plain.specs.Step.{Allows, after}
-use Rattle.fx_plain.specs.History.{◌▷▷◌, Leads, state_after, closes_in, closed_by}
 
 -- one history goes on where another ended
 pub leads_then : (first mid last : State) (h more : List Action) → Leads first h mid → Leads mid more last → Leads first (h ▷▷ more) last
@@ -22,14 +17,7 @@ closes_in-then h (action ∷ more) = ap (λ (files : List Closed). files ++ clos
 
 same_size_after : (st : State) (action : Action) → (after st action).size ≡ st.size
 same_size_after st (Look slot None) = refl
-same_size_after st (Look slot (Some f)) = refl
-same_size_after st (Release f) = refl
-same_size_after st (Put slot f x) = refl
-same_size_after st (Clear slot x) = refl
-same_size_after st (Take slot x) = refl
-same_size_after st (Allocate slot f) = refl
-same_size_after st Full = refl
-same_size_after st (Close f) = refl
+same_size_after st _ = refl
 
 state_size : (st : State) (h : List Action) → (state_after st h).size ≡ st.size
 state_size st [] = refl

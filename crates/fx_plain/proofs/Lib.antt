@@ -1,7 +1,8 @@
+pub mod Words
 pub mod ReservedLists
 pub mod Cells
 pub mod Leading
-pub mod TotalLemmas
+pub mod SumLemmas
 pub mod Writes
 pub mod Removals
 pub mod Holding

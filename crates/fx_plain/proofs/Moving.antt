@@ -1,15 +1,12 @@
 -- Each file moves to the node of its slot's number, one slot after another.
-use Rattle.std.proofs.Common.{◌≡◌, ◌≢◌, ℕ, ◌+◌, ◌<◌, ◌≤◌, List, [], ◌∷◌, ◌++◌, length, refl, sym, ap, ◌∙◌, slice_set, Option, Some, None, IfSome}
-use Rattle.std.proofs.Common.{IsSome, arith}
-use Rattle.std.proofs.lemmas.List.{set-set, set-get_or, length-set, get_or-set_same, get_or-set_other, get_or_append_left}
+use Rattle.fx_plain.proofs.Words.{◌≡◌, ◌≢◌, ℕ, ◌+◌, ◌<◌, ◌≤◌, List, [], ◌∷◌, ◌++◌, length, refl, sym, ap, ◌∙◌, slice_set, Option, Some, None, IfSome}
+use Rattle.fx_plain.proofs.Words.{IsSome, arith, set-set, length-set, get_or-set_same, get_or-set_other, get_or_append_left, Closed, AllPlaced}
+use Rattle.fx_plain.proofs.Words.{IsRenumbered, slot_at, node_at, file_named, file_in, opening_slot, moved_node, nodes_without, file_count_of, At}
+use Rattle.fx_plain.proofs.Words.{Gone, sum_by, Node, sum_by-set}
+use Rattle.std.proofs.lemmas.List.{set-get_or}
+use Rattle.fx_plain.specs.Contents.{HaveOwnNumbers}
 use Rattle.std.proofs.Math.Seq.{get_or-append_seam}
-use Rattle.fx_base.specs.declared.open_file.Closed.{Closed}
-use Rattle.fx_plain.specs.Contents.{AllPlaced, HaveOwnNumbers, IsRenumbered, slot_at, node_at, file_named, file_in, opening_slot, moved_node}
-use Rattle.fx_plain.specs.Contents.{nodes_without, file_count_of, At, Gone}
-use Rattle.fx_plain.specs.Totals.{total}
-use Rattle.fx_plain.specs.declared.node.Node.{Node}
 use Rattle.fx_plain.proofs.Cells.{by_equality}
-use Rattle.fx_plain.proofs.TotalLemmas.{total_set}
 use Rattle.fx_plain.proofs.Writes.{has_file-At}
 use Rattle.fx_plain.proofs.Removals.{other_number}
 
@@ -65,8 +62,8 @@ module _ (first slots : List (Option ℕ)) (s : ℕ) (inside : s < length slots)
   same_filled None = refl
   same_filled (Some n) = refl
 
-  pub full_next : total file_count_of renamed ≡ total file_count_of slots
-  full_next = let changed = total_set file_count_of slots s (opening_slot (slot_at slots s) s) None inside in
+  pub full_next : sum_by file_count_of renamed ≡ sum_by file_count_of slots
+  full_next = let changed = sum_by-set file_count_of slots s (opening_slot (slot_at slots s) s) None inside in
       let same = same_filled (slot_at slots s) in omega arith
 
 -- one node more was appended
@@ -104,10 +101,6 @@ module _ (slots : List (Option ℕ)) (first nodes : List Node) (s : ℕ) (placed
 
 -- a slot that has its own number already
 module _ (slots : List (Option ℕ)) (nodes : List Node) (s : ℕ) (at : slot_at slots s ≡ Some s) where
-  pub slot_settled : slots ≡ slice_set slots s (opening_slot (slot_at slots s) s)
-  slot_settled =
-      sym (ap (λ (x : Option ℕ). slice_set slots s (opening_slot x s)) at ∙ ap (slice_set slots s) (sym at) ∙ set-get_or slots s None)
-
   pub node_settled : (file : Closed) → node_at nodes s ≡ At s file
       → nodes ≡ slice_set (nodes_without nodes (slot_at slots s)) s (moved_node (file_named nodes (slot_at slots s)) s)
   node_settled file named =
@@ -119,9 +112,6 @@ module _ (slots : List (Option ℕ)) (nodes : List Node) (s : ℕ) (at : slot_at
 -- what is named stays where there are more nodes
 module _ (slots : List (Option ℕ)) (old new : List Node) (placed : AllPlaced slots old)
     (kept : (n : ℕ) → IsSome (file_in (node_at old n)) → node_at new n ≡ node_at old n) where
-  pub placed_again : AllPlaced slots new
-  placed_again = λ u n at. let there = placed u n at in (there.0, kept n (has_file-At old n u there.0 there.1) ∙ there.1)
-
   named_again : (u : ℕ) (x : Option ℕ) → slot_at slots u ≡ x → file_named new x ≡ file_named old x
   named_again u None is = refl
   named_again u (Some n) is = let there = placed u n is in ap file_in (kept n (has_file-At old n u there.0 there.1))

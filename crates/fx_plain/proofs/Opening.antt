@@ -1,43 +1,23 @@
 -- The state of a table that was prepared.
-use Rattle.std.proofs.Common.{◌≡◌, ℕ, zero, suc, ◌<◌, ◌≤◌, ◌^◌, Bool, true, false, not, ◌&&◌, nat_lt, List, length}
-use Rattle.std.proofs.Common.{replicate, refl, sym, ap, subst, ◌∙◌, slice_index, Option, Some, None, arith, inl, inr}
-use Rattle.std.proofs.lemmas.List.{length-replicate}
-use Rattle.std.proofs.lemmas.Bool.{cases_lt, lt-ltb, le-ltb}
-use Rattle.std.proofs.Math.ListN.{get_or-eq_default}
-use Rattle.fx_base.specs.declared.open_file.Closed.{Closed}
-use Rattle.fx_plain.specs.State.{IsSettled, opening, file_numbered}
-use Rattle.fx_plain.specs.Contents.{Contents, IsTable, IsCounted, state_of, slot_at, node_at, file_at, placed_at, removed_at, is_fresh, is_retired}
-use Rattle.fx_plain.specs.Contents.{IsRenumbered, KeepsFirst, moved_node, file_named, file_in}
-use Rattle.fx_plain.specs.Contents.{opening_slot, removed_count_of, itself, Fresh, At, Gone}
-use Rattle.fx_plain.specs.declared.node.Node.{Node}
-use Rattle.fx_plain.proofs.Cells.{inside_of}
+use Rattle.fx_plain.proofs.Words.{◌≡◌, ℕ, ◌<◌, ◌≤◌, ◌^◌, Bool, true, false, not, ◌&&◌, List, length, replicate, refl, sym, ap, subst, ◌∙◌}
+use Rattle.fx_plain.proofs.Words.{slice_index, Option, Some, None, arith, inl, inr, length-replicate, cases_lt, get_or-eq_default, Closed, IsSettled}
+use Rattle.fx_plain.proofs.Words.{opening, Contents, IsTable, IsCounted, state_of, slot_at, node_at, file_at, placed_at, removed_at, is_fresh}
+use Rattle.fx_plain.proofs.Words.{is_retired, IsRenumbered, KeepsFirst, moved_node, file_named, file_in, opening_slot, removed_count_of, itself}
+use Rattle.fx_plain.proofs.Words.{Fresh, At, Gone, Node}
+use Rattle.std.proofs.Common.{nat_lt}
+use Rattle.std.proofs.lemmas.Bool.{lt-ltb, le-ltb}
+use Rattle.fx_plain.specs.State.{file_numbered}
+use Rattle.fx_plain.proofs.Cells.{inside_of, read_default}
 use Rattle.fx_plain.proofs.Settled.{no_holds, none_removed}
-use Rattle.fx_plain.proofs.TotalLemmas.{total_nothing, total-replicate}
-
-all_zero : (n k : ℕ) → slice_index (replicate n 0) k ≡ 0
-all_zero zero k = refl
-all_zero (suc n) zero = refl
-all_zero (suc n) (suc k) = all_zero n k
-
-moved_removed : (n slot : ℕ) (x : Option Closed) → removed_at n (moved_node x slot) ≡ None
-moved_removed n slot None = refl
-moved_removed n slot (Some f) = refl
-
-moved_fresh : (slot : ℕ) (x : Option Closed) → is_fresh (moved_node x slot) ≡ false
-moved_fresh slot None = refl
-moved_fresh slot (Some f) = refl
-
-moved_retired : (slot : ℕ) (x : Option Closed) → is_retired (moved_node x slot) ≡ false
-moved_retired slot None = refl
-moved_retired slot (Some f) = refl
+use Rattle.fx_plain.proofs.SumLemmas.{sum_of_nothings, sum_by-replicate}
 
 opening_own : (slot number : ℕ) (x : Option ℕ) → opening_slot x slot ≡ Some number → number ≡ slot
 opening_own slot number None is = cc
 opening_own slot number (Some m) is = cc
 
-moved_opened : (slot : ℕ) (x : Option Closed) → removed_count_of (moved_node x slot) ≡ 0
-moved_opened slot None = refl
-moved_opened slot (Some f) = refl
+moved_is : (P : Node → Type 0) (slot : ℕ) (x : Option Closed) → P Gone → ((f : Closed) → P (At slot f)) → P (moved_node x slot)
+moved_is P slot None gone there = gone
+moved_is P slot (Some f) gone there = there f
 
 module _ (c : Contents) (slots : List (Option ℕ)) (moved nodes : List Node) (numbers : ℕ) (t : IsTable c) (enough : length c.slots ≤ numbers)
     (few : numbers < 2 ^ 32) (r : IsRenumbered c.slots c.nodes slots moved) (first : KeepsFirst moved (length c.slots) numbers nodes) where
@@ -68,11 +48,11 @@ module _ (c : Contents) (slots : List (Option ℕ)) (moved nodes : List Node) (n
   ]
 
   none_waits : (n : ℕ) → removed_at n (node_at nodes n) ≡ None
-  none_waits = each_node (λ n node. removed_at n node ≡ None) (λ n x lt. moved_removed n n x) (λ n ge lt. refl) (λ n ge. refl)
+  none_waits = each_node (λ n node. removed_at n node ≡ None) (λ n x lt. moved_is (λ node. removed_at n node ≡ None) n x refl (λ _. refl)) (λ n ge lt. refl) (λ n ge. refl)
 
   fresh_is : (n : ℕ) → is_fresh (node_at nodes n) ≡ (not (nat_lt n (length c.slots)) && nat_lt n numbers)
   fresh_is = each_node (λ n node. is_fresh node ≡ (not (nat_lt n (length c.slots)) && nat_lt n numbers))
-      (λ n x lt. moved_fresh n x ∙ sym (ap (λ (b : Bool). not b && nat_lt n numbers) (lt-ltb n (length c.slots) lt)))
+      (λ n x lt. moved_is (λ node. is_fresh node ≡ false) n x refl (λ _. refl) ∙ sym (ap (λ (b : Bool). not b && nat_lt n numbers) (lt-ltb n (length c.slots) lt)))
       (λ n ge lt. sym (ap (λ (b : Bool). not b && nat_lt n numbers) (le-ltb n (length c.slots) ge) ∙ lt-ltb n numbers lt))
       (λ n ge. sym (ap (λ (b : Bool × Bool). not b.0 && b.1)
       (λ i. (le-ltb n (length c.slots) (let e = enough in omega arith) i, le-ltb n numbers ge i))))
@@ -99,7 +79,7 @@ module _ (c : Contents) (slots : List (Option ℕ)) (moved nodes : List Node) (n
     range = c.range;
     at = λ u. at_is u i;
     removed = λ n. none_waits n i;
-    holds = λ n. all_zero numbers n i;
+    holds = λ n. read_default numbers n 0 i;
     fresh = λ n. fresh_is n i;
   }
 
@@ -127,17 +107,18 @@ module _ (c : Contents) (slots : List (Option ℕ)) (moved nodes : List Node) (n
     few_nodes = let len = first.size in omega arith;
     same_numbers = length-replicate numbers 0 ∙ sym first.size;
     placed = λ u k is. let inside = slot_inside u k is in named_placed u k inside (slot_at c.slots u) refl (sym (r.named u inside) ∙ is);
-    held = each_node (λ n node. is_retired node ≡ true → 0 < slice_index (replicate numbers 0) n) (λ n x lt is. let e : false ≡ true =
-        sym (moved_retired n x) ∙ is in cc) (λ n ge lt is. cc) (λ n ge is. cc);
+    held = each_node (λ n node. is_retired node ≡ true → 0 < slice_index (replicate numbers 0) n) (λ n x lt.
+        moved_is (λ node. is_retired node ≡ true → 0 < slice_index (replicate numbers 0) n) n x (λ (e : false ≡ true). cc)
+        (λ f (e : false ≡ true). cc)) (λ n ge lt is. cc) (λ n ge is. cc);
   }
 
   prepared_counted : (full held removed : ℕ) → IsCounted c full held removed → IsSettled (state_of c) → IsCounted prepared full held removed
   prepared_counted full held removed k settled = record {
     full_slots = k.full_slots ∙ sym r.same_full;
-    all_holds = no_holds c full held removed k settled ∙ sym (total-replicate itself numbers 0 refl);
-    small_holds = λ n. let z = all_zero numbers n in omega arith;
-    all_removed = none_removed c full held removed k settled ∙ sym (total_nothing removed_count_of nodes Gone refl
-        (each_node (λ n node. removed_count_of node ≡ 0) (λ n x lt. moved_opened n x) (λ n ge lt. refl) (λ n ge. refl)));
+    all_holds = no_holds c full held removed k settled ∙ sym (sum_by-replicate itself numbers 0 refl);
+    small_holds = λ n. let z : slice_index (replicate numbers 0) n ≡ 0 = read_default numbers n 0 in omega arith;
+    all_removed = none_removed c full held removed k settled ∙ sym (sum_of_nothings removed_count_of nodes Gone
+        (each_node (λ n node. removed_count_of node ≡ 0) (λ n x lt. moved_is (λ node. removed_count_of node ≡ 0) n x refl (λ _. refl)) (λ n ge lt. refl) (λ n ge. refl)));
   }
 
   -- the same of a table as its fields are

@@ -1,20 +1,14 @@
 -- A file leaves its slot, and another one may come in its place.
-use Rattle.std.proofs.Common.{◌≡◌, ◌≢◌, ℕ, ◌+◌, ◌-◌, ◌<◌, ◌≤◌, Bool, true, false, if◌then◌else◌, List, length, refl, sym, ap, subst, ◌∙◌}
-use Rattle.std.proofs.Common.{slice_index_or, slice_set, ◌^◌, Option, Some, None, arith}
-use Rattle.std.proofs.lemmas.List.{length-set, get_or-set_same, get_or-set_other, get_or_default}
-use Rattle.fx_base.specs.declared.open_file.Closed.{Closed}
-use Rattle.fx_plain.specs.declared.event.File.{File}
-use Rattle.fx_plain.specs.declared.event.Action.TheVariants.{Put, Take}
-use Rattle.fx_plain.specs.Step.{Steps, changed_at, with_removed}
-use Rattle.fx_plain.specs.Contents.{Contents, IsTable, IsCounted, AllPlaced, state_of, slot_at, node_at, file_at, placed_at, leaving, removed_at}
-use Rattle.fx_plain.specs.Contents.{is_fresh, is_leaving, is_retired, node_after_removal, file_count_of, removed_count_of, Fresh, At, Leaving}
-use Rattle.fx_plain.specs.Contents.{Retired, Gone}
-use Rattle.fx_plain.specs.Table.{numbered, number_of, more_leaving, LetsLeave}
-use Rattle.fx_plain.specs.Totals.{total}
-use Rattle.fx_plain.specs.declared.node.Node.{Node}
-use Rattle.fx_plain.proofs.Cells.{by_equality, written, unchanged}
-use Rattle.fx_plain.proofs.TotalLemmas.{total_set, total_le}
-use Rattle.fx_plain.proofs.Writes.{inside_of-At, inside_of-Fresh, fresh_is}
+use Rattle.fx_plain.proofs.Words.{◌≡◌, ◌≢◌, ℕ, ◌+◌, ◌-◌, ◌<◌, ◌≤◌, Bool, true, false, List, length, refl, sym, ap, subst, ◌∙◌, slice_index_or}
+use Rattle.fx_plain.proofs.Words.{slice_set, ◌^◌, Option, Some, None, arith, length-set, get_or-set_same, get_or-set_other, get_or_default, Closed}
+use Rattle.fx_plain.proofs.Words.{File, Put, Take, changed_at, with_removed, Contents, IsTable, IsCounted, AllPlaced, state_of, slot_at, node_at}
+use Rattle.fx_plain.proofs.Words.{file_at, placed_at, leaving, removed_at, is_fresh, is_leaving, is_retired, node_after_removal, file_count_of}
+use Rattle.fx_plain.proofs.Words.{removed_count_of, At, Gone, numbered, LetsLeave, sum_by, Node, IsSettled, get_or-le-sum_by, sum_by-set}
+use Rattle.fx_plain.specs.Table.{number_of, more_leaving}
+use Rattle.fx_plain.proofs.Cells.{each_set, written, unchanged}
+use Rattle.fx_plain.proofs.SumLemmas.{sum_le}
+use Rattle.fx_plain.proofs.Settled.{not_removed, IsQuiet, quiet_is}
+use Rattle.fx_plain.proofs.Writes.{inside_of-At, inside_told, fresh_is}
 
 abbrev pub removed_of : List Node → ℕ → Option File
 removed_of nodes n = removed_at n (node_at nodes n)
@@ -35,32 +29,25 @@ abbrev pub Names : List Node → Option ℕ → ℕ → Type 0
 Names nodes None slot = Unit {0}
 Names nodes (Some old) slot = (file : Closed) × (node_at nodes old ≡ At slot file)
 
-pub names_at : (c : Contents) (slot : ℕ) (x : Option ℕ) → IsTable c → slot_at c.slots slot ≡ x → Names c.nodes x slot
-names_at c slot None t is = tt
-names_at c slot (Some old) t is = t.placed slot old is
-
 pub removed-gave_way : (nodes : List Node) (x : Option ℕ) (slot : ℕ) → Names nodes x slot
     → removed_of (gave_way nodes x) ≡ with_removed (removed_of nodes) (file_at nodes x)
 removed-gave_way nodes None slot named = refl
 removed-gave_way nodes (Some old) slot named =
     written removed_at nodes old (node_after_removal (node_at nodes old)) Gone (inside_of-At nodes old slot named.0 named.1)
-    ∙ ap (λ (node : Node). changed_at (removed_of nodes) old (removed_at old (node_after_removal node))) named.1
-    ∙ sym (ap (λ (node : Node). with_removed (removed_of nodes) (placed_at old node)) named.1)
+    ∙ rw named.1 refl
 
 pub fresh-gave_way : (nodes : List Node) (x : Option ℕ) (slot : ℕ) → Names nodes x slot → fresh_of (gave_way nodes x) ≡ fresh_of nodes
 fresh-gave_way nodes None slot named = refl
 fresh-gave_way nodes (Some old) slot named =
     written (λ q node. is_fresh node) nodes old (node_after_removal (node_at nodes old)) Gone (inside_of-At nodes old slot named.0 named.1)
-    ∙ unchanged (fresh_of nodes) old (is_fresh (node_after_removal (node_at nodes old)))
-    (ap (λ (node : Node). is_fresh (node_after_removal node)) named.1 ∙ sym (ap is_fresh named.1))
+    ∙ unchanged (fresh_of nodes) old (is_fresh (node_after_removal (node_at nodes old))) (rw named.1 refl)
 
 pub leaving-gave_way : (nodes : List Node) (x : Option ℕ) (slot : ℕ) → Names nodes x slot
     → leaving_of (gave_way nodes x) ≡ more_leaving (leaving_of nodes) (file_at nodes x)
 leaving-gave_way nodes None slot named = refl
 leaving-gave_way nodes (Some old) slot named =
     written (λ q node. is_leaving node) nodes old (node_after_removal (node_at nodes old)) Gone (inside_of-At nodes old slot named.0 named.1)
-    ∙ ap (λ (node : Node). changed_at (leaving_of nodes) old (is_leaving (node_after_removal node))) named.1
-    ∙ sym (ap (λ (node : Node). more_leaving (leaving_of nodes) (placed_at old node)) named.1)
+    ∙ rw named.1 refl
 
 pub length-gave_way : (nodes : List Node) (x : Option ℕ) → length (gave_way nodes x) ≡ length nodes
 length-gave_way nodes None = refl
@@ -73,13 +60,28 @@ node_else nodes (Some old) m other = get_or-set_other nodes old m (node_after_re
 -- a node that is retired was so before
 retired_before : (nodes : List Node) (x : Option ℕ) (slot m : ℕ) → Names nodes x slot → is_retired (node_at (gave_way nodes x) m) ≡ true
     → is_retired (node_at nodes m) ≡ true
-retired_before nodes None slot m named is = is
-retired_before nodes (Some old) slot m named is = by_equality m old (λ _. is_retired (node_at nodes m) ≡ true)
-    (λ same. let e : is_retired (node_after_removal (At slot named.0)) ≡ true =
-    sym (ap is_retired (ap (node_at (gave_way nodes (Some old))) same
-    ∙ get_or-set_same nodes old (node_after_removal (node_at nodes old)) Gone (inside_of-At nodes old slot named.0 named.1)
-    ∙ ap node_after_removal named.1)) ∙ is in cc)
-    (λ other. ap is_retired (sym (get_or-set_other nodes old m (node_after_removal (node_at nodes old)) Gone other)) ∙ is)
+retired_before nodes None slot m named = λ is. is
+retired_before nodes (Some old) slot m named =
+    each_set (λ k x. is_retired x ≡ true → is_retired (node_at nodes k) ≡ true) nodes old (node_after_removal (node_at nodes old)) Gone
+    (inside_of-At nodes old slot named.0 named.1) (rw named.1 (λ (e : false ≡ true). cc)) m (λ _ is. is)
+
+opened_le : (node : Node) → removed_count_of node ≤ 1
+opened_le Gone = omega arith
+opened_le _ = omega arith
+
+filled_le : (x : Option ℕ) → file_count_of x ≤ 1
+filled_le None = omega arith
+filled_le (Some n) = omega arith
+
+-- one removed file more, if there was a file
+opened-gave_way : (nodes : List Node) (x : Option ℕ) (slot : ℕ) → Names nodes x slot
+    → sum_by removed_count_of (gave_way nodes x) ≡ sum_by removed_count_of nodes + file_count_of x
+opened-gave_way nodes None slot named = omega arith
+opened-gave_way nodes (Some old) slot named =
+    let all = sum_by-set removed_count_of nodes old (node_after_removal (node_at nodes old)) Gone (inside_of-At nodes old slot named.0 named.1) in
+    let was : removed_count_of (node_at nodes old) ≡ 0 = ap removed_count_of named.1 in
+    let now : removed_count_of (node_after_removal (node_at nodes old)) ≡ 1 = ap (λ (x : Node). removed_count_of (node_after_removal x)) named.1 in
+    omega arith
 
 -- the number that a slot names is that of the file there
 pub number_at : (c : Contents) (slot : ℕ) (x : Option ℕ) → IsTable c → slot_at c.slots slot ≡ x → x ≡ number_of ((state_of c).at slot)
@@ -90,215 +92,220 @@ number_at c slot (Some n) t is =
 -- two slots name two numbers
 pub other_number : (slots : List (Option ℕ)) (nodes : List Node) (s u m n : ℕ) → AllPlaced slots nodes → u ≢ s → slot_at slots s ≡ Some m
     → slot_at slots u ≡ Some n → n ≢ m
-other_number slots nodes s u m n placed apart at_s at_u = λ (same : n ≡ m).
-    let here = placed s m at_s in
-    let there = placed u n at_u in
-    let e : At u there.0 ≡ At s here.0 = sym there.1 ∙ ap (node_at nodes) same ∙ here.1 in
-    let f : u ≡ s = cc in apart f
+other_number slots nodes s u m n placed apart at_s at_u = grind (arith, placed s m at_s, placed u n at_u)
 
--- a fresh number is another one than a slot's
-pub fresh_number : (c : Contents) (u m n : ℕ) → IsTable c → is_fresh (node_at c.nodes n) ≡ true → slot_at c.slots u ≡ Some m → m ≢ n
-fresh_number c u m n t fresh at_u = λ (same : m ≡ n).
-    let there = t.placed u m at_u in
-    let e : At u there.0 ≡ Fresh = sym there.1 ∙ ap (node_at c.nodes) same ∙ fresh_is _ fresh in cc
+-- a table in which a slot names another number, or none, and the file that it named has left it
+abbrev pub moved_in : Contents → ℕ → Option ℕ → List Node → Contents
+moved_in c slot y nodes = record c { slots = slice_set c.slots slot y; nodes = gave_way nodes (slot_at c.slots slot) }
 
--- another slot's file stays where a slot's file left it
-else_stays : (c : Contents) (slot u : ℕ) → IsTable c → u ≢ slot → (y : Option ℕ) → slot_at c.slots u ≡ y
-    → file_at (gave_way c.nodes (slot_at c.slots slot)) y ≡ file_at c.nodes y
-else_stays c slot u t apart None is = refl
-else_stays c slot u t apart (Some m) is =
-    ap (placed_at m) (node_else c.nodes (slot_at c.slots slot) m (λ old was. other_number c.slots c.nodes slot u old m t.placed apart was is))
+-- where the nodes were before as they were for each slot
+module _ (c : Contents) (slot : ℕ) (y : Option ℕ) (nodes : List Node) (t : IsTable c) (inside : slot < length c.slots)
+    (len : length nodes ≡ length c.nodes) (kept : (u m : ℕ) → slot_at c.slots u ≡ Some m → node_at nodes m ≡ node_at c.nodes m) where
+  abbrev changed : Contents
+  changed = moved_in c slot y nodes
+
+  abbrev old_at : Option ℕ
+  old_at = slot_at c.slots slot
+
+  names : (x : Option ℕ) → slot_at c.slots slot ≡ x → Names nodes x slot
+  names None is = tt
+  names (Some old) is = let there = t.placed slot old is in (there.0, kept slot old is ∙ there.1)
+
+  same_before : (u : ℕ) (x : Option ℕ) → slot_at c.slots u ≡ x → file_at nodes x ≡ file_at c.nodes x
+  same_before u None is = refl
+  same_before u (Some m) is = ap (placed_at m) (kept u m is)
+
+  stays : (u m : ℕ) → u ≢ slot → slot_at c.slots u ≡ Some m → node_at changed.nodes m ≡ node_at c.nodes m
+  stays u m apart at = node_else nodes old_at m (λ old was. other_number c.slots c.nodes slot u old m t.placed apart was at) ∙ kept u m at
+
+  file_stays : (u : ℕ) → u ≢ slot → (x : Option ℕ) → slot_at c.slots u ≡ x → file_at changed.nodes x ≡ file_at c.nodes x
+  file_stays u apart None is = refl
+  file_stays u apart (Some m) is = ap (placed_at m) (stays u m apart is)
+
+  changed_slots : (u : ℕ) → (state_of changed).at u ≡ changed_at (state_of c).at slot (file_at changed.nodes y) u
+  changed_slots u = each_set (λ k x. file_at changed.nodes x ≡ changed_at (state_of c).at slot (file_at changed.nodes y) k) c.slots slot y None inside
+      (grind arith) u (λ apart. file_stays u apart (slot_at c.slots u) refl ∙ grind arith)
+
+  state_of-changed : state_of changed ≡ record (state_of c) {
+    at = changed_at (state_of c).at slot (file_at changed.nodes y);
+    removed = with_removed (removed_of nodes) ((state_of c).at slot);
+    fresh = fresh_of nodes;
+  }
+  state_of-changed = λ i. record (state_of c) {
+    size = length-set c.slots slot y i;
+    at = λ u. changed_slots u i;
+    removed = (removed-gave_way nodes old_at slot (names old_at refl) ∙ ap (with_removed (removed_of nodes)) (same_before slot old_at refl)) i;
+    fresh = fresh-gave_way nodes old_at slot (names old_at refl) i;
+  }
+
+  leaving-changed : leaving changed ≡ more_leaving (leaving_of nodes) ((state_of c).at slot)
+  leaving-changed = leaving-gave_way nodes old_at slot (names old_at refl) ∙ ap (more_leaving (leaving_of nodes)) (same_before slot old_at refl)
+
+  changed_keeps : ((n : ℕ) → y ≡ Some n → (file : Closed) × (node_at changed.nodes n ≡ At slot file) × (n < length c.slots → n ≡ slot))
+      → ((m : ℕ) → m < length c.slots → is_fresh (node_at nodes m) ≡ false)
+      → ((m : ℕ) → is_retired (node_at nodes m) ≡ true → is_retired (node_at c.nodes m) ≡ true) → IsTable changed
+  changed_keeps new used still = let same = length-set c.slots slot y in record {
+    few_slots = rw same t.few_slots;
+    range_inside = rw same t.range_inside;
+    few_nodes = rw (length-gave_way nodes old_at, len) t.few_nodes;
+    same_numbers = t.same_numbers ∙ sym (length-gave_way nodes old_at ∙ len);
+    placed = λ u m. each_set (λ k x. x ≡ Some m → (file : Closed) × (node_at changed.nodes m ≡ At k file)) c.slots slot y None inside
+        (λ is. let now = new m is in (now.0, now.1)) u
+        (λ apart at. let there = t.placed u m at in (there.0, stays u m apart at ∙ there.1));
+    own = λ u m at lt. each_set (λ k x. x ≡ Some m → m ≡ k) c.slots slot y None inside (λ is. (new m is).2 (omega arith)) u
+        (λ apart at. t.own u m at (omega arith)) at;
+    used = λ m lt. ap (λ (f : ℕ → Bool). f m) (fresh-gave_way nodes old_at slot (names old_at refl)) ∙ used m (omega arith);
+    held = λ m is. t.held m (still m (retired_before nodes old_at slot m (names old_at refl) is));
+  }
+
+  changed_counted : (full held removed full' removed' : ℕ) → IsCounted c full held removed
+      → sum_by removed_count_of nodes ≡ sum_by removed_count_of c.nodes → full' + file_count_of old_at ≡ full + file_count_of y
+      → removed' ≡ removed + file_count_of old_at
+      → (removed' < 2 ^ 32) × (full + 1 < 2 ^ 32) × IsCounted changed full' held removed'
+  changed_counted full held removed full' removed' k same full_is removed_is =
+      let slots_total = sum_by-set file_count_of c.slots slot y None inside in
+      let nodes_total = opened-gave_way nodes old_at slot (names old_at refl) in
+      let all = sum_le removed_count_of 1 opened_le changed.nodes in
+      let most = sum_le file_count_of 1 filled_le c.slots in
+      let size = length-gave_way nodes old_at in
+      let few = t.few_nodes in
+      let few_slots = t.few_slots in
+      let f = k.full_slots in
+      let r = k.all_removed in (
+        omega arith,
+        omega arith,
+        record { full_slots = omega arith; all_holds = k.all_holds; small_holds = k.small_holds; all_removed = omega arith },
+      )
 
 -- a table from which the file of a slot was taken
 abbrev pub taken : Contents → ℕ → Contents
-taken c slot = record c { slots = slice_set c.slots slot None; nodes = gave_way c.nodes (slot_at c.slots slot) }
+taken c slot = moved_in c slot None c.nodes
 
-taken_at : (c : Contents) (slot : ℕ) → IsTable c → slot < length c.slots → (u : ℕ)
-    → (state_of (taken c slot)).at u ≡ changed_at (state_of c).at slot None u
-taken_at c slot t inside u =
-    by_equality u slot (λ b. file_at (gave_way c.nodes (slot_at c.slots slot)) (slot_at (slice_set c.slots slot None) u)
-    ≡ (if b then None else (state_of c).at u))
-    (λ same. ap (λ (y : Option ℕ). file_at (gave_way c.nodes (slot_at c.slots slot)) y) (ap (slot_at (slice_set c.slots slot None)) same
-    ∙ get_or-set_same c.slots slot None None inside))
-    (λ apart. ap (λ (y : Option ℕ). file_at (gave_way c.nodes (slot_at c.slots slot)) y) (get_or-set_other c.slots slot u None None apart)
-    ∙ else_stays c slot u t apart (slot_at c.slots u) refl)
+module _ (c : Contents) (slot : ℕ) (t : IsTable c) (inside : slot < length c.slots) where
+  pub take_keeps : IsTable (taken c slot)
+  take_keeps = changed_keeps c slot None c.nodes t inside refl (λ _ _ _. refl) (λ n is. cc) t.used (λ _ is. is)
 
-pub state_of-taken : (c : Contents) (slot : ℕ) → IsTable c → slot < length c.slots
-    → state_of (taken c slot)
-    ≡ record (state_of c) { at = changed_at (state_of c).at slot None; removed = with_removed (state_of c).removed ((state_of c).at slot) }
-state_of-taken c slot t inside = let named = names_at c slot (slot_at c.slots slot) t refl in λ i. record (state_of c) {
-  size = length-set c.slots slot None i;
-  at = λ u. taken_at c slot t inside u i;
-  removed = removed-gave_way c.nodes (slot_at c.slots slot) slot named i;
-  fresh = fresh-gave_way c.nodes (slot_at c.slots slot) slot named i;
-}
+  pub take_removes : (found : Option ℕ) → slot_at c.slots slot ≡ found
+      → LetsLeave c (taken c slot) (Take slot ((state_of c).at slot)) ((state_of c).at slot) found
+  take_removes found at = record {
+    answer = number_at c slot found t at;
+    step = ((inside, refl), state_of-changed c slot None c.nodes t inside refl (λ _ _ _. refl));
+    numbers = refl;
+    sound = take_keeps;
+    leaving = leaving-changed c slot None c.nodes t inside refl (λ _ _ _. refl);
+  }
 
-pub take_steps : (c : Contents) (slot : ℕ) → IsTable c → slot < length c.slots
-    → Steps (state_of c) (Take slot ((state_of c).at slot)) (state_of (taken c slot))
-take_steps c slot t inside = ((inside, refl), state_of-taken c slot t inside)
-
-pub take_leaving : (c : Contents) (slot : ℕ) → IsTable c → leaving (taken c slot) ≡ more_leaving (leaving c) ((state_of c).at slot)
-take_leaving c slot t = leaving-gave_way c.nodes (slot_at c.slots slot) slot (names_at c slot (slot_at c.slots slot) t refl)
-
-pub take_keeps : (c : Contents) (slot : ℕ) → IsTable c → slot < length c.slots → IsTable (taken c slot)
-take_keeps c slot t inside = record {
-  own = λ u n. by_equality u slot (λ _. slot_at (slice_set c.slots slot None) u ≡ Some n → n < length (slice_set c.slots slot None) → n ≡ u)
-      (λ same at lt. let e : slot_at (slice_set c.slots slot None) u ≡ None =
-      ap (slot_at (slice_set c.slots slot None)) same ∙ get_or-set_same c.slots slot None None inside in cc)
-      (λ apart at lt. t.own u n (sym (get_or-set_other c.slots slot u None None apart) ∙ at)
-      (let len = length-set c.slots slot None in omega arith));
-  used = λ n lt. ap (λ (f : ℕ → Bool). f n)
-      (fresh-gave_way c.nodes (slot_at c.slots slot) slot (names_at c slot (slot_at c.slots slot) t refl))
-      ∙ t.used n (let len = length-set c.slots slot None in omega arith);
-  few_slots = rw (length-set c.slots slot None) t.few_slots;
-  range_inside = rw (length-set c.slots slot None) t.range_inside;
-  few_nodes = rw (length-gave_way c.nodes (slot_at c.slots slot)) t.few_nodes;
-  same_numbers = t.same_numbers ∙ sym (length-gave_way c.nodes (slot_at c.slots slot));
-  placed = λ u n. by_equality u slot (λ _. slot_at (slice_set c.slots slot None) u ≡ Some n
-      → (file : Closed) × (node_at (gave_way c.nodes (slot_at c.slots slot)) n ≡ At u file))
-      (λ same at. let e : slot_at (slice_set c.slots slot None) u ≡ None = ap (slot_at (slice_set c.slots slot None)) same
-      ∙ get_or-set_same c.slots slot None None inside in cc)
-      (λ apart at.
-      let at_u : slot_at c.slots u ≡ Some n = sym (get_or-set_other c.slots slot u None None apart) ∙ at in
-      let there = t.placed u n at_u in
-      (there.0, node_else c.nodes (slot_at c.slots slot) n (λ old was. other_number c.slots c.nodes slot u old n t.placed apart was at_u) ∙ there.1));
-  held = λ n is. t.held n (retired_before c.nodes (slot_at c.slots slot) slot n (names_at c slot (slot_at c.slots slot) t refl) is);
-}
-
-pub take_removes : (c : Contents) (slot : ℕ) (found : Option ℕ) → IsTable c → slot < length c.slots → slot_at c.slots slot ≡ found
-    → LetsLeave c (taken c slot) (Take slot ((state_of c).at slot)) ((state_of c).at slot) found
-take_removes c slot found t inside at = record {
-  answer = number_at c slot found t at;
-  step = take_steps c slot t inside;
-  numbers = refl;
-  sound = take_keeps c slot t inside;
-  leaving = take_leaving c slot t;
-}
+  pub taken_counted : (number full held removed : ℕ) → IsCounted c full held removed → slot_at c.slots slot ≡ Some number
+      → (1 ≤ full) × (removed + 1 < 2 ^ 32) × IsCounted (taken c slot) (full - 1) held (removed + 1)
+  taken_counted number full held removed k at =
+      let one : file_count_of (slot_at c.slots slot) ≡ 1 = ap file_count_of at in
+      let some_full : 1 ≤ full = let least = get_or-le-sum_by file_count_of c.slots slot None inside in let f = k.full_slots in omega arith in
+      let all = changed_counted c slot None c.nodes t inside refl (λ _ _ _. refl) full held removed (full - 1) (removed + 1) k refl (omega arith)
+      (omega arith) in (some_full, all.0, all.2)
 
 -- a table in which a file was put at a slot
 abbrev pub put_at : Contents → ℕ → ℕ → Closed → Contents
-put_at c slot n file = record c {
-  slots = slice_set c.slots slot (Some n);
-  nodes =
-      gave_way (slice_set c.nodes n (At slot file)) (slot_at c.slots slot);
+put_at c slot n file = moved_in c slot (Some n) (slice_set c.nodes n (At slot file))
+
+-- the number is none of a slot, and no file waits under it
+pub record IsFree (c : Contents) (slot n : ℕ) : Type 0 where
+  room : n < length c.nodes
+  unnamed : (u m : ℕ) → slot_at c.slots u ≡ Some m → m ≢ n
+  own : n < length c.slots → n ≡ slot
+  quiet : removed_count_of (node_at c.nodes n) ≡ 0
+
+pub fresh_free : (c : Contents) (slot n : ℕ) → IsTable c → is_fresh (node_at c.nodes n) ≡ true → IsFree c slot n
+fresh_free c slot n t fresh = record {
+  room = inside_told is_fresh c.nodes n refl fresh;
+  unnamed = λ u m at same. let there = t.placed u m at in grind (arith, there.1);
+  own = λ lt. let clash : true ≡ false = sym fresh ∙ t.used n lt in cc;
+  quiet = ap removed_count_of (fresh_is _ fresh);
 }
 
-module _ (c : Contents) (slot n : ℕ) (file : Closed) (t : IsTable c) (inside : slot < length c.slots)
-    (fresh : is_fresh (node_at c.nodes n) ≡ true) where
+-- the slot's own number is free where the slot is empty and nothing waits
+pub own_free : (c : Contents) (slot : ℕ) → IsTable c → IsSettled (state_of c) → slot < length c.slots → slot < length c.nodes
+    → slot_at c.slots slot ≡ None → IsFree c slot slot
+own_free c slot t settled inside room empty = record {
+  room = room;
+  unnamed = λ u m at same. let e : slot ≡ u = sym same ∙ t.own u m at (omega arith) in
+      let clash : None ≡ Some m = sym empty ∙ ap (slot_at c.slots) e ∙ at in cc;
+  own = λ _. refl;
+  quiet = not_removed slot (node_at c.nodes slot) (settled.closed slot);
+}
+
+module _ (c : Contents) (slot n : ℕ) (file : Closed) (t : IsTable c) (inside : slot < length c.slots) (free : IsFree c slot n) where
   abbrev with_file : List Node
   with_file = slice_set c.nodes n (At slot file)
 
-  n_inside : n < length c.nodes
-  n_inside = inside_of-Fresh c.nodes n fresh
+  abbrev was_quiet : IsQuiet (node_at c.nodes n)
+  was_quiet = quiet_is (node_at c.nodes n) free.quiet
 
-  pub still_names : (x : Option ℕ) → slot_at c.slots slot ≡ x → Names with_file x slot
-  still_names None is = tt
-  still_names (Some old) is = let there = t.placed slot old is in
-      (there.0, get_or-set_other c.nodes n old (At slot file) Gone (fresh_number c slot old n t fresh is) ∙ there.1)
+  same_len : length with_file ≡ length c.nodes
+  same_len = length-set c.nodes n (At slot file)
 
-  -- a slot's own file stays where the new one is written
-  same_before : (u : ℕ) (y : Option ℕ) → slot_at c.slots u ≡ y → file_at with_file y ≡ file_at c.nodes y
-  same_before u None is = refl
-  same_before u (Some m) is = ap (placed_at m) (get_or-set_other c.nodes n m (At slot file) Gone (fresh_number c u m n t fresh is))
+  same_named : (u m : ℕ) → slot_at c.slots u ≡ Some m → node_at with_file m ≡ node_at c.nodes m
+  same_named u m at = get_or-set_other c.nodes n m (At slot file) Gone (free.unnamed u m at)
 
-  put_else : (u : ℕ) → u ≢ slot → (y : Option ℕ) → slot_at c.slots u ≡ y → file_at (gave_way with_file (slot_at c.slots slot)) y ≡ file_at c.nodes y
-  put_else u apart None is = refl
-  put_else u apart (Some m) is =
-      ap (placed_at m) (node_else with_file (slot_at c.slots slot) m (λ old was. other_number c.slots c.nodes slot u old m t.placed apart was is))
-      ∙ same_before u (Some m) is
+  pub still_names : (old : ℕ) → slot_at c.slots slot ≡ Some old → (f : Closed) × (node_at with_file old ≡ At slot f)
+  still_names old is = let there = t.placed slot old is in (there.0, same_named slot old is ∙ there.1)
 
   put_here : node_at (gave_way with_file (slot_at c.slots slot)) n ≡ At slot file
-  put_here = node_else with_file (slot_at c.slots slot) n (λ old was. λ (same : n ≡ old). fresh_number c slot old n t fresh was (sym same))
-      ∙ get_or-set_same c.nodes n (At slot file) Gone n_inside
+  put_here = node_else with_file (slot_at c.slots slot) n (λ old was same. free.unnamed slot old was (sym same))
+      ∙ get_or-set_same c.nodes n (At slot file) Gone free.room
 
-  put_at_at : (u : ℕ) → (state_of (put_at c slot n file)).at u ≡ changed_at (state_of c).at slot (Some (numbered n file)) u
-  put_at_at u = by_equality u slot
-      (λ b. file_at (gave_way with_file (slot_at c.slots slot)) (slot_at (slice_set c.slots slot (Some n)) u)
-      ≡ (if b then Some (numbered n file) else (state_of c).at u))
-      (λ same. ap (λ (y : Option ℕ). file_at (gave_way with_file (slot_at c.slots slot)) y) (ap (slot_at (slice_set c.slots slot (Some n))) same
-      ∙ get_or-set_same c.slots slot (Some n) None inside) ∙ ap (placed_at n) put_here)
-      (λ apart. ap (λ (y : Option ℕ). file_at (gave_way with_file (slot_at c.slots slot)) y) (get_or-set_other c.slots slot u (Some n) None apart)
-      ∙ put_else u apart (slot_at c.slots u) refl)
-
-  put_removed : removed_of (gave_way with_file (slot_at c.slots slot)) ≡ with_removed (state_of c).removed ((state_of c).at slot)
-  put_removed =
-      removed-gave_way with_file (slot_at c.slots slot) slot (still_names (slot_at c.slots slot) refl)
-      ∙ ap (with_removed (removed_of with_file)) (same_before slot (slot_at c.slots slot) refl)
-      ∙ ap (λ (r : ℕ → Option File). with_removed r ((state_of c).at slot))
-      (written removed_at c.nodes n (At slot file) Gone n_inside ∙ unchanged (state_of c).removed n None (ap (removed_at n) (sym (fresh_is _ fresh))))
-
-  put_fresh : fresh_of (gave_way with_file (slot_at c.slots slot)) ≡ changed_at (state_of c).fresh n false
-  put_fresh = fresh-gave_way with_file (slot_at c.slots slot) slot (still_names (slot_at c.slots slot) refl)
-      ∙ written (λ q node. is_fresh node) c.nodes n (At slot file) Gone n_inside
-
-  pub put_steps : Steps (state_of c) (Put slot (numbered n file) ((state_of c).at slot)) (state_of (put_at c slot n file))
-  put_steps = (
-    (inside, fresh, refl),
-    λ i. record (state_of c) {
-      size = length-set c.slots slot (Some n) i;
-      at = λ u. put_at_at u i;
-      removed = put_removed i;
-      fresh = put_fresh i;
-    },
-  )
-
-  pub put_leaving : leaving (put_at c slot n file) ≡ more_leaving (leaving c) ((state_of c).at slot)
-  put_leaving =
-      leaving-gave_way with_file (slot_at c.slots slot) slot (still_names (slot_at c.slots slot) refl)
-      ∙ ap (more_leaving (leaving_of with_file)) (same_before slot (slot_at c.slots slot) refl)
-      ∙ ap (λ (l : ℕ → Bool). more_leaving l ((state_of c).at slot))
-      (written (λ q node. is_leaving node) c.nodes n (At slot file) Gone n_inside
-      ∙ unchanged (leaving c) n false (ap is_leaving (sym (fresh_is _ fresh))))
-
-  put_retired : (m : ℕ) → is_retired (node_at (gave_way with_file (slot_at c.slots slot)) m) ≡ true → is_retired (node_at c.nodes m) ≡ true
-  put_retired m is =
-      let before : is_retired (node_at with_file m) ≡ true =
-      retired_before with_file (slot_at c.slots slot) slot m (still_names (slot_at c.slots slot) refl) is in
-      by_equality m n (λ _. is_retired (node_at c.nodes m) ≡ true)
-      (λ same. let e : is_retired (At slot file) ≡ true =
-      sym (ap is_retired (ap (node_at with_file) same ∙ get_or-set_same c.nodes n (At slot file) Gone n_inside)) ∙ before in cc)
-      (λ other. ap is_retired (sym (get_or-set_other c.nodes n m (At slot file) Gone other)) ∙ before)
-
-  pub put_keeps : IsTable (put_at c slot n file)
-  put_keeps = record {
-    own = λ u m. by_equality u slot
-        (λ _. slot_at (slice_set c.slots slot (Some n)) u ≡ Some m → m < length (slice_set c.slots slot (Some n)) → m ≡ u)
-        (λ same at lt.
-        let e : Some n ≡ Some m =
-        sym (ap (slot_at (slice_set c.slots slot (Some n))) same ∙ get_or-set_same c.slots slot (Some n) None inside) ∙ at in
-        let is : n ≡ m = cc in
-        let no : true ≡ false = sym fresh ∙ ap (λ (k : ℕ). is_fresh (node_at c.nodes k)) is
-        ∙ t.used m (let len = length-set c.slots slot (Some n) in omega arith) in cc)
-        (λ apart at lt. t.own u m (sym (get_or-set_other c.slots slot u (Some n) None apart) ∙ at)
-        (let len = length-set c.slots slot (Some n) in omega arith));
-    used = λ m lt. ap (λ (f : ℕ → Bool). f m) put_fresh
-        ∙ by_equality m n (λ b. (if b then false else is_fresh (node_at c.nodes m)) ≡ false) (λ _. refl)
-        (λ _. t.used m (let len = length-set c.slots slot (Some n) in omega arith));
-    few_slots = rw (length-set c.slots slot (Some n)) t.few_slots;
-    range_inside = rw (length-set c.slots slot (Some n)) t.range_inside;
-    few_nodes = rw (length-gave_way with_file (slot_at c.slots slot), length-set c.nodes n (At slot file)) t.few_nodes;
-    same_numbers = t.same_numbers ∙ sym (length-gave_way with_file (slot_at c.slots slot) ∙ length-set c.nodes n (At slot file));
-    placed = λ u m. by_equality u slot (λ _. slot_at (slice_set c.slots slot (Some n)) u ≡ Some m
-        → (f : Closed) × (node_at (gave_way with_file (slot_at c.slots slot)) m ≡ At u f))
-        (λ same at.
-        let e : Some n ≡ Some m = sym (ap (slot_at (slice_set c.slots slot (Some n))) same ∙ get_or-set_same c.slots slot (Some n) None inside)
-        ∙ at in
-        let is : n ≡ m = cc in
-        (file, ap (node_at (gave_way with_file (slot_at c.slots slot))) (sym is) ∙ put_here ∙ ap (λ (s : ℕ). At s file) (sym same)))
-        (λ apart at.
-        let at_u : slot_at c.slots u ≡ Some m = sym (get_or-set_other c.slots slot u (Some n) None apart) ∙ at in
-        let there = t.placed u m at_u in (
-          there.0,
-          node_else with_file (slot_at c.slots slot) m (λ old was. other_number c.slots c.nodes slot u old m t.placed apart was at_u)
-              ∙ get_or-set_other c.nodes n m (At slot file) Gone (fresh_number c u m n t fresh at_u) ∙ there.1,
-        ));
-    held = λ m is. t.held m (put_retired m is);
+  -- the state then
+  pub state_of-put : state_of (put_at c slot n file) ≡ record (state_of c) {
+    at = changed_at (state_of c).at slot (Some (numbered n file));
+    removed = with_removed (state_of c).removed ((state_of c).at slot);
+    fresh = changed_at (state_of c).fresh n false;
+  }
+  state_of-put = state_of-changed c slot (Some n) with_file t inside same_len same_named ∙ λ i. record (state_of c) {
+    at = changed_at (state_of c).at slot (placed_at n (put_here i));
+    removed = with_removed ((written removed_at c.nodes n (At slot file) Gone free.room
+        ∙ unchanged (state_of c).removed n None (sym (was_quiet.0 n))) i) ((state_of c).at slot);
+    fresh = written (λ q node. is_fresh node) c.nodes n (At slot file) Gone free.room i;
   }
 
-  pub put_removes : (found : Option ℕ) → slot_at c.slots slot ≡ found
+  pub put_keeps : IsTable (put_at c slot n file)
+  put_keeps = changed_keeps c slot (Some n) with_file t inside same_len same_named
+      (λ m is. let e : n ≡ m = cc in subst (λ (k : ℕ). (f : Closed) × (node_at (put_at c slot n file).nodes k ≡ At slot f)
+      × (k < length c.slots → k ≡ slot)) e (file, put_here, free.own))
+      (λ m lt. each_set (λ _ x. is_fresh x ≡ false) c.nodes n (At slot file) Gone free.room refl m (λ _. t.used m lt))
+      (λ m. each_set (λ k x. is_retired x ≡ true → is_retired (node_at c.nodes k) ≡ true) c.nodes n (At slot file) Gone free.room
+      (λ (is : false ≡ true). cc) m (λ _ is. is))
+
+  pub put_removes : is_fresh (node_at c.nodes n) ≡ true → (found : Option ℕ) → slot_at c.slots slot ≡ found
       → LetsLeave c (put_at c slot n file) (Put slot (numbered n file) ((state_of c).at slot)) ((state_of c).at slot) found
-  put_removes found at =
-      record { answer = number_at c slot found t at; step = put_steps; numbers = refl; sound = put_keeps; leaving = put_leaving }
+  put_removes fresh found at = record {
+    answer = number_at c slot found t at;
+    step = ((inside, fresh, refl), state_of-put);
+    numbers = refl;
+    sound = put_keeps;
+    leaving = leaving-changed c slot (Some n) with_file t inside same_len same_named
+        ∙ ap (λ (l : ℕ → Bool). more_leaving l ((state_of c).at slot)) (written (λ q node. is_leaving node) c.nodes n (At slot file) Gone free.room
+        ∙ unchanged (leaving c) n false (sym was_quiet.1));
+  }
+
+  pub put_counted : (full held removed full' removed' : ℕ) → IsCounted c full held removed
+      → full' + file_count_of (slot_at c.slots slot) ≡ full + 1 → removed' ≡ removed + file_count_of (slot_at c.slots slot)
+      → (removed' < 2 ^ 32) × (full + 1 < 2 ^ 32) × IsCounted (put_at c slot n file) full' held removed'
+  put_counted full held removed full' removed' k full_is removed_is =
+      let quiet = free.quiet in
+      let nodes_total = sum_by-set removed_count_of c.nodes n (At slot file) Gone free.room in
+      changed_counted c slot (Some n) with_file t inside same_len same_named full held removed full' removed' k (omega arith) full_is removed_is
+
+  -- the table as the calls leave it
+  pub as_put_free : (nodes : List Node) → slot_at c.slots slot ≡ None → nodes ≡ with_file
+      → record c { slots = slice_set c.slots slot (Some n); nodes = nodes } ≡ put_at c slot n file
+  as_put_free nodes at is = λ i. record c { slots = slice_set c.slots slot (Some n); nodes = (is ∙ ap (gave_way with_file) (sym at)) i }
+
+  pub as_put_over : (old : ℕ) (named nodes : List Node) → slot_at c.slots slot ≡ Some old → named ≡ with_file
+      → nodes ≡ slice_set named old (node_after_removal (node_at named old))
+      → record c { slots = slice_set c.slots slot (Some n); nodes = nodes } ≡ put_at c slot n file
+  as_put_over old named nodes at named_is is = λ i. record c {
+    slots = slice_set c.slots slot (Some n);
+    nodes = (is ∙ ap (λ (x : List Node). slice_set x old (node_after_removal (node_at x old))) named_is ∙ ap (gave_way with_file) (sym at)) i;
+  }
 
 -- what was read at a slot is there
 pub seen_at : {X : Type 0} (xs : List X) (i : ℕ) (d x y : X) → i < length xs → x ≡ slice_index_or xs i x → x ≡ y → slice_index_or xs i d ≡ y
@@ -309,110 +316,6 @@ pub as_taken : (c : Contents) (slot number : ℕ) (nodes : List Node) → slot_a
     → record c { slots = slice_set c.slots slot None; nodes = nodes } ≡ taken c slot
 as_taken c slot number nodes at is = λ i. record c { slots = slice_set c.slots slot None; nodes = (is ∙ ap (gave_way c.nodes) (sym at)) i }
 
-opened_le : (node : Node) → removed_count_of node ≤ 1
-opened_le Fresh = omega arith
-opened_le (At slot file) = omega arith
-opened_le (Leaving file) = omega arith
-opened_le (Retired file) = omega arith
-opened_le Gone = omega arith
-
-left_opened : (slot : ℕ) (file : Closed) (node : Node) → node ≡ At slot file
-    → (removed_count_of (node_after_removal node) ≡ 1) × (removed_count_of node ≡ 0)
-left_opened slot file node is = (ap (λ (x : Node). removed_count_of (node_after_removal x)) is, ap removed_count_of is)
-
--- the counts of a table from which a file was taken
-pub taken_counted : (c : Contents) (slot number full held removed : ℕ) → IsTable c → IsCounted c full held removed → slot < length c.slots
-    → slot_at c.slots slot ≡ Some number
-    → (1 ≤ full) × (removed + 1 < 2 ^ 32) × IsCounted (taken c slot) (full - 1) held (removed + 1)
-taken_counted c slot number full held removed t n inside at =
-    let named = t.placed slot number at in
-    let n_in = inside_of-At c.nodes number slot named.0 named.1 in
-    let slots_total = total_set file_count_of c.slots slot None None inside in
-    let was : file_count_of (slot_at c.slots slot) ≡ 1 = ap file_count_of at in
-    let nodes_total : total removed_count_of (gave_way c.nodes (slot_at c.slots slot)) + removed_count_of (node_at c.nodes number)
-    ≡ total removed_count_of c.nodes + removed_count_of (node_after_removal (node_at c.nodes number)) =
-    ap (λ (x : Option ℕ). total removed_count_of (gave_way c.nodes x) + removed_count_of (node_at c.nodes number)) at
-    ∙ total_set removed_count_of c.nodes number (node_after_removal (node_at c.nodes number)) Gone n_in in
-    let now = left_opened slot named.0 (node_at c.nodes number) named.1 in
-    let all = total_le removed_count_of 1 opened_le (gave_way c.nodes (slot_at c.slots slot)) in
-    let len = length-gave_way c.nodes (slot_at c.slots slot) in
-    let few = t.few_nodes in
-    let f = n.full_slots in
-    let r = n.all_removed in
-    let one = now.0 in
-    let zero_was = now.1 in (
-      omega arith,
-      omega arith,
-      record { full_slots = omega arith; all_holds = n.all_holds; small_holds = n.small_holds; all_removed = omega arith },
-    )
-
 -- what holds of a table as its fields are holds of it as contracts see it
 pub carried : (P : Contents → Contents → Type 0) {old now new as_called : Contents} → old ≡ now → as_called ≡ new → P old new → P now as_called
 carried P {old} {now} {new} {as_called} seen called holds = subst (λ k. P k as_called) seen (subst (P old) (sym called) holds)
-
-filled_le : (x : Option ℕ) → file_count_of x ≤ 1
-filled_le None = omega arith
-filled_le (Some n) = omega arith
-
--- a table in which a file was put at a slot, as the calls leave it
-module _ (c : Contents) (slot n : ℕ) (file : Closed) (t : IsTable c) (inside : slot < length c.slots)
-    (fresh : is_fresh (node_at c.nodes n) ≡ true) where
-  pub as_put_free : (nodes : List Node) → slot_at c.slots slot ≡ None → nodes ≡ slice_set c.nodes n (At slot file)
-      → record c { slots = slice_set c.slots slot (Some n); nodes = nodes } ≡ put_at c slot n file
-  as_put_free nodes at is =
-      λ i. record c { slots = slice_set c.slots slot (Some n); nodes = (is ∙ ap (gave_way (slice_set c.nodes n (At slot file))) (sym at)) i }
-
-  pub as_put_over : (old : ℕ) (named nodes : List Node) → slot_at c.slots slot ≡ Some old → named ≡ slice_set c.nodes n (At slot file)
-      → nodes ≡ slice_set named old (node_after_removal (node_at named old))
-      → record c { slots = slice_set c.slots slot (Some n); nodes = nodes } ≡ put_at c slot n file
-  as_put_over old named nodes at named_is is = λ i. record c {
-    slots = slice_set c.slots slot (Some n);
-    nodes = (is ∙ ap (λ (x : List Node). slice_set x old (node_after_removal (node_at x old))) named_is
-        ∙ ap (gave_way (slice_set c.nodes n (At slot file))) (sym at)) i;
-  }
-
-  put_opened : total removed_count_of (slice_set c.nodes n (At slot file)) ≡ total removed_count_of c.nodes
-  put_opened =
-      let all = total_set removed_count_of c.nodes n (At slot file) Gone (inside_of-Fresh c.nodes n fresh) in
-      let was : removed_count_of (node_at c.nodes n) ≡ 0 = ap removed_count_of (fresh_is _ fresh) in omega arith
-
-  pub put_free_counted : (full held removed : ℕ) → IsCounted c full held removed → slot_at c.slots slot ≡ None
-      → (full + 1 < 2 ^ 32) × IsCounted (put_at c slot n file) (full + 1) held removed
-  put_free_counted full held removed k at =
-      let slots_total = total_set file_count_of c.slots slot (Some n) None inside in
-      let was : file_count_of (slot_at c.slots slot) ≡ 0 = ap file_count_of at in
-      let most = total_le file_count_of 1 filled_le c.slots in
-      let few = t.few_slots in
-      let f = k.full_slots in
-      let r = k.all_removed in
-      let same = put_opened in
-      let stays : total removed_count_of (gave_way (slice_set c.nodes n (At slot file)) (slot_at c.slots slot))
-      ≡ total removed_count_of (slice_set c.nodes n (At slot file)) =
-      ap (λ (x : Option ℕ). total removed_count_of (gave_way (slice_set c.nodes n (At slot file)) x)) at in
-      (omega arith, record { full_slots = omega arith; all_holds = k.all_holds; small_holds = k.small_holds; all_removed = omega arith })
-
-  pub put_over_counted : (old full held removed : ℕ) → IsCounted c full held removed → slot_at c.slots slot ≡ Some old
-      → (old < length (slice_set c.nodes n (At slot file))) × (removed + 1 < 2 ^ 32) × IsCounted (put_at c slot n file) full held (removed + 1)
-  put_over_counted old full held removed k at =
-      let with_it : List Node = slice_set c.nodes n (At slot file) in
-      let named = still_names c slot n file t inside fresh (Some old) at in
-      let old_in : old < length (slice_set c.nodes n (At slot file)) = inside_of-At (slice_set c.nodes n (At slot file)) old slot named.0 named.1 in
-      let slots_total = total_set file_count_of c.slots slot (Some n) None inside in
-      let was : file_count_of (slot_at c.slots slot) ≡ 1 = ap file_count_of at in
-      let nodes_total = total_set removed_count_of (slice_set c.nodes n (At slot file)) old
-      (node_after_removal (node_at (slice_set c.nodes n (At slot file)) old)) Gone old_in in
-      let now = left_opened slot named.0 (node_at (slice_set c.nodes n (At slot file)) old) named.1 in
-      let stays : total removed_count_of (gave_way (slice_set c.nodes n (At slot file)) (slot_at c.slots slot))
-      ≡ total removed_count_of
-      (slice_set (slice_set c.nodes n (At slot file)) old (node_after_removal (node_at (slice_set c.nodes n (At slot file)) old))) =
-      ap (λ (x : Option ℕ). total removed_count_of (gave_way (slice_set c.nodes n (At slot file)) x)) at in
-      let all = total_le removed_count_of 1 opened_le (gave_way (slice_set c.nodes n (At slot file)) (slot_at c.slots slot)) in
-      let len = length-gave_way (slice_set c.nodes n (At slot file)) (slot_at c.slots slot) in
-      let len2 = length-set c.nodes n (At slot file) in
-      let few = t.few_nodes in
-      let f = k.full_slots in
-      let r = k.all_removed in
-      let same = put_opened in
-      let one = now.0 in
-      let zero_was = now.1 in
-      (old_in, omega arith, record { full_slots = omega arith; all_holds = k.all_holds; small_holds = k.small_holds; all_removed = omega arith })

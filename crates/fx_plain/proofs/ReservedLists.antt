@@ -1,14 +1,9 @@
 -- What stands in a list of which only a beginning is written.
-use Rattle.std.proofs.Common.{take, ◌≡◌, ℕ, zero, suc, ◌+◌, ◌-◌, ◌<◌, ◌≤◌, List, [], ◌∷◌, ◌++◌}
-use Rattle.std.proofs.Common.{length, length-append, replicate, refl, sym, ap, subst, ◌∙◌}
-use Rattle.std.proofs.Common.{slice_index, slice_index_or, slice_set, append_assoc, Option, None, IsSome, arith, inl, inr}
-use Rattle.std.proofs.lemmas.List.{get_or-take, length-set, length-replicate, get_or_append_left, get_or-append-add, set-append_left}
-use Rattle.std.proofs.lemmas.Bool.{cases_lt}
-use Rattle.std.proofs.Math.ListN.{get_or-eq_default}
-use Rattle.fx_base.specs.declared.open_file.Closed.{Closed}
-use Rattle.fx_plain.specs.Contents.{KeepsFirst, node_at, file_in, Fresh, Gone}
-use Rattle.fx_plain.specs.Reserved.{with_rest}
-use Rattle.fx_plain.specs.declared.node.Node.{Node}
+use Rattle.fx_plain.proofs.Words.{◌≡◌, ◌≢◌, ℕ, zero, suc, ◌+◌, ◌-◌, ◌<◌, ◌≤◌, List, [], ◌∷◌, ◌++◌, length, length-append, replicate, refl, sym, ap}
+use Rattle.fx_plain.proofs.Words.{subst, ◌∙◌, slice_index_or, slice_set, append_assoc, IsSome, arith, inl, inr, length-set, length-replicate}
+use Rattle.fx_plain.proofs.Words.{get_or_append_left, cases_lt, get_or-eq_default, node_at, file_in, Fresh, Gone, with_rest, Node}
+use Rattle.std.proofs.lemmas.List.{get_or-take, get_or-append-add, set-append_left}
+use Rattle.std.proofs.lemmas.Grind.{common_steps}
 
 read_replicate : {X : Type 0} (n i : ℕ) (x d : X) → i < n → slice_index_or (replicate n x) i d ≡ x
 read_replicate zero i x d inside = absurd (omega arith)
@@ -50,75 +45,19 @@ module _ {X : Type 0} (rest : X) (len : ℕ) (xs : List X) where
       append_assoc xs (rest ∷ []) (replicate (len - length (xs ++ rest ∷ [])) rest) in
       joined ∙ ap (λ (k : ℕ). xs ++ replicate k rest) same
 
-length-take_le : (n : ℕ) (xs : List Node) → length (take n xs) ≤ n
-length-take_le zero xs = omega arith
-length-take_le (suc n) [] = omega arith
-length-take_le (suc n) (x ∷ xs) = let rest = length-take_le n xs in omega arith
-
-length-take_all : (n : ℕ) (xs : List Node) → length (take n xs) ≤ length xs
-length-take_all zero xs = omega arith
-length-take_all (suc n) [] = omega arith
-length-take_all (suc n) (x ∷ xs) = let rest = length-take_all n xs in omega arith
-
-inside_of-take : (n : ℕ) (xs : List Node) (i : ℕ) → i < n → i < length xs → i < length (take n xs)
-inside_of-take zero xs i lt inside = absurd (omega arith)
-inside_of-take (suc n) [] i lt inside = absurd (omega arith)
-inside_of-take (suc n) (x ∷ xs) zero lt inside = omega arith
-inside_of-take (suc n) (x ∷ xs) (suc i) lt inside = let rest = inside_of-take n xs i (omega arith) (omega arith) in omega arith
-
-none_is_none : (λ (x : Option Closed). IsSome x) None → ⊥
-none_is_none has = cc has
-
-no_file : (node : Node) → file_in node ≡ None → IsSome (file_in node) → ⊥
-no_file node none has = none_is_none (subst (λ (x : Option Closed). IsSome x) none has)
+-- what is read as neither the rest nor the default was written
+inside_written : {X : Type 0} (rest d : X) (len : ℕ) (xs : List X) (n : ℕ) → length xs ≤ len → slice_index_or (with_rest rest len xs) n d ≢ rest
+    → slice_index_or (with_rest rest len xs) n d ≢ d → n < length xs
+inside_written rest d len xs n few no_rest no_default = elim (cases_lt n (length xs)) [
+  | inl lt ↦ lt
+  | inr behind ↦ elim (cases_lt n len) [
+    | inl lt ↦ absurd (no_rest (read_rest rest len xs n d behind lt))
+    | inr past ↦ absurd (no_default (read_behind rest len xs n d few past))
+  ]
+]
 
 -- a node with a file was written
 pub written_inside : (len : ℕ) (xs : List Node) (n : ℕ) → length xs ≤ len → IsSome (file_in (node_at (with_rest Fresh len xs) n)) → n < length xs
-written_inside len xs n few has = elim (cases_lt n (length xs)) [
-  | inl lt ↦ lt
-  | inr behind ↦ elim (cases_lt n len) [
-    | inl lt ↦ absurd (no_file Fresh refl (subst (λ (node : Node). IsSome (file_in node)) (read_rest Fresh len xs n Gone behind lt) has))
-    | inr past ↦ absurd (no_file Gone refl (subst (λ (node : Node). IsSome (file_in node)) (read_behind Fresh len xs n Gone few past) has))
-  ]
-]
-
--- and a number with a hold
-pub held_inside : (len : ℕ) (xs : List ℕ) (n : ℕ) → length xs ≤ len → 0 < slice_index (with_rest 0 len xs) n → n < length xs
-held_inside len xs n few has = elim (cases_lt n (length xs)) [
-  | inl lt ↦ lt
-  | inr behind ↦ elim (cases_lt n len) [
-    | inl lt ↦ let zero_is : slice_index (with_rest 0 len xs) n ≡ 0 = read_rest 0 len xs n 0 behind lt in absurd (omega arith)
-    | inr past ↦ let zero_is : slice_index (with_rest 0 len xs) n ≡ 0 = read_behind 0 len xs n 0 few past in absurd (omega arith)
-  ]
-]
-
--- a list of which a beginning is written keeps it
-pub new_keeps : (xs : List Node) (len : ℕ) → length xs ≤ len → KeepsFirst xs (length xs) len (with_rest Fresh len xs)
-new_keeps xs len few = record {
-  size = length-with_rest Fresh len xs few;
-  same = λ n lt. read_written Fresh len xs n Gone lt;
-  fresh = λ n ge lt. read_rest Fresh len xs n Gone ge lt;
-}
-
--- and keeps less of it, where the end was taken off
-pub cut_keeps : (xs : List Node) (was kept len : ℕ) → length xs ≤ was → kept ≤ len → len ≤ was
-    → KeepsFirst (with_rest Fresh was xs) kept len (with_rest Fresh len (take kept xs))
-cut_keeps xs was kept len few inside less =
-    let cut : length (take kept xs) ≤ kept = length-take_le kept xs in
-    let size : length (take kept xs) ≤ len = omega arith in record {
-      size = length-with_rest Fresh len (take kept xs) size;
-      same = λ n lt. elim (cases_lt n (length xs)) [
-        | inl there ↦ read_written Fresh len (take kept xs) n Gone (inside_of-take kept xs n lt there)
-            ∙ get_or-take kept xs n Gone lt ∙ sym (read_written Fresh was xs n Gone there)
-        | inr behind ↦ read_rest Fresh len (take kept xs) n Gone (let all = length-take_all kept xs in omega arith) (omega arith)
-            ∙ sym (read_rest Fresh was xs n Gone behind (omega arith))
-      ];
-      fresh = λ n ge lt. read_rest Fresh len (take kept xs) n Gone (omega arith) lt;
-    }
-
--- a node with a file stays where there is room for more
-pub extended_keeps : (xs : List Node) (was len n : ℕ) → length xs ≤ was → IsSome (file_in (node_at (with_rest Fresh was xs) n))
-    → node_at (with_rest Fresh len xs) n ≡ node_at (with_rest Fresh was xs) n
-extended_keeps xs was len n few has =
-    let inside = written_inside was xs n few has in
-    read_written Fresh len xs n Gone inside ∙ sym (read_written Fresh was xs n Gone inside)
+written_inside len xs n few has = inside_written Fresh Gone len xs n few
+    (λ is. let none : IsSome (file_in Fresh) = subst (λ (node : Node). IsSome (file_in node)) is has in cc none)
+    (λ is. let none : IsSome (file_in Gone) = subst (λ (node : Node). IsSome (file_in node)) is has in cc none)

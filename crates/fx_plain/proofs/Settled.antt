@@ -1,55 +1,49 @@
 -- What the counts of a table say of its state.
-use Rattle.std.proofs.Common.{◌≡◌, ℕ, zero, suc, ◌+◌, ◌<◌, ◌≤◌, ◌^◌, true, false, List, [], ◌∷◌, length, length-append, replicate, refl, sym, ap}
-use Rattle.std.proofs.Common.{subst, ◌∙◌, Option, Some, None, IsSome, IfSome, arith}
-use Rattle.fx_plain.specs.State.{State, IsSettled, files_in_order, files_of, identities_of}
-use Rattle.fx_plain.specs.Contents.{Contents, IsTable, IsCounted, state_of, slot_at, node_at, file_at, placed_at, removed_at, file_count_of}
-use Rattle.fx_plain.specs.Contents.{removed_count_of, itself, Fresh, At, Leaving, Retired, Gone}
-use Rattle.fx_plain.specs.Totals.{total}
-use Rattle.fx_plain.specs.Table.{HasRoomForHold}
-use Rattle.fx_plain.specs.declared.event.File.{File}
-use Rattle.fx_plain.specs.declared.node.Node.{Node}
-use Rattle.fx_plain.proofs.TotalLemmas.{total_nothing, nothing_of-total, total-replicate}
+use Rattle.fx_plain.proofs.Words.{◌≡◌, ℕ, zero, suc, ◌+◌, ◌<◌, ◌≤◌, ◌^◌, true, false, List, [], ◌∷◌, length, length-append, replicate, refl, sym, ap}
+use Rattle.fx_plain.proofs.Words.{subst, ◌∙◌, Option, Some, None, IsSome, IfSome, arith, State, IsSettled, files_in_order, files_of, identities_of}
+use Rattle.fx_plain.proofs.Words.{Contents, IsTable, IsCounted, state_of, slot_at, node_at, file_at, placed_at, removed_at, is_leaving, is_retired}
+use Rattle.fx_plain.proofs.Words.{file_count_of, removed_count_of, itself, Fresh, Leaving, Retired, Gone, sum_by, HasRoomForHold, File, Node}
+use Rattle.fx_plain.proofs.Words.{sum_by-cons}
+use Rattle.fx_plain.proofs.Sums.{sum_below}
+use Rattle.fx_plain.proofs.Cells.{read_default}
+use Rattle.fx_plain.proofs.SumLemmas.{sum_of_nothings, nothing_in_sum, sum_by-replicate}
 
-not_opened : (n : ℕ) (node : Node) → removed_count_of node ≡ 0 → removed_at n node ≡ None
-not_opened n Fresh is = refl
-not_opened n (At slot file) is = refl
-not_opened n (Leaving file) is = absurd (omega arith)
-not_opened n (Retired file) is = absurd (omega arith)
-not_opened n Gone is = refl
+-- a node of which no removed file is told
+abbrev pub IsQuiet : Node → Type 0
+IsQuiet node = ((number : ℕ) → removed_at number node ≡ None) × (is_leaving node ≡ false) × (is_retired node ≡ false)
+
+pub quiet_is : (node : Node) → removed_count_of node ≡ 0 → IsQuiet node
+quiet_is Fresh none = (λ _. refl, refl, refl)
+quiet_is (Leaving file) none = absurd (omega arith)
+quiet_is (Retired file) none = absurd (omega arith)
+quiet_is _ none = (λ _. refl, refl, refl)
 
 pub not_removed : (n : ℕ) (node : Node) → removed_at n node ≡ None → removed_count_of node ≡ 0
 not_removed n Fresh is = refl
-not_removed n (At slot file) is = refl
-not_removed n (Leaving file) is = cc
-not_removed n (Retired file) is = cc
-not_removed n Gone is = refl
+not_removed n _ is = cc
 
 -- a table without holds and removed files is settled
 pub settled_by_counts : (c : Contents) (full held removed : ℕ) → IsCounted c full held removed → held ≡ 0 → removed ≡ 0 → IsSettled (state_of c)
 settled_by_counts c full held removed k no_holds none_removed = record {
-  unheld = λ n. nothing_of-total itself c.holds 0 refl (sym k.all_holds ∙ no_holds) n;
-  closed = λ n. not_opened n (node_at c.nodes n) (nothing_of-total removed_count_of c.nodes Gone refl (sym k.all_removed ∙ none_removed) n);
+  unheld = λ n. nothing_in_sum itself c.holds 0 refl (sym k.all_holds ∙ no_holds) n;
+  closed = λ n. (quiet_is (node_at c.nodes n) (nothing_in_sum removed_count_of c.nodes Gone refl (sym k.all_removed ∙ none_removed) n)).0 n;
 }
 
 pub no_holds : (c : Contents) (full held removed : ℕ) → IsCounted c full held removed → IsSettled (state_of c) → held ≡ 0
-no_holds c full held removed k s = k.all_holds ∙ total_nothing itself c.holds 0 refl s.unheld
+no_holds c full held removed k s = k.all_holds ∙ sum_of_nothings itself c.holds 0 s.unheld
 
 pub none_removed : (c : Contents) (full held removed : ℕ) → IsCounted c full held removed → IsSettled (state_of c) → removed ≡ 0
 none_removed c full held removed k s = k.all_removed
-    ∙ total_nothing removed_count_of c.nodes Gone refl (λ n. not_removed n (node_at c.nodes n) (s.closed n))
+    ∙ sum_of_nothings removed_count_of c.nodes Gone (λ n. not_removed n (node_at c.nodes n) (s.closed n))
 
--- the sum of the first so many
-abbrev upto : (ℕ → ℕ) → ℕ → ℕ
-upto f zero = 0
-upto f (suc n) = upto f n + f n
-
-upto_front : (f : ℕ → ℕ) (n : ℕ) → upto f (suc n) ≡ f 0 + upto (λ i. f (suc i)) n
+upto_front : (f : ℕ → ℕ) (n : ℕ) → sum_below f (suc n) ≡ f 0 + sum_below (λ i. f (suc i)) n
 upto_front f zero = omega arith
 upto_front f (suc n) = let rest = upto_front f n in omega arith
 
-total_upto : (xs : List (Option ℕ)) → total file_count_of xs ≡ upto (λ i. file_count_of (slot_at xs i)) (length xs)
+total_upto : (xs : List (Option ℕ)) → sum_by file_count_of xs ≡ sum_below (λ i. file_count_of (slot_at xs i)) (length xs)
 total_upto [] = refl
-total_upto (x ∷ xs) = let rest = total_upto xs in let front = upto_front (λ i. file_count_of (slot_at (x ∷ xs) i)) (length xs) in omega arith
+total_upto (x ∷ xs) = let rest = total_upto xs in
+    let front = upto_front (λ i. file_count_of (slot_at (x ∷ xs) i)) (length xs) in omega (arith, sum_by-cons file_count_of x xs)
 
 -- what a slot names stands there
 one_file : (c : Contents) (slot : ℕ) → IsTable c → (x : Option ℕ) → slot_at c.slots slot ≡ x
@@ -57,7 +51,7 @@ one_file : (c : Contents) (slot : ℕ) → IsTable c → (x : Option ℕ) → sl
 one_file c slot t None is = refl
 one_file c slot t (Some n) is = ap (λ (node : Node). length (identities_of (placed_at n node))) (t.placed slot n is).1
 
-files_upto : (c : Contents) → IsTable c → (n : ℕ) → length (files_in_order (state_of c).at n) ≡ upto (λ i. file_count_of (slot_at c.slots i)) n
+files_upto : (c : Contents) → IsTable c → (n : ℕ) → length (files_in_order (state_of c).at n) ≡ sum_below (λ i. file_count_of (slot_at c.slots i)) n
 files_upto c t zero = refl
 files_upto c t (suc n) =
     let rest = files_upto c t n in
@@ -65,13 +59,8 @@ files_upto c t (suc n) =
     let both = length-append (files_in_order (state_of c).at n) (identities_of ((state_of c).at n)) in omega arith
 
 -- the files of a table are as many as its full slots
-pub length-files_of : (c : Contents) → IsTable c → length (files_of (state_of c)) ≡ total file_count_of c.slots
+pub length-files_of : (c : Contents) → IsTable c → length (files_of (state_of c)) ≡ sum_by file_count_of c.slots
 length-files_of c t = files_upto c t (length c.slots) ∙ sym (total_upto c.slots)
-
-pub slot_at-replicate : (n i : ℕ) → slot_at (replicate n None) i ≡ None
-slot_at-replicate zero i = refl
-slot_at-replicate (suc n) zero = refl
-slot_at-replicate (suc n) (suc i) = slot_at-replicate n i
 
 -- a table of empty slots
 pub sparse_keeps : (slots : List (Option ℕ)) (n : ℕ) (nodes : List Node) (holds : List ℕ) → slots ≡ replicate n None → n ≤ 256 → nodes ≡ []
@@ -87,13 +76,13 @@ sparse_keeps slots n nodes holds slots_are few no_nodes no_hold len =
         range_inside = let l : length (replicate n None) ≡ n = sym (ap length slots_are) ∙ len in omega arith;
         few_nodes = omega arith;
         same_numbers = refl;
-        placed = λ slot number is. let e : Some number ≡ None = sym is ∙ slot_at-replicate n slot in cc;
-        own = λ slot number is lt. let e : Some number ≡ None = sym is ∙ slot_at-replicate n slot in cc;
+        placed = λ slot number is. let e : Some number ≡ None = sym is ∙ read_default n slot None in cc;
+        own = λ slot number is lt. let e : Some number ≡ None = sym is ∙ read_default n slot None in cc;
         used = λ number lt. refl;
         held = λ number is. let e : false ≡ true = is in cc;
       },
       record {
-        full_slots = sym (total-replicate file_count_of n None refl);
+        full_slots = sym (sum_by-replicate file_count_of n None refl);
         all_holds = refl;
         small_holds = λ number. omega arith;
         all_removed =

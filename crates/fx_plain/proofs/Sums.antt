@@ -1,6 +1,5 @@
 -- Sums of a function over the numbers below a bound.
-use Rattle.std.proofs.Common.{◌≡◌, ◌≢◌, ℕ, zero, suc, ◌+◌, ◌<◌, ◌≤◌, refl, ap, arith, inl, inr}
-use Rattle.std.proofs.lemmas.Bool.{cases_lt}
+use Rattle.fx_plain.proofs.Words.{◌≡◌, ◌≢◌, ℕ, zero, suc, ◌+◌, ◌<◌, ◌≤◌, refl, ap, arith, inl, inr, cases_lt}
 use Rattle.fx_plain.proofs.Cells.{by_equality}
 
 abbrev pub sum_below : (ℕ → ℕ) → ℕ → ℕ

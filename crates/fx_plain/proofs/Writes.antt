@@ -1,28 +1,16 @@
 -- What is read of a table after one of its lists was written at one place.
-use Rattle.std.proofs.Common.{◌≡◌, ◌≢◌, ℕ, ◌<◌, true, List, length, refl, sym, ap, ◌∙◌, slice_set, subst, IsSome, Option, Some, None}
-use Rattle.std.proofs.lemmas.List.{get_or-set_other}
-use Rattle.fx_base.specs.declared.open_file.Closed.{Closed}
-use Rattle.fx_plain.specs.Step.{changed_at}
-use Rattle.fx_plain.specs.Contents.{Contents, IsTable, state_of, slot_at, node_at, file_at, placed_at, leaving, removed_at, is_fresh, is_leaving}
-use Rattle.fx_plain.specs.Contents.{is_retired, file_in, Fresh, At, Leaving, Retired, Gone}
-use Rattle.fx_plain.specs.declared.node.Node.{Node}
+use Rattle.fx_plain.proofs.Words.{◌≡◌, ◌≢◌, ℕ, ◌<◌, Bool, true, false, List, length, refl, sym, ap, ◌∙◌, slice_set, subst, IsSome, Option, Some}
+use Rattle.fx_plain.proofs.Words.{None, get_or-set_other, Closed, changed_at, Contents, IsTable, state_of, slot_at, node_at, file_at, placed_at}
+use Rattle.fx_plain.proofs.Words.{leaving, removed_at, is_fresh, is_leaving, is_retired, file_in, Fresh, At, Leaving, Retired, Gone, Node}
 use Rattle.fx_plain.proofs.Cells.{written, inside_of}
 
 -- a node that isn't gone is one of the table's
 pub inside_of-At : (nodes : List Node) (n slot : ℕ) (file : Closed) → node_at nodes n ≡ At slot file → n < length nodes
 inside_of-At nodes n slot file is = inside_of nodes n Gone (λ (gone : node_at nodes n ≡ Gone). cc)
 
-pub inside_of-Fresh : (nodes : List Node) (n : ℕ) → is_fresh (node_at nodes n) ≡ true → n < length nodes
-inside_of-Fresh nodes n fresh =
-    inside_of nodes n Gone (λ (gone : node_at nodes n ≡ Gone). let e : is_fresh Gone ≡ true = ap is_fresh (sym gone) ∙ fresh in cc)
-
-pub inside_of-Leaving : (nodes : List Node) (n : ℕ) → is_leaving (node_at nodes n) ≡ true → n < length nodes
-inside_of-Leaving nodes n going =
-    inside_of nodes n Gone (λ (gone : node_at nodes n ≡ Gone). let e : is_leaving Gone ≡ true = ap is_leaving (sym gone) ∙ going in cc)
-
-pub inside_of-Retired : (nodes : List Node) (n : ℕ) → is_retired (node_at nodes n) ≡ true → n < length nodes
-inside_of-Retired nodes n going =
-    inside_of nodes n Gone (λ (gone : node_at nodes n ≡ Gone). let e : is_retired Gone ≡ true = ap is_retired (sym gone) ∙ going in cc)
+pub inside_told : (told : Node → Bool) (nodes : List Node) (n : ℕ) → told Gone ≡ false → told (node_at nodes n) ≡ true → n < length nodes
+inside_told told nodes n none is = inside_of nodes n Gone (λ (gone : node_at nodes n ≡ Gone).
+    let e : false ≡ true = sym none ∙ ap told (sym gone) ∙ is in cc)
 
 -- a node has a file, at a slot or removed
 pub has_file-At : (nodes : List Node) (n slot : ℕ) (file : Closed) → node_at nodes n ≡ At slot file → IsSome (file_in (node_at nodes n))
@@ -31,30 +19,23 @@ has_file-At nodes n slot file is = subst (λ (node : Node). IsSome (file_in node
 -- a node by what is told of it
 pub fresh_is : (node : Node) → is_fresh node ≡ true → node ≡ Fresh
 fresh_is Fresh e = refl
-fresh_is (At slot file) e = cc
-fresh_is (Leaving file) e = cc
-fresh_is (Retired file) e = cc
-fresh_is Gone e = cc
+fresh_is _ e = cc
 
 pub leaving_is : (node : Node) → is_leaving node ≡ true → (file : Closed) × (node ≡ Leaving file)
-leaving_is Fresh e = cc
-leaving_is (At slot file) e = cc
 leaving_is (Leaving file) e = (file, refl)
-leaving_is (Retired file) e = cc
-leaving_is Gone e = cc
+leaving_is _ e = cc
 
 pub retired_is : (node : Node) → is_retired node ≡ true → (file : Closed) × (node ≡ Retired file)
-retired_is Fresh e = cc
-retired_is (At slot file) e = cc
-retired_is (Leaving file) e = cc
 retired_is (Retired file) e = (file, refl)
-retired_is Gone e = cc
+retired_is _ e = cc
 
 pub has_file-leaving : (node : Node) → is_leaving node ≡ true → IsSome (file_in node)
-has_file-leaving node going = let l = leaving_is node going in subst (λ (x : Node). IsSome (file_in x)) (sym l.1) refl
+has_file-leaving (Leaving file) going = refl
+has_file-leaving _ going = cc
 
 pub has_file-retired : (node : Node) → is_retired node ≡ true → IsSome (file_in node)
-has_file-retired node going = let l = retired_is node going in subst (λ (x : Node). IsSome (file_in x)) (sym l.1) refl
+has_file-retired (Retired file) going = refl
+has_file-retired _ going = cc
 
 -- no slot names the number of a node that isn't at a slot
 abbrev pub IsOff : Node → Type 0

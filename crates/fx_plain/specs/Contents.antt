@@ -1,10 +1,9 @@
 -- What contracts see of a table: lists. `state_of` is its state, `leaving` says which removed files wait for their
 -- retirement, and `numbers_of` how many numbers were prepared.
 use Rattle.std.specs.Prelude.{◌≡◌, ℕ, ◌+◌, ◌<◌, ◌≤◌, ◌^◌, Bool, true, false, List, length, Option, Some, None, slice_index, slice_index_or, slice_set}
-use Rattle.std.specs.Prelude.{nat_lt, if◌then◌else◌}
+use Rattle.std.specs.Prelude.{nat_lt, if◌then◌else◌, sum_by}
 use Rattle.fx_base.specs.declared.open_file.Closed.{Closed}
 use Rattle.fx_plain.specs.State.{State}
-use Rattle.fx_plain.specs.Totals.{total}
 use Rattle.fx_plain.specs.declared.event.File.{File}
 use Rattle.fx_plain.specs.declared.table.TheConstants.{MOST_SLOTS}
 use Rattle.fx_plain.specs.declared.node.Node.{Node}
@@ -111,10 +110,10 @@ itself n = n
 
 -- the counts that a table keeps beside its lists: full slots, holds, and removed files
 pub record IsCounted (c : Contents) (full held removed : ℕ) : Type 0 where
-  pub full_slots : full ≡ total file_count_of c.slots
-  pub all_holds : held ≡ total itself c.holds
+  pub full_slots : full ≡ sum_by file_count_of c.slots
+  pub all_holds : held ≡ sum_by itself c.holds
   pub small_holds : (number : ℕ) → slice_index c.holds number < 2 ^ 32
-  pub all_removed : removed ≡ total removed_count_of c.nodes
+  pub all_removed : removed ≡ sum_by removed_count_of c.nodes
 
 -- a node whose file left its slot
 abbrev pub node_after_removal : Node → Node
@@ -159,7 +158,7 @@ pub record IsRenumbered (slots : List (Option ℕ)) (nodes : List Node) (new : L
   pub same_size : length new ≡ length slots
   pub named : (slot : ℕ) → slot < length slots → slot_at new slot ≡ opening_slot (slot_at slots slot) slot
   pub filed : (slot : ℕ) → slot < length slots → node_at moved slot ≡ moved_node (file_named nodes (slot_at slots slot)) slot
-  pub same_full : total file_count_of new ≡ total file_count_of slots
+  pub same_full : sum_by file_count_of new ≡ sum_by file_count_of slots
 
 -- the first nodes are kept, and those behind them are fresh
 pub record KeepsFirst (old : List Node) (kept len : ℕ) (new : List Node) : Type 0 where

@@ -1,7 +1,6 @@
 pub mod State
 pub mod Step
 pub mod History
-pub mod Totals
 pub mod Reserved
 pub mod Contents
 pub mod Table

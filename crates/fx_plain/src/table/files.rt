@@ -1,8 +1,7 @@
 //! How the files of a table go elsewhere, and come back (this project's own).
-ghost use Rattle.std.specs.Prelude.{◌≡◌, ◌+◌, ◌<◌, ◌≤◌, ◌↔◌, ◌++◌, ℕ, length, IsTrue, IfSome, IsSome, Some, None, vec_len, vec_capacity};
+ghost use Rattle.std.specs.Prelude.{◌≡◌, ◌+◌, ◌<◌, ◌≤◌, ◌↔◌, ◌++◌, ℕ, length, IsTrue, IfSome, IsSome, Some, None, vec_len, vec_capacity, sum_by};
 ghost use Rattle.fx_plain.specs.State.{IsSettled};
 ghost use Rattle.fx_plain.specs.Step.{changed_at};
-ghost use Rattle.fx_plain.specs.Totals.{total};
 ghost use Rattle.fx_plain.specs.Contents.{state_of, numbers_of, IsPrepared, IsTable, slot_at, node_at, file_at, file_in, file_named, nodes_without, removed_count_of, AllPlaced, SameButPlaced};
 ghost use Rattle.fx_plain.specs.Table.{numbered, slots_in_order};
 
@@ -79,7 +78,7 @@ fn take_each(slots: &Vec<Option<u32>>, nodes: &mut NodeList, files: &mut Vec<Opt
     ensures len { length nodes.new ≡ length nodes.old }
     ensures nodes { (number : ℕ)
         → SameButPlaced (node_at nodes.old number) (node_at nodes.new number) }
-    ensures removed { total removed_count_of nodes.new ≡ total removed_count_of nodes.old }
+    ensures removed { sum_by removed_count_of nodes.new ≡ sum_by removed_count_of nodes.old }
 {
     for slot in 0..slots.len() {
         files.push_reserved(take_named(slots[slot], nodes));

@@ -1,9 +1,8 @@
 //! How a table is prepared for passes, emptied and given up.
-ghost use Rattle.std.specs.Prelude.{◌≡◌, ◌≤◌, ◌<◌, ◌+◌, ℕ, [], ◌++◌, ◌-◌, ◌^◌, ◌∷◌, length, OnOk, OnErr, IfOk, IfSome, IsSome, Some, vec_len, vec_capacity, slice_set};
+ghost use Rattle.std.specs.Prelude.{◌≡◌, ◌≤◌, ◌<◌, ◌+◌, ℕ, [], ◌++◌, ◌-◌, ◌^◌, ◌∷◌, length, OnOk, OnErr, IfOk, IfSome, IsSome, Some, vec_len, vec_capacity, slice_set, sum_by};
 ghost use Rattle.std.specs.Option.{option_to_list};
 ghost use Rattle.fx_base.specs.declared.open_file.Closed.{Closed};
 ghost use Rattle.fx_plain.specs.State.{vacant, opening, IsSettled, files_of, files_in_order};
-ghost use Rattle.fx_plain.specs.Totals.{total};
 ghost use Rattle.fx_plain.specs.Contents.{state_of, numbers_of, IsTable, IsPrepared, slot_at, node_at, moved_node, file_in, file_named, nodes_without, opening_slot, file_at, AllPlaced, HaveOwnNumbers, IsRenumbered, SameButPlaced, removed_count_of, At};
 
 use crate::hold_list::HoldList;
@@ -197,7 +196,7 @@ fn close_all(slots: &Vec<Option<u32>>, nodes: &mut NodeList, closes: &mut CloseL
     ensures len { length nodes.new ≡ length nodes.old }
     ensures nodes { (number : ℕ)
         → SameButPlaced (node_at nodes.old number) (node_at nodes.new number) }
-    ensures removed { total removed_count_of nodes.new ≡ total removed_count_of nodes.old }
+    ensures removed { sum_by removed_count_of nodes.new ≡ sum_by removed_count_of nodes.old }
 {
     for slot in 0..slots.len() {
         close_file(slots[slot], nodes, closes);

@@ -1,7 +1,4 @@
-use Rattle.std.proofs.Common.{ap, arith, length, length-append, ◌∷◌, []}
-use Rattle.std.specs.Prelude.{Option, None}
-use Rattle.fx_base.specs.declared.open_file.Closed.{Closed}
-use Rattle.fx_plain.specs.Contents.{state_of}
+use Rattle.fx_counted.proofs.Words.{ap, arith, length, length-append, ◌∷◌, [], Option, None, Closed, state_of}
 use Rattle.fx_counted.proofs.FirstHomes.{all_taken, count_taken, files_taken, none_behind, all_homes}
 use Rattle.fx_counted.proofs.open.first_homes.Goals as goal
 

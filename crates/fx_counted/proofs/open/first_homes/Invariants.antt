@@ -1,5 +1,4 @@
-use Rattle.std.proofs.Common.{◌≡◌, ◌≤◌, length, vec_capacity}
-use Rattle.fx_plain.specs.Contents.{state_of}
+use Rattle.fx_counted.proofs.Words.{◌≡◌, ◌≤◌, length, vec_capacity, state_of}
 use Rattle.fx_counted.proofs.FirstHomes.{AreHomesUpTo}
 use Rattle.fx_counted.proofs.open.first_homes.Given as goal
 

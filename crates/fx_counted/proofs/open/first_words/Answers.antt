@@ -1,7 +1,6 @@
-use Rattle.std.proofs.Common.{◌≡◌, ◌<◌, ℕ, ◌+◌, List, Vec, Global, sym, ap, ◌∙◌, refl, subst, arith, replicate, set}
-use Rattle.fx_plain.specs.Contents.{state_of}
-use Rattle.fx_words.specs.Words.{slot_word_of, born}
-use Rattle.fx_counted.specs.Layout.{words_for, slot_place, control_place}
+use Rattle.fx_counted.proofs.Words.{◌≡◌, ◌<◌, ℕ, ◌+◌, List, sym, ap, ◌∙◌, refl, subst, arith, replicate, set, state_of, slot_word_of, born}
+use Rattle.fx_counted.proofs.Words.{words_for, slot_place, control_place}
+use Rattle.std.proofs.Common.{Vec, Global}
 use Rattle.fx_counted.proofs.FirstWords.{AreWordsSoFar, none_so_far, none_more, one_more, all_written, none_told, some_told}
 use Rattle.fx_counted.proofs.Places.{low_node}
 use Rattle.fx_counted.proofs.open.first_words.Goals.{in-Some, in_default}

@@ -1,4 +1,4 @@
-use Rattle.fx_plain.specs.Contents.{state_of}
+use Rattle.fx_counted.proofs.Words.{state_of}
 use Rattle.fx_counted.proofs.FirstWords.{AreWordsSoFar}
 use Rattle.fx_counted.proofs.open.first_words.Given as goal
 

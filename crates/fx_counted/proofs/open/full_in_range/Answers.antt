@@ -1,7 +1,4 @@
-use Rattle.std.proofs.Common.{◌≡◌, ◌-◌, ℕ, ap, ◌∙◌, arith}
-use Rattle.fx_plain.specs.Contents.{state_of}
-use Rattle.fx_counted.specs.Control.{full_in}
-use Rattle.fx_counted.specs.Firsts.{first_at}
+use Rattle.fx_counted.proofs.Words.{◌≡◌, ◌-◌, ℕ, ap, ◌∙◌, arith, state_of, full_in, first_at}
 use Rattle.fx_counted.proofs.FirstWords.{full_if_some, empty_if_none, one_counted}
 use Rattle.fx_counted.proofs.open.full_in_range.Goals.{then-is_some, else-is_some}
 use Rattle.fx_counted.proofs.open.full_in_range.Goals as goal

@@ -1,7 +1,4 @@
-use Rattle.std.proofs.Common.{◌≡◌, ◌≤◌, ◌+◌, ◌-◌}
-use Rattle.fx_plain.specs.Contents.{state_of}
-use Rattle.fx_counted.specs.Control.{full_in}
-use Rattle.fx_counted.specs.Firsts.{first_at}
+use Rattle.fx_counted.proofs.Words.{◌≡◌, ◌≤◌, ◌+◌, ◌-◌, state_of, full_in, first_at}
 use Rattle.fx_counted.proofs.open.full_in_range.Given as goal
 
 -- the full slots of the range so far

@@ -1,11 +1,6 @@
-use Rattle.std.proofs.Common.{◌≡◌, ◌<◌, ◌≤◌, ◌+◌, ℕ, length, List, [], ◌∷◌, ◌++◌, refl, sym, ap, ◌∙◌, subst, arith, length-append}
-use Rattle.std.specs.Prelude.{Option, Some, None}
-use mathlib.Core.Logic.{dite}
-use native.Mathlib.Decide.{dec_le}
-use Rattle.fx_base.specs.declared.open_file.Closed.{Closed}
-use Rattle.fx_plain.specs.Contents.{state_of}
-use Rattle.fx_counted.specs.Shells.{file_in_place}
-use Rattle.fx_counted.proofs.Shells.{IsPartlyBack, GetsFile, file_put, last_place, place_before, all_away, all_back, none_last, one_last}
+use Rattle.fx_counted.proofs.Words.{◌≡◌, ◌<◌, ◌≤◌, ◌+◌, ℕ, length, List, [], ◌∷◌, ◌++◌, refl, sym, ap, ◌∙◌, subst, arith, length-append, Option}
+use Rattle.fx_counted.proofs.Words.{Some, None, dite, dec_le, Closed, state_of, file_in_place}
+use Rattle.fx_counted.proofs.Shells.{IsPartlyBack, Becomes, file_put, last_place, place_before, all_away, all_back, last_back, none_given}
 use Rattle.fx_counted.proofs.shell.put_all.Goals as goal
 
 pub loop-file-init : goal.loop-file-init
@@ -88,9 +83,9 @@ loop-file-preserved-in-Some-file c =
     let here : c.len-slot.result ≡ length now = omega (arith, len, ok) in
     let a = state_of c.args.plain.now in
     record {
-      part = one_last a (file_in_place all) (state_of c.loop-file.plain) (state_of c.put_back.new.self) 0 (length now)
-          c.in-Some-file.file (at ∙ c.in-Some-file.is)
-          (subst (λ (n : ℕ). GetsFile (state_of c.loop-file.plain) n c.in-Some-file.file (state_of c.put_back.new.self)) here
+      part = last_back a (file_in_place all) (state_of c.loop-file.plain) (state_of c.put_back.new.self) 0 (length now)
+          (subst (λ (z : ℕ × Option Closed). Becomes (state_of c.loop-file.plain) z.0 z.1 (state_of c.put_back.new.self))
+          (λ j. (here j, sym (at ∙ c.in-Some-file.is) j))
           (file_put _ _ c.len-slot.result c.in-Some-file.file i.part.settled c.put_back.ensures.state))
           (subst (λ (n : ℕ). IsPartlyBack a (file_in_place all) 0 n (state_of c.loop-file.plain)) more i.part);
       prepared = c.put_back.ensures.prepared;
@@ -106,9 +101,11 @@ loop-file-preserved c =
     let more = one_less all c.loop-file.places.items now c.in-Some.file e i.items in
     let at = last_is all c.loop-file.places.items now c.in-Some.file e i.items in
     let a = state_of c.args.plain.now in
+    let before = subst (λ (n : ℕ). IsPartlyBack a (file_in_place all) 0 n (state_of c.loop-file.plain)) more i.part in
     record {
-      part = none_last a (file_in_place all) (state_of c.loop-file.plain) 0 (length now) (at ∙ c.in_default-file.is) (omega arith)
-          (subst (λ (n : ℕ). IsPartlyBack a (file_in_place all) 0 n (state_of c.loop-file.plain)) more i.part);
+      part = last_back a (file_in_place all) (state_of c.loop-file.plain) (state_of c.loop-file.plain) 0 (length now)
+          (none_given a (file_in_place all) (state_of c.loop-file.plain) (length now) 0 (length now + 1) (omega arith) (omega arith)
+          (at ∙ c.in_default-file.is) before) before;
       prepared = i.prepared;
       items = same_before all c.loop-file.places.items now c.in-Some.file e i.items;
     }

@@ -1,6 +1,4 @@
-use Rattle.std.proofs.Common.{◌≡◌, ◌<◌, ℕ, length}
-use Rattle.fx_plain.specs.Contents.{state_of, IsPrepared}
-use Rattle.fx_counted.specs.Shells.{file_in_place}
+use Rattle.fx_counted.proofs.Words.{◌≡◌, ◌<◌, ℕ, length, state_of, IsPrepared, file_in_place}
 use Rattle.fx_counted.proofs.Shells.{IsPartlyBack}
 use Rattle.fx_counted.proofs.shell.put_all.Given as goal
 

@@ -1,6 +1,4 @@
-use Rattle.std.proofs.Common.{rules, ap, ◌∙◌, arith}
-use Rattle.fx_plain.specs.Contents.{Fresh}
-use Rattle.fx_plain.specs.Reserved.{with_rest}
+use Rattle.fx_plain.proofs.Words.{rules, ap, ◌∙◌, arith, Fresh, with_rest}
 use Rattle.fx_plain.proofs.ReservedLists.{with_rest-push}
 use Rattle.fx_plain.proofs.node_list.write_up_to.Goals as goal
 

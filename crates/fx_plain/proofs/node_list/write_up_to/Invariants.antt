@@ -1,6 +1,5 @@
-use Rattle.std.proofs.Common.{◌≡◌, ◌≤◌, ◌<◌, ℕ, vec_len, vec_capacity}
-use Rattle.fx_plain.specs.Contents.{Fresh}
-use Rattle.fx_plain.specs.Reserved.{with_rest}
+use Rattle.fx_plain.proofs.Words.{◌≡◌, ◌≤◌, ◌<◌, ℕ, Fresh, with_rest}
+use Rattle.std.proofs.Common.{vec_len, vec_capacity}
 use Rattle.fx_plain.proofs.node_list.write_up_to.Given as goal
 
 abbrev pub invariant-loop : goal.invariant-loop

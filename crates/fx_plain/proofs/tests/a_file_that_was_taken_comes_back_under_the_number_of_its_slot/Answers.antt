@@ -1,5 +1,4 @@
-use Rattle.std.proofs.Common.{ap}
-use Rattle.fx_plain.specs.State.{State}
+use Rattle.fx_plain.proofs.Words.{ap, State}
 use Rattle.fx_plain.proofs.tests.a_file_that_was_taken_comes_back_under_the_number_of_its_slot.Goals as goal
 
 pub put_back-requires-clause-empty : goal.put_back-requires-clause-empty

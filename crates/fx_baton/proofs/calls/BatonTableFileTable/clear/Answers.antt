@@ -1,6 +1,4 @@
-use Rattle.fx_plain.specs.Contents.{state_of}
-use Rattle.fx_baton.specs.Rule.{opening_of}
-use Rattle.fx_baton.specs.Passes.{view_of}
+use Rattle.fx_baton.proofs.Words.{state_of, opening_of, view_of}
 use Rattle.fx_baton.proofs.Calling.{may_lend, lent_as, still_has, flag_is, slot_inside, clear_called, cleared_so}
 use Rattle.fx_baton.proofs.calls.BatonTableFileTable.clear.Goals as goal
 

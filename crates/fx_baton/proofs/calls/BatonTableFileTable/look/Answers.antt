@@ -1,11 +1,4 @@
-use Rattle.std.proofs.Common.{sym, ◌∙◌, arith}
-use Rattle.std.specs.Prelude.{[]}
-use Rattle.fx_plain.specs.Contents.{state_of}
-use Rattle.fx_plain.specs.History.{◌▷◌}
-use Rattle.fx_plain.specs.declared.event.Action.TheVariants.{Look}
-use Rattle.fx_table.specs.Calls.{Adds, one_look}
-use Rattle.fx_baton.specs.Rule.{opening_of}
-use Rattle.fx_baton.specs.Passes.{view_of}
+use Rattle.fx_baton.proofs.Words.{sym, ◌∙◌, arith, [], state_of, ◌▷◌, Look, Adds, one_look, opening_of, view_of}
 use Rattle.fx_baton.proofs.Calling.{may_lend, lent_as, still_has, flag_is, slot_inside, room_for, look_called, looked_empty, looked_file}
 use Rattle.fx_baton.proofs.calls.BatonTableFileTable.look.Goals as goal
 

@@ -1,14 +1,5 @@
-use Rattle.std.proofs.Common.{ℕ, sym, subst}
-use Rattle.std.specs.Prelude.{[]}
-use Rattle.fx_base.specs.declared.open_file.Closed.{Closed}
-use Rattle.fx_plain.specs.Contents.{state_of}
-use Rattle.fx_plain.specs.History.{◌▷◌}
-use Rattle.fx_plain.specs.Table.{numbered, LetsLeave}
-use Rattle.fx_plain.specs.declared.event.Action.TheVariants.{Put}
-use Rattle.fx_table.specs.Calls.{Adds, one_number}
-use Rattle.fx_baton.specs.Rule.{opening_of}
-use Rattle.fx_baton.specs.Turns.{retires_now}
-use Rattle.fx_baton.specs.Passes.{view_of}
+use Rattle.fx_baton.proofs.Words.{ℕ, sym, subst, [], Closed, state_of, ◌▷◌, numbered, LetsLeave, Put, Adds, one_number, opening_of, retires_now}
+use Rattle.fx_baton.proofs.Words.{view_of}
 use Rattle.fx_baton.proofs.Calling.{may_lend, lent_as, still_has, flag_is, slot_inside, number_fresh, put_called, placed_so}
 use Rattle.fx_baton.proofs.calls.BatonTableFileTable.put.Goals as goal
 

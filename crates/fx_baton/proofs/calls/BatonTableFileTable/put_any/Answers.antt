@@ -1,15 +1,5 @@
-use Rattle.std.proofs.Common.{ℕ, ◌<◌, sym, subst}
-use Rattle.std.specs.Prelude.{[]}
-use Rattle.fx_base.specs.declared.open_file.Closed.{Closed}
-use Rattle.fx_plain.specs.Step.{Steps}
-use Rattle.fx_plain.specs.Contents.{state_of}
-use Rattle.fx_plain.specs.History.{◌▷◌}
-use Rattle.fx_plain.specs.Table.{numbered}
-use Rattle.fx_plain.specs.declared.event.Action.TheVariants.{Allocate}
-use Rattle.fx_table.specs.Calls.{Adds, one_number}
-use Rattle.fx_table.specs.declared.values.Doing.TheVariants.{Idle}
-use Rattle.fx_baton.specs.Rule.{opening_of}
-use Rattle.fx_baton.specs.Passes.{view_of}
+use Rattle.fx_baton.proofs.Words.{ℕ, ◌<◌, sym, subst, [], Closed, Steps, state_of, ◌▷◌, numbered, Allocate, Adds, one_number, Idle, opening_of}
+use Rattle.fx_baton.proofs.Words.{view_of}
 use Rattle.fx_baton.proofs.Calling.{may_lend, lent_as, still_has, size_is, number_fresh, allocate_called, full_called}
 use Rattle.fx_baton.proofs.calls.BatonTableFileTable.put_any.Goals as goal
 

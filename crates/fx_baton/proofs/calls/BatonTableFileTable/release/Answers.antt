@@ -1,9 +1,5 @@
-use Rattle.std.proofs.Common.{◌≡◌, ℕ, ◌<◌, ap, subst, sym}
-use Rattle.fx_plain.specs.Contents.{state_of}
-use Rattle.fx_plain.specs.Table.{identity_of, closed_by_release, EndsHold}
+use Rattle.fx_baton.proofs.Words.{◌≡◌, ℕ, ◌<◌, ap, subst, sym, state_of, identity_of, closed_by_release, EndsHold, opening_of, view_of}
 use Rattle.fx_table.specs.declared.values.Hold.{Hold}
-use Rattle.fx_baton.specs.Rule.{opening_of}
-use Rattle.fx_baton.specs.Passes.{view_of}
 use Rattle.fx_baton.proofs.Calling.{may_lend, lent_as, still_has, holds_some, release_called, releases_so}
 use Rattle.fx_baton.proofs.calls.BatonTableFileTable.release.Goals as goal
 

@@ -1,11 +1,6 @@
-use Rattle.std.proofs.Common.{◌≡◌, ℕ, ap, subst, sym, true, false}
-use Rattle.fx_plain.specs.Step.{changed_at}
-use Rattle.fx_plain.specs.Contents.{state_of, leaving}
-use Rattle.fx_plain.specs.History.{Leads, close_of}
-use Rattle.fx_plain.specs.Table.{identity_of, closed_by_retirement}
+use Rattle.fx_baton.proofs.Words.{◌≡◌, ℕ, ap, subst, sym, true, false, changed_at, state_of, leaving, Leads, close_of, identity_of}
+use Rattle.fx_baton.proofs.Words.{closed_by_retirement, opening_of, view_of}
 use Rattle.fx_table.specs.declared.values.Retired.{Retired}
-use Rattle.fx_baton.specs.Rule.{opening_of}
-use Rattle.fx_baton.specs.Passes.{view_of}
 use Rattle.fx_baton.proofs.Calling.{may_lend, lent_as, still_has, leaves_now, retire_called, retires_so}
 use Rattle.fx_baton.proofs.calls.BatonTableFileTable.retire.Goals as goal
 

@@ -1,11 +1,4 @@
-use Rattle.std.proofs.Common.{sym, ◌∙◌}
-use Rattle.std.specs.Prelude.{[]}
-use Rattle.fx_plain.specs.Contents.{state_of}
-use Rattle.fx_plain.specs.History.{◌▷◌}
-use Rattle.fx_plain.specs.declared.event.Action.TheVariants.{Take}
-use Rattle.fx_table.specs.Calls.{Adds, no_use}
-use Rattle.fx_baton.specs.Rule.{opening_of}
-use Rattle.fx_baton.specs.Passes.{view_of}
+use Rattle.fx_baton.proofs.Words.{sym, ◌∙◌, [], state_of, ◌▷◌, Take, Adds, no_use, opening_of, view_of}
 use Rattle.fx_baton.proofs.Calling.{may_lend, lent_as, still_has, flag_is, slot_inside, take_called, removed_none, removed_some}
 use Rattle.fx_baton.proofs.calls.BatonTableFileTable.take.Goals as goal
 

@@ -1,11 +1,6 @@
-use Rattle.std.proofs.Common.{◌≡◌, List, [], ◌∷◌, ◌++◌, map, reverse, sym, ◌∙◌, ap, subst, arith}
+use Rattle.fx_baton.proofs.Words.{◌≡◌, List, [], ◌∷◌, ◌++◌, map, reverse, sym, ◌∙◌, ap, subst, arith, All-contains, ClosesTable, BatonPass}
+use Rattle.fx_baton.proofs.Words.{opening_of, view_of, IsPassOf, logs_in}
 use Rattle.std.proofs.lemmas.List.{reverse-append}
-use Rattle.std.proofs.lemmas.List.Elements.{All-contains}
-use Rattle.fx_table.specs.Closing.{ClosesTable}
-use Rattle.fx_baton.specs.declared.pass.BatonPass.{BatonPass}
-use Rattle.fx_baton.specs.Rule.{opening_of}
-use Rattle.fx_baton.specs.Passes.{view_of, IsPassOf}
-use Rattle.fx_baton.specs.Lives.{logs_in}
 use Rattle.fx_baton.proofs.Closing.{at_home, closes}
 use Rattle.fx_baton.proofs.table.BatonTable.close_all.Goals as goal
 

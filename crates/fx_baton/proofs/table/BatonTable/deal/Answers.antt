@@ -1,11 +1,5 @@
-use Rattle.std.proofs.Common.{◌≡◌, ◌+◌, ◌-◌, ◌≤◌, List, [], ◌∷◌, sym, ◌∙◌, ap, subst, arith, length, length-append}
-use Rattle.std.specs.Prelude.{All}
-use Rattle.std.proofs.lemmas.List.Elements.{All-push}
-use Rattle.fx_table.specs.Pass.{new_passes}
-use Rattle.fx_baton.specs.declared.view.View.{View}
-use Rattle.fx_baton.specs.declared.pass.BatonPass.{BatonPass}
-use Rattle.fx_baton.specs.Rule.{Seated, view_without_first, view_of_first}
-use Rattle.fx_baton.specs.Passes.{IsPassOf}
+use Rattle.fx_baton.proofs.Words.{◌≡◌, ◌+◌, ◌-◌, ◌≤◌, List, [], ◌∷◌, sym, ◌∙◌, ap, subst, arith, length, length-append, All, All-push, new_passes}
+use Rattle.fx_baton.proofs.Words.{View, BatonPass, Seated, view_without_first, view_of_first, IsPassOf}
 use Rattle.fx_baton.proofs.Dealing.{rest_is_dealt, last_is_dealt, is_pass, is_new, one_more_view}
 use Rattle.fx_baton.proofs.SeatsKeepRule.{may_split}
 use Rattle.fx_baton.proofs.table.BatonTable.deal.Goals as goal

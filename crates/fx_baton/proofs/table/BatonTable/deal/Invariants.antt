@@ -1,7 +1,4 @@
-use Rattle.std.proofs.Common.{◌≡◌, ◌≤◌, ◌+◌, ◌-◌, length, map, All, vec_capacity, []}
-use Rattle.fx_table.specs.Pass.{new_passes}
-use Rattle.fx_baton.specs.Passes.{view_of, IsPassOf}
-use Rattle.fx_baton.specs.Lives.{dealt}
+use Rattle.fx_baton.proofs.Words.{◌≡◌, ◌≤◌, ◌+◌, ◌-◌, length, map, All, vec_capacity, [], new_passes, view_of, IsPassOf, dealt}
 use Rattle.fx_baton.proofs.table.BatonTable.deal.Given as goal
 
 abbrev pub invariant-loop-number : goal.invariant-loop-number

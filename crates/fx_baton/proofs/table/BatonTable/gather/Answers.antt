@@ -1,8 +1,4 @@
-use Rattle.std.proofs.Common.{List, sym, subst, arith}
-use Rattle.std.specs.Prelude.{Contains}
-use Rattle.std.proofs.lemmas.List.Elements.{All-contains, Contains-push}
-use Rattle.fx_baton.specs.declared.pass.BatonPass.{BatonPass}
-use Rattle.fx_baton.specs.Lives.{IsIdleSeatOf}
+use Rattle.fx_baton.proofs.Words.{List, sym, subst, arith, Contains, All-contains, Contains-push, BatonPass, IsIdleSeatOf}
 use Rattle.fx_baton.proofs.SeatsKeepRule.{may_join}
 use Rattle.fx_baton.proofs.table.BatonTable.gather.Goals as goal
 

@@ -1,5 +1,4 @@
-use Rattle.std.proofs.Common.{◌≡◌, ◌++◌, length, All, reverse}
-use Rattle.fx_baton.specs.Lives.{IsIdleSeatOf, logs_in}
+use Rattle.fx_baton.proofs.Words.{◌≡◌, ◌++◌, length, All, reverse, IsIdleSeatOf, logs_in}
 use Rattle.fx_baton.proofs.table.BatonTable.gather.Given as goal
 
 abbrev pub invariant-loop-pass : goal.invariant-loop-pass

@@ -1,4 +1,4 @@
-use Rattle.std.proofs.Common.{ap, arith}
+use Rattle.fx_baton.proofs.Words.{ap, arith}
 use Rattle.fx_baton.proofs.GiveKeepsRule.{may_store}
 use Rattle.fx_baton.proofs.table.BatonTable.give.Goals as goal
 

@@ -1,7 +1,4 @@
-use Rattle.std.proofs.Common.{◌∙◌, ap, subst, arith, ⊎_elim}
-use mathlib.Core.Option.{none}
-use Rattle.atomic_table.specs.Table.{step}
-use Rattle.fx_baton.specs.Rule.{Seated, Grabs}
+use Rattle.fx_baton.proofs.Words.{◌∙◌, ap, subst, arith, ⊎_elim, none, step, Seated, Grabs}
 use Rattle.fx_baton.proofs.GrabKeepsRule.{may_exchange}
 use Rattle.fx_baton.proofs.table.BatonTable.grab.Goals as goal
 

@@ -1,4 +1,4 @@
-use Rattle.std.proofs.Common.{◌≡◌}
+use Rattle.fx_baton.proofs.Words.{◌≡◌}
 use Rattle.fx_baton.proofs.table.BatonTable.grab.Given as goal
 
 abbrev pub invariant-loop : goal.invariant-loop

@@ -1,8 +1,4 @@
-use Rattle.std.proofs.Common.{◌≡◌, sym, ◌∙◌, ap}
-use Rattle.std.specs.Prelude.{◌++◌, ◌∷◌, []}
-use Rattle.fx_plain.specs.State.{opening}
-use Rattle.fx_plain.specs.Contents.{Contents, state_of}
-use Rattle.fx_table.specs.Numbers.{numbers_for}
+use Rattle.fx_baton.proofs.Words.{◌≡◌, sym, ◌∙◌, ap, ◌++◌, ◌∷◌, [], opening, Contents, state_of, numbers_for}
 use Rattle.fx_baton.proofs.OpeningKeepsRule.{opens, back_prepared, only_one}
 use Rattle.fx_baton.proofs.table.BatonTable.start.Goals as goal
 

@@ -1,4 +1,4 @@
-use Rattle.std.proofs.Common.{refl, arith}
+use Rattle.fx_counted.proofs.Words.{refl, arith}
 use Rattle.fx_counted.proofs.Telling.{begins_by}
 use Rattle.fx_counted.proofs.table.CountedTable.begin.Goals as goal
 

@@ -1,16 +1,9 @@
-use Rattle.std.proofs.Common.{◌≡◌, List, [], ◌∷◌, ◌++◌, reverse, sym, ◌∙◌, ap, subst, arith}
-use Rattle.std.specs.Prelude.{Option, Contains}
+use Rattle.fx_counted.proofs.Words.{◌≡◌, List, [], ◌∷◌, ◌++◌, reverse, sym, ◌∙◌, ap, subst, arith, Option, Contains, All-contains}
+use Rattle.fx_counted.proofs.Words.{Contains-append_left, Seat, Closed, IsIdleSeatOf, logs_in, view_of, CountedPass, CountedTable, View}
 use Rattle.std.proofs.lemmas.List.{reverse-append}
-use Rattle.std.proofs.lemmas.List.Elements.{All-contains, Contains-append_left}
-use Rattle.atomic_table.specs.declared.shared.Seat.{Seat}
-use Rattle.fx_base.specs.declared.open_file.Closed.{Closed}
 use Rattle.fx_table.proofs.Members.{each_all}
 use Rattle.fx_table.specs.Pass.{IsIdle}
-use Rattle.fx_counted.specs.Lives.{IsIdleSeatOf, logs_in}
-use Rattle.fx_counted.specs.Tables.{view_of, IsPassOfTable}
-use Rattle.fx_counted.specs.declared.pass.CountedPass.{CountedPass}
-use Rattle.fx_counted.specs.declared.table.CountedTable.{CountedTable}
-use Rattle.fx_counted.specs.declared.view.View.{View}
+use Rattle.fx_counted.specs.Tables.{IsPassOfTable}
 use Rattle.fx_counted.proofs.Gathered.{all_idle, closes}
 use Rattle.fx_counted.proofs.Going.{idle_work}
 use Rattle.fx_counted.proofs.table.CountedTable.close.Goals as goal

@@ -1,7 +1,4 @@
-use Rattle.std.proofs.Common.{◌≡◌, ◌≤◌, ◌+◌, ◌-◌, length, map, All, vec_capacity, []}
-use Rattle.fx_table.specs.Pass.{new_passes}
-use Rattle.fx_counted.specs.Lives.{dealt}
-use Rattle.fx_counted.specs.Tables.{view_of, IsPassOf}
+use Rattle.fx_counted.proofs.Words.{◌≡◌, ◌≤◌, ◌+◌, ◌-◌, length, map, All, vec_capacity, [], new_passes, dealt, view_of, IsPassOf}
 use Rattle.fx_counted.proofs.table.CountedTable.deal.Given as goal
 
 abbrev pub invariant-loop-number : goal.invariant-loop-number

@@ -1,8 +1,6 @@
-use Rattle.std.proofs.Common.{Bool, refl, ap, ◌∙◌, subst, arith}
+use Rattle.fx_counted.proofs.Words.{Bool, refl, ap, ◌∙◌, subst, arith, end_amount_of, HasToTell}
 use Rattle.std.proofs.lemmas.Int.{to_z-of_z}
 use mir.Syntax.{w32}
-use Rattle.fx_words.specs.Words.{end_amount_of}
-use Rattle.fx_counted.specs.Changing.{HasToTell}
 use Rattle.fx_counted.proofs.Telling.{ends_by}
 use Rattle.fx_counted.proofs.table.CountedTable.end.Goals as goal
 

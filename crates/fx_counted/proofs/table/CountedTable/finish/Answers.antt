@@ -1,12 +1,5 @@
-use Rattle.std.proofs.Common.{◌≡◌, ◌+◌, ℕ, List, sym, ap, ◌∙◌, subst, arith}
-use Rattle.std.specs.Prelude.{Option, Some, None}
-use mathlib.Core.Option.{some, some-injective}
-use lib.ListN.{get_elem?}
-use Rattle.std.specs.Mem.Slots.{slots_items, slots_len, IsFull}
-use Rattle.fx_base.specs.declared.open_file.Closed.{Closed}
-use Rattle.fx_plain.specs.Contents.{Contents, IsPrepared, state_of}
-use Rattle.fx_words.specs.Words.{node_in}
-use Rattle.fx_counted.specs.Layout.{slot_place}
+use Rattle.fx_counted.proofs.Words.{◌≡◌, ◌+◌, ℕ, List, sym, ap, ◌∙◌, subst, arith, Option, Some, None, some, some-injective, get_elem?, slots_items}
+use Rattle.fx_counted.proofs.Words.{slots_len, IsFull, Closed, Contents, IsPrepared, state_of, node_in, slot_place}
 use Rattle.fx_counted.proofs.Finishing.{word_at_place, home_at_end, known_at_end, leaves_at_end}
 use Rattle.fx_counted.proofs.Finishing.{some_back, none_back, none_named, place_emptied, none_emptied}
 use Rattle.fx_counted.proofs.HomeComing.{number_at, file_at, emptied, all_gone}

@@ -1,7 +1,6 @@
-use Rattle.std.proofs.Common.{◌≡◌, ◌<◌, ℕ, false, get_or}
-use Rattle.std.specs.Mem.Slots.{slots_items, slots_filled, slots_len, IsFull}
+use Rattle.fx_counted.proofs.Words.{◌≡◌, ◌<◌, ℕ, false, get_or, slots_items, slots_len, IsFull, state_of, IsPrepared}
+use Rattle.std.specs.Mem.Slots.{slots_filled}
 use Rattle.std.specs.Mem.Slots.Ownership.{Filled}
-use Rattle.fx_plain.specs.Contents.{state_of, IsPrepared}
 use Rattle.fx_counted.proofs.HomeComing.{file_at, emptied}
 use Rattle.fx_counted.proofs.Shells.{IsPartlyBack}
 use Rattle.fx_counted.proofs.table.CountedTable.finish.Given as goal

@@ -1,8 +1,5 @@
-use Rattle.std.proofs.Common.{List, sym, subst, arith}
-use Rattle.std.specs.Prelude.{Contains}
-use Rattle.std.proofs.lemmas.List.Elements.{All-contains, Contains-push}
-use Rattle.fx_counted.specs.Lives.{IsIdleSeatOf}
-use Rattle.fx_counted.specs.declared.pass.CountedPass.{CountedPass}
+use Rattle.fx_counted.proofs.Words.{List, sym, subst, arith, Contains, All-contains, IsIdleSeatOf, CountedPass}
+use Rattle.std.proofs.lemmas.List.Elements.{Contains-push}
 use Rattle.fx_counted.proofs.Seats.{joins_keep}
 use Rattle.fx_counted.proofs.table.CountedTable.gather.Goals as goal
 

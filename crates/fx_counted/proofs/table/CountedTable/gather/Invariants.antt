@@ -1,5 +1,4 @@
-use Rattle.std.proofs.Common.{◌≡◌, ◌++◌, length, All, reverse}
-use Rattle.fx_counted.specs.Lives.{IsIdleSeatOf, logs_in}
+use Rattle.fx_counted.proofs.Words.{◌≡◌, ◌++◌, length, All, reverse, IsIdleSeatOf, logs_in}
 use Rattle.fx_counted.proofs.table.CountedTable.gather.Given as goal
 
 abbrev pub invariant-loop-pass : goal.invariant-loop-pass

@@ -1,4 +1,4 @@
-use Rattle.std.proofs.Common.{arith}
+use Rattle.fx_counted.proofs.Words.{arith}
 use Rattle.fx_counted.proofs.Calling.{slot_inside}
 use Rattle.fx_counted.proofs.Going.{its_pass, idle_work}
 use Rattle.fx_counted.proofs.LookUps.{looks_keep}

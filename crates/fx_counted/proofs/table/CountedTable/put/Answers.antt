@@ -1,20 +1,6 @@
-use Rattle.std.proofs.Common.{◌≡◌, ℕ, [], ◌∷◌, ap, ◌∙◌, subst, arith}
-use Rattle.std.specs.Prelude.{Some}
-use Rattle.fx_base.specs.declared.open_file.Closed.{Closed}
-use Rattle.fx_plain.specs.History.{◌▷◌}
-use Rattle.fx_plain.specs.Table.{numbered}
-use Rattle.fx_plain.specs.declared.event.Action.TheVariants.{Put}
-use Rattle.fx_words.specs.Words.{takes_in, slot_word_of}
-use Rattle.fx_table.specs.Calls.{Adds, no_use, one_number}
-use Rattle.fx_counted.specs.Control.{if_full}
-use Rattle.fx_counted.specs.Laws.{place_of}
-use Rattle.fx_counted.specs.Layout.{slot_of}
-use Rattle.fx_counted.specs.Passes.{pass_of, doing_in}
-use Rattle.fx_counted.specs.Tables.{view_of, opening_of_table}
-use Rattle.fx_counted.specs.Tells.{Stepped, retires_now, turned}
-use Rattle.fx_counted.specs.declared.view.Change.TheVariants.{Outside}
-use Rattle.fx_counted.specs.declared.view.Start.{Start}
-use Rattle.fx_counted.specs.declared.view.Work.TheVariants.{Placing}
+use Rattle.fx_counted.proofs.Words.{◌≡◌, ℕ, [], ◌∷◌, ap, ◌∙◌, subst, arith, Some, Closed, ◌▷◌, numbered, Put, takes_in, slot_word_of, Adds, no_use}
+use Rattle.fx_counted.proofs.Words.{one_number, if_full, place_of, slot_of, pass_of, doing_in, view_of, opening_of_table, Stepped, retires_now}
+use Rattle.fx_counted.proofs.Words.{turned, Outside, Start, Placing}
 use Rattle.fx_counted.proofs.Calling.{slot_inside, slot_at}
 use Rattle.fx_counted.proofs.Going.{its_pass, adds_so, goes_one, goes_then, goes_around}
 use Rattle.fx_counted.proofs.Removing.{placed_so}

@@ -1,17 +1,6 @@
-use Rattle.std.proofs.Common.{ℕ, [], inr, ◌∙◌, subst, arith}
-use Rattle.std.specs.Prelude.{Some}
-use Rattle.fx_base.specs.declared.open_file.Closed.{Closed}
-use Rattle.fx_plain.specs.History.{◌▷◌}
-use Rattle.fx_plain.specs.Table.{numbered}
-use Rattle.fx_plain.specs.declared.event.Action.TheVariants.{Allocate, Full}
-use Rattle.fx_table.specs.Calls.{Adds, no_use, one_number}
+use Rattle.fx_counted.proofs.Words.{ℕ, [], inr, ◌∙◌, subst, arith, Some, Closed, ◌▷◌, numbered, Allocate, Full, Adds, no_use, one_number, HasPlace}
+use Rattle.fx_counted.proofs.Words.{pass_of, HasAllocated, view_of, opening_of_table, Outside, Idle, Placing}
 use Rattle.fx_table.specs.declared.values.Doing.TheVariants.{Idle as NowIdle}
-use Rattle.fx_counted.specs.Moves.{HasPlace}
-use Rattle.fx_counted.specs.Passes.{pass_of}
-use Rattle.fx_counted.specs.Searching.{HasAllocated}
-use Rattle.fx_counted.specs.Tables.{view_of, opening_of_table}
-use Rattle.fx_counted.specs.declared.view.Change.TheVariants.{Outside}
-use Rattle.fx_counted.specs.declared.view.Work.TheVariants.{Idle, Placing}
 use Rattle.fx_counted.proofs.Going.{its_pass, adds_so, goes_one, goes_then}
 use Rattle.fx_counted.proofs.table.CountedTable.put_any.Goals as goal
 

@@ -1,5 +1,4 @@
-use Rattle.std.proofs.Common.{ap, ◌∙◌}
-use Rattle.fx_counted.specs.Laws.{word_of}
+use Rattle.fx_counted.proofs.Words.{ap, ◌∙◌, word_of}
 use Rattle.fx_counted.proofs.Births.{births_keep}
 use Rattle.fx_counted.proofs.Calling.{node_inside, node_is_at}
 use Rattle.fx_counted.proofs.table.CountedTable.put_in.Goals as goal

@@ -1,13 +1,5 @@
-use Rattle.std.proofs.Common.{ℕ, [], sym, ap, ◌∙◌, arith, subst}
-use Rattle.std.specs.Prelude.{Some}
-use Rattle.fx_plain.specs.History.{◌▷◌}
-use Rattle.fx_plain.specs.declared.event.Action.TheVariants.{Release, Close}
-use Rattle.fx_table.specs.Calls.{no_use}
+use Rattle.fx_counted.proofs.Words.{ℕ, [], sym, ap, ◌∙◌, arith, subst, Some, ◌▷◌, Release, Close, no_use, node_place, HasPlace, IsInside, Idle}
 use Rattle.fx_table.specs.declared.values.Hold.{Hold}
-use Rattle.fx_counted.specs.Layout.{node_place}
-use Rattle.fx_counted.specs.Moves.{HasPlace}
-use Rattle.fx_counted.specs.Tells.{IsInside}
-use Rattle.fx_counted.specs.declared.view.Work.TheVariants.{Idle}
 use Rattle.fx_counted.proofs.Calling.{node_inside, node_is_at}
 use Rattle.fx_counted.proofs.Going.{its_pass, holding_work, adds_so, out_place, out_and_home}
 use Rattle.fx_counted.proofs.Releases.{releases_keep}
@@ -21,8 +13,8 @@ fetch_sub-found-requires c =
     let f = c.requires.held.0 in
     let work = holding_work p.seat.me.0.work f fits.seated.work c.requires.held.1 in
     let known = subst (IsInside t.table.shared.key) work fits.seated.inside in
-    let is = c.node_place-word.ensures ∙ ap (λ (h : Hold). node_place t.size h.node) c.requires.held.2 in
-    let i = c.node_place-word.result in (
+    let is = c.node_place-place.ensures ∙ ap (λ (h : Hold). node_place t.size h.node) c.requires.held.2 in
+    let i = c.node_place-place.result in (
       fits.table,
       node_inside t f.number i known is,
       releases_keep t.table.shared.key _ p.seat.id i f p.seat.me fits.log (its_pass _ _ p fits) work (node_is_at t f.number i is),

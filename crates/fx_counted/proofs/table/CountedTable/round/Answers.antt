@@ -1,7 +1,5 @@
-use Rattle.std.proofs.Common.{rules, ◌≡◌, ◌≢◌, refl, sym, ◌∙◌, arith}
-use Rattle.fx_words.specs.Words.{full_word_of}
+use Rattle.fx_counted.proofs.Words.{rules, ◌≡◌, ◌≢◌, refl, sym, ◌∙◌, arith, full_word_of, Same}
 use Rattle.fx_counted.proofs.Calling.{full_of}
-use Rattle.fx_counted.specs.declared.view.Change.TheVariants.{Same}
 use Rattle.fx_counted.proofs.Searching.{one_still, still_then, still_placing, allocated_then, allocated_told, answered_full, answered_not}
 use Rattle.fx_counted.proofs.Telling.{begins_by, answers_by}
 use Rattle.fx_counted.proofs.table.CountedTable.round.Goals as goal

@@ -1,6 +1,4 @@
-use Rattle.std.proofs.Common.{◌≡◌}
-use Rattle.fx_counted.specs.Searching.{StillPlaces}
-use Rattle.fx_counted.specs.declared.view.Change.TheVariants.{Outside}
+use Rattle.fx_counted.proofs.Words.{◌≡◌, StillPlaces, Outside}
 use Rattle.fx_counted.proofs.table.CountedTable.rounds.Given as goal
 
 abbrev pub invariant-loop : goal.invariant-loop

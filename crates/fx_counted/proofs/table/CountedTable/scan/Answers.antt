@@ -1,6 +1,4 @@
-use Rattle.std.proofs.Common.{Bool, ◌∙◌, subst}
-use Rattle.fx_counted.specs.Searching.{Tries}
-use Rattle.fx_counted.specs.declared.view.Change.TheVariants.{Same, More}
+use Rattle.fx_counted.proofs.Words.{Bool, ◌∙◌, subst, Tries, Same, More}
 use Rattle.fx_counted.proofs.Searching.{still_then, allocated_then}
 use Rattle.fx_counted.proofs.table.CountedTable.scan.Goals as goal
 

@@ -1,6 +1,4 @@
-use Rattle.std.proofs.Common.{◌≡◌}
-use Rattle.fx_counted.specs.Searching.{StillPlaces}
-use Rattle.fx_counted.specs.declared.view.Change.TheVariants.{Same}
+use Rattle.fx_counted.proofs.Words.{◌≡◌, StillPlaces, Same}
 use Rattle.fx_counted.proofs.table.CountedTable.scan.Given as goal
 
 abbrev pub invariant-loop-slot : goal.invariant-loop-slot

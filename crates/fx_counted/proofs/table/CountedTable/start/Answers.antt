@@ -1,10 +1,5 @@
-use Rattle.std.proofs.Common.{◌≡◌, ◌+◌, ◌≤◌, ℕ, List, sym, ap, ◌∙◌, subst, arith}
-use Rattle.std.specs.Prelude.{Option}
-use Rattle.fx_base.specs.declared.open_file.Closed.{Closed}
-use Rattle.fx_plain.specs.Contents.{Contents, state_of}
-use Rattle.fx_counted.specs.declared.view.Start.{Start}
-use Rattle.fx_counted.specs.Firsts.{AreFirstWords, AreFirstHomes}
-use Rattle.fx_counted.specs.Shells.{AreBack, file_in_place}
+use Rattle.fx_counted.proofs.Words.{◌≡◌, ◌+◌, ◌≤◌, ℕ, List, sym, ap, ◌∙◌, subst, arith, Option, Closed, Contents, state_of, Start, AreFirstWords}
+use Rattle.fx_counted.proofs.Words.{AreFirstHomes, AreBack, file_in_place}
 use Rattle.fx_counted.proofs.Openings.{opening_keeps}
 use Rattle.fx_counted.proofs.Starting.{opens_with, given_back, others_empty}
 use Rattle.fx_counted.proofs.table.CountedTable.start.Goals as goal

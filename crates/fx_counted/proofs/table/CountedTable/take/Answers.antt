@@ -1,12 +1,5 @@
-use Rattle.std.proofs.Common.{ℕ, [], ◌∙◌, subst}
-use Rattle.fx_plain.specs.History.{◌▷◌}
-use Rattle.fx_plain.specs.declared.event.Action.TheVariants.{Take}
-use Rattle.fx_words.specs.Words.{takes_in}
-use Rattle.fx_table.specs.Calls.{Adds, no_use}
-use Rattle.fx_counted.specs.Passes.{pass_of, doing_in}
-use Rattle.fx_counted.specs.Tables.{view_of, opening_of_table}
-use Rattle.fx_counted.specs.Tells.{retires_now}
-use Rattle.fx_counted.specs.declared.view.Change.TheVariants.{Outside}
+use Rattle.fx_counted.proofs.Words.{ℕ, [], ◌∙◌, subst, ◌▷◌, Take, takes_in, Adds, no_use, pass_of, doing_in, view_of, opening_of_table, retires_now}
+use Rattle.fx_counted.proofs.Words.{Outside}
 use Rattle.fx_counted.proofs.Calling.{slot_inside, slot_at}
 use Rattle.fx_counted.proofs.Going.{its_pass, idle_work, adds_so, goes_around}
 use Rattle.fx_counted.proofs.Removing.{taken_so}

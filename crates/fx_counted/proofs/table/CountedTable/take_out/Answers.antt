@@ -1,10 +1,4 @@
-use Rattle.std.proofs.Common.{◌≡◌, ◌⊎◌, sym, ap, ◌∙◌, ◌∷◌, subst}
-use Rattle.std.specs.Prelude.{Some, None}
-use Rattle.atomic_table.specs.Table.{rest}
-use Rattle.fx_counted.specs.Laws.{HasPass}
-use Rattle.fx_counted.specs.Passes.{Sat}
-use Rattle.fx_counted.specs.declared.view.View.{View}
-use Rattle.fx_counted.specs.declared.view.Work.TheVariants.{Placing, Emptying}
+use Rattle.fx_counted.proofs.Words.{◌≡◌, ◌⊎◌, sym, ap, ◌∙◌, ◌∷◌, subst, Some, None, rest, HasPass, Sat, View, Placing, Emptying}
 use Rattle.fx_counted.proofs.Births.{rests_keep}
 use Rattle.fx_counted.proofs.Calling.{has_node, node_inside, node_is_at, home_is_at}
 use Rattle.fx_counted.proofs.table.CountedTable.take_out.Goals as goal

@@ -1,6 +1,4 @@
-use Rattle.std.proofs.Common.{rules, ◌≡◌, ◌<◌, ◌^◌, ◌∙◌}
-use Rattle.std.specs.Prelude.{None}
-use Rattle.fx_words.specs.Words.{node_in}
+use Rattle.fx_counted.proofs.Words.{rules, ◌≡◌, ◌<◌, ◌^◌, ◌∙◌, None, node_in}
 use Rattle.fx_counted.proofs.Calling.{in_size, slot_inside, slot_at}
 use Rattle.fx_counted.proofs.Naming.{no_name}
 use Rattle.fx_counted.proofs.Searching.{exchange_tried}

@@ -1,8 +1,5 @@
-use Rattle.std.proofs.Common.{◌≡◌, ◌≤◌, List, sym, ap, subst, ◌∙◌, length, slice_set, IsSome, arith}
-use Rattle.std.proofs.lemmas.List.{set-set}
-use Rattle.fx_plain.specs.Contents.{node_at, file_in, node_after_retirement, Fresh, Gone}
-use Rattle.fx_plain.specs.Reserved.{with_rest}
-use Rattle.fx_plain.specs.declared.node.Node.{Node}
+use Rattle.fx_plain.proofs.Words.{◌≡◌, ◌≤◌, List, sym, ap, subst, ◌∙◌, length, slice_set, IsSome, arith, set-set, node_at, file_in}
+use Rattle.fx_plain.proofs.Words.{node_after_retirement, Fresh, Gone, with_rest, Node}
 use Rattle.fx_plain.proofs.ReservedLists.{with_rest-set, read_written, written_inside}
 use Rattle.fx_plain.proofs.node_list.NodeList.retire.Goals as goal
 

@@ -1,7 +1,4 @@
-use Rattle.std.proofs.Common.{◌<◌, ◌≤◌, List, ap, ◌∙◌, length, slice_set, arith}
-use Rattle.fx_plain.specs.Contents.{Fresh}
-use Rattle.fx_plain.specs.Reserved.{with_rest}
-use Rattle.fx_plain.specs.declared.node.Node.{Node}
+use Rattle.fx_plain.proofs.Words.{◌<◌, ◌≤◌, List, ap, ◌∙◌, length, slice_set, arith, Fresh, with_rest, Node}
 use Rattle.fx_plain.proofs.ReservedLists.{length-with_rest, with_rest-set}
 use Rattle.fx_plain.proofs.node_list.NodeList.set_node.Goals as goal
 

@@ -1,7 +1,4 @@
-use Rattle.std.proofs.Common.{◌≤◌, List, sym, ap, subst, ◌∙◌, length, slice_set, IsSome, arith}
-use Rattle.fx_plain.specs.Contents.{node_at, file_in, Fresh, Gone}
-use Rattle.fx_plain.specs.Reserved.{with_rest}
-use Rattle.fx_plain.specs.declared.node.Node.{Node}
+use Rattle.fx_plain.proofs.Words.{◌≤◌, List, sym, ap, subst, ◌∙◌, length, slice_set, IsSome, arith, node_at, file_in, Fresh, Gone, with_rest, Node}
 use Rattle.fx_plain.proofs.ReservedLists.{with_rest-set, written_inside}
 use Rattle.fx_plain.proofs.node_list.NodeList.take_file.Goals as goal
 

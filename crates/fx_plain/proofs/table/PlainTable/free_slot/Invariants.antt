@@ -1,5 +1,4 @@
-use Rattle.std.proofs.Common.{ℕ, ◌<◌, ◌≤◌, IsSome}
-use Rattle.fx_plain.specs.Contents.{slot_at}
+use Rattle.fx_plain.proofs.Words.{ℕ, ◌<◌, ◌≤◌, IsSome, slot_at}
 use Rattle.fx_plain.proofs.table.PlainTable.free_slot.Given as goal
 
 -- the slots of the range so far have files

@@ -1,6 +1,4 @@
-use Rattle.std.proofs.Common.{sym, ap, ◌∙◌, length}
-use Rattle.fx_plain.specs.State.{files_of}
-use Rattle.fx_plain.specs.Contents.{Contents, state_of}
+use Rattle.fx_plain.proofs.Words.{sym, ap, ◌∙◌, length, files_of, Contents, state_of}
 use Rattle.fx_plain.specs.contracts.table.PlainTable.{the_view}
 use Rattle.fx_plain.proofs.Settled.{length-files_of}
 use Rattle.fx_plain.proofs.table.PlainTable.full.Goals as goal

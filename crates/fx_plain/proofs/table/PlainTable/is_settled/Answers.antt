@@ -1,7 +1,5 @@
-use Rattle.std.proofs.Common.{sym, subst, eq-eqb}
-use Rattle.std.proofs.lemmas.Bool.{eqb-true}
-use Rattle.fx_plain.specs.State.{IsSettled}
-use Rattle.fx_plain.specs.Contents.{Contents, state_of}
+use Rattle.fx_plain.proofs.Words.{sym, subst, eqb-true, IsSettled, Contents, state_of}
+use Rattle.std.proofs.Common.{eq-eqb}
 use Rattle.fx_plain.specs.contracts.table.PlainTable.{the_view}
 use Rattle.fx_plain.proofs.Settled.{settled_by_counts, no_holds, none_removed}
 use Rattle.fx_plain.proofs.table.PlainTable.is_settled.Goals as goal

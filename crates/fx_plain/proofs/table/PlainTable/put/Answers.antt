@@ -1,89 +1,85 @@
-use Rattle.std.proofs.Common.{rules, ◌≡◌, ◌<◌, ◌+◌, Some, None, true, subst, sym, List, length, slice_set, IsSome, arith}
-use Rattle.fx_plain.specs.declared.event.Action.TheVariants.{Put}
-use Rattle.fx_plain.specs.Contents.{Contents, IsTable, IsCounted, state_of, node_at, is_fresh, file_in, At}
-use Rattle.fx_plain.specs.declared.node.Node.{Node}
-use Rattle.fx_plain.specs.Table.{numbered, LetsLeave}
+use Rattle.fx_plain.proofs.Words.{rules, ◌≡◌, ◌<◌, ◌+◌, Some, None, subst, sym, List, length, slice_set, IsSome, arith, ap, ℕ, Option, ◌^◌, refl}
+use Rattle.fx_plain.proofs.Words.{Put, Contents, IsTable, IsCounted, state_of, node_at, file_in, At, slot_at, file_count_of, Node, numbered}
+use Rattle.fx_plain.proofs.Words.{LetsLeave}
 use Rattle.fx_plain.specs.contracts.table.PlainTable.{the_view}
 use Rattle.fx_plain.proofs.Writes.{has_file-At}
-use Rattle.fx_plain.proofs.Removals.{carried, seen_at, as_put_free, as_put_over, still_names, put_removes, put_keeps, put_free_counted}
-use Rattle.fx_plain.proofs.Removals.{put_over_counted}
+use Rattle.fx_plain.proofs.Removals.{put_at, IsFree, fresh_free, carried, seen_at, as_put_free, as_put_over, still_names, put_removes, put_keeps}
+use Rattle.fx_plain.proofs.Removals.{put_counted}
+use Rattle.fx_plain.proofs.table.PlainTable.put.Goals.{After-index-replaced}
 use Rattle.fx_plain.proofs.table.PlainTable.put.Goals as goal
 
+module _ (c : After-index-replaced) where
+  abbrev v : Contents
+  v = the_view c.self.inside
+
+  inside : c.args.slot < length v.slots
+  inside = search rules
+
+  free : IsFree v c.args.slot c.args.number
+  free = fresh_free v c.args.slot c.args.number c.self.invariant.0 (search rules)
+
+  pub at : (found : Option ℕ) → c.index-replaced.result.now ≡ found → slot_at v.slots c.args.slot ≡ found
+  at found is = seen_at v.slots c.args.slot None c.index-replaced.result.now found inside c.index-replaced.ensures is
+
+  abbrev Counts : ℕ → ℕ → Type 0
+  Counts full' removed' = (removed' < 2 ^ 32) × (c.self.inside.full + 1 < 2 ^ 32)
+      × IsTable (put_at v c.args.slot c.args.number c.args.file)
+      × IsCounted (put_at v c.args.slot c.args.number c.args.file) full' c.self.inside.held removed'
+
+  counted : (found : Option ℕ) → c.index-replaced.result.now ≡ found → (full' removed' : ℕ) → full' + file_count_of found ≡ c.self.inside.full + 1
+      → removed' ≡ c.self.inside.removed + file_count_of found → Counts full' removed'
+  counted found is full' removed' full_is removed_is =
+      let e : file_count_of (slot_at v.slots c.args.slot) ≡ file_count_of found = ap file_count_of (at found is) in
+      let n = put_counted v c.args.slot c.args.number c.args.file c.self.invariant.0 inside free _ _ _ full' removed' c.self.invariant.1
+      (omega (arith, full_is, e)) (omega (arith, removed_is, e)) in
+      (n.0, n.1, put_keeps v c.args.slot c.args.number c.args.file c.self.invariant.0 inside free, n.2)
+
+  leaves : (found : Option ℕ) → c.index-replaced.result.now ≡ found
+      → LetsLeave v (put_at v c.args.slot c.args.number c.args.file)
+      (Put c.args.slot (numbered c.args.number c.args.file) ((state_of v).at c.args.slot)) ((state_of v).at c.args.slot) found
+  leaves found is =
+      put_removes v c.args.slot c.args.number c.args.file c.self.invariant.0 inside free (search rules) found (at found is)
+
 pub overflow_add-self : goal.overflow_add-self
-overflow_add-self c =
-    let inside : c.args.slot < length c.self.inside.slots.items = search rules in
-    let fresh : is_fresh (node_at c.self.inside.nodes c.args.number) ≡ true = search rules in
-    let at = seen_at c.self.inside.slots.items c.args.slot None c.index-replaced.result.now None inside c.index-replaced.ensures c.in-None.is in
-    let fits = (put_free_counted
-    (the_view c.self.inside) c.args.slot c.args.number c.args.file c.self.invariant.0 inside fresh _ _ _ c.self.invariant.1 at).0 in
+overflow_add-self c = let fits = (counted (goal.at.overflow_add-self c).After-index-replaced None c.in-None.is (c.self.inside.full + 1) c.self.inside.removed
+    (omega arith) (omega arith)).1 in
     omega (arith, fits)
 
 pub invariant_of-self : goal.invariant_of-self
-invariant_of-self c =
-    let inside : c.args.slot < length c.self.inside.slots.items = search rules in
-    let fresh : is_fresh (node_at c.self.inside.nodes c.args.number) ≡ true = search rules in
-    let at = seen_at c.self.inside.slots.items c.args.slot None c.index-replaced.result.now None inside c.index-replaced.ensures c.in-None.is in
+invariant_of-self c = let a = (goal.at.invariant_of-self c).After-index-replaced in
     subst (λ (k : Contents). IsTable k × IsCounted k (c.self.inside.full + 1) c.self.inside.held c.self.inside.removed)
-    (sym (as_put_free (the_view c.self.inside) c.args.slot c.args.number c.args.file c.self.invariant.0 inside fresh c.set_node.new.self at
-    c.set_node.ensures)) (
-      put_keeps (the_view c.self.inside) c.args.slot c.args.number c.args.file c.self.invariant.0 inside fresh,
-      (put_free_counted (the_view c.self.inside) c.args.slot c.args.number c.args.file c.self.invariant.0 inside fresh _ _ _ c.self.invariant.1
-          at).1,
-    )
+    (sym (as_put_free (v a) c.args.slot c.args.number c.args.file c.self.invariant.0 (inside a) (free a) _ (at a None c.in-None.is) c.set_node.ensures))
+    (let n = counted a None c.in-None.is (c.self.inside.full + 1) c.self.inside.removed (omega arith) (omega arith) in (n.2, n.3))
 
 pub leave-requires : goal.leave-requires
-leave-requires c =
-    let inside : c.args.slot < length c.self.inside.slots.items = search rules in
-    let fresh : is_fresh (node_at c.self.inside.nodes c.args.number) ≡ true = search rules in
-    let at = seen_at c.self.inside.slots.items c.args.slot None c.index-replaced.result.now
-    (Some c.in-Some.old) inside c.index-replaced.ensures c.in-Some.is in
-    let named = still_names (the_view c.self.inside) c.args.slot c.args.number c.args.file c.self.invariant.0 inside fresh (Some c.in-Some.old) at in
+leave-requires c = let a = (goal.at.leave-requires c).After-index-replaced in
+    let named = still_names (v a) c.args.slot c.args.number c.args.file c.self.invariant.0 (inside a) (free a) c.in-Some.old
+    (at a (Some c.in-Some.old) c.in-Some.is) in
     subst (λ (xs : List Node). IsSome (file_in (node_at xs c.in-Some.old))) (sym c.set_node.ensures)
     (has_file-At (slice_set c.self.inside.nodes c.args.number (At c.args.slot c.args.file)) c.in-Some.old c.args.slot named.0 named.1)
 
 pub overflow_add-self-in-Some : goal.overflow_add-self-in-Some
 overflow_add-self-in-Some c =
-    let inside : c.args.slot < length c.self.inside.slots.items = search rules in
-    let fresh : is_fresh (node_at c.self.inside.nodes c.args.number) ≡ true = search rules in
-    let at = seen_at c.self.inside.slots.items c.args.slot None c.index-replaced.result.now
-    (Some c.in-Some.old) inside c.index-replaced.ensures c.in-Some.is in
-    let fits = (put_over_counted
-    (the_view c.self.inside) c.args.slot c.args.number c.args.file c.self.invariant.0 inside fresh c.in-Some.old _ _ _ c.self.invariant.1 at).1 in
+    let fits = (counted (goal.at.overflow_add-self-in-Some c).After-index-replaced (Some c.in-Some.old) c.in-Some.is _ _ refl refl).0 in
     omega (arith, fits)
 
 pub invariant_of-self-in-Some : goal.invariant_of-self-in-Some
-invariant_of-self-in-Some c =
-    let inside : c.args.slot < length c.self.inside.slots.items = search rules in
-    let fresh : is_fresh (node_at c.self.inside.nodes c.args.number) ≡ true = search rules in
-    let at = seen_at c.self.inside.slots.items c.args.slot None c.index-replaced.result.now
-    (Some c.in-Some.old) inside c.index-replaced.ensures c.in-Some.is in
+invariant_of-self-in-Some c = let a = (goal.at.invariant_of-self-in-Some c).After-index-replaced in
     subst (λ (k : Contents). IsTable k × IsCounted k c.self.inside.full c.self.inside.held (c.self.inside.removed + 1))
-    (sym (as_put_over (the_view c.self.inside) c.args.slot c.args.number c.args.file c.self.invariant.0 inside fresh c.in-Some.old
-    c.set_node.new.self c.leave.new.self at c.set_node.ensures c.leave.ensures)) (
-      put_keeps (the_view c.self.inside) c.args.slot c.args.number c.args.file c.self.invariant.0 inside fresh,
-      (put_over_counted (the_view c.self.inside) c.args.slot c.args.number c.args.file c.self.invariant.0 inside fresh c.in-Some.old _ _ _
-          c.self.invariant.1 at).2,
-    )
+    (sym (as_put_over (v a) c.args.slot c.args.number c.args.file c.self.invariant.0 (inside a) (free a) c.in-Some.old _ _
+    (at a (Some c.in-Some.old) c.in-Some.is) c.set_node.ensures c.leave.ensures))
+    (let n = counted a (Some c.in-Some.old) c.in-Some.is c.self.inside.full (c.self.inside.removed + 1) refl refl in (n.2, n.3))
 
 pub returns-in-None : goal.returns-in-None
-returns-in-None c =
-    let inside : c.args.slot < length c.self.inside.slots.items = search rules in
-    let fresh : is_fresh (node_at c.self.inside.nodes c.args.number) ≡ true = search rules in
-    let at = seen_at c.self.inside.slots.items c.args.slot None c.index-replaced.result.now None inside c.index-replaced.ensures c.in-None.is in
+returns-in-None c = let a = (goal.at.returns-in-None c).After-index-replaced in
     carried (λ k m. let found = (state_of k).at c.args.slot in LetsLeave k m (Put c.args.slot (numbered c.args.number c.args.file) found) found None)
-    c.self.view_is (as_put_free
-    (the_view c.self.inside) c.args.slot c.args.number c.args.file c.self.invariant.0 inside fresh c.set_node.new.self at c.set_node.ensures)
-    (put_removes (the_view c.self.inside) c.args.slot c.args.number c.args.file c.self.invariant.0 inside fresh None at)
+    c.self.view_is
+    (as_put_free (v a) c.args.slot c.args.number c.args.file c.self.invariant.0 (inside a) (free a) _ (at a None c.in-None.is) c.set_node.ensures)
+    (leaves a None c.in-None.is)
 
 pub returns-in-Some : goal.returns-in-Some
-returns-in-Some c =
-    let inside : c.args.slot < length c.self.inside.slots.items = search rules in
-    let fresh : is_fresh (node_at c.self.inside.nodes c.args.number) ≡ true = search rules in
-    let at = seen_at c.self.inside.slots.items c.args.slot None c.index-replaced.result.now
-    (Some c.in-Some.old) inside c.index-replaced.ensures c.in-Some.is in
+returns-in-Some c = let a = (goal.at.returns-in-Some c).After-index-replaced in
     carried (λ k m. let found = (state_of k).at c.args.slot in
-    LetsLeave k m (Put c.args.slot (numbered c.args.number c.args.file) found) found (Some c.in-Some.old))
-    c.self.view_is (as_put_over
-    (the_view c.self.inside) c.args.slot c.args.number c.args.file c.self.invariant.0 inside fresh c.in-Some.old c.set_node.new.self
-    c.leave.new.self at c.set_node.ensures c.leave.ensures)
-    (put_removes (the_view c.self.inside) c.args.slot c.args.number c.args.file c.self.invariant.0 inside fresh (Some c.in-Some.old) at)
+    LetsLeave k m (Put c.args.slot (numbered c.args.number c.args.file) found) found (Some c.in-Some.old)) c.self.view_is
+    (as_put_over (v a) c.args.slot c.args.number c.args.file c.self.invariant.0 (inside a) (free a) c.in-Some.old _ _
+    (at a (Some c.in-Some.old) c.in-Some.is) c.set_node.ensures c.leave.ensures) (leaves a (Some c.in-Some.old) c.in-Some.is)

@@ -1,45 +1,55 @@
-use Rattle.std.proofs.Common.{rules, ◌+◌, ◌<◌, Some, length, sym, ap, subst, ◌∙◌, arith}
-use Rattle.fx_plain.specs.State.{IsSettled}
-use Rattle.fx_plain.specs.Step.{changed_at}
-use Rattle.fx_plain.specs.Contents.{Contents, IsTable, IsCounted, IsPrepared, state_of}
-use Rattle.fx_plain.specs.Table.{numbered}
+use Rattle.fx_plain.proofs.Words.{rules, false, ◌≡◌, ◌^◌, None, ◌+◌, ◌<◌, Some, length, sym, ap, subst, ◌∙◌, arith, IsSettled, changed_at}
+use Rattle.fx_plain.proofs.Words.{with_removed, slot_at, file_at, file_count_of, Contents, IsTable, IsCounted, state_of, numbered}
+use Rattle.fx_plain.specs.Contents.{IsPrepared}
 use Rattle.fx_plain.specs.contracts.table.PlainTable.{the_view}
-use Rattle.fx_plain.proofs.FilesOut.{unnamed, as_with_file, state_of-with_file, with_file_keeps, with_file_counted}
+use Rattle.fx_plain.proofs.FilesOut.{unnamed}
+use Rattle.fx_plain.proofs.Cells.{unchanged}
+use Rattle.fx_plain.proofs.Removals.{IsFree, own_free, put_at, as_put_free, state_of-put, put_keeps, put_counted}
+use Rattle.fx_plain.proofs.table.PlainTable.put_back.Goals.{After-set_node}
 use Rattle.fx_plain.proofs.table.PlainTable.put_back.Goals as goal
 
+module _ (c : After-set_node) where
+  abbrev v : Contents
+  v = the_view c.self.inside
+
+  inside : c.args.slot < length v.slots
+  inside = search rules
+
+  empty : slot_at v.slots c.args.slot ≡ None
+  empty = unnamed v c.args.slot c.self.invariant.0 (ap (λ (k : Contents). (state_of k).at c.args.slot) c.self.view_is ∙ c.requires.empty)
+
+  free : IsFree v c.args.slot c.args.slot
+  free = own_free v c.args.slot c.self.invariant.0 (subst (λ (k : Contents). IsSettled (state_of k)) (sym c.self.view_is) c.requires.settled) inside
+      (let lt = inside in let p = subst IsPrepared (sym c.self.view_is) c.requires.prepared in omega (arith, lt, p)) empty
+
+  abbrev after : Contents
+  after = put_at v c.args.slot c.args.slot c.args.file
+
+  counted : (c.self.inside.full + 1 < 2 ^ 32) × IsCounted after (c.self.inside.full + 1) c.self.inside.held c.self.inside.removed
+  counted = let e = ap file_count_of empty in let n = put_counted v c.args.slot c.args.slot c.args.file c.self.invariant.0 inside free _ _ _
+      (c.self.inside.full + 1) c.self.inside.removed c.self.invariant.1 (omega (arith, e)) (omega (arith, e)) in (n.1, n.2)
+
+  state_after : state_of after ≡ record (state_of v) { at = changed_at (state_of v).at c.args.slot (Some (numbered c.args.slot c.args.file)) }
+  state_after = state_of-put v c.args.slot c.args.slot c.args.file c.self.invariant.0 inside free ∙ λ i. record (state_of v) {
+    at = changed_at (state_of v).at c.args.slot (Some (numbered c.args.slot c.args.file));
+    removed = with_removed (state_of v).removed (file_at v.nodes (empty i));
+    fresh = unchanged (state_of v).fresh c.args.slot false (sym (c.self.invariant.0.used c.args.slot inside)) i;
+  }
+
 pub overflow_add-self : goal.overflow_add-self
-overflow_add-self c =
-    let v = the_view c.self.inside in
-    let settled : IsSettled (state_of v) = subst (λ (k : Contents). IsSettled (state_of k)) (sym c.self.view_is) c.requires.settled in
-    let inside : c.args.slot < length v.slots = search rules in
-    let room : c.args.slot < length v.nodes = let p = subst IsPrepared (sym c.self.view_is) c.requires.prepared in omega (arith, inside, p) in
-    let empty = unnamed v c.args.slot c.self.invariant.0 (ap (λ (k : Contents). (state_of k).at c.args.slot) c.self.view_is ∙ c.requires.empty) in
-    let fits = (with_file_counted v c.args.slot c.args.file c.self.invariant.0 settled inside room empty _ _ _ c.self.invariant.1).0 in
-    omega (arith, fits)
+overflow_add-self c = let fits = (counted (goal.at.overflow_add-self c).After-set_node).0 in omega (arith, fits)
 
 pub invariant_of-self : goal.invariant_of-self
-invariant_of-self c =
-    let v = the_view c.self.inside in
-    let settled : IsSettled (state_of v) = subst (λ (k : Contents). IsSettled (state_of k)) (sym c.self.view_is) c.requires.settled in
-    let inside : c.args.slot < length v.slots = search rules in
-    let room : c.args.slot < length v.nodes = let p = subst IsPrepared (sym c.self.view_is) c.requires.prepared in omega (arith, inside, p) in
-    let empty = unnamed v c.args.slot c.self.invariant.0 (ap (λ (k : Contents). (state_of k).at c.args.slot) c.self.view_is ∙ c.requires.empty) in
+invariant_of-self c = let a = (goal.at.invariant_of-self c).After-set_node in
     subst (λ (k : Contents). IsTable k × IsCounted k (c.self.inside.full + 1) c.self.inside.held c.self.inside.removed)
-    (sym (as_with_file v c.args.slot c.args.file c.self.invariant.0 settled inside room empty c.set_node.new.self c.set_node.ensures)) (
-      with_file_keeps v c.args.slot c.args.file c.self.invariant.0 settled inside room empty,
-      (with_file_counted v c.args.slot c.args.file c.self.invariant.0 settled inside room empty _ _ _ c.self.invariant.1).1,
-    )
+    (sym (as_put_free (v a) c.args.slot c.args.slot c.args.file c.self.invariant.0 (inside a) (free a) c.set_node.new.self (empty a) c.set_node.ensures))
+    (put_keeps (v a) c.args.slot c.args.slot c.args.file c.self.invariant.0 (inside a) (free a), (counted a).1)
 
 pub returns-clause-state : goal.returns-clause-state
-returns-clause-state c =
-    let v = the_view c.self.inside in
-    let settled : IsSettled (state_of v) = subst (λ (k : Contents). IsSettled (state_of k)) (sym c.self.view_is) c.requires.settled in
-    let inside : c.args.slot < length v.slots = search rules in
-    let room : c.args.slot < length v.nodes = let p = subst IsPrepared (sym c.self.view_is) c.requires.prepared in omega (arith, inside, p) in
-    let empty = unnamed v c.args.slot c.self.invariant.0 (ap (λ (k : Contents). (state_of k).at c.args.slot) c.self.view_is ∙ c.requires.empty) in
-    ap state_of (as_with_file v c.args.slot c.args.file c.self.invariant.0 settled inside room empty c.set_node.new.self c.set_node.ensures)
-    ∙ (state_of-with_file v c.args.slot c.args.file c.self.invariant.0 settled inside room empty
-    ∙ ap
+returns-clause-state c = let a = (goal.at.returns-clause-state c).After-set_node in
+    ap state_of
+    (as_put_free (v a) c.args.slot c.args.slot c.args.file c.self.invariant.0 (inside a) (free a) c.set_node.new.self (empty a) c.set_node.ensures)
+    ∙ (state_after a ∙ ap
     (λ (k : Contents). record (state_of k) { at = changed_at (state_of k).at c.args.slot (Some (numbered c.args.slot c.args.file)) }) c.self.view_is)
 
 pub returns-clause-sound : goal.returns-clause-sound

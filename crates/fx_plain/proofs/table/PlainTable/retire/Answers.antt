@@ -1,12 +1,9 @@
-use Rattle.std.proofs.Common.{rules, sym, ◌∙◌, ◌≡◌, ◌≢◌, ◌-◌, true, false, subst, slice_index}
-use Rattle.fx_plain.specs.Step.{changed_at}
-use Rattle.fx_plain.specs.History.{Leads, close_of}
-use Rattle.fx_plain.specs.Contents.{Contents, IsTable, IsCounted, state_of, leaving, node_at}
-use Rattle.fx_plain.specs.Table.{closed_by_retirement}
+use Rattle.fx_plain.proofs.Words.{rules, sym, ◌∙◌, ◌≡◌, ◌-◌, true, false, subst, slice_index, changed_at, Leads, close_of, Contents, IsTable}
+use Rattle.fx_plain.proofs.Words.{IsCounted, state_of, leaving, node_at, closed_by_retirement}
 use Rattle.fx_plain.specs.contracts.table.PlainTable.{the_view}
 use Rattle.fx_plain.proofs.Writes.{has_file-leaving}
 use Rattle.fx_plain.proofs.Removals.{carried}
-use Rattle.fx_plain.proofs.Holding.{with_nodes, retire_closes, retire_waits, closed_leaving, retired_leaving, retire_close_keeps, retire_wait_keeps}
+use Rattle.fx_plain.proofs.Holding.{with_nodes, as_retired, retire_closes, retire_waits, closed_leaving, retired_leaving, retire_close_keeps, retire_wait_keeps}
 use Rattle.fx_plain.proofs.table.PlainTable.retire.Goals as goal
 
 pub overflow_sub-self : goal.overflow_sub-self
@@ -39,26 +36,22 @@ returns-then-of-eq0-clause-leaving c =
 pub invariant_of-self-2 : goal.invariant_of-self-2
 invariant_of-self-2 c =
     let going : leaving (the_view c.self.inside) c.args.number ≡ true = search rules in
-    let held : slice_index c.self.inside.holds c.args.number ≢ 0 =
-    λ (zero : slice_index c.self.inside.holds c.args.number ≡ 0). c.if-of-eq0.false (c.of.ensures ∙ zero) in
     subst (λ (k : Contents). IsTable k × IsCounted k c.self.inside.full c.self.inside.held c.self.inside.removed)
-    (sym (with_nodes (the_view c.self.inside) c.retire.new.self _ c.retire.ensures))
-    (retire_wait_keeps (the_view c.self.inside) c.args.number c.self.invariant.0 going _ _ _ c.self.invariant.1 held)
+    (sym (as_retired (the_view c.self.inside) c.args.number c.self.invariant.0 going c.retire.new.self c.retire.ensures))
+    (retire_wait_keeps (the_view c.self.inside) c.args.number c.self.invariant.0 going _ _ _ c.self.invariant.1 (λ is. c.if-of-eq0.false (c.of.ensures ∙ is)))
 
 pub returns-clause-steps : goal.returns-clause-steps
 returns-clause-steps c =
     let going : leaving (the_view c.self.inside) c.args.number ≡ true = search rules in
-    let held : slice_index c.self.inside.holds c.args.number ≢ 0 =
-    λ (zero : slice_index c.self.inside.holds c.args.number ≡ 0). c.if-of-eq0.false (c.of.ensures ∙ zero) in
     carried (λ k m. Leads (state_of k) (close_of (closed_by_retirement k c.args.number)) (state_of m)) c.self.view_is
-    (with_nodes (the_view c.self.inside) c.retire.new.self _ c.retire.ensures)
-    (retire_waits (the_view c.self.inside) c.args.number c.self.invariant.0 going held)
+    (as_retired (the_view c.self.inside) c.args.number c.self.invariant.0 going c.retire.new.self c.retire.ensures)
+    (retire_waits (the_view c.self.inside) c.args.number c.self.invariant.0 going (λ is. c.if-of-eq0.false (c.of.ensures ∙ is)))
 
 pub returns-clause-leaving : goal.returns-clause-leaving
 returns-clause-leaving c =
     let going : leaving (the_view c.self.inside) c.args.number ≡ true = search rules in
     carried (λ k m. leaving m ≡ changed_at (leaving k) c.args.number false) c.self.view_is
-    (with_nodes (the_view c.self.inside) c.retire.new.self _ c.retire.ensures)
+    (as_retired (the_view c.self.inside) c.args.number c.self.invariant.0 going c.retire.new.self c.retire.ensures)
     (retired_leaving (the_view c.self.inside) c.args.number c.self.invariant.0 going)
 
 pub take_file-requires : goal.take_file-requires

@@ -1,4 +1,4 @@
-use Rattle.std.proofs.Common.{rules}
+use Rattle.fx_plain.proofs.Words.{rules}
 use Rattle.fx_plain.proofs.Settled.{sparse_keeps}
 use Rattle.fx_plain.proofs.table.PlainTable.sparse.Goals as goal
 

@@ -1,12 +1,6 @@
-use Rattle.std.proofs.Common.{rules, ◌≡◌, ◌<◌, ◌+◌, ◌++◌, ◌∷◌, [], sym, ap, subst, ◌∙◌, length, append_assoc, arith, ℕ, List, Option}
-use Rattle.fx_base.specs.declared.open_file.Closed.{Closed}
-use Rattle.fx_plain.specs.declared.event.File.{File}
-use Rattle.fx_plain.specs.Table.{identity_of, slots_in_order}
-use Rattle.fx_plain.specs.Totals.{total}
-use Rattle.fx_plain.specs.Contents.{file_at, file_named, slot_at, node_at, nodes_without, removed_count_of, SameButPlaced}
-use Rattle.fx_plain.specs.declared.node.Node.{Node}
-use Rattle.fx_plain.proofs.Moving.{IsLeft, left_next, length-without}
-use Rattle.fx_plain.proofs.Emptying.{read_slot, same_next, opened_next}
+use Rattle.fx_plain.proofs.Words.{rules, ◌≡◌, ◌<◌, ◌+◌, ◌++◌, ◌∷◌, [], sym, ap, subst, ◌∙◌, length, append_assoc, arith, ℕ, List, Option, Closed}
+use Rattle.fx_plain.proofs.Words.{File, identity_of, slots_in_order, file_at, file_named, slot_at, nodes_without, Node}
+use Rattle.fx_plain.proofs.Emptying.{read_slot, worked_next, IsWorked}
 use Rattle.fx_plain.proofs.FilesOut.{slots_next, next_taken}
 use Rattle.fx_plain.proofs.table.files.take_each.Goals as goal
 
@@ -21,20 +15,16 @@ loop-slot-preserved c =
     let x = read_slot slots s c.index.result.now inside c.index.ensures in
     let at : ℕ → Option File = λ u. file_at first (slot_at slots u) in
     let taken : c.take_named.result ≡ identity_of (at s) = c.take_named.ensures.file ∙ (ap (file_named nodes) x
-    ∙ next_taken slots first nodes s c.requires.placed i.left) in
+    ∙ next_taken slots first nodes s c.requires.placed i.worked.left) in
     let nodes_are : c.take_named.new.nodes ≡ nodes_without nodes (slot_at slots s) = c.take_named.ensures.nodes ∙ ap (nodes_without nodes) x in
     let pushed = c.push_reserved.ensures in
     record {
-      len = ap length nodes_are ∙ (length-without nodes (slot_at slots s) ∙ i.len);
       files = pushed.items ∙ (ap (λ (xs : List (Option Closed)). xs ++ c.take_named.result ∷ []) i.files
           ∙ (append_assoc c.args.files.now.items (slots_in_order at s) (c.take_named.result ∷ [])
           ∙ (ap (λ (y : Option Closed). c.args.files.now.items ++ (slots_in_order at s ++ y ∷ [])) taken
           ∙ ap (λ (xs : List (Option Closed)). c.args.files.now.items ++ xs) (sym (slots_next at s)))));
       count = let a = pushed.len in let b = i.count in omega (arith, a, b);
       capacity = pushed.capacity ∙ i.capacity;
-      left = subst (λ (xs : List Node). IsLeft slots first xs (s + 1)) (sym nodes_are) (left_next slots first nodes s c.requires.placed i.left);
-      same = λ n. subst (λ (xs : List Node). SameButPlaced (node_at first n) (node_at xs n)) (sym nodes_are)
-          (same_next slots first nodes s c.requires.placed i.left i.same n);
-      opened_same = ap (λ (xs : List Node). total removed_count_of xs) nodes_are
-          ∙ (opened_next slots first nodes s c.requires.placed i.left ∙ i.opened_same);
+      worked = subst (λ (xs : List Node). IsWorked slots first xs (s + 1)) (sym nodes_are)
+          (worked_next slots first nodes s c.requires.placed i.worked.left i.worked);
     }

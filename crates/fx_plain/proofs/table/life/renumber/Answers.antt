@@ -1,7 +1,5 @@
-use Rattle.std.proofs.Common.{rules, ◌≡◌, ◌<◌, ◌+◌, sym, ap, subst, ◌∙◌, length, ℕ, List, Option, IfSome, IsSome, arith}
-use Rattle.fx_plain.specs.Contents.{moved_node, file_in, file_named, slot_at, node_at, nodes_without, opening_slot, file_count_of}
-use Rattle.fx_plain.specs.declared.node.Node.{Node}
-use Rattle.fx_plain.specs.Totals.{total}
+use Rattle.fx_plain.proofs.Words.{rules, ◌≡◌, ◌<◌, ◌+◌, sym, ap, subst, ◌∙◌, length, ℕ, List, Option, IfSome, IsSome, arith, moved_node, file_in}
+use Rattle.fx_plain.proofs.Words.{file_named, slot_at, node_at, nodes_without, opening_slot, file_count_of, Node, sum_by}
 use Rattle.fx_plain.proofs.Moving.{IsLeft, inside_named, named_same, left_next, done_next, rest_next, full_next, moved_next}
 use Rattle.fx_plain.proofs.table.life.renumber.Goals as goal
 
@@ -41,6 +39,6 @@ loop-slot-preserved c =
       left = subst (λ (xs : List Node). IsLeft c.args.slots.now.items c.args.nodes.now xs (c.loop-slot.slot + 1))
           (sym (nodes_are ∙ ap (nodes_without c.loop-slot.nodes) here))
           (left_next c.args.slots.now.items c.args.nodes.now c.loop-slot.nodes c.loop-slot.slot c.requires.placed i.left);
-      full = ap (λ (xs : List (Option ℕ)). total file_count_of xs) slots_are
+      full = ap (λ (xs : List (Option ℕ)). sum_by file_count_of xs) slots_are
           ∙ full_next c.args.slots.now.items c.loop-slot.slots.items c.loop-slot.slot inside here ∙ i.full;
     }

@@ -1,6 +1,5 @@
-use Rattle.std.proofs.Common.{◌≡◌, ◌≤◌, ◌<◌, ℕ, Some, length, vec_len, vec_capacity}
-use Rattle.fx_plain.specs.Totals.{total}
-use Rattle.fx_plain.specs.Contents.{slot_at, node_at, moved_node, file_named, opening_slot, file_count_of}
+use Rattle.fx_plain.proofs.Words.{◌≡◌, ◌≤◌, ◌<◌, ℕ, Some, length, sum_by, slot_at, node_at, moved_node, file_named, opening_slot, file_count_of}
+use Rattle.std.proofs.Common.{vec_len, vec_capacity}
 use Rattle.fx_plain.proofs.table.life.renumber.Given as goal
 
 -- the slots so far name their own numbers, and the others are as they were, with their files
@@ -14,5 +13,5 @@ invariant-loop-slot l = record {
   rest : (s : ℕ) → l.slot ≤ s → slot_at l.slots.items s ≡ slot_at l.fn.slots.items s;
   moved : (s : ℕ) → s < l.slot → node_at l.moved.items s ≡ moved_node (file_named l.fn.nodes (slot_at l.fn.slots.items s)) s;
   left : (s number : ℕ) → l.slot ≤ s → slot_at l.fn.slots.items s ≡ Some number → node_at l.nodes number ≡ node_at l.fn.nodes number;
-  full : total file_count_of l.slots.items ≡ total file_count_of l.fn.slots.items;
+  full : sum_by file_count_of l.slots.items ≡ sum_by file_count_of l.fn.slots.items;
 }

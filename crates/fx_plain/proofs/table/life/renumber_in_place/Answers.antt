@@ -1,7 +1,5 @@
-use Rattle.std.proofs.Common.{rules, ◌≡◌, ◌<◌, ◌+◌, sym, ap, subst, ◌∙◌, length, ℕ, List, Option, slice_set, arith}
-use Rattle.fx_plain.specs.Contents.{moved_node, file_named, slot_at, node_at, nodes_without, opening_slot, file_count_of}
-use Rattle.fx_plain.specs.declared.node.Node.{Node}
-use Rattle.fx_plain.specs.Totals.{total}
+use Rattle.fx_plain.proofs.Words.{rules, ◌≡◌, ◌<◌, ◌+◌, sym, ap, subst, ◌∙◌, length, ℕ, List, Option, slice_set, arith, moved_node, file_named}
+use Rattle.fx_plain.proofs.Words.{slot_at, node_at, nodes_without, opening_slot, file_count_of, Node, sum_by}
 use Rattle.fx_plain.proofs.Moving.{IsLeft, named_same, done_next, rest_next, full_next, left_settled, moved_settled, placed_here}
 use Rattle.fx_plain.proofs.table.life.renumber_in_place.Goals as goal
 
@@ -44,5 +42,5 @@ loop-slot-preserved c =
           (λ k. moved_node (file_named c.args.nodes.now (slot_at first k)) k) _ room (ap (λ x. moved_node x s) named) i.moved u lt);
       left = subst (λ (xs : List Node). IsLeft first c.args.nodes.now xs (s + 1)) (sym nodes_are)
           (left_settled first c.args.nodes.now c.loop-slot.nodes s c.requires.placed i.left c.requires.own inside_first _);
-      full = ap (λ (xs : List (Option ℕ)). total file_count_of xs) slots_are ∙ full_next first c.loop-slot.slots.items s inside here ∙ i.full;
+      full = ap (λ (xs : List (Option ℕ)). sum_by file_count_of xs) slots_are ∙ full_next first c.loop-slot.slots.items s inside here ∙ i.full;
     }

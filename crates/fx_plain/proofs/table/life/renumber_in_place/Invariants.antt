@@ -1,6 +1,5 @@
-use Rattle.std.proofs.Common.{◌≡◌, ◌≤◌, ◌<◌, ℕ, Some, length, vec_len}
-use Rattle.fx_plain.specs.Totals.{total}
-use Rattle.fx_plain.specs.Contents.{slot_at, node_at, moved_node, file_named, opening_slot, file_count_of}
+use Rattle.fx_plain.proofs.Words.{◌≡◌, ◌≤◌, ◌<◌, ℕ, Some, length, sum_by, slot_at, node_at, moved_node, file_named, opening_slot, file_count_of}
+use Rattle.std.proofs.Common.{vec_len}
 use Rattle.fx_plain.proofs.table.life.renumber_in_place.Given as goal
 
 -- the slots so far name their own numbers, whose nodes have their files, and what the others name is as it was
@@ -12,5 +11,5 @@ invariant-loop-slot l = record {
   rest : (s : ℕ) → l.slot ≤ s → slot_at l.slots.items s ≡ slot_at l.fn.slots.items s;
   moved : (s : ℕ) → s < l.slot → node_at l.nodes s ≡ moved_node (file_named l.fn.nodes (slot_at l.fn.slots.items s)) s;
   left : (s number : ℕ) → l.slot ≤ s → slot_at l.fn.slots.items s ≡ Some number → node_at l.nodes number ≡ node_at l.fn.nodes number;
-  full : total file_count_of l.slots.items ≡ total file_count_of l.fn.slots.items;
+  full : sum_by file_count_of l.slots.items ≡ sum_by file_count_of l.fn.slots.items;
 }

@@ -1,5 +1,4 @@
-use Rattle.std.proofs.Common.{rules, ◌≡◌, ◌<◌, Some, None, ap, ◌∙◌, length}
-use Rattle.fx_plain.specs.Contents.{slot_at}
+use Rattle.fx_plain.proofs.Words.{rules, ◌≡◌, ◌<◌, Some, None, ap, ◌∙◌, length, slot_at}
 use Rattle.fx_plain.proofs.Removals.{seen_at}
 use Rattle.fx_plain.proofs.Moving.{node_settled}
 use Rattle.fx_plain.proofs.table.life.settle.Goals as goal
