@@ -84,6 +84,7 @@ growths:
 	@scripts/check-growths
 
 wrong-bodies:
+	@scripts/check-refusals --prover
 	@scripts/wrong-bodies $$CRATES
 
 layout:
