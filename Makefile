@@ -9,8 +9,8 @@ $(error Call make in the folder of this Makefile: make -C '$(patsubst %/,%,$(dir
 endif
 
 .DEFAULT_GOAL := help
-.PHONY: help run try kernel prove test examples limits compare agree refused-growths steps mistakes break must-spend growths
-.PHONY: wrong-bodies layout bench bench-rust gate clean
+.PHONY: help run try kernel prove test examples limits compare agree workers refused-growths steps mistakes checks break
+.PHONY: must-spend growths wrong-bodies layout bench bench-rust gate clean
 .NOTPARALLEL:
 
 help:
@@ -24,9 +24,11 @@ help:
 	@echo 'make limits       plays scripts at the limits of the language and the table, and measures the memory that they take'
 	@echo 'make compare      plays random scripts and the largest submissions on the built program and on a second, unproved one'
 	@echo 'make agree        compares the io_uring of this machine with the model on every example and 500 random scripts'
+	@echo 'make workers      counts the threads of the program for each number of workers, and tells its tables apart'
 	@echo 'make refused-growths    plays scripts and makes calls with each growth of the memory refused in its turn'
 	@echo 'make steps        takes the steps of the table without a lock in every order, for small programs'
 	@echo 'make mistakes     makes the mistakes that a user may make, and wants each answered'
+	@echo 'make checks       shows that the scripts that compare notice a program that is wrong'
 	@echo 'make break        makes the wrong change of README.md, and wants its line'
 	@echo 'make must-spend   shows that a program that loses a file is refused'
 	@echo 'make growths      counts how often memory grows in the calls that need none'
@@ -62,6 +64,10 @@ compare:
 	@scripts/build-program
 	@scripts/compare bin/fixfiles
 
+workers:
+	@scripts/build-program
+	@scripts/check-workers bin/fixfiles
+
 refused-growths:
 	@scripts/build-program
 	@scripts/build-program refused_calls refused_calls
@@ -74,6 +80,10 @@ steps:
 mistakes:
 	@scripts/check-mistakes
 
+checks:
+	@scripts/build-program
+	@scripts/check-checks bin/fixfiles
+
 break:
 	@scripts/check-break
 
@@ -84,6 +94,7 @@ growths:
 	@scripts/check-growths
 
 wrong-bodies:
+	@scripts/check-refusals --prover
 	@scripts/wrong-bodies $$CRATES
 
 layout:

@@ -1,0 +1,42 @@
+"""What of a crate the prover refused, by what it wrote of it: a line `fn NAME: ` for each function, and errors in proof files.
+
+`proved` may be followed by `, may wait`, `, may abort` or `where its callers give what it asks`: those are proved too. A
+function that calls one that is not proved has `no proof: it calls X, ..` or `not proved; it calls X, ..`. That is no refusal
+of its own: its goals were proved, or nobody tried them. It is refused itself where its own proof files have an error."""
+import re
+
+LINE = re.compile(r"(?:fn|impl) (\S+): (.*)")
+PROVED = re.compile(r"proved(?: where its callers give what it asks)?(?:, may (?:wait|abort))*$")
+# the prover rests it with another: a callee, the methods of an impl, or a type
+OF_ANOTHER = re.compile(r"it (?:calls|waits for|holds|names) |it is a (?:function|closure) of ")
+# its own file has an error, which may be all that is said of it
+ERROR = re.compile(r"(?:\./)?proofs/(\S+)/(?:Answers|Invariants|Proof)\.antt:\d+:\d+: error")
+UNPROVED = ("not proved", "no proof")
+
+
+def is_refusal(said):
+    """Whether what stands behind `fn NAME: ` says that this function itself is refused."""
+    return said.startswith(UNPROVED) and not OF_ANOTHER.search(said)
+
+
+def refused_functions(lines):
+    """The functions that are themselves not proved, each once and as the prover names it. One that is known by an error in
+    its files alone is named without its crate."""
+    said = ((line, LINE.match(line)) for line in lines if line.startswith("fn "))
+    names = [at[1] for _, at in said if at and is_refusal(at[2])]
+    wrong = {it[1].replace("/", "::") for it in map(ERROR.match, lines) if it}
+    called = {at[1] for at in map(LINE.match, lines) if at}
+    for error in sorted(wrong):
+        names.append(next((it for it in called if it.endswith(f"::{error}")), error))
+    return list(dict.fromkeys(names))
+
+
+def is_proved(said):
+    return PROVED.match(said) is not None
+
+
+def unknown_lines(lines):
+    """The lines of functions that say what is in none of the forms above, so that a new form isn't taken for one of them."""
+    forms = (*UNPROVED, "could not tell", "assumed", "not assumed", "no holes", "depends on a hole")
+    said = ((it, LINE.match(it)) for it in lines if it.startswith("fn "))
+    return [it for it, at in said if at and not is_proved(at[2]) and not at[2].startswith(forms)]

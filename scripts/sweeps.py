@@ -1,0 +1,162 @@
+"""Scripts between the limits of the language and of the table: for each thing that has a size one script, or one for each size,
+with each power of two, one less and one more, up to the limit, and the limit. Each has the text that it must write, worked out
+by hand here as in scripts/limits.py. The order of chains changes no text. scripts/check-limits plays them."""
+from limits import BYTES, CHAINS, ENTRIES, FILES, MEMBERS, SCRIPT_BYTES, SLOTS, lines
+
+A = "file a.txt 68656c6c6f"
+REQUESTS = CHAINS * MEMBERS
+
+
+def sizes(limit, least=1):
+    """Each power of two up to the limit, one less and one more, and the limit."""
+    powers = (1 << bit for bit in range(limit.bit_length() + 1))
+    near = {it + step for it in powers for step in (-1, 0, 1)}
+    return sorted(it for it in near | {limit} if least <= it <= limit)
+
+
+def hexed(count):
+    """The bytes of a file, so that no two places beside each other have the same."""
+    return "".join(f"{(it * 7 + it // 256) % 256:02x}" for it in range(count))
+
+
+def chains_of(requests, members):
+    """Requests in chains of so many members, each with the number of its chain and its own there, and its line."""
+    for at, request in enumerate(requests):
+        chain, member = divmod(at, members)
+        is_last = member == members - 1 or at == len(requests) - 1
+        yield f"{chain + 1}.{member + 1}", request if is_last else f"{request} link"
+
+
+def lists():
+    """A list of each size is registered, updated between submissions, and unregistered. Each third entry is none."""
+    script, text, k = [A], [], 0
+    for count in sizes(SLOTS):
+        entries = ["-1" if it % 3 == 2 else "0" for it in range(count)]
+        there = [it for it in range(count) if it % 3 != 2]
+        script += [f"register {','.join(entries)}", f"regupdate 0 {','.join(['0'] * count)}", "unregister"]
+        text += ["register 0", f"regupdate {count}", *(f"closed r{k + 1}.{it} a.txt" for it in there)]
+        text += ["unregister 0", *(f"closed r{k + 2}.{it} a.txt" for it in range(count))]
+        k += 2
+    return lines(*script), lines(*text)
+
+
+def ends(count):
+    """A table of so many files is there at the end of the script."""
+    text = ["register 0", "teardown", *(f"closed r1.{it} a.txt" for it in range(count))]
+    return lines(A, f"register {','.join(['0'] * count)}"), lines(*text)
+
+
+def tables():
+    """A sparse table of each size is filled, an open at any slot finds none free, each file is read, and the table is
+    unregistered."""
+    script, text = [A], []
+    for nth, count in enumerate(sizes(SLOTS)):
+        k = 2 * nth + 1
+        fills = [f"open a.txt at {it}" for it in range(count)]
+        script += [f"sparse {count}", *fills, "submit", "open a.txt any", *(f"read {it} 0 5" for it in range(count)), "submit", "unregister"]
+        text += ["sparse 0", *(f"{k}.{it + 1}.1 0" for it in range(count))]
+        text += [f"{k + 1}.1.1 -23", *(f"{k + 1}.{it + 2}.1 5 68656c6c6f" for it in range(count))]
+        text += ["unregister 0", *(f"closed {k}.{it + 1}.1.0 a.txt" for it in range(count))]
+    return lines(*script), lines(*text)
+
+
+def one_slot_free():
+    """Of 256 slots each alone is free, and the open at any slot finds it; so it does in a range of each size from each side."""
+    script = [A, "sparse 256", *(f"open a.txt at {it}" for it in range(SLOTS)), "submit"]
+    text = ["sparse 0", *(f"1.{it + 1}.1 0" for it in range(SLOTS))]
+    ranges = [(it, 0, SLOTS) for it in range(SLOTS)]
+    ranges += [(size - 1, 0, size) for size in sizes(SLOTS)] + [(SLOTS - size, SLOTS - size, size) for size in sizes(SLOTS)]
+    holder = {slot: f"1.{slot + 1}.1.0" for slot in range(SLOTS)}
+    for nth, (slot, off, size) in enumerate(ranges, 2):
+        script += [f"range {off} {size}", f"close {slot} link", "open a.txt any", "submit"]
+        text += ["range 0", f"{nth}.1.1 0", f"{nth}.1.2 {slot}", f"closed {holder[slot]} a.txt"]
+        holder[slot] = f"{nth}.1.2.0"
+    marks = sorted(holder.values(), key=lambda mark: [int(it) for it in mark.split(".")])
+    return lines(*script), lines(*text, "teardown", *(f"closed {it} a.txt" for it in marks))
+
+
+def updates():
+    """Updates of 1 to 16 entries."""
+    script, text, held = [A, "sparse 16"], ["sparse 0"], {}
+    for count in range(1, ENTRIES + 1):
+        closed = sorted(held[it] for it in range(count) if it in held)
+        held.update({it: (count, it) for it in range(count)})
+        script += [f"update 0 {','.join(['0'] * count)}", "submit"]
+        text += [f"{count}.1.1 {count}", *(f"closed {n}.1.1.{it} a.txt" for n, it in closed)]
+    return lines(*script), lines(*text, "teardown", *(f"closed {n}.1.1.{it} a.txt" for n, it in sorted(held.values())))
+
+
+def files():
+    """Files of each size, each read whole, past its end and in its last byte."""
+    script, text = [f"file f{it} {hexed(it)}" for it in sizes(BYTES)] + ["sparse 1"], ["sparse 0"]
+    for nth, count in enumerate(sizes(BYTES), 1):
+        script += [f"open f{count} at 0 link", f"read 0 0 {count} link", f"read 0 {count - 1} 4096 link", "close 0", "submit"]
+        last = hexed(count)[-2:]
+        text += [f"{nth}.1.1 0", f"{nth}.1.2 {count} {hexed(count)}", f"{nth}.1.3 1 {last}", f"{nth}.1.4 -125"]
+        text += [f"closed {nth - 1}.1.1.0 f{sizes(BYTES)[nth - 2]}"] if nth > 1 else []
+    return lines(*script), lines(*text, "teardown", f"closed {nth}.1.1.0 f{count}")
+
+
+def reads():
+    """Reads of each length of a file of 4,096 bytes, from its begin and from behind it."""
+    script, text = [f"file a.txt {hexed(BYTES)}", "register 0"], ["register 0"]
+    for nth, count in enumerate(sizes(BYTES), 1):
+        off = BYTES - count
+        script += [f"read 0 0 {count}", f"read 0 {off} {count}", "submit"]
+        text += [f"{nth}.1.1 {count} {hexed(BYTES)[: 2 * count]}", f"{nth}.2.1 {count} {hexed(BYTES)[2 * off :]}"]
+    return lines(*script), lines(*text, "teardown", "closed r1.0 a.txt")
+
+
+def chains(count):
+    """So many chains of one open each, for which 256 file numbers are prepared and 64 for each chain. The first 256 fill the
+    table, and the others name no file."""
+    opens = [f"open a.txt at {it}" if it < SLOTS else "open no.txt any" for it in range(count)]
+    text = [f"1.{it + 1}.1 {0 if it < SLOTS else -2}" for it in range(count)]
+    closed = [f"closed 1.{it + 1}.1.0 a.txt" for it in range(min(count, SLOTS))]
+    return lines(A, "sparse 256", *opens, "submit"), lines("sparse 0", *text, "teardown", *closed)
+
+
+def requests(count):
+    """So many requests in full chains: reads of nothing of a file that is there."""
+    played = list(chains_of(["read 0 0 0"] * count, MEMBERS))
+    script = [A, "register 0", *(it for _, it in played), "submit"]
+    return lines(*script), lines("register 0", *(f"1.{it} 0" for it, _ in played), "teardown", "closed r1.0 a.txt")
+
+
+def waiting(count):
+    """So many requests wait for their submit, which is refused where they are more chains than 1,023."""
+    text = [f"submit refused too-many-chains {CHAINS + 1}"] if count > CHAINS else [f"1.{it + 1}.1 -6" for it in range(count)]
+    return lines(*["close 0"] * count, "submit"), lines(*text)
+
+
+def fault_at(line):
+    """Comments, and a command that there is none of in that line."""
+    return "#\n" * (line - 1) + "x", "", f"line {line}: unknown-command"
+
+
+def unsubmitted_from(line):
+    """A request that waits from that line on, and behind it as many as there is room for."""
+    room = (SCRIPT_BYTES - 2 * line) // len("close 0\n")
+    return "#\n" * (line - 1) + "close 0\n" * max(1, min(20_001, room)), "", f"line {line}: unsubmitted"
+
+
+def catalogues(count):
+    """So many files, of which the last one is opened."""
+    script = [*(f"file f{it} {it % 256:02x}" for it in range(count)), "sparse 1", f"open f{count - 1} at 0 link", "read 0 0 1", "submit"]
+    text = ["sparse 0", "1.1.1 0", f"1.1.2 1 {(count - 1) % 256:02x}", "teardown", f"closed 1.1.1.0 f{count - 1}"]
+    return lines(*script), lines(*text)
+
+
+def sweeps():
+    """Each script: its name, the script, the text, and the line and the fault of a bad one."""
+    for whole in (lists, tables, one_slot_free, updates, files, reads):
+        yield whole.__name__, *whole(), ""
+    for made, counts in ((ends, sizes(SLOTS)), (catalogues, sizes(FILES)), (chains, sizes(CHAINS)), (requests, sizes(REQUESTS))):
+        for count in counts:
+            yield f"{made.__name__}_{count}", *made(count), ""
+    for count in sizes(SCRIPT_BYTES // len("close 0\n") - 1):
+        yield f"waiting_{count}", *waiting(count), ""
+    for line in sizes(SCRIPT_BYTES // len("#\n")):
+        yield f"fault_at_{line}", *fault_at(line)
+    for line in sizes(SCRIPT_BYTES // len("#\n") - len("close 0\n")):
+        yield f"unsubmitted_from_{line}", *unsubmitted_from(line)
