@@ -2,7 +2,7 @@
 use Rattle.fx_plain.proofs.Words.{length-set, get_or_default, ◌≡◌, ℕ, zero, suc, ◌+◌, ◌<◌, ◌≤◌, List, ◌++◌, length, length-append, add-one, refl}
 use Rattle.fx_plain.proofs.Words.{sym, ap, subst, ◌∙◌, slice_index_or, Option, Some, None, arith, inl, inr, cases_lt, option_to_list, File}
 use Rattle.fx_plain.proofs.Words.{files_in_order, identities_of, AllPlaced, SameButPlaced, slot_at, node_at, file_at, placed_at, file_named, file_in}
-use Rattle.fx_plain.proofs.Words.{nodes_without, removed_count_of, At, Gone, sum_by, Node, sum_by-set}
+use Rattle.fx_plain.proofs.Words.{nodes_without, removed_count_of, At, Gone, sum_by, Node, sum_by-set, identity_of}
 use Rattle.fx_plain.proofs.Cells.{each_set}
 use Rattle.fx_plain.proofs.Writes.{inside_of-At}
 use Rattle.fx_plain.proofs.Moving.{IsLeft, left_next, named_same}
@@ -18,6 +18,10 @@ files_more at m (suc n) le = elim (cases_lt m (suc n)) [
 pub files_next : (at : ℕ → Option File) (n : ℕ) → files_in_order at (n + 1) ≡ files_in_order at n ++ identities_of (at n)
 files_next at n = ap (files_in_order at) (add-one n)
 
+listed : (found : Option File) → option_to_list (identity_of found) ≡ identities_of found
+listed None = refl
+listed (Some f) = refl
+
 -- the files of the first slots are out, and those of the others stand where they stood
 pub record IsWorked (slots : List (Option ℕ)) (first nodes : List Node) (s : ℕ) : Type 0 where
   pub len : length nodes ≡ length first
@@ -29,14 +33,17 @@ pub read_slot : (slots : List (Option ℕ)) (s : ℕ) (x : Option ℕ) → s < l
 read_slot slots s x inside read = read ∙ sym (get_or_default slots s None x inside)
 
 module _ (slots : List (Option ℕ)) (first nodes : List Node) (s : ℕ) (placed : AllPlaced slots first) (left : IsLeft slots first nodes s) where
-  listed_is : (x : Option ℕ) → slot_at slots s ≡ x → identities_of (file_at first x) ≡ option_to_list (file_named first x)
-  listed_is None is = refl
-  listed_is (Some n) is = let there = placed s n is in
-      ap (λ (node : Node). identities_of (placed_at n node)) there.1 ∙ sym (ap (λ (node : Node). option_to_list (file_in node)) there.1)
+  named_is : (x : Option ℕ) → slot_at slots s ≡ x → file_named first x ≡ identity_of (file_at first x)
+  named_is None is = refl
+  named_is (Some n) is = let there = placed s n is in
+      ap file_in there.1 ∙ sym (ap (λ (node : Node). identity_of (placed_at n node)) there.1)
 
-  -- the file that is closed is the next one in order
+  -- the file that is taken is the one of the slot, and the one that is closed is the next in order
+  pub next_taken : file_named nodes (slot_at slots s) ≡ identity_of (file_at first (slot_at slots s))
+  next_taken = named_same slots first nodes s placed left ∙ named_is (slot_at slots s) refl
+
   pub next_listed : option_to_list (file_named nodes (slot_at slots s)) ≡ identities_of (file_at first (slot_at slots s))
-  next_listed = ap option_to_list (named_same slots first nodes s placed left) ∙ sym (listed_is (slot_at slots s) refl)
+  next_listed = ap option_to_list next_taken ∙ listed (file_at first (slot_at slots s))
 
   worked_without : (x : Option ℕ) → slot_at slots s ≡ x → IsWorked slots first nodes s → IsWorked slots first (nodes_without nodes x) (s + 1)
   worked_without None is w = record { len = w.len; left = λ u m le at. w.left u m (omega arith) at; same = w.same; opened = w.opened }

@@ -1,21 +1,10 @@
 -- The files of the slots are taken out, one slot after another, and a file comes back to the number of its slot.
 use Rattle.fx_plain.proofs.Words.{◌≤◌, ◌≡◌, ℕ, ◌+◌, List, ◌∷◌, [], ◌++◌, length, add-one, refl, sym, ap, ◌∙◌, arith, Option, Some, None, File}
-use Rattle.fx_plain.proofs.Words.{Contents, IsTable, IsCounted, AllPlaced, SameButPlaced, state_of, slot_at, node_at, file_at, placed_at, file_named}
-use Rattle.fx_plain.proofs.Words.{file_in, file_count_of, removed_count_of, identity_of, numbered, slots_in_order, sum_by, Node}
-use Rattle.fx_plain.proofs.Moving.{IsLeft, named_same}
+use Rattle.fx_plain.proofs.Words.{Contents, IsTable, IsCounted, SameButPlaced, state_of, slot_at, node_at, file_at, placed_at, file_count_of}
+use Rattle.fx_plain.proofs.Words.{removed_count_of, identity_of, numbered, slots_in_order, sum_by, Node}
 
 pub slots_next : (at : ℕ → Option File) (n : ℕ) → slots_in_order at (n + 1) ≡ slots_in_order at n ++ identity_of (at n) ∷ []
 slots_next at n = ap (slots_in_order at) (add-one n)
-
-module _ (slots : List (Option ℕ)) (first nodes : List Node) (s : ℕ) (placed : AllPlaced slots first) (left : IsLeft slots first nodes s) where
-  named_is : (x : Option ℕ) → slot_at slots s ≡ x → file_named first x ≡ identity_of (file_at first x)
-  named_is None is = refl
-  named_is (Some n) is = let there = placed s n is in
-      ap file_in there.1 ∙ sym (ap (λ (node : Node). identity_of (placed_at n node)) there.1)
-
-  -- the file that is taken is the one of the slot
-  pub next_taken : file_named nodes (slot_at slots s) ≡ identity_of (file_at first (slot_at slots s))
-  next_taken = named_same slots first nodes s placed left ∙ named_is (slot_at slots s) refl
 
 -- a table whose files were taken out
 module _ (c : Contents) (slots : List (Option ℕ)) (range : ℕ × ℕ) (nodes : List Node) (t : IsTable c) (none : (s : ℕ) → slot_at slots s ≡ None)

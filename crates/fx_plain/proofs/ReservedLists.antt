@@ -1,7 +1,7 @@
 -- What stands in a list of which only a beginning is written.
 use Rattle.fx_plain.proofs.Words.{◌≡◌, ◌≢◌, ℕ, zero, suc, ◌+◌, ◌-◌, ◌<◌, ◌≤◌, List, [], ◌∷◌, ◌++◌, length, length-append, replicate, refl, sym, ap}
 use Rattle.fx_plain.proofs.Words.{subst, ◌∙◌, slice_index_or, slice_set, append_assoc, IsSome, arith, inl, inr, length-set, length-replicate}
-use Rattle.fx_plain.proofs.Words.{get_or_append_left, cases_lt, get_or-eq_default, node_at, file_in, Fresh, Gone, with_rest, Node}
+use Rattle.fx_plain.proofs.Words.{get_or_append_left, cases_lt, get_or-eq_default, node_at, file_in, Fresh, Gone, with_rest, Node, set-set}
 use Rattle.std.proofs.lemmas.List.{get_or-take, get_or-append-add, set-append_left}
 use Rattle.std.proofs.lemmas.Grind.{common_steps}
 
@@ -61,3 +61,20 @@ pub written_inside : (len : ℕ) (xs : List Node) (n : ℕ) → length xs ≤ le
 written_inside len xs n few has = inside_written Fresh Gone len xs n few
     (λ is. let none : IsSome (file_in Fresh) = subst (λ (node : Node). IsSome (file_in node)) is has in cc none)
     (λ is. let none : IsSome (file_in Gone) = subst (λ (node : Node). IsSome (file_in node)) is has in cc none)
+
+-- a write at a node with a file is a write of the whole list
+pub written_over : (len : ℕ) (xs ys seen : List Node) (n : ℕ) (x : Node) → length xs ≤ len → with_rest Fresh len xs ≡ seen
+    → IsSome (file_in (node_at seen n)) → ys ≡ slice_set xs n x → with_rest Fresh len ys ≡ slice_set seen n x
+written_over len xs ys seen n x few is has set = ap (with_rest Fresh len) set
+    ∙ with_rest-set Fresh len xs n x (written_inside len xs n few (subst (λ (l : List Node). IsSome (file_in (node_at l n))) (sym is) has))
+    ∙ ap (λ (l : List Node). slice_set l n x) is
+
+-- and so is one of what the node becomes
+pub changed_over : (f : Node → Node) (len : ℕ) (xs mid ys seen : List Node) (n : ℕ) (node now : Node) → length xs ≤ len → with_rest Fresh len xs ≡ seen
+    → IsSome (file_in (node_at seen n)) → node ≡ node_at xs n → mid ≡ slice_set xs n Gone → now ≡ f node → ys ≡ slice_set mid n now
+    → with_rest Fresh len ys ≡ slice_set seen n (f (node_at seen n))
+changed_over f len xs mid ys seen n node now few is has read out became set =
+    let inside = written_inside len xs n few (subst (λ (l : List Node). IsSome (file_in (node_at l n))) (sym is) has) in
+    let same : node ≡ node_at seen n = read ∙ sym (read_written Fresh len xs n Gone inside) ∙ ap (λ (l : List Node). node_at l n) is in
+    written_over len xs ys seen n (f (node_at seen n)) few is has
+    (set ∙ ap (λ (l : List Node). slice_set l n now) out ∙ set-set xs n Gone now ∙ ap (slice_set xs n) (became ∙ ap f same))

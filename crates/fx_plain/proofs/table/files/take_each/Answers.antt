@@ -1,7 +1,7 @@
 use Rattle.fx_plain.proofs.Words.{rules, ◌≡◌, ◌<◌, ◌+◌, ◌++◌, ◌∷◌, [], sym, ap, subst, ◌∙◌, length, append_assoc, arith, ℕ, List, Option, Closed}
 use Rattle.fx_plain.proofs.Words.{File, identity_of, slots_in_order, file_at, file_named, slot_at, nodes_without, Node}
-use Rattle.fx_plain.proofs.Emptying.{read_slot, worked_next, IsWorked}
-use Rattle.fx_plain.proofs.FilesOut.{slots_next, next_taken}
+use Rattle.fx_plain.proofs.Emptying.{read_slot, next_taken, worked_next, IsWorked}
+use Rattle.fx_plain.proofs.FilesOut.{slots_next}
 use Rattle.fx_plain.proofs.table.files.take_each.Goals as goal
 
 pub loop-slot-preserved : goal.loop-slot-preserved

@@ -1,55 +1,60 @@
-use Rattle.fx_plain.proofs.Words.{rules, ◌≡◌, ◌<◌, ◌+◌, ◌++◌, sym, ap, subst, ◌∙◌, length, length-append, append_assoc, ℕ, List, Option, IfSome}
-use Rattle.fx_plain.proofs.Words.{IsSome, arith, option_to_list, Closed, File, files_in_order, identities_of, file_at, file_in, file_named, slot_at}
-use Rattle.fx_plain.proofs.Words.{node_at, nodes_without, Node}
+use Rattle.fx_plain.proofs.Words.{rules, ◌≡◌, ◌+◌, ◌++◌, sym, ap, subst, ◌∙◌, length, length-append, append_assoc, ℕ, List, Option, IfSome, IsSome}
+use Rattle.fx_plain.proofs.Words.{arith, option_to_list, Closed, File, files_in_order, identities_of, file_at, file_in, file_named, slot_at, node_at}
+use Rattle.fx_plain.proofs.Words.{nodes_without, Node}
 use Rattle.fx_plain.proofs.Moving.{inside_named}
 use Rattle.fx_plain.proofs.Emptying.{files_more, files_next, read_slot, next_listed, worked_next, IsWorked}
+use Rattle.fx_plain.proofs.table.life.close_all.Goals.{After-index}
 use Rattle.fx_plain.proofs.table.life.close_all.Goals as goal
 
+module _ (c : After-index) where
+  abbrev slots : List (Option ℕ)
+  slots = c.args.slots.now.items
+
+  abbrev nodes : List Node
+  nodes = c.loop-slot.nodes
+
+  abbrev at : ℕ → Option File
+  at s = file_at c.args.nodes.now (slot_at slots s)
+
+  read : c.index.result.now ≡ slot_at slots c.loop-slot.slot
+  read = read_slot slots c.loop-slot.slot c.index.result.now (search rules) c.index.ensures
+
+  listed : option_to_list (file_named nodes c.index.result.now) ≡ identities_of (at c.loop-slot.slot)
+  listed = ap (λ (y : Option ℕ). option_to_list (file_named nodes y)) read
+      ∙ next_listed slots c.args.nodes.now nodes c.loop-slot.slot c.requires.placed c.loop-slot.invariant.worked.left
+
 pub close_file-requires-clause-inside : goal.close_file-requires-clause-inside
-close_file-requires-clause-inside c =
-    let i = c.loop-slot.invariant in
-    let inside : c.loop-slot.slot < length c.args.slots.now.items = search rules in
-    let x = read_slot c.args.slots.now.items c.loop-slot.slot c.index.result.now inside c.index.ensures in
-    (subst (λ (y : Option ℕ). IfSome y (λ k. IsSome (file_in (node_at c.loop-slot.nodes k)))) (sym x)
-    (inside_named c.args.slots.now.items c.args.nodes.now c.loop-slot.nodes c.loop-slot.slot c.requires.placed i.worked.left))
+close_file-requires-clause-inside c = let a = (goal.at.close_file-requires-clause-inside c).After-index in
+    subst (λ (y : Option ℕ). IfSome y (λ k. IsSome (file_in (node_at c.loop-slot.nodes k)))) (sym (read a))
+    (inside_named c.args.slots.now.items c.args.nodes.now c.loop-slot.nodes c.loop-slot.slot c.requires.placed c.loop-slot.invariant.worked.left)
 
 pub close_file-requires-clause-room : goal.close_file-requires-clause-room
 close_file-requires-clause-room c =
-    let i = c.loop-slot.invariant in
-    let inside : c.loop-slot.slot < length c.args.slots.now.items = search rules in
-    let x = read_slot c.args.slots.now.items c.loop-slot.slot c.index.result.now inside c.index.ensures in
-    let at : ℕ → Option File = λ s. file_at c.args.nodes.now (slot_at c.args.slots.now.items s) in
-    let more = files_more at (c.loop-slot.slot + 1) (length c.args.slots.now.items) (omega arith) in
-    let next = ap length (files_next at c.loop-slot.slot) in
-    let both = length-append (files_in_order at c.loop-slot.slot) (identities_of (at c.loop-slot.slot)) in
-    let same : length (option_to_list (file_named c.loop-slot.nodes c.index.result.now)) ≡ length (identities_of (at c.loop-slot.slot)) =
-    ap (λ (y : Option ℕ). length (option_to_list (file_named c.loop-slot.nodes y))) x
-    ∙ ap length (next_listed c.args.slots.now.items c.args.nodes.now c.loop-slot.nodes c.loop-slot.slot c.requires.placed i.worked.left) in
+    let a = (goal.at.close_file-requires-clause-room c).After-index in
+    let more = files_more (at a) (c.loop-slot.slot + 1) (length c.args.slots.now.items) (omega arith) in
+    let next = ap length (files_next (at a) c.loop-slot.slot) in
+    let both = length-append (files_in_order (at a) c.loop-slot.slot) (identities_of (at a c.loop-slot.slot)) in
+    let same = ap length (listed a) in
     let asked = c.requires.room in
-    let room = i.room in
+    let room = c.loop-slot.invariant.room in
     omega arith
 
 pub loop-slot-preserved : goal.loop-slot-preserved
 loop-slot-preserved c =
+    let a = (goal.at.loop-slot-preserved c).After-index in
     let i = c.loop-slot.invariant in
-    let inside : c.loop-slot.slot < length c.args.slots.now.items = search rules in
-    let x = read_slot c.args.slots.now.items c.loop-slot.slot c.index.result.now inside c.index.ensures in
-    let at : ℕ → Option File = λ s. file_at c.args.nodes.now (slot_at c.args.slots.now.items s) in
-    let named : option_to_list (file_named c.loop-slot.nodes c.index.result.now) ≡ identities_of (at c.loop-slot.slot) =
-    ap (λ (y : Option ℕ). option_to_list (file_named c.loop-slot.nodes y)) x
-    ∙ next_listed c.args.slots.now.items c.args.nodes.now c.loop-slot.nodes c.loop-slot.slot c.requires.placed i.worked.left in
     let nodes_are : c.close_file.new.nodes ≡ nodes_without c.loop-slot.nodes (slot_at c.args.slots.now.items c.loop-slot.slot) =
-    c.close_file.ensures.nodes ∙ ap (nodes_without c.loop-slot.nodes) x in
-    let next = ap length (files_next at c.loop-slot.slot) in
-    let both = length-append (files_in_order at c.loop-slot.slot) (identities_of (at c.loop-slot.slot)) in
-    let same = ap length named in
+    c.close_file.ensures.nodes ∙ ap (nodes_without c.loop-slot.nodes) (read a) in
+    let next = ap length (files_next (at a) c.loop-slot.slot) in
+    let both = length-append (files_in_order (at a) c.loop-slot.slot) (identities_of (at a c.loop-slot.slot)) in
+    let same = ap length (listed a) in
     let room = i.room in
     let closed = c.close_file.ensures.room in
     record {
       files = c.close_file.ensures.files ∙ ap (λ (xs : List Closed). xs ++ option_to_list (file_named c.loop-slot.nodes c.index.result.now)) i.files
-          ∙ append_assoc c.args.closes.now.files (files_in_order at c.loop-slot.slot) _
-          ∙ ap (λ (xs : List Closed). c.args.closes.now.files ++ (files_in_order at c.loop-slot.slot ++ xs)) named
-          ∙ ap (λ (xs : List Closed). c.args.closes.now.files ++ xs) (sym (files_next at c.loop-slot.slot));
+          ∙ append_assoc c.args.closes.now.files (files_in_order (at a) c.loop-slot.slot) _
+          ∙ ap (λ (xs : List Closed). c.args.closes.now.files ++ (files_in_order (at a) c.loop-slot.slot ++ xs)) (listed a)
+          ∙ ap (λ (xs : List Closed). c.args.closes.now.files ++ xs) (sym (files_next (at a) c.loop-slot.slot));
       room = omega arith;
       worked = subst (λ (xs : List Node). IsWorked c.args.slots.now.items c.args.nodes.now xs (c.loop-slot.slot + 1)) (sym nodes_are)
           (worked_next c.args.slots.now.items c.args.nodes.now c.loop-slot.nodes c.loop-slot.slot c.requires.placed i.worked.left i.worked);
