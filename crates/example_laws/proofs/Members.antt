@@ -8,7 +8,9 @@ use Rattle.fx_chain.specs.Explains.{canceled, severs}
 use Rattle.fx_chain.specs.Operation.{Asked}
 use Rattle.fx_chain.specs.declared.completion.Place.{Place}
 use Rattle.fx_plain.proofs.Cells.{by_equality}
-use Rattle.fx_order.specs.Access.{Access, ChainAccess, access_of, accesses_of, accesses_of_chain}
+use Rattle.fx_order.specs.Access.{access_of, accesses_of, accesses_of_chain}
+use Rattle.fx_order.specs.declared.access.Access.{Access}
+use Rattle.fx_order.specs.declared.access.ChainAccess.{ChainAccess}
 use Rattle.fx_order.specs.Requests.{IsChainDone}
 
 -- a chain whose first member made these accesses and answered so

@@ -14,7 +14,8 @@ use Rattle.fx_ring.specs.Registration.{registered_sparse, sparse_refusal}
 use Rattle.fx_ring.specs.Ring.{RingContents, RingState, HasClosed, files_of, new_ring, ring_of}
 use Rattle.fx_ring.specs.Submission.{Reported}
 use Rattle.fx_ring.specs.declared.ring.TheConstants.{MOST_SUBMISSIONS}
-use Rattle.fx_order.specs.Access.{Access, accesses_of, removed_in, table_after}
+use Rattle.fx_order.specs.Access.{accesses_of, removed_in, table_after}
+use Rattle.fx_order.specs.declared.access.Access.{Access}
 use Rattle.fx_order.specs.Order.{IsOneOrder, table_of}
 use Rattle.fx_order.proofs.Ordered.{each_history_is_an_order}
 use Rattle.fx_script.specs.Instruction.{MakesSparse, SubmitsAll}

@@ -12,7 +12,8 @@ use Rattle.fx_chain.specs.declared.completion.Place.{Place}
 use Rattle.fx_chain.specs.declared.request.Target.TheVariants.{Slot}
 use Rattle.fx_ring.specs.Registration.{registered_sparse}
 use Rattle.fx_ring.specs.Ring.{RingState, new_ring}
-use Rattle.fx_order.specs.Access.{Access, Looks, Puts, PermitsAll}
+use Rattle.fx_order.specs.Access.{Looks, Puts, PermitsAll}
+use Rattle.fx_order.specs.declared.access.Access.{Access}
 use Rattle.fx_order.specs.Order.{table_of}
 use Rattle.fx_order.specs.Requests.{IsChainDone, gives}
 use Rattle.example_laws.proofs.Members.{after_member}

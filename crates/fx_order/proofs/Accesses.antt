@@ -13,8 +13,10 @@ use Rattle.fx_plain.specs.Step.{Allows, after, changed_at}
 use Rattle.fx_plain.specs.History.{◌▷▷◌, state_after, AllowsAll, action_of, part_of_chain}
 use Rattle.fx_plain.specs.Table.{identity_of}
 use Rattle.fx_plain.proofs.Cells.{by_equality}
-use Rattle.fx_order.specs.Access.{Table, Access, Looks, Puts, Clears, Takes, Allocates, FindsFull, PermitsAll, table_with, table_after}
-use Rattle.fx_order.specs.Access.{ChainAccess, access_of, accesses_of, accesses_of_chain}
+use Rattle.fx_order.specs.Access.{Table, Looks, Puts, Clears, Takes, Allocates, FindsFull, PermitsAll, table_with, table_after}
+use Rattle.fx_order.specs.declared.access.Access.{Access}
+use Rattle.fx_order.specs.Access.{access_of, accesses_of, accesses_of_chain}
+use Rattle.fx_order.specs.declared.access.ChainAccess.{ChainAccess}
 
 -- a state without the numbers of its files, its holds and what it has given up
 abbrev pub shown : State → Table

@@ -23,7 +23,9 @@ use Rattle.fx_chain.specs.declared.completion.Place.{Place}
 use Rattle.fx_chain.specs.declared.request.Target.{Target}
 use Rattle.fx_chain.specs.declared.request.Target.TheVariants.{Slot, Any}
 use Rattle.fx_ring.specs.Submission.{ExplainsParts}
-use Rattle.fx_order.specs.Access.{Access, Looks, Puts, Clears, Takes, Allocates, FindsFull, ChainAccess, accesses_of_chain}
+use Rattle.fx_order.specs.Access.{Looks, Puts, Clears, Takes, Allocates, FindsFull, accesses_of_chain}
+use Rattle.fx_order.specs.declared.access.Access.{Access}
+use Rattle.fx_order.specs.declared.access.ChainAccess.{ChainAccess}
 use Rattle.fx_order.specs.Requests.{Makes, IsRefused, IsOpenDone, IsReadDone, IsCloseDone, IsEntryDone, AreEntriesDone, IsUpdateDone, IsRequestDone}
 use Rattle.fx_order.specs.Requests.{IsChainDone, AreChainsDone, gives}
 use Rattle.fx_order.proofs.Requests.{same_cases}

@@ -10,7 +10,8 @@ use Rattle.fx_plain.specs.State.{State, IsSettled}
 use Rattle.fx_plain.specs.History.{◌▷◌, ◌▷▷◌, state_after, AllowsAll, AllReleaseTheirOwn, held_by, close_of, closes_in}
 use Rattle.fx_plain.specs.Table.{identity_of}
 use Rattle.fx_plain.proofs.Cells.{by_equality}
-use Rattle.fx_order.specs.Access.{Access, Looks, Puts, Clears, Takes, Allocates, FindsFull, Permits, table_with, removed_by}
+use Rattle.fx_order.specs.Access.{Looks, Puts, Clears, Takes, Allocates, FindsFull, Permits, table_with, removed_by}
+use Rattle.fx_order.specs.declared.access.Access.{Access}
 use Rattle.fx_order.proofs.Accesses.{shown, shown-after}
 
 -- the release of what a look-up found, if it found a file

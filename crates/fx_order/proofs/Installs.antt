@@ -25,7 +25,9 @@ use Rattle.fx_chain.proofs.Chains.{accepted-chains, members-are-runs}
 use Rattle.fx_chain.proofs.EntryKinds.{list_installs-cons}
 use Rattle.fx_plain.proofs.Cells.{by_equality}
 use Rattle.fx_ring.proofs.Parts.{has, lacks, kept_lacking, within_lacking, none_within}
-use Rattle.fx_order.specs.Access.{Access, ChainAccess, accesses_of, accesses_of_chain}
+use Rattle.fx_order.specs.Access.{accesses_of, accesses_of_chain}
+use Rattle.fx_order.specs.declared.access.Access.{Access}
+use Rattle.fx_order.specs.declared.access.ChainAccess.{ChainAccess}
 use Rattle.fx_order.specs.Requests.{IsRefused, IsOpenDone, IsReadDone, IsCloseDone, IsEntryDone, AreEntriesDone, IsUpdateDone, IsRequestDone}
 use Rattle.fx_order.specs.Requests.{IsChainDone, AreChainsDone}
 use Rattle.fx_order.proofs.AtOnce.{installs}

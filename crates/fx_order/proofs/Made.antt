@@ -9,7 +9,9 @@ use Rattle.fx_plain.specs.State.{State, IsSettled}
 use Rattle.fx_plain.specs.History.{◌▷▷◌, action_of, part_of_chain, AllowsAll, Leads, AllReleaseTheirOwn, state_after, closes_in}
 use Rattle.fx_plain.proofs.Cells.{by_equality}
 use Rattle.fx_plain.proofs.Leading.{leads_then, closes_in-then}
-use Rattle.fx_order.specs.Access.{Table, Access, ChainAccess, PermitsAll, access_of, accesses_of, accesses_of_chain, removed_in, table_after}
+use Rattle.fx_order.specs.Access.{Table, PermitsAll, access_of, accesses_of, accesses_of_chain, removed_in, table_after}
+use Rattle.fx_order.specs.declared.access.Access.{Access}
+use Rattle.fx_order.specs.declared.access.ChainAccess.{ChainAccess}
 use Rattle.fx_order.proofs.Accesses.{shown}
 use Rattle.fx_order.proofs.AtOnce.{Does, Done, by, done, installs}
 use Rattle.fx_order.proofs.Ordered.{IsWithin}

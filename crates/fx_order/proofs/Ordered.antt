@@ -15,7 +15,9 @@ use Rattle.fx_chain.specs.Operation.{Asked}
 use Rattle.fx_chain.specs.Runs.{runs_of}
 use Rattle.fx_ring.specs.Ring.{RingContents, RingState, ring_of}
 use Rattle.fx_ring.specs.Submission.{IsOneHistory, Reported}
-use Rattle.fx_order.specs.Access.{Table, Access, Looks, Puts, Clears, Takes, Allocates, FindsFull, ChainAccess, PermitsAll, table_with}
+use Rattle.fx_order.specs.Access.{Table, Looks, Puts, Clears, Takes, Allocates, FindsFull, PermitsAll, table_with}
+use Rattle.fx_order.specs.declared.access.Access.{Access}
+use Rattle.fx_order.specs.declared.access.ChainAccess.{ChainAccess}
 use Rattle.fx_order.specs.Access.{table_after, removed_in, accesses_of}
 use Rattle.fx_order.specs.Order.{IsOneOrder, table_of}
 use Rattle.fx_order.proofs.Accesses.{shown, accesses_by, accesses_in, order_in, by_chain, accesses_of-order_in, permitted_along, shown-opening}

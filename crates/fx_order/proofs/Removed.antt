@@ -18,7 +18,8 @@ use Rattle.fx_plain.specs.Table.{identity_of}
 use Rattle.fx_plain.proofs.Cells.{by_equality}
 use Rattle.fx_plain.proofs.Named.{named, named_itself}
 use Rattle.fx_plain.proofs.LawTallies.{present, placed_one, tally, tally_all, tally_start}
-use Rattle.fx_order.specs.Access.{Access, removed_by, removed_in}
+use Rattle.fx_order.specs.Access.{removed_by, removed_in}
+use Rattle.fx_order.specs.declared.access.Access.{Access}
 use Rattle.fx_order.proofs.Accesses.{accesses_in, accesses_by}
 
 abbrev identity : File → Closed

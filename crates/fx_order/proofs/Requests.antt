@@ -24,7 +24,8 @@ use Rattle.fx_chain.specs.declared.completion.Place.{Place}
 use Rattle.fx_chain.specs.declared.request.Target.{Target}
 use Rattle.fx_chain.specs.declared.request.Target.TheVariants.{Slot, Any}
 use Rattle.fx_ring.specs.Submission.{ExplainsParts}
-use Rattle.fx_order.specs.Access.{Access, Puts, Allocates}
+use Rattle.fx_order.specs.Access.{Puts, Allocates}
+use Rattle.fx_order.specs.declared.access.Access.{Access}
 use Rattle.fx_order.specs.Requests.{IsRefused, IsOpenDone, IsReadDone, IsCloseDone, IsEntryDone, AreEntriesDone, IsUpdateDone, IsRequestDone}
 use Rattle.fx_order.specs.Requests.{IsChainDone, AreChainsDone}
 use Rattle.fx_order.proofs.Accesses.{accesses_in, accesses_in-then, order_in, accesses_of_chain-order_in}

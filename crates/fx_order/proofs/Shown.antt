@@ -9,7 +9,8 @@ use Rattle.fx_plain.specs.Table.{identity_of}
 use Rattle.fx_plain.specs.declared.node.Node.{Node}
 use Rattle.fx_plain.proofs.Cells.{by_equality}
 use Rattle.fx_ring.specs.Ring.{RingContents, RingState, ring_of}
-use Rattle.fx_order.specs.Access.{Table, Access, Looks, Puts, Clears, Takes, Allocates, FindsFull, PermitsAll, table_with, table_after}
+use Rattle.fx_order.specs.Access.{Table, Looks, Puts, Clears, Takes, Allocates, FindsFull, PermitsAll, table_with, table_after}
+use Rattle.fx_order.specs.declared.access.Access.{Access}
 
 -- the first so many values of a function
 pub listed : {X : Type 0} → (ℕ → X) → ℕ → List X

@@ -4,6 +4,9 @@ use Rattle.std.specs.Prelude.{◌≡◌, ℕ, ◌+◌, ◌<◌, ◌≤◌, ◌==
 use Rattle.std.specs.Option.{option_to_list}
 use Rattle.fx_base.specs.declared.open_file.Closed.{Closed}
 use Rattle.fx_plain.specs.Step.{changed_at}
+use Rattle.fx_order.specs.declared.access.Access.{Access}
+pub use Rattle.fx_order.specs.declared.access.Access.TheVariants.{Looks, Puts, Clears, Takes, Allocates, FindsFull}
+use Rattle.fx_order.specs.declared.access.ChainAccess.{ChainAccess}
 
 pub record Table : Type 0 where
   -- how many slots there are, from 0
@@ -12,22 +15,6 @@ pub record Table : Type 0 where
   pub range : ℕ × ℕ
   -- the file at each slot
   pub at : ℕ → Option Closed
-
--- one access of a table. Slots come first, then the file that is installed, then the file that was
--- found there
-pub data Access : Type 0 where
-  -- a read looks at a slot
-  Looks : ℕ → Option Closed → Access
-  -- an open, or an entry of an update, installs a file at a slot
-  Puts : ℕ → Closed → Option Closed → Access
-  -- an entry of an update empties a slot
-  Clears : ℕ → Option Closed → Access
-  -- a close empties a slot
-  Takes : ℕ → Option Closed → Access
-  -- an open installs a file at a free slot of the allocation range
-  Allocates : ℕ → Closed → Access
-  -- an open finds no free slot in the allocation range
-  FindsFull : Access
 
 -- the slot is one of the allocation range
 abbrev pub IsInRange : Table → ℕ → Type 0
@@ -81,11 +68,6 @@ table_after table (access ∷ accesses) = table_after (table_with table access) 
 abbrev pub removed_in : List Access → List Closed
 removed_in [] = []
 removed_in (access ∷ accesses) = option_to_list (removed_by access) ++ removed_in accesses
-
--- an access, and the chain whose request makes it
-pub record ChainAccess : Type 0 where
-  pub chain : ℕ
-  pub access : Access
 
 abbrev pub access_of : ChainAccess → Access
 access_of x = x.access

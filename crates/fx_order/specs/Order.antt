@@ -5,7 +5,8 @@ use Rattle.fx_chain.specs.Operation.{Asked}
 use Rattle.fx_chain.specs.Runs.{runs_of}
 use Rattle.fx_ring.specs.Ring.{RingState, HasClosed}
 use Rattle.fx_ring.specs.Submission.{Reported}
-use Rattle.fx_order.specs.Access.{Table, ChainAccess, PermitsAll, table_after, removed_in, accesses_of}
+use Rattle.fx_order.specs.Access.{Table, PermitsAll, table_after, removed_in, accesses_of}
+use Rattle.fx_order.specs.declared.access.ChainAccess.{ChainAccess}
 use Rattle.fx_order.specs.Requests.{AreChainsDone}
 
 -- the table of a ring

@@ -15,7 +15,9 @@ use Rattle.fx_chain.specs.Operation.{Operation, Opens, Reads, Closes, Updates, A
 use Rattle.fx_chain.specs.declared.completion.Place.{Place}
 use Rattle.fx_chain.specs.declared.request.Target.{Target}
 use Rattle.fx_chain.specs.declared.request.Target.TheVariants.{Slot, Any}
-use Rattle.fx_order.specs.Access.{Access, Looks, Puts, Clears, Takes, Allocates, FindsFull, ChainAccess, accesses_of_chain}
+use Rattle.fx_order.specs.Access.{Looks, Puts, Clears, Takes, Allocates, FindsFull, accesses_of_chain}
+use Rattle.fx_order.specs.declared.access.Access.{Access}
+use Rattle.fx_order.specs.declared.access.ChainAccess.{ChainAccess}
 
 -- the request made this one access, and answers so
 abbrev pub Makes : Access → Completed → List Access → Completed → Type 0

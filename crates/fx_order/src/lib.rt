@@ -2,4 +2,12 @@
 //! some order that keeps each chain's (an update entry by entry).
 #![tactic(auto)]
 
+mod access;
+mod answer;
+mod chain;
 pub mod laws;
+mod request;
+mod update;
+
+pub use access::{Access, ChainAccess};
+pub use chain::is_chain_done;

@@ -1,0 +1,5 @@
+use Rattle.std.proofs.Common.{length}
+use Rattle.fx_order.proofs.chain.+is_chain_done.Given as goal
+
+abbrev pub decreases-is_chain_done : goal.decreases-is_chain_done
+decreases-is_chain_done l = length l.requests.now

@@ -1,0 +1,29 @@
+use fx_base::Closed;
+
+/// What a request does to a table, where its requests are done one at a time. A request that comes to the table does so
+/// once, and an update once for each entry of its list that isn't a skip. Slots come first, then the file that is
+/// installed, then the file that was found there (this project's own).
+#[derive(Clone, Copy, Debug, PartialEq, Eq)]
+pub enum Access {
+    /// A read looks at a slot.
+    Looks(u32, Option<Closed>),
+    /// An open, or an entry of an update, installs a file at a slot.
+    Puts(u32, Closed, Option<Closed>),
+    /// An entry of an update empties a slot.
+    Clears(u32, Option<Closed>),
+    /// A close empties a slot.
+    Takes(u32, Option<Closed>),
+    /// An open installs a file at a free slot of the allocation range.
+    Allocates(u32, Closed),
+    /// An open finds no free slot in the allocation range.
+    FindsFull,
+}
+
+/// An access, and the chain whose request makes it.
+#[derive(Clone, Copy, Debug, PartialEq, Eq)]
+pub struct ChainAccess {
+    /// Which chain of the submission, from 1.
+    pub chain: u32,
+    /// The access.
+    pub access: Access,
+}

@@ -1,0 +1,108 @@
+//! What the members of a chain made and answered, looked through one after another.
+ghost use Rattle.std.specs.Prelude.{◌≡◌, ◌<◌, ◌+◌, ◌^◌, All, IfOk, IsTrue, length};
+ghost use Rattle.fx_chain.specs.Accepted.{IsWithinLimits};
+ghost use Rattle.fx_chain.specs.Completed.{all_completed};
+ghost use Rattle.fx_chain.specs.Explains.{canceled};
+ghost use Rattle.fx_chain.specs.Operation.{all_asked, asked_of};
+ghost use Rattle.fx_order.specs.Requests.{IsChainDone};
+
+use crate::access::Access;
+use crate::answer::is_answer;
+use crate::request::is_request_done;
+use fx_base::{Catalogue, Errno, NoMemory};
+use fx_chain::{Completion, Op, Place, Request};
+use std::alloc::Global;
+
+// How many entries of a list aren't skips.
+fn entries_done(list: &[i32]) -> usize {
+    list.iter().filter(|entry| **entry >= -1).count()
+}
+
+// How many accesses a request made that completed so. Whatever is answered here is looked through, so nothing is promised.
+fn accesses_made(size: u32, request: &Request, c: &Completion) -> usize {
+    let failed = c.res < 0;
+    match &request.op {
+        Op::Open { name: _, target: _ } => {
+            let full = c.res == -Errno::ENFILE.code() && size > 0;
+            usize::from(!failed || full)
+        }
+        Op::Read {
+            slot,
+            off: _,
+            len: _,
+        } => {
+            let empty = c.res == -Errno::EBADF.code() && *slot < size;
+            usize::from(!failed || empty)
+        }
+        Op::Close { slot: _ } => {
+            let empty = c.res == -Errno::EBADF.code();
+            usize::from(!failed || empty)
+        }
+        Op::Update { off: _, list } => {
+            if failed {
+                return 0;
+            }
+            entries_done(list)
+        }
+    }
+}
+
+// Whether the members of a chain from this place on were canceled.
+fn are_canceled(place: Place, requests: &[Request], completions: &[Completion]) -> bool
+    requires { place.member + length requests.now < 2 ^ 32 }
+    ensures { IsTrue result
+        → all_completed completions.now ≡ canceled place (all_asked requests.now) }
+{
+    let [_, requests @ ..] = requests else {
+        return completions.is_empty();
+    };
+    let [c, completions @ ..] = completions else {
+        return false;
+    };
+    let next = Place {
+        member: place.member + 1,
+        ..place
+    };
+    is_answer(c, place, -Errno::ECANCELED.code(), &[]) && are_canceled(next, requests, completions)
+}
+
+/// Whether the members of a chain from this place on made these accesses, one after another, and answered so, at a table
+/// of so many slots: up to and with the first one that severs the chain, and the others canceled. The caller has seen
+/// that no limit of its own refuses one of the requests ([`fx_chain::check`]).
+///
+/// # Errors
+/// `NoMemory` where there is no memory for the bytes of a read.
+pub fn is_chain_done(
+    alloc: Global,
+    catalogue: &Catalogue,
+    size: u32,
+    place: Place,
+    requests: &[Request],
+    accesses: &[Access],
+    completions: &[Completion],
+) -> Result<bool, NoMemory>
+    requires limits { All (λ r. IsWithinLimits (asked_of r)) requests.now }
+    requires members { place.member + length requests.now < 2 ^ 32 }
+    ensures { IfOk result (λ yes. IsTrue yes → IsChainDone catalogue.now size place
+        (all_asked requests.now) accesses.now (all_completed completions.now)) }
+{
+    let [request, requests @ ..] = requests else {
+        return Ok(accesses.is_empty() && completions.is_empty());
+    };
+    let [c, completions @ ..] = completions else {
+        return Ok(false);
+    };
+    let made = accesses_made(size, request, c).min(accesses.len());
+    let (own, others) = accesses.split_at(made);
+    if !is_request_done(alloc, catalogue, size, place, request, own, c)? {
+        return Ok(false);
+    }
+    let next = Place {
+        member: place.member + 1,
+        ..place
+    };
+    if request.severs(c) {
+        return Ok(others.is_empty() && are_canceled(next, requests, completions));
+    }
+    is_chain_done(alloc, catalogue, size, next, requests, others, completions)
+}
