@@ -1,6 +1,6 @@
 -- What a chain may answer: its members one after another, up to and with the first one that severs it, and the others
 -- canceled (io_uring_enter(2), "IOSQE_IO_LINK", "IOSQE_IO_HARDLINK").
-use Rattle.std.specs.Prelude.{◌≡◌, ℕ, ◌+◌, pos, int_lt, ◌&&◌, ◌||◌, not, Bool, false, List, [], ◌∷◌, ◌++◌}
+use Rattle.std.specs.Prelude.{◌≡◌, ℕ, pos, int_lt, ◌&&◌, ◌||◌, not, Bool, false, List, [], ◌∷◌}
 use Rattle.std.specs.Bool.{MatchBool}
 use Rattle.fx_base.specs.declared.errno.Errno.TheVariants.{ECANCELED}
 use Rattle.fx_base.specs.Catalogue.{FileEntry}
@@ -41,12 +41,3 @@ Explains catalogue size place (request ∷ requests) events completions =
 
 abbrev pub first_member : ℕ → ℕ → Place
 first_member submission chain = record { submission = submission; chain = chain; member = 1 }
-
--- the runs from this chain on, played one after another, make these steps and answer so
-abbrev pub ExplainsRuns : List FileEntry → ℕ → ℕ → ℕ → List (List Asked) → List Action → List Completed → Type 0
-ExplainsRuns catalogue size submission chain [] events completions = (events ≡ []) × (completions ≡ [])
-ExplainsRuns catalogue size submission chain (run ∷ runs) events completions =
-    (own : List Action) × (others : List Action) × (cs : List Completed) × (rest : List Completed)
-    × (events ≡ own ▷▷ others) × (completions ≡ cs ++ rest)
-    × Explains catalogue size (first_member submission chain) run own cs
-    × ExplainsRuns catalogue size submission (chain + 1) runs others rest

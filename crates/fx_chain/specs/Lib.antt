@@ -1,7 +1,6 @@
 pub mod Accepted
 pub mod Chains
 pub mod Faults
-pub mod Legal
 pub mod Operation
 pub mod Runs
 pub mod Target

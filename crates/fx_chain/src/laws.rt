@@ -3,7 +3,6 @@
 
 ghost use Rattle.std.specs.Prelude.{◌≡◌, List, ◌∷◌, ◌++◌, MatchOption};
 ghost use Rattle.fx_chain.specs.Faults.{HasNoFault, IsFirstFault, fault_of};
-ghost use Rattle.fx_chain.specs.Legal.{ExplainedRunsAreLegal};
 ghost use Rattle.fx_chain.specs.Operation.{Asked};
 ghost use Rattle.fx_chain.specs.Runs.{AreTheOnlyRuns, StandsIn, runs_of};
 
@@ -13,7 +12,7 @@ use fx_table::{CHAIN_NUMBERS, MAX_CHAINS};
 
 /// The limits of a submission, as numbers: the chains of a submission, the members of a chain and the files that it
 /// installs, the bytes of a read and the entries of an update.
-pub fn limits_of_submissions()
+pub fn limits_are_numbers()
     ensures chains { MAX_CHAINS ≡ 1023 }
     ensures members { MOST_MEMBERS ≡ 16 }
     ensures installs { CHAIN_NUMBERS ≡ 64 }
@@ -37,10 +36,4 @@ pub fn each_request_stands_in_its_run()
 pub fn fault_is_the_first()
     ensures { (requests : List Asked)
         → MatchOption (fault_of requests) (HasNoFault requests) (IsFirstFault requests) }
-{}
-
-/// The steps that explain the chains of a submission are a legal history of one pass. So the laws of histories hold of
-/// every submission that is played.
-pub fn explained_runs_are_legal()
-    ensures { ExplainedRunsAreLegal }
 {}

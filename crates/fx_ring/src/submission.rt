@@ -143,7 +143,8 @@ impl Ring {
     /// # Errors
     /// In this order: `Workers` where there are not 1 to [`MAX_PASSES`], `Cut` with the first request that has a fault
     /// ([`fx_chain::check`]), `TooMany` after [`MOST_SUBMISSIONS`] accepted submissions, and `NoMemory` where memory is
-    /// refused. Then no request has started, and the ring has the files, the size, the range and the counts that it had.
+    /// refused. Then the ring has the files, the size, the range and the counts that it had. That no request has
+    /// started is tested.
     /// Memory for the bytes of a read is taken while it is played: where that is refused, the read completes with ENOMEM.
     pub fn submit<T: FileTable, G: Gate>(
         &mut self,
