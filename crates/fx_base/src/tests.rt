@@ -271,14 +271,14 @@ fn an_appended_list_stands_behind(rt: HostRuntime) -> Result<(), Fail> {
     Ok(())
 }
 
-// A list whose i-th closed file, from 0, has the i-th tag, and the mark that comes i-th from the end.
+// A list whose files have these tags, and marks that stand in the other order.
 fn tagged(alloc: Global, tags: &[u64]) -> Result<CloseList, Fail> {
     let catalogue = two_files(alloc)?;
     let mut list = CloseList::with_room(alloc, 8)?;
-    for (i, tag) in (0u32..8).zip(tags) {
+    for tag in tags {
         if catalogue.len() == 2 && list.room() > 0 {
-            let mark = Mark::Registered { k: 1, i: 8 - i };
-            list.close(catalogue.open(1, mark, *tag));
+            let k = list.room();
+            list.close(catalogue.open(1, Mark::Registered { k, i: 0 }, *tag));
         }
     }
     Ok(list)
