@@ -106,7 +106,7 @@ static int take_file(struct script *script, char **words, int count)
 
 /*
  * The forms of lines: a letter says what a word is. n is a number, l a list, f a name, a the word `at`, y the word
- * `any`. A request may have the word `link` more.
+ * `any`. A request may have the word `link` or `hardlink` more.
  */
 static const struct form {
 	const char *word, *kinds;
@@ -136,13 +136,19 @@ static int take_word(struct command *command, char kind, char *word, unsigned *n
 	}
 }
 
+static enum link link_of(const char *word)
+{
+	return !strcmp(word, "link") ? SOFT_LINK : !strcmp(word, "hardlink") ? HARD_LINK : NO_LINK;
+}
+
 static int take_form(struct command *command, const struct form *form, char **words, int count)
 {
 	int wanted = strlen(form->kinds) + 1;
 	unsigned numbers = 0;
 	*command = (struct command){ .kind = form->kind };
-	command->links = form->is_request && count == wanted + 1 && !strcmp(words[wanted], "link");
-	if (strcmp(words[0], form->word) || count != wanted + command->links)
+	if (form->is_request && count == wanted + 1)
+		command->link = link_of(words[wanted]);
+	if (strcmp(words[0], form->word) || count != wanted + (command->link != NO_LINK))
 		return 0;
 	for (int at = 1; at < wanted; at++)
 		if (!take_word(command, form->kinds[at - 1], words[at], &numbers))

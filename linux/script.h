@@ -8,10 +8,13 @@ enum { MOST_FILES = 256, MOST_BYTES = 4096, MOST_NUMBERS = 3 };
 
 enum kind { SPARSE, REGISTER, UNREGISTER, RANGE, REGUPDATE, SUBMIT, OPEN, OPEN_ANY, READ, CLOSE, UPDATE };
 
+/* What links the next request to one. */
+enum link { NO_LINK, SOFT_LINK, HARD_LINK };
+
 /* A command or a request: a line but for `file`. */
 struct command {
 	enum kind kind;
-	int links;
+	enum link link;
 	const char *name;		/* of an open */
 	unsigned numbers[MOST_NUMBERS];	/* the line's numbers, in its order */
 	int *list;			/* of a registration or an update */

@@ -82,8 +82,10 @@ static void prepare(struct io_uring *ring, const struct script *script, struct m
 	} else {
 		prepare_open(sqe, script, it, submission);
 	}
-	if (request->links)
+	if (request->link == SOFT_LINK)
 		sqe->flags |= IOSQE_IO_LINK;
+	else if (request->link == HARD_LINK)
+		sqe->flags |= IOSQE_IO_HARDLINK;
 	io_uring_sqe_set_data(sqe, it);
 }
 
@@ -139,8 +141,9 @@ long long play_submission(struct io_uring *ring, const struct script *script, co
 	for (unsigned at = 0; at < count; at++) {
 		members[at] = (struct member){ .request = requests[at], .chain = chain, .place = place };
 		prepare(ring, script, &members[at], number);
-		place = requests[at]->links ? place + 1 : 1;
-		chain += !requests[at]->links;
+		int is_last = requests[at]->link == NO_LINK;
+		place = is_last ? 1 : place + 1;
+		chain += is_last;
 	}
 	long long submitted = nanoseconds();
 	submit(ring, count);

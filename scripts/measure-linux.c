@@ -235,6 +235,31 @@ static void chains(void)
 	end();
 }
 
+static void hard_links(void)
+{
+	fresh(1);
+	closes(0, 0, IOSQE_IO_LINK | IOSQE_IO_HARDLINK), closes(1, 0, 0);
+	play(2);
+	printf("a failing close with both kinds of link, and a close: %d, %d\n", results[0], results[1]);
+	opens(0, path, 7, IOSQE_IO_HARDLINK), closes(1, 0, 0);
+	play(2);
+	printf("an open past the table by a hard link, and a close: %d, %d\n", results[0], results[1]);
+	int bad[] = { 1000 };
+	updates(0, bad, 1, 0, IOSQE_IO_HARDLINK), closes(1, 0, 0);
+	play(2);
+	printf("an update with a bad entry by a hard link, and a close: %d, %d\n", results[0], results[1]);
+	opens(0, path, 0, IOSQE_IO_LINK), reads(1, 0, 6, IOSQE_IO_HARDLINK), closes(2, 0, 0);
+	play(3);
+	printf("open, read of 6 bytes of 5 by a hard link, close: %d, %d, %d\n", results[0], results[1], results[2]);
+	opens(0, path, 0, IOSQE_IO_HARDLINK);
+	struct io_uring_sqe *sqe = next(1, IOSQE_IO_HARDLINK);
+	sqe->opcode = 255;
+	closes(2, 0, 0);
+	play(3);
+	printf("open, a request that can't be submitted, close, by hard links: %d, %d, %d\n", results[0], results[1], results[2]);
+	end();
+}
+
 /* Whether a file is opened at all by an open that is refused for its slot. */
 static void refused_open(void)
 {
@@ -317,6 +342,7 @@ int main(void)
 	update_lists();
 	allocation();
 	chains();
+	hard_links();
 	refused_open();
 	removal_in_use();
 	tags();

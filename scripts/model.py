@@ -56,8 +56,8 @@ def name(word):
 
 
 def link(word):
-    want(word == b"link", "bad-word")
-    return True
+    want(word in (b"link", b"hardlink"), "bad-word")
+    return word.decode()
 
 
 def constant(_):
@@ -65,7 +65,7 @@ def constant(_):
     return None
 
 
-# what each command's words are; a request may have the word `link` more
+# what each command's words are; a request may have the word `link` or `hardlink` more
 COMMANDS = {
     b"sparse": [number],
     b"register": [entries],
@@ -87,7 +87,7 @@ OPENS = {
 
 class Script:
     """The files, each a name and its bytes, and the commands in order. A submit has its requests, each a request and
-    whether it links."""
+    its last word, which is `link`, `hardlink` or None."""
 
     def __init__(self, text):
         self.files, self.commands, self.requests = [], [], []
@@ -147,24 +147,24 @@ class Script:
         kinds = OPENS[words[1]] if command == b"open" else REQUESTS[command]
         want(len(words) in (len(kinds), len(kinds) + 1), "word-count")
         values = [kind(word) for kind, word in zip([*kinds, link], words)]
-        links = len(words) > len(kinds)
+        linked_by = values[len(kinds)] if len(words) > len(kinds) else None
         if command == b"open":
             values = [values[0], values[2] if words[1] == b"at" else None]
         else:
             values = values[: len(kinds)]
         if not self.requests:
             self.first_request = nth
-        self.requests.append(((command.decode(), *values), links))
+        self.requests.append(((command.decode(), *values), linked_by))
 
 
 def chains_of(requests):
+    """The chains, each a list of requests with their last words."""
     chains, is_open = [], False
-    for request, links in requests:
-        if is_open:
-            chains[-1].append(request)
-        else:
-            chains.append([request])
-        is_open = links
+    for request, linked_by in requests:
+        if not is_open:
+            chains.append([])
+        chains[-1].append((request, linked_by))
+        is_open = linked_by is not None
     return chains
 
 
@@ -178,7 +178,7 @@ def fault_of(requests):
     """The name and the place of the first fault of a submission, or None."""
     at = 0
     for nth, chain in enumerate(chains_of(requests), 1):
-        for member, request in enumerate(chain, 1):
+        for member, (request, _) in enumerate(chain, 1):
             at += 1
             if request[0] == "read" and request[3] > READ_BYTES:
                 return "long-read", at
@@ -186,15 +186,19 @@ def fault_of(requests):
                 return "long-update", at
             if member > MEMBERS:
                 return "chain-too-long", at
-            if sum(installs(it) for it in chain[:member]) > INSTALLS:
+            if sum(installs(it) for it, _ in chain[:member]) > INSTALLS:
                 return "too-many-files", at
             if nth > CHAINS:
                 return "too-many-chains", at
     return None
 
 
-def severs(request, res):
+def has_failed(request, res):
     return res < 0 or request[0] == "read" and res < request[3]
+
+
+def severs(request, linked_by, res):
+    return has_failed(request, res) and linked_by != "hardlink"
 
 
 def registered(call, place):
@@ -371,10 +375,10 @@ class Player:
         lines = []
         for nth, chain in enumerate(chains_of(requests), 1):
             is_severed = False
-            for member, request in enumerate(chain, 1):
+            for member, (request, linked_by) in enumerate(chain, 1):
                 place = self.submissions, nth, member
                 res, got = (-ECANCELED, b"") if is_severed else self.perform(place, request)
-                is_severed |= severs(request, res)
+                is_severed |= severs(request, linked_by, res)
                 lines.append(completion_line(place, res, got))
         return lines + self.closed_lines()
 

@@ -37,7 +37,7 @@ def steps_of_chain(chain, places, lines, splits):
     """The steps of the members that were started, or None where the lines aren't those of a chain: a place, a request,
     its result and its bytes."""
     steps, is_severed = [], False
-    for request, place, line in zip(chain, places, lines):
+    for (request, linked_by), place, line in zip(chain, places, lines):
         completion = completion_of(line, place)
         if completion is None or is_severed and completion != (-125, b""):
             return None
@@ -45,7 +45,7 @@ def steps_of_chain(chain, places, lines, splits):
             res, got = completion
             pieces = pieces_of(request, res) if splits else [(request, res)]
             steps += [(place, piece, res, got) for piece, res in pieces]
-            is_severed = severs(request, res)
+            is_severed = severs(request, linked_by, res)
     return steps
 
 

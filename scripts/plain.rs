@@ -18,9 +18,17 @@ enum Op {
     Update(usize, Vec<i32>),
 }
 
+/// What links the next request to one.
+#[derive(Clone, Copy, PartialEq)]
+enum Link {
+    None,
+    Soft,
+    Hard,
+}
+
 enum Command {
     Sparse(usize),
-    Submit(Vec<(Op, bool)>),
+    Submit(Vec<(Op, Link)>),
 }
 
 #[derive(Default)]
@@ -47,9 +55,10 @@ fn read_script(text: &str) -> Option<Script> {
             continue;
         }
         let words: Vec<&str> = line.split(' ').collect();
-        let (words, links) = match words.as_slice() {
-            [front @ .., "link"] => (front, true),
-            all => (all, false),
+        let (words, link) = match words.as_slice() {
+            [front @ .., "link"] => (front, Link::Soft),
+            [front @ .., "hardlink"] => (front, Link::Hard),
+            all => (all, Link::None),
         };
         match words {
             ["file", name, hex] => {
@@ -58,12 +67,12 @@ fn read_script(text: &str) -> Option<Script> {
                 script.bytes.push(hexadecimal(hex)?);
             }
             ["sparse", n] => script.commands.push(Command::Sparse(n.parse().ok()?)),
-            ["open", name, "at", slot] => waiting.push((Op::Open(name.to_string(), slot.parse().ok()?), links)),
-            ["read", slot, off, len] => waiting.push((Op::Read(slot.parse().ok()?, off.parse().ok()?, len.parse().ok()?), links)),
-            ["close", slot] => waiting.push((Op::Close(slot.parse().ok()?), links)),
+            ["open", name, "at", slot] => waiting.push((Op::Open(name.to_string(), slot.parse().ok()?), link)),
+            ["read", slot, off, len] => waiting.push((Op::Read(slot.parse().ok()?, off.parse().ok()?, len.parse().ok()?), link)),
+            ["close", slot] => waiting.push((Op::Close(slot.parse().ok()?), link)),
             ["update", off, list] => {
                 let list: Option<Vec<i32>> = list.split(',').map(|it| it.parse().ok()).collect();
-                waiting.push((Op::Update(off.parse().ok()?, list?), links));
+                waiting.push((Op::Update(off.parse().ok()?, list?), link));
             }
             ["submit"] => script.commands.push(Command::Submit(std::mem::take(&mut waiting))),
             _ => return None,
@@ -129,12 +138,13 @@ impl Table {
         }
     }
 
-    fn submit(&mut self, script: &Script, submission: u32, requests: &[(Op, bool)]) -> String {
+    fn submit(&mut self, script: &Script, submission: u32, requests: &[(Op, Link)]) -> String {
         let (mut text, mut chain, mut member, mut is_severed) = (String::new(), 1, 1, false);
-        for (op, links) in requests {
+        for (op, link) in requests {
             let mut got = Vec::new();
             let res = if is_severed { -125 } else { self.perform(script, [submission, chain, member], op, &mut got) };
-            is_severed |= res < 0 || matches!(op, Op::Read(_, _, len) if (res as usize) < *len);
+            let has_failed = res < 0 || matches!(op, Op::Read(_, _, len) if (res as usize) < *len);
+            is_severed |= has_failed && *link != Link::Hard;
             let _ = write!(text, "{submission}.{chain}.{member} {res}");
             if !got.is_empty() {
                 text.push(' ');
@@ -144,7 +154,7 @@ impl Table {
                 }
             }
             text.push('\n');
-            (chain, member, is_severed) = if *links { (chain, member + 1, is_severed) } else { (chain + 1, 1, false) };
+            (chain, member, is_severed) = if *link != Link::None { (chain, member + 1, is_severed) } else { (chain + 1, 1, false) };
         }
         self.tell_closed(script, &mut text);
         text

@@ -5,7 +5,7 @@ it; or status 5 and the whole texts of its first commands. The scripts are such 
 import re
 
 from limits import CHAINS, ENTRIES, MEMBERS, full_catalogue, linked, lines
-from model import Player, Script
+from model import Player, Script, chains_of
 
 ENOMEM = 12
 NO_MEMORY = "fixfiles: out of memory\n"
@@ -35,6 +35,13 @@ def updates():
     return lines(*script, "submit")
 
 
+def hard_links():
+    """Reads by hard links in a chain that goes on whatever they come to, and in one that a soft link severs."""
+    script = ["file a.txt 68656c6c6f", "sparse 2", "open a.txt at 0 link", "read 0 0 5 hardlink", "read 0 1 4 hardlink"]
+    script += ["read 0 0 9 hardlink", "close 0", "open a.txt at 1 hardlink", "read 1 0 5 hardlink", "read 1 0 4 link", "close 1"]
+    return lines(*script, "submit")
+
+
 def registrations():
     """Each call between submissions, and a request among them."""
     script = ["file a.txt 68656c6c6f", "file b.txt -", "register 0,-1,1", "range 1 2", "open a.txt any", "submit"]
@@ -45,6 +52,7 @@ def registrations():
 def scripts(open_read_close, has_lists):
     """Each script by its name. A program from before lists were registered hasn't all of them."""
     yield "open_read_close", open_read_close
+    yield "hard_links", hard_links()
     if has_lists:
         yield "registrations", registrations()
     yield "full_catalogue", full_catalogue()[0]
@@ -121,5 +129,11 @@ class Outcomes:
             for place in places:
                 player = Refusing(self.script.files, place)
                 if player.play(self.script.commands) == text and player.is_met:
-                    return "a read answers -12" if "." in word else f"{word} answers -12"
+                    return f"{self.read_at(*place)} answers -12" if "." in word else f"{word} answers -12"
         return None
+
+    def read_at(self, submission, chain, member):
+        """What the read at a place is called: that of a hard link has a name of its own."""
+        submissions = [words[0] for command, *words in self.script.commands if command == "submit"]
+        linked_by = chains_of(submissions[submission - 1])[chain - 1][member - 1][1]
+        return "a read by a hard link" if linked_by == "hardlink" else "a read"

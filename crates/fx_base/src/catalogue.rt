@@ -153,13 +153,14 @@ impl Catalogue {
     }
 
     /// Appends the bytes of an entry from place `off` on, `len` of them or as many as there are, and gives their
-    /// number (read(2)). Past the last entry there are none. The caller has reserved room for `len` more bytes
+    /// number, at most 4,096 (read(2)). Past the last entry there are none. The caller has reserved room for `len` more bytes
     /// (`Vec::reserve`), so it can't fail for want of memory, and room that isn't used stays.
     pub fn read_into(&self, entry: u8, off: u32, len: u32, into: &mut Vec<u8>) -> u32
         requires { vec_len into.old + len ≤ vec_capacity into.old }
         ensures bytes { into.new.items ≡ into.old.items ++ bytes_at self.now entry off len }
         ensures count { result ≡ length (bytes_at self.now entry off len) }
         ensures bound { result ≤ len }
+        ensures small { result ≤ LONGEST_ENTRY }
         ensures capacity { vec_capacity into.old ≤ vec_capacity into.new }
     {
         let Some(e) = self.entries.get(entry as usize) else {

@@ -1,18 +1,21 @@
 -- What a submission without a fault keeps to.
-use Rattle.std.proofs.Common.{◌≡◌, ℕ, ◌+◌, ◌*◌, ◌≤◌, List, [], ◌∷◌, ◌++◌, length, refl, sym, ap, ◌∙◌, All, subst, arith, Option, Some, None}
+use Rattle.std.proofs.Common.{◌≡◌, ℕ, ◌+◌, ◌*◌, ◌≤◌, List, [], ◌∷◌, ◌++◌, length, refl, sym, ◌∙◌, All, subst, arith, Option, Some, None}
 use Rattle.std.specs.List.{filter}
-use Rattle.std.specs.Prelude.{ℤ, pos, int_le, Bool, true, false, cond}
+use Rattle.std.specs.Prelude.{pos, int_le, Bool, true, false, cond}
 use Rattle.std.proofs.lemmas.Bool.{ltb-false}
 use Rattle.std.proofs.lemmas.List.Sums.{sum_by-cons}
 use Rattle.std.proofs.lemmas.List.{append-nil, append_assoc}
 use Rattle.std.proofs.lemmas.List.Elements.{All-nil, All-cons, All-head, All-tail}
 use Rattle.fx_chain.specs.Accepted.{IsAccepted, IsWithinLimits}
-use Rattle.fx_chain.specs.Operation.{Operation, Opens, Reads, Closes, Updates, Asked}
+use Rattle.fx_chain.specs.Operation.{Operation, Opens, Reads, Closes, Updates, Asked, is_link}
 use Rattle.fx_chain.specs.Runs.{runs_of}
 use Rattle.fx_chain.specs.Weights.{installs_of, weight_of, all_weights}
-use Rattle.fx_chain.specs.Faults.{fault_behind, first_fault, or_later, is_long_read, is_long_update}
+use Rattle.fx_chain.specs.Faults.{fault_behind, first_fault, or_later, is_long_update}
 use Rattle.fx_chain.specs.declared.fault.CutKind.{CutKind}
 use Rattle.fx_chain.specs.declared.fault.CutFault.{CutFault}
+use Rattle.fx_chain.specs.declared.fault.TheConstants.{MOST_MEMBERS}
+use Rattle.fx_chain.specs.declared.request.TheConstants.{LONGEST_UPDATE}
+use Rattle.fx_table.specs.declared.limits.TheConstants.{MAX_CHAINS}
 use Rattle.fx_chain.proofs.Counted.{IsCounted, IsFine, counted_none, counted_step, fault_behind-counted, fine, chains_after, or_none}
 
 or_later-none : (at : ℕ) (k : Option CutKind) (later : Option CutFault) → or_later at k later ≡ None → (k ≡ None) × (later ≡ None)
@@ -41,8 +44,8 @@ passes front r counts none = record {
 counts_more : (front : List Asked) (r : Asked) → Counts front → fault_behind front r ≡ None → Counts (front ++ r ∷ [])
 counts_more front r counts none = record {
   chains = chains_after counts.chains counts.members;
-  members = or_none r.links (counts.members + 1);
-  installs = or_none r.links (counts.installs + installs_of r.operation);
+  members = or_none (is_link r.flags) (counts.members + 1);
+  installs = or_none (is_link r.flags) (counts.installs + installs_of r.operation);
   is = counted_step front counts.chains counts.members counts.installs r counts.is
       (sym (fault_behind-counted front counts.chains counts.members counts.installs r counts.is) ∙ none);
 }
@@ -66,13 +69,13 @@ counts_all front (x ∷ behind) counts none =
 pub counts_none : Counts []
 counts_none = record { chains = 0; members = 0; installs = 0; is = counted_none }
 
--- there are at most 1,023 runs
-pub accepted-runs : (requests : List Asked) → IsAccepted requests → length (runs_of requests) ≤ 1023
+-- there are no more runs than a submission may have chains
+pub accepted-runs : (requests : List Asked) → IsAccepted requests → length (runs_of requests) ≤ MAX_CHAINS
 accepted-runs requests accepted = let c = counts_all [] requests counts_none accepted in let few = c.is.few in let chains_is = c.is.chains_is in
     omega arith
 
--- and at most 16 times as many requests
-pub accepted-length : (requests : List Asked) → IsAccepted requests → length requests ≤ 16368
+-- and each has no more requests than a chain may have members
+pub accepted-length : (requests : List Asked) → IsAccepted requests → length requests ≤ MOST_MEMBERS * MAX_CHAINS
 accepted-length requests accepted = let c = counts_all [] requests counts_none accepted in let few = c.is.few in let place = c.is.place in omega arith
 
 within_limits : (front behind : List Asked) → Counts front → first_fault front behind ≡ None → All IsWithinLimits behind
@@ -87,33 +90,23 @@ within_limits front (x ∷ behind) counts none =
 pub accepted-each : (requests : List Asked) → IsAccepted requests → All IsWithinLimits requests
 accepted-each requests accepted = within_limits [] requests counts_none accepted
 
--- what the limits say of one operation
-pub read-short : (r : Asked) (slot off len : ℕ) → r.operation ≡ Reads slot off len → IsWithinLimits r → len ≤ 4096
-read-short r slot off len is fine_r = ltb-false 4096 len (ap is_long_read (sym is) ∙ fine_r.read)
-
-pub update-short : (r : Asked) (off : ℕ) (list : List ℤ) → r.operation ≡ Updates off list → IsWithinLimits r → length list ≤ 16
-update-short r off list is fine_r = ltb-false 16 (length list) (ap is_long_update (sym is) ∙ fine_r.update)
-
 filter-length : {X : Type 0} (p : X → Bool) (xs : List X) → length (filter p xs) ≤ length xs
 filter-length p [] = omega arith
 filter-length p (x ∷ xs) = let le = filter-length p xs in
     elim (p x) as (λ b. length (cond b (x ∷ filter p xs) (filter p xs)) ≤ length (x ∷ xs)) [ true ↦ omega arith | false ↦ omega arith ]
 
--- a request within its limits closes and installs at most 16 files
-weight-small-of : (o : Operation) → is_long_update o ≡ false → (weight_of o ≤ 16) × (installs_of o ≤ 16)
+-- a request within its limits closes and installs no more files than an update may have entries
+weight-small-of : (o : Operation) → is_long_update o ≡ false → (weight_of o ≤ LONGEST_UPDATE) × (installs_of o ≤ LONGEST_UPDATE)
 weight-small-of (Opens name target) short = (omega arith, omega arith)
 weight-small-of (Reads slot off len) short = (omega arith, omega arith)
 weight-small-of (Closes slot) short = (omega arith, omega arith)
-weight-small-of (Updates off list) short = let le = ltb-false 16 (length list) short in
+weight-small-of (Updates off list) short = let le = ltb-false LONGEST_UPDATE (length list) short in
     let few = filter-length (λ entry. int_le (pos 0) entry) list in (le, omega arith)
 
-pub weight-small : (r : Asked) → IsWithinLimits r → weight_of r.operation ≤ 16
+pub weight-small : (r : Asked) → IsWithinLimits r → weight_of r.operation ≤ LONGEST_UPDATE
 weight-small r fine_r = (weight-small-of r.operation fine_r.update).0
 
-pub installs-small : (r : Asked) → IsWithinLimits r → installs_of r.operation ≤ 16
-installs-small r fine_r = (weight-small-of r.operation fine_r.update).1
-
-pub all_weights-small : (requests : List Asked) → All IsWithinLimits requests → all_weights requests ≤ 16 * length requests
+pub all_weights-small : (requests : List Asked) → All IsWithinLimits requests → all_weights requests ≤ LONGEST_UPDATE * length requests
 all_weights-small [] within = omega arith
 all_weights-small (r ∷ rs) within =
     let one = weight-small r (All-head IsWithinLimits r rs within) in

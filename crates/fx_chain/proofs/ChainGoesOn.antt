@@ -1,8 +1,8 @@
 -- A chain goes on by one member, which is played or canceled.
 use Rattle.std.proofs.Common.{◌≡◌, ℕ, suc, ◌+◌, ◌<◌, Bool, true, false, ◌||◌, List, [], ◌∷◌, ◌++◌, length, drop, refl, sym, ap, subst, ◌∙◌}
-use Rattle.std.proofs.Common.{append_assoc, length-append, All, slice_index_or, arith}
+use Rattle.std.proofs.Common.{append_assoc, length-append, slice_index_or, arith}
 use Rattle.std.proofs.lemmas.Bool.{MatchBool-at_true, MatchBool-at_false}
-use Rattle.std.proofs.lemmas.List.{append-nil, map-append, length-map, get_or-map}
+use Rattle.std.proofs.lemmas.List.{append-nil, map-append}
 use Rattle.std.proofs.lemmas.List.Sums.{sum_by-append, sum_by-cons}
 use Rattle.std.specs.Bool.{MatchBool}
 use Rattle.fx_base.specs.declared.errno.Errno.TheVariants.{ECANCELED}
@@ -10,7 +10,6 @@ use Rattle.fx_base.specs.Catalogue.{FileEntry}
 use Rattle.fx_plain.specs.declared.event.Action.{Action}
 use Rattle.fx_plain.specs.History.{◌▷▷◌}
 use Rattle.fx_table.specs.Opening.{Opening, size_of}
-use Rattle.fx_chain.specs.Accepted.{IsWithinLimits}
 use Rattle.fx_chain.specs.Answers.{Answers}
 use Rattle.fx_chain.specs.Completed.{Completed, completed_of, all_completed, next_member, refusal}
 use Rattle.fx_chain.specs.Explains.{Explains, canceled, severs}
@@ -213,13 +212,6 @@ module _ (requests : List Request) (i : ℕ) (x : Request) (inside : i < length 
   pub weights_from : all_weights (asked_from requests i) ≡ weight_of (asked_of x).operation + all_weights (asked_from requests (i + 1))
   weights_from = ap all_weights (asked_rest requests i x inside is)
       ∙ sum_by-cons (λ (r : Asked). weight_of r.operation) (asked_of x) (asked_from requests (i + 1))
-
-  pub within_at : All IsWithinLimits (all_asked requests) → IsWithinLimits (asked_of x)
-  within_at within =
-      let len = length-map requests asked_of in
-      let at : slice_index_or (all_asked requests) i (asked_of x) ≡ asked_of x = get_or-map asked_of requests i x (asked_of x) inside
-      ∙ ap asked_of (sym is) in
-      subst IsWithinLimits at (within i (asked_of x) (omega arith))
 
 pub completed_more : (xs ys : List Completion) (c : Completion) → ys ≡ xs ++ c ∷ [] → all_completed ys ≡ all_completed xs ++ completed_of c ∷ []
 completed_more xs ys c is = ap all_completed is ∙ map-append completed_of xs (c ∷ [])

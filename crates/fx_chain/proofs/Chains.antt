@@ -12,6 +12,8 @@ use Rattle.fx_chain.proofs.Accepted.{Passes, counts_none, passes_at, accepted-ea
 use Rattle.fx_chain.proofs.Counted.{all_installs-push}
 use Rattle.fx_chain.proofs.Runs.{AllLink, IsLinked, IsOver, HasMembers, are_runs}
 use Rattle.fx_chain.proofs.Splits.{IsClosed, IsClosed-append, but_last-last, open_run-closed}
+use Rattle.fx_chain.specs.declared.fault.TheConstants.{MOST_MEMBERS}
+use Rattle.fx_table.specs.declared.limits.TheConstants.{CHAIN_NUMBERS}
 
 -- the members of a chain are its run
 pub members_of-run : (requests before run later : List Asked) → requests ≡ before ++ (run ++ later)
@@ -23,8 +25,8 @@ members_of-run requests before run later is =
 
 -- a run ends with a request that is fine behind the others, so it is short
 record Fits (run : List Asked) : Type 0 where
-  pub members : length run ≤ 16
-  pub installs : all_installs run ≤ 64
+  pub members : length run ≤ MOST_MEMBERS
+  pub installs : all_installs run ≤ CHAIN_NUMBERS
 
 fits_at : (before front : List Asked) (last : Asked) → IsClosed before → AllLink front → Passes (before ++ front) last → Fits (front ++ last ∷ [])
 fits_at before front last closed link p =

@@ -4,24 +4,26 @@ use Rattle.std.proofs.Common.{length, refl, sym, ap, ◌∙◌, subst, arith, Op
 use Rattle.std.proofs.lemmas.Bool.{cases_Bool, eqb-false, ltb-false, and_cases, eq-eqb, ne_eqb, cases_eq}
 use Rattle.std.proofs.lemmas.List.{length-append}
 use Rattle.std.proofs.lemmas.List.Sums.{sum_by-append}
-use Rattle.fx_chain.specs.Operation.{Asked}
+use Rattle.fx_chain.specs.Operation.{Asked, is_fixed, is_link}
 use Rattle.fx_chain.specs.Runs.{runs_of, open_run}
 use Rattle.fx_chain.specs.Weights.{installs_of, all_installs}
 use Rattle.fx_chain.specs.Faults.{fault_after, fault_behind, first_fault, has_bad_flags, is_long_read, is_long_update, or_later}
 use Rattle.fx_chain.specs.declared.fault.CutKind.{CutKind}
 use Rattle.fx_chain.specs.declared.fault.CutKind.TheVariants.{BadFlags, LongRead, LongUpdate, ChainTooLong, TooManyFiles, TooManyChains}
 use Rattle.fx_chain.proofs.Runs.{runs-push, open_run-push, open_run-over}
+use Rattle.fx_chain.specs.declared.fault.TheConstants.{MOST_MEMBERS}
+use Rattle.fx_table.specs.declared.limits.TheConstants.{MAX_CHAINS, CHAIN_NUMBERS}
 
 -- the numbers of chains, of members and of installs behind some requests without a fault
 pub record IsCounted (front : List Asked) (chains members installs : ℕ) : Type 0 where
   pub chains_is : chains ≡ length (runs_of front)
   pub members_is : members ≡ length (open_run front)
   pub installs_is : installs ≡ all_installs (open_run front)
-  pub few : chains ≤ 1023
-  pub short : members ≤ 16
-  pub room : installs ≤ 64
-  pub place : length front ≤ 16 * chains
-  pub inside : 0 < members → length front + 16 ≤ 16 * chains + members
+  pub few : chains ≤ MAX_CHAINS
+  pub short : members ≤ MOST_MEMBERS
+  pub room : installs ≤ CHAIN_NUMBERS
+  pub place : length front ≤ MOST_MEMBERS * chains
+  pub inside : 0 < members → length front + MOST_MEMBERS ≤ MOST_MEMBERS * chains + members
 
 pub fault_behind-counted : (front : List Asked) (chains members installs : ℕ) (r : Asked) → IsCounted front chains members installs
     → fault_behind front r ≡ fault_after chains members installs r
@@ -32,12 +34,12 @@ fault_behind-counted front chains members installs r is =
 
 -- what a request without a fault keeps to
 pub record IsFine (chains members installs : ℕ) (r : Asked) : Type 0 where
-  pub flags : has_bad_flags r.operation r.fixed ≡ false
+  pub flags : has_bad_flags r.operation (is_fixed r.flags) ≡ false
   pub read : is_long_read r.operation ≡ false
   pub update : is_long_update r.operation ≡ false
-  pub not_full : members ≢ 16
-  pub room : installs + installs_of r.operation ≤ 64
-  pub not_last : members ≡ 0 → chains ≢ 1023
+  pub not_full : members ≢ MOST_MEMBERS
+  pub room : installs + installs_of r.operation ≤ CHAIN_NUMBERS
+  pub not_last : members ≡ 0 → chains ≢ MAX_CHAINS
 
 passed : {X : Type 0} (b : Bool) (x : X) (rest : Option X) → (if b then Some x else rest) ≡ None → (b ≡ false) × (rest ≡ None)
 passed true x rest none = cc
@@ -45,23 +47,23 @@ passed false x rest none = (refl, none)
 
 pub fine : (chains members installs : ℕ) (r : Asked) → fault_after chains members installs r ≡ None → IsFine chains members installs r
 fine chains members installs r none =
-    let a = passed (has_bad_flags r.operation r.fixed) BadFlags _ none in
+    let a = passed (has_bad_flags r.operation (is_fixed r.flags)) BadFlags _ none in
     let b = passed (is_long_read r.operation) LongRead _ a.1 in
     let c = passed (is_long_update r.operation) LongUpdate _ b.1 in
-    let d = passed (members == 16) ChainTooLong _ c.1 in
-    let e = passed (nat_lt 64 (installs + installs_of r.operation)) TooManyFiles _ d.1 in
-    let f = passed (members == 0 && chains == 1023) TooManyChains _ e.1 in
+    let d = passed (members == MOST_MEMBERS) ChainTooLong _ c.1 in
+    let e = passed (nat_lt CHAIN_NUMBERS (installs + installs_of r.operation)) TooManyFiles _ d.1 in
+    let f = passed (members == 0 && chains == MAX_CHAINS) TooManyChains _ e.1 in
     record {
       flags = a.0;
       read = b.0;
       update = c.0;
-      not_full = eqb-false members 16 d.0;
-      room = ltb-false 64 (installs + installs_of r.operation) e.0;
+      not_full = eqb-false members MOST_MEMBERS d.0;
+      room = ltb-false CHAIN_NUMBERS (installs + installs_of r.operation) e.0;
       not_last = λ zero_is. elim
-          (and_cases (members == 0) (chains == 1023) f.0) [
+          (and_cases (members == 0) (chains == MAX_CHAINS) f.0) [
             | inl differs ↦ absurd
                 (eqb-false members 0 differs zero_is)
-            | inr differs ↦ eqb-false chains 1023 differs
+            | inr differs ↦ eqb-false chains MAX_CHAINS differs
           ];
     }
 
@@ -76,13 +78,13 @@ or_none links n = if links then n else 0
 
 -- the bounds on the numbers after one more request
 record IsBounded (at chains members : ℕ) : Type 0 where
-  pub few : chains ≤ 1023
-  pub short : members ≤ 16
-  pub place : at ≤ 16 * chains
-  pub inside : 0 < members → at + 16 ≤ 16 * chains + members
+  pub few : chains ≤ MAX_CHAINS
+  pub short : members ≤ MOST_MEMBERS
+  pub place : at ≤ MOST_MEMBERS * chains
+  pub inside : 0 < members → at + MOST_MEMBERS ≤ MOST_MEMBERS * chains + members
 
-bounded_step : (at chains members : ℕ) (links : Bool) → at ≤ 16 * chains → (0 < members → at + 16 ≤ 16 * chains + members) → chains ≤ 1023
-    → members ≤ 16 → members ≢ 16 → (members ≡ 0 → chains ≢ 1023)
+bounded_step : (at chains members : ℕ) (links : Bool) → at ≤ MOST_MEMBERS * chains → (0 < members → at + MOST_MEMBERS ≤ MOST_MEMBERS * chains + members) → chains ≤ MAX_CHAINS
+    → members ≤ MOST_MEMBERS → members ≢ MOST_MEMBERS → (members ≡ 0 → chains ≢ MAX_CHAINS)
     → IsBounded (at + 1) (chains_after chains members) (or_none links (members + 1))
 bounded_step at chains members links place inside few short full last = elim (cases_eq members 0) [
   | inl none ↦ let n = last none in
@@ -103,18 +105,18 @@ bounded_step at chains members links place inside few short full last = elim (ca
 
 -- the open run behind one more request
 open_run-after : {Y : Type 0} (F : List Asked → Y) (front : List Asked) (r : Asked) (n : Y) (none : Y) → F (open_run front ++ r ∷ []) ≡ n
-    → F [] ≡ none → (if r.links then n else none) ≡ F (open_run (front ++ r ∷ []))
-open_run-after F front r n none more nil = elim (cases_Bool r.links) [
+    → F [] ≡ none → (if (is_link r.flags) then n else none) ≡ F (open_run (front ++ r ∷ []))
+open_run-after F front r n none more nil = elim (cases_Bool (is_link r.flags)) [
   | inl links ↦ ap (λ (b : Bool). if b then n else none) links ∙ sym more ∙ ap F (sym (open_run-push front r links))
   | inr ends ↦ ap (λ (b : Bool). if b then n else none) ends ∙ sym nil ∙ ap F (sym (open_run-over front r ends))
 ]
 
 pub counted_step : (front : List Asked) (chains members installs : ℕ) (r : Asked) → IsCounted front chains members installs
     → fault_after chains members installs r ≡ None
-    → IsCounted (front ++ r ∷ []) (chains_after chains members) (or_none r.links (members + 1)) (or_none r.links (installs + installs_of r.operation))
+    → IsCounted (front ++ r ∷ []) (chains_after chains members) (or_none (is_link r.flags) (members + 1)) (or_none (is_link r.flags) (installs + installs_of r.operation))
 counted_step front chains members installs r is none =
     let f = fine chains members installs r none in
-    let bounds = bounded_step (length front) chains members r.links is.place is.inside is.few is.short f.not_full f.not_last in
+    let bounds = bounded_step (length front) chains members (is_link r.flags) is.place is.inside is.few is.short f.not_full f.not_last in
     let grown : length (front ++ r ∷ []) ≡ length front + 1 = length-append front (r ∷ []) in
     record {
       chains_is = ap (λ (c : ℕ). if members == 0 then c + 1 else c) is.chains_is
@@ -125,9 +127,9 @@ counted_step front chains members installs r is none =
           ∙ ap (λ (m : ℕ). m + installs_of r.operation) (sym is.installs_is)) refl;
       few = bounds.few;
       short = bounds.short;
-      room = elim r.links as (λ b. or_none b (installs + installs_of r.operation) ≤ 64) [ true ↦ f.room | false ↦ omega arith ];
-      place = subst (λ (n : ℕ). n ≤ 16 * chains_after chains members) (sym grown) bounds.place;
-      inside = λ some. subst (λ (n : ℕ). n + 16 ≤ 16 * chains_after chains members + or_none r.links (members + 1)) (sym grown) (bounds.inside some);
+      room = elim (is_link r.flags) as (λ b. or_none b (installs + installs_of r.operation) ≤ CHAIN_NUMBERS) [ true ↦ f.room | false ↦ omega arith ];
+      place = subst (λ (n : ℕ). n ≤ MOST_MEMBERS * chains_after chains members) (sym grown) bounds.place;
+      inside = λ some. subst (λ (n : ℕ). n + MOST_MEMBERS ≤ MOST_MEMBERS * chains_after chains members + or_none (is_link r.flags) (members + 1)) (sym grown) (bounds.inside some);
     }
 
 pub counted_none : IsCounted [] 0 0 0
@@ -155,11 +157,11 @@ first_fault-found front r behind kind found = ap (λ k. or_later (length front +
 -- the same, of numbers that are counted one by one
 pub counted_next : (front next : List Asked) (chains members installs c m n : ℕ) (r : Asked) → IsCounted front chains members installs
     → fault_after chains members installs r ≡ None
-    → next ≡ front ++ r ∷ [] → c ≡ chains_after chains members → m ≡ or_none r.links (members + 1)
-    → n ≡ or_none r.links (installs + installs_of r.operation) → IsCounted next c m n
+    → next ≡ front ++ r ∷ [] → c ≡ chains_after chains members → m ≡ or_none (is_link r.flags) (members + 1)
+    → n ≡ or_none (is_link r.flags) (installs + installs_of r.operation) → IsCounted next c m n
 counted_next front next chains members installs c m n r is none next_is c_is m_is n_is =
     subst (λ (xs : List Asked). IsCounted xs c m n) (sym next_is)
     (subst (λ (k : ℕ). IsCounted (front ++ r ∷ []) k m n) (sym c_is)
     (subst (λ (k : ℕ). IsCounted (front ++ r ∷ []) (chains_after chains members) k n) (sym m_is)
-    (subst (λ (k : ℕ). IsCounted (front ++ r ∷ []) (chains_after chains members) (or_none r.links (members + 1)) k) (sym n_is)
+    (subst (λ (k : ℕ). IsCounted (front ++ r ∷ []) (chains_after chains members) (or_none (is_link r.flags) (members + 1)) k) (sym n_is)
     (counted_step front chains members installs r is none))))

@@ -1,12 +1,12 @@
 -- What `cut` keeps of the requests that it has seen.
 use Rattle.std.proofs.Common.{◌≡◌, inl, inr, ℕ, ◌+◌, ◌-◌, ◌<◌, ◌≤◌, ◌⊎◌, true, false, List, [], ◌∷◌, ◌++◌, length, take, drop, slice_index_or, refl}
-use Rattle.std.proofs.Common.{sym, ap, ◌∙◌, subst, arith}
+use Rattle.std.proofs.Common.{◌*◌, sym, ap, ◌∙◌, subst, arith}
 use Rattle.std.proofs.lemmas.List.{append-nil, append_assoc, map-append, take-append-drop, drop-drop, get_or-drop, length-drop, length-map}
 use Rattle.std.proofs.lemmas.List.{length-take-le}
 use Rattle.std.proofs.lemmas.List.Elements.{All-nil, All-push}
 use Rattle.fx_chain.specs.Accepted.{IsAccepted}
 use Rattle.fx_chain.specs.Chains.{chains_from, chains_of}
-use Rattle.fx_chain.specs.Operation.{Asked, asked_of, all_asked}
+use Rattle.fx_chain.specs.Operation.{Asked, asked_of, all_asked, is_link}
 use Rattle.fx_chain.specs.Runs.{is_over, runs_of}
 use Rattle.fx_chain.specs.declared.chain.Chain.{Chain}
 use Rattle.fx_chain.specs.declared.request.Request.{Request}
@@ -14,6 +14,8 @@ use Rattle.fx_chain.proofs.Accepted.{accepted-length}
 use Rattle.fx_chain.proofs.Asking.{asked_more, asked_none}
 use Rattle.fx_chain.proofs.Runs.{AllLink, IsLinked, Links, HasMembers, first_run, one_run}
 use Rattle.fx_chain.proofs.Splits.{but_last-push, is_over-push}
+use Rattle.fx_chain.specs.declared.fault.TheConstants.{MOST_MEMBERS}
+use Rattle.fx_table.specs.declared.limits.TheConstants.{MAX_CHAINS}
 
 -- the requests from one place up to another
 abbrev pub between : List Request → ℕ → ℕ → List Asked
@@ -24,7 +26,7 @@ from_place requests first = all_asked (drop first requests)
 
 -- the chains that were made are those of the runs that are over, and the run from `first` on goes on at `i`
 pub record IsCut (requests : List Request) (made : List Chain) (first i : ℕ) : Type 0 where
-  pub short : length requests ≤ 16368
+  pub short : length requests ≤ MOST_MEMBERS * MAX_CHAINS
   pub begun : first ≤ i
   pub none_open : length requests ≤ i → first ≡ i
   pub linked : AllLink (between requests first i)
@@ -69,7 +71,7 @@ module _ (requests : List Request) (first i : ℕ) (x : Request) (begun : first 
   between_linked linked = subst IsLinked (sym between_more) (subst AllLink (sym (but_last-push (between requests first i) (asked_of x))) linked)
 
   -- the run up to this request is the first run
-  next_run : AllLink (between requests first i) → ((asked_of x).links ≡ false) ⊎ (length requests ≤ i + 1)
+  next_run : AllLink (between requests first i) → (is_link x.flags ≡ false) ⊎ (length requests ≤ i + 1)
       → runs_of (from_place requests first) ≡ between requests first (i + 1) ∷ runs_of (from_place requests (i + 1))
   next_run linked last = ap runs_of from_parts ∙ elim last [
     | inl ends ↦ first_run (between requests first (i + 1)) (from_place requests (i + 1)) (between_linked linked)
@@ -84,7 +86,7 @@ module _ (requests : List Request) (first i : ℕ) (x : Request) (begun : first 
   ]
 
   -- the run ends with this request
-  pub cut_ends : (made : List Chain) → IsCut requests made first i → ((asked_of x).links ≡ false) ⊎ (length requests ≤ i + 1)
+  pub cut_ends : (made : List Chain) → IsCut requests made first i → (is_link x.flags ≡ false) ⊎ (length requests ≤ i + 1)
       → IsCut requests (made ++ record { first = first; len = i + 1 - first } ∷ []) (i + 1) (i + 1)
   cut_ends made so last =
       let at : first + (i + 1 - first) ≡ i + 1 = omega arith in
@@ -103,7 +105,7 @@ module _ (requests : List Request) (first i : ℕ) (x : Request) (begun : first 
       }
 
   -- the run goes on behind this request
-  pub cut_goes_on : (made : List Chain) → IsCut requests made first i → (asked_of x).links ≡ true → i + 1 < length requests
+  pub cut_goes_on : (made : List Chain) → IsCut requests made first i → is_link x.flags ≡ true → i + 1 < length requests
       → IsCut requests made first (i + 1)
   cut_goes_on made so links more = record {
     short = so.short;

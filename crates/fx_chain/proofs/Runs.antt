@@ -6,12 +6,12 @@ use Rattle.std.proofs.lemmas.List.{append-nil}
 use Rattle.std.proofs.lemmas.Bool.{and_right, cases_Bool, ne_eqb}
 use Rattle.std.proofs.lemmas.List.Sums.{AllPass-from_list_all, list_all-from_AllPass}
 use Rattle.std.proofs.lemmas.List.Elements.{All-nil, All-cons, All-head, All-tail}
-use Rattle.fx_chain.specs.Operation.{Asked}
+use Rattle.fx_chain.specs.Operation.{Asked, is_link}
 use Rattle.fx_chain.specs.Runs.{but_last, is_over, AreRuns, AreTheOnlyRuns, in_front, runs_of, open_run}
 
 -- what each request does that is a member of a run and not its last
 abbrev pub AllLink : List Asked → Type 0
-AllLink requests = All (λ request. request.links ≡ true) requests
+AllLink requests = All (λ request. (is_link request.flags) ≡ true) requests
 
 -- a run: all but the last request link with the next one
 abbrev pub IsLinked : List Asked → Type 0
@@ -24,19 +24,19 @@ abbrev pub IsOver : List Asked → Type 0
 IsOver run = is_over run ≡ true
 
 abbrev pub Links : Asked → Type 0
-Links request = request.links ≡ true
+Links request = (is_link request.flags) ≡ true
 
-pub runs_link : (r : Asked) (rs : List Asked) → r.links ≡ true → runs_of (r ∷ rs) ≡ in_front r (runs_of rs)
+pub runs_link : (r : Asked) (rs : List Asked) → (is_link r.flags) ≡ true → runs_of (r ∷ rs) ≡ in_front r (runs_of rs)
 runs_link r rs links = ap (λ (b : Bool). if b then in_front r (runs_of rs) else (r ∷ []) ∷ runs_of rs) links
 
-pub runs_end : (r : Asked) (rs : List Asked) → r.links ≡ false → runs_of (r ∷ rs) ≡ (r ∷ []) ∷ runs_of rs
+pub runs_end : (r : Asked) (rs : List Asked) → (is_link r.flags) ≡ false → runs_of (r ∷ rs) ≡ (r ∷ []) ∷ runs_of rs
 runs_end r rs ends = ap (λ (b : Bool). if b then in_front r (runs_of rs) else (r ∷ []) ∷ runs_of rs) ends
 
 pub runs_one : (r : Asked) → runs_of (r ∷ []) ≡ (r ∷ []) ∷ []
-runs_one r = elim (r.links) as (λ b. (if b then (r ∷ []) ∷ [] else (r ∷ []) ∷ []) ≡ (r ∷ []) ∷ []) [ true ↦ refl | false ↦ refl ]
+runs_one r = elim (is_link r.flags) as (λ b. (if b then (r ∷ []) ∷ [] else (r ∷ []) ∷ []) ≡ (r ∷ []) ∷ []) [ true ↦ refl | false ↦ refl ]
 
 -- a linked request in front of runs
-linked_step : (r : Asked) (rs : List Asked) (runs : List (List Asked)) → r.links ≡ true → AreRuns rs runs → AreRuns (r ∷ rs) (in_front r runs)
+linked_step : (r : Asked) (rs : List Asked) (runs : List (List Asked)) → (is_link r.flags) ≡ true → AreRuns rs runs → AreRuns (r ∷ rs) (in_front r runs)
 linked_step r rs [] links are = record {
   whole = ap (λ xs. r ∷ xs) are.whole;
   not_empty = All-cons HasMembers (r ∷ []) [] (omega arith) (All-nil _);
@@ -60,12 +60,12 @@ linked_step r rs ((x ∷ xs) ∷ run ∷ runs) links are = record {
       (All-tail IsOver (x ∷ xs) (but_last (run ∷ runs)) are.over);
 }
 
-over_step : (r : Asked) (runs : List (List Asked)) → r.links ≡ false → All IsOver (but_last runs) → All IsOver (but_last ((r ∷ []) ∷ runs))
+over_step : (r : Asked) (runs : List (List Asked)) → (is_link r.flags) ≡ false → All IsOver (but_last runs) → All IsOver (but_last ((r ∷ []) ∷ runs))
 over_step r [] ends over = All-nil _
 over_step r (run ∷ runs) ends over = All-cons IsOver (r ∷ []) (but_last (run ∷ runs)) (ap not ends) over
 
 -- a run of one request in front of runs
-ended_step : (r : Asked) (rs : List Asked) (runs : List (List Asked)) → r.links ≡ false → AreRuns rs runs → AreRuns (r ∷ rs) ((r ∷ []) ∷ runs)
+ended_step : (r : Asked) (rs : List Asked) (runs : List (List Asked)) → (is_link r.flags) ≡ false → AreRuns rs runs → AreRuns (r ∷ rs) ((r ∷ []) ∷ runs)
 ended_step r rs runs ends are = record {
   whole = ap (λ ys. r ∷ ys) are.whole;
   not_empty = All-cons HasMembers (r ∷ []) runs (omega arith) are.not_empty;
@@ -76,7 +76,7 @@ ended_step r rs runs ends are = record {
 -- the runs of a list are runs
 pub are_runs : (requests : List Asked) → AreRuns requests (runs_of requests)
 are_runs [] = record { whole = refl; not_empty = All-nil _; linked = All-nil _; over = All-nil _ }
-are_runs (r ∷ rs) = elim (r.links) as (λ b. r.links ≡ b → AreRuns (r ∷ rs) (if b then in_front r (runs_of rs) else (r ∷ []) ∷ runs_of rs)) [
+are_runs (r ∷ rs) = elim (is_link r.flags) as (λ b. (is_link r.flags) ≡ b → AreRuns (r ∷ rs) (if b then in_front r (runs_of rs) else (r ∷ []) ∷ runs_of rs)) [
   | true ↦ λ links. linked_step r rs (runs_of rs) links (are_runs rs)
   | false ↦ λ ends. ended_step r rs (runs_of rs) ends (are_runs rs)
 ] refl
@@ -92,8 +92,8 @@ one_run (x ∷ y ∷ run) some linked =
 -- a run that is over is the first run
 pub first_run : (run rest : List Asked) → IsLinked run → is_over run ≡ true → runs_of (run ++ rest) ≡ run ∷ runs_of rest
 first_run [] rest linked over = cc
-first_run (x ∷ []) rest linked over = let ends : x.links ≡ false =
-    elim (x.links) as (λ b. not b ≡ true → b ≡ false) [ true ↦ λ e. sym e | false ↦ λ e. refl ] over in runs_end x rest ends
+first_run (x ∷ []) rest linked over = let ends : (is_link x.flags) ≡ false =
+    elim (is_link x.flags) as (λ b. not b ≡ true → b ≡ false) [ true ↦ λ e. sym e | false ↦ λ e. refl ] over in runs_end x rest ends
 first_run (x ∷ y ∷ run) rest linked over =
     runs_link x (y ∷ run ++ rest) (All-head Links x (but_last (y ∷ run)) linked)
     ∙ ap (in_front x) (first_run (y ∷ run) rest (All-tail Links x (but_last (y ∷ run)) linked) over)
@@ -114,45 +114,45 @@ only_runs requests runs are = sym (parted runs are.not_empty are.linked are.over
 pub the_only_runs : (requests : List Asked) → AreTheOnlyRuns requests (runs_of requests)
 the_only_runs requests = record { are = are_runs requests; only = only_runs requests }
 
-pub AllLink-test : (requests : List Asked) → AllLink requests → list_all (λ r. r.links) requests ≡ true
-AllLink-test requests link = list_all-from_AllPass (λ r. r.links) requests link
+pub AllLink-test : (requests : List Asked) → AllLink requests → list_all (λ r. (is_link r.flags)) requests ≡ true
+AllLink-test requests link = list_all-from_AllPass (λ r. (is_link r.flags)) requests link
 
-pub test-AllLink : (requests : List Asked) → list_all (λ r. r.links) requests ≡ true → AllLink requests
-test-AllLink requests test = AllPass-from_list_all (λ r. r.links) requests test
+pub test-AllLink : (requests : List Asked) → list_all (λ r. (is_link r.flags)) requests ≡ true → AllLink requests
+test-AllLink requests test = AllPass-from_list_all (λ r. (is_link r.flags)) requests test
 
 pub open_run-all : (requests : List Asked) → AllLink requests → open_run requests ≡ requests
 open_run-all [] link = refl
 open_run-all (r ∷ rs) link = ap (λ (b : Bool). if b then r ∷ rs else open_run rs) (AllLink-test (r ∷ rs) link)
 
 -- a list with a request that doesn't link does not link
-list_all-end : (xs : List Asked) (r : Asked) (rest : List Asked) → r.links ≡ false → list_all (λ y. y.links) (xs ++ r ∷ rest) ≡ false
-list_all-end [] r rest ends = ap (λ (b : Bool). b && list_all (λ y. y.links) rest) ends
-list_all-end (x ∷ xs) r rest ends = and_right x.links (list_all (λ y. y.links) (xs ++ r ∷ rest)) (list_all-end xs r rest ends)
+list_all-end : (xs : List Asked) (r : Asked) (rest : List Asked) → (is_link r.flags) ≡ false → list_all (λ y. (is_link y.flags)) (xs ++ r ∷ rest) ≡ false
+list_all-end [] r rest ends = ap (λ (b : Bool). b && list_all (λ y. (is_link y.flags)) rest) ends
+list_all-end (x ∷ xs) r rest ends = and_right (is_link x.flags) (list_all (λ y. (is_link y.flags)) (xs ++ r ∷ rest)) (list_all-end xs r rest ends)
 
 -- what stands in front of the end of a run is no part of the open run
-pub open_run-end : (xs : List Asked) (r : Asked) (rest : List Asked) → r.links ≡ false → AllLink rest → open_run (xs ++ r ∷ rest) ≡ rest
+pub open_run-end : (xs : List Asked) (r : Asked) (rest : List Asked) → (is_link r.flags) ≡ false → AllLink rest → open_run (xs ++ r ∷ rest) ≡ rest
 open_run-end [] r rest ends link = ap (λ (b : Bool). if b then r ∷ rest else open_run rest) (list_all-end [] r rest ends) ∙ open_run-all rest link
 open_run-end (x ∷ xs) r rest ends link =
     ap (λ (b : Bool). if b then x ∷ xs ++ r ∷ rest else open_run (xs ++ r ∷ rest)) (list_all-end (x ∷ xs) r rest ends)
     ∙ open_run-end xs r rest ends link
 
 -- the open run goes on with a request that links
-list_all-push : (xs : List Asked) (r : Asked) → r.links ≡ true → list_all (λ y. y.links) (xs ++ r ∷ []) ≡ list_all (λ y. y.links) xs
+list_all-push : (xs : List Asked) (r : Asked) → (is_link r.flags) ≡ true → list_all (λ y. (is_link y.flags)) (xs ++ r ∷ []) ≡ list_all (λ y. (is_link y.flags)) xs
 list_all-push [] r links = ap (λ (b : Bool). b && true) links
-list_all-push (x ∷ xs) r links = ap (λ (b : Bool). x.links && b) (list_all-push xs r links)
+list_all-push (x ∷ xs) r links = ap (λ (b : Bool). (is_link x.flags) && b) (list_all-push xs r links)
 
 cond-push : (b : Bool) (xs ys : List Asked) (r : Asked) → (if b then xs else ys) ++ r ∷ [] ≡ if b then xs ++ r ∷ [] else ys ++ r ∷ []
 cond-push true xs ys r = refl
 cond-push false xs ys r = refl
 
-pub open_run-push : (front : List Asked) (r : Asked) → r.links ≡ true → open_run (front ++ r ∷ []) ≡ open_run front ++ r ∷ []
+pub open_run-push : (front : List Asked) (r : Asked) → (is_link r.flags) ≡ true → open_run (front ++ r ∷ []) ≡ open_run front ++ r ∷ []
 open_run-push [] r links = open_run-all (r ∷ []) (All-cons Links r [] links (All-nil Links))
 open_run-push (x ∷ front) r links =
     ap (λ (b : Bool). if b then x ∷ front ++ r ∷ [] else open_run (front ++ r ∷ [])) (list_all-push (x ∷ front) r links)
-    ∙ ap (λ (ys : List Asked). if list_all (λ y. y.links) (x ∷ front) then x ∷ front ++ r ∷ [] else ys) (open_run-push front r links)
-    ∙ sym (cond-push (list_all (λ y. y.links) (x ∷ front)) (x ∷ front) (open_run front) r)
+    ∙ ap (λ (ys : List Asked). if list_all (λ y. (is_link y.flags)) (x ∷ front) then x ∷ front ++ r ∷ [] else ys) (open_run-push front r links)
+    ∙ sym (cond-push (list_all (λ y. (is_link y.flags)) (x ∷ front)) (x ∷ front) (open_run front) r)
 
-pub open_run-over : (front : List Asked) (r : Asked) → r.links ≡ false → open_run (front ++ r ∷ []) ≡ []
+pub open_run-over : (front : List Asked) (r : Asked) → (is_link r.flags) ≡ false → open_run (front ++ r ∷ []) ≡ []
 open_run-over front r ends = open_run-end front r [] ends (All-nil Links)
 
 in_front-some : (x : Asked) (runs : List (List Asked)) → 0 < length (in_front x runs)
@@ -161,7 +161,7 @@ in_front-some x (run ∷ runs) = omega arith
 
 -- no list has no runs but the empty one
 pub runs-some : (x : Asked) (xs : List Asked) → 0 < length (runs_of (x ∷ xs))
-runs-some x xs = elim (x.links) as
+runs-some x xs = elim (is_link x.flags) as
     (λ b. 0 < length (if b then in_front x (runs_of xs) else (x ∷ []) ∷ runs_of xs)) [ true ↦ in_front-some x (runs_of xs) | false ↦ omega arith ]
 
 in_front-length : (x : Asked) (runs : List (List Asked)) → 0 < length runs → length (in_front x runs) ≡ length runs
@@ -169,11 +169,11 @@ in_front-length x [] some = absurd (omega arith)
 in_front-length x (run ∷ runs) some = refl
 
 -- a request begins a run where no run is open
-runs-push_link : (x : Asked) (xs : List Asked) → x.links ≡ true → 0 < length xs → length (runs_of (x ∷ xs)) ≡ length (runs_of xs)
+runs-push_link : (x : Asked) (xs : List Asked) → (is_link x.flags) ≡ true → 0 < length xs → length (runs_of (x ∷ xs)) ≡ length (runs_of xs)
 runs-push_link x [] links some = absurd (omega arith)
 runs-push_link x (y ∷ ys) links some = ap length (runs_link x (y ∷ ys) links) ∙ in_front-length x (runs_of (y ∷ ys)) (runs-some y ys)
 
-runs-push_end : (x : Asked) (xs : List Asked) → x.links ≡ false → length (runs_of (x ∷ xs)) ≡ length (runs_of xs) + 1
+runs-push_end : (x : Asked) (xs : List Asked) → (is_link x.flags) ≡ false → length (runs_of (x ∷ xs)) ≡ length (runs_of xs) + 1
 runs-push_end x xs ends = ap length (runs_end x xs ends) ∙ omega arith
 
 has_length : (x : Asked) (xs : List Asked) → (length (x ∷ xs) == 0) ≡ false
@@ -181,7 +181,7 @@ has_length x xs = ne_eqb (length (x ∷ xs)) 0 (λ none. absurd (omega arith))
 
 -- whether a run is open is told behind the first request, where there are more
 open_run-cons : (x y : Asked) (ys : List Asked) → (length (open_run (x ∷ y ∷ ys)) == 0) ≡ (length (open_run (y ∷ ys)) == 0)
-open_run-cons x y ys = elim (cases_Bool (list_all (λ r. r.links) (x ∷ y ∷ ys))) [
+open_run-cons x y ys = elim (cases_Bool (list_all (λ r. (is_link r.flags)) (x ∷ y ∷ ys))) [
   | inl all ↦ let rest : AllLink (y ∷ ys) = All-tail Links x (y ∷ ys) (test-AllLink (x ∷ y ∷ ys) all) in
       ap (λ (zs : List Asked). length zs == 0) (open_run-all (x ∷ y ∷ ys) (test-AllLink (x ∷ y ∷ ys) all)) ∙ has_length x (y ∷ ys)
       ∙ sym (has_length y ys) ∙ sym (ap (λ (zs : List Asked). length zs == 0) (open_run-all (y ∷ ys) rest))
@@ -198,7 +198,7 @@ counted-suc false n = refl
 pub runs-push : (front : List Asked) (r : Asked)
     → length (runs_of (front ++ r ∷ [])) ≡ if length (open_run front) == 0 then length (runs_of front) + 1 else length (runs_of front)
 runs-push [] r = ap length (runs_one r)
-runs-push (x ∷ []) r = elim (cases_Bool x.links) [
+runs-push (x ∷ []) r = elim (cases_Bool (is_link x.flags)) [
   | inl links ↦ runs-push_link x (r ∷ []) links (omega arith) ∙ ap length (runs_one r)
       ∙ sym (ap (λ (zs : List Asked). counted (length zs == 0) (length (runs_of (x ∷ []))))
       (open_run-all (x ∷ []) (All-cons Links x [] links (All-nil Links))) ∙ ap length (runs_one x))
@@ -206,7 +206,7 @@ runs-push (x ∷ []) r = elim (cases_Bool x.links) [
       ∙ sym (ap (λ (zs : List Asked). counted (length zs == 0) (length (runs_of (x ∷ [])))) (open_run-over [] x ends)
       ∙ ap (λ n. n + 1) (ap length (runs_one x)))
 ]
-runs-push (x ∷ y ∷ ys) r = elim (cases_Bool x.links) [
+runs-push (x ∷ y ∷ ys) r = elim (cases_Bool (is_link x.flags)) [
   | inl links ↦ runs-push_link x (y ∷ ys ++ r ∷ []) links (omega arith) ∙ runs-push (y ∷ ys) r
       ∙ ap (λ (b : Bool). counted b (length (runs_of (y ∷ ys)))) (sym (open_run-cons x y ys))
       ∙ ap (λ (n : ℕ). counted (length (open_run (x ∷ y ∷ ys)) == 0) n) (sym (runs-push_link x (y ∷ ys) links (omega arith)))

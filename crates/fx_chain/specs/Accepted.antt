@@ -1,7 +1,7 @@
 -- What holds of a submission without a fault.
 use Rattle.std.specs.Prelude.{◌≡◌, ◌+◌, ◌<◌, ◌≤◌, false, List, length, take, drop, All, None}
 use Rattle.fx_table.specs.declared.limits.TheConstants.{CHAIN_NUMBERS}
-use Rattle.fx_chain.specs.Operation.{Asked}
+use Rattle.fx_chain.specs.Operation.{Asked, is_fixed}
 use Rattle.fx_chain.specs.Faults.{fault_of, has_bad_flags, is_long_read, is_long_update}
 use Rattle.fx_chain.specs.Weights.{all_installs}
 use Rattle.fx_chain.specs.declared.chain.Chain.{Chain}
@@ -13,7 +13,7 @@ IsAccepted requests = fault_of requests ≡ None
 
 -- a request that no limit of its own refuses
 pub record IsWithinLimits (request : Asked) : Type 0 where
-  pub flags : has_bad_flags request.operation request.fixed ≡ false
+  pub flags : has_bad_flags request.operation (is_fixed request.flags) ≡ false
   pub read : is_long_read request.operation ≡ false
   pub update : is_long_update request.operation ≡ false
 

@@ -1,6 +1,6 @@
 -- What a chain may answer: its members one after another, up to and with the first one that severs it, and the others
--- canceled (io_uring_enter(2), "IOSQE_IO_LINK").
-use Rattle.std.specs.Prelude.{◌≡◌, ℕ, ◌+◌, pos, int_lt, ◌||◌, Bool, false, List, [], ◌∷◌, ◌++◌}
+-- canceled (io_uring_enter(2), "IOSQE_IO_LINK", "IOSQE_IO_HARDLINK").
+use Rattle.std.specs.Prelude.{◌≡◌, ℕ, ◌+◌, pos, int_lt, ◌&&◌, ◌||◌, not, Bool, false, List, [], ◌∷◌, ◌++◌}
 use Rattle.std.specs.Bool.{MatchBool}
 use Rattle.fx_base.specs.declared.errno.Errno.TheVariants.{ECANCELED}
 use Rattle.fx_base.specs.Catalogue.{FileEntry}
@@ -8,7 +8,7 @@ use Rattle.fx_plain.specs.declared.event.Action.{Action}
 use Rattle.fx_plain.specs.History.{◌▷▷◌}
 use Rattle.fx_chain.specs.Answers.{Answers}
 use Rattle.fx_chain.specs.Completed.{Completed, refusal, next_member}
-use Rattle.fx_chain.specs.Operation.{Operation, Reads, Asked}
+use Rattle.fx_chain.specs.Operation.{Operation, Reads, Asked, is_hard_link}
 use Rattle.fx_chain.specs.declared.completion.Place.{Place}
 
 -- a read that gave fewer bytes than asked
@@ -19,9 +19,9 @@ is_short _ c = false
 abbrev pub has_failed : Operation → Completed → Bool
 has_failed operation c = int_lt c.res (pos 0) || is_short operation c
 
--- the members behind the request never start
+-- the members behind the request never start: it failed, and is no hard link
 abbrev pub severs : Asked → Completed → Bool
-severs request c = has_failed request.operation c
+severs request c = has_failed request.operation c && not (is_hard_link request.flags)
 
 -- the answers of members that never started
 abbrev pub canceled : Place → List Asked → List Completed

@@ -1,7 +1,7 @@
 -- What a submission is refused for (the limits are this project's own).
 use Rattle.std.specs.Prelude.{◌≡◌, ℕ, ◌+◌, ◌==◌, nat_lt, Bool, false, not, ◌&&◌, List, [], ◌∷◌, ◌++◌, length, Option, Some, None, if◌then◌else◌}
 use Rattle.fx_table.specs.declared.limits.TheConstants.{MAX_CHAINS, CHAIN_NUMBERS}
-use Rattle.fx_chain.specs.Operation.{Operation, Reads, Updates, Asked}
+use Rattle.fx_chain.specs.Operation.{Operation, Reads, Updates, Asked, is_fixed}
 use Rattle.fx_chain.specs.Runs.{runs_of, open_run}
 use Rattle.fx_chain.specs.Weights.{installs_of, all_installs}
 use Rattle.fx_chain.specs.declared.fault.CutKind.{CutKind}
@@ -27,7 +27,7 @@ is_long_update _ = false
 -- the members of its own run in front of it, and `installs` that of the files which those members install
 abbrev pub fault_after : ℕ → ℕ → ℕ → Asked → Option CutKind
 fault_after runs members installs request =
-    if has_bad_flags request.operation request.fixed then Some BadFlags
+    if has_bad_flags request.operation (is_fixed request.flags) then Some BadFlags
     else if is_long_read request.operation then Some LongRead
     else if is_long_update request.operation then Some LongUpdate
     else if members == MOST_MEMBERS then Some ChainTooLong

@@ -1,6 +1,6 @@
 -- A request, without where it lies in memory.
-use Rattle.std.specs.Prelude.{ℕ, ℤ, Bool, ◌==◌, List, map, string_bytes}
-use Rattle.std.specs.Int.RustNames.{bit_and}
+use Rattle.std.specs.Prelude.{ℕ, ℤ, Bool, ◌==◌, ◌||◌, List, map, string_bytes}
+use Rattle.std.specs.Int.RustNames.{bit_and, bit_or}
 use Rattle.fx_chain.specs.declared.flags.SqeFlags.{SqeFlags}
 use Rattle.fx_chain.specs.declared.request.Op.{Op}
 use Rattle.fx_chain.specs.declared.request.Op.TheVariants.{Open, Read, Close, Update}
@@ -23,22 +23,41 @@ operation_of (Read slot off len) = Reads slot off len
 operation_of (Close slot) = Closes slot
 operation_of (Update off list) = Updates off list.items
 
+-- the flags, each by the value of its bit
+abbrev pub no_flags : SqeFlags
+no_flags = record { 0 = 0 }
+
+abbrev pub fixed_file : SqeFlags
+fixed_file = record { 0 = 1 }
+
+abbrev pub io_link : SqeFlags
+io_link = record { 0 = 4 }
+
+abbrev pub io_hardlink : SqeFlags
+io_hardlink = record { 0 = 8 }
+
+abbrev pub both_flags : SqeFlags → SqeFlags → SqeFlags
+both_flags one other = record { 0 = bit_or one.0 other.0 }
+
 -- the request names its file by a slot
 abbrev pub is_fixed : SqeFlags → Bool
 is_fixed flags = bit_and flags.0 1 == 1
 
+-- the next request waits for this one, and starts whatever this one comes to
+abbrev pub is_hard_link : SqeFlags → Bool
+is_hard_link flags = bit_and flags.0 8 == 8
+
 -- the next request waits for this one
 abbrev pub is_link : SqeFlags → Bool
-is_link flags = bit_and flags.0 4 == 4
+is_link flags = bit_and flags.0 4 == 4 || is_hard_link flags
 
 -- what is asked
 pub record Asked : Type 0 where
   pub operation : Operation
-  pub fixed : Bool
-  pub links : Bool
+  pub flags : SqeFlags
 
 abbrev pub asked_of : Request → Asked
-asked_of request = record { operation = operation_of request.op; fixed = is_fixed request.flags; links = is_link request.flags }
+asked_of request = record { operation = operation_of request.op; flags = request.flags }
 
 abbrev pub all_asked : List Request → List Asked
 all_asked requests = map asked_of requests

@@ -1,7 +1,8 @@
--- The runs of a submission: the requests that are linked with each other (io_uring_enter(2), "IOSQE_IO_LINK").
+-- The runs of a submission: the requests that are linked with each other (io_uring_enter(2), "IOSQE_IO_LINK",
+-- "IOSQE_IO_HARDLINK").
 use Rattle.std.specs.Prelude.{◌≡◌, ◌<◌, Bool, true, false, not, List, [], ◌∷◌, ◌++◌, length, All, flat_map, if◌then◌else◌}
 use Rattle.std.specs.List.{list_all}
-use Rattle.fx_chain.specs.Operation.{Asked}
+use Rattle.fx_chain.specs.Operation.{Asked, is_link}
 
 -- all but the last
 abbrev pub but_last : {X : Type 0} → List X → List X
@@ -12,7 +13,7 @@ but_last (x ∷ y ∷ xs) = x ∷ but_last (y ∷ xs)
 -- the last request lacks the link
 abbrev pub is_over : List Asked → Bool
 is_over [] = false
-is_over (request ∷ []) = not request.links
+is_over (request ∷ []) = not (is_link request.flags)
 is_over (request ∷ next ∷ run) = is_over (next ∷ run)
 
 -- the list in parts: every request of a part but its last links with the next one, and that last one doesn't, except
@@ -20,7 +21,7 @@ is_over (request ∷ next ∷ run) = is_over (next ∷ run)
 pub record AreRuns (requests : List Asked) (runs : List (List Asked)) : Type 0 where
   pub whole : flat_map (λ run. run) runs ≡ requests
   pub not_empty : All (λ run. 0 < length run) runs
-  pub linked : All (λ run. All (λ request. request.links ≡ true) (but_last run)) runs
+  pub linked : All (λ run. All (λ request. is_link request.flags ≡ true) (but_last run)) runs
   pub over : All (λ run. is_over run ≡ true) (but_last runs)
 
 -- the one way to part the list so
@@ -36,12 +37,12 @@ in_front request (run ∷ runs) = (request ∷ run) ∷ runs
 -- the one way to part the list into runs
 abbrev pub runs_of : List Asked → List (List Asked)
 runs_of [] = []
-runs_of (request ∷ requests) = if request.links then in_front request (runs_of requests) else (request ∷ []) ∷ runs_of requests
+runs_of (request ∷ requests) = if is_link request.flags then in_front request (runs_of requests) else (request ∷ []) ∷ runs_of requests
 
 -- the requests at the end of the list that all link: a request behind the list is a member of their run
 abbrev pub open_run : List Asked → List Asked
 open_run [] = []
-open_run (request ∷ requests) = if list_all (λ r. r.links) (request ∷ requests) then request ∷ requests else open_run requests
+open_run (request ∷ requests) = if list_all (λ r. is_link r.flags) (request ∷ requests) then request ∷ requests else open_run requests
 
 -- a request stands in its own run behind the open run of the requests in front of it
 pub record StandsIn (front : List Asked) (request : Asked) (runs : List (List Asked)) : Type 0 where

@@ -9,7 +9,8 @@ use fx_base::NoMemory;
 use fx_table::MAX_CHAINS;
 use std::alloc::Global;
 
-/// The members of a submission that are linked with each other (io_uring_enter(2), "IOSQE_IO_LINK").
+/// The members of a submission that are linked with each other (io_uring_enter(2), "IOSQE_IO_LINK",
+/// "IOSQE_IO_HARDLINK").
 #[derive(Clone, Copy, Debug, PartialEq, Eq)]
 pub struct Chain {
     /// How many requests stand before its first member, at most 16,352.

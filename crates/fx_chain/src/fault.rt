@@ -1,7 +1,7 @@
 ghost use Rattle.std.specs.Prelude.{◌≡◌, ◌+◌, ◌*◌, ◌<◌, ◌≤◌, length, IfSome, IfNone, IfOk, IfErr, Ok, Err, if◌then◌else◌, ◌==◌};
 ghost use Rattle.fx_chain.specs.Accepted.{IsAccepted};
 ghost use Rattle.fx_chain.specs.Faults.{fault_after, fault_of};
-ghost use Rattle.fx_chain.specs.Operation.{all_asked, asked_of};
+ghost use Rattle.fx_chain.specs.Operation.{all_asked, asked_of, is_link};
 ghost use Rattle.fx_chain.specs.Runs.{runs_of};
 ghost use Rattle.fx_chain.specs.Weights.{installs_of};
 
@@ -45,8 +45,8 @@ struct Count {
     installs: u32,
 }
 
-/// The number of chains of a submission, from 0 to 1,023. A request with IO_LINK is in one chain with the next one
-/// (io_uring_enter(2), "IOSQE_IO_LINK").
+/// The number of chains of a submission, from 0 to 1,023. A request with IO_LINK or IO_HARDLINK is in one chain with the
+/// next one (io_uring_enter(2), "IOSQE_IO_LINK", "IOSQE_IO_HARDLINK").
 ///
 /// # Errors
 /// The first request with a fault, and its first fault in the order of [`CutKind`]. The place of that request is at
@@ -113,9 +113,9 @@ impl Count {
             ≤ CHAIN_NUMBERS }
         ensures chains { self.new.chains ≡ if self.old.members == 0
             then self.old.chains + 1 else self.old.chains }
-        ensures members { self.new.members ≡ if (asked_of request.now).links
+        ensures members { self.new.members ≡ if is_link request.now.flags
             then self.old.members + 1 else 0 }
-        ensures installs { self.new.installs ≡ if (asked_of request.now).links
+        ensures installs { self.new.installs ≡ if is_link request.now.flags
             then self.old.installs + installs_of (asked_of request.now).operation else 0 }
     {
         if self.members == 0 {

@@ -2,7 +2,9 @@ ghost use Rattle.std.specs.Prelude.{⊤, [], ◌∷◌, codes};
 
 use bitflags::{Flag, Flags, bitflag_items};
 
-/// The flags of a request that this project knows (io_uring_enter(2), "flags").
+/// The flags of a request that this project knows (io_uring_enter(2), "flags"). `FIXED_FILE` says that the request names
+/// its file by a slot. By `IO_LINK` the next request starts only after this one has completed, and never where this one
+/// severs their chain. By `IO_HARDLINK` it starts only then too, but whatever this one came to; so it does by both.
 #[derive(Clone, Copy, PartialEq, Eq, Debug)]
 pub struct SqeFlags(u8);
 
@@ -10,6 +12,7 @@ bitflag_items! {
     impl SqeFlags: u8 {
         const FIXED_FILE = 1;
         const IO_LINK = 4;
+        const IO_HARDLINK = 8;
     }
 }
 
@@ -18,7 +21,8 @@ impl Flags for SqeFlags {
 
     ghost exact = { ⊤ };
 
-    ghost table = { (codes "FIXED_FILE", 1) ∷ (codes "IO_LINK", 4) ∷ [] };
+    ghost table = { (codes "FIXED_FILE", 1) ∷ (codes "IO_LINK", 4)
+        ∷ (codes "IO_HARDLINK", 8) ∷ [] };
 
     ghost set_of = { λ flags. flags.0 };
 

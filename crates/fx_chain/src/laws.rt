@@ -1,11 +1,25 @@
 //! Laws of runs and faults, over lists of requests alone. Each is the contract of a function that does nothing (this
 //! project's own).
 
-ghost use Rattle.std.specs.Prelude.{List, ◌∷◌, ◌++◌, MatchOption};
+ghost use Rattle.std.specs.Prelude.{◌≡◌, List, ◌∷◌, ◌++◌, MatchOption};
 ghost use Rattle.fx_chain.specs.Faults.{HasNoFault, IsFirstFault, fault_of};
 ghost use Rattle.fx_chain.specs.Legal.{ExplainedRunsAreLegal};
 ghost use Rattle.fx_chain.specs.Operation.{Asked};
 ghost use Rattle.fx_chain.specs.Runs.{AreTheOnlyRuns, StandsIn, runs_of};
+
+use crate::fault::MOST_MEMBERS;
+use crate::request::{LONGEST_READ, LONGEST_UPDATE};
+use fx_table::{CHAIN_NUMBERS, MAX_CHAINS};
+
+/// The limits of a submission, as numbers: the chains of a submission, the members of a chain and the files that it
+/// installs, the bytes of a read and the entries of an update.
+pub fn limits_of_submissions()
+    ensures chains { MAX_CHAINS ≡ 1023 }
+    ensures members { MOST_MEMBERS ≡ 16 }
+    ensures installs { CHAIN_NUMBERS ≡ 64 }
+    ensures read { LONGEST_READ ≡ 4096 }
+    ensures update { LONGEST_UPDATE ≡ 16 }
+{}
 
 /// The runs of a list of requests are runs, and there are no others.
 pub fn runs_are_the_only_ones()

@@ -17,8 +17,8 @@ use std::alloc::Global;
 use std::sync::Wait;
 
 // Opens a catalogue entry at a slot.
-fn open_at<T: FileTable, R: Wait>(
-    rt: &R,
+fn open_at<T: FileTable>(
+    rt: &impl Wait,
     alloc: Global,
     table: &T,
     pass: &mut T::Pass,
@@ -52,8 +52,8 @@ fn open_at<T: FileTable, R: Wait>(
 }
 
 // Opens a catalogue entry at any free slot of the allocation range.
-fn open_any<T: FileTable, R: Wait>(
-    rt: &R,
+fn open_any<T: FileTable>(
+    rt: &impl Wait,
     alloc: Global,
     table: &T,
     pass: &mut T::Pass,
@@ -87,8 +87,8 @@ fn open_any<T: FileTable, R: Wait>(
 }
 
 // Opens the catalogue entry of a name.
-pub(crate) fn open<T: FileTable, R: Wait>(
-    rt: &R,
+pub(crate) fn open<T: FileTable>(
+    rt: &impl Wait,
     alloc: Global,
     table: &T,
     pass: &mut T::Pass,

@@ -1,8 +1,7 @@
 //! The player of requests, on any table that threads share.
-ghost use Rattle.std.specs.Prelude.{◌≡◌, ◌+◌, ◌<◌, ◌≤◌, length, All, vec_len, vec_capacity};
+ghost use Rattle.std.specs.Prelude.{◌≡◌, ◌+◌, ◌<◌, ◌≤◌, length, vec_len, vec_capacity};
 ghost use Rattle.fx_table.specs.Opening.{size_of};
 ghost use Rattle.fx_table.specs.Pass.{IsIdle};
-ghost use Rattle.fx_chain.specs.Accepted.{IsWithinLimits};
 ghost use Rattle.fx_chain.specs.Answers.{Empties};
 ghost use Rattle.fx_chain.specs.Completed.{completed_of, all_completed};
 ghost use Rattle.fx_chain.specs.Operation.{operation_of, asked_of, all_asked};
@@ -10,7 +9,6 @@ ghost use Rattle.fx_chain.specs.Performs.{ActsSo, Performs, PlaysChain, player};
 ghost use Rattle.fx_chain.specs.Weights.{installs_of, weight_of, all_installs, all_weights};
 
 use crate::completion::{Completion, Place};
-use crate::fault::MOST_MEMBERS;
 use crate::gate::Gate;
 use crate::open::open;
 use crate::read::read;
@@ -23,8 +21,8 @@ use std::alloc::Global;
 use std::sync::Wait;
 
 // Empties a slot.
-fn close<T: FileTable, R: Wait>(
-    rt: &R,
+fn close<T: FileTable>(
+    rt: &impl Wait,
     alloc: Global,
     table: &T,
     pass: &mut T::Pass,
@@ -58,12 +56,11 @@ fn close<T: FileTable, R: Wait>(
 /// and each file that it closes goes to the list of closes. The pass is idle again.
 ///
 /// The caller has seen that the pass is idle (`is_idle`), has a look-up left (`looks_left`) and as many numbers as the
-/// request has [`Request::installs`] (`numbers_left`), that the list has room for its [`Request::weight`] (`room`), and
-/// that no limit of its own refuses the request ([`crate::check`]).
+/// request has [`Request::installs`] (`numbers_left`), and that the list has room for its [`Request::weight`] (`room`).
 ///
 /// It takes memory for the bytes of a read alone. Where that is refused the read completes with ENOMEM.
-pub fn perform<T: FileTable, R: Wait>(
-    rt: &R,
+pub fn perform<T: FileTable>(
+    rt: &impl Wait,
     alloc: Global,
     table: &T,
     pass: &mut T::Pass,
@@ -77,7 +74,6 @@ pub fn perform<T: FileTable, R: Wait>(
     requires looks { 0 < (T.view pass.old).looks_left }
     requires numbers { installs_of (operation_of request.now.op) ≤ (T.view pass.old).numbers_left }
     requires room { weight_of (operation_of request.now.op) ≤ closes.old.room }
-    requires limits { IsWithinLimits (asked_of request.now) }
     ensures fits { T.fits table.now pass.new }
     ensures performed { Performs (T.opening table.now) catalogue.now place (asked_of request.now)
         (player (T.view pass.old) closes.old) (completed_of result)
@@ -104,6 +100,15 @@ pub fn perform<T: FileTable, R: Wait>(
     }
 }
 
+// How many members a chain has. The pass has a look-up for each, and counts its look-ups in a u32.
+fn members<T: FileTable>(table: &T, pass: &T::Pass, requests: &[Request]) -> u32
+    requires fits { T.fits table.now pass.now }
+    requires looks { length requests.now ≤ (T.view pass.now).looks_left }
+    ensures { result ≡ length requests.now }
+{
+    requests.len().min(table.looks_left(pass) as usize) as u32
+}
+
 /// Plays the members of a chain, one after another, and adds a completion for each, at its place, to `out`. Behind a
 /// member that severs the chain the others complete with ECANCELED and never start (io_uring_enter(2),
 /// "IOSQE_IO_LINK"). A chain without members makes no step. The gate's `before` is called in front of each member that
@@ -111,12 +116,11 @@ pub fn perform<T: FileTable, R: Wait>(
 ///
 /// The caller has seen that the pass is idle (`is_idle`), has a look-up for each member (`looks_left`) and a number for
 /// each file that they install ([`Request::installs`], `numbers_left`), that the list has room for all that they may
-/// close ([`Request::weight`], `room`), that `out` has reserved room for a completion of each, and that no limit
-/// refuses the chain ([`crate::check`]).
+/// close ([`Request::weight`], `room`), and that `out` has reserved room for a completion of each.
 ///
 /// It takes memory for the bytes of reads alone.
-pub fn run_chain<T: FileTable, R: Wait, G: Gate>(
-    rt: &R,
+pub fn run_chain<T: FileTable, G: Gate>(
+    rt: &impl Wait,
     alloc: Global,
     table: &T,
     pass: &mut T::Pass,
@@ -130,8 +134,6 @@ pub fn run_chain<T: FileTable, R: Wait, G: Gate>(
 )
     requires fits { T.fits table.now pass.old }
     requires idle { IsIdle (T.view pass.old) }
-    requires few { length requests.now ≤ MOST_MEMBERS }
-    requires limits { All IsWithinLimits (all_asked requests.now) }
     requires looks { length requests.now ≤ (T.view pass.old).looks_left }
     requires numbers { all_installs (all_asked requests.now) ≤ (T.view pass.old).numbers_left }
     requires room { all_weights (all_asked requests.now) ≤ closes.old.room }
@@ -144,11 +146,12 @@ pub fn run_chain<T: FileTable, R: Wait, G: Gate>(
     ensures capacity { vec_capacity out.old ≤ vec_capacity out.new }
 {
     let mut severed = false;
-    for (i, request) in requests.iter().enumerate() {
+    for i in 0..members(table, pass, requests) {
+        let request = &requests[i as usize];
         let place = Place {
             submission,
             chain,
-            member: i as u32 + 1,
+            member: i + 1,
         };
         if severed {
             out.push_reserved(Completion::refusal(alloc, place, Errno::ECANCELED));

@@ -1,5 +1,5 @@
 //! Reads from the file at a slot of a shared table.
-ghost use Rattle.std.specs.Prelude.{◌<◌, ◌≤◌};
+ghost use Rattle.std.specs.Prelude.{◌<◌};
 ghost use Rattle.fx_table.specs.Opening.{size_of};
 ghost use Rattle.fx_table.specs.Pass.{IsIdle};
 ghost use Rattle.fx_chain.specs.Answers.{ReadsFrom};
@@ -8,15 +8,14 @@ ghost use Rattle.fx_chain.specs.Performs.{ActsSo, player};
 
 use crate::completion::{Completion, Place};
 use crate::removal::release;
-use crate::request::LONGEST_READ;
 use fx_base::{Catalogue, CloseList, Errno};
 use fx_table::{FileTable, LookFault};
 use std::alloc::Global;
 use std::sync::Wait;
 
 // Reads a part of the file at a slot. The buffer is reserved before the look-up, so that no hold waits for memory.
-pub(crate) fn read<T: FileTable, R: Wait>(
-    rt: &R,
+pub(crate) fn read<T: FileTable>(
+    rt: &impl Wait,
     alloc: Global,
     table: &T,
     pass: &mut T::Pass,
@@ -30,7 +29,6 @@ pub(crate) fn read<T: FileTable, R: Wait>(
     requires fits { T.fits table.now pass.old }
     requires idle { IsIdle (T.view pass.old) }
     requires looks { 0 < (T.view pass.old).looks_left }
-    requires len { len ≤ LONGEST_READ }
     requires room { 0 < closes.old.room }
     ensures fits { T.fits table.now pass.new }
     ensures read { ActsSo (T.opening table.now) (player (T.view pass.old) closes.old) 1 0 1

@@ -13,8 +13,8 @@ use fx_table::{Empty, FileTable, Hold, Retired};
 use std::sync::Wait;
 
 // Retires the file that the pass removed, and closes it where nobody holds it now. Else its last holder will.
-fn retire<T: FileTable, R: Wait>(
-    rt: &R,
+fn retire<T: FileTable>(
+    rt: &impl Wait,
     table: &T,
     pass: &mut T::Pass,
     retired: Retired,
@@ -33,8 +33,8 @@ fn retire<T: FileTable, R: Wait>(
 }
 
 // Gives up what the pass holds, and closes it where it was retired and this was its last hold.
-pub(crate) fn release<T: FileTable, R: Wait>(
-    rt: &R,
+pub(crate) fn release<T: FileTable>(
+    rt: &impl Wait,
     table: &T,
     pass: &mut T::Pass,
     hold: Hold,
@@ -53,8 +53,8 @@ pub(crate) fn release<T: FileTable, R: Wait>(
 }
 
 // Empties a slot for a close. Whether there was a file.
-pub(crate) fn take<T: FileTable, R: Wait>(
-    rt: &R,
+pub(crate) fn take<T: FileTable>(
+    rt: &impl Wait,
     table: &T,
     pass: &mut T::Pass,
     slot: u32,
@@ -79,8 +79,8 @@ pub(crate) fn take<T: FileTable, R: Wait>(
 }
 
 // Empties a slot for an update.
-pub(crate) fn clear<T: FileTable, R: Wait>(
-    rt: &R,
+pub(crate) fn clear<T: FileTable>(
+    rt: &impl Wait,
     table: &T,
     pass: &mut T::Pass,
     slot: u32,
@@ -101,8 +101,8 @@ pub(crate) fn clear<T: FileTable, R: Wait>(
 }
 
 // Installs a file at a slot, in place of the one that was there.
-pub(crate) fn put<T: FileTable, R: Wait>(
-    rt: &R,
+pub(crate) fn put<T: FileTable>(
+    rt: &impl Wait,
     table: &T,
     pass: &mut T::Pass,
     slot: u32,

@@ -1,9 +1,8 @@
 ghost use Rattle.std.specs.Prelude.{◌≡◌, length, filter, pos, int_le};
-ghost use Rattle.fx_chain.specs.Accepted.{IsWithinLimits};
 ghost use Rattle.fx_chain.specs.Completed.{completed_of};
-ghost use Rattle.fx_chain.specs.Explains.{severs};
+ghost use Rattle.fx_chain.specs.Explains.{has_failed, severs};
 ghost use Rattle.fx_chain.specs.Faults.{has_bad_flags, is_long_read, is_long_update};
-ghost use Rattle.fx_chain.specs.Operation.{asked_of, operation_of, is_link};
+ghost use Rattle.fx_chain.specs.Operation.{asked_of, operation_of, is_fixed, is_link};
 ghost use Rattle.fx_chain.specs.Weights.{installs_of, weight_of};
 
 use crate::completion::Completion;
@@ -92,19 +91,25 @@ impl Request {
         }
     }
 
-    /// Whether the next request starts only after this one has completed (io_uring_enter(2), "IOSQE_IO_LINK").
+    /// Whether the next request starts only after this one has completed (io_uring_enter(2), "IOSQE_IO_LINK",
+    /// "IOSQE_IO_HARDLINK").
     pub fn links(&self) -> bool
         ensures { result ≡ is_link self.now.flags }
     {
-        self.flags.contains(SqeFlags::IO_LINK)
+        self.flags.contains(SqeFlags::IO_LINK) || self.flags.contains(SqeFlags::IO_HARDLINK)
     }
 
-    /// Whether the request's chain is severed by its completion: it failed, or is a read that gave fewer bytes than
-    /// asked (io_uring_enter(2), "IOSQE_IO_LINK"). The caller has seen that no limit of its own refuses the request
-    /// ([`crate::check`]).
+    /// Whether the request's chain is severed by its completion: the request failed, or is a read that gave fewer bytes
+    /// than asked, and it has no IO_HARDLINK (io_uring_enter(2), "IOSQE_IO_LINK", "IOSQE_IO_HARDLINK").
     pub fn severs(&self, completion: &Completion) -> bool
-        requires { IsWithinLimits (asked_of self.now) }
         ensures { result ≡ severs (asked_of self.now) (completed_of completion.now) }
+    {
+        !self.flags.contains(SqeFlags::IO_HARDLINK) && self.has_failed(completion)
+    }
+
+    // Whether the completion is a failure: an error, or fewer bytes than a read asked for.
+    fn has_failed(&self, completion: &Completion) -> bool
+        ensures { result ≡ has_failed (operation_of self.now.op) (completed_of completion.now) }
     {
         if completion.res < 0 {
             return true;
@@ -114,14 +119,14 @@ impl Request {
                 slot: _,
                 off: _,
                 len,
-            } => completion.res < len as i32,
+            } => (completion.res as i64) < len as i64,
             _ => false,
         }
     }
 
     // A read without FIXED_FILE, or another request with it.
     pub(crate) fn has_bad_flags(&self) -> bool
-        ensures { result ≡ has_bad_flags (operation_of self.now.op) (asked_of self.now).fixed }
+        ensures { result ≡ has_bad_flags (operation_of self.now.op) (is_fixed self.now.flags) }
     {
         let fixed = self.flags.contains(SqeFlags::FIXED_FILE);
         match self.op {

@@ -10,7 +10,6 @@ ghost use Rattle.fx_chain.specs.Weights.{entry_installs, list_installs};
 
 use crate::completion::{Completion, Place};
 use crate::removal::{clear, put};
-use crate::request::LONGEST_UPDATE;
 use fx_base::{Catalogue, CloseList, Errno, MOST_ENTRIES};
 use fx_table::FileTable;
 use std::alloc::Global;
@@ -40,8 +39,8 @@ fn has_bad_entry(entries: u32, list: &[i32]) -> bool
 }
 
 // Applies one entry: -1 empties its slot, -2 leaves it, and every other one installs that catalogue entry.
-fn apply_entry<T: FileTable, R: Wait>(
-    rt: &R,
+fn apply_entry<T: FileTable>(
+    rt: &impl Wait,
     table: &T,
     pass: &mut T::Pass,
     catalogue: &Catalogue,
@@ -75,8 +74,8 @@ fn apply_entry<T: FileTable, R: Wait>(
 }
 
 // Applies the entries of a list, in order.
-fn apply_list<T: FileTable, R: Wait>(
-    rt: &R,
+fn apply_list<T: FileTable>(
+    rt: &impl Wait,
     table: &T,
     pass: &mut T::Pass,
     catalogue: &Catalogue,
@@ -87,7 +86,6 @@ fn apply_list<T: FileTable, R: Wait>(
 )
     requires fits { T.fits table.now pass.old }
     requires idle { IsIdle (T.view pass.old) }
-    requires few { length list.now ≤ LONGEST_UPDATE }
     requires slots { off + length list.now ≤ size_of (T.opening table.now) }
     requires size { size_of (T.opening table.now) < 2 ^ 32 }
     requires entries { length catalogue.now ≤ MOST_ENTRIES }
@@ -119,8 +117,8 @@ fn apply_list<T: FileTable, R: Wait>(
 // Updates the slots from `off` on by a list (io_uring_register_files(3), `io_uring_register_files_update`): ENXIO where
 // there is no table, EINVAL where the list is empty or passes the end of the table, EBADF where an entry is bad, and
 // then no entry is applied. Else the result is the length of the list.
-pub(crate) fn update<T: FileTable, R: Wait>(
-    rt: &R,
+pub(crate) fn update<T: FileTable>(
+    rt: &impl Wait,
     alloc: Global,
     table: &T,
     pass: &mut T::Pass,
@@ -132,7 +130,6 @@ pub(crate) fn update<T: FileTable, R: Wait>(
 ) -> Completion
     requires fits { T.fits table.now pass.old }
     requires idle { IsIdle (T.view pass.old) }
-    requires few { length list.now ≤ LONGEST_UPDATE }
     requires numbers { list_installs list.now ≤ (T.view pass.old).numbers_left }
     requires room { length list.now ≤ closes.old.room }
     ensures fits { T.fits table.now pass.new }

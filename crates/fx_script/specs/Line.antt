@@ -3,7 +3,8 @@ use Rattle.std.specs.Prelude.{ℕ, ℤ, Bool, true, false, List, [], ◌∷◌, 
 use Rattle.std.specs.Str.{bytes_eq}
 use Rattle.fx_base.specs.Name.{is_name}
 use Rattle.fx_chain.specs.declared.request.Target.TheVariants.{Slot, Any}
-use Rattle.fx_chain.specs.Operation.{Operation, Opens, Reads, Closes, Updates, Asked}
+use Rattle.fx_chain.specs.declared.flags.SqeFlags.{SqeFlags}
+use Rattle.fx_chain.specs.Operation.{Operation, Opens, Reads, Closes, Updates, Asked, no_flags, fixed_file, io_link, io_hardlink, both_flags}
 use Rattle.fx_script.specs.declared.fault.ScriptFault.{ScriptFault}
 use Rattle.fx_script.specs.declared.fault.ScriptFault.TheVariants.{UnknownCommand, LateFile, WordCount, BadWord, BadName, BadNumber, BadEntry}
 use Rattle.fx_script.specs.Instruction.{Instruction, MakesSparse, RegistersList, Unregisters, SetsRange, UpdatesRing}
@@ -38,20 +39,23 @@ last_of [] = Ok None
 last_of (word ∷ []) = Ok (Some word)
 last_of (word ∷ more ∷ others) = Err WordCount
 
--- whether the next request is linked: by the last word `link`
-abbrev pub link_in : Option (List ℕ) → Result Bool ScriptFault
-link_in None = Ok false
-link_in (Some word) = if bytes_eq word (codes "link") then Ok true else Err BadWord
+-- what links the next request: the last word `link` or `hardlink`
+abbrev pub link_in : Option (List ℕ) → Result SqeFlags ScriptFault
+link_in None = Ok no_flags
+link_in (Some word) =
+    if bytes_eq word (codes "link") then Ok io_link
+    else if bytes_eq word (codes "hardlink") then Ok io_hardlink
+    else Err BadWord
 
 -- a read names its file by a slot, and no other request does
-abbrev pub is_read : Operation → Bool
-is_read (Opens name target) = false
-is_read (Reads slot off len) = true
-is_read (Closes slot) = false
-is_read (Updates off list) = false
+abbrev pub flags_of : SqeFlags → Operation → SqeFlags
+flags_of link (Opens name target) = link
+flags_of link (Reads slot off len) = both_flags fixed_file link
+flags_of link (Closes slot) = link
+flags_of link (Updates off list) = link
 
-abbrev pub request_line : Bool → Operation → Line
-request_line links operation = RequestLine (record { operation = operation; fixed = is_read operation; links = links })
+abbrev pub request_line : SqeFlags → Operation → Line
+request_line link operation = RequestLine (record { operation = operation; flags = flags_of link operation })
 
 -- The words behind the command, by the command. First their number is tried, and then each of them, from the left.
 
@@ -95,16 +99,16 @@ open_at name (slot ∷ others) = do
   last ← last_of others
   name ← name_in name
   slot ← number_in slot
-  links ← link_in last
-  Ok (request_line links (Opens name (Slot slot)))
+  link ← link_in last
+  Ok (request_line link (Opens name (Slot slot)))
 open_at name words = Err WordCount
 
 abbrev pub open_any : List ℕ → List (List ℕ) → Result Line ScriptFault
 open_any name others = do
   last ← last_of others
   name ← name_in name
-  links ← link_in last
-  Ok (request_line links (Opens name Any))
+  link ← link_in last
+  Ok (request_line link (Opens name Any))
 
 abbrev pub open_of : List (List ℕ) → Result Line ScriptFault
 open_of (name ∷ place ∷ others) =
@@ -119,16 +123,16 @@ read_of (slot ∷ off ∷ len ∷ others) = do
   slot ← number_in slot
   off ← number_in off
   len ← number_in len
-  links ← link_in last
-  Ok (request_line links (Reads slot off len))
+  link ← link_in last
+  Ok (request_line link (Reads slot off len))
 read_of words = Err WordCount
 
 abbrev pub close_of : List (List ℕ) → Result Line ScriptFault
 close_of (slot ∷ others) = do
   last ← last_of others
   slot ← number_in slot
-  links ← link_in last
-  Ok (request_line links (Closes slot))
+  link ← link_in last
+  Ok (request_line link (Closes slot))
 close_of words = Err WordCount
 
 abbrev pub update_of : List (List ℕ) → Result Line ScriptFault
@@ -136,8 +140,8 @@ update_of (off ∷ list ∷ others) = do
   last ← last_of others
   off ← number_in off
   list ← list_in list
-  links ← link_in last
-  Ok (request_line links (Updates off list))
+  link ← link_in last
+  Ok (request_line link (Updates off list))
 update_of words = Err WordCount
 
 abbrev pub submit_of : List (List ℕ) → Result Line ScriptFault

@@ -7,7 +7,7 @@ use Rattle.fx_script.specs.declared.list.List as list
 use Rattle.fx_script.specs.declared.request.Action.{Action}
 use Rattle.fx_script.specs.declared.request.Action.TheVariants as action
 use Rattle.fx_script.specs.Instruction.{MakesSparse, RegistersList, Unregisters, SetsRange, UpdatesRing}
-use Rattle.fx_script.specs.Line.{FileLine, CommandLine, SubmitLine, request_line}
+use Rattle.fx_script.specs.Line.{FileLine, CommandLine, RequestLine, SubmitLine}
 use Rattle.fx_script.specs.Line as line
 use Rattle.fx_script.specs.Words.{list_of}
 
@@ -28,5 +28,5 @@ line_in (Register l) = CommandLine (RegistersList (entries_in l))
 line_in Unregister = CommandLine Unregisters
 line_in (Range off len) = CommandLine (SetsRange off len)
 line_in (Update off l) = CommandLine (UpdatesRing off (entries_in l))
-line_in (Request act link) = request_line link (operation_in act)
+line_in (Request act flags) = RequestLine (record { operation = operation_in act; flags = flags })
 line_in Submit = SubmitLine

@@ -11,6 +11,7 @@ use crate::list::List;
 use crate::parts::Parts;
 use crate::request::{self, Action};
 use crate::words::{end, number, text, word};
+use fx_chain::SqeFlags;
 
 // What a line says that isn't skipped. Words stay where they are, so no want of memory can make it fail.
 #[derive(Clone, Copy)]
@@ -27,8 +28,8 @@ pub enum Line<'a> {
     Range(u32, u32),
     // Updates the table.
     Update(u32, List<'a>),
-    // Asks for something at the next submission, and whether the next request is linked.
-    Request(Action<'a>, bool),
+    // Asks for something at the next submission, by a request with these flags.
+    Request(Action<'a>, SqeFlags),
     // Submits.
     Submit,
 }

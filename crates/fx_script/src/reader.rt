@@ -1,6 +1,6 @@
 ghost use Rattle.std.specs.Prelude.{◌≡◌, ◌∷◌, ◌++◌, [], IfOk, MatchResult, Ok, Some, ok_or};
-ghost use Rattle.fx_chain.specs.Operation.{asked_of, is_fixed, is_link, operation_of};
-ghost use Rattle.fx_script.specs.Line.{RequestLine, is_read};
+ghost use Rattle.fx_chain.specs.Operation.{asked_of, operation_of};
+ghost use Rattle.fx_script.specs.Line.{RequestLine};
 ghost use Rattle.fx_script.specs.LineView.{line_in, operation_in};
 ghost use Rattle.fx_script.specs.Lines.{is_printable, is_skipped};
 ghost use Rattle.fx_script.specs.Script.{after_file, after_line, after_text, nothing, with_command};
@@ -13,9 +13,8 @@ use crate::fault::{LineError, ScriptFault};
 use crate::limits::LONGEST_LINE;
 use crate::line::{Line, parse};
 use crate::request::Action;
-use bitflags::Flags;
 use fx_base::{AddFault, Catalogue};
-use fx_chain::{Op, Request, SqeFlags};
+use fx_chain::{Op, Request};
 use hex::FromHexError;
 use std::alloc::{AllocError, Global};
 
@@ -76,24 +75,6 @@ fn op_of(alloc: Global, action: Action<'_>) -> Result<Op, AllocError>
             list: list.entries(alloc)?,
         }),
     }
-}
-
-// A request: a read names its file by a slot, and no other request does.
-fn request(op: Op, link: bool) -> Request
-    ensures operation { operation_of result.op ≡ operation_of op }
-    ensures fixed { is_fixed result.flags ≡ is_read (operation_of op) }
-    ensures link { is_link result.flags ≡ link }
-{
-    let fixed = match op {
-        Op::Read { .. } => SqeFlags::FIXED_FILE,
-        _ => SqeFlags::empty(),
-    };
-    let flags = if link {
-        fixed.union(SqeFlags::IO_LINK)
-    } else {
-        fixed
-    };
-    Request { op, flags }
 }
 
 impl Reader {
@@ -164,10 +145,10 @@ impl Reader {
                 off,
                 list.entries(alloc)?,
             )),
-            Line::Request(action, link) => self.take_request(
-                n,
-                request(op_of(alloc, action)?, link),
-            ),
+            Line::Request(action, flags) => {
+                let op = op_of(alloc, action)?;
+                self.take_request(n, Request { op, flags })
+            }
             Line::Submit => {
                 let requests = std::mem::replace(&mut self.waiting, Vec::new(alloc));
                 self.take_command(Command::Submit(requests))

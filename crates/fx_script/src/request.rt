@@ -11,7 +11,8 @@ use crate::line::Line;
 use crate::list::List;
 use crate::parts::Parts;
 use crate::words::{last, link, name, number, text, word};
-use fx_chain::Target;
+use bitflags::Flags;
+use fx_chain::{SqeFlags, Target};
 
 // What a request line asks for.
 #[derive(Clone, Copy)]
@@ -26,7 +27,7 @@ pub enum Action<'a> {
     Update { off: u32, list: List<'a> },
 }
 
-// The words behind `open NAME at`: the slot, and `link` or no more.
+// The words behind `open NAME at`: the slot, and a link or no more.
 fn open_at<'a>(file: &'a str, words: &mut Parts<'a>) -> Result<Line<'a>, ScriptFault>
     ensures { Gives line_in result (open_at file.now (parts_left words.old)) }
 {
@@ -37,7 +38,7 @@ fn open_at<'a>(file: &'a str, words: &mut Parts<'a>) -> Result<Line<'a>, ScriptF
     Ok(Line::Request(Action::Open { name, target }, link(last)?))
 }
 
-// The words behind `open NAME any`: `link` or no more.
+// The words behind `open NAME any`: a link or no more.
 fn open_any<'a>(file: &'a str, words: &mut Parts<'a>) -> Result<Line<'a>, ScriptFault>
     ensures { Gives line_in result (open_any file.now (parts_left words.old)) }
 {
@@ -63,7 +64,8 @@ pub fn open<'a>(words: &mut Parts<'a>) -> Result<Line<'a>, ScriptFault>
     }
 }
 
-// The read that the words behind `read` ask for, or their first fault.
+// The read that the words behind `read` ask for, or their first fault. It names its file by a slot, and no other request
+// does.
 pub fn read<'a>(words: &mut Parts<'a>) -> Result<Line<'a>, ScriptFault>
     ensures { Gives line_in result (read_of (parts_left words.old)) }
 {
@@ -74,7 +76,8 @@ pub fn read<'a>(words: &mut Parts<'a>) -> Result<Line<'a>, ScriptFault>
     let slot = number(slot)?;
     let off = number(off)?;
     let len = number(len)?;
-    Ok(Line::Request(Action::Read { slot, off, len }, link(last)?))
+    let flags = SqeFlags::FIXED_FILE.union(link(last)?);
+    Ok(Line::Request(Action::Read { slot, off, len }, flags))
 }
 
 // The close that the words behind `close` ask for, or their first fault.

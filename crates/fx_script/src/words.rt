@@ -7,7 +7,9 @@ ghost use Rattle.fx_script.specs.Parts.{parts_left};
 use crate::fault::ScriptFault;
 use crate::number;
 use crate::parts::Parts;
+use bitflags::Flags;
 use fx_base::is_name;
+use fx_chain::SqeFlags;
 
 // The next word, where there is one.
 pub fn word<'a>(words: &mut Parts<'a>) -> Result<&'a [u8], ScriptFault>
@@ -37,13 +39,14 @@ pub fn last<'a>(words: &mut Parts<'a>) -> Result<Option<&'a [u8]>, ScriptFault>
     Ok(Some(word))
 }
 
-// Whether a request links the next, by its last word.
-pub fn link(last: Option<&[u8]>) -> Result<bool, ScriptFault>
+// What links the next request to one, by its last word.
+pub fn link(last: Option<&[u8]>) -> Result<SqeFlags, ScriptFault>
     ensures { result ≡ link_in (option_map (λ word. word.now) last.entry) }
 {
     match last {
-        None => Ok(false),
-        Some(word) if word == b"link".as_slice() => Ok(true),
+        None => Ok(SqeFlags::empty()),
+        Some(word) if word == b"link".as_slice() => Ok(SqeFlags::IO_LINK),
+        Some(word) if word == b"hardlink".as_slice() => Ok(SqeFlags::IO_HARDLINK),
         Some(_) => Err(ScriptFault::BadWord),
     }
 }

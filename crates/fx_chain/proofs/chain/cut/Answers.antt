@@ -4,7 +4,7 @@ use Rattle.std.proofs.lemmas.List.{length-map}
 use Rattle.std.proofs.lemmas.List.Elements.{All-weaker}
 use Rattle.fx_chain.specs.Accepted.{IsChain, members_of}
 use Rattle.fx_chain.specs.Chains.{chains_of}
-use Rattle.fx_chain.specs.Operation.{asked_of, all_asked}
+use Rattle.fx_chain.specs.Operation.{asked_of, all_asked, is_link}
 use Rattle.fx_chain.specs.Runs.{runs_of}
 use Rattle.fx_chain.specs.declared.chain.Chain.{Chain}
 use Rattle.fx_chain.proofs.Accepted.{accepted-runs}
@@ -13,6 +13,7 @@ use Rattle.fx_chain.proofs.Cutting.{IsCut, cut_none, cut_ends, cut_goes_on, cut_
 use Rattle.fx_chain.proofs.chain.cut.Goals as goal
 use Rattle.fx_chain.proofs.chain.cut.Goals.{then-not-links+in_ok-push, then-not-links-via-then-not-links}
 use Rattle.fx_chain.proofs.chain.cut.Goals.{then-not-links-via-else-not-links+then-i-requests, else-not-links+else-i-requests}
+use Rattle.fx_table.specs.declared.limits.TheConstants.{MAX_CHAINS}
 
 pub loop-i-init : goal.loop-i-init
 loop-i-init c = subst (λ (made : List Chain). IsCut c.args.requests.now made 0 0) (sym c.new-chains.ensures.items)
@@ -27,7 +28,7 @@ loop-i-preserved c =
     let so : IsCut requests c.loop-i.chains.items c.loop-i.first i = c.loop-i.invariant in
     elim c.if-not-links.branch [
       | then-not-links+in_ok-push w ↦
-          let last : ((asked_of x).links ≡ false) ⊎ (length requests ≤ i + 1) = elim w.then-not-links.branch [
+          let last : (is_link x.flags ≡ false) ⊎ (length requests ≤ i + 1) = elim w.then-not-links.branch [
             | then-not-links-via-then-not-links v ↦ inl (sym c.links.ensures ∙ v.if-not-links.true)
             | then-not-links-via-else-not-links+then-i-requests v ↦ inr (omega arith)
           ] in
@@ -38,7 +39,7 @@ loop-i-preserved c =
           (sym w.first-is)
           (cut_ends requests c.loop-i.first i x begun c.loop-i-test.true c.index-requests-i.is c.loop-i.chains.items so last))
       | else-not-links+else-i-requests w ↦
-          let links : (asked_of x).links ≡ true = sym c.links.ensures ∙ w.if-not-links.false in
+          let links : is_link x.flags ≡ true = sym c.links.ensures ∙ w.if-not-links.false in
           subst (λ (made : List Chain). IsCut requests made c.if-not-links.first (i + 1)) (sym (ap (λ (v : Vec Chain Global). v.items) w.chains-is))
           (subst (λ (n : ℕ). IsCut requests c.loop-i.chains.items n (i + 1)) (sym w.first-is)
           (cut_goes_on requests c.loop-i.first i x begun c.loop-i-test.true c.index-requests-i.is c.loop-i.chains.items so links (omega arith)))
@@ -74,6 +75,6 @@ returns-clause-few c =
     cut_all c.args.requests.now c.loop-i.chains.items c.loop-i.first c.loop-i.i c.loop-i.invariant (omega arith) in
     let same : length c.loop-i.chains.items ≡ length (runs_of asked) = sym (length-map c.loop-i.chains.items (members_of asked))
     ∙ ap (λ xs. length (map (members_of asked) xs)) made ∙ ap length (members-are-runs asked) in
-    let few : length (runs_of asked) ≤ 1023 = accepted-runs asked c.requires in
+    let few : length (runs_of asked) ≤ MAX_CHAINS = accepted-runs asked c.requires in
     let len = c.loop-i.chains.ok.0 in
     omega arith

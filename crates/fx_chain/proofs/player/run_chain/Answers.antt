@@ -1,5 +1,5 @@
 use Rattle.std.proofs.Common.{rules, ◌≡◌, ◌<◌, ◌≤◌, ◌+◌, ◌++◌, ◌∷◌, [], true, false, List, length, take, sym, refl, ap, subst, ◌∙◌, append_assoc}
-use Rattle.std.proofs.Common.{arith}
+use Rattle.std.proofs.Common.{ℕ, arith}
 use Rattle.std.proofs.lemmas.List.{append-nil}
 use Rattle.fx_base.specs.declared.errno.Errno.TheVariants.{ECANCELED}
 use Rattle.fx_chain.specs.Completed.{Completed, completed_of, all_completed, refusal}
@@ -10,7 +10,7 @@ use Rattle.fx_chain.specs.declared.completion.Place.{Place}
 use Rattle.fx_chain.proofs.ActsInTurn.{so_nothing}
 use Rattle.fx_chain.proofs.Asking.{asked_more, asked_length, asked_all}
 use Rattle.fx_chain.proofs.ChainGoesOn.{any_severs, member_at, plays_next, cancels_next, severs_next, severed_next, installs_from, weights_from}
-use Rattle.fx_chain.proofs.ChainGoesOn.{within_at, completed_more}
+use Rattle.fx_chain.proofs.ChainGoesOn.{completed_more}
 use Rattle.fx_chain.proofs.player.run_chain.Goals as goal
 
 pub loop-i-init : goal.loop-i-init
@@ -32,18 +32,10 @@ loop-i-init g c =
       );
     }
 
-pub perform-completion-requires-clause-limits : goal.perform-completion-requires-clause-limits
-perform-completion-requires-clause-limits g c κs within =
-    within_at c.args.requests.now c.loop-i.i c.index-requests-i.result c.loop-i-test.true c.index-requests-i.is c.requires.limits
-
-pub severs-severed-requires : goal.severs-severed-requires
-severs-severed-requires g c =
-    within_at c.args.requests.now c.loop-i.i c.index-requests-i.result c.loop-i-test.true c.index-requests-i.is c.requires.limits
-
 pub loop-i-preserved-then-severed : goal.loop-i-preserved-then-severed
 loop-i-preserved-then-severed g c =
     let i = c.loop-i.invariant in
-    let inside : c.loop-i.i < length c.args.requests.now = c.loop-i-test.true in
+    let inside : c.loop-i.i < length c.args.requests.now = subst (λ (n : ℕ). c.loop-i.i < n) c.members-i-end.ensures c.loop-i-test.true in
     let (cs, out_is, severed_is, plays) = i.done in
     let o = g.T.FileTable.opening c.args.table.now in
     let start = player (g.T.FileTable.view c.args.pass.now) c.args.closes.now in
@@ -89,7 +81,7 @@ loop-i-preserved-then-severed g c =
 pub loop-i-preserved : goal.loop-i-preserved
 loop-i-preserved g c =
     let i = c.loop-i.invariant in
-    let inside : c.loop-i.i < length c.args.requests.now = c.loop-i-test.true in
+    let inside : c.loop-i.i < length c.args.requests.now = subst (λ (n : ℕ). c.loop-i.i < n) c.members-i-end.ensures c.loop-i-test.true in
     let (cs, out_is, severed_is, plays) = i.done in
     let o = g.T.FileTable.opening c.args.table.now in
     let start = player (g.T.FileTable.view c.args.pass.now) c.args.closes.now in

@@ -28,10 +28,9 @@ pub returns-in-Ok-clause-read : goal.returns-in-Ok-clause-read
 returns-in-Ok-clause-read g c =
     let (f, is, adds) = c.in-Ok.ensures.looked in
     let inside : c.args.slot < size_of (g.T.FileTable.opening c.args.table.now) = search rules in
-    let few = c.requires.len in
-    let bound = c.read_into-res.ensures.bound in
+    let small = c.read_into-res.ensures.small in
     let res : to_z w32 c.read_into-res.result ≡ pos (length (bytes_at c.args.catalogue.now c.in-Ok.hold.entry c.args.off c.args.len)) =
-    to_z_pos w32 c.read_into-res.result (omega (arith, bound, few)) ∙ ap pos c.read_into-res.ensures.count in
+    to_z_pos w32 c.read_into-res.result (omega (arith, small)) ∙ ap pos c.read_into-res.ensures.count in
     let got : c.read_into-res.new.into.items ≡ bytes_at c.args.catalogue.now c.in-Ok.hold.entry c.args.off c.args.len = search rules in
     let answered = (λ i. completed c.args.place (res i) (got i))
     ∙ ap (λ (e : ℕ). completed c.args.place (pos (length (bytes_at c.args.catalogue.now e c.args.off c.args.len)))
