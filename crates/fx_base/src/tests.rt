@@ -213,7 +213,9 @@ fn a_discarded_file_is_in_no_list(rt: HostRuntime) -> Result<(), Fail> {
     let catalogue = two_files(rt.alloc())?;
     let list = CloseList::with_room(rt.alloc(), 1)?;
     assert_eq!(rt; catalogue.len(), 2);
-    catalogue.open(1, Mark::Registered { k: 1, i: 0 }, 0).discard();
+    catalogue
+        .open(1, Mark::Registered { k: 1, i: 0 }, 0)
+        .discard();
     assert_eq!(rt; list.room(), 1);
     assert_eq!(rt; list.files().len(), 0);
     Ok(())

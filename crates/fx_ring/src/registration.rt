@@ -89,11 +89,9 @@ impl Ring {
         list: &[i32],
         tags: Option<&[u64]>,
     ) -> Result<(), Errno>
-        ensures refused {
-            IfSome (register_refusal (ring_of self.old) list.now (tags_for list.now tags.entry))
+        ensures refused { IfSome (register_refusal (ring_of self.old) list.now (tags_for list.now tags.entry))
             (λ errno. result ≡ Err errno) }
-        ensures only_refusal {
-            IfNone (register_refusal (ring_of self.old) list.now (tags_for list.now tags.entry))
+        ensures only_refusal { IfNone (register_refusal (ring_of self.old) list.now (tags_for list.now tags.entry))
             (IsOkUnless result ENOMEM) }
         ensures ok { OnOk result
             (ring_of self.new ≡ registered (ring_of self.old) list.now (tags_for list.now tags.entry)) }
@@ -125,8 +123,7 @@ impl Ring {
     pub fn register(&mut self, alloc: Global, list: &[i32]) -> Result<(), Errno>
         ensures refused { IfSome (register_refusal (ring_of self.old) list.now (no_tags list.now))
             (λ errno. result ≡ Err errno) }
-        ensures only_refusal {
-            IfNone (register_refusal (ring_of self.old) list.now (no_tags list.now))
+        ensures only_refusal { IfNone (register_refusal (ring_of self.old) list.now (no_tags list.now))
             (IsOkUnless result ENOMEM) }
         ensures ok { OnOk result
             (ring_of self.new ≡ registered (ring_of self.old) list.now (no_tags list.now)) }
@@ -237,11 +234,9 @@ impl Ring {
         list: &[i32],
         tags: Option<&[u64]>,
     ) -> Result<(u32, CloseList), Errno>
-        ensures refused {
-            IfSome (update_refusal (ring_of self.old) off list.now (tags_for list.now tags.entry))
+        ensures refused { IfSome (update_refusal (ring_of self.old) off list.now (tags_for list.now tags.entry))
             (λ errno. result ≡ Err errno) }
-        ensures only_refusal {
-            IfNone (update_refusal (ring_of self.old) off list.now (tags_for list.now tags.entry))
+        ensures only_refusal { IfNone (update_refusal (ring_of self.old) off list.now (tags_for list.now tags.entry))
             (IsOkUnless result ENOMEM) }
         ensures ok { OnOk result
             (ring_of self.new ≡ updated (ring_of self.old) off list.now (tags_for list.now tags.entry)) }
@@ -294,8 +289,7 @@ impl Ring {
     ) -> Result<(u32, CloseList), Errno>
         ensures refused { IfSome (update_refusal (ring_of self.old) off list.now (no_tags list.now))
             (λ errno. result ≡ Err errno) }
-        ensures only_refusal {
-            IfNone (update_refusal (ring_of self.old) off list.now (no_tags list.now))
+        ensures only_refusal { IfNone (update_refusal (ring_of self.old) off list.now (no_tags list.now))
             (IsOkUnless result ENOMEM) }
         ensures ok { OnOk result
             (ring_of self.new ≡ updated (ring_of self.old) off list.now (no_tags list.now)) }

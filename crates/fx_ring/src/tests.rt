@@ -210,8 +210,14 @@ fn expect_tags_left<R: Abort>(rt: &R, alloc: Global, ring: Ring, tags: &[u64]) {
 fn a_tag_stands_with_its_number_of_the_list(rt: HostRuntime) -> Result<(), Fail> {
     let alloc = rt.alloc();
     let mut ring = ring_of_one_file(alloc)?;
-    assert_eq!(rt; ring.register_tagged(alloc, &[0, -1, 0], &[7, 0, 9]), Ok(()));
-    assert_eq!(rt; (ring.size(), ring.range(), ring.registrations()), (3, (0, 3), 1));
+    assert_eq!(rt;
+        ring.register_tagged(alloc, &[0, -1, 0], &[7, 0, 9]),
+        Ok(())
+    );
+    assert_eq!(rt;
+        (ring.size(), ring.range(), ring.registrations()),
+        (3, (0, 3), 1)
+    );
     match ring.update_tagged(alloc, 0, &[0, 0, -2], &[0, 5, 0]) {
         Ok((count, closes)) => {
             assert_eq!(rt; count, 3);
