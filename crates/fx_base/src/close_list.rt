@@ -97,10 +97,7 @@ impl CloseList {
         ensures { IfOk result (λ tags. tags.items ≡ tags_of self.now.files) }
     {
         let tagged = self.files.iter().filter(|file| file.tag != 0);
-        Ok(
-            tagged
-                .map(|file| TagCompletion::of(file.tag))
-                .collect(alloc)?,
-        )
+        let tags = tagged.map(|file| TagCompletion::of(file.tag));
+        Ok(tags.collect(alloc)?)
     }
 }
