@@ -19,3 +19,5 @@ mod refusing;
 mod requests;
 #[cfg(test)]
 mod setting;
+#[cfg(test)]
+mod tags;
