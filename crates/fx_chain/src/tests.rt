@@ -1,4 +1,6 @@
-use crate::{Chain, CutFault, CutKind, Op, Request, SqeFlags, Target, check, cut, target};
+use crate::{
+    Chain, Completion, CutFault, CutKind, Op, Place, Request, SqeFlags, Target, check, cut, target,
+};
 use bitflags::Flags;
 use std::alloc::{AllocError, Global};
 use std::test::Fail;
@@ -261,6 +263,62 @@ fn chains_end_where_the_link_is_missing(rt: HostRuntime) -> Result<(), Fail> {
     let found = places(rt.alloc(), requests.as_slice())?;
     assert_eq!(rt; found.as_slice(), [(0, 2)].as_slice());
     Ok(())
+}
+
+#[test]
+fn both_kinds_of_link_make_one_chain(rt: HostRuntime) -> Result<(), Fail> {
+    let mut hard = close(false);
+    hard.flags = SqeFlags::IO_HARDLINK;
+    let mut both = close(false);
+    both.flags = SqeFlags::IO_LINK.union(SqeFlags::IO_HARDLINK);
+    assert_eq!(rt; (hard.links(), both.links()), (true, true));
+    let requests = [hard, close(true), both, close(false), close(false)];
+    let found = places(rt.alloc(), requests.as_slice())?;
+    assert_eq!(rt; found.as_slice(), [(0, 4), (4, 1)].as_slice());
+    let mut requests = Vec::new(rt.alloc());
+    for member in 0..17 {
+        let mut request = read(1, member % 2 == 0);
+        if member % 2 == 1 {
+            request.flags.insert(SqeFlags::IO_HARDLINK);
+        }
+        requests.push(request)?;
+    }
+    assert_eq!(rt;
+        fault(requests.as_slice()),
+        Some((17, CutKind::ChainTooLong))
+    );
+    Ok(())
+}
+
+// Whether a request with these flags, which answered so, severs its chain.
+fn severs(alloc: Global, mut request: Request, flags: SqeFlags, res: i32) -> bool {
+    let place = Place {
+        submission: 1,
+        chain: 1,
+        member: 1,
+    };
+    let got = Vec::new(alloc);
+    request.flags.insert(flags);
+    request.severs(&Completion { place, res, got })
+}
+
+#[test]
+fn failure_severs_but_by_a_hard_link(rt: HostRuntime) {
+    let alloc = rt.alloc();
+    let soft = SqeFlags::IO_LINK;
+    for flags in [SqeFlags::empty(), soft] {
+        assert!(rt; severs(alloc, close(false), flags, -9));
+        assert!(rt; !severs(alloc, close(false), flags, 0));
+        assert!(rt; severs(alloc, read(6, false), flags, 5));
+        assert!(rt; !severs(alloc, read(5, false), flags, 5));
+        // a length that 32 bits with a sign don't hold
+        assert!(rt; severs(alloc, read(4_294_967_295, false), flags, 4096));
+    }
+    for flags in [SqeFlags::IO_HARDLINK, soft.union(SqeFlags::IO_HARDLINK)] {
+        assert!(rt; !severs(alloc, close(false), flags, -9));
+        assert!(rt; !severs(alloc, read(6, false), flags, 5));
+        assert!(rt; !severs(alloc, read(6, false), flags, -12));
+    }
 }
 
 #[test]

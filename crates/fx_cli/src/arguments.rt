@@ -20,7 +20,8 @@ const TABLES: &[&str] = &["words", "baton"];
 const SCRIPTS: &str = "\
 A script has a command on each line. `file` lines name files and their bytes; `sparse` and
 `register` make a table; `open`, `read`, `close` and `update` are requests, which the next
-`submit` submits. With `link` behind it a request has to complete before the next one starts.
+`submit` submits. With `link` behind it a request has to succeed before the next one starts,
+and with `hardlink` to complete.
 This is a script:
 
     file a.txt 68656c6c6f

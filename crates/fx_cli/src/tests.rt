@@ -1,6 +1,7 @@
 mod arguments;
 mod cut;
 mod gates;
+mod hard_links;
 mod playing;
 mod readers;
 mod refused;

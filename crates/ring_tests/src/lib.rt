@@ -12,6 +12,8 @@ mod chains;
 #[cfg(test)]
 mod largest;
 #[cfg(test)]
+mod links;
+#[cfg(test)]
 mod refused;
 #[cfg(test)]
 mod refusing;

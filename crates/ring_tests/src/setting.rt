@@ -134,10 +134,17 @@ pub(crate) fn update(alloc: Global, off: u32, list: &[i32]) -> Result<Request, A
     })
 }
 
-/// The request, linked with the next one.
+/// The request, linked with the next one by a soft link.
 pub(crate) fn linked(request: Request) -> Request {
     let Request { op, mut flags } = request;
     flags.insert(SqeFlags::IO_LINK);
+    Request { op, flags }
+}
+
+/// The request, linked with the next one by a hard link.
+pub(crate) fn hard_linked(request: Request) -> Request {
+    let Request { op, mut flags } = request;
+    flags.insert(SqeFlags::IO_HARDLINK);
     Request { op, flags }
 }
 

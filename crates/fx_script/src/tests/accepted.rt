@@ -33,6 +33,12 @@ fn scripts_without_a_fault(rt: HostRuntime) -> Result<(), Fail> {
         ),
         ("read 0 0 4097 link\nclose 0 link\nsubmit\nsparse 1\n", 0, 2),
         ("update 0 0,-1,-2,2147483647,-2147483647\nsubmit\n", 0, 1),
+        (
+            "open a at 0 hardlink\nopen a any hardlink\nread 0 0 0 hardlink\nclose 0 hardlink\n\
+             update 0 0 hardlink\nsubmit",
+            0,
+            1,
+        ),
         ("# ~ !\nsparse 1", 0, 1),
     ];
     for (text, files, commands) in scripts {
@@ -121,4 +127,33 @@ fn every_request_as_it_is_written(rt: HostRuntime) -> Result<(), Fail> {
     assert_eq!(rt; close.flags.bits(), 0);
     assert_eq!(rt; update.flags.bits(), 0);
     Ok(())
+}
+
+#[test]
+fn last_word_sets_one_flag(rt: HostRuntime) {
+    let requests = [
+        "open a at 0",
+        "open a any",
+        "read 0 0 0",
+        "close 0",
+        "update 0 0",
+    ];
+    for request in requests {
+        let fixed = if request == "read 0 0 0" { 1 } else { 0 };
+        for (word, flag) in [("", 0), (" link", 4), (" hardlink", 8)] {
+            let Ok(text) = format!(in rt.alloc(); "{request}{word}\nsubmit\n") else {
+                panic!(rt; "no memory");
+            };
+            let Ok(script) = Script::read(rt.alloc(), text.as_bytes()) else {
+                panic!(rt; "refused: {text}");
+            };
+            let [Command::Submit(submitted)] = script.commands() else {
+                panic!(rt; "other commands: {script:?}");
+            };
+            let [only] = submitted.as_slice() else {
+                panic!(rt; "other requests: {submitted:?}");
+            };
+            assert_eq!(rt; only.flags.bits(), fixed + flag, "{text}");
+        }
+    }
 }

@@ -56,6 +56,8 @@ fn two_faults_in_one_line(rt: HostRuntime) -> Result<(), Fail> {
         ("regupdate 0 0, 07", 1, "bad-entry"),
         ("update x 0,", 1, "bad-number"),
         ("close x lin", 1, "bad-number"),
+        ("close x hardlin", 1, "bad-number"),
+        ("open a*b any hardlin", 1, "bad-name"),
         ("read 0 x 0 lin", 1, "bad-number"),
         ("update 0 0, lin", 1, "bad-entry"),
     ];
