@@ -1,6 +1,8 @@
 #define _GNU_SOURCE
 #include "files.h"
 
+#include "tags.h"
+
 #include <fcntl.h>
 #include <limits.h>
 #include <stdio.h>
@@ -16,6 +18,7 @@ enum { TURNS = 50000, TURN_MICROSECONDS = 200 };
 struct installation {
 	struct mark mark;
 	int entry;
+	unsigned long long tag;	/* 0 for none */
 	int descriptor;		/* ours, or -1 */
 	int is_installed;	/* an open counts as one: whether the kernel keeps the file is what the events say */
 	int was_opened, was_closed;
@@ -109,7 +112,7 @@ int open_files(const struct script *script)
 	return 1;
 }
 
-size_t add_installation(struct mark mark, int entry)
+size_t add_installation(struct mark mark, int entry, unsigned long long tag)
 {
 	char file[NAME_BYTES], link[NAME_BYTES];
 	if (count == room) {
@@ -118,7 +121,8 @@ size_t add_installation(struct mark mark, int entry)
 		if (!installations)
 			die_of("out of memory");
 	}
-	installations[count] = (struct installation){ .mark = mark, .entry = entry, .descriptor = -1, .is_installed = 1 };
+	installations[count] = (struct installation){ .mark = mark, .entry = entry, .tag = tag, .descriptor = -1,
+						      .is_installed = 1 };
 	if (entry >= 0) {
 		name_of_entry(entry, file);
 		name_of_link(count, link);
@@ -266,18 +270,38 @@ static void finish(size_t installation)
 	it->is_finished = 1;
 }
 
+static int is_close_to_tell(const struct installation *it)
+{
+	return !it->is_finished && it->was_closed && it->is_installed;
+}
+
+unsigned tags_to_come(void)
+{
+	unsigned tags = 0;
+	for (size_t at = first; at < count; at++)
+		tags += is_close_to_tell(&installations[at]) && installations[at].tag;
+	return tags;
+}
+
+/* Only a registration gives tags, so the order of installations is that of their marks. */
+static void write_tags(void)
+{
+	for (size_t at = first; at < count; at++)
+		if (is_close_to_tell(&installations[at]) && installations[at].tag && take_tag(installations[at].tag))
+			printf("tag %llu\n", installations[at].tag);
+	write_other_tags();
+}
+
 void write_closes(const struct script *script)
 {
-	for (int is_registered = 1; is_registered >= 0; is_registered--) {
-		for (size_t at = first; at < count; at++) {
-			struct installation *it = &installations[at];
-			if (it->is_finished || is_open(it) || it->mark.is_registered != is_registered)
-				continue;
-			if (it->was_closed && it->is_installed)
-				write_close(script, it);
+	for (int is_registered = 1; is_registered >= 0; is_registered--)
+		for (size_t at = first; at < count; at++)
+			if (is_close_to_tell(&installations[at]) && installations[at].mark.is_registered == is_registered)
+				write_close(script, &installations[at]);
+	write_tags();
+	for (size_t at = first; at < count; at++)
+		if (!installations[at].is_finished && !is_open(&installations[at]))
 			finish(at);
-		}
-	}
 	while (first < count && installations[first].is_finished)
 		first++;
 }

@@ -23,8 +23,11 @@ int open_files(const struct script *script);
 int links_folder(void);
 void name_of_link(size_t installation, char name[NAME_BYTES]);
 
-/* A new installation of an entry (-1: a name that isn't in the catalogue, so the link isn't there), its number. */
-size_t add_installation(struct mark mark, int entry);
+/*
+ * A new installation of an entry (-1: a name that isn't in the catalogue, so the link isn't there) with its tag, 0 for
+ * none: its number.
+ */
+size_t add_installation(struct mark mark, int entry, unsigned long long tag);
 
 /* Opens an installation's file as a descriptor of this process, for a list. */
 int open_descriptor(size_t installation);
@@ -41,7 +44,13 @@ void settle(int ring);
 /* Whether a file is open, after `settle`. */
 int is_any_open(void);
 
-/* Writes a line for each installed file that was closed since the last time, in order of mark. */
+/* How many installed files with a tag were closed since the last lines. */
+unsigned tags_to_come(void);
+
+/*
+ * Writes a line for each installed file that was closed since the last time, in order of mark, and then one for each of
+ * their tags that the kernel has told (`tags.h`).
+ */
 void write_closes(const struct script *script);
 
 #endif

@@ -17,6 +17,13 @@
  * A file of a list is first a descriptor of this process, as io_uring_register(2) has it. It is closed here as soon as
  * the command or the submission has ended. It has a closed line only if the kernel said by its result that it took it.
  *
+ * How a tag is seen. A list with tags goes to the kernel by the calls that take them, and the kernel posts a completion for
+ * a tag. Behind each command, once the closes are there, the program waits for a completion for each file with a tag that
+ * was closed, at most a second, and writes the tags that came: those of the closed files in order of mark, and behind them
+ * any others, which would differ from every text of the model. So a tag and the close that inotify saw are two witnesses.
+ * At the end the table is unregistered in front of the ring's own end, since a ring that is gone can't tell a tag. What the
+ * requests of a submission have as their data is chosen so that none of the script's tags is among it.
+ *
  * With the argument --times it tells for each submission, on standard error, how long the kernel had it: from the call
  * that submits to the last completion. Making links and writing text are no part of that; the watch on the links' folder
  * is, and so an open and a close take longer than without it.
@@ -34,8 +41,9 @@
 
 #include "files.h"
 #include "submission.h"
+#include "tags.h"
 
-enum { BAD_SCRIPT = 3, NO_IO_URING = 77, MOST_REQUESTS = 32768 };
+enum { BAD_SCRIPT = 3, NO_IO_URING = 77, UNSAID = 78, LEAST_ROOM = 256 };
 
 struct play {
 	struct io_uring ring;
@@ -73,6 +81,9 @@ static void open_ring(struct play *play)
 	unsigned entries = largest_submission(&play->script);
 	if (entries > MOST_REQUESTS)
 		die_of("a ring has at most 32,768 requests");
+	/* the tags of a whole table have room too */
+	if (entries < LEAST_ROOM)
+		entries = LEAST_ROOM;
 	errno = -io_uring_queue_init(entries, &play->ring, IORING_SETUP_SUBMIT_ALL);
 	if (errno || !open_files(&play->script)) {
 		fprintf(stderr, "play-on-kernel: no io_uring of Linux 5.18 or later, or no inotify: %s\n", strerror(errno));
@@ -85,16 +96,33 @@ static void write_answer(const char *word, int answer)
 	printf("%s %d\n", word, answer);
 }
 
+static int play_call(struct play *play, const struct command *command, const int *list)
+{
+	const __u64 *tags = (const __u64 *)command->tags;
+	if (command->kind == REGISTER && tags)
+		return io_uring_register_files_tags(&play->ring, list, tags, command->length);
+	if (command->kind == REGISTER)
+		return io_uring_register_files(&play->ring, list, command->length);
+	if (tags)
+		return io_uring_register_files_update_tag(&play->ring, command->numbers[0], list, tags, command->length);
+	return io_uring_register_files_update(&play->ring, command->numbers[0], list, command->length);
+}
+
+/* The kernel is given one length for a list and its tags. */
+static void end_unsaid(void)
+{
+	fprintf(stderr, "play-on-kernel: more tags than numbers, or fewer, can't be said to a kernel\n");
+	exit(UNSAID);
+}
+
 /* `register` and `regupdate`. */
 static void play_list(struct play *play, const struct command *command, const char *word)
 {
+	if (command->tags && command->tag_count != command->length)
+		end_unsaid();
 	struct mark mark = { .is_registered = 1, .numbers = { play->registrations + 1 } };
 	struct descriptors list = open_list(&play->script, command, mark);
-	int answer;
-	if (command->kind == REGISTER)
-		answer = io_uring_register_files(&play->ring, list.numbers, command->length);
-	else
-		answer = io_uring_register_files_update(&play->ring, command->numbers[0], list.numbers, command->length);
+	int answer = play_call(play, command, list.numbers);
 	play->registrations += answer >= 0;
 	unsigned taken = command->kind == REGISTER ? command->length : (unsigned)answer;
 	close_list(&list, answer < 0 ? 0 : taken);
@@ -141,6 +169,7 @@ static void play_script(struct play *play)
 		}
 		play_command(play, command);
 		settle(play->ring.ring_fd);
+		wait_for_tags(&play->ring, tags_to_come());
 		write_closes(&play->script);
 	}
 	free(play->requests);
@@ -161,6 +190,11 @@ int main(int count, char **words)
 	play_script(&play);
 	if (is_any_open())
 		puts("teardown");
+	/* a ring that is gone can't tell a tag */
+	io_uring_unregister_files(&play.ring);
+	settle(play.ring.ring_fd);
+	wait_for_tags(&play.ring, tags_to_come());
+	write_closes(&play.script);
 	io_uring_queue_exit(&play.ring);
 	settle(-1);
 	write_closes(&play.script);

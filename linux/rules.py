@@ -1,7 +1,7 @@
 """Where Linux answers otherwise: the model with the differences that docs/LINUX.md lists, each under its name."""
 import resource
 
-from model import EAGAIN, EBADF, EINVAL, SLOTS, Player, registered, submitted
+from model import EAGAIN, EBADF, EINVAL, SLOTS, Player, has_bad_tags, registered, submitted
 
 # what a kernel allows, beside the hard limit of open files
 SLOTS_OF_LINUX = 1 << 20
@@ -21,8 +21,8 @@ class Linux(Player):
         self.met |= {name}
         return True
 
-    def refusal_of_table(self, count):
-        refusal = super().refusal_of_table(count)
+    def refusal_of_table(self, count, is_bad=False):
+        refusal = super().refusal_of_table(count, is_bad)
         largest = min(SLOTS_OF_LINUX, resource.getrlimit(resource.RLIMIT_NOFILE)[1])
         if self.slots and count == 0 and self.meets("sparse_of_nothing_on_a_table"):
             return -EINVAL
@@ -40,26 +40,42 @@ class Linux(Player):
     def open(self, place, file, slot):
         res = super().open(place, file, slot)
         if res < 0 and file in self.names and self.meets("refused_open_opens_its_file"):
-            self.closed.append((submitted(place, 0), self.names.index(file)))
+            self.closed.append((submitted(place, 0), self.names.index(file), 0))
         return res
 
-    def stops_at_a_bad_entry(self, off, listed):
-        return self.refusal_of_list(off, listed) == -EBADF and self.meets("update_up_to_a_bad_entry")
+    def first_bad(self, listed, tags, least):
+        """The place of the first entry that is bad or has a bad tag."""
+        return next(nth for nth, it in enumerate(listed) if not least <= it < len(self.names) or it < 0 and tags and tags[nth])
 
-    def up_to_a_bad_entry(self, off, listed, mark_of):
-        """That entry's slot is emptied too."""
-        at = next(nth for nth, it in enumerate(listed) if it < -2 or it >= len(self.names))
-        self.work_off(off, listed[:at], mark_of)
+    def register(self, listed, tags=None):
+        refusal = super().register(listed, tags)
+        if refusal == -EINVAL and has_bad_tags(listed, tags):
+            at = self.first_bad(listed, tags, -1)
+            if listed[at] != -1 and self.meets("bad_entry_in_front_of_a_bad_tag"):
+                return -EBADF
+        return refusal
+
+    def stops_at_a_bad_entry(self, off, listed, tags=None):
+        if has_bad_tags(listed, tags) and self.refusal_of_list(off, listed) in (0, -EBADF):
+            return self.meets("update_up_to_a_bad_tag")
+        return self.refusal_of_list(off, listed, tags) == -EBADF and self.meets("update_up_to_a_bad_entry")
+
+    def up_to_a_bad_entry(self, off, listed, mark_of, tags=None):
+        """The slot of a bad entry is emptied too, and that of a bad tag isn't."""
+        at = self.first_bad(listed, tags, -2)
+        self.work_off(off, listed[:at], mark_of, tags)
+        if listed[at] in (-1, -2):
+            return at or -EINVAL
         self.put(off + at, None)
         return at or -EBADF
 
-    def regupdate(self, off, listed):
-        if not self.stops_at_a_bad_entry(off, listed):
-            return super().regupdate(off, listed)
+    def regupdate(self, off, listed, tags=None):
+        if not self.stops_at_a_bad_entry(off, listed, tags):
+            return super().regupdate(off, listed, tags)
         if self.has_counted_all():
             return -EAGAIN
         call = self.registrations + 1
-        res = self.up_to_a_bad_entry(off, listed, lambda nth: registered(call, nth))
+        res = self.up_to_a_bad_entry(off, listed, lambda nth: registered(call, nth), tags)
         self.registrations += res > 0
         return res
 

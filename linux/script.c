@@ -68,6 +68,34 @@ static int list_of(const char *word, struct command *command)
 	}
 }
 
+/* 0 to 18,446,744,073,709,551,615 without a leading zero. */
+static int tag_of(const char *word, unsigned long long *tag)
+{
+	size_t digits = strspn(word, "0123456789");
+	if (!digits || word[digits] || digits > 20 || (word[0] == '0' && digits > 1))
+		return 0;
+	errno = 0;
+	*tag = strtoull(word, NULL, 10);
+	return !errno;
+}
+
+static int tags_of(const char *word, struct command *command)
+{
+	command->tags = memory_of((strlen(word) + 1) * sizeof *command->tags);
+	for (;;) {
+		char tag[22] = "";
+		size_t size = strcspn(word, ",");
+		if (size >= sizeof tag)
+			return 0;
+		memcpy(tag, word, size);
+		if (!tag_of(tag, &command->tags[command->tag_count++]))
+			return 0;
+		if (!word[size])
+			return 1;
+		word += size + 1;
+	}
+}
+
 static int is_name(const char *word)
 {
 	size_t size = strlen(word);
@@ -105,7 +133,7 @@ static int take_file(struct script *script, char **words, int count)
 }
 
 /*
- * The forms of lines: a letter says what a word is. n is a number, l a list, f a name, a the word `at`, y the word
+ * The forms of lines: a letter says what a word is. n is a number, l a list, t tags, f a name, a the word `at`, y the word
  * `any`. A request may have the word `link` or `hardlink` more.
  */
 static const struct form {
@@ -114,6 +142,7 @@ static const struct form {
 	int is_request;
 } forms[] = {
 	{ "sparse", "n", SPARSE, 0 }, { "register", "l", REGISTER, 0 }, { "unregister", "", UNREGISTER, 0 },
+	{ "register", "lt", REGISTER, 0 }, { "regupdate", "nlt", REGUPDATE, 0 },
 	{ "range", "nn", RANGE, 0 }, { "regupdate", "nl", REGUPDATE, 0 }, { "submit", "", SUBMIT, 0 },
 	{ "open", "fan", OPEN, 1 }, { "open", "fy", OPEN_ANY, 1 }, { "read", "nnn", READ, 1 },
 	{ "close", "n", CLOSE, 1 }, { "update", "nl", UPDATE, 1 },
@@ -126,6 +155,8 @@ static int take_word(struct command *command, char kind, char *word, unsigned *n
 		return number_of(word, &command->numbers[(*numbers)++]);
 	case 'l':
 		return list_of(word, command);
+	case 't':
+		return tags_of(word, command);
 	case 'f':
 		command->name = word;
 		return is_name(word);
@@ -217,6 +248,15 @@ static int take_line(struct script *script, char *line, size_t size, long number
 	return count <= MOST_WORDS && take_command(script, words, count, number);
 }
 
+static int has_tag_from(const struct script *script, unsigned long long first)
+{
+	for (size_t at = 0; at < script->command_count; at++)
+		for (unsigned nth = 0; nth < script->commands[at].tag_count; nth++)
+			if (script->commands[at].tags[nth] - first < MOST_REQUESTS)
+				return 1;
+	return 0;
+}
+
 int read_script(struct script *script)
 {
 	char *text = memory_of(LONGEST_SCRIPT + 2), *end;
@@ -235,5 +275,7 @@ int read_script(struct script *script)
 	}
 	if (script->first_request)
 		script->bad_line = script->first_request;
+	while (has_tag_from(script, script->first_data))
+		script->first_data += MOST_REQUESTS;
 	return !script->first_request;
 }

@@ -4,7 +4,7 @@
 
 #include <stddef.h>
 
-enum { MOST_FILES = 256, MOST_BYTES = 4096, MOST_NUMBERS = 3 };
+enum { MOST_FILES = 256, MOST_BYTES = 4096, MOST_NUMBERS = 3, MOST_REQUESTS = 32768 };
 
 enum kind { SPARSE, REGISTER, UNREGISTER, RANGE, REGUPDATE, SUBMIT, OPEN, OPEN_ANY, READ, CLOSE, UPDATE };
 
@@ -19,6 +19,8 @@ struct command {
 	unsigned numbers[MOST_NUMBERS];	/* the line's numbers, in its order */
 	int *list;			/* of a registration or an update */
 	unsigned length;		/* of that list */
+	unsigned long long *tags;	/* of a registration or an update that has some */
+	unsigned tag_count;
 };
 
 struct entry {
@@ -35,6 +37,7 @@ struct script {
 	size_t room;
 	long bad_line;			/* where the script is refused; 0 for its length */
 	long first_request;		/* the line of the first request since the last submit, or 0 */
+	unsigned long long first_data;	/* as many numbers from here on as a submission may have requests are no tags */
 };
 
 /* Whether standard input is a script; where it isn't, `bad_line` says which line is to blame. */

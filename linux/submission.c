@@ -8,6 +8,7 @@
 #include <time.h>
 
 #include "files.h"
+#include "tags.h"
 
 /* A request, where it stands, and what it needs until it has completed. */
 struct member {
@@ -34,7 +35,7 @@ struct descriptors open_list(const struct script *script, const struct command *
 		list.numbers[at] = entry < 0 ? entry : INT_MAX;
 		*place = at;
 		if (entry >= 0 && entry < (int)script->file_count) {
-			list.installations[at] = add_installation(mark, entry);
+			list.installations[at] = add_installation(mark, entry, command->tags ? command->tags[at] : 0);
 			list.numbers[at] = open_descriptor(list.installations[at]);
 		}
 	}
@@ -53,7 +54,7 @@ void close_list(struct descriptors *list, unsigned taken)
 static void prepare_open(struct io_uring_sqe *sqe, const struct script *script, struct member *it, unsigned submission)
 {
 	struct mark mark = { .numbers = { submission, it->chain, it->place, 0 } };
-	name_of_link(add_installation(mark, entry_of(script, it->request->name)), it->path);
+	name_of_link(add_installation(mark, entry_of(script, it->request->name), 0), it->path);
 	io_uring_prep_openat(sqe, links_folder(), it->path, O_RDONLY, 0);
 	sqe->file_index = it->request->kind == OPEN ? it->request->numbers[0] + 1 : IORING_FILE_INDEX_ALLOC;
 }
@@ -66,7 +67,8 @@ static void prepare_read(struct io_uring_sqe *sqe, struct member *it)
 	sqe->flags |= IOSQE_FIXED_FILE;
 }
 
-static void prepare(struct io_uring *ring, const struct script *script, struct member *it, unsigned submission)
+static void prepare(struct io_uring *ring, const struct script *script, struct member *it, unsigned submission,
+		    unsigned long long data)
 {
 	struct io_uring_sqe *sqe = io_uring_get_sqe(ring);
 	const struct command *request = it->request;
@@ -86,7 +88,7 @@ static void prepare(struct io_uring *ring, const struct script *script, struct m
 		sqe->flags |= IOSQE_IO_LINK;
 	else if (request->link == HARD_LINK)
 		sqe->flags |= IOSQE_IO_HARDLINK;
-	io_uring_sqe_set_data(sqe, it);
+	sqe->user_data = data;
 }
 
 static long long nanoseconds(void)
@@ -106,15 +108,20 @@ static void submit(struct io_uring *ring, unsigned count)
 		die_of("the kernel took a part of the submission");
 }
 
-static void wait_for_all(struct io_uring *ring, unsigned count)
+/* A completion whose data is none of the requests' tells a tag. */
+static void wait_for_all(struct io_uring *ring, struct member *members, unsigned count, unsigned long long first_data)
 {
 	struct io_uring_cqe *cqe;
-	for (unsigned left = count; left; left--) {
+	for (unsigned left = count; left;) {
 		errno = -io_uring_wait_cqe(ring, &cqe);
 		if (errno)
 			die("waiting for a completion");
-		struct member *it = io_uring_cqe_get_data(cqe);
-		it->res = cqe->res;
+		if (cqe->user_data - first_data < count) {
+			members[cqe->user_data - first_data].res = cqe->res;
+			left--;
+		} else {
+			keep_tag(cqe);
+		}
 		io_uring_cqe_seen(ring, cqe);
 	}
 }
@@ -140,14 +147,14 @@ long long play_submission(struct io_uring *ring, const struct script *script, co
 	unsigned chain = 1, place = 1;
 	for (unsigned at = 0; at < count; at++) {
 		members[at] = (struct member){ .request = requests[at], .chain = chain, .place = place };
-		prepare(ring, script, &members[at], number);
+		prepare(ring, script, &members[at], number, script->first_data + at);
 		int is_last = requests[at]->link == NO_LINK;
 		place = is_last ? 1 : place + 1;
 		chain += is_last;
 	}
 	long long submitted = nanoseconds();
 	submit(ring, count);
-	wait_for_all(ring, count);
+	wait_for_all(ring, members, count, script->first_data);
 	long long took = nanoseconds() - submitted;
 	for (unsigned at = 0; at < count; at++)
 		write_member(&members[at], number);

@@ -9,7 +9,7 @@ import copy
 import re
 import sys
 
-LARGEST = 2_147_483_647
+LARGEST, LARGEST_TAG = 2_147_483_647, 18_446_744_073_709_551_615
 LONGEST_SCRIPT, LONGEST_LINE = 4_194_304, 10_000
 ENTRIES, FILE_BYTES, SLOTS = 256, 4_096, 256
 CHAINS, MEMBERS, READ_BYTES, UPDATE_ENTRIES, INSTALLS = 1_023, 16, 4_096, 16, 64
@@ -50,6 +50,12 @@ def entries(word):
     return [entry(it) for it in word.split(b",")]
 
 
+def tags(word):
+    listed = word.split(b",")
+    want(all(re.fullmatch(rb"0|[1-9][0-9]{0,19}", it) and int(it) <= LARGEST_TAG for it in listed), "bad-tag")
+    return [int(it) for it in listed]
+
+
 def name(word):
     want(re.fullmatch(rb"[A-Za-z0-9._-]{1,32}", word), "bad-name")
     return word
@@ -65,7 +71,7 @@ def constant(_):
     return None
 
 
-# what each command's words are; a request may have the word `link` or `hardlink` more
+# what each command's words are, and one that it may have more; a request may have the word `link` or `hardlink` more
 COMMANDS = {
     b"sparse": [number],
     b"register": [entries],
@@ -74,6 +80,7 @@ COMMANDS = {
     b"regupdate": [number, entries],
     b"submit": [],
 }
+MAY_HAVE = {b"register": [tags], b"regupdate": [tags]}
 REQUESTS = {
     b"read": [number, number, number],
     b"close": [number],
@@ -133,9 +140,9 @@ class Script:
         self.files.append((file, content))
 
     def command(self, command, words):
-        kinds = COMMANDS[command]
-        want(len(words) == len(kinds), "word-count")
-        values = [kind(word) for kind, word in zip(kinds, words)]
+        kinds, more = COMMANDS[command], MAY_HAVE.get(command, [])
+        want(len(kinds) <= len(words) <= len(kinds + more), "word-count")
+        values = [kind(word) for kind, word in zip(kinds + more, words)]
         if command == b"submit":
             values, self.requests = [self.requests], []
         self.commands.append((command.decode(), *values))
@@ -210,6 +217,11 @@ def submitted(place, nth):
     return (1, *place, nth)
 
 
+def has_bad_tags(listed, tags):
+    """There are more tags than numbers, or fewer, or one of a number that opens no file."""
+    return tags is not None and (len(tags) != len(listed) or any(it < 0 and tag for it, tag in zip(listed, tags)))
+
+
 def text_of_mark(mark):
     return ("r{}.{}" if mark[0] == 0 else "{}.{}.{}.{}").format(*mark[1:])
 
@@ -218,7 +230,7 @@ class Player:
     def __init__(self, files):
         self.names = [it for it, _ in files]
         self.contents = [it for _, it in files]
-        # a slot is None, or the mark and the entry of its file
+        # a slot is None, or the mark, the entry and the tag of its file, 0 for none
         self.slots, self.range = [], (0, 0)
         self.submissions, self.registrations = 0, 0
         self.closed = []
@@ -237,10 +249,10 @@ class Player:
 
     # between submissions
 
-    def refusal_of_table(self, count):
+    def refusal_of_table(self, count, is_bad=False):
         if self.slots:
             return -EBUSY
-        if count == 0:
+        if count == 0 or is_bad:
             return -EINVAL
         return -EMFILE if count > SLOTS else 0
 
@@ -254,8 +266,8 @@ class Player:
         """Whether no registration is counted any more."""
         return self.registrations == REGISTRATIONS
 
-    def register(self, listed):
-        refusal = self.refusal_of_table(len(listed))
+    def register(self, listed, tags=None):
+        refusal = self.refusal_of_table(len(listed), has_bad_tags(listed, tags))
         if refusal:
             return refusal
         if any(it < -1 or it >= len(self.names) for it in listed):
@@ -264,7 +276,8 @@ class Player:
             return -EAGAIN
         self.registrations += 1
         call = self.registrations
-        self.slots = [None if it == -1 else (registered(call, nth), it) for nth, it in enumerate(listed)]
+        tags = tags or [0] * len(listed)
+        self.slots = [None if it == -1 else (registered(call, nth), it, tags[nth]) for nth, it in enumerate(listed)]
         self.range = 0, len(listed)
         return 0
 
@@ -281,29 +294,29 @@ class Player:
         self.range = (off, length)
         return 0
 
-    def refusal_of_list(self, off, listed):
+    def refusal_of_list(self, off, listed, tags=None):
         if not self.slots:
             return -ENXIO
-        if off + len(listed) > len(self.slots):
+        if off + len(listed) > len(self.slots) or has_bad_tags(listed, tags):
             return -EINVAL
         if any(it < -2 or it >= len(self.names) for it in listed):
             return -EBADF
         return 0
 
-    def work_off(self, off, listed, mark_of):
+    def work_off(self, off, listed, mark_of, tags=None):
         for nth, it in enumerate(listed):
             if it != -2:
-                self.put(off + nth, None if it == -1 else (mark_of(nth), it))
+                self.put(off + nth, None if it == -1 else (mark_of(nth), it, tags[nth] if tags else 0))
         return len(listed)
 
-    def regupdate(self, off, listed):
-        refusal = self.refusal_of_list(off, listed)
+    def regupdate(self, off, listed, tags=None):
+        refusal = self.refusal_of_list(off, listed, tags)
         if refusal:
             return refusal
         if self.has_counted_all():
             return -EAGAIN
         self.registrations += 1
-        return self.work_off(off, listed, lambda nth: registered(self.registrations, nth))
+        return self.work_off(off, listed, lambda nth: registered(self.registrations, nth), tags)
 
     # requests
 
@@ -317,7 +330,7 @@ class Player:
     def open(self, place, file, slot):
         if file not in self.names:
             return -ENOENT
-        opened = submitted(place, 0), self.names.index(file)
+        opened = submitted(place, 0), self.names.index(file), 0
         if slot is None:
             free = self.free_slots()
             if not free:
@@ -383,9 +396,10 @@ class Player:
         return lines + self.closed_lines()
 
     def closed_lines(self):
-        """A line for each file that was closed since the last lines, in order of mark."""
+        """A line for each file that was closed since the last lines, in order of mark, and then one for each of their tags."""
         closed, self.closed = sorted(self.closed), []
-        return [f"closed {text_of_mark(mark)} {self.names[file].decode()}" for mark, file in closed]
+        lines = [f"closed {text_of_mark(mark)} {self.names[file].decode()}" for mark, file, _ in closed]
+        return lines + [f"tag {tag}" for *_, tag in closed if tag]
 
     def command(self, command, *words):
         if command == "submit":

@@ -70,6 +70,11 @@ def between_submissions():
     yield Call("register_sparse - 0", ["register_sparse: done"], ring(3, 0, 3, 0, 0), "ENOMEM", none, [])
     yield Call("update - 0", ["update: 3", *registered], ring(3, 1, 2, 0, 2), "ENOMEM", listed, updated)
     yield Call("unregister - 0", ["unregister: done", *registered], ring(0, 0, 0, 0, 1), "ENOMEM", listed, [])
+    tagged = ["closed r1.0 0", "with tag 7", "closed r1.2 1", "with tag 9"]
+    yield Call("register_tagged - 0", ["register_tagged: done"], ring(3, 0, 3, 0, 1), "ENOMEM", none, tagged)
+    replaced = ["closed r2.0 1", "with tag 8", "closed r2.1 0"]
+    yield Call("update_tagged - 0", ["update_tagged: 3", *tagged], ring(3, 0, 3, 0, 2), "ENOMEM", ring(3, 0, 3, 0, 1), replaced)
+    yield Call("tags - 0", ["tag 7 0 0", "tag 9 0 0"], [*tagged], "NoMemory", [*tagged])
     refused = {"no memory": [*listed, "tear_down: NoMemory", *listed, *registered]}
     yield Call("tear_down - 0", listed, registered, others=refused)
 
@@ -92,7 +97,7 @@ def read_script():
     requests = ['Open { name: "a.txt", target: Slot(0) }, flags: SqeFlags(4)', 'Open { name: "b.txt", target: Any }, flags: SqeFlags(0)']
     requests += ["Read { slot: 0, off: 0, len: 5 }, flags: SqeFlags(1)", "Close { slot: 1 }, flags: SqeFlags(0)"]
     requests += ["Update { off: 0, list: [-1, 0] }, flags: SqeFlags(0)"]
-    commands = ["Sparse(2)", "Unregister", "Register([0, -1])", "Range(1, 1)", "Update(0, [-2, 1])"]
+    commands = ["Sparse(2)", "Unregister", "Register([0, -1], Some([7, 0]))", "Range(1, 1)", "Update(0, [-2, 1], None)"]
     commands += [f"Submit([{', '.join(f'Request {{ op: {it} }}' for it in requests)}])"]
     catalogue = ["entry 0 a.txt 5", "entry 1 b.txt 0", "a.txt is entry 0"]
     return Call("read - 0", ["read: done", *catalogue], commands, "NoMemory")

@@ -42,6 +42,12 @@ def hard_links():
     return lines(*script, "submit")
 
 
+def tags():
+    """Tagged files that a request closes, that an update replaces, and that are left. No text has a tag without its file."""
+    script = ["file a.txt 68656c6c6f", "register 0,0 7,0", "update 0 -1,-1", "submit", "regupdate 0 0,0 8,9", "regupdate 1 0 10"]
+    return lines(*script)
+
+
 def registrations():
     """Each call between submissions, and a request among them."""
     script = ["file a.txt 68656c6c6f", "file b.txt -", "register 0,-1,1", "range 1 2", "open a.txt any", "submit"]
@@ -55,6 +61,7 @@ def scripts(open_read_close, has_lists):
     yield "hard_links", hard_links()
     if has_lists:
         yield "registrations", registrations()
+        yield "tags", tags()
     yield "full_catalogue", full_catalogue()[0]
     yield "full_chains", full_chains()
     yield "updates", updates()

@@ -141,14 +141,15 @@ impl Catalogue {
         self.entries[entry as usize].bytes.len() as u32
     }
 
-    /// Opens an entry: a new open file, with this mark (openat(2), read only). The caller knows that there is such an
-    /// entry.
-    pub fn open(&self, entry: u8, mark: Mark) -> OpenFile
+    /// Opens an entry: a new open file, with this mark and this tag, 0 for none (openat(2), read only). The caller knows
+    /// that there is such an entry.
+    pub fn open(&self, entry: u8, mark: Mark, tag: u64) -> OpenFile
         requires { entry < length self.now }
         ensures entry { result.entry ≡ entry }
         ensures mark { result.mark ≡ mark }
+        ensures tag { result.tag ≡ tag }
     {
-        OpenFile::new(mark, entry)
+        OpenFile::new(mark, entry, tag)
     }
 
     /// Appends the bytes of an entry from place `off` on, `len` of them or as many as there are, and gives their

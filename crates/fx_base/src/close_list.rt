@@ -1,8 +1,10 @@
 ghost use Rattle.std.specs.Prelude.{◌≡◌, ◌+◌, ◌-◌, ◌<◌, ◌≤◌, [], ◌∷◌, ◌++◌, length, IfOk, IsPermutation};
 ghost use Rattle.fx_base.specs.CloseList.{IsInOrderOfMark};
+ghost use Rattle.fx_base.specs.Tags.{tags_of};
 
 use crate::no_memory::NoMemory;
 use crate::open_file::{Closed, OpenFile};
+use crate::tag_completion::TagCompletion;
 use std::alloc::Global;
 use std::marker::Model;
 
@@ -84,5 +86,18 @@ impl CloseList {
         ensures room { self.new.room ≡ self.old.room }
     {
         self.files.sort_unstable_by_key(|file| file.mark);
+    }
+
+    /// The completions of the files' tags, in the order of the files: one for each file whose tag isn't 0, and none for
+    /// the others (io_uring_register(2), "IORING_REGISTER_FILES2"). The list stays, so a second call gives them again.
+    ///
+    /// # Errors
+    /// `NoMemory` where the memory of the completions is refused.
+    pub fn tags(&self, alloc: Global) -> Result<Vec<TagCompletion>, NoMemory>
+        ensures { IfOk result (λ tags. tags.items ≡ tags_of self.now.files) }
+    {
+        let tagged = self.files.iter().filter(|file| file.tag != 0);
+        let tags = tagged.map(|file| TagCompletion::of(file.tag));
+        Ok(tags.collect(alloc)?)
     }
 }

@@ -1,5 +1,5 @@
 //! What every crate of the file table speaks of: error numbers, marks of open files, open files, the catalogue of
-//! files that can be opened, and lists of closes.
+//! files that can be opened, lists of closes, and the completions of tags.
 #![tactic(auto)]
 
 mod catalogue;
@@ -10,6 +10,7 @@ mod mark;
 mod name;
 mod no_memory;
 mod open_file;
+mod tag_completion;
 #[cfg(test)]
 mod tests;
 
@@ -20,3 +21,4 @@ pub use mark::Mark;
 pub use name::{LONGEST_NAME, is_name};
 pub use no_memory::NoMemory;
 pub use open_file::{Closed, OpenFile};
+pub use tag_completion::TagCompletion;

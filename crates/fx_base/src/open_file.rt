@@ -3,13 +3,16 @@ ghost use Rattle.std.specs.Prelude.{◌≡◌};
 use crate::mark::Mark;
 use std::marker::Model;
 
-/// What a list of closes says of a file: which installation it was, and the catalogue entry that it was opened from.
+/// What a list of closes says of a file: which installation it was, the catalogue entry that it was opened from, and its
+/// resource tag.
 #[derive(Clone, Copy, Debug, PartialEq, Eq)]
 pub struct Closed {
     /// The installation.
     pub mark: Mark,
     /// The catalogue entry, from 0.
     pub entry: u8,
+    /// The tag, 0 for none (io_uring_register(2), "IORING_REGISTER_FILES2").
+    pub tag: u64,
 }
 
 /// An open file. It is no `Drop`: a program that lets one go without closing or discarding it is not accepted.
@@ -17,6 +20,7 @@ pub struct Closed {
 pub struct OpenFile {
     mark: Mark,
     entry: u8,
+    tag: u64,
 }
 
 impl Model for OpenFile {
@@ -24,15 +28,16 @@ impl Model for OpenFile {
 
     ghost Value = { Closed };
 
-    ghost view = { λ file. record { mark = file.mark; entry = file.entry } };
+    ghost view = { λ file. record { mark = file.mark; entry = file.entry; tag = file.tag } };
 }
 
 impl OpenFile {
-    pub(crate) fn new(mark: Mark, entry: u8) -> OpenFile
+    pub(crate) fn new(mark: Mark, entry: u8, tag: u64) -> OpenFile
         ensures mark { result.mark ≡ mark }
         ensures entry { result.entry ≡ entry }
+        ensures tag { result.tag ≡ tag }
     {
-        OpenFile { mark, entry }
+        OpenFile { mark, entry, tag }
     }
 
     /// Which installation the file is of.
@@ -49,19 +54,31 @@ impl OpenFile {
         self.entry
     }
 
-    /// What the file's close will say: its mark and its entry.
+    /// The resource tag that the file was installed with, 0 for none (io_uring_register(2), "IORING_REGISTER_FILES2").
+    pub fn tag(&self) -> u64
+        ensures { result ≡ self.now.tag }
+    {
+        self.tag
+    }
+
+    /// What the file's close will say: its mark, its entry and its tag.
     pub fn identity(&self) -> Closed
         ensures { result ≡ self.now }
     {
         Closed {
             mark: self.mark,
             entry: self.entry,
+            tag: self.tag,
         }
     }
 
     /// Spends a file that no list shall name: an open that was refused, or a file of an abandoned table.
     pub fn discard(self) {
-        let OpenFile { mark: _, entry: _ } = self;
+        let OpenFile {
+            mark: _,
+            entry: _,
+            tag: _,
+        } = self;
     }
 
     // Spends a file, for a list that names it.

@@ -1,6 +1,8 @@
 //! Each public call once with ample memory, and each refusal once. The values were worked out by hand.
 
-use crate::{AddFault, Catalogue, CloseList, Closed, Errno, LONGEST_NAME, Mark, is_name};
+use crate::{
+    AddFault, Catalogue, CloseList, Closed, Errno, LONGEST_NAME, Mark, TagCompletion, is_name,
+};
 use std::alloc::Global;
 use std::test::Fail;
 
@@ -162,7 +164,7 @@ fn closes_are_in_order_of_mark(rt: HostRuntime) -> Result<(), Fail> {
         (1, first),
         (0, fourth),
     ] {
-        let file = catalogue.open(entry, mark);
+        let file = catalogue.open(entry, mark, 0);
         assert_eq!(rt; file.entry(), entry);
         assert_eq!(rt; file.mark(), mark);
         assert!(rt; list.room() > 0);
@@ -173,26 +175,32 @@ fn closes_are_in_order_of_mark(rt: HostRuntime) -> Result<(), Fail> {
         Closed {
             mark: first,
             entry: 1,
+            tag: 0,
         },
         Closed {
             mark: second,
             entry: 0,
+            tag: 0,
         },
         Closed {
             mark: third,
             entry: 0,
+            tag: 0,
         },
         Closed {
             mark: fourth,
             entry: 0,
+            tag: 0,
         },
         Closed {
             mark: fifth,
             entry: 1,
+            tag: 0,
         },
         Closed {
             mark: sixth,
             entry: 1,
+            tag: 0,
         },
     ];
     assert_eq!(rt; list.files(), want.as_slice());
@@ -205,7 +213,9 @@ fn a_discarded_file_is_in_no_list(rt: HostRuntime) -> Result<(), Fail> {
     let catalogue = two_files(rt.alloc())?;
     let list = CloseList::with_room(rt.alloc(), 1)?;
     assert_eq!(rt; catalogue.len(), 2);
-    catalogue.open(1, Mark::Registered { k: 1, i: 0 }).discard();
+    catalogue
+        .open(1, Mark::Registered { k: 1, i: 0 }, 0)
+        .discard();
     assert_eq!(rt; list.room(), 1);
     assert_eq!(rt; list.files().len(), 0);
     Ok(())
@@ -217,11 +227,28 @@ fn an_identity_is_what_the_close_says(rt: HostRuntime) -> Result<(), Fail> {
     let mut list = CloseList::with_room(rt.alloc(), 1)?;
     assert_eq!(rt; catalogue.len(), 2);
     let mark = Mark::Registered { k: 3, i: 4 };
-    let file = catalogue.open(1, mark);
-    assert_eq!(rt; file.identity(), Closed { mark, entry: 1 });
+    let tag = 18_446_744_073_709_551_615;
+    let file = catalogue.open(1, mark, tag);
+    assert_eq!(rt; file.tag(), tag);
+    assert_eq!(rt;
+        file.identity(),
+        Closed {
+            mark,
+            entry: 1,
+            tag
+        }
+    );
     assert_eq!(rt; list.room(), 1);
     list.close(file);
-    assert_eq!(rt; list.files(), [Closed { mark, entry: 1 }].as_slice());
+    assert_eq!(rt;
+        list.files(),
+        [Closed {
+            mark,
+            entry: 1,
+            tag
+        }]
+        .as_slice()
+    );
     Ok(())
 }
 
@@ -233,9 +260,9 @@ fn an_appended_list_stands_behind(rt: HostRuntime) -> Result<(), Fail> {
     assert_eq!(rt; catalogue.len(), 2);
     assert_eq!(rt; list.room(), 4);
     assert_eq!(rt; other.room(), 7);
-    list.close(catalogue.open(0, Mark::Registered { k: 9, i: 0 }));
-    other.close(catalogue.open(1, Mark::Registered { k: 2, i: 0 }));
-    other.close(catalogue.open(0, Mark::Registered { k: 1, i: 0 }));
+    list.close(catalogue.open(0, Mark::Registered { k: 9, i: 0 }, 0));
+    other.close(catalogue.open(1, Mark::Registered { k: 2, i: 0 }, 0));
+    other.close(catalogue.open(0, Mark::Registered { k: 1, i: 0 }, 0));
     assert!(rt; other.files().len() <= list.room() as usize);
     list.append(other);
     assert_eq!(rt; list.room(), 1);
@@ -243,6 +270,59 @@ fn an_appended_list_stands_behind(rt: HostRuntime) -> Result<(), Fail> {
         assert_eq!(rt; file.mark, Mark::Registered { k, i: 0 });
     }
     assert_eq!(rt; list.files().len(), 3);
+    Ok(())
+}
+
+// A list whose files have these tags, and marks that stand in the other order.
+fn tagged(alloc: Global, tags: &[u64]) -> Result<CloseList, Fail> {
+    let catalogue = two_files(alloc)?;
+    let mut list = CloseList::with_room(alloc, 8)?;
+    for tag in tags {
+        if catalogue.len() == 2 && list.room() > 0 {
+            let k = list.room();
+            list.close(catalogue.open(1, Mark::Registered { k, i: 0 }, *tag));
+        }
+    }
+    Ok(list)
+}
+
+#[test]
+fn each_file_with_a_tag_has_one_completion(rt: HostRuntime) -> Result<(), Fail> {
+    for (tags, want) in [
+        ([].as_slice(), [].as_slice()),
+        ([0, 0].as_slice(), [].as_slice()),
+        ([7].as_slice(), [7].as_slice()),
+        ([0, 7, 0, 5, 7].as_slice(), [7, 5, 7].as_slice()),
+        (
+            [1, 18_446_744_073_709_551_615].as_slice(),
+            [1, 18_446_744_073_709_551_615].as_slice(),
+        ),
+    ] {
+        let list = tagged(rt.alloc(), tags)?;
+        let given = list.tags(rt.alloc())?;
+        assert_eq!(rt; given.len(), want.len(), "{tags:?}");
+        for (completion, tag) in given.iter().zip(want) {
+            let want = TagCompletion {
+                user_data: *tag,
+                res: 0,
+                flags: 0,
+            };
+            assert_eq!(rt; *completion, want, "{tags:?}");
+        }
+        assert_eq!(rt; list.files().len(), tags.len());
+    }
+    Ok(())
+}
+
+#[test]
+fn tags_are_in_the_order_of_the_list(rt: HostRuntime) -> Result<(), Fail> {
+    let mut list = tagged(rt.alloc(), &[3, 0, 9, 4])?;
+    list.sort();
+    let given = list.tags(rt.alloc())?;
+    assert_eq!(rt; given.len(), 3);
+    for (completion, tag) in given.iter().zip([4u64, 9, 3]) {
+        assert_eq!(rt; completion.user_data, tag);
+    }
     Ok(())
 }
 
@@ -282,7 +362,7 @@ fn a_list_of_1200_files_is_sorted(rt: HostRuntime) -> Result<(), Fail> {
     for i in 0..1200u32 {
         let room = list.room();
         assert_eq!(rt; room, 1200 - i);
-        list.close(catalogue.open(1, Mark::Registered { k: 1200 - i, i }));
+        list.close(catalogue.open(1, Mark::Registered { k: 1200 - i, i }, 0));
     }
     list.sort();
     assert_eq!(rt; list.files().len(), 1200);

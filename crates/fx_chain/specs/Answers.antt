@@ -21,9 +21,14 @@ use Rattle.fx_chain.specs.declared.completion.Place.{Place}
 use Rattle.fx_chain.specs.declared.request.Target.{Target}
 use Rattle.fx_chain.specs.declared.request.Target.TheVariants.{Slot, Any}
 
--- what a file is that a request installs: the place in the list is that of an update's entry, and 0 for an open
+-- what a file is that a request installs: the place in the list is that of an update's entry, and 0 for an open; it has no
+-- tag
 abbrev pub installed : Place → ℕ → ℕ → Closed
-installed place in_list entry = record { mark = Submitted place.submission place.chain place.member in_list; entry = entry }
+installed place in_list entry = record {
+  mark = Submitted place.submission place.chain place.member in_list;
+  entry = entry;
+  tag = 0;
+}
 
 -- the request makes no step and fails
 abbrev pub Refuses : Place → Errno → List Action → Completed → Type 0

@@ -46,7 +46,7 @@ fn open_at<T: FileTable>(
     if slot >= size {
         return Completion::refusal(alloc, place, Errno::EINVAL);
     }
-    let file = catalogue.open(entry, place.mark(0));
+    let file = catalogue.open(entry, place.mark(0), 0);
     put(rt, table, pass, slot, file, closes);
     Completion::number(alloc, place, 0)
 }
@@ -76,7 +76,7 @@ fn open_any<T: FileTable>(
     if size == 0 {
         return Completion::refusal(alloc, place, Errno::ENFILE);
     }
-    let file = catalogue.open(entry, place.mark(0));
+    let file = catalogue.open(entry, place.mark(0), 0);
     match table.put_any(rt, pass, file) {
         Ok(slot) => Completion::number(alloc, place, slot),
         Err(file) => {

@@ -64,7 +64,7 @@ fn apply_entry<T: FileTable>(
         (player (T.view pass.new) closes.new) }
 {
     if entry >= 0 {
-        let file = catalogue.open(entry as u8, place.mark(in_list));
+        let file = catalogue.open(entry as u8, place.mark(in_list), 0);
         put(rt, table, pass, slot, file, closes);
         return;
     }

@@ -28,10 +28,15 @@ fn two_names(alloc: Global) -> Result<Catalogue, AllocError> {
     Ok(catalogue)
 }
 
-// The i-th file of the k-th list.
+// The i-th file of the k-th list, with a tag of its own.
 fn opened<R: Abort>(rt: &R, catalogue: &Catalogue, entry: u8, k: u32, i: u32) -> OpenFile {
     assert!(rt; (entry as u32) < catalogue.len());
-    catalogue.open(entry, Mark::Registered { k, i })
+    catalogue.open(entry, Mark::Registered { k, i }, tag(k, i))
+}
+
+// The tag of the i-th file of the k-th list.
+fn tag(k: u32, i: u32) -> u64 {
+    u64::from(k) << 32 | u64::from(i)
 }
 
 // A table of so many empty slots.

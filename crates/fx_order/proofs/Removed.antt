@@ -16,7 +16,7 @@ use Rattle.fx_plain.specs.History.{state_after, AllowsAll, action_of, closes_in,
 use Rattle.fx_plain.specs.Laws.{IsStart}
 use Rattle.fx_plain.specs.Table.{identity_of}
 use Rattle.fx_plain.proofs.Cells.{by_equality}
-use Rattle.fx_plain.proofs.Named.{named, named_itself}
+use Rattle.fx_plain.proofs.Named.{named, named_same}
 use Rattle.fx_plain.proofs.LawTallies.{present, placed_one, tally, tally_all, tally_start}
 use Rattle.fx_order.specs.Access.{removed_by, removed_in}
 use Rattle.fx_order.specs.declared.access.Access.{Access}
@@ -136,7 +136,7 @@ none_present (Some f) is = absurd (omega arith)
 -- a file at a slot doesn't wait for its close
 not_waiting : (st : State) (slot : ℕ) (f : File) → slot < st.size → Some f ≡ st.at slot → tally f.number st ≤ 1 → st.removed f.number ≡ None
 not_waiting st slot f lt is few =
-    let there : named f.number (st.at slot) ≡ 1 = ap (named f.number) (sym is) ∙ named_itself f in
+    let there : named f.number (st.at slot) ≡ 1 = ap (named f.number) (sym is) ∙ named_same f f.number refl in
     let at_least = placed_one f.number st.at slot st.size lt in
     none_present (st.removed f.number) (omega arith)
 

@@ -13,6 +13,7 @@ use std::test::Fail;
 const FIRST: Closed = Closed {
     mark: Mark::Registered { k: 1, i: 0 },
     entry: 0,
+    tag: 7,
 };
 
 const SECOND: Closed = Closed {
@@ -23,6 +24,7 @@ const SECOND: Closed = Closed {
         entry: 0,
     },
     entry: 1,
+    tag: 0,
 };
 
 fn two_files(alloc: Global) -> Result<Catalogue, Fail> {
@@ -34,7 +36,7 @@ fn two_files(alloc: Global) -> Result<Catalogue, Fail> {
 
 fn open(rt: &impl Abort, catalogue: &Catalogue, file: Closed) -> OpenFile {
     assert!(rt; (file.entry as u32) < catalogue.len());
-    catalogue.open(file.entry, file.mark)
+    catalogue.open(file.entry, file.mark, file.tag)
 }
 
 // What a file that came out of a table was.

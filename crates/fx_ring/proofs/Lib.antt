@@ -1,6 +1,7 @@
 pub mod Removals
 pub mod Rings
 pub mod Numbers
+pub mod NoTags
 pub mod ListSteps
 pub mod Origins
 pub mod Updates

@@ -10,6 +10,7 @@ use Rattle.fx_base.specs.declared.open_file.Closed.{Closed}
 use Rattle.fx_chain.specs.Answers.{is_bad_entry}
 use Rattle.fx_ring.specs.Ring.{RingState, IsRing, IsCounted}
 use Rattle.fx_ring.specs.Registration.{file_listed, files_after, removed_by, removed_from, registered, updated, is_bad_file}
+use Rattle.fx_ring.specs.Tags.{tag_at}
 use Rattle.fx_ring.proofs.Numbers.{or_left, or_right, good_files}
 use Rattle.fx_ring.proofs.ListSteps.{files_below, files_from}
 use Rattle.fx_ring.proofs.Rings.{IsEntry, entry_listed}
@@ -24,26 +25,26 @@ good_get entries [] j z good is = cc
 good_get entries (y ∷ list) zero z good is = let same : y ≡ z = cc in ap (is_bad_entry entries) (sym same) ∙ or_left _ _ good
 good_get entries (y ∷ list) (suc j) z good is = good_get entries list j z (or_right _ _ good) is
 
-from_listed : (entries k i : ℕ) (x : Option ℤ) (before : Option Closed) (file : Closed)
-    → ((z : ℤ) → x ≡ Some z → is_bad_entry entries z ≡ false) → file_listed k i x before ≡ Some file
+from_listed : (entries k i tag : ℕ) (x : Option ℤ) (before : Option Closed) (file : Closed)
+    → ((z : ℤ) → x ≡ Some z → is_bad_entry entries z ≡ false) → file_listed k i tag x before ≡ Some file
     → (before ≡ Some file) ⊎ IsListed entries k i file
-from_listed entries k i None before file good is = inl is
-from_listed entries k i (Some (pos e)) before file good is =
-    let made : Closed = record { mark = Registered k i; entry = e } in
+from_listed entries k i tag None before file good is = inl is
+from_listed entries k i tag (Some (pos e)) before file good is =
+    let made : Closed = record { mark = Registered k i; entry = e; tag = tag } in
     let same : made ≡ file = cc in
     inr (ap (λ (f : Closed). f.mark) (sym same), subst (λ (f : Closed). f.entry < entries) same (leb-false entries e (good (pos e) refl)))
-from_listed entries k i (Some (negsuc zero)) before file good is = cc
-from_listed entries k i (Some (negsuc (suc n))) before file good is = inl is
+from_listed entries k i tag (Some (negsuc zero)) before file good is = cc
+from_listed entries k i tag (Some (negsuc (suc n))) before file good is = inl is
 
 -- a file was there before, or the list installed it
-from : (entries k : ℕ) (at : ℕ → Option Closed) (off : ℕ) (list : List ℤ) (slot : ℕ) (file : Closed)
-    → list_any (is_bad_entry entries) list ≡ false → files_after k at off list slot ≡ Some file
+from : (entries k : ℕ) (at : ℕ → Option Closed) (off : ℕ) (list : List ℤ) (tags : List ℕ) (slot : ℕ) (file : Closed)
+    → list_any (is_bad_entry entries) list ≡ false → files_after k at off list tags slot ≡ Some file
     → (at slot ≡ Some file) ⊎ ((off ≤ slot) × IsListed entries k (slot - off) file)
-from entries k at off list slot file good is = elim (cases_lt slot off) [
-  | inl below ↦ inl (sym (files_below k at off list slot below) ∙ is)
+from entries k at off list tags slot file good is = elim (cases_lt slot off) [
+  | inl below ↦ inl (sym (files_below k at off list tags slot below) ∙ is)
   | inr above ↦ ⊎_elim (λ was. inl was) (λ new. inr (above, new))
-      (from_listed entries k (slot - off) (slice_get list (slot - off)) (at slot) file
-      (λ z at_z. good_get entries list (slot - off) z good at_z) (sym (files_from k at off list slot above) ∙ is))
+      (from_listed entries k (slot - off) (tag_at tags (slot - off)) (slice_get list (slot - off)) (at slot) file
+      (λ z at_z. good_get entries list (slot - off) z good at_z) (sym (files_from k at off list tags slot above) ∙ is))
 ]
 
 -- a mark that was counted still is
@@ -57,17 +58,17 @@ not_counted : (ring : RingState) (mark : Mark) (i : ℕ) → IsCounted ring mark
 not_counted ring (Registered k j) i counted = λ same. let e : k ≡ ring.registrations + 1 = cc in omega arith
 not_counted ring (Submitted s c m e) i counted = λ same. cc
 
-module _ (ring next : RingState) (at : ℕ → Option Closed) (off : ℕ) (list : List ℤ)
+module _ (ring next : RingState) (at : ℕ → Option Closed) (off : ℕ) (list : List ℤ) (tags : List ℕ)
     (good : list_any (is_bad_entry (length ring.catalogue)) list ≡ false)
     (entries : (slot : ℕ) (file : Closed) → at slot ≡ Some file → file.entry < length ring.catalogue)
     (counted : (slot : ℕ) (file : Closed) → at slot ≡ Some file → IsCounted ring file.mark)
     (distinct : (slot other : ℕ) (file same : Closed) → at slot ≡ Some file → at other ≡ Some same → file.mark ≡ same.mark → slot ≡ other)
     (catalogue : next.catalogue ≡ ring.catalogue) (more : next.registrations ≡ ring.registrations + 1)
-    (submissions : next.submissions ≡ ring.submissions) (after : next.at ≡ files_after (ring.registrations + 1) at off list) where
+    (submissions : next.submissions ≡ ring.submissions) (after : next.at ≡ files_after (ring.registrations + 1) at off list tags) where
   origin : (slot : ℕ) (file : Closed) → next.at slot ≡ Some file
       → (at slot ≡ Some file) ⊎ ((off ≤ slot) × IsListed (length ring.catalogue) (ring.registrations + 1) (slot - off) file)
   origin slot file is =
-      from (length ring.catalogue) (ring.registrations + 1) at off list slot file good
+      from (length ring.catalogue) (ring.registrations + 1) at off list tags slot file good
       (sym (ap (λ (a : ℕ → Option Closed). a slot) after) ∙ is)
 
   new_counted : (mark : Mark) (i : ℕ) → mark ≡ Registered (ring.registrations + 1) i → IsCounted next mark
@@ -91,15 +92,15 @@ module _ (ring next : RingState) (at : ℕ → Option Closed) (off : ℕ) (list 
         (origin slot file is);
   }
 
-pub updated_rings : (ring : RingState) (off : ℕ) (list : List ℤ) → IsRing ring
-    → list_any (is_bad_entry (length ring.catalogue)) list ≡ false → IsRing (updated ring off list)
-updated_rings ring off list is good =
-    listed_rings ring (updated ring off list) ring.at off list good is.entries is.counted is.distinct refl refl refl refl
+pub updated_rings : (ring : RingState) (off : ℕ) (list : List ℤ) (tags : List ℕ) → IsRing ring
+    → list_any (is_bad_entry (length ring.catalogue)) list ≡ false → IsRing (updated ring off list tags)
+updated_rings ring off list tags is good =
+    listed_rings ring (updated ring off list tags) ring.at off list tags good is.entries is.counted is.distinct refl refl refl refl
 
-pub registered_rings : (ring : RingState) (list : List ℤ)
-    → list_any (is_bad_file (length ring.catalogue)) list ≡ false → IsRing (registered ring list)
-registered_rings ring list good =
-    listed_rings ring (registered ring list) (λ _. None) 0 list (good_files (length ring.catalogue) list good)
+pub registered_rings : (ring : RingState) (list : List ℤ) (tags : List ℕ)
+    → list_any (is_bad_file (length ring.catalogue)) list ≡ false → IsRing (registered ring list tags)
+registered_rings ring list tags good =
+    listed_rings ring (registered ring list tags) (λ _. None) 0 list tags (good_files (length ring.catalogue) list good)
     (λ slot file is. cc) (λ slot file is. cc) (λ slot other file same is are marks. cc) refl refl refl refl
 
 -- what a list removes is of the catalogue, where all was

@@ -1,4 +1,5 @@
 pub mod Ring
+pub mod Tags
 pub mod Registration
 pub mod Slots
 pub mod Submission

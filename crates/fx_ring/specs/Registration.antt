@@ -12,6 +12,7 @@ use Rattle.fx_base.specs.declared.open_file.Closed.{Closed}
 use Rattle.fx_chain.specs.Answers.{is_bad_entry}
 use Rattle.fx_plain.specs.declared.table.TheConstants.{MOST_SLOTS}
 use Rattle.fx_ring.specs.Ring.{RingState}
+use Rattle.fx_ring.specs.Tags.{are_bad_tags, tag_at}
 use Rattle.fx_ring.specs.declared.ring.TheConstants.{MOST_REGISTRATIONS}
 
 -- a number of a registration that is neither an empty slot nor an entry of the catalogue
@@ -20,10 +21,10 @@ is_bad_file entries (pos entry) = nat_le entries entry
 is_bad_file entries (negsuc n) = nat_lt 0 n
 
 -- why a registration is refused, want of memory aside
-abbrev pub register_refusal : RingState → List ℤ → Option Errno
-register_refusal ring list =
+abbrev pub register_refusal : RingState → List ℤ → List ℕ → Option Errno
+register_refusal ring list tags =
     if nat_lt 0 ring.size then Some EBUSY
-    else if length list == 0 then Some EINVAL
+    else if length list == 0 || are_bad_tags list tags then Some EINVAL
     else if nat_lt MOST_SLOTS (length list) then Some EMFILE
     else if list_any (is_bad_file (length ring.catalogue)) list then Some EBADF
     else if nat_le MOST_REGISTRATIONS ring.registrations then Some EAGAIN
@@ -46,30 +47,32 @@ abbrev pub range_refusal : RingState → ℕ → ℕ → Option Errno
 range_refusal ring off len = if nat_lt ring.size (off + len) then Some EINVAL else None
 
 -- why an update is refused
-abbrev pub update_refusal : RingState → ℕ → List ℤ → Option Errno
-update_refusal ring off list =
+abbrev pub update_refusal : RingState → ℕ → List ℤ → List ℕ → Option Errno
+update_refusal ring off list tags =
     if ring.size == 0 then Some ENXIO
-    else if length list == 0 || nat_lt ring.size (off + length list) then Some EINVAL
+    else if length list == 0 || (nat_lt ring.size (off + length list) || are_bad_tags list tags)
+    then Some EINVAL
     else if list_any (is_bad_entry (length ring.catalogue)) list then Some EBADF
     else if nat_le MOST_REGISTRATIONS ring.registrations then Some EAGAIN
     else None
 
--- what a number of a list leaves at its slot: -1 empties the slot, one of 0 or more installs that entry of the catalogue,
--- and the others leave what was there
-abbrev pub file_after : Mark → ℤ → Option Closed → Option Closed
-file_after mark (pos entry) before = Some (record { mark = mark; entry = entry })
-file_after mark (negsuc zero) before = None
-file_after mark (negsuc (suc n)) before = before
+-- what a number of a list leaves at its slot: -1 empties the slot, one of 0 or more installs that entry of the catalogue
+-- with its tag, and the others leave what was there
+abbrev pub file_after : Mark → ℕ → ℤ → Option Closed → Option Closed
+file_after mark tag (pos entry) before = Some (record { mark = mark; entry = entry; tag = tag })
+file_after mark tag (negsuc zero) before = None
+file_after mark tag (negsuc (suc n)) before = before
 
 -- what the k-th list leaves at the slot of its place i; where the list has no such place, what was there
-abbrev pub file_listed : ℕ → ℕ → Option ℤ → Option Closed → Option Closed
-file_listed k i None before = before
-file_listed k i (Some number) before = file_after (Registered k i) number before
+abbrev pub file_listed : ℕ → ℕ → ℕ → Option ℤ → Option Closed → Option Closed
+file_listed k i tag None before = before
+file_listed k i tag (Some number) before = file_after (Registered k i) tag number before
 
 -- the file at each slot, once the k-th list was worked off from a slot on
-abbrev pub files_after : ℕ → (ℕ → Option Closed) → ℕ → List ℤ → ℕ → Option Closed
-files_after k at off list slot =
-    if nat_lt slot off then at slot else file_listed k (slot - off) (slice_get list (slot - off)) (at slot)
+abbrev pub files_after : ℕ → (ℕ → Option Closed) → ℕ → List ℤ → List ℕ → ℕ → Option Closed
+files_after k at off list tags slot =
+    if nat_lt slot off then at slot
+    else file_listed k (slot - off) (tag_at tags (slot - off)) (slice_get list (slot - off)) (at slot)
 
 -- the file that a number of a list removes from its slot
 abbrev pub removed_by : ℤ → Option Closed → List Closed
@@ -82,12 +85,12 @@ abbrev pub removed_from : (ℕ → Option Closed) → ℕ → List ℤ → List 
 removed_from at slot [] = []
 removed_from at slot (number ∷ list) = removed_by number (at slot) ++ removed_from at (slot + 1) list
 
--- the ring once the list was registered
-abbrev pub registered : RingState → List ℤ → RingState
-registered ring list = record ring {
+-- the ring once the list was registered with its tags
+abbrev pub registered : RingState → List ℤ → List ℕ → RingState
+registered ring list tags = record ring {
   size = length list;
   range = (0, length list);
-  at = files_after (ring.registrations + 1) (λ _. None) 0 list;
+  at = files_after (ring.registrations + 1) (λ _. None) 0 list tags;
   registrations = ring.registrations + 1;
 }
 
@@ -95,9 +98,9 @@ registered ring list = record ring {
 abbrev pub registered_sparse : RingState → ℕ → RingState
 registered_sparse ring n = record ring { size = n; range = (0, n); at = λ _. None }
 
--- the ring once its slots were updated
-abbrev pub updated : RingState → ℕ → List ℤ → RingState
-updated ring off list = record ring {
-  at = files_after (ring.registrations + 1) ring.at off list;
+-- the ring once its slots were updated by the list with its tags
+abbrev pub updated : RingState → ℕ → List ℤ → List ℕ → RingState
+updated ring off list tags = record ring {
+  at = files_after (ring.registrations + 1) ring.at off list tags;
   registrations = ring.registrations + 1;
 }

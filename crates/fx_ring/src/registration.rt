@@ -6,9 +6,10 @@ ghost use Rattle.fx_plain.specs.State.{IsSettled};
 ghost use Rattle.fx_plain.specs.Contents.{state_of};
 ghost use Rattle.fx_ring.specs.Ring.{AreEntries, HasClosed, files_of, ring_of, without_table};
 ghost use Rattle.fx_ring.specs.Registration.{files_after, is_bad_file, range_refusal, register_refusal, registered, registered_sparse, removed_from, sparse_refusal, unregister_refusal, update_refusal, updated};
+ghost use Rattle.fx_ring.specs.Tags.{no_tags, tags_for};
 ghost use Rattle.fx_ring.specs.Slots.{files_at};
 
-use crate::list::{apply_list, has_bad_entry, has_bad_file};
+use crate::list::{apply_list, are_bad_tags, has_bad_entry, has_bad_file};
 use crate::ring::{MOST_REGISTRATIONS, Ring};
 use fx_base::{Catalogue, CloseList, Errno, MOST_ENTRIES, NoMemory};
 use fx_plain::{MOST_SLOTS, PlainTable};
@@ -32,13 +33,20 @@ impl Ring {
         None
     }
 
-    // Why a list can't be registered.
-    fn register_refusal(&self, list: &[i32]) -> Option<Errno>
-        ensures value { result ≡ register_refusal (ring_of self.now) list.now }
+    // Why a list can't be registered with its tags, if any are given.
+    fn register_refusal(&self, list: &[i32], tags: Option<&[u64]>) -> Option<Errno>
+        ensures value { result ≡ register_refusal (ring_of self.now) list.now
+            (tags_for list.now tags.entry) }
         ensures entries { IfNone result (length self.now.catalogue ≤ MOST_ENTRIES) }
     {
-        if let Some(errno) = self.sparse_refusal(list.len()) {
-            return Some(errno);
+        if self.table.size() > 0 {
+            return Some(Errno::EBUSY);
+        }
+        if list.is_empty() || are_bad_tags(list, tags) {
+            return Some(Errno::EINVAL);
+        }
+        if list.len() > MOST_SLOTS as usize {
+            return Some(Errno::EMFILE);
         }
         if has_bad_file(self.catalogue.len(), list) {
             return Some(Errno::EBADF);
@@ -49,9 +57,10 @@ impl Ring {
         None
     }
 
-    // Why the slots from `off` on can't be updated by a list.
-    fn update_refusal(&self, off: u32, list: &[i32]) -> Option<Errno>
-        ensures value { result ≡ update_refusal (ring_of self.now) off list.now }
+    // Why the slots from `off` on can't be updated by a list with its tags, if any are given.
+    fn update_refusal(&self, off: u32, list: &[i32], tags: Option<&[u64]>) -> Option<Errno>
+        ensures value { result ≡ update_refusal (ring_of self.now) off list.now
+            (tags_for list.now tags.entry) }
         ensures entries { IfNone result (length self.now.catalogue ≤ MOST_ENTRIES) }
     {
         let size = self.table.size();
@@ -59,6 +68,9 @@ impl Ring {
             return Some(Errno::ENXIO);
         }
         if list.is_empty() || off as u64 + list.len() as u64 > size as u64 {
+            return Some(Errno::EINVAL);
+        }
+        if are_bad_tags(list, tags) {
             return Some(Errno::EINVAL);
         }
         if has_bad_entry(self.catalogue.len(), list) {
@@ -70,27 +82,25 @@ impl Ring {
         None
     }
 
-    /// Registers a table with a slot for each number of the list, all of them in the allocation range: -1 is an empty
-    /// slot, and a number of 0 or more the catalogue entry to open there (io_uring_register(2),
-    /// "IORING_REGISTER_FILES"). The k of the files' marks is the number of this call among the accepted calls of
-    /// `register` and `update`, from 1, and their i the place in the list, from 0.
-    ///
-    /// # Errors
-    /// In this order: EBUSY where there is a table, EINVAL for an empty list, EMFILE for more than 256 numbers, EBADF for
-    /// a number below -1 or past the catalogue, EAGAIN after 65,535 accepted calls of `register` and `update`, and ENOMEM
-    /// where memory is refused. The ring is then as before.
-    pub fn register(&mut self, alloc: Global, list: &[i32]) -> Result<(), Errno>
-        ensures refused { IfSome (register_refusal (ring_of self.old) list.now)
+    // Registers a list with its tags, if any are given.
+    fn register_list(
+        &mut self,
+        alloc: Global,
+        list: &[i32],
+        tags: Option<&[u64]>,
+    ) -> Result<(), Errno>
+        ensures refused { IfSome (register_refusal (ring_of self.old) list.now (tags_for list.now tags.entry))
             (λ errno. result ≡ Err errno) }
-        ensures only_refusal { IfNone (register_refusal (ring_of self.old) list.now)
+        ensures only_refusal { IfNone (register_refusal (ring_of self.old) list.now (tags_for list.now tags.entry))
             (IsOkUnless result ENOMEM) }
-        ensures ok { OnOk result (ring_of self.new ≡ registered (ring_of self.old) list.now) }
+        ensures ok { OnOk result
+            (ring_of self.new ≡ registered (ring_of self.old) list.now (tags_for list.now tags.entry)) }
         ensures err { OnErr result (self.new ≡ self.old) }
     {
-        if let Some(errno) = self.register_refusal(list) {
+        if let Some(errno) = self.register_refusal(list, tags) {
             return Err(errno);
         }
-        match new_table(alloc, &self.catalogue, self.registrations + 1, list) {
+        match new_table(alloc, &self.catalogue, self.registrations + 1, list, tags) {
             Ok(table) => {
                 mem::replace(&mut self.table, table).dismiss();
                 self.registrations += 1;
@@ -98,6 +108,52 @@ impl Ring {
             }
             Err(NoMemory) => Err(Errno::ENOMEM),
         }
+    }
+
+    /// Registers a table with a slot for each number of the list, all of them in the allocation range: -1 is an empty
+    /// slot, and a number of 0 or more the catalogue entry to open there (io_uring_register(2),
+    /// "IORING_REGISTER_FILES"). The k of the files' marks is the number of this call among the accepted calls of
+    /// `register`, `register_tagged`, `update` and `update_tagged`, from 1, and their i the place in the list, from 0.
+    /// The files have no tags: it is [`Ring::register_tagged`] with a 0 for each number.
+    ///
+    /// # Errors
+    /// In this order: EBUSY where there is a table, EINVAL for an empty list, EMFILE for more than 256 numbers, EBADF for
+    /// a number below -1 or past the catalogue, EAGAIN after 65,535 accepted calls of these four, and ENOMEM where memory
+    /// is refused. The ring is then as before.
+    pub fn register(&mut self, alloc: Global, list: &[i32]) -> Result<(), Errno>
+        ensures refused { IfSome (register_refusal (ring_of self.old) list.now (no_tags list.now))
+            (λ errno. result ≡ Err errno) }
+        ensures only_refusal { IfNone (register_refusal (ring_of self.old) list.now (no_tags list.now))
+            (IsOkUnless result ENOMEM) }
+        ensures ok { OnOk result
+            (ring_of self.new ≡ registered (ring_of self.old) list.now (no_tags list.now)) }
+        ensures err { OnErr result (self.new ≡ self.old) }
+    {
+        self.register_list(alloc, list, None)
+    }
+
+    /// Registers a table as [`Ring::register`] does, and gives each of its files the tag of the same place, 0 for none
+    /// (io_uring_register(2), "IORING_REGISTER_FILES2"). Once a file with a tag is closed, the list of closes that has it
+    /// gives the completion of its tag ([`CloseList::tags`]).
+    ///
+    /// # Errors
+    /// Those of [`Ring::register`], in their order. EINVAL comes at its place also where there are more tags than numbers,
+    /// or fewer, and where a number below 0 has a tag other than 0. The ring is then as before.
+    pub fn register_tagged(
+        &mut self,
+        alloc: Global,
+        list: &[i32],
+        tags: &[u64],
+    ) -> Result<(), Errno>
+        ensures refused { IfSome (register_refusal (ring_of self.old) list.now tags.now)
+            (λ errno. result ≡ Err errno) }
+        ensures only_refusal { IfNone (register_refusal (ring_of self.old) list.now tags.now)
+            (IsOkUnless result ENOMEM) }
+        ensures ok { OnOk result
+            (ring_of self.new ≡ registered (ring_of self.old) list.now tags.now) }
+        ensures err { OnErr result (self.new ≡ self.old) }
+    {
+        self.register_list(alloc, list, Some(tags))
     }
 
     /// Registers a table of `n` empty slots, all of them in the allocation range (io_uring_register_files(3),
@@ -170,32 +226,27 @@ impl Ring {
         Ok(())
     }
 
-    /// Works a list off, from the slot `off` on: -1 empties its slot, -2 leaves it, and a number of 0 or more opens that
-    /// catalogue entry there (io_uring_register(2), "IORING_REGISTER_FILES_UPDATE"). The answer is the length of the
-    /// list, and the files that were replaced or removed, in order of mark. Marks are those of [`Ring::register`].
-    ///
-    /// # Errors
-    /// In this order: ENXIO where there is no table, EINVAL for an empty list or one that ends past the last slot, EBADF
-    /// for a number below -2 or past the catalogue, EAGAIN after 65,535 accepted calls of `register` and `update`, and
-    /// ENOMEM where memory is refused. The ring is then as before.
-    pub fn update(
+    // Works a list off, from the slot `off` on, with its tags, if any are given.
+    fn update_list(
         &mut self,
         alloc: Global,
         off: u32,
         list: &[i32],
+        tags: Option<&[u64]>,
     ) -> Result<(u32, CloseList), Errno>
-        ensures refused { IfSome (update_refusal (ring_of self.old) off list.now)
+        ensures refused { IfSome (update_refusal (ring_of self.old) off list.now (tags_for list.now tags.entry))
             (λ errno. result ≡ Err errno) }
-        ensures only_refusal { IfNone (update_refusal (ring_of self.old) off list.now)
+        ensures only_refusal { IfNone (update_refusal (ring_of self.old) off list.now (tags_for list.now tags.entry))
             (IsOkUnless result ENOMEM) }
-        ensures ok { OnOk result (ring_of self.new ≡ updated (ring_of self.old) off list.now) }
+        ensures ok { OnOk result
+            (ring_of self.new ≡ updated (ring_of self.old) off list.now (tags_for list.now tags.entry)) }
         ensures count { IfOk result (λ answer. answer.0 ≡ length list.now) }
         ensures closes { IfOk result
             (λ answer. HasClosed (removed_from (ring_of self.old).at off list.now) answer.1) }
         ensures entries { IfOk result (λ answer. AreEntries (ring_of self.old) answer.1.files) }
         ensures err { OnErr result (self.new ≡ self.old) }
     {
-        if let Some(errno) = self.update_refusal(off, list) {
+        if let Some(errno) = self.update_refusal(off, list, tags) {
             return Err(errno);
         }
         let size = self.table.size();
@@ -213,20 +264,81 @@ impl Ring {
             self.registrations,
             off,
             list,
+            tags,
             size,
             &mut closes,
         );
         closes.sort();
         Ok((len, closes))
     }
+
+    /// Works a list off, from the slot `off` on: -1 empties its slot, -2 leaves it, and a number of 0 or more opens that
+    /// catalogue entry there (io_uring_register(2), "IORING_REGISTER_FILES_UPDATE"). The answer is the length of the
+    /// list, and the files that were replaced or removed, in order of mark. Marks are those of [`Ring::register`]. The new
+    /// files have no tags: it is [`Ring::update_tagged`] with a 0 for each number.
+    ///
+    /// # Errors
+    /// In this order: ENXIO where there is no table, EINVAL for an empty list or one that ends past the last slot, EBADF
+    /// for a number below -2 or past the catalogue, EAGAIN after 65,535 accepted calls of `register`, `register_tagged`,
+    /// `update` and `update_tagged`, and ENOMEM where memory is refused. The ring is then as before.
+    pub fn update(
+        &mut self,
+        alloc: Global,
+        off: u32,
+        list: &[i32],
+    ) -> Result<(u32, CloseList), Errno>
+        ensures refused { IfSome (update_refusal (ring_of self.old) off list.now (no_tags list.now))
+            (λ errno. result ≡ Err errno) }
+        ensures only_refusal { IfNone (update_refusal (ring_of self.old) off list.now (no_tags list.now))
+            (IsOkUnless result ENOMEM) }
+        ensures ok { OnOk result
+            (ring_of self.new ≡ updated (ring_of self.old) off list.now (no_tags list.now)) }
+        ensures count { IfOk result (λ answer. answer.0 ≡ length list.now) }
+        ensures closes { IfOk result
+            (λ answer. HasClosed (removed_from (ring_of self.old).at off list.now) answer.1) }
+        ensures entries { IfOk result (λ answer. AreEntries (ring_of self.old) answer.1.files) }
+        ensures err { OnErr result (self.new ≡ self.old) }
+    {
+        self.update_list(alloc, off, list, None)
+    }
+
+    /// Works a list off as [`Ring::update`] does, and gives each new file the tag of the same place, 0 for none
+    /// (io_uring_register(2), "IORING_REGISTER_FILES_UPDATE2"). The tags of the files that were replaced or removed are
+    /// those that they were installed with ([`CloseList::tags`]).
+    ///
+    /// # Errors
+    /// Those of [`Ring::update`], in their order. EINVAL comes at its place also where there are more tags than numbers, or
+    /// fewer, and where a number below 0 has a tag other than 0. The ring is then as before.
+    pub fn update_tagged(
+        &mut self,
+        alloc: Global,
+        off: u32,
+        list: &[i32],
+        tags: &[u64],
+    ) -> Result<(u32, CloseList), Errno>
+        ensures refused { IfSome (update_refusal (ring_of self.old) off list.now tags.now)
+            (λ errno. result ≡ Err errno) }
+        ensures only_refusal { IfNone (update_refusal (ring_of self.old) off list.now tags.now)
+            (IsOkUnless result ENOMEM) }
+        ensures ok { OnOk result
+            (ring_of self.new ≡ updated (ring_of self.old) off list.now tags.now) }
+        ensures count { IfOk result (λ answer. answer.0 ≡ length list.now) }
+        ensures closes { IfOk result
+            (λ answer. HasClosed (removed_from (ring_of self.old).at off list.now) answer.1) }
+        ensures entries { IfOk result (λ answer. AreEntries (ring_of self.old) answer.1.files) }
+        ensures err { OnErr result (self.new ≡ self.old) }
+    {
+        self.update_list(alloc, off, list, Some(tags))
+    }
 }
 
-// The table of the k-th list: a slot for each of its numbers.
+// The table of the k-th list: a slot for each of its numbers, and tags 0 where none are given.
 fn new_table(
     alloc: Global,
     catalogue: &Catalogue,
     k: u32,
     list: &[i32],
+    tags: Option<&[u64]>,
 ) -> Result<PlainTable, NoMemory>
     requires some { 0 < length list.now }
     requires few { length list.now ≤ MOST_SLOTS }
@@ -234,8 +346,8 @@ fn new_table(
     requires good { list_any (is_bad_file (length catalogue.now)) list.now ≡ false }
     ensures size { IfOk result (λ table. (state_of table).size ≡ length list.now) }
     ensures range { IfOk result (λ table. (state_of table).range ≡ (0, length list.now)) }
-    ensures files { IfOk result
-        (λ table. files_at (state_of table) ≡ files_after k (λ _. None) 0 list.now) }
+    ensures files { IfOk result (λ table. files_at (state_of table)
+        ≡ files_after k (λ _. None) 0 list.now (tags_for list.now tags.entry)) }
     ensures settled { IfOk result (λ table. IsSettled (state_of table)) }
 {
     let len = list.len() as u32;
@@ -245,6 +357,6 @@ fn new_table(
         table.dismiss();
         return Err(NoMemory);
     };
-    apply_list(&mut table, catalogue, k, 0, list, len, &mut closes);
+    apply_list(&mut table, catalogue, k, 0, list, tags, len, &mut closes);
     Ok(table)
 }

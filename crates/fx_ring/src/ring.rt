@@ -87,7 +87,8 @@ impl Ring {
         self.submissions
     }
 
-    /// How many calls of [`Ring::register`] and [`Ring::update`] were accepted, at most 65,535.
+    /// How many calls of [`Ring::register`], [`Ring::register_tagged`], [`Ring::update`] and [`Ring::update_tagged`] were
+    /// accepted, at most 65,535.
     pub fn registrations(&self) -> u32
         ensures { result ≡ (ring_of self.now).registrations }
     {

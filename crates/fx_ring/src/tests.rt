@@ -189,3 +189,103 @@ fn a_ring_accepts_65535_registrations(rt: HostRuntime) -> Result<(), Fail> {
     expect_left(&rt, alloc, ring, &[]);
     Ok(())
 }
+
+// Ends the ring, which has files with these tags, in order of mark.
+fn expect_tags_left<R: Abort>(rt: &R, alloc: Global, ring: Ring, tags: &[u64]) {
+    match ring.tear_down(alloc) {
+        Ok(closes) => {
+            assert_eq!(rt; closes.files().len(), tags.len());
+            for (file, tag) in closes.files().iter().zip(tags) {
+                assert_eq!(rt; file.tag, *tag);
+            }
+        }
+        Err((ring, _refused)) => {
+            ring.abandon();
+            panic!(rt; "a list of closes")
+        }
+    }
+}
+
+#[test]
+fn a_tag_stands_with_its_number_of_the_list(rt: HostRuntime) -> Result<(), Fail> {
+    let alloc = rt.alloc();
+    let mut ring = ring_of_one_file(alloc)?;
+    assert_eq!(rt;
+        ring.register_tagged(alloc, &[0, -1, 0], &[7, 0, 9]),
+        Ok(())
+    );
+    assert_eq!(rt;
+        (ring.size(), ring.range(), ring.registrations()),
+        (3, (0, 3), 1)
+    );
+    match ring.update_tagged(alloc, 0, &[0, 0, -2], &[0, 5, 0]) {
+        Ok((count, closes)) => {
+            assert_eq!(rt; count, 3);
+            expect_closed(&rt, &closes, &[(1, 0)]);
+            let tags = closes.tags(alloc)?;
+            assert_eq!(rt; tags.len(), 1);
+            assert!(rt; tags.iter().all(|tag| tag.user_data == 7));
+        }
+        Err(_errno) => panic!(rt; "an update"),
+    }
+    assert_eq!(rt; ring.registrations(), 2);
+    expect_tags_left(&rt, alloc, ring, &[9, 0, 5]);
+    Ok(())
+}
+
+#[test]
+fn a_list_without_tags_gives_none(rt: HostRuntime) -> Result<(), Fail> {
+    let alloc = rt.alloc();
+    let mut ring = ring_of_one_file(alloc)?;
+    assert_eq!(rt; ring.register_tagged(alloc, &[0, 0], &[1, 2]), Ok(()));
+    expect_updated(&rt, alloc, &mut ring, 0, &[0], &[(1, 0)]);
+    expect_tags_left(&rt, alloc, ring, &[2, 0]);
+    let mut ring = ring_of_one_file(alloc)?;
+    assert_eq!(rt; ring.register(alloc, &[0]), Ok(()));
+    expect_tags_left(&rt, alloc, ring, &[0]);
+    Ok(())
+}
+
+#[test]
+fn bad_tags_are_refused_at_their_place(rt: HostRuntime) -> Result<(), Fail> {
+    let alloc = rt.alloc();
+    let mut ring = ring_of_one_file(alloc)?;
+    for (list, tags, errno) in [
+        ([].as_slice(), [].as_slice(), Errno::EINVAL),
+        ([0].as_slice(), [].as_slice(), Errno::EINVAL),
+        ([0].as_slice(), [1, 2].as_slice(), Errno::EINVAL),
+        ([-1].as_slice(), [5].as_slice(), Errno::EINVAL),
+        ([0, -2].as_slice(), [0, 1].as_slice(), Errno::EINVAL),
+        ([9].as_slice(), [1, 2].as_slice(), Errno::EINVAL),
+        ([9, -1].as_slice(), [1, 2].as_slice(), Errno::EINVAL),
+        ([0; 257].as_slice(), [1].as_slice(), Errno::EINVAL),
+        ([9; 257].as_slice(), [1; 257].as_slice(), Errno::EMFILE),
+        ([9, -1].as_slice(), [1, 0].as_slice(), Errno::EBADF),
+    ] {
+        assert_eq!(rt; ring.register_tagged(alloc, list, tags), Err(errno));
+    }
+    match ring.update_tagged(alloc, 0, &[0], &[]) {
+        Ok(_updated) => panic!(rt; "a refusal"),
+        Err(errno) => assert_eq!(rt; errno, Errno::ENXIO),
+    }
+    assert_eq!(rt; ring.registrations(), 0);
+    assert_eq!(rt; ring.register_tagged(alloc, &[-1, 0], &[0, 3]), Ok(()));
+    assert_eq!(rt; ring.register_tagged(alloc, &[0], &[]), Err(Errno::EBUSY));
+    for (list, tags, errno) in [
+        ([0].as_slice(), [].as_slice(), Errno::EINVAL),
+        ([0].as_slice(), [1, 2].as_slice(), Errno::EINVAL),
+        ([-2].as_slice(), [1].as_slice(), Errno::EINVAL),
+        ([-1].as_slice(), [1].as_slice(), Errno::EINVAL),
+        ([9].as_slice(), [].as_slice(), Errno::EINVAL),
+        ([9].as_slice(), [1].as_slice(), Errno::EBADF),
+        ([-3].as_slice(), [0].as_slice(), Errno::EBADF),
+    ] {
+        match ring.update_tagged(alloc, 0, list, tags) {
+            Ok(_updated) => panic!(rt; "a refusal"),
+            Err(refusal) => assert_eq!(rt; refusal, errno),
+        }
+    }
+    assert_eq!(rt; ring.registrations(), 1);
+    expect_tags_left(&rt, alloc, ring, &[3]);
+    Ok(())
+}

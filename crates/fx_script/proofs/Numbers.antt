@@ -6,8 +6,7 @@ use Rattle.std.proofs.lemmas.Str.{digit_value_digit}
 use Rattle.std.proofs.lemmas.Str.Parse.{digits_value-take-le}
 use Rattle.std.specs.Char.{digit_value}
 use Rattle.std.specs.Str.Parse.{digits_value}
-use Rattle.fx_script.specs.declared.limits.TheConstants.{LARGEST_NUMBER}
-use Rattle.fx_script.specs.Words.{is_digit, is_decimal, number_of}
+use Rattle.fx_script.specs.Words.{is_digit, is_decimal, number_up_to}
 use Rattle.fx_script.proofs.Conditions.{and_left, and_right, le_of, refused_if}
 
 -- one digit more
@@ -23,8 +22,9 @@ value_more word i d inside digit is =
     ap (λ v. digits_value 10 (take i word) * 10 + v) (sym same) ∙ sym step
 
 -- a word whose first digits write too large a number is no number
-pub too_large : (word : List ℕ) (i n : ℕ) → n ≡ digits_value 10 (take i word) → LARGEST_NUMBER < n → None ≡ number_of word
-too_large word i n is large =
+pub too_large : (largest : ℕ) (word : List ℕ) (i n : ℕ) → n ≡ digits_value 10 (take i word) → largest < n
+    → None ≡ number_up_to largest word
+too_large largest word i n is large =
     let less : digits_value 10 (take i word) ≤ digits_value 10 word = digits_value-take-le 10 word i (omega arith) in
-    sym (refused_if (is_decimal word && nat_le (digits_value 10 word) LARGEST_NUMBER) (digits_value 10 word)
-    (λ holds. let small : digits_value 10 word ≤ LARGEST_NUMBER = le_of _ _ (and_right (is_decimal word) _ holds) in absurd (omega arith)))
+    sym (refused_if (is_decimal word && nat_le (digits_value 10 word) largest) (digits_value 10 word)
+    (λ holds. let small : digits_value 10 word ≤ largest = le_of _ _ (and_right (is_decimal word) _ holds) in absurd (omega arith)))

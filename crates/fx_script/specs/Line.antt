@@ -1,14 +1,14 @@
 -- What a line of a script says that isn't skipped, or its fault, the first that applies (this project's own).
-use Rattle.std.specs.Prelude.{ℕ, ℤ, Bool, true, false, List, [], ◌∷◌, codes, Option, Some, None, Result, Ok, Err, ok_or, if◌then◌else◌}
+use Rattle.std.specs.Prelude.{ℕ, ℤ, Bool, true, false, List, [], ◌∷◌, codes, Option, Some, None, option_map, Result, Ok, Err, ok_or, if◌then◌else◌}
 use Rattle.std.specs.Str.{bytes_eq}
 use Rattle.fx_base.specs.Name.{is_name}
 use Rattle.fx_chain.specs.declared.request.Target.TheVariants.{Slot, Any}
 use Rattle.fx_chain.specs.declared.flags.SqeFlags.{SqeFlags}
 use Rattle.fx_chain.specs.Operation.{Operation, Opens, Reads, Closes, Updates, Asked, no_flags, fixed_file, io_link, io_hardlink, both_flags}
 use Rattle.fx_script.specs.declared.fault.ScriptFault.{ScriptFault}
-use Rattle.fx_script.specs.declared.fault.ScriptFault.TheVariants.{UnknownCommand, LateFile, WordCount, BadWord, BadName, BadNumber, BadEntry}
+use Rattle.fx_script.specs.declared.fault.ScriptFault.TheVariants.{UnknownCommand, LateFile, WordCount, BadWord, BadName, BadNumber, BadEntry, BadTag}
 use Rattle.fx_script.specs.Instruction.{Instruction, MakesSparse, RegistersList, Unregisters, SetsRange, UpdatesRing}
-use Rattle.fx_script.specs.Words.{number_of, list_of}
+use Rattle.fx_script.specs.Words.{number_of, list_of, tag_list_of}
 
 pub data Line : Type 0 where
   -- the name, and the word that tells the bytes
@@ -30,10 +30,15 @@ number_in word = ok_or (number_of word) BadNumber
 abbrev pub list_in : List ℕ → Result (List ℤ) ScriptFault
 list_in word = ok_or (list_of word) BadEntry
 
+-- the tags that a last word writes, where there is one
+abbrev pub tags_in : Option (List ℕ) → Result (Option (List ℕ)) ScriptFault
+tags_in None = Ok None
+tags_in (Some word) = ok_or (option_map Some (tag_list_of word)) BadTag
+
 abbrev pub name_in : List ℕ → Result (List ℕ) ScriptFault
 name_in word = if is_name word then Ok word else Err BadName
 
--- the words behind a request's own: at most one
+-- the word behind those that must be there: at most one
 abbrev pub last_of : List (List ℕ) → Result (Option (List ℕ)) ScriptFault
 last_of [] = Ok None
 last_of (word ∷ []) = Ok (Some word)
@@ -71,9 +76,11 @@ sparse_of (n ∷ []) = do
 sparse_of words = Err WordCount
 
 abbrev pub register_of : List (List ℕ) → Result Line ScriptFault
-register_of (list ∷ []) = do
+register_of (list ∷ others) = do
+  last ← last_of others
   list ← list_in list
-  Ok (CommandLine (RegistersList list))
+  tags ← tags_in last
+  Ok (CommandLine (RegistersList list tags))
 register_of words = Err WordCount
 
 abbrev pub unregister_of : List (List ℕ) → Result Line ScriptFault
@@ -88,10 +95,12 @@ range_of (off ∷ len ∷ []) = do
 range_of words = Err WordCount
 
 abbrev pub regupdate_of : List (List ℕ) → Result Line ScriptFault
-regupdate_of (off ∷ list ∷ []) = do
+regupdate_of (off ∷ list ∷ others) = do
+  last ← last_of others
   off ← number_in off
   list ← list_in list
-  Ok (CommandLine (UpdatesRing off list))
+  tags ← tags_in last
+  Ok (CommandLine (UpdatesRing off list tags))
 regupdate_of words = Err WordCount
 
 abbrev pub open_at : List ℕ → List (List ℕ) → Result Line ScriptFault

@@ -13,10 +13,11 @@ use Rattle.fx_ring.specs.Registration.{range_refusal, register_refusal, register
 use Rattle.fx_ring.specs.Registration.{removed_from, sparse_refusal, unregister_refusal, update_refusal, updated}
 use Rattle.fx_ring.specs.Ring.{HasClosed, RingContents, RingState, files_of, new_ring, ring_of, without_table}
 use Rattle.fx_ring.specs.Submission.{IsOneHistory, Reported}
+use Rattle.fx_ring.specs.Tags.{tags_given}
 use Rattle.fx_ring.specs.declared.ring.TheConstants.{MOST_SUBMISSIONS}
 use Rattle.fx_script.specs.Instruction.{Instruction, MakesSparse, RegistersList, Unregisters, SetsRange, UpdatesRing, SubmitsAll}
 use Rattle.fx_script.specs.Script.{Meaning}
-use Rattle.fx_script.specs.Text.{result_line, closed_lines, refused_line, report_text, teardown_text, too_many_line}
+use Rattle.fx_script.specs.Text.{result_line, closes_text, refused_line, report_text, teardown_text, too_many_line}
 
 -- what a call answers that takes memory: its refusal, if there is one, and else that it was accepted or found no memory
 abbrev pub Answers : Option Errno → Type 0 → (Errno → Type 0) → Type 0
@@ -27,10 +28,10 @@ Answers None accepted refused = accepted ⊎ refused ENOMEM
 abbrev pub IsRefused : RingState → RingState → List ℕ → List ℕ → Errno → Type 0
 IsRefused old new word text errno = (new ≡ old) × (text ≡ result_line word (negated errno))
 
--- an accepted call that closed these files: its line, and one for each of them, in order of mark
+-- an accepted call that closed these files: its line, and those of the files, in order of mark
 abbrev pub PrintsClosed : RingState → List Closed → List ℕ → List ℕ → Type 0
 PrintsClosed ring files line text =
-    (closes : CloseListView) × HasClosed files closes × (text ≡ line ++ closed_lines ring.catalogue closes.files)
+    (closes : CloseListView) × HasClosed files closes × (text ≡ line ++ closes_text ring.catalogue closes.files)
 
 -- an accepted submission: its completions come from one legal history, and so do the files that it closed
 abbrev pub PrintsReport : RingContents → List Asked → RingContents → List ℕ → Type 0
@@ -43,9 +44,10 @@ Prints old (MakesSparse n) new text =
     Answers (sparse_refusal (ring_of old) n)
     ((ring_of new ≡ registered_sparse (ring_of old) n) × (text ≡ result_line (codes "sparse") (pos 0)))
     (IsRefused (ring_of old) (ring_of new) (codes "sparse") text)
-Prints old (RegistersList list) new text =
-    Answers (register_refusal (ring_of old) list)
-    ((ring_of new ≡ registered (ring_of old) list) × (text ≡ result_line (codes "register") (pos 0)))
+Prints old (RegistersList list tags) new text =
+    Answers (register_refusal (ring_of old) list (tags_given list tags))
+    ((ring_of new ≡ registered (ring_of old) list (tags_given list tags))
+    × (text ≡ result_line (codes "register") (pos 0)))
     (IsRefused (ring_of old) (ring_of new) (codes "register") text)
 Prints old Unregisters new text =
     Answers (unregister_refusal (ring_of old))
@@ -56,9 +58,9 @@ Prints old (SetsRange off len) new text =
     MatchOption (range_refusal (ring_of old) off len)
     ((ring_of new ≡ record (ring_of old) { range = (off, len) }) × (text ≡ result_line (codes "range") (pos 0)))
     (IsRefused (ring_of old) (ring_of new) (codes "range") text)
-Prints old (UpdatesRing off list) new text =
-    Answers (update_refusal (ring_of old) off list)
-    ((ring_of new ≡ updated (ring_of old) off list)
+Prints old (UpdatesRing off list tags) new text =
+    Answers (update_refusal (ring_of old) off list (tags_given list tags))
+    ((ring_of new ≡ updated (ring_of old) off list (tags_given list tags))
     × PrintsClosed (ring_of old) (removed_from (ring_of old).at off list) (result_line (codes "regupdate") (pos (length list))) text)
     (IsRefused (ring_of old) (ring_of new) (codes "regupdate") text)
 Prints old (SubmitsAll asked) new text =
@@ -68,7 +70,7 @@ Prints old (SubmitsAll asked) new text =
     (PrintsReport old asked new text))
     (λ fault. (ring_of new ≡ ring_of old) × (text ≡ refused_line fault))
 
--- at the end of the script: a line for each file that is left, in order of mark
+-- at the end of the script: the lines of the files that are left, in order of mark
 abbrev pub PrintsEnd : RingState → List ℕ → Type 0
 PrintsEnd ring text = (closes : CloseListView) × HasClosed (files_of ring) closes × (text ≡ teardown_text ring.catalogue closes.files)
 

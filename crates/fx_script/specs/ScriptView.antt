@@ -22,6 +22,11 @@ abbrev pub IsExpected : {A : Type 0} → LineError → Result A ScriptFault → 
 IsExpected (Fault fault) expected = expected ≡ Err fault
 IsExpected NoMemory expected = Unit {0}
 
+-- the answer is the one that is expected, where `view` shows what the code gave, want of memory aside
+abbrev pub GivesOrFails : {A B : Type 0} → (A → B) → Result A LineError → Result B ScriptFault → Type 0
+GivesOrFails view (Ok x) expected = expected ≡ Ok (view x)
+GivesOrFails view (Err error) expected = IsExpected error expected
+
 -- the answer and what was read then are those that are expected, want of memory aside
 abbrev pub Takes : {A : Type 0} → Result A ScriptFault → Result (Unit {0}) LineError → A → Type 0
 Takes expected (Ok _) new = expected ≡ Ok new

@@ -7,6 +7,8 @@ use Rattle.fx_base.specs.declared.mark.Mark.{Mark}
 use Rattle.fx_base.specs.declared.mark.Mark.TheVariants.{Registered, Submitted}
 use Rattle.fx_base.specs.declared.open_file.Closed.{Closed}
 use Rattle.fx_base.specs.Catalogue.{FileEntry, name_at}
+use Rattle.fx_base.specs.Tags.{tags_of}
+use Rattle.fx_base.specs.declared.tag_completion.TagCompletion.{TagCompletion}
 use Rattle.fx_chain.specs.declared.fault.CutFault.{CutFault}
 use Rattle.fx_chain.specs.declared.fault.CutKind.{CutKind}
 use Rattle.fx_chain.specs.declared.fault.CutKind.TheVariants.{BadFlags, LongRead, LongUpdate, ChainTooLong, TooManyFiles, TooManyChains}
@@ -64,10 +66,22 @@ name_of catalogue entry = unwrap_or (name_at catalogue entry) []
 abbrev pub closed_lines : List FileEntry → List Closed → List ℕ
 closed_lines catalogue files = flat_map (λ file. closed_line file.mark (name_of catalogue file.entry)) files
 
+-- `tag T`
+abbrev pub tag_line : TagCompletion → List ℕ
+tag_line completion = codes "tag " ++ (decimal completion.user_data ++ codes "\n")
+
+-- a line for each completion of a tag
+abbrev pub tag_lines : List TagCompletion → List ℕ
+tag_lines completions = flat_map tag_line completions
+
+-- the lines of the files that were closed, and behind them those of their tags
+abbrev pub closes_text : List FileEntry → List Closed → List ℕ
+closes_text catalogue files = closed_lines catalogue files ++ tag_lines (tags_of files)
+
 -- the lines of a submission: its completions, and the files that were closed
 abbrev pub report_text : List FileEntry → Reported → List ℕ
-report_text catalogue report = completion_lines report.completions ++ closed_lines catalogue report.closes.files
+report_text catalogue report = completion_lines report.completions ++ closes_text catalogue report.closes.files
 
--- `teardown` and a line for each file that was left, where files were left
+-- `teardown` and the lines of the files that were left, where files were left
 abbrev pub teardown_text : List FileEntry → List Closed → List ℕ
-teardown_text catalogue files = if length files == 0 then [] else codes "teardown\n" ++ closed_lines catalogue files
+teardown_text catalogue files = if length files == 0 then [] else codes "teardown\n" ++ closes_text catalogue files

@@ -50,6 +50,9 @@ pub enum ScriptFault {
     /// An entry of the list is neither a number nor `-` and a number other than 0.
     #[error("bad-entry")]
     BadEntry,
+    /// A tag of the list is no number up to 18,446,744,073,709,551,615, written in decimal without a leading zero.
+    #[error("bad-tag")]
+    BadTag,
     /// Requests follow the last `submit`. It stands on the line of the first of them, and behind all other faults.
     #[error("unsubmitted")]
     Unsubmitted,

@@ -3,15 +3,16 @@
 
 ghost use Rattle.std.specs.Prelude.{◌≡◌, ℕ, List};
 ghost use Rattle.fx_script.specs.Laws.{IsScriptOrFaulty};
-ghost use Rattle.fx_script.specs.declared.limits.TheConstants.{LONGEST_SCRIPT, LONGEST_LINE, LARGEST_NUMBER};
+ghost use Rattle.fx_script.specs.declared.limits.TheConstants.{LONGEST_SCRIPT, LONGEST_LINE, LARGEST_NUMBER, LARGEST_TAG};
 ghost use Rattle.fx_script.specs.declared.input.TheConstants.{MOST_TURNS};
 
-/// A script has at most 4,194,304 bytes, each line at most 10,000, and no number above 2,147,483,647. A reader is asked
-/// for more at most 8,388,608 times.
+/// A script has at most 4,194,304 bytes, each line at most 10,000, no number above 2,147,483,647, and no tag above
+/// 18,446,744,073,709,551,615. A reader is asked for more at most 8,388,608 times.
 pub fn limits_are_numbers()
     ensures longest_script { LONGEST_SCRIPT ≡ 4194304 }
     ensures longest_line { LONGEST_LINE ≡ 10000 }
     ensures largest_number { LARGEST_NUMBER ≡ 2147483647 }
+    ensures largest_tag { LARGEST_TAG ≡ 18446744073709551615 }
     ensures most_turns { MOST_TURNS ≡ 8388608 }
 {}
 

@@ -17,12 +17,13 @@ mod reader;
 mod request;
 mod runner;
 mod script;
+mod tags;
 mod text;
 mod words;
 
 pub use command::Command;
 pub use fault::{ScriptError, ScriptFault};
-pub use limits::{LARGEST_NUMBER, LONGEST_LINE, LONGEST_SCRIPT};
+pub use limits::{LARGEST_NUMBER, LARGEST_TAG, LONGEST_LINE, LONGEST_SCRIPT};
 pub use play_fault::PlayFault;
 pub use player::play;
 pub use runner::run;

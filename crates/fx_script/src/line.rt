@@ -5,29 +5,32 @@ ghost use Rattle.fx_script.specs.Line.{file_of, sparse_of, register_of, unregist
 ghost use Rattle.fx_script.specs.LineView.{line_in};
 ghost use Rattle.fx_script.specs.Lines.{is_printable, words};
 ghost use Rattle.fx_script.specs.Parts.{parts_left};
+ghost use Rattle.fx_script.specs.ScriptView.{GivesOrFails};
 
-use crate::fault::ScriptFault;
+use crate::fault::{LineError, ScriptFault};
 use crate::list::List;
 use crate::parts::Parts;
 use crate::request::{self, Action};
-use crate::words::{end, number, text, word};
+use crate::tags::tags;
+use crate::words::{end, last, number, text, word};
 use fx_chain::SqeFlags;
+use std::alloc::Global;
 
-// What a line says that isn't skipped. Words stay where they are, so no want of memory can make it fail.
-#[derive(Clone, Copy)]
+// What a line says that isn't skipped. Words stay where they are, and tags alone are kept as numbers.
+#[derive(Drop)]
 pub enum Line<'a> {
     // Adds a file to the catalogue, whose name and bytes are still to be looked at.
     File { name: &'a str, hex: &'a [u8] },
     // Registers empty slots.
     Sparse(u32),
-    // Registers the files of a list.
-    Register(List<'a>),
+    // Registers the files of a list, perhaps with tags.
+    Register(List<'a>, Option<Vec<u64>>),
     // Takes the table away.
     Unregister,
     // Sets the allocation range.
     Range(u32, u32),
-    // Updates the table.
-    Update(u32, List<'a>),
+    // Updates the table, perhaps with tags.
+    Update(u32, List<'a>, Option<Vec<u64>>),
     // Asks for something at the next submission, by a request with these flags.
     Request(Action<'a>, SqeFlags),
     // Submits.
@@ -55,12 +58,13 @@ fn sparse<'a>(words: &mut Parts<'a>) -> Result<Line<'a>, ScriptFault>
     Ok(Line::Sparse(number(n)?))
 }
 
-fn register<'a>(words: &mut Parts<'a>) -> Result<Line<'a>, ScriptFault>
-    ensures { Gives line_in result (register_of (parts_left words.old)) }
+fn register<'a>(alloc: Global, words: &mut Parts<'a>) -> Result<Line<'a>, LineError>
+    ensures { GivesOrFails line_in result (register_of (parts_left words.old)) }
 {
     let list = word(words)?;
-    end(words)?;
-    Ok(Line::Register(List::new(list)?))
+    let last = last(words)?;
+    let list = List::new(list)?;
+    Ok(Line::Register(list, tags(alloc, last)?))
 }
 
 fn unregister<'a>(words: &mut Parts<'a>) -> Result<Line<'a>, ScriptFault>
@@ -79,13 +83,15 @@ fn range<'a>(words: &mut Parts<'a>) -> Result<Line<'a>, ScriptFault>
     Ok(Line::Range(number(off)?, number(len)?))
 }
 
-fn regupdate<'a>(words: &mut Parts<'a>) -> Result<Line<'a>, ScriptFault>
-    ensures { Gives line_in result (regupdate_of (parts_left words.old)) }
+fn regupdate<'a>(alloc: Global, words: &mut Parts<'a>) -> Result<Line<'a>, LineError>
+    ensures { GivesOrFails line_in result (regupdate_of (parts_left words.old)) }
 {
     let off = word(words)?;
     let list = word(words)?;
-    end(words)?;
-    Ok(Line::Update(number(off)?, List::new(list)?))
+    let last = last(words)?;
+    let off = number(off)?;
+    let list = List::new(list)?;
+    Ok(Line::Update(off, list, tags(alloc, last)?))
 }
 
 fn submit<'a>(words: &mut Parts<'a>) -> Result<Line<'a>, ScriptFault>
@@ -112,32 +118,32 @@ fn request_line<'a>(command: &[u8], words: &mut Parts<'a>) -> Result<Line<'a>, S
     }
 }
 
-// What a line says that isn't skipped, or its fault. `late` tells whether a line other than a `file` line stands in
-// front of it.
-pub fn parse(line: &[u8], late: bool) -> Result<Line<'_>, ScriptFault>
+// What a line says that isn't skipped, or its fault; tags take memory. `late` tells whether a line other than a `file` line
+// stands in front of it.
+pub fn parse(alloc: Global, line: &[u8], late: bool) -> Result<Line<'_>, LineError>
     requires { is_printable line.now ≡ true }
-    ensures { Gives line_in result (line_of late (words line.now)) }
+    ensures { GivesOrFails line_in result (line_of late (words line.now)) }
 {
     let mut words = Parts::new(line, b' ');
     let Some(command) = words.next() else {
-        return Err(ScriptFault::UnknownCommand);
+        return Err(LineError::Fault(ScriptFault::UnknownCommand));
     };
     let words = &mut words;
     if command == b"file".as_slice() {
-        file(late, words)
+        Ok(file(late, words)?)
     } else if command == b"sparse".as_slice() {
-        sparse(words)
+        Ok(sparse(words)?)
     } else if command == b"register".as_slice() {
-        register(words)
+        register(alloc, words)
     } else if command == b"unregister".as_slice() {
-        unregister(words)
+        Ok(unregister(words)?)
     } else if command == b"range".as_slice() {
-        range(words)
+        Ok(range(words)?)
     } else if command == b"regupdate".as_slice() {
-        regupdate(words)
+        regupdate(alloc, words)
     } else if command == b"submit".as_slice() {
-        submit(words)
+        Ok(submit(words)?)
     } else {
-        request_line(command, words)
+        Ok(request_line(command, words)?)
     }
 }

@@ -1,5 +1,5 @@
 //! What each command prints: the answer of the ring to it.
-ghost use Rattle.std.specs.Prelude.{◌≡◌, ◌≤◌, IfOk, OnOk, pos, string_bytes};
+ghost use Rattle.std.specs.Prelude.{◌≡◌, ◌≤◌, IfOk, OnOk, Some, None, pos, string_bytes};
 ghost use Rattle.fx_table.specs.declared.limits.TheConstants.{MAX_PASSES};
 ghost use Rattle.fx_chain.specs.Completed.{negated};
 ghost use Rattle.fx_chain.specs.Operation.{all_asked};
@@ -10,7 +10,7 @@ ghost use Rattle.fx_script.specs.Text.{result_line};
 
 use crate::command::Command;
 use crate::text::{
-    refused_line, report_text, result_line, teardown_text, too_many_line, with_closed_lines,
+    refused_line, report_text, result_line, teardown_text, too_many_line, with_closes,
 };
 use fx_base::{Errno, NoMemory};
 use fx_chain::{Gate, Request};
@@ -38,9 +38,24 @@ fn sparse(alloc: Global, ring: &mut Ring, n: u32) -> Result<String, NoMemory>
 
 fn register(alloc: Global, ring: &mut Ring, list: &[i32]) -> Result<String, NoMemory>
     ensures { IfOk result (λ text.
-        Prints ring.old (RegistersList list.now) ring.new (string_bytes text)) }
+        Prints ring.old (RegistersList list.now None) ring.new (string_bytes text)) }
 {
     match ring.register(alloc, list) {
+        Ok(()) => result_line(alloc, "register", 0),
+        Err(errno) => refusal(alloc, "register", errno),
+    }
+}
+
+fn register_tagged(
+    alloc: Global,
+    ring: &mut Ring,
+    list: &[i32],
+    tags: &[u64],
+) -> Result<String, NoMemory>
+    ensures { IfOk result (λ text.
+        Prints ring.old (RegistersList list.now (Some tags.now)) ring.new (string_bytes text)) }
+{
+    match ring.register_tagged(alloc, list, tags) {
         Ok(()) => result_line(alloc, "register", 0),
         Err(errno) => refusal(alloc, "register", errno),
     }
@@ -52,7 +67,7 @@ fn unregister(alloc: Global, ring: &mut Ring) -> Result<String, NoMemory>
     match ring.unregister(alloc) {
         Ok(closes) => {
             let line = result_line(alloc, "unregister", 0)?;
-            with_closed_lines(alloc, line.as_str(), ring.catalogue(), closes.files())
+            with_closes(alloc, line.as_str(), ring.catalogue(), &closes)
         }
         Err(errno) => refusal(alloc, "unregister", errno),
     }
@@ -70,12 +85,31 @@ fn range(alloc: Global, ring: &mut Ring, off: u32, len: u32) -> Result<String, N
 
 fn update(alloc: Global, ring: &mut Ring, off: u32, list: &[i32]) -> Result<String, NoMemory>
     ensures { IfOk result (λ text.
-        Prints ring.old (UpdatesRing off list.now) ring.new (string_bytes text)) }
+        Prints ring.old (UpdatesRing off list.now None) ring.new (string_bytes text)) }
 {
     match ring.update(alloc, off, list) {
         Ok((count, closes)) => {
             let line = result_line(alloc, "regupdate", i64::from(count))?;
-            with_closed_lines(alloc, line.as_str(), ring.catalogue(), closes.files())
+            with_closes(alloc, line.as_str(), ring.catalogue(), &closes)
+        }
+        Err(errno) => refusal(alloc, "regupdate", errno),
+    }
+}
+
+fn update_tagged(
+    alloc: Global,
+    ring: &mut Ring,
+    off: u32,
+    list: &[i32],
+    tags: &[u64],
+) -> Result<String, NoMemory>
+    ensures { IfOk result (λ text.
+        Prints ring.old (UpdatesRing off list.now (Some tags.now)) ring.new (string_bytes text)) }
+{
+    match ring.update_tagged(alloc, off, list, tags) {
+        Ok((count, closes)) => {
+            let line = result_line(alloc, "regupdate", i64::from(count))?;
+            with_closes(alloc, line.as_str(), ring.catalogue(), &closes)
         }
         Err(errno) => refusal(alloc, "regupdate", errno),
     }
@@ -118,10 +152,16 @@ pub fn command_text<T: FileTable, G: Gate>(
 {
     match command {
         Command::Sparse(n) => sparse(alloc, ring, *n),
-        Command::Register(list) => register(alloc, ring, list.as_slice()),
+        Command::Register(list, None) => register(alloc, ring, list.as_slice()),
+        Command::Register(list, Some(tags)) => {
+            register_tagged(alloc, ring, list.as_slice(), tags.as_slice())
+        }
         Command::Unregister => unregister(alloc, ring),
         Command::Range(off, len) => range(alloc, ring, *off, *len),
-        Command::Update(off, list) => update(alloc, ring, *off, list.as_slice()),
+        Command::Update(off, list, None) => update(alloc, ring, *off, list.as_slice()),
+        Command::Update(off, list, Some(tags)) => {
+            update_tagged(alloc, ring, *off, list.as_slice(), tags.as_slice())
+        }
         Command::Submit(requests) => {
             submit::<T, G>(rt, alloc, ring, requests.as_slice(), workers, gate)
         }
@@ -137,7 +177,7 @@ pub fn end_text(alloc: Global, ring: &mut Ring) -> Result<String, NoMemory>
         return Ok(String::new(alloc));
     }
     match ring.unregister(alloc) {
-        Ok(closes) => teardown_text(alloc, ring.catalogue(), closes.files()),
+        Ok(closes) => teardown_text(alloc, ring.catalogue(), &closes),
         Err(_refused) => Err(NoMemory),
     }
 }

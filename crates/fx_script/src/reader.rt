@@ -138,12 +138,16 @@ impl Reader {
         match line {
             Line::File { name, hex } => self.take_file(alloc, name, hex),
             Line::Sparse(slots) => self.take_command(Command::Sparse(slots)),
-            Line::Register(list) => self.take_command(Command::Register(list.entries(alloc)?)),
+            Line::Register(list, tags) => self.take_command(Command::Register(
+                list.entries(alloc)?,
+                tags,
+            )),
             Line::Unregister => self.take_command(Command::Unregister),
             Line::Range(off, len) => self.take_command(Command::Range(off, len)),
-            Line::Update(off, list) => self.take_command(Command::Update(
+            Line::Update(off, list, tags) => self.take_command(Command::Update(
                 off,
                 list.entries(alloc)?,
+                tags,
             )),
             Line::Request(action, flags) => {
                 let op = op_of(alloc, action)?;
@@ -171,7 +175,7 @@ impl Reader {
             return Ok(());
         }
         let late = !(self.commands.is_empty() && self.waiting.is_empty());
-        let line = parse(text, late)?;
+        let line = parse(alloc, text, late)?;
         self.take_line(alloc, n, line)
     }
 }

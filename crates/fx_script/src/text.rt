@@ -2,10 +2,11 @@
 ghost use Rattle.std.specs.Prelude.{◌≡◌, ◌<◌, ◌++◌, IfOk, OnOk, All, codes, length, slice_index, string_bytes};
 ghost use Rattle.hex.specs.Hex.{encode_lower, lower_digits};
 ghost use Rattle.fx_chain.specs.Completed.{completed_of, all_completed};
+ghost use Rattle.fx_base.specs.Tags.{tags_of};
 ghost use Rattle.fx_ring.specs.Submission.{reported};
-ghost use Rattle.fx_script.specs.Text.{result_line, got_text, kind_name, refused_line, too_many_line, completion_line, completion_lines, closed_line, closed_lines, report_text, teardown_text};
+ghost use Rattle.fx_script.specs.Text.{result_line, got_text, kind_name, refused_line, too_many_line, completion_line, completion_lines, closed_line, closed_lines, closes_text, report_text, tag_line, tag_lines, teardown_text};
 
-use fx_base::{Catalogue, Closed, Mark, NoMemory};
+use fx_base::{Catalogue, CloseList, Closed, Mark, NoMemory, TagCompletion};
 use fx_chain::{Completion, CutFault, CutKind};
 use fx_ring::Report;
 use std::alloc::{AllocError, Global};
@@ -15,6 +16,9 @@ const COMPLETION_ROOM: usize = 50;
 
 /// How many bytes the line of a closed file has: four numbers and a name.
 const CLOSED_ROOM: usize = 90;
+
+/// How many bytes the line of a tag has: a number of at most twenty digits.
+const TAG_ROOM: usize = 25;
 
 // The line of a command: its word and its result, 0 or more, or a negated error.
 pub fn result_line(alloc: Global, word: &str, res: i64) -> Result<String, NoMemory>
@@ -115,6 +119,42 @@ fn push_closed_lines(
     Ok(())
 }
 
+// Puts the line of a tag behind a text.
+fn push_tag(text: &mut String, completion: &TagCompletion) -> Result<(), AllocError>
+    ensures { OnOk result
+        (string_bytes text.new ≡ string_bytes text.old ++ tag_line completion.now) }
+{
+    let tag = completion.user_data;
+    write!(text, "tag {tag}\n")
+}
+
+// Puts a line for each completion of a tag behind a text, in their order.
+fn push_tags(text: &mut String, completions: &[TagCompletion]) -> Result<(), AllocError>
+    ensures { OnOk result
+        (string_bytes text.new ≡ string_bytes text.old ++ tag_lines completions.now) }
+{
+    for completion in completions {
+        push_tag(text, completion)?;
+    }
+    Ok(())
+}
+
+// Puts the lines of closed files behind a text, and behind them those of their tags. Each entry is in the catalogue.
+fn push_closes(
+    text: &mut String,
+    catalogue: &Catalogue,
+    files: &[Closed],
+    tags: &[TagCompletion],
+) -> Result<(), AllocError>
+    requires entries { All (λ file. file.entry < length catalogue.now) files.now }
+    requires tags { tags.now ≡ tags_of files.now }
+    ensures { OnOk result (string_bytes text.new
+        ≡ string_bytes text.old ++ closes_text catalogue.now files.now) }
+{
+    push_closed_lines(text, catalogue, files)?;
+    push_tags(text, tags)
+}
+
 // The name of a fault of a submission.
 fn kind_name(kind: CutKind) -> &'static str
     ensures { result.now ≡ kind_name kind }
@@ -161,11 +201,18 @@ fn room_of(completions: &[Completion]) -> usize {
     room
 }
 
-/// The text of a submission: a line for each completion, and one for each file that was closed. The caller has seen that
-/// each closed entry is below [`Catalogue::len`], as it is with the catalogue of the ring that gave the report.
+// The room for a line for each closed file and for each tag.
+fn room_of_closes(files: &[Closed], tags: &[TagCompletion]) -> usize {
+    let lines = files.len().saturating_mul(CLOSED_ROOM);
+    lines.saturating_add(tags.len().saturating_mul(TAG_ROOM))
+}
+
+/// The text of a submission: a line for each completion, one for each file that was closed, and one for each of their
+/// tags. The caller has seen that each closed entry is below [`Catalogue::len`], as it is with the catalogue of the ring that
+/// gave the report.
 ///
 /// # Errors
-/// `NoMemory` where the memory of the text is refused.
+/// `NoMemory` where the memory of the text or of the tags is refused.
 pub fn report_text(
     alloc: Global,
     report: &Report,
@@ -177,49 +224,47 @@ pub fn report_text(
 {
     let completions = report.completions.as_slice();
     let files = report.closes.files();
-    let room = files
-        .len()
-        .saturating_mul(CLOSED_ROOM)
-        .saturating_add(room_of(completions));
+    let tags = report.closes.tags(alloc)?;
+    let room = room_of_closes(files, tags.as_slice()).saturating_add(room_of(completions));
     let mut text = String::with_capacity(alloc, room)?;
     push_completions(&mut text, completions)?;
-    push_closed_lines(&mut text, catalogue, files)?;
+    push_closes(&mut text, catalogue, files, tags.as_slice())?;
     Ok(text)
 }
 
-// A first line, and a line for each closed file. Each entry is in the catalogue.
-pub fn with_closed_lines(
+// A first line, and the lines of closed files and of their tags. Each entry is in the catalogue.
+pub fn with_closes(
     alloc: Global,
     first: &str,
     catalogue: &Catalogue,
-    files: &[Closed],
+    closes: &CloseList,
 ) -> Result<String, NoMemory>
-    requires { All (λ file. file.entry < length catalogue.now) files.now }
+    requires { All (λ file. file.entry < length catalogue.now) closes.now.files }
     ensures { IfOk result (λ text.
-        string_bytes text ≡ first.now ++ closed_lines catalogue.now files.now) }
+        string_bytes text ≡ first.now ++ closes_text catalogue.now closes.now.files) }
 {
-    let room = files
-        .len()
-        .saturating_mul(CLOSED_ROOM)
-        .saturating_add(first.len());
+    let files = closes.files();
+    let tags = closes.tags(alloc)?;
+    let room = room_of_closes(files, tags.as_slice()).saturating_add(first.len());
     let mut text = String::with_capacity(alloc, room)?;
     text.push_str(first)?;
-    push_closed_lines(&mut text, catalogue, files)?;
+    push_closes(&mut text, catalogue, files, tags.as_slice())?;
     Ok(text)
 }
 
-// The lines of the end of a script: `teardown` and a line for each file that was left in the table, or no line where
-// none was left. Each entry is in the catalogue.
+// The lines of the end of a script: `teardown` and the lines of the files that were left in the table, or no line where none
+// was left. Each entry is in the catalogue.
 pub fn teardown_text(
     alloc: Global,
     catalogue: &Catalogue,
-    files: &[Closed],
+    closes: &CloseList,
 ) -> Result<String, NoMemory>
-    requires { All (λ file. file.entry < length catalogue.now) files.now }
-    ensures { IfOk result (λ text. string_bytes text ≡ teardown_text catalogue.now files.now) }
+    requires { All (λ file. file.entry < length catalogue.now) closes.now.files }
+    ensures { IfOk result (λ text.
+        string_bytes text ≡ teardown_text catalogue.now closes.now.files) }
 {
-    if files.is_empty() {
+    if closes.files().is_empty() {
         return Ok(String::new(alloc));
     }
-    with_closed_lines(alloc, "teardown\n", catalogue, files)
+    with_closes(alloc, "teardown\n", catalogue, closes)
 }

@@ -1,5 +1,5 @@
 //! The table as a library: one thread reads a file that it holds, and another replaces it meanwhile. The last of them
-//! that lets go of the file closes it: the reader.
+//! that lets go of the file closes it: the reader. Then its tag is told, by which a program learns that it is gone.
 #![tactic(auto)]
 
 ghost use Rattle.std.specs.Prelude.{IfOk};
@@ -15,6 +15,9 @@ use fx_table::FileTable;
 use std::alloc::Global;
 use std::sync::Wait;
 use std::thread::{Threads, join_mut};
+
+// The tag of the file that is there at first.
+const TAG: u64 = 7;
 
 // Puts the second file at slot 0, and gives what is to be closed now: the file that was there, where nobody holds it.
 fn replace<T: FileTable, R: Wait>(
@@ -32,7 +35,7 @@ fn replace<T: FileTable, R: Wait>(
     if table.numbers_left(pass) == 0 || table.size() == 0 || catalogue.len() < 2 {
         return None;
     }
-    let file = catalogue.open(1, Mark::Registered { k: 1, i: 1 });
+    let file = catalogue.open(1, Mark::Registered { k: 1, i: 1 }, 0);
     let removed = table.put(rt, pass, 0, file)?;
     table.retire(rt, pass, removed)
 }
@@ -99,7 +102,7 @@ fn one_file(alloc: Global, catalogue: &Catalogue) -> Result<PlainTable, NoMemory
         plain.abandon();
         return Err(NoMemory);
     }
-    let file = catalogue.open(0, Mark::Registered { k: 1, i: 0 });
+    let file = catalogue.open(0, Mark::Registered { k: 1, i: 0 }, TAG);
     plain.put(0, 1, file);
     settled(plain)
 }
@@ -179,8 +182,21 @@ fn main(rt: HostRuntime) -> Result<(), NoMemory> {
     }
     let read = bytes?.len();
     let (writer, reader) = (by_writer.files().len(), by_reader.files().len());
+    let (told_by_writer, told_by_reader) = (by_writer.tags(alloc)?, by_reader.tags(alloc)?);
     // A line that can't be written changes nothing.
     let _ = println!(rt; "the reader read {read} bytes of the file that it holds");
     let _ = println!(rt; "files closed by the writer: {writer}, by the reader: {reader}");
+    for tag in &told_by_writer {
+        let _ = println!(rt;
+            "told by the writer: the file with tag {} is gone",
+            tag.user_data
+        );
+    }
+    for tag in &told_by_reader {
+        let _ = println!(rt;
+            "told by the reader: the file with tag {} is gone",
+            tag.user_data
+        );
+    }
     Ok(())
 }

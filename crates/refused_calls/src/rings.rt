@@ -1,5 +1,5 @@
 //! The calls of a ring that take memory.
-use crate::setting::{new_ring, requests, ring_with};
+use crate::setting::{new_ring, requests, ring_with, tagged_ring};
 use crate::{ATTEMPTS, tell};
 use fx_base::NoMemory;
 use fx_chain::OpenGate;
@@ -79,6 +79,64 @@ pub(crate) fn update<R: Print>(rt: &R, alloc: Global) -> Option<()> {
         }
     }
     end(rt, alloc, ring);
+    Some(())
+}
+
+/// Registers a list of two files with tags and an empty slot.
+pub(crate) fn register_tagged<R: Print>(rt: &R, alloc: Global) -> Option<()> {
+    let mut ring = new_ring(alloc)?;
+    for _ in 0..ATTEMPTS {
+        match ring.register_tagged(alloc, &[0, -1, 1], &[7, 0, 9]) {
+            Ok(()) => {
+                tell::done(rt, "register_tagged");
+                break;
+            }
+            Err(errno) => refused(rt, "register_tagged", errno, &ring),
+        }
+    }
+    end(rt, alloc, ring);
+    Some(())
+}
+
+/// Replaces the tagged file at slot 0, installs one without a tag at slot 1, and empties slot 2.
+pub(crate) fn update_tagged<R: Print>(rt: &R, alloc: Global) -> Option<()> {
+    let mut ring = tagged_ring(alloc)?;
+    for _ in 0..ATTEMPTS {
+        match ring.update_tagged(alloc, 0, &[1, 0, -1], &[8, 0, 0]) {
+            Ok((count, closes)) => {
+                tell::counted(rt, "update_tagged", count);
+                tell::closes(rt, &closes);
+                break;
+            }
+            Err(errno) => refused(rt, "update_tagged", errno, &ring),
+        }
+    }
+    end(rt, alloc, ring);
+    Some(())
+}
+
+/// The completions of the tags of two closed files.
+pub(crate) fn tags<R: Print>(rt: &R, alloc: Global) -> Option<()> {
+    let closes = match tagged_ring(alloc)?.tear_down(alloc) {
+        Ok(closes) => closes,
+        Err((ring, NoMemory)) => {
+            ring.abandon();
+            return None;
+        }
+    };
+    for _ in 0..ATTEMPTS {
+        match closes.tags(alloc) {
+            Ok(tags) => {
+                tell::tags(rt, &tags);
+                break;
+            }
+            Err(fault) => {
+                tell::refused(rt, "tags", fault);
+                tell::closes(rt, &closes);
+            }
+        }
+    }
+    tell::closes(rt, &closes);
     Some(())
 }
 

@@ -20,7 +20,7 @@ file a.txt 68656c6c6f
 file b.txt -
 sparse 2
 unregister
-register 0,-1
+register 0,-1 7,0
 range 1 1
 regupdate 0 -2,1
 open a.txt at 0 link

@@ -35,10 +35,23 @@ pub(crate) fn ring_with(alloc: Global, list: &[i32], off: u32, len: u32) -> Opti
     Some(ring)
 }
 
+/// A ring with a table of a file with tag 7, an empty slot, and a file with tag 9.
+pub(crate) fn tagged_ring(alloc: Global) -> Option<Ring> {
+    let mut ring = new_ring(alloc)?;
+    if ring
+        .register_tagged(alloc, &[0, -1, 1], &[7, 0, 9])
+        .is_err()
+    {
+        ring.abandon();
+        return None;
+    }
+    Some(ring)
+}
+
 // Puts an entry at a slot, under a fresh number.
 fn put(plain: &mut PlainTable, catalogue: &Catalogue, slot: u32, number: u32, entry: u8) {
     if slot < plain.size() && plain.is_fresh(number) && u32::from(entry) < catalogue.len() {
-        let file = catalogue.open(entry, Mark::Registered { k: 1, i: slot });
+        let file = catalogue.open(entry, Mark::Registered { k: 1, i: slot }, 0);
         let _replaced = plain.put(slot, number, file);
     }
 }

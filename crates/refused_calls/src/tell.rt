@@ -1,5 +1,5 @@
 //! What the program tells. Nothing of it takes memory but its end, and what can't be written changes nothing.
-use fx_base::{Catalogue, CloseList, Closed, Mark};
+use fx_base::{Catalogue, CloseList, Mark, TagCompletion};
 use fx_plain::PlainTable;
 use fx_ring::{Report, Ring};
 use fx_script::Script;
@@ -28,9 +28,8 @@ pub(crate) fn text<R: Print>(rt: &R, text: &[u8]) {
 }
 
 /// A file of a list or at a slot, by its mark and its entry.
-fn file<R: Print>(rt: &R, word: &str, file: Closed) {
-    let entry = file.entry;
-    let _ = match file.mark {
+fn file<R: Print>(rt: &R, word: &str, mark: Mark, entry: u8) {
+    let _ = match mark {
         Mark::Registered { k, i } => println!(rt; "{word} r{k}.{i} {entry}"),
         Mark::Submitted {
             submission: s,
@@ -41,10 +40,20 @@ fn file<R: Print>(rt: &R, word: &str, file: Closed) {
     };
 }
 
-/// The files that were closed.
+/// The files that were closed, each with its tag, where it has one.
 pub(crate) fn closes<R: Print>(rt: &R, closes: &CloseList) {
     for closed in closes.files() {
-        file(rt, "closed", *closed);
+        file(rt, "closed", closed.mark, closed.entry);
+        if closed.tag != 0 {
+            let _ = println!(rt; "with tag {}", closed.tag);
+        }
+    }
+}
+
+/// The completions of tags.
+pub(crate) fn tags<R: Print>(rt: &R, tags: &Vec<TagCompletion>) {
+    for tag in tags {
+        let _ = println!(rt; "tag {} {} {}", tag.user_data, tag.res, tag.flags);
     }
 }
 
@@ -81,7 +90,7 @@ pub(crate) fn table<R: Print>(rt: &R, table: &PlainTable) {
     for slot in 0..table.size() {
         if let (Some(mark), Some(entry)) = (table.mark_at(slot), table.entry_at(slot)) {
             let _ = print!(rt; "slot {slot} ");
-            file(rt, "has", Closed { mark, entry });
+            file(rt, "has", mark, entry);
         }
     }
 }

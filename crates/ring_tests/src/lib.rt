@@ -21,3 +21,5 @@ mod refusing;
 mod requests;
 #[cfg(test)]
 mod setting;
+#[cfg(test)]
+mod tags;

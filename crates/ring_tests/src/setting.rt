@@ -61,6 +61,33 @@ pub(crate) fn full_ring<R: Abort>(rt: &R, alloc: Global, list: &[i32]) -> Result
     Ok(ring)
 }
 
+/// The same with tags.
+pub(crate) fn tagged_ring<R: Abort>(
+    rt: &R,
+    alloc: Global,
+    list: &[i32],
+    tags: &[u64],
+) -> Result<Ring, Fail> {
+    let mut ring = ring_of_two_files(alloc)?;
+    assert_eq!(rt; ring.register_tagged(alloc, list, tags), Ok(()));
+    Ok(ring)
+}
+
+/// The report's closes give these tags, in their order.
+pub(crate) fn expect_tags<R: Abort>(
+    rt: &R,
+    alloc: Global,
+    report: &Report,
+    tags: &[u64],
+) -> Result<(), Fail> {
+    let given = report.closes.tags(alloc)?;
+    assert_eq!(rt; given.len(), tags.len());
+    for (completion, tag) in given.iter().zip(tags) {
+        assert_eq!(rt; completion.user_data, *tag);
+    }
+    Ok(())
+}
+
 fn no_flags() -> SqeFlags {
     SqeFlags::from_bits_retain(0)
 }
@@ -189,11 +216,17 @@ pub(crate) fn expect_completed<R: Abort>(
     }
 }
 
-/// The mark and the entry of the `i`-th file of the `k`-th registration or update.
+/// The mark and the entry of the `i`-th file of the `k`-th registration or update, without a tag.
 pub(crate) fn registered(k: u32, i: u32, entry: u8) -> Closed {
+    tagged(k, i, entry, 0)
+}
+
+/// The same with a tag.
+pub(crate) fn tagged(k: u32, i: u32, entry: u8, tag: u64) -> Closed {
     Closed {
         mark: Mark::Registered { k, i },
         entry,
+        tag,
     }
 }
 
@@ -212,6 +245,7 @@ pub(crate) fn updated(submission: u32, chain: u32, member: u32, in_list: u32, en
             entry: in_list,
         },
         entry,
+        tag: 0,
     }
 }
 

@@ -53,7 +53,7 @@ fn fill(plain: &mut PlainTable, catalogue: &Catalogue, full: u32)
     for slot in 0..full {
         let number = slot.wrapping_add(256);
         if slot < plain.size() && plain.is_fresh(number) {
-            let file = catalogue.open(0, Mark::Registered { k: 0, i: slot });
+            let file = catalogue.open(0, Mark::Registered { k: 0, i: slot }, 0);
             let _replaced = plain.put(slot, number, file);
         }
     }

@@ -32,15 +32,21 @@ fn use_table<S: Subject, R: Wait + Abort>(
     assert!(rt; !catalogue.is_empty());
     subject.read(rt, pass, 2, catalogue, into);
     assert!(rt; into.is_empty());
-    assert_eq!(rt; subject.put_any(rt, pass, catalogue.open(0, MARK)), Some(2));
+    assert_eq!(rt;
+        subject.put_any(rt, pass, catalogue.open(0, MARK, 0)),
+        Some(2)
+    );
     subject.read(rt, pass, 2, catalogue, into);
     assert_eq!(rt; into.len(), 64);
     subject.take(rt, pass, 2);
-    assert_eq!(rt; subject.put_any(rt, pass, catalogue.open(0, MARK)), Some(2));
+    assert_eq!(rt;
+        subject.put_any(rt, pass, catalogue.open(0, MARK, 0)),
+        Some(2)
+    );
     subject.look(rt, pass, 2);
-    subject.put(rt, pass, 2, catalogue.open(0, MARK));
-    subject.put(rt, pass, 3, catalogue.open(0, MARK));
-    assert_eq!(rt; subject.put_any(rt, pass, catalogue.open(0, MARK)), None);
+    subject.put(rt, pass, 2, catalogue.open(0, MARK, 0));
+    subject.put(rt, pass, 3, catalogue.open(0, MARK, 0));
+    assert_eq!(rt; subject.put_any(rt, pass, catalogue.open(0, MARK, 0)), None);
     subject.take(rt, pass, 3);
 }
 

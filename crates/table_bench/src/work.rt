@@ -68,7 +68,7 @@ fn mix<S: Subject, R: Wait>(
         random = next(random);
         let slot = (random >> 16) & job.last_slot;
         if i % 10 == 9 {
-            subject.put(rt, pass, slot, catalogue.open(0, MARK));
+            subject.put(rt, pass, slot, catalogue.open(0, MARK, 0));
         } else {
             subject.look(rt, pass, slot);
         }
@@ -91,7 +91,7 @@ fn chain<S: Subject, R: Wait>(
 {
     for i in 0..job.times {
         let slot = first_slot.wrapping_add(i % 64) & job.last_slot;
-        subject.put(rt, pass, slot, catalogue.open(0, MARK));
+        subject.put(rt, pass, slot, catalogue.open(0, MARK, 0));
         subject.read(rt, pass, slot, catalogue, into);
         subject.take(rt, pass, slot);
     }
@@ -109,7 +109,7 @@ fn allocate<S: Subject, R: Wait>(
     ensures { S.ready subject.now pass.new }
 {
     for _ in 0..job.times {
-        if let Some(slot) = subject.put_any(rt, pass, catalogue.open(0, MARK)) {
+        if let Some(slot) = subject.put_any(rt, pass, catalogue.open(0, MARK, 0)) {
             subject.take(rt, pass, slot);
         }
     }

@@ -44,7 +44,12 @@ pub(crate) fn two_names(alloc: Global) -> Result<Catalogue, AllocError> {
     Ok(catalogue)
 }
 
-/// The i-th file of the k-th list.
+/// The tag of the i-th file of the k-th list: no two files have one, and none has 0.
+pub(crate) fn tag_of(k: u32, i: u32) -> u64 {
+    u64::from(k) << 32 | (u64::from(i) + 1)
+}
+
+/// The i-th file of the k-th list, with its tag.
 pub(crate) fn new_file<R: Abort>(
     rt: &R,
     catalogue: &Catalogue,
@@ -53,7 +58,7 @@ pub(crate) fn new_file<R: Abort>(
     i: u32,
 ) -> OpenFile {
     assert!(rt; (entry as u32) < catalogue.len());
-    catalogue.open(entry, Mark::Registered { k, i })
+    catalogue.open(entry, Mark::Registered { k, i }, tag_of(k, i))
 }
 
 /// A table of so many empty slots.
@@ -125,6 +130,7 @@ pub(crate) fn is_first<R: Abort>(rt: &R, out: Option<OpenFile>) {
         panic!(rt; "a file that comes out")
     };
     assert_eq!(rt; file.mark(), Mark::Registered { k: 1, i: 0 });
+    assert_eq!(rt; file.tag(), tag_of(1, 0));
     assert_eq!(rt; file.entry(), 0);
     file.discard();
 }

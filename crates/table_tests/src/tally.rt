@@ -1,4 +1,5 @@
 //! What four workers do to a table comes to: as many calls as each was to make, and every file that they installed, once.
+use crate::setting::tag_of;
 use fx_base::{CloseList, Closed, Mark};
 use std::alloc::Global;
 use std::process::Abort;
@@ -62,7 +63,8 @@ impl Tally {
         self.add_files(rt, files);
     }
 
-    /// Each file is there once: the files that a worker installed have its number, and are counted from 0.
+    /// Each file is there once, with its own tag: the files that a worker installed have its number, and are counted from
+    /// 0.
     pub(crate) fn expect_each_once<R: Abort>(&mut self, rt: &R) {
         self.files.sort();
         let mut files = self.files.files().iter();
@@ -70,7 +72,8 @@ impl Tally {
             for i in 0..self.installed[k as usize] {
                 let mark = Mark::Registered { k, i };
                 let entry = (k % 2) as u8;
-                assert_eq!(rt; files.next(), Some(&Closed { mark, entry }));
+                let tag = tag_of(k, i);
+                assert_eq!(rt; files.next(), Some(&Closed { mark, entry, tag }));
             }
         }
         assert!(rt; files.next().is_none());

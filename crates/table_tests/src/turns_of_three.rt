@@ -4,7 +4,7 @@ ghost use Rattle.fx_table.specs.Pass.{IsHoldOf, IsRetiredOf};
 
 use crate::passes::{give_back, three_passes};
 use crate::setting::{
-    Takes, is_first, is_none, new_file, one_file, open_table, second_is_left, two_names,
+    Takes, is_first, is_none, new_file, one_file, open_table, second_is_left, tag_of, two_names,
 };
 use crate::turns::{hold_of, replace_first};
 use fx_base::{Mark, OpenFile};
@@ -209,6 +209,7 @@ fn take_second<T: FileTable, R: Wait + Abort>(rt: &R, table: &T, pass: &mut T::P
         panic!(rt; "a file that comes out")
     };
     assert_eq!(rt; file.mark(), Mark::Registered { k: 2, i: 0 });
+    assert_eq!(rt; file.tag(), tag_of(2, 0));
     file.discard();
 }
 

@@ -239,3 +239,46 @@ fn ring_updates(rt: HostRuntime) {
 fn largest_entry_is_no_file(rt: HostRuntime) {
     plays(&rt, rt.alloc(), "register 2147483647\n", "register -9\n");
 }
+
+#[test]
+fn tag_comes_with_the_close(rt: HostRuntime) {
+    plays(
+        &rt,
+        rt.alloc(),
+        "file a.txt 68656c6c6f\nregister 0,0 7,0\nupdate 0 -1,-1\nsubmit\n",
+        "register 0\n1.1.1 2\nclosed r1.0 a.txt\nclosed r1.1 a.txt\ntag 7\n",
+    );
+}
+
+#[test]
+fn tag_of_the_file_that_went(rt: HostRuntime) {
+    plays(
+        &rt,
+        rt.alloc(),
+        "file a.txt 68656c6c6f\nregister 0 7\nregister 0 8\nregupdate 0 0 9\nunregister\n",
+        "register 0\nregister -16\nregupdate 1\nclosed r1.0 a.txt\ntag 7\nunregister 0\n\
+         closed r2.0 a.txt\ntag 9\n",
+    );
+}
+
+#[test]
+fn largest_tag(rt: HostRuntime) {
+    plays(
+        &rt,
+        rt.alloc(),
+        "file a.txt 68656c6c6f\nregister 0 1,2\nregister -1 5\nregister 0 18446744073709551615\n\
+         regupdate 0 -2 1\nregupdate 0 -1 0\n",
+        "register -22\nregister -22\nregister 0\nregupdate -22\nregupdate 1\n\
+         closed r1.0 a.txt\ntag 18446744073709551615\n",
+    );
+}
+
+#[test]
+fn tag_at_the_teardown(rt: HostRuntime) {
+    plays(
+        &rt,
+        rt.alloc(),
+        "file a.txt 68656c6c6f\nregister 0 4\n",
+        "register 0\nteardown\nclosed r1.0 a.txt\ntag 4\n",
+    );
+}

@@ -4,7 +4,7 @@ ghost use Rattle.fx_plain.specs.State.{IsSettled};
 ghost use Rattle.fx_plain.specs.Contents.{state_of};
 ghost use Rattle.fx_table.specs.Pass.{IsHoldOf, IsRetiredOf};
 
-use super::{closed, empty_table, opened, shared, two_names, two_passes};
+use super::{closed, empty_table, opened, shared, tag, two_names, two_passes};
 use crate::CountedTable;
 use crate::layout::{CONTROL, DRAW, node_place, slot_place};
 use fx_base::{Catalogue, Mark, OpenFile};
@@ -93,6 +93,7 @@ fn is_first<R: Abort>(rt: &R, out: Option<OpenFile>) {
         panic!(rt; "a file that comes out")
     };
     assert_eq!(rt; file.mark(), Mark::Registered { k: 1, i: 0 });
+    assert_eq!(rt; file.tag(), tag(1, 0));
     assert_eq!(rt; file.entry(), 0);
     file.discard();
 }

@@ -25,6 +25,7 @@ fn scripts_without_a_fault(rt: HostRuntime) -> Result<(), Fail> {
             4,
         ),
         ("regupdate 0 0\nregupdate 2147483647 -2\n", 0, 2),
+        ("register 0 7\nregupdate 0 0,-1 0,18446744073709551615\n", 0, 2),
         (
             "open nobody at 2147483647\nopen nobody any link\nsubmit\n",
             0,
@@ -53,23 +54,34 @@ fn scripts_without_a_fault(rt: HostRuntime) -> Result<(), Fail> {
 
 #[test]
 fn every_command_as_it_is_written(rt: HostRuntime) -> Result<(), Fail> {
-    let text = "sparse 1\nregister 0,-1\nunregister\nrange 2 3\nregupdate 4 -2,5\nsubmit\n";
+    let text = "sparse 1\nregister 0,-1\nunregister\nrange 2 3\nregupdate 4 -2,5\nsubmit\n\
+                register 0,-1 7,0\nregupdate 4 5 18446744073709551615\n";
     let Ok(script) = Script::read(rt.alloc(), text.as_bytes()) else {
         panic!(rt; "refused");
     };
-    let [sparse, register, unregister, range, update, submit] = script.commands() else {
+    let [sparse, register, unregister, range, update, submit, tagged, retagged] = script.commands()
+    else {
         panic!(rt; "other commands: {script:?}");
     };
     assert!(rt; matches!(sparse, Command::Sparse(1)));
     assert!(rt;
-        matches!(register, Command::Register(list) if list.as_slice() == [0, -1].as_slice())
+        matches!(register, Command::Register(list, None) if list.as_slice() == [0, -1].as_slice())
     );
     assert!(rt; matches!(unregister, Command::Unregister));
     assert!(rt; matches!(range, Command::Range(2, 3)));
     assert!(rt;
-        matches!(update, Command::Update(4, list) if list.as_slice() == [-2, 5].as_slice())
+        matches!(update, Command::Update(4, list, None) if list.as_slice() == [-2, 5].as_slice())
     );
     assert!(rt; matches!(submit, Command::Submit(requests) if requests.is_empty()));
+    assert!(rt;
+        matches!(tagged, Command::Register(list, Some(tags))
+            if list.as_slice() == [0, -1].as_slice() && tags.as_slice() == [7, 0].as_slice())
+    );
+    let largest = [18_446_744_073_709_551_615u64];
+    assert!(rt;
+        matches!(retagged, Command::Update(4, list, Some(tags))
+            if list.as_slice() == [5].as_slice() && tags.as_slice() == largest.as_slice())
+    );
     Ok(())
 }
 

@@ -67,7 +67,7 @@ fn every_command_with_a_word_too_few_or_too_many(rt: HostRuntime) -> Result<(), 
         "sparse 2 ",
         "sparse 2 2",
         "register",
-        "register 0 0",
+        "register 0 0 0",
         "unregister 0",
         "unregister ",
         "range",
@@ -75,7 +75,7 @@ fn every_command_with_a_word_too_few_or_too_many(rt: HostRuntime) -> Result<(), 
         "range 0 0 0",
         "regupdate",
         "regupdate 0",
-        "regupdate 0 0 0",
+        "regupdate 0 0 0 0",
         "open",
         "open a.txt",
         "open a.txt at",
@@ -169,5 +169,39 @@ fn lists_as_they_may_not_be_written(rt: HostRuntime) -> Result<(), Fail> {
     }
     is_accepted(&rt, b"register 2147483647".as_slice());
     is_accepted(&rt, b"register -2147483647".as_slice());
+    Ok(())
+}
+
+#[test]
+fn tags_as_they_may_not_be_written(rt: HostRuntime) -> Result<(), Fail> {
+    let lists = [
+        "",
+        ",",
+        "1,",
+        ",1",
+        "1,,1",
+        "07",
+        "00",
+        "+1",
+        "-1",
+        "-0",
+        "1;2",
+        "1,x",
+        "x",
+        "18446744073709551616",
+        "99999999999999999999",
+        "100000000000000000000",
+        "1,18446744073709551616",
+        "9999999999999999999999999999999999999999",
+    ];
+    for list in lists {
+        for front in ["register 0 ", "regupdate 0 0,0 "] {
+            let text = joined(rt.alloc(), &[front, list])?;
+            is_refused(&rt, text.as_bytes(), 1, "bad-tag")?;
+        }
+    }
+    is_accepted(&rt, b"register 0 18446744073709551615".as_slice());
+    is_accepted(&rt, b"register 0 18446744073709551609,0,10".as_slice());
+    is_accepted(&rt, b"regupdate 0 -1 0".as_slice());
     Ok(())
 }

@@ -52,7 +52,7 @@ fn a_report(rt: HostRuntime) -> Result<(), Fail> {
     completions.push(completion(alloc, 1, 2, 5, b"\x00\x0f\xa0\xffj".as_slice())?)?;
     completions.push(completion(alloc, 12, 16, -125, b"".as_slice())?)?;
     let mut closes = CloseList::with_room(alloc, 2)?;
-    closes.close(catalogue.open(1, Mark::Registered { k: 3, i: 255 }));
+    closes.close(catalogue.open(1, Mark::Registered { k: 3, i: 255 }, 0));
     closes.close(catalogue.open(
         0,
         Mark::Submitted {
@@ -61,6 +61,7 @@ fn a_report(rt: HostRuntime) -> Result<(), Fail> {
             member: 1,
             entry: 15,
         },
+        0,
     ));
     let report = Report {
         submission: 7,
@@ -71,6 +72,29 @@ fn a_report(rt: HostRuntime) -> Result<(), Fail> {
     let text = report_text(alloc, &report, &catalogue)?;
     let lines =
         "7.1.1 0\n7.1.2 5 000fa0ff6a\n7.12.16 -125\nclosed r3.255 b.txt\nclosed 7.12.1.15 a.txt\n";
+    assert_eq!(rt; text.as_str(), lines);
+    Ok(())
+}
+
+#[test]
+fn tags_stand_behind_the_closed_lines(rt: HostRuntime) -> Result<(), Fail> {
+    let alloc = rt.alloc();
+    let catalogue = two_files(alloc)?;
+    assert_eq!(rt; catalogue.len(), 2);
+    let mut closes = CloseList::with_room(alloc, 3)?;
+    let largest = 18_446_744_073_709_551_615;
+    closes.close(catalogue.open(0, Mark::Registered { k: 1, i: 0 }, largest));
+    closes.close(catalogue.open(1, Mark::Registered { k: 1, i: 1 }, 0));
+    closes.close(catalogue.open(1, Mark::Registered { k: 1, i: 2 }, 7));
+    let report = Report {
+        submission: 1,
+        completions: Vec::new(alloc),
+        closes,
+    };
+    assert!(rt; all_inside(&catalogue, report.closes.files()));
+    let text = report_text(alloc, &report, &catalogue)?;
+    let lines = "closed r1.0 a.txt\nclosed r1.1 b.txt\nclosed r1.2 b.txt\n\
+                 tag 18446744073709551615\ntag 7\n";
     assert_eq!(rt; text.as_str(), lines);
     Ok(())
 }

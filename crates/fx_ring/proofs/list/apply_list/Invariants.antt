@@ -1,13 +1,15 @@
 use Rattle.std.proofs.Common.{◌+◌, length, take}
 use Rattle.fx_plain.specs.Contents.{state_of}
 use Rattle.fx_ring.specs.Registration.{files_after, removed_from}
+use Rattle.fx_ring.specs.Tags.{tags_for}
 use Rattle.fx_ring.specs.Slots.{SetsFiles, AreFresh, files_at}
 use Rattle.fx_ring.proofs.list.apply_list.Given as goal
 
 abbrev pub invariant-loop-i : goal.invariant-loop-i
 invariant-loop-i l = record {
   sets : SetsFiles (state_of l.fn.table) (state_of l.table)
-      (files_after l.k (files_at (state_of l.fn.table)) l.off (take l.i l.list))
+      (files_after l.k (files_at (state_of l.fn.table)) l.off (take l.i l.list)
+      (tags_for l.list l.tags))
       (removed_from (files_at (state_of l.fn.table)) l.off (take l.i l.list)) l.fn.closes l.closes;
   fresh : AreFresh (state_of l.table) (l.first + l.i) (l.first + length l.list);
 }

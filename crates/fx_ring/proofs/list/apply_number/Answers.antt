@@ -25,9 +25,9 @@ returns-then-number-ge0-clause-files c =
     let st = state_of c.args.table.now in
     let was = files_at st c.args.slot in
     let new = state_of c.fill_slot.new.table in
-    let file : c.open-file.result ≡ record { mark = c.args.mark; entry = nat_abs c.args.number } =
-    λ i. record { mark = c.open-file.ensures.mark i; entry = (c.open-file.ensures.entry ∙ ap nat_abs read) i } in
-    subst (λ (z : ℤ). SetsFiles st new (changed_at (files_at st) c.args.slot (file_after c.args.mark z was)) (removed_by z was)
+    let file : c.open-file.result ≡ record { mark = c.args.mark; entry = nat_abs c.args.number; tag = c.args.tag } =
+    λ i. record { mark = c.open-file.ensures.mark i; entry = (c.open-file.ensures.entry ∙ ap nat_abs read) i; tag = c.open-file.ensures.tag i } in
+    subst (λ (z : ℤ). SetsFiles st new (changed_at (files_at st) c.args.slot (file_after c.args.mark c.args.tag z was)) (removed_by z was)
     c.args.closes.now c.fill_slot.new.closes)
     (sym (unsigned c.args.number positive))
     (subst (λ (f : Closed). SetsFiles st new (changed_at (files_at st) c.args.slot (Some f)) (removed_by (pos (nat_abs c.args.number)) was)
@@ -41,7 +41,7 @@ returns-then-number-gtminus2-clause-files c =
     let st = state_of c.args.table.now in
     let was = files_at st c.args.slot in
     let new = state_of c.clear_slot.new.table in
-    subst (λ (z : ℤ). SetsFiles st new (changed_at (files_at st) c.args.slot (file_after c.args.mark z was)) (removed_by z was)
+    subst (λ (z : ℤ). SetsFiles st new (changed_at (files_at st) c.args.slot (file_after c.args.mark c.args.tag z was)) (removed_by z was)
     c.args.closes.now c.clear_slot.new.closes)
     (sym (minus_one c.args.number negative above)) c.clear_slot.ensures.set
 

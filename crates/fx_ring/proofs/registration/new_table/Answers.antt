@@ -3,6 +3,7 @@ use Rattle.fx_base.specs.declared.open_file.Closed.{Closed}
 use Rattle.fx_plain.specs.State.{State}
 use Rattle.fx_plain.specs.Contents.{state_of}
 use Rattle.fx_ring.specs.Registration.{files_after, removed_from}
+use Rattle.fx_ring.specs.Tags.{tags_for}
 use Rattle.fx_ring.specs.Slots.{files_at}
 use Rattle.fx_ring.proofs.Numbers.{good_files}
 use Rattle.fx_ring.proofs.Origins.{none_removed}
@@ -51,4 +52,5 @@ returns-clause-files c =
     let files =
     opening_files (state_of c.in_ok-table.table) (state_of c.prepare.new.self) (2 * length c.args.list.now) c.in-Ok.ensures.ok
     ∙ vacant_files (state_of c.in_ok-table.table) (length c.args.list.now) c.in_ok-table.ensures.state in
-    c.apply_list.ensures.at_slots ∙ ap (λ (a : ℕ → Option Closed). files_after c.args.k a 0 c.args.list.now) files
+    c.apply_list.ensures.at_slots ∙ ap (λ (a : ℕ → Option Closed). files_after c.args.k a 0 c.args.list.now
+    (tags_for c.args.list.now c.args.tags)) files

@@ -1,13 +1,12 @@
 use Rattle.std.proofs.Common.{◌≡◌, ◌≤◌, true, take}
 use Rattle.std.specs.List.{list_all}
 use Rattle.std.specs.Str.Parse.{digits_value}
-use Rattle.fx_script.specs.declared.limits.TheConstants.{LARGEST_NUMBER}
 use Rattle.fx_script.specs.Words.{is_digit}
-use Rattle.fx_script.proofs.number.number.Given as goal
+use Rattle.fx_script.proofs.number.number_up_to.Given as goal
 
 abbrev pub invariant-loop-digit : goal.invariant-loop-digit
 invariant-loop-digit l = record {
   digits : list_all is_digit (take l.digit-index l.word) ≡ true;
   value : l.n ≡ digits_value 10 (take l.digit-index l.word);
-  small : l.n ≤ LARGEST_NUMBER;
+  small : l.n ≤ l.largest;
 }

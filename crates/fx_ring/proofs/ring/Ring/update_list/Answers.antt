@@ -4,9 +4,10 @@ use Rattle.fx_plain.specs.Contents.{state_of}
 use Rattle.fx_chain.specs.Answers.{is_bad_entry}
 use Rattle.fx_ring.specs.Ring.{RingContents, AreEntries, HasClosed, ring_of}
 use Rattle.fx_ring.specs.Registration.{updated, removed_from}
+use Rattle.fx_ring.specs.Tags.{tags_for}
 use Rattle.fx_ring.proofs.Rings.{contents_of, opening_settled, opening_fresh}
 use Rattle.fx_ring.proofs.Updates.{room_for, updated_is, still_ring, removed_closed, removed_entries_closed}
-use Rattle.fx_ring.proofs.ring.Ring.update.Goals as goal
+use Rattle.fx_ring.proofs.ring.Ring.update_list.Goals as goal
 
 pub apply_list-requires-clause-settled : goal.apply_list-requires-clause-settled
 apply_list-requires-clause-settled c =
@@ -23,19 +24,21 @@ apply_list-requires-clause-fresh c =
 pub apply_list-requires-clause-room : goal.apply_list-requires-clause-room
 apply_list-requires-clause-room c =
     let before = contents_of c.self.inside in
+    let tags = tags_for c.args.list.now c.args.tags in
     let room : c.in-Ok.closes.room ≡ length c.args.list.now = search rules in
-    room_for before c.args.off c.args.list.now (state_of c.prepare.new.self) (state_of c.prepare.new.self)
+    room_for before c.args.off c.args.list.now tags (state_of c.prepare.new.self) (state_of c.prepare.new.self)
     (c.size-size.result + length c.args.list.now) c.in-Ok.closes c.in-Ok.closes c.in-Ok.closes c.in-Ok-prepare.ensures.ok (omega arith)
 
 pub invariant_of-self-2 : goal.invariant_of-self-2
 invariant_of-self-2 c =
     let was = c.self.invariant in
     let before = contents_of c.self.inside in
+    let tags = tags_for c.args.list.now c.args.tags in
     let good : list_any (is_bad_entry (length c.self.inside.catalogue)) c.args.list.now ≡ false = search rules in
     let few : c.self.inside.registrations < 65535 = search rules in
     record {
       settled = c.apply_list.ensures.settled;
-      ring = still_ring before c.args.off c.args.list.now (state_of c.prepare.new.self) (state_of c.apply_list.new.table)
+      ring = still_ring before c.args.off c.args.list.now tags (state_of c.prepare.new.self) (state_of c.apply_list.new.table)
           (c.size-size.result + length c.args.list.now) c.in-Ok.closes c.apply_list.new.closes c.sort.new.self
           c.in-Ok-prepare.ensures.ok c.apply_list.ensures was.ring good;
       few_submissions = was.few_submissions;
@@ -45,25 +48,29 @@ invariant_of-self-2 c =
 pub returns-clause-ok : goal.returns-clause-ok
 returns-clause-ok c =
     let before = contents_of c.self.inside in
-    updated_is before c.args.off c.args.list.now (state_of c.prepare.new.self) (state_of c.apply_list.new.table)
+    let tags = tags_for c.args.list.now c.args.tags in
+    updated_is before c.args.off c.args.list.now tags (state_of c.prepare.new.self) (state_of c.apply_list.new.table)
     (c.size-size.result + length c.args.list.now) c.in-Ok.closes c.apply_list.new.closes c.sort.new.self
     c.in-Ok-prepare.ensures.ok c.apply_list.ensures
-    ∙ ap (λ (v : RingContents). updated (ring_of v) c.args.off c.args.list.now) c.self.view_is
+    ∙ ap (λ (v : RingContents). updated (ring_of v) c.args.off c.args.list.now
+    (tags_for c.args.list.now c.args.tags)) c.self.view_is
 
 pub returns-clause-closes : goal.returns-clause-closes
 returns-clause-closes c =
     let before = contents_of c.self.inside in
+    let tags = tags_for c.args.list.now c.args.tags in
     let none : c.in-Ok.closes.files ≡ [] = search rules in
     subst (λ (v : RingContents). HasClosed (removed_from (ring_of v).at c.args.off c.args.list.now) c.sort.new.self) c.self.view_is
-    (removed_closed before c.args.off c.args.list.now (state_of c.prepare.new.self) (state_of c.apply_list.new.table)
+    (removed_closed before c.args.off c.args.list.now tags (state_of c.prepare.new.self) (state_of c.apply_list.new.table)
     (c.size-size.result + length c.args.list.now) c.in-Ok.closes c.apply_list.new.closes c.sort.new.self
     c.in-Ok-prepare.ensures.ok c.apply_list.ensures none c.sort.ensures.same_files c.sort.ensures.in_order)
 
 pub returns-clause-entries : goal.returns-clause-entries
 returns-clause-entries c =
     let before = contents_of c.self.inside in
+    let tags = tags_for c.args.list.now c.args.tags in
     let none : c.in-Ok.closes.files ≡ [] = search rules in
     subst (λ (v : RingContents). AreEntries (ring_of v) c.sort.new.self.files) c.self.view_is
-    (removed_entries_closed before c.args.off c.args.list.now (state_of c.prepare.new.self) (state_of c.apply_list.new.table)
+    (removed_entries_closed before c.args.off c.args.list.now tags (state_of c.prepare.new.self) (state_of c.apply_list.new.table)
     (c.size-size.result + length c.args.list.now) c.in-Ok.closes c.apply_list.new.closes c.sort.new.self
     c.in-Ok-prepare.ensures.ok c.apply_list.ensures c.self.invariant.ring none c.sort.ensures.same_files c.sort.ensures.in_order)

@@ -3,15 +3,15 @@ use Rattle.std.proofs.lemmas.List.Folds.{list_all_more}
 use Rattle.fx_script.proofs.Numbers.{value_more, too_large}
 use Rattle.fx_script.proofs.Conditions.{and_true}
 use Rattle.fx_script.specs.Words.{is_digit}
-use Rattle.fx_script.proofs.number.number.Goals as goal
+use Rattle.fx_script.proofs.number.number_up_to.Goals as goal
 
-pub returns-then-n : goal.returns-then-n
-returns-then-n c =
+pub returns-then-n-largest : goal.returns-then-n-largest
+returns-then-n-largest c =
     let i = c.loop-digit.digit-index in
     let digit : is_digit (get_or c.args.word.now i 0) ≡ true = sym c.is_digit.ensures ∙ c.if-not-is_digit.false in
     let more = value_more c.args.word.now i c.from.result c.loop-digit-test.true digit c.from.ensures in
-    too_large c.args.word.now (i + 1) (c.loop-digit.n * 10 + c.from.result) (ap (λ v. v * 10 + c.from.result) c.loop-digit.invariant.value
-    ∙ more) c.if-n.true
+    too_large c.args.largest c.args.word.now (i + 1) (c.loop-digit.n * 10 + c.from.result) (ap (λ v. v * 10 + c.from.result) c.loop-digit.invariant.value
+    ∙ more) c.if-n-largest.true
 
 pub loop-digit-preserved : goal.loop-digit-preserved
 loop-digit-preserved c =

@@ -1,0 +1,27 @@
+ghost use Rattle.std.specs.Prelude.{◌≡◌};
+ghost use Rattle.fx_base.specs.Tags.{tag_completion};
+
+/// What tells that a file with a resource tag is closed: a completion that no request has asked for
+/// (io_uring_register(2), "IORING_REGISTER_FILES2"; `struct io_uring_cqe` there).
+#[derive(Clone, Copy, Debug, PartialEq, Eq)]
+pub struct TagCompletion {
+    /// The tag, never 0.
+    pub user_data: u64,
+    /// Always 0.
+    pub res: i32,
+    /// Always 0.
+    pub flags: u32,
+}
+
+impl TagCompletion {
+    // The completion of a tag.
+    pub(crate) fn of(tag: u64) -> TagCompletion
+        ensures { result ≡ tag_completion tag }
+    {
+        TagCompletion {
+            user_data: tag,
+            res: 0,
+            flags: 0,
+        }
+    }
+}
