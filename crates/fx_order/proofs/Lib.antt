@@ -9,3 +9,4 @@ pub mod Installs
 pub mod Answered
 pub mod Shown
 pub mod Histories
+pub mod OrderSteps

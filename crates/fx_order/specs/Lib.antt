@@ -1,4 +1,5 @@
 pub mod Access
+pub mod Slots
 pub mod Requests
 pub mod Order
 pub mod Laws

@@ -6,8 +6,12 @@ mod access;
 mod answer;
 mod chain;
 pub mod laws;
+mod order;
 mod request;
+mod slots;
 mod update;
 
 pub use access::{Access, ChainAccess};
 pub use chain::is_chain_done;
+pub use order::{are_closed, make_all};
+pub use slots::Slots;

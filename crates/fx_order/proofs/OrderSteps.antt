@@ -1,0 +1,36 @@
+-- An order with one more access.
+use Rattle.std.proofs.Common.{◌≡◌, ℕ, ◌+◌, ◌<◌, List, [], ◌∷◌, ◌++◌, length, take, sym, ap, subst, ◌∙◌, slice_index_or, Option}
+use Rattle.std.proofs.lemmas.List.{append-nil, map-append, take_more}
+use Rattle.std.specs.Option.{option_to_list}
+use Rattle.fx_base.specs.declared.open_file.Closed.{Closed}
+use Rattle.fx_order.specs.Access.{Table, Permits, PermitsAll, table_with, table_after, removed_by, removed_in, access_of, accesses_of}
+use Rattle.fx_order.specs.declared.access.ChainAccess.{ChainAccess}
+use Rattle.fx_order.proofs.Accesses.{PermitsAll-append, table_after-append}
+use Rattle.fx_order.proofs.Removed.{removed_in-append}
+
+module _ (order : List ChainAccess) (i : ℕ) (d : ChainAccess) (within : i < length order) where
+  accesses_more : accesses_of (take (i + 1) order) ≡ accesses_of (take i order) ++ (slice_index_or order i d).access ∷ []
+  accesses_more = ap accesses_of (take_more order i d within) ∙ map-append access_of (take i order) (slice_index_or order i d ∷ [])
+
+  pub make_one : (start at next : Table) → PermitsAll start (accesses_of (take i order)) → at ≡ table_after start (accesses_of (take i order))
+      → Permits at (slice_index_or order i d).access → next ≡ table_with at (slice_index_or order i d).access
+      → PermitsAll start (accesses_of (take (i + 1) order)) × (next ≡ table_after start (accesses_of (take (i + 1) order)))
+  make_one start at next before is may made = (
+    subst (PermitsAll start) (sym accesses_more)
+        (PermitsAll-append start (accesses_of (take i order)) ((slice_index_or order i d).access ∷ []) before
+        (subst (λ (t : Table). Permits t (slice_index_or order i d).access) is may, tt)),
+    made ∙ (ap (λ (t : Table). table_with t (slice_index_or order i d).access) is
+        ∙ (sym (table_after-append start (accesses_of (take i order)) ((slice_index_or order i d).access ∷ []))
+        ∙ ap (table_after start) (sym accesses_more))),
+  )
+
+  removed_one : removed_in (accesses_of (take (i + 1) order))
+      ≡ removed_in (accesses_of (take i order)) ++ option_to_list (removed_by (slice_index_or order i d).access)
+  removed_one = ap removed_in accesses_more
+      ∙ (removed_in-append (accesses_of (take i order)) ((slice_index_or order i d).access ∷ [])
+      ∙ ap (λ (l : List Closed). removed_in (accesses_of (take i order)) ++ l) (append-nil (option_to_list (removed_by (slice_index_or order i d).access))))
+
+  pub more_removed : (before now : List Closed) (found : Option Closed) → before ≡ removed_in (accesses_of (take i order))
+      → found ≡ removed_by (slice_index_or order i d).access → now ≡ before ++ option_to_list found
+      → now ≡ removed_in (accesses_of (take (i + 1) order))
+  more_removed before now found so_far is grown = grown ∙ ((λ j. so_far j ++ option_to_list (is j)) ∙ sym removed_one)

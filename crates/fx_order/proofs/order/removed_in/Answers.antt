@@ -1,0 +1,18 @@
+use Rattle.std.proofs.Common.{sym, ap, ◌∙◌, Some, None}
+use Rattle.std.specs.Global.{Vec}
+use Rattle.std.proofs.lemmas.List.{append-nil}
+use Rattle.fx_base.specs.declared.open_file.Closed.{Closed}
+use Rattle.fx_order.proofs.OrderSteps.{more_removed}
+use Rattle.fx_order.proofs.order.removed_in.Goals.{in-Some+in_ok-push, in_default}
+use Rattle.fx_order.proofs.order.removed_in.Goals as goal
+
+pub loop-x-preserved : goal.loop-x-preserved
+loop-x-preserved c = elim c.match-removed_by.branch [
+  | in-Some+in_ok-push w ↦
+      more_removed c.args.order.now c.loop-x.x-index _ c.loop-x-test.true c.loop-x.files.items c.match-removed_by.files.items (Some w.in-Some.file)
+      c.loop-x.invariant (sym w.in-Some.is ∙ c.removed_by.ensures) (ap (λ (v : Vec Closed). v.items) w.files-is ∙ w.in_ok-push.ensures.items)
+  | in_default w ↦
+      more_removed c.args.order.now c.loop-x.x-index _ c.loop-x-test.true c.loop-x.files.items c.match-removed_by.files.items None
+      c.loop-x.invariant (sym w.in_default.is ∙ c.removed_by.ensures)
+      (ap (λ (v : Vec Closed). v.items) w.files-is ∙ sym (append-nil c.loop-x.files.items))
+]

@@ -1,0 +1,6 @@
+use Rattle.std.proofs.Common.{◌≡◌, take}
+use Rattle.fx_order.specs.Access.{accesses_of, removed_in}
+use Rattle.fx_order.proofs.order.removed_in.Given as goal
+
+abbrev pub invariant-loop-x : goal.invariant-loop-x
+invariant-loop-x l = l.files.items ≡ removed_in (accesses_of (take l.x-index l.order))

@@ -1,0 +1,16 @@
+-- What contracts see of a table's slots.
+use Rattle.std.specs.Prelude.{◌≡◌, ℕ, ◌<◌, List, length, slice_index_or, Option, None}
+use Rattle.fx_base.specs.declared.open_file.Closed.{Closed}
+use Rattle.fx_order.specs.Access.{Table}
+use Rattle.fx_order.specs.declared.slots.Slots.{Slots}
+
+abbrev pub table_of_slots : Slots → Table
+table_of_slots slots = record {
+  size = length slots.at.items;
+  range = slots.range;
+  at = λ slot. slice_index_or slots.at.items slot None;
+}
+
+-- the slot is one of the list, and this is what is there
+abbrev pub IsFoundAt : List (Option Closed) → ℕ → Option Closed → Type 0
+IsFoundAt at slot found = (slot < length at) × (found ≡ slice_index_or at slot None)
