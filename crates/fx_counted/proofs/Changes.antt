@@ -10,7 +10,7 @@ use Rattle.std.proofs.Common.{length-set}
 use Rattle.fx_counted.proofs.Births.{in_phase, roomy, else_place, held_file}
 use Rattle.fx_counted.proofs.Frames.{busy, stays_same, owner_stays}
 use Rattle.fx_counted.proofs.FullSlots.{Stands, control_swap}
-use Rattle.fx_counted.proofs.Histories.{IsHistory, grows_one, part_mine, change_here, change_else, same_shape}
+use Rattle.fx_counted.proofs.Histories.{grows_one, part_mine, change_here, change_else, same_shape}
 use Rattle.fx_counted.proofs.Keeping.{Homes, word_at, now, logged, its_log, its_work, tells}
 use Rattle.fx_counted.proofs.Swaps.{NotOf, Effect, h', removed_else, found, state, so, seat_of, not_old, elsewhere, w, Swap, swap_agrees}
 use Rattle.fx_counted.proofs.Unchanged.{node_same}

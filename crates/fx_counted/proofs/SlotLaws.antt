@@ -15,7 +15,7 @@ use Rattle.fx_counted.proofs.Births.{in_phase}
 use Rattle.fx_counted.proofs.Calm.{no_event, calm_agrees}
 use Rattle.fx_counted.proofs.Changes.{in_size, names_old, removal_agrees, removal_tells, installation_agrees, installation_tells}
 use Rattle.fx_counted.proofs.ControlSteps.{goes_on}
-use Rattle.fx_counted.proofs.Histories.{legal_more, grows_none, same_shape}
+use Rattle.fx_counted.proofs.Histories.{legal_more, same_shape}
 use Rattle.fx_counted.proofs.Keeping.{word_at, now, logged, its_work}
 use Rattle.fx_counted.proofs.NodeSteps.{far}
 use Rattle.fx_counted.proofs.Swaps.{Effect}
