@@ -69,8 +69,8 @@ written_over len xs ys seen n x few is has set = ap (with_rest Fresh len) set
     ∙ ap (λ (l : List Node). slice_set l n x) is
 
 -- and so is one of what the node becomes
-pub changed_over : (f : Node → Node) (len : ℕ) (xs mid ys seen : List Node) (n : ℕ) (node now : Node) → length xs ≤ len → with_rest Fresh len xs ≡ seen
-    → IsSome (file_in (node_at seen n)) → node ≡ node_at xs n → mid ≡ slice_set xs n Gone → now ≡ f node → ys ≡ slice_set mid n now
+pub changed_over : (f : Node → Node) (len : ℕ) (xs mid ys seen : List Node) (n : ℕ) (node now : Node) → length xs ≤ len
+    → with_rest Fresh len xs ≡ seen → IsSome (file_in (node_at seen n)) → node ≡ node_at xs n → mid ≡ slice_set xs n Gone → now ≡ f node → ys ≡ slice_set mid n now
     → with_rest Fresh len ys ≡ slice_set seen n (f (node_at seen n))
 changed_over f len xs mid ys seen n node now few is has read out became set =
     let inside = written_inside len xs n few (subst (λ (l : List Node). IsSome (file_in (node_at l n))) (sym is) has) in
