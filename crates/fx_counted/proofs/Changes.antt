@@ -70,7 +70,8 @@ module _ (st : Shared) (v : View) (r : Agrees v.start st) (id : ℕ) (x : Log) (
     }
 
     abbrev removed_view : View
-    removed_view = now v (logged x (event_of (shown x v.work) a ∷ r.history) x.numbers_left x.looks_left) (retires_now old (takes_in f₀)) (turned v.change (if_full old) 0)
+    removed_view = now v (logged x (event_of (shown x v.work) a ∷ r.history) x.numbers_left x.looks_left)
+        (retires_now old (takes_in f₀)) (turned v.change (if_full old) 0)
 
     pub removal_agrees : Agrees v.start (stepped st (slot_place s) 0 id [] removed_view keeps)
     removal_agrees = swap_agrees st v r id x here one s inside old was a 0 None st.homes r.phase x.numbers_left
