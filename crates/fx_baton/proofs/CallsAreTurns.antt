@@ -116,7 +116,8 @@ module _ (v : View) (x : Log) (c d : Contents) (chain : ℕ) (known : Knows v x 
         → (n : ℕ) → leaving_count d n + removals_by n v.doing ≡ leaving_count c n + removals_by n (retires_now o)
     leaves_more slot None is leaves n = let e = leaves_same n leaves in let b = ap (removals_by n) idle in omega arith
     leaves_more slot (Some f) is leaves n =
-        let a : leaving_count d n ≡ cond {A = ℕ} (changed_at (leaving c) f.number true n) 1 0 = ap (λ (z : ℕ → Bool). cond {A = ℕ} (z n) 1 0) leaves in
+        let a : leaving_count d n ≡ cond {A = ℕ} (changed_at (leaving c) f.number true n) 1 0 =
+        ap (λ (z : ℕ → Bool). cond {A = ℕ} (z n) 1 0) leaves in
         let b = ap (removals_by n) idle in
         let e = flag_set (leaving c) f.number n (stays_put c known.sound slot f (sym is)) in omega arith
 
@@ -264,7 +265,8 @@ module _ (v : View) (x : Log) (c d : Contents) (chain : ℕ) (known : Knows v x 
     leaves_less : leaving d ≡ changed_at (leaving c) f.number false
         → (n : ℕ) → leaving_count d n + removals_by n v.doing ≡ leaving_count c n + removals_by n Idle
     leaves_less leaves n =
-        let a : leaving_count d n ≡ cond {A = ℕ} (changed_at (leaving c) f.number false n) 1 0 = ap (λ (z : ℕ → Bool). cond {A = ℕ} (z n) 1 0) leaves in
+        let a : leaving_count d n ≡ cond {A = ℕ} (changed_at (leaving c) f.number false n) 1 0 =
+        ap (λ (z : ℕ → Bool). cond {A = ℕ} (z n) 1 0) leaves in
         let b : removals_by n v.doing ≡ cond {A = ℕ} (eqb f.number n) 1 0 = ap (removals_by n) removes in
         let e = flag_back (leaving c) f.number n is_leaving in omega arith
 

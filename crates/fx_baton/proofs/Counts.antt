@@ -21,7 +21,8 @@ one_less_at f q n some = grind arith
 pub flag_set : (f : ℕ → Bool) (q n : ℕ) → f q ≡ false → cond {A = ℕ} (changed_at f q true n) 1 0 ≡ cond {A = ℕ} (f n) 1 0 + cond {A = ℕ} (eqb q n) 1 0
 flag_set f q n is = grind arith
 
-pub flag_back : (f : ℕ → Bool) (q n : ℕ) → f q ≡ true → cond {A = ℕ} (changed_at f q false n) 1 0 + cond {A = ℕ} (eqb q n) 1 0 ≡ cond {A = ℕ} (f n) 1 0
+pub flag_back : (f : ℕ → Bool) (q n : ℕ) → f q ≡ true
+    → cond {A = ℕ} (changed_at f q false n) 1 0 + cond {A = ℕ} (eqb q n) 1 0 ≡ cond {A = ℕ} (f n) 1 0
 flag_back f q n is = grind arith
 
 pub one_true : (b : Bool) → 1 ≤ cond {A = ℕ} b 1 0 → b ≡ true

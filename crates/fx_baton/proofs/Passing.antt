@@ -6,8 +6,8 @@ use Rattle.fx_baton.proofs.Words.{next_number, HasDrawnInTurn, Use, Adds, Doing,
 use Rattle.fx_baton.proofs.Words.{Start, Call, BatonPass, Seated, opening_of, begin_of, Knows, Takes, log_behind, view_behind, by, actions_of}
 use Rattle.fx_baton.proofs.Words.{doing_of, use_of, events_of, table_of_slots, table_of_loan, first_front, first_own, view_of, is_idle, IsPassOf}
 use Rattle.fx_baton.proofs.Words.{HasTable, HasSeenMore, UsesNext, HasCalled, HasGivenBack, pass_behind}
-use Rattle.fx_baton.specs.declared.view.Call.TheVariants.{Look as LookCall, Release as ReleaseCall, Put as PutCall, Allocate as AllocateCall}
-use Rattle.fx_baton.specs.declared.view.Call.TheVariants.{Full as FullCall, Clear as ClearCall, Take as TakeCall, Retire as RetireCall}
+use Rattle.fx_baton.specs.declared.view.Call.TheVariants.{Look as LookCall, Release as ReleaseCall}
+use Rattle.fx_baton.specs.declared.view.Call.TheVariants.{Retire as RetireCall}
 
 -- a legal history leads to the state at its end
 pub ends_there : (k : Start) (h : List Event) (end : State) → IsLegal (begin_of k) h end → IsLegal (begin_of k) h (state_at (opening_of k) h)

@@ -75,7 +75,11 @@ module _ (k : Start) (id : ℕ) (v : View) (idle : v.doing ≡ Idle) (free : v.l
         legal = r.legal;
         sound = r.sound;
         place = ⊎_elim
-            (λ (home : IsHome r.contents s). inl (home.0, home.1, at_parts (λ _ z. z.loan ≡ None) s (λ _. free) (λ _. free) (λ i u _ e. home.2 i u e)))
+            (λ (home : IsHome r.contents s). inl (
+              home.0,
+              home.1,
+              at_parts (λ _ z. z.loan ≡ None) s (λ _. free) (λ _. free) (λ i u _ e. home.2 i u e),
+            ))
             (λ (away : IsAway r.contents r.history s).
             let apart = not_holder r.contents r.history s away id v at free in
             inr record {

@@ -10,7 +10,7 @@ use Rattle.std.proofs.Common.{length-set}
 use Rattle.fx_counted.proofs.Births.{in_phase, roomy, else_place, held_file}
 use Rattle.fx_counted.proofs.Frames.{busy, stays_same, owner_stays}
 use Rattle.fx_counted.proofs.FullSlots.{Stands, control_swap}
-use Rattle.fx_counted.proofs.Histories.{IsHistory, grows_one, part_mine, change_here, change_else, same_shape}
+use Rattle.fx_counted.proofs.Histories.{grows_one, part_mine, change_here, change_else, same_shape}
 use Rattle.fx_counted.proofs.Keeping.{Homes, word_at, now, logged, its_log, its_work, tells}
 use Rattle.fx_counted.proofs.Swaps.{NotOf, Effect, h', removed_else, found, state, so, seat_of, not_old, elsewhere, w, Swap, swap_agrees}
 use Rattle.fx_counted.proofs.Unchanged.{node_same}
@@ -70,7 +70,8 @@ module _ (st : Shared) (v : View) (r : Agrees v.start st) (id : ℕ) (x : Log) (
     }
 
     abbrev removed_view : View
-    removed_view = now v (logged x (event_of (shown x v.work) a ∷ r.history) x.numbers_left x.looks_left) (retires_now old (takes_in f₀)) (turned v.change (if_full old) 0)
+    removed_view = now v (logged x (event_of (shown x v.work) a ∷ r.history) x.numbers_left x.looks_left)
+        (retires_now old (takes_in f₀)) (turned v.change (if_full old) 0)
 
     pub removal_agrees : Agrees v.start (stepped st (slot_place s) 0 id [] removed_view keeps)
     removal_agrees = swap_agrees st v r id x here one s inside old was a 0 None st.homes r.phase x.numbers_left

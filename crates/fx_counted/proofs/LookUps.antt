@@ -12,7 +12,7 @@ use Rattle.fx_counted.specs.Agrees.{IsSeated}
 use Rattle.fx_counted.specs.Laws.{LooksKeep}
 use Rattle.fx_counted.specs.Tells.{Looks, holds_now}
 use Rattle.fx_counted.proofs.Frames.{busy, stays_same, owner_stays}
-use Rattle.fx_counted.proofs.Histories.{IsHistory, grows_one, legal_more, held_mine, part_mine, change_here, change_else, same_shape, seen_all}
+use Rattle.fx_counted.proofs.Histories.{IsHistory, grows_one, legal_more, held_mine, part_mine, change_else, same_shape, seen_all}
 use Rattle.fx_counted.proofs.Keeping.{word_at, now, logged, its_log, tells}
 use Rattle.fx_counted.proofs.NodeSteps.{far}
 use Rattle.fx_counted.proofs.Ones.{one_if, bit_here, one_more_at}

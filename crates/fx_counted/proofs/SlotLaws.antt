@@ -15,7 +15,7 @@ use Rattle.fx_counted.proofs.Births.{in_phase}
 use Rattle.fx_counted.proofs.Calm.{no_event, calm_agrees}
 use Rattle.fx_counted.proofs.Changes.{in_size, names_old, removal_agrees, removal_tells, installation_agrees, installation_tells}
 use Rattle.fx_counted.proofs.ControlSteps.{goes_on}
-use Rattle.fx_counted.proofs.Histories.{legal_more, grows_none, same_shape}
+use Rattle.fx_counted.proofs.Histories.{legal_more, same_shape}
 use Rattle.fx_counted.proofs.Keeping.{word_at, now, logged, its_work}
 use Rattle.fx_counted.proofs.NodeSteps.{far}
 use Rattle.fx_counted.proofs.Swaps.{Effect}
@@ -155,7 +155,8 @@ module _ (st : Shared) (v : View) (r : Agrees v.start st) (id : ℕ) (x : Log) (
   still = now v (logged x r.history x.numbers_left x.looks_left) v.work v.change
 
   read_agrees : Agrees v.start (stepped st i (word_at st.words i) id [] still keeps)
-  read_agrees = subst (λ (l : List ℕ). Agrees v.start record { words = l; homes = st.homes; views = set st.views id still }) (sym (set-get_or st.words i 0))
+  read_agrees = subst (λ (l : List ℕ). Agrees v.start record { words = l; homes = st.homes; views = set st.views id still })
+      (sym (set-get_or st.words i 0))
       (calm_agrees st v r id x here one r.history v.change st.words record {
         quiet = no_event st v r id x here one;
         words = refl;

@@ -133,7 +133,8 @@ module _ (c : Contents) (n : ℕ) (t : IsTable c) (going : leaving c n ≡ true)
   abbrev pub retired_at : Contents
   retired_at = with_node c n (Retired was_leaving.0)
 
-  pub as_retired : (nodes : List Node) → nodes ≡ slice_set c.nodes n (node_after_retirement (node_at c.nodes n)) → record c { nodes = nodes } ≡ retired_at
+  pub as_retired : (nodes : List Node) → nodes ≡ slice_set c.nodes n (node_after_retirement (node_at c.nodes n))
+      → record c { nodes = nodes } ≡ retired_at
   as_retired nodes is = λ i. record c { nodes = (is ∙ ap (λ (x : Node). slice_set c.nodes n (node_after_retirement x)) was_leaving.1) i }
 
   pub retire_waits : slice_index c.holds n ≢ 0 → Leads (state_of c) (close_of (closed_by_retirement c n)) (state_of retired_at)

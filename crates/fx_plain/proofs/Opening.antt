@@ -48,11 +48,13 @@ module _ (c : Contents) (slots : List (Option ℕ)) (moved nodes : List Node) (n
   ]
 
   none_waits : (n : ℕ) → removed_at n (node_at nodes n) ≡ None
-  none_waits = each_node (λ n node. removed_at n node ≡ None) (λ n x lt. moved_is (λ node. removed_at n node ≡ None) n x refl (λ _. refl)) (λ n ge lt. refl) (λ n ge. refl)
+  none_waits = each_node (λ n node. removed_at n node ≡ None)
+      (λ n x lt. moved_is (λ node. removed_at n node ≡ None) n x refl (λ _. refl)) (λ n ge lt. refl) (λ n ge. refl)
 
   fresh_is : (n : ℕ) → is_fresh (node_at nodes n) ≡ (not (nat_lt n (length c.slots)) && nat_lt n numbers)
   fresh_is = each_node (λ n node. is_fresh node ≡ (not (nat_lt n (length c.slots)) && nat_lt n numbers))
-      (λ n x lt. moved_is (λ node. is_fresh node ≡ false) n x refl (λ _. refl) ∙ sym (ap (λ (b : Bool). not b && nat_lt n numbers) (lt-ltb n (length c.slots) lt)))
+      (λ n x lt. moved_is (λ node. is_fresh node ≡ false) n x refl (λ _. refl)
+      ∙ sym (ap (λ (b : Bool). not b && nat_lt n numbers) (lt-ltb n (length c.slots) lt)))
       (λ n ge lt. sym (ap (λ (b : Bool). not b && nat_lt n numbers) (le-ltb n (length c.slots) ge) ∙ lt-ltb n numbers lt))
       (λ n ge. sym (ap (λ (b : Bool × Bool). not b.0 && b.1)
       (λ i. (le-ltb n (length c.slots) (let e = enough in omega arith) i, le-ltb n numbers ge i))))
@@ -118,7 +120,8 @@ module _ (c : Contents) (slots : List (Option ℕ)) (moved nodes : List Node) (n
     all_holds = no_holds c full held removed k settled ∙ sym (sum_by-replicate itself numbers 0 refl);
     small_holds = λ n. let z : slice_index (replicate numbers 0) n ≡ 0 = read_default numbers n 0 in omega arith;
     all_removed = none_removed c full held removed k settled ∙ sym (sum_of_nothings removed_count_of nodes Gone
-        (each_node (λ n node. removed_count_of node ≡ 0) (λ n x lt. moved_is (λ node. removed_count_of node ≡ 0) n x refl (λ _. refl)) (λ n ge lt. refl) (λ n ge. refl)));
+        (each_node (λ n node. removed_count_of node ≡ 0)
+        (λ n x lt. moved_is (λ node. removed_count_of node ≡ 0) n x refl (λ _. refl)) (λ n ge lt. refl) (λ n ge. refl)));
   }
 
   -- the same of a table as its fields are

@@ -2,8 +2,7 @@
 use Rattle.fx_plain.proofs.Words.{◌≡◌, ◌≢◌, ℕ, zero, suc, ◌+◌, ◌-◌, ◌<◌, ◌≤◌, List, [], ◌∷◌, ◌++◌, length, length-append, replicate, refl, sym, ap}
 use Rattle.fx_plain.proofs.Words.{subst, ◌∙◌, slice_index_or, slice_set, append_assoc, IsSome, arith, inl, inr, length-set, length-replicate}
 use Rattle.fx_plain.proofs.Words.{get_or_append_left, cases_lt, get_or-eq_default, node_at, file_in, Fresh, Gone, with_rest, Node, set-set}
-use Rattle.std.proofs.lemmas.List.{get_or-take, get_or-append-add, set-append_left}
-use Rattle.std.proofs.lemmas.Grind.{common_steps}
+use Rattle.std.proofs.lemmas.List.{get_or-append-add, set-append_left}
 
 read_replicate : {X : Type 0} (n i : ℕ) (x d : X) → i < n → slice_index_or (replicate n x) i d ≡ x
 read_replicate zero i x d inside = absurd (omega arith)
@@ -70,8 +69,8 @@ written_over len xs ys seen n x few is has set = ap (with_rest Fresh len) set
     ∙ ap (λ (l : List Node). slice_set l n x) is
 
 -- and so is one of what the node becomes
-pub changed_over : (f : Node → Node) (len : ℕ) (xs mid ys seen : List Node) (n : ℕ) (node now : Node) → length xs ≤ len → with_rest Fresh len xs ≡ seen
-    → IsSome (file_in (node_at seen n)) → node ≡ node_at xs n → mid ≡ slice_set xs n Gone → now ≡ f node → ys ≡ slice_set mid n now
+pub changed_over : (f : Node → Node) (len : ℕ) (xs mid ys seen : List Node) (n : ℕ) (node now : Node) → length xs ≤ len
+    → with_rest Fresh len xs ≡ seen → IsSome (file_in (node_at seen n)) → node ≡ node_at xs n → mid ≡ slice_set xs n Gone → now ≡ f node → ys ≡ slice_set mid n now
     → with_rest Fresh len ys ≡ slice_set seen n (f (node_at seen n))
 changed_over f len xs mid ys seen n node now few is has read out became set =
     let inside = written_inside len xs n few (subst (λ (l : List Node). IsSome (file_in (node_at l n))) (sym is) has) in

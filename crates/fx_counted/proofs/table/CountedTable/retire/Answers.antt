@@ -18,7 +18,8 @@ fetch_sub-found-requires c =
       fits.table,
       node_inside t f.number c.node_place-place.result (subst (IsInside t.table.shared.key) work fits.seated.inside) is,
       retires_keep t.table.shared.key _ p.seat.id _ c.retire_amount-amount.result takes f p.seat.me fits.log (its_pass _ _ p fits) work
-          (node_is_at t f.number c.node_place-place.result is) (c.retire_amount-amount.ensures ∙ ap (λ (r : Retired). retire_amount_of r.takes) value),
+          (node_is_at t f.number c.node_place-place.result is)
+          (c.retire_amount-amount.ensures ∙ ap (λ (r : Retired). retire_amount_of r.takes) value),
     )
 
 -- what the step told, by the file that the pass removed

@@ -41,14 +41,16 @@ module _ (c : After-index-replaced) where
       put_removes v c.args.slot c.args.number c.args.file c.self.invariant.0 inside free (search rules) found (at found is)
 
 pub overflow_add-self : goal.overflow_add-self
-overflow_add-self c = let fits = (counted (goal.at.overflow_add-self c).After-index-replaced None c.in-None.is (c.self.inside.full + 1) c.self.inside.removed
+overflow_add-self c =
+    let fits = (counted (goal.at.overflow_add-self c).After-index-replaced None c.in-None.is (c.self.inside.full + 1) c.self.inside.removed
     (omega arith) (omega arith)).1 in
     omega (arith, fits)
 
 pub invariant_of-self : goal.invariant_of-self
 invariant_of-self c = let a = (goal.at.invariant_of-self c).After-index-replaced in
     subst (λ (k : Contents). IsTable k × IsCounted k (c.self.inside.full + 1) c.self.inside.held c.self.inside.removed)
-    (sym (as_put_free (v a) c.args.slot c.args.number c.args.file c.self.invariant.0 (inside a) (free a) _ (at a None c.in-None.is) c.set_node.ensures))
+    (sym (as_put_free (v a) c.args.slot c.args.number c.args.file c.self.invariant.0 (inside a) (free a) _ (at a None c.in-None.is)
+    c.set_node.ensures))
     (let n = counted a None c.in-None.is (c.self.inside.full + 1) c.self.inside.removed (omega arith) (omega arith) in (n.2, n.3))
 
 pub leave-requires : goal.leave-requires

@@ -42,7 +42,8 @@ overflow_add-self c = let fits = (counted (goal.at.overflow_add-self c).After-se
 pub invariant_of-self : goal.invariant_of-self
 invariant_of-self c = let a = (goal.at.invariant_of-self c).After-set_node in
     subst (λ (k : Contents). IsTable k × IsCounted k (c.self.inside.full + 1) c.self.inside.held c.self.inside.removed)
-    (sym (as_put_free (v a) c.args.slot c.args.slot c.args.file c.self.invariant.0 (inside a) (free a) c.set_node.new.self (empty a) c.set_node.ensures))
+    (sym (as_put_free (v a) c.args.slot c.args.slot c.args.file c.self.invariant.0 (inside a) (free a) c.set_node.new.self (empty a)
+    c.set_node.ensures))
     (put_keeps (v a) c.args.slot c.args.slot c.args.file c.self.invariant.0 (inside a) (free a), (counted a).1)
 
 pub returns-clause-state : goal.returns-clause-state

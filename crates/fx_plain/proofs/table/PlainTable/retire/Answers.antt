@@ -3,7 +3,8 @@ use Rattle.fx_plain.proofs.Words.{IsCounted, state_of, leaving, node_at, closed_
 use Rattle.fx_plain.specs.contracts.table.PlainTable.{the_view}
 use Rattle.fx_plain.proofs.Writes.{has_file-leaving}
 use Rattle.fx_plain.proofs.Removals.{carried}
-use Rattle.fx_plain.proofs.Holding.{with_nodes, as_retired, retire_closes, retire_waits, closed_leaving, retired_leaving, retire_close_keeps, retire_wait_keeps}
+use Rattle.fx_plain.proofs.Holding.{with_nodes, as_retired, retire_closes, retire_waits, closed_leaving, retired_leaving, retire_close_keeps}
+use Rattle.fx_plain.proofs.Holding.{retire_wait_keeps}
 use Rattle.fx_plain.proofs.table.PlainTable.retire.Goals as goal
 
 pub overflow_sub-self : goal.overflow_sub-self
@@ -38,7 +39,8 @@ invariant_of-self-2 c =
     let going : leaving (the_view c.self.inside) c.args.number ≡ true = search rules in
     subst (λ (k : Contents). IsTable k × IsCounted k c.self.inside.full c.self.inside.held c.self.inside.removed)
     (sym (as_retired (the_view c.self.inside) c.args.number c.self.invariant.0 going c.retire.new.self c.retire.ensures))
-    (retire_wait_keeps (the_view c.self.inside) c.args.number c.self.invariant.0 going _ _ _ c.self.invariant.1 (λ is. c.if-of-eq0.false (c.of.ensures ∙ is)))
+    (retire_wait_keeps (the_view c.self.inside) c.args.number c.self.invariant.0 going _ _ _ c.self.invariant.1
+    (λ is. c.if-of-eq0.false (c.of.ensures ∙ is)))
 
 pub returns-clause-steps : goal.returns-clause-steps
 returns-clause-steps c =

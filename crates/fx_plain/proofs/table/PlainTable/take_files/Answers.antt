@@ -13,5 +13,6 @@ invariant_of-self c =
     let size : length c.fill.new.self.items ≡ length v.slots = search rules in
     without_keeps v c.fill.new.self.items v.range c.take_each.new.nodes c.self.invariant.0
     (λ s. ap (λ (xs : List (Option ℕ)). slot_at xs s) items ∙ read_default (vec_len c.self.inside.slots) s None)
-    (omega (arith, size)) (let inside = c.self.invariant.0.range_inside in omega (arith, inside, size)) c.take_each.ensures.len c.take_each.ensures.nodes _ _ _ c.self.invariant.1
+    (omega (arith, size)) (let inside = c.self.invariant.0.range_inside in omega (arith, inside, size)) c.take_each.ensures.len
+    c.take_each.ensures.nodes _ _ _ c.self.invariant.1
     (ap (sum_by file_count_of) items ∙ sum_by-replicate file_count_of (vec_len c.self.inside.slots) None refl) c.take_each.ensures.removed
