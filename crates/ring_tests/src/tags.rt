@@ -26,7 +26,7 @@ fn tagged_files_leave_in_each_way(rt: HostRuntime) -> Result<(), Fail> {
         let report = submit(&rt, alloc, &mut ring, &requests, players);
         expect_completed(&rt, &report, 1, &completed);
         expect_closed(&rt, &report, &closed);
-        expect_tags(&rt, alloc, &report, &[40, 30, 20, 10])?;
+        expect_tags(&rt, alloc, &report, &[40, 30, 20, 10]);
         let left = [
             tagged(1, 4, 0, 5),
             opened(1, 1, 1, 1),
@@ -57,7 +57,7 @@ fn no_tag_without_a_close(rt: HostRuntime) -> Result<(), Fail> {
         let report = submit(&rt, alloc, &mut ring, &requests, players);
         expect_completed(&rt, &report, 1, &completed);
         expect_closed(&rt, &report, &[tagged(1, 1, 0, 0)]);
-        expect_tags(&rt, alloc, &report, &[])?;
+        expect_tags(&rt, alloc, &report, &[]);
         expect_left(&rt, alloc, ring, &[tagged(1, 0, 0, 7), tagged(1, 2, 1, 8)]);
     }
     Ok(())
@@ -72,7 +72,7 @@ fn one_tag_of_two_files_is_told_twice(rt: HostRuntime) -> Result<(), Fail> {
         let report = submit(&rt, alloc, &mut ring, &requests, players);
         expect_completed(&rt, &report, 1, &[(1, 1, 0, ""), (2, 1, 0, "")]);
         expect_closed(&rt, &report, &[tagged(1, 0, 0, 9), tagged(1, 1, 1, 9)]);
-        expect_tags(&rt, alloc, &report, &[9, 9])?;
+        expect_tags(&rt, alloc, &report, &[9, 9]);
         expect_left(&rt, alloc, ring, &[]);
     }
     Ok(())
