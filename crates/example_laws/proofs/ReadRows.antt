@@ -12,7 +12,8 @@ use Rattle.fx_chain.specs.declared.completion.Place.{Place}
 use Rattle.fx_chain.specs.declared.request.Target.TheVariants.{Slot}
 use Rattle.fx_ring.specs.Registration.{registered_sparse}
 use Rattle.fx_ring.specs.Ring.{RingState, new_ring}
-use Rattle.fx_order.specs.Access.{Looks, Puts, PermitsAll}
+use Rattle.fx_order.specs.Access.{PermitsAll}
+use Rattle.fx_order.specs.declared.access.Access.TheVariants.{Looks, Puts}
 use Rattle.fx_order.specs.declared.access.Access.{Access}
 use Rattle.fx_order.specs.Order.{table_of}
 use Rattle.fx_order.specs.Requests.{IsChainDone, gives}

@@ -10,7 +10,8 @@ use Rattle.fx_chain.specs.Completed.{Completed, completed, refusal}
 use Rattle.fx_chain.specs.Operation.{Asked}
 use Rattle.fx_chain.specs.Runs.{runs_of}
 use Rattle.fx_ring.specs.Ring.{RingState, new_ring}
-use Rattle.fx_order.specs.Access.{Looks, Takes, PermitsAll, accesses_of}
+use Rattle.fx_order.specs.Access.{PermitsAll, accesses_of}
+use Rattle.fx_order.specs.declared.access.Access.TheVariants.{Looks, Takes}
 use Rattle.fx_order.specs.declared.access.Access.{Access}
 use Rattle.fx_order.specs.Order.{table_of}
 use Rattle.fx_order.specs.Requests.{AreChainsDone, IsChainDone, gives}

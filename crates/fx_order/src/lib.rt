@@ -15,3 +15,6 @@ pub use access::{Access, ChainAccess};
 pub use chain::is_chain_done;
 pub use order::{are_closed, make_all};
 pub use slots::Slots;
+
+#[cfg(test)]
+mod tests;
