@@ -22,6 +22,7 @@ const FILE: Closed = Closed {
         entry: 0,
     },
     entry: 0,
+    tag: 0,
 };
 
 // A file is opened at slot 0, read and closed.
