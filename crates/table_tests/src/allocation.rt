@@ -10,8 +10,8 @@ use std::process::Abort;
 use std::sync::Wait;
 use std::test::Fail;
 
-// A file is put into a free slot, which is this one.
-fn put_at<T: FileTable, R: Wait + Abort>(
+/// A file is put into a free slot, which is this one.
+pub(crate) fn put_at<T: FileTable, R: Wait + Abort>(
     rt: &R,
     table: &T,
     pass: &mut T::Pass,
@@ -29,8 +29,13 @@ fn put_at<T: FileTable, R: Wait + Abort>(
     }
 }
 
-// The range is full: the file comes back, and no number was used.
-fn is_full<T: FileTable, R: Wait + Abort>(rt: &R, table: &T, pass: &mut T::Pass, file: OpenFile)
+/// The range is full: the file comes back, and no number was used.
+pub(crate) fn is_full<T: FileTable, R: Wait + Abort>(
+    rt: &R,
+    table: &T,
+    pass: &mut T::Pass,
+    file: OpenFile,
+)
     requires { T.fits table.now pass.old }
     ensures { T.fits table.now pass.new }
 {
@@ -185,8 +190,13 @@ fn range_filled_by_puts(rt: HostRuntime) -> Result<(), Fail> {
     fill_by_puts::<CountedTable, _>(&rt, rt.alloc())
 }
 
-// The pass is answered this chain, or that there are no more.
-fn draws<T: FileTable, R: Abort>(rt: &R, table: &T, pass: &mut T::Pass, chain: Option<u32>)
+/// The pass is answered this chain, or that there are no more.
+pub(crate) fn draws<T: FileTable, R: Abort>(
+    rt: &R,
+    table: &T,
+    pass: &mut T::Pass,
+    chain: Option<u32>,
+)
     requires { T.fits table.now pass.old }
     ensures { T.fits table.now pass.new }
 {

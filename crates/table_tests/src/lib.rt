@@ -6,13 +6,19 @@
 #[cfg(test)]
 mod allocation;
 #[cfg(test)]
+mod free_slots;
+#[cfg(test)]
 mod limits;
+#[cfg(test)]
+mod openings;
 #[cfg(test)]
 mod passes;
 #[cfg(test)]
 mod races;
 #[cfg(test)]
 mod setting;
+#[cfg(test)]
+mod sizes;
 #[cfg(test)]
 mod spent;
 #[cfg(test)]

@@ -31,8 +31,8 @@ fn draw_all<T: FileTable, R: Abort>(rt: &R, table: &T, pass: &mut T::Pass) -> u3
     panic!(rt; "no more chains than the table has")
 }
 
-// Draws every chain by every pass, and gives the passes back in another list.
-fn draw_by_all<T: FileTable, R: Abort>(
+/// Draws every chain by every pass, and gives the passes back in another list.
+pub(crate) fn draw_by_all<T: FileTable, R: Abort>(
     rt: &R,
     table: &T,
     passes: &mut Vec<T::Pass>,
