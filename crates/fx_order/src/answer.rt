@@ -24,6 +24,17 @@ pub(crate) fn is_refused(place: Place, errno: Errno, own: &[Access], c: &Complet
     own.is_empty() && is_answer(c, place, -errno.code(), &[])
 }
 
+/// What a file is that a request installs: that of an update's place in its list, or of an open, whose place is 0.
+pub(crate) fn installed(place: Place, in_list: u32, entry: u8) -> Closed
+    ensures { result ≡ installed place in_list entry }
+{
+    Closed {
+        mark: place.mark(in_list),
+        entry,
+        tag: 0,
+    }
+}
+
 /// Whether an access installed this entry at a slot.
 pub(crate) fn puts(place: Place, in_list: u32, slot: u32, entry: u8, access: &Access) -> bool
     ensures { IsTrue result → (removed : Option File)
@@ -32,11 +43,7 @@ pub(crate) fn puts(place: Place, in_list: u32, slot: u32, entry: u8, access: &Ac
     match access {
         Access::Puts(at, file, _) => {
             *at == slot
-                && *file
-                    == (Closed {
-                        mark: place.mark(in_list),
-                        entry,
-                    })
+                && *file == installed(place, in_list, entry)
         }
         _ => false,
     }

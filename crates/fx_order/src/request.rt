@@ -7,7 +7,7 @@ ghost use Rattle.fx_chain.specs.declared.request.Target.TheVariants.{Slot, Any};
 ghost use Rattle.fx_order.specs.Requests.{IsOpenDone, IsReadDone, IsCloseDone, IsRequestDone, gives};
 
 use crate::access::Access;
-use crate::answer::{is_answer, is_refused, puts};
+use crate::answer::{installed, is_answer, is_refused, puts};
 use crate::update::is_update_done;
 use fx_base::{Catalogue, Closed, Errno, NoMemory};
 use fx_chain::{Completion, LONGEST_READ, Op, Place, Request, Target};
@@ -48,11 +48,7 @@ fn is_open_any_done(size: u32, place: Place, entry: u8, own: &[Access], c: &Comp
     match own {
         [Access::Allocates(slot, file)] => {
             *slot < MOST_SLOTS
-                && *file
-                    == (Closed {
-                        mark: place.mark(0),
-                        entry,
-                    })
+                && *file == installed(place, 0, entry)
                 && is_answer(c, place, *slot as i32, &[])
         }
         [Access::FindsFull] => is_answer(c, place, -Errno::ENFILE.code(), &[]),

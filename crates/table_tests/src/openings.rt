@@ -6,7 +6,7 @@ ghost use Rattle.fx_plain.specs.Contents.{state_of};
 ghost use Rattle.fx_table.specs.declared.limits.TheConstants.{MAX_CHAINS, MAX_PASSES};
 
 use crate::limits::draw_by_all;
-use crate::setting::{empty_table, left_in, open_table, two_names};
+use crate::setting::{empty_table, left_in, open_table, tag_of, two_names};
 use crate::sizes::{filled_table, sizes_to};
 use fx_base::{CloseList, Closed, Mark};
 use fx_baton::BatonTable;
@@ -51,7 +51,8 @@ fn expect_all_files<R: Abort>(rt: &R, alloc: Global, plain: PlainTable, slots: u
     assert_eq!(rt; left.files().len(), slots as usize);
     for (i, file) in left.files().iter().enumerate() {
         let mark = Mark::Registered { k: 1, i: i as u32 };
-        assert_eq!(rt; *file, Closed { mark, entry: 0 });
+        let tag = tag_of(1, i as u32);
+        assert_eq!(rt; *file, Closed { mark, entry: 0, tag });
     }
 }
 
