@@ -34,8 +34,8 @@ pub fn make_all(slots: &mut Slots, order: &[ChainAccess]) -> bool
     true
 }
 
-// The accesses of one chain, in their order.
-fn accesses_of_chain(
+/// The accesses of one chain, in their order.
+pub(crate) fn accesses_of_chain(
     alloc: Global,
     chain: u32,
     order: &[ChainAccess],
