@@ -1,5 +1,5 @@
 -- An order with one more access.
-use Rattle.std.proofs.Common.{◌≡◌, ℕ, ◌+◌, ◌<◌, List, [], ◌∷◌, ◌++◌, length, take, sym, ap, subst, ◌∙◌, slice_index_or, Option}
+use Rattle.std.proofs.Common.{◌≡◌, ℕ, ◌+◌, ◌<◌, List, [], ◌∷◌, ◌++◌, length, take, sym, ap, subst, ◌∙◌, slice_index_or, Option, zero, suc, arith}
 use Rattle.std.proofs.lemmas.List.{append-nil, map-append, take_more}
 use Rattle.std.specs.Option.{option_to_list}
 use Rattle.fx_base.specs.declared.open_file.Closed.{Closed}
@@ -34,3 +34,15 @@ module _ (order : List ChainAccess) (i : ℕ) (d : ChainAccess) (within : i < le
       → found ≡ removed_by (slice_index_or order i d).access → now ≡ before ++ option_to_list found
       → now ≡ removed_in (accesses_of (take (i + 1) order))
   more_removed before now found so_far is grown = grown ∙ ((λ j. so_far j ++ option_to_list (is j)) ∙ sym removed_one)
+
+-- each access of an order may be made where it stands
+permitted_at : (start : Table) (order : List ChainAccess) (i : ℕ) (d : ChainAccess) → i < length order → PermitsAll start (accesses_of order)
+    → Permits (table_after start (accesses_of (take i order))) (slice_index_or order i d).access
+permitted_at start [] i d within all = absurd (omega arith)
+permitted_at start (x ∷ order) zero d within all = all.0
+permitted_at start (x ∷ order) (suc i) d within all = permitted_at (table_with start x.access) order i d (omega arith) all.1
+
+pub permitted_here : (order : List ChainAccess) (i : ℕ) (d : ChainAccess) → i < length order → (start at : Table)
+    → at ≡ table_after start (accesses_of (take i order)) → PermitsAll start (accesses_of order) → Permits at (slice_index_or order i d).access
+permitted_here order i d within start at is all =
+    subst (λ (t : Table). Permits t (slice_index_or order i d).access) (sym is) (permitted_at start order i d within all)

@@ -9,12 +9,14 @@ pub mod laws;
 mod order;
 mod request;
 mod slots;
+mod submission;
 mod update;
 
 pub use access::{Access, ChainAccess};
 pub use chain::is_chain_done;
 pub use order::{are_closed, make_all};
 pub use slots::Slots;
+pub use submission::are_chains_done;
 
 #[cfg(test)]
 mod tests;

@@ -1,5 +1,5 @@
 //! Whether a report came of an order of a submission's requests: the order is made again, access by access.
-ghost use Rattle.std.specs.Prelude.{◌≡◌, ℕ, ◌+◌, ◌<◌, ◌≤◌, ◌^◌, All, IfOk, IsTrue, IsPermutation, List, [], length, map};
+ghost use Rattle.std.specs.Prelude.{◌≡◌, ℕ, ◌+◌, ◌<◌, ◌≤◌, ◌^◌, ◌↔◌, All, IfOk, IsTrue, IsPermutation, List, [], length, map};
 ghost use Rattle.fx_base.specs.CloseList.{IsInOrderOfMark};
 ghost use Rattle.fx_base.specs.declared.open_file.Closed.{Closed as File};
 ghost use Rattle.fx_chain.specs.Accepted.{IsAccepted, IsChain, IsWithinLimits, members_of};
@@ -17,11 +17,11 @@ use fx_base::{Catalogue, Closed, NoMemory};
 use fx_chain::{Chain, Completion, Place, Request};
 use std::alloc::Global;
 
-/// Makes the accesses of an order, one after another, where each may be made. Where one may not, those before it have
-/// been made.
+/// Makes the accesses of an order, one after another, and tells whether each could be made. Where one may not be made,
+/// those before it have been made and none behind it.
 pub fn make_all(slots: &mut Slots, order: &[ChainAccess]) -> bool
     ensures permitted { IsTrue result
-        → PermitsAll (table_of_slots slots.old) (accesses_of order.now) }
+        ↔ PermitsAll (table_of_slots slots.old) (accesses_of order.now) }
     ensures made { IsTrue result → table_of_slots slots.new
         ≡ table_after (table_of_slots slots.old) (accesses_of order.now) }
 {
@@ -34,8 +34,8 @@ pub fn make_all(slots: &mut Slots, order: &[ChainAccess]) -> bool
     true
 }
 
-// The accesses of one chain, in their order.
-fn accesses_of_chain(
+/// The accesses of one chain, in their order.
+pub(crate) fn accesses_of_chain(
     alloc: Global,
     chain: u32,
     order: &[ChainAccess],

@@ -1,5 +1,5 @@
 //! A table as an order of accesses sees it.
-ghost use Rattle.std.specs.Prelude.{◌≡◌, ℕ, ◌+◌, ◌<◌, ◌≤◌, IsTrue, IsSome, None, length, slice_index_or};
+ghost use Rattle.std.specs.Prelude.{◌≡◌, ℕ, ◌+◌, ◌<◌, ◌≤◌, ◌↔◌, IsTrue, IsSome, None, length, slice_index_or};
 ghost use Rattle.fx_order.specs.Access.{Permits, table_with, with_file};
 ghost use Rattle.fx_order.specs.Slots.{IsFoundAt, table_of_slots};
 
@@ -17,7 +17,7 @@ pub struct Slots {
 
 // Whether this is what is at a slot.
 fn is_at(at: &[Option<Closed>], slot: u32, found: Option<Closed>) -> bool
-    ensures { IsTrue result → IsFoundAt at.now slot found }
+    ensures { IsTrue result ↔ IsFoundAt at.now slot found }
 {
     match at.get(slot as usize) {
         Some(file) => *file == found,
@@ -27,8 +27,8 @@ fn is_at(at: &[Option<Closed>], slot: u32, found: Option<Closed>) -> bool
 
 // Whether each slot of a range has a file.
 fn is_full(at: &[Option<Closed>], range: (u32, u32)) -> bool
-    ensures { IsTrue result → (slot : ℕ) → slot < length at.now
-        → (range.0 ≤ slot) × (slot < range.0 + range.1) → IsSome (slice_index_or at.now slot None) }
+    ensures { IsTrue result ↔ ((slot : ℕ) → slot < length at.now
+        → (range.0 ≤ slot) × (slot < range.0 + range.1) → IsSome (slice_index_or at.now slot None)) }
 {
     for slot in 0..at.len() {
         let inside = range.0 as usize <= slot && slot < range.0 as usize + range.1 as usize;
@@ -42,7 +42,7 @@ fn is_full(at: &[Option<Closed>], range: (u32, u32)) -> bool
 impl Slots {
     /// Whether an access may be made here.
     pub fn permits(&self, access: &Access) -> bool
-        ensures { IsTrue result → Permits (table_of_slots self.now) access.now }
+        ensures { IsTrue result ↔ Permits (table_of_slots self.now) access.now }
     {
         match access {
             Access::Looks(slot, found) => is_at(&self.at, *slot, *found),
