@@ -10,7 +10,15 @@ mod calls;
 #[cfg(test)]
 mod chains;
 #[cfg(test)]
+mod counts;
+#[cfg(test)]
+mod effects;
+#[cfg(test)]
 mod largest;
+#[cfg(test)]
+mod lists;
+#[cfg(test)]
+mod reads;
 #[cfg(test)]
 mod refused;
 #[cfg(test)]
@@ -19,3 +27,5 @@ mod refusing;
 mod requests;
 #[cfg(test)]
 mod setting;
+#[cfg(test)]
+mod sizes;
