@@ -6,4 +6,6 @@ mod playing;
 mod readers;
 mod refused;
 mod rows;
+mod sizes;
 mod writers;
+mod writes;

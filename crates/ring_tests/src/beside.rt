@@ -122,31 +122,35 @@ fn one_worker_waits_in_vain(rt: HostRuntime) -> Result<(), Fail> {
     Ok(())
 }
 
-#[test]
-fn sixteen_workers_play_beside_each_other(rt: HostRuntime) -> Result<(), Fail> {
-    let alloc = rt.alloc();
+// As many chains as there are workers meet in front of their only members.
+fn all_workers_meet<R: Threads + Wait + Abort + Sync>(
+    rt: &R,
+    alloc: Global,
+    players: Players,
+) -> Result<(), Fail> {
+    let (_table, workers) = players;
     let mut requests = Vec::new(alloc);
     let mut completed = Vec::new(alloc);
-    for chain in 1..17 {
+    for chain in 0..workers {
         requests.push(read(0, 0, 5))?;
-        completed.push((chain, 1, 5, "hello"))?;
+        completed.push((chain.wrapping_add(1), 1, 5, "hello"))?;
     }
+    let meeting = Meeting::new(1, workers);
+    let mut ring = full_ring(rt, alloc, &[0])?;
+    let report = submit_with(rt, alloc, &mut ring, requests.as_slice(), players, &meeting);
+    expect_completed(rt, &report, 1, completed.as_slice());
+    expect_closed(rt, &report, &[]);
+    assert!(rt; meeting.was_held(), "{players:?}");
+    expect_left(rt, alloc, ring, &[registered(1, 0, 0)]);
+    Ok(())
+}
+
+#[test]
+fn each_number_of_workers_play_beside_each_other(rt: HostRuntime) -> Result<(), Fail> {
     for table in TABLES {
-        let meeting = Meeting::new(1, 16);
-        let mut ring = full_ring(&rt, alloc, &[0])?;
-        let players = (table, 16);
-        let report = submit_with(
-            &rt,
-            alloc,
-            &mut ring,
-            requests.as_slice(),
-            players,
-            &meeting,
-        );
-        expect_completed(&rt, &report, 1, completed.as_slice());
-        expect_closed(&rt, &report, &[]);
-        assert!(rt; meeting.was_held());
-        expect_left(&rt, alloc, ring, &[registered(1, 0, 0)]);
+        for workers in 1..17 {
+            all_workers_meet(&rt, rt.alloc(), (table, workers))?;
+        }
     }
     Ok(())
 }

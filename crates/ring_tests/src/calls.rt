@@ -13,9 +13,10 @@ struct Noted {
     after_at: AtomicU32,
 }
 
-/// A gate of the first submission that notes how often it is called for each member, and in which order.
+/// A gate of one submission that notes how often it is called for each member, and in which order.
 #[derive(Drop)]
 pub(crate) struct Calls {
+    submission: u32,
     chains: Vec<Vec<Noted>>,
     made: AtomicU32,
     elsewhere: AtomicU32,
@@ -27,8 +28,13 @@ fn is_noted(count: &AtomicU32, at: &AtomicU32, made: u32) {
 }
 
 impl Calls {
-    /// A gate of chains with so many members each.
+    /// A gate of the first submission, whose chains have so many members each.
     pub(crate) fn new(alloc: Global, members: &[u32]) -> Result<Calls, AllocError> {
+        Calls::of(alloc, 1, members)
+    }
+
+    /// A gate of a submission, whose chains have so many members each.
+    pub(crate) fn of(alloc: Global, submission: u32, members: &[u32]) -> Result<Calls, AllocError> {
         let mut chains = Vec::new(alloc);
         for count in members {
             let mut chain = Vec::new(alloc);
@@ -43,6 +49,7 @@ impl Calls {
             chains.push(chain)?;
         }
         Ok(Calls {
+            submission,
             chains,
             made: AtomicU32::new(0),
             elsewhere: AtomicU32::new(0),
@@ -50,7 +57,7 @@ impl Calls {
     }
 
     fn noted(&self, place: Place) -> Option<&Noted> {
-        if place.submission != 1 {
+        if place.submission != self.submission {
             return None;
         }
         let chain = self.chains.get((place.chain as usize).checked_sub(1)?)?;

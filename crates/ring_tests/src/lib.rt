@@ -10,9 +10,17 @@ mod calls;
 #[cfg(test)]
 mod chains;
 #[cfg(test)]
+mod counts;
+#[cfg(test)]
+mod effects;
+#[cfg(test)]
 mod largest;
 #[cfg(test)]
 mod links;
+#[cfg(test)]
+mod lists;
+#[cfg(test)]
+mod reads;
 #[cfg(test)]
 mod refused;
 #[cfg(test)]
@@ -21,5 +29,7 @@ mod refusing;
 mod requests;
 #[cfg(test)]
 mod setting;
+#[cfg(test)]
+mod sizes;
 #[cfg(test)]
 mod tags;

@@ -1,26 +1,34 @@
 // What the words of a command line ask for.
-use crate::arguments::{Table, settings_in};
+use crate::arguments::{Settings, Table, settings_in};
 use crate::ending::Ending;
 use clap::error::ErrorKind;
 use fx_script::{PlayFault, ScriptFault};
+use std::alloc::Global;
+use std::process::Abort;
 use std::test::Fail;
+
+// The words ask for this.
+fn ask<R: Abort>(rt: &R, alloc: Global, words: &[&str], workers: u32, table: Table) {
+    match settings_in(alloc, words) {
+        Ok(asked) => assert_eq!(rt; asked, Settings { workers, table }),
+        Err(error) => panic!(rt; "{workers} workers, {table:?}: {:?}", error.kind()),
+    }
+}
 
 #[test]
 fn numbers_of_workers(rt: HostRuntime) -> Result<(), Fail> {
     let alloc = rt.alloc();
-    assert_eq!(rt; settings_in(alloc, &["fixfiles"])?.workers, 1);
-    assert_eq!(rt;
-        settings_in(alloc, &["fixfiles", "--workers", "1"])?.workers,
-        1
-    );
-    assert_eq!(rt;
-        settings_in(alloc, &["fixfiles", "--workers", "16"])?.workers,
-        16
-    );
-    assert_eq!(rt;
-        settings_in(alloc, &["fixfiles", "--workers=3"])?.workers,
-        3
-    );
+    ask(&rt, alloc, &["fixfiles"], 1, Table::Words);
+    for workers in 1..17 {
+        let number = format!(in alloc; "{workers}")?;
+        let apart = ["fixfiles", "--workers", number.as_str()];
+        ask(&rt, alloc, &apart, workers, Table::Words);
+        let word = format!(in alloc; "--workers={workers}")?;
+        let words = ["fixfiles", "--table=words", word.as_str()];
+        ask(&rt, alloc, &words, workers, Table::Words);
+        let words = ["fixfiles", "--table=baton", word.as_str()];
+        ask(&rt, alloc, &words, workers, Table::Baton);
+    }
     Ok(())
 }
 

@@ -135,6 +135,54 @@ fn passes_that_take_turns(rt: HostRuntime) {
     assert!(rt; waits_in_vain(&rt, rt.alloc(), Table::Baton));
 }
 
+// The first chain waits until the third one begins.
+#[derive(Drop)]
+struct Begins {
+    begun: AtomicU32,
+    late: AtomicU32,
+}
+
+impl Gate for Begins {
+    fn before(&self, place: Place) {
+        if place.chain == 3 {
+            self.begun.store(1, Ordering::SeqCst);
+        }
+        if place.chain == 1 && !comes(&self.begun, 1) {
+            self.late.fetch_add(1, Ordering::SeqCst);
+        }
+    }
+
+    fn after(&self, _place: Place) {}
+}
+
+// Whether the first of three reads of an empty slot waits in vain for the third one to begin, on two workers.
+fn third_begins_late<R: Threads + Wait + Abort + Sync>(
+    rt: &R,
+    alloc: Global,
+    table: Table,
+) -> bool {
+    let script = "sparse 1\nread 0 0 0\nread 0 0 0\nread 0 0 0\nsubmit\n";
+    let text = "sparse 0\n1.1.1 -9\n1.2.1 -9\n1.3.1 -9\n";
+    let gate = Begins {
+        begun: AtomicU32::new(0),
+        late: AtomicU32::new(0),
+    };
+    let (written, ended) = played_at(rt, alloc, table, 2, &gate, script.as_bytes());
+    assert_eq!(rt; ended, Ok(()));
+    assert_eq!(rt; std::str::from_utf8(written.as_slice()), Ok(text));
+    gate.late.load(Ordering::SeqCst) == 1
+}
+
+#[test]
+fn third_chain_begins_beside_the_first(rt: HostRuntime) {
+    assert!(rt; !third_begins_late(&rt, rt.alloc(), Table::Words));
+}
+
+#[test]
+fn third_chain_begins_behind_the_first(rt: HostRuntime) {
+    assert!(rt; third_begins_late(&rt, rt.alloc(), Table::Baton));
+}
+
 // The second chain updates the slot between the open and the read of the first one. The bits of `done` are the first member
 // of the first chain and the one of the second.
 #[derive(Drop)]

@@ -1,29 +1,35 @@
 // Readers that fail, that give a few bytes at a time, and that come to no end.
 use super::playing::{OPEN_READ_CLOSE, OPEN_READ_CLOSE_TEXT, ended};
 use fx_script::{PlayFault, ScriptFault};
+use std::alloc::Global;
 use std::io;
 use std::io::{ErrorKind, Read};
+use std::process::Abort;
+use std::sync::Wait;
 use std::test::Fail;
+use std::thread::Threads;
 
 const TOO_LONG: PlayFault = PlayFault::Script {
     line: 0,
     kind: ScriptFault::LongScript,
 };
 
-// A reader that gives at most so many bytes at a read, and fails after so many reads.
+// A reader that gives at most so many bytes at a read, and fails once, after so many reads.
 #[derive(Drop)]
 struct Failing<'a> {
     left: &'a [u8],
     step: usize,
     turns: usize,
+    kind: ErrorKind,
 }
 
 impl<'a> Read for Failing<'a> {
     fn read(&mut self, buf: &mut [u8]) -> io::Result<usize> {
-        let Some(turns) = self.turns.checked_sub(1) else {
-            return Err(io::Error::from(ErrorKind::ConnectionReset));
-        };
-        self.turns = turns;
+        if self.turns == 0 {
+            self.turns = usize::MAX;
+            return Err(io::Error::from(self.kind));
+        }
+        self.turns -= 1;
         let count = buf.len().min(self.left.len()).min(self.step);
         buf[..count].copy_from_slice(&self.left[..count]);
         self.left = &self.left[count..];
@@ -48,37 +54,57 @@ impl Read for EmptyLines {
     }
 }
 
-#[test]
-fn a_reader_that_fails(rt: HostRuntime) -> Result<(), Fail> {
-    // Its 83 bytes and the end are read in 13 turns, and each of them may fail.
+// Lets a reader fail so, whichever of its reads it is: nothing is written, and no other read makes up for it.
+fn fails<R: Threads + Wait + Abort + Sync>(rt: &R, alloc: Global, kind: ErrorKind) {
+    // Its 83 bytes and the end are read in 13 turns.
     for turns in 0..13 {
         let mut reader = Failing {
             left: OPEN_READ_CLOSE.as_bytes(),
             step: 7,
             turns,
+            kind,
         };
-        let mut written = Vec::new(rt.alloc());
+        let mut written = Vec::new(alloc);
         assert_eq!(rt;
-            ended(&rt, rt.alloc(), &mut reader, &mut written),
+            ended(rt, alloc, &mut reader, &mut written),
             Err(PlayFault::Read),
             "{turns}"
         );
         assert_eq!(rt; written.len(), 0, "{turns}");
     }
-    Ok(())
 }
 
 #[test]
-fn a_reader_of_few_bytes(rt: HostRuntime) -> Result<(), Fail> {
-    let mut reader = Failing {
-        left: OPEN_READ_CLOSE.as_bytes(),
-        step: 7,
-        turns: 13,
-    };
-    let mut written = Vec::new(rt.alloc());
-    assert_eq!(rt; ended(&rt, rt.alloc(), &mut reader, &mut written), Ok(()));
-    assert_eq!(rt; written.as_slice(), OPEN_READ_CLOSE_TEXT.as_bytes());
-    Ok(())
+fn a_reader_that_fails(rt: HostRuntime) {
+    fails(&rt, rt.alloc(), ErrorKind::ConnectionReset);
+}
+
+#[test]
+fn a_reader_that_is_interrupted(rt: HostRuntime) {
+    fails(&rt, rt.alloc(), ErrorKind::Interrupted);
+}
+
+#[test]
+fn a_reader_of_few_bytes(rt: HostRuntime) {
+    for step in 1..84 {
+        let mut reader = Failing {
+            left: OPEN_READ_CLOSE.as_bytes(),
+            step,
+            turns: 85,
+            kind: ErrorKind::ConnectionReset,
+        };
+        let mut written = Vec::new(rt.alloc());
+        assert_eq!(rt;
+            ended(&rt, rt.alloc(), &mut reader, &mut written),
+            Ok(()),
+            "{step}"
+        );
+        assert_eq!(rt;
+            written.as_slice(),
+            OPEN_READ_CLOSE_TEXT.as_bytes(),
+            "{step}"
+        );
+    }
 }
 
 #[test]
@@ -87,6 +113,7 @@ fn a_reader_that_fails_behind_a_bad_line(rt: HostRuntime) -> Result<(), Fail> {
         left: b"bogus\n".as_slice(),
         step: 7,
         turns: 1,
+        kind: ErrorKind::ConnectionReset,
     };
     let mut written = Vec::new(rt.alloc());
     assert_eq!(rt;
@@ -97,20 +124,29 @@ fn a_reader_that_fails_behind_a_bad_line(rt: HostRuntime) -> Result<(), Fail> {
     Ok(())
 }
 
+// A reader of so many empty lines is read to its last one, and the run ends with this fault.
+fn ends_behind<R: Threads + Wait + Abort + Sync>(
+    rt: &R,
+    alloc: Global,
+    lines: u32,
+    fault: PlayFault,
+) {
+    let mut reader = EmptyLines(lines);
+    let mut written = Vec::new(alloc);
+    assert_eq!(rt; ended(rt, alloc, &mut reader, &mut written), Err(fault));
+    assert_eq!(rt; reader.0, 0);
+    assert_eq!(rt; written.len(), 0);
+}
+
+// The end is the last read that is made.
 #[test]
-fn a_reader_that_comes_to_no_end(rt: HostRuntime) -> Result<(), Fail> {
-    // The end is the last read that is made; or it would be the next, and then what was read is not looked at.
-    let readers = [(8_388_607, TOO_LONG), (8_388_608, PlayFault::Read)];
-    for (lines, fault) in readers {
-        let mut reader = EmptyLines(lines);
-        let mut written = Vec::new(rt.alloc());
-        assert_eq!(rt;
-            ended(&rt, rt.alloc(), &mut reader, &mut written),
-            Err(fault),
-            "{lines}"
-        );
-        assert_eq!(rt; reader.0, 0, "{lines}");
-        assert_eq!(rt; written.len(), 0, "{lines}");
-    }
-    Ok(())
+fn a_reader_that_ends_with_the_last_read(rt: HostRuntime) {
+    ends_behind(&rt, rt.alloc(), 8_388_607, TOO_LONG);
+}
+
+// The end would be the next read, and what was read is not looked at. It is a test of its own: each makes as many reads as
+// there can be, and so takes its time.
+#[test]
+fn a_reader_that_comes_to_no_end(rt: HostRuntime) {
+    ends_behind(&rt, rt.alloc(), 8_388_608, PlayFault::Read);
 }
