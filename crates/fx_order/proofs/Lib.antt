@@ -10,3 +10,4 @@ pub mod Answered
 pub mod Shown
 pub mod Histories
 pub mod OrderSteps
+pub mod Replayed

@@ -7,6 +7,7 @@ mod answer;
 mod chain;
 pub mod laws;
 mod order;
+mod report;
 mod request;
 mod slots;
 mod submission;
@@ -15,6 +16,7 @@ mod update;
 pub use access::{Access, ChainAccess};
 pub use chain::is_chain_done;
 pub use order::{are_closed, make_all};
+pub use report::is_one_order;
 pub use slots::Slots;
 pub use submission::are_chains_done;
 

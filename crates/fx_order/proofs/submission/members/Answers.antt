@@ -1,7 +1,7 @@
-use Rattle.std.proofs.Common.{◌≡◌, ℕ, ◌+◌, ◌-◌, ◌<◌, List, length, take, drop, sym, ap, subst, ◌∙◌, All, arith}
+use Rattle.std.proofs.Common.{◌≡◌, ℕ, ◌+◌, ◌-◌, List, take, drop, sym, ap, subst, ◌∙◌, All, arith}
 use Rattle.std.proofs.lemmas.List.{get_or-map, length-map}
 use Rattle.fx_chain.specs.Accepted.{IsWithinLimits, members_of}
-use Rattle.fx_chain.specs.Operation.{Asked, all_asked, asked_of}
+use Rattle.fx_chain.specs.Operation.{all_asked, asked_of}
 use Rattle.fx_chain.specs.declared.chain.Chain.{Chain}
 use Rattle.fx_chain.specs.declared.request.Request.{Request}
 use Rattle.fx_chain.proofs.Asking.{asked_part}
