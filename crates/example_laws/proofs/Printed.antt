@@ -22,7 +22,7 @@ use Rattle.fx_script.specs.Instruction.{MakesSparse, SubmitsAll}
 use Rattle.fx_script.specs.Play.{Answers, IsRefused, IsText, PrintsAll, PrintsReport}
 use Rattle.fx_script.specs.Run.{IsRun}
 use Rattle.fx_script.specs.Script.{Meaning, LineFault, IsScript, reading_of}
-use Rattle.fx_script.specs.Text.{report_text, completion_lines, closed_lines, result_line, teardown_text, refused_line, too_many_line}
+use Rattle.fx_script.specs.Text.{report_text, completion_lines, closes_text, result_line, teardown_text, refused_line, too_many_line}
 
 -- what a submission came to by one order, and what was printed of it and behind it
 pub record Came (start : RingState) (asked : List Asked) (printed : List ℕ) : Type 0 where
@@ -125,7 +125,7 @@ ring_left start accesses = record start { at = (table_after (table_of start) acc
 pub lines_of : (start : RingState) (asked : List Asked) (printed : List ℕ) (c : Came start asked printed) (accesses : List Access)
     (cs : List Completed) → accesses_of c.order.order ≡ accesses → c.report.completions ≡ cs → length (removed_in accesses) ≤ 1
     → length (files_of (ring_left start accesses)) ≤ 1
-    → printed ≡ (completion_lines cs ++ closed_lines start.catalogue (removed_in accesses))
+    → printed ≡ (completion_lines cs ++ closes_text start.catalogue (removed_in accesses))
     ++ teardown_text start.catalogue (files_of (ring_left start accesses))
 lines_of start asked printed c accesses cs made answered few_removed few_left =
     let removed : c.report.closes.files ≡ removed_in accesses =
@@ -135,4 +135,4 @@ lines_of start asked printed c accesses cs made answered few_removed few_left =
     let left : c.closes.files ≡ files_of (ring_left start accesses) =
     few_files (files_of (ring_left start accesses)) c.closes.files few_left
     (subst (λ (r : RingState). IsPermutation (files_of r) c.closes.files) ring c.closed.same_files) in
-    c.prints ∙ (λ i. (completion_lines (answered i) ++ closed_lines start.catalogue (removed i)) ++ teardown_text start.catalogue (left i))
+    c.prints ∙ (λ i. (completion_lines (answered i) ++ closes_text start.catalogue (removed i)) ++ teardown_text start.catalogue (left i))

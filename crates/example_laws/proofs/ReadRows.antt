@@ -1,5 +1,5 @@
 -- A chain that opens a file at a slot, reads it and closes it: its first two members.
-use Rattle.std.proofs.Common.{◌≡◌, ◌⊎◌, inl, inr, ℕ, zero, suc, true, false, List, [], ◌∷◌, codes, pos, refl, ap, subst, ◌∙◌, Option, Some, None}
+use Rattle.std.proofs.Common.{◌≡◌, ◌⊎◌, inl, inr, ℕ, zero, suc, List, [], ◌∷◌, codes, pos, refl, ap, subst, ◌∙◌, Option, Some, None}
 use Rattle.std.specs.Bool.{MatchBool}
 use Rattle.fx_base.specs.Catalogue.{FileEntry, name_at}
 use Rattle.fx_base.specs.declared.errno.Errno.TheVariants.{EBADF, ENOMEM, ECANCELED}
@@ -7,7 +7,7 @@ use Rattle.fx_base.specs.declared.open_file.Closed.{Closed}
 use Rattle.fx_chain.specs.Answers.{installed}
 use Rattle.fx_chain.specs.Completed.{Completed, completed, refusal}
 use Rattle.fx_chain.specs.Explains.{severs}
-use Rattle.fx_chain.specs.Operation.{Asked, Opens, Reads, Closes}
+use Rattle.fx_chain.specs.Operation.{Asked, Opens, Reads, Closes, no_flags, fixed_file, io_link, both_flags}
 use Rattle.fx_chain.specs.declared.completion.Place.{Place}
 use Rattle.fx_chain.specs.declared.request.Target.TheVariants.{Slot}
 use Rattle.fx_ring.specs.Registration.{registered_sparse}
@@ -23,13 +23,13 @@ abbrev pub catalogue : List FileEntry
 catalogue = record { name = codes "a.txt"; bytes = codes "hello" } ∷ []
 
 abbrev pub open_request : Asked
-open_request = record { operation = Opens (codes "a.txt") (Slot 0); fixed = false; links = true }
+open_request = record { operation = Opens (codes "a.txt") (Slot 0); flags = io_link }
 
 abbrev pub read_request : ℕ → Asked
-read_request len = record { operation = Reads 0 0 len; fixed = true; links = true }
+read_request len = record { operation = Reads 0 0 len; flags = both_flags fixed_file io_link }
 
 abbrev pub close_request : Asked
-close_request = record { operation = Closes 0; fixed = false; links = false }
+close_request = record { operation = Closes 0; flags = no_flags }
 
 abbrev pub requests : ℕ → List Asked
 requests len = open_request ∷ read_request len ∷ close_request ∷ []

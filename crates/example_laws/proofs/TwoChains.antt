@@ -1,5 +1,5 @@
 -- The texts of two chains, one of which opens a file at a slot and the other one closes the slot.
-use Rattle.std.proofs.Common.{◌≡◌, ◌⊎◌, inl, inr, ℕ, ◌+◌, false, List, [], ◌∷◌, ◌++◌, codes, pos, refl, sym, ap, subst, ◌∙◌}
+use Rattle.std.proofs.Common.{◌≡◌, ◌⊎◌, inl, inr, ℕ, ◌+◌, List, [], ◌∷◌, ◌++◌, codes, pos, refl, sym, ap, subst, ◌∙◌}
 use Rattle.std.proofs.Common.{Option, Some, None, arith}
 use Rattle.std.specs.Fmt.{digits}
 use Rattle.std.proofs.lemmas.List.{append-nil}
@@ -8,7 +8,7 @@ use Rattle.fx_base.specs.declared.errno.Errno.TheVariants.{ENXIO, EBADF, ENOMEM}
 use Rattle.fx_base.specs.declared.open_file.Closed.{Closed}
 use Rattle.fx_chain.specs.Answers.{installed}
 use Rattle.fx_chain.specs.Completed.{Completed, completed, refusal, negated}
-use Rattle.fx_chain.specs.Operation.{Asked, Opens, Closes}
+use Rattle.fx_chain.specs.Operation.{Asked, Opens, Closes, no_flags}
 use Rattle.fx_chain.specs.declared.completion.Place.{Place}
 use Rattle.fx_chain.specs.declared.request.Target.TheVariants.{Slot}
 use Rattle.fx_ring.specs.Registration.{registered_sparse}
@@ -28,10 +28,10 @@ use Rattle.example_laws.proofs.Printed.{Came, lines_of, sparse_then, text_of_run
 use Rattle.example_laws.proofs.ReadRows.{catalogue, one_entry}
 
 abbrev open_request : Asked
-open_request = record { operation = Opens (codes "a.txt") (Slot 0); fixed = false; links = false }
+open_request = record { operation = Opens (codes "a.txt") (Slot 0); flags = no_flags }
 
 abbrev close_request : Asked
-close_request = record { operation = Closes 0; fixed = false; links = false }
+close_request = record { operation = Closes 0; flags = no_flags }
 
 abbrev requests : List Asked
 requests = open_request ∷ close_request ∷ []

@@ -41,10 +41,7 @@ pub(crate) fn puts(place: Place, in_list: u32, slot: u32, entry: u8, access: &Ac
         × (access.now ≡ Puts slot (installed place in_list entry) removed) }
 {
     match access {
-        Access::Puts(at, file, _) => {
-            *at == slot
-                && *file == installed(place, in_list, entry)
-        }
+        Access::Puts(at, file, _) => { *at == slot && *file == installed(place, in_list, entry) }
         _ => false,
     }
 }
