@@ -74,12 +74,7 @@ pub(crate) fn tagged_ring<R: Abort>(
 }
 
 /// The report's closes give these tags, in their order.
-pub(crate) fn expect_tags<R: Abort>(
-    rt: &R,
-    alloc: Global,
-    report: &Report,
-    tags: &[u64],
-) {
+pub(crate) fn expect_tags<R: Abort>(rt: &R, alloc: Global, report: &Report, tags: &[u64]) {
     let Ok(given) = report.closes.tags(alloc) else {
         panic!(rt; "completions")
     };

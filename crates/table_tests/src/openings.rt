@@ -52,7 +52,14 @@ fn expect_all_files<R: Abort>(rt: &R, alloc: Global, plain: PlainTable, slots: u
     for (i, file) in left.files().iter().enumerate() {
         let mark = Mark::Registered { k: 1, i: i as u32 };
         let tag = tag_of(1, i as u32);
-        assert_eq!(rt; *file, Closed { mark, entry: 0, tag });
+        assert_eq!(rt;
+            *file,
+            Closed {
+                mark,
+                entry: 0,
+                tag
+            }
+        );
     }
 }
 

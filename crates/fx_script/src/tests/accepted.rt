@@ -25,7 +25,11 @@ fn scripts_without_a_fault(rt: HostRuntime) -> Result<(), Fail> {
             4,
         ),
         ("regupdate 0 0\nregupdate 2147483647 -2\n", 0, 2),
-        ("register 0 7\nregupdate 0 0,-1 0,18446744073709551615\n", 0, 2),
+        (
+            "register 0 7\nregupdate 0 0,-1 0,18446744073709551615\n",
+            0,
+            2,
+        ),
         (
             "open nobody at 2147483647\nopen nobody any link\nsubmit\n",
             0,
@@ -59,7 +63,16 @@ fn every_command_as_it_is_written(rt: HostRuntime) -> Result<(), Fail> {
     let Ok(script) = Script::read(rt.alloc(), text.as_bytes()) else {
         panic!(rt; "refused");
     };
-    let [sparse, register, unregister, range, update, submit, tagged, retagged] = script.commands()
+    let [
+        sparse,
+        register,
+        unregister,
+        range,
+        update,
+        submit,
+        tagged,
+        retagged,
+    ] = script.commands()
     else {
         panic!(rt; "other commands: {script:?}");
     };
