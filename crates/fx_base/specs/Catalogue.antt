@@ -16,14 +16,17 @@ name_at catalogue entry = option_map (λ file. file.name) (slice_get catalogue e
 abbrev pub size_at : List FileEntry → ℕ → Option ℕ
 size_at catalogue entry = option_map (λ file. length file.bytes) (slice_get catalogue entry)
 
--- what every catalogue keeps: few entries, none of them long, each with a name, and no two with one name
+-- what every catalogue keeps: few entries, none of them long, each with a name, and no two with one
+-- name
 pub record IsCatalogue (catalogue : List FileEntry) : Type 0 where
   pub few : length catalogue ≤ MOST_ENTRIES
   pub small : All (λ file. length file.bytes ≤ LONGEST_ENTRY) catalogue
   pub named : All (λ file. IsTrue (is_name file.name)) catalogue
-  pub distinct : (i j : ℕ) (name : List ℕ) → name_at catalogue i ≡ Some name → name_at catalogue j ≡ Some name → i ≡ j
+  pub distinct : (i j : ℕ) (name : List ℕ) → name_at catalogue i ≡ Some name
+      → name_at catalogue j ≡ Some name → i ≡ j
 
--- the part of a file from a place on, of at most so many bytes; none where there is no file (read(2))
+-- the part of a file from a place on, of at most so many bytes; none where there is no file
+-- (read(2))
 abbrev pub part_of : Option FileEntry → ℕ → ℕ → List ℕ
 part_of None off len = []
 part_of (Some file) off len = take len (drop off file.bytes)

@@ -5,8 +5,12 @@ use Rattle.fx_base.specs.declared.name.TheConstants.{LONGEST_NAME}
 
 -- a letter, a digit, `.`, `_` or `-`
 abbrev pub name_byte : ℕ → Bool
-name_byte b = (nat_le 97 b && nat_le b 122) || ((nat_le 65 b && nat_le b 90) || ((nat_le 48 b && nat_le b 57) || (b == 46 || (b == 95 || b == 45))))
+name_byte b =
+    (nat_le 97 b && nat_le b 122)
+    || ((nat_le 65 b && nat_le b 90)
+    || ((nat_le 48 b && nat_le b 57) || (b == 46 || (b == 95 || b == 45))))
 
 -- a name: 1 byte to as many as the longest has, each of which may stand in one
 abbrev pub is_name : List ℕ → Bool
-is_name name = nat_le 1 (length name) && (nat_le (length name) LONGEST_NAME && list_all name_byte name)
+is_name name =
+    nat_le 1 (length name) && (nat_le (length name) LONGEST_NAME && list_all name_byte name)

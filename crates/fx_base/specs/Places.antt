@@ -7,4 +7,6 @@ use Rattle.fx_base.specs.Catalogue.{FileEntry}
 
 -- the map has the place of each name, and no other one
 abbrev pub ArePlaces : {Y S : Type 0} → HashMap (String Y) ℕ S → List FileEntry → Type 0
-ArePlaces places catalogue = (name : List ℕ) → get_by_text places name ≡ position_from (λ file. bytes_eq file.name name) 0 catalogue
+ArePlaces places catalogue =
+    (name : List ℕ)
+    → get_by_text places name ≡ position_from (λ file. bytes_eq file.name name) 0 catalogue

@@ -154,7 +154,7 @@ impl Catalogue {
 
     /// Appends the bytes of an entry from place `off` on, `len` of them or as many as there are, and gives their
     /// number, at most 4,096 (read(2)). Past the last entry there are none. The caller has reserved room for `len` more bytes
-    /// (`Vec::reserve`), so it can't fail for want of memory, and room that isn't used stays.
+    /// (`Vec::reserve`), so it can't run out of memory, and room that isn't used stays.
     pub fn read_into(&self, entry: u8, off: u32, len: u32, into: &mut Vec<u8>) -> u32
         requires { vec_len into.old + len ≤ vec_capacity into.old }
         ensures bytes { into.new.items ≡ into.old.items ++ bytes_at self.now entry off len }

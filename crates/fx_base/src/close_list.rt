@@ -54,7 +54,7 @@ impl CloseList {
     }
 
     /// Closes a file (close(2)): it goes to the end of the list and takes one of the room. The caller has seen that
-    /// there is room, as where [`CloseList::room`] is above 0, so it can't fail for want of memory.
+    /// there is room, as where [`CloseList::room`] is above 0, so it can't run out of memory.
     pub fn close(&mut self, file: OpenFile)
         requires { 0 < self.old.room }
         ensures files { self.new.files ≡ self.old.files ++ file ∷ [] }
@@ -79,7 +79,7 @@ impl CloseList {
         self.room = room as u32;
     }
 
-    /// Orders the files by mark, in place. It can't fail for want of memory, and the room stays.
+    /// Orders the files by mark, in place. It can't run out of memory, and the room stays.
     pub fn sort(&mut self)
         ensures same_files { IsPermutation self.old.files self.new.files }
         ensures in_order { IsInOrderOfMark self.new.files }

@@ -11,8 +11,6 @@ mod name;
 mod no_memory;
 mod open_file;
 mod tag_completion;
-#[cfg(test)]
-mod tests;
 
 pub use catalogue::{AddFault, Catalogue, LONGEST_ENTRY, MOST_ENTRIES};
 pub use close_list::CloseList;

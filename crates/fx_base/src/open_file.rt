@@ -15,7 +15,7 @@ pub struct Closed {
     pub tag: u64,
 }
 
-/// An open file. It is no `Drop`: a program that lets one go without closing or discarding it is not accepted.
+/// An open file. It is no `Drop`: a program that drops one without closing or discarding it is not accepted.
 /// Contracts see it as what its close will say (this project's own; a kernel has a `struct file` here).
 pub struct OpenFile {
     mark: Mark,
