@@ -13,7 +13,9 @@ abbrev pub ReadersUndoMaker : Type 0
 ReadersUndoMaker = (node entry : ℕ) → node ≤ last_node → entry < 2 ^ 8 → ReadsBack node entry
 
 abbrev pub MakerUndoesReaders : Type 0
-MakerUndoesReaders = (word node : ℕ) → node_in word ≡ Some node → word ≡ slot_word_of node (entry_in word) + takes_in word
+MakerUndoesReaders =
+    (word node : ℕ) → node_in word ≡ Some node
+    → word ≡ slot_word_of node (entry_in word) + takes_in word
 
 -- one take more, and nothing else
 pub record HasOneMoreTake (old new : ℕ) : Type 0 where
@@ -23,4 +25,5 @@ pub record HasOneMoreTake (old new : ℕ) : Type 0 where
   pub takes : takes_in new ≡ takes_in old + 1
 
 abbrev pub OneMoreTakeChangesTakes : Type 0
-OneMoreTakeChangesTakes = (word : ℕ) → word < 2 ^ 64 → takes_in word + 1 < 2 ^ 32 → HasOneMoreTake word (word + 1)
+OneMoreTakeChangesTakes =
+    (word : ℕ) → word < 2 ^ 64 → takes_in word + 1 < 2 ^ 32 → HasOneMoreTake word (word + 1)

@@ -41,7 +41,7 @@ retire_amount_of takes = born - takes
 abbrev pub one_change : ℕ
 one_change = 2 ^ 32
 
--- what it has beside the full slots that were told
+-- what is added in it to the full slots that were told
 abbrev pub bias : ℕ
 bias = 65536
 

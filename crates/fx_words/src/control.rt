@@ -1,7 +1,7 @@
 ghost use Rattle.std.specs.Prelude.{◌≡◌, ◌≤◌, ◌↔◌, pos, negsuc, ◌≤ℤ◌, IsTrue};
 ghost use Rattle.fx_words.specs.Words.{control_word_of, one_change, end_amount_of, full_word_of, most_slots};
 
-// What stands beside the full slots: a removal may be told before the installation that it removes.
+// What is added to the full slots: a removal may be told before the installation that it removes.
 const BIAS: u64 = 65_536;
 
 // One pass more in a change.

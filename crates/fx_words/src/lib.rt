@@ -10,8 +10,6 @@ mod control;
 pub mod laws;
 mod node;
 mod slot;
-#[cfg(test)]
-mod tests;
 
 pub use control::{begin_amount, control_word, end_amount, says_full};
 pub use node::retire_amount;
