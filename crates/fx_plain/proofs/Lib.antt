@@ -11,6 +11,7 @@ pub mod Moving
 pub mod Emptying
 pub mod FilesOut
 pub mod Opening
+pub mod Prepared
 pub mod Sums
 pub mod Named
 pub mod LawHolds

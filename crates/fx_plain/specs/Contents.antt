@@ -1,5 +1,5 @@
--- What contracts see of a table: lists. `state_of` is its state, `leaving` says which removed files wait for their
--- retirement, and `numbers_of` how many numbers were prepared.
+-- What contracts see of a table: lists. `state_of` is its state, `leaving` says which removed files
+-- wait for their retirement, and `numbers_of` how many numbers were prepared.
 use Rattle.std.specs.Prelude.{◌≡◌, ℕ, ◌+◌, ◌<◌, ◌≤◌, ◌^◌, Bool, true, false, List, length, Option, Some, None, slice_index, slice_index_or, slice_set}
 use Rattle.std.specs.Prelude.{nat_lt, if◌then◌else◌, sum_by}
 use Rattle.fx_base.specs.declared.open_file.Closed.{Closed}
@@ -72,11 +72,14 @@ numbers_of c = c.numbers
 
 -- a slot and the node of its number name each other
 abbrev pub AllPlaced : List (Option ℕ) → List Node → Type 0
-AllPlaced slots nodes = (slot number : ℕ) → slot_at slots slot ≡ Some number → (file : Closed) × (node_at nodes number ≡ At slot file)
+AllPlaced slots nodes =
+    (slot number : ℕ) → slot_at slots slot ≡ Some number
+    → (file : Closed) × (node_at nodes number ≡ At slot file)
 
 -- no slot has the number of another one
 abbrev pub HaveOwnNumbers : List (Option ℕ) → Type 0
-HaveOwnNumbers slots = (slot number : ℕ) → slot_at slots slot ≡ Some number → number < length slots → number ≡ slot
+HaveOwnNumbers slots =
+    (slot number : ℕ) → slot_at slots slot ≡ Some number → number < length slots → number ≡ slot
 
 -- what every table keeps
 pub record IsTable (c : Contents) : Type 0 where
@@ -89,7 +92,8 @@ pub record IsTable (c : Contents) : Type 0 where
   pub own : HaveOwnNumbers c.slots
   pub used : (number : ℕ) → number < length c.slots → is_fresh (node_at c.nodes number) ≡ false
   -- a retired file that nobody holds is closed
-  pub held : (number : ℕ) → is_retired (node_at c.nodes number) ≡ true → 0 < slice_index c.holds number
+  pub held : (number : ℕ) → is_retired (node_at c.nodes number) ≡ true
+      → 0 < slice_index c.holds number
 
 -- each slot's own number has room for a file
 abbrev pub IsPrepared : Contents → Type 0
@@ -108,7 +112,7 @@ removed_count_of _ = 0
 abbrev pub itself : ℕ → ℕ
 itself n = n
 
--- the counts that a table keeps beside its lists: full slots, holds, and removed files
+-- the counts that a table keeps next to its lists: full slots, holds, and removed files
 pub record IsCounted (c : Contents) (full held removed : ℕ) : Type 0 where
   pub full_slots : full ≡ sum_by file_count_of c.slots
   pub all_holds : held ≡ sum_by itself c.holds
@@ -154,10 +158,13 @@ opening_slot None slot = None
 opening_slot (Some number) slot = Some slot
 
 -- each slot has its own number now, and its file stands in the node of that number
-pub record IsRenumbered (slots : List (Option ℕ)) (nodes : List Node) (new : List (Option ℕ)) (moved : List Node) : Type 0 where
+pub record IsRenumbered (slots : List (Option ℕ)) (nodes : List Node) (new : List (Option ℕ))
+    (moved : List Node) : Type 0 where
   pub same_size : length new ≡ length slots
-  pub named : (slot : ℕ) → slot < length slots → slot_at new slot ≡ opening_slot (slot_at slots slot) slot
-  pub filed : (slot : ℕ) → slot < length slots → node_at moved slot ≡ moved_node (file_named nodes (slot_at slots slot)) slot
+  pub named : (slot : ℕ) → slot < length slots
+      → slot_at new slot ≡ opening_slot (slot_at slots slot) slot
+  pub filed : (slot : ℕ) → slot < length slots
+      → node_at moved slot ≡ moved_node (file_named nodes (slot_at slots slot)) slot
   pub same_full : sum_by file_count_of new ≡ sum_by file_count_of slots
 
 -- the first nodes are kept, and those behind them are fresh

@@ -1,4 +1,5 @@
--- Histories of a file table. The newest event stands first, and `h ▷ e` is the history `h` and then the event `e`.
+-- Histories of a file table. The newest event stands first, and `h ▷ e` is the history `h` and then
+-- the event `e`.
 use Rattle.std.specs.Prelude.{◌≡◌, ℕ, ◌==◌, if◌then◌else◌, List, [], ◌∷◌, ◌++◌, map, filter, Option, Some, None}
 use Rattle.fx_base.specs.declared.open_file.Closed.{Closed}
 use Rattle.fx_plain.specs.State.{State}
@@ -44,14 +45,16 @@ held_after held _ = held
 -- what a pass holds after a history: what its last look-up found, if it hasn't released it
 abbrev pub held_by : List Event → ℕ → Option File
 held_by [] pass = None
-held_by (e ∷ h) pass = if e.pass == pass then held_after (held_by h pass) e.action else held_by h pass
+held_by (e ∷ h) pass =
+    if e.pass == pass then held_after (held_by h pass) e.action else held_by h pass
 
 -- a release gives up what its own pass holds
 abbrev pub ReleasesItsOwn : Option File → Action → Type 0
 ReleasesItsOwn held (Release f) = held ≡ Some f
 ReleasesItsOwn held _ = Unit {0}
 
--- each release gives up what the same pass looked up, with no look-up or release of that pass between
+-- each release gives up what the same pass looked up, with no look-up or release of that pass
+-- between
 abbrev pub AllReleaseTheirOwn : List Event → Type 0
 AllReleaseTheirOwn [] = Unit {0}
 AllReleaseTheirOwn (e ∷ h) = AllReleaseTheirOwn h × ReleasesItsOwn (held_by h e.pass) e.action

@@ -1,4 +1,5 @@
--- What holds of every history of a file table, whoever took the steps and in whichever order (this project's own).
+-- What holds of every history of a file table, whoever took the steps and in whichever order (this
+-- project's own).
 use Rattle.std.specs.Prelude.{◌≡◌, ℕ, ◌<◌, ◌≤◌, ◌==◌, ◌⊎◌, false, if◌then◌else◌, List, [], ◌∷◌, ◌++◌, length, Option, Some, None}
 use Rattle.fx_plain.specs.State.{State, IsSettled, opening}
 use Rattle.fx_plain.specs.History.{◌▷◌, ◌▷▷◌, IsLegal, part_of_pass}
@@ -11,13 +12,15 @@ use Rattle.fx_plain.specs.declared.event.Action.TheVariants.{Look, Release, Put,
 abbrev pub IsAtSlot : State → File → Type 0
 IsAtSlot st f = (slot : ℕ) × (slot < st.size) × (st.at slot ≡ Some f)
 
--- no file has a hold or waits for its close, and each file at a slot has a number that no other slot's file has and no
--- new file will get
+-- no file has a hold or waits for its close, and each file at a slot has a number that no other
+-- slot's file has and no new file will get
 pub record IsStart (st : State) : Type 0 where
   pub settled : IsSettled st
-  pub distinct : (slot other : ℕ) (f g : File) → slot < st.size → other < st.size → st.at slot ≡ Some f → st.at other ≡ Some g → f.number ≡ g.number
+  pub distinct : (slot other : ℕ) (f g : File) → slot < st.size → other < st.size
+      → st.at slot ≡ Some f → st.at other ≡ Some g → f.number ≡ g.number
       → slot ≡ other
-  pub used : (slot : ℕ) (f : File) → slot < st.size → st.at slot ≡ Some f → st.fresh f.number ≡ false
+  pub used : (slot : ℕ) (f : File) → slot < st.size → st.at slot ≡ Some f
+      → st.fresh f.number ≡ false
 
 -- the file, if it has the number
 abbrev pub if_numbered : ℕ → File → List File
@@ -65,8 +68,8 @@ IsStillThere h end f = IsAtSlot end f × (closes_of f.number h ≡ [])
 abbrev pub IsClosedOnce : List Event → State → File → Type 0
 IsClosedOnce h end f = (IsAtSlot end f → ⊥) × (closes_of f.number h ≡ f ∷ [])
 
--- from the look-up of a pass on that found a file, as long as the pass releases nothing, no file of that number is
--- closed, wherever the history began
+-- from the look-up of a pass on that found a file, as long as the pass releases nothing, no file of
+-- that number is closed, wherever the history began
 abbrev pub NoCloseWhileHeld : Type 0
 NoCloseWhileHeld =
     (start end : State) (before since others : List Event) (look : Event) (slot : ℕ) (f : File)
@@ -93,8 +96,8 @@ EveryRemovedFileIsClosed =
     → IsAtSlot start f ⊎ IsInstalled h f
     → IsStillThere h end f ⊎ IsClosedOnce h end f
 
--- where no file was removed and not closed at the start, each file that was closed, or is at a slot at the end, was at a
--- slot at the start or was installed
+-- where no file was removed and not closed at the start, each file that was closed, or is at a slot
+-- at the end, was at a slot at the start or was installed
 abbrev pub EveryFileWasThereOrInstalled : Type 0
 EveryFileWasThereOrInstalled =
     (start end : State) (h : List Event) (f : File)

@@ -1,4 +1,5 @@
--- Lists of which only a beginning is written: room for the rest is reserved, and each element of it has one value.
+-- Lists of which only a beginning is written: room for the rest is reserved, and each element of it
+-- has one value.
 use Rattle.std.specs.Prelude.{ℕ, ◌-◌, List, ◌++◌, length, replicate}
 
 -- a list of so many elements: those that were written, and behind them the rest

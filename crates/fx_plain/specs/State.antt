@@ -1,4 +1,5 @@
--- The states of a file table (io_uring_register(2), "IORING_REGISTER_FILES"; the numbers and holds are this project's own).
+-- The states of a file table (io_uring_register(2), "IORING_REGISTER_FILES"; the numbers and holds
+-- are this project's own).
 use Rattle.std.specs.Prelude.{◌≡◌, ℕ, zero, suc, ◌+◌, ◌<◌, ◌≤◌, Bool, false, ◌&&◌, not, nat_lt, List, [], ◌∷◌, ◌++◌, Option, Some, None}
 use Rattle.fx_base.specs.declared.open_file.Closed.{Closed}
 use Rattle.fx_plain.specs.declared.event.File.{File}
@@ -29,13 +30,21 @@ pub record IsSettled (st : State) : Type 0 where
 
 -- a table of so many empty slots, all of them in the range, which has had no files
 abbrev pub vacant : ℕ → State
-vacant size = record { size = size; range = (0, size); at = λ _. None; removed = λ _. None; holds = λ _. 0; fresh = λ _. false }
+vacant size = record {
+  size = size;
+  range = (0, size);
+  at = λ _. None;
+  removed = λ _. None;
+  holds = λ _. 0;
+  fresh = λ _. false;
+}
 
 abbrev pub file_numbered : Option File → ℕ → Option File
 file_numbered None slot = None
 file_numbered (Some f) slot = Some (record f { number = slot })
 
--- the state that passes begin with: the file at a slot has the slot's number, and the numbers behind the slots are fresh
+-- the state that passes begin with: the file at a slot has the slot's number, and the numbers
+-- behind the slots are fresh
 abbrev pub opening : State → ℕ → State
 opening st numbers = record {
   size = st.size;

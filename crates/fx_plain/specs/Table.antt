@@ -27,11 +27,14 @@ numbered number file = record { number = number; identity = file }
 
 -- the file that a release closes: a retired one whose last hold it was
 abbrev pub closed_by_release : Contents → ℕ → Option File
-closed_by_release c number = if (state_of c).holds number == 1 && not (leaving c number) then (state_of c).removed number else None
+closed_by_release c number =
+    if (state_of c).holds number == 1 && not (leaving c number) then (state_of c).removed number
+    else None
 
 -- the file that a retirement closes: one that nobody holds
 abbrev pub closed_by_retirement : Contents → ℕ → Option File
-closed_by_retirement c number = if (state_of c).holds number == 0 then (state_of c).removed number else None
+closed_by_retirement c number =
+    if (state_of c).holds number == 0 then (state_of c).removed number else None
 
 -- one more hold of the file at a slot still fits
 abbrev pub HasRoomForHold : State → ℕ → Type 0
@@ -42,20 +45,23 @@ abbrev pub more_leaving : (ℕ → Bool) → Option File → ℕ → Bool
 more_leaving leaving None = leaving
 more_leaving leaving (Some f) = changed_at leaving f.number true
 
--- the action leads from the old table to the new one and lets the file that it found at its slot leave, if there was one:
--- its number is the answer
-pub record LetsLeave (old new : Contents) (action : Action) (found : Option File) (removed : Option ℕ) : Type 0 where
+-- the action leads from the old table to the new one and lets the file that it found at its slot
+-- leave, if there was one: its number is the answer
+pub record LetsLeave (old new : Contents) (action : Action) (found : Option File)
+    (removed : Option ℕ) : Type 0 where
   pub answer : removed ≡ number_of found
   pub step : Steps (state_of old) action (state_of new)
   pub numbers : numbers_of new ≡ numbers_of old
   pub sound : IsTable new
   pub leaving : leaving new ≡ more_leaving (leaving old) found
 
--- a hold of the number's file is given up; the file is closed and comes out where it was retired and this was its last hold
+-- a hold of the number's file is given up; the file is closed and comes out where it was retired
+-- and this was its last hold
 pub record EndsHold (old new : Contents) (number : ℕ) (out : Option Closed) : Type 0 where
   pub answer : out ≡ identity_of (closed_by_release old number)
   pub steps : (f : File) → f.number ≡ number
-      → Leads (state_of old) ([] ▷ Release f ▷▷ close_of (closed_by_release old number)) (state_of new)
+      → Leads (state_of old) ([] ▷ Release f ▷▷ close_of (closed_by_release old number))
+      (state_of new)
   pub numbers : numbers_of new ≡ numbers_of old
   pub sound : IsTable new
   pub leaving : leaving new ≡ leaving old

@@ -56,7 +56,7 @@ pub(crate) fn into_file(node: Node) -> Option<OpenFile>
     }
 }
 
-// Lets the file of a node go, if it has one.
+// Drops the file of a node, if it has one.
 pub(crate) fn spend_node(node: Node) {
     if let Some(file) = into_file(node) {
         file.discard();

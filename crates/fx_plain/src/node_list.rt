@@ -1,6 +1,6 @@
 //! The nodes of a table by number. Room for all of them is reserved at once, and a node is written when its number is
 //! reached, so that a table with many numbers costs no time for those that no file gets.
-ghost use Rattle.std.specs.Prelude.{◌≡◌, ◌<◌, ◌≤◌, ℕ, [], false, length, take, slice_index_or, slice_set, vec_len, vec_capacity, IsSome, IsTrue, MatchOption, Some, None};
+ghost use Rattle.std.specs.Prelude.{◌≡◌, ◌<◌, ◌≤◌, ℕ, [], false, length, take, slice_index_or, slice_set, vec_len, vec_capacity, IsSome, IsTrue, Some};
 ghost use Rattle.fx_plain.specs.Contents.{node_at, is_fresh, is_leaving, is_retired, file_in, node_after_removal, node_after_retirement, KeepsFirst, Fresh, Gone};
 ghost use Rattle.fx_plain.specs.Reserved.{with_rest};
 
@@ -69,7 +69,7 @@ impl NodeList {
         true
     }
 
-    // Keeps the first nodes, and lets the files of the others go. There are `len` from now on, and the others are fresh.
+    // Keeps the first nodes, and drops the files of the others. There are `len` from now on, and the others are fresh.
     pub(crate) fn cut(&mut self, kept: usize, len: u32)
         requires kept { kept ≤ len }
         requires len { len ≤ length self.old }
@@ -117,14 +117,14 @@ impl NodeList {
     }
 
     // The file of a number, wherever it stands.
-    pub(crate) fn file(&self, number: u32) -> Option<&OpenFile>
-        ensures { MatchOption result (file_in (node_at self.now number) ≡ None)
-            (λ file. file_in (node_at self.now number) ≡ Some file.now) }
+    pub(crate) fn file(&self, number: u32) -> &OpenFile
+        requires { IsSome (file_in (node_at self.now number)) }
+        ensures { Some result.now ≡ file_in (node_at self.now number) }
     {
-        match self.written.get(number as usize) {
-            Some(node) => file_in(node),
-            None => None,
-        }
+        let Some(file) = file_in(&self.written[number as usize]) else {
+            unreachable!()
+        };
+        file
     }
 
     // Writes a node. Callers write where no file is.
@@ -137,12 +137,15 @@ impl NodeList {
     }
 
     // Takes the file of a number out of its node.
-    pub(crate) fn take_file(&mut self, number: u32) -> Option<OpenFile>
+    pub(crate) fn take_file(&mut self, number: u32) -> OpenFile
         requires { IsSome (file_in (node_at self.old number)) }
-        ensures answer { result ≡ file_in (node_at self.old number) }
+        ensures answer { Some result ≡ file_in (node_at self.old number) }
         ensures after { self.new ≡ slice_set self.old number Gone }
     {
-        into_file(put_in(&mut self.written, number as usize, Node::Gone))
+        let Some(file) = into_file(put_in(&mut self.written, number as usize, Node::Gone)) else {
+            unreachable!()
+        };
+        file
     }
 
     // The file of a number left its slot, and is leaving from now on.
@@ -169,7 +172,7 @@ impl NodeList {
         ));
     }
 
-    // Lets every file of the nodes go.
+    // Drops every file of the nodes.
     pub(crate) fn spend(self) {
         let NodeList {
             mut written,
@@ -193,7 +196,7 @@ fn put_in(nodes: &mut Vec<Node>, at: usize, node: Node) -> Node
     mem::replace(&mut nodes[at], node)
 }
 
-// Lets the nodes behind the first ones go.
+// Drops the nodes behind the first ones.
 fn cut_off(nodes: &mut Vec<Node>, kept: usize)
     ensures nodes { nodes.new.items ≡ take kept nodes.old.items }
     ensures capacity { vec_capacity nodes.new ≡ vec_capacity nodes.old }

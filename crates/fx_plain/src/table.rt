@@ -1,4 +1,4 @@
-ghost use Rattle.std.specs.Prelude.{◌≡◌, ◌+◌, ◌<◌, ◌≤◌, ◌↔◌, ℕ, length, true, option_map, IfOk, IsTrue, IsOk, OnOk, OnErr};
+ghost use Rattle.std.specs.Prelude.{◌≡◌, ◌+◌, ◌<◌, ◌≤◌, ◌↔◌, ℕ, length, true, option_map, IfOk, IsTrue, IsOk, OnOk, OnErr, None};
 ghost use Rattle.fx_plain.specs.State.{vacant, IsSettled, files_of};
 ghost use Rattle.fx_plain.specs.Contents.{state_of, leaving, numbers_of, IsTable};
 ghost use Rattle.fx_plain.specs.Table.{SetsRange, identity_of};
@@ -22,7 +22,7 @@ pub const MOST_SLOTS: u32 = 256;
 pub struct BadRange;
 
 /// The file table of one thread: slots, each empty or with one open file, an allocation range, and the files that
-/// were removed and are not closed yet. It is no `Drop`: a program that lets one go without closing its files is not
+/// were removed and are not closed yet. It is no `Drop`: a program that drops one without closing its files is not
 /// accepted. Slots count from 0, and a call that names a slot asks that it is below [`PlainTable::size`].
 ///
 /// Each file has a number of its own from [`PlainTable::prepare`] on. A file that was removed is *leaving* until it is
@@ -87,7 +87,7 @@ impl PlainTable {
     }
 
     /// A table of `n` empty slots, 1 to [`MOST_SLOTS`], all of them in the allocation range (io_uring_register_files(3),
-    /// `io_uring_register_files_sparse`).
+    /// `io_uring_register_files_sparse`). It is settled, as a preparation and a shared table want it.
     ///
     /// # Errors
     /// `NoMemory` where the memory of the slots is refused.
@@ -96,6 +96,9 @@ impl PlainTable {
         requires few { n ≤ MOST_SLOTS }
         ensures state { IfOk result (λ table. state_of table ≡ vacant n) }
         ensures numbers { IfOk result (λ table. numbers_of table ≡ n) }
+        ensures size { IfOk result (λ table. (state_of table).size ≡ n) }
+        ensures empty { IfOk result (λ table. (slot : ℕ) → (state_of table).at slot ≡ None) }
+        ensures settled { IfOk result (λ table. IsSettled (state_of table)) }
     {
         let slots = vec![in alloc; None; n as usize]?;
         Ok(PlainTable {
@@ -176,10 +179,7 @@ impl PlainTable {
         ensures { result ≡ identity_of ((state_of self.now).at slot) }
     {
         let number = self.slots[slot as usize]?;
-        match self.nodes.file(number) {
-            Some(file) => Some(file.identity()),
-            None => None,
-        }
+        Some(self.nodes.file(number).identity())
     }
 
     /// How many numbers were prepared, or the size before the first preparation.

@@ -20,8 +20,8 @@ impl PlainTable {
     }
 
     /// Takes the files of a settled table ([`PlainTable::is_settled`]) out, slot by slot: each slot's file, or `None`, goes
-    /// to the end of the list. The caller has made room there for as many as there are slots, so it can't fail for want of
-    /// memory. Every slot is empty from now on. Size, range and numbers stay.
+    /// to the end of the list. The caller has made room there for as many as there are slots, so it can't run out
+    /// of memory. Every slot is empty from now on. Size, range and numbers stay.
     pub fn take_files(&mut self, files: &mut Vec<Option<OpenFile>>)
         requires settled { IsSettled (state_of self.old) }
         requires room { vec_len files.old + (state_of self.old).size ≤ vec_capacity files.old }
@@ -38,8 +38,9 @@ impl PlainTable {
     }
 
     /// Puts a file at an empty slot of a settled table ([`PlainTable::is_settled`]), under the slot's own number, as a
-    /// preparation does. The table has room for it ([`PlainTable::is_prepared`]), so it can't fail for want of memory. It is
-    /// the way back for a file that [`PlainTable::take_files`] took.
+    /// preparation does. The table has room for it ([`PlainTable::is_prepared`]), so it can't fail for memory, and it stays
+    /// settled. It is the way in for a file that is there before the table is shared, and the way back for one that
+    /// [`PlainTable::take_files`] took.
     pub fn put_back(&mut self, slot: u32, file: OpenFile)
         requires slot { slot < (state_of self.old).size }
         requires empty { (state_of self.old).at slot ≡ None }
@@ -49,6 +50,8 @@ impl PlainTable {
           at = changed_at (state_of self.old).at slot (Some (numbered slot file));
         } }
         ensures numbers { numbers_of self.new ≡ numbers_of self.old }
+        ensures size { (state_of self.new).size ≡ (state_of self.old).size }
+        ensures settled { IsSettled (state_of self.new) }
         ensures prepared { IsPrepared self.new }
         ensures sound { IsTable self.new }
     {
@@ -64,7 +67,7 @@ fn take_named(slot: Option<u32>, nodes: &mut NodeList) -> Option<OpenFile>
     ensures file { result ≡ file_named nodes.old slot }
     ensures nodes { nodes.new ≡ nodes_without nodes.old slot }
 {
-    nodes.take_file(slot?)
+    Some(nodes.take_file(slot?))
 }
 
 // Takes the files of all slots, in order.

@@ -48,7 +48,7 @@ impl PlainTable {
             return None;
         }
         self.removed -= 1;
-        self.nodes.take_file(number)
+        Some(self.nodes.take_file(number))
     }
 
     /// Retires a removed file: from now on its last release closes it. The file comes out, to be closed, where nobody
@@ -65,7 +65,7 @@ impl PlainTable {
     {
         if self.holds.of(number) == 0 {
             self.removed -= 1;
-            return self.nodes.take_file(number);
+            return Some(self.nodes.take_file(number));
         }
         self.nodes.retire(number);
         None

@@ -1,5 +1,5 @@
 //! How a table is prepared for passes, emptied and given up.
-ghost use Rattle.std.specs.Prelude.{◌≡◌, ◌≤◌, ◌<◌, ◌+◌, ℕ, [], ◌++◌, ◌-◌, ◌^◌, ◌∷◌, length, OnOk, OnErr, IfOk, IfSome, IsSome, Some, vec_len, vec_capacity, slice_set, sum_by};
+ghost use Rattle.std.specs.Prelude.{◌≡◌, ◌≤◌, ◌<◌, ◌+◌, ℕ, [], ◌++◌, ◌-◌, ◌^◌, ◌∷◌, length, OnOk, OnErr, IfOk, IfSome, IsSome, Some, None, true, vec_len, vec_capacity, slice_set, sum_by};
 ghost use Rattle.std.specs.Option.{option_to_list};
 ghost use Rattle.fx_base.specs.declared.open_file.Closed.{Closed};
 ghost use Rattle.fx_plain.specs.State.{vacant, opening, IsSettled, files_of, files_in_order};
@@ -17,7 +17,8 @@ impl PlainTable {
     /// Makes a settled table ([`PlainTable::is_settled`]) ready for passes: the file at a slot gets the slot's number,
     /// and the numbers from the size up to `numbers - 1` are fresh. `numbers` is at least [`PlainTable::size`]. Files,
     /// size and range stay. The memory of all numbers is reserved now, under 64 bytes for each, or was by an earlier
-    /// preparation; a number's part of it is written once a file gets the number or one behind it (this project's own).
+    /// preparation; a number's part of it is written once a file gets the number or one behind it. The table stays settled,
+    /// and an empty slot empty (this project's own).
     ///
     /// # Errors
     /// `NoMemory` where that memory is refused. The table is then as before.
@@ -27,6 +28,12 @@ impl PlainTable {
         ensures ok { OnOk result (state_of self.new ≡ opening (state_of self.old) numbers) }
         ensures numbers { OnOk result (numbers_of self.new ≡ numbers) }
         ensures prepared { OnOk result (IsPrepared self.new) }
+        ensures size { OnOk result ((state_of self.new).size ≡ (state_of self.old).size) }
+        ensures empty { OnOk result ((slot : ℕ) → (state_of self.old).at slot ≡ None
+            → (state_of self.new).at slot ≡ None) }
+        ensures settled { OnOk result (IsSettled (state_of self.new)) }
+        ensures fresh { OnOk result ((number : ℕ) → (state_of self.old).size ≤ number
+            → number < numbers → (state_of self.new).fresh number ≡ true) }
         ensures sound { IsTable self.new }
         ensures err { OnErr result (self.new ≡ self.old) }
     {
@@ -49,7 +56,7 @@ impl PlainTable {
     }
 
     /// Closes all files of a settled table ([`PlainTable::is_settled`]), in order of slot, where the list has room for
-    /// them ([`CloseList::room`] is at least [`PlainTable::full`]), so that it can't fail for want of memory. No slot is
+    /// them ([`CloseList::room`] is at least [`PlainTable::full`]), so that it can't run out of memory. No slot is
     /// left, the allocation range is empty, and how many numbers were prepared stays (io_uring_register(2),
     /// "IORING_UNREGISTER_FILES").
     pub fn empty_into(&mut self, closes: &mut CloseList)
@@ -76,8 +83,7 @@ impl PlainTable {
         self.abandon();
     }
 
-    /// Lets every file of the table go without a list. It is the way out after a fault, and can't fail for want of
-    /// memory.
+    /// Drops every file of the table, in no list. It is the way out after a fault, and can't run out of memory.
     pub fn abandon(self) {
         let PlainTable {
             slots: _,
@@ -108,10 +114,7 @@ fn move_file(slots: &mut Vec<Option<u32>>, nodes: &mut NodeList, slot: usize) ->
         return Node::Gone;
     };
     slots[slot] = Some(slot as u32);
-    match nodes.take_file(number) {
-        Some(file) => Node::At(slot as u32, file),
-        None => Node::Gone,
-    }
+    Node::At(slot as u32, nodes.take_file(number))
 }
 
 // Each file that stands at a slot moves to the node of the slot's own number.
@@ -176,9 +179,7 @@ fn close_file(slot: Option<u32>, nodes: &mut NodeList, closes: &mut CloseList)
     let Some(number) = slot else {
         return;
     };
-    if let Some(file) = nodes.take_file(number) {
-        closes.close(file);
-    }
+    closes.close(nodes.take_file(number));
 }
 
 // Closes the files of all slots, in order.

@@ -1,7 +1,7 @@
 //! Installations and removals.
 ghost use Rattle.std.specs.Prelude.{◌≡◌, ◌<◌, ℕ, true, None, IfOk, IfErr, IfSome, IfNone, OnErr};
 ghost use Rattle.fx_plain.specs.declared.event.Action.TheVariants.{Put, Clear, Take, Allocate, Full};
-ghost use Rattle.fx_plain.specs.State.{IsInRange};
+ghost use Rattle.fx_plain.specs.State.{IsInRange, IsSettled};
 ghost use Rattle.fx_plain.specs.Step.{Steps, Allows};
 ghost use Rattle.fx_plain.specs.Contents.{state_of, leaving, numbers_of, IsTable};
 ghost use Rattle.fx_plain.specs.Table.{numbered, LetsLeave};
@@ -12,13 +12,18 @@ use fx_base::OpenFile;
 
 impl PlainTable {
     /// Installs a file at a slot, under a number that is fresh ([`PlainTable::is_fresh`]). The answer is the number of
-    /// the file that it replaced, which is leaving from now on, or `None` where the slot was empty
-    /// (io_uring_prep_openat(3), `io_uring_prep_openat_direct`).
+    /// the file that it replaced, which is leaving from now on, or `None` where the slot was empty. A table that was
+    /// settled stays so where the slot was empty (io_uring_prep_openat(3), `io_uring_prep_openat_direct`).
     pub fn put(&mut self, slot: u32, number: u32, file: OpenFile) -> Option<u32>
         requires slot { slot < (state_of self.old).size }
         requires fresh { (state_of self.old).fresh number ≡ true }
-        ensures { let found = (state_of self.old).at slot in
+        ensures replaced { let found = (state_of self.old).at slot in
             LetsLeave self.old self.new (Put slot (numbered number file) found) found result }
+        ensures size { (state_of self.new).size ≡ (state_of self.old).size }
+        ensures settled { (state_of self.old).at slot ≡ None → IsSettled (state_of self.old)
+            → IsSettled (state_of self.new) }
+        ensures fresh { (other : ℕ) → (other ≡ number → ⊥)
+            → (state_of self.old).fresh other ≡ true → (state_of self.new).fresh other ≡ true }
     {
         self.nodes.set_node(number, Node::At(slot, file));
         let replaced = self.slots[slot as usize];

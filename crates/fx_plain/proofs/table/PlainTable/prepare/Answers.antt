@@ -3,6 +3,7 @@ use Rattle.fx_plain.proofs.Words.{state_of, Node}
 use Rattle.fx_plain.specs.contracts.table.PlainTable.{the_view}
 use Rattle.fx_plain.proofs.Moving.{renumbered_again}
 use Rattle.fx_plain.proofs.Opening.{fields_keep, state_of-fields}
+use Rattle.fx_plain.proofs.Prepared.{settled_at_opening, empty_at_opening}
 use Rattle.fx_plain.proofs.table.PlainTable.prepare.Goals.{After-extend, After-cut, After-replace}
 use Rattle.fx_plain.proofs.table.PlainTable.prepare.Goals as goal
 
@@ -41,6 +42,12 @@ returns-then-extend-clause-ok c =
     state_of-fields (v a) _ _ _ c.args.numbers c.self.invariant.0 (enough a) c.ranges.numbers.fits (renumbered b) (first b)
     c.in_ok-holds.holds c.in_ok-holds.ensures ∙ ap (λ (k : Contents). opening (state_of k) c.args.numbers) c.self.view_is
 
+pub returns-then-extend-clause-empty : goal.returns-then-extend-clause-empty
+returns-then-extend-clause-empty c slot is = empty_at_opening (state_of c.args.self.now) _ c.args.numbers slot (returns-then-extend-clause-ok c) is
+
+pub returns-then-extend-clause-settled : goal.returns-then-extend-clause-settled
+returns-then-extend-clause-settled c = settled_at_opening (state_of c.args.self.now) _ c.args.numbers (returns-then-extend-clause-ok c)
+
 pub returns-then-extend-clause-sound : goal.returns-then-extend-clause-sound
 returns-then-extend-clause-sound c = (invariant_of-self c).0
 
@@ -68,6 +75,12 @@ pub returns-clause-ok : goal.returns-clause-ok
 returns-clause-ok c = let a = (goal.at.returns-clause-ok c).After-extend in let b = (goal.at.returns-clause-ok c).After-replace in
     state_of-fields (v a) _ _ _ c.args.numbers c.self.invariant.0 (enough a) c.ranges.numbers.fits (moved b) (kept b)
     c.in_ok-holds.holds c.in_ok-holds.ensures ∙ ap (λ (k : Contents). opening (state_of k) c.args.numbers) c.self.view_is
+
+pub returns-clause-empty : goal.returns-clause-empty
+returns-clause-empty c slot is = empty_at_opening (state_of c.args.self.now) _ c.args.numbers slot (returns-clause-ok c) is
+
+pub returns-clause-settled : goal.returns-clause-settled
+returns-clause-settled c = settled_at_opening (state_of c.args.self.now) _ c.args.numbers (returns-clause-ok c)
 
 pub returns-clause-sound : goal.returns-clause-sound
 returns-clause-sound c = (invariant_of-self-2 c).0

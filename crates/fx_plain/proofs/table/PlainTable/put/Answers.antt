@@ -1,7 +1,8 @@
-use Rattle.fx_plain.proofs.Words.{rules, ◌≡◌, ◌<◌, ◌+◌, Some, None, subst, sym, List, length, slice_set, IsSome, arith, ap, ℕ, Option, ◌^◌, refl}
+use Rattle.fx_plain.proofs.Words.{rules, ◌≡◌, ◌<◌, ◌+◌, Some, None, subst, sym, List, length, slice_set, IsSome, arith, ap, ◌∙◌, ℕ, Option, ◌^◌, refl}
 use Rattle.fx_plain.proofs.Words.{Put, Contents, IsTable, IsCounted, state_of, node_at, file_in, At, slot_at, file_count_of, Node, numbered}
 use Rattle.fx_plain.proofs.Words.{LetsLeave}
 use Rattle.fx_plain.specs.contracts.table.PlainTable.{the_view}
+use Rattle.fx_plain.proofs.FilesOut.{unnamed}
 use Rattle.fx_plain.proofs.Writes.{has_file-At}
 use Rattle.fx_plain.proofs.Removals.{put_at, IsFree, fresh_free, carried, seen_at, as_put_free, as_put_over, still_names, put_removes, put_keeps}
 use Rattle.fx_plain.proofs.Removals.{put_counted}
@@ -72,16 +73,22 @@ invariant_of-self-in-Some c = let a = (goal.at.invariant_of-self-in-Some c).Afte
     (at a (Some c.in-Some.old) c.in-Some.is) c.set_node.ensures c.leave.ensures))
     (let n = counted a (Some c.in-Some.old) c.in-Some.is c.self.inside.full (c.self.inside.removed + 1) refl refl in (n.2, n.3))
 
-pub returns-in-None : goal.returns-in-None
-returns-in-None c = let a = (goal.at.returns-in-None c).After-index-replaced in
+pub returns-in-None-clause-replaced : goal.returns-in-None-clause-replaced
+returns-in-None-clause-replaced c = let a = (goal.at.returns-in-None-clause-replaced c).After-index-replaced in
     carried (λ k m. let found = (state_of k).at c.args.slot in LetsLeave k m (Put c.args.slot (numbered c.args.number c.args.file) found) found None)
     c.self.view_is
     (as_put_free (v a) c.args.slot c.args.number c.args.file c.self.invariant.0 (inside a) (free a) _ (at a None c.in-None.is) c.set_node.ensures)
     (leaves a None c.in-None.is)
 
-pub returns-in-Some : goal.returns-in-Some
-returns-in-Some c = let a = (goal.at.returns-in-Some c).After-index-replaced in
+pub returns-in-Some-clause-replaced : goal.returns-in-Some-clause-replaced
+returns-in-Some-clause-replaced c = let a = (goal.at.returns-in-Some-clause-replaced c).After-index-replaced in
     carried (λ k m. let found = (state_of k).at c.args.slot in
     LetsLeave k m (Put c.args.slot (numbered c.args.number c.args.file) found) found (Some c.in-Some.old)) c.self.view_is
     (as_put_over (v a) c.args.slot c.args.number c.args.file c.self.invariant.0 (inside a) (free a) c.in-Some.old _ _
     (at a (Some c.in-Some.old) c.in-Some.is) c.set_node.ensures c.leave.ensures) (leaves a (Some c.in-Some.old) c.in-Some.is)
+
+-- a slot that has a file isn't empty
+pub returns-in-Some-clause-settled : goal.returns-in-Some-clause-settled
+returns-in-Some-clause-settled c empty settled = let a = (goal.at.returns-in-Some-clause-settled c).After-index-replaced in
+    let none = unnamed (v a) c.args.slot c.self.invariant.0 (ap (λ (k : Contents). (state_of k).at c.args.slot) c.self.view_is ∙ empty) in
+    let e : None ≡ Some c.in-Some.old = sym none ∙ at a (Some c.in-Some.old) c.in-Some.is in absurd (cc e)

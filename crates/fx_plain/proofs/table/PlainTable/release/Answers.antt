@@ -1,4 +1,4 @@
-use Rattle.fx_plain.proofs.Words.{rules, ◌≤◌, ◌≢◌, sym, ◌∙◌, ◌≡◌, ◌<◌, ◌-◌, false, None, subst, slice_index, arith, Contents, IsTable, IsCounted}
+use Rattle.fx_plain.proofs.Words.{rules, ◌≤◌, ◌≢◌, sym, ◌∙◌, ◌≡◌, ◌<◌, ◌-◌, false, Some, None, subst, slice_index, arith, Contents, IsTable, IsCounted}
 use Rattle.fx_plain.proofs.Words.{node_at, is_retired, EndsHold}
 use Rattle.fx_plain.specs.contracts.table.PlainTable.{the_view}
 use Rattle.fx_plain.proofs.Writes.{has_file-retired}
@@ -59,10 +59,10 @@ invariant_of-self-2 c =
 
 pub returns : goal.returns
 returns c = let a = (goal.at.returns c).After-end_hold-left in
-    carried (λ k m. EndsHold k m c.args.number c.take_file.result) c.self.view_is
+    carried (λ k m. EndsHold k m c.args.number (Some c.take_file.result)) c.self.view_is
     (λ i. record (v a) { holds = c.end_hold-left.ensures.after i; nodes = c.take_file.ensures.after i })
     (let_go_releases (v a) c.args.number c.self.invariant.0 (some_hold a) (last a c.if-left-ne0.false)
-    (sym c.is_retired.ensures ∙ c.if-not-is_retired.false) c.take_file.result c.take_file.ensures.answer)
+    (sym c.is_retired.ensures ∙ c.if-not-is_retired.false) (Some c.take_file.result) c.take_file.ensures.answer)
 
 pub take_file-requires : goal.take_file-requires
 take_file-requires c = has_file-retired (node_at c.self.inside.nodes c.args.number) (sym c.is_retired.ensures ∙ c.if-not-is_retired.false)
