@@ -100,18 +100,22 @@ number_of_its_pass n p count low high left one few =
 
 -- a pass that has numbers left
 module _ (o : Opening) (v : PassView) (some_left : 0 < v.numbers_left) where
-  next_of_chain : (count : ℕ) → HasDrawnInTurn o count v → pass_of_number o.passes (next_number v) ≡ v.number
+  next_is : (count : ℕ) → HasDrawnInTurn o count v → next_number o v ≡ (256 + 64 * v.chain) - v.numbers_left
+  next_is count t = ap (λ (each : ℕ). (256 + each * v.chain) - v.numbers_left) t.whole
+
+  next_of_chain : (count : ℕ) → HasDrawnInTurn o count v → pass_of_number o.passes (next_number o v) ≡ v.number
   next_of_chain zero t = let l = t.left_inside in let c = t.chain in absurd (omega (arith, l, c))
   next_of_chain (suc count) t =
-      ap (λ (m : ℕ). pass_of_number o.passes ((256 + 64 * m) - v.numbers_left)) t.chain
+      ap (pass_of_number o.passes) (next_is (suc count) t)
+      ∙ ap (λ (m : ℕ). pass_of_number o.passes ((256 + 64 * m) - v.numbers_left)) t.chain
       ∙ number_of_its_pass o.passes v.number count t.number.0 t.number.1 v.numbers_left some_left t.few_left
 
   -- its next number is one of its own, from 256 on, and the table has it
   pub next_is_its_own : (count : ℕ) → HasDrawnInTurn o count v
-      → (pass_of_number o.passes (next_number v) ≡ v.number) × (256 ≤ next_number v) × (next_number v < 256 + 64 * o.chains)
+      → (pass_of_number o.passes (next_number o v) ≡ v.number) × (256 ≤ next_number o v) × (next_number o v < 256 + 64 * o.chains)
   next_is_its_own count t =
-      let inside = t.left_inside in let few = t.few_left in let reached = t.reached in
-      (next_of_chain count t, omega (arith, inside, few), omega (arith, inside, few, reached))
+      let inside = t.left_inside in let few = t.few_left in let reached = t.reached in let is = next_is count t in
+      (next_of_chain count t, omega (arith, inside, few, is), omega (arith, inside, few, reached, is))
 
 -- a draw
 module _ (o : Opening) (v : PassView) (count : ℕ) (t : HasDrawnInTurn o count v) where
@@ -127,29 +131,25 @@ module _ (o : Opening) (v : PassView) (count : ℕ) (t : HasDrawnInTurn o count 
   chain_rises = later_than count t.chain
 
   pub draws_next : next_chain ≤ o.chains → v.no_chains_left ≡ false
-      → HasDrawnInTurn o (suc count) (record v { chain = next_chain; drawn = next_chain ∷ v.drawn; numbers_left = 64 })
+      → HasDrawnInTurn o (suc count) (record v { chain = next_chain; drawn = next_chain ∷ v.drawn; numbers_left = o.numbers })
   draws_next inside more_left = record {
+    whole = t.whole;
     number = t.number;
     drawn = ap (λ (l : List ℕ). next_chain ∷ l) t.drawn;
     chain = refl;
     reached = inside;
     last_drawn = λ e. let no : false ≡ true = sym more_left ∙ e in absurd (cc no);
-    few_left = omega arith;
-    left_inside = let low = t.number.0 in let u : ℕ = count * o.passes in omega (arith, low);
-    unused = let a = t.unused in let rises = chain_rises in omega (arith, a, rises);
+    few_left = let all = t.whole in omega (arith, all);
+    left_inside = let all = t.whole in let low = t.number.0 in let u : ℕ = count * o.passes in omega (arith, all, low);
+    unused =
+        let now : next_number o v ≡ (256 + 64 * v.chain) - v.numbers_left = ap (λ (each : ℕ). (256 + each * v.chain) - v.numbers_left) t.whole in
+        let then : (256 + o.numbers * next_chain) - o.numbers ≡ (256 + 64 * next_chain) - 64 =
+        ap (λ (each : ℕ). (256 + each * next_chain) - each) t.whole in
+        let a = t.unused in let rises = chain_rises in omega (arith, a, rises, now, then);
   }
 
   pub draws_no_more : o.chains < next_chain → HasDrawnInTurn o count (record v { no_chains_left = true })
-  draws_no_more past = record {
-    number = t.number;
-    drawn = t.drawn;
-    chain = t.chain;
-    reached = t.reached;
-    last_drawn = λ e. past;
-    few_left = t.few_left;
-    left_inside = t.left_inside;
-    unused = t.unused;
-  }
+  draws_no_more past = let last_drawn : true ≡ true → o.chains < next_chain = λ e. past in assumption (last_drawn, t)
 
 -- all passes of a closed table
 module _ (o : Opening) (vs : List PassView) (counts : (v : PassView) → Contains vs v → (count : ℕ) × HasDrawnInTurn o count v) where

@@ -8,7 +8,6 @@ use Rattle.fx_plain.specs.History.{IsSeenBy, ◌▷◌, ◌▷▷◌}
 use Rattle.fx_plain.specs.Table.{numbered}
 use Rattle.fx_table.specs.Opening.{Opening, size_of, state_at}
 use Rattle.fx_table.specs.Pass.{PassView, IsFront, event_of, next_number, hold_of, retired_of}
-use Rattle.fx_table.specs.declared.limits.TheConstants.{CHAIN_NUMBERS}
 use Rattle.fx_table.specs.declared.values.Doing.{Doing}
 use Rattle.fx_table.specs.declared.values.Doing.TheVariants.{Idle, Holding, Retiring}
 use Rattle.fx_table.specs.declared.values.Hold.{Hold}
@@ -34,8 +33,10 @@ one_number = record { numbers = 1; looks = 0 }
 abbrev pub both_uses : Use → Use → Use
 both_uses a b = record { numbers = a.numbers + b.numbers; looks = a.looks + b.looks }
 
--- The pass saw more of the history and took these actions, whatever others did between. Now it does `doing`
-pub record Adds (o : Opening) (v : PassView) (actions : List Action) (doing : Doing) (used : Use) (w : PassView) : Type 0 where
+-- The pass saw more of the history and took these actions, whatever others did between. Now it does
+-- `doing`
+pub record Adds (o : Opening) (v : PassView) (actions : List Action) (doing : Doing) (used : Use)
+    (w : PassView) : Type 0 where
   pub seen : IsSeenBy v.front w.front
   pub front : IsFront o w
   pub own : w.own ≡ v.own ▷▷ map (event_of v) actions
@@ -51,50 +52,60 @@ pub record Adds (o : Opening) (v : PassView) (actions : List Action) (doing : Do
 abbrev pub IsHandedOut : File → Closed → Type 0
 IsHandedOut f file = file ≡ f.identity
 
--- a draw takes no action: the pass has a later chain, with all numbers of it, or is told that there are no more
+-- a draw takes no action: the pass has a later chain, with all numbers of it, or gets `None`
 abbrev pub Draws : Opening → PassView → Option ℕ → PassView → Type 0
 Draws o v None w = w ≡ record v { no_chains_left = true }
 Draws o v (Some c) w = (v.no_chains_left ≡ false) × (v.chain < c) × (c ≤ o.chains)
-    × (w ≡ record v { chain = c; drawn = v.drawn ▷ c; numbers_left = CHAIN_NUMBERS })
+    × (w ≡ record v { chain = c; drawn = v.drawn ▷ c; numbers_left = o.numbers })
 
 abbrev pub Looked : Opening → PassView → ℕ → Result Hold LookFault → PassView → Type 0
-Looked o v slot (Ok hold) w = (f : File) × (hold ≡ hold_of f) × Adds o v ([] ▷ Look slot (Some f)) (Holding f) one_look w
+Looked o v slot (Ok hold) w =
+    (f : File) × (hold ≡ hold_of f) × Adds o v ([] ▷ Look slot (Some f)) (Holding f) one_look w
 Looked o v slot (Err Spent) w = (v.looks_left ≡ 0) × (w ≡ v)
 Looked o v slot (Err EmptySlot) w = Adds o v ([] ▷ Look slot None) Idle one_look w
 
 -- what the pass held is `f`
-abbrev pub Releases : Opening → PassView → File → Option Closed → PassView → Type 0
-Releases o v f None w = Adds o v ([] ▷ Release f) Idle no_use w
-Releases o v f (Some file) w = IsHandedOut f file × Adds o v ([] ▷ Release f ▷ Close f) Idle no_use w
+abbrev pub ReleasesFile : Opening → PassView → File → Option Closed → PassView → Type 0
+ReleasesFile o v f None w = Adds o v ([] ▷ Release f) Idle no_use w
+ReleasesFile o v f (Some file) w =
+    IsHandedOut f file × Adds o v ([] ▷ Release f ▷ Close f) Idle no_use w
 
 abbrev pub Released : Opening → PassView → Hold → Option Closed → PassView → Type 0
-Released o v hold result w = (f : File) × (v.doing ≡ Holding f) × (hold ≡ hold_of f) × Releases o v f result w
+Released o v hold result w =
+    (f : File) × (v.doing ≡ Holding f) × (hold ≡ hold_of f) × ReleasesFile o v f result w
 
 -- a new file has the pass's next number
-abbrev pub new_file : PassView → Closed → File
-new_file v file = numbered (next_number v) file
+abbrev pub new_file : Opening → PassView → Closed → File
+new_file o v file = numbered (next_number o v) file
 
 abbrev pub Placed : Opening → PassView → ℕ → Closed → Option Retired → PassView → Type 0
-Placed o v slot file None w = Adds o v ([] ▷ Put slot (new_file v file) None) Idle one_number w
+Placed o v slot file None w = Adds o v ([] ▷ Put slot (new_file o v file) None) Idle one_number w
 Placed o v slot file (Some x) w =
-    (f : File) × (x ≡ retired_of f x.takes) × Adds o v ([] ▷ Put slot (new_file v file) (Some f)) (Retiring f x.takes) one_number w
+    (f : File) × (x ≡ retired_of f x.takes) × Adds o v ([] ▷ Put slot (new_file o v file) (Some f)) (Retiring f x.takes) one_number w
 
 abbrev pub Allocated : Opening → PassView → Closed → Result ℕ Closed → PassView → Type 0
-Allocated o v file (Ok slot) w = (slot < size_of o) × Adds o v ([] ▷ Allocate slot (new_file v file)) Idle one_number w
+Allocated o v file (Ok slot) w = (slot < size_of o) × Adds o v ([] ▷ Allocate slot (new_file o v file)) Idle one_number w
 Allocated o v file (Err back) w = (back ≡ file) × Adds o v ([] ▷ Full) Idle no_use w
 
 abbrev pub Cleared : Opening → PassView → ℕ → Option Retired → PassView → Type 0
 Cleared o v slot None w = Adds o v ([] ▷ Clear slot None) Idle no_use w
-Cleared o v slot (Some x) w = (f : File) × (x ≡ retired_of f x.takes) × Adds o v ([] ▷ Clear slot (Some f)) (Retiring f x.takes) no_use w
+Cleared o v slot (Some x) w =
+    (f : File) × (x ≡ retired_of f x.takes)
+    × Adds o v ([] ▷ Clear slot (Some f)) (Retiring f x.takes) no_use w
 
 abbrev pub Taken : Opening → PassView → ℕ → Result Retired Empty → PassView → Type 0
 Taken o v slot (Err _) w = Adds o v ([] ▷ Take slot None) Idle no_use w
-Taken o v slot (Ok x) w = (f : File) × (x ≡ retired_of f x.takes) × Adds o v ([] ▷ Take slot (Some f)) (Retiring f x.takes) no_use w
+Taken o v slot (Ok x) w =
+    (f : File) × (x ≡ retired_of f x.takes)
+    × Adds o v ([] ▷ Take slot (Some f)) (Retiring f x.takes) no_use w
 
--- what the pass removed is `f`: some pass holds it still, at the end of what was seen, or it is closed
-abbrev pub Retires : Opening → PassView → File → Option Closed → PassView → Type 0
-Retires o v f None w = (0 < (state_at o w.front).holds f.number) × Adds o v [] Idle no_use w
-Retires o v f (Some file) w = IsHandedOut f file × Adds o v ([] ▷ Close f) Idle no_use w
+-- what the pass removed is `f`: some pass holds it still, at the end of what was seen, or it is
+-- closed
+abbrev pub RetiresFile : Opening → PassView → File → Option Closed → PassView → Type 0
+RetiresFile o v f None w = (0 < (state_at o w.front).holds f.number) × Adds o v [] Idle no_use w
+RetiresFile o v f (Some file) w = IsHandedOut f file × Adds o v ([] ▷ Close f) Idle no_use w
 
 abbrev pub HasRetired : Opening → PassView → Retired → Option Closed → PassView → Type 0
-HasRetired o v retired result w = (f : File) × (takes : ℕ) × (v.doing ≡ Retiring f takes) × (retired ≡ retired_of f takes) × Retires o v f result w
+HasRetired o v retired result w =
+    (f : File) × (takes : ℕ) × (v.doing ≡ Retiring f takes) × (retired ≡ retired_of f takes)
+    × RetiresFile o v f result w

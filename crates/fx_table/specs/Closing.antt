@@ -16,15 +16,19 @@ pub record ClosesTable (o : Opening) (passes : List PassView) (left : Contents) 
   pub history : List Event
   pub legal : IsLegal (start_of o) history (state_at o history)
   pub settled : IsSettled (state_at o history)
-  -- what each pass has seen begins it, what each pass did is its part of it, and nobody else did anything
+  -- what each pass has seen begins it, what each pass did is its part of it, and nobody else did
+  -- anything
   pub seen : (v : PassView) → Contains passes v → IsSeenBy v.front history
   pub own : (v : PassView) → Contains passes v → part_of_pass v.number history ≡ v.own
-  pub authors : (e : Event) → Contains history e → (v : PassView) × Contains passes v × (e.pass ≡ v.number)
+  pub authors : (e : Event) → Contains history e
+      → (v : PassView) × Contains passes v × (e.pass ≡ v.number)
   -- the table that comes back has the files that the history leaves
   pub files : HasSameFiles (state_at o history) (state_of left)
   pub left_settled : IsSettled (state_of left)
-  -- each chain was drawn at most once, and where every pass was told that there are no more, each one was drawn
-  pub chains_inside : (v : PassView) → Contains passes v → (c : ℕ) → Contains v.drawn c → (0 < c) × (c ≤ o.chains)
+  -- each chain was drawn at most once, and where every pass got None, each
+  -- one was drawn
+  pub chains_inside : (v : PassView) → Contains passes v → (c : ℕ) → Contains v.drawn c
+      → (0 < c) × (c ≤ o.chains)
   pub drawn_once : (c : ℕ) → sum_by (times_drawn c) passes ≤ 1
   pub all_drawn : ((v : PassView) → Contains passes v → v.no_chains_left ≡ true)
       → (c : ℕ) → 0 < c → c ≤ o.chains → (v : PassView) × Contains passes v × Contains v.drawn c

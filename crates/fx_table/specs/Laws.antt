@@ -12,7 +12,8 @@ use Rattle.fx_table.specs.Closing.{ClosesTable}
 -- two calls in a row add what both add
 abbrev pub CallsCompose : Type 0
 CallsCompose =
-    (o : Opening) (first middle last : PassView) (actions more : List Action) (doing then : Doing) (used more_used : Use)
+    (o : Opening) (first middle last : PassView) (actions more : List Action) (doing then : Doing)
+    (used more_used : Use)
     → Adds o first actions doing used middle
     → Adds o middle more then more_used last
     → Adds o first (actions ▷▷ more) then (both_uses used more_used) last
@@ -40,7 +41,8 @@ CallsKeepDrawnChains =
 -- what the one history has of a chain is what the pass that drew it did for it
 abbrev pub ChainIsPartOfItsPass : Type 0
 ChainIsPartOfItsPass =
-    (o : Opening) (passes : List PassView) (left : Contents) (chain : ℕ) (v : PassView) (closing : ClosesTable o passes left)
+    (o : Opening) (passes : List PassView) (left : Contents) (chain : ℕ) (v : PassView)
+    (closing : ClosesTable o passes left)
     → ((w : PassView) → Contains passes w → IsOfDrawnChains w)
     → Contains passes v
     → Contains v.drawn chain

@@ -10,6 +10,10 @@ use Rattle.fx_plain.specs.declared.event.Action.TheVariants.{Put, Allocate}
 abbrev pub numbers_for : ℕ → ℕ
 numbers_for chains = FIRST_CHAIN_NUMBER + CHAIN_NUMBERS * chains
 
+-- the same where each chain has so many
+abbrev pub numbers_up_to : ℕ → ℕ → ℕ
+numbers_up_to each chains = FIRST_CHAIN_NUMBER + each * chains
+
 -- the chain that has the number
 abbrev pub chain_of_number : ℕ → ℕ
 chain_of_number number = (number - FIRST_CHAIN_NUMBER) / CHAIN_NUMBERS + 1

@@ -1,11 +1,12 @@
 -- What a shared table begins with, and the states that histories lead to from there.
-use Rattle.std.specs.Prelude.{◌≡◌, ℕ, List, map}
+use Rattle.std.specs.Prelude.{◌≡◌, ℕ, ◌≤◌, List, map}
 use Rattle.fx_plain.specs.State.{State, opening, IsSettled}
 use Rattle.fx_plain.specs.Contents.{Contents, state_of}
 use Rattle.fx_plain.specs.History.{state_after, action_of}
 use Rattle.fx_plain.specs.Table.{identity_of}
 use Rattle.fx_plain.specs.declared.event.Event.{Event}
 use Rattle.fx_table.specs.Numbers.{numbers_for}
+use Rattle.fx_table.specs.declared.limits.TheConstants.{CHAIN_NUMBERS}
 
 pub record Opening : Type 0 where
   -- the table that was opened
@@ -14,9 +15,22 @@ pub record Opening : Type 0 where
   pub chains : ℕ
   -- how many passes there are, from 1
   pub passes : ℕ
+  -- how many file numbers each chain has
+  pub numbers : ℕ
 
+abbrev pub opening_of_chains : Contents → ℕ → ℕ → ℕ → Opening
+opening_of_chains plain chains numbers passes = record { contents = plain; chains = chains; passes = passes; numbers = numbers }
+
+-- each chain has all of its numbers
 abbrev pub opening_with : Contents → ℕ → ℕ → Opening
-opening_with plain chains passes = record { contents = plain; chains = chains; passes = passes }
+opening_with plain chains passes = opening_of_chains plain chains CHAIN_NUMBERS passes
+
+-- this table was opened for so many chains, of which none installs more than `most` files, and for so many passes
+pub record IsOpenedFor (plain : Contents) (count most crew : ℕ) (o : Opening) : Type 0 where
+  pub contents : o.contents ≡ plain
+  pub chains : o.chains ≡ count
+  pub passes : o.passes ≡ crew
+  pub numbers : (most ≤ o.numbers) × (o.numbers ≤ CHAIN_NUMBERS)
 
 abbrev pub start_of : Opening → State
 start_of o = opening (state_of o.contents) (numbers_for o.chains)

@@ -4,7 +4,7 @@ use Rattle.fx_plain.specs.declared.event.File.{File}
 use Rattle.fx_plain.specs.declared.event.Event.{Event}
 use Rattle.fx_plain.specs.declared.event.Action.{Action}
 use Rattle.fx_plain.specs.History.{IsLegal, part_of_pass}
-use Rattle.fx_table.specs.Numbers.{numbers_for}
+use Rattle.fx_table.specs.Numbers.{numbers_up_to}
 use Rattle.fx_table.specs.Opening.{Opening, start_of, state_at}
 use Rattle.fx_table.specs.declared.limits.TheConstants.{PASS_LOOKS}
 use Rattle.fx_table.specs.declared.values.Doing.{Doing}
@@ -57,8 +57,8 @@ abbrev pub new_passes : ℕ → List PassView
 new_passes n = new_passes_from 1 n
 
 -- the number that the pass's next installation uses: a chain's numbers are used in their order
-abbrev pub next_number : PassView → ℕ
-next_number v = numbers_for v.chain - v.numbers_left
+abbrev pub next_number : Opening → PassView → ℕ
+next_number o v = numbers_up_to o.numbers v.chain - v.numbers_left
 
 -- an action of the pass
 abbrev pub event_of : PassView → Action → Event
@@ -85,4 +85,5 @@ IsHoldOf v hold = (f : File) × (v.doing ≡ Holding f) × (hold ≡ hold_of f)
 
 -- the value is that of the file that the pass removed
 abbrev pub IsRetiredOf : PassView → Retired → Type 0
-IsRetiredOf v retired = (f : File) × (takes : ℕ) × (v.doing ≡ Retiring f takes) × (retired ≡ retired_of f takes)
+IsRetiredOf v retired =
+    (f : File) × (takes : ℕ) × (v.doing ≡ Retiring f takes) × (retired ≡ retired_of f takes)

@@ -5,8 +5,9 @@ use Rattle.fx_table.specs.Numbers.{chains_of_pass, last_chain_of_pass, number_be
 use Rattle.fx_table.specs.Opening.{Opening}
 use Rattle.fx_table.specs.Pass.{PassView, next_number}
 
--- the pass is one of the table's, and has drawn `count` of its chains
+-- the pass is one of the table's, whose chains have all their numbers, and has drawn `count` of its chains
 pub record HasDrawnInTurn (o : Opening) (count : ℕ) (v : PassView) : Type 0 where
+  pub whole : o.numbers ≡ CHAIN_NUMBERS
   pub number : (1 ≤ v.number) × (v.number ≤ o.passes)
   pub drawn : v.drawn ≡ chains_of_pass v.number o.passes count
   pub chain : v.chain ≡ last_chain_of_pass v.number o.passes count
@@ -15,4 +16,4 @@ pub record HasDrawnInTurn (o : Opening) (count : ℕ) (v : PassView) : Type 0 wh
   -- the numbers that are left are those of the last chain that no file of this pass has
   pub few_left : v.numbers_left ≤ CHAIN_NUMBERS
   pub left_inside : v.numbers_left ≤ CHAIN_NUMBERS * v.chain
-  pub unused : number_behind v.own ≤ next_number v
+  pub unused : number_behind v.own ≤ next_number o v

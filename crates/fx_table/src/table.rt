@@ -2,12 +2,12 @@
 ghost use Rattle.std.specs.Prelude.{◌≡◌, ℕ, ◌<◌, ◌≤◌, ◌↔◌, map, length, All, IfOk, IfErr, IsTrue};
 ghost use Rattle.fx_plain.specs.State.{IsSettled};
 ghost use Rattle.fx_plain.specs.Contents.{state_of};
-ghost use Rattle.fx_table.specs.Opening.{Opening, opening_with, size_of, range_of, IsGivenBack};
+ghost use Rattle.fx_table.specs.Opening.{Opening, opening_with, IsOpenedFor, size_of, range_of, IsGivenBack};
 ghost use Rattle.fx_table.specs.Pass.{PassView, IsIdle, IsFront, IsHoldOf, IsRetiredOf, new_passes};
 ghost use Rattle.fx_table.specs.Calls.{Draws, Looked, Released, Placed, Allocated, Cleared, Taken, HasRetired};
 ghost use Rattle.fx_table.specs.Closing.{ClosesTable};
 
-use crate::limits::{MAX_CHAINS, MAX_PASSES};
+use crate::limits::{CHAIN_NUMBERS, MAX_CHAINS, MAX_PASSES};
 use crate::values::{Empty, Hold, LookFault, Retired};
 use fx_base::{NoMemory, OpenFile};
 use fx_plain::{MOST_SLOTS, PlainTable};
@@ -57,8 +57,33 @@ pub trait FileTable: Sync {
         ensures new { IfOk result (λ (_, list). map (λ p. view p) list.items ≡ new_passes passes) }
         ensures refused { IfErr result (λ (back, _). IsGivenBack plain back) };
 
+    /// Shares a settled table as [`FileTable::open`] does, for chains of which none installs more than `most` files, at
+    /// most [`crate::CHAIN_NUMBERS`]: each chain has that many numbers at least, and chain `c`, where each has `n`, those
+    /// from `256 + n * (c - 1)` on. A table may make room for as many alone; one that has no use for `most` opens as ever.
+    ///
+    /// # Errors
+    /// Those of [`FileTable::open`].
+    fn open_for(
+        alloc: Global,
+        plain: PlainTable,
+        chains: u32,
+        most: u32,
+        passes: u32,
+    ) -> Result<(Self, Vec<Self::Pass>), (PlainTable, NoMemory)>
+        requires settled { IsSettled (state_of plain) }
+        requires chains { chains ≤ MAX_CHAINS }
+        requires most { most ≤ CHAIN_NUMBERS }
+        requires passes { (1 ≤ passes) × (passes ≤ MAX_PASSES) }
+        ensures opened { IfOk result (λ (t, _). IsOpenedFor plain chains most passes (opening t)) }
+        ensures fits { IfOk result (λ (t, list). All (fits t) list.items) }
+        ensures new { IfOk result (λ (_, list). map (λ p. view p) list.items ≡ new_passes passes) }
+        ensures refused { IfErr result (λ (back, _). IsGivenBack plain back) }
+    {
+        Self::open(alloc, plain, chains, passes)
+    }
+
     /// Makes a table of one thread of it again, when all passes have come back, each of them idle (`is_idle`): as many as
-    /// `open` gave, in any order. It can't fail for want of memory.
+    /// `open` gave, in any order. It can't run out of memory.
     fn close(self, passes: Vec<Self::Pass>) -> PlainTable
         requires all { length passes.items ≡ (opening self).passes }
         requires fits { All (fits self) passes.items }
@@ -84,8 +109,9 @@ pub trait FileTable: Sync {
         requires { fits self.now pass.now }
         ensures { result ≡ (view pass.now).looks_left };
 
-    /// How many files the pass can install before it draws again: 0 before the first draw, [`crate::CHAIN_NUMBERS`] after
-    /// each draw that gives a chain, and one less after each installation.
+    /// How many files the pass can install before it draws again: 0 before the first draw, all numbers of a chain after each
+    /// draw that gives one ([`crate::CHAIN_NUMBERS`] where the table is of [`FileTable::open`]), and one less after each
+    /// installation.
     fn numbers_left(&self, pass: &Self::Pass) -> u32
         requires { fits self.now pass.now }
         ensures { result ≡ (view pass.now).numbers_left };

@@ -1,7 +1,7 @@
 //! What the calls of a shared table answer (this project's own).
 use fx_plain::File;
 
-/// A file that a pass looked up and has not released. It is no `Drop`: a program that lets one go is not accepted.
+/// A file that a pass looked up and has not released. It is no `Drop`: a program that drops one is not accepted.
 ///
 /// Its fields are there to read. Whoever takes one apart has still to release it: the pass isn't idle (`is_idle`) until
 /// its `release` gets the same value again, and no table is closed with a pass that isn't idle. One that is made
@@ -13,7 +13,7 @@ pub struct Hold {
     pub entry: u8,
 }
 
-/// A file that a pass removed from its slot and has not retired. It is no `Drop`: a program that lets one go is not
+/// A file that a pass removed from its slot and has not retired. It is no `Drop`: a program that drops one is not
 /// accepted.
 ///
 /// Its fields are there to read. Whoever takes one apart has still to retire it: the pass isn't idle (`is_idle`) until
