@@ -1,16 +1,19 @@
 -- What a pass needs for each call of the table that it has, and what it has to show behind it.
-use Rattle.fx_baton.proofs.Words.{◌≡◌, ℕ, ◌+◌, ◌*◌, ◌<◌, ◌≤◌, ◌^◌, Bool, true, false, [], ◌∷◌, map, sym, refl, ap, ◌∙◌, subst, arith, is_none}
-use Rattle.fx_baton.proofs.Words.{Option, Some, None, option_map, IfSome, is_some, not, TableId, rest, Closed, State, Steps, changed_at, Contents}
-use Rattle.fx_baton.proofs.Words.{IsTable, state_of, leaving, Leads, action_of, close_of, ◌▷◌, ◌▷▷◌, numbered, identity_of, number_of}
-use Rattle.fx_baton.proofs.Words.{closed_by_release, closed_by_retirement, HasRoomForHold, EndsHold, LetsLeave, File, Look, Release, Put, Clear}
-use Rattle.fx_baton.proofs.Words.{Take, Allocate, Full, Close, pass_of_number, number_behind, Opening, size_of, state_at, PassView, hold_of}
-use Rattle.fx_baton.proofs.Words.{retired_of, next_number, Adds, no_use, one_number, new_file, Releases, Retires, Placed, Cleared, Doing, Idle}
-use Rattle.fx_baton.proofs.Words.{Holding, Retiring, Log, View, Start, Call, BatonPass, opening_of, begin_of, holds_by, IsTurn, holds_now}
-use Rattle.fx_baton.proofs.Words.{retires_now, release_in, retirement_in, actions_of, doing_of, events_of, use_of, table_of_slots, view_of, is_idle}
-use Rattle.fx_baton.proofs.Words.{HasTable, UsesNext, HasCalled, first_own}
+use Rattle.fx_baton.proofs.Words.{◌≡◌, ℕ, ◌+◌, ◌*◌, ◌<◌, ◌≤◌, ◌^◌, Bool, true, false, [], ◌∷◌, map, sym, refl, ap, ◌∙◌, subst, arith, is_none, Option}
+use Rattle.fx_baton.proofs.Words.{Some, None, option_map, IfSome, is_some, not, TableId, rest, Closed, State, Steps, changed_at, Contents, IsTable}
+use Rattle.fx_baton.proofs.Words.{state_of, leaving, Leads, action_of, close_of, ◌▷◌, ◌▷▷◌, numbered, identity_of, number_of, closed_by_release}
+use Rattle.fx_baton.proofs.Words.{closed_by_retirement, HasRoomForHold, EndsHold, LetsLeave, File, Look, Release, Put, Clear, Take, Allocate, Full}
+use Rattle.fx_baton.proofs.Words.{Close, pass_of_number, number_behind, Opening, size_of, PassView, hold_of, retired_of, next_of, Adds, no_use}
+use Rattle.fx_baton.proofs.Words.{one_number, new_file, ReleasesFile, RetiresFile, Placed, Cleared, Doing, Idle, Holding, Retiring, Log, View, Start}
+use Rattle.fx_baton.proofs.Words.{Call, BatonPass, opening_of, begin_of, holds_by, IsTurn, holds_now, retires_now, release_in, retirement_in}
+use Rattle.fx_baton.proofs.Words.{actions_of, doing_of, events_of, use_of, table_of_slots, view_of, is_idle, HasTable, UsesNext, HasCalled}
+use Rattle.fx_baton.proofs.Words.{HasGivenBack, first_own, one_look}
 use Rattle.atomic_table.specs.Lent.{seat_with}
 use Rattle.fx_plain.specs.Step.{Allows}
 use Rattle.fx_plain.proofs.Leading.{same_size}
+use Rattle.fx_table.specs.Calls.{HasRetired, Released}
+use Rattle.fx_table.specs.Pass.{IsHoldOf, IsRetiredOf}
+use Rattle.fx_table.specs.declared.values.Hold.{Hold}
 use Rattle.fx_table.specs.declared.values.Retired.{Retired}
 use Rattle.fx_table.proofs.Turns.{next_is_its_own}
 use Rattle.fx_baton.specs.declared.view.Call.TheVariants.{Look as LookCall, Release as ReleaseCall, Put as PutCall, Allocate as AllocateCall}
@@ -24,15 +27,8 @@ module _ {id : TableId} {k : Start} {u : PassView} {p : BatonPass} where
   pub may_lend : {c d : Contents} → HasTable id k u c d p → (p.seat.table_id ≡ id) × ((x : Contents) × (p.seat.me.1 ≡ (0, x) ∷ rest p.seat.me.1))
   may_lend {c} {d} h = (h.table, (d, h.slots ∙ ap (λ l. (0, d) ∷ l) (sym (ap rest h.slots))))
 
-  -- the table that was lent is the one that was taken
-  pub lent_as : HasTable id k u (table_of_slots p.seat.me.1) (table_of_slots p.seat.me.1) p → (now : Contents)
-      → p.seat.me.1 ≡ (0, now) ∷ rest p.seat.me.1
-      → HasTable id k u now now p
-  lent_as h now value = subst (λ (c : Contents). HasTable id k u c c p) (ap table_of_slots value) h
-
   -- behind a call the pass has another table
-  abbrev pub still_has : {c d : Contents} → HasTable id k u c d p → (now : Contents)
-      → HasTable id k u c now (record p { seat = seat_with p.seat 0 now })
+  abbrev still_has : {c d : Contents} → HasTable id k u c d p → (now : Contents) → HasTable id k u c now (record p { seat = seat_with p.seat 0 now })
   still_has h now = record {
     table = h.table;
     slots = ap (λ l. (0, now) ∷ rest l) h.slots;
@@ -58,11 +54,42 @@ look_idle : (o : Option File) (found : Option (ℕ × ℕ)) → found ≡ option
 look_idle None found e = ap is_none e
 look_idle (Some f) found e = ap is_none e
 
-removal_idle : (o : Option File) (found : Option ℕ) → found ≡ number_of o → is_none found ≡ is_idle (retires_now o)
-removal_idle None found e = ap is_none e
-removal_idle (Some f) found e = ap is_none e
+removal_idle : (o : Option File) (found : Option ℕ) (flag : Bool) → is_some found ≡ not flag → found ≡ number_of o → flag ≡ is_idle (retires_now o)
+removal_idle None found flag says e = flag_is found flag says ∙ ap is_none e
+removal_idle (Some f) found flag says e = flag_is found flag says ∙ ap is_none e
 
-module _ {id : TableId} {k : Start} {u : PassView} {c : Contents} {p : BatonPass} (h : HasTable id k u c c p) where
+-- what an answer tells: nothing, or a file
+none_found : {X : Type 0} (tell : File → X) (P : Option File → Type 0) (o : Option File) → None ≡ option_map tell o → P o → P None
+none_found tell P None e a = a
+none_found tell P (Some f) e a = let no : None ≡ Some (tell f) = e in absurd (cc no)
+
+some_found : {X : Type 0} (tell : File → X) (x : X) (P : Option File → Type 0) (o : Option File) → Some x ≡ option_map tell o → P o
+    → (f : File) × (x ≡ tell f) × P (Some f)
+some_found tell x P None e a = let no : None ≡ Some x = sym e in absurd (cc no)
+some_found tell x P (Some f) e a = (f, (let z : Some x ≡ Some (tell f) = e in cc z), a)
+
+removed_none : (P : Option File → Doing → Type 0) (o : Option File) → None ≡ option_map (λ f. retired_of f 0) o → P o (retires_now o) → P None Idle
+removed_none P = none_found (λ f. retired_of f 0) (λ z. P z (retires_now z))
+
+removed_some : (x : Retired) (P : Option File → Doing → Type 0) (o : Option File) → Some x ≡ option_map (λ f. retired_of f 0) o → P o (retires_now o)
+    → (f : File) × (x ≡ retired_of f x.takes) × P (Some f) (Retiring f x.takes)
+removed_some x P o e a =
+    let there = some_found (λ f. retired_of f 0) x (λ z. P z (retires_now z)) o e a in
+    let none_told : x.takes ≡ 0 = ap (λ (r : Retired). r.takes) there.1 in
+    (there.0, there.1 ∙ ap (retired_of there.0) (sym none_told), subst (λ (t : ℕ). P (Some there.0) (Retiring there.0 t)) (sym none_told) there.2)
+
+-- a pass took the table, and was lent what it took
+module _ {id : TableId} {k : Start} {u : PassView} {c : Contents} {p : BatonPass}
+    (took : HasTable id k u (table_of_slots p.seat.me.1) (table_of_slots p.seat.me.1) p) (value : p.seat.me.1 ≡ (0, c) ∷ rest p.seat.me.1) where
+  h : HasTable id k u c c p
+  h = subst (λ (x : Contents). HasTable id k u x x p) (ap table_of_slots value) took
+
+  abbrev lent : Contents → BatonPass
+  lent d = record p { seat = seat_with p.seat 0 d }
+
+  abbrev o : Opening
+  o = opening_of k
+
   abbrev view : View
   view = p.seat.me.0
 
@@ -87,8 +114,8 @@ module _ {id : TableId} {k : Start} {u : PassView} {c : Contents} {p : BatonPass
   same_doing : view.doing ≡ u.doing
   same_doing = ap (λ (z : PassView). z.doing) h.more.same
 
-  same_next : next_number (view_of p) ≡ next_number u
-  same_next = ap next_number h.more.same
+  same_next : next_of (view_of p) ≡ next_of u
+  same_next = ap next_of h.more.same
 
   same_numbers : p.numbers_left ≡ u.numbers_left
   same_numbers = ap (λ (z : PassView). z.numbers_left) h.more.same
@@ -100,8 +127,8 @@ module _ {id : TableId} {k : Start} {u : PassView} {c : Contents} {p : BatonPass
   same_start = h.seated.start
 
   -- the next number of a pass that has one
-  module _ (some_left : 0 < u.numbers_left) (number : ℕ) (is_next : number ≡ next_number u) where
-    number_is : number ≡ next_number (view_of p)
+  module _ (some_left : 0 < u.numbers_left) (number : ℕ) (is_next : number ≡ next_of u) where
+    number_is : number ≡ next_of (view_of p)
     number_is = is_next ∙ sym same_next
 
     its_own : (pass_of_number k.passes number ≡ log.number) × (256 ≤ number) × (number < 256 + 64 * k.chains)
@@ -131,7 +158,7 @@ module _ {id : TableId} {k : Start} {u : PassView} {c : Contents} {p : BatonPass
   called : (d : Contents) (call : Call) (flag : Bool) → IsTable d
       → IsTurn view log c d (events_of c log.number p.chain view.doing call) (doing_of c call) → UsesNext (view_of p) call
       → (use_of call).numbers ≤ p.numbers_left → (use_of call).looks ≤ p.looks_left → flag ≡ is_idle (doing_of c call)
-      → HasCalled id k call flag (record p { seat = seat_with p.seat 0 d })
+      → HasCalled id k call flag (lent d)
   called d call flag sound turn uses numbers looks flag_says = record {
     before = u;
     taken = c;
@@ -145,154 +172,204 @@ module _ {id : TableId} {k : Start} {u : PassView} {c : Contents} {p : BatonPass
     flag = flag_says;
   }
 
+  -- what the call adds
+  added : {call : Call} (d : Contents) {q : BatonPass} → HasGivenBack id k call (lent d) q
+      → Adds o u (actions_of c view.doing call) (doing_of c call) (use_of call) (view_of q)
+  added d gives = gives.adds u c d (still_has h d)
+
   module _ (idle : u.doing ≡ Idle) where
     is_idle_here : view.doing ≡ Idle
     is_idle_here = same_doing ∙ idle
 
     pub look_called : (slot : ℕ) (d : Contents) (found : Option (ℕ × ℕ)) (flag : Bool) → 0 < u.looks_left
         → Steps (state_of c) (Look slot ((state_of c).at slot)) (state_of d) → leaving d ≡ leaving c
-        → found ≡ option_map shown ((state_of c).at slot) → flag ≡ is_none found
-        → IsTable d → HasCalled id k (LookCall slot) flag (record p { seat = seat_with p.seat 0 d })
+        → found ≡ option_map shown ((state_of c).at slot) → is_some found ≡ not flag → IsTable d → HasCalled id k (LookCall slot) flag (lent d)
     look_called slot d found flag some step leaves answer says sound = called d (LookCall slot) flag sound
         (look_turn view log c d p.chain h.knows is_idle_here slot ((state_of c).at slot) step leaves) tt (omega arith)
-        (let e = same_looks in omega arith)
-        (says ∙ look_idle ((state_of c).at slot) found answer)
+        (let e = same_looks in omega arith) (flag_is found flag says ∙ look_idle ((state_of c).at slot) found answer)
 
     pub put_called : (some : 0 < u.numbers_left) (slot number : ℕ) (file : Closed) (d : Contents) (found : Option ℕ) (flag : Bool)
-        → number ≡ next_number u → LetsLeave c d (Put slot (numbered number file) ((state_of c).at slot)) ((state_of c).at slot) found
-        → flag ≡ is_none found → HasCalled id k (PutCall slot number file) flag (record p { seat = seat_with p.seat 0 d })
+        → number ≡ next_of u → LetsLeave c d (Put slot (numbered number file) ((state_of c).at slot)) ((state_of c).at slot) found
+        → is_some found ≡ not flag → HasCalled id k (PutCall slot number file) flag (lent d)
     put_called some slot number file d found flag next l says = called d (PutCall slot number file) flag l.sound
         (put_turn view log c d p.chain h.knows is_idle_here slot (numbered number file) ((state_of c).at slot) l.step l.leaving
         (owned some number next) (behind_own some number next))
-        (number_is some number next) (let e = same_numbers in omega arith) (omega arith) (says ∙ removal_idle ((state_of c).at slot) found l.answer)
+        (number_is some number next) (let e = same_numbers in omega arith) (omega arith) (removal_idle ((state_of c).at slot) found flag says l.answer)
 
-    pub allocate_called : (some : 0 < u.numbers_left) (slot number : ℕ) (file : Closed) (d : Contents) → number ≡ next_number u
+    pub allocate_called : (some : 0 < u.numbers_left) (slot number : ℕ) (file : Closed) (d : Contents) → number ≡ next_of u
         → Steps (state_of c) (Allocate slot (numbered number file)) (state_of d) → leaving d ≡ leaving c
-        → IsTable d → HasCalled id k (AllocateCall slot number file) true (record p { seat = seat_with p.seat 0 d })
+        → IsTable d → HasCalled id k (AllocateCall slot number file) true (lent d)
     allocate_called some slot number file d next step leaves sound = called d (AllocateCall slot number file) true sound
         (allocate_turn view log c d p.chain h.knows is_idle_here slot (numbered number file) step leaves
         (owned some number next) (behind_own some number next))
         (number_is some number next) (let e = same_numbers in omega arith) (omega arith) refl
 
-    pub full_called : (d : Contents) → Allows (state_of c) Full → d ≡ c → IsTable d
-        → HasCalled id k FullCall true (record p { seat = seat_with p.seat 0 d })
+    pub full_called : (d : Contents) → Allows (state_of c) Full → d ≡ c → IsTable d → HasCalled id k FullCall true (lent d)
     full_called d full same sound = called d FullCall true sound
         (full_turn view log c d p.chain h.knows is_idle_here (full, ap state_of same) (ap leaving same)) tt (omega arith) (omega arith) refl
 
     pub clear_called : (slot : ℕ) (d : Contents) (found : Option ℕ) (flag : Bool)
-        → LetsLeave c d (Clear slot ((state_of c).at slot)) ((state_of c).at slot) found → flag ≡ is_none found
-        → HasCalled id k (ClearCall slot) flag (record p { seat = seat_with p.seat 0 d })
+        → LetsLeave c d (Clear slot ((state_of c).at slot)) ((state_of c).at slot) found → is_some found ≡ not flag
+        → HasCalled id k (ClearCall slot) flag (lent d)
     clear_called slot d found flag l says = called d (ClearCall slot) flag l.sound
         (clear_turn view log c d p.chain h.knows is_idle_here slot ((state_of c).at slot) l.step l.leaving) tt (omega arith) (omega arith)
-        (says ∙ removal_idle ((state_of c).at slot) found l.answer)
+        (removal_idle ((state_of c).at slot) found flag says l.answer)
 
     pub take_called : (slot : ℕ) (d : Contents) (found : Option ℕ) (flag : Bool)
-        → LetsLeave c d (Take slot ((state_of c).at slot)) ((state_of c).at slot) found → flag ≡ is_none found
-        → HasCalled id k (TakeCall slot) flag (record p { seat = seat_with p.seat 0 d })
+        → LetsLeave c d (Take slot ((state_of c).at slot)) ((state_of c).at slot) found → is_some found ≡ not flag
+        → HasCalled id k (TakeCall slot) flag (lent d)
     take_called slot d found flag l says = called d (TakeCall slot) flag l.sound
         (take_turn view log c d p.chain h.knows is_idle_here slot ((state_of c).at slot) l.step l.leaving) tt (omega arith) (omega arith)
-        (says ∙ removal_idle ((state_of c).at slot) found l.answer)
+        (removal_idle ((state_of c).at slot) found flag says l.answer)
 
-  module _ (f : File) (holds : u.doing ≡ Holding f) where
+  -- what a look-up answers: nothing, or a file
+  pub empty_looked : (slot : ℕ) (d : Contents) {q : BatonPass} → HasGivenBack id k (LookCall slot) (lent d) q
+      → None ≡ option_map shown ((state_of c).at slot) → Adds o u ([] ▷ Look slot None) Idle one_look (view_of q)
+  empty_looked slot d {q} gives e =
+      none_found shown (λ z. Adds o u ([] ▷ Look slot z) (holds_now z) one_look (view_of q)) ((state_of c).at slot) e (added d gives)
+
+  pub file_looked : (slot node entry : ℕ) (d : Contents) {q : BatonPass} → HasGivenBack id k (LookCall slot) (lent d) q
+      → Some (node, entry) ≡ option_map shown ((state_of c).at slot)
+      → (f : File) × (record { node = node; entry = entry } ≡ hold_of f) × Adds o u ([] ▷ Look slot (Some f)) (Holding f) one_look (view_of q)
+  file_looked slot node entry d {q} gives e =
+      let there = some_found shown (node, entry) (λ z. Adds o u ([] ▷ Look slot z) (holds_now z) one_look (view_of q)) ((state_of c).at slot)
+      e (added d gives) in
+      (there.0, (λ i. record { node = (there.1 i).0; entry = (there.1 i).1 }), there.2)
+
+  -- what a removal answers: nothing, or a file that is to be retired
+  pub placed_so : (slot number : ℕ) (its file : Closed) (d : Contents) {q : BatonPass} → number ≡ next_of u → its ≡ file
+      → HasGivenBack id k (PutCall slot number its) (lent d) q → (result : Option Retired)
+      → result ≡ option_map (λ f. retired_of f 0) ((state_of c).at slot) → Placed o u slot file result (view_of q)
+  placed_so slot number its file d {q} next is gives result told =
+      let P : Option File → Doing → Type 0 = λ z doing. Adds o u ([] ▷ Put slot (new_file o u file) z) doing one_number (view_of q) in
+      let a : P ((state_of c).at slot) (retires_now ((state_of c).at slot)) = subst
+      (λ (z : ℕ × Closed). Adds o u ([] ▷ Put slot (numbered z.0 z.1) ((state_of c).at slot)) (retires_now ((state_of c).at slot)) one_number (view_of q))
+      (λ i. (next i, is i)) (added d gives) in
+      elim result as (λ r. r ≡ option_map (λ f. retired_of f 0) ((state_of c).at slot) → Placed o u slot file r (view_of q)) [
+        | None ↦ λ e. removed_none P ((state_of c).at slot) e a
+        | Some x ↦ λ e. removed_some x P ((state_of c).at slot) e a
+      ] told
+
+  pub cleared_so : (slot : ℕ) (d : Contents) {q : BatonPass} → HasGivenBack id k (ClearCall slot) (lent d) q → (result : Option Retired)
+      → result ≡ option_map (λ f. retired_of f 0) ((state_of c).at slot) → Cleared o u slot result (view_of q)
+  cleared_so slot d {q} gives result told =
+      let P : Option File → Doing → Type 0 = λ z doing. Adds o u ([] ▷ Clear slot z) doing no_use (view_of q) in
+      elim result as (λ r. r ≡ option_map (λ f. retired_of f 0) ((state_of c).at slot) → Cleared o u slot r (view_of q)) [
+        | None ↦ λ e. removed_none P ((state_of c).at slot) e (added d gives)
+        | Some x ↦ λ e. removed_some x P ((state_of c).at slot) e (added d gives)
+      ] told
+
+  pub none_taken : (slot : ℕ) (d : Contents) {q : BatonPass} → HasGivenBack id k (TakeCall slot) (lent d) q
+      → None ≡ option_map (λ f. retired_of f 0) ((state_of c).at slot) → Adds o u ([] ▷ Take slot None) Idle no_use (view_of q)
+  none_taken slot d {q} gives e =
+      removed_none (λ z doing. Adds o u ([] ▷ Take slot z) doing no_use (view_of q)) ((state_of c).at slot) e (added d gives)
+
+  pub file_taken : (slot : ℕ) (x : Retired) (d : Contents) {q : BatonPass} → HasGivenBack id k (TakeCall slot) (lent d) q
+      → Some x ≡ option_map (λ f. retired_of f 0) ((state_of c).at slot)
+      → (f : File) × (x ≡ retired_of f x.takes) × Adds o u ([] ▷ Take slot (Some f)) (Retiring f x.takes) no_use (view_of q)
+  file_taken slot x d {q} gives e =
+      removed_some x (λ z doing. Adds o u ([] ▷ Take slot z) doing no_use (view_of q)) ((state_of c).at slot) e (added d gives)
+
+  pub allocated_so : (slot number : ℕ) (its file : Closed) (d : Contents) {q : BatonPass} → number ≡ next_of u → its ≡ file
+      → HasGivenBack id k (AllocateCall slot number its) (lent d) q → slot < (state_of c).size
+      → (slot < size_of o) × Adds o u ([] ▷ Allocate slot (new_file o u file)) Idle one_number (view_of q)
+  allocated_so slot number its file d {q} next is gives inside = (
+    let e = size_is in omega arith,
+    subst (λ (z : ℕ × Closed). Adds o u ([] ▷ Allocate slot (numbered z.0 z.1)) Idle one_number (view_of q)) (λ i. (next i, is i)) (added d gives),
+  )
+
+  pub full_so : (d : Contents) {q : BatonPass} → HasGivenBack id k FullCall (lent d) q → Adds o u ([] ▷ Full) Idle no_use (view_of q)
+  full_so d gives = added d gives
+
+  module _ (hold : Hold) (held : IsHoldOf u hold) where
+    abbrev f : File
+    f = held.0
+
     holds_here : view.doing ≡ Holding f
-    holds_here = same_doing ∙ holds
+    holds_here = same_doing ∙ held.1
 
-    pub holds_some : 0 < (state_of c).holds f.number
-    holds_some = let a = h.knows.holds f.number in let b = ap (holds_by f.number) holds_here in let r = one_if f.number f.number refl in omega arith
+    node_is : hold.node ≡ f.number
+    node_is = ap (λ (x : Hold). x.node) held.2
 
-    pub release_called : (d : Contents) (out : Option Closed) → EndsHold c d f.number out
-        → HasCalled id k ReleaseCall true (record p { seat = seat_with p.seat 0 d })
-    release_called d out e = called d ReleaseCall true e.sound
+    pub holds_some : 0 < (state_of c).holds hold.node
+    holds_some = let a = h.knows.holds f.number in let b = ap (holds_by f.number) holds_here in let r = one_if f.number f.number refl in
+        let e = ap (state_of c).holds node_is in omega arith
+
+    pub release_called : (d : Contents) (out : Option Closed) → EndsHold c d hold.node out → HasCalled id k ReleaseCall true (lent d)
+    release_called d out ends =
+        let e : EndsHold c d f.number out = subst (λ (n : ℕ). EndsHold c d n out) node_is ends in
+        called d ReleaseCall true e.sound
         (subst (λ (z : Doing). IsTurn view log c d (events_of c log.number p.chain z ReleaseCall) Idle) (sym holds_here)
         (letting_go_turn view log c d p.chain h.knows f holds_here (e.steps f refl) e.leaving)) tt (omega arith) (omega arith) refl
 
     -- what a release answers
-    pub releases_so : (o : Opening) (w : PassView) (result : Option Closed) → result ≡ identity_of (closed_by_release c f.number)
-        → Adds o u (actions_of c view.doing ReleaseCall) Idle no_use w → Releases o u f result w
-    releases_so o w result is adds =
-        by_out (closed_by_release c f.number) refl result is (subst (λ (z : Doing). Adds o u (release_in c z) Idle no_use w) holds_here adds)
+    pub released_so : (d : Contents) {q : BatonPass} → HasGivenBack id k ReleaseCall (lent d) q → (result : Option Closed)
+        → result ≡ identity_of (closed_by_release c hold.node) → Released o u hold result (view_of q)
+    released_so d {q} gives result is = (
+      f,
+      held.1,
+      held.2,
+      by_out (closed_by_release c f.number) refl result (is ∙ ap (λ (n : ℕ). identity_of (closed_by_release c n)) node_is)
+          (subst (λ (z : Doing). Adds o u (release_in c z) Idle no_use (view_of q)) holds_here (added d gives)),
+    )
       where
         by_out : (out : Option File) → closed_by_release c f.number ≡ out → (result : Option Closed) → result ≡ identity_of out
-            → Adds o u ([] ▷ Release f ▷▷ close_of out) Idle no_use w → Releases o u f result w
-        by_out None e r is a = subst (λ (z : Option Closed). Releases o u f z w) (sym is) a
+            → Adds o u ([] ▷ Release f ▷▷ close_of out) Idle no_use (view_of q) → ReleasesFile o u f result (view_of q)
+        by_out None e r is a = subst (λ (z : Option Closed). ReleasesFile o u f z (view_of q)) (sym is) a
         by_out (Some g) e r is a =
             let same = (file_released view log c c p.chain h.knows f holds_here g e).0 in
-            subst (λ (z : Option Closed). Releases o u f z w) (sym is) (
+            subst (λ (z : Option Closed). ReleasesFile o u f z (view_of q)) (sym is) (
               ap (λ (z : File). z.identity) (sym same),
-              subst (λ (z : File). Adds o u ([] ▷ Release f ▷ Close z) Idle no_use w) (sym same) a,
+              subst (λ (z : File). Adds o u ([] ▷ Release f ▷ Close z) Idle no_use (view_of q)) (sym same) a,
             )
 
-  module _ (f : File) (takes : ℕ) (removes : u.doing ≡ Retiring f takes) where
-    removes_here : view.doing ≡ Retiring f takes
-    removes_here = same_doing ∙ removes
+  module _ (retired : Retired) (removed : IsRetiredOf u retired) where
+    abbrev gone : File
+    gone = removed.0
 
-    pub leaves_now : leaving c f.number ≡ true
-    leaves_now = is_leaving view log c c p.chain h.knows f takes removes_here
+    removes_here : view.doing ≡ Retiring gone removed.1
+    removes_here = same_doing ∙ removed.2
 
-    pub retire_called : (d : Contents) → Leads (state_of c) (close_of (closed_by_retirement c f.number)) (state_of d)
-        → leaving d ≡ changed_at (leaving c) f.number false
-        → IsTable d → HasCalled id k RetireCall true (record p { seat = seat_with p.seat 0 d })
+    place_is : retired.node ≡ gone.number
+    place_is = ap (λ (x : Retired). x.node) removed.3
+
+    pub leaves_now : leaving c retired.node ≡ true
+    leaves_now = ap (leaving c) place_is ∙ is_leaving view log c c p.chain h.knows gone removed.1 removes_here
+
+    leads_there : (d : Contents) → Leads (state_of c) (close_of (closed_by_retirement c retired.node)) (state_of d)
+        → Leads (state_of c) (close_of (closed_by_retirement c gone.number)) (state_of d)
+    leads_there d = subst (λ (n : ℕ). Leads (state_of c) (close_of (closed_by_retirement c n)) (state_of d)) place_is
+
+    pub retire_called : (d : Contents) → Leads (state_of c) (close_of (closed_by_retirement c retired.node)) (state_of d)
+        → leaving d ≡ changed_at (leaving c) retired.node false → IsTable d → HasCalled id k RetireCall true (lent d)
     retire_called d leads leaves sound = called d RetireCall true sound
         (subst (λ (z : Doing). IsTurn view log c d (events_of c log.number p.chain z RetireCall) Idle) (sym removes_here)
-        (retire_turn view log c d p.chain h.knows f takes removes_here leads leaves)) tt (omega arith) (omega arith) refl
+        (retire_turn view log c d p.chain h.knows gone removed.1 removes_here (leads_there d leads)
+        (leaves ∙ ap (λ (n : ℕ). changed_at (leaving c) n false) place_is))) tt (omega arith) (omega arith) refl
 
     -- what a retirement answers
-    pub retires_so : (d : Contents) (o : Opening) (w : PassView) (result : Option Closed) → result ≡ identity_of (closed_by_retirement c f.number)
-        → Leads (state_of c) (close_of (closed_by_retirement c f.number)) (state_of d) → state_at o w.front ≡ state_of d
-        → Adds o u (actions_of c view.doing RetireCall) Idle no_use w → Retires o u f result w
-    retires_so d o w result is leads end adds = by_out (closed_by_retirement c f.number) refl result is leads
-        (subst (λ (z : Doing). Adds o u (retirement_in c z) Idle no_use w) removes_here adds)
+    pub retired_so : (d : Contents) {q : BatonPass} → HasGivenBack id k RetireCall (lent d) q → (result : Option Closed)
+        → result ≡ identity_of (closed_by_retirement c retired.node)
+        → Leads (state_of c) (close_of (closed_by_retirement c retired.node)) (state_of d) → HasRetired o u retired result (view_of q)
+    retired_so d {q} gives result is leads = (
+      gone,
+      removed.1,
+      removed.2,
+      removed.3,
+      by_out (closed_by_retirement c gone.number) refl result (is ∙ ap (λ (n : ℕ). identity_of (closed_by_retirement c n)) place_is)
+          (leads_there d leads) (subst (λ (z : Doing). Adds o u (retirement_in c z) Idle no_use (view_of q)) removes_here (added d gives)),
+    )
       where
-        by_out : (out : Option File) → closed_by_retirement c f.number ≡ out → (result : Option Closed) → result ≡ identity_of out
-            → Leads (state_of c) (close_of out) (state_of d) → Adds o u (close_of out) Idle no_use w → Retires o u f result w
+        by_out : (out : Option File) → closed_by_retirement c gone.number ≡ out → (result : Option Closed) → result ≡ identity_of out
+            → Leads (state_of c) (close_of out) (state_of d) → Adds o u (close_of out) Idle no_use (view_of q)
+            → RetiresFile o u gone result (view_of q)
         by_out None e r is l a =
-            let held = is_held view log c c p.chain h.knows f takes removes_here e in
-            let same = ap (λ (s : State). s.holds f.number) (end ∙ l.1) in
-            subst (λ (z : Option Closed). Retires o u f z w) (sym is) (omega arith, a)
+            let held = is_held view log c c p.chain h.knows gone removed.1 removes_here e in
+            let same = ap (λ (s : State). s.holds gone.number) (gives.end ∙ l.1) in
+            subst (λ (z : Option Closed). RetiresFile o u gone z (view_of q)) (sym is) (omega arith, a)
         by_out (Some g) e r is l a =
-            let same = file_retired view log c c p.chain h.knows f takes removes_here g e in
-            subst (λ (z : Option Closed). Retires o u f z w) (sym is) (
+            let same = file_retired view log c c p.chain h.knows gone removed.1 removes_here g e in
+            subst (λ (z : Option Closed). RetiresFile o u gone z (view_of q)) (sym is) (
               ap (λ (z : File). z.identity) (sym same),
-              subst (λ (z : File). Adds o u ([] ▷ Close z) Idle no_use w) (sym same) a,
+              subst (λ (z : File). Adds o u ([] ▷ Close z) Idle no_use (view_of q)) (sym same) a,
             )
-
--- what a look-up found: nothing, or a file
-pub looked_empty : (slot : ℕ) (o : Option File) (P : Option File → Doing → Type 0) → None ≡ option_map shown o → P o (holds_now o) → P None Idle
-looked_empty slot None P e a = a
-looked_empty slot (Some f) P e a = let no : None ≡ Some (shown f) = e in absurd (cc no)
-
-pub looked_file : (slot node entry : ℕ) (o : Option File) (P : Option File → Doing → Type 0) → Some (node, entry) ≡ option_map shown o
-    → P o (holds_now o)
-    → (f : File) × (record { node = node; entry = entry } ≡ hold_of f) × P (Some f) (Holding f)
-looked_file slot node entry None P e a = let no : Some (node, entry) ≡ None = e in absurd (cc no)
-looked_file slot node entry (Some f) P e a =
-    let both : ◌≡◌ {A = ℕ × ℕ} (node, entry) (f.number, f.identity.entry) = let z : Some (node, entry) ≡ Some (f.number, f.identity.entry) = e in
-    cc z in
-    (f, (λ i. record { node = (both i).0; entry = (both i).1 }), a)
-
--- what a removal found: nothing, or a file that is to be retired
-pub removed_none : (o : Option File) (P : Option File → Doing → Type 0) → None ≡ option_map (λ f. retired_of f 0) o → P o (retires_now o)
-    → P None Idle
-removed_none None P e a = a
-removed_none (Some f) P e a = let no : None ≡ Some (retired_of f 0) = e in absurd (cc no)
-
-pub removed_some : (x : Retired) (o : Option File) (P : Option File → Doing → Type 0) → Some x ≡ option_map (λ f. retired_of f 0) o
-    → P o (retires_now o)
-    → (f : File) × (x ≡ retired_of f x.takes) × P (Some f) (Retiring f x.takes)
-removed_some x None P e a = let no : None ≡ Some x = sym e in absurd (cc no)
-removed_some x (Some f) P e a =
-    let is : x ≡ retired_of f 0 = let z : Some x ≡ Some (retired_of f 0) = e in cc z in
-    let none_told : x.takes ≡ 0 = ap (λ (r : Retired). r.takes) is in
-    (f, is ∙ ap (retired_of f) (sym none_told), subst (λ (t : ℕ). P (Some f) (Retiring f t)) (sym none_told) a)
-
-pub placed_so : (o : Opening) (u w : PassView) (slot : ℕ) (file : Closed) (found : Option File) (result : Option Retired)
-    → result ≡ option_map (λ f. retired_of f 0) found
-    → Adds o u ([] ▷ Put slot (new_file u file) found) (retires_now found) one_number w → Placed o u slot file result w
-placed_so o u w slot file found None e a = removed_none found (λ z doing. Adds o u ([] ▷ Put slot (new_file u file) z) doing one_number w) e a
-placed_so o u w slot file found (Some x) e a = removed_some x found (λ z doing. Adds o u ([] ▷ Put slot (new_file u file) z) doing one_number w) e a
-
-pub cleared_so : (o : Opening) (u w : PassView) (slot : ℕ) (found : Option File) (result : Option Retired)
-    → result ≡ option_map (λ f. retired_of f 0) found
-    → Adds o u ([] ▷ Clear slot found) (retires_now found) no_use w → Cleared o u slot result w
-cleared_so o u w slot found None e a = removed_none found (λ z doing. Adds o u ([] ▷ Clear slot z) doing no_use w) e a
-cleared_so o u w slot found (Some x) e a = removed_some x found (λ z doing. Adds o u ([] ▷ Clear slot z) doing no_use w) e a

@@ -1,11 +1,11 @@
 -- What each call of the plain table is as a turn.
-use Rattle.fx_baton.proofs.Words.{◌≡◌, ◌≢◌, ℕ, ◌+◌, ◌-◌, ◌<◌, ◌≤◌, Bool, true, false, cond, List, [], ◌∷◌, map, sym, refl, ap, ◌∙◌, subst, arith}
-use Rattle.fx_baton.proofs.Words.{eqb, eq-eqb, ◌⊎◌, inl, inr, ⊎_elim, dite, ℕ_discrete, Option, Some, None, not, ◌&&◌, ◌==◌, if◌then◌else◌, State}
-use Rattle.fx_baton.proofs.Words.{Steps, changed_at, with_removed, Contents, state_of, leaving, Leads, IsLegal, ReleasesItsOwn, held_by, close_of}
-use Rattle.fx_baton.proofs.Words.{◌▷◌, ◌▷▷◌, more_leaving, closed_by_release, closed_by_retirement, File, Event, Action, Look, Release, Put, Clear}
-use Rattle.fx_baton.proofs.Words.{Take, Allocate, Full, Close, pass_of_number, number_behind, HasFile, Idle, Holding, Retiring, legal_then}
-use Rattle.fx_baton.proofs.Words.{held_mine, one_author, Log, View, begin_of, file_held, file_in_hand, holds_by, removals_by, leaving_count}
-use Rattle.fx_baton.proofs.Words.{HasFreshNumbers, log_behind, Knows, IsTurn, by, holds_now, retires_now}
+use Rattle.fx_baton.proofs.Words.{◌≡◌, ◌≢◌, ℕ, ◌+◌, ◌-◌, ◌<◌, ◌≤◌, Bool, true, false, cond, List, [], ◌∷◌, map, sym, refl, ap, ◌∙◌, subst, arith, eqb}
+use Rattle.fx_baton.proofs.Words.{eq-eqb, ◌⊎◌, inl, inr, ⊎_elim, dite, ℕ_discrete, Option, Some, None, not, ◌&&◌, ◌==◌, if◌then◌else◌, State, Steps}
+use Rattle.fx_baton.proofs.Words.{changed_at, with_removed, Contents, state_of, leaving, Leads, IsLegal, ReleasesItsOwn, held_by, close_of, ◌▷◌, ◌▷▷◌}
+use Rattle.fx_baton.proofs.Words.{more_leaving, closed_by_release, closed_by_retirement, File, Event, Action, Look, Release, Put, Clear, Take}
+use Rattle.fx_baton.proofs.Words.{Allocate, Full, Close, pass_of_number, number_behind, HasFile, Idle, Holding, Retiring, legal_then, held_mine}
+use Rattle.fx_baton.proofs.Words.{one_author, Log, View, begin_of, file_held, file_in_hand, holds_by, removals_by, leaving_count, HasFreshNumbers}
+use Rattle.fx_baton.proofs.Words.{log_behind, Knows, IsTurn, by, holds_now, retires_now}
 use Rattle.fx_table.proofs.Changes.{changed_here, changed_else}
 use Rattle.fx_table.proofs.FileLemmas.{some_file, none_file, stays_put, apart_from, leaving_file, removed_file, still_there, now_removed, not_closed}
 use Rattle.fx_baton.proofs.Counts.{one_if, one_more_at, one_less_at, flag_set, flag_back, one_true}
@@ -40,11 +40,13 @@ module _ (v : View) (x : Log) (c d : Contents) (chain : ℕ) (known : Knows v x 
   leaves_same n leaves = ap (λ (z : ℕ → Bool). cond {A = ℕ} (z n) 1 0) leaves
 
   -- where a file is closed that nobody holds, the others stay
-  files_but : (f : File) → (state_of d).holds f.number ≡ 0 → leaving d f.number ≡ false
-      → ((g : File) → g.number ≢ f.number → HasFile (state_of c) g → HasFile (state_of d) g)
-      → (g : File) → HasFile (state_of c) g → (0 < (state_of d).holds g.number) ⊎ (leaving d g.number ≡ true) → HasFile (state_of d) g
-  files_but f unheld retired kept g i stays = dite (ℕ_discrete g.number f.number)
-      (λ e. absurd (⊎_elim (λ (some_holds : 0 < (state_of d).holds g.number). let q = ap (state_of d).holds e in omega (arith, q, some_holds))
+  files_but : (f : File) (y : State) → state_of d ≡ y → y.holds f.number ≡ 0 → leaving d f.number ≡ false
+      → ((g : File) → g.number ≢ f.number → HasFile (state_of c) g → HasFile y g)
+      → (g : File) → HasFile (state_of c) g → (0 < (state_of d).holds g.number) ⊎ (leaving d g.number ≡ true) → HasFile y g
+  files_but f y is unheld retired kept g i stays = dite (ℕ_discrete g.number f.number)
+      (λ e. absurd (⊎_elim
+      (λ (some_holds : 0 < (state_of d).holds g.number).
+      let q = ap y.holds e in let a = ap (λ (z : State). z.holds g.number) is in omega (arith, q, a, some_holds))
       (λ still. true_not_false (sym still ∙ (ap (leaving d) e ∙ retired))) stays))
       (λ other. kept g other i)
 
@@ -70,6 +72,27 @@ module _ (v : View) (x : Log) (c d : Contents) (chain : ℕ) (known : Knows v x 
     others_fresh_still n other e = ap (λ (f : ℕ → Bool). f n) fresh
         ∙ (changed_else (state_of c).fresh g.number false n (λ same. other (ap (pass_of_number v.start.passes) same ∙ mine)) ∙ e)
 
+  -- a turn behind which the pass does nothing, and that installed nothing
+  ends : (xs : List Action) (y : State) → state_of d ≡ y → y.fresh ≡ (state_of c).fresh → number_behind (x.own ▷▷ done xs) ≡ number_behind x.own
+      → IsLegal (begin_of v.start) (x.front ▷▷ done xs) (state_of d)
+      → ((n : ℕ) → y.holds n + holds_by n v.doing ≡ (state_of c).holds n)
+      → ((n : ℕ) → leaving_count d n + removals_by n v.doing ≡ leaving_count c n)
+      → ((g : File) → HasFile (state_of c) g → (0 < (state_of d).holds g.number) ⊎ (leaving d g.number ≡ true) → HasFile y g)
+      → held_by (x.front ▷▷ done xs) x.number ≡ None → IsTurn v x c d (done xs) Idle
+  ends xs y is same unused legal held leaves files now =
+      let fresh = ap (λ (z : State). z.fresh) is ∙ same in
+      record {
+        authors = one_author x.number chain xs;
+        legal = legal;
+        held = λ n. let a = ap (λ (z : State). z.holds n) is in let b = held n in omega arith;
+        leaves = λ n. let a = leaves n in omega arith;
+        files = λ g i stays. subst (λ (z : State). HasFile z g) (sym is) (files g i stays);
+        now = now;
+        file = λ g e. absurd (none_file g e);
+        fresh = still_fresh fresh (x.own ▷▷ done xs) unused;
+        others = others_fresh fresh;
+      }
+
   module _ (idle : v.doing ≡ Idle) where
     held_none : held_by x.front x.number ≡ None
     held_none = known.held ∙ ap file_held idle
@@ -78,17 +101,9 @@ module _ (v : View) (x : Log) (c d : Contents) (chain : ℕ) (known : Knows v x 
     still_turn : (a : Action) → Steps (state_of c) a (state_of d) → state_of d ≡ state_of c → leaving d ≡ leaving c
         → ReleasesItsOwn (held_by x.front x.number) a → held_by (x.front ▷▷ done (a ∷ [])) x.number ≡ None
         → number_behind (x.own ▷▷ done (a ∷ [])) ≡ number_behind x.own → IsTurn v x c d (done (a ∷ [])) Idle
-    still_turn a step same leaves own now unused = record {
-      authors = one_author x.number chain (a ∷ []);
-      legal = legal_one a step own;
-      held = λ n. let e = ap (λ (s : State). s.holds n) same in let b = ap (holds_by n) idle in omega arith;
-      leaves = λ n. let e = leaves_same n leaves in let b = ap (removals_by n) idle in omega arith;
-      files = λ f i _. subst (λ (s : State). HasFile s f) (sym same) i;
-      now = now;
-      file = λ f e. absurd (none_file f e);
-      fresh = still_fresh (ap (λ (s : State). s.fresh) same) (x.own ▷▷ done (a ∷ [])) unused;
-      others = others_fresh (ap (λ (s : State). s.fresh) same);
-    }
+    still_turn a step same leaves own now unused = ends (a ∷ []) (state_of c) same refl unused (legal_one a step own)
+        (λ n. let b = ap (holds_by n) idle in omega arith) (λ n. let e = leaves_same n leaves in let b = ap (removals_by n) idle in omega arith)
+        (λ f i _. i) now
 
     -- no slot of the range was free
     pub full_turn : Steps (state_of c) Full (state_of d) → leaving d ≡ leaving c → IsTurn v x c d (done ([] ▷ Full)) Idle
@@ -187,42 +202,25 @@ module _ (v : View) (x : Log) (c d : Contents) (chain : ℕ) (known : Knows v x 
     held_one = known.held ∙ ap file_held holds
 
     one_less : (n : ℕ) → 0 < (state_of c).holds f.number
-        → (state_of d).holds n ≡ changed_at (state_of c).holds f.number ((state_of c).holds f.number - 1) n
-        → (state_of d).holds n + holds_by n v.doing ≡ (state_of c).holds n + holds_by n Idle
-    one_less n positive a = let b : holds_by n v.doing ≡ cond {A = ℕ} (eqb f.number n) 1 0 = ap (holds_by n) holds in
+        → changed_at (state_of c).holds f.number ((state_of c).holds f.number - 1) n + holds_by n v.doing ≡ (state_of c).holds n
+    one_less n positive = let b : holds_by n v.doing ≡ cond {A = ℕ} (eqb f.number n) 1 0 = ap (holds_by n) holds in
         let e = one_less_at (state_of c).holds f.number n positive in omega arith
 
-    none_leaves : leaving d ≡ leaving c → (n : ℕ) → leaving_count d n + removals_by n v.doing ≡ leaving_count c n + removals_by n Idle
+    none_leaves : leaving d ≡ leaving c → (n : ℕ) → leaving_count d n + removals_by n v.doing ≡ leaving_count c n
     none_leaves leaves n = let a = leaves_same n leaves in let b = ap (removals_by n) holds in omega arith
 
     release_turn : Leads (state_of c) ([] ▷ Release f) (state_of d) → leaving d ≡ leaving c → IsTurn v x c d (done ([] ▷ Release f)) Idle
-    release_turn leads leaves = record {
-      authors = one_author x.number chain ([] ▷ Release f);
-      legal = legal_one (Release f) (leads.0.1, leads.1) held_one;
-      held = λ n. one_less n leads.0.1 (ap (λ (s : State). s.holds n) leads.1);
-      leaves = none_leaves leaves;
-      files = λ g i _. subst (λ (s : State). HasFile s g) (sym leads.1) i;
-      now = held_mine x.number chain (Release f) x.front;
-      file = λ g e. absurd (none_file g e);
-      fresh = still_fresh (ap (λ (s : State). s.fresh) leads.1) (x.own ▷▷ done ([] ▷ Release f)) refl;
-      others = others_fresh (ap (λ (s : State). s.fresh) leads.1);
-    }
+    release_turn leads leaves = ends ([] ▷ Release f) _ leads.1 refl refl (legal_one (Release f) (leads.0.1, leads.1) held_one)
+        (λ n. one_less n leads.0.1) (none_leaves leaves) (λ g i _. i) (held_mine x.number chain (Release f) x.front)
 
     close_turn : Leads (state_of c) ([] ▷ Release f ▷ Close f) (state_of d) → leaving d ≡ leaving c → leaving c f.number ≡ false
         → IsTurn v x c d (done ([] ▷ Release f ▷ Close f)) Idle
-    close_turn leads leaves retired = record {
-      authors = one_author x.number chain ([] ▷ Release f ▷ Close f);
-      legal = legal_then (begin_of v.start) (state_of c) (state_of d) (done ([] ▷ Release f ▷ Close f)) x.front known.legal leads
-          ((known.legal.releases, held_one), tt);
-      held = λ n. one_less n leads.0.0.1 (ap (λ (s : State). s.holds n) leads.1);
-      leaves = none_leaves leaves;
-      files = files_but f (ap (λ (s : State). s.holds f.number) leads.1 ∙ leads.0.1.1) (ap (λ (z : ℕ → Bool). z f.number) leaves ∙ retired)
-          (λ g other i. subst (λ (s : State). HasFile s g) (sym leads.1) (not_closed (state_of c) f g other i));
-      now = held_mine x.number chain (Close f) (x.front ▷▷ done ([] ▷ Release f)) ∙ held_mine x.number chain (Release f) x.front;
-      file = λ g e. absurd (none_file g e);
-      fresh = still_fresh (ap (λ (s : State). s.fresh) leads.1) (x.own ▷▷ done ([] ▷ Release f ▷ Close f)) refl;
-      others = others_fresh (ap (λ (s : State). s.fresh) leads.1);
-    }
+    close_turn leads leaves retired = ends ([] ▷ Release f ▷ Close f) _ leads.1 refl refl
+        (legal_then (begin_of v.start) (state_of c) (state_of d) (done ([] ▷ Release f ▷ Close f)) x.front known.legal leads
+        ((known.legal.releases, held_one), tt))
+        (λ n. one_less n leads.0.0.1) (none_leaves leaves)
+        (files_but f _ leads.1 leads.0.1.1 (ap (λ (z : ℕ → Bool). z f.number) leaves ∙ retired) (λ g other i. not_closed (state_of c) f g other i))
+        (held_mine x.number chain (Close f) (x.front ▷▷ done ([] ▷ Release f)) ∙ held_mine x.number chain (Release f) x.front)
 
     -- a file that comes out at a release is the one that was held, and was retired
     pub file_released : (g : File) → closed_by_release c f.number ≡ Some g → (f ≡ g) × (leaving c f.number ≡ false)
@@ -262,46 +260,26 @@ module _ (v : View) (x : Log) (c d : Contents) (chain : ℕ) (known : Knows v x 
     held_nothing : held_by x.front x.number ≡ None
     held_nothing = known.held ∙ ap file_held removes
 
-    leaves_less : leaving d ≡ changed_at (leaving c) f.number false
-        → (n : ℕ) → leaving_count d n + removals_by n v.doing ≡ leaving_count c n + removals_by n Idle
+    leaves_less : leaving d ≡ changed_at (leaving c) f.number false → (n : ℕ) → leaving_count d n + removals_by n v.doing ≡ leaving_count c n
     leaves_less leaves n =
         let a : leaving_count d n ≡ cond {A = ℕ} (changed_at (leaving c) f.number false n) 1 0 =
         ap (λ (z : ℕ → Bool). cond {A = ℕ} (z n) 1 0) leaves in
         let b : removals_by n v.doing ≡ cond {A = ℕ} (eqb f.number n) 1 0 = ap (removals_by n) removes in
         let e = flag_back (leaving c) f.number n is_leaving in omega arith
 
-    same_holds : ((n : ℕ) → (state_of d).holds n ≡ (state_of c).holds n) → (n : ℕ)
-        → (state_of d).holds n + holds_by n v.doing ≡ (state_of c).holds n + holds_by n Idle
-    same_holds same n = let a = same n in let b = ap (holds_by n) removes in omega arith
+    same_holds : (n : ℕ) → (state_of c).holds n + holds_by n v.doing ≡ (state_of c).holds n
+    same_holds n = let b = ap (holds_by n) removes in omega arith
 
     wait_turn : Leads (state_of c) [] (state_of d) → leaving d ≡ changed_at (leaving c) f.number false → IsTurn v x c d (done []) Idle
-    wait_turn leads leaves = record {
-      authors = one_author x.number chain [];
-      legal = subst (IsLegal (begin_of v.start) x.front) (sym leads.1) known.legal;
-      held = same_holds (λ n. ap (λ (s : State). s.holds n) leads.1);
-      leaves = leaves_less leaves;
-      files = λ g i _. subst (λ (s : State). HasFile s g) (sym leads.1) i;
-      now = held_nothing;
-      file = λ g e. absurd (none_file g e);
-      fresh = still_fresh (ap (λ (s : State). s.fresh) leads.1) x.own refl;
-      others = others_fresh (ap (λ (s : State). s.fresh) leads.1);
-    }
+    wait_turn leads leaves = ends [] _ leads.1 refl refl (subst (IsLegal (begin_of v.start) x.front) (sym leads.1) known.legal)
+        same_holds (leaves_less leaves) (λ g i _. i) held_nothing
 
     out_turn : Leads (state_of c) ([] ▷ Close f) (state_of d) → leaving d ≡ changed_at (leaving c) f.number false
         → IsTurn v x c d (done ([] ▷ Close f)) Idle
-    out_turn leads leaves = record {
-      authors = one_author x.number chain ([] ▷ Close f);
-      legal = legal_one (Close f) (leads.0.1, leads.1) tt;
-      held = same_holds (λ n. ap (λ (s : State). s.holds n) leads.1);
-      leaves = leaves_less leaves;
-      files = files_but f (ap (λ (s : State). s.holds f.number) leads.1 ∙ leads.0.1.1)
-          (ap (λ (z : ℕ → Bool). z f.number) leaves ∙ changed_here (leaving c) f.number false f.number refl)
-          (λ g other i. subst (λ (s : State). HasFile s g) (sym leads.1) (not_closed (state_of c) f g other i));
-      now = held_mine x.number chain (Close f) x.front ∙ held_nothing;
-      file = λ g e. absurd (none_file g e);
-      fresh = still_fresh (ap (λ (s : State). s.fresh) leads.1) (x.own ▷▷ done ([] ▷ Close f)) refl;
-      others = others_fresh (ap (λ (s : State). s.fresh) leads.1);
-    }
+    out_turn leads leaves = ends ([] ▷ Close f) _ leads.1 refl refl (legal_one (Close f) (leads.0.1, leads.1) tt) same_holds (leaves_less leaves)
+        (files_but f _ leads.1 leads.0.1.1 (ap (λ (z : ℕ → Bool). z f.number) leaves ∙ changed_here (leaving c) f.number false f.number refl)
+        (λ g other i. not_closed (state_of c) f g other i))
+        (held_mine x.number chain (Close f) x.front ∙ held_nothing)
 
     -- a file that comes out at a retirement is the one that was removed; one that doesn't is held
     pub file_retired : (g : File) → closed_by_retirement c f.number ≡ Some g → f ≡ g

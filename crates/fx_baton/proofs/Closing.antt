@@ -1,27 +1,30 @@
 -- When all passes have come back, one history stands behind them.
 use Rattle.fx_baton.proofs.Words.{◌≡◌, ◌≢◌, ℕ, ◌<◌, ◌≤◌, cond, List, [], ◌∷◌, map, length, reverse, sym, refl, ap, ◌∙◌, subst, arith, eqb, ⊎_elim}
-use Rattle.fx_baton.proofs.Words.{length-append, dite, ℕ_discrete, some, get_elem?, Some, None, Contains, sum_by, count_by, Contains-append_left}
+use Rattle.fx_baton.proofs.Words.{length-append, dite, ℕ_discrete, some, get_elem?, None, Contains, sum_by, count_by, Contains-append_left}
 use Rattle.fx_baton.proofs.Words.{Contains-append_right, Contains-append_cases, sum_by-append, sum_by-cons, TableId, State, IsSettled, Contents}
 use Rattle.fx_baton.proofs.Words.{state_of, node_at, removed_at, is_retired, is_leaving, Node, Fresh, At, Leaving, Gone, IsSeenBy, part_of_pass}
 use Rattle.fx_baton.proofs.Words.{Event, pass_of_chain, state_at, HasSameFiles, PassView, HasDrawnInTurn, ClosesTable, times_drawn, Idle}
 use Rattle.fx_baton.proofs.Words.{contains_none, contains_head, contains_tail, contains_cases, contains_map, contains_mapped, contains_reverse}
 use Rattle.fx_baton.proofs.Words.{contains_reversed, sum_two, sum_only, sum_map, sum_reverse, Log, View, Start, BatonPass, Shared, opening_of}
 use Rattle.fx_baton.proofs.Words.{logs_of, new_logs, holds_by, removals_by, leaving_count, IsLog, IsHome, IsAway, IsKept, first_front, first_own}
-use Rattle.fx_baton.proofs.Words.{view_of, IsPassOf, logs_in}
-use Rattle.std.proofs.lemmas.List.{length-reverse}
+use Rattle.fx_baton.proofs.Words.{view_of, IsPassOf, logs_in, All, All-contains, Seat, ◌++◌}
+use Rattle.std.proofs.lemmas.List.{length-reverse, reverse-append}
 use Rattle.fx_plain.specs.declared.node.Node.TheVariants.{Retired}
 use Rattle.fx_table.proofs.Turns.{drawn_inside, drawn_few, all_are_drawn}
 use Rattle.fx_baton.proofs.Counts.{log_found, logs_more, at_most_one, one_of}
-use Rattle.fx_baton.proofs.StepsKeepRule.{not_holder}
+use Rattle.fx_baton.proofs.StepsKeepRule.{none_some, other_seat}
 use Rattle.fx_baton.proofs.GrabKeepsRule.{only_log}
 use Rattle.fx_baton.proofs.Passing.{ends_there}
-
-none_is : (c : Contents) → None ≡ Some c → ⊥
-none_is c e = cc
 
 length_none : (l : List Log) → length l ≡ 0 → l ≡ []
 length_none [] e = refl
 length_none (x ∷ l) e = absurd (omega arith)
+
+-- the first pass, and the others behind it
+pub gathered : (ps others : List BatonPass) (first : BatonPass) (seat : Seat Contents View) (logs : List Log) → ps ≡ others ++ first ∷ []
+    → seat ≡ first.seat → logs ≡ seat.me.0.logs ++ logs_in (reverse others) → logs ≡ logs_in (reverse ps)
+gathered ps others first seat logs split is joined = joined ∙ (ap (λ (z : Seat Contents View). z.me.0.logs ++ logs_in (reverse others)) is
+    ∙ ap logs_in (sym (ap (reverse {A = BatonPass}) split ∙ reverse-append others (first ∷ []))))
 
 module _ (id : TableId) (k : Start) where
   abbrev pub Is : BatonPass → Type 0
@@ -62,9 +65,11 @@ module _ (id : TableId) (k : Start) where
       let number : cond {A = ℕ} (eqb s.log.number q) 1 0 ≡ cond {A = ℕ} (eqb p.number q) 1 0 = ap (λ (n : ℕ). cond {A = ℕ} (eqb n q) 1 0) s.number in
       omega (arith, a, b, r, one, m, number)
 
-  module _ (ps : List BatonPass) (each : (p : BatonPass) → Contains ps p → Is p) (count : length ps ≡ k.passes)
-      (s : Shared) (r : IsKept k s) (seat : ℕ) (v : View) (at : get_elem? s.views seat ≡ some v) (logs_are : v.logs ≡ logs_in (reverse ps))
+  module _ (ps : List BatonPass) (fit : All Is ps) (count : length ps ≡ k.passes) (s : Shared) (r : IsKept k s) (seat : ℕ) (v : View) (at : get_elem? s.views seat ≡ some v) (logs_are : v.logs ≡ logs_in (reverse ps))
       (idle : v.doing ≡ Idle) (free : v.loan ≡ None) where
+    each : (p : BatonPass) → Contains ps p → Is p
+    each p h = All-contains Is ps p fit h
+
     all_logs : length v.logs ≡ k.passes
     all_logs = ap (length {A = Log}) logs_are ∙ (length_logs (reverse ps) (λ p h. each p (contains_reverse ps p h)) ∙ (length-reverse ps ∙ count))
 
@@ -78,8 +83,8 @@ module _ (id : TableId) (k : Start) where
     pub at_home : IsHome r.contents s
     at_home = ⊎_elim (λ h. h)
         (λ (away : IsAway r.contents r.history s). absurd (dite (ℕ_discrete away.holder seat)
-        (λ e. not_holder r.contents r.history s away seat v at free e)
-        (λ n. none_is r.contents (sym ((r.views away.holder away.view away.at).empty (empty_else away.holder away.view n away.at)).1 ∙ away.loan))))
+        (λ e. other_seat s.views away.holder seat away.view v r.contents away.at away.loan at free e)
+        (λ n. none_some r.contents (sym ((r.views away.holder away.view away.at).empty (empty_else away.holder away.view n away.at)).1 ∙ away.loan))))
         r.place
 
     idle_else : (i : ℕ) (u : View) → i ≢ seat → get_elem? s.views i ≡ some u → u.doing ≡ Idle

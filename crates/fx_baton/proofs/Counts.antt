@@ -51,23 +51,25 @@ logs_behind p es [] = refl
 logs_behind p es (y ∷ xs) = let a = logs_more p y xs in let b = logs_more p (log_behind es y) (map (log_behind es) xs) in
     let r = logs_behind p es xs in omega arith
 
--- the new passes from q on, n of them
-new_below : (p q n : ℕ) → p < q → logs_of p (new_logs q n) ≡ 0
-new_below p q zero l = refl
-new_below p q (suc n) l =
-    let a = none_if q p (λ e. omega arith) in let m = logs_more p (new_log q) (new_logs (suc q) n) in let r = new_below p (suc q) n (omega arith) in
-    omega arith
+-- the new passes from q on, n of them: one with a number among theirs, and none else
+new_in : (p q n : ℕ) → 1 ≤ logs_of p (new_logs q n) → (q ≤ p) × (p < q + n)
+new_in p q zero some = absurd (omega arith)
+new_in p q (suc n) some = dite (ℕ_discrete q p)
+    (λ e. (omega arith, omega arith))
+    (λ e. let a = none_if q p e in let m = logs_more p (new_log q) (new_logs (suc q) n) in let r = new_in p (suc q) n (omega arith) in
+    (let low = r.0 in omega arith, let high = r.1 in omega arith))
 
-new_above : (p q n : ℕ) → q + n ≤ p → logs_of p (new_logs q n) ≡ 0
-new_above p q zero l = refl
-new_above p q (suc n) l =
-    let a = none_if q p (λ e. omega arith) in let m = logs_more p (new_log q) (new_logs (suc q) n) in let r = new_above p (suc q) n (omega arith) in
-    omega arith
+new_few : (p q n : ℕ) → logs_of p (new_logs q n) ≤ 1
+new_few p q zero = omega arith
+new_few p q (suc n) = let m = logs_more p (new_log q) (new_logs (suc q) n) in let r = new_few p (suc q) n in dite (ℕ_discrete q p)
+    (λ e. let one = one_at_most (eqb q p) in dite (dec_lt 0 (logs_of p (new_logs (suc q) n)))
+    (λ some. absurd (let low = (new_in p (suc q) n some).0 in omega arith)) (λ none. omega arith))
+    (λ e. let a = none_if q p e in omega arith)
 
 new_inside : (p q n : ℕ) → q ≤ p → p < q + n → logs_of p (new_logs q n) ≡ 1
-new_inside p q zero l h = absurd (omega arith)
-new_inside p q (suc n) l h = let m = logs_more p (new_log q) (new_logs (suc q) n) in dite (ℕ_discrete q p)
-    (λ e. let a = one_if q p e in let r = new_below p (suc q) n (omega arith) in omega arith)
+new_inside p q zero low high = absurd (omega arith)
+new_inside p q (suc n) low high = let m = logs_more p (new_log q) (new_logs (suc q) n) in dite (ℕ_discrete q p)
+    (λ e. let a = one_if q p e in let few = new_few p q (suc n) in omega arith)
     (λ e. let a = none_if q p e in let r = new_inside p (suc q) n (omega arith) (omega arith) in omega arith)
 
 -- a pass is one of n where it is among the first view's, and it is there once
@@ -75,18 +77,10 @@ pub one_of : (n p : ℕ) → 1 ≤ p → p ≤ n → logs_of p (new_logs 1 n) �
 one_of n p low high = new_inside p 1 n low (omega arith)
 
 pub at_most_one : (n p : ℕ) → logs_of p (new_logs 1 n) ≤ 1
-at_most_one n p = dite (ℕ_discrete p 0)
-    (λ z. let a = new_below p 1 n (omega arith) in omega arith)
-    (λ z. dite (dec_lt n p)
-    (λ l. let a = new_above p 1 n (omega arith) in omega arith)
-    (λ l. let a = one_of n p (omega arith) (omega arith) in omega arith))
+at_most_one n p = new_few p 1 n
 
 pub in_range : (n p : ℕ) → 1 ≤ logs_of p (new_logs 1 n) → (1 ≤ p) × (p ≤ n)
-in_range n p some = dite (ℕ_discrete p 0)
-    (λ z. absurd (let a = new_below p 1 n (omega arith) in omega arith))
-    (λ z. dite (dec_lt n p)
-    (λ l. absurd (let a = new_above p 1 n (omega arith) in omega arith))
-    (λ l. (omega arith, omega arith)))
+in_range n p some = let r = new_in p 1 n some in (r.0, let high = r.1 in omega arith)
 
 pub length_new : (q n : ℕ) → length (new_logs q n) ≡ n
 length_new q zero = refl

@@ -1,8 +1,8 @@
 -- The passes that are dealt out.
 use Rattle.fx_baton.proofs.Words.{◌≡◌, ℕ, zero, suc, ◌+◌, ◌-◌, ◌≤◌, true, false, List, [], ◌∷◌, ◌++◌, map, sym, refl, ◌∙◌, ap, subst, arith, TableId}
 use Rattle.fx_baton.proofs.Words.{Seat, Contents, PassView, IsFront, new_pass, new_passes, new_passes_from, HasDrawnInTurn, Idle, Log, View, Start}
-use Rattle.fx_baton.proofs.Words.{BatonPass, Seated, opening_of, new_log, new_logs, rest_of, first_of, view_without_first, view_of_first}
-use Rattle.fx_baton.proofs.Words.{chains_of_pass, first_front, first_own, view_of, is_idle, IsPassOf, dealt, IsNewPass}
+use Rattle.fx_baton.proofs.Words.{BatonPass, Seated, opening_of, new_log, new_logs, rest_of, first_of, view_without_first, view_of_first, All}
+use Rattle.fx_baton.proofs.Words.{All-push, chains_of_pass, first_front, first_own, view_of, is_idle, IsPassOf, dealt, IsNewPass}
 use mathlib.Core.List.{map-append}
 
 deal_more : (p n : ℕ) → p ≤ n → new_logs p ((n + 1) - p) ≡ new_log p ∷ new_logs (p + 1) ((n + 1) - (p + 1))
@@ -32,7 +32,7 @@ one_more n low =
     ap (λ (m : ℕ). new_passes (n - 1) ++ new_pass m ∷ []) f ∙ (sym (from_more 1 (n - 1)) ∙ ap new_passes (sym e))
 
 -- the views of a list with one more new pass
-pub one_more_view : (old new : List BatonPass) (x : BatonPass) (p : ℕ) → 1 ≤ p → new ≡ old ++ x ∷ [] → map view_of old ≡ new_passes (p - 1)
+one_more_view : (old new : List BatonPass) (x : BatonPass) (p : ℕ) → 1 ≤ p → new ≡ old ++ x ∷ [] → map view_of old ≡ new_passes (p - 1)
     → view_of x ≡ new_pass p → map view_of new ≡ new_passes p
 one_more_view old new x p low pushed were shown = ap (map view_of) pushed ∙ (map-append view_of old (x ∷ [])
     ∙ (ap (λ (l : List PassView). l ++ view_of x ∷ []) were ∙ (ap (λ (v : PassView). new_passes (p - 1) ++ v ∷ []) shown ∙ one_more p low)))
@@ -54,7 +54,7 @@ module _ (id : TableId) (k : Start) (p n : ℕ) (low : 1 ≤ p) (high : p ≤ k.
   own_is : first_own x.seat.me.0.logs ≡ []
   own_is = ap first_own one_log
 
-  pub is_new : view_of x ≡ new_pass p
+  is_new : view_of x ≡ new_pass p
   is_new = λ i. record {
     number = new.its_number i;
     front = front_is i;
@@ -72,6 +72,7 @@ module _ (id : TableId) (k : Start) (p n : ℕ) (low : 1 ≤ p) (high : p ≤ k.
 
   new_turns : HasDrawnInTurn (opening_of k) 0 (new_pass p)
   new_turns = record {
+    whole = refl;
     number = (low, high);
     drawn = refl;
     chain = refl;
@@ -82,7 +83,7 @@ module _ (id : TableId) (k : Start) (p n : ℕ) (low : 1 ≤ p) (high : p ≤ k.
     unused = omega arith;
   }
 
-  pub is_pass : IsPassOf id k x
+  is_pass : IsPassOf id k x
   is_pass = record {
     table = ap (λ (z : Seat Contents View). z.table_id) new.its_seat ∙ table;
     slots = ap (λ (m : Seated). m.1) me;
@@ -99,3 +100,9 @@ module _ (id : TableId) (k : Start) (p n : ℕ) (low : 1 ≤ p) (high : p ≤ k.
       flag = new.flag ∙ sym (ap is_idle doing_is);
     };
   }
+
+  -- it is added to the passes that were dealt before
+  pub added : (old list : List BatonPass) → list ≡ old ++ x ∷ [] → All (IsPassOf id k) old → map view_of old ≡ new_passes (p - 1)
+      → All (IsPassOf id k) list × (map view_of list ≡ new_passes p)
+  added old list pushed fit were =
+      (subst (All (IsPassOf id k)) (sym pushed) (All-push (IsPassOf id k) old x fit is_pass), one_more_view old list x p low pushed were is_new)

@@ -1,20 +1,17 @@
 -- A seat with one pass that has the table may give it back.
 use Rattle.fx_baton.proofs.Words.{◌≡◌, ◌≢◌, ℕ, ◌+◌, ◌<◌, true, List, [], ◌∷◌, ◌++◌, map, set, sym, refl, ap, ◌∙◌, subst, inl, inr, ⊎_elim, ◌⊎◌, dite}
-use Rattle.fx_baton.proofs.Words.{ℕ_discrete, some, none, some-injective, get_elem?, Some, None, Contains, step, gives, at_set, Contents, state_of}
-use Rattle.fx_baton.proofs.Words.{leaving, IsTable, IsLegal, IsSeenBy, held_by, ◌▷▷◌, Event, Doing, seen_again, Log, View, Start, pass_of_number}
-use Rattle.fx_baton.proofs.Words.{HasFile, Shared, Seated, begin_of, holds_by, removals_by, leaving_count, HasFreshNumbers, IsLog, IsHome, IsAway}
-use Rattle.fx_baton.proofs.Words.{IsKept, log_behind, view_behind, Gives, IsTurn, part_mine}
+use Rattle.fx_baton.proofs.Words.{ℕ_discrete, some, none, some-injective, get_elem?, Some, Contains, step, gives, at_set, Contents, state_of, leaving}
+use Rattle.fx_baton.proofs.Words.{IsTable, IsLegal, IsSeenBy, held_by, ◌▷▷◌, Event, Doing, seen_again, Log, View, Start, pass_of_number, HasFile}
+use Rattle.fx_baton.proofs.Words.{Shared, Seated, begin_of, holds_by, removals_by, leaving_count, HasFreshNumbers, IsLog, IsHome, IsAway, IsKept}
+use Rattle.fx_baton.proofs.Words.{log_behind, view_behind, Gives, IsTurn, part_mine}
 use Rattle.std.proofs.lemmas.List.{length-map}
 use Rattle.atomic_table.specs.Table.{Allows}
 use Rattle.fx_baton.proofs.Counts.{logs_behind}
-use Rattle.fx_baton.proofs.StepsKeepRule.{Turns, keeps_rule}
+use Rattle.fx_baton.proofs.StepsKeepRule.{none_some, Turns, keeps_rule}
 use Rattle.fx_baton.proofs.GrabKeepsRule.{only_log, has_one, not_empty, started}
 
 some_contents : (c d : Contents) → Some c ≡ Some d → c ≡ d
 some_contents c d e = cc
-
-none_some : (c : Contents) → None ≡ Some c → ⊥
-none_some c e = cc
 
 module _ (k : Start) (id : ℕ) (v : View) (x : Log) (one : v.logs ≡ x ∷ []) (c d : Contents) (has : v.loan ≡ Some c) (es : List Event)
     (doing : Doing) (sound : IsTable d) (turn : IsTurn v x c d es doing) where

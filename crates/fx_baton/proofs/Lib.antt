@@ -6,7 +6,6 @@ pub mod GrabKeepsRule
 pub mod GiveKeepsRule
 pub mod OpeningKeepsRule
 pub mod CallsAreTurns
-pub mod Finishing
 pub mod Dealing
 pub mod Passing
 pub mod Calling

@@ -1,13 +1,12 @@
 -- A pass that takes the table, and one that puts it back.
 use Rattle.fx_baton.proofs.Words.{◌≡◌, ℕ, ◌+◌, ◌-◌, ◌*◌, ◌≤◌, Bool, List, [], ◌∷◌, ◌++◌, map, sym, refl, ap, ◌∙◌, subst, arith, Option, Some, None}
 use Rattle.fx_baton.proofs.Words.{TableId, Seat, State, Contents, state_of, IsLegal, IsSeenBy, part_of_pass, close_of, ◌▷◌, ◌▷▷◌, closed_by_release}
-use Rattle.fx_baton.proofs.Words.{closed_by_retirement, File, Event, Action, Release, number_behind, Opening, state_at, PassView, IsFront}
-use Rattle.fx_baton.proofs.Words.{next_number, HasDrawnInTurn, Use, Adds, Doing, Holding, Retiring, seen_again, seen_further, part_mine, Log, View}
-use Rattle.fx_baton.proofs.Words.{Start, Call, BatonPass, Seated, opening_of, begin_of, Knows, Takes, log_behind, view_behind, by, actions_of}
-use Rattle.fx_baton.proofs.Words.{doing_of, use_of, events_of, table_of_slots, table_of_loan, first_front, first_own, view_of, is_idle, IsPassOf}
-use Rattle.fx_baton.proofs.Words.{HasTable, HasSeenMore, UsesNext, HasCalled, HasGivenBack, pass_behind}
-use Rattle.fx_baton.specs.declared.view.Call.TheVariants.{Look as LookCall, Release as ReleaseCall}
-use Rattle.fx_baton.specs.declared.view.Call.TheVariants.{Retire as RetireCall}
+use Rattle.fx_baton.proofs.Words.{closed_by_retirement, File, Event, Action, Release, number_behind, Opening, state_at, PassView, IsFront, next_of}
+use Rattle.fx_baton.proofs.Words.{HasDrawnInTurn, Use, Adds, Doing, Holding, Retiring, seen_again, seen_further, part_mine, Log, View, Start, Call}
+use Rattle.fx_baton.proofs.Words.{BatonPass, Seated, opening_of, begin_of, Knows, Takes, log_behind, view_behind, by, actions_of, doing_of, use_of}
+use Rattle.fx_baton.proofs.Words.{events_of, table_of_slots, table_of_loan, first_front, first_own, view_of, is_idle, IsPassOf, HasTable, HasSeenMore}
+use Rattle.fx_baton.proofs.Words.{UsesNext, HasCalled, HasGivenBack, pass_behind}
+use Rattle.fx_baton.specs.declared.view.Call.TheVariants.{Look as LookCall, Release as ReleaseCall, Retire as RetireCall}
 
 -- a legal history leads to the state at its end
 pub ends_there : (k : Start) (h : List Event) (end : State) → IsLegal (begin_of k) h end → IsLegal (begin_of k) h (state_at (opening_of k) h)
@@ -15,16 +14,7 @@ ends_there k h end l = record { leads = (l.leads.0, refl); releases = l.releases
 
 -- what a pass has drawn is the same when it has seen more
 turns_still : (o : Opening) (count : ℕ) (v w : PassView) → w ≡ record v { front = w.front } → HasDrawnInTurn o count v → HasDrawnInTurn o count w
-turns_still o count v w same t = subst (HasDrawnInTurn o count) (sym same) record {
-  number = t.number;
-  drawn = t.drawn;
-  chain = t.chain;
-  reached = t.reached;
-  last_drawn = t.last_drawn;
-  few_left = t.few_left;
-  left_inside = t.left_inside;
-  unused = t.unused;
-}
+turns_still o count v w same t = subst (HasDrawnInTurn o count) (sym same) (assumption t)
 
 module _ (id : TableId) (k : Start) (p : BatonPass) (fits : IsPassOf id k p) (seat : Seat Contents View)
     (table : seat.table_id ≡ p.seat.table_id) (taken : Takes p.seat.me fits.seated.log seat.me) where
@@ -53,18 +43,8 @@ module _ (id : TableId) (k : Start) (p : BatonPass) (fits : IsPassOf id k p) (se
   same_own = ap first_own one_log ∙ sym (ap first_own fits.seated.one)
 
   knows_now : Knows seat.me.0 log taken.contents log.front
-  knows_now = let n = taken.knows in subst (λ (w : View). Knows w log taken.contents taken.history) (sym taken.view) record {
-    legal = n.legal;
-    sound = n.sound;
-    seen = seen_again taken.history;
-    own = n.own;
-    held = n.held;
-    fresh = n.fresh;
-    file = n.file;
-    few = n.few;
-    holds = n.holds;
-    leaves = n.leaves;
-  }
+  knows_now = let seen = seen_again taken.history in
+      subst (λ (w : View). Knows w log taken.contents taken.history) (sym taken.view) (assumption (seen, taken.knows))
 
   front_now : IsFront (opening_of k) (view_of took)
   front_now = record {
@@ -114,7 +94,7 @@ next_release p chain f None own = refl
 next_release p chain f (Some g) own = refl
 
 -- the pass's numbers go on behind a call
-next_behind : (c : Contents) (v : PassView) (now : ℕ) (doing : Doing) (call : Call) (own : List Event) → number_behind own ≤ next_number v
+next_behind : (c : Contents) (v : PassView) (now : ℕ) (doing : Doing) (call : Call) (own : List Event) → number_behind own ≤ next_of v
     → v.numbers_left ≤ 64 * v.chain → now + (use_of call).numbers ≡ v.numbers_left → UsesNext v call
     → number_behind (events_of c v.number v.chain doing call ++ own) ≤ (256 + 64 * v.chain) - now
 next_behind c v now doing (LookCall slot) own next inside used uses = omega arith
@@ -128,18 +108,9 @@ next_behind c v now _ _ own next inside used uses = omega arith
 adds_behind : (o : Opening) (u v w : PassView) (actions : List Action) (doing : Doing) (used : Use) → HasSeenMore u v
     → Adds o v actions doing used w → Adds o u actions doing used w
 adds_behind o u v w actions doing used s a =
-    let b : Adds o (record u { front = v.front }) actions doing used w = subst (λ (z : PassView). Adds o z actions doing used w) s.same a in record {
-      seen = seen_further u.front v.front w.front s.seen b.seen;
-      front = b.front;
-      own = b.own;
-      now = b.now;
-      number = b.number;
-      chain = b.chain;
-      drawn = b.drawn;
-      no_chains_left = b.no_chains_left;
-      numbers_left = b.numbers_left;
-      looks_left = b.looks_left;
-    }
+    let b : Adds o (record u { front = v.front }) actions doing used w = subst (λ (z : PassView). Adds o z actions doing used w) s.same a in
+    let seen = seen_further u.front v.front w.front s.seen b.seen in
+    assumption (seen, b)
 
 module _ (id : TableId) (k : Start) (call : Call) (idle : Bool) (p : BatonPass) (t : HasCalled id k call idle p) (seat : Seat Contents View)
     (table : seat.table_id ≡ p.seat.table_id)
@@ -191,19 +162,16 @@ module _ (id : TableId) (k : Start) (call : Call) (idle : Bool) (p : BatonPass) 
   }
 
   turns_now : HasDrawnInTurn (opening_of k) p.count (view_of gave)
-  turns_now = let s = t.has.seated.turns in let used = t.numbers in record {
-    number = s.number;
-    drawn = s.drawn;
-    chain = s.chain;
-    reached = s.reached;
-    last_drawn = s.last_drawn;
-    few_left = let a = s.few_left in omega arith;
-    left_inside = let a = s.left_inside in omega arith;
-    unused = subst (λ (l : List Event). number_behind l ≤ (256 + 64 * p.chain) - numbers) (sym own_after)
-        (next_behind t.taken (view_of p) numbers p.seat.me.0.doing call before.own
-        (subst (λ (l : List Event). number_behind l ≤ next_number (view_of p)) (ap first_own t.has.seated.one) s.unused)
-        s.left_inside (omega arith) t.uses);
-  }
+  turns_now =
+      let s = t.has.seated.turns in
+      let used = t.numbers in
+      let few_left : numbers ≤ 64 = let a = s.few_left in omega arith in
+      let left_inside : numbers ≤ 64 * p.chain = let a = s.left_inside in omega arith in
+      let unused = subst (λ (l : List Event). number_behind l ≤ (256 + 64 * p.chain) - numbers) (sym own_after)
+      (next_behind t.taken (view_of p) numbers p.seat.me.0.doing call before.own
+      (subst (λ (l : List Event). number_behind l ≤ next_of (view_of p)) (ap first_own t.has.seated.one) s.unused)
+      s.left_inside (omega arith) t.uses) in
+      assumption (few_left, left_inside, unused, s)
 
   fits_again : IsPassOf id k gave
   fits_again = let s = t.has.seated in record {

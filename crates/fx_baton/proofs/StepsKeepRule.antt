@@ -1,18 +1,20 @@
 -- A step of one seat keeps the rule.
-use Rattle.fx_baton.proofs.Words.{◌≡◌, ◌≢◌, ℕ, ◌+◌, ◌<◌, ◌≤◌, true, List, length, set, sym, refl, ap, ◌∙◌, subst, arith, ◌⊎◌, inl, inr, ⊎_elim, some}
-use Rattle.fx_baton.proofs.Words.{some-injective, get_elem?, Some, None, Contains, sum_by, Contains-append_cases, at_set, set_else, Contents}
-use Rattle.fx_baton.proofs.Words.{state_of, leaving, IsTable, IsLegal, ◌▷▷◌, File, Event, pass_of_number, HasFile, seen_further, part_other}
-use Rattle.fx_baton.proofs.Words.{held_other, sum_set, sum_at, sum_two, Log, View, Start, Shared, begin_of, logs_of, file_in_hand, holds_by}
-use Rattle.fx_baton.proofs.Words.{removals_by, leaving_count, IsLog, IsView, IsHome, IsAway, IsKept}
+use Rattle.fx_baton.proofs.Words.{◌≡◌, ◌≢◌, ℕ, ◌+◌, ◌<◌, ◌≤◌, true, List, length, set, sym, refl, ◌∙◌, subst, arith, ◌⊎◌, inl, inr, ⊎_elim, some}
+use Rattle.fx_baton.proofs.Words.{get_elem?, Some, Contains, sum_by, Contains-append_cases, at_set, set_else, Contents, state_of, leaving, IsTable}
+use Rattle.fx_baton.proofs.Words.{IsLegal, ◌▷▷◌, File, Event, pass_of_number, HasFile, seen_further, part_other, held_other, sum_set, sum_at, sum_two}
+use Rattle.fx_baton.proofs.Words.{Log, View, Start, Shared, begin_of, logs_of, file_in_hand, holds_by, removals_by, leaving_count, IsLog, IsView}
+use Rattle.fx_baton.proofs.Words.{IsHome, IsAway, IsKept, ap, None, some-injective}
 use Rattle.fx_baton.proofs.Counts.{some_log, at_most_one, in_range, hand_is_counted, one_true}
 
--- a seat without the table is not the one that has it
-pub not_holder : (c : Contents) (h : List Event) (s : Shared) (away : IsAway c h s) (i : ℕ) (u : View) → get_elem? s.views i ≡ some u
-    → u.loan ≡ None → away.holder ≢ i
-not_holder c h s away i u at free same =
-    let is : u ≡ away.view = some-injective u away.view (sym at ∙ (ap (get_elem? s.views) (sym same) ∙ away.at)) in
-    let no : None ≡ Some c = sym free ∙ (ap (λ (z : View). z.loan) is ∙ away.loan) in
-    absurd (cc no)
+pub none_some : {A : Type 0} (a : A) → None ≡ Some a → ⊥
+none_some a e = cc
+
+-- a seat that has the table is another one than a seat that lacks it
+pub other_seat : (views : List View) (i id : ℕ) (u v : View) (c : Contents) → get_elem? views i ≡ some u → u.loan ≡ Some c
+    → get_elem? views id ≡ some v → v.loan ≡ None → i ≢ id
+other_seat views i id u v c there has at free same =
+    let is : u ≡ v = some-injective u v (sym there ∙ (ap (get_elem? views) same ∙ at)) in
+    none_some c (sym free ∙ (sym (ap (λ (z : View). z.loan) is) ∙ has))
 
 module _ (k : Start) (s : Shared) (r : IsKept k s) (id : ℕ) (v : View) (at : get_elem? s.views id ≡ some v) (w : View)
     (c : Contents) (es : List Event) (words : List ℕ) (homes : List (mathlib.Core.Option.Option Contents)) where

@@ -1,11 +1,11 @@
 -- The names that most proofs of this crate use.
 pub use Rattle.atomic_table.proofs.Lists.{at_longer, at_set, at_snoc, set_again, set_else}
 pub use Rattle.atomic_table.specs.Seated.{TableId}
-pub use Rattle.atomic_table.specs.Table.{Final, Joins, Seen, Splits, gives, keeps, rest, step, takes}
+pub use Rattle.atomic_table.specs.Table.{Joins, Splits, gives, keeps, rest, step, takes}
 pub use Rattle.atomic_table.specs.declared.shared.Seat.{Seat}
 pub use Rattle.fx_base.specs.declared.open_file.Closed.{Closed}
-pub use Rattle.fx_baton.specs.Lives.{AllIsHome, IsIdleSeatOf, IsNewPass, Leaves, dealt, logs_in}
-pub use Rattle.fx_baton.specs.Passes.{HasCalled, HasGivenBack, HasSeenMore, HasTable, IsPassOf, UsesNext, first_front, first_own, is_idle}
+pub use Rattle.fx_baton.specs.Lives.{IsIdleSeatOf, IsNewPass, dealt, logs_in}
+pub use Rattle.fx_baton.specs.Passes.{HasCalled, HasGivenBack, HasSeenMore, HasTable, IsPassOf, UsesNext, next_of, first_front, first_own, is_idle}
 pub use Rattle.fx_baton.specs.Passes.{pass_behind, view_of}
 pub use Rattle.fx_baton.specs.Rule.{Gives, Grabs, HasFreshNumbers, IsAway, IsHome, IsKept, IsLog, IsTurn, IsView, Knows, Seated, Shared, Takes}
 pub use Rattle.fx_baton.specs.Rule.{begin_of, empty_view, file_held, file_in_hand, first_of, first_view, holds_by, joined_view, leaving_count}
@@ -35,12 +35,12 @@ pub use Rattle.fx_table.proofs.Histories.{held_mine, held_other, legal_then, one
 pub use Rattle.fx_table.proofs.Members.{contains_cases, contains_head, contains_map, contains_mapped, contains_none, contains_only, contains_reverse}
 pub use Rattle.fx_table.proofs.Members.{contains_reversed, contains_tail}
 pub use Rattle.fx_table.proofs.SumLemmas.{sum_at, sum_le_at, sum_map, sum_of, sum_only, sum_reverse, sum_set, sum_two}
-pub use Rattle.fx_table.specs.Calls.{Adds, Cleared, Placed, Releases, Retires, Use, new_file, no_use, one_look, one_number}
+pub use Rattle.fx_table.specs.Calls.{Adds, Cleared, Placed, ReleasesFile, RetiresFile, Use, new_file, no_use, one_look, one_number}
 pub use Rattle.fx_table.specs.Closing.{ClosesTable, times_drawn}
 pub use Rattle.fx_table.specs.Files.{HasFile}
 pub use Rattle.fx_table.specs.Numbers.{chains_of_pass, number_behind, numbers_for, pass_of_chain, pass_of_number}
 pub use Rattle.fx_table.specs.Opening.{HasSameFiles, IsGivenBack, Opening, size_of, state_at}
-pub use Rattle.fx_table.specs.Pass.{IsFront, PassView, hold_of, new_pass, new_passes, new_passes_from, next_number, retired_of}
+pub use Rattle.fx_table.specs.Pass.{IsFront, PassView, hold_of, new_pass, new_passes, new_passes_from, retired_of}
 pub use Rattle.fx_table.specs.Turns.{HasDrawnInTurn}
 pub use Rattle.fx_table.specs.declared.values.Doing.{Doing}
 pub use Rattle.fx_table.specs.declared.values.Doing.TheVariants.{Holding, Idle, Retiring}
@@ -50,8 +50,7 @@ pub use Rattle.std.proofs.Common.{◌∙◌, ◌∷◌, ◌≡◌, ◌≢◌, �
 pub use Rattle.std.proofs.lemmas.List.Elements.{All-contains, All-push, Contains-append_cases, Contains-append_left, Contains-append_right}
 pub use Rattle.std.proofs.lemmas.List.Elements.{Contains-push}
 pub use Rattle.std.proofs.lemmas.List.Sums.{sum_by-append, sum_by-cons}
-pub use Rattle.std.specs.Prelude.{Contains, IfSome, None, Option, Some, count_by, if◌then◌else◌, is_some, nat_lt, not, option_map, sum_by, ◌&&◌}
-pub use Rattle.std.specs.Prelude.{◌==◌}
+pub use Rattle.std.specs.Prelude.{Contains, IfSome, None, Option, Some, count_by, if◌then◌else◌, is_some, nat_lt, not, option_map, sum_by, ◌&&◌, ◌==◌}
 pub use lib.ListN.{get_elem?}
 pub use mathlib.Core.Logic.{dite}
 pub use mathlib.Core.Option.{none, some, some-injective, some-ne-none}

@@ -36,7 +36,8 @@ GrabsKeep =
     (k : Start) (id : ℕ) (v : View) (x : Log)
     → v.logs ≡ x ∷ []
     → v.loan ≡ None
-    → Allows (IsKept k) 1 id (v, []) 0 (λ n. either (n == 1) 0 n) (Grabs (step 1 0 1 0 none) (v, []))
+    → Allows (IsKept k) 1 id (v, []) 0 (λ n. either (n == 1) 0 n)
+    (Grabs (step 1 0 1 0 none) (v, []))
 
 -- the word becomes 1
 abbrev pub GivesKeep : Type 0
@@ -48,4 +49,5 @@ GivesKeep =
     → (events : List Event) (doing : Doing)
     → IsTable d
     → IsTurn v x c d events doing
-    → Allows (IsKept k) 1 id (v, (0, d) ∷ []) 0 (λ _. 1) (λ _. Gives events doing (step 1 0 1 0 none) (v, (0, d) ∷ []) 1)
+    → Allows (IsKept k) 1 id (v, (0, d) ∷ []) 0 (λ _. 1)
+    (λ _. Gives events doing (step 1 0 1 0 none) (v, (0, d) ∷ []) 1)

@@ -48,8 +48,10 @@ pub record IsIdleSeatOf (t : BatonTable) (seat : Seat Contents View) : Type 0 wh
 
 -- whatever the last state is, the table is at home
 abbrev pub AllIsHome : Start → ℕ → View → Type 0
-AllIsHome k id v = (s : Shared) (r : IsKept k s) → get_elem? s.views id ≡ some v → IsHome r.contents s
+AllIsHome k id v =
+    (s : Shared) (r : IsKept k s) → get_elem? s.views id ≡ some v → IsHome r.contents s
 
 -- the table comes back as it is in some last state
 abbrev pub Leaves : Start → ℕ → View → Contents → Type 0
-Leaves k id v c = (s : Shared) × (r : IsKept k s) × (get_elem? s.views id ≡ some v) × (r.contents ≡ c)
+Leaves k id v c =
+    (s : Shared) × (r : IsKept k s) × (get_elem? s.views id ≡ some v) × (r.contents ≡ c)

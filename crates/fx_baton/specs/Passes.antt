@@ -1,12 +1,12 @@
--- A pass of the table behind one word, as all shared tables show it.
+-- A pass of the table guarded by one word, as all shared tables show it.
 use Rattle.std.specs.Prelude.{◌≡◌, ℕ, ◌-◌, ◌≤◌, Bool, true, false, List, [], ◌∷◌, Some, None}
 use Rattle.atomic_table.specs.Seated.{TableId}
 use Rattle.atomic_table.specs.declared.shared.Seat.{Seat}
 use Rattle.fx_plain.specs.Contents.{Contents, IsTable, state_of}
 use Rattle.fx_plain.specs.History.{IsSeenBy}
 use Rattle.fx_plain.specs.declared.event.Event.{Event}
-use Rattle.fx_table.specs.Numbers.{chains_of_pass}
-use Rattle.fx_table.specs.Pass.{PassView, IsFront, next_number}
+use Rattle.fx_table.specs.Numbers.{chains_of_pass, numbers_for}
+use Rattle.fx_table.specs.Pass.{PassView, IsFront}
 use Rattle.fx_table.specs.Opening.{state_at}
 use Rattle.fx_table.specs.Turns.{HasDrawnInTurn}
 use Rattle.fx_table.specs.Calls.{Adds}
@@ -57,7 +57,7 @@ is_idle (Holding f) = false
 is_idle (Retiring f takes) = false
 
 -- a seat with the view v has one pass, which is shown as w, at a table that began so
-pub record IsSeated (k : Start) (v : View) (w : PassView) (count : ℕ) (idle : Bool) : Type 0 where
+pub record HasOnePass (k : Start) (v : View) (w : PassView) (count : ℕ) (idle : Bool) : Type 0 where
   pub log : Log
   pub one : v.logs ≡ log ∷ []
   pub number : log.number ≡ w.number
@@ -72,7 +72,7 @@ pub record IsPassOf (id : TableId) (k : Start) (p : BatonPass) : Type 0 where
   pub slots : p.seat.me.1 ≡ []
   pub free : p.seat.me.0.loan ≡ None
   pub passes : p.passes ≡ k.passes
-  pub seated : IsSeated k p.seat.me.0 (view_of p) p.count p.idle
+  pub seated : HasOnePass k p.seat.me.0 (view_of p) p.count p.idle
 
 -- more of the history was seen, and nothing else has changed
 pub record HasSeenMore (v w : PassView) : Type 0 where
@@ -80,23 +80,29 @@ pub record HasSeenMore (v w : PassView) : Type 0 where
   pub same : w ≡ record v { front = w.front }
 
 -- a pass of the table, which was shown as u, has taken it as c, and it is d now
-pub record HasTable (id : TableId) (k : Start) (u : PassView) (c d : Contents) (p : BatonPass) : Type 0 where
+pub record HasTable (id : TableId) (k : Start) (u : PassView) (c d : Contents) (p : BatonPass)
+    : Type 0 where
   pub table : p.seat.table_id ≡ id
   pub slots : p.seat.me.1 ≡ (0, d) ∷ []
   pub loan : p.seat.me.0.loan ≡ Some c
   pub passes : p.passes ≡ k.passes
   pub more : HasSeenMore u (view_of p)
-  pub seated : IsSeated k p.seat.me.0 (view_of p) p.count p.idle
+  pub seated : HasOnePass k p.seat.me.0 (view_of p) p.count p.idle
   pub knows : Knows p.seat.me.0 seated.log c seated.log.front
+
+-- the pass's next number: each chain has all of its numbers
+abbrev pub next_of : PassView → ℕ
+next_of v = numbers_for v.chain - v.numbers_left
 
 -- an installation uses the pass's next number
 abbrev pub UsesNext : PassView → Call → Type 0
-UsesNext v (PutCall slot number file) = number ≡ next_number v
-UsesNext v (AllocateCall slot number file) = number ≡ next_number v
+UsesNext v (PutCall slot number file) = number ≡ next_of v
+UsesNext v (AllocateCall slot number file) = number ≡ next_of v
 UsesNext v _ = Unit {0}
 
 -- a pass did this while it had the table
-pub record HasPlayed (id : TableId) (k : Start) (events : List Event) (doing : Doing) (p : BatonPass) : Type 0 where
+pub record HasPlayed (id : TableId) (k : Start) (events : List Event) (doing : Doing)
+    (p : BatonPass) : Type 0 where
   pub before : PassView
   pub taken : Contents
   pub given : Contents
@@ -105,13 +111,15 @@ pub record HasPlayed (id : TableId) (k : Start) (events : List Event) (doing : D
   pub turn : IsTurn p.seat.me.0 has.seated.log taken given events doing
 
 -- a pass made a call of the table that it has, and may give the table back
-pub record HasCalled (id : TableId) (k : Start) (call : Call) (idle : Bool) (p : BatonPass) : Type 0 where
+pub record HasCalled (id : TableId) (k : Start) (call : Call) (idle : Bool) (p : BatonPass)
+    : Type 0 where
   pub before : PassView
   pub taken : Contents
   pub given : Contents
   pub has : HasTable id k before taken given p
   pub sound : IsTable given
-  pub turn : IsTurn p.seat.me.0 has.seated.log taken given (events_of taken p.number p.chain p.seat.me.0.doing call) (doing_of taken call)
+  pub turn : IsTurn p.seat.me.0 has.seated.log taken given
+      (events_of taken p.number p.chain p.seat.me.0.doing call) (doing_of taken call)
   pub uses : UsesNext (view_of p) call
   pub numbers : (use_of call).numbers ≤ p.numbers_left
   pub looks : (use_of call).looks ≤ p.looks_left
@@ -122,6 +130,7 @@ pub record HasGivenBack (id : TableId) (k : Start) (call : Call) (p q : BatonPas
   pub fits : IsPassOf id k q
   -- wherever the pass had come from
   pub adds : (u : PassView) (c d : Contents) → HasTable id k u c d p
-      → Adds (opening_of k) u (actions_of c p.seat.me.0.doing call) (doing_of c call) (use_of call) (view_of q)
+      → Adds (opening_of k) u (actions_of c p.seat.me.0.doing call) (doing_of c call) (use_of call)
+      (view_of q)
   -- its front leads to the state of the table that it put back
   pub end : state_at (opening_of k) (view_of q).front ≡ state_of (table_of_slots p.seat.me.1)

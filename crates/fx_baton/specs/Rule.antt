@@ -1,4 +1,4 @@
--- The rule of the table behind one word.
+-- The rule of the table guarded by one word.
 use Rattle.std.specs.Prelude.{◌≡◌, ◌≢◌, ℕ, zero, suc, ◌+◌, ◌<◌, ◌≤◌, ◌==◌, ◌⊎◌, true, if◌then◌else◌, List, [], ◌∷◌, ◌++◌, map, length, Option, Some}
 use Rattle.std.specs.Prelude.{None, Contains, count_by, sum_by}
 use mathlib.Core.Option.{some, none}
@@ -71,7 +71,11 @@ abbrev pub empty_table : Contents
 empty_table = record { slots = []; range = (0, 0); nodes = []; holds = []; numbers = 0 }
 
 abbrev pub no_start : Start
-no_start = record { plain = record { marker = record {}; value = empty_table }; chains = 0; passes = 0 }
+no_start = record {
+  plain = record { marker = record {}; value = empty_table };
+  chains = 0;
+  passes = 0;
+}
 
 -- the view of a seat whose passes another took in
 abbrev pub empty_view : View
@@ -111,7 +115,8 @@ HasFreshNumbers k st x =
     → pass_of_number k.passes n ≡ x.number → st.fresh n ≡ true
 
 -- what the history says of one pass of a seat
-pub record IsLog (k : Start) (h : List Event) (c : Contents) (doing : Doing) (x : Log) : Type 0 where
+pub record IsLog (k : Start) (h : List Event) (c : Contents) (doing : Doing) (x : Log)
+    : Type 0 where
   pub seen : IsSeenBy x.front h
   pub own : part_of_pass x.number h ≡ x.own
   pub held : held_by h x.number ≡ file_held doing
@@ -125,7 +130,9 @@ pub record IsView (k : Start) (h : List Event) (c : Contents) (v : View) : Type 
 
 -- the table is at home
 abbrev pub IsHome : Contents → Shared → Type 0
-IsHome c s = (s.words ≡ 1 ∷ []) × (s.homes ≡ some c ∷ []) × ((i : ℕ) (v : View) → get_elem? s.views i ≡ some v → v.loan ≡ None)
+IsHome c s =
+    (s.words ≡ 1 ∷ []) × (s.homes ≡ some c ∷ [])
+    × ((i : ℕ) (v : View) → get_elem? s.views i ≡ some v → v.loan ≡ None)
 
 -- the table is with one seat, which has seen the whole history
 pub record IsAway (c : Contents) (h : List Event) (s : Shared) : Type 0 where
@@ -151,7 +158,8 @@ pub record IsKept (k : Start) (s : Shared) : Type 0 where
   pub count : sum_by (λ v. length v.logs) s.views ≡ k.passes
   pub few : k.passes ≤ MAX_PASSES
   pub authors : (e : Event) → Contains history e → (1 ≤ e.pass) × (e.pass ≤ k.passes)
-  -- the holds of a file are the passes that hold it, and a file is leaving while one pass has yet to retire it
+  -- the holds of a file are the passes that hold it, and a file is leaving while one pass has yet
+  -- to retire it
   pub held : (n : ℕ) → sum_by (λ v. holds_by n v.doing) s.views ≡ (state_of contents).holds n
   pub leaves : (n : ℕ) → sum_by (λ v. removals_by n v.doing) s.views ≡ leaving_count contents n
 
@@ -182,7 +190,8 @@ pub record Takes (m : Seated) (x : Log) (m' : Seated) : Type 0 where
 
 -- the table was taken; or it was away, and nothing changed
 abbrev pub Grabs : Step Contents → Seated → ℕ → Seated → Type 0
-Grabs st m found m' = ((found ≡ 1) × ((x : Log) → m.0.logs ≡ x ∷ [] → Takes m x m')) ⊎ ((found ≢ 1) × (m' ≡ m))
+Grabs st m found m' =
+    ((found ≡ 1) × ((x : Log) → m.0.logs ≡ x ∷ [] → Takes m x m')) ⊎ ((found ≢ 1) × (m' ≡ m))
 
 -- a pass behind these events of its own
 abbrev pub log_behind : List Event → Log → Log
@@ -196,15 +205,20 @@ abbrev pub Gives : List Event → Doing → Step Contents → Seated → ℕ →
 Gives es doing st m found m' = (m'.0 ≡ view_behind m.0 es doing) × (m'.1 ≡ [])
 
 -- what a seat with one pass has to show when it gives the table c back as d, behind the events es
-pub record IsTurn (v : View) (x : Log) (c d : Contents) (es : List Event) (doing : Doing) : Type 0 where
+pub record IsTurn (v : View) (x : Log) (c d : Contents) (es : List Event) (doing : Doing)
+    : Type 0 where
   pub authors : (e : Event) → Contains es e → e.pass ≡ x.number
   pub legal : IsLegal (begin_of v.start) (x.front ▷▷ es) (state_of d)
-  pub held : (n : ℕ) → (state_of d).holds n + holds_by n v.doing ≡ (state_of c).holds n + holds_by n doing
-  pub leaves : (n : ℕ) → leaving_count d n + removals_by n v.doing ≡ leaving_count c n + removals_by n doing
+  pub held : (n : ℕ)
+      → (state_of d).holds n + holds_by n v.doing ≡ (state_of c).holds n + holds_by n doing
+  pub leaves : (n : ℕ)
+      → leaving_count d n + removals_by n v.doing ≡ leaving_count c n + removals_by n doing
   -- files that are held or leaving stay
-  pub files : (f : File) → HasFile (state_of c) f → (0 < (state_of d).holds f.number) ⊎ (leaving d f.number ≡ true) → HasFile (state_of d) f
+  pub files : (f : File) → HasFile (state_of c) f
+      → (0 < (state_of d).holds f.number) ⊎ (leaving d f.number ≡ true) → HasFile (state_of d) f
   pub now : held_by (x.front ▷▷ es) x.number ≡ file_held doing
   pub file : (f : File) → file_in_hand doing ≡ Some f → HasFile (state_of d) f
   -- of fresh numbers it used up none but its own
   pub fresh : HasFreshNumbers v.start (state_of d) (log_behind es x)
-  pub others : (n : ℕ) → pass_of_number v.start.passes n ≢ x.number → (state_of c).fresh n ≡ true → (state_of d).fresh n ≡ true
+  pub others : (n : ℕ) → pass_of_number v.start.passes n ≢ x.number → (state_of c).fresh n ≡ true
+      → (state_of d).fresh n ≡ true

@@ -52,7 +52,8 @@ retirement_in c (Retiring f takes) = close_of (closed_by_retirement c f.number)
 abbrev pub actions_of : Contents → Doing → Call → List Action
 actions_of c doing (LookCall slot) = [] ▷ Look slot ((state_of c).at slot)
 actions_of c doing ReleaseCall = release_in c doing
-actions_of c doing (PutCall slot number file) = [] ▷ Put slot (numbered number file) ((state_of c).at slot)
+actions_of c doing (PutCall slot number file) =
+    [] ▷ Put slot (numbered number file) ((state_of c).at slot)
 actions_of c doing (AllocateCall slot number file) = [] ▷ Allocate slot (numbered number file)
 actions_of c doing FullCall = [] ▷ Full
 actions_of c doing (ClearCall slot) = [] ▷ Clear slot ((state_of c).at slot)

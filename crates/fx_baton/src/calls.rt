@@ -1,10 +1,10 @@
-//! The table behind one word is a shared table.
+//! The table guarded by one word is a shared table.
 ghost use Rattle.std.specs.Prelude.{◌≡◌, Option, length, map, option_map, All};
 ghost use Rattle.fx_plain.specs.declared.event.File.{File};
 ghost use Rattle.fx_plain.specs.Table.{number_of};
-ghost use Rattle.fx_table.specs.Pass.{IsIdle, retired_of, next_number};
+ghost use Rattle.fx_table.specs.Pass.{IsIdle, retired_of};
 ghost use Rattle.fx_table.specs.Closing.{ClosesTable};
-ghost use Rattle.fx_baton.specs.Passes.{view_of};
+ghost use Rattle.fx_baton.specs.Passes.{next_of, view_of};
 ghost use Rattle.fx_baton.specs.Tables.{opening_of_table, IsPassOfTable};
 
 use crate::pass::BatonPass;
@@ -201,7 +201,7 @@ impl BatonTable {
     // The number that the pass's next installation uses.
     fn next_number(&self, pass: &BatonPass) -> u32
         requires { IsPassOfTable self.now pass.now }
-        ensures { result ≡ next_number (view_of pass.now) }
+        ensures { result ≡ next_of (view_of pass.now) }
     {
         numbers_for(pass.chain) - pass.numbers_left
     }

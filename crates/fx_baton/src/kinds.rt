@@ -1,4 +1,4 @@
-//! The rule of the table behind one word, and its four kinds of step.
+//! The rule of the table guarded by one word, and its four kinds of step.
 use crate::view::{Start, View};
 use atomic_table::{Join, Play, Split, TableRule};
 use fx_plain::PlainTable;

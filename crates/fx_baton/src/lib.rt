@@ -1,4 +1,4 @@
-//! The file table that threads share, behind one word: whoever exchanges the word has the whole table of one thread.
+//! The file table that threads share, guarded by one word: whoever exchanges the word has the whole table of one thread.
 #![tactic(auto)]
 
 mod calls;

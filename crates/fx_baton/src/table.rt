@@ -17,10 +17,10 @@ use std::marker::Brand;
 use std::sync::Wait;
 use std::thread;
 
-/// A file table that threads share, behind one word: whoever exchanges the word has the whole table of one thread, in
+/// A file table that threads share, guarded by one word: whoever exchanges the word has the whole table of one thread, in
 /// its place, and puts the word back behind its call. A pass that waits for the table yields its thread. Pass p of n
 /// draws the chains p, p + n, p + 2n and so on, and the takes of a removed file are 0. It is no `Drop`: a program that
-/// lets one go is not accepted (this project's own).
+/// drops one is not accepted (this project's own).
 pub struct BatonTable {
     pub(crate) table: Table<PlainTable, View, Start, OneHistory, Global>,
     pub(crate) chains: u32,
