@@ -1,11 +1,12 @@
 -- A birth keeps the rule, and so does a rest.
-use Rattle.fx_counted.proofs.Words.{◌≡◌, ◌≢◌, ℕ, ◌+◌, ◌<◌, ◌≤◌, List, [], ◌∷◌, set, length, sym, refl, ap, ◌∙◌, subst, arith, Option, Some, None}
+use Rattle.fx_counted.proofs.Words.{◌≡◌, ◌≢◌, ℕ, ◌+◌, ◌*◌, ◌<◌, ◌≤◌, List, [], ◌∷◌, set, length, sym, refl, ap, ◌∙◌, subst, arith, Option, Some, None}
 use Rattle.fx_counted.proofs.Words.{◌⊎◌, inr, ⊎_elim, dite, some, none, ℕ_discrete, get_elem?, takes, gives, rest, stepped, step, set_here, set_else}
 use Rattle.fx_counted.proofs.Words.{Closed, File, changed_at, no_use, next_number, born, Home, NodeAgrees, OwnerAgrees, WorkAgrees, PlacesNext}
-use Rattle.fx_counted.proofs.Words.{Agrees, word_of, place_of, Shared, first_log, pass_of, Sat, IsNumber, state_after_all, end_in, next_in, held_in}
+use Rattle.fx_counted.proofs.Words.{Agrees, word_of, place_of, Shared, opening_of, chain_in, chain_numbers, first_log, pass_of, Sat, IsNumber, state_after_all, end_in, next_in, held_in}
 use Rattle.fx_counted.proofs.Words.{placing, held_of, holding, Phase, unborn, spare, placed, emptied, closed, owner, file_in, Stepped, Log, Start}
 use Rattle.fx_counted.proofs.Words.{View, Idle, Placing, Holding, Emptying, looks}
 use Rattle.std.proofs.Common.{length-set}
+use Rattle.std.proofs.Math.Nat.{mul-le-mul_left}
 use Rattle.atomic_table.specs.Table.{Allows}
 use Rattle.fx_counted.specs.Laws.{BirthsKeep, RestsKeep}
 use Rattle.fx_counted.specs.Tells.{Births, Rests}
@@ -39,16 +40,17 @@ module _ (st : Shared) (v : View) (r : Agrees v.start st) (id : ℕ) (x : Log) (
   else_place q its n has other = (far st v r id x here one).homes n q has its other
 
   -- a number that is left to the pass is one of the table
-  pub spare_inside : (n : ℕ) → next_in x ≤ n → n < end_in x → IsNumber v.start n
+  pub spare_inside : (n : ℕ) → next_in v.start x ≤ n → n < end_in v.start x → IsNumber v.start n
   spare_inside n low high = let o = its_log st v r id x here one in let a = o.left_inside in let b = o.few_left in
-      let c = o.chain in inr (omega arith, omega arith)
+      let within : v.start.numbers * chain_in x ≤ chain_numbers v.start = mul-le-mul_left v.start.numbers o.chain in
+      inr (omega arith, omega (arith, high, within))
 
   -- a birth
   module _ (idle : v.work ≡ Idle) (some_left : 0 < x.numbers_left) where
     abbrev b : ℕ
-    b = next_in x
+    b = next_in v.start x
 
-    end_is : b < end_in x
+    end_is : b < end_in v.start x
     end_is = let o = its_log st v r id x here one in let a = o.left_inside in omega arith
 
     its_b : IsNumber v.start b
@@ -83,11 +85,11 @@ module _ (st : Shared) (v : View) (r : Agrees v.start st) (id : ℕ) (x : Log) (
     }
 
     birth_tells : (carried homes : List (ℕ × Option Closed))
-        → Stepped (v, carried) [] no_use (Placing (next_number (pass_of v))) v.change
+        → Stepped (v, carried) [] no_use (Placing (next_number (opening_of v.start) (pass_of v))) v.change
         (now v (logged x r.history x.numbers_left x.looks_left) (Placing b) v.change, homes)
     birth_tells carried homes = subst (λ (n : ℕ). Stepped (v, carried) [] no_use (Placing n) v.change
         (now v (logged x r.history x.numbers_left x.looks_left) (Placing b) v.change, homes))
-        (λ i. next_in (first_log (sym one i)))
+        (λ i. next_in v.start (first_log (sym one i)))
         (tells st v r id x here one carried homes r.history x.numbers_left x.looks_left (Placing b) v.change [] no_use
         (grows_none x.number r.history) r.legal refl (omega arith) (omega arith) its_b)
 
@@ -98,7 +100,7 @@ module _ (st : Shared) (v : View) (r : Agrees v.start st) (id : ℕ) (x : Log) (
     rest_step : NodeAgrees (state_after_all v.start r.history) q (looks r.history q) 0
         (some (some None)) ph' → OwnerAgrees
         (set st.views id (now v (logged x r.history x.numbers_left x.looks_left) Idle v.change)) q ph'
-        → ((n : ℕ) → next_in x ≤ n → n < end_in x → changed_at r.phase q ph' n ≡ spare x.number)
+        → ((n : ℕ) → next_in v.start x ≤ n → n < end_in v.start x → changed_at r.phase q ph' n ≡ spare x.number)
         → NodeStep st v r id x here one q its 0 (set st.homes (place_of v.start q) (some None)) r.history ph' Idle
     rest_step node known spares = let o = its_log st v r id x here one in record {
       grows = grows_none x.number r.history;
@@ -144,7 +146,7 @@ module _ (st : Shared) (v : View) (r : Agrees v.start st) (id : ℕ) (x : Log) (
       (set st.homes (place_of v.start q) (some None)) r.history (spare x.number) Idle
   rest_placed q is = let w = subst (WorkAgrees v.start r.phase id) is (its_work st v r id x here one) in
       let n = in_phase q w.0 (placed id) w.1 in let o = its_log st v r id x here one in
-      let next : (q ≡ next_in x) × (0 < x.numbers_left) = subst (PlacesNext x) is o.next in (
+      let next : (q ≡ next_in v.start x) × (0 < x.numbers_left) = subst (PlacesNext v.start x) is o.next in (
         w.0,
         rest_step q w.0 (placed id) (spare x.number) w.1 refl refl (λ bad. cc bad) (λ p bad. cc bad) (ap held_in is)
             (ap busy is) (λ m. ap (holding m) is) (refl, refl, n.2, n.3, n.4, n.5) tt
@@ -154,24 +156,24 @@ module _ (st : Shared) (v : View) (r : Agrees v.start st) (id : ℕ) (x : Log) (
       )
 
 births_at : (slots id : ℕ) (m : Sat) (x : Log) → m.0.logs ≡ x ∷ [] → m.0.work ≡ Idle → 0 < x.numbers_left
-    → Allows (Agrees m.0.start) slots id m (word_of m.0.start (next_in x)) (λ _. born)
-    (λ _. Births (step slots (word_of m.0.start (next_in x)) born 0 none) m born)
+    → Allows (Agrees m.0.start) slots id m (word_of m.0.start (next_in m.0.start x)) (λ _. born)
+    (λ _. Births (step slots (word_of m.0.start (next_in m.0.start x)) born 0 none) m born)
 births_at slots id m x one idle left st r deep here fits = (
-  now m.0 (logged x r.history x.numbers_left x.looks_left) (Placing (next_in x)) m.0.change,
-  takes (place_of m.0.start (next_in x)) None,
-  (in_phase st m.0 r id x here one (next_in x) (its_b st m.0 r id x here one idle left) (spare x.number)
+  now m.0 (logged x r.history x.numbers_left x.looks_left) (Placing (next_in m.0.start x)) m.0.change,
+  takes (place_of m.0.start (next_in m.0.start x)) None,
+  (in_phase st m.0 r id x here one (next_in m.0.start x) (its_b st m.0 r id x here one idle left) (spare x.number)
       (is_spare st m.0 r id x here one idle left)).1,
-  node_agrees st m.0 r id x here one (next_in x) (its_b st m.0 r id x here one idle left) born
-      (set st.homes (place_of m.0.start (next_in x)) none) r.history (placed id) (Placing (next_in x))
+  node_agrees st m.0 r id x here one (next_in m.0.start x) (its_b st m.0 r id x here one idle left) born
+      (set st.homes (place_of m.0.start (next_in m.0.start x)) none) r.history (placed id) (Placing (next_in m.0.start x))
       (birth st m.0 r id x here one idle left),
   record {
-    stepped = birth_tells st m.0 r id x here one idle left m.1 ((place_of m.0.start (next_in x), None) ∷ m.1);
-    carried = λ i. (place_of m.0.start (next_in (first_log (sym one i))), None) ∷ m.1;
+    stepped = birth_tells st m.0 r id x here one idle left m.1 ((place_of m.0.start (next_in m.0.start x), None) ∷ m.1);
+    carried = λ i. (place_of m.0.start (next_in m.0.start (first_log (sym one i))), None) ∷ m.1;
   },
 )
 
 pub births_keep : BirthsKeep
-births_keep k slots id i m x has idle left place = subst (λ (k : Start). i ≡ word_of k (next_in x)
+births_keep k slots id i m x has idle left place = subst (λ (k : Start). i ≡ word_of k (next_in k x)
     → Allows (Agrees k) slots id m i (λ _. born) (λ _. Births (step slots i born 0 none) m born)) has.0
     (λ at. subst (λ (i : ℕ). Allows (Agrees m.0.start) slots id m i (λ _. born)
     (λ _. Births (step slots i born 0 none) m born)) (sym at) (births_at slots id m x has.1 idle left)) place

@@ -1,34 +1,38 @@
 -- What a call of a table needs for its steps.
-use Rattle.fx_counted.proofs.Words.{◌≡◌, ℕ, true, ◌<◌, ◌≤◌, inl, inr, sym, ap, ◌∙◌, subst, arith, range_of, full_word_of, MAX_CHAINS, InRange}
-use Rattle.fx_counted.proofs.Words.{HasNode, slot_of, slot_place, node_place, home_place, opening_of, slots_of, IsNumber, opening_of_table, Start}
+use Rattle.fx_counted.proofs.Words.{◌≡◌, ℕ, ◌*◌, true, ◌<◌, ◌≤◌, inl, inr, sym, ap, ◌∙◌, subst, arith, range_of, full_word_of, InRange}
+use Rattle.fx_counted.proofs.Words.{HasNode, chain_numbers, slot_of, slot_place, node_place, home_place, opening_of, slots_of, IsNumber, opening_of_table, Start}
 use Rattle.fx_counted.proofs.Words.{CountedTable}
 use Rattle.fx_table.specs.Opening.{size_of}
-use Rattle.fx_counted.proofs.Places.{inside, apart}
+use Rattle.fx_counted.proofs.Places.{few_numbers, inside, apart}
 
 -- the word of a slot is one of the table
 pub slot_inside : (t : CountedTable) (slot i : ℕ) → slot < size_of (opening_of_table t) → i ≡ slot_place slot
     → i < t.table.shared.table_id.words
 slot_inside t slot i l is =
     let size = t.same_size in
-    let near = (inside t.size t.chains t.few_slots).slot slot (omega arith) in
+    let near = (inside t.size (t.numbers * t.chains) t.few_slots).slot slot (omega arith) in
     let words = t.words in
     omega arith
 
+-- how many numbers the chains have together
+pub its_numbers : (t : CountedTable) → t.numbers * t.chains ≡ chain_numbers t.table.shared.key
+its_numbers t = λ i. t.key.2 i * t.key.0 i
+
 -- the number of a slot or of a chain of the table
-pub its_number : (t : CountedTable) (n : ℕ) → IsNumber t.table.shared.key n → HasNode t.size t.chains n
-its_number t n has = subst (λ (z : ℕ × ℕ). HasNode z.0 z.1 n) (λ i. (sym t.same_size i, sym t.key.0 i)) has
+pub its_number : (t : CountedTable) (n : ℕ) → IsNumber t.table.shared.key n → HasNode t.size (t.numbers * t.chains) n
+its_number t n has = subst (λ (z : ℕ × ℕ). HasNode z.0 z.1 n) (λ i. (sym t.same_size i, sym (its_numbers t) i)) has
 
-more_chains : (size chains n : ℕ) → chains ≤ MAX_CHAINS → HasNode size chains n → HasNode size MAX_CHAINS n
-more_chains size chains n few (inl l) = inl l
-more_chains size chains n few (inr b) = let l = b.0 in let u = b.1 in inr (l, omega arith)
+more_numbers : (size numbers n : ℕ) → numbers ≤ 65472 → HasNode size numbers n → HasNode size 65472 n
+more_numbers size numbers n few (inl l) = inl l
+more_numbers size numbers n few (inr b) = let l = b.0 in let u = b.1 in inr (l, omega arith)
 
-pub has_node : (t : CountedTable) (n : ℕ) → IsNumber t.table.shared.key n → HasNode t.size MAX_CHAINS n
-has_node t n has = more_chains t.size t.chains n t.bounds.0 (its_number t n has)
+pub has_node : (t : CountedTable) (n : ℕ) → IsNumber t.table.shared.key n → HasNode t.size 65472 n
+has_node t n has = more_numbers t.size (t.numbers * t.chains) n (few_numbers t.numbers t.chains t.bounds.3 t.bounds.0) (its_number t n has)
 
 -- its word is one of the table
 pub node_inside : (t : CountedTable) (n i : ℕ) → IsNumber t.table.shared.key n → i ≡ node_place t.size n → i < t.table.shared.table_id.words
 node_inside t n i has is =
-    let near = (inside t.size t.chains t.few_slots).node n (its_number t n has) in
+    let near = (inside t.size (t.numbers * t.chains) t.few_slots).node n (its_number t n has) in
     let words = t.words in
     omega arith
 
@@ -41,7 +45,7 @@ home_is_at t n i is = is ∙ ap (λ (z : ℕ). home_place z n) t.same_size
 
 -- the slot whose word lies there
 pub slot_at : (t : CountedTable) (slot i : ℕ) → i ≡ slot_place slot → slot_of i ≡ slot
-slot_at t slot i is = ap slot_of is ∙ (apart t.size t.chains t.few_slots).slot_back slot
+slot_at t slot i is = ap slot_of is ∙ (apart t.size (t.numbers * t.chains) t.few_slots).slot_back slot
 
 -- a slot of the range is one of the table
 pub in_size : (t : CountedTable) (slot : ℕ) → InRange t.table.shared.key slot true → slot < size_of (opening_of_table t)

@@ -1,15 +1,15 @@
 -- A step that changes no slot and no number, and leaves the pass at its work.
 use Rattle.fx_counted.proofs.Words.{◌≡◌, ℕ, List, [], ◌∷◌, set, length, sym, refl, ap, ◌∙◌, subst, arith, some, get_elem?, held_by, State, Event}
 use Rattle.fx_counted.proofs.Words.{range_of, NodeAgrees, PlacesNext, Agrees, ControlCounts, looks, all_looks, word_of, place_of, control_place}
-use Rattle.fx_counted.proofs.Words.{draw_place, slot_place, Shared, opening_of, IsNumber, state_after_all, next_in, Change, Log, View, Work, Placing}
+use Rattle.fx_counted.proofs.Words.{draw_place, slot_place, Shared, opening_of, IsNumber, state_after_all, next_in, Change, Log, Start, View, Work, Placing}
 use Rattle.fx_counted.proofs.Frames.{stays_same, owner_same}
 use Rattle.fx_counted.proofs.Histories.{Grows, grows_none, IsHistory, seen_all}
 use Rattle.fx_counted.proofs.Keeping.{word_at, now, logged, its_log, its_work, Step, step_kept}
 use Rattle.fx_counted.proofs.Unchanged.{slot_same, draws_same}
 
-places_same : (x y : Log) (d : Work) → next_in y ≡ next_in x → y.numbers_left ≡ x.numbers_left → PlacesNext x d → PlacesNext y d
-places_same x y (Placing n) next left o = (o.0 ∙ sym next, let a = o.1 in omega arith)
-places_same x y _ next left o = tt
+places_same : (k : Start) (x y : Log) (d : Work) → next_in k y ≡ next_in k x → y.numbers_left ≡ x.numbers_left → PlacesNext k x d → PlacesNext k y d
+places_same k x y (Placing n) next left o = (o.0 ∙ sym next, let a = o.1 in omega arith)
+places_same k x y _ next left o = tt
 
 module _ (st : Shared) (v : View) (r : Agrees v.start st) (id : ℕ) (x : Log) (here : get_elem? st.views id ≡ some v)
     (one : v.logs ≡ x ∷ []) (h' : List Event) where
@@ -63,7 +63,7 @@ module _ (st : Shared) (v : View) (r : Agrees v.start st) (id : ℕ) (x : Log) (
           chain = o.chain;
           few_left = o.few_left;
           left_inside = o.left_inside;
-          next = places_same x y v.work refl refl o.next;
+          next = places_same v.start x y v.work refl refl o.next;
           spares = o.spares;
         };
         work = its_work st v r id x here one;
@@ -71,7 +71,7 @@ module _ (st : Shared) (v : View) (r : Agrees v.start st) (id : ℕ) (x : Log) (
         look_ups = let a = p.quiet.all in omega arith;
         control = subst (λ (z : State). ControlCounts z.at (range_of (opening_of v.start)) (set st.views id w)
             (word_at words' control_place)) (sym p.quiet.state) p.control;
-        draws = draws_same st.views id v w here v.start.chains r.phase r.phase (word_at st.words draw_place)
+        draws = draws_same st.views id v w here v.start.chains v.start.numbers r.phase r.phase (word_at st.words draw_place)
             (word_at words' draw_place) x y one refl refl refl p.drawn (λ n is. is) r.draws;
       }
 

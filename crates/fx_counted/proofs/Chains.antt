@@ -1,12 +1,13 @@
 -- A draw keeps the rule.
-use Rattle.fx_counted.proofs.Words.{sum_by, ◌≡◌, ◌≢◌, ℕ, zero, suc, ◌+◌, ◌%◌, ◌^◌, ◌<◌, ◌≤◌, Bool, true, false, cond, List, [], ◌∷◌, set, length}
+use Rattle.fx_counted.proofs.Words.{sum_by, ◌≡◌, ◌≢◌, ℕ, zero, suc, ◌+◌, ◌*◌, ◌%◌, ◌^◌, ◌<◌, ◌≤◌, Bool, true, false, cond, List, [], ◌∷◌, set, length}
 use Rattle.fx_counted.proofs.Words.{sym, refl, ap, ◌∙◌, subst, arith, eqb, lt-ltb, le-ltb, get_or-set_other, get_or-set_same, Option, Some, None}
 use Rattle.fx_counted.proofs.Words.{◌⊎◌, inl, inr, ⊎_elim, dite, some, none, ℕ_discrete, dec_le, get_elem?, keeps, Act, Valid, stepped}
-use Rattle.fx_counted.proofs.Words.{carried_after, step, Closed, numbers_for, PassView, sum_by-cons, sum_set, sum_at, sum_le_at, NodeAgrees}
+use Rattle.fx_counted.proofs.Words.{carried_after, step, Closed, numbers_up_to, PassView, sum_by-cons, sum_set, sum_at, sum_le_at, NodeAgrees}
 use Rattle.fx_counted.proofs.Words.{OwnerAgrees, LogAgrees, lengths, Agrees, PlacesNext, WorkAgrees, DrawsCount, word_of, place_of, control_place}
 use Rattle.fx_counted.proofs.Words.{draw_place, slot_place, Shared, Sat, opening_of, state_after_all, chain_in, shown, first_log, drawn_of, told_of}
 use Rattle.fx_counted.proofs.Words.{once, placing, Phase, unborn, spare, owner, file_in, Log, Start, View, Idle, looks}
 use Rattle.std.proofs.Common.{length-set}
+use Rattle.std.proofs.Math.Nat.{mul-add, mul-le-mul_left}
 use Rattle.atomic_table.specs.Table.{Allows}
 use Rattle.fx_table.specs.Calls.{Draws}
 use Rattle.fx_counted.specs.Laws.{DrawsKeep}
@@ -84,7 +85,7 @@ module _ (st : Shared) (v : View) (r : Agrees v.start st) (id : ℕ) (x : Log) (
   abbrev found : ℕ
   found = word_at st.words draw_place
 
-  abbrev d : DrawsCount v.start.chains r.phase st.views found
+  abbrev d : DrawsCount v.start.chains v.start.numbers r.phase st.views found
   d = r.draws
 
   wide : draw_place < length st.words
@@ -117,7 +118,7 @@ module _ (st : Shared) (v : View) (r : Agrees v.start st) (id : ℕ) (x : Log) (
 
     draw_step : ((n : ℕ) → (r.phase n ≡ phase' n) ⊎ ((r.phase n ≡ unborn) × (phase' n ≡ spare x.number)))
         → LogAgrees v.start r.history phase' id v.work y → WorkAgrees v.start phase' id v.work
-        → DrawsCount v.start.chains phase' (set st.views id w) (found + 1)
+        → DrawsCount v.start.chains v.start.numbers phase' (set st.views id w) (found + 1)
         → Step st v r id x here one y v.work v.change r.history phase' words' st.homes
     draw_step phases log work draws = let apart = far st v r id x here one in record {
       words = length-set st.words draw_place (found + 1);
@@ -166,7 +167,7 @@ module _ (st : Shared) (v : View) (r : Agrees v.start st) (id : ℕ) (x : Log) (
       control = control_same st.views id v w here (state_after_all v.start r.history).at
           (state_after_all v.start r.history).at _ (word_at st.words control_place) _ refl
           (read_else control_place apart.control_and_draw) refl r.control;
-      draws = subst (DrawsCount v.start.chains phase' (set st.views id w)) (sym (get_or-set_same st.words draw_place (found + 1) 0 wide)) draws;
+      draws = subst (DrawsCount v.start.chains v.start.numbers phase' (set st.views id w)) (sym (get_or-set_same st.words draw_place (found + 1) 0 wide)) draws;
     }
 
     told_v : told_of v ≡ one_if x.no_chains_left
@@ -188,27 +189,38 @@ module _ (st : Shared) (v : View) (r : Agrees v.start st) (id : ℕ) (x : Log) (
       given_is : d.given ≡ found
       given_is = let a = nobody_told in let b = d.counts in omega arith
 
+      -- the numbers of one chain more
+      one_more : v.start.numbers * (found + 1) ≡ v.start.numbers * found + v.start.numbers
+      one_more = let a = mul-add v.start.numbers found 1 in omega (arith, a)
+
+      -- the first numbers of the table's
+      within : v.start.numbers * (found + 1) ≤ v.start.numbers * v.start.chains
+      within = mul-le-mul_left v.start.numbers (omega arith)
+
+      given_numbers : v.start.numbers * d.given ≡ v.start.numbers * found
+      given_numbers = ap (λ (c : ℕ). v.start.numbers * c) given_is
+
       abbrev y : Log
-      y = record x { drawn = (found + 1) ∷ x.drawn; numbers_left = 64; steps = x.steps + 1 }
+      y = record x { drawn = (found + 1) ∷ x.drawn; numbers_left = v.start.numbers; steps = x.steps + 1 }
 
       abbrev phase' : ℕ → Phase
-      phase' = given_out (numbers_for found) (numbers_for (found + 1)) x.number r.phase
+      phase' = given_out (numbers_up_to v.start.numbers found) (numbers_up_to v.start.numbers (found + 1)) x.number r.phase
 
-      was_unborn : (n : ℕ) → numbers_for found ≤ n → n < numbers_for (found + 1) → r.phase n ≡ unborn
-      was_unborn n low high = let g = given_is in d.unused n (omega arith) (omega arith)
+      was_unborn : (n : ℕ) → numbers_up_to v.start.numbers found ≤ n → n < numbers_up_to v.start.numbers (found + 1) → r.phase n ≡ unborn
+      was_unborn n low high = d.unused n (omega (arith, low, given_numbers)) (omega (arith, high, within))
 
       phases : (n : ℕ) → (r.phase n ≡ phase' n) ⊎ ((r.phase n ≡ unborn) × (phase' n ≡ spare x.number))
-      phases n = dite (dec_le (numbers_for found) n)
-          (λ low. dite (dec_le (n + 1) (numbers_for (found + 1)))
+      phases n = dite (dec_le (numbers_up_to v.start.numbers found) n)
+          (λ low. dite (dec_le (n + 1) (numbers_up_to v.start.numbers (found + 1)))
           (λ high. inr (
             was_unborn n low (omega (arith, high)),
-            given_in (numbers_for found)
-                (numbers_for (found + 1)) x.number r.phase n low (omega (arith, high)),
+            given_in (numbers_up_to v.start.numbers found)
+                (numbers_up_to v.start.numbers (found + 1)) x.number r.phase n low (omega (arith, high)),
           ))
-          (λ high. inl (sym (given_else (numbers_for found) (numbers_for (found + 1)) x.number r.phase n (λ a b. high (omega arith))))))
-          (λ low. inl (sym (given_else (numbers_for found) (numbers_for (found + 1)) x.number r.phase n (λ a b. low a))))
+          (λ high. inl (sym (given_else (numbers_up_to v.start.numbers found) (numbers_up_to v.start.numbers (found + 1)) x.number r.phase n (λ a b. high (omega arith))))))
+          (λ low. inl (sym (given_else (numbers_up_to v.start.numbers found) (numbers_up_to v.start.numbers (found + 1)) x.number r.phase n (λ a b. low a))))
 
-      counts : DrawsCount v.start.chains phase' (set st.views id (now v y v.work v.change)) (found + 1)
+      counts : DrawsCount v.start.chains v.start.numbers phase' (set st.views id (now v y v.work v.change)) (found + 1)
       counts = let w : View = now v y v.work v.change in let t = sum_set told_of st.views id v w here in
           let tv = told_v y refl refl refl phase' in let z = nobody_told in let g = given_is in record {
             given = found + 1;
@@ -219,8 +231,8 @@ module _ (st : Shared) (v : View) (r : Agrees v.start st) (id : ℕ) (x : Log) (
                 let more = once_more found c in omega arith;
             counts = omega arith;
             all = λ some_told. absurd (omega arith);
-            unused = λ n low high. given_else (numbers_for found) (numbers_for (found + 1)) x.number r.phase n
-                (λ a b. omega arith) ∙ d.unused n (omega arith) high;
+            unused = λ n low high. given_else (numbers_up_to v.start.numbers found) (numbers_up_to v.start.numbers (found + 1)) x.number r.phase n
+                (λ a b. omega (arith, low, b)) ∙ d.unused n (omega (arith, low, given_numbers, one_more)) high;
           }
 
       log : LogAgrees v.start r.history phase' id v.work y
@@ -229,10 +241,10 @@ module _ (st : Shared) (v : View) (r : Agrees v.start st) (id : ℕ) (x : Log) (
         own = o.own;
         held = o.held;
         chain = omega arith;
-        few_left = omega arith;
-        left_inside = omega arith;
-        next = subst (PlacesNext y) (sym idle) tt;
-        spares = λ n low high. given_in (numbers_for found) (numbers_for (found + 1)) x.number r.phase n (omega arith) high;
+        few_left = r.shape.numbers;
+        left_inside = omega (arith, one_more);
+        next = subst (PlacesNext v.start y) (sym idle) tt;
+        spares = λ n low high. given_in (numbers_up_to v.start.numbers found) (numbers_up_to v.start.numbers (found + 1)) x.number r.phase n (omega (arith, low, one_more)) high;
       }
 
       drawn_agrees : Agrees v.start (stepped st draw_place (found + 1) id [] (now v y v.work v.change) keeps)
@@ -263,7 +275,7 @@ module _ (st : Shared) (v : View) (r : Agrees v.start st) (id : ℕ) (x : Log) (
       abbrev y' : Log
       y' = record x { no_chains_left = true; steps = x.steps + 1 }
 
-      counts' : DrawsCount v.start.chains r.phase (set st.views id (now v y' v.work v.change)) (found + 1)
+      counts' : DrawsCount v.start.chains v.start.numbers r.phase (set st.views id (now v y' v.work v.change)) (found + 1)
       counts' = let w : View = now v y' v.work v.change in let t = sum_set told_of st.views id v w here in
           let tv = told_v y' refl refl refl r.phase in let u = ap one_if untold in record {
             given = d.given;
@@ -283,7 +295,7 @@ module _ (st : Shared) (v : View) (r : Agrees v.start st) (id : ℕ) (x : Log) (
         chain = o.chain;
         few_left = o.few_left;
         left_inside = o.left_inside;
-        next = subst (PlacesNext y') (sym idle) tt;
+        next = subst (PlacesNext v.start y') (sym idle) tt;
         spares = o.spares;
       }
 

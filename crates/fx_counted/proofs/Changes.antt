@@ -91,8 +91,8 @@ module _ (st : Shared) (v : View) (r : Agrees v.start st) (id : ℕ) (x : Log) (
     its : IsNumber v.start n × (r.phase n ≡ placed id)
     its = subst (WorkAgrees v.start r.phase id) works (its_work st v r id x here one)
 
-    next : (n ≡ next_in x) × (0 < x.numbers_left)
-    next = subst (PlacesNext x) works (its_log st v r id x here one).next
+    next : (n ≡ next_in v.start x) × (0 < x.numbers_left)
+    next = subst (PlacesNext v.start x) works (its_log st v r id x here one).next
 
     node : NodeAgrees s₀ n (looks r.history n) (word_at st.words (word_of v.start n)) (get_elem? st.homes (place_of v.start n)) (placed id)
     node = in_phase st v r id x here one n its.0 (placed id) its.1

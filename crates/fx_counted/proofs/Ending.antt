@@ -1,11 +1,11 @@
 -- The end, when one seat has all passes again, and does nothing: everything is settled, and one history stands behind it.
-use Rattle.fx_counted.proofs.Words.{◌≡◌, ◌≢◌, ℕ, zero, suc, ◌<◌, ◌≤◌, Bool, true, false, List, [], ◌∷◌, map, length, sym, refl, ap, ◌∙◌, subst}
+use Rattle.fx_counted.proofs.Words.{◌≡◌, ◌≢◌, ℕ, zero, suc, ◌+◌, ◌<◌, ◌≤◌, Bool, true, false, List, [], ◌∷◌, map, length, sym, refl, ap, ◌∙◌, subst}
 use Rattle.fx_counted.proofs.Words.{arith, eqb, ne_eqb, ◌⊎◌, inl, inr, ⊎_elim, Option, Some, None, Contains, sum_by, dite, some, some-injective}
 use Rattle.fx_counted.proofs.Words.{ℕ_discrete, dec_le, get_elem?, sum_by-cons, Closed, Contents, state_of, file_at, IsSeenBy, part_of_pass, State}
 use Rattle.fx_counted.proofs.Words.{IsSettled, file_numbered, after, numbered, File, Event, Action, Look, Put, Clear, Take, Allocate, ClosesTable}
-use Rattle.fx_counted.proofs.Words.{times_drawn, numbers_for, HasSameFiles, start_of, PassView, contains_none, contains_head, contains_tail}
+use Rattle.fx_counted.proofs.Words.{times_drawn, HasSameFiles, start_of, PassView, contains_none, contains_head, contains_tail}
 use Rattle.fx_counted.proofs.Words.{contains_cases, contains_map, contains_mapped, sum_two, sum_map, Does, LogAgrees, NodeAgrees, OwnerAgrees}
-use Rattle.fx_counted.proofs.Words.{lengths, Agrees, looks, word_of, place_of, slot_place, Shared, opening_of, slots_of, IsNumber, state_after_all}
+use Rattle.fx_counted.proofs.Words.{lengths, Agrees, looks, word_of, place_of, slot_place, Shared, opening_of, slots_of, chain_numbers, IsNumber, state_after_all}
 use Rattle.fx_counted.proofs.Words.{shown, held_of, logs_of, drawn_of, told_of, once, holding, Phase, unborn, spare, placed, seated, leaving}
 use Rattle.fx_counted.proofs.Words.{retired, emptied, closed, Log, Start, View, Work, Idle, Placing, Retiring, Emptying}
 use Rattle.std.proofs.Math.ListN.{get_or-eq_default}
@@ -68,7 +68,7 @@ is_number : (k : Start) (n : ℕ) → IsNumber k n ⊎ (IsNumber k n → ⊥)
 is_number k n = dite (dec_le (suc n) (slots_of k))
     (λ low. inl (inl low))
     (λ not_slot. dite (dec_le 256 n)
-    (λ high. dite (dec_le (suc n) (numbers_for k.chains))
+    (λ high. dite (dec_le (suc n) (256 + chain_numbers k))
     (λ inside. inl (inr (high, inside)))
     (λ out. inr (λ has. ⊎_elim (λ l. not_slot l) (λ b. out b.1) has)))
     (λ small. inr (λ has. ⊎_elim (λ l. not_slot l) (λ b. small b.0) has)))

@@ -1,11 +1,11 @@
 -- What lies in the places at the settled end, and how it comes back.
-use Rattle.fx_counted.proofs.Words.{◌≡◌, ℕ, zero, suc, ◌+◌, ◌-◌, ◌<◌, List, [], ◌∷◌, length, set, sym, refl, ap, ◌∙◌, subst, arith, inl, inr, Option}
+use Rattle.fx_counted.proofs.Words.{◌≡◌, ℕ, zero, suc, ◌+◌, ◌-◌, ◌*◌, ◌<◌, List, [], ◌∷◌, length, set, sym, refl, ap, ◌∙◌, subst, arith, inl, inr, Option}
 use Rattle.fx_counted.proofs.Words.{Some, None, slice_index, dite, some, some-injective, some-ne-none, dec_le, get_elem?, Closed, Contents, state_of}
-use Rattle.fx_counted.proofs.Words.{State, number_of, identity_of, File, HasSameFiles, MAX_CHAINS, Names, Agrees, HasNode, slot_place, home_place}
-use Rattle.fx_counted.proofs.Words.{homes_for, Shared, slots_of, IsNumber, state_after_all, IsShellOf, AreBack, CountedTable, Start, View, Idle}
+use Rattle.fx_counted.proofs.Words.{State, number_of, identity_of, File, HasSameFiles, Names, Agrees, HasNode, slot_place, home_place}
+use Rattle.fx_counted.proofs.Words.{homes_for, Shared, slots_of, chain_numbers, IsNumber, state_after_all, IsShellOf, AreBack, CountedTable, Start, View, Idle}
 use Rattle.atomic_table.specs.Table.{Final, Seen}
 use Rattle.fx_counted.specs.Lives.{AllAreIdle, Leaves}
-use Rattle.fx_counted.proofs.Calling.{has_node}
+use Rattle.fx_counted.proofs.Calling.{has_node, its_numbers}
 use Rattle.fx_counted.proofs.Ending.{home_file, file_home, one_slot, none_outside_end}
 use Rattle.fx_counted.proofs.Frames.{inside_list}
 use Rattle.fx_counted.proofs.Histories.{same_shape}
@@ -21,13 +21,13 @@ word_at_place (x ∷ ws) zero w e = some-injective x w e
 word_at_place (x ∷ ws) (suc i) w e = word_at_place ws i w e
 
 -- one slot's file comes back, or there is none
-module _ (size : ℕ) (words : List ℕ) (chains : ℕ) (xs : List (Option Closed)) (home : AreAtHome size words chains xs) (shell : State)
+module _ (size : ℕ) (words : List ℕ) (numbers : ℕ) (xs : List (Option Closed)) (home : AreAtHome size words numbers xs) (shell : State)
     (slot : ℕ) (inside : slot < size) (now : List (Option Closed)) (are : now ≡ emptied size words slot xs) (st : State)
     (part : IsPartlyBack shell (file_at size words xs) slot size st) where
   file_is : (n place : ℕ) (x : Option Closed) → number_at size words slot ≡ Some n → place ≡ home_place size n → get_elem? now place ≡ some x
       → file_at size words xs slot ≡ x
   file_is n place x named is there = here_at size words xs slot inside ∙ (ap (file_of size words xs) named
-      ∙ at_place xs (home_place size n) x (sym (untouched size words chains xs home slot slot n (omega arith) inside named)
+      ∙ at_place xs (home_place size n) x (sym (untouched size words numbers xs home slot slot n (omega arith) inside named)
       ∙ (ap (λ (l : List (Option Closed)). get_elem? l (home_place size n)) (sym are) ∙ (ap (get_elem? now) (sym is) ∙ there))))
 
   pub some_back : (n place : ℕ) (one : Closed) (st' : State) → number_at size words slot ≡ Some n → place ≡ home_place size n
@@ -88,21 +88,21 @@ module _ (k : Start) (s : Shared) (r : Agrees k s) (all_idle : (i : ℕ) (u : Vi
       subst (λ (m : ℕ). get_elem? xs (home_place size m) ≡ some (Some f.0.identity)) f.2 (at_home _ _ (file_home k s r all_idle slot f.0 l f.1).1)
 
   -- the number whose file would lie there
-  by_place : (place : ℕ) → place < homes_for size k.chains → (n : ℕ) × IsNumber k n × (home_place size n ≡ place)
+  by_place : (place : ℕ) → place < homes_for size (chain_numbers k) → (n : ℕ) × IsNumber k n × (home_place size n ≡ place)
   by_place place l = dite (dec_le (suc place) size)
       (λ low. (place, inl (omega (arith, low)), low_home size place (omega (arith, low))))
       (λ high. let n : ℕ = 256 + (place - size) in
       let few = r.shape.slots in
       let e = high_home size n (omega (arith, few)) in (n, inr (omega arith, omega (arith, high, l, few)), omega (arith, e, high)))
 
-  pub are_at_home : AreAtHome size words k.chains xs
+  pub are_at_home : AreAtHome size words (chain_numbers k) xs
   are_at_home = record {
     count = sym long ∙ r.shape.homes;
     inside = λ slot n l is. inside_list xs (home_place size n) _ (home_is slot n l is);
     apart = λ slot other n m l l' ne is is'.
         let f = named slot n l is in
         let g = named other m l' is' in
-        (apart size k.chains r.shape.slots).homes n m (known slot n l is) (known other m l' is')
+        (apart size (chain_numbers k) r.shape.slots).homes n m (known slot n l is) (known other m l' is')
         (λ same. ne (one_slot k s r all_idle slot other f.0 g.0 l l' f.1 g.1 (f.2 ∙ (same ∙ sym g.2))));
     others = λ place file there.
         let inside = inside_list xs place (Some file) there in
@@ -142,11 +142,11 @@ module _ (t : CountedTable) (id : ℕ) (v : View) (words : List ℕ) (xs : List 
   all_idle : (i : ℕ) (u : View) → get_elem? final.0.views i ≡ some u → u.work ≡ Idle
   all_idle = idle final.0 final.1.0 final.1.1
 
-  pub home_at_end : AreAtHome t.size words t.chains xs
-  home_at_end = subst (λ (z : ℕ × ℕ). AreAtHome z.0 words z.1 xs) (λ i. (sym t.same_size i, sym t.key.0 i))
+  pub home_at_end : AreAtHome t.size words (t.numbers * t.chains) xs
+  home_at_end = subst (λ (z : ℕ × ℕ). AreAtHome z.0 words z.1 xs) (λ i. (sym t.same_size i, sym (its_numbers t) i))
       (are_at_home k final.0 final.1.0 all_idle words xs final.2 final.3 final.4)
 
-  pub known_at_end : (slot n : ℕ) → slot < t.size → number_at t.size words slot ≡ Some n → HasNode t.size MAX_CHAINS n
+  pub known_at_end : (slot n : ℕ) → slot < t.size → number_at t.size words slot ≡ Some n → HasNode t.size 65472 n
   known_at_end slot n l is = let size = t.same_size in
       has_node t n (known k final.0 final.1.0 all_idle words xs final.2 final.3 final.4 slot n (omega arith) is)
 

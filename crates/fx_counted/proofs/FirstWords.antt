@@ -3,14 +3,16 @@ use Rattle.fx_counted.proofs.Words.{◌≡◌, ◌≢◌, true, false, ℕ, zero
 use Rattle.fx_counted.proofs.Words.{◌∙◌, arith, get_or-set_same, get_or-set_other, Option, Some, None, option_map, slice_index, dite, ℕ_discrete}
 use Rattle.fx_counted.proofs.Words.{State, file_numbered, File, born, slot_word_of, full_in, if_full, first_at, AreFirstWords, control_place}
 use Rattle.fx_counted.proofs.Words.{draw_place, slot_place, node_place, words_for, word_for, node_for}
+use Rattle.std.proofs.Common.{length-append}
 use Rattle.std.specs.Prelude.{is_some}
+use Rattle.fx_plain.specs.State.{files_in_order, identities_of}
 use lib.ListN.{length-set, length-replicate}
 use Rattle.fx_words.specs.Words.{control_word_of}
 use Rattle.fx_counted.proofs.Places.{low_node}
 
 -- the words of the slots below this one are written
-pub record AreWordsSoFar (st : State) (chains done : ℕ) (words : List ℕ) : Type 0 where
-  pub count : length words ≡ words_for st.size chains
+pub record AreWordsSoFar (st : State) (numbers done : ℕ) (words : List ℕ) : Type 0 where
+  pub count : length words ≡ words_for st.size numbers
   pub entries : (slot : ℕ) (f : File) → slot < done → first_at st slot ≡ Some f → f.identity.entry < 256
   pub control : slice_index words control_place ≡ control_word_of (full_in (first_at st) st.range.0 st.range.1)
   pub draw : slice_index words draw_place ≡ 0
@@ -23,9 +25,9 @@ zeros_at zero place = refl
 zeros_at (suc n) zero = refl
 zeros_at (suc n) (suc place) = zeros_at n place
 
-pub none_so_far : (st : State) (chains : ℕ) (zeros words : List ℕ) (full : ℕ) → zeros ≡ replicate (words_for st.size chains) 0
-    → full ≡ full_in (first_at st) st.range.0 st.range.1 → words ≡ set zeros control_place (control_word_of full) → AreWordsSoFar st chains 0 words
-none_so_far st chains zeros words full are is written = record {
+pub none_so_far : (st : State) (numbers : ℕ) (zeros words : List ℕ) (full : ℕ) → zeros ≡ replicate (words_for st.size numbers) 0
+    → full ≡ full_in (first_at st) st.range.0 st.range.1 → words ≡ set zeros control_place (control_word_of full) → AreWordsSoFar st numbers 0 words
+none_so_far st numbers zeros words full are is written = record {
   count = long;
   entries = λ slot f l there. absurd (omega arith);
   control = ap (λ (l : List ℕ). get_or l 0 0) written
@@ -36,18 +38,18 @@ none_so_far st chains zeros words full are is written = record {
   rest = λ place g. zero_at place (omega arith);
 }
   where
-    wide : length zeros ≡ words_for st.size chains
-    wide = ap length are ∙ length-replicate (words_for st.size chains) 0
+    wide : length zeros ≡ words_for st.size numbers
+    wide = ap length are ∙ length-replicate (words_for st.size numbers) 0
 
-    long : length words ≡ words_for st.size chains
+    long : length words ≡ words_for st.size numbers
     long = ap length written ∙ (length-set zeros control_place (control_word_of full) ∙ wide)
 
     zero_at : (place : ℕ) → 1 ≤ place → slice_index words place ≡ 0
     zero_at place l = ap (λ (z : List ℕ). get_or z place 0) written
         ∙ (get_or-set_other zeros 0 place (control_word_of full) 0 (omega arith)
-        ∙ (ap (λ (z : List ℕ). get_or z place 0) are ∙ zeros_at (words_for st.size chains) place))
+        ∙ (ap (λ (z : List ℕ). get_or z place 0) are ∙ zeros_at (words_for st.size numbers) place))
 
-module _ (st : State) (chains slot : ℕ) (words : List ℕ) (inside : slot < st.size) (w : AreWordsSoFar st chains slot words) where
+module _ (st : State) (numbers slot : ℕ) (words : List ℕ) (inside : slot < st.size) (w : AreWordsSoFar st numbers slot words) where
   here : node_place st.size slot ≡ 17 + 8 * slot
   here = low_node st.size slot inside
 
@@ -55,7 +57,7 @@ module _ (st : State) (chains slot : ℕ) (words : List ℕ) (inside : slot < st
   lower other l = low_node st.size other (omega arith)
 
   -- an empty slot's words are 0
-  pub none_more : first_at st slot ≡ None → AreWordsSoFar st chains (slot + 1) words
+  pub none_more : first_at st slot ≡ None → AreWordsSoFar st numbers (slot + 1) words
   none_more vacant = record {
     count = w.count;
     entries = λ s f l there. dite (ℕ_discrete s slot)
@@ -76,7 +78,7 @@ module _ (st : State) (chains slot : ℕ) (words : List ℕ) (inside : slot < st
   -- those of a slot with a file are written
   pub one_more : (f : File) (entry : ℕ) (mid new : List ℕ) → first_at st slot ≡ Some f → f.number ≡ slot → entry ≡ f.identity.entry → entry < 256
       → mid ≡ set words (slot_place slot) (slot_word_of slot entry) → new ≡ set mid (node_place st.size slot) born
-      → AreWordsSoFar st chains (slot + 1) new
+      → AreWordsSoFar st numbers (slot + 1) new
   one_more f entry mid new there number is small first second = record {
     count = ap length second ∙ (length-set mid (node_place st.size slot) born ∙ (ap length first
         ∙ (length-set words (slot_place slot) (slot_word_of slot entry) ∙ w.count)));
@@ -112,8 +114,8 @@ module _ (st : State) (chains slot : ℕ) (words : List ℕ) (inside : slot < st
           ∙ get_or-set_same mid (node_place st.size slot) born 0 (let e = here in let c = w.count in
           let d = ap length first ∙ length-set words (slot_place slot) (slot_word_of slot entry) in omega arith)
 
-pub all_written : (st : State) (chains : ℕ) (words : List ℕ) → AreWordsSoFar st chains st.size words → AreFirstWords st chains words
-all_written st chains words w = record {
+pub all_written : (st : State) (numbers : ℕ) (words : List ℕ) → AreWordsSoFar st numbers st.size words → AreFirstWords st numbers words
+all_written st numbers words w = record {
   count = w.count;
   entries = w.entries;
   control = w.control;
@@ -152,3 +154,18 @@ one_counted st off slot full new low so is =
     let there = ap (λ (n : ℕ). if_full (first_at st n)) here in
     let sum : new ≡ full_in (first_at st) off (suc (slot - off)) = omega (arith, so, is, there) in
     sum ∙ ap (full_in (first_at st) off) more
+
+as_many : (found : Option File) (slot : ℕ) → length (identities_of found) ≡ if_full (file_numbered found slot)
+as_many None slot = refl
+as_many (Some f) slot = refl
+
+-- the files of the first slots, and the full ones of these slots
+pub all_counted : (st : State) (n : ℕ) → length (files_in_order st.at n) ≡ full_in (first_at st) 0 n
+all_counted st zero = refl
+all_counted st (suc n) =
+    let both = length-append (files_in_order st.at n) (identities_of (st.at n)) in
+    let rest = all_counted st n in
+    let here : 0 + n ≡ n = omega arith in
+    let there = ap (λ (slot : ℕ). if_full (first_at st slot)) here in
+    let numbered = as_many (st.at n) n in
+    omega (arith, both, rest, there, numbered)

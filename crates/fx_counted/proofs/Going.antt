@@ -1,5 +1,5 @@
 -- Some steps in a row, and the pass behind them.
-use Rattle.fx_counted.proofs.Words.{◌≡◌, ℕ, ◌+◌, List, [], ◌∷◌, inl, sym, refl, ap, ◌∙◌, subst, arith, Some, TableId, ◌▷◌, Action, Close, Use}
+use Rattle.fx_counted.proofs.Words.{◌≡◌, ℕ, ◌+◌, ◌*◌, List, [], ◌∷◌, inl, sym, refl, ap, ◌∙◌, subst, arith, Some, TableId, ◌▷◌, Action, Close, Use}
 use Rattle.fx_counted.proofs.Words.{no_use, Adds, IsFront, File, Goes, HasPlace, HasPass, place_of, Sat, opening_of, pass_of, doing_in, chain_in}
 use Rattle.fx_counted.proofs.Words.{first_log, view_of, is_idle, IsPassOf, IsInside, Stepped, TakesOut, LetsGo, CountedPass, Change, Outside, Log}
 use Rattle.fx_counted.proofs.Words.{Start, Work, Idle, Placing, Holding, Retiring, Emptying}
@@ -77,7 +77,7 @@ module _ (id : TableId) (k : Start) (p q : CountedPass) (fits : IsPassOf id k p)
     change = goes.change;
     chain = let e = same_chain in let l = s.chain in omega arith;
     few_left = let e = numbers in let l = s.few_left in omega arith;
-    left_inside = let e = numbers in let f = same_chain in let l = s.left_inside in omega arith;
+    left_inside = let e = numbers in let f = ap (λ (c : ℕ). k.numbers * c) same_chain in let l = s.left_inside in omega arith;
   }
 
   -- a pass that knows what it has used up

@@ -32,8 +32,8 @@ module _ (size : ℕ) (words : List ℕ) where
   emptied (suc slot) xs = without (number_at slot) (emptied slot xs)
 
   -- each file is in the place of the number that its slot names, and no other place has one
-  pub record AreAtHome (chains : ℕ) (xs : List (Option Closed)) : Type 0 where
-    pub count : length xs ≡ homes_for size chains
+  pub record AreAtHome (numbers : ℕ) (xs : List (Option Closed)) : Type 0 where
+    pub count : length xs ≡ homes_for size numbers
     pub inside : (slot n : ℕ) → slot < size → number_at slot ≡ Some n → home_place size n < length xs
     pub apart : (slot other n m : ℕ) → slot < size → other < size → slot ≢ other → number_at slot ≡ Some n → number_at other ≡ Some m
         → home_place size n ≢ home_place size m
@@ -66,7 +66,7 @@ module _ (size : ℕ) (words : List ℕ) where
   none_stays zero xs place e = e
   none_stays (suc slot) xs place e = still_none (number_at slot) (emptied slot xs) place (none_stays slot xs place e)
 
-  module _ (chains : ℕ) (xs : List (Option Closed)) (home : AreAtHome chains xs) where
+  module _ (numbers : ℕ) (xs : List (Option Closed)) (home : AreAtHome numbers xs) where
     -- what lies in the place of a later slot's number is untouched
     pub untouched : (done slot n : ℕ) → done ≤ slot → slot < size → number_at slot ≡ Some n
         → get_elem? (emptied done xs) (home_place size n) ≡ get_elem? xs (home_place size n)

@@ -55,7 +55,7 @@ module _ (st : Shared) (v : View) (r : Agrees v.start st) (id : ℕ) (x : Log) (
       pub holds : (n : ℕ) → (state_after_all v.start h').holds n + held_of n v ≡ (state_after_all v.start r.history).holds n + held_of n (now v y d c)
       pub look_ups : all_looks h' + y.looks_left ≡ all_looks r.history + x.looks_left
       pub control : ControlCounts (state_after_all v.start h').at (range_of (opening_of v.start)) views' (word_at words' control_place)
-      pub draws : DrawsCount v.start.chains phase' views' (word_at words' draw_place)
+      pub draws : DrawsCount v.start.chains v.start.numbers phase' views' (word_at words' draw_place)
 
     -- how often the passes of the view are counted
     one_total : (f : Log → ℕ) → sum_by f v.logs ≡ f x
@@ -84,6 +84,7 @@ module _ (st : Shared) (v : View) (r : Agrees v.start st) (id : ℕ) (x : Log) (
             range = a.range;
             chains = a.chains;
             passes = a.passes;
+            numbers = a.numbers;
             words = s.words
                 ∙ a.words;
             homes = s.homes ∙ a.homes;

@@ -92,7 +92,7 @@ module _ (st : Shared) (v : View) (r : Agrees v.start st) (id : ℕ) (x : Log) (
           → NodeAgrees (state_after_all v.start h') n (looks h' n) (word_at st.words (word_of v.start n))
           (get_elem? st.homes (place_of v.start n)) (r.phase n))
           (held : held_by h' x.number ≡ held_in (holds_now file))
-          (next : PlacesNext y (holds_now file)) (placed : placing (holds_now file) ≡ 0)
+          (next : PlacesNext v.start y (holds_now file)) (placed : placing (holds_now file) ≡ 0)
           (work : WorkAgrees v.start r.phase id (holds_now file)) (holds : (n : ℕ)
           → (state_after_all v.start h').holds n ≡ old.holds n + holding n (holds_now file)) where
         look_step : SlotStep st v r id x here one s inside y (holds_now file) v.change h' r.phase word' st.homes

@@ -3,7 +3,7 @@ use Rattle.fx_counted.proofs.Words.{◌≡◌, ◌≢◌, ℕ, ◌+◌, ◌<◌,
 use Rattle.fx_counted.proofs.Words.{get_or-set_same, Option, Bool, dite, some, ℕ_discrete, get_elem?, Closed, held_by, changed_at, File, Event}
 use Rattle.fx_counted.proofs.Words.{range_of, NodeAgrees, OwnerAgrees, WorkAgrees, PlacesNext, Agrees, full_in, looks, all_looks, control_place}
 use Rattle.fx_counted.proofs.Words.{draw_place, slot_place, node_place, home_place, PlacesAreInside, PlacesAreApart, Shared, opening_of, slots_of}
-use Rattle.fx_counted.proofs.Words.{IsNumber, state_after_all, end_in, next_in, held_in, placing, held_of, Phase, unborn, spare, seated, owner}
+use Rattle.fx_counted.proofs.Words.{chain_numbers, IsNumber, state_after_all, end_in, next_in, held_in, placing, held_of, Phase, unborn, spare, seated, owner}
 use Rattle.fx_counted.proofs.Words.{file_in, Log, View, Work, Holding}
 use Rattle.std.proofs.Common.{length-set}
 use Rattle.fx_counted.proofs.Places.{inside, apart}
@@ -26,11 +26,11 @@ pub one_same : (v : View) (q : ℕ) (h : List Event) → OneNumber v q h h
 one_same v q h = record { at = refl; size = refl; fresh = refl; looked = refl; all = refl; removed = λ n other. refl; holds = λ n other. refl }
 
 module _ (st : Shared) (v : View) (r : Agrees v.start st) (id : ℕ) (x : Log) (here : get_elem? st.views id ≡ some v) (one : v.logs ≡ x ∷ []) where
-  pub near : PlacesAreInside (slots_of v.start) v.start.chains
-  near = inside (slots_of v.start) v.start.chains r.shape.slots
+  pub near : PlacesAreInside (slots_of v.start) (chain_numbers v.start)
+  near = inside (slots_of v.start) (chain_numbers v.start) r.shape.slots
 
-  pub far : PlacesAreApart (slots_of v.start) v.start.chains
-  far = apart (slots_of v.start) v.start.chains r.shape.slots
+  pub far : PlacesAreApart (slots_of v.start) (chain_numbers v.start)
+  far = apart (slots_of v.start) (chain_numbers v.start) r.shape.slots
 
   module _ (q : ℕ) (its : IsNumber v.start q) (word' : ℕ) (homes' : Homes) (h' : List Event) (ph : Phase) (d : Work) where
     abbrev i : ℕ
@@ -71,8 +71,8 @@ module _ (st : Shared) (v : View) (r : Agrees v.start st) (id : ℕ) (x : Log) (
       pub node : NodeAgrees (state_after_all v.start h') q (looks r.history q) word' (get_elem? homes' (home_place (slots_of v.start) q)) ph
       pub known : OwnerAgrees (set st.views id w) q ph
       pub held : held_by h' x.number ≡ held_in d
-      pub next : PlacesNext x d
-      pub spares : (n : ℕ) → next_in x + placing d ≤ n → n < end_in x → changed_at r.phase q ph n ≡ spare x.number
+      pub next : PlacesNext v.start x d
+      pub spares : (n : ℕ) → next_in v.start x + placing d ≤ n → n < end_in v.start x → changed_at r.phase q ph n ≡ spare x.number
       pub work : WorkAgrees v.start (changed_at r.phase q ph) id d
       pub holds : (n : ℕ) → (state_after_all v.start h').holds n + held_of n v ≡ (state_after_all v.start r.history).holds n + held_of n w
 
@@ -157,7 +157,7 @@ module _ (st : Shared) (v : View) (r : Agrees v.start st) (id : ℕ) (x : Log) (
             (ap (λ (g : ℕ → Option File). full_in g (range_of (opening_of v.start)).0
             (range_of (opening_of v.start)).1) s.told.at)
             (word_else control_place (λ same. far.node_and_control q its (sym same))) refl r.control;
-        draws = draws_same st.views id v w here v.start.chains r.phase phase'
+        draws = draws_same st.views id v w here v.start.chains v.start.numbers r.phase phase'
             (word_at st.words draw_place) _ x y one refl refl refl
             (word_else draw_place (λ same. far.node_and_draw q its (sym same)))
             (λ n is. each_phase (λ m z. z ≡ unborn) n (λ same. s.unused (ap r.phase (sym same) ∙ is)) is) r.draws;

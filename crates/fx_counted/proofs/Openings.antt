@@ -4,7 +4,7 @@ use Rattle.fx_counted.proofs.Words.{arith, eqb, lt-ltb, le-ltb, ◌⊎◌, inl, 
 use Rattle.fx_counted.proofs.Words.{sum_by-cons, dite, some, some-injective, some-ne-none, ℕ_discrete, dec_le, get_elem?, Closed, state_of, State}
 use Rattle.fx_counted.proofs.Words.{file_numbered, numbered, File, numbers_for, range_of, born, takes_in, name_made, entry_made, takes_made, Names}
 use Rattle.fx_counted.proofs.Words.{SlotAgrees, NodeAgrees, OwnerAgrees, LogAgrees, ViewAgrees, Agrees, new_logs, word_of, place_of, slot_place}
-use Rattle.fx_counted.proofs.Words.{word_for, node_for, home_for, OpensWith, opening_of, slots_of, IsNumber, state_after_all, new_log, once, Phase}
+use Rattle.fx_counted.proofs.Words.{word_for, node_for, home_for, OpensWith, opening_of, slots_of, chain_numbers, IsNumber, state_after_all, new_log, once, Phase}
 use Rattle.fx_counted.proofs.Words.{unborn, seated, closed, Log, Start, View, Idle}
 use Rattle.std.proofs.Common.{not, ◌&&◌}
 use Rattle.std.proofs.lemmas.List.{length-map}
@@ -15,6 +15,7 @@ use Rattle.fx_counted.specs.Cuts.{first_view}
 use Rattle.fx_counted.specs.Opens.{first_file, OpeningKeeps}
 use Rattle.fx_counted.proofs.FullSlots.{full_few}
 use Rattle.fx_counted.proofs.Ones.{one_if, bit_here, bit_else}
+use Rattle.fx_counted.proofs.Places.{fewer_numbers}
 
 at_new : (p n i : ℕ) (x : Log) → get_elem? (new_logs p n) i ≡ some x → (q : ℕ) × (x ≡ new_log q)
 at_new p zero i x e = absurd (some-ne-none x (sym e))
@@ -122,11 +123,12 @@ module _ (k : Start) (words : List ℕ) (homes : List (Option Closed)) (o : Open
   node_opens : (n : ℕ) → IsNumber k n → Node n (first_phase k n)
   node_opens n has = ⊎_elim
       (λ (l : n < slots_of k). subst (Node n) (sym (low_phase n l)) (low n l (first_file k n) refl))
-      (λ (h : (256 ≤ n) × (n < numbers_for k.chains)). let few = o.slots in subst (Node n) (sym (high_phase n (omega arith))) (
+      (λ (h : (256 ≤ n) × (n < 256 + chain_numbers k)). let few = o.slots in subst (Node n) (sym (high_phase n (omega arith))) (
         o.fresh_words n h.0 h.1,
         home_is n None (o.fresh_places n h.0 h.1),
         (λ i. not (le-ltb n (slots_of k) (let f = o.slots in let a = h.0 in
-            omega arith) i) && lt-ltb n (numbers_for k.chains) h.1 i),
+            omega arith) i) && lt-ltb n (numbers_for k.chains)
+            (let a = h.1 in let b = fewer_numbers k.numbers k.chains o.numbers in omega (arith, a, b)) i),
         refl,
         refl,
         refl,
@@ -181,6 +183,7 @@ module _ (k : Start) (words : List ℕ) (homes : List (Option Closed)) (o : Open
       range = o.range;
       chains = o.chains;
       passes = o.passes;
+      numbers = o.numbers;
       words = o.words_length;
       homes = length-map homes some ∙ o.homes_length;
     };

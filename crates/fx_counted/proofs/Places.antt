@@ -1,5 +1,6 @@
 -- Places are inside, and apart.
-use Rattle.fx_counted.proofs.Words.{◌≡◌, ℕ, ◌+◌, ◌-◌, ◌*◌, ◌<◌, ◌≤◌, Bool, cond, ap, arith, lt-ltb, le-ltb, ⊎_elim, numbers_for, node_place}
+use Rattle.fx_counted.proofs.Words.{◌≡◌, ℕ, ◌+◌, ◌-◌, ◌*◌, ◌<◌, ◌≤◌, Bool, cond, ap, arith, lt-ltb, le-ltb, ⊎_elim, node_place}
+use Rattle.std.proofs.Math.Nat.{mul-le-mul_right}
 use Rattle.fx_counted.proofs.Words.{words_for, home_place, homes_for, HasNode, PlacesAreInside, PlacesAreApart}
 
 module _ (size : ℕ) where
@@ -15,23 +16,23 @@ module _ (size : ℕ) where
   pub high_home : (n : ℕ) → size ≤ n → home_place size n ≡ size + (n - 256)
   high_home n g = ap (λ (b : Bool). cond b n (size + (n - 256))) (le-ltb n size g)
 
-  module _ (chains : ℕ) (few : size ≤ 256) where
+  module _ (numbers : ℕ) (few : size ≤ 256) where
     -- a number of a slot, or of a chain
-    pub by_number : (P : ℕ → Type 0) (n : ℕ) → HasNode size chains n → (n < size → P n) → (size ≤ n → 256 ≤ n → n < numbers_for chains → P n) → P n
-    by_number P n has low high = ⊎_elim (λ (l : n < size). low l) (λ (h : (256 ≤ n) × (n < numbers_for chains)). high (omega arith) h.0 h.1) has
+    pub by_number : (P : ℕ → Type 0) (n : ℕ) → HasNode size numbers n → (n < size → P n) → (size ≤ n → 256 ≤ n → n < 256 + numbers → P n) → P n
+    by_number P n has low high = ⊎_elim (λ (l : n < size). low l) (λ (h : (256 ≤ n) × (n < 256 + numbers)). high (omega arith) h.0 h.1) has
 
-    places_inside : PlacesAreInside size chains
+    places_inside : PlacesAreInside size numbers
     places_inside = record {
       control = omega arith;
       draw = omega arith;
       slot = λ slot l. omega arith;
-      node = λ n has. by_number (λ n. node_place size n < words_for size chains) n has (λ l. let e = low_node n l in
+      node = λ n has. by_number (λ n. node_place size n < words_for size numbers) n has (λ l. let e = low_node n l in
           omega arith) (λ g a b. let e = high_node n g in omega arith);
-      home = λ n has. by_number (λ n. home_place size n < homes_for size chains) n has (λ l. let e = low_home n l in
+      home = λ n has. by_number (λ n. home_place size n < homes_for size numbers) n has (λ l. let e = low_home n l in
           omega arith) (λ g a b. let e = high_home n g in omega arith);
     }
 
-    places_apart : PlacesAreApart size chains
+    places_apart : PlacesAreApart size numbers
     places_apart = record {
       slots = λ slot other e. omega arith;
       nodes = λ n m has its differ same. by_number (λ (n : ℕ). ⊥) n has
@@ -56,8 +57,17 @@ module _ (size : ℕ) where
       slot_back = λ slot. omega arith;
     }
 
-pub inside : (size chains : ℕ) → size ≤ 256 → PlacesAreInside size chains
-inside size chains few = places_inside size chains few
+pub inside : (size numbers : ℕ) → size ≤ 256 → PlacesAreInside size numbers
+inside size numbers few = places_inside size numbers few
 
-pub apart : (size chains : ℕ) → size ≤ 256 → PlacesAreApart size chains
-apart size chains few = places_apart size chains few
+pub apart : (size numbers : ℕ) → size ≤ 256 → PlacesAreApart size numbers
+apart size numbers few = places_apart size numbers few
+
+-- chains that have few numbers each have fewer than they may have
+pub fewer_numbers : (numbers chains : ℕ) → numbers ≤ 64 → numbers * chains ≤ 64 * chains
+fewer_numbers numbers chains few = mul-le-mul_right chains few
+
+-- chains have few numbers together
+pub few_numbers : (numbers chains : ℕ) → numbers ≤ 64 → chains ≤ 1023 → numbers * chains ≤ 65472
+few_numbers numbers chains few count =
+    let a = fewer_numbers numbers chains few in omega (arith, a)

@@ -25,7 +25,7 @@ taken_so o v slot (Some f) takes removed result empty w is answer adds =
 
 -- the same for an installation
 pub placed_so : (o : Opening) (v : PassView) (slot n : ℕ) (file : Closed) (replaced : Option File) (takes : ℕ) (result : Option Retired)
-    (w : PassView) → n ≡ next_number v → result ≡ option_map (λ f. retired_of f takes) replaced
+    (w : PassView) → n ≡ next_number o v → result ≡ option_map (λ f. retired_of f takes) replaced
     → Adds o v ([] ▷ Put slot (numbered n file) replaced) (doing_in (retires_now replaced takes)) one_number w
     → Placed o v slot file result w
 placed_so o v slot n file None takes result w next is adds = subst (λ (r : Option Retired). Placed o v slot file r w) (sym is)

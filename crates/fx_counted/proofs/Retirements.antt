@@ -57,7 +57,7 @@ module _ (st : Shared) (v : View) (r : Agrees v.start st) (id : ℕ) (x : Log) (
     left_is fits = let n = node in let c = few_looks q in
         let e : left ≡ word - (4294967296 - t) = sub_wraps word (4294967296 - t) (omega arith) fits (omega arith) in omega arith
 
-    keeps_spares : (ph' : Phase) (n : ℕ) → next_in x + 0 ≤ n → n < end_in x → changed_at r.phase q ph' n ≡ spare x.number
+    keeps_spares : (ph' : Phase) (n : ℕ) → next_in v.start x + 0 ≤ n → n < end_in v.start x → changed_at r.phase q ph' n ≡ spare x.number
     keeps_spares ph' n low high = let o = its_log st v r id x here one in let p = ap placing works in
         spares_stay q (leaving id t f.identity) ph' x.number mine.1 (λ z bad. cc bad) n (o.spares n (omega arith) high)
 

@@ -94,7 +94,7 @@ module _ (k : Start) (id : ℕ) (v : View) (idle : v.work ≡ Idle) (out : v.cha
 
   split_agrees : Agrees k record { words = s.words; homes = s.homes; views = parts }
   split_agrees = record {
-    shape = let a = r.shape in record { slots = a.slots; range = a.range; chains = a.chains; passes = a.passes; words = a.words; homes = a.homes };
+    shape = let a = r.shape in record { slots = a.slots; range = a.range; chains = a.chains; passes = a.passes; numbers = a.numbers; words = a.words; homes = a.homes };
     history = r.history;
     phase = r.phase;
     legal = r.legal;
@@ -185,7 +185,7 @@ module _ (k : Start) (id : ℕ) (v : View) (begun : v.start ≡ k) (idle : v.wor
 
   join_agrees : Agrees k record { words = s.words; homes = s.homes; views = both_set }
   join_agrees = record {
-    shape = let a = r.shape in record { slots = a.slots; range = a.range; chains = a.chains; passes = a.passes; words = a.words; homes = a.homes };
+    shape = let a = r.shape in record { slots = a.slots; range = a.range; chains = a.chains; passes = a.passes; numbers = a.numbers; words = a.words; homes = a.homes };
     history = r.history;
     phase = r.phase;
     legal = r.legal;

@@ -85,7 +85,7 @@ module _ (st : Shared) (v : View) (r : Agrees v.start st) (id : ℕ) (x : Log) (
       look_ups = p.look_ups;
       control = subst (ControlCounts (state_after_all v.start h').at (range_of (opening_of v.start)) views')
           (sym (word_else control_place (λ same. apart.slot_and_control s (sym same)))) p.control;
-      draws = draws_same st.views id v (now v y d c) here v.start.chains r.phase phase'
+      draws = draws_same st.views id v (now v y d c) here v.start.chains v.start.numbers r.phase phase'
           (word_at st.words draw_place) _ x y one refl p.drawn p.told
           (word_else draw_place (λ same. apart.slot_and_draw s (sym same))) p.unused r.draws;
     }

@@ -1,7 +1,7 @@
 -- A table that begins with the words and places of a table of one thread keeps the rule; and what comes back where memory is refused.
 use Rattle.fx_counted.proofs.Words.{◌≡◌, ℕ, zero, suc, ◌+◌, ◌≤◌, List, [], ◌∷◌, length, sym, refl, ap, ◌∙◌, arith, Option, Some, None, dite, some}
 use Rattle.fx_counted.proofs.Words.{some-injective, some-ne-none, dec_le, get_elem?, Closed, Contents, state_of, State, file_numbered, identity_of}
-use Rattle.fx_counted.proofs.Words.{File, IsGivenBack, MAX_CHAINS, AreFirstWords, AreFirstHomes, home_place, homes_for, home_for, OpensWith}
+use Rattle.fx_counted.proofs.Words.{File, IsGivenBack, MAX_CHAINS, chain_numbers, AreFirstWords, AreFirstHomes, home_place, homes_for, home_for, OpensWith}
 use Rattle.fx_counted.proofs.Words.{IsShellOf, AreBack, file_in_place, Start}
 use Rattle.fx_table.specs.declared.limits.TheConstants.{MAX_PASSES}
 use Rattle.fx_counted.proofs.Places.{high_node, low_home, high_home}
@@ -15,13 +15,14 @@ module _ (k : Start) (words : List ℕ) (homes : List (Option Closed)) where
   abbrev st : State
   st = state_of k.plain.value
 
-  pub opens_with : st.size ≤ 256 → st.range.0 + st.range.1 ≤ st.size → k.chains ≤ MAX_CHAINS → k.passes ≤ MAX_PASSES
-      → AreFirstWords st k.chains words → AreFirstHomes st k.chains homes → OpensWith k words homes
-  opens_with few inside chains passes w h = record {
+  pub opens_with : st.size ≤ 256 → st.range.0 + st.range.1 ≤ st.size → k.chains ≤ MAX_CHAINS → k.passes ≤ MAX_PASSES → k.numbers ≤ 64
+      → AreFirstWords st (chain_numbers k) words → AreFirstHomes st (chain_numbers k) homes → OpensWith k words homes
+  opens_with few inside chains passes numbers w h = record {
     slots = few;
     range = inside;
     chains = chains;
     passes = passes;
+    numbers = numbers;
     entries = λ slot f there. dite (dec_le (slot + 1) st.size)
         (λ l. w.entries slot f (omega (arith, l)) there)
         (λ g. let none = none_outside k.plain.value slot (omega (arith, g)) in
@@ -49,9 +50,9 @@ none_behind (y ∷ xs) zero g = absurd (omega arith)
 none_behind (y ∷ xs) (suc i) g = none_behind xs i (omega arith)
 
 -- the files of the slots came back
-pub given_back : (c : Contents) (chains : ℕ) (left : State) (homes : List (Option Closed)) (back : Contents) → IsShellOf (state_of c) left
-    → AreFirstHomes (state_of c) chains homes → AreBack left (file_in_place homes) (state_of back) → IsGivenBack c back
-given_back c chains left homes back empty first b = record {
+pub given_back : (c : Contents) (numbers : ℕ) (left : State) (homes : List (Option Closed)) (back : Contents) → IsShellOf (state_of c) left
+    → AreFirstHomes (state_of c) numbers homes → AreBack left (file_in_place homes) (state_of back) → IsGivenBack c back
+given_back c numbers left homes back empty first b = record {
   files = record {
     size = b.size ∙ empty.size;
     range = b.range ∙ empty.range;
@@ -64,11 +65,11 @@ given_back c chains left homes back empty first b = record {
 }
 
 -- the other places are empty
-pub others_empty : (c : Contents) (chains : ℕ) (left : State) (homes : List (Option Closed)) → IsShellOf (state_of c) left
-    → AreFirstHomes (state_of c) chains homes → (place : ℕ) → left.size ≤ place → file_in_place homes place ≡ None
-others_empty c chains left homes empty first place g =
+pub others_empty : (c : Contents) (numbers : ℕ) (left : State) (homes : List (Option Closed)) → IsShellOf (state_of c) left
+    → AreFirstHomes (state_of c) numbers homes → (place : ℕ) → left.size ≤ place → file_in_place homes place ≡ None
+others_empty c numbers left homes empty first place g =
     let size = empty.size in
     let count = first.count in
-    dite (dec_le (place + 1) (homes_for (state_of c).size chains))
+    dite (dec_le (place + 1) (homes_for (state_of c).size numbers))
     (λ l. at_place homes place None (first.others place (omega (arith, g, size)) (omega (arith, l))))
     (λ past. none_behind homes place (omega (arith, past, count)))

@@ -4,7 +4,7 @@ use Rattle.fx_counted.proofs.Words.{some, ℕ_discrete, get_elem?, Closed, held_
 use Rattle.fx_counted.proofs.Words.{Bool, Action, range_of, event_of, takes_in, Names, SlotAgrees, NodeAgrees, OwnerAgrees, WorkAgrees, PlacesNext}
 use Rattle.fx_counted.proofs.Words.{Agrees, ControlCounts, looks, all_looks, word_of, place_of, control_place, slot_place, Shared, opening_of}
 use Rattle.fx_counted.proofs.Words.{slots_of, IsNumber, state_after_all, shown, end_in, next_in, held_in, placing, holding, Phase, unborn, spare}
-use Rattle.fx_counted.proofs.Words.{seated, leaving, owner, file_in, retires_now, Change, Log, View, Work, Retiring}
+use Rattle.fx_counted.proofs.Words.{seated, leaving, owner, file_in, retires_now, Change, Log, Start, View, Work, Retiring}
 use Rattle.fx_counted.specs.Agrees.{IsSeated}
 use Rattle.fx_counted.proofs.Frames.{Stays, KeepsHeld, does_now}
 use Rattle.fx_counted.proofs.Histories.{IsHistory, grows_one, held_mine, change_here, change_else, seen_all}
@@ -45,9 +45,9 @@ retires_placing : (old : Option File) (takes : ℕ) → placing (retires_now old
 retires_placing None takes = refl
 retires_placing (Some f) takes = refl
 
-retires_next : (old : Option File) (takes : ℕ) (x : Log) → PlacesNext x (retires_now old takes)
-retires_next None takes x = tt
-retires_next (Some f) takes x = tt
+retires_next : (k : Start) (old : Option File) (takes : ℕ) (x : Log) → PlacesNext k x (retires_now old takes)
+retires_next k None takes x = tt
+retires_next k (Some f) takes x = tt
 
 module _ (st : Shared) (v : View) (r : Agrees v.start st) (id : ℕ) (x : Log) (here : get_elem? st.views id ≡ some v)
     (one : v.logs ≡ x ∷ []) (s : ℕ) (inside : s < slots_of v.start) where
@@ -136,7 +136,7 @@ module _ (st : Shared) (v : View) (r : Agrees v.start st) (id : ℕ) (x : Log) (
         pub owners : (n : ℕ) → IsNumber v.start n → NotOf n old → OwnerAgrees (set st.views id w) n (phase₁ n)
         -- the pass
         pub fewer : left ≤ x.numbers_left
-        pub spares : (n : ℕ) → next_in y ≤ n → n < end_in x → (phase₁ n ≡ spare x.number) × NotOf n old
+        pub spares : (n : ℕ) → next_in v.start y ≤ n → n < end_in v.start x → (phase₁ n ≡ spare x.number) × NotOf n old
         pub none_held : (held_in v.work ≡ None) × ((n : ℕ) → holding n v.work ≡ 0)
         pub control : ControlCounts (changed_at state.at s new) (range_of (opening_of v.start)) (set st.views id w) (word_at st.words control_place)
 
@@ -220,7 +220,7 @@ module _ (st : Shared) (v : View) (r : Agrees v.start st) (id : ℕ) (x : Log) (
             chain = o.chain;
             few_left = let a = o.few_left in let b = p.fewer in omega arith;
             left_inside = let a = o.left_inside in let b = p.fewer in omega arith;
-            next = retires_next old (takes_in found) y;
+            next = retires_next v.start old (takes_in found) y;
             spares = λ n low high. let z = retires_placing old (takes_in found) in let q = p.spares n (omega arith) high in else_phase n q.1 ∙ q.0;
           };
           work = works old refl;

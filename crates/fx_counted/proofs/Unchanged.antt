@@ -53,10 +53,10 @@ module _ (views : List View) (id : ℕ) (v w : View) (here : get_elem? views id 
       record { upper = omega arith; lower = omega arith }
 
   -- the draw word, where no chain was drawn
-  pub draws_same : (chains : ℕ) (phase phase' : ℕ → Phase) (word word' : ℕ) (x y : Log) → v.logs ≡ x ∷ []
+  pub draws_same : (chains numbers : ℕ) (phase phase' : ℕ → Phase) (word word' : ℕ) (x y : Log) → v.logs ≡ x ∷ []
       → w.logs ≡ y ∷ [] → y.drawn ≡ x.drawn → y.no_chains_left ≡ x.no_chains_left → word' ≡ word
-      → ((n : ℕ) → phase n ≡ unborn → phase' n ≡ unborn) → DrawsCount chains phase views word → DrawsCount chains phase' (set views id w) word'
-  draws_same chains phase phase' word word' x y one one' drawn told same keeps ok =
+      → ((n : ℕ) → phase n ≡ unborn → phase' n ≡ unborn) → DrawsCount chains numbers phase views word → DrawsCount chains numbers phase' (set views id w) word'
+  draws_same chains numbers phase phase' word word' x y one one' drawn told same keeps ok =
       let t = sum_set told_of views id v w here in
       let told_v : told_of v ≡ 0 + one_if x.no_chains_left = ap (λ (l : List Log). sum_by (λ z. one_if z.no_chains_left) l) one in
       let told_w : told_of w ≡ 0 + one_if y.no_chains_left = ap (λ (l : List Log). sum_by (λ z. one_if z.no_chains_left) l) one' in

@@ -19,7 +19,7 @@ pub use Rattle.fx_counted.specs.Layout.{PlacesAreApart, words_for}
 pub use Rattle.fx_counted.specs.Lives.{dealt, logs_in, IsIdleSeatOf}
 pub use Rattle.fx_counted.specs.Moves.{HasPlace}
 pub use Rattle.fx_counted.specs.Opens.{word_for, node_for, home_for, OpensWith}
-pub use Rattle.fx_counted.specs.Passes.{Shared, opening_of, slots_of, IsNumber, state_after_all, shown, held_in, placing, held_of, holding, Sat}
+pub use Rattle.fx_counted.specs.Passes.{Shared, opening_of, slots_of, chain_numbers, IsNumber, state_after_all, shown, held_in, placing, held_of, holding, Sat}
 pub use Rattle.fx_counted.specs.Passes.{pass_of, doing_in, chain_in, first_log, end_in, next_in, drawn_of, told_of, looks_of, logs_of, new_log, once}
 pub use Rattle.fx_counted.specs.Phases.{Phase, seated, file_in, placed, unborn, spare, leaving, owner, retired, emptied, closed}
 pub use Rattle.fx_counted.specs.Searching.{StillPlaces, HasAllocated, Tries}
@@ -48,7 +48,7 @@ pub use Rattle.fx_table.proofs.Members.{contains_none, contains_head, contains_t
 pub use Rattle.fx_table.proofs.SumLemmas.{sum_at, sum_two, sum_set, sum_le_at, sum_map}
 pub use Rattle.fx_table.specs.Calls.{Use, no_use, one_number, Adds}
 pub use Rattle.fx_table.specs.Closing.{ClosesTable, times_drawn}
-pub use Rattle.fx_table.specs.Numbers.{numbers_for}
+pub use Rattle.fx_table.specs.Numbers.{numbers_for, numbers_up_to}
 pub use Rattle.fx_table.specs.Opening.{range_of, start_of, IsGivenBack, HasSameFiles}
 pub use Rattle.fx_table.specs.Pass.{event_of, IsFront, PassView, new_passes, next_number}
 pub use Rattle.fx_table.specs.declared.limits.TheConstants.{MAX_CHAINS}

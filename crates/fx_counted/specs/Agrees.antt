@@ -17,7 +17,7 @@ use Rattle.fx_counted.specs.Control.{ControlCounts}
 use Rattle.fx_counted.specs.Counts.{looks, all_looks}
 use Rattle.fx_counted.specs.Draws.{DrawsCount}
 use Rattle.fx_counted.specs.Layout.{control_place, draw_place, slot_place, node_place, words_for, home_place, homes_for}
-use Rattle.fx_counted.specs.Passes.{Shared, opening_of, slots_of, IsNumber, state_after_all, chain_in}
+use Rattle.fx_counted.specs.Passes.{Shared, opening_of, slots_of, chain_numbers, IsNumber, state_after_all, chain_in}
 use Rattle.fx_counted.specs.Passes.{end_in, next_in, held_in, placing, logs_of, looks_of, held_of, once}
 use Rattle.fx_counted.specs.Phases.{Phase, unborn, spare, placed, seated, leaving, retired, emptied, closed, file_in}
 use Rattle.fx_counted.specs.declared.view.Change.TheVariants.{Outside}
@@ -90,12 +90,12 @@ WorkAgrees k phase seat (Retiring f takes) = IsNumber k f.number × (phase f.num
 WorkAgrees k phase seat (Emptying number) = IsNumber k number × (phase number ≡ emptied seat)
 
 -- a pass that places a number places the next one
-abbrev pub PlacesNext : Log → Work → Type 0
-PlacesNext x Idle = Unit {0}
-PlacesNext x (Placing number) = (number ≡ next_in x) × (0 < x.numbers_left)
-PlacesNext x (Holding f) = Unit {0}
-PlacesNext x (Retiring f takes) = Unit {0}
-PlacesNext x (Emptying number) = Unit {0}
+abbrev pub PlacesNext : Start → Log → Work → Type 0
+PlacesNext k x Idle = Unit {0}
+PlacesNext k x (Placing number) = (number ≡ next_in k x) × (0 < x.numbers_left)
+PlacesNext k x (Holding f) = Unit {0}
+PlacesNext k x (Retiring f takes) = Unit {0}
+PlacesNext k x (Emptying number) = Unit {0}
 
 -- one pass of a seat
 pub record LogAgrees (k : Start) (h : List Event) (phase : ℕ → Phase) (seat : ℕ) (work : Work) (x : Log) : Type 0 where
@@ -105,10 +105,10 @@ pub record LogAgrees (k : Start) (h : List Event) (phase : ℕ → Phase) (seat 
   pub held : held_by h x.number ≡ held_in work
   pub chain : chain_in x ≤ k.chains
   pub few_left : x.numbers_left ≤ CHAIN_NUMBERS
-  pub left_inside : x.numbers_left ≤ CHAIN_NUMBERS * chain_in x
+  pub left_inside : x.numbers_left ≤ k.numbers * chain_in x
   -- the numbers that are left to it are its own
-  pub next : PlacesNext x work
-  pub spares : (n : ℕ) → next_in x + placing work ≤ n → n < end_in x → phase n ≡ spare x.number
+  pub next : PlacesNext k x work
+  pub spares : (n : ℕ) → next_in k x + placing work ≤ n → n < end_in k x → phase n ≡ spare x.number
 
 -- one seat
 pub record ViewAgrees (k : Start) (h : List Event) (phase : ℕ → Phase) (seat : ℕ) (v : View) : Type 0 where
@@ -123,8 +123,9 @@ pub record HasShape (k : Start) (s : Shared) : Type 0 where
   pub range : (range_of (opening_of k)).0 + (range_of (opening_of k)).1 ≤ slots_of k
   pub chains : k.chains ≤ MAX_CHAINS
   pub passes : k.passes ≤ MAX_PASSES
-  pub words : length s.words ≡ words_for (slots_of k) k.chains
-  pub homes : length s.homes ≡ homes_for (slots_of k) k.chains
+  pub numbers : k.numbers ≤ CHAIN_NUMBERS
+  pub words : length s.words ≡ words_for (slots_of k) (chain_numbers k)
+  pub homes : length s.homes ≡ homes_for (slots_of k) (chain_numbers k)
 
 abbrev pub lengths : View → ℕ
 lengths v = length v.logs
@@ -150,4 +151,4 @@ pub record Agrees (k : Start) (s : Shared) : Type 0 where
   pub whole : sum_by lengths s.views ≡ k.passes
   pub authors : (p : ℕ) → once k.passes p ≡ 0 → part_of_pass p history ≡ []
   pub control : ControlCounts (state_after_all k history).at (range_of (opening_of k)) s.views (slice_index s.words control_place)
-  pub draws : DrawsCount k.chains phase s.views (slice_index s.words draw_place)
+  pub draws : DrawsCount k.chains k.numbers phase s.views (slice_index s.words draw_place)

@@ -46,6 +46,7 @@ spent = record {
     plain = record { marker = record {}; value = empty_table };
     chains = 0;
     passes = 0;
+    numbers = 0;
   };
   logs = [];
   work = Idle;

@@ -1,11 +1,11 @@
--- The draw word: how many chains were given, and how many passes were told that there are no more.
+-- The draw word: how many chains were given, of so many numbers each, and how many passes got None.
 use Rattle.std.specs.Prelude.{◌≡◌, ℕ, ◌+◌, ◌<◌, ◌≤◌, List, sum_by}
-use Rattle.fx_table.specs.Numbers.{numbers_for}
+use Rattle.fx_table.specs.Numbers.{numbers_up_to}
 use Rattle.fx_counted.specs.Passes.{drawn_of, told_of, once}
 use Rattle.fx_counted.specs.Phases.{Phase, unborn}
 use Rattle.fx_counted.specs.declared.view.View.{View}
 
-pub record DrawsCount (chains : ℕ) (phase : ℕ → Phase) (views : List View) (word : ℕ) : Type 0 where
+pub record DrawsCount (chains numbers : ℕ) (phase : ℕ → Phase) (views : List View) (word : ℕ) : Type 0 where
   -- the chains from 1 to this one were given, each to one pass
   pub given : ℕ
   pub few : given ≤ chains
@@ -14,4 +14,4 @@ pub record DrawsCount (chains : ℕ) (phase : ℕ → Phase) (views : List View)
   -- a pass was told so only when all were given
   pub all : 0 < sum_by told_of views → given ≡ chains
   -- nobody uses the numbers of the others
-  pub unused : (n : ℕ) → numbers_for given ≤ n → n < numbers_for chains → phase n ≡ unborn
+  pub unused : (n : ℕ) → numbers_up_to numbers given ≤ n → n < numbers_up_to numbers chains → phase n ≡ unborn

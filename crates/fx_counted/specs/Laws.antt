@@ -48,7 +48,7 @@ JoinsKeep = (k : Start) (id : ℕ) (v : View) → v.start ≡ k → v.work ≡ I
     → Joins (Agrees k) id v other w (together v w) spent
 
 abbrev pub BirthsKeep : Type 0
-BirthsKeep = (k : Start) (slots id i : ℕ) (m : Sat) (x : Log) → HasPass k m x → m.0.work ≡ Idle → 0 < x.numbers_left → i ≡ word_of k (next_in x)
+BirthsKeep = (k : Start) (slots id i : ℕ) (m : Sat) (x : Log) → HasPass k m x → m.0.work ≡ Idle → 0 < x.numbers_left → i ≡ word_of k (next_in k x)
     → Allows (Agrees k) slots id m i (λ _. born) (λ _. Births (step slots i born 0 none) m born)
 
 abbrev pub LooksKeep : Type 0
@@ -113,7 +113,7 @@ ExchangesKeep = (k : Start) (slots id i slot n old new : ℕ) (file : Closed) (m
     → name_in old ≡ 0 → new ≡ slot_word_of n file.entry
     → Allows (Agrees k) slots id m i (λ word. either (word == old) new word) (Exchanges (step slots i old new none) m)
 
--- a pass that wasn't told that there are no more chains
+-- a pass that didn't get None
 abbrev pub DrawsKeep : Type 0
 DrawsKeep = (k : Start) (slots id i : ℕ) (m : Sat) (x : Log) → HasPass k m x → m.0.work ≡ Idle → x.no_chains_left ≡ false → i ≡ draw_place
     → Allows (Agrees k) slots id m i (λ word. (word + 1) % 2 ^ 64) (DrawTells (step slots i 1 0 none) m)

@@ -21,6 +21,6 @@ pub record MayPlace (k : Start) (number : ℕ) (m : Sat) : Type 0 where
   pub pass : HasPass k m log
   pub idle : m.0.work ≡ Idle
   pub some_left : 0 < log.numbers_left
-  pub next : number ≡ next_in log
+  pub next : number ≡ next_in k log
   pub known : IsNumber k number
   pub places : m.1 ≡ []

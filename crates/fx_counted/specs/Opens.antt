@@ -6,15 +6,14 @@ use Rattle.atomic_table.specs.Table.{opening}
 use Rattle.fx_base.specs.declared.open_file.Closed.{Closed}
 use Rattle.fx_plain.specs.declared.event.File.{File}
 use Rattle.fx_plain.specs.declared.table.TheConstants.{MOST_SLOTS}
-use Rattle.fx_table.specs.declared.limits.TheConstants.{FIRST_CHAIN_NUMBER, MAX_CHAINS, MAX_PASSES}
-use Rattle.fx_table.specs.Numbers.{numbers_for}
+use Rattle.fx_table.specs.declared.limits.TheConstants.{CHAIN_NUMBERS, FIRST_CHAIN_NUMBER, MAX_CHAINS, MAX_PASSES}
 use Rattle.fx_table.specs.Opening.{range_of}
 use Rattle.fx_words.specs.Words.{born, slot_word_of, control_word_of}
 use Rattle.fx_counted.specs.Agrees.{Agrees}
 use Rattle.fx_counted.specs.Control.{full_in}
 use Rattle.fx_counted.specs.Cuts.{first_view}
 use Rattle.fx_counted.specs.Layout.{control_place, draw_place, slot_place, node_place, words_for, home_place, homes_for}
-use Rattle.fx_counted.specs.Passes.{opening_of, slots_of, state_after_all}
+use Rattle.fx_counted.specs.Passes.{opening_of, slots_of, chain_numbers, state_after_all}
 use Rattle.fx_counted.specs.declared.view.Start.{Start}
 
 -- the word of a slot, the node word of the slot's number, and what lies in the number's place
@@ -41,16 +40,17 @@ pub record OpensWith (k : Start) (words : List ℕ) (homes : List (Option Closed
   pub range : (range_of (opening_of k)).0 + (range_of (opening_of k)).1 ≤ slots_of k
   pub chains : k.chains ≤ MAX_CHAINS
   pub passes : k.passes ≤ MAX_PASSES
+  pub numbers : k.numbers ≤ CHAIN_NUMBERS
   pub entries : (slot : ℕ) (f : File) → first_file k slot ≡ Some f → f.identity.entry < 256
-  pub words_length : length words ≡ words_for (slots_of k) k.chains
-  pub homes_length : length homes ≡ homes_for (slots_of k) k.chains
+  pub words_length : length words ≡ words_for (slots_of k) (chain_numbers k)
+  pub homes_length : length homes ≡ homes_for (slots_of k) (chain_numbers k)
   pub control : slice_index words control_place ≡ control_word_of (full_in (first_file k) (range_of (opening_of k)).0 (range_of (opening_of k)).1)
   pub draw : slice_index words draw_place ≡ 0
   pub slot_words : (slot : ℕ) → slot < slots_of k → slice_index words (slot_place slot) ≡ word_for (first_file k slot)
   pub node_words : (slot : ℕ) → slot < slots_of k → slice_index words (node_place (slots_of k) slot) ≡ node_for (first_file k slot)
   pub files : (slot : ℕ) → slot < slots_of k → get_elem? homes (home_place (slots_of k) slot) ≡ some (home_for (first_file k slot))
-  pub fresh_words : (n : ℕ) → FIRST_CHAIN_NUMBER ≤ n → n < numbers_for k.chains → slice_index words (node_place (slots_of k) n) ≡ 0
-  pub fresh_places : (n : ℕ) → FIRST_CHAIN_NUMBER ≤ n → n < numbers_for k.chains → get_elem? homes (home_place (slots_of k) n) ≡ some None
+  pub fresh_words : (n : ℕ) → FIRST_CHAIN_NUMBER ≤ n → n < FIRST_CHAIN_NUMBER + chain_numbers k → slice_index words (node_place (slots_of k) n) ≡ 0
+  pub fresh_places : (n : ℕ) → FIRST_CHAIN_NUMBER ≤ n → n < FIRST_CHAIN_NUMBER + chain_numbers k → get_elem? homes (home_place (slots_of k) n) ≡ some None
 
 -- a table that begins so keeps the rule, with one seat that has all passes
 abbrev pub OpeningKeeps : Type 0

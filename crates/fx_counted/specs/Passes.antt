@@ -1,5 +1,5 @@
 -- What views say of passes.
-use Rattle.std.specs.Prelude.{ℕ, zero, suc, ◌-◌, ◌==◌, nat_lt, false, List, [], ◌∷◌, Option, Some, None, sum_by, count_by, if◌then◌else◌}
+use Rattle.std.specs.Prelude.{ℕ, zero, suc, ◌-◌, ◌*◌, ◌==◌, nat_lt, false, List, [], ◌∷◌, Option, Some, None, sum_by, count_by, if◌then◌else◌}
 use Rattle.atomic_table.specs.Table.{State as TableState, Me}
 use Rattle.fx_base.specs.declared.open_file.Closed.{Closed}
 use Rattle.fx_plain.specs.History.{part_of_pass}
@@ -7,7 +7,7 @@ use Rattle.fx_plain.specs.State.{State}
 use Rattle.fx_plain.specs.declared.event.File.{File}
 use Rattle.fx_plain.specs.declared.event.Event.{Event}
 use Rattle.fx_table.specs.Opening.{Opening, state_at, size_of}
-use Rattle.fx_table.specs.Numbers.{numbers_for}
+use Rattle.fx_table.specs.Numbers.{numbers_up_to}
 use Rattle.fx_table.specs.Pass.{PassView}
 use Rattle.fx_table.specs.declared.limits.TheConstants.{PASS_LOOKS}
 use Rattle.fx_table.specs.declared.values.Doing.{Doing}
@@ -28,14 +28,18 @@ abbrev pub Sat : Type 0
 Sat = Me (Option Closed) View
 
 abbrev pub opening_of : Start → Opening
-opening_of k = record { contents = k.plain.value; chains = k.chains; passes = k.passes }
+opening_of k = record { contents = k.plain.value; chains = k.chains; passes = k.passes; numbers = k.numbers }
 
 abbrev pub slots_of : Start → ℕ
 slots_of k = size_of (opening_of k)
 
+-- how many numbers its chains have together
+abbrev pub chain_numbers : Start → ℕ
+chain_numbers k = k.numbers * k.chains
+
 -- the number is that of a slot or of a chain
 abbrev pub IsNumber : Start → ℕ → Type 0
-IsNumber k number = HasNode (slots_of k) k.chains number
+IsNumber k number = HasNode (slots_of k) (chain_numbers k) number
 
 -- the state that a history leads to
 abbrev pub state_after_all : Start → List Event → State
@@ -50,11 +54,11 @@ abbrev pub chain_in : Log → ℕ
 chain_in x = first_or 0 x.drawn
 
 -- the number behind the last one of the chain, and the one that the next installation uses
-abbrev pub end_in : Log → ℕ
-end_in x = numbers_for (chain_in x)
+abbrev pub end_in : Start → Log → ℕ
+end_in k x = numbers_up_to k.numbers (chain_in x)
 
-abbrev pub next_in : Log → ℕ
-next_in x = end_in x - x.numbers_left
+abbrev pub next_in : Start → Log → ℕ
+next_in k x = end_in k x - x.numbers_left
 
 -- what a pass of a shared table does, between two calls
 abbrev pub doing_in : Work → Doing
@@ -116,8 +120,8 @@ holding n (Holding f) = if f.number == n then 1 else 0
 holding n (Retiring f takes) = 0
 holding n (Emptying number) = 0
 
--- how many of a view's passes have the number, how often they drew a chain, how many were told that there are no
--- more, and the look-ups that are left to them
+-- how many of a view's passes have the number, how often they drew a chain, how many got None, and
+-- the look-ups that are left to them
 abbrev pub logs_of : ℕ → View → ℕ
 logs_of p v = count_by (λ x. x.number == p) v.logs
 

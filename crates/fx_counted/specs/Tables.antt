@@ -55,7 +55,7 @@ pub record IsSeated (k : Start) (v : View) (x : Log) : Type 0 where
   pub change : v.change ≡ Outside
   pub chain : chain_in x ≤ k.chains
   pub few_left : x.numbers_left ≤ CHAIN_NUMBERS
-  pub left_inside : x.numbers_left ≤ CHAIN_NUMBERS * chain_in x
+  pub left_inside : x.numbers_left ≤ k.numbers * chain_in x
 
 -- a pass of the table that began so
 pub record IsPassOf (id : TableId) (k : Start) (p : CountedPass) : Type 0 where

@@ -69,8 +69,8 @@ turned Less old new = Less
 
 -- Birth: the place of the next number is with the pass
 pub record Births (st : At) (m : Sat) (found : ℕ) (m' : Sat) : Type 0 where
-  pub stepped : Stepped m [] no_use (Placing (next_number (pass_of m.0))) m.0.change m'
-  pub carried : m'.1 ≡ (home_place (slots_of m.0.start) (next_number (pass_of m.0)), None) ∷ m.1
+  pub stepped : Stepped m [] no_use (Placing (next_number (opening_of m.0.start) (pass_of m.0))) m.0.change m'
+  pub carried : m'.1 ≡ (home_place (slots_of m.0.start) (next_number (opening_of m.0.start) (pass_of m.0)), None) ∷ m.1
 
 -- Look: the word that was found names the file that was there
 pub record Looks (st : At) (m : Sat) (found : ℕ) (m' : Sat) : Type 0 where
@@ -142,7 +142,7 @@ pub record Exchanges (st : At) (m : Sat) (found : ℕ) (m' : Sat) : Type 0 where
 abbrev pub chain_given : ℕ → ℕ → Option ℕ
 chain_given chains found = if nat_lt found chains then Some (found + 1) else None
 
--- Draw: the pass has the next chain, or is told that there are no more
+-- Draw: the pass has the next chain, or gets `None`
 pub record DrawTells (st : At) (m : Sat) (found : ℕ) (m' : Sat) : Type 0 where
   pub one : (x : Log) × (m'.0.logs ≡ x ∷ [])
   pub draws : Draws (opening_of m.0.start) (pass_of m.0) (chain_given m.0.start.chains found) (pass_of m'.0)

@@ -14,7 +14,7 @@ use crate::layout::{DRAW, node_place, slot_place};
 use crate::pass::CountedPass;
 use crate::table::CountedTable;
 use fx_base::OpenFile;
-use fx_table::{CHAIN_NUMBERS, Empty, Hold, LookFault, Retired, numbers_for};
+use fx_table::{Empty, FIRST_CHAIN_NUMBER, Hold, LookFault, Retired};
 use fx_words::{entry_of, node_of, retire_amount, slot_word, takes_of};
 
 impl CountedTable {
@@ -40,7 +40,7 @@ impl CountedTable {
         }
         let chain = given as u32 + 1;
         pass.chain = chain;
-        pass.numbers_left = CHAIN_NUMBERS;
+        pass.numbers_left = self.numbers;
         Some(chain)
     }
 
@@ -220,9 +220,9 @@ impl CountedTable {
     // The number that the pass's next installation uses.
     pub(crate) fn next_number(&self, pass: &CountedPass) -> u32
         requires fits { IsPassOfTable self.now pass.now }
-        ensures number { result ≡ next_number (view_of pass.now) }
+        ensures number { result ≡ next_number (opening_of_table self.now) (view_of pass.now) }
     {
-        numbers_for(pass.chain) - pass.numbers_left
+        FIRST_CHAIN_NUMBER + self.numbers * pass.chain - pass.numbers_left
     }
 }
 

@@ -65,6 +65,7 @@ impl CountedTable {
             mut shell,
             chains,
             passes: _,
+            numbers,
             size,
             range_start: _,
             range_len: _,
@@ -77,7 +78,7 @@ impl CountedTable {
                 }
             }
         }
-        for place in 0..homes_for(size, chains) {
+        for place in 0..homes_for(size, numbers * chains) {
             let home = closed.take(place);
             let None = home else { unreachable!() };
         }

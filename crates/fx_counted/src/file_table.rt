@@ -32,6 +32,16 @@ impl FileTable for CountedTable {
         CountedTable::open(alloc, plain, chains, passes)
     }
 
+    fn open_for(
+        alloc: Global,
+        plain: PlainTable,
+        chains: u32,
+        most: u32,
+        passes: u32,
+    ) -> Result<(CountedTable, Vec<CountedPass>), (PlainTable, NoMemory)> {
+        CountedTable::open_for(alloc, plain, chains, most, passes)
+    }
+
     fn close(self, passes: Vec<CountedPass>) -> PlainTable
         requires all { length passes.items ≡ (opening_of_table self).passes }
         requires fits { All (IsPassOfTable self) passes.items }

@@ -92,7 +92,7 @@ pub fn exchange_keeps_rule()
     ensures { ExchangesKeep }
 {}
 
-/// An idle pass that adds 1 to the draw word keeps the rule, and has the next chain or is told that there are no more.
+/// An idle pass that adds 1 to the draw word keeps the rule, and has the next chain or gets `None`.
 pub fn draw_keeps_rule()
     ensures { DrawsKeep }
 {}

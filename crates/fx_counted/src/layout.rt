@@ -1,5 +1,5 @@
 //! Where the words and the open files of a table lie. What a pass changes at one call lies on a cache line that no
-//! other slot's calls change: a slot's word has beside it the node word of the number that the slot has at first, and
+//! other slot's calls change: a slot's word has next to it the node word of the number that the slot has at first, and
 //! nothing else (this project's own).
 ghost use Rattle.std.specs.Prelude.{◌≡◌, ◌<◌, ◌≤◌};
 ghost use Rattle.fx_plain.specs.declared.table.TheConstants.{MOST_SLOTS};
@@ -7,28 +7,32 @@ ghost use Rattle.fx_counted.specs.Layout.{control_place, draw_place, slot_place,
 
 use fx_table::{CHAIN_NUMBERS, FIRST_CHAIN_NUMBER, MAX_CHAINS};
 
+/// How many numbers the chains of a table have together at most.
+pub const MOST_NUMBERS: u32 = CHAIN_NUMBERS * MAX_CHAINS;
+
 /// Where the control word lies.
 pub const CONTROL: usize = 0;
 
 /// Where the draw word lies.
 pub const DRAW: usize = 8;
 
-/// How many words a table of so many slots, at most [`fx_plain::MOST_SLOTS`], and chains has.
-pub fn words_for(size: u32, chains: u32) -> usize
+/// How many words a table of so many slots, at most [`fx_plain::MOST_SLOTS`], has, whose chains have so many numbers
+/// together.
+pub fn words_for(size: u32, numbers: u32) -> usize
     requires size { size ≤ MOST_SLOTS }
-    requires chains { chains ≤ MAX_CHAINS }
-    ensures { result ≡ words_for size chains }
+    requires numbers { numbers ≤ MOST_NUMBERS }
+    ensures { result ≡ words_for size numbers }
 {
-    (16 + 8 * size + CHAIN_NUMBERS * chains) as usize
+    (16 + 8 * size + numbers) as usize
 }
 
 /// How many places for open files it has.
-pub fn homes_for(size: u32, chains: u32) -> usize
+pub fn homes_for(size: u32, numbers: u32) -> usize
     requires size { size ≤ MOST_SLOTS }
-    requires chains { chains ≤ MAX_CHAINS }
-    ensures { result ≡ homes_for size chains }
+    requires numbers { numbers ≤ MOST_NUMBERS }
+    ensures { result ≡ homes_for size numbers }
 {
-    (size + CHAIN_NUMBERS * chains) as usize
+    (size + numbers) as usize
 }
 
 /// Where the word of a slot lies.
@@ -42,7 +46,7 @@ pub fn slot_place(slot: u32) -> usize
 /// Where the node word of a number lies, which is that of a slot or of a chain.
 pub fn node_place(size: u32, number: u32) -> usize
     requires size { size ≤ MOST_SLOTS }
-    requires number { HasNode size MAX_CHAINS number }
+    requires number { HasNode size MOST_NUMBERS number }
     ensures { result ≡ node_place size number }
 {
     if number < size {
@@ -55,7 +59,7 @@ pub fn node_place(size: u32, number: u32) -> usize
 /// Where the open file of a number lies.
 pub fn home_place(size: u32, number: u32) -> usize
     requires size { size ≤ MOST_SLOTS }
-    requires number { HasNode size MAX_CHAINS number }
+    requires number { HasNode size MOST_NUMBERS number }
     ensures { result ≡ home_place size number }
 {
     if number < size {

@@ -3,7 +3,7 @@ ghost use Rattle.std.specs.Prelude.{◌≡◌, ◌+◌, ◌*◌, ◌<◌, ◌≤
 ghost use Rattle.fx_plain.specs.State.{IsSettled};
 ghost use Rattle.fx_plain.specs.Contents.{state_of, IsPrepared};
 ghost use Rattle.fx_plain.specs.declared.table.TheConstants.{MOST_SLOTS};
-ghost use Rattle.fx_table.specs.Opening.{IsGivenBack, opening_with};
+ghost use Rattle.fx_table.specs.Opening.{IsGivenBack, opening_of_chains, opening_with};
 ghost use Rattle.fx_table.specs.Pass.{new_passes};
 ghost use Rattle.fx_words.specs.Words.{slot_word_of, born};
 ghost use Rattle.fx_counted.specs.Control.{full_in};
@@ -14,7 +14,7 @@ ghost use Rattle.fx_counted.specs.Shells.{IsShellOf};
 ghost use Rattle.fx_counted.specs.Tables.{view_of, opening_of_table, IsPassOfTable};
 
 use crate::kinds::Deal;
-use crate::layout::{CONTROL, homes_for, slot_place, words_for};
+use crate::layout::{CONTROL, MOST_NUMBERS, homes_for, slot_place, words_for};
 use crate::moves::BORN;
 use crate::pass::CountedPass;
 use crate::shell::{make_room, put_all};
@@ -23,16 +23,14 @@ use crate::view::{Start, View};
 use atomic_table::{Refused, Seat, Table};
 use fx_base::{NoMemory, OpenFile};
 use fx_plain::PlainTable;
-use fx_table::{MAX_CHAINS, MAX_PASSES};
+use fx_table::{CHAIN_NUMBERS, MAX_CHAINS, MAX_PASSES};
 use fx_words::{control_word, slot_word};
 use std::alloc::Global;
 use std::snapshot::Snapshot;
 
 impl CountedTable {
     // Shares a settled table (`PlainTable::is_settled`) between `passes` passes, 1 to `fx_table::MAX_PASSES`, which play
-    // `chains` chains, at most `fx_table::MAX_CHAINS`. The file at slot `s` has number `s`, and chain `c`, from 1, the
-    // numbers from `numbers_for(c - 1)` up to `numbers_for(c)` (`fx_table::numbers_for`). The passes are numbered from
-    // 1, in the list's order. All memory is taken here.
+    // `chains` chains, at most `fx_table::MAX_CHAINS`, each of which has `fx_table::CHAIN_NUMBERS` file numbers.
     // `NoMemory` where memory is refused. The table comes back settled, with its files, size and range.
     pub(crate) fn open(
         alloc: Global,
@@ -49,10 +47,33 @@ impl CountedTable {
         ensures new { IfOk result (λ (_, list). map view_of list.items ≡ new_passes passes) }
         ensures refused { IfErr result (λ (back, _). IsGivenBack plain back) }
     {
+        CountedTable::open_for(alloc, plain, chains, CHAIN_NUMBERS, passes)
+    }
+
+    // The same, where each chain has so many file numbers, at most `fx_table::CHAIN_NUMBERS`. The file at slot `s` has
+    // number `s`, and chain `c`, from 1, the numbers from `256 + numbers * (c - 1)` on. The passes are numbered from 1, in
+    // the list's order. All memory is taken here.
+    pub(crate) fn open_for(
+        alloc: Global,
+        plain: PlainTable,
+        chains: u32,
+        numbers: u32,
+        passes: u32,
+    ) -> Result<(CountedTable, Vec<CountedPass>), (PlainTable, NoMemory)>
+        requires settled { IsSettled (state_of plain) }
+        requires chains { chains ≤ MAX_CHAINS }
+        requires numbers { numbers ≤ CHAIN_NUMBERS }
+        requires passes { (1 ≤ passes) × (passes ≤ MAX_PASSES) }
+        ensures opened { IfOk result (λ (t, _).
+            opening_of_table t ≡ opening_of_chains plain chains numbers passes) }
+        ensures fits { IfOk result (λ (t, list). All (IsPassOfTable t) list.items) }
+        ensures new { IfOk result (λ (_, list). map view_of list.items ≡ new_passes passes) }
+        ensures refused { IfErr result (λ (back, _). IsGivenBack plain back) }
+    {
         let Ok(mut list) = Vec::with_capacity(alloc, passes as usize) else {
             return Err((plain, NoMemory));
         };
-        match CountedTable::start(alloc, plain, chains, passes) {
+        match CountedTable::start(alloc, plain, chains, numbers, passes) {
             Ok((table, seat)) => {
                 table.deal(seat, &mut list);
                 Ok((table, list))
@@ -69,13 +90,15 @@ impl CountedTable {
         alloc: Global,
         mut plain: PlainTable,
         chains: u32,
+        numbers: u32,
         passes: u32,
     ) -> Result<(CountedTable, Seat<Option<OpenFile>, View>), (PlainTable, NoMemory)>
         requires settled { IsSettled (state_of plain) }
         requires chains { chains ≤ MAX_CHAINS }
+        requires numbers { numbers ≤ CHAIN_NUMBERS }
         requires passes { (1 ≤ passes) × (passes ≤ MAX_PASSES) }
         ensures opened { IfOk result (λ (t, _).
-            opening_of_table t ≡ opening_with plain chains passes) }
+            opening_of_table t ≡ opening_of_chains plain chains numbers passes) }
         ensures seat { IfOk result (λ (t, seat). HasAllPasses t seat) }
         ensures refused { IfErr result (λ (back, _). IsGivenBack plain back) }
     {
@@ -83,13 +106,14 @@ impl CountedTable {
             plain: Snapshot::of(&plain),
             chains,
             passes,
+            numbers,
         };
         let size = plain.size();
         let (range_start, range_len) = plain.range();
-        let Ok(words) = first_words(alloc, &plain, chains) else {
+        let Ok(words) = first_words(alloc, &plain, numbers * chains) else {
             return Err((plain, NoMemory));
         };
-        let Ok(homes) = first_homes(alloc, &mut plain, chains) else {
+        let Ok(homes) = first_homes(alloc, &mut plain, numbers * chains) else {
             return Err((plain, NoMemory));
         };
         match Table::new(alloc, words.as_slice(), homes, &key) {
@@ -99,6 +123,7 @@ impl CountedTable {
                     shell: plain,
                     chains,
                     passes,
+                    numbers,
                     size,
                     range_start,
                     range_len,
@@ -137,6 +162,9 @@ fn full_in_range(plain: &PlainTable, size: u32) -> u32
     ensures few { result ≤ (state_of plain.now).range.1 }
 {
     let (start, len) = plain.range();
+    if len == size {
+        return plain.full();
+    }
     let mut full = 0;
     for slot in start..start + len {
         if plain.entry_at(slot).is_some() {
@@ -159,13 +187,13 @@ fn write_slot(words: &mut Vec<u64>, slot: u32, entry: u8)
     words[place + 1] = BORN;
 }
 
-// The words of a table with the files of this one.
-fn first_words(alloc: Global, plain: &PlainTable, chains: u32) -> Result<Vec<u64>, NoMemory>
-    requires { chains ≤ MAX_CHAINS }
-    ensures { IfOk result (λ words. AreFirstWords (state_of plain.now) chains words.items) }
+// The words of a table with the files of this one, whose chains have so many numbers together.
+fn first_words(alloc: Global, plain: &PlainTable, numbers: u32) -> Result<Vec<u64>, NoMemory>
+    requires { numbers ≤ MOST_NUMBERS }
+    ensures { IfOk result (λ words. AreFirstWords (state_of plain.now) numbers words.items) }
 {
     let size = plain.size();
-    let mut words = vec![in alloc; 0; words_for(size, chains)]?;
+    let mut words = vec![in alloc; 0; words_for(size, numbers)]?;
     words[CONTROL] = control_word(full_in_range(plain, size));
     for slot in 0..size {
         if let Some(entry) = plain.entry_at(slot) {
@@ -179,16 +207,16 @@ fn first_words(alloc: Global, plain: &PlainTable, chains: u32) -> Result<Vec<u64
 fn first_homes(
     alloc: Global,
     plain: &mut PlainTable,
-    chains: u32,
+    numbers: u32,
 ) -> Result<Vec<Option<OpenFile>>, NoMemory>
     requires settled { IsSettled (state_of plain.old) }
-    requires chains { chains ≤ MAX_CHAINS }
-    ensures homes { IfOk result (λ homes. AreFirstHomes (state_of plain.old) chains homes.items) }
+    requires numbers { numbers ≤ MOST_NUMBERS }
+    ensures homes { IfOk result (λ homes. AreFirstHomes (state_of plain.old) numbers homes.items) }
     ensures shell { OnOk result (IsShellOf (state_of plain.old) (state_of plain.new)) }
     ensures prepared { OnOk result (IsPrepared plain.new) }
     ensures err { OnErr result (plain.new ≡ plain.old) }
 {
-    let count = homes_for(plain.size(), chains);
+    let count = homes_for(plain.size(), numbers);
     let mut homes = Vec::with_capacity(alloc, count)?;
     let Ok(()) = make_room(plain) else {
         homes.destroy_empty();

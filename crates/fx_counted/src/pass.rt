@@ -6,7 +6,7 @@ use atomic_table::Seat;
 use fx_base::OpenFile;
 use fx_table::PASS_LOOKS;
 
-/// A pass of a [`crate::CountedTable`]. It is no `Drop`: a program that lets one go is not accepted. Two passes that lie
+/// A pass of a [`crate::CountedTable`]. It is no `Drop`: a program that drops one is not accepted. Two passes that lie
 /// side by side in a list are 128 bytes apart, so that threads that use them share no cache line.
 pub struct CountedPass {
     pub(crate) seat: Seat<Option<OpenFile>, View>,

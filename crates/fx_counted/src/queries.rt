@@ -41,8 +41,8 @@ impl CountedTable {
         pass.looks_left
     }
 
-    // How many files the pass can install before it draws again: 0 before the first draw, `fx_table::CHAIN_NUMBERS`
-    // after each draw that gives a chain, and one less after each installation.
+    // How many files the pass can install before it draws again: 0 before the first draw, all numbers of a chain after each
+    // draw that gives one, and one less after each installation.
     pub(crate) fn numbers_left(&self, pass: &CountedPass) -> u32
         requires { IsPassOfTable self.now pass.now }
         ensures { result ≡ (view_of pass.now).numbers_left }

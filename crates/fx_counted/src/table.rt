@@ -1,5 +1,5 @@
-ghost use Rattle.std.specs.Prelude.{◌≡◌, ◌≤◌, ◌+◌};
-ghost use Rattle.fx_table.specs.declared.limits.TheConstants.{MAX_CHAINS, MAX_PASSES};
+ghost use Rattle.std.specs.Prelude.{◌≡◌, ◌≤◌, ◌+◌, ◌*◌};
+ghost use Rattle.fx_table.specs.declared.limits.TheConstants.{CHAIN_NUMBERS, MAX_CHAINS, MAX_PASSES};
 ghost use Rattle.fx_table.specs.Opening.{size_of, range_of};
 ghost use Rattle.fx_plain.specs.Contents.{state_of, IsPrepared};
 ghost use Rattle.fx_plain.specs.declared.table.TheConstants.{MOST_SLOTS};
@@ -23,12 +23,15 @@ pub struct CountedTable {
     pub(crate) shell: PlainTable,
     pub(crate) chains: u32,
     pub(crate) passes: u32,
+    // How many file numbers each chain has.
+    pub(crate) numbers: u32,
     pub(crate) size: u32,
     pub(crate) range_start: u32,
     pub(crate) range_len: u32,
-    pub ghost words: { table.shared.table_id.words ≡ words_for size chains },
-    pub ghost homes: { table.shared.table_id.slots ≡ homes_for size chains },
-    pub ghost key: { (chains ≡ table.shared.key.chains) × (passes ≡ table.shared.key.passes) },
+    pub ghost words: { table.shared.table_id.words ≡ words_for size (numbers * chains) },
+    pub ghost homes: { table.shared.table_id.slots ≡ homes_for size (numbers * chains) },
+    pub ghost key: { (chains ≡ table.shared.key.chains) × (passes ≡ table.shared.key.passes)
+        × (numbers ≡ table.shared.key.numbers) },
     pub ghost same_size: { size ≡ size_of (opening_of table.shared.key) },
     pub ghost same_range: { (range_start, range_len) ≡ range_of (opening_of table.shared.key) },
     pub ghost few_slots: { size ≤ MOST_SLOTS },
@@ -36,5 +39,6 @@ pub struct CountedTable {
     pub ghost emptied: { IsShellOf (state_of (opening_of table.shared.key).contents)
         (state_of shell) },
     pub ghost room: { IsPrepared shell },
-    pub ghost bounds: { (chains ≤ MAX_CHAINS) × (1 ≤ passes) × (passes ≤ MAX_PASSES) },
+    pub ghost bounds: { (chains ≤ MAX_CHAINS) × (1 ≤ passes) × (passes ≤ MAX_PASSES)
+        × (numbers ≤ CHAIN_NUMBERS) },
 }

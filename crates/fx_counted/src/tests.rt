@@ -1,16 +1,16 @@
 //! What can't be seen from outside: where words lie, and what they are after each call. The rows that every table plays are
-//! the tests of `table_tests`.
+//! the tests of `test_tables`.
 ghost use Rattle.std.specs.Prelude.{◌≡◌, ◌≤◌, [], All};
 ghost use Rattle.fx_plain.specs.State.{IsSettled};
 ghost use Rattle.fx_plain.specs.Contents.{state_of};
-ghost use Rattle.fx_table.specs.Opening.{opening_with};
+ghost use Rattle.fx_table.specs.Opening.{IsOpenedFor, opening_with};
 
 mod layout;
 mod words;
 
 use fx_base::{Catalogue, Mark, OpenFile};
 use fx_plain::PlainTable;
-use fx_table::{FileTable, MAX_CHAINS, MAX_PASSES};
+use fx_table::{CHAIN_NUMBERS, FileTable, MAX_CHAINS, MAX_PASSES};
 use std::alloc::{AllocError, Global};
 use std::process::Abort;
 
@@ -66,6 +66,31 @@ fn shared<T: FileTable, R: Abort>(
     ensures fits { All (λ p. T.fits result.0 p) result.1.items }
 {
     match T::open(alloc, plain, chains, passes) {
+        Ok(opened) => opened,
+        Err((plain, _)) => {
+            plain.abandon();
+            panic!(rt; "memory for a shared table")
+        }
+    }
+}
+
+// The same, for chains of which none installs more files.
+fn shared_for<T: FileTable, R: Abort>(
+    rt: &R,
+    alloc: Global,
+    plain: PlainTable,
+    chains: u32,
+    most: u32,
+    passes: u32,
+) -> (T, Vec<T::Pass>)
+    requires settled { IsSettled (state_of plain) }
+    requires chains { chains ≤ MAX_CHAINS }
+    requires most { most ≤ CHAIN_NUMBERS }
+    requires passes { (1 ≤ passes) × (passes ≤ MAX_PASSES) }
+    ensures opened { IsOpenedFor plain chains most passes (T.opening result.0) }
+    ensures fits { All (λ p. T.fits result.0 p) result.1.items }
+{
+    match T::open_for(alloc, plain, chains, most, passes) {
         Ok(opened) => opened,
         Err((plain, _)) => {
             plain.abandon();

@@ -2,8 +2,8 @@ use fx_plain::{Event, File, PlainTable};
 use std::collections::LinkedList;
 use std::snapshot::Snapshot;
 
-/// What a table without a lock begins with, for contracts alone: the table that was opened, and how many chains and
-/// passes there are.
+/// What a table without a lock begins with, for contracts alone: the table that was opened, how many chains and passes
+/// there are, and how many file numbers each chain has.
 #[derive(Drop)]
 pub struct Start {
     /// The table as it was opened.
@@ -12,6 +12,8 @@ pub struct Start {
     pub chains: u32,
     /// The passes are 1 to this number.
     pub passes: u32,
+    /// How many file numbers each chain has.
+    pub numbers: u32,
 }
 
 /// What one pass has seen and what is left to it, as contracts see it. No value of it is made.

@@ -13,11 +13,11 @@ fn words_are_paired_and_spaced(rt: HostRuntime) {
     assert_eq!(rt; node_place(2, 1), 25);
     assert_eq!(rt; node_place(2, 256), 32);
     assert_eq!(rt; node_place(2, 319), 95);
-    assert_eq!(rt; words_for(2, 1), 96);
+    assert_eq!(rt; words_for(2, 64), 96);
     assert_eq!(rt; node_place(256, 255), 2_057);
     assert_eq!(rt; node_place(256, 256), 2_064);
     assert_eq!(rt; node_place(256, 65_727), 67_535);
-    assert_eq!(rt; words_for(256, 1_023), 67_536);
+    assert_eq!(rt; words_for(256, 65_472), 67_536);
 }
 
 #[test]
@@ -26,7 +26,7 @@ fn open_files_lie_side_by_side(rt: HostRuntime) {
     assert_eq!(rt; home_place(2, 1), 1);
     assert_eq!(rt; home_place(2, 256), 2);
     assert_eq!(rt; home_place(2, 319), 65);
-    assert_eq!(rt; homes_for(2, 1), 66);
+    assert_eq!(rt; homes_for(2, 64), 66);
     assert_eq!(rt; home_place(256, 65_727), 65_727);
-    assert_eq!(rt; homes_for(256, 1_023), 65_728);
+    assert_eq!(rt; homes_for(256, 65_472), 65_728);
 }

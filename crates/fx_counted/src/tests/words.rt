@@ -4,7 +4,7 @@ ghost use Rattle.fx_plain.specs.State.{IsSettled};
 ghost use Rattle.fx_plain.specs.Contents.{state_of};
 ghost use Rattle.fx_table.specs.Pass.{IsHoldOf, IsRetiredOf};
 
-use super::{closed, empty_table, opened, shared, tag, two_names, two_passes};
+use super::{closed, empty_table, opened, shared, shared_for, tag, two_names, two_passes};
 use crate::CountedTable;
 use crate::layout::{CONTROL, DRAW, node_place, slot_place};
 use fx_base::{Catalogue, Mark, OpenFile};
@@ -242,6 +242,45 @@ fn control_word_counts_full_slots(rt: HostRuntime) -> Result<(), Fail> {
     assert_eq!(rt; word(&rt, &table, CONTROL), 65_537);
     let freed = allocated(&rt, &table, &mut b, opened(&rt, &catalogue, 0, 1, 4));
     assert_eq!(rt; (freed, word(&rt, &table, CONTROL)), (Some(0), 65_538));
+    let plain = closed(&rt, table, passes, b, a);
+    assert!(rt; plain.full() == 2);
+    plain.abandon();
+    Ok(())
+}
+
+// A pass draws this chain, which has one number, and installs a file.
+fn install<T: FileTable, R: Wait + Abort>(
+    rt: &R,
+    table: &T,
+    pass: &mut T::Pass,
+    chain: u32,
+    slot: u32,
+    file: OpenFile,
+)
+    requires { T.fits table.now pass.old }
+    ensures { T.fits table.now pass.new }
+{
+    assert!(rt; table.is_idle(pass));
+    assert!(rt; table.draw(pass) == Some(chain));
+    assert_eq!(rt; table.numbers_left(pass), 1);
+    put_at(rt, table, pass, slot, file);
+    assert_eq!(rt; table.numbers_left(pass), 0);
+}
+
+#[test]
+fn chains_with_one_number_have_one_word(rt: HostRuntime) -> Result<(), Fail> {
+    let catalogue = two_names(rt.alloc())?;
+    let plain = empty_table(&rt, rt.alloc(), 2);
+    let (table, mut passes) = shared_for::<CountedTable, _>(&rt, rt.alloc(), plain, 2, 1, 2);
+    let (mut b, mut a) = two_passes(&rt, &table, &mut passes);
+    assert_eq!(rt; table.table.word_count(), 34);
+    install(&rt, &table, &mut a, 1, 0, opened(&rt, &catalogue, 1, 1, 0));
+    install(&rt, &table, &mut b, 2, 1, opened(&rt, &catalogue, 1, 1, 1));
+    assert_eq!(rt; word(&rt, &table, slot_place(0)), 0x0001_0101_0000_0000);
+    assert_eq!(rt; word(&rt, &table, slot_place(1)), 0x0001_0201_0000_0000);
+    assert_eq!(rt; word(&rt, &table, node_place(2, 256)), BORN);
+    assert_eq!(rt; word(&rt, &table, node_place(2, 257)), BORN);
+    assert_eq!(rt; node_place(2, 257), 33);
     let plain = closed(&rt, table, passes, b, a);
     assert!(rt; plain.full() == 2);
     plain.abandon();

@@ -43,7 +43,7 @@ returns-clause-homes c =
     let taken = count_taken st (state_of c.make_room.new.plain) c.in_ok-homes.homes.items c.take_files.new.files.items
     c.in-Ok.ensures.same.files c.in_ok-homes.ensures.items c.take_files.ensures.files in
     let end = c.loop.auto.counter-end (omega (arith, all, len, ok, taken, size)) in
-    all_homes st c.args.chains c.loop.homes.items (omega (arith, count, past, end, all, size)) i.homes
+    all_homes st c.args.numbers c.loop.homes.items (omega (arith, count, past, end, all, size)) i.homes
 
 pub returns-clause-shell : goal.returns-clause-shell
 returns-clause-shell c =

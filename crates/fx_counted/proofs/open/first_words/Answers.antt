@@ -11,10 +11,10 @@ loop-slot-init c =
     let st = state_of c.args.plain.now in
     let size = c.size-size.ensures.value in
     let zeros : List ℕ = c.in_ok-words.words.items in
-    let are : zeros ≡ replicate (words_for st.size c.args.chains) 0 =
+    let are : zeros ≡ replicate (words_for st.size c.args.numbers) 0 =
     c.in_ok-words.ensures.items_if_clones_equal (λ x e. e)
-    ∙ ap (λ (n : ℕ). replicate n 0) (c.words_for.ensures ∙ ap (λ (n : ℕ). words_for n c.args.chains) size) in
-    none_so_far st c.args.chains zeros _ c.full_in_range.result are c.full_in_range.ensures.full
+    ∙ ap (λ (n : ℕ). replicate n 0) (c.words_for.ensures ∙ ap (λ (n : ℕ). words_for n c.args.numbers) size) in
+    none_so_far st c.args.numbers zeros _ c.full_in_range.result are c.full_in_range.ensures.full
     (ap (λ (n : ℕ). set zeros control_place n) c.control_word.ensures)
 
 pub loop-slot-preserved : goal.loop-slot-preserved
@@ -26,13 +26,13 @@ loop-slot-preserved c =
     let inside : slot < st.size = omega (arith, size, test) in
     elim c.match-entry_at.branch [
       | in-Some w ↦ let t = some_told (st.at slot) slot w.in-Some.entry w.in-Some.ensures in
-          one_more st c.args.chains slot c.loop-slot.words.items inside c.loop-slot.invariant t.0 w.in-Some.entry _ c.match-entry_at.words.items
+          one_more st c.args.numbers slot c.loop-slot.words.items inside c.loop-slot.invariant t.0 w.in-Some.entry _ c.match-entry_at.words.items
           t.1 t.2 t.3 w.write_slot.ensures.entry refl (ap (λ (v : Vec ℕ Global). v.items) w.words-is
           ∙ (w.write_slot.ensures.words
           ∙ ap (λ (n : ℕ). set (set c.loop-slot.words.items (slot_place slot) (slot_word_of slot w.in-Some.entry)) n born)
           (sym (low_node st.size slot inside))))
-      | in_default w ↦ subst (λ (v : Vec ℕ Global). AreWordsSoFar st c.args.chains (slot + 1) v.items) (sym w.words-is)
-          (none_more st c.args.chains slot c.loop-slot.words.items inside c.loop-slot.invariant (none_told (st.at slot) slot w.in_default.ensures))
+      | in_default w ↦ subst (λ (v : Vec ℕ Global). AreWordsSoFar st c.args.numbers (slot + 1) v.items) (sym w.words-is)
+          (none_more st c.args.numbers slot c.loop-slot.words.items inside c.loop-slot.invariant (none_told (st.at slot) slot w.in_default.ensures))
     ]
 
 pub returns : goal.returns
@@ -42,5 +42,5 @@ returns c =
     let past = c.loop-slot-test.false in
     let end = c.loop-slot.auto.slot-end in
     let whole : c.loop-slot.slot ≡ st.size = omega (arith, past, end, size) in
-    all_written st c.args.chains c.loop-slot.words.items
-    (subst (λ (n : ℕ). AreWordsSoFar st c.args.chains n c.loop-slot.words.items) whole c.loop-slot.invariant)
+    all_written st c.args.numbers c.loop-slot.words.items
+    (subst (λ (n : ℕ). AreWordsSoFar st c.args.numbers n c.loop-slot.words.items) whole c.loop-slot.invariant)

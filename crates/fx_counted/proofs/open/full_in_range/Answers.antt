@@ -1,5 +1,6 @@
 use Rattle.fx_counted.proofs.Words.{◌≡◌, ◌-◌, ℕ, ap, ◌∙◌, arith, state_of, full_in, first_at}
-use Rattle.fx_counted.proofs.FirstWords.{full_if_some, empty_if_none, one_counted}
+use Rattle.fx_counted.proofs.FirstWords.{all_counted, full_if_some, empty_if_none, one_counted}
+use Rattle.fx_counted.proofs.FullSlots.{full_few}
 use Rattle.fx_counted.proofs.open.full_in_range.Goals.{then-is_some, else-is_some}
 use Rattle.fx_counted.proofs.open.full_in_range.Goals as goal
 
@@ -59,3 +60,25 @@ returns-clause-few c =
     let few = c.loop-slot.invariant.few in
     let end = c.loop-slot.auto.slot-end (omega arith) in
     omega (arith, few, end, start, len)
+
+pub returns-then-len-size-clause-full : goal.returns-then-len-size-clause-full
+returns-then-len-size-clause-full c =
+    let st = state_of c.args.plain.now in
+    let start = ap (λ (r : ℕ × ℕ). r.0) c.range-start.ensures.value in
+    let len = ap (λ (r : ℕ × ℕ). r.1) c.range-start.ensures.value in
+    let inside = c.range-start.ensures.inside in
+    let size = c.requires in
+    let test = c.if-len-size.true in
+    let zero : 0 ≡ st.range.0 = omega (arith, start, len, inside, size, test) in
+    let whole : st.size ≡ st.range.1 = omega (arith, len, size, test) in
+    c.full.ensures ∙ (all_counted st st.size ∙ λ i. full_in (first_at st) (zero i) (whole i))
+
+pub returns-then-len-size-clause-few : goal.returns-then-len-size-clause-few
+returns-then-len-size-clause-few c =
+    let st = state_of c.args.plain.now in
+    let len = ap (λ (r : ℕ × ℕ). r.1) c.range-start.ensures.value in
+    let size = c.requires in
+    let test = c.if-len-size.true in
+    let is = c.full.ensures ∙ all_counted st st.size in
+    let few = full_few (first_at st) 0 st.size in
+    omega (arith, len, size, test, is, few)

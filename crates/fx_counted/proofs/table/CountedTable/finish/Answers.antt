@@ -1,4 +1,4 @@
-use Rattle.fx_counted.proofs.Words.{◌≡◌, ◌+◌, ℕ, List, sym, ap, ◌∙◌, subst, arith, Option, Some, None, some, some-injective, get_elem?, slots_items}
+use Rattle.fx_counted.proofs.Words.{◌≡◌, ◌+◌, ◌*◌, ℕ, List, sym, ap, ◌∙◌, subst, arith, Option, Some, None, some, some-injective, get_elem?, slots_items}
 use Rattle.fx_counted.proofs.Words.{slots_len, IsFull, Closed, Contents, IsPrepared, state_of, node_in, slot_place}
 use Rattle.fx_counted.proofs.Finishing.{word_at_place, home_at_end, known_at_end, leaves_at_end}
 use Rattle.fx_counted.proofs.Finishing.{some_back, none_back, none_named, place_emptied, none_emptied}
@@ -52,12 +52,12 @@ loop-slot-preserved c =
     elim c.match-node_of.branch [
       | in-Some+in-Some-take_home w ↦ let took = w.take_home.ensures in let n = w.in-Some.number in let is = w.closed-is in record {
         part = subst (λ (p : Contents). IsPartlyBack (state_of t.shell) (file_at t.size ws xs) (slot + 1) t.size (state_of p)) (sym w.shell-is)
-            (some_back t.size ws t.chains xs home (state_of t.shell) slot c.loop-slot-test.true now i.items st i.part n w.home_place.result
+            (some_back t.size ws (t.numbers * t.chains) xs home (state_of t.shell) slot c.loop-slot-test.true now i.items st i.part n w.home_place.result
             w.in-Some-take_home.file (state_of w.put_back.new.self) (named (Some n) w.in-Some.ensures) w.home_place.ensures
             (took.value ∙ ap some w.in-Some-take_home.is)
             (file_put _ _ slot w.in-Some-take_home.file i.part.settled w.put_back.ensures.state));
         prepared = subst IsPrepared (sym w.shell-is) w.put_back.ensures.prepared;
-        items = ap (λ x. slots_items x.slots) is ∙ place_emptied t.size ws t.chains xs home (state_of t.shell) slot c.loop-slot-test.true now
+        items = ap (λ x. slots_items x.slots) is ∙ place_emptied t.size ws (t.numbers * t.chains) xs home (state_of t.shell) slot c.loop-slot-test.true now
             i.items st i.part n w.home_place.result _ (named (Some n) w.in-Some.ensures) w.home_place.ensures took.items;
         count = ap (λ x. slots_len x.slots) is ∙ (took.count ∙ i.count);
         full = subst (λ x. IsFull x.slots) (sym is) took.full;
@@ -65,10 +65,10 @@ loop-slot-preserved c =
       }
       | in-Some+in_default-take_home w ↦ let took = w.take_home.ensures in let n = w.in-Some.number in let is = w.closed-is in record {
         part = subst (λ (p : Contents). IsPartlyBack (state_of t.shell) (file_at t.size ws xs) (slot + 1) t.size (state_of p)) (sym w.shell-is)
-            (none_back t.size ws t.chains xs home (state_of t.shell) slot c.loop-slot-test.true now i.items st i.part n w.home_place.result
+            (none_back t.size ws (t.numbers * t.chains) xs home (state_of t.shell) slot c.loop-slot-test.true now i.items st i.part n w.home_place.result
             (named (Some n) w.in-Some.ensures) w.home_place.ensures (took.value ∙ ap some w.in_default-take_home.is));
         prepared = subst IsPrepared (sym w.shell-is) i.prepared;
-        items = ap (λ x. slots_items x.slots) is ∙ place_emptied t.size ws t.chains xs home (state_of t.shell) slot c.loop-slot-test.true now
+        items = ap (λ x. slots_items x.slots) is ∙ place_emptied t.size ws (t.numbers * t.chains) xs home (state_of t.shell) slot c.loop-slot-test.true now
             i.items st i.part n w.home_place.result _ (named (Some n) w.in-Some.ensures) w.home_place.ensures took.items;
         count = ap (λ x. slots_len x.slots) is ∙ (took.count ∙ i.count);
         full = subst (λ x. IsFull x.slots) (sym is) took.full;
@@ -76,10 +76,10 @@ loop-slot-preserved c =
       }
       | in_default w ↦ let is = w.closed-is in record {
         part = subst (λ (p : Contents). IsPartlyBack (state_of t.shell) (file_at t.size ws xs) (slot + 1) t.size (state_of p)) (sym w.shell-is)
-            (none_named t.size ws t.chains xs home (state_of t.shell) slot c.loop-slot-test.true now i.items st i.part
+            (none_named t.size ws (t.numbers * t.chains) xs home (state_of t.shell) slot c.loop-slot-test.true now i.items st i.part
             (named None w.in_default.ensures));
         prepared = subst IsPrepared (sym w.shell-is) i.prepared;
-        items = ap (λ x. slots_items x.slots) is ∙ none_emptied t.size ws t.chains xs home (state_of t.shell) slot c.loop-slot-test.true now
+        items = ap (λ x. slots_items x.slots) is ∙ none_emptied t.size ws (t.numbers * t.chains) xs home (state_of t.shell) slot c.loop-slot-test.true now
             i.items st i.part (named None w.in_default.ensures);
         count = ap (λ x. slots_len x.slots) is ∙ i.count;
         full = subst (λ x. IsFull x.slots) (sym is) i.full;
@@ -103,7 +103,7 @@ unreachable-requires c =
     let count = home.count in
     let all = c.homes_for-place-end.ensures in
     let test = c.loop-place-test.true in
-    let none = all_gone t.size ws t.chains xs home c.loop-place.place (omega (arith, count, all, test)) in
+    let none = all_gone t.size ws (t.numbers * t.chains) xs home c.loop-place.place (omega (arith, count, all, test)) in
     let bad : None ≡ Some c.in_default-home.field-0 = some-injective None (Some c.in_default-home.field-0)
     (sym none ∙ (ap (λ (l : List (Option Closed)). get_elem? l c.loop-place.place) (sym here) ∙ c.in_default-home.ensures.value)) in
     absurd (cc bad)

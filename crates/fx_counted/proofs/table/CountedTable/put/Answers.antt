@@ -1,8 +1,11 @@
 use Rattle.fx_counted.proofs.Words.{◌≡◌, ℕ, [], ◌∷◌, ap, ◌∙◌, subst, arith, Some, Closed, ◌▷◌, numbered, Put, takes_in, slot_word_of, Adds, no_use}
 use Rattle.fx_counted.proofs.Words.{one_number, if_full, place_of, slot_of, pass_of, doing_in, view_of, opening_of_table, Stepped, retires_now}
-use Rattle.fx_counted.proofs.Words.{turned, Outside, Start, Placing}
+use Rattle.fx_counted.proofs.Words.{turned, Outside, Start, Placing, Bool, true, false, sym, File, List, Log, None, Option, Retired, first_log, is_idle, option_map, refl, rest}
+use Rattle.std.specs.Prelude.{is_some, not}
+use Rattle.fx_table.specs.Pass.{retired_of}
+use Rattle.fx_counted.specs.Tables.{IsBetweenCalls}
 use Rattle.fx_counted.proofs.Calling.{slot_inside, slot_at}
-use Rattle.fx_counted.proofs.Going.{its_pass, adds_so, goes_one, goes_then, goes_around}
+use Rattle.fx_counted.proofs.Going.{its_pass, adds_so, goes_one, goes_then, goes_around, still_pass}
 use Rattle.fx_counted.proofs.Removing.{placed_so}
 use Rattle.fx_counted.proofs.SlotLaws.{installs_keep}
 use Rattle.fx_counted.proofs.Telling.{may_change}
@@ -32,8 +35,20 @@ swap-found-requires c =
           (c.slot_word-word.ensures ∙ ap (slot_word_of n) entry),
     )
 
-pub returns-clause-placed : goal.returns-clause-placed
-returns-clause-placed c =
+-- what the pass does that found this file, or none
+is_between : (found : Option File) (takes : ℕ) → IsBetweenCalls (retires_now found takes)
+is_between None takes = tt
+is_between (Some f) takes = tt
+
+idle_if_none : (found : Option File) (takes : ℕ) (removed : Option Retired) (b : Bool) → is_some removed ≡ not b
+    → removed ≡ option_map (λ f. retired_of f takes) found → b ≡ is_idle (retires_now found takes)
+idle_if_none None takes removed true told is = refl
+idle_if_none None takes removed false told is = let bad : true ≡ false = sym told ∙ ap is_some is in absurd (cc bad)
+idle_if_none (Some f) takes removed false told is = refl
+idle_if_none (Some f) takes removed true told is = let bad : false ≡ true = sym told ∙ ap is_some is in absurd (cc bad)
+
+pub returns : goal.returns
+returns c =
     let t = c.args.self.now in
     let k = t.table.shared.key in
     let o = opening_of_table t in
@@ -61,7 +76,18 @@ returns-clause-placed c =
     let goes = goes_then m m₁ m₄ [] _ no_use one_number _ _ _ _ 1 3 (goes_one m m₁ [] no_use (Placing n) m.0.change born.born) around in
     let adds = adds_so _ k p fits m₄ _ one_number (retires_now went.replaced takes) Outside 4 goes in
     let here = slot_at t c.args.slot c.slot_place.result c.slot_place.ensures in
-    placed_so o v c.args.slot n file went.replaced takes c.removed_in-replaced.result (pass_of m₄.0) c.next_number-number.ensures.number
-    (c.removed_in-replaced.ensures went.replaced went.names)
-    (subst (λ (s : ℕ). Adds o v ([] ▷ Put s (numbered n file) went.replaced) (doing_in (retires_now went.replaced takes)) one_number
-    (pass_of m₄.0)) here adds)
+    let left = c.requires.numbers in
+    let shown = ap (λ (l : List Log). (first_log l).numbers_left) fits.seated.one in
+    let known = fits.knows.numbers_left in
+    record {
+      fits = still_pass _ k p _ fits _ one_number (retires_now went.replaced takes) 4 goes
+          (c.end.ensures.table ∙ (c.swap-found.ensures.0 ∙ (began.table ∙ born.table)))
+          (c.end.ensures.places ∙ (went.carried ∙ ap rest carried))
+          (is_between went.replaced takes) refl refl (omega (arith, left, shown, known)) (omega arith)
+          (idle_if_none went.replaced takes _ _ c.is_none-pass.ensures (c.removed_in-replaced.ensures went.replaced went.names));
+      placed = placed_so o v c.args.slot n file went.replaced takes c.removed_in-replaced.result (pass_of m₄.0) c.next_number-number.ensures.number
+          (c.removed_in-replaced.ensures went.replaced went.names)
+          (subst (λ (s : ℕ). Adds o v ([] ▷ Put s (numbered n file) went.replaced) (doing_in (retires_now went.replaced takes)) one_number
+          (pass_of m₄.0)) here adds);
+      steps = let few = goes.steps in omega (arith, few);
+    }
