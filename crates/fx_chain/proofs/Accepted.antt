@@ -1,22 +1,14 @@
 -- What a submission without a fault keeps to.
-use Rattle.std.proofs.Common.{◌≡◌, ℕ, ◌+◌, ◌*◌, ◌≤◌, List, [], ◌∷◌, ◌++◌, length, refl, sym, ◌∙◌, All, subst, arith, Option, Some, None}
+use Rattle.fx_chain.proofs.Words.{◌≡◌, ℕ, ◌+◌, ◌*◌, ◌≤◌, List, [], ◌∷◌, ◌++◌, length, refl, sym, ◌∙◌, All, subst, arith, Option, Some, None, pos}
+use Rattle.fx_chain.proofs.Words.{int_le, Bool, true, false, ltb-false, sum_by-cons, append-nil, All-nil, All-cons, All-head, All-tail, IsAccepted}
+use Rattle.fx_chain.proofs.Words.{IsWithinLimits, Operation, Opens, Reads, Closes, Updates, Asked, is_link, runs_of, installs_of, weight_of}
+use Rattle.fx_chain.proofs.Words.{all_weights, fault_behind, first_fault, or_later, is_long_update, CutFault, MOST_MEMBERS, MAX_CHAINS}
 use Rattle.std.specs.List.{filter}
-use Rattle.std.specs.Prelude.{pos, int_le, Bool, true, false, cond}
-use Rattle.std.proofs.lemmas.Bool.{ltb-false}
-use Rattle.std.proofs.lemmas.List.Sums.{sum_by-cons}
-use Rattle.std.proofs.lemmas.List.{append-nil, append_assoc}
-use Rattle.std.proofs.lemmas.List.Elements.{All-nil, All-cons, All-head, All-tail}
-use Rattle.fx_chain.specs.Accepted.{IsAccepted, IsWithinLimits}
-use Rattle.fx_chain.specs.Operation.{Operation, Opens, Reads, Closes, Updates, Asked, is_link}
-use Rattle.fx_chain.specs.Runs.{runs_of}
-use Rattle.fx_chain.specs.Weights.{installs_of, weight_of, all_weights}
-use Rattle.fx_chain.specs.Faults.{fault_behind, first_fault, or_later, is_long_update}
+use Rattle.std.specs.Prelude.{cond}
+use Rattle.std.proofs.lemmas.List.{append_assoc}
 use Rattle.fx_chain.specs.declared.fault.CutKind.{CutKind}
-use Rattle.fx_chain.specs.declared.fault.CutFault.{CutFault}
-use Rattle.fx_chain.specs.declared.fault.TheConstants.{MOST_MEMBERS}
 use Rattle.fx_chain.specs.declared.request.TheConstants.{LONGEST_UPDATE}
-use Rattle.fx_table.specs.declared.limits.TheConstants.{MAX_CHAINS}
-use Rattle.fx_chain.proofs.Counted.{IsCounted, IsFine, counted_none, counted_step, fault_behind-counted, fine, chains_after, or_none}
+use Rattle.fx_chain.proofs.Counted.{AreCounts, IsFine, counted_none, counted_step, fault_behind-counted, fine, chains_after, or_none}
 
 or_later-none : (at : ℕ) (k : Option CutKind) (later : Option CutFault) → or_later at k later ≡ None → (k ≡ None) × (later ≡ None)
 or_later-none at None later none = (refl, none)
@@ -27,7 +19,7 @@ pub record Counts (front : List Asked) : Type 0 where
   pub chains : ℕ
   pub members : ℕ
   pub installs : ℕ
-  pub is : IsCounted front chains members installs
+  pub is : AreCounts front chains members installs
 
 -- the numbers in front of a request, which is fine there
 pub record Passes (front : List Asked) (r : Asked) : Type 0 where

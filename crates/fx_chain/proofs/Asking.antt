@@ -1,8 +1,6 @@
 -- What is asked by the first requests of a list, and by the rest of them.
-use Rattle.std.proofs.Common.{◌≡◌, ℕ, ◌+◌, ◌<◌, ◌≤◌, List, [], ◌∷◌, ◌++◌, length, take, drop, slice_index_or, sym, ap, ◌∙◌}
-use Rattle.std.proofs.lemmas.List.{length-map, length-take-le, map_more, drop_more, drop_all, take_all, take-map, drop-map}
-use Rattle.fx_chain.specs.Operation.{asked_of, all_asked}
-use Rattle.fx_chain.specs.declared.request.Request.{Request}
+use Rattle.fx_chain.proofs.Words.{◌≡◌, ℕ, ◌+◌, ◌<◌, ◌≤◌, List, [], ◌∷◌, ◌++◌, length, take, drop, slice_index_or, sym, ap, ◌∙◌, length-map}
+use Rattle.fx_chain.proofs.Words.{length-take-le, map_more, drop_more, drop_all, take_all, take-map, drop-map, asked_of, all_asked, Request}
 
 pub asked_more : (requests : List Request) (i : ℕ) (x : Request) → i < length requests → x ≡ slice_index_or requests i x
     → all_asked (take (i + 1) requests) ≡ all_asked (take i requests) ++ asked_of x ∷ []

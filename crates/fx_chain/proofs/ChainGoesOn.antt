@@ -1,24 +1,11 @@
 -- A chain goes on by one member, which is played or canceled.
-use Rattle.std.proofs.Common.{◌≡◌, ℕ, suc, ◌+◌, ◌<◌, Bool, true, false, ◌||◌, List, [], ◌∷◌, ◌++◌, length, drop, refl, sym, ap, subst, ◌∙◌}
-use Rattle.std.proofs.Common.{append_assoc, length-append, slice_index_or, arith}
-use Rattle.std.proofs.lemmas.Bool.{MatchBool-at_true, MatchBool-at_false}
-use Rattle.std.proofs.lemmas.List.{append-nil, map-append}
-use Rattle.std.proofs.lemmas.List.Sums.{sum_by-append, sum_by-cons}
-use Rattle.std.specs.Bool.{MatchBool}
+use Rattle.fx_chain.proofs.Words.{◌≡◌, ℕ, suc, ◌+◌, ◌<◌, Bool, true, false, ◌||◌, List, [], ◌∷◌, ◌++◌, length, drop, refl, sym, ap, subst, ◌∙◌}
+use Rattle.fx_chain.proofs.Words.{append_assoc, length-append, slice_index_or, arith, MatchBool-at_true, MatchBool-at_false, append-nil, map-append}
+use Rattle.fx_chain.proofs.Words.{sum_by-append, sum_by-cons, MatchBool, FileEntry, Action, ◌▷▷◌, Opening, size_of, Answers, Refuses, Completed}
+use Rattle.fx_chain.proofs.Words.{completed_of, all_completed, next_member, refusal, Explains, AnswersBehind, canceled, severs, Asked, asked_of}
+use Rattle.fx_chain.proofs.Words.{all_asked, PlayerView, AnswersNext, PlaysMembers, installs_of, weight_of, all_installs, all_weights, Place, Request}
 use Rattle.fx_base.specs.declared.errno.Errno.TheVariants.{ECANCELED}
-use Rattle.fx_base.specs.Catalogue.{FileEntry}
-use Rattle.fx_plain.specs.declared.event.Action.{Action}
-use Rattle.fx_plain.specs.History.{◌▷▷◌}
-use Rattle.fx_table.specs.Opening.{Opening, size_of}
-use Rattle.fx_chain.specs.Answers.{Answers}
-use Rattle.fx_chain.specs.Completed.{Completed, completed_of, all_completed, next_member, refusal}
-use Rattle.fx_chain.specs.Explains.{Explains, canceled, severs}
-use Rattle.fx_chain.specs.Operation.{Asked, asked_of, all_asked}
-use Rattle.fx_chain.specs.Performs.{Player, Performs, PlaysMembers}
-use Rattle.fx_chain.specs.Weights.{installs_of, weight_of, all_installs, all_weights}
 use Rattle.fx_chain.specs.declared.completion.Completion.{Completion}
-use Rattle.fx_chain.specs.declared.completion.Place.{Place}
-use Rattle.fx_chain.specs.declared.request.Request.{Request}
 use Rattle.fx_chain.proofs.ActsInTurn.{so_said, so_then}
 use Rattle.fx_chain.proofs.Asking.{asked_rest}
 use Rattle.fx_chain.proofs.Counted.{all_installs-push}
@@ -41,18 +28,6 @@ by_bool false R yes_so not_so = not_so refl
 either : (b : Bool) (P Q : Type 0) → P → Q → MatchBool b P Q
 either true P Q p q = p
 either false P Q p q = q
-
-or_left : (a b : Bool) → (a || b) ≡ false → a ≡ false
-or_left true b is = cc
-or_left false b is = refl
-
-or_right : (a b : Bool) → (a || b) ≡ false → b ≡ false
-or_right true b is = cc
-or_right false b is = is
-
-or_true : (a b : Bool) → (a || b) ≡ true → a ≡ false → b ≡ true
-or_true true b is apart = cc
-or_true false b is apart = is
 
 same_member : (place : Place) → member_at place 0 ≡ place
 same_member place = λ k. record place { member = (let e : place.member + 0 ≡ place.member = omega arith in e) k }
@@ -82,12 +57,12 @@ module _ (catalogue : List FileEntry) (size : ℕ) where
       (λ stops. ap length (MatchBool-at_true _ _ stops goes).1 ∙ canceled_count (next_member place) requests)
       (λ on. explained_count (next_member place) requests others rest (MatchBool-at_false _ _ on goes)))
 
-  -- a member behind those of which none severs the chain
-  pub explains_more : (place : Place) (requests : List Asked) (r : Asked) (events own : List Action) (cs : List Completed) (c : Completed)
-      → Explains catalogue size place requests events cs → any_severs requests cs ≡ false
-      → Answers catalogue size (member_at place (length requests)) r.operation own c
+  -- the next member is performed behind members of which none severs the chain, and canceled behind one that does
+  pub explains_next : (place : Place) (requests : List Asked) (r : Asked) (events own : List Action) (cs : List Completed) (c : Completed)
+      → Explains catalogue size place requests events cs
+      → AnswersBehind catalogue size (member_at place (length requests)) (any_severs requests cs) r own c
       → Explains catalogue size place (requests ++ r ∷ []) (events ▷▷ own) (cs ++ c ∷ [])
-  explains_more place [] r events own cs c (none, nobody) still answers = (
+  explains_next place [] r events own cs c (none, nobody) answers = (
     own,
     [],
     c,
@@ -97,12 +72,11 @@ module _ (catalogue : List FileEntry) (size : ℕ) where
     subst (λ (x : Place). Answers catalogue size x r.operation own c) (same_member place) answers,
     either (severs r c) _ _ (refl, refl) (refl, refl),
   )
-  explains_more place (x ∷ requests) r events own cs c (first, others, d, rest, is, cs_is, front, goes) still answers =
-      let none : (severs x d || any_severs requests rest) ≡ false =
-      subst (λ (xs : List Completed). any_severs (x ∷ requests) xs ≡ false) cs_is still in
-      let on = or_left (severs x d) _ none in
-      let rest_on = explains_more (next_member place) requests r others own rest c (MatchBool-at_false _ _ on goes) (or_right (severs x d) _ none)
-      (subst (λ (y : Place). Answers catalogue size y r.operation own c) (further_member place (length requests)) answers) in (
+  explains_next place (x ∷ requests) r events own cs c (first, others, d, rest, is, cs_is, front, goes) answers =
+      let at = member_at (next_member place) (length requests) in
+      let here : AnswersBehind catalogue size at (severs x d || any_severs requests rest) r own c =
+      subst (λ (y : Place × List Completed). AnswersBehind catalogue size y.0 (any_severs (x ∷ requests) y.1) r own c)
+      (λ k. (further_member place (length requests) k, cs_is k)) answers in (
         first,
         others ▷▷ own,
         d,
@@ -110,38 +84,17 @@ module _ (catalogue : List FileEntry) (size : ℕ) where
         ap (λ (h : List Action). own ++ h) is ∙ sym (append_assoc own others first),
         ap (λ (xs : List Completed). xs ++ c ∷ []) cs_is,
         front,
-        known_false _ _ (severs x d) on rest_on,
-      )
-
-  -- a member behind one that severs the chain
-  pub explains_canceled : (place : Place) (requests : List Asked) (r : Asked) (events : List Action) (cs : List Completed)
-      → Explains catalogue size place requests events cs → any_severs requests cs ≡ true
-      → Explains catalogue size place (requests ++ r ∷ []) events (cs ++ refusal (member_at place (length requests)) ECANCELED ∷ [])
-  explains_canceled place [] r events cs explains stopped = let e : false ≡ true = stopped in cc
-  explains_canceled place (x ∷ requests) r events cs (first, others, d, rest, is, cs_is, front, goes) stopped =
-      let some : (severs x d || any_severs requests rest) ≡ true =
-      subst (λ (xs : List Completed). any_severs (x ∷ requests) xs ≡ true) cs_is stopped in
-      let last = refusal (member_at place (suc (length requests))) ECANCELED in
-      let same : refusal (member_at (next_member place) (length requests)) ECANCELED ≡ last =
-      ap (λ (y : Place). refusal y ECANCELED) (sym (further_member place (length requests))) in (
-        first,
-        others,
-        d,
-        rest ++ last ∷ [],
-        is,
-        ap (λ (xs : List Completed). xs ++ last ∷ []) cs_is,
-        front,
         by_bool (severs x d) _
-            (λ stops. let ended = MatchBool-at_true _ _ stops goes in
+            (λ stops.
+            let ended = MatchBool-at_true _ _ stops goes in
+            let refused : Refuses at ECANCELED own c = MatchBool-at_true _ _ (ap (λ b. b || any_severs requests rest) stops) here in
             known_true _ _ (severs x d) stops (
-              ended.0,
-              ap (λ (xs : List Completed). xs ++ last ∷ []) ended.1
-                  ∙ ap (λ (y : Completed). canceled (next_member place) requests ++ y ∷ []) (sym same)
-                  ∙ sym (canceled_more (next_member place) requests r),
+              ap (λ (h : List Action). own ++ h) ended.0 ∙ append-nil own ∙ refused.0,
+              (λ k. ended.1 k ++ refused.1 k ∷ []) ∙ sym (canceled_more (next_member place) requests r),
             ))
             (λ on. known_false _ _ (severs x d) on
-            (subst (λ (y : Completed). Explains catalogue size (next_member place) (requests ++ r ∷ []) others (rest ++ y ∷ [])) same
-            (explains_canceled (next_member place) requests r others rest (MatchBool-at_false _ _ on goes) (or_true (severs x d) _ some on)))),
+            (explains_next (next_member place) requests r others own rest c (MatchBool-at_false _ _ on goes)
+            (subst (λ (b : Bool). AnswersBehind catalogue size at b r own c) (ap (λ b. b || any_severs requests rest) on) here))),
       )
 
 or_false : (a : Bool) → (a || false) ≡ (false || a)
@@ -164,15 +117,13 @@ any_severs-push (x ∷ requests) (d ∷ cs) r c count =
     ap (λ (b : Bool). severs x d || b) (any_severs-push requests cs r c (omega arith))
     ∙ sym (or_assoc (severs x d) (any_severs requests cs) (severs r c))
 
-module _ (o : Opening) (catalogue : List FileEntry) (place : Place) (requests : List Asked) (r : Asked) (p q : Player)
+module _ (o : Opening) (catalogue : List FileEntry) (place : Place) (requests : List Asked) (r : Asked) (p q : PlayerView)
     (cs : List Completed) (done : PlaysMembers o catalogue place requests p cs q) where
-  counted : length cs ≡ length requests
-  counted = explained_count catalogue (size_of o) place requests done.actions cs done.says
-
-  -- the next member is played
-  pub plays_next : (c : Completed) (n : Player) → any_severs requests cs ≡ false → Performs o catalogue (member_at place (length requests)) r q c n
+  -- the next member is answered
+  pub answers_next : (c : Completed) (n : PlayerView)
+      → AnswersNext o catalogue (member_at place (length requests)) (any_severs requests cs) r q c n
       → PlaysMembers o catalogue place (requests ++ r ∷ []) p (cs ++ c ∷ []) n
-  plays_next c n still own =
+  answers_next c n own =
       let count = length-append requests (r ∷ []) in
       let installs = all_installs-push requests r in
       let weights = all_weights-push requests r in
@@ -181,24 +132,10 @@ module _ (o : Opening) (catalogue : List FileEntry) (place : Place) (requests : 
       (length (requests ++ r ∷ [])) (all_installs (requests ++ r ∷ [])) (all_weights (requests ++ r ∷ [])) Both Both (omega arith)
       (omega arith) (omega arith) (λ h told. told)
       (so_then o p q n (length requests) (all_installs requests) (all_weights requests) 1 (installs_of r.operation) (weight_of r.operation) _ _ Both
-      (λ xs ys a b. explains_more catalogue (size_of o) place requests r xs ys cs c a still b) done own)
+      (λ xs ys a b. explains_next catalogue (size_of o) place requests r xs ys cs c a b) done own)
 
-  pub severs_next : (c : Completed) → any_severs requests cs ≡ false → severs r c ≡ any_severs (requests ++ r ∷ []) (cs ++ c ∷ [])
-  severs_next c still = sym (any_severs-push requests cs r c counted ∙ ap (λ (b : Bool). b || severs r c) still)
-
-  -- the next member is canceled
-  pub cancels_next : any_severs requests cs ≡ true
-      → PlaysMembers o catalogue place (requests ++ r ∷ []) p (cs ++ refusal (member_at place (length requests)) ECANCELED ∷ []) q
-  cancels_next stopped =
-      let count = length-append requests (r ∷ []) in
-      let installs = all_installs-push requests r in
-      let weights = all_weights-push requests r in
-      so_said o p q (length requests) (all_installs requests) (all_weights requests) (length (requests ++ r ∷ []))
-      (all_installs (requests ++ r ∷ [])) (all_weights (requests ++ r ∷ []))
-      _ _ (omega arith) (omega arith) (omega arith) (λ h told. explains_canceled catalogue (size_of o) place requests r h cs told stopped) done
-
-  pub severed_next : (c : Completed) → any_severs requests cs ≡ true → any_severs (requests ++ r ∷ []) (cs ++ c ∷ []) ≡ true
-  severed_next c stopped = any_severs-push requests cs r c counted ∙ ap (λ (b : Bool). b || severs r c) stopped
+  pub severed_next : (c : Completed) → any_severs (requests ++ r ∷ []) (cs ++ c ∷ []) ≡ (any_severs requests cs || severs r c)
+  severed_next c = any_severs-push requests cs r c (explained_count catalogue (size_of o) place requests done.actions cs done.says)
 
 -- what the requests from a place on ask
 abbrev pub asked_from : List Request → ℕ → List Asked

@@ -1,19 +1,13 @@
 -- The chains of a submission without a fault: where each stands, and what it keeps to.
-use Rattle.std.proofs.Common.{◌≡◌, inl, ℕ, ◌+◌, ◌≤◌, List, [], ◌∷◌, ◌++◌, length, map, take, drop, refl, sym, ap, ◌∙◌, All, subst, arith}
-use Rattle.std.specs.List.{flat_map}
-use Rattle.std.proofs.lemmas.List.{append_assoc, length-append, take_at, drop_at}
-use Rattle.std.proofs.lemmas.List.Elements.{All-nil, All-cons, All-head, All-tail, All-take, All-drop}
-use Rattle.fx_chain.specs.Accepted.{IsAccepted, IsWithinLimits, IsShortRun, IsChain, members_of}
-use Rattle.fx_chain.specs.Chains.{chains_from, chains_of}
-use Rattle.fx_chain.specs.Operation.{Asked}
-use Rattle.fx_chain.specs.Runs.{but_last, runs_of, open_run}
-use Rattle.fx_chain.specs.Weights.{all_installs}
+use Rattle.fx_chain.proofs.Words.{◌≡◌, inl, ℕ, ◌+◌, ◌≤◌, List, [], ◌∷◌, ◌++◌, length, map, take, drop, refl, sym, ap, ◌∙◌, All, subst, arith}
+use Rattle.fx_chain.proofs.Words.{flat_map, take_at, drop_at, All-nil, All-cons, All-head, All-tail, All-take, All-drop, IsAccepted, IsWithinLimits}
+use Rattle.fx_chain.proofs.Words.{IsShortRun, IsChain, members_of, chains_from, chains_of, Asked, but_last, runs_of, open_run, all_installs}
+use Rattle.fx_chain.proofs.Words.{MOST_MEMBERS, CHAIN_NUMBERS}
+use Rattle.std.proofs.lemmas.List.{append_assoc, length-append}
 use Rattle.fx_chain.proofs.Accepted.{Passes, counts_none, passes_at, accepted-each}
 use Rattle.fx_chain.proofs.Counted.{all_installs-push}
 use Rattle.fx_chain.proofs.Runs.{AllLink, IsLinked, IsOver, HasMembers, are_runs}
 use Rattle.fx_chain.proofs.Splits.{IsClosed, IsClosed-append, but_last-last, open_run-closed}
-use Rattle.fx_chain.specs.declared.fault.TheConstants.{MOST_MEMBERS}
-use Rattle.fx_table.specs.declared.limits.TheConstants.{CHAIN_NUMBERS}
 
 -- the members of a chain are its run
 pub members_of-run : (requests before run later : List Asked) → requests ≡ before ++ (run ++ later)

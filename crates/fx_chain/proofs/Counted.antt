@@ -1,21 +1,16 @@
 -- What `check` keeps of the requests that it has seen.
-use Rattle.std.proofs.Common.{◌≡◌, ◌≢◌, inl, inr, ℕ, ◌+◌, ◌*◌, ◌<◌, ◌≤◌, ◌==◌, nat_lt, Bool, true, false, ◌&&◌, if◌then◌else◌, List, [], ◌∷◌, ◌++◌}
-use Rattle.std.proofs.Common.{length, refl, sym, ap, ◌∙◌, subst, arith, Option, Some, None}
-use Rattle.std.proofs.lemmas.Bool.{cases_Bool, eqb-false, ltb-false, and_cases, eq-eqb, ne_eqb, cases_eq}
+use Rattle.fx_chain.proofs.Words.{◌≡◌, ◌≢◌, inl, inr, ℕ, ◌+◌, ◌*◌, ◌<◌, ◌≤◌, ◌==◌, nat_lt, Bool, true, false, ◌&&◌, if◌then◌else◌, List, [], ◌∷◌}
+use Rattle.fx_chain.proofs.Words.{◌++◌, length, refl, sym, ap, ◌∙◌, subst, arith, Option, Some, None, cases_Bool, eqb-false, ltb-false, and_cases}
+use Rattle.fx_chain.proofs.Words.{ne_eqb, cases_eq, sum_by-append, Asked, is_fixed, is_link, runs_of, open_run, installs_of, all_installs}
+use Rattle.fx_chain.proofs.Words.{fault_after, fault_behind, first_fault, has_bad_flags, is_long_read, is_long_update, or_later, MOST_MEMBERS}
+use Rattle.fx_chain.proofs.Words.{MAX_CHAINS, CHAIN_NUMBERS}
+use Rattle.std.proofs.lemmas.Bool.{eq-eqb}
 use Rattle.std.proofs.lemmas.List.{length-append}
-use Rattle.std.proofs.lemmas.List.Sums.{sum_by-append}
-use Rattle.fx_chain.specs.Operation.{Asked, is_fixed, is_link}
-use Rattle.fx_chain.specs.Runs.{runs_of, open_run}
-use Rattle.fx_chain.specs.Weights.{installs_of, all_installs}
-use Rattle.fx_chain.specs.Faults.{fault_after, fault_behind, first_fault, has_bad_flags, is_long_read, is_long_update, or_later}
-use Rattle.fx_chain.specs.declared.fault.CutKind.{CutKind}
 use Rattle.fx_chain.specs.declared.fault.CutKind.TheVariants.{BadFlags, LongRead, LongUpdate, ChainTooLong, TooManyFiles, TooManyChains}
-use Rattle.fx_chain.proofs.Runs.{runs-push, open_run-push, open_run-over}
-use Rattle.fx_chain.specs.declared.fault.TheConstants.{MOST_MEMBERS}
-use Rattle.fx_table.specs.declared.limits.TheConstants.{MAX_CHAINS, CHAIN_NUMBERS}
+use Rattle.fx_chain.proofs.Splits.{runs-push, open_run-push, open_run-over}
 
 -- the numbers of chains, of members and of installs behind some requests without a fault
-pub record IsCounted (front : List Asked) (chains members installs : ℕ) : Type 0 where
+pub record AreCounts (front : List Asked) (chains members installs : ℕ) : Type 0 where
   pub chains_is : chains ≡ length (runs_of front)
   pub members_is : members ≡ length (open_run front)
   pub installs_is : installs ≡ all_installs (open_run front)
@@ -25,7 +20,7 @@ pub record IsCounted (front : List Asked) (chains members installs : ℕ) : Type
   pub place : length front ≤ MOST_MEMBERS * chains
   pub inside : 0 < members → length front + MOST_MEMBERS ≤ MOST_MEMBERS * chains + members
 
-pub fault_behind-counted : (front : List Asked) (chains members installs : ℕ) (r : Asked) → IsCounted front chains members installs
+pub fault_behind-counted : (front : List Asked) (chains members installs : ℕ) (r : Asked) → AreCounts front chains members installs
     → fault_behind front r ≡ fault_after chains members installs r
 fault_behind-counted front chains members installs r is =
     ap (λ (n : ℕ). fault_after n (length (open_run front)) (all_installs (open_run front)) r) (sym is.chains_is)
@@ -111,9 +106,9 @@ open_run-after F front r n none more nil = elim (cases_Bool (is_link r.flags)) [
   | inr ends ↦ ap (λ (b : Bool). if b then n else none) ends ∙ sym nil ∙ ap F (sym (open_run-over front r ends))
 ]
 
-pub counted_step : (front : List Asked) (chains members installs : ℕ) (r : Asked) → IsCounted front chains members installs
+pub counted_step : (front : List Asked) (chains members installs : ℕ) (r : Asked) → AreCounts front chains members installs
     → fault_after chains members installs r ≡ None
-    → IsCounted (front ++ r ∷ []) (chains_after chains members) (or_none (is_link r.flags) (members + 1)) (or_none (is_link r.flags) (installs + installs_of r.operation))
+    → AreCounts (front ++ r ∷ []) (chains_after chains members) (or_none (is_link r.flags) (members + 1)) (or_none (is_link r.flags) (installs + installs_of r.operation))
 counted_step front chains members installs r is none =
     let f = fine chains members installs r none in
     let bounds = bounded_step (length front) chains members (is_link r.flags) is.place is.inside is.few is.short f.not_full f.not_last in
@@ -132,7 +127,7 @@ counted_step front chains members installs r is none =
       inside = λ some. subst (λ (n : ℕ). n + MOST_MEMBERS ≤ MOST_MEMBERS * chains_after chains members + or_none (is_link r.flags) (members + 1)) (sym grown) (bounds.inside some);
     }
 
-pub counted_none : IsCounted [] 0 0 0
+pub counted_none : AreCounts [] 0 0 0
 counted_none = record {
   chains_is = refl;
   members_is = refl;
@@ -150,18 +145,14 @@ pub first_fault-fine : (front : List Asked) (r : Asked) (behind : List Asked) �
     → first_fault (front ++ r ∷ []) behind ≡ first_fault front (r ∷ behind)
 first_fault-fine front r behind none = sym (ap (λ k. or_later (length front + 1) k (first_fault (front ++ r ∷ []) behind)) none)
 
-pub first_fault-found : (front : List Asked) (r : Asked) (behind : List Asked) (kind : CutKind) → fault_behind front r ≡ Some kind
-    → first_fault front (r ∷ behind) ≡ Some (record { at = length front + 1; kind = kind })
-first_fault-found front r behind kind found = ap (λ k. or_later (length front + 1) k (first_fault (front ++ r ∷ []) behind)) found
-
 -- the same, of numbers that are counted one by one
-pub counted_next : (front next : List Asked) (chains members installs c m n : ℕ) (r : Asked) → IsCounted front chains members installs
+pub counted_next : (front next : List Asked) (chains members installs c m n : ℕ) (r : Asked) → AreCounts front chains members installs
     → fault_after chains members installs r ≡ None
     → next ≡ front ++ r ∷ [] → c ≡ chains_after chains members → m ≡ or_none (is_link r.flags) (members + 1)
-    → n ≡ or_none (is_link r.flags) (installs + installs_of r.operation) → IsCounted next c m n
+    → n ≡ or_none (is_link r.flags) (installs + installs_of r.operation) → AreCounts next c m n
 counted_next front next chains members installs c m n r is none next_is c_is m_is n_is =
-    subst (λ (xs : List Asked). IsCounted xs c m n) (sym next_is)
-    (subst (λ (k : ℕ). IsCounted (front ++ r ∷ []) k m n) (sym c_is)
-    (subst (λ (k : ℕ). IsCounted (front ++ r ∷ []) (chains_after chains members) k n) (sym m_is)
-    (subst (λ (k : ℕ). IsCounted (front ++ r ∷ []) (chains_after chains members) (or_none (is_link r.flags) (members + 1)) k) (sym n_is)
+    subst (λ (xs : List Asked). AreCounts xs c m n) (sym next_is)
+    (subst (λ (k : ℕ). AreCounts (front ++ r ∷ []) k m n) (sym c_is)
+    (subst (λ (k : ℕ). AreCounts (front ++ r ∷ []) (chains_after chains members) k n) (sym m_is)
+    (subst (λ (k : ℕ). AreCounts (front ++ r ∷ []) (chains_after chains members) (or_none (is_link r.flags) (members + 1)) k) (sym n_is)
     (counted_step front chains members installs r is none))))

@@ -1,18 +1,10 @@
 -- The entries of an update, by their sign, and how a list of them goes on.
-use Rattle.std.proofs.Common.{◌≡◌, ℕ, zero, suc, ◌+◌, ◌<◌, Bool, true, false, if◌then◌else◌, ◌||◌, ℤ, pos, negsuc, int_le, int_lt, List, [], ◌∷◌}
-use Rattle.std.proofs.Common.{◌++◌, length, filter, take, drop, add-one, refl, sym, ap, subst, ◌∙◌, slice_index_or, arith, nat_abs}
-use Rattle.std.proofs.lemmas.Bool.{ltb-true, le-leb}
-use Rattle.std.proofs.lemmas.List.{append-nil, append_assoc, length-append, length-take-le, take_more}
-use Rattle.std.proofs.lemmas.List.Elements.{filter-append}
+use Rattle.fx_chain.proofs.Words.{◌≡◌, ℕ, zero, suc, ◌+◌, ◌<◌, Bool, true, false, if◌then◌else◌, ◌||◌, ℤ, pos, negsuc, int_le, int_lt, List, [], ◌∷◌}
+use Rattle.fx_chain.proofs.Words.{◌++◌, length, filter, take, drop, add-one, refl, sym, ap, subst, ◌∙◌, slice_index_or, arith, nat_abs, ltb-true}
+use Rattle.fx_chain.proofs.Words.{le-leb, append-nil, length-take-le, take_more, filter-append, list_any, Action, ◌▷▷◌, AppliesEntry, AppliesList}
+use Rattle.fx_chain.proofs.Words.{is_bad_entry, Opening, PlayerView, ActsSo, entry_installs, list_installs, Place}
+use Rattle.std.proofs.lemmas.List.{append_assoc, length-append}
 use Rattle.std.proofs.Math.Seq.{drop-cons}
-use Rattle.std.specs.List.{list_any}
-use Rattle.fx_plain.specs.declared.event.Action.{Action}
-use Rattle.fx_plain.specs.History.{◌▷▷◌}
-use Rattle.fx_chain.specs.Answers.{AppliesEntry, AppliesList, is_bad_entry}
-use Rattle.fx_table.specs.Opening.{Opening}
-use Rattle.fx_chain.specs.Performs.{Player, ActsSo}
-use Rattle.fx_chain.specs.Weights.{entry_installs, list_installs}
-use Rattle.fx_chain.specs.declared.completion.Place.{Place}
 use Rattle.fx_chain.proofs.ActsInTurn.{so_said, so_then}
 
 -- an entry of 0 or more is the number that it reads as
@@ -92,7 +84,7 @@ installs_left list i inside =
     ∙ ap (λ (n : ℕ). entry_installs (slice_index_or list i (pos 0)) + list_installs (drop n list)) (sym (add-one i))
 
 -- the first entries were applied, and then the next one
-pub applies_next : (o : Opening) (p q r : Player) (place : Place) (off : ℕ) (list : List ℤ) (i : ℕ) → i < length list
+pub applies_next : (o : Opening) (p q r : PlayerView) (place : Place) (off : ℕ) (list : List ℤ) (i : ℕ) → i < length list
     → ActsSo o p 0 (list_installs (take i list)) i (AppliesList place 0 off (take i list)) q
     → ActsSo o q 0 (entry_installs (slice_index_or list i (pos 0))) 1 (AppliesEntry place i (off + i) (slice_index_or list i (pos 0))) r
     → ActsSo o p 0 (list_installs (take (i + 1) list)) (i + 1) (AppliesList place 0 off (take (i + 1) list)) r

@@ -1,10 +1,8 @@
 -- The fault of a submission is that of its first request with a fault.
-use Rattle.std.proofs.Common.{◌≡◌, ◌+◌, List, [], ◌∷◌, ◌++◌, length, refl, sym, ap, ◌∙◌, Some, None}
+use Rattle.fx_chain.proofs.Words.{◌≡◌, ◌+◌, List, [], ◌∷◌, ◌++◌, length, refl, sym, ap, ◌∙◌, Some, None, append-nil, Asked, HasNoFault, IsFirstFault}
+use Rattle.fx_chain.proofs.Words.{fault_behind, first_fault, fault_of, or_later, CutFault}
 use Rattle.std.specs.Option.{MatchOption}
-use Rattle.std.proofs.lemmas.List.{append-nil, append_assoc}
-use Rattle.fx_chain.specs.Operation.{Asked}
-use Rattle.fx_chain.specs.Faults.{HasNoFault, IsFirstFault, fault_behind, first_fault, fault_of, or_later}
-use Rattle.fx_chain.specs.declared.fault.CutFault.{CutFault}
+use Rattle.std.proofs.lemmas.List.{append_assoc}
 
 -- no request of the second list has a fault behind the first list and those in front of it
 abbrev NoneBehind : List Asked → List Asked → Type 0

@@ -1,7 +1,5 @@
 -- Tests of a slot against the size of a table, where they are known.
-use Rattle.std.proofs.Common.{◌≡◌, ◌≢◌, ℕ, ◌<◌, ◌≤◌, Bool, true, false, ◌==◌, nat_le, sym, subst, eq-eqb}
-use Rattle.std.proofs.lemmas.Bool.{lt-leb, le-leb}
-use Rattle.std.specs.Bool.{MatchBool}
+use Rattle.fx_chain.proofs.Words.{◌≡◌, ◌≢◌, ℕ, ◌<◌, ◌≤◌, Bool, true, false, ◌==◌, nat_le, sym, subst, eq-eqb, lt-leb, le-leb, MatchBool}
 use Rattle.fx_plain.proofs.Cells.{by_equality}
 
 module _ (P Q : Type 0) where

@@ -1,13 +1,7 @@
--- The runs of a list are the one way to part it, and how they grow with one more request.
-use Rattle.std.proofs.Common.{◌≡◌, inl, inr, ℕ, ◌+◌, ◌<◌, ◌==◌, Bool, true, false, not, ◌&&◌, if◌then◌else◌, List, [], ◌∷◌, ◌++◌, length, refl, sym}
-use Rattle.std.proofs.Common.{ap, ◌∙◌, All, arith}
-use Rattle.std.specs.List.{list_all, flat_map}
-use Rattle.std.proofs.lemmas.List.{append-nil}
-use Rattle.std.proofs.lemmas.Bool.{and_right, cases_Bool, ne_eqb}
-use Rattle.std.proofs.lemmas.List.Sums.{AllPass-from_list_all, list_all-from_AllPass}
-use Rattle.std.proofs.lemmas.List.Elements.{All-nil, All-cons, All-head, All-tail}
-use Rattle.fx_chain.specs.Operation.{Asked, is_link}
-use Rattle.fx_chain.specs.Runs.{but_last, is_over, AreRuns, AreTheOnlyRuns, in_front, runs_of, open_run}
+-- The runs of a list are the one way to part it.
+use Rattle.fx_chain.proofs.Words.{◌≡◌, ◌<◌, Bool, true, false, not, if◌then◌else◌, List, [], ◌∷◌, ◌++◌, length, refl, sym, ap, ◌∙◌, All, arith}
+use Rattle.fx_chain.proofs.Words.{list_all, flat_map, append-nil, AllPass-from_list_all, list_all-from_AllPass, All-nil, All-cons, All-head, All-tail}
+use Rattle.fx_chain.proofs.Words.{Asked, is_link, but_last, is_over, AreRuns, AreTheOnlyRuns, in_front, runs_of, open_run}
 
 -- what each request does that is a member of a run and not its last
 abbrev pub AllLink : List Asked → Type 0
@@ -124,37 +118,6 @@ pub open_run-all : (requests : List Asked) → AllLink requests → open_run req
 open_run-all [] link = refl
 open_run-all (r ∷ rs) link = ap (λ (b : Bool). if b then r ∷ rs else open_run rs) (AllLink-test (r ∷ rs) link)
 
--- a list with a request that doesn't link does not link
-list_all-end : (xs : List Asked) (r : Asked) (rest : List Asked) → (is_link r.flags) ≡ false → list_all (λ y. (is_link y.flags)) (xs ++ r ∷ rest) ≡ false
-list_all-end [] r rest ends = ap (λ (b : Bool). b && list_all (λ y. (is_link y.flags)) rest) ends
-list_all-end (x ∷ xs) r rest ends = and_right (is_link x.flags) (list_all (λ y. (is_link y.flags)) (xs ++ r ∷ rest)) (list_all-end xs r rest ends)
-
--- what stands in front of the end of a run is no part of the open run
-pub open_run-end : (xs : List Asked) (r : Asked) (rest : List Asked) → (is_link r.flags) ≡ false → AllLink rest → open_run (xs ++ r ∷ rest) ≡ rest
-open_run-end [] r rest ends link = ap (λ (b : Bool). if b then r ∷ rest else open_run rest) (list_all-end [] r rest ends) ∙ open_run-all rest link
-open_run-end (x ∷ xs) r rest ends link =
-    ap (λ (b : Bool). if b then x ∷ xs ++ r ∷ rest else open_run (xs ++ r ∷ rest)) (list_all-end (x ∷ xs) r rest ends)
-    ∙ open_run-end xs r rest ends link
-
--- the open run goes on with a request that links
-list_all-push : (xs : List Asked) (r : Asked) → (is_link r.flags) ≡ true → list_all (λ y. (is_link y.flags)) (xs ++ r ∷ []) ≡ list_all (λ y. (is_link y.flags)) xs
-list_all-push [] r links = ap (λ (b : Bool). b && true) links
-list_all-push (x ∷ xs) r links = ap (λ (b : Bool). (is_link x.flags) && b) (list_all-push xs r links)
-
-cond-push : (b : Bool) (xs ys : List Asked) (r : Asked) → (if b then xs else ys) ++ r ∷ [] ≡ if b then xs ++ r ∷ [] else ys ++ r ∷ []
-cond-push true xs ys r = refl
-cond-push false xs ys r = refl
-
-pub open_run-push : (front : List Asked) (r : Asked) → (is_link r.flags) ≡ true → open_run (front ++ r ∷ []) ≡ open_run front ++ r ∷ []
-open_run-push [] r links = open_run-all (r ∷ []) (All-cons Links r [] links (All-nil Links))
-open_run-push (x ∷ front) r links =
-    ap (λ (b : Bool). if b then x ∷ front ++ r ∷ [] else open_run (front ++ r ∷ [])) (list_all-push (x ∷ front) r links)
-    ∙ ap (λ (ys : List Asked). if list_all (λ y. (is_link y.flags)) (x ∷ front) then x ∷ front ++ r ∷ [] else ys) (open_run-push front r links)
-    ∙ sym (cond-push (list_all (λ y. (is_link y.flags)) (x ∷ front)) (x ∷ front) (open_run front) r)
-
-pub open_run-over : (front : List Asked) (r : Asked) → (is_link r.flags) ≡ false → open_run (front ++ r ∷ []) ≡ []
-open_run-over front r ends = open_run-end front r [] ends (All-nil Links)
-
 in_front-some : (x : Asked) (runs : List (List Asked)) → 0 < length (in_front x runs)
 in_front-some x [] = omega arith
 in_front-some x (run ∷ runs) = omega arith
@@ -163,55 +126,3 @@ in_front-some x (run ∷ runs) = omega arith
 pub runs-some : (x : Asked) (xs : List Asked) → 0 < length (runs_of (x ∷ xs))
 runs-some x xs = elim (is_link x.flags) as
     (λ b. 0 < length (if b then in_front x (runs_of xs) else (x ∷ []) ∷ runs_of xs)) [ true ↦ in_front-some x (runs_of xs) | false ↦ omega arith ]
-
-in_front-length : (x : Asked) (runs : List (List Asked)) → 0 < length runs → length (in_front x runs) ≡ length runs
-in_front-length x [] some = absurd (omega arith)
-in_front-length x (run ∷ runs) some = refl
-
--- a request begins a run where no run is open
-runs-push_link : (x : Asked) (xs : List Asked) → (is_link x.flags) ≡ true → 0 < length xs → length (runs_of (x ∷ xs)) ≡ length (runs_of xs)
-runs-push_link x [] links some = absurd (omega arith)
-runs-push_link x (y ∷ ys) links some = ap length (runs_link x (y ∷ ys) links) ∙ in_front-length x (runs_of (y ∷ ys)) (runs-some y ys)
-
-runs-push_end : (x : Asked) (xs : List Asked) → (is_link x.flags) ≡ false → length (runs_of (x ∷ xs)) ≡ length (runs_of xs) + 1
-runs-push_end x xs ends = ap length (runs_end x xs ends) ∙ omega arith
-
-has_length : (x : Asked) (xs : List Asked) → (length (x ∷ xs) == 0) ≡ false
-has_length x xs = ne_eqb (length (x ∷ xs)) 0 (λ none. absurd (omega arith))
-
--- whether a run is open is told behind the first request, where there are more
-open_run-cons : (x y : Asked) (ys : List Asked) → (length (open_run (x ∷ y ∷ ys)) == 0) ≡ (length (open_run (y ∷ ys)) == 0)
-open_run-cons x y ys = elim (cases_Bool (list_all (λ r. (is_link r.flags)) (x ∷ y ∷ ys))) [
-  | inl all ↦ let rest : AllLink (y ∷ ys) = All-tail Links x (y ∷ ys) (test-AllLink (x ∷ y ∷ ys) all) in
-      ap (λ (zs : List Asked). length zs == 0) (open_run-all (x ∷ y ∷ ys) (test-AllLink (x ∷ y ∷ ys) all)) ∙ has_length x (y ∷ ys)
-      ∙ sym (has_length y ys) ∙ sym (ap (λ (zs : List Asked). length zs == 0) (open_run-all (y ∷ ys) rest))
-  | inr not_all ↦ ap (λ (b : Bool). length (if b then x ∷ y ∷ ys else open_run (y ∷ ys)) == 0) not_all
-]
-
-abbrev counted : Bool → ℕ → ℕ
-counted none n = if none then n + 1 else n
-
-counted-suc : (b : Bool) (n : ℕ) → counted b n + 1 ≡ counted b (n + 1)
-counted-suc true n = refl
-counted-suc false n = refl
-
-pub runs-push : (front : List Asked) (r : Asked)
-    → length (runs_of (front ++ r ∷ [])) ≡ if length (open_run front) == 0 then length (runs_of front) + 1 else length (runs_of front)
-runs-push [] r = ap length (runs_one r)
-runs-push (x ∷ []) r = elim (cases_Bool (is_link x.flags)) [
-  | inl links ↦ runs-push_link x (r ∷ []) links (omega arith) ∙ ap length (runs_one r)
-      ∙ sym (ap (λ (zs : List Asked). counted (length zs == 0) (length (runs_of (x ∷ []))))
-      (open_run-all (x ∷ []) (All-cons Links x [] links (All-nil Links))) ∙ ap length (runs_one x))
-  | inr ends ↦ runs-push_end x (r ∷ []) ends ∙ ap (λ n. n + 1) (ap length (runs_one r))
-      ∙ sym (ap (λ (zs : List Asked). counted (length zs == 0) (length (runs_of (x ∷ [])))) (open_run-over [] x ends)
-      ∙ ap (λ n. n + 1) (ap length (runs_one x)))
-]
-runs-push (x ∷ y ∷ ys) r = elim (cases_Bool (is_link x.flags)) [
-  | inl links ↦ runs-push_link x (y ∷ ys ++ r ∷ []) links (omega arith) ∙ runs-push (y ∷ ys) r
-      ∙ ap (λ (b : Bool). counted b (length (runs_of (y ∷ ys)))) (sym (open_run-cons x y ys))
-      ∙ ap (λ (n : ℕ). counted (length (open_run (x ∷ y ∷ ys)) == 0) n) (sym (runs-push_link x (y ∷ ys) links (omega arith)))
-  | inr ends ↦ runs-push_end x (y ∷ ys ++ r ∷ []) ends ∙ ap (λ n. n + 1) (runs-push (y ∷ ys) r)
-      ∙ counted-suc (length (open_run (y ∷ ys)) == 0) (length (runs_of (y ∷ ys)))
-      ∙ ap (λ (b : Bool). counted b (length (runs_of (y ∷ ys)) + 1)) (sym (open_run-cons x y ys))
-      ∙ ap (λ (n : ℕ). counted (length (open_run (x ∷ y ∷ ys)) == 0) n) (sym (runs-push_end x (y ∷ ys) ends))
-]

@@ -1,13 +1,11 @@
 -- A run and its last request, and the open run behind runs that are over.
-use Rattle.std.proofs.Common.{◌≡◌, inl, inr, ◌<◌, ◌⊎◌, Bool, true, false, not, ◌&&◌, if◌then◌else◌, List, [], ◌∷◌, ◌++◌, length, refl, sym, ap, ◌∙◌}
-use Rattle.std.proofs.Common.{subst, arith}
-use Rattle.std.specs.List.{list_all}
-use Rattle.std.proofs.lemmas.Bool.{and_right, and_from, both_ways, cases_Bool, not-true}
-use Rattle.std.proofs.lemmas.List.Elements.{All-nil, All-head, All-tail}
-use Rattle.std.proofs.lemmas.List.{append-nil, append_assoc}
-use Rattle.fx_chain.specs.Operation.{Asked, is_link}
-use Rattle.fx_chain.specs.Runs.{but_last, is_over, in_front, runs_of, open_run, StandsIn}
-use Rattle.fx_chain.proofs.Runs.{AllLink, IsOver, Links, open_run-all, AllLink-test, test-AllLink, runs_link, runs_end, runs-some}
+use Rattle.fx_chain.proofs.Words.{◌≡◌, inl, inr, ◌<◌, ◌⊎◌, Bool, true, false, not, ◌&&◌, if◌then◌else◌, List, [], ◌∷◌, ◌++◌, length, refl, sym, ap}
+use Rattle.fx_chain.proofs.Words.{◌∙◌, subst, arith, ◌+◌, ◌==◌, list_all, and_right, and_from, both_ways, cases_Bool, not-true, ne_eqb, All-nil}
+use Rattle.fx_chain.proofs.Words.{All-cons, All-head, All-tail, All-push, append-nil, Asked, is_link, but_last, is_over, in_front, runs_of, open_run}
+use Rattle.fx_chain.proofs.Words.{StandsIn}
+use Rattle.std.proofs.lemmas.List.{append_assoc, length-append}
+use Rattle.fx_chain.proofs.Runs.{AllLink, IsLinked, IsOver, HasMembers, Links, open_run-all, AllLink-test, test-AllLink, one_run, runs_link, runs_end}
+use Rattle.fx_chain.proofs.Runs.{runs-some}
 
 -- a list is all but its last element, and then that one
 pub but_last-last : {X : Type 0} (x : X) (xs : List X) → (last : X) × (x ∷ xs ≡ but_last (x ∷ xs) ++ last ∷ [])
@@ -154,3 +152,45 @@ stands_in front r behind =
           ∙ runs_of-closed e.closed (open_run front ++ r ∷ behind) e.is_closed ∙ ap (λ runs. runs_of e.closed ++ runs) b.parts;
       begins = λ none. ap runs_of (sym (e.parts ∙ ap (λ xs. e.closed ++ xs) none ∙ append-nil e.closed));
     }
+
+pub but_last-links : (run : List Asked) → AllLink run → IsLinked run
+but_last-links [] linked = linked
+but_last-links (x ∷ []) linked = All-nil Links
+but_last-links (x ∷ y ∷ run) linked =
+    All-cons Links x (but_last (y ∷ run)) (All-head Links x (y ∷ run) linked) (but_last-links (y ∷ run) (All-tail Links x (y ∷ run) linked))
+
+-- the open run behind one more request
+pub open_run-over : (front : List Asked) (r : Asked) → is_link r.flags ≡ false → open_run (front ++ r ∷ []) ≡ []
+open_run-over front r ends =
+    ap open_run (sym (append-nil (front ++ r ∷ []))) ∙ open_run-skip (front ++ r ∷ []) [] (is_over-push front r ends)
+
+pub open_run-push : (front : List Asked) (r : Asked) → is_link r.flags ≡ true → open_run (front ++ r ∷ []) ≡ open_run front ++ r ∷ []
+open_run-push front r links =
+    let e = ends_of front in
+    ap (λ xs. open_run (xs ++ r ∷ [])) e.parts ∙ ap open_run (append_assoc e.closed (open_run front) (r ∷ []))
+    ∙ open_run-closed e.closed (open_run front ++ r ∷ []) e.is_closed (All-push Links (open_run front) r e.linked links)
+
+-- one more request begins a run where none is open
+one_run_more : (closed : List (List Asked)) (run : List Asked) → AllLink run
+    → length closed + 1 ≡ if length run == 0 then length (closed ++ runs_of run) + 1 else length (closed ++ runs_of run)
+one_run_more closed [] linked = ap (λ runs. length runs + 1) (sym (append-nil closed))
+one_run_more closed (x ∷ xs) linked =
+    let one = ap (λ runs. length (closed ++ runs)) (one_run (x ∷ xs) (omega arith) (but_last-links (x ∷ xs) linked)) in
+    let count = length-append closed ((x ∷ xs) ∷ []) in
+    let some = ne_eqb (length (x ∷ xs)) 0 (λ none. absurd (omega arith)) in
+    rw some (omega arith)
+
+pub runs-push : (front : List Asked) (r : Asked)
+    → length (runs_of (front ++ r ∷ [])) ≡ if length (open_run front) == 0 then length (runs_of front) + 1 else length (runs_of front)
+runs-push front r =
+    let e = ends_of front in
+    let last = open_run front ++ r ∷ [] in
+    let some : HasMembers last = let count = length-append (open_run front) (r ∷ []) in omega arith in
+    let linked : IsLinked last = subst AllLink (sym (but_last-push (open_run front) r)) e.linked in
+    let longer : runs_of (front ++ r ∷ []) ≡ runs_of e.closed ++ last ∷ [] =
+    ap (λ xs. runs_of (xs ++ r ∷ [])) e.parts ∙ ap runs_of (append_assoc e.closed (open_run front) (r ∷ []))
+    ∙ runs_of-closed e.closed last e.is_closed ∙ ap (λ runs. runs_of e.closed ++ runs) (one_run last some linked) in
+    let same : runs_of front ≡ runs_of e.closed ++ runs_of (open_run front) = ap runs_of e.parts
+    ∙ runs_of-closed e.closed (open_run front) e.is_closed in
+    ap length longer ∙ length-append (runs_of e.closed) (last ∷ []) ∙ one_run_more (runs_of e.closed) (open_run front) e.linked
+    ∙ ap (λ runs. if length (open_run front) == 0 then length runs + 1 else length runs) (sym same)

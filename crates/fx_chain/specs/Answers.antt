@@ -1,6 +1,7 @@
--- What a request may answer, by the steps that it made on a table of some size. Of the cases of a request the first one
--- that applies counts (io_uring_enter(2), io_uring_prep_openat(3), io_uring_prep_close(3),
--- io_uring_register_files(3); the order of the cases is this project's own).
+-- What a request may answer, by the steps that it made on a table of some size. Of the cases of a
+-- request the first one that applies counts (io_uring_enter(2), io_uring_prep_openat(3),
+-- io_uring_prep_close(3), io_uring_register_files(3); the order of the cases is this project's
+-- own).
 use Rattle.std.specs.Prelude.{◌≡◌, ◌⊎◌, ℕ, zero, suc, ◌+◌, ◌<◌, ℤ, pos, negsuc, ◌==◌, ◌||◌, nat_le, nat_lt, Bool, List, [], ◌∷◌, length, Option, Some}
 use Rattle.std.specs.Prelude.{None}
 use Rattle.std.specs.Bool.{MatchBool}
@@ -21,8 +22,8 @@ use Rattle.fx_chain.specs.declared.completion.Place.{Place}
 use Rattle.fx_chain.specs.declared.request.Target.{Target}
 use Rattle.fx_chain.specs.declared.request.Target.TheVariants.{Slot, Any}
 
--- what a file is that a request installs: the place in the list is that of an update's entry, and 0 for an open; it has no
--- tag
+-- what a file is that a request installs: the place in the list is that of an update's entry, and 0
+-- for an open; it has no tag
 abbrev pub installed : Place → ℕ → ℕ → Closed
 installed place in_list entry = record {
   mark = Submitted place.submission place.chain place.member in_list;
@@ -48,7 +49,8 @@ OpensAt size place entry (Slot slot) events c =
     × MayClose ([] ▷ Put slot f replaced) replaced events × (c ≡ completed place (pos 0) [])))
 OpensAt size place entry Any events c =
     MatchBool (size == 0) (Refuses place ENFILE events c)
-    (((slot : ℕ) × (f : File) × (f.identity ≡ installed place 0 entry) × (events ≡ [] ▷ Allocate slot f) × (c ≡ completed place (pos slot) []))
+    (((slot : ℕ) × (f : File) × (f.identity ≡ installed place 0 entry)
+    × (events ≡ [] ▷ Allocate slot f) × (c ≡ completed place (pos slot) []))
     ⊎ ((events ≡ [] ▷ Full) × (c ≡ refusal place ENFILE)))
 
 -- a look-up at a slot, and the bytes of the file that it found
@@ -56,20 +58,24 @@ abbrev pub ReadsAt : List FileEntry → Place → ℕ → ℕ → ℕ → List A
 ReadsAt catalogue place slot off len events c =
     ((events ≡ [] ▷ Look slot None) × (c ≡ refusal place EBADF))
     ⊎ ((f : File) × MayClose ([] ▷ Look slot (Some f) ▷ Release f) (Some f) events
-    × (c ≡ completed place (pos (length (bytes_at catalogue f.identity.entry off len))) (bytes_at catalogue f.identity.entry off len)))
+    × (c ≡ completed place (pos (length (bytes_at catalogue f.identity.entry off len)))
+    (bytes_at catalogue f.identity.entry off len)))
 
 -- a removal at a slot
 abbrev pub TakesAt : Place → ℕ → List Action → Completed → Type 0
 TakesAt place slot events c =
     ((events ≡ [] ▷ Take slot None) × (c ≡ refusal place EBADF))
-    ⊎ ((removed : File) × MayClose ([] ▷ Take slot (Some removed)) (Some removed) events × (c ≡ completed place (pos 0) []))
+    ⊎ ((removed : File) × MayClose ([] ▷ Take slot (Some removed)) (Some removed) events
+    × (c ≡ completed place (pos 0) []))
 
--- one entry of an update: its place in the list, and its slot. -1 empties the slot, another number of 0 or more installs
--- that catalogue entry, and the others leave the slot
+-- one entry of an update: its place in the list, and its slot. -1 empties the slot, another number
+-- of 0 or more installs that catalogue entry, and the others leave the slot
 abbrev pub AppliesEntry : Place → ℕ → ℕ → ℤ → List Action → Type 0
 AppliesEntry place in_list slot (pos entry) events =
-    (f : File) × (replaced : Option File) × (f.identity ≡ installed place in_list entry) × MayClose ([] ▷ Put slot f replaced) replaced events
-AppliesEntry place in_list slot (negsuc zero) events = (removed : Option File) × MayClose ([] ▷ Clear slot removed) removed events
+    (f : File) × (replaced : Option File) × (f.identity ≡ installed place in_list entry)
+    × MayClose ([] ▷ Put slot f replaced) replaced events
+AppliesEntry place in_list slot (negsuc zero) events =
+    (removed : Option File) × MayClose ([] ▷ Clear slot removed) removed events
 AppliesEntry place in_list slot (negsuc (suc n)) events = events ≡ []
 
 -- the entries of an update from a place in its list on, one after another
@@ -77,7 +83,8 @@ abbrev pub AppliesList : Place → ℕ → ℕ → List ℤ → List Action → 
 AppliesList place in_list slot [] events = events ≡ []
 AppliesList place in_list slot (entry ∷ list) events =
     (own : List Action) × (others : List Action) × (events ≡ own ▷▷ others)
-    × AppliesEntry place in_list slot entry own × AppliesList place (in_list + 1) (slot + 1) list others
+    × AppliesEntry place in_list slot entry own
+    × AppliesList place (in_list + 1) (slot + 1) list others
 
 -- an entry that is below -2 or past the catalogue
 abbrev pub is_bad_entry : ℕ → ℤ → Bool
@@ -110,6 +117,8 @@ Answers catalogue size place (Opens name target) events c =
     MatchBool (has_name name catalogue)
     ((entry : ℕ) × (name_at catalogue entry ≡ Some name) × OpensAt size place entry target events c)
     (Refuses place ENOENT events c)
-Answers catalogue size place (Reads slot off len) events c = ReadsFrom catalogue size place slot off len events c
+Answers catalogue size place (Reads slot off len) events c =
+    ReadsFrom catalogue size place slot off len events c
 Answers catalogue size place (Closes slot) events c = Empties size place slot events c
-Answers catalogue size place (Updates off list) events c = UpdatesFrom (length catalogue) size place off list events c
+Answers catalogue size place (Updates off list) events c =
+    UpdatesFrom (length catalogue) size place off list events c

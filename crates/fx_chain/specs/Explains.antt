@@ -1,12 +1,12 @@
--- What a chain may answer: its members one after another, up to and with the first one that severs it, and the others
--- canceled (io_uring_enter(2), "IOSQE_IO_LINK", "IOSQE_IO_HARDLINK").
+-- What a chain may answer: its members one after another, up to and with the first one that severs
+-- it, and the others canceled (io_uring_enter(2), "IOSQE_IO_LINK", "IOSQE_IO_HARDLINK").
 use Rattle.std.specs.Prelude.{◌≡◌, ℕ, pos, int_lt, ◌&&◌, ◌||◌, not, Bool, false, List, [], ◌∷◌}
 use Rattle.std.specs.Bool.{MatchBool}
 use Rattle.fx_base.specs.declared.errno.Errno.TheVariants.{ECANCELED}
 use Rattle.fx_base.specs.Catalogue.{FileEntry}
 use Rattle.fx_plain.specs.declared.event.Action.{Action}
 use Rattle.fx_plain.specs.History.{◌▷▷◌}
-use Rattle.fx_chain.specs.Answers.{Answers}
+use Rattle.fx_chain.specs.Answers.{Answers, Refuses}
 use Rattle.fx_chain.specs.Completed.{Completed, refusal, next_member}
 use Rattle.fx_chain.specs.Operation.{Operation, Reads, Asked, is_hard_link}
 use Rattle.fx_chain.specs.declared.completion.Place.{Place}
@@ -26,10 +26,12 @@ severs request c = has_failed request.operation c && not (is_hard_link request.f
 -- the answers of members that never started
 abbrev pub canceled : Place → List Asked → List Completed
 canceled place [] = []
-canceled place (request ∷ requests) = refusal place ECANCELED ∷ canceled (next_member place) requests
+canceled place (request ∷ requests) =
+    refusal place ECANCELED ∷ canceled (next_member place) requests
 
 -- the members from this place on make these steps, each its own piece, and answer so
-abbrev pub Explains : List FileEntry → ℕ → Place → List Asked → List Action → List Completed → Type 0
+abbrev pub Explains : List FileEntry → ℕ → Place → List Asked → List Action → List Completed
+    → Type 0
 Explains catalogue size place [] events completions = (events ≡ []) × (completions ≡ [])
 Explains catalogue size place (request ∷ requests) events completions =
     (own : List Action) × (others : List Action) × (c : Completed) × (cs : List Completed)
@@ -38,6 +40,14 @@ Explains catalogue size place (request ∷ requests) events completions =
     × MatchBool (severs request c)
     ((others ≡ []) × (cs ≡ canceled (next_member place) requests))
     (Explains catalogue size (next_member place) requests others cs)
+
+-- the next member answers so: canceled where one in front of it severed the chain, and else by its
+-- own steps
+abbrev pub AnswersBehind : List FileEntry → ℕ → Place → Bool → Asked → List Action → Completed
+    → Type 0
+AnswersBehind catalogue size place severed request events c =
+    MatchBool severed (Refuses place ECANCELED events c)
+    (Answers catalogue size place request.operation events c)
 
 abbrev pub first_member : ℕ → ℕ → Place
 first_member submission chain = record { submission = submission; chain = chain; member = 1 }

@@ -23,8 +23,9 @@ abbrev pub is_long_update : Operation → Bool
 is_long_update (Updates off list) = nat_lt LONGEST_UPDATE (length list)
 is_long_update _ = false
 
--- the first fault of a request: `runs` is the number of runs that the requests in front of it make, `members` that of
--- the members of its own run in front of it, and `installs` that of the files which those members install
+-- the first fault of a request: `runs` is the number of runs that the requests in front of it make,
+-- `members` that of the members of its own run in front of it, and `installs` that of the files
+-- which those members install
 abbrev pub fault_after : ℕ → ℕ → ℕ → Asked → Option CutKind
 fault_after runs members installs request =
     if has_bad_flags request.operation (is_fixed request.flags) then Some BadFlags
@@ -37,7 +38,9 @@ fault_after runs members installs request =
 
 -- the fault of a request behind those in front of it
 abbrev pub fault_behind : List Asked → Asked → Option CutKind
-fault_behind front request = fault_after (length (runs_of front)) (length (open_run front)) (all_installs (open_run front)) request
+fault_behind front request =
+    fault_after (length (runs_of front)) (length (open_run front))
+    (all_installs (open_run front)) request
 
 -- a fault at this place, or else what comes later
 abbrev pub or_later : ℕ → Option CutKind → Option CutFault → Option CutFault
@@ -47,7 +50,9 @@ or_later at (Some kind) later = Some (record { at = at; kind = kind })
 -- the first request with a fault, of those behind the ones in front
 abbrev pub first_fault : List Asked → List Asked → Option CutFault
 first_fault front [] = None
-first_fault front (request ∷ behind) = or_later (length front + 1) (fault_behind front request) (first_fault (front ++ request ∷ []) behind)
+first_fault front (request ∷ behind) =
+    or_later (length front + 1) (fault_behind front request)
+    (first_fault (front ++ request ∷ []) behind)
 
 -- the first request with a fault, its place counted from 1
 abbrev pub fault_of : List Asked → Option CutFault
@@ -55,7 +60,9 @@ fault_of requests = first_fault [] requests
 
 -- no request has a fault behind those in front of it
 abbrev pub HasNoFault : List Asked → Type 0
-HasNoFault requests = (front : List Asked) (request : Asked) (behind : List Asked) → requests ≡ front ++ request ∷ behind
+HasNoFault requests =
+    (front : List Asked) (request : Asked) (behind : List Asked)
+    → requests ≡ front ++ request ∷ behind
     → fault_behind front request ≡ None
 
 -- a request with a fault, and no request in front of it has one

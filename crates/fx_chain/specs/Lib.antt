@@ -10,3 +10,4 @@ pub mod Answers
 pub mod Explains
 pub mod Performs
 pub mod Removals
+pub mod Contexts

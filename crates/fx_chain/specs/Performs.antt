@@ -1,5 +1,5 @@
 -- What a player of requests does: a pass of a shared table, and a list of closes.
-use Rattle.std.specs.Prelude.{◌≡◌, ℕ, ◌+◌, ◌≤◌, List, ◌++◌, length}
+use Rattle.std.specs.Prelude.{◌≡◌, ℕ, ◌+◌, ◌≤◌, Bool, List, ◌++◌, length}
 use Rattle.fx_base.specs.Catalogue.{FileEntry}
 use Rattle.fx_base.specs.CloseListView.{CloseListView}
 use Rattle.fx_plain.specs.declared.event.Action.{Action}
@@ -10,29 +10,31 @@ use Rattle.fx_table.specs.Calls.{Use, Adds}
 use Rattle.fx_table.specs.declared.values.Doing.TheVariants.{Idle}
 use Rattle.fx_chain.specs.Answers.{Answers}
 use Rattle.fx_chain.specs.Completed.{Completed}
-use Rattle.fx_chain.specs.Explains.{Explains, first_member}
+use Rattle.fx_chain.specs.Explains.{Explains, AnswersBehind, first_member}
 use Rattle.fx_chain.specs.Operation.{Asked}
 use Rattle.fx_chain.specs.Weights.{installs_of, weight_of, all_installs, all_weights}
 use Rattle.fx_chain.specs.declared.completion.Place.{Place}
 
 -- what a player has at a moment
-pub record Player : Type 0 where
+pub record PlayerView : Type 0 where
   pub pass : PassView
   pub closes : CloseListView
 
-abbrev pub player : PassView → CloseListView → Player
+abbrev pub player : PassView → CloseListView → PlayerView
 player pass closes = record { pass = pass; closes = closes }
 
--- The pass took these actions, whatever others did between, and does nothing now. The files of their Close events went to
--- the end of the list in order, each into one of its room
-pub record Acts (o : Opening) (p : Player) (actions : List Action) (used : Use) (q : Player) : Type 0 where
+-- The pass took these actions, whatever others did between, and does nothing now. The files of
+-- their Close events went to the end of the list in order, each into one of its room
+pub record Acts (o : Opening) (p : PlayerView) (actions : List Action) (used : Use) (q : PlayerView)
+    : Type 0 where
   pub adds : Adds o p.pass actions Idle used q.pass
   pub files : q.closes.files ≡ p.closes.files ++ closes_in actions
   pub room : q.closes.room + length (closes_in actions) ≡ p.closes.room
 
--- The player took actions of which this can be said. They used no more look-ups and numbers than these, and closed no more
--- files
-pub record ActsSo (o : Opening) (p : Player) (looks numbers files : ℕ) (Says : List Action → Type 0) (q : Player) : Type 0 where
+-- The player took actions of which this can be said. They used no more look-ups and numbers than
+-- these, and closed no more files
+pub record ActsSo (o : Opening) (p : PlayerView) (looks numbers files : ℕ)
+    (Says : List Action → Type 0) (q : PlayerView) : Type 0 where
   pub actions : List Action
   pub used : Use
   pub acts : Acts o p actions used q
@@ -42,19 +44,29 @@ pub record ActsSo (o : Opening) (p : Player) (looks numbers files : ℕ) (Says :
   pub few_files : length (closes_in actions) ≤ files
 
 -- the request at its place was performed: by these actions it may answer so
-abbrev pub Performs : Opening → List FileEntry → Place → Asked → Player → Completed → Player → Type 0
+abbrev pub Performs : Opening → List FileEntry → Place → Asked → PlayerView → Completed → PlayerView
+    → Type 0
 Performs o catalogue place request p c q =
     ActsSo o p 1 (installs_of request.operation) (weight_of request.operation)
     (λ actions. Answers catalogue (size_of o) place request.operation actions c) q
 
+-- the next member of a chain was answered so, behind one that severed the chain or else
+abbrev pub AnswersNext : Opening → List FileEntry → Place → Bool → Asked → PlayerView → Completed
+    → PlayerView → Type 0
+AnswersNext o catalogue place severed request p c q =
+    ActsSo o p 1 (installs_of request.operation) (weight_of request.operation)
+    (λ actions. AnswersBehind catalogue (size_of o) place severed request actions c) q
+
 -- the members from this place on were played: these actions explain their completions
-abbrev pub PlaysMembers : Opening → List FileEntry → Place → List Asked → Player → List Completed → Player → Type 0
+abbrev pub PlaysMembers : Opening → List FileEntry → Place → List Asked → PlayerView
+    → List Completed → PlayerView → Type 0
 PlaysMembers o catalogue place requests p completions q =
     ActsSo o p (length requests) (all_installs requests) (all_weights requests)
     (λ actions. Explains catalogue (size_of o) place requests actions completions) q
 
 -- the chain was played, and its completions went to the end of a list
-abbrev pub PlaysChain : Opening → List FileEntry → ℕ → ℕ → List Asked → Player → List Completed → Player → List Completed → Type 0
+abbrev pub PlaysChain : Opening → List FileEntry → ℕ → ℕ → List Asked → PlayerView → List Completed
+    → PlayerView → List Completed → Type 0
 PlaysChain o catalogue submission chain requests p before q now =
     (completions : List Completed) × (now ≡ before ++ completions)
     × PlaysMembers o catalogue (first_member submission chain) requests p completions q

@@ -1,24 +1,29 @@
 -- What becomes of a file that a request removed, or gave up.
-use Rattle.std.specs.Prelude.{◌≡◌, ℕ, [], Option, Some}
+use Rattle.std.specs.Prelude.{◌≡◌, ℕ, [], Option, Some, None}
 use Rattle.fx_plain.specs.declared.event.File.{File}
-use Rattle.fx_plain.specs.declared.event.Action.{Action}
 use Rattle.fx_plain.specs.declared.event.Action.TheVariants.{Release}
 use Rattle.fx_plain.specs.History.{◌▷◌}
 use Rattle.fx_table.specs.Opening.{Opening}
+use Rattle.fx_table.specs.Pass.{PassView, IsIdle, IsRetiredOf}
 use Rattle.fx_table.specs.declared.values.Doing.TheVariants.{Holding, Retiring}
+use Rattle.fx_table.specs.declared.values.Retired.{Retired}
 use Rattle.fx_chain.specs.Answers.{MayClose}
-use Rattle.fx_chain.specs.Performs.{Player, ActsSo}
+use Rattle.fx_chain.specs.Performs.{PlayerView, ActsSo}
 
--- what the pass removed was retired, and closed or left to its last holder
-abbrev pub IsRetirement : Opening → Player → Player → Type 0
-IsRetirement o p q =
-    (f : File) × (takes : ℕ) × (p.pass.doing ≡ Retiring f takes) × ActsSo o p 0 0 1 (MayClose [] (Some f)) q
+-- a call removed this, if anything
+abbrev pub IsRemovedBy : PassView → Option Retired → Type 0
+IsRemovedBy v None = IsIdle v
+IsRemovedBy v (Some retired) = IsRetiredOf v retired
+
+-- what the pass removed, if anything, was retired, and closed or left to its last holder
+abbrev pub IsRetirement : Opening → PlayerView → Option Retired → PlayerView → Type 0
+IsRetirement o p None q = ActsSo o p 0 0 1 (MayClose [] None) q
+IsRetirement o p (Some retired) q =
+    (f : File) × (takes : ℕ) × (p.pass.doing ≡ Retiring f takes)
+    × ActsSo o p 0 0 1 (MayClose [] (Some f)) q
 
 -- what the pass held was released, and closed where it was removed and this was its last hold
-abbrev pub IsRelease : Opening → Player → Player → Type 0
+abbrev pub IsRelease : Opening → PlayerView → PlayerView → Type 0
 IsRelease o p q =
-    (f : File) × (p.pass.doing ≡ Holding f) × ActsSo o p 0 0 1 (MayClose ([] ▷ Release f) (Some f)) q
-
--- a step took the file from its slot, if there was one, and it was closed or left to its last holder
-abbrev pub IsRemoval : Opening → Player → ℕ → (Option File → Action) → Option File → Player → Type 0
-IsRemoval o p numbers step removed q = ActsSo o p 0 numbers 1 (MayClose ([] ▷ step removed) removed) q
+    (f : File) × (p.pass.doing ≡ Holding f)
+    × ActsSo o p 0 0 1 (MayClose ([] ▷ Release f) (Some f)) q

@@ -1,5 +1,5 @@
--- The runs of a submission: the requests that are linked with each other (io_uring_enter(2), "IOSQE_IO_LINK",
--- "IOSQE_IO_HARDLINK").
+-- The runs of a submission: the requests that are linked with each other (io_uring_enter(2),
+-- "IOSQE_IO_LINK", "IOSQE_IO_HARDLINK").
 use Rattle.std.specs.Prelude.{◌≡◌, ◌<◌, Bool, true, false, not, List, [], ◌∷◌, ◌++◌, length, All, flat_map, if◌then◌else◌}
 use Rattle.std.specs.List.{list_all}
 use Rattle.fx_chain.specs.Operation.{Asked, is_link}
@@ -16,8 +16,8 @@ is_over [] = false
 is_over (request ∷ []) = not (is_link request.flags)
 is_over (request ∷ next ∷ run) = is_over (next ∷ run)
 
--- the list in parts: every request of a part but its last links with the next one, and that last one doesn't, except
--- perhaps in the last part
+-- the list in parts: every request of a part but its last links with the next one, and that last
+-- one doesn't, except perhaps in the last part
 pub record AreRuns (requests : List Asked) (runs : List (List Asked)) : Type 0 where
   pub whole : flat_map (λ run. run) runs ≡ requests
   pub not_empty : All (λ run. 0 < length run) runs
@@ -37,12 +37,17 @@ in_front request (run ∷ runs) = (request ∷ run) ∷ runs
 -- the one way to part the list into runs
 abbrev pub runs_of : List Asked → List (List Asked)
 runs_of [] = []
-runs_of (request ∷ requests) = if is_link request.flags then in_front request (runs_of requests) else (request ∷ []) ∷ runs_of requests
+runs_of (request ∷ requests) =
+    if is_link request.flags then in_front request (runs_of requests)
+    else (request ∷ []) ∷ runs_of requests
 
--- the requests at the end of the list that all link: a request behind the list is a member of their run
+-- the requests at the end of the list that all link: a request behind the list is a member of their
+-- run
 abbrev pub open_run : List Asked → List Asked
 open_run [] = []
-open_run (request ∷ requests) = if list_all (λ r. is_link r.flags) (request ∷ requests) then request ∷ requests else open_run requests
+open_run (request ∷ requests) =
+    if list_all (λ r. is_link r.flags) (request ∷ requests) then request ∷ requests
+    else open_run requests
 
 -- a request stands in its own run behind the open run of the requests in front of it
 pub record StandsIn (front : List Asked) (request : Asked) (runs : List (List Asked)) : Type 0 where

@@ -1,4 +1,5 @@
--- What a request needs at most: numbers for the files that it installs, and room for those that it closes.
+-- What a request needs at most: numbers for the files that it installs, and room for those that it
+-- closes.
 use Rattle.std.specs.Prelude.{ℕ, ℤ, pos, negsuc, int_le, List, length, filter, sum_by}
 use Rattle.fx_chain.specs.Operation.{Operation, Opens, Updates, Asked}
 

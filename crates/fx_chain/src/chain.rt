@@ -1,4 +1,4 @@
-ghost use Rattle.std.specs.Prelude.{◌≡◌, ◌+◌, ◌≤◌, length, map, All, IfOk, vec_len};
+ghost use Rattle.std.specs.Prelude.{◌≡◌, ◌+◌, ◌<◌, ◌≤◌, ◌∷◌, length, map, take, drop, All, IfOk, vec_len};
 ghost use Rattle.fx_chain.specs.Accepted.{IsAccepted, IsChain, members_of};
 ghost use Rattle.fx_chain.specs.Chains.{chains_of};
 ghost use Rattle.fx_chain.specs.Operation.{all_asked};
@@ -19,6 +19,22 @@ pub struct Chain {
     pub len: u32,
 }
 
+// How many members the first chain of some requests has: those up to the first that doesn't link, or all of them.
+fn first_chain_len(requests: &[Request]) -> usize
+    requires { 0 < length requests.now }
+    ensures some { 0 < result }
+    ensures inside { result ≤ length requests.now }
+    ensures run { runs_of (all_asked requests.now) ≡ all_asked (take result requests.now)
+        ∷ runs_of (all_asked (drop result requests.now)) }
+{
+    for (i, request) in requests.iter().enumerate() {
+        if !request.links() {
+            return i + 1;
+        }
+    }
+    requests.len()
+}
+
 /// The chains of a submission that [`crate::check`] accepts, in order.
 ///
 /// # Errors
@@ -36,15 +52,13 @@ pub fn cut(alloc: Global, requests: &[Request]) -> Result<Vec<Chain>, NoMemory>
 {
     let mut chains = Vec::new(alloc);
     let mut first = 0;
-    for (i, request) in requests.iter().enumerate() {
-        if !request.links() || i + 1 == requests.len() {
-            let len = i + 1 - first;
-            chains.push(Chain {
-                first: first as u32,
-                len: len as u32,
-            })?;
-            first = i + 1;
-        }
+    while first < requests.len() {
+        let len = first_chain_len(&requests[first..]);
+        chains.push(Chain {
+            first: first as u32,
+            len: len as u32,
+        })?;
+        first += len;
     }
     Ok(chains)
 }

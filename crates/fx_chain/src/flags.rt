@@ -4,7 +4,7 @@ use bitflags::{Flag, Flags, bitflag_items};
 
 /// The flags of a request that this project knows (io_uring_enter(2), "flags"). By `FIXED_FILE` the request names its file
 /// by a slot. By `IO_LINK` the next request starts only after this one has completed, and not where this one failed. By
-/// `IO_HARDLINK`, also beside `IO_LINK`, it starts only after this one has completed, whatever this one came to.
+/// `IO_HARDLINK`, also with `IO_LINK`, it starts only after this one has completed, whatever this one came to.
 #[derive(Clone, Copy, PartialEq, Eq, Debug)]
 pub struct SqeFlags(u8);
 

@@ -3,6 +3,7 @@
 
 mod chain;
 mod completion;
+mod context;
 mod fault;
 mod file_index;
 mod flags;
@@ -24,6 +25,3 @@ pub use gate::{Gate, OpenGate};
 pub use player::{perform, run_chain};
 pub use request::{LONGEST_READ, LONGEST_UPDATE, Op, Request, Target};
 pub use update::is_bad_entry;
-
-#[cfg(test)]
-mod tests;

@@ -1,14 +1,16 @@
 //! The player of requests, on any table that threads share.
 ghost use Rattle.std.specs.Prelude.{◌≡◌, ◌+◌, ◌<◌, ◌≤◌, length, vec_len, vec_capacity};
-ghost use Rattle.fx_table.specs.Opening.{size_of};
 ghost use Rattle.fx_table.specs.Pass.{IsIdle};
+ghost use Rattle.fx_table.specs.Opening.{size_of};
 ghost use Rattle.fx_chain.specs.Answers.{Empties};
 ghost use Rattle.fx_chain.specs.Completed.{completed_of, all_completed};
+ghost use Rattle.fx_chain.specs.Contexts.{Does, IsKept, IsReady, view_of};
 ghost use Rattle.fx_chain.specs.Operation.{operation_of, asked_of, all_asked};
-ghost use Rattle.fx_chain.specs.Performs.{ActsSo, Performs, PlaysChain, player};
+ghost use Rattle.fx_chain.specs.Performs.{AnswersNext, Performs, PlaysChain, player};
 ghost use Rattle.fx_chain.specs.Weights.{installs_of, weight_of, all_installs, all_weights};
 
 use crate::completion::{Completion, Place};
+use crate::context::{Context, Player};
 use crate::gate::Gate;
 use crate::open::open;
 use crate::read::read;
@@ -21,35 +23,49 @@ use std::alloc::Global;
 use std::sync::Wait;
 
 // Empties a slot.
-fn close<T: FileTable>(
-    rt: &impl Wait,
-    alloc: Global,
-    table: &T,
-    pass: &mut T::Pass,
-    place: Place,
+fn close<T: FileTable, R: Wait>(
+    context: &Context<'_, T, R>,
+    player: &mut Player<'_, T::Pass>,
     slot: u32,
-    closes: &mut CloseList,
 ) -> Completion
-    requires fits { T.fits table.now pass.old }
-    requires idle { IsIdle (T.view pass.old) }
-    requires room { 0 < closes.old.room }
-    ensures fits { T.fits table.now pass.new }
-    ensures emptied { ActsSo (T.opening table.now) (player (T.view pass.old) closes.old) 0 0 1
-        (λ actions. Empties (size_of (T.opening table.now)) place slot actions
-        (completed_of result))
-        (player (T.view pass.new) closes.new) }
+    requires ready { IsReady T.view (T.fits context.now.table.now) player.old 0 0 1 }
+    ensures kept { IsKept (T.fits context.now.table.now) player.old player.new }
+    ensures emptied { let o = T.opening context.now.table.now in Does o T.view player.old 0 0 1
+        (λ actions. Empties (size_of o) context.now.place slot actions
+        (completed_of result)) player.new }
 {
-    let size = table.size();
+    let size = context.table.size();
     if size == 0 {
-        return Completion::refusal(alloc, place, Errno::ENXIO);
+        return context.refusal(Errno::ENXIO);
     }
     if slot >= size {
-        return Completion::refusal(alloc, place, Errno::EINVAL);
+        return context.refusal(Errno::EINVAL);
     }
-    if !take(rt, table, pass, slot, closes) {
-        return Completion::refusal(alloc, place, Errno::EBADF);
+    if !take(context, player, slot) {
+        return context.refusal(Errno::EBADF);
     }
-    Completion::number(alloc, place, 0)
+    context.number(0)
+}
+
+// Performs a request at the context's place.
+fn answer<T: FileTable, R: Wait>(
+    context: &Context<'_, T, R>,
+    player: &mut Player<'_, T::Pass>,
+    request: &Request,
+) -> Completion
+    requires ready { IsReady T.view (T.fits context.now.table.now) player.old 1
+        (installs_of (operation_of request.now.op)) (weight_of (operation_of request.now.op)) }
+    ensures kept { IsKept (T.fits context.now.table.now) player.old player.new }
+    ensures performed { Performs (T.opening context.now.table.now) context.now.catalogue.now
+        context.now.place (asked_of request.now) (view_of T.view player.old)
+        (completed_of result) (view_of T.view player.new) }
+{
+    match &request.op {
+        Op::Open { name, target } => open(context, player, name.as_str(), *target),
+        Op::Read { slot, off, len } => read(context, player, *slot, *off, *len),
+        Op::Close { slot } => close(context, player, *slot),
+        Op::Update { off, list } => update(context, player, *off, list.as_slice()),
+    }
 }
 
 /// Performs a request at its place, and gives its completion. Its file is looked up, installed or removed by the pass,
@@ -79,25 +95,38 @@ pub fn perform<T: FileTable>(
         (player (T.view pass.old) closes.old) (completed_of result)
         (player (T.view pass.new) closes.new) }
 {
-    match &request.op {
-        Op::Open { name, target } => {
-            let name = name.as_str();
-            open(
-                rt, alloc, table, pass, catalogue, place, name, *target, closes,
-            )
-        }
-        Op::Read { slot, off, len } => {
-            let (slot, off, len) = (*slot, *off, *len);
-            read(
-                rt, alloc, table, pass, catalogue, place, slot, off, len, closes,
-            )
-        }
-        Op::Close { slot } => close(rt, alloc, table, pass, place, *slot, closes),
-        Op::Update { off, list } => {
-            let (off, list) = (*off, list.as_slice());
-            update(rt, alloc, table, pass, catalogue, place, off, list, closes)
-        }
+    let context = Context {
+        rt,
+        alloc,
+        table,
+        catalogue,
+        place,
+    };
+    answer(&context, &mut Player { pass, closes }, request)
+}
+
+// The answer of a chain's next member: it is performed, or it is canceled behind one that severed the chain.
+fn next_answer<T: FileTable, R: Wait, G: Gate>(
+    context: &Context<'_, T, R>,
+    player: &mut Player<'_, T::Pass>,
+    gate: &G,
+    request: &Request,
+    severed: bool,
+) -> Completion
+    requires ready { IsReady T.view (T.fits context.now.table.now) player.old 1
+        (installs_of (operation_of request.now.op)) (weight_of (operation_of request.now.op)) }
+    ensures kept { IsKept (T.fits context.now.table.now) player.old player.new }
+    ensures answered { AnswersNext (T.opening context.now.table.now) context.now.catalogue.now
+        context.now.place severed (asked_of request.now) (view_of T.view player.old)
+        (completed_of result) (view_of T.view player.new) }
+{
+    if severed {
+        return context.refusal(Errno::ECANCELED);
     }
+    gate.before(context.place);
+    let completion = answer(context, player, request);
+    gate.after(context.place);
+    completion
 }
 
 // How many members a chain has. The pass has a look-up for each, and counts its look-ups in a u32.
@@ -145,22 +174,25 @@ pub fn run_chain<T: FileTable, G: Gate>(
     ensures count { vec_len out.new ≡ vec_len out.old + length requests.now }
     ensures capacity { vec_capacity out.old ≤ vec_capacity out.new }
 {
+    let count = members(table, pass, requests);
+    let mut player = Player { pass, closes };
     let mut severed = false;
-    for i in 0..members(table, pass, requests) {
+    for i in 0..count {
         let request = &requests[i as usize];
         let place = Place {
             submission,
             chain,
             member: i + 1,
         };
-        if severed {
-            out.push_reserved(Completion::refusal(alloc, place, Errno::ECANCELED));
-            continue;
-        }
-        gate.before(place);
-        let completion = perform(rt, alloc, table, pass, catalogue, place, request, closes);
-        gate.after(place);
-        severed = request.severs(&completion);
+        let context = Context {
+            rt,
+            alloc,
+            table,
+            catalogue,
+            place,
+        };
+        let completion = next_answer(&context, &mut player, gate, request, severed);
+        severed |= request.severs(&completion);
         out.push_reserved(completion);
     }
 }

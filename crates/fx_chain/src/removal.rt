@@ -1,125 +1,111 @@
 //! Files that a request removes or gives up, each with its close.
-ghost use Rattle.std.specs.Prelude.{◌≡◌, ◌<◌, Option, is_some};
+ghost use Rattle.std.specs.Prelude.{◌≡◌, ◌<◌, [], Option, is_some};
 ghost use Rattle.fx_plain.specs.declared.event.Action.TheVariants.{Put, Clear, Take};
 ghost use Rattle.fx_plain.specs.declared.event.File.{File};
+ghost use Rattle.fx_plain.specs.History.{◌▷◌};
 ghost use Rattle.fx_table.specs.Calls.{new_file};
+ghost use Rattle.fx_table.specs.Pass.{IsHoldOf};
 ghost use Rattle.fx_table.specs.Opening.{size_of};
-ghost use Rattle.fx_table.specs.Pass.{IsIdle, IsHoldOf, IsRetiredOf};
-ghost use Rattle.fx_chain.specs.Performs.{player};
-ghost use Rattle.fx_chain.specs.Removals.{IsRetirement, IsRelease, IsRemoval};
+ghost use Rattle.fx_chain.specs.Answers.{MayClose};
+ghost use Rattle.fx_chain.specs.Contexts.{Does, IsKept, IsReady, view_of};
+ghost use Rattle.fx_chain.specs.Removals.{IsRemovedBy, IsRelease, IsRetirement};
 
-use fx_base::{CloseList, OpenFile};
-use fx_table::{Empty, FileTable, Hold, Retired};
+use crate::context::{Context, Player};
+use fx_base::OpenFile;
+use fx_table::{FileTable, Hold, Retired};
 use std::sync::Wait;
 
-// Retires the file that the pass removed, and closes it where nobody holds it now. Else its last holder will.
-fn retire<T: FileTable>(
-    rt: &impl Wait,
-    table: &T,
-    pass: &mut T::Pass,
-    retired: Retired,
-    closes: &mut CloseList,
+// Retires the file that the pass removed, if there was one, and closes it where nobody holds it now. Else its last holder
+// will.
+fn retire<T: FileTable, R: Wait>(
+    context: &Context<'_, T, R>,
+    player: &mut Player<'_, T::Pass>,
+    removed: Option<Retired>,
 )
-    requires fits { T.fits table.now pass.old }
-    requires removed { IsRetiredOf (T.view pass.old) retired }
-    requires room { 0 < closes.old.room }
-    ensures fits { T.fits table.now pass.new }
-    ensures retired { IsRetirement (T.opening table.now)
-        (player (T.view pass.old) closes.old) (player (T.view pass.new) closes.new) }
+    requires fits { T.fits context.now.table.now player.old.pass.now }
+    requires removed { IsRemovedBy (T.view player.old.pass.now) removed }
+    requires room { 0 < player.old.closes.now.room }
+    ensures kept { IsKept (T.fits context.now.table.now) player.old player.new }
+    ensures retired { IsRetirement (T.opening context.now.table.now)
+        (view_of T.view player.old) removed (view_of T.view player.new) }
 {
-    if let Some(file) = table.retire(rt, pass, retired) {
-        closes.close(file);
+    let Some(retired) = removed else {
+        return;
+    };
+    if let Some(file) = context.table.retire(context.rt, player.pass, retired) {
+        player.closes.close(file);
     }
 }
 
 // Gives up what the pass holds, and closes it where it was retired and this was its last hold.
-pub(crate) fn release<T: FileTable>(
-    rt: &impl Wait,
-    table: &T,
-    pass: &mut T::Pass,
+pub(crate) fn release<T: FileTable, R: Wait>(
+    context: &Context<'_, T, R>,
+    player: &mut Player<'_, T::Pass>,
     hold: Hold,
-    closes: &mut CloseList,
 )
-    requires fits { T.fits table.now pass.old }
-    requires held { IsHoldOf (T.view pass.old) hold }
-    requires room { 0 < closes.old.room }
-    ensures fits { T.fits table.now pass.new }
-    ensures released { IsRelease (T.opening table.now)
-        (player (T.view pass.old) closes.old) (player (T.view pass.new) closes.new) }
+    requires fits { T.fits context.now.table.now player.old.pass.now }
+    requires held { IsHoldOf (T.view player.old.pass.now) hold }
+    requires room { 0 < player.old.closes.now.room }
+    ensures kept { IsKept (T.fits context.now.table.now) player.old player.new }
+    ensures released { IsRelease (T.opening context.now.table.now)
+        (view_of T.view player.old) (view_of T.view player.new) }
 {
-    if let Some(file) = table.release(rt, pass, hold) {
-        closes.close(file);
+    if let Some(file) = context.table.release(context.rt, player.pass, hold) {
+        player.closes.close(file);
     }
 }
 
 // Empties a slot for a close. Whether there was a file.
-pub(crate) fn take<T: FileTable>(
-    rt: &impl Wait,
-    table: &T,
-    pass: &mut T::Pass,
+pub(crate) fn take<T: FileTable, R: Wait>(
+    context: &Context<'_, T, R>,
+    player: &mut Player<'_, T::Pass>,
     slot: u32,
-    closes: &mut CloseList,
 ) -> bool
-    requires fits { T.fits table.now pass.old }
-    requires idle { IsIdle (T.view pass.old) }
-    requires slot { slot < size_of (T.opening table.now) }
-    requires room { 0 < closes.old.room }
-    ensures fits { T.fits table.now pass.new }
+    requires ready { IsReady T.view (T.fits context.now.table.now) player.old 0 0 1 }
+    requires slot { slot < size_of (T.opening context.now.table.now) }
+    ensures kept { IsKept (T.fits context.now.table.now) player.old player.new }
     ensures removed { (removed : Option File) × (result ≡ is_some removed)
-        × IsRemoval (T.opening table.now) (player (T.view pass.old) closes.old) 0 (Take slot)
-        removed (player (T.view pass.new) closes.new) }
+        × Does (T.opening context.now.table.now) T.view player.old 0 0 1
+        (MayClose ([] ▷ Take slot removed) removed) player.new }
 {
-    match table.take(rt, pass, slot) {
-        Err(Empty) => false,
-        Ok(retired) => {
-            retire(rt, table, pass, retired, closes);
-            true
-        }
-    }
+    let removed = context.table.take(context.rt, player.pass, slot).ok();
+    let found = removed.is_some();
+    retire(context, player, removed);
+    found
 }
 
 // Empties a slot for an update.
-pub(crate) fn clear<T: FileTable>(
-    rt: &impl Wait,
-    table: &T,
-    pass: &mut T::Pass,
+pub(crate) fn clear<T: FileTable, R: Wait>(
+    context: &Context<'_, T, R>,
+    player: &mut Player<'_, T::Pass>,
     slot: u32,
-    closes: &mut CloseList,
 )
-    requires fits { T.fits table.now pass.old }
-    requires idle { IsIdle (T.view pass.old) }
-    requires slot { slot < size_of (T.opening table.now) }
-    requires room { 0 < closes.old.room }
-    ensures fits { T.fits table.now pass.new }
+    requires ready { IsReady T.view (T.fits context.now.table.now) player.old 0 0 1 }
+    requires slot { slot < size_of (T.opening context.now.table.now) }
+    ensures kept { IsKept (T.fits context.now.table.now) player.old player.new }
     ensures removed { (removed : Option File)
-        × IsRemoval (T.opening table.now) (player (T.view pass.old) closes.old) 0 (Clear slot)
-        removed (player (T.view pass.new) closes.new) }
+        × Does (T.opening context.now.table.now) T.view player.old 0 0 1
+        (MayClose ([] ▷ Clear slot removed) removed) player.new }
 {
-    if let Some(retired) = table.clear(rt, pass, slot) {
-        retire(rt, table, pass, retired, closes);
-    }
+    let removed = context.table.clear(context.rt, player.pass, slot);
+    retire(context, player, removed);
 }
 
 // Installs a file at a slot, in place of the one that was there.
-pub(crate) fn put<T: FileTable>(
-    rt: &impl Wait,
-    table: &T,
-    pass: &mut T::Pass,
+pub(crate) fn put<T: FileTable, R: Wait>(
+    context: &Context<'_, T, R>,
+    player: &mut Player<'_, T::Pass>,
     slot: u32,
     file: OpenFile,
-    closes: &mut CloseList,
 )
-    requires fits { T.fits table.now pass.old }
-    requires idle { IsIdle (T.view pass.old) }
-    requires slot { slot < size_of (T.opening table.now) }
-    requires numbers { 0 < (T.view pass.old).numbers_left }
-    requires room { 0 < closes.old.room }
-    ensures fits { T.fits table.now pass.new }
-    ensures removed { (removed : Option File)
-        × IsRemoval (T.opening table.now) (player (T.view pass.old) closes.old) 1
-        (Put slot (new_file (T.view pass.old) file)) removed (player (T.view pass.new) closes.new) }
+    requires ready { IsReady T.view (T.fits context.now.table.now) player.old 0 1 1 }
+    requires slot { slot < size_of (T.opening context.now.table.now) }
+    ensures kept { IsKept (T.fits context.now.table.now) player.old player.new }
+    ensures removed { let new = new_file (T.opening context.now.table.now) (T.view player.old.pass.now) file in
+        (removed : Option File)
+        × Does (T.opening context.now.table.now) T.view player.old 0 1 1
+        (MayClose ([] ▷ Put slot new removed) removed) player.new }
 {
-    if let Some(retired) = table.put(rt, pass, slot, file) {
-        retire(rt, table, pass, retired, closes);
-    }
+    let removed = context.table.put(context.rt, player.pass, slot, file);
+    retire(context, player, removed);
 }

@@ -2,17 +2,16 @@
 ghost use Rattle.std.specs.Prelude.{◌≡◌, ◌+◌, ◌<◌, ◌≤◌, ◌^◌, false, length};
 ghost use Rattle.std.specs.List.{list_any};
 ghost use Rattle.fx_table.specs.Opening.{size_of};
-ghost use Rattle.fx_table.specs.Pass.{IsIdle};
 ghost use Rattle.fx_chain.specs.Answers.{AppliesEntry, AppliesList, UpdatesFrom, is_bad_entry};
 ghost use Rattle.fx_chain.specs.Completed.{completed_of};
-ghost use Rattle.fx_chain.specs.Performs.{ActsSo, player};
+ghost use Rattle.fx_chain.specs.Contexts.{Does, IsKept, IsReady};
 ghost use Rattle.fx_chain.specs.Weights.{entry_installs, list_installs};
 
-use crate::completion::{Completion, Place};
+use crate::completion::Completion;
+use crate::context::{Context, Player};
 use crate::removal::{clear, put};
-use fx_base::{Catalogue, CloseList, Errno, MOST_ENTRIES};
+use fx_base::{Errno, MOST_ENTRIES};
 use fx_table::FileTable;
-use std::alloc::Global;
 use std::sync::Wait;
 
 /// Whether an entry of an update is below -2 or past a catalogue of so many entries (io_uring_register(2),
@@ -39,119 +38,88 @@ fn has_bad_entry(entries: u32, list: &[i32]) -> bool
 }
 
 // Applies one entry: -1 empties its slot, -2 leaves it, and every other one installs that catalogue entry.
-fn apply_entry<T: FileTable>(
-    rt: &impl Wait,
-    table: &T,
-    pass: &mut T::Pass,
-    catalogue: &Catalogue,
-    place: Place,
+fn apply_entry<T: FileTable, R: Wait>(
+    context: &Context<'_, T, R>,
+    player: &mut Player<'_, T::Pass>,
     in_list: u32,
     slot: u32,
     entry: i32,
-    closes: &mut CloseList,
 )
-    requires fits { T.fits table.now pass.old }
-    requires idle { IsIdle (T.view pass.old) }
-    requires slot { slot < size_of (T.opening table.now) }
-    requires entries { length catalogue.now ≤ MOST_ENTRIES }
-    requires good { is_bad_entry (length catalogue.now) entry ≡ false }
-    requires numbers { entry_installs entry ≤ (T.view pass.old).numbers_left }
-    requires room { 0 < closes.old.room }
-    ensures fits { T.fits table.now pass.new }
-    ensures applied { ActsSo (T.opening table.now) (player (T.view pass.old) closes.old) 0
+    requires slot { slot < size_of (T.opening context.now.table.now) }
+    requires entries { length context.now.catalogue.now ≤ MOST_ENTRIES }
+    requires good { is_bad_entry (length context.now.catalogue.now) entry ≡ false }
+    requires ready { IsReady T.view (T.fits context.now.table.now) player.old 0
+        (entry_installs entry) 1 }
+    ensures kept { IsKept (T.fits context.now.table.now) player.old player.new }
+    ensures applied { Does (T.opening context.now.table.now) T.view player.old 0
         (entry_installs entry) 1
-        (λ actions. AppliesEntry place in_list slot entry actions)
-        (player (T.view pass.new) closes.new) }
+        (λ actions. AppliesEntry context.now.place in_list slot entry actions) player.new }
 {
     if entry >= 0 {
-        let file = catalogue.open(entry as u8, place.mark(in_list), 0);
-        put(rt, table, pass, slot, file, closes);
+        let mark = context.place.mark(in_list);
+        let file = context.catalogue.open(entry as u8, mark, 0);
+        put(context, player, slot, file);
         return;
     }
     if entry > -2 {
-        clear(rt, table, pass, slot, closes);
+        clear(context, player, slot);
     }
 }
 
 // Applies the entries of a list, in order.
-fn apply_list<T: FileTable>(
-    rt: &impl Wait,
-    table: &T,
-    pass: &mut T::Pass,
-    catalogue: &Catalogue,
-    place: Place,
+fn apply_list<T: FileTable, R: Wait>(
+    context: &Context<'_, T, R>,
+    player: &mut Player<'_, T::Pass>,
     off: u32,
     list: &[i32],
-    closes: &mut CloseList,
 )
-    requires fits { T.fits table.now pass.old }
-    requires idle { IsIdle (T.view pass.old) }
-    requires slots { off + length list.now ≤ size_of (T.opening table.now) }
-    requires size { size_of (T.opening table.now) < 2 ^ 32 }
-    requires entries { length catalogue.now ≤ MOST_ENTRIES }
-    requires good { list_any (is_bad_entry (length catalogue.now)) list.now ≡ false }
-    requires numbers { list_installs list.now ≤ (T.view pass.old).numbers_left }
-    requires room { length list.now ≤ closes.old.room }
-    ensures fits { T.fits table.now pass.new }
-    ensures applied { ActsSo (T.opening table.now) (player (T.view pass.old) closes.old) 0
+    requires slots { off + length list.now ≤ size_of (T.opening context.now.table.now) }
+    requires size { size_of (T.opening context.now.table.now) < 2 ^ 32 }
+    requires entries { length context.now.catalogue.now ≤ MOST_ENTRIES }
+    requires good { list_any (is_bad_entry (length context.now.catalogue.now)) list.now ≡ false }
+    requires ready { IsReady T.view (T.fits context.now.table.now) player.old 0
+        (list_installs list.now) (length list.now) }
+    ensures kept { IsKept (T.fits context.now.table.now) player.old player.new }
+    ensures applied { Does (T.opening context.now.table.now) T.view player.old 0
         (list_installs list.now) (length list.now)
-        (λ actions. AppliesList place 0 off list.now actions)
-        (player (T.view pass.new) closes.new) }
+        (λ actions. AppliesList context.now.place 0 off list.now actions) player.new }
 {
     for (i, entry) in list.iter().enumerate() {
         let in_list = i as u32;
-        apply_entry(
-            rt,
-            table,
-            pass,
-            catalogue,
-            place,
-            in_list,
-            off + in_list,
-            *entry,
-            closes,
-        );
+        apply_entry(context, player, in_list, off + in_list, *entry);
     }
 }
 
 // Updates the slots from `off` on by a list (io_uring_register_files(3), `io_uring_register_files_update`): ENXIO where
 // there is no table, EINVAL where the list is empty or passes the end of the table, EBADF where an entry is bad, and
 // then no entry is applied. Else the result is the length of the list.
-pub(crate) fn update<T: FileTable>(
-    rt: &impl Wait,
-    alloc: Global,
-    table: &T,
-    pass: &mut T::Pass,
-    catalogue: &Catalogue,
-    place: Place,
+pub(crate) fn update<T: FileTable, R: Wait>(
+    context: &Context<'_, T, R>,
+    player: &mut Player<'_, T::Pass>,
     off: u32,
     list: &[i32],
-    closes: &mut CloseList,
 ) -> Completion
-    requires fits { T.fits table.now pass.old }
-    requires idle { IsIdle (T.view pass.old) }
-    requires numbers { list_installs list.now ≤ (T.view pass.old).numbers_left }
-    requires room { length list.now ≤ closes.old.room }
-    ensures fits { T.fits table.now pass.new }
-    ensures updated { ActsSo (T.opening table.now) (player (T.view pass.old) closes.old) 0
+    requires ready { IsReady T.view (T.fits context.now.table.now) player.old 0
+        (list_installs list.now) (length list.now) }
+    ensures kept { IsKept (T.fits context.now.table.now) player.old player.new }
+    ensures updated { let o = T.opening context.now.table.now in Does o T.view player.old 0
         (list_installs list.now) (length list.now)
-        (λ actions. UpdatesFrom (length catalogue.now) (size_of (T.opening table.now)) place off
-        list.now actions (completed_of result))
-        (player (T.view pass.new) closes.new) }
+        (λ actions. UpdatesFrom (length context.now.catalogue.now) (size_of o) context.now.place
+        off list.now actions (completed_of result)) player.new }
 {
-    let size = table.size();
+    let size = context.table.size();
     if size == 0 {
-        return Completion::refusal(alloc, place, Errno::ENXIO);
+        return context.refusal(Errno::ENXIO);
     }
     if list.is_empty() {
-        return Completion::refusal(alloc, place, Errno::EINVAL);
+        return context.refusal(Errno::EINVAL);
     }
     if off as u64 + list.len() as u64 > size as u64 {
-        return Completion::refusal(alloc, place, Errno::EINVAL);
+        return context.refusal(Errno::EINVAL);
     }
-    if has_bad_entry(catalogue.len(), list) {
-        return Completion::refusal(alloc, place, Errno::EBADF);
+    if has_bad_entry(context.catalogue.len(), list) {
+        return context.refusal(Errno::EBADF);
     }
-    apply_list(rt, table, pass, catalogue, place, off, list, closes);
-    Completion::number(alloc, place, list.len() as u32)
+    apply_list(context, player, off, list);
+    context.number(list.len() as u32)
 }

@@ -1,6 +1,13 @@
+use Rattle.fx_chain.proofs.Words.{◌≤◌, ◌*◌, ◌-◌, length, MOST_MEMBERS, MAX_CHAINS}
 use Rattle.fx_chain.proofs.Cutting.{IsCut}
 use Rattle.fx_chain.proofs.chain.cut.Given as goal
 
--- the chains of the runs that are over stand in the list, and the run from `first` on is open
-abbrev pub invariant-loop-i : goal.invariant-loop-i
-invariant-loop-i l = IsCut l.requests l.chains.items l.first l.i
+abbrev pub invariant-loop-first : goal.invariant-loop-first
+invariant-loop-first l = record {
+  short : length l.requests ≤ MOST_MEMBERS * MAX_CHAINS;
+  inside : l.first ≤ length l.requests;
+  cut : IsCut l.requests l.chains.items l.first;
+}
+
+abbrev pub decreases-loop-first : goal.decreases-loop-first
+decreases-loop-first l = length l.requests - l.first

@@ -1,6 +1,4 @@
-use Rattle.std.proofs.Common.{◌≡◌, ◌+◌, take, drop, None, sym, ap, ◌∙◌}
-use Rattle.fx_chain.specs.Faults.{first_fault, fault_after, fault_behind}
-use Rattle.fx_chain.specs.Operation.{asked_of, all_asked}
+use Rattle.fx_chain.proofs.Words.{◌≡◌, ◌+◌, take, drop, None, sym, ap, ◌∙◌, first_fault, fault_after, fault_behind, asked_of, all_asked}
 use Rattle.fx_chain.proofs.Asking.{asked_more, asked_rest}
 use Rattle.fx_chain.proofs.Counted.{counted_next, fault_behind-counted, fine, first_fault-fine}
 use Rattle.fx_chain.proofs.fault.check.Goals as goal

@@ -1,15 +1,20 @@
-use Rattle.std.proofs.Common.{Some, refl, arith}
-use Rattle.fx_plain.specs.declared.event.Action.TheVariants.{Take}
-use Rattle.fx_table.specs.Calls.{no_use}
-use Rattle.fx_chain.specs.Performs.{player}
-use Rattle.fx_chain.proofs.ActsInTurn.{removes_some}
+use Rattle.fx_chain.proofs.Words.{◌≡◌, ℕ, Result, Ok, Err, Option, refl, ◌∙◌, arith, Take, Taken, no_use, Opening, PassView, Retired, view_of}
+use Rattle.std.specs.Result.{result_ok}
+use Rattle.fx_table.specs.declared.values.Empty.{Empty}
+use Rattle.fx_chain.proofs.ActsInTurn.{Removed, is_removed, removes}
 use Rattle.fx_chain.proofs.removal.take.Goals as goal
 
-pub returns-in-Ok-clause-removed : goal.returns-in-Ok-clause-removed
-returns-in-Ok-clause-removed g c =
-    let (f, is, adds) = c.in-Ok.ensures.taken in (
-      Some f,
-      refl,
-      removes_some _ (player _ c.args.closes.now) _ _ (Take c.args.slot) f _ 0 no_use (omega arith)
-          (omega arith) refl adds c.retire.ensures.retired,
-    )
+taken : (o : Opening) (v w : PassView) (slot : ℕ) (result : Result Retired Empty) (removed : Option Retired) → removed ≡ result_ok result
+    → Taken o v slot result w → Removed o v (Take slot) no_use removed w
+taken o v w slot (Err e) removed is adds = rw is adds
+taken o v w slot (Ok x) removed is adds = rw is adds
+
+pub retire-requires-clause-removed : goal.retire-requires-clause-removed
+retire-requires-clause-removed g c κs within =
+    is_removed _ _ _ (Take c.args.slot) no_use _ (taken _ _ _ _ _ _ c.ok-removed.ensures.value c.take.ensures.taken)
+
+pub returns-clause-removed : goal.returns-clause-removed
+returns-clause-removed g c =
+    let (r, is, does) = removes _ (view_of g.T.FileTable.view c.args.player.now) _ _ (Take c.args.slot) 0 no_use (omega arith) (omega arith) (λ r. refl) _
+    (taken _ _ _ _ _ _ c.ok-removed.ensures.value c.take.ensures.taken) c.retire.ensures.retired in
+    (r, c.is_some-found.ensures ∙ is, does)

@@ -1,16 +1,12 @@
-use Rattle.std.proofs.Common.{◌≤◌, ◌+◌, take, drop, length}
-use Rattle.fx_table.specs.Pass.{IsIdle}
-use Rattle.fx_chain.specs.Answers.{AppliesList}
-use Rattle.fx_chain.specs.Performs.{ActsSo, player}
-use Rattle.fx_chain.specs.Weights.{list_installs}
+use Rattle.fx_chain.proofs.Words.{◌≤◌, ◌+◌, take, drop, length, IsIdle, AppliesList, Does, IsKept, list_installs}
 use Rattle.fx_chain.proofs.update.apply_list.Given as goal
 
 abbrev pub invariant-loop-i : goal.invariant-loop-i
 invariant-loop-i g l = record {
-  fits : g.T.FileTable.fits l.table l.pass;
-  idle : IsIdle (g.T.FileTable.view l.pass);
-  numbers : list_installs (drop l.i l.list) ≤ (g.T.FileTable.view l.pass).numbers_left;
-  room : length l.list ≤ l.closes.room + l.i;
-  done : ActsSo (g.T.FileTable.opening l.table) (player (g.T.FileTable.view l.fn.pass) l.fn.closes) 0 (list_installs (take l.i l.list)) l.i
-      (AppliesList l.place 0 l.off (take l.i l.list)) (player (g.T.FileTable.view l.pass) l.closes);
+  kept : IsKept (g.T.FileTable.fits l.context.table.now) l.initial.player l.player;
+  idle : IsIdle (g.T.FileTable.view l.player.pass.now);
+  numbers : list_installs (drop l.i l.list) ≤ (g.T.FileTable.view l.player.pass.now).numbers_left;
+  room : length l.list ≤ l.player.closes.now.room + l.i;
+  done : Does (g.T.FileTable.opening l.context.table.now) g.T.FileTable.view l.initial.player 0 (list_installs (take l.i l.list)) l.i
+      (AppliesList l.context.place 0 l.off (take l.i l.list)) l.player;
 }

@@ -1,6 +1,4 @@
-use Rattle.std.proofs.Common.{◌≡◌, drop}
-use Rattle.std.specs.List.{list_any}
-use Rattle.fx_chain.specs.Answers.{is_bad_entry}
+use Rattle.fx_chain.proofs.Words.{◌≡◌, drop, list_any, is_bad_entry}
 use Rattle.fx_chain.proofs.update.has_bad_entry.Given as goal
 
 -- whether there is one is told by the entries that are left
