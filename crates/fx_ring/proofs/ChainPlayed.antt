@@ -13,7 +13,6 @@ use Rattle.fx_plain.proofs.Leading.{closes_in-then}
 use Rattle.fx_table.specs.Opening.{Opening, size_of}
 use Rattle.fx_table.specs.Pass.{PassView, event_of}
 use Rattle.fx_table.specs.Calls.{Draws}
-use Rattle.fx_table.specs.declared.limits.TheConstants.{CHAIN_NUMBERS}
 use Rattle.fx_table.specs.declared.values.Doing.TheVariants.{Idle}
 use Rattle.fx_table.proofs.Chains.{keeps_drawn_chains}
 use Rattle.fx_table.proofs.Members.{contains_head, contains_tail, contains_cases, contains_map, each_all}
@@ -39,8 +38,8 @@ actions_again v [] = refl
 actions_again v (action ∷ actions) = ap (λ (l : List Action). action ∷ l) (actions_again v actions)
 
 -- the pass with the chain that it drew
-abbrev pub drawing : PassView → ℕ → PassView
-drawing v chain = record v { chain = chain; drawn = v.drawn ▷ chain; numbers_left = CHAIN_NUMBERS }
+abbrev pub drawing : Opening → PassView → ℕ → PassView
+drawing o v chain = record v { chain = chain; drawn = v.drawn ▷ chain; numbers_left = o.numbers }
 
 -- what is said of each chain that a worker drew
 abbrev IsDone : List FileEntry → ℕ → ℕ → List (List Asked) → ℕ → List Action → List Completed → Type 0
@@ -52,12 +51,12 @@ module _ (o : Opening) (catalogue : List FileEntry) (submission : ℕ) (runs : L
     (before now : List Completed) (closes files : CloseListView) (chain : ℕ)
     (worked : HasWorked catalogue (size_of o) submission runs (worker_state v before closes))
     (further : v.chain < chain) (inside : chain ≤ length runs)
-    (played : PlaysChain o catalogue submission chain (run_of_chain runs chain) (player (drawing v chain) closes) before (player x files) now) where
+    (played : PlaysChain o catalogue submission chain (run_of_chain runs chain) (player (drawing o v chain) closes) before (player x files) now) where
   abbrev actions : List Action
   actions = played.2.actions
 
   abbrev events : List Event
-  events = map (event_of (drawing v chain)) actions
+  events = map (event_of (drawing o v chain)) actions
 
   own_is : x.own ≡ events ++ v.own
   own_is = played.2.acts.adds.own
@@ -71,7 +70,7 @@ module _ (o : Opening) (catalogue : List FileEntry) (submission : ℕ) (runs : L
   -- the new events and completions are of the chain
   new_events : All (λ e. chain_of e ≡ chain) events
   new_events = each_all (λ e. chain_of e ≡ chain) events
-      (λ e h. ap chain_of (contains_map (event_of (drawing v chain)) actions e h).2)
+      (λ e h. ap chain_of (contains_map (event_of (drawing o v chain)) actions e h).2)
 
   new_completions : All (λ c. chain_of_completed c ≡ chain) played.0
   new_completions = explained_of_chain catalogue (size_of o) (first_member submission chain) (run_of_chain runs chain) actions played.0
@@ -88,7 +87,7 @@ module _ (o : Opening) (catalogue : List FileEntry) (submission : ℕ) (runs : L
   done_now : IsDone catalogue (size_of o) submission runs chain (map action_of (part_of_chain chain x.own)) (completions_of_chain chain now)
   done_now =
       let part : map action_of (part_of_chain chain x.own) ≡ actions = ap (λ (h : List Event). map action_of (part_of_chain chain h)) own_is
-      ∙ ap (map action_of) (only_first chain_of chain events v.own new_events old_events) ∙ actions_again (drawing v chain) actions in
+      ∙ ap (map action_of) (only_first chain_of chain events v.own new_events old_events) ∙ actions_again (drawing o v chain) actions in
       let mine : completions_of_chain chain now ≡ played.0 = ap (completions_of_chain chain) played.1
       ∙ only_second chain_of_completed chain before played.0 old_completions new_completions in
       subst (λ (z : List Action × List Completed). IsDone catalogue (size_of o) submission runs chain z.0 z.1)
@@ -131,7 +130,7 @@ module _ (o : Opening) (catalogue : List FileEntry) (submission : ℕ) (runs : L
         (λ is. (omega arith, omega arith))
         (λ t. let low = worked.inside c t in let top = low.1 in (low.0, omega arith)) (drawn_cases c h);
     reached = omega arith;
-    own = keeps_drawn_chains o (drawing v chain) x actions Idle played.2.used (contains_head chain v.drawn)
+    own = keeps_drawn_chains o (drawing o v chain) x actions Idle played.2.used (contains_head chain v.drawn)
         (λ e h. contains_tail chain v.drawn e.chain (worked.own e h)) played.2.acts.adds;
     completed = subst (All (λ c. Contains x.drawn c.place.chain)) (sym played.1)
         (All-append (λ c. Contains x.drawn c.place.chain) before played.0
@@ -140,7 +139,7 @@ module _ (o : Opening) (catalogue : List FileEntry) (submission : ℕ) (runs : L
     closed = played.2.acts.files
         ∙ ap (λ (l : List Closed). l ++ closes_in actions) worked.closed
         ∙ sym (closes_in-then (map action_of v.own) actions)
-        ∙ ap (λ (l : List Action). closes_in (l ++ map action_of v.own)) (sym (actions_again (drawing v chain) actions))
+        ∙ ap (λ (l : List Action). closes_in (l ++ map action_of v.own)) (sym (actions_again (drawing o v chain) actions))
         ∙ ap closes_in (sym (map-append action_of events v.own))
         ∙ ap (λ (l : List Event). closes_in (map action_of l)) (sym own_is);
   }
@@ -201,7 +200,7 @@ module _ (o : Opening) (runs : List (List Asked)) (v w : PassView) (before : Lis
   module _ (catalogue : List FileEntry) (submission more : ℕ) (x : PassView) (now : List Completed) (files : CloseListView)
       (worked : HasWorked catalogue (size_of o) submission runs (worker_state v before closes)) (grows : capacity ≤ more)
       (played : PlaysChain o catalogue submission chain asked (player w closes) before (player x files) now) where
-    played_so : PlaysChain o catalogue submission chain (run_of_chain runs chain) (player (drawing v chain) closes) before (player x files) now
+    played_so : PlaysChain o catalogue submission chain (run_of_chain runs chain) (player (drawing o v chain) closes) before (player x files) now
     played_so = subst (λ (z : PassView × List Asked). PlaysChain o catalogue submission chain z.1 (player z.0 closes) before (player x files) now)
         (λ i. (drew.3 i, are i)) played
 

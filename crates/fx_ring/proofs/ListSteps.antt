@@ -79,7 +79,7 @@ module _ (k : ℕ) (at : ℕ → Option Closed) (off : ℕ) (xs : List ℤ) (tag
     ]
   ]
 
-  files_next : files_after k at off (xs ++ z ∷ []) tags ≡ changed_at (files_after k at off xs tags) place left
+  pub files_next : files_after k at off (xs ++ z ∷ []) tags ≡ changed_at (files_after k at off xs tags) place left
   files_next = λ i slot. by_equality slot place
       (λ b. files_after k at off (xs ++ z ∷ []) tags slot ≡ (if b then left else files_after k at off xs tags slot))
       (next_there slot) (next_else slot) i

@@ -11,6 +11,7 @@ use Rattle.fx_base.specs.Catalogue.{FileEntry}
 use Rattle.fx_base.specs.CloseListView.{CloseListView}
 use Rattle.fx_table.specs.Pass.{PassView, IsIdle, new_pass, new_passes, new_passes_from}
 use Rattle.fx_table.proofs.Members.{contains_none, contains_map, contains_mapped, contains_reverse, each_all}
+use Rattle.fx_chain.specs.declared.fault.TheConstants.{MOST_MEMBERS}
 use Rattle.fx_chain.specs.Accepted.{IsAccepted, IsChain, members_of}
 use Rattle.fx_chain.specs.Completed.{Completed, all_completed}
 use Rattle.fx_chain.specs.Operation.{Asked}
@@ -96,9 +97,9 @@ runs_weigh_all requests = sym (weights_joined (runs_of requests)) ∙ ap all_wei
 
 -- the runs of chains within the limits are short
 pub runs_are_short : (requests : List Asked) (chains : List Chain) → map (members_of requests) chains ≡ runs_of requests
-    → All (IsChain requests) chains → All (λ run. length run ≤ 16) (runs_of requests)
-runs_are_short requests chains members within = subst (All (λ run. length run ≤ 16)) members
-    (each_all (λ run. length run ≤ 16) (map (members_of requests) chains) (λ run h.
+    → All (IsChain requests) chains → All (λ run. length run ≤ MOST_MEMBERS) (runs_of requests)
+runs_are_short requests chains members within = subst (All (λ run. length run ≤ MOST_MEMBERS)) members
+    (each_all (λ run. length run ≤ MOST_MEMBERS) (map (members_of requests) chains) (λ run h.
     let m = contains_map (members_of requests) chains run h in
     let short = (All-contains (IsChain requests) chains m.0 within m.1).run.members in
     let same = ap length m.2 in

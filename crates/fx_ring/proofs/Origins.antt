@@ -8,7 +8,7 @@ use Rattle.fx_base.specs.declared.mark.Mark.{Mark}
 use Rattle.fx_base.specs.declared.mark.Mark.TheVariants.{Registered, Submitted}
 use Rattle.fx_base.specs.declared.open_file.Closed.{Closed}
 use Rattle.fx_chain.specs.Answers.{is_bad_entry}
-use Rattle.fx_ring.specs.Ring.{RingState, IsRing, IsCounted}
+use Rattle.fx_ring.specs.Ring.{RingState, IsRing, HasCounted}
 use Rattle.fx_ring.specs.Registration.{file_listed, files_after, removed_by, removed_from, registered, updated, is_bad_file}
 use Rattle.fx_ring.specs.Tags.{tag_at}
 use Rattle.fx_ring.proofs.Numbers.{or_left, or_right, good_files}
@@ -49,19 +49,19 @@ from entries k at off list tags slot file good is = elim (cases_lt slot off) [
 
 -- a mark that was counted still is
 counted_more : (ring next : RingState) (mark : Mark)
-    → next.registrations ≡ ring.registrations + 1 → next.submissions ≡ ring.submissions → IsCounted ring mark → IsCounted next mark
+    → next.registrations ≡ ring.registrations + 1 → next.submissions ≡ ring.submissions → HasCounted ring mark → HasCounted next mark
 counted_more ring next (Registered k i) more same counted = omega arith
 counted_more ring next (Submitted s c m e) more same counted = omega arith
 
 -- no counted mark is one of the next list
-not_counted : (ring : RingState) (mark : Mark) (i : ℕ) → IsCounted ring mark → mark ≢ Registered (ring.registrations + 1) i
+not_counted : (ring : RingState) (mark : Mark) (i : ℕ) → HasCounted ring mark → mark ≢ Registered (ring.registrations + 1) i
 not_counted ring (Registered k j) i counted = λ same. let e : k ≡ ring.registrations + 1 = cc in omega arith
 not_counted ring (Submitted s c m e) i counted = λ same. cc
 
 module _ (ring next : RingState) (at : ℕ → Option Closed) (off : ℕ) (list : List ℤ) (tags : List ℕ)
     (good : list_any (is_bad_entry (length ring.catalogue)) list ≡ false)
     (entries : (slot : ℕ) (file : Closed) → at slot ≡ Some file → file.entry < length ring.catalogue)
-    (counted : (slot : ℕ) (file : Closed) → at slot ≡ Some file → IsCounted ring file.mark)
+    (counted : (slot : ℕ) (file : Closed) → at slot ≡ Some file → HasCounted ring file.mark)
     (distinct : (slot other : ℕ) (file same : Closed) → at slot ≡ Some file → at other ≡ Some same → file.mark ≡ same.mark → slot ≡ other)
     (catalogue : next.catalogue ≡ ring.catalogue) (more : next.registrations ≡ ring.registrations + 1)
     (submissions : next.submissions ≡ ring.submissions) (after : next.at ≡ files_after (ring.registrations + 1) at off list tags) where
@@ -71,8 +71,8 @@ module _ (ring next : RingState) (at : ℕ → Option Closed) (off : ℕ) (list 
       from (length ring.catalogue) (ring.registrations + 1) at off list tags slot file good
       (sym (ap (λ (a : ℕ → Option Closed). a slot) after) ∙ is)
 
-  new_counted : (mark : Mark) (i : ℕ) → mark ≡ Registered (ring.registrations + 1) i → IsCounted next mark
-  new_counted mark i is = subst (IsCounted next) (sym is) (omega arith)
+  new_counted : (mark : Mark) (i : ℕ) → mark ≡ Registered (ring.registrations + 1) i → HasCounted next mark
+  new_counted mark i is = subst (HasCounted next) (sym is) (omega arith)
 
   pub listed_rings : IsRing next
   listed_rings = record {

@@ -4,19 +4,25 @@ use Rattle.std.proofs.lemmas.List.{get_or-map, length-map}
 use Rattle.fx_chain.specs.Accepted.{IsChain, IsShortRun, members_of}
 use Rattle.fx_chain.specs.Operation.{Asked, all_asked}
 use Rattle.fx_chain.specs.Runs.{runs_of}
+use Rattle.fx_chain.specs.Weights.{all_installs}
 use Rattle.fx_chain.specs.declared.chain.Chain.{Chain}
 use Rattle.fx_chain.specs.declared.request.Request.{Request}
 use Rattle.fx_chain.proofs.Asking.{asked_part}
-use Rattle.fx_ring.specs.Work.{run_of_chain}
+use Rattle.fx_ring.specs.Work.{InstallAtMost, run_of_chain}
+
+-- the part of a list that a chain is
+pub asked_of_part : (requests : List Request) (chain : Chain)
+    → all_asked (take (chain.first + chain.len - chain.first) (drop chain.first requests)) ≡ members_of (all_asked requests) chain
+asked_of_part requests chain =
+    let count : chain.first + chain.len - chain.first ≡ chain.len = omega arith in
+    ap (λ (n : ℕ). all_asked (take n (drop chain.first requests))) count ∙ asked_part requests chain.first chain.len
 
 module _ (requests : List Request) (chains : List Chain) (c : ℕ) (d : Chain) (some : 1 ≤ c) (inside : c ≤ length chains) where
   abbrev chain : Chain
   chain = slice_index_or chains (c - 1) d
 
   asked_at : all_asked (take (chain.first + chain.len - chain.first) (drop chain.first requests)) ≡ members_of (all_asked requests) chain
-  asked_at =
-      let count : chain.first + chain.len - chain.first ≡ chain.len = omega arith in
-      ap (λ (n : ℕ). all_asked (take n (drop chain.first requests))) count ∙ asked_part requests chain.first chain.len
+  asked_at = asked_of_part requests chain
 
   pub run_at : map (members_of (all_asked requests)) chains ≡ runs_of (all_asked requests)
       → all_asked (take (chain.first + chain.len - chain.first) (drop chain.first requests)) ≡ run_of_chain (runs_of (all_asked requests)) c
@@ -29,6 +35,10 @@ module _ (requests : List Request) (chains : List Chain) (c : ℕ) (d : Chain) (
   pub short_at : All (IsChain (all_asked requests)) chains
       → IsShortRun (all_asked (take (chain.first + chain.len - chain.first) (drop chain.first requests)))
   short_at within = subst IsShortRun (sym asked_at) (chain_at within).run
+
+  pub few_at : (most : ℕ) → InstallAtMost (all_asked requests) most chains
+      → all_installs (all_asked (take (chain.first + chain.len - chain.first) (drop chain.first requests))) ≤ most
+  few_at most few = subst (λ (run : List Asked). all_installs run ≤ most) (sym asked_at) (few (c - 1) d (omega arith))
 
 -- there are as many chains as runs
 pub as_many : (requests : List Request) (chains : List Chain) → map (members_of (all_asked requests)) chains ≡ runs_of (all_asked requests)

@@ -19,7 +19,7 @@ use Rattle.fx_chain.specs.Completed.{Completed}
 use Rattle.fx_chain.specs.Explains.{first_member}
 use Rattle.fx_chain.specs.Operation.{Asked}
 use Rattle.fx_chain.specs.Runs.{runs_of}
-use Rattle.fx_ring.specs.Ring.{RingContents, RingState, IsRing, IsAtRest, IsCounted, AreEntries, ring_of, with_table}
+use Rattle.fx_ring.specs.Ring.{RingContents, RingState, IsRing, IsAtRest, HasCounted, AreEntries, ring_of, with_table}
 use Rattle.fx_ring.specs.Submission.{ExplainsParts, Reported, IsOneHistory}
 use Rattle.fx_ring.specs.declared.ring.TheConstants.{MOST_SUBMISSIONS}
 use Rattle.fx_ring.proofs.Rings.{opening_files, entries_closed}
@@ -46,12 +46,12 @@ file_told (Some f) told is = let e : Some f.identity ≡ Some told = is in (f, r
 
 -- what was counted is counted once one more submission is
 counted_still : (ring next : RingState) (mark : Mark) → next.registrations ≡ ring.registrations → next.submissions ≡ ring.submissions + 1
-    → IsCounted ring mark → IsCounted next mark
+    → HasCounted ring mark → HasCounted next mark
 counted_still ring next (Registered k i) same more counted = omega arith
 counted_still ring next (Submitted s c m j) same more counted = omega arith
 
 -- no counted mark is one of the next submission
-not_yet : (ring : RingState) (mark : Mark) (c m j : ℕ) → IsCounted ring mark → mark ≢ Submitted (ring.submissions + 1) c m j
+not_yet : (ring : RingState) (mark : Mark) (c m j : ℕ) → HasCounted ring mark → mark ≢ Submitted (ring.submissions + 1) c m j
 not_yet ring (Registered k i) c m j counted same = cc
 not_yet ring (Submitted s d n i) c m j counted same = let e : s ≡ ring.submissions + 1 = cc in omega arith
 
@@ -71,7 +71,7 @@ module _ (old new : RingContents) (requests : List Asked) (report : Reported) (i
 
   -- the file is of the catalogue and has a mark that was counted before
   abbrev WasThere : File → Type 0
-  WasThere f = IsCounted before f.identity.mark × (f.identity.entry < length old.catalogue)
+  WasThere f = HasCounted before f.identity.mark × (f.identity.entry < length old.catalogue)
 
   -- the file is of the catalogue and has a mark of this submission
   abbrev IsNew : File → Type 0
@@ -116,11 +116,11 @@ module _ (old new : RingContents) (requests : List Asked) (report : Reported) (i
   ended = subst (λ (st : State). IsApart WasThere actions st.at) (sym one.legal.leads.1)
       (apart_after WasThere start actions began no_mark_twice unlike)
 
-  put_counted : (f : File) → IsPut actions f → IsCounted behind f.identity.mark
+  put_counted : (f : File) → IsPut actions f → HasCounted behind f.identity.mark
   put_counted f put =
       let (c, (m, j, mark), entry) = put_is_new f put in
       let few = one.submission in
-      subst (IsCounted behind) (sym mark) (omega arith)
+      subst (HasCounted behind) (sym mark) (omega arith)
 
   keeps : IsRing behind
   keeps = record {
@@ -129,7 +129,7 @@ module _ (old new : RingContents) (requests : List Asked) (report : Reported) (i
         subst (λ (x : Closed). x.entry < length old.catalogue) told (⊎_elim (λ was. was.1) (λ put. (put_is_new f put).2) (ended.from slot f there));
     counted = λ slot file at.
         let (f, there, told) = file_told (one.end.at slot) file at in
-        subst (λ (x : Closed). IsCounted behind x.mark) told
+        subst (λ (x : Closed). HasCounted behind x.mark) told
         (⊎_elim (λ was. counted_still before behind f.identity.mark refl refl was.0) (λ put. put_counted f put) (ended.from slot f there));
     distinct = λ slot other file same at at_other marks.
         let (f, there, told) = file_told (one.end.at slot) file at in

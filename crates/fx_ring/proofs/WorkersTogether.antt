@@ -23,6 +23,7 @@ use Rattle.fx_table.proofs.Chains.{some_times, part_of_drawn}
 use Rattle.fx_table.proofs.Members.{contains_none, contains_head, contains_tail, contains_cases, contains_map}
 use Rattle.fx_table.proofs.Members.{contains_mapped, contains_reverse, contains_reversed, each_all}
 use Rattle.fx_table.proofs.SumLemmas.{sum_reverse, sum_map, sum_le_of}
+use Rattle.fx_chain.specs.declared.fault.TheConstants.{MOST_MEMBERS}
 use Rattle.fx_chain.specs.Completed.{Completed}
 use Rattle.fx_chain.specs.Explains.{Explains, first_member}
 use Rattle.fx_chain.specs.Operation.{Asked}
@@ -228,7 +229,7 @@ module _ (catalogue : List FileEntry) (submissions : ℕ) (requests : List Asked
   abbrev history : List Event
   history = played.closing.history
 
-  pub one_history : All (λ run. length run ≤ 16) runs → IsPermutation (flat_map completed_by crew) sorted → IsNonDecreasingBy place_key sorted
+  pub one_history : All (λ run. length run ≤ MOST_MEMBERS) runs → IsPermutation (flat_map completed_by crew) sorted → IsNonDecreasingBy place_key sorted
       → IsPermutation (flat_map closed_by_worker crew) closes.files → IsInOrderOfMark closes.files → (registrations : ℕ)
       → IsOneHistory (ring_with catalogue o.contents submissions registrations) requests
       (record { submission = submissions + 1; completions = sorted; closes = closes })

@@ -18,7 +18,8 @@ abbrev pub start_of_submission : RingContents → List Asked → State
 start_of_submission ring requests =
     opening (state_of ring.table) (numbers_for (length (runs_of requests)))
 
--- from a look-up on that found a file, as long as its pass releases nothing, no file of that number is closed
+-- from a look-up on that found a file, as long as its pass releases nothing, no file of that number
+-- is closed
 abbrev pub NoHeldFileCloses : Type 0
 NoHeldFileCloses =
     (old new : RingContents) (requests : List Asked) (report : Reported)
@@ -36,8 +37,8 @@ NoFileClosesTwice =
     → (one : IsOneHistory old requests report new)
     → (number : ℕ) → length (closes_of number one.history) ≤ 1
 
--- a file that was at a slot, or was installed, is at a slot afterwards and was never closed, or is at none and was
--- closed, once
+-- a file that was at a slot, or was installed, is at a slot afterwards and was never closed, or is
+-- at none and was closed, once
 abbrev pub NoFileIsLost : Type 0
 NoFileIsLost =
     (old new : RingContents) (requests : List Asked) (report : Reported)

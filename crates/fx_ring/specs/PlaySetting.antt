@@ -24,9 +24,10 @@ IsReadyFor {t = t} p w = IsReady t.view (t.fits p.table.now) (setting p) w
 abbrev pub IsDoneFor : {T R G P : Type 0} {t : _} → Play T R G P t → Worker P → Type 0
 IsDoneFor {t = t} p w = IsDone t.view (t.fits p.table.now) (setting p) w
 
--- the submission leads by one history from a ring with the one table to one with the other, however many registrations
--- that ring has counted
+-- the submission leads by one history from a ring with the one table to one with the other, however
+-- many registrations that ring has counted
 abbrev pub IsPlayOf : {R G : Type 0} → Submission R G → Contents → Report → Contents → Type 0
 IsPlayOf s before report after = (registrations : ℕ)
-    → IsOneHistory (ring_with s.catalogue.now before s.earlier registrations) (all_asked s.requests.now)
+    → IsOneHistory (ring_with s.catalogue.now before s.earlier registrations)
+    (all_asked s.requests.now)
     (reported report) (ring_with s.catalogue.now after (s.earlier + 1) registrations)

@@ -12,7 +12,8 @@ use Rattle.fx_ring.specs.declared.worker.Worker.{Worker}
 
 -- where its pass is, and what its chains came to
 abbrev pub state_of_worker : {P : Type 0} → (P → PassView) → Worker P → WorkerState
-state_of_worker V w = worker_state (V w.pass) (all_completed w.outcome.completions.items) w.outcome.closes
+state_of_worker V w =
+    worker_state (V w.pass) (all_completed w.outcome.completions.items) w.outcome.closes
 
 -- what all workers of a submission play
 pub record Setting : Type 0 where
@@ -22,22 +23,29 @@ pub record Setting : Type 0 where
   pub runs : List (List Asked)
 
 abbrev pub setting_of : List FileEntry → Opening → ℕ → List Request → Setting
-setting_of catalogue o submission requests =
-    record { catalogue = catalogue; size = size_of o; submission = submission; runs = runs_of (all_asked requests) }
+setting_of catalogue o submission requests = record {
+  catalogue = catalogue;
+  size = size_of o;
+  submission = submission;
+  runs = runs_of (all_asked requests);
+}
 
 -- its pass does nothing, and its chains have been played as they may be
-pub record IsBetweenChains {P : Type 0} (V : P → PassView) (Fits : P → Type 0) (s : Setting) (w : Worker P) : Type 0 where
+pub record IsBetweenChains {P : Type 0} (V : P → PassView) (Fits : P → Type 0) (s : Setting)
+    (w : Worker P) : Type 0 where
   pub fits : Fits w.pass
   pub idle : IsIdle (V w.pass)
   pub worked : HasWorked s.catalogue s.size s.submission s.runs (state_of_worker V w)
 
 -- it has room for what one more chain may come to
-pub record IsReady {P : Type 0} (V : P → PassView) (Fits : P → Type 0) (s : Setting) (w : Worker P) : Type 0 where
+pub record IsReady {P : Type 0} (V : P → PassView) (Fits : P → Type 0) (s : Setting) (w : Worker P)
+    : Type 0 where
   pub between : IsBetweenChains V Fits s w
   pub room : HasRoom s.runs (state_of_worker V w) (vec_capacity w.outcome.completions)
 
 -- no chains are left
-pub record IsDone {P : Type 0} (V : P → PassView) (Fits : P → Type 0) (s : Setting) (w : Worker P) : Type 0 where
+pub record IsDone {P : Type 0} (V : P → PassView) (Fits : P → Type 0) (s : Setting) (w : Worker P)
+    : Type 0 where
   pub between : IsBetweenChains V Fits s w
   pub all_drawn : (V w.pass).no_chains_left ≡ true
 

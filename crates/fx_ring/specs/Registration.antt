@@ -1,5 +1,5 @@
--- What the calls between submissions refuse, and what they leave (io_uring_register(2); the order of the refusals is this
--- project's own).
+-- What the calls between submissions refuse, and what they leave (io_uring_register(2); the order
+-- of the refusals is this project's own).
 use Rattle.std.specs.Prelude.{ℕ, zero, suc, ◌+◌, ◌-◌, ◌==◌, ◌||◌, nat_le, nat_lt, Bool, ℤ, pos, negsuc}
 use Rattle.std.specs.Prelude.{List, [], ◌∷◌, ◌++◌, length, slice_get, Option, Some, None, if◌then◌else◌}
 use Rattle.std.specs.List.{list_any}
@@ -20,7 +20,7 @@ abbrev pub is_bad_file : ℕ → ℤ → Bool
 is_bad_file entries (pos entry) = nat_le entries entry
 is_bad_file entries (negsuc n) = nat_lt 0 n
 
--- why a registration is refused, want of memory aside
+-- why a registration is refused, except when out of memory
 abbrev pub register_refusal : RingState → List ℤ → List ℕ → Option Errno
 register_refusal ring list tags =
     if nat_lt 0 ring.size then Some EBUSY
@@ -56,14 +56,15 @@ update_refusal ring off list tags =
     else if nat_le MOST_REGISTRATIONS ring.registrations then Some EAGAIN
     else None
 
--- what a number of a list leaves at its slot: -1 empties the slot, one of 0 or more installs that entry of the catalogue
--- with its tag, and the others leave what was there
+-- what a number of a list leaves at its slot: -1 empties the slot, one of 0 or more installs that
+-- entry of the catalogue with its tag, and the others leave what was there
 abbrev pub file_after : Mark → ℕ → ℤ → Option Closed → Option Closed
 file_after mark tag (pos entry) before = Some (record { mark = mark; entry = entry; tag = tag })
 file_after mark tag (negsuc zero) before = None
 file_after mark tag (negsuc (suc n)) before = before
 
--- what the k-th list leaves at the slot of its place i; where the list has no such place, what was there
+-- what the k-th list leaves at the slot of its place i; where the list has no such place, what was
+-- there
 abbrev pub file_listed : ℕ → ℕ → ℕ → Option ℤ → Option Closed → Option Closed
 file_listed k i tag None before = before
 file_listed k i tag (Some number) before = file_after (Registered k i) tag number before
@@ -72,7 +73,8 @@ file_listed k i tag (Some number) before = file_after (Registered k i) tag numbe
 abbrev pub files_after : ℕ → (ℕ → Option Closed) → ℕ → List ℤ → List ℕ → ℕ → Option Closed
 files_after k at off list tags slot =
     if nat_lt slot off then at slot
-    else file_listed k (slot - off) (tag_at tags (slot - off)) (slice_get list (slot - off)) (at slot)
+    else file_listed k (slot - off) (tag_at tags (slot - off)) (slice_get list (slot - off))
+    (at slot)
 
 -- the file that a number of a list removes from its slot
 abbrev pub removed_by : ℤ → Option Closed → List Closed
@@ -83,7 +85,8 @@ removed_by (negsuc (suc n)) before = []
 -- the files that a list removes, worked off from a slot on
 abbrev pub removed_from : (ℕ → Option Closed) → ℕ → List ℤ → List Closed
 removed_from at slot [] = []
-removed_from at slot (number ∷ list) = removed_by number (at slot) ++ removed_from at (slot + 1) list
+removed_from at slot (number ∷ list) =
+    removed_by number (at slot) ++ removed_from at (slot + 1) list
 
 -- the ring once the list was registered with its tags
 abbrev pub registered : RingState → List ℤ → List ℕ → RingState

@@ -23,8 +23,8 @@ pub record RingContents : Type 0 where
 pub record RingState : Type 0 where
   -- the files that can be opened
   pub catalogue : List FileEntry
-  -- how many slots there are, where the allocation range begins and how long it is, and the file at each slot; without a
-  -- table the size is 0
+  -- how many slots there are, where the allocation range begins and how long it is, and the file at
+  -- each slot; without a table the size is 0
   pub size : ℕ
   pub range : ℕ × ℕ
   pub at : ℕ → Option Closed
@@ -34,7 +34,8 @@ pub record RingState : Type 0 where
 
 -- the ring with the slots, the range and the files of a table, the numbers of the files aside
 abbrev pub with_table : RingState → State → RingState
-with_table ring st = record ring { size = st.size; range = st.range; at = λ slot. identity_of (st.at slot) }
+with_table ring st =
+    record ring { size = st.size; range = st.range; at = λ slot. identity_of (st.at slot) }
 
 abbrev pub ring_of : RingContents → RingState
 ring_of c = record {
@@ -48,7 +49,14 @@ ring_of c = record {
 
 -- a ring without a table, with nothing counted
 abbrev pub new_ring : List FileEntry → RingState
-new_ring catalogue = record { catalogue = catalogue; size = 0; range = (0, 0); at = λ _. None; submissions = 0; registrations = 0 }
+new_ring catalogue = record {
+  catalogue = catalogue;
+  size = 0;
+  range = (0, 0);
+  at = λ _. None;
+  submissions = 0;
+  registrations = 0;
+}
 
 -- the ring without its table
 abbrev pub without_table : RingState → RingState
@@ -62,10 +70,10 @@ files_in_order at (suc n) = files_in_order at n ++ option_to_list (at n)
 abbrev pub files_of : RingState → List Closed
 files_of ring = files_in_order ring.at ring.size
 
--- the mark is of a registration or a submission that the ring has counted
-abbrev pub IsCounted : RingState → Mark → Type 0
-IsCounted ring (Registered k i) = k ≤ ring.registrations
-IsCounted ring (Submitted submission chain member entry) = submission ≤ ring.submissions
+-- the ring has counted the registration or the submission that the mark is of
+abbrev pub HasCounted : RingState → Mark → Type 0
+HasCounted ring (Registered k i) = k ≤ ring.registrations
+HasCounted ring (Submitted submission chain member entry) = submission ≤ ring.submissions
 
 -- the files are of the catalogue
 abbrev pub AreEntries : RingState → List Closed → Type 0
@@ -73,9 +81,11 @@ AreEntries ring files = All (λ file. file.entry < length ring.catalogue) files
 
 -- what every ring keeps: its files are of the catalogue, and no two of them have one mark
 pub record IsRing (ring : RingState) : Type 0 where
-  pub entries : (slot : ℕ) (file : Closed) → ring.at slot ≡ Some file → file.entry < length ring.catalogue
-  pub counted : (slot : ℕ) (file : Closed) → ring.at slot ≡ Some file → IsCounted ring file.mark
-  pub distinct : (slot other : ℕ) (file same : Closed) → ring.at slot ≡ Some file → ring.at other ≡ Some same → file.mark ≡ same.mark → slot ≡ other
+  pub entries : (slot : ℕ) (file : Closed) → ring.at slot ≡ Some file
+      → file.entry < length ring.catalogue
+  pub counted : (slot : ℕ) (file : Closed) → ring.at slot ≡ Some file → HasCounted ring file.mark
+  pub distinct : (slot other : ℕ) (file same : Closed) → ring.at slot ≡ Some file
+      → ring.at other ≡ Some same → file.mark ≡ same.mark → slot ≡ other
 
 -- a ring between two of its calls
 pub record IsAtRest (c : RingContents) : Type 0 where

@@ -18,7 +18,8 @@ abbrev pub AreFresh : State → ℕ → ℕ → Type 0
 AreFresh st first last = (number : ℕ) → first ≤ number → number < last → st.fresh number ≡ true
 
 -- the slots have these files now, and the files that were removed are closed; size and range stay
-pub record SetsFiles (old new : State) (files : ℕ → Option Closed) (removed : List Closed) (before after : CloseListView) : Type 0 where
+pub record SetsFiles (old new : State) (files : ℕ → Option Closed) (removed : List Closed)
+    (before after : CloseListView) : Type 0 where
   pub size : new.size ≡ old.size
   pub range : new.range ≡ old.range
   pub at_slots : files_at new ≡ files
@@ -28,7 +29,9 @@ pub record SetsFiles (old new : State) (files : ℕ → Option Closed) (removed 
 
 -- one slot has this file now, or none, and the file that was there is closed
 abbrev pub SetsSlot : State → State → ℕ → Option Closed → CloseListView → CloseListView → Type 0
-SetsSlot old new slot file before after = SetsFiles old new (changed_at (files_at old) slot file) (option_to_list (files_at old slot)) before after
+SetsSlot old new slot file before after =
+    SetsFiles old new (changed_at (files_at old) slot file)
+    (option_to_list (files_at old slot)) before after
 
 -- the removed file of a number, its number aside
 abbrev pub file_removed : State → Option ℕ → Option Closed

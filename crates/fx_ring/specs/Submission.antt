@@ -7,6 +7,7 @@ use Rattle.fx_plain.specs.State.{State, IsSettled, opening}
 use Rattle.fx_plain.specs.Contents.{state_of}
 use Rattle.fx_plain.specs.History.{IsLegal, part_of_chain, action_of, closes_in}
 use Rattle.fx_plain.specs.declared.event.Event.{Event}
+use Rattle.fx_table.specs.declared.limits.TheConstants.{MAX_PASSES}
 use Rattle.fx_table.specs.Numbers.{numbers_for}
 use Rattle.fx_chain.specs.Completed.{Completed, all_completed}
 use Rattle.fx_chain.specs.Explains.{Explains, first_member}
@@ -25,19 +26,22 @@ abbrev pub or_later : Option CutFault → Option SubmitFault → Option SubmitFa
 or_later None later = later
 or_later (Some fault) later = Some (Cut fault)
 
--- why a submission is refused, want of memory aside
+-- why a submission is refused, except when out of memory
 abbrev pub submit_refusal : RingState → List Asked → ℕ → Option SubmitFault
 submit_refusal ring requests workers =
-    if workers == 0 || nat_lt 16 workers then Some Workers
-    else or_later (fault_of requests) (if nat_le MOST_SUBMISSIONS ring.submissions then Some TooMany else None)
+    if workers == 0 || nat_lt MAX_PASSES workers then Some Workers
+    else or_later (fault_of requests)
+    (if nat_le MOST_SUBMISSIONS ring.submissions then Some TooMany else None)
 
--- the completions are those of the chains from this one on, in order of place; each chain's are explained by the part of
--- the history that is the chain's
-abbrev pub ExplainsParts : List FileEntry → ℕ → ℕ → ℕ → List (List Asked) → List Event → List Completed → Type 0
+-- the completions are those of the chains from this one on, in order of place; each chain's are
+-- explained by the part of the history that is the chain's
+abbrev pub ExplainsParts : List FileEntry → ℕ → ℕ → ℕ → List (List Asked) → List Event
+    → List Completed → Type 0
 ExplainsParts catalogue size submission chain [] history completions = completions ≡ []
 ExplainsParts catalogue size submission chain (run ∷ runs) history completions =
     (own : List Completed) × (others : List Completed) × (completions ≡ own ++ others)
-    × Explains catalogue size (first_member submission chain) run (map action_of (part_of_chain chain history)) own
+    × Explains catalogue size (first_member submission chain) run
+    (map action_of (part_of_chain chain history)) own
     × ExplainsParts catalogue size submission (chain + 1) runs history others
 
 -- what a report says
@@ -47,21 +51,31 @@ pub record Reported : Type 0 where
   pub closes : CloseListView
 
 abbrev pub reported : Report → Reported
-reported report = record { submission = report.submission; completions = all_completed report.completions.items; closes = report.closes }
+reported report = record {
+  submission = report.submission;
+  completions = all_completed report.completions.items;
+  closes = report.closes;
+}
 
 -- A submission leads from one ring to another by one history of its table
-pub record IsOneHistory (old : RingContents) (requests : List Asked) (report : Reported) (new : RingContents) : Type 0 where
+pub record IsOneHistory (old : RingContents) (requests : List Asked) (report : Reported)
+    (new : RingContents) : Type 0 where
   -- it is legal from the state that the table opens with, and its end is settled
   pub history : List Event
   pub end : State
-  pub legal : IsLegal (opening (state_of old.table) (numbers_for (length (runs_of requests)))) history end
+  pub legal : IsLegal (opening (state_of old.table) (numbers_for (length (runs_of requests))))
+      history end
   pub settled : IsSettled end
   -- its events are all of the submission's chains
-  pub chains : (e : Event) → Contains history e → (1 ≤ e.chain) × (e.chain ≤ length (runs_of requests))
-  -- each chain's completions are explained by the chain's part of it, and the report has them all, in order of place
-  pub explained : ExplainsParts old.catalogue (state_of old.table).size report.submission 1 (runs_of requests) history report.completions
+  pub chains : (e : Event) → Contains history e
+      → (1 ≤ e.chain) × (e.chain ≤ length (runs_of requests))
+  -- each chain's completions are explained by the chain's part of it, and the report has them all,
+  -- in order of place
+  pub explained : ExplainsParts old.catalogue (state_of old.table).size report.submission 1
+      (runs_of requests) history report.completions
   -- the report's closes are the files that it closed, in order of mark
   pub closed : HasClosed (closes_in (map action_of history)) report.closes
   -- the table afterwards is that of its end; the submission is counted, and all else stays
   pub submission : report.submission ≡ old.submissions + 1
-  pub after : ring_of new ≡ record (with_table (ring_of old) end) { submissions = old.submissions + 1 }
+  pub after : ring_of new
+      ≡ record (with_table (ring_of old) end) { submissions = old.submissions + 1 }

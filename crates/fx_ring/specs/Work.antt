@@ -4,10 +4,12 @@ use Rattle.fx_base.specs.Catalogue.{FileEntry}
 use Rattle.fx_base.specs.CloseListView.{CloseListView}
 use Rattle.fx_plain.specs.History.{action_of, closes_in, part_of_chain}
 use Rattle.fx_table.specs.Pass.{PassView, IsOfDrawnChains}
+use Rattle.fx_chain.specs.Accepted.{members_of}
 use Rattle.fx_chain.specs.Completed.{Completed}
 use Rattle.fx_chain.specs.Explains.{Explains, first_member}
 use Rattle.fx_chain.specs.Operation.{Asked}
-use Rattle.fx_chain.specs.Weights.{all_weights}
+use Rattle.fx_chain.specs.declared.chain.Chain.{Chain}
+use Rattle.fx_chain.specs.Weights.{all_installs, all_weights}
 
 -- what a worker has at a moment
 pub record WorkerState : Type 0 where
@@ -16,24 +18,31 @@ pub record WorkerState : Type 0 where
   pub closes : CloseListView
 
 abbrev pub worker_state : PassView → List Completed → CloseListView → WorkerState
-worker_state pass completions closes = record { pass = pass; completions = completions; closes = closes }
+worker_state pass completions closes =
+    record { pass = pass; completions = completions; closes = closes }
 
 -- the requests of a chain, the first of which is 1
 abbrev pub run_of_chain : List (List Asked) → ℕ → List Asked
 run_of_chain runs chain = slice_index_or runs (chain - 1) []
 
+-- none of these chains installs more files
+abbrev pub InstallAtMost : List Asked → ℕ → List Chain → Type 0
+InstallAtMost requests most chains = All (λ chain. all_installs (members_of requests chain) ≤ most) chains
+
 abbrev pub completions_of_chain : ℕ → List Completed → List Completed
 completions_of_chain chain completions = filter (λ c. c.place.chain == chain) completions
 
 -- How far a worker is with the runs of a submission
-pub record HasWorked (catalogue : List FileEntry) (size submission : ℕ) (runs : List (List Asked)) (w : WorkerState) : Type 0 where
+pub record HasWorked (catalogue : List FileEntry) (size submission : ℕ) (runs : List (List Asked))
+    (w : WorkerState) : Type 0 where
   -- each chain that it drew is explained by its part of what the pass did
   pub explained : (c : ℕ) → Contains w.pass.drawn c
       → Explains catalogue size (first_member submission c) (run_of_chain runs c)
       (map action_of (part_of_chain c w.pass.own)) (completions_of_chain c w.completions)
   -- and closed no more files than its requests weigh
   pub weighed : (c : ℕ) → Contains w.pass.drawn c
-      → length (closes_in (map action_of (part_of_chain c w.pass.own))) ≤ all_weights (run_of_chain runs c)
+      → length (closes_in (map action_of (part_of_chain c w.pass.own)))
+      ≤ all_weights (run_of_chain runs c)
   -- those chains are of the submission, and none is behind the last one
   pub inside : (c : ℕ) → Contains w.pass.drawn c → (1 ≤ c) × (c ≤ w.pass.chain)
   pub reached : w.pass.chain ≤ length runs

@@ -5,6 +5,7 @@
 mod crew;
 pub mod laws;
 mod list;
+mod needs;
 mod outcome;
 mod play;
 mod registration;
@@ -12,9 +13,8 @@ mod report;
 mod ring;
 mod slots;
 mod submission;
-#[cfg(test)]
-mod tests;
 mod worker;
 
+pub use list::{are_bad_tags, has_bad_entry, has_bad_file};
 pub use report::{Report, SubmitFault};
 pub use ring::{MOST_REGISTRATIONS, MOST_SUBMISSIONS, Ring};

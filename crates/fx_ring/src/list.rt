@@ -25,14 +25,14 @@ fn is_bad_file(entries: u32, number: i32) -> bool
 }
 
 /// Whether a list has a number that is neither an empty slot nor an entry of the catalogue.
-pub(crate) fn has_bad_file(entries: u32, list: &[i32]) -> bool
+pub fn has_bad_file(entries: u32, list: &[i32]) -> bool
     ensures { result ≡ list_any (is_bad_file entries) list.now }
 {
     list.iter().any(|number| is_bad_file(entries, *number))
 }
 
 /// Whether a list has a number that is below -2 or past the catalogue.
-pub(crate) fn has_bad_entry(entries: u32, list: &[i32]) -> bool
+pub fn has_bad_entry(entries: u32, list: &[i32]) -> bool
     ensures { result ≡ list_any (is_bad_entry entries) list.now }
 {
     list.iter().any(|number| is_bad_entry(entries, *number))
@@ -57,7 +57,7 @@ fn has_bad_tag(list: &[i32], tags: &[u64]) -> bool
 /// Whether there are more tags than numbers, or fewer, or one of a number that opens no file. Where none are given, every
 /// number has tag 0.
 #[tactic(auto, using(crate::proofs::NoTags::no_bad_tags))]
-pub(crate) fn are_bad_tags(list: &[i32], tags: Option<&[u64]>) -> bool
+pub fn are_bad_tags(list: &[i32], tags: Option<&[u64]>) -> bool
     ensures { result ≡ are_bad_tags list.now (tags_for list.now tags.entry) }
 {
     let Some(tags) = tags else {

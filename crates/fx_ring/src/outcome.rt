@@ -1,5 +1,5 @@
 //! What the chains of a submission come to: those of one worker, or all of them.
-ghost use Rattle.std.specs.Prelude.{◌≡◌, ◌+◌, ◌*◌, ◌≤◌, ◌++◌, length, flat_map, sum_by, reverse, All, IfOk, IsPermutation, vec_len, vec_capacity};
+ghost use Rattle.std.specs.Prelude.{◌≡◌, ◌+◌, ◌*◌, ◌≤◌, [], ◌++◌, length, flat_map, sum_by, reverse, All, IfOk, IsPermutation, vec_len, vec_capacity};
 ghost use Rattle.std.specs.List.Sorted.{IsNonDecreasingBy};
 ghost use Rattle.fx_base.specs.CloseList.{IsInOrderOfMark};
 ghost use Rattle.fx_chain.specs.Accepted.{IsAccepted};
@@ -72,8 +72,8 @@ impl Outcome {
         Ok(outcomes)
     }
 
-    /// Takes what all the others came to. It can't fail for want of memory.
-    pub(crate) fn join(&mut self, mut others: Vec<Outcome>)
+    // Takes what all the others came to. It can't run out of memory.
+    fn join(&mut self, mut others: Vec<Outcome>)
         requires completions { vec_len self.old.completions
             + sum_by (λ other. length other.completions.items) others.items
             ≤ vec_capacity self.old.completions }
@@ -92,6 +92,29 @@ impl Outcome {
             self.completions.append(&mut completions).unwrap();
             self.closes.append(closes);
         }
+    }
+
+    /// What all of these came to together. What one alone came to is answered as it is, and what several came to goes into
+    /// lists in which nothing is yet, and which have room for it. It can't run out of memory.
+    pub(crate) fn joined(mut self, mut others: Vec<Outcome>) -> Outcome
+        requires nothing_yet { (self.completions.items ≡ []) × (self.closes.files ≡ []) }
+        requires completions { sum_by (λ other. length other.completions.items) others.items
+            ≤ vec_capacity self.completions }
+        requires closes { sum_by (λ other. length other.closes.files) others.items
+            ≤ self.closes.room }
+        ensures completions { result.completions.items
+            ≡ flat_map (λ other. other.completions.items) (reverse others.items) }
+        ensures closes { result.closes.files
+            ≡ flat_map (λ other. other.closes.files) (reverse others.items) }
+    {
+        if others.len() != 1 {
+            self.join(others);
+            return self;
+        }
+        let Some(only) = others.pop() else {
+            unreachable!()
+        };
+        only
     }
 
     /// Puts the completions in order of place, and the closes in order of mark.

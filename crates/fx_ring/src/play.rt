@@ -2,6 +2,7 @@ ghost use Rattle.std.specs.Prelude.{◌≡◌, ◌<◌, length, map, All};
 ghost use Rattle.fx_chain.specs.Accepted.{IsAccepted, IsChain, members_of};
 ghost use Rattle.fx_chain.specs.Operation.{all_asked};
 ghost use Rattle.fx_chain.specs.Runs.{runs_of};
+ghost use Rattle.fx_ring.specs.Work.{InstallAtMost};
 ghost use Rattle.fx_ring.specs.declared.ring.TheConstants.{MOST_SUBMISSIONS};
 
 use crate::ring::MOST_SUBMISSIONS;
@@ -24,7 +25,8 @@ pub(crate) struct Submission<'a, R, G> {
     pub ghost accepted: { IsAccepted (all_asked requests.now) },
 }
 
-/// What doesn't change while the workers of a submission play: its chains, on a table that was opened for so many.
+/// What doesn't change while the workers of a submission play: its chains, on a table that was opened for so many, each
+/// with a number for all that it installs.
 #[derive(Drop)]
 pub(crate) struct Play<'a, T: FileTable, R, G> {
     pub(crate) submission: &'a Submission<'a, R, G>,
@@ -34,4 +36,6 @@ pub(crate) struct Play<'a, T: FileTable, R, G> {
         ≡ runs_of (all_asked submission.now.requests.now) },
     pub ghost within: { All (IsChain (all_asked submission.now.requests.now)) chains.now },
     pub ghost count: { (T.opening table.now).chains ≡ length chains.now },
+    pub ghost numbers: { InstallAtMost (all_asked submission.now.requests.now)
+        (T.opening table.now).numbers chains.now },
 }

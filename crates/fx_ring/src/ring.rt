@@ -13,7 +13,7 @@ pub const MOST_SUBMISSIONS: u32 = 65_535;
 pub const MOST_REGISTRATIONS: u32 = 65_535;
 
 /// A ring (io_uring_setup(2)): the files that can be opened, the registered file table, and how many submissions and
-/// registrations were accepted. It is no `Drop`: a program that lets one go without closing its files is not accepted.
+/// registrations were accepted. It is no `Drop`: a program that drops one without closing its files is not accepted.
 ///
 /// A ring without a table is one whose table has no slots. Contracts see it by `ring_of`, in which the numbers of its
 /// files are left out. Its files are of the catalogue, no two of them have one mark, and no mark is of a registration
@@ -46,7 +46,7 @@ impl Model for Ring {
 }
 
 impl Ring {
-    /// A ring without a table. It can't fail for want of memory (io_uring_setup(2)).
+    /// A ring without a table. It can't run out of memory (io_uring_setup(2)).
     pub fn new(alloc: Global, catalogue: Catalogue) -> Ring
         ensures { ring_of result ≡ new_ring catalogue }
     {
@@ -119,7 +119,7 @@ impl Ring {
         Ok(closes)
     }
 
-    /// Lets every file of the ring go without a list. It is the way out after a fault, and can't fail for want of memory
+    /// Drops every file of the ring, in no list. It is the way out after a fault, and can't run out of memory
     /// (this project's own).
     pub fn abandon(self) {
         let Ring {

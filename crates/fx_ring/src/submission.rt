@@ -11,10 +11,12 @@ ghost use Rattle.fx_chain.specs.Runs.{runs_of};
 ghost use Rattle.fx_ring.specs.Outcomes.{HasRoomForCrew};
 ghost use Rattle.fx_ring.specs.Ring.{AreEntries, ring_of, ring_with};
 ghost use Rattle.fx_ring.specs.PlaySetting.{IsPlayOf};
+ghost use Rattle.fx_ring.specs.Work.{InstallAtMost};
 ghost use Rattle.fx_ring.specs.Submission.{IsOneHistory, reported, submit_refusal};
 ghost use Rattle.fx_ring.specs.declared.report.SubmitFault.TheVariants.{NoMemory as Refused};
 
 use crate::crew::{Room, gather, scatter};
+use crate::needs::most_installs;
 use crate::play::{Play, Submission};
 use crate::report::{Report, SubmitFault};
 use crate::ring::{MOST_SUBMISSIONS, Ring};
@@ -40,6 +42,8 @@ fn play_open<'a, T: FileTable, R: Threads + Wait + Sync, G: Gate>(
         ≡ runs_of (all_asked submission.now.requests.now) }
     requires within { All (IsChain (all_asked submission.now.requests.now)) chains.now }
     requires chains { (T.opening table).chains ≡ length chains.now }
+    requires numbers { InstallAtMost (all_asked submission.now.requests.now)
+        (T.opening table).numbers chains.now }
     requires some { 1 ≤ (T.opening table).passes }
     requires fits { All (T.fits table) passes.items }
     requires new { map (λ p. T.view p) passes.items ≡ new_passes (T.opening table).passes }
@@ -51,7 +55,7 @@ fn play_open<'a, T: FileTable, R: Threads + Wait + Sync, G: Gate>(
     let Room {
         mut crew,
         mut outcomes,
-        mut all,
+        all,
     } = room;
     gather(&mut passes, &mut outcomes, &mut crew);
     work_crew(
@@ -65,7 +69,7 @@ fn play_open<'a, T: FileTable, R: Threads + Wait + Sync, G: Gate>(
     scatter(&mut crew, &mut passes, &mut outcomes);
     crew.destroy_empty();
     let left = table.close(passes);
-    all.join(outcomes);
+    let mut all = all.joined(outcomes);
     all.sort();
     (left, all.report(submission.earlier + 1))
 }
@@ -90,20 +94,19 @@ fn play<T: FileTable, R: Threads + Wait + Sync, G: Gate>(
     let Ok(room) = Room::new(alloc, requests, passes) else {
         return Err((plain, NoMemory));
     };
-    match T::open(alloc, plain, chains.len() as u32, passes) {
+    let chains = chains.as_slice();
+    let most = most_installs(requests, chains);
+    match T::open_for(alloc, plain, chains.len() as u32, most, passes) {
         Err(refused) => {
             room.give_up();
             Err(refused)
         }
-        Ok((table, passes)) => {
-            let chains = chains.as_slice();
-            Ok(play_open(submission, chains, table, passes, room))
-        }
+        Ok((table, passes)) => Ok(play_open(submission, chains, table, passes, room)),
     }
 }
 
 impl Ring {
-    // Why a submission is refused, want of memory aside.
+    // Why a submission is refused, except when out of memory.
     fn submit_refusal(&self, requests: &[Request], workers: u32) -> Option<SubmitFault>
         ensures value { result
             ≡ submit_refusal (ring_of self.now) (all_asked requests.now) workers }

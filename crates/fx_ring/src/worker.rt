@@ -1,10 +1,11 @@
-ghost use Rattle.std.specs.Prelude.{◌≡◌, ◌<◌, ◌≤◌, length, map, All};
+ghost use Rattle.std.specs.Prelude.{◌≡◌, ℕ, ◌<◌, ◌≤◌, length, map, All};
 ghost use Rattle.fx_chain.specs.Accepted.{IsChain, IsShortRun, members_of};
 ghost use Rattle.fx_chain.specs.Operation.{all_asked};
 ghost use Rattle.fx_chain.specs.Runs.{runs_of};
+ghost use Rattle.fx_chain.specs.Weights.{all_installs};
 ghost use Rattle.fx_ring.specs.Playing.{number_of_worker};
 ghost use Rattle.fx_ring.specs.PlaySetting.{IsReadyFor, IsDoneFor};
-ghost use Rattle.fx_ring.specs.Work.{run_of_chain};
+ghost use Rattle.fx_ring.specs.Work.{InstallAtMost, run_of_chain};
 
 use crate::outcome::Outcome;
 use crate::play::Play;
@@ -49,6 +50,8 @@ fn members_of_chain<'a>(requests: &'a [Request], chains: &[Chain], chain: u32) -
     requires within { All (IsChain (all_asked requests.now)) chains.now }
     ensures run { all_asked result.now ≡ run_of_chain (runs_of (all_asked requests.now)) chain }
     ensures short { IsShortRun (all_asked result.now) }
+    ensures few { (most : ℕ) → InstallAtMost (all_asked requests.now) most chains.now
+        → all_installs (all_asked result.now) ≤ most }
 {
     let chain = chains[chain as usize - 1];
     let first = chain.first as usize;

@@ -1,6 +1,5 @@
-use Rattle.std.proofs.Common.{◌+◌, ap, subst}
+use Rattle.std.proofs.Common.{◌+◌, subst, arith}
 use Rattle.fx_plain.specs.Contents.{Contents}
-use Rattle.fx_table.specs.Opening.{Opening}
 use Rattle.fx_chain.specs.Operation.{all_asked}
 use Rattle.fx_ring.specs.Ring.{ring_with}
 use Rattle.fx_ring.specs.Submission.{IsOneHistory, reported}
@@ -10,4 +9,10 @@ pub returns-clause-played : goal.returns-clause-played
 returns-clause-played g c = λ registrations.
     subst (λ (plain : Contents). IsOneHistory (ring_with c.args.submission.now.catalogue.now plain c.args.submission.now.earlier registrations) (all_asked c.args.submission.now.requests.now)
     (reported c.play_open.result.1) (ring_with c.args.submission.now.catalogue.now c.play_open.result.0 (c.args.submission.now.earlier + 1) registrations))
-    (ap (λ (o : Opening). o.contents) c.in-Ok-open.ensures.opened) (c.play_open.ensures.played registrations)
+    c.in-Ok-open_for.ensures.opened.contents (c.play_open.ensures.played registrations)
+
+pub play_open-requires-clause-numbers : goal.play_open-requires-clause-numbers
+play_open-requires-clause-numbers g c κs within k d l =
+    let few = c.most_installs-most.ensures.each k d l in
+    let enough = c.in-Ok-open_for.ensures.opened.numbers.0 in
+    omega arith

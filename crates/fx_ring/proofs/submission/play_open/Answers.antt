@@ -51,8 +51,11 @@ close-left-requires-clause-fits g c = all_scattered (g.T.FileTable.fits c.args.t
 pub close-left-requires-clause-idle : goal.close-left-requires-clause-idle
 close-left-requires-clause-idle g c = all_scattered (λ p. IsIdle (g.T.FileTable.view p)) _ _ _ c.scatter.ensures.passes (λ k d l. (c.work_crew.ensures.done k d l).between.idle)
 
-pub join-requires-clause-completions : goal.join-requires-clause-completions
-join-requires-clause-completions g c =
+pub joined-all-requires-clause-nothing_yet : goal.joined-all-requires-clause-nothing_yet
+joined-all-requires-clause-nothing_yet g c = (c.requires.room.all.no_completions, ap (λ (l : CloseListView). l.files) c.requires.room.all.closes)
+
+pub joined-all-requires-clause-completions : goal.joined-all-requires-clause-completions
+joined-all-requires-clause-completions g c =
     let V : g.row.T-Pass.Denot → PassView = λ p. g.T.FileTable.view p in
     let asked : List Asked = all_asked c.args.submission.now.requests.now in
     let o : Opening = g.T.FileTable.opening c.args.table in
@@ -69,8 +72,8 @@ join-requires-clause-completions g c =
     let len = c.args.room.all.completions.ok.0 in
     omega arith
 
-pub join-requires-clause-closes : goal.join-requires-clause-closes
-join-requires-clause-closes g c =
+pub joined-all-requires-clause-closes : goal.joined-all-requires-clause-closes
+joined-all-requires-clause-closes g c =
     let V : g.row.T-Pass.Denot → PassView = λ p. g.T.FileTable.view p in
     let asked : List Asked = all_asked c.args.submission.now.requests.now in
     let o : Opening = g.T.FileTable.opening c.args.table in
@@ -95,14 +98,10 @@ returns-clause-played g c =
     c.gather.new.crew.items ws c.scatter.new.passes.items c.close-left.result c.requires.members c.requires.chains c.requires.new
     c.gather.ensures.passes c.work_crew.ensures.numbers c.scatter.ensures.passes
     (λ k d l. (c.work_crew.ensures.done k d l).between.worked) (λ k d l. (c.work_crew.ensures.done k d l).all_drawn) c.close-left.ensures in
-    let completions : all_completed c.join.new.self.completions.items ≡ flat_map completed_by (states V ws) =
-    ap all_completed (c.join.ensures.completions
-    ∙ ap (λ (l : List Completion). l ++ flat_map completions_of (reverse c.scatter.new.outcomes.items)) c.requires.room.all.no_completions)
-    ∙ completions_joined V ws c.scatter.new.outcomes.items c.scatter.ensures.outcomes in
-    let files : c.join.new.self.closes.files ≡ flat_map closed_by_worker (states V ws) =
-    c.join.ensures.closes
-    ∙ (ap (λ (l : CloseListView). l.files ++ flat_map files_of (reverse c.scatter.new.outcomes.items)) c.requires.room.all.closes
-    ∙ files_joined V ws c.scatter.new.outcomes.items c.scatter.ensures.outcomes) in
+    let completions : all_completed c.joined-all.result.completions.items ≡ flat_map completed_by (states V ws) =
+    ap all_completed c.joined-all.ensures.completions ∙ completions_joined V ws c.scatter.new.outcomes.items c.scatter.ensures.outcomes in
+    let files : c.joined-all.result.closes.files ≡ flat_map closed_by_worker (states V ws) =
+    c.joined-all.ensures.closes ∙ files_joined V ws c.scatter.new.outcomes.items c.scatter.ensures.outcomes in
     let one = one_history c.args.submission.now.catalogue.now c.args.submission.now.earlier asked o (states V ws) _ _ played
     (all_completed c.sort.new.self.completions.items) c.sort.new.self.closes
     (runs_are_short asked c.args.chains.now c.requires.members c.requires.within)

@@ -15,6 +15,13 @@ run_chain-requires-clause-looks g c κs within =
     let enough = enough_looks o _ _ _ _ _ _ _ _ c.loop-chain.invariant.ready.room count c.in-Some.ensures.drawn c.members_of_chain.ensures.run in
     omega arith
 
+pub run_chain-requires-clause-numbers : goal.run_chain-requires-clause-numbers
+run_chain-requires-clause-numbers g c κs within =
+    let o = g.T.FileTable.opening c.args.play.now.table.now in
+    let few = c.members_of_chain.ensures.few o.numbers c.args.play.now.numbers in
+    let left = ap (λ (v : PassView). v.numbers_left) c.in-Some.ensures.drawn.3 in
+    omega arith
+
 pub run_chain-requires-clause-room : goal.run_chain-requires-clause-room
 run_chain-requires-clause-room g c κs within =
     let o = g.T.FileTable.opening c.args.play.now.table.now in

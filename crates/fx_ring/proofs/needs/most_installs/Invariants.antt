@@ -1,0 +1,10 @@
+use Rattle.std.proofs.Common.{◌≤◌, take}
+use Rattle.fx_chain.specs.Operation.{all_asked}
+use Rattle.fx_ring.specs.Work.{InstallAtMost}
+use Rattle.fx_ring.proofs.needs.most_installs.Given as goal
+
+abbrev pub invariant-loop-chain : goal.invariant-loop-chain
+invariant-loop-chain l = record {
+  few : l.most ≤ 64;
+  each : InstallAtMost (all_asked l.requests) l.most (take l.chain-index l.chains);
+}
