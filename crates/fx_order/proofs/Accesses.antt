@@ -1,22 +1,9 @@
 -- The accesses among the steps of a history: all steps but releases and closes, without the numbers of files.
-use Rattle.std.proofs.Common.{◌≡◌, ℕ, ◌==◌, List, [], ◌∷◌, ◌++◌, map, filter, refl, sym, ap, subst, ◌∙◌, append_assoc, Option, Some, None}
-use Rattle.std.proofs.Common.{if◌then◌else◌, IsSome, cond}
-use Rattle.std.proofs.lemmas.List.{append-nil, map-append}
-use Rattle.std.proofs.lemmas.List.Elements.{filter-append}
-use Rattle.fx_base.specs.declared.open_file.Closed.{Closed}
-use Rattle.fx_plain.specs.declared.event.File.{File}
-use Rattle.fx_plain.specs.declared.event.Event.{Event}
-use Rattle.fx_plain.specs.declared.event.Action.{Action}
-use Rattle.fx_plain.specs.declared.event.Action.TheVariants.{Look, Release, Put, Clear, Take, Allocate, Full, Close}
-use Rattle.fx_plain.specs.State.{State, opening, file_numbered}
-use Rattle.fx_plain.specs.Step.{Allows, after, changed_at}
-use Rattle.fx_plain.specs.History.{◌▷▷◌, state_after, AllowsAll, action_of, part_of_chain}
-use Rattle.fx_plain.specs.Table.{identity_of}
-use Rattle.fx_plain.proofs.Cells.{by_equality}
-use Rattle.fx_order.specs.Access.{Table, Looks, Puts, Clears, Takes, Allocates, FindsFull, PermitsAll, table_with, table_after}
-use Rattle.fx_order.specs.declared.access.Access.{Access}
-use Rattle.fx_order.specs.Access.{access_of, accesses_of, accesses_of_chain}
-use Rattle.fx_order.specs.declared.access.ChainAccess.{ChainAccess}
+use Rattle.fx_order.proofs.Words.{◌≡◌, ℕ, ◌==◌, List, [], ◌∷◌, ◌++◌, map, filter, refl, sym, ap, subst, ◌∙◌, append_assoc, Option, Some, None}
+use Rattle.fx_order.proofs.Words.{if◌then◌else◌, IsSome, cond, append-nil, map-append, filter-append, Closed, File, Event, Action, Look, Release, Put}
+use Rattle.fx_order.proofs.Words.{Clear, Take, Allocate, Full, Close, State, opening, file_numbered, Allows, after, changed_at, ◌▷▷◌, state_after}
+use Rattle.fx_order.proofs.Words.{AllowsAll, action_of, part_of_chain, identity_of, by_equality, Table, Looks, Puts, Clears, Takes, Allocates}
+use Rattle.fx_order.proofs.Words.{FindsFull, PermitsAll, table_with, table_after, Access, access_of, accesses_of, accesses_of_chain, ChainAccess}
 
 -- a state without the numbers of its files, its holds and what it has given up
 abbrev pub shown : State → Table

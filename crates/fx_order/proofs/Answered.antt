@@ -1,35 +1,15 @@
 -- What explains an answer by accesses explains it by the steps that they are at once.
-use Rattle.std.proofs.Common.{◌≡◌, inl, inr, ℕ, zero, suc, ◌+◌, ◌==◌, ◌||◌, nat_le, nat_lt, ℤ, pos, negsuc, List, [], ◌∷◌, ◌++◌}
-use Rattle.std.proofs.Common.{length, map, refl, sym, ap, subst, ◌∙◌, append_assoc, Option, Some, None}
-use Rattle.std.specs.List.{list_any}
-use Rattle.std.proofs.lemmas.List.{append-nil}
-use Rattle.fx_base.specs.Catalogue.{FileEntry}
-use Rattle.fx_base.specs.AddFault.{has_name}
-use Rattle.fx_base.specs.declared.errno.Errno.{Errno}
-use Rattle.fx_base.specs.declared.errno.Errno.TheVariants.{ENOENT, ENXIO, EBADF, ENOMEM, EINVAL, ENFILE}
-use Rattle.fx_base.specs.declared.open_file.Closed.{Closed}
-use Rattle.fx_plain.specs.declared.event.File.{File}
-use Rattle.fx_plain.specs.declared.event.Event.{Event}
-use Rattle.fx_plain.specs.declared.event.Action.{Action}
-use Rattle.fx_plain.specs.declared.event.Action.TheVariants.{Look, Put, Clear, Take}
-use Rattle.fx_plain.specs.History.{◌▷◌, ◌▷▷◌, action_of, part_of_chain, close_of}
-use Rattle.fx_plain.specs.Table.{identity_of}
-use Rattle.fx_chain.specs.Answers.{Refuses, MayClose, OpensAt, ReadsAt, ReadsFrom, Empties, AppliesEntry, AppliesList, UpdatesFrom, Answers}
-use Rattle.fx_chain.specs.Answers.{is_bad_entry, installed}
-use Rattle.fx_chain.specs.Completed.{Completed, refusal, next_member}
-use Rattle.fx_chain.specs.Explains.{Explains, severs, first_member}
-use Rattle.fx_chain.specs.Operation.{Operation, Opens, Reads, Closes, Updates, Asked}
-use Rattle.fx_chain.specs.declared.completion.Place.{Place}
-use Rattle.fx_chain.specs.declared.request.Target.{Target}
-use Rattle.fx_chain.specs.declared.request.Target.TheVariants.{Slot, Any}
-use Rattle.fx_ring.specs.Submission.{ExplainsParts}
-use Rattle.fx_order.specs.Access.{Looks, Puts, Clears, Takes, Allocates, FindsFull, accesses_of_chain}
-use Rattle.fx_order.specs.declared.access.Access.{Access}
-use Rattle.fx_order.specs.declared.access.ChainAccess.{ChainAccess}
-use Rattle.fx_order.specs.Requests.{Makes, IsRefused, IsOpenDone, IsReadDone, IsCloseDone, IsEntryDone, AreEntriesDone, IsUpdateDone, IsRequestDone}
-use Rattle.fx_order.specs.Requests.{IsChainDone, AreChainsDone, gives}
+use Rattle.fx_order.proofs.Words.{◌≡◌, inl, inr, ℕ, zero, suc, ◌+◌, ◌==◌, ◌||◌, nat_le, nat_lt, ℤ, pos, negsuc, List, [], ◌∷◌, ◌++◌, length, map}
+use Rattle.fx_order.proofs.Words.{refl, sym, ap, subst, ◌∙◌, append_assoc, Option, Some, None, list_any, append-nil, FileEntry, has_name, Errno}
+use Rattle.fx_order.proofs.Words.{ENOENT, ENXIO, EBADF, ENOMEM, EINVAL, ENFILE, Closed, File, Event, Action, Look, Put, Clear, Take, ◌▷◌, ◌▷▷◌}
+use Rattle.fx_order.proofs.Words.{action_of, part_of_chain, close_of, identity_of, Refuses, MayClose, OpensAt, ReadsAt, ReadsFrom, Empties}
+use Rattle.fx_order.proofs.Words.{AppliesEntry, AppliesList, UpdatesFrom, Answers, is_bad_entry, installed, Completed, refusal, next_member, Explains}
+use Rattle.fx_order.proofs.Words.{severs, first_member, Operation, Opens, Reads, Closes, Updates, Asked, Place, Target, Slot, Any, ExplainsParts}
+use Rattle.fx_order.proofs.Words.{Looks, Puts, Clears, Takes, Allocates, FindsFull, accesses_of_chain, Access, ChainAccess, Makes, IsRefused}
+use Rattle.fx_order.proofs.Words.{IsOpenDone, IsReadDone, IsCloseDone, IsEntryDone, AreEntriesDone, IsUpdateDone, IsRequestDone, IsChainDone}
+use Rattle.fx_order.proofs.Words.{AreChainsDone, gives}
 use Rattle.fx_order.proofs.Requests.{same_cases}
-use Rattle.fx_order.proofs.AtOnce.{Does, release_of}
+use Rattle.fx_order.proofs.AtOnce.{Does, release_of, no_file}
 use Rattle.fx_order.proofs.Made.{AllDo}
 
 -- the actions of accesses in two parts
@@ -66,10 +46,6 @@ closes_at_once : (steps : List Action) (x : Option File) (events : List Action) 
 closes_at_once steps None events is = is
 closes_at_once steps (Some f) events is = inr is
 
-no_file : (x : Option File) → identity_of x ≡ None → x ≡ None
-no_file None is = refl
-no_file (Some f) is = absurd (cc)
-
 a_file : (x : Option File) (file : Closed) → identity_of x ≡ Some file → (f : File) × (x ≡ Some f) × (f.identity ≡ file)
 a_file None file is = absurd (cc)
 a_file (Some f) file is = (f, refl, cc)
@@ -99,7 +75,7 @@ module _ (accesses : List Access) (events : List Action) (all : AllDo accesses e
       → Makes (Looks slot None) (refusal place EBADF) accesses c → ReadsAt catalogue place slot off len events c
   missed catalogue place slot off len c x =
       let does = one_done (Looks slot None) accesses events x.0 all in
-      inl (does.2 ∙ ap (λ (o : Option File). [] ▷ Look slot o ▷▷ release_of o) (no_file does.0 does.1), x.1)
+      inl (does.2 ∙ ap (λ (o : Option File). [] ▷ Look slot o ▷▷ release_of o) (no_file does.0 (sym does.1)), x.1)
 
   found : (catalogue : List FileEntry) (place : Place) (slot off len : ℕ) (file : Closed) (c : Completed)
       → Makes (Looks slot (Some file)) (gives catalogue place file off len) accesses c → ReadsAt catalogue place slot off len events c
@@ -131,7 +107,7 @@ module _ (accesses : List Access) (events : List Action) (all : AllDo accesses e
       (λ x. elim x [
         | inl y ↦
             let does = one_done (Takes slot None) accesses events y.0 all in
-            inl (does.2 ∙ ap (λ (o : Option File). [] ▷ Take slot o ▷▷ close_of o) (no_file does.0 does.1), y.1)
+            inl (does.2 ∙ ap (λ (o : Option File). [] ▷ Take slot o ▷▷ close_of o) (no_file does.0 (sym does.1)), y.1)
         | inr y ↦
             let does = one_done (Takes slot (Some y.0)) accesses events y.1.0 all in
             let there = a_file does.0 y.0 does.1 in

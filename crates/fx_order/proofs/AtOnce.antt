@@ -1,17 +1,8 @@
 -- An access as steps: a look-up is released at once, and what was removed is closed at once.
-use Rattle.std.proofs.Common.{◌≡◌, ℕ, ◌+◌, ◌-◌, ◌<◌, ◌≤◌, ◌==◌, true, false, List, [], ◌++◌, map, refl, sym, subst, ◌∙◌, arith, Option, Some, None, IsSome, if◌then◌else◌}
-use Rattle.std.specs.Option.{option_to_list}
-use Rattle.fx_base.specs.declared.open_file.Closed.{Closed}
-use Rattle.fx_plain.specs.declared.event.File.{File}
-use Rattle.fx_plain.specs.declared.event.Event.{Event}
-use Rattle.fx_plain.specs.declared.event.Action.{Action}
-use Rattle.fx_plain.specs.declared.event.Action.TheVariants.{Look, Release, Put, Clear, Take, Allocate, Full, Close}
-use Rattle.fx_plain.specs.State.{State, IsSettled}
-use Rattle.fx_plain.specs.History.{◌▷◌, ◌▷▷◌, state_after, AllowsAll, AllReleaseTheirOwn, held_by, close_of, closes_in}
-use Rattle.fx_plain.specs.Table.{identity_of}
-use Rattle.fx_plain.proofs.Cells.{by_equality}
-use Rattle.fx_order.specs.Access.{Looks, Puts, Clears, Takes, Allocates, FindsFull, Permits, table_with, removed_by}
-use Rattle.fx_order.specs.declared.access.Access.{Access}
+use Rattle.fx_order.proofs.Words.{◌≡◌, ℕ, ◌+◌, ◌-◌, ◌<◌, ◌≤◌, ◌==◌, true, false, List, [], ◌++◌, map, refl, sym, subst, ◌∙◌, arith, Option, Some}
+use Rattle.fx_order.proofs.Words.{None, IsSome, if◌then◌else◌, option_to_list, Closed, File, Event, Action, Look, Release, Put, Clear, Take, Allocate}
+use Rattle.fx_order.proofs.Words.{Full, Close, State, IsSettled, ◌▷◌, ◌▷▷◌, state_after, AllowsAll, AllReleaseTheirOwn, held_by, close_of, closes_in}
+use Rattle.fx_order.proofs.Words.{identity_of, by_equality, Looks, Puts, Clears, Takes, Allocates, FindsFull, Permits, table_with, removed_by, Access}
 use Rattle.fx_order.proofs.Accesses.{shown, shown-after}
 
 -- the release of what a look-up found, if it found a file
@@ -52,7 +43,7 @@ pub record Done (st : State) (number : ℕ) (access : Access) : Type 0 where
 at_itself : {X : Type 0} (k : ℕ) (x y : X) → (if k == k then x else y) ≡ x
 at_itself k x y = by_equality k k (λ b. (if b then x else y) ≡ x) (λ _. refl) (λ other. absurd (other refl))
 
-no_file : (x : Option File) → None ≡ identity_of x → x ≡ None
+pub no_file : (x : Option File) → None ≡ identity_of x → x ≡ None
 no_file None is = refl
 no_file (Some f) is = absurd (cc)
 

@@ -1,9 +1,6 @@
 -- The state that passes begin with is one from which the laws of histories speak.
-use Rattle.std.proofs.Common.{◌≡◌, ℕ, ◌<◌, ◌&&◌, not, nat_lt, false, refl, sym, ap, ◌∙◌, Option, Some, None}
-use Rattle.std.proofs.lemmas.Bool.{lt-ltb}
-use Rattle.fx_plain.specs.declared.event.File.{File}
-use Rattle.fx_plain.specs.Laws.{IsStart}
-use Rattle.fx_plain.specs.State.{State, opening, file_numbered}
+use Rattle.fx_order.proofs.Words.{◌≡◌, ℕ, ◌<◌, ◌&&◌, not, nat_lt, false, refl, sym, ap, ◌∙◌, Option, Some, None, lt-ltb, File, IsStart, State}
+use Rattle.fx_order.proofs.Words.{opening, file_numbered}
 
 number_or : ℕ → Option File → ℕ
 number_or n None = n

@@ -1,20 +1,8 @@
 -- What one order leads to, the history of its accesses leads to.
-use Rattle.std.proofs.Common.{◌≡◌, ℕ, ◌+◌, ◌*◌, ◌<◌, ◌≤◌, true, List, [], map, length, refl, sym, ap, subst, ◌∙◌, arith}
-use Rattle.std.proofs.lemmas.Bool.{lt-ltb, le-ltb}
-use Rattle.std.proofs.lemmas.List.{append-nil}
-use Rattle.fx_base.specs.declared.open_file.Closed.{Closed}
-use Rattle.fx_plain.specs.declared.event.Action.{Action}
-use Rattle.fx_plain.specs.State.{State, opening}
-use Rattle.fx_plain.specs.Contents.{state_of}
-use Rattle.fx_plain.specs.History.{action_of, state_after, AllReleaseTheirOwn}
-use Rattle.fx_table.specs.Numbers.{numbers_for}
-use Rattle.fx_chain.specs.Accepted.{IsAccepted}
-use Rattle.fx_chain.specs.Operation.{Asked}
-use Rattle.fx_chain.specs.Runs.{runs_of}
-use Rattle.fx_ring.specs.Ring.{RingContents, RingState, HasClosed, ring_of}
-use Rattle.fx_ring.specs.Submission.{IsOneHistory, Reported}
-use Rattle.fx_order.specs.Access.{Table, PermitsAll, table_after, accesses_of}
-use Rattle.fx_order.specs.Order.{IsOneOrder, table_of}
+use Rattle.fx_order.proofs.Words.{◌≡◌, ℕ, ◌+◌, ◌*◌, ◌<◌, ◌≤◌, true, List, [], map, length, refl, sym, ap, subst, ◌∙◌, arith, lt-ltb, le-ltb}
+use Rattle.fx_order.proofs.Words.{append-nil, Closed, Action, State, opening, state_of, action_of, state_after, AllReleaseTheirOwn, numbers_for}
+use Rattle.fx_order.proofs.Words.{IsAccepted, Asked, runs_of, RingContents, RingState, HasClosed, ring_of, IsOneHistory, Reported, Table, PermitsAll}
+use Rattle.fx_order.proofs.Words.{table_after, accesses_of, IsOneOrder, table_of}
 use Rattle.fx_order.proofs.Accesses.{shown, shown-opening}
 use Rattle.fx_order.proofs.Answered.{all_chains_explained}
 use Rattle.fx_order.proofs.Installs.{few_installs}
@@ -34,11 +22,11 @@ history_of_order old new requests report few accepted o =
     let start : State = opening st (numbers_for chains) in
     let begins : shown start ≡ table_of (ring_of old) = shown-opening st (numbers_for chains) in
     let installs : installs_in (accesses_of o.order) ≤ 64 * chains =
-    few_installs old.catalogue st.size report.submission requests o.order report.completions accepted o.chains o.done in
+    few_installs old.catalogue st.size report.submission requests o.order report.completions accepted o.is.chains o.is.done in
     let m : Made chains start o.order =
     made chains o.order start 256 (record { unheld = λ n. refl; closed = λ n. refl })
     (λ n low high. fresh_number st chains n (omega arith) (omega arith))
-    o.chains (subst (λ (t : Table). PermitsAll t (accesses_of o.order)) (sym begins) o.permitted) in
+    o.is.chains (subst (λ (t : Table). PermitsAll t (accesses_of o.order)) (sym begins) o.is.permitted) in
     let acts : List Action = map action_of m.history in
     let table : shown (state_after start acts) ≡ table_after (table_of (ring_of old)) (accesses_of o.order) =
     m.shows ∙ ap (λ (t : Table). table_after t (accesses_of o.order)) begins in
@@ -51,9 +39,9 @@ history_of_order old new requests report few accepted o =
       };
       settled = m.settled;
       chains = m.authors;
-      explained = all_chains_explained old.catalogue st.size report.submission 1 (runs_of requests) o.order m.history report.completions m.parts o.done;
-      closed = subst (λ (l : List Closed). HasClosed l report.closes) (sym m.closes) o.closed;
-      submission = o.submission;
+      explained = all_chains_explained old.catalogue st.size report.submission 1 (runs_of requests) o.order m.history report.completions m.parts o.is.done;
+      closed = subst (λ (l : List Closed). HasClosed l report.closes) (sym m.closes) o.is.closed;
+      submission = o.is.submission;
       after = o.after ∙ sym (ap (ring_after (ring_of old) (old.submissions + 1)) (table ∙ same_outline (table_of (ring_of old)) (accesses_of o.order)));
     }
 
@@ -64,7 +52,7 @@ pub each_order_is_a_history : (old : RingContents) (requests : List Asked) (repo
 each_order_is_a_history old requests report left few accepted o =
     let kept : NonePast left.size left.at =
     subst (λ (r : RingState). NonePast r.size r.at) (sym o.after)
-    (none_past_accesses (table_of (ring_of old)) (accesses_of o.order) o.permitted (none_past_table old)) in
+    (none_past_accesses (table_of (ring_of old)) (accesses_of o.order) o.is.permitted (none_past_table old)) in
     let same : ring_of (ring_with_files left) ≡ left = shows_ring left kept in (
       ring_with_files left,
       same,

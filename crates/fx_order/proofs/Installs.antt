@@ -1,35 +1,16 @@
 -- An order of a submission without a fault installs no more files than its chains have numbers.
-use Rattle.std.proofs.Common.{◌≡◌, ◌≢◌, inl, inr, ℕ, zero, suc, ◌+◌, ◌*◌, ◌<◌, ◌≤◌, ◌==◌, ◌||◌, nat_le, nat_lt, ℤ, pos, negsuc, Bool, true, false, not, cond}
-use Rattle.std.proofs.Common.{List, [], ◌∷◌, ◌++◌, filter, length, sym, ap, subst, arith, All}
-use Rattle.std.specs.Bool.{MatchBool}
-use Rattle.std.specs.List.{list_any}
-use Rattle.std.proofs.lemmas.List.Elements.{All-head, All-tail, All-map, All-weaker}
-use Rattle.std.proofs.lemmas.List.Sums.{sum_by-cons}
-use Rattle.fx_base.specs.Catalogue.{FileEntry}
-use Rattle.fx_base.specs.AddFault.{has_name}
-use Rattle.fx_base.specs.declared.errno.Errno.{Errno}
-use Rattle.fx_base.specs.declared.errno.Errno.TheVariants.{ENOENT, ENXIO, EBADF, ENOMEM, EINVAL, ENFILE}
-use Rattle.fx_chain.specs.Accepted.{IsAccepted, IsChain, members_of}
-use Rattle.fx_chain.specs.Answers.{is_bad_entry}
+use Rattle.fx_order.proofs.Words.{◌≡◌, ◌≢◌, inl, inr, ℕ, zero, suc, ◌+◌, ◌*◌, ◌<◌, ◌≤◌, ◌==◌, ◌||◌, nat_le, nat_lt, ℤ, pos, negsuc, Bool, true, false}
+use Rattle.fx_order.proofs.Words.{not, cond, List, [], ◌∷◌, ◌++◌, filter, length, sym, ap, subst, arith, All, MatchBool, list_any, All-head, All-tail}
+use Rattle.fx_order.proofs.Words.{All-map, All-weaker, sum_by-cons, FileEntry, has_name, Errno, ENOENT, ENXIO, EBADF, ENOMEM, EINVAL, ENFILE}
+use Rattle.fx_order.proofs.Words.{IsAccepted, IsChain, members_of, is_bad_entry, Completed, next_member, severs, first_member, Operation, Opens}
+use Rattle.fx_order.proofs.Words.{Reads, Closes, Updates, Asked, runs_of, Chain, Place, Target, Slot, Any, by_equality, accesses_of}
+use Rattle.fx_order.proofs.Words.{accesses_of_chain, Access, ChainAccess, IsRefused, IsOpenDone, IsReadDone, IsCloseDone, IsEntryDone, AreEntriesDone}
+use Rattle.fx_order.proofs.Words.{IsUpdateDone, IsRequestDone, IsChainDone, AreChainsDone}
 use Rattle.fx_chain.specs.Chains.{chains_of}
-use Rattle.fx_chain.specs.Completed.{Completed, next_member}
-use Rattle.fx_chain.specs.Explains.{severs, first_member}
-use Rattle.fx_chain.specs.Operation.{Operation, Opens, Reads, Closes, Updates, Asked}
-use Rattle.fx_chain.specs.Runs.{runs_of}
 use Rattle.fx_chain.specs.Weights.{entry_installs, list_installs, installs_of, all_installs}
-use Rattle.fx_chain.specs.declared.chain.Chain.{Chain}
-use Rattle.fx_chain.specs.declared.completion.Place.{Place}
-use Rattle.fx_chain.specs.declared.request.Target.{Target}
-use Rattle.fx_chain.specs.declared.request.Target.TheVariants.{Slot, Any}
 use Rattle.fx_chain.proofs.Chains.{accepted-chains, members-are-runs}
 use Rattle.fx_chain.proofs.EntryKinds.{list_installs-cons}
-use Rattle.fx_plain.proofs.Cells.{by_equality}
 use Rattle.fx_ring.proofs.Parts.{has, lacks, kept_lacking, within_lacking, none_within}
-use Rattle.fx_order.specs.Access.{accesses_of, accesses_of_chain}
-use Rattle.fx_order.specs.declared.access.Access.{Access}
-use Rattle.fx_order.specs.declared.access.ChainAccess.{ChainAccess}
-use Rattle.fx_order.specs.Requests.{IsRefused, IsOpenDone, IsReadDone, IsCloseDone, IsEntryDone, AreEntriesDone, IsUpdateDone, IsRequestDone}
-use Rattle.fx_order.specs.Requests.{IsChainDone, AreChainsDone}
 use Rattle.fx_order.proofs.AtOnce.{installs}
 use Rattle.fx_order.proofs.Made.{installs_in}
 

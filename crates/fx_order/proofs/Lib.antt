@@ -1,3 +1,4 @@
+pub mod Words
 pub mod Begins
 pub mod Accesses
 pub mod Requests
@@ -10,4 +11,16 @@ pub mod Answered
 pub mod Shown
 pub mod Histories
 pub mod OrderSteps
-pub mod Replayed
+pub mod SameFiles
+pub mod ChainFront
+pub mod EntriesMade
+pub mod BothWays
+pub mod FirstAndRest
+pub mod ChainsFront
+pub mod OrderOf
+pub mod Opened
+pub mod Placed
+pub mod Apart
+pub mod PlacedNew
+pub mod PlacedSame
+pub mod OneRing

@@ -1,17 +1,10 @@
 -- The history of an order: its accesses, each done at once.
-use Rattle.std.proofs.Common.{◌≡◌, inl, inr, ℕ, zero, suc, ◌+◌, ◌<◌, ◌≤◌, ◌==◌, true, List, [], ◌∷◌, ◌++◌, map, filter, length, cond, refl, sym, ap, subst, ◌∙◌}
-use Rattle.std.proofs.Common.{append_assoc, arith, All, Contains, slice_index_or}
-use Rattle.std.proofs.lemmas.List.{append-nil, map-append}
-use Rattle.std.proofs.lemmas.List.Elements.{All-head, All-tail, Contains-append_cases, filter-append}
-use Rattle.fx_plain.specs.declared.event.Event.{Event}
-use Rattle.fx_plain.specs.declared.event.Action.{Action}
-use Rattle.fx_plain.specs.State.{State, IsSettled}
-use Rattle.fx_plain.specs.History.{◌▷▷◌, action_of, part_of_chain, AllowsAll, Leads, AllReleaseTheirOwn, state_after, closes_in}
-use Rattle.fx_plain.proofs.Cells.{by_equality}
+use Rattle.fx_order.proofs.Words.{◌≡◌, inl, inr, ℕ, zero, suc, ◌+◌, ◌<◌, ◌≤◌, ◌==◌, true, List, [], ◌∷◌, ◌++◌, map, filter, length, cond, refl, sym}
+use Rattle.fx_order.proofs.Words.{ap, subst, ◌∙◌, append_assoc, arith, All, Contains, slice_index_or, append-nil, map-append, All-head, All-tail}
+use Rattle.fx_order.proofs.Words.{Contains-append_cases, filter-append, Event, Action, State, IsSettled, ◌▷▷◌, action_of, part_of_chain, AllowsAll}
+use Rattle.fx_order.proofs.Words.{Leads, AllReleaseTheirOwn, state_after, closes_in, by_equality, Table, PermitsAll, access_of, accesses_of}
+use Rattle.fx_order.proofs.Words.{accesses_of_chain, removed_in, table_after, Access, ChainAccess}
 use Rattle.fx_plain.proofs.Leading.{leads_then, closes_in-then}
-use Rattle.fx_order.specs.Access.{Table, PermitsAll, access_of, accesses_of, accesses_of_chain, removed_in, table_after}
-use Rattle.fx_order.specs.declared.access.Access.{Access}
-use Rattle.fx_order.specs.declared.access.ChainAccess.{ChainAccess}
 use Rattle.fx_order.proofs.Accesses.{shown}
 use Rattle.fx_order.proofs.AtOnce.{Does, Done, by, done, installs}
 use Rattle.fx_order.proofs.Ordered.{IsWithin}

@@ -1,10 +1,7 @@
 -- An order with one more access.
-use Rattle.std.proofs.Common.{◌≡◌, ℕ, ◌+◌, ◌<◌, List, [], ◌∷◌, ◌++◌, length, take, sym, ap, subst, ◌∙◌, slice_index_or, Option, zero, suc, arith}
-use Rattle.std.proofs.lemmas.List.{append-nil, map-append, take_more}
-use Rattle.std.specs.Option.{option_to_list}
-use Rattle.fx_base.specs.declared.open_file.Closed.{Closed}
-use Rattle.fx_order.specs.Access.{Table, Permits, PermitsAll, table_with, table_after, removed_by, removed_in, access_of, accesses_of}
-use Rattle.fx_order.specs.declared.access.ChainAccess.{ChainAccess}
+use Rattle.fx_order.proofs.Words.{◌≡◌, ℕ, ◌+◌, ◌<◌, List, [], ◌∷◌, ◌++◌, length, take, sym, ap, subst, ◌∙◌, slice_index_or, Option, zero, suc, arith}
+use Rattle.fx_order.proofs.Words.{append-nil, map-append, take_more, option_to_list, Closed, Table, Permits, PermitsAll, table_with, table_after}
+use Rattle.fx_order.proofs.Words.{removed_by, removed_in, access_of, accesses_of, ChainAccess}
 use Rattle.fx_order.proofs.Accesses.{PermitsAll-append, table_after-append}
 use Rattle.fx_order.proofs.Removed.{removed_in-append}
 

@@ -1,25 +1,11 @@
 -- What one history leads to, the order of its accesses leads to.
-use Rattle.std.proofs.Common.{◌≡◌, ℕ, ◌+◌, ◌≤◌, List, [], ◌∷◌, map, length, refl, sym, ap, subst, ◌∙◌, All, Contains, Option, IsPermutation}
-use Rattle.std.proofs.lemmas.List.Elements.{All-nil, All-cons, All-append}
-use Rattle.std.proofs.lemmas.List.Sorted.{IsPermutation-trans}
-use Rattle.fx_base.specs.declared.open_file.Closed.{Closed}
-use Rattle.fx_plain.specs.declared.event.Event.{Event}
-use Rattle.fx_plain.specs.declared.event.Action.{Action}
-use Rattle.fx_plain.specs.State.{State, opening}
-use Rattle.fx_plain.specs.Contents.{state_of}
-use Rattle.fx_plain.specs.History.{action_of, closes_in}
-use Rattle.fx_order.proofs.Begins.{opening_is_start}
-use Rattle.fx_table.specs.Numbers.{numbers_for}
+use Rattle.fx_order.proofs.Words.{◌≡◌, ℕ, ◌+◌, ◌≤◌, List, [], ◌∷◌, map, length, refl, sym, ap, subst, ◌∙◌, All, Contains, Option, IsPermutation}
+use Rattle.fx_order.proofs.Words.{All-nil, All-cons, All-append, IsPermutation-trans, Closed, Event, Action, State, opening, state_of, action_of}
+use Rattle.fx_order.proofs.Words.{closes_in, numbers_for, Asked, runs_of, RingContents, RingState, ring_of, IsOneHistory, Reported, Table, Looks}
+use Rattle.fx_order.proofs.Words.{Puts, Clears, Takes, Allocates, FindsFull, PermitsAll, table_with, Access, ChainAccess, table_after, removed_in}
+use Rattle.fx_order.proofs.Words.{accesses_of, IsOneOrder, table_of}
 use Rattle.fx_table.proofs.Members.{contains_head, contains_tail}
-use Rattle.fx_chain.specs.Operation.{Asked}
-use Rattle.fx_chain.specs.Runs.{runs_of}
-use Rattle.fx_ring.specs.Ring.{RingContents, RingState, ring_of}
-use Rattle.fx_ring.specs.Submission.{IsOneHistory, Reported}
-use Rattle.fx_order.specs.Access.{Table, Looks, Puts, Clears, Takes, Allocates, FindsFull, PermitsAll, table_with}
-use Rattle.fx_order.specs.declared.access.Access.{Access}
-use Rattle.fx_order.specs.declared.access.ChainAccess.{ChainAccess}
-use Rattle.fx_order.specs.Access.{table_after, removed_in, accesses_of}
-use Rattle.fx_order.specs.Order.{IsOneOrder, table_of}
+use Rattle.fx_order.proofs.Begins.{opening_is_start}
 use Rattle.fx_order.proofs.Accesses.{shown, accesses_by, accesses_in, order_in, by_chain, accesses_of-order_in, permitted_along, shown-opening}
 use Rattle.fx_order.proofs.Requests.{all_explained}
 use Rattle.fx_order.proofs.Removed.{removed_is_closed}
@@ -75,13 +61,15 @@ each_history_is_an_order old new requests report h =
     (removed_is_closed start h.end h.history (opening_is_start st (numbers_for (length (runs_of requests)))) h.legal.leads.0 h.legal.leads.1 h.settled) in
     record {
       order = order;
-      permitted = subst (λ (t : Table). PermitsAll t (accesses_of order)) begins (subst (PermitsAll (shown start)) (sym are) along.0);
-      chains = order_within (length (runs_of requests)) h.history h.chains;
-      done = all_explained old.catalogue st.size report.submission 1 (runs_of requests) h.history report.completions h.explained;
-      closed = record {
-        same_files = IsPermutation-trans (removed_in (accesses_of order)) (closes_in acts) report.closes.files same_files h.closed.same_files;
-        in_order = h.closed.in_order;
+      is = record {
+        permitted = subst (λ (t : Table). PermitsAll t (accesses_of order)) begins (subst (PermitsAll (shown start)) (sym are) along.0);
+        chains = order_within (length (runs_of requests)) h.history h.chains;
+        done = all_explained old.catalogue st.size report.submission 1 (runs_of requests) h.history report.completions h.explained;
+        closed = record {
+          same_files = IsPermutation-trans (removed_in (accesses_of order)) (closes_in acts) report.closes.files same_files h.closed.same_files;
+          in_order = h.closed.in_order;
+        };
+        submission = h.submission;
       };
-      submission = h.submission;
       after = h.after ∙ ap (ring_after (ring_of old) (old.submissions + 1)) outline;
     }

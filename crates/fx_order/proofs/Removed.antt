@@ -1,25 +1,12 @@
 -- The files that a history closes are those that its accesses took from their slots.
-use Rattle.std.proofs.Common.{◌≡◌, ◌≢◌, ℕ, ◌<◌, ◌≤◌, ◌==◌, Bool, List, [], ◌∷◌, ◌++◌, map, refl, sym, ap, subst, ◌∙◌}
-use Rattle.std.proofs.Common.{append_assoc, Option, Some, None, if◌then◌else◌, arith, IsPermutation}
-use Rattle.std.proofs.lemmas.List.{append-nil}
-use Rattle.std.proofs.lemmas.List.Sorted.{IsPermutation-refl, IsPermutation-sym, IsPermutation-trans, IsPermutation-cons, IsPermutation-to_front}
-use Rattle.std.proofs.lemmas.List.Sorted.{IsPermutation-middle, IsPermutation-map, IsPermutation-pop_more}
-use Rattle.std.specs.Option.{option_to_list}
-use Rattle.fx_base.specs.declared.open_file.Closed.{Closed}
-use Rattle.fx_plain.specs.declared.event.File.{File}
-use Rattle.fx_plain.specs.declared.event.Event.{Event}
-use Rattle.fx_plain.specs.declared.event.Action.{Action}
-use Rattle.fx_plain.specs.declared.event.Action.TheVariants.{Look, Release, Put, Clear, Take, Allocate, Full, Close}
-use Rattle.fx_plain.specs.State.{State, IsSettled}
-use Rattle.fx_plain.specs.Step.{Allows, after, with_removed}
-use Rattle.fx_plain.specs.History.{state_after, AllowsAll, action_of, closes_in, closed_by}
-use Rattle.fx_plain.specs.Laws.{IsStart}
-use Rattle.fx_plain.specs.Table.{identity_of}
-use Rattle.fx_plain.proofs.Cells.{by_equality}
+use Rattle.fx_order.proofs.Words.{◌≡◌, ◌≢◌, ℕ, ◌<◌, ◌≤◌, ◌==◌, Bool, List, [], ◌∷◌, ◌++◌, map, refl, sym, ap, subst, ◌∙◌, append_assoc, Option, Some}
+use Rattle.fx_order.proofs.Words.{None, if◌then◌else◌, arith, IsPermutation, append-nil, IsPermutation-refl, IsPermutation-sym, IsPermutation-trans}
+use Rattle.fx_order.proofs.Words.{IsPermutation-cons, IsPermutation-to_front, IsPermutation-middle, IsPermutation-map, IsPermutation-pop_more}
+use Rattle.fx_order.proofs.Words.{option_to_list, Closed, File, Event, Action, Look, Release, Put, Clear, Take, Allocate, Full, Close, State}
+use Rattle.fx_order.proofs.Words.{IsSettled, Allows, after, with_removed, state_after, AllowsAll, action_of, closes_in, closed_by, IsStart}
+use Rattle.fx_order.proofs.Words.{identity_of, by_equality, removed_by, removed_in, Access}
 use Rattle.fx_plain.proofs.Named.{named, named_same}
 use Rattle.fx_plain.proofs.LawTallies.{present, placed_one, tally, tally_all, tally_start}
-use Rattle.fx_order.specs.Access.{removed_by, removed_in}
-use Rattle.fx_order.specs.declared.access.Access.{Access}
 use Rattle.fx_order.proofs.Accesses.{accesses_in, accesses_by}
 
 abbrev identity : File → Closed

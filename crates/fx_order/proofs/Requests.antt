@@ -1,33 +1,11 @@
 -- What explains an answer by steps explains it by their accesses.
-use Rattle.std.proofs.Common.{◌≡◌, inl, inr, ℕ, zero, suc, ◌+◌, ◌==◌, ◌||◌, nat_le, nat_lt, ℤ, pos, negsuc, Bool, true, false, List, [], ◌∷◌}
-use Rattle.std.proofs.Common.{length, map, sym, ap, subst, ◌∙◌, Option, Some, None}
-use Rattle.std.specs.Bool.{MatchBool}
-use Rattle.std.specs.List.{list_any}
-use Rattle.std.proofs.lemmas.List.{append-nil}
-use Rattle.fx_base.specs.Catalogue.{FileEntry}
-use Rattle.fx_base.specs.AddFault.{has_name}
-use Rattle.fx_base.specs.declared.errno.Errno.{Errno}
-use Rattle.fx_base.specs.declared.errno.Errno.TheVariants.{ENOENT, ENXIO, EBADF, ENOMEM, EINVAL, ENFILE}
-use Rattle.fx_base.specs.declared.open_file.Closed.{Closed}
-use Rattle.fx_plain.specs.declared.event.File.{File}
-use Rattle.fx_plain.specs.declared.event.Event.{Event}
-use Rattle.fx_plain.specs.declared.event.Action.{Action}
-use Rattle.fx_plain.specs.declared.event.Action.TheVariants.{Look, Release, Put, Clear, Take}
-use Rattle.fx_plain.specs.History.{◌▷◌, action_of, part_of_chain}
-use Rattle.fx_plain.specs.Table.{identity_of}
-use Rattle.fx_chain.specs.Answers.{Refuses, MayClose, OpensAt, ReadsFrom, Empties, AppliesEntry, AppliesList, UpdatesFrom, Answers}
-use Rattle.fx_chain.specs.Answers.{is_bad_entry}
-use Rattle.fx_chain.specs.Completed.{Completed, next_member}
-use Rattle.fx_chain.specs.Explains.{Explains, severs, first_member}
-use Rattle.fx_chain.specs.Operation.{Operation, Opens, Reads, Closes, Updates, Asked}
-use Rattle.fx_chain.specs.declared.completion.Place.{Place}
-use Rattle.fx_chain.specs.declared.request.Target.{Target}
-use Rattle.fx_chain.specs.declared.request.Target.TheVariants.{Slot, Any}
-use Rattle.fx_ring.specs.Submission.{ExplainsParts}
-use Rattle.fx_order.specs.Access.{Puts, Allocates}
-use Rattle.fx_order.specs.declared.access.Access.{Access}
-use Rattle.fx_order.specs.Requests.{IsRefused, IsOpenDone, IsReadDone, IsCloseDone, IsEntryDone, AreEntriesDone, IsUpdateDone, IsRequestDone}
-use Rattle.fx_order.specs.Requests.{IsChainDone, AreChainsDone}
+use Rattle.fx_order.proofs.Words.{◌≡◌, inl, inr, ℕ, zero, suc, ◌+◌, ◌==◌, ◌||◌, nat_le, nat_lt, ℤ, pos, negsuc, Bool, true, false, List, [], ◌∷◌}
+use Rattle.fx_order.proofs.Words.{length, map, sym, ap, subst, ◌∙◌, Option, Some, None, MatchBool, list_any, append-nil, FileEntry, has_name, Errno}
+use Rattle.fx_order.proofs.Words.{ENOENT, ENXIO, EBADF, ENOMEM, EINVAL, ENFILE, Closed, File, Event, Action, Look, Release, Put, Clear, Take, ◌▷◌}
+use Rattle.fx_order.proofs.Words.{action_of, part_of_chain, identity_of, Refuses, MayClose, OpensAt, ReadsFrom, Empties, AppliesEntry, AppliesList}
+use Rattle.fx_order.proofs.Words.{UpdatesFrom, Answers, is_bad_entry, Completed, next_member, Explains, severs, first_member, Operation, Opens, Reads}
+use Rattle.fx_order.proofs.Words.{Closes, Updates, Asked, Place, Target, Slot, Any, ExplainsParts, Puts, Allocates, Access, IsRefused, IsOpenDone}
+use Rattle.fx_order.proofs.Words.{IsReadDone, IsCloseDone, IsEntryDone, AreEntriesDone, IsUpdateDone, IsRequestDone, IsChainDone, AreChainsDone}
 use Rattle.fx_order.proofs.Accesses.{accesses_in, accesses_in-then, order_in, accesses_of_chain-order_in}
 
 pub same_cases : (b : Bool) (P Q R S : Type 0) → (P → R) → (Q → S) → MatchBool b P Q → MatchBool b R S

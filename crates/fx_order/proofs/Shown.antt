@@ -1,16 +1,10 @@
 -- A ring with files at its slots, and none past them, is what a table shows.
-use Rattle.std.proofs.Common.{◌≡◌, inl, inr, ℕ, zero, suc, ◌<◌, ◌≤◌, List, [], ◌∷◌, length, refl, sym, ap, ◌∙◌, arith, Option, Some, None, slice_index_or, if◌then◌else◌}
-use Rattle.std.proofs.lemmas.Bool.{cases_lt}
+use Rattle.fx_order.proofs.Words.{◌≡◌, inl, inr, ℕ, zero, suc, ◌<◌, ◌≤◌, List, [], ◌∷◌, length, refl, sym, ap, ◌∙◌, arith, Option, Some, None}
+use Rattle.fx_order.proofs.Words.{slice_index_or, if◌then◌else◌, cases_lt, Closed, Contents, state_of, file_at, placed_at, node_at, moved_node}
+use Rattle.fx_order.proofs.Words.{changed_at, identity_of, by_equality, RingContents, RingState, ring_of, Table, Looks, Puts, Clears, Takes}
+use Rattle.fx_order.proofs.Words.{Allocates, FindsFull, PermitsAll, table_with, table_after, Access}
 use Rattle.std.proofs.Math.ListN.{get_or-eq_default}
-use Rattle.fx_base.specs.declared.open_file.Closed.{Closed}
-use Rattle.fx_plain.specs.Contents.{Contents, state_of, file_at, placed_at, node_at, moved_node}
-use Rattle.fx_plain.specs.Step.{changed_at}
-use Rattle.fx_plain.specs.Table.{identity_of}
 use Rattle.fx_plain.specs.declared.node.Node.{Node}
-use Rattle.fx_plain.proofs.Cells.{by_equality}
-use Rattle.fx_ring.specs.Ring.{RingContents, RingState, ring_of}
-use Rattle.fx_order.specs.Access.{Table, Looks, Puts, Clears, Takes, Allocates, FindsFull, PermitsAll, table_with, table_after}
-use Rattle.fx_order.specs.declared.access.Access.{Access}
 
 -- the first so many values of a function
 pub listed : {X : Type 0} → (ℕ → X) → ℕ → List X

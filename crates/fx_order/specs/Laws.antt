@@ -1,9 +1,16 @@
--- What orders have to do with histories.
-use Rattle.std.specs.Prelude.{◌≡◌, ◌≤◌, List}
+-- What orders have to do with histories, and what a report tells of a ring.
+use Rattle.std.specs.Prelude.{◌≡◌, ◌⊎◌, ℕ, ◌+◌, ◌<◌, ◌≤◌, List, length, slice_get, Some, Contains}
+use Rattle.fx_base.specs.Catalogue.{IsCatalogue}
+use Rattle.fx_base.specs.declared.mark.Mark.TheVariants.{Submitted}
+use Rattle.fx_base.specs.declared.open_file.Closed.{Closed}
 use Rattle.fx_plain.specs.declared.table.TheConstants.{MOST_SLOTS}
 use Rattle.fx_chain.specs.Accepted.{IsAccepted}
 use Rattle.fx_chain.specs.Operation.{Asked}
-use Rattle.fx_ring.specs.Ring.{RingContents, RingState, ring_of}
+use Rattle.fx_chain.specs.Runs.{runs_of}
+use Rattle.fx_chain.specs.declared.completion.Place.{Place}
+use Rattle.fx_chain.specs.declared.fault.TheConstants.{MOST_MEMBERS}
+use Rattle.fx_chain.specs.declared.request.TheConstants.{LONGEST_UPDATE}
+use Rattle.fx_ring.specs.Ring.{RingContents, RingState, IsRing, ring_of}
 use Rattle.fx_ring.specs.Submission.{IsOneHistory, Reported}
 use Rattle.fx_order.specs.Order.{IsOneOrder}
 
@@ -22,3 +29,56 @@ EachOrderIsAHistory =
     → IsAccepted requests
     → IsOneOrder (ring_of old) requests report left
     → (new : RingContents) × (ring_of new ≡ left) × IsOneHistory old requests report new
+
+-- one report of a submission leads to one ring: to the same file at each slot, and nothing else can
+-- differ
+abbrev pub EachReportLeadsToOneRing : Type 0
+EachReportLeadsToOneRing =
+    (old : RingState) (requests : List Asked) (report : Reported) (left other : RingState)
+    → IsCatalogue old.catalogue
+    → IsRing old
+    → IsOneOrder old requests report left
+    → IsOneOrder old requests report other
+    → left ≡ other
+
+-- the file is at a slot of the ring
+abbrev pub IsThere : RingState → Closed → Type 0
+IsThere ring file = (slot : ℕ) × (slot < ring.size) × (ring.at slot ≡ Some file)
+
+-- the file is one that the next submission installs, of these requests: of the catalogue, without a
+-- tag, and with the mark of a member and a place in its list
+pub record IsOfNext (ring : RingState) (requests : List Asked) (file : Closed) : Type 0 where
+  pub place : Place
+  pub entry : ℕ
+  pub next : place.submission ≡ ring.submissions + 1
+  pub chain : place.chain ≤ length (runs_of requests)
+  pub member : place.member ≤ MOST_MEMBERS
+  pub listed : entry < LONGEST_UPDATE
+  pub mark : file.mark ≡ Submitted place.submission place.chain place.member entry
+  pub inside : file.entry < length ring.catalogue
+  pub untagged : file.tag ≡ 0
+
+-- each file was at a slot or is of the next submission, and no two have one mark
+pub record AreKnown (ring : RingState) (requests : List Asked) (files : List Closed) : Type 0 where
+  pub from : (file : Closed) → Contains files file → IsThere ring file ⊎ IsOfNext ring requests file
+  pub distinct : (i j : ℕ) (one other : Closed) → slice_get files i ≡ Some one
+      → slice_get files j ≡ Some other → one.mark ≡ other.mark → i ≡ j
+
+-- what an accepted submission closes was in the table, or the submission installed it, and it is
+-- closed once
+abbrev pub EachClosedFileIsKnown : Type 0
+EachClosedFileIsKnown =
+    (old : RingState) (requests : List Asked) (report : Reported) (left : RingState)
+    → IsRing old
+    → IsAccepted requests
+    → IsOneOrder old requests report left
+    → AreKnown old requests report.closes.files
+
+-- a file that an order leaves at a slot isn't among the closed ones
+abbrev pub NoFileThatStaysIsClosed : Type 0
+NoFileThatStaysIsClosed =
+    (old : RingState) (requests : List Asked) (report : Reported) (left : RingState)
+    → IsRing old
+    → IsOneOrder old requests report left
+    → (slot : ℕ) (file : Closed) → left.at slot ≡ Some file
+    → Contains report.closes.files file → ⊥

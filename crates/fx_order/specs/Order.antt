@@ -13,11 +13,10 @@ use Rattle.fx_order.specs.Requests.{AreChainsDone}
 abbrev pub table_of : RingState → Table
 table_of ring = record { size = ring.size; range = ring.range; at = ring.at }
 
--- A submission leads from one ring to another by one order of its requests' accesses
-pub record IsOneOrder (old : RingState) (requests : List Asked) (report : Reported)
-    (new : RingState) : Type 0 where
+-- the accesses of a submission's requests, in this order, come to this report
+pub record IsOrderOf (order : List ChainAccess) (old : RingState) (requests : List Asked)
+    (report : Reported) : Type 0 where
   -- the first one stands first, and each may be made at the table that those before it left
-  pub order : List ChainAccess
   pub permitted : PermitsAll (table_of old) (accesses_of order)
   -- they are all of the submission's chains
   pub chains : All (λ x. (1 ≤ x.chain) × (x.chain ≤ length (runs_of requests))) order
@@ -27,10 +26,19 @@ pub record IsOneOrder (old : RingState) (requests : List Asked) (report : Report
       report.completions
   -- the report's closes are the files that were taken from their slots, in order of mark
   pub closed : HasClosed (removed_in (accesses_of order)) report.closes
-  -- the files at the slots are those that the order left; the submission is counted, and all else
-  -- stays
   pub submission : report.submission ≡ old.submissions + 1
-  pub after : new ≡ record old {
-    at = (table_after (table_of old) (accesses_of order)).at;
-    submissions = old.submissions + 1;
-  }
+
+-- the ring that an order leaves: the files at the slots are those that it left, the submission is
+-- counted, and all else stays
+abbrev pub ring_left : List ChainAccess → RingState → RingState
+ring_left order old = record old {
+  at = (table_after (table_of old) (accesses_of order)).at;
+  submissions = old.submissions + 1;
+}
+
+-- a submission leads from one ring to another by one order of its requests' accesses
+pub record IsOneOrder (old : RingState) (requests : List Asked) (report : Reported)
+    (new : RingState) : Type 0 where
+  pub order : List ChainAccess
+  pub is : IsOrderOf order old requests report
+  pub after : new ≡ ring_left order old

@@ -1,5 +1,5 @@
 //! What a completion says, and what an access installs, compared with what they should.
-ghost use Rattle.std.specs.Prelude.{◌≡◌, IsTrue, Option};
+ghost use Rattle.std.specs.Prelude.{◌≡◌, ◌↔◌, IsTrue, Option};
 ghost use Rattle.fx_base.specs.declared.open_file.Closed.{Closed as File};
 ghost use Rattle.fx_chain.specs.Answers.{installed};
 ghost use Rattle.fx_chain.specs.Completed.{completed, completed_of};
@@ -12,14 +12,14 @@ use fx_chain::{Completion, Place};
 
 /// Whether a completion says this.
 pub(crate) fn is_answer(c: &Completion, place: Place, res: i32, got: &[u8]) -> bool
-    ensures { IsTrue result → completed_of c.now ≡ completed place res got.now }
+    ensures { IsTrue result ↔ (completed_of c.now ≡ completed place res got.now) }
 {
     c.place == place && c.res == res && c.got.as_slice() == got
 }
 
 /// Whether a request made no access and failed.
 pub(crate) fn is_refused(place: Place, errno: Errno, own: &[Access], c: &Completion) -> bool
-    ensures { IsTrue result → IsRefused place errno own.now (completed_of c.now) }
+    ensures { IsTrue result ↔ IsRefused place errno own.now (completed_of c.now) }
 {
     own.is_empty() && is_answer(c, place, -errno.code(), &[])
 }
@@ -37,8 +37,8 @@ pub(crate) fn installed(place: Place, in_list: u32, entry: u8) -> Closed
 
 /// Whether an access installed this entry at a slot.
 pub(crate) fn puts(place: Place, in_list: u32, slot: u32, entry: u8, access: &Access) -> bool
-    ensures { IsTrue result → (removed : Option File)
-        × (access.now ≡ Puts slot (installed place in_list entry) removed) }
+    ensures { IsTrue result ↔ ((removed : Option File)
+        × (access.now ≡ Puts slot (installed place in_list entry) removed)) }
 {
     match access {
         Access::Puts(at, file, _) => { *at == slot && *file == installed(place, in_list, entry) }

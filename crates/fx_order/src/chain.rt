@@ -1,10 +1,11 @@
 //! What the members of a chain made and answered, looked through one after another.
-ghost use Rattle.std.specs.Prelude.{◌≡◌, ◌<◌, ◌+◌, ◌^◌, All, IfOk, IsTrue, length};
-ghost use Rattle.fx_chain.specs.Accepted.{IsWithinLimits};
-ghost use Rattle.fx_chain.specs.Completed.{all_completed};
+ghost use Rattle.std.specs.Prelude.{◌≡◌, ◌<◌, ◌+◌, ◌^◌, ◌↔◌, IfOk, IsTrue, List, filter, int_le, length, negsuc};
+ghost use Rattle.fx_base.specs.Catalogue.{FileEntry};
+ghost use Rattle.fx_chain.specs.Completed.{all_completed, completed_of};
 ghost use Rattle.fx_chain.specs.Explains.{canceled};
-ghost use Rattle.fx_chain.specs.Operation.{all_asked, asked_of};
-ghost use Rattle.fx_order.specs.Requests.{IsChainDone};
+ghost use Rattle.fx_chain.specs.Operation.{all_asked, operation_of};
+ghost use Rattle.fx_order.specs.declared.access.Access.{Access as Made};
+ghost use Rattle.fx_order.specs.Requests.{IsChainDone, IsRequestDone};
 
 use crate::access::Access;
 use crate::answer::is_answer;
@@ -14,32 +15,31 @@ use fx_chain::{Completion, Op, Place, Request};
 use std::alloc::Global;
 
 // How many entries of a list aren't skips.
-fn entries_done(list: &[i32]) -> usize {
+fn entries_done(list: &[i32]) -> usize
+    ensures { result ≡ length (filter (λ entry. int_le (negsuc 0) entry) list.now) }
+{
     list.iter().filter(|entry| **entry >= -1).count()
 }
 
-// How many accesses a request made that completed so. Whatever is answered here is looked through, so nothing is promised.
-fn accesses_made(size: u32, request: &Request, c: &Completion) -> usize {
-    let failed = c.res < 0;
+// How many accesses a request made, if it completed so.
+fn accesses_made(size: u32, request: &Request, c: &Completion) -> usize
+    ensures { (catalogue : List FileEntry) (place : Place) (own : List Made)
+        → IsRequestDone catalogue size place (operation_of request.now.op) own (completed_of c.now)
+        → length own ≡ result }
+{
+    let answered = c.res >= 0;
     match &request.op {
         Op::Open { name: _, target: _ } => {
-            let full = c.res == -Errno::ENFILE.code() && size > 0;
-            usize::from(!failed || full)
+            usize::from(answered || size > 0 && c.res == -Errno::ENFILE.code())
         }
         Op::Read {
             slot,
             off: _,
             len: _,
-        } => {
-            let empty = c.res == -Errno::EBADF.code() && *slot < size;
-            usize::from(!failed || empty)
-        }
-        Op::Close { slot: _ } => {
-            let empty = c.res == -Errno::EBADF.code();
-            usize::from(!failed || empty)
-        }
+        } => usize::from(answered || *slot < size && c.res == -Errno::EBADF.code()),
+        Op::Close { slot: _ } => usize::from(answered || c.res == -Errno::EBADF.code()),
         Op::Update { off: _, list } => {
-            if failed {
+            if !answered {
                 return 0;
             }
             entries_done(list)
@@ -51,7 +51,7 @@ fn accesses_made(size: u32, request: &Request, c: &Completion) -> usize {
 fn are_canceled(place: Place, requests: &[Request], completions: &[Completion]) -> bool
     requires { place.member + length requests.now < 2 ^ 32 }
     ensures { IsTrue result
-        → all_completed completions.now ≡ canceled place (all_asked requests.now) }
+        ↔ (all_completed completions.now ≡ canceled place (all_asked requests.now)) }
 {
     let [_, requests @ ..] = requests else {
         return completions.is_empty();
@@ -67,12 +67,9 @@ fn are_canceled(place: Place, requests: &[Request], completions: &[Completion]) 
 }
 
 /// Whether the members of a chain from this place on made these accesses, one after another, and answered so, at a table
-/// of so many slots: up to and with the first one that severs the chain, and the others canceled. The caller has seen
-/// that no limit of its own refuses one of the requests ([`fx_chain::check`]).
-///
-/// # Errors
-/// `NoMemory` where there is no memory for the bytes of a read.
-pub fn is_chain_done(
+/// of so many slots: up to and with the first one that severs the chain, and the others canceled. `NoMemory` where there
+/// is no memory for the bytes of a read.
+pub(crate) fn is_chain_done(
     alloc: Global,
     catalogue: &Catalogue,
     size: u32,
@@ -81,9 +78,8 @@ pub fn is_chain_done(
     accesses: &[Access],
     completions: &[Completion],
 ) -> Result<bool, NoMemory>
-    requires limits { All (λ r. IsWithinLimits (asked_of r)) requests.now }
-    requires members { place.member + length requests.now < 2 ^ 32 }
-    ensures { IfOk result (λ yes. IsTrue yes → IsChainDone catalogue.now size place
+    requires { place.member + length requests.now < 2 ^ 32 }
+    ensures { IfOk result (λ yes. IsTrue yes ↔ IsChainDone catalogue.now size place
         (all_asked requests.now) accesses.now (all_completed completions.now)) }
 {
     let [request, requests @ ..] = requests else {

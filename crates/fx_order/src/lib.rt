@@ -6,6 +6,7 @@ mod access;
 mod answer;
 mod chain;
 pub mod laws;
+mod open;
 mod order;
 mod report;
 mod request;
@@ -14,11 +15,7 @@ mod submission;
 mod update;
 
 pub use access::{Access, ChainAccess};
-pub use chain::is_chain_done;
 pub use order::{are_closed, make_all};
 pub use report::is_one_order;
 pub use slots::Slots;
 pub use submission::are_chains_done;
-
-#[cfg(test)]
-mod tests;

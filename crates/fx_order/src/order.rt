@@ -1,20 +1,13 @@
 //! Whether a report came of an order of a submission's requests: the order is made again, access by access.
-ghost use Rattle.std.specs.Prelude.{◌≡◌, ℕ, ◌+◌, ◌<◌, ◌≤◌, ◌^◌, ◌↔◌, All, IfOk, IsTrue, IsPermutation, List, [], length, map};
+ghost use Rattle.std.specs.Prelude.{◌≡◌, ℕ, ◌<◌, ◌↔◌, ◌≢◌, IfNone, IfOk, IfSome, IsTrue, IsPermutation, length, slice_index_or};
 ghost use Rattle.fx_base.specs.CloseList.{IsInOrderOfMark};
 ghost use Rattle.fx_base.specs.declared.open_file.Closed.{Closed as File};
-ghost use Rattle.fx_chain.specs.Accepted.{IsAccepted, IsChain, IsWithinLimits, members_of};
-ghost use Rattle.fx_chain.specs.Completed.{all_completed};
-ghost use Rattle.fx_chain.specs.Operation.{all_asked, asked_of};
-ghost use Rattle.fx_chain.specs.Runs.{runs_of};
 ghost use Rattle.fx_order.specs.Access.{PermitsAll, table_after, accesses_of, accesses_of_chain, removed_by, removed_in};
-ghost use Rattle.fx_order.specs.Requests.{AreChainsDone};
 ghost use Rattle.fx_order.specs.Slots.{table_of_slots};
 
 use crate::access::{Access, ChainAccess};
-use crate::chain::is_chain_done;
 use crate::slots::Slots;
-use fx_base::{Catalogue, Closed, NoMemory};
-use fx_chain::{Chain, Completion, Place, Request};
+use fx_base::{Closed, NoMemory};
 use std::alloc::Global;
 
 /// Makes the accesses of an order, one after another, and tells whether each could be made. Where one may not be made,
@@ -76,31 +69,60 @@ fn removed_in(alloc: Global, order: &[ChainAccess]) -> Result<Vec<Closed>, NoMem
     Ok(files)
 }
 
-// Whether both lists have the same files, in one order.
-fn are_same(files: &[Closed], others: &[Closed]) -> bool
-    ensures { IsTrue result → files.now ≡ others.now }
+// The first place of a file in a list.
+fn place_of(files: &[Closed], file: Closed) -> Option<usize>
+    ensures some { IfSome result (λ i. (i < length files.now)
+        × (slice_index_or files.now i file ≡ file)) }
+    ensures none { IfNone result ((i : ℕ) (d : File) → i < length files.now
+        → slice_index_or files.now i d ≢ file) }
 {
-    if files.len() != others.len() {
-        return false;
-    }
     for i in 0..files.len() {
-        if files[i] != others[i] {
+        if files[i] == file {
+            return Some(i);
+        }
+    }
+    None
+}
+
+// Whether both lists have the same files, each as many times.
+fn has_same_files(alloc: Global, files: &[Closed], others: &[Closed]) -> Result<bool, NoMemory>
+    ensures { IfOk result (λ yes. IsTrue yes ↔ IsPermutation files.now others.now) }
+{
+    let mut left = Vec::from_slice(alloc, files)?;
+    for file in others {
+        let Some(i) = place_of(&left, *file) else {
+            return Ok(false);
+        };
+        left.remove(i);
+    }
+    Ok(left.is_empty())
+}
+
+// Whether no file's mark comes before that of the file in front of it.
+fn is_in_order(files: &[Closed]) -> bool
+    ensures { IsTrue result ↔ IsInOrderOfMark files.now }
+{
+    for i in 1..files.len() {
+        if files[i].mark.cmp(&files[i - 1].mark).is_lt() {
             return false;
         }
     }
     true
 }
 
-/// Whether these closes are the files that the accesses took from their slots, in order of mark.
+/// Whether these closes are the files that the accesses took from their slots, in order of mark. Each file is looked for in
+/// a list of the others, so the time grows with the square of their number.
 ///
 /// # Errors
 /// `NoMemory` where there is no memory for a list of the files.
 pub fn are_closed(alloc: Global, order: &[ChainAccess], closes: &[Closed]) -> Result<bool, NoMemory>
-    ensures files { IfOk result (λ yes. IsTrue yes
-        → IsPermutation (removed_in (accesses_of order.now)) closes.now) }
-    ensures in_order { IfOk result (λ yes. IsTrue yes → IsInOrderOfMark closes.now) }
+    ensures { IfOk result (λ yes. IsTrue yes
+        ↔ (IsPermutation (removed_in (accesses_of order.now)) closes.now
+        × IsInOrderOfMark closes.now)) }
 {
-    let mut files = removed_in(alloc, order)?;
-    files.sort_unstable_by_key(|file| file.mark);
-    Ok(are_same(&files, closes))
+    let files = removed_in(alloc, order)?;
+    if !is_in_order(closes) {
+        return Ok(false);
+    }
+    has_same_files(alloc, &files, closes)
 }

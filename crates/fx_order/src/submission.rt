@@ -1,8 +1,8 @@
 //! What all chains of a submission made and answered, looked through chain by chain.
-ghost use Rattle.std.specs.Prelude.{◌≡◌, ◌<◌, ◌≤◌, ◌+◌, ◌^◌, All, IfOk, IsTrue, length, map};
-ghost use Rattle.fx_chain.specs.Accepted.{IsChain, IsWithinLimits, members_of};
+ghost use Rattle.std.specs.Prelude.{◌≡◌, ◌<◌, ◌≤◌, ◌+◌, ◌^◌, ◌↔◌, All, IfOk, IsTrue, length, map};
+ghost use Rattle.fx_chain.specs.Accepted.{IsChain, members_of};
 ghost use Rattle.fx_chain.specs.Completed.{all_completed};
-ghost use Rattle.fx_chain.specs.Operation.{all_asked, asked_of};
+ghost use Rattle.fx_chain.specs.Operation.{all_asked};
 ghost use Rattle.fx_order.specs.Requests.{AreChainsDone};
 
 use crate::access::ChainAccess;
@@ -16,7 +16,6 @@ use std::alloc::Global;
 fn members<'a>(requests: &'a [Request], chain: Chain) -> &'a [Request]
     requires within { IsChain (all_asked requests.now) chain }
     ensures members { all_asked result.now ≡ members_of (all_asked requests.now) chain }
-    ensures limits { All (λ r. IsWithinLimits (asked_of r)) result.now }
     ensures few { length result.now ≤ MOST_MEMBERS }
 {
     let first = chain.first as usize;
@@ -24,7 +23,8 @@ fn members<'a>(requests: &'a [Request], chain: Chain) -> &'a [Request]
 }
 
 /// Whether the chains from this one on made their accesses of an order, and answered so, at a table of so many slots. The
-/// completions are those of these chains, in order of place.
+/// completions are those of these chains, in order of place. The caller has seen that the chains are those into which the
+/// requests were cut ([`fx_chain::cut`]).
 ///
 /// # Errors
 /// `NoMemory` where there is no memory for the accesses of a chain, or the bytes of a read.
@@ -41,7 +41,7 @@ pub fn are_chains_done(
 ) -> Result<bool, NoMemory>
     requires within { All (IsChain (all_asked requests.now)) chains.now }
     requires numbers { chain + length chains.now < 2 ^ 32 }
-    ensures { IfOk result (λ yes. IsTrue yes → AreChainsDone catalogue.now size submission chain
+    ensures { IfOk result (λ yes. IsTrue yes ↔ AreChainsDone catalogue.now size submission chain
         (map (members_of (all_asked requests.now)) chains.now) order.now
         (all_completed completions.now)) }
 {

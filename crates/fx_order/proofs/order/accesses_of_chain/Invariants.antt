@@ -1,5 +1,4 @@
-use Rattle.std.proofs.Common.{◌≡◌, take}
-use Rattle.fx_order.specs.Access.{accesses_of_chain}
+use Rattle.fx_order.proofs.Words.{◌≡◌, take, accesses_of_chain}
 use Rattle.fx_order.proofs.order.accesses_of_chain.Given as goal
 
 abbrev pub invariant-loop-x : goal.invariant-loop-x

@@ -1,5 +1,4 @@
-use Rattle.std.proofs.Common.{refl}
-use Rattle.fx_order.specs.Slots.{table_of_slots}
+use Rattle.fx_order.proofs.Words.{refl, table_of_slots}
 use Rattle.fx_order.proofs.OrderSteps.{make_one, permitted_here}
 use Rattle.fx_order.proofs.order.make_all.Goals as goal
 

@@ -1,6 +1,4 @@
-use Rattle.std.proofs.Common.{◌≡◌, take}
-use Rattle.fx_order.specs.Access.{PermitsAll, table_after, accesses_of}
-use Rattle.fx_order.specs.Slots.{table_of_slots}
+use Rattle.fx_order.proofs.Words.{◌≡◌, take, PermitsAll, table_after, accesses_of, table_of_slots}
 use Rattle.fx_order.proofs.order.make_all.Given as goal
 
 -- the accesses so far were permitted, and were made

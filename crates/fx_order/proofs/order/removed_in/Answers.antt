@@ -1,7 +1,5 @@
-use Rattle.std.proofs.Common.{sym, ap, ◌∙◌, Some, None}
+use Rattle.fx_order.proofs.Words.{sym, ap, ◌∙◌, Some, None, append-nil, Closed}
 use Rattle.std.specs.Global.{Vec}
-use Rattle.std.proofs.lemmas.List.{append-nil}
-use Rattle.fx_base.specs.declared.open_file.Closed.{Closed}
 use Rattle.fx_order.proofs.OrderSteps.{more_removed}
 use Rattle.fx_order.proofs.order.removed_in.Goals.{in-Some+in_ok-push, in_default}
 use Rattle.fx_order.proofs.order.removed_in.Goals as goal

@@ -1,5 +1,4 @@
-use Rattle.std.proofs.Common.{◌≡◌, take}
-use Rattle.fx_order.specs.Access.{accesses_of, removed_in}
+use Rattle.fx_order.proofs.Words.{◌≡◌, take, accesses_of, removed_in}
 use Rattle.fx_order.proofs.order.removed_in.Given as goal
 
 abbrev pub invariant-loop-x : goal.invariant-loop-x

@@ -1,40 +1,68 @@
-use Rattle.std.proofs.Common.{◌≡◌, ℕ, ◌+◌, ◌≤◌, List, length, map, sym, ap, subst, ◌∙◌, All, IsPermutation, arith}
-use Rattle.std.proofs.lemmas.List.{length-map}
-use Rattle.fx_base.specs.CloseList.{IsInOrderOfMark}
-use Rattle.fx_chain.specs.Accepted.{members_of}
-use Rattle.fx_chain.specs.Completed.{all_completed}
-use Rattle.fx_chain.specs.Operation.{Asked, all_asked}
-use Rattle.fx_chain.specs.Runs.{runs_of}
-use Rattle.fx_chain.specs.declared.chain.Chain.{Chain}
-use Rattle.fx_chain.specs.declared.completion.Completion.{Completion}
-use Rattle.fx_ring.specs.Submission.{reported}
-use Rattle.fx_order.specs.Access.{removed_in, accesses_of}
-use Rattle.fx_order.specs.Requests.{AreChainsDone}
-use Rattle.fx_order.specs.declared.access.ChainAccess.{ChainAccess}
-use Rattle.fx_order.proofs.Replayed.{replayed}
+use Rattle.fx_order.proofs.Words.{◌≡◌, ℕ, ◌+◌, ◌≤◌, List, length, refl, sym, subst, ap, ◌∙◌, All, IsPermutation, arith, false≢true, IsInOrderOfMark}
+use Rattle.fx_order.proofs.Words.{Closed, all_asked, runs_of, Table, PermitsAll, removed_in, accesses_of, table_after}
+use Rattle.fx_order.proofs.OrderOf.{as_many, done_told, ring_left_is}
+use Rattle.fx_order.proofs.report.is_one_order.Goals.{then-report-number-via-then-report-number}
+use Rattle.fx_order.proofs.report.is_one_order.Goals.{then-report-number-via-else-report-number+then-not-are_within}
 use Rattle.fx_order.proofs.report.is_one_order.Goals as goal
 
-pub returns : goal.returns
-returns c = λ yes registrations.
-    let asked : List Asked = all_asked c.args.requests.now in
-    let order : List ChainAccess = c.args.order.now in
-    let runs : map (members_of asked) c.in_ok-chains.chains.items ≡ runs_of asked = c.in_ok-chains.ensures.members in
-    let many : length c.in_ok-chains.chains.items ≡ length (runs_of asked) =
-    sym (length-map c.in_ok-chains.chains.items (members_of asked)) ∙ ap length runs in
-    let count : c.len.result ≡ length (runs_of asked) = omega (arith, c.in_ok-chains.chains.ok.0) in
-    let size : c.len-size.result ≡ length c.args.slots.now.at.items = omega (arith, c.args.slots.now.at.ok.0) in
-    let number : c.args.report.now.submission ≡ c.args.submissions + 1 = omega arith in
-    let done = c.in_ok-are_chains_done.ensures c.if-not-branch.false in
-    let files : c.files.result.now ≡ c.args.report.now.closes.files = c.files.ensures in
-    replayed c.args.catalogue.now c.args.slots.now c.make_all.new.slots c.args.submissions registrations asked (reported c.args.report.now) order
-    (c.make_all.ensures.permitted.0 yes) (c.make_all.ensures.made yes)
-    (subst (λ (n : ℕ). All (λ x. (1 ≤ x.chain) × (x.chain ≤ n)) order) count (c.are_within.ensures c.if-not-are_within.false))
-    (subst (λ (n : ℕ). AreChainsDone c.args.catalogue.now n c.args.report.now.submission 1 (runs_of asked) order (all_completed c.args.report.now.completions.items)) size
-    (subst (λ (rs : List (List Asked)). AreChainsDone c.args.catalogue.now c.len-size.result c.args.report.now.submission 1 rs order (all_completed c.args.report.now.completions.items)) runs
-    (subst (λ (cs : List Chain). AreChainsDone c.args.catalogue.now c.len-size.result c.args.report.now.submission 1 (map (members_of asked) cs) order (all_completed c.args.report.now.completions.items))
-    c.deref.ensures.value
-    (subst (λ (l : List Completion). AreChainsDone c.args.catalogue.now c.len-size.result c.args.report.now.submission 1 (map (members_of asked) c.deref.result.now) order (all_completed l))
-    c.deref-2.ensures.value done))))
-    (subst (IsPermutation (removed_in (accesses_of order))) files (c.in_ok-are_closed.ensures.files c.if-not-branch-2.false))
-    (subst IsInOrderOfMark files (c.in_ok-are_closed.ensures.in_order c.if-not-branch-2.false))
-    number
+pub returns-then-report-number-clause-order : goal.returns-then-report-number-clause-order
+returns-then-report-number-clause-order c = (
+  λ no. absurd (false≢true no),
+  λ o. let number : c.args.report.now.submission ≡ c.args.submissions + 1 = (o 0).submission in
+      elim c.then-report-number.branch [
+        | then-report-number-via-then-report-number w ↦ absurd (omega arith)
+        | then-report-number-via-else-report-number+then-not-are_within w ↦
+            let count : w.len.result ≡ length (runs_of (all_asked c.args.requests.now)) =
+            as_many (all_asked c.args.requests.now) c.in_ok-chains.chains.items w.len.result (omega (arith, c.in_ok-chains.chains.ok.0)) c.in_ok-chains.ensures.members in
+            absurd (false≢true (sym w.if-not-are_within.true
+            ∙ w.are_within.ensures.1 (subst (λ (n : ℕ). All (λ x. (1 ≤ x.chain) × (x.chain ≤ n)) c.args.order.now) (sym count) (o 0).chains)))
+      ],
+)
+
+pub returns-then-not-branch-clause-order : goal.returns-then-not-branch-clause-order
+returns-then-not-branch-clause-order c = (
+  λ no. absurd (false≢true no),
+  λ o. let told = done_told c.args.catalogue.now (length c.args.slots.now.at.items) c.len-size.result c.args.report.now.submission (all_asked c.args.requests.now)
+      c.in_ok-chains.chains.items c.deref.result.now c.args.order.now c.args.report.now.completions.items c.deref-2.result.now c.in_ok-are_chains_done.field-0
+      (omega (arith, c.args.slots.now.at.ok.0)) c.deref.ensures.value c.deref-2.ensures.value c.in_ok-chains.ensures.members c.in_ok-are_chains_done.ensures in
+      absurd (false≢true (sym c.if-not-branch.true ∙ told.1 (o 0).done)),
+)
+
+pub returns-then-not-branch-2-clause-order : goal.returns-then-not-branch-2-clause-order
+returns-then-not-branch-2-clause-order c = (
+  λ no. absurd (false≢true no),
+  λ o. absurd (false≢true (sym c.if-not-branch-2.true ∙ c.in_ok-are_closed.ensures.1
+      (subst (λ (l : List Closed). IsPermutation (removed_in (accesses_of c.args.order.now)) l × IsInOrderOfMark l) (sym c.files.ensures)
+      ((o 0).closed.same_files, (o 0).closed.in_order)))),
+)
+
+pub returns-then-not-make_all-clause-order : goal.returns-then-not-make_all-clause-order
+returns-then-not-make_all-clause-order c = (
+  λ no. absurd (false≢true no),
+  λ o. absurd (false≢true (sym c.if-not-make_all.true ∙ c.make_all.ensures.permitted.1
+      (subst (λ (t : Table). PermitsAll t (accesses_of c.args.order.now)) (sym c.in_ok-left.ensures) (o 0).permitted))),
+)
+
+pub returns-clause-order : goal.returns-clause-order
+returns-clause-order c = (
+  λ yes registrations.
+      let told = done_told c.args.catalogue.now (length c.args.slots.now.at.items) c.len-size.result c.args.report.now.submission (all_asked c.args.requests.now)
+      c.in_ok-chains.chains.items c.deref.result.now c.args.order.now c.args.report.now.completions.items c.deref-2.result.now c.in_ok-are_chains_done.field-0
+      (omega (arith, c.args.slots.now.at.ok.0)) c.deref.ensures.value c.deref-2.ensures.value c.in_ok-chains.ensures.members c.in_ok-are_chains_done.ensures in
+      let count : c.len.result ≡ length (runs_of (all_asked c.args.requests.now)) =
+      as_many (all_asked c.args.requests.now) c.in_ok-chains.chains.items c.len.result (omega (arith, c.in_ok-chains.chains.ok.0)) c.in_ok-chains.ensures.members in
+      let closed = c.in_ok-are_closed.ensures.0 c.if-not-branch-2.false in
+      record {
+        permitted = subst (λ (t : Table). PermitsAll t (accesses_of c.args.order.now)) c.in_ok-left.ensures (c.make_all.ensures.permitted.0 c.if-not-make_all.false);
+        chains = subst (λ (n : ℕ). All (λ x. (1 ≤ x.chain) × (x.chain ≤ n)) c.args.order.now) count (c.are_within.ensures.0 c.if-not-are_within.false);
+        done = told.0 c.if-not-branch.false;
+        closed = record { same_files = subst (IsPermutation (removed_in (accesses_of c.args.order.now))) c.files.ensures closed.0; in_order = subst IsInOrderOfMark c.files.ensures closed.1 };
+        submission = omega arith;
+      },
+  λ _. refl,
+)
+
+pub returns-clause-left : goal.returns-clause-left
+returns-clause-left c = λ yes registrations.
+    ring_left_is c.args.catalogue.now c.args.slots.now c.make_all.new.slots c.args.submissions registrations c.args.order.now
+    (c.make_all.ensures.made c.if-not-make_all.false ∙ ap (λ (t : Table). table_after t (accesses_of c.args.order.now)) c.in_ok-left.ensures)

@@ -1,4 +1,4 @@
-use Rattle.std.proofs.Common.{length}
+use Rattle.fx_order.proofs.Words.{length}
 use Rattle.fx_order.proofs.update.+are_entries_done.Given as goal
 
 abbrev pub decreases-are_entries_done : goal.decreases-are_entries_done

@@ -1,0 +1,91 @@
+-- Where no mark is placed twice, and none that is in the table, what was removed isn't there afterwards, and was removed once.
+use Rattle.std.proofs.Common.{◌≡◌, ◌≢◌, ◌⊎◌, inl, inr, ⊎_elim, ℕ, List, [], ◌∷◌, ◌++◌, sym, ◌∙◌, Some}
+use Rattle.fx_base.specs.declared.open_file.Closed.{Closed}
+use Rattle.fx_order.specs.Access.{Table, Looks, Puts, Clears, Takes, Allocates, FindsFull, Permits, PermitsAll, table_with, table_after, removed_by}
+use Rattle.fx_order.specs.declared.access.Access.{Access}
+use Rattle.fx_order.proofs.Placed.{Has, Removes, emptied, has_left, has_right, left_from, placed, placed_by, removed_from, step_from}
+
+-- no mark is placed twice
+abbrev pub PlacesOnce : List (ℕ × Closed) → Type 0
+PlacesOnce [] = Unit {0}
+PlacesOnce (p ∷ l) = PlacesOnce l × ((s : ℕ) (g : Closed) → Has l s g → p.1.mark ≢ g.mark)
+
+pub once_behind : (xs ys : List (ℕ × Closed)) → PlacesOnce (xs ++ ys) → PlacesOnce ys
+once_behind [] ys once = once
+once_behind (x ∷ xs) ys once = once_behind xs ys once.0
+
+pub once_between : (xs ys : List (ℕ × Closed)) (s o : ℕ) (f g : Closed) → PlacesOnce (xs ++ ys) → Has xs s f → Has ys o g → f.mark ≢ g.mark
+once_between [] ys s o f g once first later same = absurd first
+once_between (x ∷ xs) ys s o f g once (inl here) later same =
+    once.1 o g (has_right xs ys o g later) ((λ i. (here i).1.mark) ∙ same)
+once_between (x ∷ xs) ys s o f g once (inr first) later same = once_between xs ys s o f g once.0 first later same
+
+-- an access places one file at most
+one_placed : (x : Access) (s o : ℕ) (f g : Closed) → Has (placed_by x) s f → Has (placed_by x) o g → s ≡ o
+one_placed (Looks slot found) s o f g one other = absurd one
+one_placed (Puts slot file removed) s o f g (inl one) (inl other) = (λ i. (sym one i).0) ∙ (λ i. (other i).0)
+one_placed (Puts slot file removed) s o f g (inl one) (inr none) = absurd none
+one_placed (Puts slot file removed) s o f g (inr none) other = absurd none
+one_placed (Clears slot removed) s o f g one other = absurd one
+one_placed (Takes slot removed) s o f g one other = absurd one
+one_placed (Allocates slot file) s o f g (inl one) (inl other) = (λ i. (sym one i).0) ∙ (λ i. (other i).0)
+one_placed (Allocates slot file) s o f g (inl one) (inr none) = absurd none
+one_placed (Allocates slot file) s o f g (inr none) other = absurd none
+one_placed FindsFull s o f g one other = absurd one
+
+-- no two slots have one mark, none of them has one that is to be placed, and that is placed once
+pub record IsApart (t : Table) (l : List (ℕ × Closed)) : Type 0 where
+  pub distinct : (s o : ℕ) (f g : Closed) → t.at s ≡ Some f → t.at o ≡ Some g → f.mark ≡ g.mark → s ≡ o
+  pub unlike : (s o : ℕ) (f g : Closed) → t.at s ≡ Some f → Has l o g → f.mark ≢ g.mark
+  pub once : PlacesOnce l
+
+module _ (t : Table) (x : Access) (xs : List Access) (apart : IsApart t (placed_by x ++ placed xs)) where
+  here_unlike : (s o : ℕ) (f g : Closed) → t.at s ≡ Some f → Has (placed_by x) o g → f.mark ≢ g.mark
+  here_unlike s o f g was new = apart.unlike s o f g was (has_left (placed_by x) (placed xs) o g new)
+
+  later_unlike : (s o : ℕ) (f g : Closed) → t.at s ≡ Some f → Has (placed xs) o g → f.mark ≢ g.mark
+  later_unlike s o f g was new = apart.unlike s o f g was (has_right (placed_by x) (placed xs) o g new)
+
+  -- it stays so behind an access
+  pub apart_then : IsApart (table_with t x) (placed xs)
+  apart_then = record {
+    distinct = λ s o f g is are same. ⊎_elim
+        (λ was. ⊎_elim (λ were. apart.distinct s o f g was were same) (λ new. absurd (here_unlike s o f g was new same)) (step_from t x o g are))
+        (λ new. ⊎_elim (λ were. absurd (here_unlike o s g f were new (sym same))) (λ newer. one_placed x s o f g new newer) (step_from t x o g are))
+        (step_from t x s f is);
+    unlike = λ s o f g is later. ⊎_elim
+        (λ was. later_unlike s o f g was later)
+        (λ new. once_between (placed_by x) (placed xs) s o f g apart.once new later)
+        (step_from t x s f is);
+    once = once_behind (placed_by x) (placed xs) apart.once;
+  }
+
+  -- what it removed is at no slot then, and isn't placed again
+  gone : (g : Closed) → Permits t x → removed_by x ≡ Some g → (s : ℕ) (f : Closed) → ((table_with t x).at s ≡ Some f) ⊎ Has (placed xs) s f
+      → g.mark ≢ f.mark
+  gone g may is s f (inl now) =
+      let e = emptied t x g may is in
+      ⊎_elim
+      (λ other same. other.0 (apart.distinct s e.slot f g other.1 e.was (sym same)))
+      (λ new. here_unlike e.slot s g f e.was new)
+      (e.behind s f now)
+  gone g may is s f (inr later) = let e = emptied t x g may is in later_unlike e.slot s g f e.was later
+
+-- what was removed is at no slot afterwards
+pub removed_is_gone : (t : Table) (xs : List Access) (g : Closed) → IsApart t (placed xs) → PermitsAll t xs → Removes xs g
+    → (s : ℕ) (f : Closed) → (table_after t xs).at s ≡ Some f → g.mark ≢ f.mark
+removed_is_gone t [] g apart may none s f at = absurd none
+removed_is_gone t (x ∷ xs) g apart may (inl now) s f at = gone t x xs apart g may.0 now s f (left_from (table_with t x) xs s f at)
+removed_is_gone t (x ∷ xs) g apart may (inr later) s f at = removed_is_gone (table_with t x) xs g (apart_then t x xs apart) may.1 later s f at
+
+-- no mark is removed twice
+abbrev pub RemovesOnce : List Access → Type 0
+RemovesOnce [] = Unit {0}
+RemovesOnce (x ∷ xs) = RemovesOnce xs × ((f g : Closed) → removed_by x ≡ Some f → Removes xs g → f.mark ≢ g.mark)
+
+pub removes_once : (t : Table) (xs : List Access) → IsApart t (placed xs) → PermitsAll t xs → RemovesOnce xs
+removes_once t [] apart may = tt
+removes_once t (x ∷ xs) apart may = (
+  removes_once (table_with t x) xs (apart_then t x xs apart) may.1,
+  λ f g now later. let w = removed_from (table_with t x) xs g may.1 later in gone t x xs apart f may.0 now w.slot g w.was,
+)

@@ -1,0 +1,99 @@
+-- What the first member of a chain made stands at the front of what the chain made.
+use Rattle.fx_order.proofs.Words.{◌≡◌, ◌↔◌, ℕ, ◌+◌, Bool, true, false, IsTrue, List, [], ◌∷◌, ◌++◌, length, take, drop, refl, sym, ap, subst, ◌∙◌}
+use Rattle.fx_order.proofs.Words.{arith, min, MatchBool, when_true, when_false, take-append-drop, length-append, take-append_seam, drop-append_seam}
+use Rattle.fx_order.proofs.Words.{FileEntry, Completed, next_member, canceled, severs, Asked, Place, Access, IsChainDone, IsRequestDone}
+
+-- the first part of a list of a known length
+pub front_is : {X : Type 0} (xs ys zs : List X) (n : ℕ) → zs ≡ xs ++ ys → length xs ≡ n → (take n zs ≡ xs) × (drop n zs ≡ ys)
+front_is xs ys zs n is count = (
+  (λ i. take (sym count i) (is i)) ∙ take-append_seam xs ys,
+  (λ i. drop (sym count i) (is i)) ∙ drop-append_seam xs ys,
+)
+
+first_of_both : (c d : Completed) (cs ds : List Completed) → c ∷ cs ≡ d ∷ ds → c ≡ d
+first_of_both c d cs ds is = cc
+
+rest_of_both : (c d : Completed) (cs ds : List Completed) → c ∷ cs ≡ d ∷ ds → cs ≡ ds
+rest_of_both c d cs ds is = cc
+
+module _ (catalogue : List FileEntry) (size : ℕ) (place : Place) (request : Asked) (requests : List Asked) (accesses : List Access)
+    (c : Completed) (cs : List Completed) (made : ℕ) where
+  -- what the others do
+  abbrev Behind : List Access → Type 0
+  Behind others = MatchBool (severs request c) ((others ≡ []) × (cs ≡ canceled (next_member place) requests))
+      (IsChainDone catalogue size (next_member place) requests others cs)
+
+  abbrev IsMade : Type 0
+  IsMade = (own : List Access) → IsRequestDone catalogue size place request.operation own c → length own ≡ made
+
+  abbrev IsDone : Type 0
+  IsDone = IsChainDone catalogue size place (request ∷ requests) accesses (c ∷ cs)
+
+  -- the two parts of a chain that was done so
+  parts_of : IsMade → IsDone
+      → IsRequestDone catalogue size place request.operation (take (min made (length accesses)) accesses) c
+      × Behind (drop (min made (length accesses)) accesses)
+  parts_of counts x =
+      let same : c ≡ x.2 = first_of_both c x.2 cs x.3 x.5 in
+      let rest : cs ≡ x.3 = rest_of_both c x.2 cs x.3 x.5 in
+      let done : IsRequestDone catalogue size place request.operation x.0 c =
+      subst (IsRequestDone catalogue size place request.operation x.0) (sym same) x.6 in
+      let long : length accesses ≡ length x.0 + length x.1 = ap length x.4 ∙ length-append x.0 x.1 in
+      let own : length x.0 ≡ made = counts x.0 done in
+      let n : length x.0 ≡ min made (length accesses) = omega arith in
+      let front = front_is x.0 x.1 accesses (min made (length accesses)) x.4 n in (
+        subst (λ (l : List Access). IsRequestDone catalogue size place request.operation l c) (sym front.0) done,
+        subst Behind (sym front.1)
+            (subst (λ (l : List Completed). MatchBool (severs request c) ((x.1 ≡ []) × (l ≡ canceled (next_member place) requests))
+            (IsChainDone catalogue size (next_member place) requests x.1 l)) (sym rest)
+            (subst (λ (d : Completed). MatchBool (severs request d) ((x.1 ≡ []) × (x.3 ≡ canceled (next_member place) requests))
+            (IsChainDone catalogue size (next_member place) requests x.1 x.3)) (sym same) x.7)),
+      )
+
+  -- and a chain of two parts
+  of_parts : (n : ℕ) → IsRequestDone catalogue size place request.operation (take n accesses) c → Behind (drop n accesses) → IsDone
+  of_parts n done behind = (take n accesses, drop n accesses, c, cs, sym (take-append-drop n accesses), refl, done, behind)
+
+  pub not_done : IsMade
+      → (IsRequestDone catalogue size place request.operation (take (min made (length accesses)) accesses) c → ⊥) → IsDone → ⊥
+  not_done counts other x = other ((parts_of counts x).0)
+
+  pub severed : IsMade → severs request c ≡ true
+      → IsRequestDone catalogue size place request.operation (take (min made (length accesses)) accesses) c → (b : Bool)
+      → (IsTrue b ↔ ((drop (min made (length accesses)) accesses ≡ []) × (cs ≡ canceled (next_member place) requests)))
+      → IsTrue b ↔ IsDone
+  severed counts cut done b same = (
+    λ yes. of_parts (min made (length accesses)) done (subst (λ (s : Bool). MatchBool s ((drop (min made (length accesses)) accesses ≡ []) × (cs ≡ canceled (next_member place) requests))
+        (IsChainDone catalogue size (next_member place) requests (drop (min made (length accesses)) accesses) cs)) (sym cut) (same.0 yes)),
+    λ x. same.1 (when_true _ _ cut (parts_of counts x).1),
+  )
+
+  pub goes_on : IsMade → severs request c ≡ false
+      → IsRequestDone catalogue size place request.operation (take (min made (length accesses)) accesses) c → (b : Bool)
+      → (IsTrue b ↔ IsChainDone catalogue size (next_member place) requests (drop (min made (length accesses)) accesses) cs)
+      → IsTrue b ↔ IsDone
+  goes_on counts cut done b same = (
+    λ yes. of_parts (min made (length accesses)) done (subst (λ (s : Bool). MatchBool s ((drop (min made (length accesses)) accesses ≡ []) × (cs ≡ canceled (next_member place) requests))
+        (IsChainDone catalogue size (next_member place) requests (drop (min made (length accesses)) accesses) cs)) (sym cut) (same.0 yes)),
+    λ x. same.1 (when_false _ _ cut (parts_of counts x).1),
+  )
+
+-- a chain has as many completions as members
+
+length-canceled : (place : Place) (requests : List Asked) → length (canceled place requests) ≡ length requests
+length-canceled place [] = refl
+length-canceled place (request ∷ requests) = let rest = length-canceled (next_member place) requests in omega arith
+
+pub length-done : (catalogue : List FileEntry) (size : ℕ) (place : Place) (requests : List Asked) (accesses : List Access) (cs : List Completed)
+    → IsChainDone catalogue size place requests accesses cs → length cs ≡ length requests
+length-done catalogue size place [] accesses cs x = ap length x.1
+length-done catalogue size place (request ∷ requests) accesses cs x =
+    let rest : length x.3 ≡ length requests =
+    either_way (severs request x.2) _ _ (length x.3 ≡ length requests)
+    (λ y. ap length y.1 ∙ length-canceled (next_member place) requests)
+    (length-done catalogue size (next_member place) requests x.1 x.3) x.7 in
+    ap length x.5 ∙ omega arith
+  where
+    either_way : (b : Bool) (P Q R : Type 0) → (P → R) → (Q → R) → MatchBool b P Q → R
+    either_way true P Q R yes_so not_so given = yes_so given
+    either_way false P Q R yes_so not_so given = not_so given

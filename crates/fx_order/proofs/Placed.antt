@@ -1,0 +1,209 @@
+-- What accesses place at slots, what is at the slots then, and what they removed.
+use Rattle.std.proofs.Common.{◌≡◌, ◌≢◌, ◌⊎◌, inl, inr, ⊎_elim, ℕ, ◌<◌, List, [], ◌∷◌, ◌++◌, Contains, refl, sym, ap, ◌∙◌, subst, append_assoc, arith, Option, Some, None, if◌then◌else◌}
+use Rattle.std.specs.Option.{option_to_list}
+use Rattle.std.proofs.lemmas.List.Elements.{Contains-append_right}
+use Rattle.fx_base.specs.declared.open_file.Closed.{Closed}
+use Rattle.fx_plain.proofs.Cells.{by_equality}
+use Rattle.fx_table.proofs.Members.{contains_none, contains_head, contains_cases}
+use Rattle.fx_order.specs.Access.{Table, Looks, Puts, Clears, Takes, Allocates, FindsFull, Permits, PermitsAll, table_with, table_after, removed_by, removed_in}
+use Rattle.fx_order.specs.declared.access.Access.{Access}
+
+-- the file that an access places, with its slot
+abbrev pub placed_by : Access → List (ℕ × Closed)
+placed_by (Looks slot found) = []
+placed_by (Puts slot file removed) = (slot, file) ∷ []
+placed_by (Clears slot removed) = []
+placed_by (Takes slot removed) = []
+placed_by (Allocates slot file) = (slot, file) ∷ []
+placed_by FindsFull = []
+
+-- the files that they place, one after another
+abbrev pub placed : List Access → List (ℕ × Closed)
+placed [] = []
+placed (access ∷ accesses) = placed_by access ++ placed accesses
+
+pub placed-append : (xs ys : List Access) → placed (xs ++ ys) ≡ placed xs ++ placed ys
+placed-append [] ys = refl
+placed-append (x ∷ xs) ys =
+    ap (λ (l : List (ℕ × Closed)). placed_by x ++ l) (placed-append xs ys) ∙ sym (append_assoc (placed_by x) (placed xs) (placed ys))
+
+-- the file is one that was placed at the slot
+abbrev pub Has : List (ℕ × Closed) → ℕ → Closed → Type 0
+Has [] slot file = ⊥
+Has (p ∷ l) slot file = (p ≡ (slot, file)) ⊎ Has l slot file
+
+pub has_left : (xs ys : List (ℕ × Closed)) (slot : ℕ) (file : Closed) → Has xs slot file → Has (xs ++ ys) slot file
+has_left [] ys slot file has = absurd has
+has_left (x ∷ xs) ys slot file (inl here) = inl here
+has_left (x ∷ xs) ys slot file (inr later) = inr (has_left xs ys slot file later)
+
+pub has_right : (xs ys : List (ℕ × Closed)) (slot : ℕ) (file : Closed) → Has ys slot file → Has (xs ++ ys) slot file
+has_right [] ys slot file has = has
+has_right (x ∷ xs) ys slot file has = inr (has_right xs ys slot file has)
+
+pub has_either : (xs ys : List (ℕ × Closed)) (slot : ℕ) (file : Closed) → Has (xs ++ ys) slot file → Has xs slot file ⊎ Has ys slot file
+has_either [] ys slot file has = inr has
+has_either (x ∷ xs) ys slot file (inl here) = inl (inl here)
+has_either (x ∷ xs) ys slot file (inr later) = ⊎_elim (λ first. inl (inr first)) (λ second. inr second) (has_either xs ys slot file later)
+
+-- the accesses remove the file
+abbrev pub Removes : List Access → Closed → Type 0
+Removes [] file = ⊥
+Removes (access ∷ accesses) file = (removed_by access ≡ Some file) ⊎ Removes accesses file
+
+-- what an access leaves at a slot was there, or was placed by it
+pub step_from : (t : Table) (x : Access) (s : ℕ) (f : Closed) → (table_with t x).at s ≡ Some f → (t.at s ≡ Some f) ⊎ Has (placed_by x) s f
+step_from t (Looks slot found) s f = λ is. inl is
+step_from t (Puts slot file removed) s f =
+    by_equality s slot (λ b. ◌≡◌ {A = Option Closed} (if b then Some file else t.at s) (Some f) → (t.at s ≡ Some f) ⊎ Has ((slot, file) ∷ []) s f)
+    (λ same is. let e : file ≡ f = cc in inr (inl (λ i. (sym same i, e i)))) (λ _ is. inl is)
+step_from t (Clears slot removed) s f =
+    by_equality s slot (λ b. ◌≡◌ {A = Option Closed} (if b then None else t.at s) (Some f) → (t.at s ≡ Some f) ⊎ Has [] s f)
+    (λ _ is. cc) (λ _ is. inl is)
+step_from t (Takes slot removed) s f =
+    by_equality s slot (λ b. ◌≡◌ {A = Option Closed} (if b then None else t.at s) (Some f) → (t.at s ≡ Some f) ⊎ Has [] s f)
+    (λ _ is. cc) (λ _ is. inl is)
+step_from t (Allocates slot file) s f =
+    by_equality s slot (λ b. ◌≡◌ {A = Option Closed} (if b then Some file else t.at s) (Some f) → (t.at s ≡ Some f) ⊎ Has ((slot, file) ∷ []) s f)
+    (λ same is. let e : file ≡ f = cc in inr (inl (λ i. (sym same i, e i)))) (λ _ is. inl is)
+step_from t FindsFull s f = λ is. inl is
+
+-- a file that is at a slot after all of them was there, or was placed there
+pub left_from : (t : Table) (xs : List Access) (s : ℕ) (f : Closed) → (table_after t xs).at s ≡ Some f → (t.at s ≡ Some f) ⊎ Has (placed xs) s f
+left_from t [] s f is = inl is
+left_from t (x ∷ xs) s f is = ⊎_elim
+    (λ now. ⊎_elim (λ was. inl was) (λ new. inr (has_left (placed_by x) (placed xs) s f new)) (step_from t x s f now))
+    (λ later. inr (has_right (placed_by x) (placed xs) s f later))
+    (left_from (table_with t x) xs s f is)
+
+-- what an access finds at a slot is there afterwards, or was removed by it
+step_kept : (t : Table) (x : Access) (s : ℕ) (f : Closed) → Permits t x → t.at s ≡ Some f
+    → ((table_with t x).at s ≡ Some f) ⊎ (removed_by x ≡ Some f)
+step_kept t (Looks slot found) s f may was = inl was
+step_kept t (Puts slot file removed) s f may was =
+    by_equality s slot (λ b. (◌≡◌ {A = Option Closed} (if b then Some file else t.at s) (Some f)) ⊎ (removed ≡ Some f))
+    (λ same. inr (may.1 ∙ (ap t.at (sym same) ∙ was))) (λ _. inl was)
+step_kept t (Clears slot removed) s f may was =
+    by_equality s slot (λ b. (◌≡◌ {A = Option Closed} (if b then None else t.at s) (Some f)) ⊎ (removed ≡ Some f))
+    (λ same. inr (may.1 ∙ (ap t.at (sym same) ∙ was))) (λ _. inl was)
+step_kept t (Takes slot removed) s f may was =
+    by_equality s slot (λ b. (◌≡◌ {A = Option Closed} (if b then None else t.at s) (Some f)) ⊎ (removed ≡ Some f))
+    (λ same. inr (may.1 ∙ (ap t.at (sym same) ∙ was))) (λ _. inl was)
+step_kept t (Allocates slot file) s f may was =
+    by_equality s slot (λ b. (◌≡◌ {A = Option Closed} (if b then Some file else t.at s) (Some f)) ⊎ (◌≡◌ {A = Option Closed} None (Some f)))
+    (λ same. inr (may.0.1 ∙ (ap t.at (sym same) ∙ was))) (λ _. inl was)
+step_kept t FindsFull s f may was = inl was
+
+-- what an access places is there afterwards
+step_placed : (t : Table) (x : Access) (s : ℕ) (f : Closed) → Has (placed_by x) s f → (table_with t x).at s ≡ Some f
+step_placed t (Looks slot found) s f has = absurd has
+step_placed t (Puts slot file removed) s f (inl here) =
+    by_equality s slot (λ b. ◌≡◌ {A = Option Closed} (if b then Some file else t.at s) (Some f))
+    (λ _. λ i. Some ((here i).1)) (λ other. absurd (other (λ i. (sym here i).0)))
+step_placed t (Puts slot file removed) s f (inr none) = absurd none
+step_placed t (Clears slot removed) s f has = absurd has
+step_placed t (Takes slot removed) s f has = absurd has
+step_placed t (Allocates slot file) s f (inl here) =
+    by_equality s slot (λ b. ◌≡◌ {A = Option Closed} (if b then Some file else t.at s) (Some f))
+    (λ _. λ i. Some ((here i).1)) (λ other. absurd (other (λ i. (sym here i).0)))
+step_placed t (Allocates slot file) s f (inr none) = absurd none
+step_placed t FindsFull s f has = absurd has
+
+-- a file that was at a slot, or was placed there, is there after all of them, or they removed it
+pub left_or_removed : (t : Table) (xs : List Access) (s : ℕ) (f : Closed) → PermitsAll t xs → (t.at s ≡ Some f) ⊎ Has (placed xs) s f
+    → ((table_after t xs).at s ≡ Some f) ⊎ Removes xs f
+left_or_removed t [] s f may (inl was) = inl was
+left_or_removed t [] s f may (inr none) = absurd none
+left_or_removed t (x ∷ xs) s f may (inl was) = ⊎_elim
+    (λ now. ⊎_elim (λ end. inl end) (λ gone. inr (inr gone)) (left_or_removed (table_with t x) xs s f may.1 (inl now)))
+    (λ gone. inr (inl gone))
+    (step_kept t x s f may.0 was)
+left_or_removed t (x ∷ xs) s f may (inr new) = ⊎_elim
+    (λ end. inl end) (λ gone. inr (inr gone))
+    (left_or_removed (table_with t x) xs s f may.1
+    (⊎_elim (λ here. inl (step_placed t x s f here)) (λ later. inr later) (has_either (placed_by x) (placed xs) s f new)))
+
+-- the slot of a removed file: it was there, and what is there then is another file that the access placed, or none
+pub record IsEmptied (t : Table) (x : Access) (g : Closed) : Type 0 where
+  pub slot : ℕ
+  pub inside : slot < t.size
+  pub was : t.at slot ≡ Some g
+  pub behind : (s : ℕ) (f : Closed) → (table_with t x).at s ≡ Some f → ((s ≢ slot) × (t.at s ≡ Some f)) ⊎ Has (placed_by x) s f
+
+pub emptied : (t : Table) (x : Access) (g : Closed) → Permits t x → removed_by x ≡ Some g → IsEmptied t x g
+emptied t (Looks slot found) g may is = cc
+emptied t (Puts slot file removed) g may is = record {
+  slot = slot;
+  inside = may.0;
+  was = sym may.1 ∙ is;
+  behind = λ s f. by_equality s slot
+      (λ b. ◌≡◌ {A = Option Closed} (if b then Some file else t.at s) (Some f) → ((s ≢ slot) × (t.at s ≡ Some f)) ⊎ Has ((slot, file) ∷ []) s f)
+      (λ same now. let e : file ≡ f = cc in inr (inl (λ i. (sym same i, e i)))) (λ other now. inl (other, now));
+}
+emptied t (Clears slot removed) g may is = record {
+  slot = slot;
+  inside = may.0;
+  was = sym may.1 ∙ is;
+  behind = λ s f. by_equality s slot
+      (λ b. ◌≡◌ {A = Option Closed} (if b then None else t.at s) (Some f) → ((s ≢ slot) × (t.at s ≡ Some f)) ⊎ Has [] s f)
+      (λ same now. cc) (λ other now. inl (other, now));
+}
+emptied t (Takes slot removed) g may is = record {
+  slot = slot;
+  inside = may.0;
+  was = sym may.1 ∙ is;
+  behind = λ s f. by_equality s slot
+      (λ b. ◌≡◌ {A = Option Closed} (if b then None else t.at s) (Some f) → ((s ≢ slot) × (t.at s ≡ Some f)) ⊎ Has [] s f)
+      (λ same now. cc) (λ other now. inl (other, now));
+}
+emptied t (Allocates slot file) g may is = cc
+emptied t FindsFull g may is = cc
+
+same_size : (t : Table) (x : Access) → (table_with t x).size ≡ t.size
+same_size t (Looks slot found) = refl
+same_size t (Puts slot file removed) = refl
+same_size t (Clears slot removed) = refl
+same_size t (Takes slot removed) = refl
+same_size t (Allocates slot file) = refl
+same_size t FindsFull = refl
+
+-- where a removed file was
+pub record WasAt (t : Table) (l : List (ℕ × Closed)) (g : Closed) : Type 0 where
+  pub slot : ℕ
+  pub inside : slot < t.size
+  pub was : (t.at slot ≡ Some g) ⊎ Has l slot g
+
+pub removed_from : (t : Table) (xs : List Access) (g : Closed) → PermitsAll t xs → Removes xs g → WasAt t (placed xs) g
+removed_from t [] g may gone = absurd gone
+removed_from t (x ∷ xs) g may (inl now) =
+    let e = emptied t x g may.0 now in record { slot = e.slot; inside = e.inside; was = inl e.was }
+removed_from t (x ∷ xs) g may (inr later) =
+    let w = removed_from (table_with t x) xs g may.1 later in
+    record {
+      slot = w.slot;
+      inside = let lt = w.inside in let same = same_size t x in omega arith;
+      was = ⊎_elim
+          (λ now. ⊎_elim (λ was. inl was) (λ new. inr (has_left (placed_by x) (placed xs) w.slot g new)) (step_from t x w.slot g now))
+          (λ new. inr (has_right (placed_by x) (placed xs) w.slot g new))
+          w.was;
+    }
+
+-- the list of what was removed has exactly the removed files
+pub contains_removed : (xs : List Access) (g : Closed) → Removes xs g → Contains (removed_in xs) g
+contains_removed [] g gone = absurd gone
+contains_removed (x ∷ xs) g (inl now) = first (removed_by x) now
+  where
+    first : (found : Option Closed) → found ≡ Some g → Contains (option_to_list found ++ removed_in xs) g
+    first None is = cc
+    first (Some h) is = let e : g ≡ h = cc in subst (λ (y : Closed). Contains (h ∷ removed_in xs) y) (sym e) (contains_head h (removed_in xs))
+contains_removed (x ∷ xs) g (inr later) =
+    Contains-append_right (option_to_list (removed_by x)) (removed_in xs) g (contains_removed xs g later)
+
+pub removes_contained : (xs : List Access) (g : Closed) → Contains (removed_in xs) g → Removes xs g
+removes_contained [] g has = absurd (contains_none g has)
+removes_contained (x ∷ xs) g has = either (removed_by x) refl (λ later. removes_contained xs g later) has
+  where
+    either : (found : Option Closed) → removed_by x ≡ found → (Contains (removed_in xs) g → Removes xs g)
+        → Contains (option_to_list found ++ removed_in xs) g → (removed_by x ≡ Some g) ⊎ Removes xs g
+    either None is more h = inr (more h)
+    either (Some f) is more h = ⊎_elim (λ here. inl (is ∙ ap (λ y. Some y) (sym here))) (λ later. inr (more later)) (contains_cases f (removed_in xs) g h)

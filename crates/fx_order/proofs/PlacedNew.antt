@@ -1,0 +1,344 @@
+-- What a submission places: files of the catalogue without a tag, with marks of its own, and no mark twice.
+use Rattle.std.proofs.Common.{◌≡◌, ◌≢◌, inl, inr, ⊎_elim, ℕ, zero, suc, ◌+◌, ◌<◌, ◌≤◌, ◌==◌, ◌||◌, nat_le, nat_lt, ℤ, pos, negsuc, Bool, true, false, cond}
+use Rattle.std.proofs.Common.{List, [], ◌∷◌, ◌++◌, filter, length, refl, sym, ap, subst, ◌∙◌, arith, Some, None, option_map, All, eq-eqb}
+use Rattle.std.specs.Bool.{MatchBool}
+use Rattle.std.specs.List.{list_any}
+use Rattle.std.proofs.lemmas.Bool.{cases_lt, leb-false, ltb-false}
+use Rattle.std.proofs.lemmas.Option.{slice_get_past}
+use Rattle.std.proofs.lemmas.List.Elements.{All-head, All-tail}
+use Rattle.fx_base.specs.AddFault.{has_name}
+use Rattle.fx_base.specs.Catalogue.{FileEntry, name_at}
+use Rattle.fx_base.specs.declared.errno.Errno.{Errno}
+use Rattle.fx_base.specs.declared.errno.Errno.TheVariants.{ENOENT, ENXIO, EBADF, ENOMEM, EINVAL, ENFILE}
+use Rattle.fx_base.specs.declared.mark.Mark.TheVariants.{Submitted}
+use Rattle.fx_base.specs.declared.open_file.Closed.{Closed}
+use Rattle.fx_chain.specs.Accepted.{IsWithinLimits}
+use Rattle.fx_chain.specs.Answers.{installed, is_bad_entry}
+use Rattle.fx_chain.specs.Completed.{Completed, next_member}
+use Rattle.fx_chain.specs.Explains.{severs, first_member}
+use Rattle.fx_chain.specs.Faults.{is_long_update}
+use Rattle.fx_chain.specs.declared.fault.TheConstants.{MOST_MEMBERS}
+use Rattle.fx_chain.specs.declared.request.TheConstants.{LONGEST_UPDATE}
+use Rattle.fx_chain.specs.Operation.{Operation, Opens, Reads, Closes, Updates, Asked}
+use Rattle.fx_chain.specs.declared.completion.Place.{Place}
+use Rattle.fx_chain.specs.declared.request.Target.{Target}
+use Rattle.fx_chain.specs.declared.request.Target.TheVariants.{Slot, Any}
+use Rattle.fx_plain.proofs.Cells.{by_equality}
+use Rattle.fx_ring.proofs.Numbers.{or_left, or_right}
+use Rattle.fx_order.specs.Access.{accesses_of, accesses_of_chain}
+use Rattle.fx_order.specs.declared.access.Access.{Access}
+use Rattle.fx_order.specs.declared.access.ChainAccess.{ChainAccess}
+use Rattle.fx_order.specs.Requests.{IsRefused, IsOpenDone, IsReadDone, IsCloseDone, IsEntryDone, AreEntriesDone, IsUpdateDone, IsRequestDone}
+use Rattle.fx_order.specs.Requests.{IsChainDone, AreChainsDone}
+use Rattle.fx_order.proofs.Apart.{PlacesOnce, once_between}
+use Rattle.fx_order.proofs.Placed.{Has, has_either, has_left, has_right, placed, placed_by, placed-append}
+
+-- each file that was placed is such a one, and no mark was placed twice
+abbrev pub Own : (Closed → Type 0) → List (ℕ × Closed) → Type 0
+Own P l = ((s : ℕ) (f : Closed) → Has l s f → P f) × PlacesOnce l
+
+once_then : (xs ys : List (ℕ × Closed)) → PlacesOnce xs → PlacesOnce ys
+    → ((s o : ℕ) (f g : Closed) → Has xs s f → Has ys o g → f.mark ≢ g.mark) → PlacesOnce (xs ++ ys)
+once_then [] ys first behind apart = behind
+once_then (x ∷ xs) ys first behind apart = (
+  once_then xs ys first.0 behind (λ s o f g one. apart s o f g (inr one)),
+  λ o g has. ⊎_elim (λ one. first.1 o g one) (λ later. apart x.0 o x.1 g (inl refl) later) (has_either xs ys o g has),
+)
+
+own_then : (P Q R : Closed → Type 0) (xs ys : List (ℕ × Closed)) → ((f : Closed) → P f → R f) → ((f : Closed) → Q f → R f)
+    → ((f g : Closed) → P f → Q g → f.mark ≢ g.mark) → Own P xs → Own Q ys → Own R (xs ++ ys)
+own_then P Q R xs ys left right apart first behind = (
+  λ s f has. ⊎_elim (λ one. left f (first.0 s f one)) (λ later. right f (behind.0 s f later)) (has_either xs ys s f has),
+  once_then xs ys first.1 behind.1 (λ s o f g one later. apart f g (first.0 s f one) (behind.0 o g later)),
+)
+
+-- what accesses place
+abbrev pub OwnOf : (Closed → Type 0) → List Access → Type 0
+OwnOf P accesses = Own P (placed accesses)
+
+own_none : (P : Closed → Type 0) (accesses : List Access) → placed accesses ≡ [] → OwnOf P accesses
+own_none P accesses is = subst (Own P) (sym is) (λ s f has. absurd has, tt)
+
+own_one : (P : Closed → Type 0) (accesses : List Access) (slot : ℕ) (file : Closed) → placed accesses ≡ (slot, file) ∷ [] → P file → OwnOf P accesses
+own_one P accesses slot file is p =
+    subst (Own P) (sym is) (λ s f has. ⊎_elim (λ here. subst P (λ i. (here i).1) p) (λ none. absurd none) has, (tt, λ s g none. absurd none))
+
+own_both : (P Q R : Closed → Type 0) (xs ys accesses : List Access) → accesses ≡ xs ++ ys → ((f : Closed) → P f → R f) → ((f : Closed) → Q f → R f)
+    → ((f g : Closed) → P f → Q g → f.mark ≢ g.mark) → OwnOf P xs → OwnOf Q ys → OwnOf R accesses
+own_both P Q R xs ys accesses is left right apart first behind =
+    subst (Own R) (sym (ap placed is ∙ placed-append xs ys)) (own_then P Q R (placed xs) (placed ys) left right apart first behind)
+
+own_so : (P Q : Closed → Type 0) (accesses : List Access) → ((f : Closed) → P f → Q f) → OwnOf P accesses → OwnOf Q accesses
+own_so P Q accesses so own = (λ s f has. so f (own.0 s f has), own.1)
+
+-- a file of the catalogue without a tag, of a place of a member's list
+pub record IsMarked (entries : ℕ) (place : Place) (j : ℕ) (f : Closed) : Type 0 where
+  pub mark : f.mark ≡ Submitted place.submission place.chain place.member j
+  pub inside : f.entry < entries
+  pub untagged : f.tag ≡ 0
+
+-- from this place of the list on; B holds of the places
+abbrev IsListed : ℕ → (ℕ → Type 0) → Place → ℕ → Closed → Type 0
+IsListed entries B place low f = (j : ℕ) × (low ≤ j) × B j × IsMarked entries place j f
+
+abbrev of_member : Place → ℕ → Place
+of_member place member = record place { member = member }
+
+-- of a member of a chain, from this one on; B holds of the member and the place in its list
+abbrev pub IsOfMembers : ℕ → (ℕ → ℕ → Type 0) → Place → Closed → Type 0
+IsOfMembers entries B place f = (m : ℕ) × (j : ℕ) × (place.member ≤ m) × B m j × IsMarked entries (of_member place m) j f
+
+-- B holds of the places of a request's list; an open has the place 0 alone
+abbrev Reaches : (ℕ → Type 0) → Operation → Type 0
+Reaches B (Opens name target) = B 0
+Reaches B (Reads slot off len) = Unit {0}
+Reaches B (Closes slot) = Unit {0}
+Reaches B (Updates off list) = (j : ℕ) → j < length list → B j
+
+-- of those of each member from this one on
+abbrev pub ReachesAll : (ℕ → ℕ → Type 0) → ℕ → List Asked → Type 0
+ReachesAll B member [] = Unit {0}
+ReachesAll B member (r ∷ rs) = Reaches (B member) r.operation × ReachesAll B (member + 1) rs
+
+-- nothing is asked of them
+abbrev pub AnyPlace : ℕ → ℕ → Type 0
+AnyPlace m j = Unit {0}
+
+reaches_any : (member : ℕ) (operation : Operation) → Reaches (AnyPlace member) operation
+reaches_any member (Opens name target) = tt
+reaches_any member (Reads slot off len) = tt
+reaches_any member (Closes slot) = tt
+reaches_any member (Updates off list) = λ j lt. tt
+
+pub reaches_all_any : (member : ℕ) (requests : List Asked) → ReachesAll AnyPlace member requests
+reaches_all_any member [] = tt
+reaches_all_any member (r ∷ rs) = (reaches_any member r.operation, reaches_all_any (member + 1) rs)
+
+-- within the limits of a member and of a chain
+abbrev pub InLimits : ℕ → ℕ → Type 0
+InLimits m j = (m ≤ MOST_MEMBERS) × (j < LONGEST_UPDATE)
+
+reaches_limits : (member : ℕ) (operation : Operation) → member ≤ MOST_MEMBERS → is_long_update operation ≡ false → Reaches (InLimits member) operation
+reaches_limits member (Opens name target) few short = (few, omega arith)
+reaches_limits member (Reads slot off len) few short = tt
+reaches_limits member (Closes slot) few short = tt
+reaches_limits member (Updates off list) few short = λ j lt. (few, let all = ltb-false LONGEST_UPDATE (length list) short in omega arith)
+
+pub reaches_all_limits : (member : ℕ) (requests : List Asked) → All IsWithinLimits requests → member + length requests ≤ MOST_MEMBERS + 1
+    → ReachesAll InLimits member requests
+reaches_all_limits member [] limits few = tt
+reaches_all_limits member (r ∷ rs) limits few = (
+  reaches_limits member r.operation (omega arith) (All-head IsWithinLimits r rs limits).update,
+  reaches_all_limits (member + 1) rs (All-tail IsWithinLimits r rs limits) (omega arith),
+)
+
+-- an entry with a name is one of the catalogue
+entry_named : (catalogue : List FileEntry) (entry : ℕ) (name : List ℕ) → name_at catalogue entry ≡ Some name → entry < length catalogue
+entry_named catalogue entry name is = elim (cases_lt entry (length catalogue)) [
+  | inl inside ↦ inside
+  | inr past ↦ let e : None ≡ Some name = sym (ap (option_map (λ (file : FileEntry). file.name)) (slice_get_past catalogue entry past)) ∙ is in cc
+]
+
+pub either_way : (b : Bool) (P Q R : Type 0) → (b ≡ true → P → R) → (b ≡ false → Q → R) → MatchBool b P Q → R
+either_way true P Q R yes_so not_so given = yes_so refl given
+either_way false P Q R yes_so not_so given = not_so refl given
+
+module _ (entries : ℕ) (B : ℕ → Type 0) (place : Place) where
+  marked : (j entry : ℕ) → entry < entries → IsMarked entries place j (installed place j entry)
+  marked j entry inside = record { mark = refl; inside = inside; untagged = refl }
+
+  refused_none : (P : Closed → Type 0) (errno : Errno) (accesses : List Access) (c : Completed) → IsRefused place errno accesses c → OwnOf P accesses
+  refused_none P errno accesses c x = own_none P accesses (ap placed x.0)
+
+  opens : (size entry : ℕ) (target : Target) (accesses : List Access) (c : Completed) → B 0 → entry < entries
+      → IsOpenDone size place entry target accesses c → OwnOf (IsListed entries B place 0) accesses
+  opens size entry (Slot slot) accesses c b inside =
+      either_way (size == 0) _ _ _ (λ _. refused_none (IsListed entries B place 0) ENXIO accesses c)
+      (λ _. either_way (nat_le size slot) _ _ _ (λ _. refused_none (IsListed entries B place 0) EINVAL accesses c)
+      (λ _ x. own_one (IsListed entries B place 0) accesses slot (installed place 0 entry) (ap placed x.1.0) (0, omega arith, b, marked 0 entry inside)))
+  opens size entry Any accesses c b inside =
+      either_way (size == 0) _ _ _ (λ _. refused_none (IsListed entries B place 0) ENFILE accesses c)
+      (λ _ x. elim x [
+        | inl y ↦ own_one (IsListed entries B place 0) accesses y.0 (installed place 0 entry) (ap placed y.1.0) (0, omega arith, b, marked 0 entry inside)
+        | inr y ↦ own_none (IsListed entries B place 0) accesses (ap placed y.0)
+      ])
+
+  reads : (P : Closed → Type 0) (catalogue : List FileEntry) (size slot off len : ℕ) (accesses : List Access) (c : Completed)
+      → IsReadDone catalogue size place slot off len accesses c → OwnOf P accesses
+  reads P catalogue size slot off len accesses c =
+      either_way (nat_le size slot) _ _ _ (λ _. refused_none P EBADF accesses c)
+      (λ _ x. elim x [
+        | inl y ↦ refused_none P ENOMEM accesses c y.1
+        | inr y ↦ elim y [
+          | inl z ↦ own_none P accesses (ap placed z.0)
+          | inr z ↦ own_none P accesses (ap placed z.1.0)
+        ]
+      ])
+
+  closes : (P : Closed → Type 0) (size slot : ℕ) (accesses : List Access) (c : Completed) → IsCloseDone size place slot accesses c → OwnOf P accesses
+  closes P size slot accesses c =
+      either_way (size == 0) _ _ _ (λ _. refused_none P ENXIO accesses c)
+      (λ _. either_way (nat_le size slot) _ _ _ (λ _. refused_none P EINVAL accesses c)
+      (λ _ x. elim x [
+        | inl y ↦ own_none P accesses (ap placed y.0)
+        | inr y ↦ own_none P accesses (ap placed y.1.0)
+      ]))
+
+  entry : (in_list slot : ℕ) (z : ℤ) (accesses : List Access) → is_bad_entry entries z ≡ false → IsEntryDone place in_list slot z accesses
+      → OwnOf (IsMarked entries place in_list) accesses
+  entry in_list slot (pos n) accesses good x =
+      own_one (IsMarked entries place in_list) accesses slot (installed place in_list n) (ap placed x.1) (marked in_list n (leb-false entries n good))
+  entry in_list slot (negsuc zero) accesses good x = own_none (IsMarked entries place in_list) accesses (ap placed x.1)
+  entry in_list slot (negsuc (suc n)) accesses good x = own_none (IsMarked entries place in_list) accesses (ap placed x)
+
+  list : (in_list slot : ℕ) (zs : List ℤ) (accesses : List Access) → ((j : ℕ) → in_list ≤ j → j < in_list + length zs → B j)
+      → list_any (is_bad_entry entries) zs ≡ false → AreEntriesDone place in_list slot zs accesses → OwnOf (IsListed entries B place in_list) accesses
+  list in_list slot [] accesses reach good x = own_none (IsListed entries B place in_list) accesses (ap placed x)
+  list in_list slot (z ∷ zs) accesses reach good x =
+      own_both (IsMarked entries place in_list) (IsListed entries B place (in_list + 1)) (IsListed entries B place in_list) x.0 x.1 accesses x.2
+      (λ f is. (in_list, omega arith, reach in_list (omega arith) (omega arith), is))
+      (λ f is. (is.0, let le = is.1 in omega arith, is.2, is.3))
+      (λ f g is later same.
+      let e : Submitted place.submission place.chain place.member in_list ≡ Submitted place.submission place.chain place.member later.0 =
+      sym is.mark ∙ (same ∙ later.3.mark) in
+      let at : in_list ≡ later.0 = cc in
+      let le = later.1 in
+      omega arith)
+      (entry in_list slot z x.0 (or_left _ _ good) x.3)
+      (list (in_list + 1) (slot + 1) zs x.1 (λ j low high. reach j (omega arith) (omega arith)) (or_right _ _ good) x.4)
+
+  updates : (size off : ℕ) (zs : List ℤ) (accesses : List Access) (c : Completed) → ((j : ℕ) → j < length zs → B j)
+      → IsUpdateDone entries size place off zs accesses c → OwnOf (IsListed entries B place 0) accesses
+  updates size off zs accesses c reach =
+      either_way (size == 0) _ _ _ (λ _. refused_none (IsListed entries B place 0) ENXIO accesses c)
+      (λ _. either_way (length zs == 0 || nat_lt size (off + length zs)) _ _ _ (λ _. refused_none (IsListed entries B place 0) EINVAL accesses c)
+      (λ _. either_way (list_any (is_bad_entry entries) zs) _ _ _ (λ _. refused_none (IsListed entries B place 0) EBADF accesses c)
+      (λ good x. list 0 off zs accesses (λ j low high. reach j (omega arith)) good x.0)))
+
+module _ (catalogue : List FileEntry) (size : ℕ) (B : ℕ → ℕ → Type 0) where
+  abbrev entries : ℕ
+  entries = length catalogue
+
+  request : (place : Place) (operation : Operation) (accesses : List Access) (c : Completed) → Reaches (B place.member) operation
+      → IsRequestDone catalogue size place operation accesses c → OwnOf (IsListed entries (B place.member) place 0) accesses
+  request place (Opens name target) accesses c reach =
+      either_way (has_name name catalogue) _ _ _
+      (λ _ x. opens entries (B place.member) place size x.0 target accesses c reach (entry_named catalogue x.0 name x.1) x.2)
+      (λ _. refused_none entries (B place.member) place (IsListed entries (B place.member) place 0) ENOENT accesses c)
+  request place (Reads slot off len) accesses c reach =
+      reads entries (B place.member) place (IsListed entries (B place.member) place 0) catalogue size slot off len accesses c
+  request place (Closes slot) accesses c reach =
+      closes entries (B place.member) place (IsListed entries (B place.member) place 0) size slot accesses c
+  request place (Updates off zs) accesses c reach = updates entries (B place.member) place size off zs accesses c reach
+
+  chain : (place : Place) (requests : List Asked) (accesses : List Access) (cs : List Completed) → ReachesAll B place.member requests
+      → IsChainDone catalogue size place requests accesses cs → OwnOf (IsOfMembers entries B place) accesses
+  chain place [] accesses cs reach x = own_none (IsOfMembers entries B place) accesses (ap placed x.0)
+  chain place (r ∷ rs) accesses cs reach x =
+      own_both (IsListed entries (B place.member) place 0) (IsOfMembers entries B (next_member place)) (IsOfMembers entries B place)
+      x.0 x.1 accesses x.4
+      (λ f is. (place.member, is.0, omega arith, is.2, record { mark = is.3.mark; inside = is.3.inside; untagged = is.3.untagged }))
+      (λ f is. (is.0, is.1, let le = is.2 in omega arith, is.3, record { mark = is.4.mark; inside = is.4.inside; untagged = is.4.untagged }))
+      (λ f g is later same.
+      let e : Submitted place.submission place.chain place.member is.0 ≡ Submitted place.submission place.chain later.0 later.1 =
+      sym is.3.mark ∙ (same ∙ later.4.mark) in
+      let at : place.member ≡ later.0 = cc in
+      let le = later.2 in
+      omega arith)
+      (request place r.operation x.0 x.2 reach.0 x.6)
+      (either_way (severs r x.2) _ _ _
+      (λ _ y. own_none (IsOfMembers entries B (next_member place)) x.1 (ap placed y.0))
+      (λ _ y. chain (next_member place) rs x.1 x.3 reach.1 y) x.7)
+
+  -- each chain's accesses place files of its own
+  pub chain_places : (submission first : ℕ) (runs : List (List Asked)) (order : List ChainAccess) (cs : List Completed)
+      → All (ReachesAll B 1) runs → AreChainsDone catalogue size submission first runs order cs → (c : ℕ) → first ≤ c → c < first + length runs
+      → OwnOf (IsOfMembers entries B (first_member submission c)) (accesses_of_chain c order)
+  chain_places submission first [] order cs reach x c low high = absurd (omega arith)
+  chain_places submission first (run ∷ runs) order cs reach x c low high =
+      by_equality c first (λ _. OwnOf (IsOfMembers entries B (first_member submission c)) (accesses_of_chain c order))
+      (λ same. subst (λ k. OwnOf (IsOfMembers entries B (first_member submission k)) (accesses_of_chain k order)) (sym same)
+      (chain (first_member submission first) run (accesses_of_chain first order) x.0 (All-head (ReachesAll B 1) run runs reach) x.3))
+      (λ other. chain_places submission (first + 1) runs order x.1 (All-tail (ReachesAll B 1) run runs reach) x.4 c (omega arith) (omega arith))
+
+-- what a chain's accesses place, the order places
+pub has_of_chain : (c : ℕ) (order : List ChainAccess) (s : ℕ) (f : Closed) → Has (placed (accesses_of_chain c order)) s f → Has (placed (accesses_of order)) s f
+has_of_chain c [] s f has = has
+has_of_chain c (x ∷ order) s f has = either (x.chain == c) (λ more. has_of_chain c order s f more) has
+  where
+    either : (b : Bool) → (Has (placed (accesses_of_chain c order)) s f → Has (placed (accesses_of order)) s f)
+        → Has (placed (accesses_of (cond b (x ∷ filter (λ y. y.chain == c) order) (filter (λ y. y.chain == c) order)))) s f
+        → Has (placed_by x.access ++ placed (accesses_of order)) s f
+    either true more h = ⊎_elim
+        (λ here. has_left (placed_by x.access) (placed (accesses_of order)) s f here)
+        (λ later. has_right (placed_by x.access) (placed (accesses_of order)) s f (more later))
+        (has_either (placed_by x.access) (placed (accesses_of_chain c order)) s f h)
+    either false more h = has_right (placed_by x.access) (placed (accesses_of order)) s f (more h)
+
+own_front : (x : ChainAccess) (order : List ChainAccess) → accesses_of_chain x.chain (x ∷ order) ≡ x.access ∷ accesses_of_chain x.chain order
+own_front x order =
+    ap (λ b. accesses_of (cond b (x ∷ filter (λ y. y.chain == x.chain) order) (filter (λ y. y.chain == x.chain) order))) (eq-eqb x.chain x.chain refl)
+
+-- the order's chain accesses, and those behind the first one
+of_rest : (P : Closed → Type 0) (c : ℕ) (x : ChainAccess) (order : List ChainAccess) → OwnOf P (accesses_of_chain c (x ∷ order)) → OwnOf P (accesses_of_chain c order)
+of_rest P c x order = either (x.chain == c)
+  where
+    behind : (front back : List (ℕ × Closed)) → Own P (front ++ back) → Own P back
+    behind [] back own = own
+    behind (p ∷ front) back own = behind front back (λ s f has. own.0 s f (inr has), own.1.0)
+
+    either : (b : Bool) → OwnOf P (accesses_of (cond b (x ∷ filter (λ y. y.chain == c) order) (filter (λ y. y.chain == c) order)))
+        → OwnOf P (accesses_of_chain c order)
+    either true own = behind (placed_by x.access) (placed (accesses_of_chain c order)) own
+    either false own = own
+
+module _ (entries : ℕ) (B : ℕ → ℕ → Type 0) (submission chains : ℕ) where
+  abbrev IsOfChain : ℕ → Closed → Type 0
+  IsOfChain c = IsOfMembers entries B (first_member submission c)
+
+  abbrev EachPlaces : List ChainAccess → Type 0
+  EachPlaces order = (c : ℕ) → 1 ≤ c → c ≤ chains → OwnOf (IsOfChain c) (accesses_of_chain c order)
+
+  abbrev IsInside : ChainAccess → Type 0
+  IsInside x = (1 ≤ x.chain) × (x.chain ≤ chains)
+
+  rest_places : (x : ChainAccess) (order : List ChainAccess) → EachPlaces (x ∷ order) → EachPlaces order
+  rest_places x order each c low high = of_rest (IsOfChain c) c x order (each c low high)
+
+  -- what an order places, the chain of the access places
+  pub has_in_chain : (order : List ChainAccess) → All IsInside order → (s : ℕ) (f : Closed) → Has (placed (accesses_of order)) s f
+      → (c : ℕ) × (1 ≤ c) × (c ≤ chains) × Has (placed (accesses_of_chain c order)) s f
+  has_in_chain [] inside s f has = absurd has
+  has_in_chain (x ∷ order) inside s f has = ⊎_elim
+      (λ here. let at = All-head IsInside x order inside in
+      (x.chain, at.0, at.1, subst (λ l. Has (placed l) s f) (sym (own_front x order)) (has_left (placed_by x.access) (placed (accesses_of_chain x.chain order)) s f here)))
+      (λ later. let r = has_in_chain order (All-tail IsInside x order inside) s f later in (r.0, r.1, r.2, more r.0 (x.chain == r.0) r.3))
+      (has_either (placed_by x.access) (placed (accesses_of order)) s f has)
+    where
+      more : (c : ℕ) (b : Bool) → Has (placed (accesses_of_chain c order)) s f
+          → Has (placed (accesses_of (cond b (x ∷ filter (λ y. y.chain == c) order) (filter (λ y. y.chain == c) order)))) s f
+      more c true h = has_right (placed_by x.access) (placed (accesses_of_chain c order)) s f h
+      more c false h = h
+
+  -- and no mark is placed twice
+  pub order_places_once : (order : List ChainAccess) → All IsInside order → EachPlaces order → PlacesOnce (placed (accesses_of order))
+  order_places_once [] inside each = tt
+  order_places_once (x ∷ order) inside each =
+      let at = All-head IsInside x order inside in
+      let mine : OwnOf (IsOfChain x.chain) (x.access ∷ accesses_of_chain x.chain order) =
+      subst (OwnOf (IsOfChain x.chain)) (own_front x order) (each x.chain at.0 at.1) in
+      once_then (placed_by x.access) (placed (accesses_of order))
+      (first_once (placed_by x.access) (placed (accesses_of_chain x.chain order)) mine.1)
+      (order_places_once order (All-tail IsInside x order inside) (rest_places x order each))
+      (λ s o f g here later same.
+      let r = has_in_chain order (All-tail IsInside x order inside) o g later in
+      let own = mine.0 s f (has_left (placed_by x.access) (placed (accesses_of_chain x.chain order)) s f here) in
+      let theirs = (rest_places x order each r.0 r.1 r.2).0 o g r.3 in
+      let marks : Submitted submission x.chain own.0 own.1 ≡ Submitted submission r.0 theirs.0 theirs.1 = sym own.4.mark ∙ (same ∙ theirs.4.mark) in
+      let chain : r.0 ≡ x.chain = cc in
+      once_between (placed_by x.access) (placed (accesses_of_chain x.chain order)) s o f g mine.1 here
+      (subst (λ c. Has (placed (accesses_of_chain c order)) o g) chain r.3) same)
+    where
+      first_once : (xs ys : List (ℕ × Closed)) → PlacesOnce (xs ++ ys) → PlacesOnce xs
+      first_once [] ys once = tt
+      first_once (p ∷ xs) ys once = (first_once xs ys once.0, λ s g has. once.1 s g (has_left xs ys s g has))

@@ -1,0 +1,98 @@
+-- Which lists have the same files: how often a file stands in each of them.
+use Rattle.fx_order.proofs.Words.{◌≡◌, ◌≢◌, ℕ, suc, ◌+◌, ◌<◌, ◌≤◌, ◌==◌, ◌&&◌, Bool, true, false, cond, List, [], ◌∷◌, ◌++◌, length, take, drop}
+use Rattle.fx_order.proofs.Words.{IsTrue, ◌↔◌, subst, refl, sym, ap, ◌∙◌, arith, slice_index_or, Decides, IsPermutation, sum_by, remove, false≢true}
+use Rattle.fx_order.proofs.Words.{Decides-eqb, Decides-and, Decides-like, append-nil, length-append, take_all, take_more, split_at}
+use Rattle.fx_order.proofs.Words.{sum_by-IsPermutation, length_permutation, IsPermutation-more, sum_by-append, sum_by-cons, Mark, Registered}
+use Rattle.fx_order.proofs.Words.{Submitted, Closed}
+
+abbrev pub same_mark : Mark → Mark → Bool
+same_mark (Registered k i) (Registered l j) = (k == l) && (i == j)
+same_mark (Registered k i) (Submitted s c m e) = false
+same_mark (Submitted s c m e) (Registered k i) = false
+same_mark (Submitted s c m e) (Submitted t d n f) = (s == t) && ((c == d) && ((m == n) && (e == f)))
+
+pub decides_mark : (a b : Mark) → Decides (same_mark a b) (a ≡ b)
+decides_mark (Registered k i) (Registered l j) =
+    Decides-like ((k == l) && (i == j)) (λ p n. Registered (p.0 n) (p.1 n)) (λ e. (cc, cc))
+    (Decides-and (k == l) (i == j) (Decides-eqb k l) (Decides-eqb i j))
+decides_mark (Registered k i) (Submitted s c m e) = (λ is. absurd (false≢true is), λ is. absurd (cc))
+decides_mark (Submitted s c m e) (Registered k i) = (λ is. absurd (false≢true is), λ is. absurd (cc))
+decides_mark (Submitted s c m e) (Submitted t d n f) =
+    Decides-like ((s == t) && ((c == d) && ((m == n) && (e == f))))
+    (λ p x. Submitted (p.0 x) (p.1.0 x) (p.1.1.0 x) (p.1.1.1 x)) (λ is. (cc, (cc, (cc, cc))))
+    (Decides-and (s == t) ((c == d) && ((m == n) && (e == f))) (Decides-eqb s t)
+    (Decides-and (c == d) ((m == n) && (e == f)) (Decides-eqb c d)
+    (Decides-and (m == n) (e == f) (Decides-eqb m n) (Decides-eqb e f))))
+
+abbrev same_file : Closed → Closed → Bool
+same_file a b = same_mark a.mark b.mark && ((a.entry == b.entry) && (a.tag == b.tag))
+
+decides_file : (a b : Closed) → Decides (same_file a b) (a ≡ b)
+decides_file a b =
+    Decides-like (same_mark a.mark b.mark && ((a.entry == b.entry) && (a.tag == b.tag)))
+    (λ p n. record { mark = p.0 n; entry = p.1.0 n; tag = p.1.1 n })
+    (λ e. (ap (λ (f : Closed). f.mark) e, (ap (λ (f : Closed). f.entry) e, ap (λ (f : Closed). f.tag) e)))
+    (Decides-and (same_mark a.mark b.mark) ((a.entry == b.entry) && (a.tag == b.tag)) (decides_mark a.mark b.mark)
+    (Decides-and (a.entry == b.entry) (a.tag == b.tag) (Decides-eqb a.entry b.entry) (Decides-eqb a.tag b.tag)))
+
+-- how often a file stands in a list
+abbrev one_if_same : Closed → Closed → ℕ
+one_if_same file x = cond (same_file file x) 1 0
+
+one_of_same : (file x : Closed) (b : Bool) → same_file file x ≡ b → file ≢ x → ◌≡◌ {A = ℕ} (cond b 1 0) 0
+one_of_same file x true is other = absurd (other ((decides_file file x).0 is))
+one_of_same file x false is other = refl
+
+times-none : (file : Closed) (files : List Closed) → ((i : ℕ) (d : Closed) → i < length files → slice_index_or files i d ≢ file)
+    → sum_by (one_if_same file) files ≡ 0
+times-none file [] none = refl
+times-none file (x ∷ files) none =
+    let head : one_if_same file x ≡ 0 = one_of_same file x (same_file file x) refl (λ is. none 0 x (omega arith) (sym is)) in
+    let rest : sum_by (one_if_same file) files ≡ 0 = times-none file files (λ i d lt. none (suc i) d (omega arith)) in
+    sum_by-cons (one_if_same file) x files ∙ omega arith
+
+-- where the file is next, it is one of those that are left
+is_left : (files done rest left : List Closed) (file : Closed) → IsPermutation files (done ++ left)
+    → IsPermutation files (done ++ file ∷ rest) → ((i : ℕ) (d : Closed) → i < length left → slice_index_or left i d ≢ file) → ⊥
+is_left files done rest left file one other none =
+    let f : Closed → ℕ = one_if_same file in
+    let here : one_if_same file file ≡ 1 = ap (λ (b : Bool). cond b 1 0) ((decides_file file file).1 refl) in
+    let first : sum_by (one_if_same file) (done ++ left) ≡ sum_by (one_if_same file) files = sum_by-IsPermutation (one_if_same file) files (done ++ left) one in
+    let second : sum_by (one_if_same file) (done ++ file ∷ rest) ≡ sum_by (one_if_same file) files =
+    sum_by-IsPermutation (one_if_same file) files (done ++ file ∷ rest) other in
+    let parts = sum_by-append (one_if_same file) done left in
+    let others = sum_by-append (one_if_same file) done (file ∷ rest) in
+    let head = sum_by-cons (one_if_same file) file rest in
+    let nothing = times-none file left none in
+    omega arith
+
+-- the loop over the other list: a file that isn't left, one that is, and the end
+module _ (files others left : List Closed) (i : ℕ) (so_far : IsPermutation files (take i others ++ left)) where
+  pub none_left : (d : Closed) → i < length others
+      → ((k : ℕ) (e : Closed) → k < length left → slice_index_or left k e ≢ slice_index_or others i d) → IsPermutation files others → ⊥
+  none_left d within none same =
+      is_left files (take i others) (drop (suc i) others) left (slice_index_or others i d) so_far
+      (subst (IsPermutation files) (split_at others i d within) same) none
+
+  pub one_more : (d : Closed) (j : ℕ) → i < length others → j < length left
+      → slice_index_or left j (slice_index_or others i d) ≡ slice_index_or others i d
+      → IsPermutation files (take (i + 1) others ++ remove left j)
+  one_more d j within inside is =
+      subst (λ (l : List Closed). IsPermutation files (l ++ remove left j)) (sym (take_more others i d within))
+      (IsPermutation-more files (take i others) left j (slice_index_or others i d) inside (sym is) so_far)
+
+  pub none_over : (n : ℕ) → length others ≤ i → n ≡ length left → IsTrue (n == 0) ↔ IsPermutation files others
+  none_over n all count =
+      let whole : take i others ≡ others = take_all i others all in
+      let now : IsPermutation files (others ++ left) = subst (λ (l : List Closed). IsPermutation files (l ++ left)) whole so_far in
+      let long : length (others ++ left) ≡ length files = length_permutation files (others ++ left) now in
+      let parts : length (others ++ left) ≡ length others + length left = length-append others left in (
+        λ yes. let none : n ≡ 0 = (Decides-eqb n 0).0 yes in
+            subst (IsPermutation files) (append-nil others)
+            (subst (λ (l : List Closed). IsPermutation files (others ++ l)) (empty left (omega arith)) now),
+        λ same. (Decides-eqb n 0).1 (let short : length others ≡ length files = length_permutation files others same in omega arith),
+      )
+    where
+      empty : (l : List Closed) → length l ≡ 0 → l ≡ []
+      empty [] none = refl
+      empty (x ∷ l) none = absurd (omega arith)
