@@ -1,0 +1,187 @@
+-- A claim of an access may be made where the access may, and leaves the same files.
+use Rattle.std.proofs.Common.{◌≡◌, ℕ, ◌+◌, ◌<◌, ◌≤◌, ◌&&◌, ◌||◌, not, Bool, true, false, List, [], ◌∷◌, refl, sym, ap, subst, ◌∙◌, All, Contains, Option, Some, None, IsSome, IsTrue, if◌then◌else◌, is_some, slice_index_or}
+use Rattle.std.specs.List.{list_all}
+use Rattle.std.proofs.lemmas.List.Elements.{All-head, All-tail, All-map, All-weaker}
+use Rattle.fx_base.specs.declared.open_file.Closed.{Closed}
+use Rattle.fx_plain.specs.Step.{changed_at}
+use Rattle.fx_plain.proofs.Cells.{by_equality, unchanged}
+use Rattle.fx_order.specs.Access.{Table, IsInRange, Permits, table_with, removed_by}
+use Rattle.fx_order.specs.declared.access.Access.{Access}
+use Rattle.fx_order.specs.declared.access.Access.TheVariants.{Looks, Puts, Clears, Takes, Allocates, FindsFull}
+use Rattle.fx_judge.specs.Claims.{Fits, IsLeft, IsResident, Wanted, touched, found_by, left_by}
+use Rattle.fx_judge.specs.Machine.{allows, cell_at, cells_after, cell_with, suits, may_leave, is_same, is_taken}
+use Rattle.fx_judge.specs.Played.{IsCell, ShowsFile}
+use Rattle.fx_judge.specs.Strands.{has_slot}
+use Rattle.fx_judge.specs.declared.cell.Cell.{Cell}
+use Rattle.fx_judge.specs.declared.claim.Claim.{Claim}
+use Rattle.fx_judge.specs.declared.claim.Claim.TheVariants.{At, Full}
+use Rattle.fx_judge.specs.declared.claim.Wants.{Wants}
+use Rattle.fx_judge.specs.declared.claim.Wants.TheVariants.{Anything, Nothing, NothingToTake, Something, Bytes}
+use Rattle.fx_judge.specs.declared.claim.Leaves.{Leaves}
+use Rattle.fx_judge.specs.declared.claim.Leaves.TheVariants.{Same, Empty, File}
+use Rattle.fx_judge.specs.declared.claim.Resident.{Resident}
+
+slot_is : (a b : ℕ) → Some a ≡ Some b → a ≡ b
+slot_is a b is = cc
+
+-- what a permitted access found is at its slot
+pub found_at : (table : Table) (a : Access) (slot : ℕ) → touched a ≡ Some slot → Permits table a → found_by a ≡ table.at slot
+found_at table (Looks s found) slot is may = may.1 ∙ ap table.at (slot_is s slot is)
+found_at table (Puts s file removed) slot is may = may.1 ∙ ap table.at (slot_is s slot is)
+found_at table (Clears s removed) slot is may = may.1 ∙ ap table.at (slot_is s slot is)
+found_at table (Takes s removed) slot is may = may.1 ∙ ap table.at (slot_is s slot is)
+found_at table (Allocates s file) slot is may = may.0.1 ∙ ap table.at (slot_is s slot is)
+found_at table FindsFull slot is may = absurd (cc)
+
+-- the files behind an access
+pub at_after : (table : Table) (a : Access) (slot : ℕ) → touched a ≡ Some slot → Permits table a
+    → (table_with table a).at ≡ changed_at table.at slot (left_by a)
+at_after table (Looks s found) slot is may = sym (unchanged table.at slot found (found_at table (Looks s found) slot is may))
+at_after table (Puts s file removed) slot is may = ap (λ (k : ℕ). changed_at table.at k (Some file)) (slot_is s slot is)
+at_after table (Clears s removed) slot is may = ap (λ (k : ℕ). changed_at table.at k None) (slot_is s slot is)
+at_after table (Takes s removed) slot is may = ap (λ (k : ℕ). changed_at table.at k None) (slot_is s slot is)
+at_after table (Allocates s file) slot is may = ap (λ (k : ℕ). changed_at table.at k (Some file)) (slot_is s slot is)
+at_after table FindsFull slot is may = absurd (cc)
+
+pub same_size : (table : Table) (a : Access) → (table_with table a).size ≡ table.size
+same_size table (Looks s found) = refl
+same_size table (Puts s file removed) = refl
+same_size table (Clears s removed) = refl
+same_size table (Takes s removed) = refl
+same_size table (Allocates s file) = refl
+same_size table FindsFull = refl
+
+pub same_range : (table : Table) (a : Access) → (table_with table a).range ≡ table.range
+same_range table (Looks s found) = refl
+same_range table (Puts s file removed) = refl
+same_range table (Clears s removed) = refl
+same_range table (Takes s removed) = refl
+same_range table (Allocates s file) = refl
+same_range table FindsFull = refl
+
+not_some : (x : Option Closed) → IsSome x → x ≡ None → ⊥
+not_some x some is = let bad : false ≡ true = ap is_some (sym is) ∙ some in absurd (cc)
+
+module _ (closes : List Closed) where
+  -- a slot that is among the cells shows the file that is there
+  cell_shows : (table : Table) (cells : List Cell) (slot : ℕ) → All (IsCell table closes) cells → has_slot cells (Some slot) ≡ true
+      → ShowsFile closes (table.at slot) (cell_at cells slot)
+  cell_shows table [] slot all has = absurd (cc)
+  cell_shows table (cell ∷ cells) slot all has =
+      by_equality cell.slot slot
+      (λ b. (b || has_slot cells (Some slot)) ≡ true → ShowsFile closes (table.at slot) (if b then cell.file else cell_at cells slot))
+      (λ same _. subst (λ (k : ℕ). ShowsFile closes (table.at k) cell.file) same (All-head (IsCell table closes) cell cells all).shows)
+      (λ other has. cell_shows table cells slot (All-tail (IsCell table closes) cell cells all) has) has
+
+  suited : (wants : Wants) (found : Option Closed) (shown : Option Resident) → ShowsFile closes found shown → Wanted wants found → suits wants shown ≡ true
+  suited Anything found shown shows wanted = refl
+  suited Nothing None None shows wanted = refl
+  suited Nothing None (Some r) shows wanted = absurd shows
+  suited Nothing (Some f) shown shows wanted = absurd (cc)
+  suited NothingToTake None None shows wanted = refl
+  suited NothingToTake None (Some r) shows wanted = absurd shows
+  suited NothingToTake (Some f) shown shows wanted = absurd (cc)
+  suited Something None shown shows wanted = let is : None ≡ Some wanted.0 = wanted.1 in absurd (cc)
+  suited Something (Some f) None shows wanted = absurd shows
+  suited Something (Some f) (Some r) shows wanted = refl
+  suited (Bytes fits) None shown shows wanted = let is : None ≡ Some wanted.0 = wanted.1 in absurd (cc)
+  suited (Bytes fits) (Some f) None shows wanted = absurd shows
+  suited (Bytes fits) (Some f) (Some r) shows wanted =
+      let is : Some f ≡ Some wanted.0 = wanted.1 in
+      let file : f ≡ wanted.0 = cc in
+      ap (λ (x : Closed). slice_index_or fits x.entry true) (shows.same ∙ file) ∙ wanted.2
+
+  leaving : (found : Option Closed) (shown : Option Resident) → ShowsFile closes found shown → ((f : Closed) → found ≡ Some f → Contains closes f)
+      → may_leave shown ≡ true
+  leaving None None shows closed = refl
+  leaving None (Some r) shows closed = absurd shows
+  leaving (Some f) None shows closed = absurd shows
+  leaving (Some f) (Some r) shows closed = shows.leaves.1 (closed f refl)
+
+  taken : (table : Table) (cell : Cell) → IsCell table closes cell → Permits table FindsFull → is_taken cell ≡ true
+  taken table cell is may = each cell.in_range cell.file (table.at cell.slot) is.range is.shows (may cell.slot is.inside)
+    where
+      each : (b : Bool) (shown : Option Resident) (found : Option Closed) → (IsTrue b → IsInRange table cell.slot) → ShowsFile closes found shown
+          → (IsInRange table cell.slot → IsSome found) → (not b || is_some shown) ≡ true
+      each false shown found range shows some = refl
+      each true None None range shows some = absurd (not_some None (some (range refl)) refl)
+      each true None (Some f) range shows some = absurd shows
+      each true (Some r) found range shows some = refl
+
+  all_taken : (table : Table) (cells : List Cell) → All (IsCell table closes) cells → Permits table FindsFull → list_all is_taken cells ≡ true
+  all_taken table [] all may = refl
+  all_taken table (cell ∷ cells) all may =
+      ap (λ (b : Bool). b && list_all is_taken cells) (taken table cell (All-head (IsCell table closes) cell cells all) may)
+      ∙ all_taken table cells (All-tail (IsCell table closes) cell cells all) may
+
+  module _ (table : Table) (cells : List Cell) (a : Access) (all : All (IsCell table closes) cells) (may : Permits table a)
+      (seen : has_slot cells (touched a) ≡ true) (closed : (f : Closed) → removed_by a ≡ Some f → Contains closes f) where
+    shown_here : (slot : ℕ) → touched a ≡ Some slot → ShowsFile closes (found_by a) (cell_at cells slot)
+    shown_here slot is =
+        subst (λ (x : Option Closed). ShowsFile closes x (cell_at cells slot)) (sym (found_at table a slot is may))
+        (cell_shows table cells slot all (ap (has_slot cells) (sym is) ∙ seen))
+
+    may_go : (leaves : Leaves) (slot : ℕ) → touched a ≡ Some slot → IsLeft closes leaves a
+        → (is_same leaves || may_leave (cell_at cells slot)) ≡ true
+    may_go Same slot is left = refl
+    may_go Empty slot is left = leaving (found_by a) (cell_at cells slot) (shown_here slot is) (λ f there. closed f (left.0 ∙ there))
+    may_go (File resident) slot is left = leaving (found_by a) (cell_at cells slot) (shown_here slot is) (λ f there. closed f (left.0 ∙ there))
+
+    pub allowed : (claim : Claim) → Fits closes claim a → allows cells claim ≡ true
+    allowed (At slot wants leaves) fits =
+        ap (λ (b : Bool). b && (is_same leaves || may_leave (cell_at cells slot))) (suited wants (found_by a) (cell_at cells slot) (shown_here slot fits.0) fits.1)
+        ∙ may_go leaves slot fits.0 fits.2
+    allowed Full fits = all_taken table cells all (subst (Permits table) fits may)
+
+    kept_cell : (slot : ℕ) (file : Option Resident) (cell : Cell) → touched a ≡ Some slot → ShowsFile closes (left_by a) file → IsCell table closes cell
+        → IsCell (table_with table a) closes (cell_with slot file cell)
+    kept_cell slot file cell is shows cells_now =
+        by_equality cell.slot slot (λ b. IsCell (table_with table a) closes (if b then record cell { file = file } else cell))
+        (λ same. record {
+          inside = subst (λ (n : ℕ). cell.slot < n) (sym (same_size table a)) cells_now.inside;
+          range = λ yes. subst (λ (r : ℕ × ℕ). (r.0 ≤ cell.slot) × (cell.slot < r.0 + r.1)) (sym (same_range table a)) (cells_now.range yes);
+          shows = subst (λ (x : Option Closed). ShowsFile closes x file)
+              (sym (ap (λ (at : ℕ → Option Closed). at cell.slot) (at_after table a slot is may) ∙ at_changed cell.slot same)) shows;
+        })
+        (λ other. record {
+          inside = subst (λ (n : ℕ). cell.slot < n) (sym (same_size table a)) cells_now.inside;
+          range = λ yes. subst (λ (r : ℕ × ℕ). (r.0 ≤ cell.slot) × (cell.slot < r.0 + r.1)) (sym (same_range table a)) (cells_now.range yes);
+          shows = subst (λ (x : Option Closed). ShowsFile closes x cell.file)
+              (sym (ap (λ (at : ℕ → Option Closed). at cell.slot) (at_after table a slot is may) ∙ at_others cell.slot other)) cells_now.shows;
+        })
+      where
+        at_changed : (k : ℕ) → k ≡ slot → changed_at table.at slot (left_by a) k ≡ left_by a
+        at_changed k same = by_equality k slot (λ b. (if b then left_by a else table.at k) ≡ left_by a) (λ _. refl) (λ other. absurd (other same))
+
+        at_others : (k : ℕ) → (k ≡ slot → ⊥) → changed_at table.at slot (left_by a) k ≡ table.at k
+        at_others k other = by_equality k slot (λ b. (if b then left_by a else table.at k) ≡ table.at k) (λ same. absurd (other same)) (λ _. refl)
+
+    -- a cell whose file stays as it is
+    same_cell : (slot : ℕ) (cell : Cell) → touched a ≡ Some slot → left_by a ≡ found_by a → IsCell table closes cell → IsCell (table_with table a) closes cell
+    same_cell slot cell is left cells_now =
+        let at : (table_with table a).at ≡ table.at =
+        at_after table a slot is may ∙ unchanged table.at slot (left_by a) (left ∙ found_at table a slot is may) in
+        record {
+          inside = subst (λ (n : ℕ). cell.slot < n) (sym (same_size table a)) cells_now.inside;
+          range = λ yes. subst (λ (r : ℕ × ℕ). (r.0 ≤ cell.slot) × (cell.slot < r.0 + r.1)) (sym (same_range table a)) (cells_now.range yes);
+          shows = subst (λ (f : ℕ → Option Closed). ShowsFile closes (f cell.slot) cell.file) (sym at) cells_now.shows;
+        }
+
+    shows_none : left_by a ≡ None → ShowsFile closes (left_by a) None
+    shows_none is = subst (λ (x : Option Closed). ShowsFile closes x None) (sym is) tt
+
+    shows_some : (resident : Resident) (file : Closed) → left_by a ≡ Some file → IsResident closes file resident → ShowsFile closes (left_by a) (Some resident)
+    shows_some resident file is same = subst (λ (x : Option Closed). ShowsFile closes x (Some resident)) (sym is) same
+
+    pub cells_follow : (claim : Claim) → Fits closes claim a → All (IsCell (table_with table a) closes) (cells_after cells claim)
+    cells_follow (At slot wants Same) fits =
+        All-weaker (IsCell table closes) (IsCell (table_with table a) closes) (λ cell now. same_cell slot cell fits.0 fits.2 now) cells all
+    cells_follow (At slot wants Empty) fits =
+        All-map (IsCell (table_with table a) closes) (cell_with slot None) cells
+        (All-weaker (IsCell table closes) (λ cell. IsCell (table_with table a) closes (cell_with slot None cell))
+        (λ cell now. kept_cell slot None cell fits.0 (shows_none fits.2.1) now) cells all)
+    cells_follow (At slot wants (File resident)) fits =
+        All-map (IsCell (table_with table a) closes) (cell_with slot (Some resident)) cells
+        (All-weaker (IsCell table closes) (λ cell. IsCell (table_with table a) closes (cell_with slot (Some resident) cell))
+        (λ cell now. kept_cell slot (Some resident) cell fits.0 (shows_some resident fits.2.1.0 fits.2.1.1 fits.2.1.2) now) cells all)
+    cells_follow Full fits = subst (λ (x : Access). All (IsCell (table_with table x) closes) cells) (sym fits) all

@@ -1,0 +1,220 @@
+-- The claims of a chain, from those of its first member and of the others.
+use Rattle.std.proofs.Common.{◌≡◌, ℕ, zero, suc, ◌+◌, ◌≤◌, Bool, true, false, List, [], ◌∷◌, ◌++◌, length, drop, arith, append_assoc, refl, sym, ap, subst, ◌∙◌, Ok, Err}
+use Rattle.std.proofs.lemmas.List.{append-nil}
+use Rattle.std.specs.Bool.{MatchBool}
+use Rattle.std.specs.Global.{Vec}
+use Rattle.std.specs.List.{AllZip, AllByRecursion}
+use Rattle.fx_base.specs.Catalogue.{FileEntry}
+use Rattle.fx_base.specs.declared.open_file.Closed.{Closed}
+use Rattle.fx_base.specs.declared.errno.Errno.TheVariants.{ECANCELED}
+use Rattle.fx_chain.specs.Completed.{Completed, next_member, refusal}
+use Rattle.fx_chain.specs.Explains.{canceled, severs}
+use Rattle.fx_chain.specs.Operation.{Asked}
+use Rattle.fx_chain.specs.declared.completion.Place.{Place}
+use Rattle.fx_order.specs.Requests.{IsRequestDone, IsChainDone}
+use Rattle.fx_order.specs.declared.access.Access.{Access}
+use Rattle.fx_judge.specs.Claims.{Fits, IsPossible, Possibly, Tells}
+use Rattle.fx_judge.specs.Chains.{TellsMember}
+use Rattle.fx_judge.specs.declared.chain.MemberClaims.{MemberClaims}
+use Rattle.fx_judge.specs.declared.claim.Claim.{Claim}
+use Rattle.fx_judge.specs.declared.stop.Stop.{Stop}
+use Rattle.fx_judge.specs.declared.stop.Stop.TheVariants.{Refuted, Unknown, NoMemory}
+use Rattle.fx_judge.proofs.Entries.{all_zip_append}
+
+pub both_parts : {X : Type 0} (P : X → Type 0) (xs ys : List X) → AllByRecursion P (xs ++ ys) → AllByRecursion P xs × AllByRecursion P ys
+both_parts P [] ys all = (tt, all)
+both_parts P (x ∷ xs) ys all = let rest = both_parts P xs ys all.1 in ((all.0, rest.0), rest.1)
+
+module _ (catalogue : List FileEntry) (size : ℕ) (range : ℕ × ℕ) (closes : List Closed) (place : Place) (request : Asked) (requests : List Asked)
+    (c : Completed) (cs : List Completed) where
+  abbrev First : List Access → Type 0
+  First = Possibly size range (λ own. IsRequestDone catalogue size place request.operation own c)
+
+  abbrev Others : List Access → Type 0
+  Others = Possibly size range (λ own. IsChainDone catalogue size (next_member place) requests own cs)
+
+  abbrev Whole : List Access → Type 0
+  Whole = Possibly size range (λ own. IsChainDone catalogue size place (request ∷ requests) own (c ∷ cs))
+
+  record Members (accesses : List Access) : Type 0 where
+    own : List Access
+    others : List Access
+    whole : accesses ≡ own ++ others
+    first : First own
+    possible : AllByRecursion (IsPossible size range) others
+    behind : MatchBool (severs request c) ((others ≡ []) × (cs ≡ canceled (next_member place) requests))
+        (IsChainDone catalogue size (next_member place) requests others cs)
+
+  members : (accesses : List Access) → Whole accesses → Members accesses
+  members accesses (possible, (own, others, d, ds, whole, is, done, behind)) =
+      let parts = both_parts (IsPossible size range) own others (subst (AllByRecursion (IsPossible size range)) whole possible) in
+      let head : d ≡ c = cc in
+      let tail : ds ≡ cs = cc in
+      record {
+        own = own;
+        others = others;
+        whole = whole;
+        first = (parts.0, subst (λ (x : Completed). IsRequestDone catalogue size place request.operation own x) head done);
+        possible = parts.1;
+        behind = subst (λ (x : Completed). MatchBool (severs request x) ((others ≡ []) × (cs ≡ canceled (next_member place) requests))
+            (IsChainDone catalogue size (next_member place) requests others cs)) head
+            (subst (λ (l : List Completed). MatchBool (severs request d) ((others ≡ []) × (l ≡ canceled (next_member place) requests))
+            (IsChainDone catalogue size (next_member place) requests others l)) tail behind);
+      }
+
+-- the place of a member, from that of the first one
+abbrev pub member_at : Place → ℕ → Place
+member_at place i = record place { member = place.member + i }
+
+-- what is left of a chain: all that are left were canceled, or they are done
+abbrev pub IsLeftOver : List FileEntry → ℕ → Place → Bool → List Asked → List Access → List Completed → Type 0
+IsLeftOver catalogue size place cut requests accesses cs =
+    MatchBool cut ((accesses ≡ []) × (cs ≡ canceled place requests)) (IsChainDone catalogue size place requests accesses cs)
+
+-- the accesses that these claims tell of, and those of the members that are left
+pub record Begun (catalogue : List FileEntry) (size : ℕ) (range : ℕ × ℕ) (closes : List Closed) (place : Place) (requests : List Asked) (cs : List Completed)
+    (i : ℕ) (cut : Bool) (claims : List Claim) (accesses : List Access) : Type 0 where
+  pub own : List Access
+  pub others : List Access
+  pub whole : accesses ≡ own ++ others
+  pub told : AllZip (Fits closes) claims own
+  pub possible : AllByRecursion (IsPossible size range) others
+  pub left : IsLeftOver catalogue size (member_at place i) cut (drop i requests) others (drop i cs)
+
+pub record ChainTold (catalogue : List FileEntry) (size : ℕ) (range : ℕ × ℕ) (closes : List Closed) (place : Place) (requests : List Asked)
+    (cs : List Completed) (i : ℕ) (cut : Bool) (claims : List Claim) : Type 0 where
+  pub each : (accesses : List Access) → Possibly size range (λ own. IsChainDone catalogue size place requests own cs) accesses
+      → Begun catalogue size range closes place requests cs i cut claims accesses
+
+module _ (catalogue : List FileEntry) (size : ℕ) (range : ℕ × ℕ) (closes : List Closed) (place : Place) (requests : List Asked) (cs : List Completed) where
+  pub nothing_told : ChainTold catalogue size range closes place requests cs 0 false []
+  nothing_told = record {
+    each = λ accesses done. record {
+      own = [];
+      others = accesses;
+      whole = refl;
+      told = tt;
+      possible = done.0;
+      left = subst (λ (p : Place). IsChainDone catalogue size p requests accesses cs) first done.1;
+    };
+  }
+    where
+      first : place ≡ member_at place 0
+      first = λ j. record place { member = (let same : place.member ≡ place.member + 0 = omega arith in same) j }
+
+  pub all_told : (i : ℕ) (cut : Bool) (claims : List Claim) → length requests ≤ i → ChainTold catalogue size range closes place requests cs i cut claims
+      → (accesses : List Access) → Possibly size range (λ own. IsChainDone catalogue size place requests own cs) accesses → AllZip (Fits closes) claims accesses
+  all_told i cut claims all t accesses done =
+      let b = t.each accesses done in
+      let none : b.others ≡ [] = nothing cut (member_at place i) (drop i requests) b.others (drop i cs) (past requests i all) b.left in
+      subst (AllZip (Fits closes) claims) (sym (b.whole ∙ (ap (λ (l : List Access). b.own ++ l) none ∙ append-nil b.own))) b.told
+    where
+      nothing : (d : Bool) (p : Place) (l : List Asked) (others : List Access) (ds : List Completed) → l ≡ [] → IsLeftOver catalogue size p d l others ds → others ≡ []
+      nothing true p l others ds is left = left.0
+      nothing false p l others ds is left = (subst (λ (m : List Asked). IsChainDone catalogue size p m others ds) is left).0
+
+      past : (l : List Asked) (n : ℕ) → length l ≤ n → drop n l ≡ []
+      past [] zero le = refl
+      past [] (suc n) le = refl
+      past (x ∷ l) zero le = absurd (omega arith)
+      past (x ∷ l) (suc n) le = past l n (omega arith)
+
+  module _ (i : ℕ) (claims : List Claim) (request : Asked) (c : Completed)
+      (requests_are : drop i requests ≡ request ∷ drop (suc i) requests) (cs_are : drop i cs ≡ c ∷ drop (suc i) cs) where
+    next_place : next_member (member_at place i) ≡ member_at place (i + 1)
+    next_place = λ j. record place { member = (let same : place.member + i + 1 ≡ place.member + (i + 1) = omega arith in same) j }
+
+    one_up : suc i ≡ i + 1
+    one_up = omega arith
+
+    -- the members that are left, from the next one on
+    moved : (cut : Bool) (others : List Access)
+        → IsLeftOver catalogue size (next_member (member_at place i)) cut (drop (suc i) requests) others (drop (suc i) cs)
+        → IsLeftOver catalogue size (member_at place (i + 1)) cut (drop (i + 1) requests) others (drop (i + 1) cs)
+    moved cut others left =
+        subst (λ (p : Place). IsLeftOver catalogue size p cut (drop (i + 1) requests) others (drop (i + 1) cs)) next_place
+        (subst (λ (n : ℕ). IsLeftOver catalogue size (next_member (member_at place i)) cut (drop n requests) others (drop n cs)) one_up left)
+
+    here : (cut : Bool) (others : List Access) → IsLeftOver catalogue size (member_at place i) cut (drop i requests) others (drop i cs)
+        → IsLeftOver catalogue size (member_at place i) cut (request ∷ drop (suc i) requests) others (c ∷ drop (suc i) cs)
+    here cut others left =
+        subst (λ (l : List Completed). IsLeftOver catalogue size (member_at place i) cut (request ∷ drop (suc i) requests) others l) cs_are
+        (subst (λ (l : List Asked). IsLeftOver catalogue size (member_at place i) cut l others (drop i cs)) requests_are left)
+
+    -- a member that was canceled
+    pub canceled_one : ChainTold catalogue size range closes place requests cs i true claims → (own : List Claim) → own ≡ []
+        → ChainTold catalogue size range closes place requests cs (i + 1) true (claims ++ own)
+    canceled_one t own none = record {
+      each = λ accesses done.
+          let b = t.each accesses done in
+          let left = here true b.others b.left in
+          let tail : drop (suc i) cs ≡ canceled (next_member (member_at place i)) (drop (suc i) requests) = tail_of left.1 in
+          record {
+            own = b.own;
+            others = b.others;
+            whole = b.whole;
+            told = subst (λ (l : List Claim). AllZip (Fits closes) l b.own) (sym (ap (λ (l : List Claim). claims ++ l) none ∙ append-nil claims)) b.told;
+            possible = b.possible;
+            left = moved true b.others (left.0, tail);
+          };
+    }
+      where
+        tail_of : {x y : Completed} {xs ys : List Completed} → x ∷ xs ≡ y ∷ ys → xs ≡ ys
+        tail_of is = cc
+
+    pub never_canceled : ChainTold catalogue size range closes place requests cs i true claims → (c ≡ refusal (member_at place i) ECANCELED → ⊥)
+        → (accesses : List Access) → Possibly size range (λ own. IsChainDone catalogue size place requests own cs) accesses → ⊥
+    never_canceled t other accesses done =
+        let b = t.each accesses done in
+        let left = here true b.others b.left in
+        other (head_of left.1)
+      where
+        head_of : {x y : Completed} {xs ys : List Completed} → x ∷ xs ≡ y ∷ ys → x ≡ y
+        head_of is = cc
+
+    -- a member that was done
+    pub done_one : ChainTold catalogue size range closes place requests cs i false claims → (own : Vec Claim)
+        → Tells (Possibly size range (λ a. IsRequestDone catalogue size (member_at place i) request.operation a c)) closes (Ok own)
+        → ChainTold catalogue size range closes place requests cs (i + 1) (severs request c) (claims ++ own.items)
+    done_one t own tells = record {
+      each = λ accesses done.
+          let b = t.each accesses done in
+          let m = members catalogue size range closes (member_at place i) request (drop (suc i) requests) c (drop (suc i) cs) b.others
+          (b.possible, here false b.others b.left) in
+          record {
+            own = b.own ++ m.own;
+            others = m.others;
+            whole = b.whole ∙ (ap (λ (l : List Access). b.own ++ l) m.whole ∙ sym (append_assoc b.own m.own m.others));
+            told = all_zip_append (Fits closes) claims own.items b.own m.own b.told (tells m.own m.first);
+            possible = m.possible;
+            left = moved (severs request c) m.others m.behind;
+          };
+    }
+
+    pub never_done : ChainTold catalogue size range closes place requests cs i false claims
+        → ((a : List Access) → Possibly size range (λ own. IsRequestDone catalogue size (member_at place i) request.operation own c) a → ⊥)
+        → (accesses : List Access) → Possibly size range (λ own. IsChainDone catalogue size place requests own cs) accesses → ⊥
+    never_done t none accesses done =
+        let b = t.each accesses done in
+        let m = members catalogue size range closes (member_at place i) request (drop (suc i) requests) c (drop (suc i) cs) b.others
+        (b.possible, here false b.others b.left) in
+        none m.own m.first
+
+    -- the member's claims, whether or not the chain was severed in front of it
+    pub one_more : (cut : Bool) (told : MemberClaims) → ChainTold catalogue size range closes place requests cs i cut claims
+        → TellsMember catalogue size range closes (member_at place i) request c cut (Ok told)
+        → ChainTold catalogue size range closes place requests cs (i + 1) told.cut (claims ++ told.claims.items)
+    one_more true told t tells =
+        subst (λ (d : Bool). ChainTold catalogue size range closes place requests cs (i + 1) d (claims ++ told.claims.items)) (sym tells.1)
+        (canceled_one t told.claims.items tells.0)
+    one_more false told t tells =
+        subst (λ (d : Bool). ChainTold catalogue size range closes place requests cs (i + 1) d (claims ++ told.claims.items)) (sym tells.1)
+        (done_one t told.claims tells.0)
+
+    pub one_stops : (cut : Bool) (stop : Stop) → ChainTold catalogue size range closes place requests cs i cut claims
+        → TellsMember catalogue size range closes (member_at place i) request c cut (Err stop)
+        → Tells (Possibly size range (λ own. IsChainDone catalogue size place requests own cs)) closes (Err stop)
+    one_stops true (Refuted reason) t tells = never_canceled t tells
+    one_stops false (Refuted reason) t tells = never_done t tells
+    one_stops cut Unknown t tells = tt
+    one_stops cut NoMemory t tells = tt

@@ -1,0 +1,108 @@
+-- The claims of the entries of an update, one after another.
+use Rattle.std.proofs.Common.{◌≡◌, ℕ, zero, suc, ◌+◌, ◌<◌, ◌≤◌, ℤ, pos, negsuc, List, [], ◌∷◌, ◌++◌, length, drop, refl, sym, ap, subst, ◌∙◌, arith, append_assoc, drop-cons, get_or}
+use Rattle.std.specs.List.{AllZip}
+use Rattle.std.proofs.lemmas.List.{append-nil}
+use Rattle.fx_base.specs.declared.open_file.Closed.{Closed}
+use Rattle.fx_chain.specs.Answers.{installed}
+use Rattle.fx_chain.specs.declared.completion.Place.{Place}
+use Rattle.fx_order.specs.Requests.{IsEntryDone, AreEntriesDone}
+use Rattle.fx_order.specs.declared.access.Access.{Access}
+use Rattle.fx_judge.specs.Claims.{Fits, IsResident}
+use Rattle.fx_judge.specs.declared.claim.Claim.{Claim}
+use Rattle.fx_judge.specs.declared.claim.Claim.TheVariants.{At}
+use Rattle.fx_judge.specs.declared.claim.Wants.TheVariants.{Anything}
+use Rattle.fx_judge.specs.declared.claim.Leaves.TheVariants.{Empty, File}
+use Rattle.fx_judge.specs.declared.claim.Resident.{Resident}
+
+pub all_zip_append : {A B : Type 0} (R : A → B → Type 0) (xs ys : List A) (us vs : List B) → AllZip R xs us → AllZip R ys vs → AllZip R (xs ++ ys) (us ++ vs)
+all_zip_append R [] ys [] vs first second = second
+all_zip_append R [] ys (u ∷ us) vs first second = absurd first
+all_zip_append R (x ∷ xs) ys [] vs first second = absurd first
+all_zip_append R (x ∷ xs) ys (u ∷ us) vs first second = (first.0, all_zip_append R xs ys us vs first.1 second)
+
+-- the accesses of the list are those that these claims tell of, and those of the entries that are left
+pub record Parted (closes : List Closed) (place : Place) (off : ℕ) (list : List ℤ) (i : ℕ) (claims : List Claim) (accesses : List Access) : Type 0 where
+  pub own : List Access
+  pub others : List Access
+  pub whole : accesses ≡ own ++ others
+  pub told : AllZip (Fits closes) claims own
+  pub left : AreEntriesDone place i (off + i) (drop i list) others
+
+pub record EntriesTold (closes : List Closed) (place : Place) (off : ℕ) (list : List ℤ) (i : ℕ) (claims : List Claim) : Type 0 where
+  pub each : (accesses : List Access) → AreEntriesDone place 0 off list accesses → Parted closes place off list i claims accesses
+
+pub none_told : (closes : List Closed) (place : Place) (off : ℕ) (list : List ℤ) → EntriesTold closes place off list 0 []
+none_told closes place off list = record {
+  each = λ accesses done. record {
+    own = [];
+    others = accesses;
+    whole = refl;
+    told = tt;
+    left = let same : off ≡ off + 0 = omega arith in subst (λ (n : ℕ). AreEntriesDone place 0 n list accesses) same done;
+  };
+}
+
+module _ (closes : List Closed) (place : Place) (off : ℕ) (list : List ℤ) (i : ℕ) (claims : List Claim) (within : i < length list)
+    (t : EntriesTold closes place off list i claims) (d : ℤ) where
+  one_up : suc i ≡ i + 1
+  one_up = omega arith
+
+  behind : (j s : ℕ) (l : List ℤ) (k t : ℕ) (m : List ℤ) (accesses : List Access) → j ≡ k → s ≡ t → l ≡ m → AreEntriesDone place j s l accesses
+      → AreEntriesDone place k t m accesses
+  behind j s l k t m accesses same too lists done =
+      subst (λ (x : List ℤ). AreEntriesDone place k t x accesses) lists
+      (subst (λ (x : ℕ). AreEntriesDone place k x l accesses) too (subst (λ (x : ℕ). AreEntriesDone place x s l accesses) same done))
+
+  -- one more entry, with the claims that it has
+  pub one_more : (own : List Claim) → ((accesses : List Access) → IsEntryDone place i (off + i) (get_or list i d) accesses → AllZip (Fits closes) own accesses)
+      → EntriesTold closes place off list (i + 1) (claims ++ own)
+  one_more own each = record {
+    each = λ accesses done.
+        let parts = t.each accesses done in
+        let next : AreEntriesDone place i (off + i) (get_or list i d ∷ drop (suc i) list) parts.others =
+        subst (λ (l : List ℤ). AreEntriesDone place i (off + i) l parts.others) (drop-cons list i d within) parts.left in
+        record {
+          own = parts.own ++ next.0;
+          others = next.1;
+          whole = parts.whole ∙ (ap (λ (l : List Access). parts.own ++ l) next.2 ∙ sym (append_assoc parts.own next.0 next.1));
+          told = all_zip_append (Fits closes) claims own parts.own next.0 parts.told (each next.0 next.3);
+          left = behind (i + 1) (off + i + 1) (drop (suc i) list) (i + 1) (off + (i + 1)) (drop (i + 1) list) next.1 refl (omega arith)
+              (ap (λ (n : ℕ). drop n list) one_up) next.4;
+        };
+  }
+
+-- an entry that installs a file
+pub installs_one : (closes : List Closed) (place : Place) (i slot : ℕ) (z : ℤ) (entry : ℕ) (resident : Resident) → z ≡ pos entry
+    → IsResident closes (installed place i entry) resident → (accesses : List Access) → IsEntryDone place i slot z accesses
+    → AllZip (Fits closes) (At slot Anything (File resident) ∷ []) accesses
+installs_one closes place i slot z entry resident is same accesses done =
+    let put : IsEntryDone place i slot (pos entry) accesses = subst (λ (y : ℤ). IsEntryDone place i slot y accesses) is done in
+    subst (AllZip (Fits closes) (At slot Anything (File resident) ∷ [])) (sym put.1)
+    ((refl, tt, (refl, (installed place i entry, refl, same))), tt)
+
+-- an entry that empties its slot
+pub empties_one : (closes : List Closed) (place : Place) (i slot : ℕ) (z : ℤ) → z ≡ negsuc 0 → (accesses : List Access) → IsEntryDone place i slot z accesses
+    → AllZip (Fits closes) (At slot Anything Empty ∷ []) accesses
+empties_one closes place i slot z is accesses done =
+    let cleared : IsEntryDone place i slot (negsuc 0) accesses = subst (λ (y : ℤ). IsEntryDone place i slot y accesses) is done in
+    subst (AllZip (Fits closes) (At slot Anything Empty ∷ [])) (sym cleared.1) ((refl, tt, (refl, refl)), tt)
+
+-- an entry that leaves it
+pub skips_one : (closes : List Closed) (place : Place) (i slot n : ℕ) (z : ℤ) → z ≡ negsuc (suc n) → (accesses : List Access) → IsEntryDone place i slot z accesses
+    → AllZip (Fits closes) [] accesses
+skips_one closes place i slot n z is accesses done =
+    let skipped : IsEntryDone place i slot (negsuc (suc n)) accesses = subst (λ (y : ℤ). IsEntryDone place i slot y accesses) is done in
+    subst (AllZip (Fits closes) []) (sym skipped) tt
+
+pub all_told : (closes : List Closed) (place : Place) (off : ℕ) (list : List ℤ) (i : ℕ) (claims : List Claim) → length list ≤ i
+    → EntriesTold closes place off list i claims → (accesses : List Access) → AreEntriesDone place 0 off list accesses → AllZip (Fits closes) claims accesses
+all_told closes place off list i claims all t accesses done =
+    let parts = t.each accesses done in
+    let none : parts.others ≡ [] = subst (λ (l : List ℤ). AreEntriesDone place i (off + i) l parts.others) (drop-all list i all) parts.left in
+    subst (AllZip (Fits closes) claims) (sym (parts.whole ∙ (ap (λ (l : List Access). parts.own ++ l) none ∙ append-nil parts.own))) parts.told
+  where
+    drop-all : (l : List ℤ) (n : ℕ) → length l ≤ n → drop n l ≡ []
+    drop-all [] zero le = refl
+    drop-all [] (suc n) le = refl
+    drop-all (x ∷ l) zero le = absurd (omega arith)
+    drop-all (x ∷ l) (suc n) le = drop-all l n (omega arith)

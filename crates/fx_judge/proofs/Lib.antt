@@ -1,0 +1,16 @@
+pub mod Lists
+pub mod Writing
+pub mod Telling
+pub mod Reaching
+pub mod Hopeless
+pub mod RequestClaims
+pub mod CellSteps
+pub mod Projected
+pub mod Entries
+pub mod ChainClaims
+pub mod StrandSteps
+pub mod RingsAfter
+pub mod Came
+pub mod AllChains
+pub mod NoFiles
+pub mod Refuting

@@ -1,0 +1,87 @@
+-- Where there is no order of a table's accesses, what was told comes of none.
+use Rattle.std.proofs.Common.{◌≡◌, ℕ, ◌+◌, ◌<◌, ◌≤◌, List, [], ◌∷◌, length, refl, sym, ap, subst, ◌∙◌, All, Contains}
+use Rattle.std.specs.Global.{Vec}
+use Rattle.std.specs.List.{AllByRecursion}
+use Rattle.std.proofs.lemmas.List.Elements.{All-contains, All-contains_itself}
+use Rattle.std.proofs.lemmas.List.Sorted.{All-permutation, IsPermutation-sym}
+use Rattle.fx_base.specs.Catalogue.{FileEntry}
+use Rattle.fx_chain.specs.Completed.{Completed, all_completed}
+use Rattle.fx_chain.specs.Operation.{Asked}
+use Rattle.fx_chain.specs.Runs.{runs_of}
+use Rattle.fx_ring.specs.Ring.{RingState, IsRing}
+use Rattle.fx_order.specs.Access.{Table, Permits, PermitsAll, table_with, removed_in, accesses_of}
+use Rattle.fx_order.specs.declared.access.Access.{Access}
+use Rattle.fx_order.specs.declared.access.Access.TheVariants.{Looks, Puts, Clears, Takes, Allocates, FindsFull}
+use Rattle.fx_order.specs.declared.access.ChainAccess.{ChainAccess}
+use Rattle.fx_order.specs.Order.{IsOneOrder, table_of}
+use Rattle.fx_judge.specs.Chains.{AreDone}
+use Rattle.fx_judge.specs.Claims.{AreClaims, IsPossible}
+use Rattle.fx_judge.specs.Played.{HasNoOrder, IsOutcome}
+use Rattle.fx_judge.specs.Verdict.{IsToldOutcome, IsRefuted, told_report}
+use Rattle.fx_judge.specs.declared.claim.Claim.{Claim}
+use Rattle.fx_judge.specs.declared.part.Outcome.{Outcome}
+use Rattle.fx_judge.specs.declared.part.Outcome.TheVariants.{Order, Refuted, Unsettled}
+use Rattle.fx_judge.specs.declared.told.Told.{Told}
+use Rattle.fx_order.proofs.OneRing.{no_file_that_stays_is_closed}
+use Rattle.fx_judge.proofs.CellSteps.{same_size, same_range}
+
+possible_one : (table : Table) (size : ℕ) (range : ℕ × ℕ) (a : Access) → table.size ≡ size → table.range ≡ range → Permits table a → IsPossible size range a
+possible_one table size range (Looks s found) is are may = tt
+possible_one table size range (Puts s file removed) is are may = tt
+possible_one table size range (Clears s removed) is are may = tt
+possible_one table size range (Takes s removed) is are may = tt
+possible_one table size range (Allocates s file) is are may =
+    (subst (λ (n : ℕ). s < n) is may.0.0, subst (λ (r : ℕ × ℕ). r.0 ≤ s) are may.1.0, subst (λ (r : ℕ × ℕ). s < r.0 + r.1) are may.1.1)
+possible_one table size range FindsFull is are may = tt
+
+-- what a table permits is possible there
+possible_all : (table : Table) (size : ℕ) (range : ℕ × ℕ) (accesses : List Access) → table.size ≡ size → table.range ≡ range → PermitsAll table accesses
+    → AllByRecursion (IsPossible size range) accesses
+possible_all table size range [] is are may = tt
+possible_all table size range (a ∷ accesses) is are may =
+    (possible_one table size range a is are may.0, possible_all (table_with table a) size range accesses (same_size table a ∙ is) (same_range table a ∙ are) may.1)
+
+module _ (old : RingState) (requests : List Asked) (told : Told) where
+  done_so : (room : ℕ) (left : RingState) → (one : IsOneOrder old requests (told_report old told room) left)
+      → AreDone old.catalogue old.size old.range (old.submissions + 1) (runs_of requests) (all_completed told.completions.items) one.order
+  done_so room left one = record {
+    possible = possible_all (table_of old) old.size old.range (accesses_of one.order) refl refl one.is.permitted;
+    done = one.is.done;
+  }
+
+  pub no_claims : ((order : List ChainAccess)
+      → AreDone old.catalogue old.size old.range (old.submissions + 1) (runs_of requests) (all_completed told.completions.items) order → ⊥) → IsRefuted old requests told
+  no_claims none room left one = none one.order (done_so room left one)
+
+  pub no_order : IsRing old → (chains : List (Vec Claim)) → length chains ≡ length (runs_of requests)
+      → ((order : List ChainAccess) → AreDone old.catalogue old.size old.range (old.submissions + 1) (runs_of requests) (all_completed told.completions.items) order
+      → AreClaims told.closes.items chains order)
+      → HasNoOrder (table_of old) told.closes.items chains → IsRefuted old requests told
+  no_order ring chains many claims none room left one =
+      none one.order
+      (record {
+        permitted = one.is.permitted;
+        within = subst (λ (n : ℕ). All (λ x. (1 ≤ x.chain) × (x.chain ≤ n)) one.order) (sym many) one.is.chains;
+        removed = λ file has. All-contains (Contains told.closes.items) (removed_in (accesses_of one.order)) file
+            (All-permutation (Contains told.closes.items) told.closes.items (removed_in (accesses_of one.order))
+            (IsPermutation-sym (removed_in (accesses_of one.order)) told.closes.items one.is.closed.same_files)
+            (All-contains_itself told.closes.items)) has;
+        stay = λ slot file at. no_file_that_stays_is_closed old requests (told_report old told room) left ring one slot file
+            (ap (λ (r : RingState). r.at slot) one.after ∙ at);
+      })
+      (claims one.order (done_so room left one))
+
+  pub outcome_told : IsRing old → (chains : List (Vec Claim)) → length chains ≡ length (runs_of requests)
+      → ((order : List ChainAccess) → AreDone old.catalogue old.size old.range (old.submissions + 1) (runs_of requests) (all_completed told.completions.items) order
+      → AreClaims told.closes.items chains order)
+      → (o : Outcome) → IsOutcome (table_of old) told.closes.items chains o → IsToldOutcome old requests told o
+  outcome_told ring chains many claims (Order order) is = tt
+  outcome_told ring chains many claims (Refuted reason) is = no_order ring chains many claims is
+  outcome_told ring chains many claims (Unsettled doubt) is = tt
+
+pub moved_done : (catalogue : List FileEntry) (range : ℕ × ℕ) (submission : ℕ) (order : List ChainAccess) (s t : ℕ) (rs qs : List (List Asked))
+    (cs ds : List Completed) → s ≡ t → rs ≡ qs → cs ≡ ds → AreDone catalogue s range submission rs cs order → AreDone catalogue t range submission qs ds order
+moved_done catalogue range submission order s t rs qs cs ds size runs completions done =
+    subst (λ (l : List Completed). AreDone catalogue t range submission qs l order) completions
+    (subst (λ (l : List (List Asked)). AreDone catalogue t range submission l cs order) runs
+    (subst (λ (n : ℕ). AreDone catalogue n range submission rs cs order) size done))

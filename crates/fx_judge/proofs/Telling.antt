@@ -1,0 +1,24 @@
+-- What claims tell of accesses, from what they tell of others.
+use Rattle.std.proofs.Common.{◌≡◌, List, [], ◌∷◌, sym, subst, Result, Ok, Err}
+use Rattle.std.specs.Global.{Vec}
+use Rattle.std.specs.List.{AllZip}
+use Rattle.fx_base.specs.declared.open_file.Closed.{Closed}
+use Rattle.fx_order.specs.declared.access.Access.{Access}
+use Rattle.fx_judge.specs.Claims.{Fits, Tells}
+use Rattle.fx_judge.specs.declared.claim.Claim.{Claim}
+use Rattle.fx_judge.specs.declared.stop.Stop.{Stop}
+use Rattle.fx_judge.specs.declared.stop.Stop.TheVariants.{Refuted, Unknown, NoMemory}
+
+pub tells_so : (P Q : List Access → Type 0) (closes : List Closed) (r : Result (Vec Claim) Stop) → ((own : List Access) → P own → Q own)
+    → Tells Q closes r → Tells P closes r
+tells_so P Q closes (Ok claims) so tells = λ own done. tells own (so own done)
+tells_so P Q closes (Err (Refuted reason)) so tells = λ own done. tells own (so own done)
+tells_so P Q closes (Err Unknown) so tells = tt
+tells_so P Q closes (Err NoMemory) so tells = tt
+
+-- a single access
+abbrev pub IsOne : List Closed → Claim → List Access → Type 0
+IsOne closes claim own = (access : Access) × (own ≡ access ∷ []) × Fits closes claim access
+
+pub one_told : (closes : List Closed) (claim : Claim) (own : List Access) → IsOne closes claim own → AllZip (Fits closes) (claim ∷ []) own
+one_told closes claim own one = subst (AllZip (Fits closes) (claim ∷ [])) (sym one.1) (one.2, tt)

@@ -1,0 +1,8 @@
+use Rattle.std.proofs.Common.{◌≡◌, drop}
+use Rattle.std.specs.List.{list_all}
+use Rattle.fx_judge.specs.Machine.{is_staying}
+use Rattle.fx_judge.proofs.cell.are_staying.Given as goal
+
+-- whether all do is told by the cells that are left
+abbrev pub invariant-loop-cell : goal.invariant-loop-cell
+invariant-loop-cell l = list_all is_staying (drop l.cell-index l.cells) ≡ list_all is_staying l.cells

@@ -1,0 +1,6 @@
+use Rattle.std.proofs.Common.{arith}
+use Rattle.fx_judge.proofs.Lists.{same_lists}
+use Rattle.fx_judge.proofs.node.are_same.Goals as goal
+
+pub returns : goal.returns
+returns c = λ _. same_lists c.args.cells.now c.args.others.now (omega arith) (λ k d lt. c.loop-i.invariant k d (omega arith))

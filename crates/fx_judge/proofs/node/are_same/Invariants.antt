@@ -1,0 +1,6 @@
+use Rattle.std.proofs.Common.{◌≡◌, ℕ, ◌<◌, slice_index_or}
+use Rattle.fx_judge.specs.declared.cell.Cell.{Cell}
+use Rattle.fx_judge.proofs.node.are_same.Given as goal
+
+abbrev pub invariant-loop-i : goal.invariant-loop-i
+invariant-loop-i l = (k : ℕ) (d : Cell) → k < l.i → slice_index_or l.cells k d ≡ slice_index_or l.others k d

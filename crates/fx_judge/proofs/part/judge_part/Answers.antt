@@ -1,0 +1,13 @@
+use Rattle.std.proofs.Common.{length, subst, List}
+use Rattle.fx_order.specs.Slots.{table_of_slots}
+use Rattle.fx_judge.specs.Machine.{HasNoEnd}
+use Rattle.fx_judge.specs.Starts.{starting}
+use Rattle.fx_judge.specs.declared.strand.Strand.{Strand}
+use Rattle.fx_judge.proofs.Projected.{projected}
+use Rattle.fx_judge.proofs.part.judge_part.Goals as goal
+
+pub returns-in-NoEnd : goal.returns-in-NoEnd
+returns-in-NoEnd c = λ order played told.
+    projected (table_of_slots c.args.table.now.slots.now) c.args.table.now.closes.now (length c.args.table.now.chains.now) order c.in_ok-strands.strands.items c.args.cells.now
+    c.requires.cells (c.in_ok-strands.ensures c.args.table.now.closes.now order told) played
+    (subst (λ (l : List Strand). HasNoEnd l (starting l c.args.cells.now)) c.deref-in-NoEnd.ensures.value (c.in_ok-shows_no_end-in-NoEnd.ensures c.if-not-branch.false))

@@ -1,0 +1,9 @@
+use Rattle.std.proofs.Common.{◌≡◌, true, slice_index_or}
+use Rattle.fx_base.specs.declared.open_file.Closed.{Closed}
+use Rattle.fx_chain.specs.Completed.{completed_of}
+use Rattle.fx_order.specs.Requests.{gives}
+use Rattle.fx_judge.proofs.request.fits_of.Given as goal
+
+-- each entry that was left out gives other bytes
+abbrev pub invariant-loop-entry : goal.invariant-loop-entry
+invariant-loop-entry l = (file : Closed) → completed_of l.c ≡ gives l.catalogue l.place file l.off l.len → slice_index_or l.fits file.entry true ≡ true

@@ -1,0 +1,49 @@
+use Rattle.std.proofs.Common.{◌≡◌, ◌∙◌, ◌+◌, ◌==◌, ◌||◌, nat_lt, ℕ, Bool, true, false, length, sym, ap}
+use Rattle.std.specs.List.{list_any}
+use Rattle.fx_chain.specs.Answers.{is_bad_entry}
+use Rattle.std.proofs.lemmas.Bool.{le-ltb}
+use Rattle.fx_chain.specs.Completed.{completed_of}
+use Rattle.fx_judge.proofs.RequestClaims.{update_none, update_past, update_bad, update_here, outside}
+use Rattle.fx_judge.proofs.update.claims_of_update.Goals.{then-is_empty-via-then-is_empty, then-is_empty-via-else-is_empty+then-off-list}
+use Rattle.fx_judge.proofs.update.claims_of_update.Goals as goal
+
+-- whether it is empty decides first
+empty_first : (n size off : ℕ) → (n == 0) ≡ true → (n == 0 || nat_lt size (off + n)) ≡ true
+empty_first n size off is = ap (λ (b : Bool). b || nat_lt size (off + n)) is
+
+-- a list that isn't empty decides by its end
+end_first : (n size off : ℕ) → (n == 0) ≡ false → nat_lt size (off + n) ≡ false → (n == 0 || nat_lt size (off + n)) ≡ false
+end_first n size off is past = ap (λ (b : Bool). b || nat_lt size (off + n)) is ∙ past
+
+pub returns-then-setting-eq0 : goal.returns-then-setting-eq0
+returns-then-setting-eq0 c =
+    update_none (length c.args.setting.now.catalogue.now) c.args.setting.now.size c.args.place c.args.update.0 c.args.update.1.now c.args.setting.now.closes.now
+    (completed_of c.args.c.now) c.refused.result c.if-setting-eq0.true (c.refused.ensures c.args.setting.now.closes.now)
+
+pub returns-then-is_empty : goal.returns-then-is_empty
+returns-then-is_empty c =
+    update_past (length c.args.setting.now.catalogue.now) c.args.setting.now.size c.args.place c.args.update.0 c.args.update.1.now c.args.setting.now.closes.now
+    (completed_of c.args.c.now) c.refused-then-is_empty.result c.if-setting-eq0.false
+    (elim c.then-is_empty.branch [
+      | then-is_empty-via-then-is_empty w ↦ empty_first (length c.args.update.1.now) c.args.setting.now.size c.args.update.0 (sym c.is_empty.ensures ∙ w.if-is_empty.true)
+      | then-is_empty-via-else-is_empty+then-off-list w ↦
+          outside (length c.args.setting.now.catalogue.now) c.args.setting.now.size c.args.place c.args.update.0 c.args.update.1.now c.args.setting.now.closes.now
+          (completed_of c.args.c.now) c.refused-then-is_empty.result w.if-off-list.true
+    ])
+    (c.refused-then-is_empty.ensures c.args.setting.now.closes.now)
+
+pub returns-then-has_bad_entry : goal.returns-then-has_bad_entry
+returns-then-has_bad_entry c =
+    update_bad (length c.args.setting.now.catalogue.now) c.args.setting.now.size c.args.place c.args.update.0 c.args.update.1.now c.args.setting.now.closes.now
+    (completed_of c.args.c.now) c.refused-then-has_bad_entry.result c.if-setting-eq0.false
+    (end_first (length c.args.update.1.now) c.args.setting.now.size c.args.update.0 (sym c.is_empty.ensures ∙ c.if-is_empty.false) (le-ltb c.args.setting.now.size (c.args.update.0 + length c.args.update.1.now) c.if-off-list.false))
+    (sym (ap (λ (n : ℕ). list_any (is_bad_entry n) c.args.update.1.now) c.len-entries.ensures.value) ∙ (sym c.has_bad_entry.ensures ∙ c.if-has_bad_entry.true))
+    (c.refused-then-has_bad_entry.ensures c.args.setting.now.closes.now)
+
+pub returns : goal.returns
+returns c =
+    update_here (length c.args.setting.now.catalogue.now) c.args.setting.now.size c.args.place c.args.update.0 c.args.update.1.now c.args.setting.now.closes.now
+    (completed_of c.args.c.now) c.claims_of_entries.result c.if-setting-eq0.false
+    (end_first (length c.args.update.1.now) c.args.setting.now.size c.args.update.0 (sym c.is_empty.ensures ∙ c.if-is_empty.false) (le-ltb c.args.setting.now.size (c.args.update.0 + length c.args.update.1.now) c.if-off-list.false))
+    (sym (ap (λ (n : ℕ). list_any (is_bad_entry n) c.args.update.1.now) c.len-entries.ensures.value) ∙ (sym c.has_bad_entry.ensures ∙ c.if-has_bad_entry.false))
+    c.claims_of_entries.ensures

@@ -1,0 +1,77 @@
+//! Which slots chains have in common. Nothing is promised of it: each part is judged by itself, whatever its slots.
+
+use crate::claim::Claim;
+use fx_base::NoMemory;
+use std::alloc::Global;
+
+// Joins the parts of two slots.
+fn join(labels: &mut [usize], one: usize, other: usize) {
+    let (Some(from), Some(to)) = (labels.get(one).copied(), labels.get(other).copied()) else {
+        return;
+    };
+    if from == to {
+        return;
+    }
+    for i in 0..labels.len() {
+        if labels[i] == from {
+            labels[i] = to;
+        }
+    }
+}
+
+// Joins the slots of the allocation range.
+fn join_range(labels: &mut [usize], range: (u32, u32)) {
+    let first = range.0 as usize;
+    for slot in first..labels.len() {
+        if slot - first < range.1 as usize {
+            join(labels, slot, first);
+        }
+    }
+}
+
+// Joins the slots of a chain.
+fn join_chain(labels: &mut [usize], range: (u32, u32), claims: &[Claim]) {
+    let mut last: Option<usize> = None;
+    for claim in claims {
+        let slot = match claim {
+            Claim::At(slot, _, _) => *slot as usize,
+            Claim::Full => {
+                join_range(labels, range);
+                range.0 as usize
+            }
+        };
+        if let Some(other) = last {
+            join(labels, slot, other);
+        }
+        last = Some(slot);
+    }
+}
+
+/// The slots, parted so that no chain has claims in two parts.
+pub(crate) fn components(
+    alloc: Global,
+    size: usize,
+    range: (u32, u32),
+    chains: &[Vec<Claim>],
+) -> Result<Vec<Vec<usize>>, NoMemory> {
+    let mut labels = Vec::new(alloc);
+    for slot in 0..size {
+        labels.push(slot)?;
+    }
+    for claims in chains {
+        join_chain(&mut labels, range, claims);
+    }
+    let mut parts = Vec::new(alloc);
+    for label in 0..size {
+        let mut part: Vec<usize> = Vec::new(alloc);
+        for slot in 0..labels.len() {
+            if labels[slot] == label {
+                part.push(slot)?;
+            }
+        }
+        if !part.is_empty() {
+            parts.push(part)?;
+        }
+    }
+    Ok(parts)
+}

@@ -1,0 +1,184 @@
+//! The verdict on a submission.
+ghost use Rattle.std.specs.Prelude.{◌≡◌, ℕ, ◌+◌, ◌<◌, ◌≤◌, ◌^◌, All, IfOk, IsTrue, OnErr, length, false};
+ghost use Rattle.fx_base.specs.CloseList.{IsInOrderOfMark};
+ghost use Rattle.fx_plain.specs.declared.table.TheConstants.{MOST_SLOTS};
+ghost use Rattle.fx_chain.specs.Accepted.{IsAccepted};
+ghost use Rattle.fx_chain.specs.Operation.{all_asked};
+ghost use Rattle.fx_ring.specs.Ring.{IsRing};
+ghost use Rattle.fx_order.specs.Slots.{table_of_slots};
+ghost use Rattle.fx_judge.specs.Verdict.{CameBy, IsToldOutcome, IsVerdict, ring_with_slots};
+
+use crate::chain::{Parts, claims_of_chains};
+use crate::part::{Outcome, TableTold, judge_table};
+use crate::request::Setting;
+use crate::stop::Stop;
+use crate::told::{RingSlots, Told};
+use crate::verdict::{Doubt, Reason, Verdict};
+use fx_base::{Catalogue, Closed, NoMemory};
+use fx_chain::{Request, cut};
+use fx_order::{ChainAccess, Slots, are_chains_done, are_closed, make_all};
+use fx_table::MAX_CHAINS;
+use std::alloc::Global;
+
+// Whether each access is of one of so many chains.
+fn are_within(order: &[ChainAccess], chains: usize) -> bool
+    ensures { IsTrue result
+        → All (λ x. (1 ≤ x.chain) × (x.chain ≤ chains)) order.now }
+{
+    for x in order {
+        if x.chain == 0 || x.chain as usize > chains {
+            return false;
+        }
+    }
+    true
+}
+
+// The same slots once more.
+fn copy_slots(alloc: Global, slots: &Slots) -> Result<Slots, NoMemory>
+    ensures { IfOk result (λ copy. table_of_slots copy ≡ table_of_slots slots.now) }
+{
+    Ok(Slots {
+        range: slots.range,
+        at: Vec::from_slice(alloc, &slots.at)?,
+    })
+}
+
+// Makes an order, if what was told came of it; the ring is then the one behind the submission.
+fn confirm(
+    alloc: Global,
+    catalogue: &Catalogue,
+    ring: &mut RingSlots,
+    requests: &[Request],
+    told: &Told,
+    order: &[ChainAccess],
+) -> Result<bool, NoMemory>
+    requires accepted { IsAccepted (all_asked requests.now) }
+    requires ring { IsRing (ring_with_slots catalogue.now ring.old) }
+    requires few_slots { length ring.old.slots.at.items ≤ MOST_SLOTS }
+    requires few { ring.old.submissions + 1 < 2 ^ 32 }
+    ensures came { IfOk result (λ yes. IsTrue yes → CameBy
+        (ring_with_slots catalogue.now ring.old) (all_asked requests.now) told.now order.now
+        (ring_with_slots catalogue.now ring.new)) }
+    ensures ring { IsRing (ring_with_slots catalogue.now ring.new) }
+    ensures stays { IfOk result (λ yes. yes ≡ false → ring_with_slots catalogue.now ring.new
+        ≡ ring_with_slots catalogue.now ring.old) }
+    ensures no_memory { OnErr result
+        (ring_with_slots catalogue.now ring.new ≡ ring_with_slots catalogue.now ring.old) }
+{
+    let chains = cut(alloc, requests)?;
+    if !are_within(order, chains.len()) {
+        return Ok(false);
+    }
+    let size = ring.slots.at.len() as u32;
+    let submission = ring.submissions + 1;
+    if !are_chains_done(
+        alloc,
+        catalogue,
+        size,
+        submission,
+        1,
+        requests,
+        &chains,
+        order,
+        &told.completions,
+    )? {
+        return Ok(false);
+    }
+    if !are_closed(alloc, order, &told.closes)? {
+        return Ok(false);
+    }
+    let mut slots = copy_slots(alloc, &ring.slots)?;
+    if !make_all(&mut slots, order) {
+        return Ok(false);
+    }
+    ring.slots = slots;
+    ring.submissions = submission;
+    Ok(true)
+}
+
+// What was told, as a search has it: no order of the accesses that the completions tell of is known to be missing, or one
+// is known to be that has to be made.
+fn judge_told(
+    alloc: Global,
+    catalogue: &Catalogue,
+    ring: &RingSlots,
+    requests: &[Request],
+    told: &Told,
+    states: usize,
+) -> Result<Outcome, NoMemory>
+    requires accepted { IsAccepted (all_asked requests.now) }
+    requires ring { IsRing (ring_with_slots catalogue.now ring.now) }
+    requires few_slots { length ring.now.slots.at.items ≤ MOST_SLOTS }
+    requires few { ring.now.submissions + 1 < 2 ^ 32 }
+    ensures { IfOk result (IsToldOutcome (ring_with_slots catalogue.now ring.now)
+        (all_asked requests.now) told.now) }
+{
+    let chains = cut(alloc, requests)?;
+    let setting = Setting {
+        catalogue,
+        size: ring.slots.at.len() as u32,
+        range: ring.slots.range,
+        closes: &told.closes,
+    };
+    let parts = Parts {
+        submission: ring.submissions + 1,
+        requests,
+        chains: &chains,
+        completions: &told.completions,
+    };
+    let claims = match claims_of_chains(alloc, &setting, &parts) {
+        Ok(claims) => claims,
+        Err(Stop::Refuted(reason)) => return Ok(Outcome::Refuted(reason)),
+        Err(Stop::Unknown) => return Ok(Outcome::Unsettled(Doubt::NotShown)),
+        Err(Stop::NoMemory) => return Err(NoMemory),
+    };
+    if claims.len() > MAX_CHAINS as usize {
+        return Ok(Outcome::Unsettled(Doubt::NotShown));
+    }
+    let table = TableTold {
+        slots: &ring.slots,
+        closes: &told.closes,
+        chains: &claims,
+    };
+    judge_table(alloc, &table, states)
+}
+
+/// Whether what was told of a submission's requests comes of an order of them, done one at a time, at a ring with this
+/// catalogue. Where it does, the ring is afterwards the one behind the submission, and else it stays. At most so many states
+/// of the table are looked at for each part of the submission that has slots of its own; where they don't suffice, the
+/// verdict is `Undecided` by `TooManyStates`. The caller has seen that no request has a fault ([`fx_chain::check`]).
+///
+/// # Errors
+/// `NoMemory` where there is no memory for lists as long as the submission and for as many states as are looked at. The ring
+/// stays.
+pub fn judge_submission(
+    alloc: Global,
+    catalogue: &Catalogue,
+    ring: &mut RingSlots,
+    requests: &[Request],
+    told: &Told,
+    states: usize,
+) -> Result<Verdict, NoMemory>
+    requires accepted { IsAccepted (all_asked requests.now) }
+    requires ring { IsRing (ring_with_slots catalogue.now ring.old) }
+    requires few_slots { length ring.old.slots.at.items ≤ MOST_SLOTS }
+    requires few { ring.old.submissions + 1 < 2 ^ 32 }
+    ensures verdict { IfOk result (λ verdict.
+        IsVerdict (ring_with_slots catalogue.now ring.old) (all_asked requests.now) told.now verdict
+        (ring_with_slots catalogue.now ring.new)) }
+    ensures ring { IsRing (ring_with_slots catalogue.now ring.new) }
+    ensures no_memory { OnErr result
+        (ring_with_slots catalogue.now ring.new ≡ ring_with_slots catalogue.now ring.old) }
+{
+    let outcome = judge_told(alloc, catalogue, ring, requests, told, states)?;
+    match outcome {
+        Outcome::Order(order) => {
+            if confirm(alloc, catalogue, ring, requests, told, &order)? {
+                return Ok(Verdict::Legal(order));
+            }
+            Ok(Verdict::Undecided(Doubt::NotShown))
+        }
+        Outcome::Refuted(reason) => Ok(Verdict::NotLegal(reason)),
+        Outcome::Unsettled(doubt) => Ok(Verdict::Undecided(doubt)),
+    }
+}

@@ -1,0 +1,28 @@
+//! Whether what was told of a submission, as by a kernel, comes of an order of its requests: a judge that is right in both
+//! directions.
+#![tactic(auto)]
+
+mod cell;
+mod certificate;
+mod chain;
+mod claim;
+mod component;
+mod dead;
+mod full;
+mod judge;
+mod node;
+mod part;
+mod request;
+mod search;
+mod stop;
+mod strand;
+mod told;
+mod update;
+mod verdict;
+
+pub use judge::judge_submission;
+pub use told::{RingSlots, Told};
+pub use verdict::{Doubt, Reason, Verdict};
+
+#[cfg(test)]
+mod tests;

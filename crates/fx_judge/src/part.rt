@@ -1,0 +1,213 @@
+//! What was told of the slots of a table, judged slot by slot and by slots that chains have in common.
+ghost use Rattle.std.specs.Prelude.{◌≡◌, ◌<◌, ◌+◌, ◌^◌, All, IfOk, length, ℕ};
+ghost use Rattle.fx_order.specs.Slots.{table_of_slots};
+ghost use Rattle.fx_judge.specs.Played.{IsCell, IsOutcome};
+
+use crate::cell::{Cell, apply, cell_at};
+use crate::certificate::shows_no_end;
+use crate::claim::{Claim, Leaves, Wants, resident_for};
+use crate::component::components;
+use crate::full::{is_range_empty, with_full};
+use crate::node::claim_of;
+use crate::search::{Found, explore};
+use crate::strand::{Strand, strands_of};
+use crate::verdict::{Doubt, Reason};
+use fx_base::{Closed, NoMemory};
+use fx_order::{Access, ChainAccess, Slots};
+use std::alloc::Global;
+
+/// What came of a search.
+#[derive(Debug, Drop)]
+pub enum Outcome {
+    /// An order, which is still to be made.
+    Order(Vec<ChainAccess>),
+    /// There is no order.
+    Refuted(Reason),
+    /// It wasn't seen.
+    Unsettled(Doubt),
+}
+
+/// What was told of a table: the files that were closed, and the claims of each chain.
+#[derive(Clone, Copy)]
+pub(crate) struct TableTold<'a> {
+    pub slots: &'a Slots,
+    pub closes: &'a [Closed],
+    pub chains: &'a [Vec<Claim>],
+}
+
+// A slot as it is before the submission.
+fn cell_of(table: &TableTold<'_>, slot: usize) -> Cell
+    requires inside { slot < length table.now.slots.now.at.items }
+    requires small { length table.now.slots.now.at.items < 2 ^ 32 }
+    ensures { IsCell (table_of_slots table.now.slots.now) table.now.closes.now result }
+{
+    let (first, len) = table.slots.range;
+    let inside = first as usize <= slot && slot < first as usize + len as usize;
+    Cell {
+        slot: slot as u32,
+        in_range: inside,
+        file: table.slots.at[slot].map(|file| resident_for(table.closes, file)),
+    }
+}
+
+// The access that a claim tells of, where this was at the slot.
+fn access_of(claim: &Claim, found: Option<Closed>) -> Access {
+    match claim {
+        Claim::Full => Access::FindsFull,
+        Claim::At(slot, wants, leaves) => match (wants, leaves) {
+            (Wants::NothingToTake, _) => Access::Takes(*slot, None),
+            (_, Leaves::Same) => Access::Looks(*slot, found),
+            (Wants::Something, Leaves::Empty) => Access::Takes(*slot, found),
+            (_, Leaves::Empty) => Access::Clears(*slot, found),
+            (Wants::Nothing, Leaves::File(resident)) => Access::Allocates(*slot, resident.file),
+            (_, Leaves::File(resident)) => Access::Puts(*slot, resident.file, found),
+        },
+    }
+}
+
+// The accesses of an order of claims.
+fn accesses_along(
+    alloc: Global,
+    strands: &[Strand],
+    cells: &[Cell],
+    order: &[usize],
+) -> Result<Vec<ChainAccess>, NoMemory> {
+    let mut cells = Vec::from_slice(alloc, cells)?;
+    let mut places = Vec::new(alloc);
+    for _ in strands {
+        places.push(0usize)?;
+    }
+    let mut accesses = Vec::new(alloc);
+    for at in order {
+        let (Some(claim), Some(strand)) = (claim_of(strands, &places, *at), strands.get(*at)) else {
+            break;
+        };
+        let found = match claim {
+            Claim::At(slot, _, _) => cell_at(&cells, *slot).map(|resident| resident.file),
+            Claim::Full => None,
+        };
+        let access = access_of(claim, found);
+        accesses.push(ChainAccess {
+            chain: strand.chain,
+            access,
+        })?;
+        apply(&mut cells, claim);
+        if *at < places.len() {
+            places[*at] = places[*at].saturating_add(1);
+        }
+    }
+    Ok(accesses)
+}
+
+// Whether what was told of these slots comes of an order of the accesses there.
+fn judge_part(
+    alloc: Global,
+    table: &TableTold<'_>,
+    cells: &[Cell],
+    states: usize,
+    reason: Reason,
+) -> Result<Outcome, NoMemory>
+    requires cells { All (IsCell (table_of_slots table.now.slots.now) table.now.closes.now)
+        cells.now }
+    requires few { length table.now.chains.now + 1 < 2 ^ 32 }
+    ensures { IfOk result (IsOutcome (table_of_slots table.now.slots.now) table.now.closes.now
+        table.now.chains.now) }
+{
+    let strands = strands_of(alloc, cells, table.chains)?;
+    let (web, found) = explore(alloc, &strands, cells, states)?;
+    match found {
+        Found::Order(order) => {
+            let accesses = accesses_along(alloc, &strands, cells, &order)?;
+            Ok(Outcome::Order(accesses))
+        }
+        Found::NoEnd => {
+            if !shows_no_end(alloc, &strands, cells, &web)? {
+                return Ok(Outcome::Unsettled(Doubt::NotShown));
+            }
+            Ok(Outcome::Refuted(reason))
+        }
+        Found::TooMany => Ok(Outcome::Unsettled(Doubt::TooManyStates)),
+    }
+}
+
+// The first slot where what was told of it alone comes of no order.
+fn judge_slots(alloc: Global, table: &TableTold<'_>, states: usize) -> Result<Outcome, NoMemory>
+    requires small { length table.now.slots.now.at.items < 2 ^ 32 }
+    requires few { length table.now.chains.now + 1 < 2 ^ 32 }
+    ensures { IfOk result (IsOutcome (table_of_slots table.now.slots.now) table.now.closes.now
+        table.now.chains.now) }
+{
+    for slot in 0..table.slots.at.len() {
+        let cells = [cell_of(table, slot)];
+        let outcome = judge_part(alloc, table, &cells, states, Reason::Slot(slot as u32))?;
+        if let Outcome::Refuted(reason) = outcome {
+            return Ok(Outcome::Refuted(reason));
+        }
+    }
+    Ok(Outcome::Unsettled(Doubt::NotShown))
+}
+
+// The slots of a part as they are before the submission.
+fn cells_of(alloc: Global, table: &TableTold<'_>, slots: &[usize]) -> Result<Vec<Cell>, NoMemory>
+    requires small { length table.now.slots.now.at.items < 2 ^ 32 }
+    ensures { IfOk result (λ cells. All (IsCell (table_of_slots table.now.slots.now)
+        table.now.closes.now) cells.items) }
+{
+    let mut cells = Vec::new(alloc);
+    for slot in slots {
+        if *slot < table.slots.at.len() {
+            cells.push(cell_of(table, *slot))?;
+        }
+    }
+    Ok(cells)
+}
+
+// What was told, judged by parts of the table that no chain joins.
+fn judge_components(
+    alloc: Global,
+    table: &TableTold<'_>,
+    states: usize,
+) -> Result<Outcome, NoMemory>
+    requires small { length table.now.slots.now.at.items < 2 ^ 32 }
+    requires few { length table.now.chains.now + 1 < 2 ^ 32 }
+    ensures { IfOk result (IsOutcome (table_of_slots table.now.slots.now) table.now.closes.now
+        table.now.chains.now) }
+{
+    let mut order = Vec::new(alloc);
+    let mut doubt: Option<Doubt> = None;
+    let parts = components(alloc, table.slots.at.len(), table.slots.range, table.chains)?;
+    for slots in &parts {
+        let cells = cells_of(alloc, table, slots)?;
+        let outcome = judge_part(alloc, table, &cells, states, Reason::Chains)?;
+        match outcome {
+            Outcome::Order(mut own) => order.append(&mut own)?,
+            Outcome::Refuted(reason) => return Ok(Outcome::Refuted(reason)),
+            Outcome::Unsettled(other) => doubt = Some(other),
+        }
+    }
+    if let Some(doubt) = doubt {
+        return Ok(Outcome::Unsettled(doubt));
+    }
+    if is_range_empty(table.slots) {
+        order = with_full(alloc, table.chains, &order)?;
+    }
+    Ok(Outcome::Order(order))
+}
+
+/// Whether what was told of a table comes of an order.
+pub(crate) fn judge_table(
+    alloc: Global,
+    table: &TableTold<'_>,
+    states: usize,
+) -> Result<Outcome, NoMemory>
+    requires small { length table.now.slots.now.at.items < 2 ^ 32 }
+    requires few { length table.now.chains.now + 1 < 2 ^ 32 }
+    ensures { IfOk result (IsOutcome (table_of_slots table.now.slots.now) table.now.closes.now
+        table.now.chains.now) }
+{
+    let outcome = judge_slots(alloc, table, states)?;
+    match outcome {
+        Outcome::Refuted(reason) => Ok(Outcome::Refuted(reason)),
+        _ => judge_components(alloc, table, states),
+    }
+}
