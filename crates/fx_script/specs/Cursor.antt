@@ -12,7 +12,8 @@ TakesWord old (Err fault) new = (old ≡ []) × (fault ≡ WordCount)
 -- there was no word, or there was one
 abbrev pub IsEnd : {A : Type 0} → List (List ℕ) → Result A ScriptFault → Type 0
 IsEnd old (Ok _) = old ≡ []
-IsEnd old (Err fault) = (word : List ℕ) × (others : List (List ℕ)) × (old ≡ word ∷ others) × (fault ≡ WordCount)
+IsEnd old (Err fault) =
+    (word : List ℕ) × (others : List (List ℕ)) × (old ≡ word ∷ others) × (fault ≡ WordCount)
 
 -- the answer is the one that is expected, where `view` shows what the code gave
 abbrev pub Gives : {A B : Type 0} → (A → B) → Result A ScriptFault → Result B ScriptFault → Type 0

@@ -19,10 +19,12 @@ pub data Instruction : Type 0 where
 
 abbrev pub instruction_of : Command → Instruction
 instruction_of (Sparse n) = MakesSparse n
-instruction_of (Register list tags) = RegistersList list.items (option_map (λ given. given.items) tags)
+instruction_of (Register list tags) =
+    RegistersList list.items (option_map (λ given. given.items) tags)
 instruction_of Unregister = Unregisters
 instruction_of (Range off len) = SetsRange off len
-instruction_of (Update off list tags) = UpdatesRing off list.items (option_map (λ given. given.items) tags)
+instruction_of (Update off list tags) =
+    UpdatesRing off list.items (option_map (λ given. given.items) tags)
 instruction_of (Submit requests) = SubmitsAll (all_asked requests.items)
 
 abbrev pub instructions_of : List Command → List Instruction

@@ -1,4 +1,5 @@
--- What a line of a script says that isn't skipped, or its fault, the first that applies (this project's own).
+-- What a line of a script says that isn't skipped, or its fault, the first that applies (this
+-- project's own).
 use Rattle.std.specs.Prelude.{ℕ, ℤ, Bool, true, false, List, [], ◌∷◌, codes, Option, Some, None, option_map, Result, Ok, Err, ok_or, if◌then◌else◌}
 use Rattle.std.specs.Str.{bytes_eq}
 use Rattle.fx_base.specs.Name.{is_name}
@@ -20,7 +21,8 @@ pub data Line : Type 0 where
 
 -- the second step, where the first has no fault
 infixl 10 ◌>>=◌
-abbrev pub ◌>>=◌ : {A B : Type 0} → Result A ScriptFault → (A → Result B ScriptFault) → Result B ScriptFault
+abbrev pub ◌>>=◌ : {A B : Type 0} → Result A ScriptFault → (A → Result B ScriptFault)
+    → Result B ScriptFault
 Ok x >>= f = f x
 Err fault >>= f = Err fault
 
@@ -60,9 +62,11 @@ flags_of link (Closes slot) = link
 flags_of link (Updates off list) = link
 
 abbrev pub request_line : SqeFlags → Operation → Line
-request_line link operation = RequestLine (record { operation = operation; flags = flags_of link operation })
+request_line link operation =
+    RequestLine (record { operation = operation; flags = flags_of link operation })
 
--- The words behind the command, by the command. First their number is tried, and then each of them, from the left.
+-- The words behind the command, by the command. First their number is tried, and then each of them,
+-- from the left.
 
 abbrev pub file_of : Bool → List (List ℕ) → Result Line ScriptFault
 file_of true words = Err LateFile
@@ -165,7 +169,8 @@ request_of command words =
     else if bytes_eq command (codes "update") then update_of words
     else Err UnknownCommand
 
--- what the words of a line say, by the first of them; whether it stands behind a line that isn't a `file` line
+-- what the words of a line say, by the first of them; whether it stands behind a line that isn't a
+-- `file` line
 abbrev pub line_of : Bool → List (List ℕ) → Result Line ScriptFault
 line_of late [] = Err UnknownCommand
 line_of late (command ∷ words) =

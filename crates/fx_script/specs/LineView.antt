@@ -24,9 +24,11 @@ operation_in (action.Update off l) = Updates off (entries_in l)
 abbrev pub line_in : Line → line.Line
 line_in (File name hex) = FileLine name.now hex.now
 line_in (Sparse n) = CommandLine (MakesSparse n)
-line_in (Register l tags) = CommandLine (RegistersList (entries_in l) (option_map (λ given. given.items) tags))
+line_in (Register l tags) =
+    CommandLine (RegistersList (entries_in l) (option_map (λ given. given.items) tags))
 line_in Unregister = CommandLine Unregisters
 line_in (Range off len) = CommandLine (SetsRange off len)
-line_in (Update off l tags) = CommandLine (UpdatesRing off (entries_in l) (option_map (λ given. given.items) tags))
+line_in (Update off l tags) =
+    CommandLine (UpdatesRing off (entries_in l) (option_map (λ given. given.items) tags))
 line_in (Request act flags) = RequestLine (record { operation = operation_in act; flags = flags })
 line_in Submit = SubmitLine

@@ -1,4 +1,5 @@
--- What a script may print: the answers of a ring to its commands, one after another (this project's own).
+-- What a script may print: the answers of a ring to its commands, one after another (this project's
+-- own).
 use Rattle.std.specs.Prelude.{◌≡◌, ◌⊎◌, ℕ, pos, nat_le, List, [], ◌∷◌, ◌++◌, codes, length, Option, Some, None}
 use Rattle.std.specs.Bool.{MatchBool}
 use Rattle.std.specs.Option.{MatchOption}
@@ -19,7 +20,8 @@ use Rattle.fx_script.specs.Instruction.{Instruction, MakesSparse, RegistersList,
 use Rattle.fx_script.specs.Script.{Meaning}
 use Rattle.fx_script.specs.Text.{result_line, closes_text, refused_line, report_text, teardown_text, too_many_line}
 
--- what a call answers that takes memory: its refusal, if there is one, and else that it was accepted or found no memory
+-- what a call answers that takes memory: its refusal, if there is one, and else that it was
+-- accepted or found no memory
 abbrev pub Answers : Option Errno → Type 0 → (Errno → Type 0) → Type 0
 Answers (Some errno) accepted refused = refused errno
 Answers None accepted refused = accepted ⊎ refused ENOMEM
@@ -31,18 +33,22 @@ IsRefused old new word text errno = (new ≡ old) × (text ≡ result_line word 
 -- an accepted call that closed these files: its line, and those of the files, in order of mark
 abbrev pub PrintsClosed : RingState → List Closed → List ℕ → List ℕ → Type 0
 PrintsClosed ring files line text =
-    (closes : CloseListView) × HasClosed files closes × (text ≡ line ++ closes_text ring.catalogue closes.files)
+    (closes : CloseListView) × HasClosed files closes
+    × (text ≡ line ++ closes_text ring.catalogue closes.files)
 
--- an accepted submission: its completions come from one legal history, and so do the files that it closed
+-- an accepted submission: its completions come from one legal history, and so do the files that it
+-- closed
 abbrev pub PrintsReport : RingContents → List Asked → RingContents → List ℕ → Type 0
 PrintsReport old asked new text =
-    (report : Reported) × IsOneHistory old asked report new × (text ≡ report_text old.catalogue report)
+    (report : Reported) × IsOneHistory old asked report new
+    × (text ≡ report_text old.catalogue report)
 
 -- a command leads from one ring to another, and prints this. The first case that applies
 abbrev pub Prints : RingContents → Instruction → RingContents → List ℕ → Type 0
 Prints old (MakesSparse n) new text =
     Answers (sparse_refusal (ring_of old) n)
-    ((ring_of new ≡ registered_sparse (ring_of old) n) × (text ≡ result_line (codes "sparse") (pos 0)))
+    ((ring_of new ≡ registered_sparse (ring_of old) n)
+    × (text ≡ result_line (codes "sparse") (pos 0)))
     (IsRefused (ring_of old) (ring_of new) (codes "sparse") text)
 Prints old (RegistersList list tags) new text =
     Answers (register_refusal (ring_of old) list (tags_given list tags))
@@ -52,16 +58,19 @@ Prints old (RegistersList list tags) new text =
 Prints old Unregisters new text =
     Answers (unregister_refusal (ring_of old))
     ((ring_of new ≡ without_table (ring_of old))
-    × PrintsClosed (ring_of old) (files_of (ring_of old)) (result_line (codes "unregister") (pos 0)) text)
+    × PrintsClosed (ring_of old) (files_of (ring_of old))
+    (result_line (codes "unregister") (pos 0)) text)
     (IsRefused (ring_of old) (ring_of new) (codes "unregister") text)
 Prints old (SetsRange off len) new text =
     MatchOption (range_refusal (ring_of old) off len)
-    ((ring_of new ≡ record (ring_of old) { range = (off, len) }) × (text ≡ result_line (codes "range") (pos 0)))
+    ((ring_of new ≡ record (ring_of old) { range = (off, len) })
+    × (text ≡ result_line (codes "range") (pos 0)))
     (IsRefused (ring_of old) (ring_of new) (codes "range") text)
 Prints old (UpdatesRing off list tags) new text =
     Answers (update_refusal (ring_of old) off list (tags_given list tags))
     ((ring_of new ≡ updated (ring_of old) off list (tags_given list tags))
-    × PrintsClosed (ring_of old) (removed_from (ring_of old).at off list) (result_line (codes "regupdate") (pos (length list))) text)
+    × PrintsClosed (ring_of old) (removed_from (ring_of old).at off list)
+    (result_line (codes "regupdate") (pos (length list))) text)
     (IsRefused (ring_of old) (ring_of new) (codes "regupdate") text)
 Prints old (SubmitsAll asked) new text =
     MatchOption (fault_of asked)
@@ -72,7 +81,9 @@ Prints old (SubmitsAll asked) new text =
 
 -- at the end of the script: the lines of the files that are left, in order of mark
 abbrev pub PrintsEnd : RingState → List ℕ → Type 0
-PrintsEnd ring text = (closes : CloseListView) × HasClosed (files_of ring) closes × (text ≡ teardown_text ring.catalogue closes.files)
+PrintsEnd ring text =
+    (closes : CloseListView) × HasClosed (files_of ring) closes
+    × (text ≡ teardown_text ring.catalogue closes.files)
 
 -- the commands may print this, one after another, and the end of the script behind them
 abbrev pub PrintsAll : RingContents → List Instruction → List ℕ → Type 0
@@ -94,8 +105,10 @@ IsStart meaning ring = ring_of ring ≡ new_ring meaning.catalogue
 
 -- the script may print this
 abbrev pub IsText : Meaning → List ℕ → Type 0
-IsText meaning text = (ring : RingContents) × IsStart meaning ring × PrintsAll ring meaning.commands text
+IsText meaning text =
+    (ring : RingContents) × IsStart meaning ring × PrintsAll ring meaning.commands text
 
 -- the first commands of the script may print this
 abbrev pub IsTextOfFirst : Meaning → List ℕ → Type 0
-IsTextOfFirst meaning text = (ring : RingContents) × IsStart meaning ring × PrintsFirst ring meaning.commands text
+IsTextOfFirst meaning text =
+    (ring : RingContents) × IsStart meaning ring × PrintsFirst ring meaning.commands text

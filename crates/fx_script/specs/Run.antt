@@ -10,8 +10,8 @@ use Rattle.fx_script.specs.declared.play_fault.PlayFault.TheVariants.{Read, Scri
 abbrev pub Writes : (List ℕ → Type 0) → Option (List ℕ) → Option (List ℕ) → Type 0
 Writes IsOne before written = (text : List ℕ) × IsOne text × Appends before written text
 
--- why a play did not come to its end: a write failed, and then how much of the last text went out isn't known; or there
--- was no memory, and then this is known of what was written
+-- why a play did not come to its end: a write failed, and then how much of the last text went out
+-- isn't known; or there was no memory, and then this is known of what was written
 abbrev pub IsPlayFault : PlayFault → Type 0 → Type 0
 IsPlayFault Read known = ⊥
 IsPlayFault (Script line kind) known = ⊥
@@ -29,13 +29,16 @@ IsInputFault input (Script line kind) = IfSome input (λ bytes. HasFault bytes l
 IsInputFault input Write = ⊥
 IsInputFault input NoMemory = Unit {0}
 
--- a run that came to its end: the input is a script, and what was written is a text that it may print
+-- a run that came to its end: the input is a script, and what was written is a text that it may
+-- print
 abbrev pub IsRun : Option (List ℕ) → Option (List ℕ) → Option (List ℕ) → Type 0
-IsRun input before written = (meaning : Meaning) × IsInput input meaning × Writes (IsText meaning) before written
+IsRun input before written =
+    (meaning : Meaning) × IsInput input meaning × Writes (IsText meaning) before written
 
--- why a run did not come to its end: its input was not read as a script, and then nothing was written, or else its play did
--- not come to its end
+-- why a run did not come to its end: its input was not read as a script, and then nothing was
+-- written, or else its play did not come to its end
 abbrev pub IsRunFault : PlayFault → Option (List ℕ) → Option (List ℕ) → Option (List ℕ) → Type 0
 IsRunFault fault input before written =
     (IsInputFault input fault × (written ≡ before))
-    ⊎ ((meaning : Meaning) × IsInput input meaning × IsPlayFault fault (Writes (IsTextOfFirst meaning) before written))
+    ⊎ ((meaning : Meaning) × IsInput input meaning
+    × IsPlayFault fault (Writes (IsTextOfFirst meaning) before written))

@@ -1,4 +1,5 @@
--- The scripts: which bytes are one and what it says, and which fault stands on which line (this project's own).
+-- The scripts: which bytes are one and what it says, and which fault stands on which line (this
+-- project's own).
 use Rattle.std.specs.Prelude.{◌≡◌, ℕ, ◌+◌, ◌==◌, nat_lt, Bool, ◌&&◌, not, List, [], ◌∷◌, ◌++◌, length}
 use Rattle.std.specs.Prelude.{Option, Some, None, option_and_then, Result, Ok, Err, ok_or, if◌then◌else◌}
 use Rattle.fx_base.specs.Catalogue.{FileEntry}
@@ -25,7 +26,8 @@ pub record LineFault : Type 0 where
   pub line : ℕ
   pub kind : ScriptFault
 
--- what the lines so far say; the requests that wait for their submission, and the line of the first of them
+-- what the lines so far say; the requests that wait for their submission, and the line of the first
+-- of them
 pub record Progress : Type 0 where
   pub catalogue : List FileEntry
   pub commands : List Instruction
@@ -39,7 +41,7 @@ nothing = record { catalogue = []; commands = []; waiting = []; first_waiting = 
 abbrev pub is_late : Progress → Bool
 is_late p = not (length p.commands == 0 && length p.waiting == 0)
 
--- the fault of a line whose file may not be added; want of memory is none
+-- the fault of a line whose file may not be added; "out of memory" is none
 abbrev pub line_fault_of : AddFault → Option ScriptFault
 line_fault_of TooMany = Some CatalogueFull
 line_fault_of EmptyName = Some kind.BadName
@@ -73,7 +75,10 @@ abbrev pub after_line : ℕ → Progress → Line → Result Progress ScriptFaul
 after_line n p (FileLine name hex) = after_file p name hex
 after_line n p (CommandLine instruction) = Ok (with_command p instruction)
 after_line n p (RequestLine asked) =
-    Ok (record p { waiting = p.waiting ++ asked ∷ []; first_waiting = if length p.waiting == 0 then n else p.first_waiting })
+    Ok (record p {
+      waiting = p.waiting ++ asked ∷ [];
+      first_waiting = if length p.waiting == 0 then n else p.first_waiting;
+    })
 after_line n p SubmitLine = Ok (record (with_command p (SubmitsAll p.waiting)) { waiting = [] })
 
 -- with the bytes of one more line, the n-th
@@ -91,14 +96,16 @@ at_end p =
     else Err (record { line = p.first_waiting; kind = Unsubmitted })
 
 -- a fault, on the n-th line, or what follows it
-abbrev pub on_line : {A B : Type 0} → ℕ → Result A ScriptFault → (A → Result B LineFault) → Result B LineFault
+abbrev pub on_line : {A B : Type 0} → ℕ → Result A ScriptFault → (A → Result B LineFault)
+    → Result B LineFault
 on_line n (Ok x) next = next x
 on_line n (Err kind) next = Err (record { line = n; kind = kind })
 
 -- the lines from the n-th on, to the end; the first fault ends it
 abbrev pub after_texts : ℕ → Progress → List (List ℕ) → Result Meaning LineFault
 after_texts n p [] = at_end p
-after_texts n p (text ∷ texts) = on_line n (after_text n p text) (λ next. after_texts (n + 1) next texts)
+after_texts n p (text ∷ texts) =
+    on_line n (after_text n p text) (λ next. after_texts (n + 1) next texts)
 
 -- what the bytes say as a script, or the fault that they have
 abbrev pub reading_of : List ℕ → Result Meaning LineFault

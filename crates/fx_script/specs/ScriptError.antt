@@ -4,12 +4,12 @@ use Rattle.fx_script.specs.declared.fault.ScriptError.{ScriptError}
 use Rattle.fx_script.specs.declared.fault.ScriptError.TheVariants.{Fault, NoMemory}
 use Rattle.fx_script.specs.Script.{LineFault, Meaning, HasFault}
 
--- the bytes have this fault; want of memory says nothing of them
+-- the bytes have this fault; "out of memory" says nothing of them
 abbrev pub IsFaultOf : List ℕ → ScriptError → Type 0
 IsFaultOf bytes (Fault line kind) = HasFault bytes line kind
 IsFaultOf bytes NoMemory = Unit {0}
 
--- the answer is the one that is expected, want of memory aside
+-- the answer is the one that is expected, except when out of memory
 abbrev pub Reads : Result Meaning LineFault → Result Meaning ScriptError → Type 0
 Reads expected (Ok meaning) = expected ≡ Ok meaning
 Reads expected (Err (Fault line kind)) = expected ≡ Err (record { line = line; kind = kind })

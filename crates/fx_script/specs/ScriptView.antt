@@ -17,17 +17,19 @@ progress_of r = record {
   first_waiting = r.first_waiting;
 }
 
--- the fault that is expected, or want of memory
+-- the fault that is expected, or "out of memory"
 abbrev pub IsExpected : {A : Type 0} → LineError → Result A ScriptFault → Type 0
 IsExpected (Fault fault) expected = expected ≡ Err fault
 IsExpected NoMemory expected = Unit {0}
 
--- the answer is the one that is expected, where `view` shows what the code gave, want of memory aside
-abbrev pub GivesOrFails : {A B : Type 0} → (A → B) → Result A LineError → Result B ScriptFault → Type 0
+-- the answer is the one that is expected, where `view` shows what the code gave, except when out of
+-- memory
+abbrev pub GivesOrFails : {A B : Type 0} → (A → B) → Result A LineError → Result B ScriptFault
+    → Type 0
 GivesOrFails view (Ok x) expected = expected ≡ Ok (view x)
 GivesOrFails view (Err error) expected = IsExpected error expected
 
--- the answer and what was read then are those that are expected, want of memory aside
+-- the answer and what was read then are those that are expected, except when out of memory
 abbrev pub Takes : {A : Type 0} → Result A ScriptFault → Result (Unit {0}) LineError → A → Type 0
 Takes expected (Ok _) new = expected ≡ Ok new
 Takes expected (Err error) new = IsExpected error expected

@@ -9,6 +9,7 @@ use Rattle.fx_base.specs.declared.open_file.Closed.{Closed}
 use Rattle.fx_base.specs.Catalogue.{FileEntry, name_at}
 use Rattle.fx_base.specs.Tags.{tags_of}
 use Rattle.fx_base.specs.declared.tag_completion.TagCompletion.{TagCompletion}
+use Rattle.fx_chain.specs.declared.completion.Place.{Place}
 use Rattle.fx_chain.specs.declared.fault.CutFault.{CutFault}
 use Rattle.fx_chain.specs.declared.fault.CutKind.{CutKind}
 use Rattle.fx_chain.specs.declared.fault.CutKind.TheVariants.{BadFlags, LongRead, LongUpdate, ChainTooLong, TooManyFiles, TooManyChains}
@@ -23,11 +24,15 @@ result_line word res = word ++ (codes " " ++ (signed_decimal res ++ codes "\n"))
 abbrev pub got_text : List ℕ → List ℕ
 got_text got = if length got == 0 then [] else codes " " ++ encode_lower got
 
--- `S.C.M RES`, and the bytes of a read
+-- `S.C.M`
+abbrev pub place_text : Place → List ℕ
+place_text p = decimal p.submission ++ (codes "." ++ (decimal p.chain ++ (codes "." ++ decimal p.member)))
+
+-- the place, `RES`, and the bytes of a read
 abbrev pub completion_line : Completed → List ℕ
 completion_line c =
-    decimal c.place.submission ++ (codes "." ++ (decimal c.place.chain ++ (codes "." ++ (decimal c.place.member
-    ++ (codes " " ++ (signed_decimal c.res ++ (got_text c.got ++ codes "\n")))))))
+    place_text c.place
+    ++ (codes " " ++ (signed_decimal c.res ++ (got_text c.got ++ codes "\n")))
 
 -- a line for each completion
 abbrev pub completion_lines : List Completed → List ℕ
@@ -43,7 +48,9 @@ kind_name TooManyChains = codes "too-many-chains"
 
 -- `submit refused NAME AT`
 abbrev pub refused_line : CutFault → List ℕ
-refused_line fault = codes "submit refused " ++ (kind_name fault.kind ++ (codes " " ++ (decimal fault.at ++ codes "\n")))
+refused_line fault =
+    codes "submit refused "
+    ++ (kind_name fault.kind ++ (codes " " ++ (decimal fault.at ++ codes "\n")))
 
 -- the line of a submission that would be the 65,536th
 abbrev pub too_many_line : List ℕ
@@ -52,7 +59,8 @@ too_many_line = codes "submit refused too-many-submissions\n"
 -- `rK.I` for a registered file, `S.C.M.E` for a submitted one
 abbrev pub mark_text : Mark → List ℕ
 mark_text (Registered k i) = codes "r" ++ (decimal k ++ (codes "." ++ decimal i))
-mark_text (Submitted s c m e) = decimal s ++ (codes "." ++ (decimal c ++ (codes "." ++ (decimal m ++ (codes "." ++ decimal e)))))
+mark_text (Submitted s c m e) =
+    place_text (record { submission = s; chain = c; member = m }) ++ (codes "." ++ decimal e)
 
 -- `closed MARK NAME`
 abbrev pub closed_line : Mark → List ℕ → List ℕ
@@ -64,7 +72,8 @@ name_of catalogue entry = unwrap_or (name_at catalogue entry) []
 
 -- a line for each closed file
 abbrev pub closed_lines : List FileEntry → List Closed → List ℕ
-closed_lines catalogue files = flat_map (λ file. closed_line file.mark (name_of catalogue file.entry)) files
+closed_lines catalogue files =
+    flat_map (λ file. closed_line file.mark (name_of catalogue file.entry)) files
 
 -- `tag T`
 abbrev pub tag_line : TagCompletion → List ℕ
@@ -80,8 +89,10 @@ closes_text catalogue files = closed_lines catalogue files ++ tag_lines (tags_of
 
 -- the lines of a submission: its completions, and the files that were closed
 abbrev pub report_text : List FileEntry → Reported → List ℕ
-report_text catalogue report = completion_lines report.completions ++ closes_text catalogue report.closes.files
+report_text catalogue report =
+    completion_lines report.completions ++ closes_text catalogue report.closes.files
 
 -- `teardown` and the lines of the files that were left, where files were left
 abbrev pub teardown_text : List FileEntry → List Closed → List ℕ
-teardown_text catalogue files = if length files == 0 then [] else codes "teardown\n" ++ closes_text catalogue files
+teardown_text catalogue files =
+    if length files == 0 then [] else codes "teardown\n" ++ closes_text catalogue files

@@ -14,12 +14,15 @@ is_digit b = nat_le 48 b && nat_le b 57
 
 -- decimal digits, at least one, and no leading zero but in `0` itself
 abbrev pub is_decimal : List ℕ → Bool
-is_decimal word = list_all is_digit word && (length word == 1 || (nat_le 2 (length word) && not (slice_index word 0 == 48)))
+is_decimal word =
+    list_all is_digit word
+    && (length word == 1 || (nat_le 2 (length word) && not (slice_index word 0 == 48)))
 
 -- a number, at most so large
 abbrev pub number_up_to : ℕ → List ℕ → Option ℕ
 number_up_to largest word =
-    if is_decimal word && nat_le (digits_value 10 word) largest then Some (digits_value 10 word) else None
+    if is_decimal word && nat_le (digits_value 10 word) largest then Some (digits_value 10 word)
+    else None
 
 -- a number other than a tag
 abbrev pub number_of : List ℕ → Option ℕ
@@ -32,12 +35,16 @@ negated (suc n) = Some (negsuc n)
 
 -- an entry of a list: a number, or `-` and a number other than 0
 abbrev pub entry_of : List ℕ → Option ℤ
-entry_of part = if slice_index part 0 == 45 then option_and_then negated (number_of (drop 1 part)) else option_map pos (number_of part)
+entry_of part =
+    if slice_index part 0 == 45 then option_and_then negated (number_of (drop 1 part))
+    else option_map pos (number_of part)
 
 -- the entries of the parts, where each of them is one
 abbrev pub entries_of : List (List ℕ) → Option (List ℤ)
 entries_of [] = Some []
-entries_of (part ∷ more) = option_and_then (λ entry. option_map (λ entries. entry ∷ entries) (entries_of more)) (entry_of part)
+entries_of (part ∷ more) =
+    option_and_then (λ entry. option_map (λ entries. entry ∷ entries) (entries_of more))
+    (entry_of part)
 
 -- a list: entries, at least one, parted by single commas
 abbrev pub list_of : List ℕ → Option (List ℤ)
@@ -47,12 +54,16 @@ list_of word = entries_of (parts word)
 abbrev pub tags_of_parts : List (List ℕ) → Option (List ℕ)
 tags_of_parts [] = Some []
 tags_of_parts (part ∷ more) =
-    option_and_then (λ tag. option_map (λ tags. tag ∷ tags) (tags_of_parts more)) (number_up_to LARGEST_TAG part)
+    option_and_then (λ tag. option_map (λ tags. tag ∷ tags) (tags_of_parts more))
+    (number_up_to LARGEST_TAG part)
 
 -- tags, at least one, parted by single commas
 abbrev pub tag_list_of : List ℕ → Option (List ℕ)
 tag_list_of word = tags_of_parts (parts word)
 
--- the bytes of a file: hexadecimal digits, an even number of them and at least two, or `-` for no bytes
+-- the bytes of a file: hexadecimal digits, an even number of them and at least two, or `-` for no
+-- bytes
 abbrev pub hex_of : List ℕ → Option (List ℕ)
-hex_of word = if bytes_eq word (codes "-") then Some [] else if length word == 0 then None else result_ok (decode_of word)
+hex_of word =
+    if bytes_eq word (codes "-") then Some [] else if length word == 0 then None
+    else result_ok (decode_of word)

@@ -2,6 +2,7 @@
 #![tactic(auto)]
 
 mod command;
+mod digits;
 mod fault;
 mod input;
 pub mod laws;
@@ -24,11 +25,9 @@ mod words;
 pub use command::Command;
 pub use fault::{ScriptError, ScriptFault};
 pub use limits::{LARGEST_NUMBER, LARGEST_TAG, LONGEST_LINE, LONGEST_SCRIPT};
+pub use number::number_up_to;
 pub use play_fault::PlayFault;
 pub use player::play;
 pub use runner::run;
 pub use script::Script;
-pub use text::report_text;
-
-#[cfg(test)]
-mod tests;
+pub use text::{refused_line, report_text, result_line, teardown_text, too_many_line, with_closes};

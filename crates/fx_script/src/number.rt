@@ -10,8 +10,9 @@ fn is_digit(b: u8) -> bool
     matches!(b, b'0'..=b'9')
 }
 
-// The number that a word writes, where it is at most so large: decimal digits without a leading zero.
-fn number_up_to(largest: u64, word: &[u8]) -> Option<u64>
+/// The number that a word writes, where it is at most so large: decimal digits without a leading zero (this project's
+/// own).
+pub fn number_up_to(largest: u64, word: &[u8]) -> Option<u64>
     ensures { result ≡ number_up_to largest word.now }
 {
     if word.is_empty() || (word.len() > 1 && word[0] == b'0') {

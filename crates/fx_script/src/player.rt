@@ -63,7 +63,7 @@ fn play_commands<T: FileTable, G: Gate, W: Write>(
 ///
 /// # Errors
 /// `Write` where a write fails: how much of its text went out is not known. `NoMemory` where memory is refused: what was
-/// written is then what the commands before print. The files that are open are let go.
+/// written is then what the commands before print. The files that are open are dropped.
 pub fn play<T: FileTable, G: Gate, W: Write>(
     rt: &(impl Threads + Wait + Sync),
     alloc: Global,

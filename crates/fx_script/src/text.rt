@@ -1,17 +1,19 @@
 //! The printed lines, each put behind a text whose room was made before.
 ghost use Rattle.std.specs.Prelude.{◌≡◌, ◌<◌, ◌++◌, IfOk, OnOk, All, codes, length, slice_index, string_bytes};
-ghost use Rattle.hex.specs.Hex.{encode_lower, lower_digits};
+ghost use Rattle.hex.specs.Hex.{encode_lower};
+ghost use Rattle.std.specs.Fmt.{signed_decimal};
 ghost use Rattle.fx_chain.specs.Completed.{completed_of, all_completed};
 ghost use Rattle.fx_base.specs.Tags.{tags_of};
 ghost use Rattle.fx_ring.specs.Submission.{reported};
-ghost use Rattle.fx_script.specs.Text.{result_line, got_text, kind_name, refused_line, too_many_line, completion_line, completion_lines, closed_line, closed_lines, closes_text, report_text, tag_line, tag_lines, teardown_text};
+ghost use Rattle.fx_script.specs.Text.{result_line, got_text, kind_name, mark_text, place_text, refused_line, too_many_line, completion_line, completion_lines, closed_line, closed_lines, closes_text, report_text, tag_line, tag_lines, teardown_text};
 
+use crate::digits::{push_hex, push_number, push_signed};
 use fx_base::{Catalogue, CloseList, Closed, Mark, NoMemory, TagCompletion};
-use fx_chain::{Completion, CutFault, CutKind};
+use fx_chain::{Completion, CutFault, CutKind, Place};
 use fx_ring::Report;
 use std::alloc::{AllocError, Global};
 
-/// How many bytes the line of a completion has beside the bytes of a read: four numbers of at most eleven bytes.
+/// How many bytes the line of a completion has besides the bytes of a read: four numbers of at most eleven bytes.
 const COMPLETION_ROOM: usize = 50;
 
 /// How many bytes the line of a closed file has: four numbers and a name.
@@ -20,31 +22,14 @@ const CLOSED_ROOM: usize = 90;
 /// How many bytes the line of a tag has: a number of at most twenty digits.
 const TAG_ROOM: usize = 25;
 
-// The line of a command: its word and its result, 0 or more, or a negated error.
+/// The line of a command: its word and its result, 0 or more, or a negated error.
+///
+/// # Errors
+/// `NoMemory` where the memory of the text is refused.
 pub fn result_line(alloc: Global, word: &str, res: i64) -> Result<String, NoMemory>
     ensures { IfOk result (λ text. string_bytes text ≡ result_line word.now res) }
 {
     Ok(format!(in alloc; "{word} {res}\n")?)
-}
-
-fn hex_digit(n: u8) -> char
-    requires { n < 16 }
-    ensures value { result ≡ slice_index lower_digits n }
-    ensures ascii { result < 128 }
-{
-    b"0123456789abcdef"[n as usize] as char
-}
-
-// Puts bytes behind a text, in lower case hexadecimal.
-fn push_hex(text: &mut String, bytes: &[u8]) -> Result<(), AllocError>
-    ensures { OnOk result
-        (string_bytes text.new ≡ string_bytes text.old ++ encode_lower bytes.now) }
-{
-    for b in bytes {
-        text.push(hex_digit(*b / 16))?;
-        text.push(hex_digit(*b % 16))?;
-    }
-    Ok(())
 }
 
 // Puts a space and the bytes of a read behind a text, where it gave some.
@@ -54,22 +39,39 @@ fn push_got(text: &mut String, got: &[u8]) -> Result<(), AllocError>
     if got.is_empty() {
         return Ok(());
     }
-    text.push_str(" ")?;
+    text.push(' ')?;
     push_hex(text, got)
 }
 
-// Puts the line of a completion behind a text: its submission, chain and member, its result, and the bytes of a read.
+// Puts a place behind a text: its submission, chain and member.
+fn push_place(text: &mut String, place: Place) -> Result<(), AllocError>
+    ensures { OnOk result (string_bytes text.new ≡ string_bytes text.old ++ place_text place) }
+{
+    push_number(text, u64::from(place.submission))?;
+    text.push('.')?;
+    push_number(text, u64::from(place.chain))?;
+    text.push('.')?;
+    push_number(text, u64::from(place.member))
+}
+
+// Puts a result behind a text, with the bytes of a read.
+fn push_result(text: &mut String, res: i32, got: &[u8]) -> Result<(), AllocError>
+    ensures { OnOk result (string_bytes text.new
+        ≡ string_bytes text.old ++ (codes " " ++ (signed_decimal res ++ got_text got.now))) }
+{
+    text.push(' ')?;
+    push_signed(text, i64::from(res))?;
+    push_got(text, got)
+}
+
+// Puts the line of a completion behind a text: its place, its result, and the bytes of a read.
 fn push_completion(text: &mut String, completion: &Completion) -> Result<(), AllocError>
     ensures { OnOk result (string_bytes text.new
         ≡ string_bytes text.old ++ completion_line (completed_of completion.now)) }
 {
-    let submission = completion.place.submission;
-    let chain = completion.place.chain;
-    let member = completion.place.member;
-    let res = completion.res;
-    write!(text, "{submission}.{chain}.{member} {res}")?;
-    push_got(text, completion.got.as_slice())?;
-    text.push_str("\n")
+    push_place(text, completion.place)?;
+    push_result(text, completion.res, completion.got.as_slice())?;
+    text.push('\n')
 }
 
 // Puts a line for each completion behind a text, in their order.
@@ -83,23 +85,45 @@ fn push_completions(text: &mut String, completions: &[Completion]) -> Result<(),
     Ok(())
 }
 
-// Puts the line of a closed file behind a text: its mark, `rK.I` or `S.C.M.E`, and its name.
-fn push_closed_line(text: &mut String, mark: Mark, name: &str) -> Result<(), AllocError>
-    ensures { OnOk result
-        (string_bytes text.new ≡ string_bytes text.old ++ closed_line mark name.now) }
+// Puts a mark behind a text: `rK.I` or `S.C.M.E`.
+fn push_mark(text: &mut String, mark: Mark) -> Result<(), AllocError>
+    ensures { OnOk result (string_bytes text.new ≡ string_bytes text.old ++ mark_text mark) }
 {
     match mark {
-        Mark::Registered { k, i } => write!(text, "closed r{k}.{i} {name}\n"),
+        Mark::Registered { k, i } => {
+            text.push('r')?;
+            push_number(text, u64::from(k))?;
+            text.push('.')?;
+            push_number(text, u64::from(i))
+        }
         Mark::Submitted {
             submission,
             chain,
             member,
             entry,
-        } => write!(
-            text,
-            "closed {submission}.{chain}.{member}.{entry} {name}\n"
-        ),
+        } => {
+            let place = Place {
+                submission,
+                chain,
+                member,
+            };
+            push_place(text, place)?;
+            text.push('.')?;
+            push_number(text, u64::from(entry))
+        }
     }
+}
+
+// Puts the line of a closed file behind a text: its mark and its name.
+fn push_closed_line(text: &mut String, mark: Mark, name: &str) -> Result<(), AllocError>
+    ensures { OnOk result
+        (string_bytes text.new ≡ string_bytes text.old ++ closed_line mark name.now) }
+{
+    text.push_str("closed ")?;
+    push_mark(text, mark)?;
+    text.push(' ')?;
+    text.push_str(name)?;
+    text.push('\n')
 }
 
 // Puts a line for each closed file behind a text, in their order. Each entry is in the catalogue.
@@ -124,8 +148,9 @@ fn push_tag(text: &mut String, completion: &TagCompletion) -> Result<(), AllocEr
     ensures { OnOk result
         (string_bytes text.new ≡ string_bytes text.old ++ tag_line completion.now) }
 {
-    let tag = completion.user_data;
-    write!(text, "tag {tag}\n")
+    text.push_str("tag ")?;
+    push_number(text, completion.user_data)?;
+    text.push('\n')
 }
 
 // Puts a line for each completion of a tag behind a text, in their order.
@@ -169,7 +194,10 @@ fn kind_name(kind: CutKind) -> &'static str
     }
 }
 
-// The line of a refused submission: the name of the fault, and the place of its request, from 1.
+/// The line of a refused submission: the name of the fault, and the place of its request, from 1.
+///
+/// # Errors
+/// `NoMemory` where the memory of the text is refused.
 pub fn refused_line(alloc: Global, fault: CutFault) -> Result<String, NoMemory>
     ensures { IfOk result (λ text. string_bytes text ≡ refused_line fault) }
 {
@@ -178,7 +206,10 @@ pub fn refused_line(alloc: Global, fault: CutFault) -> Result<String, NoMemory>
     Ok(format!(in alloc; "submit refused {name} {at}\n")?)
 }
 
-// The line of a submission past the last that a ring accepts.
+/// The line of a submission past the last that a ring accepts.
+///
+/// # Errors
+/// `NoMemory` where the memory of the text is refused.
 pub fn too_many_line(alloc: Global) -> Result<String, NoMemory>
     ensures { IfOk result (λ text. string_bytes text ≡ too_many_line) }
 {
@@ -232,7 +263,11 @@ pub fn report_text(
     Ok(text)
 }
 
-// A first line, and the lines of closed files and of their tags. Each entry is in the catalogue.
+/// A first line, and the lines of closed files and of their tags. The caller has seen that each closed entry is below
+/// [`Catalogue::len`].
+///
+/// # Errors
+/// `NoMemory` where the memory of the text or of the tags is refused.
 pub fn with_closes(
     alloc: Global,
     first: &str,
@@ -252,8 +287,11 @@ pub fn with_closes(
     Ok(text)
 }
 
-// The lines of the end of a script: `teardown` and the lines of the files that were left in the table, or no line where none
-// was left. Each entry is in the catalogue.
+/// The lines of the end of a script: `teardown` and the lines of the files that were left in the table, or no line where
+/// none was left. The caller has seen that each closed entry is below [`Catalogue::len`].
+///
+/// # Errors
+/// `NoMemory` where the memory of the text or of the tags is refused.
 pub fn teardown_text(
     alloc: Global,
     catalogue: &Catalogue,

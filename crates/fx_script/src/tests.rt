@@ -1,7 +1,0 @@
-mod accepted;
-mod cut;
-mod faults;
-mod limits;
-mod order;
-mod reading;
-mod texts;
