@@ -1,0 +1,91 @@
+-- The answers of completions, as they are printed: a result, and perhaps the bytes of a read.
+use Rattle.std.proofs.Common.{◌≡◌, ℕ, ◌<◌, List, [], ◌∷◌, ◌++◌, length, refl, sym, ap, ◌∙◌, inl, inr, arith, None}
+use Rattle.std.specs.Prelude.{ℤ, ◌⊎◌}
+use Rattle.std.specs.Fmt.{signed_decimal}
+use Rattle.std.proofs.lemmas.List.{append-nil}
+use Rattle.hex.specs.Hex.{IsBytes, encode_lower}
+use Rattle.fx_lines.specs.Front.{IsCutPart, answer_text, cut_text}
+use Rattle.fx_lines.specs.Lines.{IsResultInRange, is_without}
+use Rattle.fx_lines.specs.Reads.{IsPrintedFrom, Reads}
+use Rattle.fx_lines.proofs.Cuts.{cut_has}
+use Rattle.fx_lines.proofs.Hexes.{some_got}
+use Rattle.fx_lines.proofs.Readings.{pair_is}
+use Rattle.fx_lines.proofs.Results.{result_without}
+
+abbrev pub FitsAnswer : ℤ × List ℕ → Type 0
+FitsAnswer found = IsResultInRange found.0 × IsBytes found.1
+
+abbrev pub AreGiven : List ℕ → Type 0
+AreGiven got = (0 < length got) × IsBytes got
+
+-- an answer is its result alone, or has a space in it
+pub alone_or_cut : (got : List ℕ) (res : ℤ) (text : List ℕ) → text ≡ answer_text (res, got)
+    → ((got ≡ []) × (text ≡ signed_decimal res)) ⊎ ((0 < length got) × (text ≡ cut_text 32 (signed_decimal res, encode_lower got)))
+alone_or_cut [] res text same = inl (refl, same ∙ append-nil (signed_decimal res))
+alone_or_cut (b ∷ got) res text same =
+    let some : 0 < length (b ∷ got) = omega arith in
+    inr (some, same ∙ ap (λ (t : List ℕ). signed_decimal res ++ t) (some_got (b ∷ got) some))
+
+-- the result alone
+alone_only : (text : List ℕ) → Reads (cut_text 32) (IsCutPart 32) text None → (other : ℤ × List ℕ) → FitsAnswer other
+    → text ≡ answer_text other → (other.1 ≡ []) × (text ≡ signed_decimal other.0)
+alone_only text whole other fits same =
+    elim (alone_or_cut other.1 other.0 text same) [
+      | inl alone ↦ alone
+      | inr both ↦ absurd (whole (signed_decimal other.0, encode_lower other.1) (result_without 32 other.0 refl refl fits.0) both.1)
+    ]
+
+pub none_alone : (text : List ℕ) → Reads (cut_text 32) (IsCutPart 32) text None → Reads signed_decimal IsResultInRange text None
+    → Reads answer_text FitsAnswer text None
+none_alone text whole none other fits same = none other.0 fits.0 (alone_only text whole other fits same).1
+
+no_bytes : IsBytes []
+no_bytes i = omega arith
+
+pub one_alone : (text : List ℕ) (res : ℤ) → Reads (cut_text 32) (IsCutPart 32) text None
+    → IsPrintedFrom signed_decimal IsResultInRange text res → IsPrintedFrom answer_text FitsAnswer text (res, [])
+one_alone text res whole is = record {
+  fits_value = (is.fits_value, no_bytes);
+  printed = is.printed ∙ sym (append-nil (signed_decimal res));
+  only = λ other fits same.
+      let alone = alone_only text whole other fits same in
+      pair_is other res [] (is.only other.0 fits.0 alone.1) alone.0;
+}
+
+-- no result has a space
+not_cut : (word hex : List ℕ) (res : ℤ) → IsResultInRange res → word ++ 32 ∷ hex ≡ signed_decimal res → ⊥
+not_cut word hex res fits same = cut_has 32 word hex (ap (is_without 32) same ∙ result_without 32 res refl refl fits)
+
+-- the result and the bytes
+both_only : (text word hex : List ℕ) → IsPrintedFrom (cut_text 32) (IsCutPart 32) text (word, hex) → (other : ℤ × List ℕ)
+    → FitsAnswer other → text ≡ answer_text other
+    → (0 < length other.1) × (word ≡ signed_decimal other.0) × (hex ≡ encode_lower other.1)
+both_only text word hex cuts other fits same =
+    elim (alone_or_cut other.1 other.0 text same) [
+      | inl alone ↦ absurd (not_cut word hex other.0 fits.0 (sym cuts.printed ∙ alone.1))
+      | inr both ↦
+          let parts = cuts.only (signed_decimal other.0, encode_lower other.1) (result_without 32 other.0 refl refl fits.0) both.1 in
+          (both.0, sym (ap (λ p. p.0) parts), sym (ap (λ p. p.1) parts))
+    ]
+
+pub none_word : (text word hex : List ℕ) → IsPrintedFrom (cut_text 32) (IsCutPart 32) text (word, hex)
+    → Reads signed_decimal IsResultInRange word None → Reads answer_text FitsAnswer text None
+none_word text word hex cuts none other fits same = none other.0 fits.0 (both_only text word hex cuts other fits same).1
+
+pub none_bytes : (text word hex : List ℕ) → IsPrintedFrom (cut_text 32) (IsCutPart 32) text (word, hex)
+    → Reads encode_lower AreGiven hex None → Reads answer_text FitsAnswer text None
+none_bytes text word hex cuts none other fits same =
+    let parts = both_only text word hex cuts other fits same in
+    none other.1 (parts.0, fits.1) parts.2
+
+pub one_both : (text word hex : List ℕ) (res : ℤ) (got : List ℕ) → IsPrintedFrom (cut_text 32) (IsCutPart 32) text (word, hex)
+    → IsPrintedFrom signed_decimal IsResultInRange word res → IsPrintedFrom encode_lower AreGiven hex got
+    → IsPrintedFrom answer_text FitsAnswer text (res, got)
+one_both text word hex res got cuts first last = record {
+  fits_value = (first.fits_value, last.fits_value.1);
+  printed = cuts.printed ∙ ap (λ (t : List ℕ). t ++ 32 ∷ hex) first.printed
+      ∙ ap (λ (t : List ℕ). signed_decimal res ++ t) (ap (λ (t : List ℕ). 32 ∷ t) last.printed ∙ sym (some_got got last.fits_value.0));
+  only = λ other fits same.
+      let parts = both_only text word hex cuts other fits same in
+      pair_is other res got (first.only other.0 fits.0 parts.1) (last.only other.1 (parts.0, fits.1) parts.2);
+}

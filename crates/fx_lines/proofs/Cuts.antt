@@ -1,0 +1,84 @@
+-- A text without a byte, and a text that is cut at one.
+use Rattle.std.proofs.Common.{◌≡◌, ◌≢◌, ℕ, ◌+◌, ◌<◌, ◌==◌, true, false, not, List, [], ◌∷◌, ◌++◌, length, get_or, take, drop, refl, sym, ap, ◌∙◌, take-append-drop, Option, Some, None}
+use Rattle.std.specs.Prelude.{MatchOption, option_map}
+use Rattle.std.specs.Borrow.{Bor}
+use Rattle.std.proofs.lemmas.List.{append_cancel_left, drop_more}
+use Rattle.std.proofs.lemmas.Bool.Decides.{nat_tests}
+use Rattle.std.proofs.Common.{arith}
+use Rattle.std.proofs.lemmas.List.Folds.{list_all-append}
+use Rattle.fx_script.proofs.Conditions.{and_left, and_right, and_true}
+use Rattle.fx_lines.specs.Front.{IsCutPart, cut_text}
+use Rattle.fx_lines.specs.Lines.{is_without}
+use Rattle.fx_lines.specs.Reads.{IsPrintedFrom, Reads}
+use Rattle.fx_lines.proofs.Readings.{pair_is}
+
+-- a byte isn't another than itself
+not_self : (at x : ℕ) → at ≡ x → not (x == at) ≡ true → ⊥
+not_self at x same other = grind (arith, nat_tests)
+
+-- two texts, one behind the other
+pub without_both : (at : ℕ) (xs ys : List ℕ) → is_without at xs ≡ true → is_without at ys ≡ true → is_without at (xs ++ ys) ≡ true
+without_both at xs ys left right = list_all-append (λ b. not (b == at)) xs ys ∙ and_true _ _ left right
+
+-- the second of them
+pub without_right : (at : ℕ) (xs ys : List ℕ) → is_without at (xs ++ ys) ≡ true → is_without at ys ≡ true
+without_right at xs ys all = and_right _ _ (sym (list_all-append (λ b. not (b == at)) xs ys) ∙ all)
+
+-- a text that is cut at a byte has it
+pub cut_has : (at : ℕ) (before after : List ℕ) → is_without at (before ++ at ∷ after) ≡ true → ⊥
+cut_has at [] after all = not_self at at refl (and_left _ _ all)
+cut_has at (x ∷ before) after all = cut_has at before after (and_right _ _ all)
+
+-- a text is cut at the first such byte in one way
+pub cut_once : (at : ℕ) (before after front behind : List ℕ) → is_without at before ≡ true → is_without at front ≡ true
+    → before ++ at ∷ after ≡ front ++ at ∷ behind → (before ≡ front) × (after ≡ behind)
+cut_once at [] after [] behind own other same = (refl, cc)
+cut_once at [] after (x ∷ front) behind own other same = let here : at ≡ x = cc in absurd (not_self at x here (and_left _ _ other))
+cut_once at (x ∷ before) after [] behind own other same = let here : at ≡ x = cc in absurd (not_self at x here (and_left _ _ own))
+cut_once at (x ∷ before) after (y ∷ front) behind own other same =
+    let first : x ≡ y = cc in
+    let others : before ++ at ∷ after ≡ front ++ at ∷ behind = cc in
+    let more = cut_once at before after front behind (and_right _ _ own) (and_right _ _ other) others in
+    let same_front : before ≡ front = more.0 in
+    (cc, more.1)
+
+-- where a text is cut
+pub cut_here : (at : ℕ) (text : List ℕ) (i : ℕ) → i < length text → get_or text i 0 ≡ at → is_without at (take i text) ≡ true
+    → IsPrintedFrom (cut_text at) (IsCutPart at) text (take i text, drop (i + 1) text)
+cut_here at text i inside here before =
+    let parts : text ≡ take i text ++ at ∷ drop (i + 1) text = sym (take-append-drop i text)
+    ∙ ap (λ zs. take i text ++ zs) (drop_more text i 0 inside ∙ ap (λ b. b ∷ drop (i + 1) text) here) in
+    record {
+      fits_value = before;
+      printed = parts;
+      only = λ other fits same.
+          let both = cut_once at other.0 other.1 (take i text) (drop (i + 1) text) fits before (sym same ∙ parts) in
+          pair_is other (take i text) (drop (i + 1) text) both.0 both.1;
+    }
+
+-- a text with an expected front
+pub behind_is : (text front : List ℕ) (r : Option (Bor (List ℕ)))
+    → MatchOption r ((rest : List ℕ) → text ≢ front ++ rest) (λ x. text ≡ front ++ x.now)
+    → Reads (λ (rest : List ℕ). front ++ rest) (λ _. Unit {0}) text (option_map (λ rest. rest.now) r)
+behind_is text front None is = λ other _ same. is other same
+behind_is text front (Some x) is = record {
+  fits_value = tt;
+  printed = is;
+  only = λ other _ same. append_cancel_left front other x.now (sym same ∙ is);
+}
+
+-- the text of a number goes on behind its full stop: no letter stands in front of one
+pub other_first : (at : ℕ) (front rest more : List ℕ) (b : ℕ) → is_without b front ≡ true → at ≢ b → front ++ at ∷ rest ≡ b ∷ more → ⊥
+other_first at [] rest more b none differ same = differ cc
+other_first at (x ∷ front) rest more b none differ same = let first : b ≡ x = cc in not_self b x first (and_left _ _ none)
+
+-- a text without a byte doesn't begin with it
+pub not_first : (at : ℕ) (text rest : List ℕ) → is_without at text ≡ true → text ≡ at ∷ rest → ⊥
+not_first at [] rest none same = cc same
+not_first at (x ∷ text) rest none same = let first : at ≡ x = cc in not_self at x first (and_left _ _ none)
+
+-- a text in two parts, neither of which has the byte, with another byte between them
+pub without_between : (at b : ℕ) (front behind : List ℕ) → is_without at front ≡ true → (b == at) ≡ false → is_without at behind ≡ true
+    → is_without at (front ++ b ∷ behind) ≡ true
+without_between at b front behind left other right =
+    without_both at front (b ∷ behind) left (and_true (not (b == at)) (is_without at behind) (ap not other) right)

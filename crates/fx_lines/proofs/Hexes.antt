@@ -1,0 +1,77 @@
+-- The bytes of a read, as they are printed.
+use Rattle.std.proofs.Common.{◌≡◌, ℕ, zero, suc, ◌/◌, ◌%◌, ◌<◌, ◌==◌, Bool, true, false, not, List, [], ◌∷◌, ◌++◌, length, slice_index, refl, ap, ◌∙◌, arith, Ok, Err, None, if◌then◌else◌}
+use Rattle.std.proofs.lemmas.Bool.{eqb-true}
+use Rattle.std.specs.List.{list_all}
+use Rattle.hex.specs.Hex.{IsBytes, decode_of, encode_lower, encode_with, lower_digits}
+use Rattle.hex.specs.declared.error.FromHexError.{FromHexError}
+use Rattle.hex.proofs.HexLemmas.{decode_of-encode_lower, decode_of-ok, length-encode_with}
+use Rattle.fx_script.proofs.Conditions.{and_left, and_right, and_true}
+use Rattle.fx_script.specs.Text.{got_text}
+use Rattle.fx_lines.specs.Lines.{is_without}
+use Rattle.fx_lines.specs.Reads.{IsPrintedFrom, Reads}
+
+-- no bytes are printed as an empty word
+pub none_empty : (word : List ℕ) → length word ≡ 0 → Reads encode_lower (λ got. (0 < length got) × IsBytes got) word None
+none_empty word empty other fits same =
+    let long = length-encode_with lower_digits other in
+    let some : 0 < length other = fits.0 in
+    let equal = ap length same in
+    absurd (omega arith)
+
+-- a word that doesn't decode is that of no bytes
+pub none_other : (word : List ℕ) (e : FromHexError) → decode_of word ≡ Err e
+    → Reads encode_lower (λ got. (0 < length got) × IsBytes got) word None
+none_other word e fails other fits same = let good = decode_of-encode_lower other fits.1 in cc (ap decode_of same)
+
+same_bytes : (word bytes other : List ℕ) → decode_of word ≡ Ok bytes → IsBytes other → word ≡ encode_lower other → other ≡ bytes
+same_bytes word bytes other decodes fits same = let good = decode_of-encode_lower other fits in let here = ap decode_of same in cc
+
+-- a word that its bytes are printed as
+pub printed_again : (word bytes : List ℕ) → decode_of word ≡ Ok bytes → (length word ≡ 0 → ⊥) → word ≡ encode_lower bytes
+    → IsPrintedFrom encode_lower (λ got. (0 < length got) × IsBytes got) word bytes
+printed_again word bytes decodes some same =
+    let (even, digits, long, fits) = decode_of-ok word bytes decodes in
+    record {
+      fits_value = (omega arith, fits);
+      printed = same;
+      only = λ other ok equal. same_bytes word bytes other decodes ok.1 equal;
+    }
+
+-- a word that its bytes aren't printed as
+pub printed_otherwise : (word bytes : List ℕ) → decode_of word ≡ Ok bytes → (word ≡ encode_lower bytes → ⊥)
+    → Reads encode_lower (λ got. (0 < length got) × IsBytes got) word None
+printed_otherwise word bytes decodes differs other fits same =
+    differs (same ∙ ap encode_lower (same_bytes word bytes other decodes fits.1 same))
+
+-- an element of a list, or 0
+at_any : (p : ℕ → Bool) (xs : List ℕ) (i : ℕ) → list_all p xs ≡ true → p 0 ≡ true → p (slice_index xs i) ≡ true
+at_any p [] i all nought = nought
+at_any p (x ∷ xs) zero all nought = and_left (p x) (list_all p xs) all
+at_any p (x ∷ xs) (suc i) all nought = at_any p xs i (and_right (p x) (list_all p xs) all) nought
+
+digits_without : (at : ℕ) (got : List ℕ) → list_all (λ b. not (b == at)) lower_digits ≡ true → not (0 == at) ≡ true
+    → is_without at (encode_lower got) ≡ true
+unfolding encode_with
+digits_without at [] none nought = refl
+digits_without at (b ∷ got) none nought =
+    and_true (not (slice_index lower_digits (b / 16) == at)) _ (at_any (λ d. not (d == at)) lower_digits (b / 16) none nought)
+    (and_true (not (slice_index lower_digits (b % 16) == at)) _ (at_any (λ d. not (d == at)) lower_digits (b % 16) none nought)
+    (digits_without at got none nought))
+
+-- hexadecimal digits have no line end
+pub hex_without : (got : List ℕ) → is_without 10 (encode_lower got) ≡ true
+hex_without got = digits_without 10 got refl refl
+
+by_length : (test : Bool) (got : List ℕ) → (test ≡ true → ⊥)
+    → (if test then [] else 32 ∷ [] ++ encode_lower got) ≡ 32 ∷ encode_lower got
+by_length true got some = absurd (some refl)
+by_length false got some = refl
+
+-- the text of a read's bytes, where there are any
+pub some_got : (got : List ℕ) → 0 < length got → got_text got ≡ 32 ∷ encode_lower got
+some_got got some = by_length (length got == 0) got (λ none. let empty : length got ≡ 0 = eqb-true _ _ none in omega arith)
+
+-- no bytes print nothing
+pub no_got : (got : List ℕ) → length got ≡ 0 → got ≡ []
+no_got [] empty = refl
+no_got (b ∷ got) empty = absurd (omega arith)

@@ -1,0 +1,16 @@
+pub mod Cuts
+pub mod Decimals
+pub mod LinesInTurn
+pub mod Readings
+pub mod Marks
+pub mod Results
+pub mod Hexes
+pub mod AnswerTexts
+pub mod CompletionTexts
+pub mod CloseTexts
+pub mod ReportTexts
+pub mod ResultLines
+pub mod FirstBytes
+pub mod PlaysBegin
+pub mod CompletionCounts
+pub mod Names

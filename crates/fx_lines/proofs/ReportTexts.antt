@@ -1,0 +1,129 @@
+-- The lines of a report: those of its completions, then those of closed files, then those of tags.
+use Rattle.std.proofs.Common.{◌≡◌, ℕ, ◌<◌, ◌^◌, true, false, List, [], ◌∷◌, ◌++◌, length, get_or, take, refl, sym, ap, ◌∙◌, Option, Some, None, ◌==◌}
+use Rattle.std.proofs.lemmas.Bool.{true≢false}
+use Rattle.std.specs.Prelude.{is_some}
+use Rattle.std.specs.Prelude.{codes, option_map}
+use Rattle.std.specs.Borrow.{Bor}
+use Rattle.std.specs.Io.{StartsWith}
+use Rattle.std.specs.List.{flat_map}
+use Rattle.std.proofs.lemmas.List.{append_assoc, take_at}
+use Rattle.fx_chain.specs.Completed.{Completed}
+use Rattle.fx_script.specs.Text.{completion_line}
+use Rattle.fx_lines.specs.Front.{AreAll, AreSoMany, IsFront, lines_before}
+use Rattle.fx_lines.specs.Lines.{HasNoCloses, IsCloseInRange, IsCompletionInRange, IsReportBefore, Lines, NamedClose, ReadsReport, line_of_tag, lines_text, named_line}
+use Rattle.fx_lines.specs.Reads.{IsPrintedFrom, Reads}
+use Rattle.fx_lines.proofs.LinesInTurn.{not_begun}
+use Rattle.fx_lines.proofs.Readings.{pair_is}
+
+lines_is : (lines : Lines) (cs : List Completed) (closed : List NamedClose) (tags : List ℕ)
+    → lines.completions ≡ cs → lines.closed ≡ closed → lines.tags ≡ tags → lines ≡ record { completions = cs; closed = closed; tags = tags }
+lines_is lines cs closed tags one two three =
+    let p : Lines = record { completions = lines.completions; closed = lines.closed; tags = lines.tags } in
+    let q : Lines = record { completions = cs; closed = closed; tags = tags } in
+    let parts : p ≡ q = cc in
+    parts
+
+abbrev pub behind_closed : Lines × List ℕ → List ℕ
+behind_closed front = flat_map line_of_tag front.0.tags ++ front.1
+
+abbrev pub behind_completions : Lines × List ℕ → List ℕ
+behind_completions front = flat_map named_line front.0.closed ++ behind_closed front
+
+regroup : (front : Lines × List ℕ) → lines_text front.0 ++ front.1 ≡ flat_map completion_line front.0.completions ++ behind_completions front
+regroup front = simp append_assoc
+
+-- no line of a closed file stands behind them
+no_closed_behind : (tags rest : List ℕ) → HasNoCloses rest → ¬ (StartsWith (flat_map line_of_tag tags ++ rest) (codes "closed "))
+no_closed_behind [] rest none = none.no_closed
+no_closed_behind (tag ∷ tags) rest none = λ starts.
+    let first : 116 ≡ 99 = ap (λ (t : List ℕ). get_or t 0 0) starts in
+    true≢false (ap (λ n. n == 116) first)
+
+abbrev pub FirstPart : ℕ → List ℕ → List Completed × List ℕ → Type 0
+FirstPart count text front = IsPrintedFrom (lines_before completion_line) (IsFront IsCompletionInRange (AreSoMany count)) text front
+
+abbrev pub SecondPart : List ℕ → List NamedClose × List ℕ → Type 0
+SecondPart text front = IsPrintedFrom (lines_before named_line) (IsFront IsCloseInRange (AreAll (codes "closed "))) text front
+
+abbrev pub ThirdPart : List ℕ → List ℕ × List ℕ → Type 0
+ThirdPart text front = IsPrintedFrom (lines_before line_of_tag) (IsFront (λ tag. tag < 2 ^ 64) (AreAll (codes "tag "))) text front
+
+pub no_first : (count : ℕ) (text : List ℕ)
+    → Reads (lines_before completion_line) (IsFront IsCompletionInRange (AreSoMany count)) text None → ReadsReport count text None
+no_first count text none other fits same =
+    none (other.0.completions, behind_completions other) (fits.in_range.completions, fits.each) (same ∙ regroup other)
+
+first_of_report : (count : ℕ) (text : List ℕ) (cs : List Completed) (rest : List ℕ) → FirstPart count text (cs, rest)
+    → (other : Lines × List ℕ) → IsReportBefore count other → text ≡ lines_text other.0 ++ other.1
+    → (other.0.completions ≡ cs) × (rest ≡ behind_completions other)
+first_of_report count text cs rest is other fits same =
+    let told = is.only (other.0.completions, behind_completions other) (fits.in_range.completions, fits.each) (same ∙ regroup other) in
+    (ap (λ p. p.0) told, sym (ap (λ p. p.1) told))
+
+pub no_second : (count : ℕ) (text : List ℕ) (cs : List Completed) (rest : List ℕ) → FirstPart count text (cs, rest)
+    → Reads (lines_before named_line) (IsFront IsCloseInRange (AreAll (codes "closed "))) rest None → ReadsReport count text None
+no_second count text cs rest is none other fits same =
+    none (other.0.closed, behind_closed other) (fits.in_range.closed, no_closed_behind other.0.tags other.1 fits.behind)
+    (first_of_report count text cs rest is other fits same).1
+
+second_of_report : (count : ℕ) (text : List ℕ) (cs : List Completed) (rest : List ℕ) (closed : List NamedClose) (left : List ℕ)
+    → FirstPart count text (cs, rest) → SecondPart rest (closed, left)
+    → (other : Lines × List ℕ) → IsReportBefore count other → text ≡ lines_text other.0 ++ other.1
+    → (other.0.closed ≡ closed) × (left ≡ behind_closed other)
+second_of_report count text cs rest closed left is next other fits same =
+    let told = next.only (other.0.closed, behind_closed other) (fits.in_range.closed, no_closed_behind other.0.tags other.1 fits.behind)
+    (first_of_report count text cs rest is other fits same).1 in
+    (ap (λ p. p.0) told, sym (ap (λ p. p.1) told))
+
+pub no_third : (count : ℕ) (text : List ℕ) (cs : List Completed) (rest : List ℕ) (closed : List NamedClose) (left : List ℕ)
+    → FirstPart count text (cs, rest) → SecondPart rest (closed, left)
+    → Reads (lines_before line_of_tag) (IsFront (λ tag. tag < 2 ^ 64) (AreAll (codes "tag "))) left None → ReadsReport count text None
+no_third count text cs rest closed left is next none other fits same =
+    none (other.0.tags, other.1) (fits.in_range.tags, fits.behind.no_tag) (second_of_report count text cs rest closed left is next other fits same).1
+
+third_of_report : (count : ℕ) (text : List ℕ) (cs : List Completed) (rest : List ℕ) (closed : List NamedClose) (left tags last : List ℕ)
+    → FirstPart count text (cs, rest) → SecondPart rest (closed, left) → ThirdPart left (tags, last)
+    → (other : Lines × List ℕ) → IsReportBefore count other → text ≡ lines_text other.0 ++ other.1
+    → (other.0.tags ≡ tags) × (other.1 ≡ last)
+third_of_report count text cs rest closed left tags last is next third other fits same =
+    let told = third.only (other.0.tags, other.1) (fits.in_range.tags, fits.behind.no_tag)
+    (second_of_report count text cs rest closed left is next other fits same).1 in
+    (ap (λ p. p.0) told, ap (λ p. p.1) told)
+
+-- a line of a closed file behind those of the tags: the text begins with no report
+pub closed_behind_tags : (count : ℕ) (text : List ℕ) (cs : List Completed) (rest : List ℕ) (closed : List NamedClose) (left tags last : List ℕ)
+    → FirstPart count text (cs, rest) → SecondPart rest (closed, left) → ThirdPart left (tags, last)
+    → StartsWith last (codes "closed ") → ReadsReport count text None
+closed_behind_tags count text cs rest closed left tags last is next third starts other fits same =
+    let told = third_of_report count text cs rest closed left tags last is next third other fits same in
+    fits.behind.no_closed (ap (take 7) told.1 ∙ starts)
+
+pub all_parts : (count : ℕ) (text : List ℕ) (cs : List Completed) (rest : List ℕ) (closed : List NamedClose) (left tags last : List ℕ)
+    → FirstPart count text (cs, rest) → SecondPart rest (closed, left) → ThirdPart left (tags, last)
+    → ¬ (StartsWith last (codes "closed ")) → ReadsReport count text (Some (record { completions = cs; closed = closed; tags = tags }, last))
+all_parts count text cs rest closed left tags last is next third none = record {
+  fits_value = record {
+    each = is.fits_value.1;
+    in_range = record { completions = is.fits_value.0; closed = next.fits_value.0; tags = third.fits_value.0 };
+    behind = record { no_closed = none; no_tag = third.fits_value.1 };
+  };
+  printed = is.printed ∙ ap (λ (t : List ℕ). flat_map completion_line cs ++ t)
+      (next.printed ∙ ap (λ (t : List ℕ). flat_map named_line closed ++ t) third.printed)
+      ∙ sym (regroup (record { completions = cs; closed = closed; tags = tags }, last));
+  only = λ other fits same.
+      let one = first_of_report count text cs rest is other fits same in
+      let two = second_of_report count text cs rest closed left is next other fits same in
+      let three = third_of_report count text cs rest closed left tags last is next third other fits same in
+      pair_is other (record { completions = cs; closed = closed; tags = tags }) last (lines_is other.0 cs closed tags one.0 two.0 three.0) three.1;
+}
+
+-- whether a text begins with a word
+pub begun : (word text : List ℕ) (r : Option (Bor (List ℕ)))
+    → Reads (λ (rest : List ℕ). word ++ rest) (λ _. Unit {0}) text (option_map (λ rest. rest.now) r) → is_some r ≡ true → StartsWith text word
+begun word text None reads some = cc some
+begun word text (Some rest) reads some = ap (take (length word)) reads.printed ∙ take_at word rest.now (length word) refl
+
+pub unbegun : (word text : List ℕ) (r : Option (Bor (List ℕ)))
+    → Reads (λ (rest : List ℕ). word ++ rest) (λ _. Unit {0}) text (option_map (λ rest. rest.now) r) → is_some r ≡ false → ¬ (StartsWith text word)
+unbegun word text None reads none = not_begun word text reads
+unbegun word text (Some rest) reads none = cc none

@@ -1,0 +1,19 @@
+use Rattle.std.proofs.Common.{◌≡◌, refl, rules}
+use Rattle.fx_script.specs.Text.{mark_text}
+use Rattle.fx_lines.proofs.CloseTexts.{one_close, parts_of_close}
+use Rattle.fx_lines.proofs.Marks.{mark_without}
+use Rattle.fx_lines.proofs.close.closed_of.Goals as goal
+
+pub returns-in_default : goal.returns-in_default
+returns-in_default c = λ other fits same.
+    c.in_default.ensures (mark_text other.mark, other.name) (mark_without 32 other.mark refl refl refl fits) same
+
+pub returns-in_default-mark_of : goal.returns-in_default-mark_of
+returns-in_default-mark_of c = λ other fits same.
+    c.in_default-mark_of.ensures other.mark fits
+    (parts_of_close c.args.text.now c.in-Some.word.now c.in-Some.name.now c.in-Some.ensures other fits same).0
+
+pub returns : goal.returns
+returns c =
+    let copied : c.in_ok-name.name.items ≡ c.in-Some.name.now = search rules in
+    rw copied (one_close c.args.text.now c.in-Some.word.now c.in-Some.name.now c.in-Some-mark_of.mark c.in-Some.ensures c.in-Some-mark_of.ensures)

@@ -1,0 +1,14 @@
+use Rattle.std.proofs.Common.{length, map}
+use Rattle.std.specs.Prelude.{codes}
+use Rattle.fx_lines.specs.ClosedView.{close_of}
+use Rattle.fx_lines.specs.Front.{AreAll}
+use Rattle.fx_lines.specs.Lines.{IsCloseInRange, named_line}
+use Rattle.fx_lines.proofs.LinesInTurn.{HasFirst}
+use Rattle.fx_lines.proofs.close.read_closed.Given as goal
+
+abbrev pub decreases-loop-behind : goal.decreases-loop-behind
+decreases-loop-behind l = length l.rest
+
+-- the closed files so far are those of the first lines
+abbrev pub invariant-loop-behind : goal.invariant-loop-behind
+invariant-loop-behind l = HasFirst named_line IsCloseInRange (AreAll (codes "closed ")) l.text (map close_of l.closed.items) l.rest

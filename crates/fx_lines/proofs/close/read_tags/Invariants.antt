@@ -1,0 +1,13 @@
+use Rattle.std.proofs.Common.{◌<◌, ◌^◌, length}
+use Rattle.std.specs.Prelude.{codes}
+use Rattle.fx_lines.specs.Front.{AreAll}
+use Rattle.fx_lines.specs.Lines.{line_of_tag}
+use Rattle.fx_lines.proofs.LinesInTurn.{HasFirst}
+use Rattle.fx_lines.proofs.close.read_tags.Given as goal
+
+abbrev pub decreases-loop-behind : goal.decreases-loop-behind
+decreases-loop-behind l = length l.rest
+
+-- the tags so far are those of the first lines
+abbrev pub invariant-loop-behind : goal.invariant-loop-behind
+invariant-loop-behind l = HasFirst line_of_tag (λ tag. tag < 2 ^ 64) (AreAll (codes "tag ")) l.text l.tags.items l.rest

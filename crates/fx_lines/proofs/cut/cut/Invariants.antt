@@ -1,0 +1,7 @@
+use Rattle.std.proofs.Common.{◌≡◌, true, take}
+use Rattle.fx_lines.specs.Lines.{is_without}
+use Rattle.fx_lines.proofs.cut.cut.Given as goal
+
+-- no byte so far is the one at which the text is cut
+abbrev pub invariant-loop-i : goal.invariant-loop-i
+invariant-loop-i l = is_without l.at (take l.i l.text) ≡ true

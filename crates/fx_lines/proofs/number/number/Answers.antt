@@ -1,0 +1,17 @@
+use Rattle.std.proofs.Common.{◌≡◌, ◌^◌, ◌∙◌, sym, arith, rules, None}
+use Rattle.std.specs.Prelude.{decimal}
+use Rattle.fx_lines.proofs.Decimals.{number_reads}
+use Rattle.fx_lines.proofs.Readings.{at_none, at_some, from_none}
+use Rattle.fx_lines.proofs.number.number.Goals as goal
+
+pub returns-in_err-number_up_to : goal.returns-in_err-number_up_to
+returns-in_err-number_up_to c =
+    let none : c.from_residual.result ≡ None = search rules in
+    from_none decimal _ c.args.word.now c.from_residual.result none
+    (at_none decimal _ c.args.word.now _ (sym c.number_up_to.ensures ∙ c.in_err-number_up_to.was)
+    (number_reads 4294967295 (2 ^ 32) c.args.word.now (omega arith) (omega arith)))
+
+pub returns : goal.returns
+returns c =
+    at_some decimal _ c.args.word.now _ _ (sym c.number_up_to.ensures ∙ c.in_ok-number_up_to.was)
+    (number_reads 4294967295 (2 ^ 32) c.args.word.now (omega arith) (omega arith))

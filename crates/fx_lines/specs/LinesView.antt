@@ -1,0 +1,18 @@
+-- What contracts see of the lines that were read.
+use Rattle.std.specs.Prelude.{ℕ, List, map}
+use Rattle.std.specs.Borrow.{Bor}
+use Rattle.fx_chain.specs.Completed.{all_completed}
+use Rattle.fx_lines.specs.ClosedView.{close_of}
+use Rattle.fx_lines.specs.Lines.{Lines}
+use Rattle.fx_lines.specs.declared.report.ReportLines.{ReportLines}
+
+abbrev pub lines_in : ReportLines → Lines
+lines_in lines = record {
+  completions = all_completed lines.completions.items;
+  closed = map close_of lines.closed.items;
+  tags = lines.tags.items;
+}
+
+-- what was read, and the rest of the text
+abbrev pub front_of : ReportLines × Bor (List ℕ) → Lines × List ℕ
+front_of front = (lines_in front.0, front.1.now)

@@ -1,0 +1,109 @@
+//! The lines of closed files, and those of their tags.
+ghost use Rattle.std.specs.Prelude.{◌<◌, ◌^◌, IfOk, codes, map, option_map};
+ghost use Rattle.fx_script.specs.Text.{mark_text};
+ghost use Rattle.fx_lines.specs.ClosedView.{close_of};
+ghost use Rattle.fx_lines.specs.Front.{close_text, entry_text, lines_before, AreAll, IsFront};
+ghost use Rattle.fx_lines.specs.Lines.{IsCloseInRange, IsMarkInRange, IsPlaceInRange, line_of_tag, named_line};
+ghost use Rattle.fx_lines.specs.Reads.{Reads};
+
+use crate::cut::{cut, rest_behind};
+use crate::number::{first_number, number, tag};
+use fx_base::{Mark, NoMemory};
+use fx_chain::Place;
+use std::alloc::Global;
+
+/// What the line of a closed file says (this project's own).
+#[derive(Debug, Drop)]
+pub struct ClosedLine {
+    /// Which installation the file was.
+    pub mark: Mark,
+    /// The name of its catalogue entry, as it is printed.
+    pub name: Vec<u8>,
+}
+
+// The place and the place in a list that a word writes: `S.C.M.E`.
+fn entry_of(word: &[u8]) -> Option<(Place, u32)>
+    ensures { Reads entry_text (λ found. IsPlaceInRange found.0 × (found.1 < 2 ^ 32)) word.now result }
+{
+    let (submission, rest) = first_number(word)?;
+    let (chain, rest) = first_number(rest)?;
+    let (member, rest) = first_number(rest)?;
+    let place = Place {
+        submission,
+        chain,
+        member,
+    };
+    Some((place, number(rest)?))
+}
+
+// The mark that a word writes: `rK.I`, or `S.C.M.E`.
+fn mark_of(word: &[u8]) -> Option<Mark>
+    ensures { Reads mark_text IsMarkInRange word.now result }
+{
+    let Some(rest) = rest_behind(word, b"r") else {
+        let (place, in_list) = entry_of(word)?;
+        return Some(place.mark(in_list));
+    };
+    let (k, rest) = first_number(rest)?;
+    Some(Mark::Registered {
+        k,
+        i: number(rest)?,
+    })
+}
+
+// What a line of a closed file writes behind its first word.
+fn closed_of(alloc: Global, text: &[u8]) -> Result<Option<ClosedLine>, NoMemory>
+    ensures { IfOk result (λ closed. Reads close_text (λ close. IsMarkInRange close.mark)
+        text.now (option_map close_of closed)) }
+{
+    let Some((word, name)) = cut(text, b' ') else {
+        return Ok(None);
+    };
+    let Some(mark) = mark_of(word) else {
+        return Ok(None);
+    };
+    let name = name.to_vec(alloc)?;
+    Ok(Some(ClosedLine { mark, name }))
+}
+
+// The closed files of the first lines of a text, up to one that isn't of a closed file, and the rest behind them.
+pub fn read_closed(alloc: Global, text: &[u8]) -> Result<Option<(Vec<ClosedLine>, &[u8])>, NoMemory>
+    ensures { IfOk result (λ found. Reads (lines_before named_line)
+        (IsFront IsCloseInRange (AreAll (codes "closed ")))
+        text.now (option_map (λ front. (map close_of front.0.items, front.1.now)) found)) }
+{
+    let mut closed = Vec::new(alloc);
+    let mut rest = text;
+    while let Some(behind) = rest_behind(rest, b"closed ") {
+        let Some((line, behind)) = cut(behind, b'\n') else {
+            return Ok(None);
+        };
+        let Some(close) = closed_of(alloc, line)? else {
+            return Ok(None);
+        };
+        closed.push(close)?;
+        rest = behind;
+    }
+    Ok(Some((closed, rest)))
+}
+
+// The tags of the first lines of a text, up to one that isn't of a tag, and the rest behind them.
+pub fn read_tags(alloc: Global, text: &[u8]) -> Result<Option<(Vec<u64>, &[u8])>, NoMemory>
+    ensures { IfOk result (λ found. Reads (lines_before line_of_tag)
+        (IsFront (λ tag. tag < 2 ^ 64) (AreAll (codes "tag ")))
+        text.now (option_map (λ front. (front.0.items, front.1.now)) found)) }
+{
+    let mut tags = Vec::new(alloc);
+    let mut rest = text;
+    while let Some(behind) = rest_behind(rest, b"tag ") {
+        let Some((line, behind)) = cut(behind, b'\n') else {
+            return Ok(None);
+        };
+        let Some(tag) = tag(line) else {
+            return Ok(None);
+        };
+        tags.push(tag)?;
+        rest = behind;
+    }
+    Ok(Some((tags, rest)))
+}

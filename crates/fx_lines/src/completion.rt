@@ -1,0 +1,112 @@
+//! The lines of completions.
+ghost use Rattle.std.specs.Prelude.{◌<◌, IfOk, length, option_map};
+ghost use Rattle.hex.specs.Hex.{encode_lower, IsBytes};
+ghost use Rattle.fx_chain.specs.Completed.{all_completed, completed_of};
+ghost use Rattle.fx_script.specs.Text.{completion_line};
+ghost use Rattle.fx_lines.specs.Front.{answer_text, completion_text, lines_before, place_text, AreSoMany, IsFront};
+ghost use Rattle.fx_lines.specs.Lines.{IsCompletionInRange, IsPlaceInRange, IsResultInRange};
+ghost use Rattle.fx_lines.specs.Reads.{Reads};
+
+use crate::cut::cut;
+use crate::number::{first_number, number, res_of};
+use fx_base::NoMemory;
+use fx_chain::{Completion, Place};
+use hex::FromHexError;
+use std::alloc::Global;
+
+// The place that a word writes: `S.C.M`.
+pub fn place_of(word: &[u8]) -> Option<Place>
+    ensures { Reads place_text IsPlaceInRange word.now result }
+{
+    let (submission, rest) = first_number(word)?;
+    let (chain, rest) = first_number(rest)?;
+    Some(Place {
+        submission,
+        chain,
+        member: number(rest)?,
+    })
+}
+
+// The bytes that a word writes in lower case hexadecimal: one byte at least.
+fn bytes_of(alloc: Global, word: &[u8]) -> Result<Option<Vec<u8>>, NoMemory>
+    ensures { IfOk result (λ bytes. Reads encode_lower (λ got. (0 < length got) × IsBytes got)
+        word.now (option_map (λ got. got.items) bytes)) }
+{
+    if word.is_empty() {
+        return Ok(None);
+    }
+    let bytes = match hex::decode(alloc, word) {
+        Ok(bytes) => bytes,
+        Err(FromHexError::OutOfMemory) => return Err(NoMemory),
+        Err(_) => return Ok(None),
+    };
+    // An upper case digit writes the same byte, and is never printed.
+    if hex::encode(alloc, bytes.as_slice())?.as_bytes() == word {
+        Ok(Some(bytes))
+    } else {
+        Ok(None)
+    }
+}
+
+// The result and the bytes of a read that the rest of a line writes: `RES`, or `RES HEX`.
+fn answer_of(alloc: Global, text: &[u8]) -> Result<Option<(i32, Vec<u8>)>, NoMemory>
+    ensures { IfOk result (λ answer. Reads answer_text
+        (λ found. IsResultInRange found.0 × IsBytes found.1)
+        text.now (option_map (λ found. (found.0, found.1.items)) answer)) }
+{
+    let Some((word, hex)) = cut(text, b' ') else {
+        let Some(res) = res_of(text) else {
+            return Ok(None);
+        };
+        return Ok(Some((res, Vec::new(alloc))));
+    };
+    let Some(res) = res_of(word) else {
+        return Ok(None);
+    };
+    let Some(got) = bytes_of(alloc, hex)? else {
+        return Ok(None);
+    };
+    Ok(Some((res, got)))
+}
+
+// The completion that a line without its end writes.
+fn completion_of(alloc: Global, line: &[u8]) -> Result<Option<Completion>, NoMemory>
+    ensures { IfOk result (λ completion. Reads completion_text IsCompletionInRange
+        line.now (option_map completed_of completion)) }
+{
+    let Some((word, answer)) = cut(line, b' ') else {
+        return Ok(None);
+    };
+    let Some(place) = place_of(word) else {
+        return Ok(None);
+    };
+    let Some((res, got)) = answer_of(alloc, answer)? else {
+        return Ok(None);
+    };
+    Ok(Some(Completion { place, res, got }))
+}
+
+// The completions of the first so many lines of a text, and the rest behind them.
+pub fn read_completions(
+    alloc: Global,
+    text: &[u8],
+    count: usize,
+) -> Result<Option<(Vec<Completion>, &[u8])>, NoMemory>
+    ensures { IfOk result (λ found. Reads (lines_before completion_line)
+        (IsFront IsCompletionInRange (AreSoMany count))
+        text.now (option_map (λ front. (all_completed front.0.items, front.1.now)) found)) }
+{
+    let mut completions = Vec::new(alloc);
+    let mut rest = text;
+    for _ in 0..count {
+        let Some((line, behind)) = cut(rest, b'\n') else {
+            return Ok(None);
+        };
+        let Some(completion) = completion_of(alloc, line)? else {
+            return Ok(None);
+        };
+        completions.push(completion)?;
+        rest = behind;
+    }
+    Ok(Some((completions, rest)))
+}

@@ -1,0 +1,24 @@
+//! A text cut at a byte, or behind an expected text.
+ghost use Rattle.std.specs.Prelude.{◌≡◌, ◌++◌, ℕ, List, option_map};
+ghost use Rattle.fx_lines.specs.Front.{cut_text, IsCutPart, parts_of};
+ghost use Rattle.fx_lines.specs.Reads.{Reads};
+
+// The part of a text in front of the first such byte, and the rest behind that byte, where the text has one.
+pub fn cut(text: &[u8], at: u8) -> Option<(&[u8], &[u8])>
+    ensures { Reads (cut_text at) (IsCutPart at) text.now (option_map parts_of result) }
+{
+    for (i, b) in text.iter().enumerate() {
+        if *b == at {
+            return Some((&text[..i], &text[i + 1..]));
+        }
+    }
+    None
+}
+
+/// What stands behind an expected text, or `None` where the text doesn't begin with it (this project's own).
+pub fn rest_behind<'a>(text: &'a [u8], expected: &[u8]) -> Option<&'a [u8]>
+    ensures { Reads (λ (rest : List ℕ). expected.now ++ rest) (λ _. Unit) text.now
+        (option_map (λ rest. rest.now) result) }
+{
+    text.strip_prefix(expected)
+}

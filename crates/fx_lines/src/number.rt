@@ -1,0 +1,54 @@
+//! Numbers as they are printed: decimal, and without a leading zero.
+ghost use Rattle.std.specs.Prelude.{◌≡◌, ◌<◌, ◌^◌, option_map, decimal};
+ghost use Rattle.std.specs.Fmt.{signed_decimal};
+ghost use Rattle.fx_lines.specs.Front.{number_text, with_rest};
+ghost use Rattle.fx_lines.specs.Lines.{IsResultInRange};
+ghost use Rattle.fx_lines.specs.Reads.{Reads};
+
+use crate::cut::{cut, rest_behind};
+use fx_script::{LARGEST_TAG, number_up_to};
+
+/// The largest number of 32 bits.
+const LARGEST_NUMBER: u64 = 4_294_967_295;
+
+/// The largest result.
+const LARGEST_RESULT: u64 = 2_147_483_647;
+
+/// How far below zero a result may be.
+const FARTHEST_BELOW_ZERO: u64 = 2_147_483_648;
+
+// The tag that a word writes.
+pub fn tag(word: &[u8]) -> Option<u64>
+    ensures { Reads decimal (λ n. n < 2 ^ 64) word.now result }
+{
+    number_up_to(LARGEST_TAG, word)
+}
+
+// The number that a word writes.
+pub fn number(word: &[u8]) -> Option<u32>
+    ensures { Reads decimal (λ n. n < 2 ^ 32) word.now result }
+{
+    Some(number_up_to(LARGEST_NUMBER, word)? as u32)
+}
+
+// The number in front of the first full stop, and the rest behind it.
+pub fn first_number(word: &[u8]) -> Option<(u32, &[u8])>
+    ensures { Reads number_text (λ front. front.0 < 2 ^ 32) word.now (option_map with_rest result) }
+{
+    let (digits, rest) = cut(word, b'.')?;
+    Some((number(digits)?, rest))
+}
+
+// The result that a word writes: 0 or more, or `-` and a number other than 0.
+pub fn res_of(word: &[u8]) -> Option<i32>
+    ensures { Reads signed_decimal IsResultInRange word.now result }
+{
+    let Some(digits) = rest_behind(word, b"-") else {
+        return Some(number_up_to(LARGEST_RESULT, word)? as i32);
+    };
+    let n = number_up_to(FARTHEST_BELOW_ZERO, digits)?;
+    if n == 0 {
+        return None;
+    }
+    Some(-1 - (n - 1) as i32)
+}

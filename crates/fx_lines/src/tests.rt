@@ -1,0 +1,3 @@
+mod read;
+mod refused;
+mod rest;
