@@ -1,0 +1,168 @@
+-- Of some files whose marks tell them apart there is one list in order of mark.
+use Rattle.std.proofs.Common.{◌≡◌, ℕ, zero, suc, ◌+◌, ◌<◌, ◌≤◌, Bool, true, false, if◌then◌else◌, List, [], ◌∷◌, length, All, refl, sym, ap, subst, ◌∙◌, arith, slice_index_or, IsPermutation, Some}
+use Rattle.std.specs.Cmp.{IsStrictWeakOrder}
+use Rattle.std.specs.Cmp.Lexicographic.{bytes_decides, nat_list_cmp_total, pointwise, slice_cmp, texts_po}
+use Rattle.std.specs.List.{sum_by}
+use Rattle.std.specs.Ordering.{is_lt, nat_cmp, ordering_reverse, ordering_then}
+use Rattle.std.specs.Prelude.{nat_eq}
+use Rattle.std.specs.declared.cmp.Ordering.{Ordering}
+use Rattle.std.specs.declared.cmp.Ordering.TheVariants.{Less, Equal, Greater}
+use Rattle.std.proofs.lemmas.Bool.{true≢false}
+use Rattle.std.proofs.lemmas.List.Elements.{All-head, All-tail}
+use Rattle.std.proofs.lemmas.List.Sorted.{All-permutation, ranks_by, sorted_far, sum_by-IsPermutation}
+use Rattle.std.proofs.lemmas.List.Sums.{sum_by-cons}
+use Rattle.fx_base.specs.CloseList.{IsInOrderOfMark, mark_cmp}
+use Rattle.fx_base.specs.CloseListView.{CloseListView}
+use Rattle.fx_base.specs.declared.mark.Mark.{Mark}
+use Rattle.fx_base.specs.declared.mark.Mark.TheVariants.{Registered, Submitted}
+use Rattle.fx_base.specs.declared.open_file.Closed.{Closed}
+use Rattle.fx_ring.specs.Ring.{HasClosed}
+
+-- a mark as a list of numbers, in the order of marks
+abbrev pub numbers : Mark → List ℕ
+numbers (Registered k i) = 0 ∷ k ∷ i ∷ []
+numbers (Submitted s c m e) = 1 ∷ s ∷ c ∷ m ∷ e ∷ []
+
+abbrev number_at : List ℕ → ℕ → ℕ
+number_at l k = slice_index_or l k 0
+
+same_mark : (a b : Mark) → numbers a ≡ numbers b → a ≡ b
+same_mark (Registered k i) (Registered l j) same =
+    λ t. Registered (ap (λ (n : List ℕ). number_at n 1) same t) (ap (λ (n : List ℕ). number_at n 2) same t)
+same_mark (Registered k i) (Submitted s c m e) same = let e : ◌≡◌ {A = ℕ} 0 1 = ap (λ (n : List ℕ). number_at n 0) same in absurd (omega arith)
+same_mark (Submitted s c m e) (Registered k i) same = let e : ◌≡◌ {A = ℕ} 1 0 = ap (λ (n : List ℕ). number_at n 0) same in absurd (omega arith)
+same_mark (Submitted s c m e) (Submitted t d n f) same =
+    λ i. Submitted (ap (λ (l : List ℕ). number_at l 1) same i) (ap (λ (l : List ℕ). number_at l 2) same i)
+    (ap (λ (l : List ℕ). number_at l 3) same i) (ap (λ (l : List ℕ). number_at l 4) same i)
+
+abbrev pub below : List ℕ → List ℕ → Bool
+below k l = is_lt (slice_cmp nat_cmp k l)
+
+then_equal : (o : Ordering) → ordering_then o Equal ≡ o
+then_equal Less = refl
+then_equal Equal = refl
+then_equal Greater = refl
+
+same_cmp : (a b : Mark) → slice_cmp nat_cmp (numbers a) (numbers b) ≡ mark_cmp a b
+same_cmp (Registered k i) (Registered l j) = ap (ordering_then (nat_cmp k l)) (then_equal (nat_cmp i j))
+same_cmp (Registered k i) (Submitted s c m e) = refl
+same_cmp (Submitted s c m e) (Registered k i) = refl
+same_cmp (Submitted s c m e) (Submitted t d n f) =
+    ap (λ (o : Ordering). ordering_then (nat_cmp s t) (ordering_then (nat_cmp c d) (ordering_then (nat_cmp m n) o))) (then_equal (nat_cmp e f))
+
+abbrev pub is_below : Closed → Closed → Bool
+is_below x y = below (numbers x.mark) (numbers y.mark)
+
+is_order : IsStrictWeakOrder is_below
+is_order = ranks_by nat_list_cmp_total (λ (file : Closed). numbers file.mark)
+
+-- two lists of numbers of which neither is below the other are one
+level : (o p : Ordering) → o ≡ ordering_reverse p → is_lt o ≡ false → is_lt p ≡ false → o ≡ Equal
+level Less p turned one other = absurd (true≢false one)
+level Equal p turned one other = refl
+level Greater Less turned one other = absurd (true≢false other)
+level Greater Equal turned one other = turned
+level Greater Greater turned one other = absurd (true≢false (sym (ap is_lt turned)))
+
+equal_numbers : (k l : List ℕ) → slice_cmp nat_cmp k l ≡ Equal → k ≡ l
+equal_numbers k l is = (bytes_decides k l).0 ((texts_po.matches_eq k l).1 (ap Some is))
+
+neither_below : (x y : Closed) → is_below x y ≡ false → is_below y x ≡ false → x.mark ≡ y.mark
+neither_below x y one other =
+    let k = numbers x.mark in
+    let l = numbers y.mark in
+    same_mark x.mark y.mark (equal_numbers k l (level _ _ (nat_list_cmp_total.antisymm k l) one other))
+
+-- none of them is below the first
+abbrev pub AreNotBelow : Closed → List Closed → Type 0
+AreNotBelow x [] = Unit {0}
+AreNotBelow x (y ∷ ys) = (is_below y x ≡ false) × AreNotBelow x ys
+
+abbrev pub Rises : List Closed → Type 0
+Rises [] = Unit {0}
+Rises (x ∷ xs) = AreNotBelow x xs × Rises xs
+
+not_below_each : (x : Closed) (ys : List Closed) → ((k : ℕ) → k < length ys → is_below (slice_index_or ys k x) x ≡ false) → AreNotBelow x ys
+not_below_each x [] each = tt
+not_below_each x (y ∷ ys) each = (each 0 (omega arith), not_below_each x ys (λ k inside. each (suc k) (omega arith)))
+
+-- what is sorted rises
+rises_from : (xs : List Closed) → ((i j : ℕ) (d : Closed) → i ≤ j → j < length xs → is_below (slice_index_or xs j d) (slice_index_or xs i d) ≡ false)
+    → Rises xs
+rises_from [] far = tt
+rises_from (x ∷ xs) far = (
+  not_below_each x xs (λ k inside. far 0 (suc k) x (omega arith) (omega arith)),
+  rises_from xs (λ i j d le inside. far (suc i) (suc j) d (omega arith) (omega arith)),
+)
+
+in_order_rises : (xs : List Closed) → IsInOrderOfMark xs → Rises xs
+in_order_rises xs up = rises_from xs (sorted_far is_below is_order xs
+    (λ k d low high. ap is_lt (same_cmp (slice_index_or xs (k + 1) d).mark (slice_index_or xs k d).mark) ∙ up k d low high))
+
+-- 1 where the mark has these numbers
+abbrev hits : List ℕ → Closed → ℕ
+hits k x = if pointwise nat_eq (numbers x.mark) k then 1 else 0
+
+hits_itself : (x : Closed) → hits (numbers x.mark) x ≡ 1
+hits_itself x = ap (λ (b : Bool). if b then 1 else 0) ((bytes_decides (numbers x.mark) (numbers x.mark)).1 refl)
+
+hit_below : (b : Bool) (k : List ℕ) (x y : Closed) → pointwise nat_eq (numbers x.mark) k ≡ b → is_below x y ≡ false
+    → 1 ≤ (if b then 1 else 0) → below k (numbers y.mark) ≡ false
+hit_below true k x y is rises some = ap (λ (l : List ℕ). below l (numbers y.mark)) (sym ((bytes_decides (numbers x.mark) k).0 is)) ∙ rises
+hit_below false k x y is rises some = absurd (omega arith)
+
+-- a mark that one of them has isn't below that in front of them
+found_above : (k : List ℕ) (y : Closed) (zs : List Closed) → AreNotBelow y zs → 1 ≤ sum_by (hits k) zs → below k (numbers y.mark) ≡ false
+found_above k y [] rises some = absurd (omega arith)
+found_above k y (z ∷ zs) rises some =
+    let parts = sum_by-cons (hits k) z zs in
+    by_test (pointwise nat_eq (numbers z.mark) k) k y z (sum_by (hits k) zs) refl rises.0 (omega arith) (λ more. found_above k y zs rises.1 more)
+  where
+    by_test : (b : Bool) (k : List ℕ) (y z : Closed) (more : ℕ) → pointwise nat_eq (numbers z.mark) k ≡ b → is_below z y ≡ false
+        → 1 ≤ (if b then 1 else 0) + more → (1 ≤ more → below k (numbers y.mark) ≡ false) → below k (numbers y.mark) ≡ false
+    by_test true k y z more is rises some rest = hit_below true k z y is rises (omega arith)
+    by_test false k y z more is rises some rest = rest (omega arith)
+
+module _ (P : Closed → Type 0) (one : (x y : Closed) → P x → P y → x.mark ≡ y.mark → x ≡ y) where
+  first_too : (x : Closed) (xs : List Closed) → AreNotBelow x xs → AreNotBelow x (x ∷ xs)
+  first_too x xs rises = (not_itself, rises)
+    where
+      not_itself : is_below x x ≡ false
+      not_itself = by (is_below x x) refl
+        where
+          by : (b : Bool) → is_below x x ≡ b → is_below x x ≡ false
+          by true is = is_order.one_way x x is
+          by false is = is
+
+  pub one_list : (xs ys : List Closed) → All P xs → All P ys → Rises xs → Rises ys
+      → ((f : Closed → ℕ) → sum_by f ys ≡ sum_by f xs) → xs ≡ ys
+  one_list [] [] all too up rise sums = refl
+  one_list [] (y ∷ ys) all too up rise sums =
+      let count : Closed → ℕ = λ _. 1 in
+      let same = sums count in let parts = sum_by-cons count y ys in absurd (omega arith)
+  one_list (x ∷ xs) [] all too up rise sums =
+      let count : Closed → ℕ = λ _. 1 in
+      let same = sums count in let parts = sum_by-cons count x xs in absurd (omega arith)
+  one_list (x ∷ xs) (y ∷ ys) all too up rise sums =
+      let f = hits (numbers x.mark) in
+      let g = hits (numbers y.mark) in
+      let x_itself = hits_itself x in
+      let y_itself = hits_itself y in
+      let f_parts = sum_by-cons f x xs in
+      let g_parts = sum_by-cons g y ys in
+      let f_same = sums f in
+      let g_same = sums g in
+      let y_not_above : is_below x y ≡ false = found_above (numbers x.mark) y (y ∷ ys) (first_too y ys rise.0) (omega arith) in
+      let x_not_above : is_below y x ≡ false = found_above (numbers y.mark) x (x ∷ xs) (first_too x xs up.0) (omega arith) in
+      let same : x ≡ y = one x y (All-head P x xs all) (All-head P y ys too) (neither_below x y y_not_above x_not_above) in
+      let rest : xs ≡ ys = one_list xs ys (All-tail P x xs all) (All-tail P y ys too) up.1 rise.1
+      (λ h. let before = sum_by-cons h x xs in let behind = sum_by-cons h y ys in let whole = sums h in
+      let equal : h x ≡ h y = ap h same in omega arith) in
+      λ i. same i ∷ rest i
+
+  -- the list of closed files that has them is one
+  pub one_close_list : (files : List Closed) (a b : CloseListView) → All P files → HasClosed files a → HasClosed files b → a.files ≡ b.files
+  one_close_list files a b all first second =
+      one_list a.files b.files (All-permutation P files a.files first.same_files all) (All-permutation P files b.files second.same_files all)
+      (in_order_rises a.files first.in_order) (in_order_rises b.files second.in_order)
+      (λ f. sum_by-IsPermutation f files b.files second.same_files ∙ sym (sum_by-IsPermutation f files a.files first.same_files))

@@ -1,0 +1,13 @@
+pub mod Shown
+pub mod OneText
+pub mod ClosesInOrder
+pub mod Steps
+pub mod ListWorked
+pub mod Plays
+pub mod OnePlay
+pub mod Registrations
+pub mod FilesThere
+pub mod OnlyRegistrations
+pub mod OnlyRefused
+pub mod Entries
+pub mod Submissions

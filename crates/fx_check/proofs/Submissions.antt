@@ -1,0 +1,135 @@
+-- An accepted submission whose lines a text goes on with.
+use Rattle.std.proofs.Common.{◌≡◌, ℕ, ◌+◌, ◌<◌, ◌≤◌, Bool, false, nat_le, List, ◌++◌, length, map, filter, not, ◌==◌, take, sym, ap, subst, ◌∙◌, arith, Option, None, length-append}
+use Rattle.std.specs.Bool.{MatchBool}
+use Rattle.std.specs.List.{flat_map}
+use Rattle.std.specs.Option.{MatchOption}
+use Rattle.std.proofs.Math.Seq.{take-append_seam}
+use Rattle.std.proofs.lemmas.Bool.{lt-leb}
+use Rattle.std.proofs.lemmas.List.Folds.{flat_map-map}
+use Rattle.fx_base.specs.Catalogue.{FileEntry}
+use Rattle.fx_base.specs.Tags.{tags_of}
+use Rattle.fx_chain.specs.Completed.{all_completed}
+use Rattle.fx_chain.specs.Faults.{fault_of}
+use Rattle.fx_chain.specs.Operation.{Asked}
+use Rattle.fx_chain.specs.declared.fault.CutFault.{CutFault}
+use Rattle.fx_order.specs.Order.{IsOneOrder}
+use Rattle.fx_order.proofs.Histories.{each_order_is_a_history}
+use Rattle.fx_plain.specs.declared.table.TheConstants.{MOST_SLOTS}
+use Rattle.fx_ring.specs.Ring.{RingState, IsRing, ring_of}
+use Rattle.fx_ring.specs.Submission.{Reported}
+use Rattle.fx_ring.specs.declared.ring.TheConstants.{MOST_SUBMISSIONS}
+use Rattle.fx_script.specs.Instruction.{SubmitsAll}
+use Rattle.fx_script.specs.Play.{PrintsReport}
+use Rattle.fx_script.specs.Text.{closed_lines, completion_lines, name_of, refused_line, report_text, tag_lines, too_many_line}
+use Rattle.std.proofs.lemmas.Simd.{map-map}
+use Rattle.fx_base.specs.Tags.{tag_completion}
+use Rattle.fx_base.specs.declared.open_file.Closed.{Closed}
+use Rattle.fx_base.specs.declared.tag_completion.TagCompletion.{TagCompletion}
+use Rattle.fx_lines.specs.ClosedView.{close_of}
+use Rattle.fx_lines.specs.LinesView.{lines_in}
+use Rattle.fx_lines.specs.declared.report.ReportLines.{ReportLines}
+use Rattle.fx_check.specs.Told.{named_closes}
+use Rattle.fx_lines.specs.Lines.{Lines, line_of_tag, lines_of, lines_text, named_line}
+use Rattle.fx_judge.specs.Verdict.{ring_with_slots, told_report}
+use Rattle.fx_judge.specs.declared.told.RingSlots.{RingSlots}
+use Rattle.fx_judge.specs.declared.told.Told.{Told}
+use Rattle.fx_check.specs.Kept.{IsKept}
+use Rattle.fx_check.specs.Met.{MayPrint}
+
+-- the text of a report is that of its lines
+printed_lines : (catalogue : List FileEntry) (report : Reported) → report_text catalogue report ≡ lines_text (lines_of catalogue report)
+printed_lines catalogue report =
+    let files = report.closes.files in
+    let closed : flat_map named_line (map (λ file. record { mark = file.mark; name = name_of catalogue file.entry }) files) ≡ closed_lines catalogue files =
+    flat_map-map named_line (λ file. record { mark = file.mark; name = name_of catalogue file.entry }) files in
+    let tags : flat_map line_of_tag (map (λ completion. completion.user_data) (tags_of files)) ≡ tag_lines (tags_of files) =
+    flat_map-map line_of_tag (λ completion. completion.user_data) (tags_of files) in
+    sym (ap (λ (text : List ℕ). completion_lines report.completions ++ text)
+    (ap (λ (text : List ℕ). text ++ flat_map line_of_tag (map (λ completion. completion.user_data) (tags_of files))) closed
+    ∙ ap (λ (text : List ℕ). closed_lines catalogue files ++ text) tags))
+
+-- the lines of what is told are those that were read
+pub told_lines : (catalogue : List FileEntry) (lines : ReportLines) (files : List Closed)
+    → named_closes catalogue files ≡ map close_of lines.closed.items
+    → map (λ file. file.tag) (filter (λ file. not (file.tag == 0)) files) ≡ lines.tags.items
+    → (number room : ℕ) → lines_of catalogue (record {
+      submission = number;
+      completions = all_completed lines.completions.items;
+      closes = record { files = files; room = room };
+    }) ≡ lines_in lines
+told_lines catalogue lines files closed tags number room =
+    let tagged : List Closed = filter (λ (file : Closed). not (file.tag == 0)) files in
+    let all : map (λ completion. completion.user_data) (tags_of files) ≡ lines.tags.items =
+    map-map (λ (completion : TagCompletion). completion.user_data) (λ (file : Closed). tag_completion file.tag) tagged ∙ tags in
+    λ i. record { completions = all_completed lines.completions.items; closed = closed i; tags = all i }
+
+front_taken : (text front rest : List ℕ) (count : ℕ) → text ≡ front ++ rest → count + length rest ≡ length text → take count text ≡ front
+front_taken text front rest count split counts =
+    let sizes = length-append front rest in
+    let whole = ap length split in
+    let same : count ≡ length front = omega arith in
+    ap (λ (n : ℕ). take n text) same ∙ ap (take (length front)) split ∙ take-append_seam front rest
+
+module _ (catalogue : List FileEntry) (old new : RingSlots) (asked : List Asked) (told : Told) where
+  abbrev pub before : RingState
+  before = ring_with_slots catalogue old
+
+  abbrev pub after : RingState
+  after = ring_with_slots catalogue new
+
+  abbrev pub IsOrdered : Type 0
+  IsOrdered = (room : ℕ) → IsOneOrder before asked (told_report before told room) after
+
+  pub accepted_goes : (lines : Lines) (text rest : List ℕ) (count : ℕ) → IsKept catalogue old → fault_of asked ≡ None → old.submissions < MOST_SUBMISSIONS
+      → IsOrdered
+      → ((number room : ℕ) → lines_of catalogue (record {
+        submission = number;
+        completions = all_completed told.completions.items;
+        closes = record { files = told.closes.items; room = room };
+      }) ≡ lines)
+      → text ≡ lines_text lines ++ rest → count + length rest ≡ length text
+      → (count ≤ length text) × MayPrint before (SubmitsAll asked) after (take count text)
+  accepted_goes lines text rest count kept accepted few ordered has split counts = (
+    omega arith,
+    λ ring same.
+        let report : Reported = told_report before told 0 in
+        let printed : take count text ≡ report_text ring.catalogue report =
+        front_taken text (lines_text lines) rest count split counts
+        ∙ ap lines_text (sym (has (old.submissions + 1) 0)) ∙ sym (printed_lines catalogue report)
+        ∙ ap (λ (r : RingState). report_text r.catalogue report) (sym same) in
+        let small : (ring_of ring).size ≤ MOST_SLOTS = subst (λ (r : RingState). r.size ≤ MOST_SLOTS) (sym same) kept.few_slots in
+        let one : IsOneOrder (ring_of ring) asked report after = subst (λ (r : RingState). IsOneOrder r asked report after) (sym same) (ordered 0) in
+        let history = each_order_is_a_history ring asked report after small accepted one in
+        let few_yet : nat_le MOST_SUBMISSIONS ring.submissions ≡ false =
+        ap (λ (r : RingState). nat_le MOST_SUBMISSIONS r.submissions) same ∙ lt-leb MOST_SUBMISSIONS old.submissions few in
+        let next = history.0 in
+        let reports : PrintsReport ring asked next (take count text) = (report, history.2, printed) in (
+          next,
+          history.1,
+          subst (λ (x : Option CutFault). MatchOption x
+              (MatchBool (nat_le MOST_SUBMISSIONS ring.submissions) ((ring_of next ≡ ring_of ring) × (take count text ≡ too_many_line)) (PrintsReport ring asked next (take count text)))
+              (λ fault. (ring_of next ≡ ring_of ring) × (take count text ≡ refused_line fault))) (sym accepted)
+              (subst (λ (b : Bool). MatchBool b ((ring_of next ≡ ring_of ring) × (take count text ≡ too_many_line)) (PrintsReport ring asked next (take count text)))
+              (sym few_yet) reports),
+        ),
+  )
+
+  pub same_slots : IsOrdered → IsKept catalogue old → length new.slots.at.items ≤ MOST_SLOTS
+  same_slots ordered kept =
+      let one = ordered 0 in
+      let e : length new.slots.at.items ≡ length old.slots.at.items = ap (λ (r : RingState). r.size) one.after in
+      let few = kept.few_slots in
+      omega arith
+
+  pub accepted_keeps : IsOrdered → IsKept catalogue old → old.submissions < MOST_SUBMISSIONS → IsRing after → IsKept catalogue new
+  accepted_keeps ordered kept few is =
+      let one = ordered 0 in
+      let counted : new.submissions ≡ old.submissions + 1 = ap (λ (r : RingState). r.submissions) one.after in
+      let same : new.registrations ≡ old.registrations = ap (λ (r : RingState). r.registrations) one.after in
+      let before = kept.few_registrations in
+      record {
+        few_slots = same_slots ordered kept;
+        few_submissions = omega arith;
+        few_registrations = omega arith;
+        is_ring = is;
+      }

@@ -1,0 +1,54 @@
+use Rattle.std.proofs.Common.{◌≡◌, ◌+◌, ℕ, ℤ, List, [], ◌∷◌, ◌++◌, pos, to_z, of_z, w32, slice_index_or, take, ap, subst, sym, ◌∙◌, rules, arith, length, append-nil}
+use Rattle.std.proofs.Math.Seq.{take-length}
+use Rattle.std.specs.Global.{Vec}
+use Rattle.std.specs.Option.{option_to_list}
+use Rattle.fx_base.specs.declared.mark.Mark.TheVariants.{Registered}
+use Rattle.fx_base.specs.declared.open_file.Closed.{Closed}
+use Rattle.fx_order.specs.Access.{with_file}
+use Rattle.fx_order.specs.Slots.{table_of_slots}
+use Rattle.fx_ring.specs.Registration.{file_after, files_after, removed_from}
+use Rattle.fx_ring.specs.Tags.{tags_for}
+use Rattle.fx_check.proofs.ListWorked.{one_more, more_removed}
+use Rattle.fx_check.proofs.list.apply_list.Goals.{in-Some+in_ok-push, in_default}
+use Rattle.fx_check.proofs.list.apply_list.Goals as goal
+
+pub loop-i-preserved : goal.loop-i-preserved
+loop-i-preserved c =
+    let number = slice_index_or c.args.list.now c.loop-i.i (pos 0) in
+    let z = to_z w32 (of_z w32 number) in
+    let read : to_z w32 (of_z w32 number) ≡ number = search rules in
+    let tags = tags_for c.args.list.now c.args.tags in
+    let first = table_of_slots c.args.slots.now in
+    let cur = table_of_slots c.loop-i.slots in
+    let new = table_of_slots c.apply_number.new.slots in
+    let after : new ≡ with_file cur (c.args.off + c.loop-i.i) (file_after (Registered c.args.k c.loop-i.i) c.tag_at.result z (cur.at (c.args.off + c.loop-i.i))) =
+    c.apply_number.ensures.table in
+    let gone = more_removed c.args.k c.args.off c.loop-i.i c.args.list.now tags z first cur new c.loop-i-test.true read c.loop-i.invariant.table in
+    let was = c.loop-i.invariant.removed in
+    record {
+      table = one_more c.args.k c.args.off c.loop-i.i c.args.list.now tags z first cur new c.loop-i-test.true read c.loop-i.invariant.table
+          (after ∙ ap (λ (tag : ℕ). with_file cur (c.args.off + c.loop-i.i)
+          (file_after (Registered c.args.k c.loop-i.i) tag z (cur.at (c.args.off + c.loop-i.i)))) (c.tag_at.ensures c.args.list.now));
+      removed = elim c.match-apply_number.branch [
+        | in-Some+in_ok-push w ↦
+            ap (λ (v : Vec Closed). v.items) w.removed-is ∙ w.in_ok-push.ensures.items ∙ ap (λ (l : List Closed). l ++ w.in-Some.file ∷ []) was
+            ∙ gone (w.in-Some.file ∷ []) (ap option_to_list (sym w.in-Some.is) ∙ c.apply_number.ensures.removed)
+        | in_default w ↦
+            ap (λ (v : Vec Closed). v.items) w.removed-is ∙ was ∙ sym (append-nil _)
+            ∙ gone [] (ap option_to_list (sym w.in_default.is) ∙ c.apply_number.ensures.removed)
+      ];
+    }
+
+pub returns : goal.returns
+returns c =
+    let past = c.loop-i-test.false in
+    let below = c.loop-i.auto.i-end in
+    let all : c.loop-i.i ≡ length c.args.list.now = omega arith in
+    let end : take c.loop-i.i c.args.list.now ≡ c.args.list.now = ap (λ (n : ℕ). take n c.args.list.now) all ∙ take-length c.args.list.now in
+    let first = table_of_slots c.args.slots.now in
+    let tags = tags_for c.args.list.now c.args.tags in
+    record {
+      table = subst (λ (l : List ℤ). table_of_slots c.loop-i.slots ≡ record first { at = files_after c.args.k first.at c.args.off l tags }) end
+          c.loop-i.invariant.table;
+      removed = subst (λ (l : List ℤ). c.loop-i.removed.items ≡ removed_from first.at c.args.off l) end c.loop-i.invariant.removed;
+    }

@@ -1,0 +1,31 @@
+use Rattle.std.proofs.Common.{◌≡◌, ◌∙◌, sym}
+use Rattle.std.proofs.lemmas.Bool.{true≢false}
+use Rattle.std.proofs.lemmas.Bool.Decides.{Decides-eqb}
+use Rattle.std.proofs.lemmas.Slice.Eq.{slice_eq-Decides}
+use Rattle.fx_script.specs.Text.{teardown_text}
+use Rattle.fx_judge.specs.Verdict.{ring_with_slots}
+use Rattle.fx_check.proofs.FilesThere.{end_printed}
+use Rattle.fx_check.proofs.Entries.{all_closed, all_of_ring, few_of_ring}
+use Rattle.fx_check.proofs.play.play_end.Goals as goal
+
+pub close_in_order-requires-clause-entries : goal.close_in_order-requires-clause-entries
+close_in_order-requires-clause-entries c =
+    all_of_ring c.args.catalogue.now c.args.ring.now c.deref.result.now (c.deref.ensures.value ∙ c.in_ok-files.ensures) c.requires.is_ring
+
+pub close_in_order-requires-clause-few : goal.close_in_order-requires-clause-few
+close_in_order-requires-clause-few c =
+    few_of_ring c.args.ring.now c.deref.result.now (c.deref.ensures.value ∙ c.in_ok-files.ensures) c.requires.few_slots
+
+pub teardown_text-requires : goal.teardown_text-requires
+teardown_text-requires c =
+    all_closed c.args.catalogue.now c.deref.result.now c.in_ok-closes.closes
+    (all_of_ring c.args.catalogue.now c.args.ring.now c.deref.result.now (c.deref.ensures.value ∙ c.in_ok-files.ensures) c.requires.is_ring)
+    c.in_ok-closes.ensures
+
+pub returns-clause-only : goal.returns-clause-only
+returns-clause-only c = λ ends.
+    let written = slice_eq-Decides Decides-eqb c.as_bytes.result.now c.args.text.now c.eq.result c.eq.ensures in
+    let same : c.args.text.now ≡ teardown_text c.args.catalogue.now c.in_ok-closes.closes.files =
+    end_printed (ring_with_slots c.args.catalogue.now c.args.ring.now) c.deref.result.now c.in_ok-closes.closes c.args.text.now c.requires.is_ring
+    (c.deref.ensures.value ∙ c.in_ok-files.ensures) c.in_ok-closes.ensures ends in
+    true≢false (sym (written.1 (c.as_bytes.ensures.value ∙ c.in_ok-wanted.ensures ∙ sym same)) ∙ c.if-eq.false)

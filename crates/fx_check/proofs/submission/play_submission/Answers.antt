@@ -1,0 +1,16 @@
+use Rattle.std.proofs.Common.{List, ℕ, Err, length, refl, subst}
+use Rattle.fx_chain.specs.Faults.{fault_of}
+use Rattle.fx_chain.specs.Runs.{runs_of}
+use Rattle.fx_chain.specs.Operation.{all_asked}
+use Rattle.fx_script.specs.Instruction.{SubmitsAll}
+use Rattle.fx_check.specs.Met.{IsMet}
+use Rattle.fx_check.proofs.OnlyRefused.{fault_told, refused_only}
+use Rattle.fx_check.proofs.submission.play_submission.Goals as goal
+
+pub returns-in-Err-clause-only : goal.returns-in-Err-clause-only
+returns-in-Err-clause-only c = λ call.
+    c.of.ensures.only c.args.catalogue.now c.args.ring.now c.args.ring.now (SubmitsAll (all_asked c.args.requests.now)) c.args.text.now
+    (refused_only c.args.catalogue.now c.args.ring.now (all_asked c.args.requests.now) c.args.text.now c.in-Err.fault c.meet.result
+    (fault_told (fault_of (all_asked c.args.requests.now)) c.in-Err.fault (length (runs_of (all_asked c.args.requests.now))) (Err c.in-Err.fault) refl
+    c.in-Err.ensures.fault c.in-Err.ensures.chains)
+    (subst (λ (l : List ℕ). IsMet c.args.text.now l c.meet.result) c.in_ok-refused_line.ensures c.meet.ensures))

@@ -1,0 +1,15 @@
+-- What is kept of a ring while a text is judged.
+use Rattle.std.specs.Prelude.{◌≤◌, List, length}
+use Rattle.fx_base.specs.Catalogue.{FileEntry}
+use Rattle.fx_plain.specs.declared.table.TheConstants.{MOST_SLOTS}
+use Rattle.fx_judge.specs.Verdict.{ring_with_slots}
+use Rattle.fx_judge.specs.declared.told.RingSlots.{RingSlots}
+use Rattle.fx_ring.specs.Ring.{IsRing}
+use Rattle.fx_ring.specs.declared.ring.TheConstants.{MOST_REGISTRATIONS, MOST_SUBMISSIONS}
+
+-- its counts and its table are within their limits, and it is what every ring is
+pub record IsKept (catalogue : List FileEntry) (ring : RingSlots) : Type 0 where
+  pub few_slots : length ring.slots.at.items ≤ MOST_SLOTS
+  pub few_submissions : ring.submissions ≤ MOST_SUBMISSIONS
+  pub few_registrations : ring.registrations ≤ MOST_REGISTRATIONS
+  pub is_ring : IsRing (ring_with_slots catalogue ring)

@@ -1,0 +1,6 @@
+pub mod Kept
+pub mod Met
+pub mod Told
+pub mod Answer
+pub mod Only
+pub mod Judged

@@ -1,0 +1,58 @@
+-- That a text goes on with what a command prints in one way alone, or in none.
+use Rattle.std.specs.Prelude.{◌≡◌, ℕ, List, ◌++◌, drop}
+use Rattle.fx_base.specs.Catalogue.{FileEntry}
+use Rattle.fx_ring.specs.Ring.{RingContents, RingState, ring_of}
+use Rattle.fx_chain.specs.Accepted.{IsAccepted}
+use Rattle.fx_script.specs.Instruction.{Instruction, SubmitsAll}
+use Rattle.fx_script.specs.Play.{Prints}
+use Rattle.fx_lines.specs.Lines.{HasNoCloses}
+use Rattle.fx_judge.specs.Verdict.{ring_with_slots}
+use Rattle.fx_judge.specs.declared.told.RingSlots.{RingSlots}
+use Rattle.fx_check.specs.declared.answer.Answer.{Answer}
+use Rattle.fx_check.specs.declared.answer.Answer.TheVariants.{Printed, Broken, Undecided}
+use Rattle.fx_check.specs.declared.met.Met.{Met}
+use Rattle.fx_check.specs.declared.met.Met.TheVariants.{Here, Apart}
+
+-- a ring of this state is led to the next one by the command, and the text is what that prints and
+-- then the others
+pub record GoesOn (old : RingState) (command : Instruction) (text : List ℕ) (next : RingContents)
+    (others : List ℕ) : Type 0 where
+  pub ring : RingContents
+  pub line : List ℕ
+  pub same : ring_of ring ≡ old
+  pub prints : Prints ring command next line
+  pub split : text ≡ line ++ others
+  pub behind : HasNoCloses others
+
+-- however the text goes on with what the command prints, it is so many bytes, and leads there
+abbrev pub LeadsTo : RingState → Instruction → List ℕ → ℕ → RingState → Type 0
+LeadsTo old command text count new =
+    (next : RingContents) (others : List ℕ) → GoesOn old command text next others
+    → (ring_of next ≡ new) × (others ≡ drop count text)
+
+-- the text goes on with nothing that the command prints
+abbrev pub LeadsNowhere : RingState → Instruction → List ℕ → Type 0
+LeadsNowhere old command text =
+    (next : RingContents) (others : List ℕ) → GoesOn old command text next others → ⊥
+
+-- a text goes on with what the command prints in this one way, or in none
+abbrev pub IsOnlyStep :
+    List FileEntry → RingSlots → Instruction → List ℕ → Met → RingSlots → Type 0
+IsOnlyStep catalogue old command text (Here count) new =
+    LeadsTo (ring_with_slots catalogue old) command text count (ring_with_slots catalogue new)
+IsOnlyStep catalogue old command text (Apart wanted) new =
+    LeadsNowhere (ring_with_slots catalogue old) command text
+
+-- the command is no submission that has no fault
+abbrev pub IsCall : Instruction → Type 0
+IsCall (SubmitsAll asked) = ¬ (IsAccepted asked)
+IsCall _ = Unit {0}
+
+-- the same of an answer; where it is undecided nothing is said
+abbrev pub IsOnlyAnswer :
+    List FileEntry → RingSlots → Instruction → List ℕ → Answer → RingSlots → Type 0
+IsOnlyAnswer catalogue old command text (Printed count order) new =
+    LeadsTo (ring_with_slots catalogue old) command text count (ring_with_slots catalogue new)
+IsOnlyAnswer catalogue old command text (Broken fault) new =
+    LeadsNowhere (ring_with_slots catalogue old) command text
+IsOnlyAnswer catalogue old command text (Undecided doubt) new = Unit {0}

@@ -1,0 +1,39 @@
+ghost use Rattle.std.specs.Prelude.{ℕ, List};
+ghost use Rattle.fx_base.specs.Catalogue.{FileEntry};
+ghost use Rattle.fx_script.specs.Instruction.{Instruction};
+ghost use Rattle.fx_judge.specs.declared.told.RingSlots.{RingSlots};
+ghost use Rattle.fx_check.specs.Answer.{IsAnswer};
+ghost use Rattle.fx_check.specs.Met.{IsStep};
+ghost use Rattle.fx_check.specs.Only.{IsOnlyAnswer, IsOnlyStep};
+
+use crate::judgement::{Fault, Order};
+use crate::met::Met;
+use fx_judge::Doubt;
+
+/// What a text says of the next command.
+#[derive(Debug, Drop)]
+pub(crate) enum Answer {
+    /// It goes on with so many bytes that the command may print; with an order, where that is an accepted submission.
+    Printed(usize, Option<Order>),
+    /// It goes on with none that the command may print.
+    Broken(Fault),
+    /// It wasn't seen of the submission, for this reason.
+    Undecided(Doubt),
+}
+
+impl Answer {
+    /// The answer where a command has few texts.
+    pub fn of(met: Met) -> Answer
+        ensures step { (catalogue : List FileEntry) (old new : RingSlots) (command : Instruction)
+            (text : List ℕ) → IsStep catalogue old command text met new
+            → IsAnswer catalogue old command text result new }
+        ensures only { (catalogue : List FileEntry) (old new : RingSlots) (command : Instruction)
+            (text : List ℕ) → IsOnlyStep catalogue old command text met new
+            → IsOnlyAnswer catalogue old command text result new }
+    {
+        match met {
+            Met::Here(count) => Answer::Printed(count, None),
+            Met::Apart(wanted) => Answer::Broken(Fault::Text(wanted)),
+        }
+    }
+}

@@ -1,0 +1,59 @@
+use fx_judge::{Doubt, Reason};
+use fx_order::ChainAccess;
+
+/// Which request makes an access of an order: a person's name for it.
+#[derive(Clone, Copy, Debug, PartialEq, Eq)]
+pub struct AccessPlace {
+    /// Which chain of the submission, from 1.
+    pub chain: u32,
+    /// Which member of the chain, from 1.
+    pub member: u32,
+    /// For an update the place in its list, from 0.
+    pub entry: Option<u32>,
+}
+
+/// An order of an accepted submission's requests, done one at a time.
+#[derive(Debug, Drop)]
+pub struct Order {
+    /// Which of the accepted submissions, from 1.
+    pub submission: u32,
+    /// The accesses that the requests make, the first one first. A request that doesn't come to the table makes none.
+    pub accesses: Vec<ChainAccess>,
+    /// Whose they are, in the same order. It is advice for a person, and no contract speaks of it.
+    pub places: Vec<AccessPlace>,
+}
+
+/// Why a text is none of a script, where its first commands may have printed what stands in front. It is advice for a
+/// person, and no contract speaks of it.
+#[derive(Debug, Drop)]
+pub enum Fault {
+    /// The text goes on with none of the texts that the next command, or the end, may print; this is the likeliest.
+    Text(String),
+    /// So many lines behind what stands in front there is a line that a submission's report doesn't have there; this should
+    /// stand there, in words.
+    Line(usize, String),
+    /// What the text tells of this submission comes of no order of its requests.
+    Order(u32, Reason),
+}
+
+/// Where a text is seen to be none of its script.
+#[derive(Debug, Drop)]
+pub struct Break {
+    /// How many commands may have printed what stands in front. The next one, or the end, may not print what follows.
+    pub commands: usize,
+    /// How many bytes of the text stand in front.
+    pub at: usize,
+    /// Why it isn't.
+    pub fault: Fault,
+}
+
+/// Whether a script may print a text.
+#[derive(Debug, Drop)]
+pub enum Judgement {
+    /// It may: for each accepted submission there is this order.
+    Legal(Vec<Order>),
+    /// It may not.
+    NotLegal(Break),
+    /// It wasn't seen of this accepted submission, from 1, for this reason.
+    Undecided(u32, Doubt),
+}

@@ -1,0 +1,63 @@
+//! Whether a file that a report closes is known: at a slot before, or installed by a request.
+use crate::told::file_marked;
+use fx_base::Mark;
+use fx_chain::{Completion, Op, Place, Request};
+use fx_judge::Told;
+use fx_order::Slots;
+
+// Whether a request that completed so installed a file with this mark.
+fn has_installed(request: &Request, completion: &Completion, mark: Mark) -> bool {
+    let Mark::Submitted {
+        submission,
+        chain,
+        member,
+        entry,
+    } = mark
+    else {
+        return false;
+    };
+    let place = Place {
+        submission,
+        chain,
+        member,
+    };
+    if completion.place != place || completion.res < 0 {
+        return false;
+    }
+    match &request.op {
+        Op::Open { name: _, target: _ } => entry == 0,
+        Op::Update { off: _, list } => {
+            matches!(list.as_slice().get(entry as usize), Some(number) if *number >= 0)
+        }
+        _ => false,
+    }
+}
+
+// The first completion, from one on, that isn't of a place in front of the mark's; all are in order of place.
+fn completion_of(completions: &[Completion], from: usize, mark: Mark) -> usize {
+    for i in from..completions.len() {
+        if completions[i].place.mark(u32::MAX) >= mark {
+            return i;
+        }
+    }
+    completions.len()
+}
+
+/// Which of the files that are told closed, from 0, was at no slot and is none that a request of the submission installed;
+/// none where there is no such file. The files are in order of mark.
+pub(crate) fn unknown_file(slots: &Slots, requests: &[Request], told: &Told) -> Option<usize> {
+    let completions = told.completions.as_slice();
+    let closes = told.closes.as_slice();
+    let mut at = 0usize;
+    for i in 0..closes.len() {
+        let mark = closes[i].mark;
+        at = completion_of(completions, at, mark);
+        let installed = at < completions.len()
+            && at < requests.len()
+            && has_installed(&requests[at], &completions[at], mark);
+        if !installed && file_marked(slots, mark).is_none() {
+            return Some(i);
+        }
+    }
+    None
+}

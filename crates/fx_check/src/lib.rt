@@ -1,0 +1,22 @@
+//! Whether the rules allow a text for a script: a text of a kernel, of an emulator, of anyone.
+#![tactic(auto)]
+
+mod answer;
+mod blame;
+mod closes;
+mod judgement;
+mod known;
+mod list;
+mod met;
+mod places;
+mod play;
+mod refusal;
+mod registration;
+mod submission;
+mod told;
+
+pub use judgement::{AccessPlace, Break, Fault, Judgement, Order};
+pub use play::judge;
+
+#[cfg(test)]
+mod tests;

@@ -1,0 +1,53 @@
+//! What a command printed, looked for at the beginning of a text.
+ghost use Rattle.std.specs.Prelude.{◌≡◌, IfOk, string_bytes};
+ghost use Rattle.fx_chain.specs.Completed.{negated};
+ghost use Rattle.fx_script.specs.Text.{result_line};
+ghost use Rattle.fx_check.specs.Met.{IsMet};
+
+use fx_base::{Errno, NoMemory};
+use fx_script::result_line;
+use std::alloc::Global;
+
+/// Whether a text goes on with what a command prints.
+#[derive(Debug, Drop)]
+pub(crate) enum Met {
+    /// It does, and these are so many bytes.
+    Here(usize),
+    /// It goes on with none of the texts that the command may print, of which this is the likeliest.
+    Apart(String),
+}
+
+/// Looks for a line, or some, at the beginning of a text.
+pub(crate) fn meet(text: &[u8], line: String) -> Met
+    ensures { IsMet text.now (string_bytes line) result }
+{
+    if text.starts_with(line.as_bytes()) {
+        return Met::Here(line.len());
+    }
+    Met::Apart(line)
+}
+
+/// Looks for the line of a command: its word and its result.
+///
+/// # Errors
+/// `NoMemory` where the memory of the line is refused.
+pub(crate) fn meet_result(alloc: Global, text: &[u8], word: &str, res: i64) -> Result<Met, NoMemory>
+    ensures { IfOk result (IsMet text.now (result_line word.now res)) }
+{
+    Ok(meet(text, result_line(alloc, word, res)?))
+}
+
+/// Looks for the line of a refused call: its word, and its error, negated.
+///
+/// # Errors
+/// `NoMemory` where the memory of the line is refused.
+pub(crate) fn meet_refusal(
+    alloc: Global,
+    text: &[u8],
+    word: &str,
+    errno: Errno,
+) -> Result<Met, NoMemory>
+    ensures { IfOk result (IsMet text.now (result_line word.now (negated errno))) }
+{
+    meet_result(alloc, text, word, -i64::from(errno.code()))
+}

@@ -1,0 +1,152 @@
+//! The judge: a script's commands are played against a text, one after another.
+ghost use Rattle.std.specs.Prelude.{◌≡◌, IfNone, IfOk, IfSome, List, OnOk};
+ghost use Rattle.fx_base.specs.Catalogue.{FileEntry};
+ghost use Rattle.fx_ring.specs.Ring.{new_ring};
+ghost use Rattle.fx_script.specs.Instruction.{instruction_of};
+ghost use Rattle.fx_script.specs.Play.{PrintsEnd};
+ghost use Rattle.fx_judge.specs.Verdict.{ring_with_slots};
+ghost use Rattle.fx_check.specs.Answer.{IsAnswer};
+ghost use Rattle.fx_check.specs.Judged.{IsJudged};
+ghost use Rattle.fx_check.specs.Kept.{IsKept};
+ghost use Rattle.fx_check.specs.Only.{IsCall, IsOnlyAnswer};
+
+use crate::answer::Answer;
+use crate::closes::{close_in_order, files_at};
+use crate::judgement::{Break, Fault, Judgement};
+use crate::met::{Met, meet};
+use crate::registration::{play_range, play_register, play_sparse, play_unregister, play_update};
+use crate::submission::play_submission;
+use fx_base::{Catalogue, NoMemory};
+use fx_judge::RingSlots;
+use fx_order::Slots;
+use fx_script::{Command, Script, teardown_text};
+use std::alloc::Global;
+
+// A ring without a table, with nothing counted.
+fn new_ring(alloc: Global) -> RingSlots
+    ensures ring { (catalogue : List FileEntry)
+        → ring_with_slots catalogue result ≡ new_ring catalogue }
+    ensures kept { (catalogue : List FileEntry) → IsKept catalogue result }
+{
+    RingSlots {
+        slots: Slots {
+            range: (0, 0),
+            at: Vec::new(alloc),
+        },
+        submissions: 0,
+        registrations: 0,
+    }
+}
+
+// Plays a command against what is left of the text.
+fn play_command(
+    alloc: Global,
+    catalogue: &Catalogue,
+    ring: &mut RingSlots,
+    command: &Command,
+    text: &[u8],
+    states: usize,
+) -> Result<Answer, NoMemory>
+    requires { IsKept catalogue.now ring.old }
+    ensures answer { IfOk result (λ answer. IsAnswer catalogue.now ring.old
+        (instruction_of command.now) text.now answer ring.new) }
+    ensures only { IfOk result (λ answer. IsCall (instruction_of command.now)
+        → IsOnlyAnswer catalogue.now ring.old (instruction_of command.now) text.now answer ring.new) }
+    ensures kept { OnOk result (IsKept catalogue.now ring.new) }
+{
+    let met = match command {
+        Command::Sparse(n) => play_sparse(alloc, catalogue, ring, *n, text)?,
+        Command::Register(list, None) => {
+            play_register(alloc, catalogue, ring, list, None, text)?
+        }
+        Command::Register(list, Some(tags)) => {
+            play_register(alloc, catalogue, ring, list, Some(tags), text)?
+        }
+        Command::Unregister => play_unregister(alloc, catalogue, ring, text)?,
+        Command::Range(off, len) => play_range(alloc, catalogue, ring, (*off, *len), text)?,
+        Command::Update(off, list, None) => {
+            play_update(alloc, catalogue, ring, *off, list, None, text)?
+        }
+        Command::Update(off, list, Some(tags)) => {
+            play_update(alloc, catalogue, ring, *off, list, Some(tags), text)?
+        }
+        Command::Submit(requests) => {
+            return play_submission(alloc, catalogue, ring, requests, text, states);
+        }
+    };
+    Ok(Answer::of(met))
+}
+
+// Whether what is left of the text is what the end of the script prints; or else what that is.
+fn play_end(
+    alloc: Global,
+    catalogue: &Catalogue,
+    ring: &RingSlots,
+    text: &[u8],
+) -> Result<Option<String>, NoMemory>
+    requires { IsKept catalogue.now ring.now }
+    ensures end { IfOk result (λ wanted. IfNone wanted
+        (PrintsEnd (ring_with_slots catalogue.now ring.now) text.now)) }
+    ensures only { IfOk result (λ wanted. IfSome wanted
+        (λ _. PrintsEnd (ring_with_slots catalogue.now ring.now) text.now → ⊥)) }
+{
+    let files = files_at(alloc, &ring.slots)?;
+    let closes = close_in_order(alloc, catalogue, &files)?;
+    let wanted = teardown_text(alloc, catalogue, &closes)?;
+    if wanted.as_bytes() == text {
+        Ok(None)
+    } else {
+        Ok(Some(wanted))
+    }
+}
+
+/// Whether a script may print a text. The commands are played against it, one after another, on what is kept of a ring; of
+/// each submission at most so many states of each part that has slots of its own are looked at.
+///
+/// That a text which is legal is one that the script may print is proved. That one which isn't legal is none is proved where
+/// it breaks before the first accepted submission, and tested behind it. That each order is one of its submission is tested:
+/// no clause says it of the whole text. Of one submission [`fx_judge::judge_submission`] promises both.
+///
+/// # Errors
+/// `NoMemory` where memory is refused.
+pub fn judge(
+    alloc: Global,
+    script: &Script,
+    text: &[u8],
+    states: usize,
+) -> Result<Judgement, NoMemory>
+    ensures { IfOk result (IsJudged script.now text.now) }
+{
+    let (catalogue, commands) = (script.catalogue(), script.commands());
+    let mut ring = new_ring(alloc);
+    let mut orders = Vec::new(alloc);
+    let mut at = 0usize;
+    for (done, command) in commands.iter().enumerate() {
+        match play_command(alloc, catalogue, &mut ring, command, &text[at..], states)? {
+            Answer::Printed(count, order) => {
+                at += count;
+                if let Some(order) = order {
+                    orders.push(order)?;
+                }
+            }
+            Answer::Broken(fault) => {
+                return Ok(Judgement::NotLegal(Break {
+                    commands: done,
+                    at,
+                    fault,
+                }));
+            }
+            Answer::Undecided(doubt) => {
+                return Ok(Judgement::Undecided(ring.submissions + 1, doubt));
+            }
+        }
+    }
+    match play_end(alloc, catalogue, &ring, &text[at..])? {
+        None => Ok(Judgement::Legal(orders)),
+        Some(wanted) => Ok(Judgement::NotLegal(Break {
+            commands: commands.len(),
+            at,
+            fault: Fault::Text(wanted),
+        })),
+    }
+}

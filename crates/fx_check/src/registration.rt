@@ -1,0 +1,209 @@
+//! The calls between submissions, played on a ring against a text.
+ghost use Rattle.std.specs.Prelude.{IfOk, OnOk, option_map};
+ghost use Rattle.fx_base.specs.declared.errno.Errno.TheVariants.{ENOMEM};
+ghost use Rattle.fx_chain.specs.Completed.{negated};
+ghost use Rattle.fx_script.specs.Instruction.{MakesSparse, RegistersList, SetsRange, Unregisters, UpdatesRing};
+ghost use Rattle.fx_script.specs.Text.{result_line};
+ghost use Rattle.fx_check.specs.Met.{IsMet, IsStep};
+ghost use Rattle.fx_check.specs.Only.{IsOnlyStep};
+ghost use Rattle.fx_check.specs.Kept.{IsKept};
+
+use crate::closes::{close_in_order, files_at};
+use crate::list::{apply_list, empty_slots};
+use crate::met::{Met, meet, meet_refusal, meet_result};
+use crate::refusal::{
+    range_refusal, register_refusal, sparse_refusal, unregister_refusal, update_refusal,
+};
+use fx_base::{Catalogue, Errno, NoMemory};
+use fx_judge::RingSlots;
+use fx_order::Slots;
+use fx_script::{result_line, with_closes};
+use std::alloc::Global;
+
+// Looks for the line of a call that found no memory. Where it isn't there, another line was likelier.
+fn or_no_memory(alloc: Global, text: &[u8], word: &str, likelier: String) -> Result<Met, NoMemory>
+    ensures { IfOk result (IsMet text.now (result_line word.now (negated ENOMEM))) }
+{
+    match meet_refusal(alloc, text, word, Errno::ENOMEM)? {
+        Met::Here(count) => Ok(Met::Here(count)),
+        Met::Apart(_) => Ok(Met::Apart(likelier)),
+    }
+}
+
+/// A table of so many empty slots is registered.
+///
+/// # Errors
+/// `NoMemory` where the memory of the slots or a line is refused.
+pub(crate) fn play_sparse(
+    alloc: Global,
+    catalogue: &Catalogue,
+    ring: &mut RingSlots,
+    n: u32,
+    text: &[u8],
+) -> Result<Met, NoMemory>
+    requires { IsKept catalogue.now ring.old }
+    ensures step { IfOk result (λ met. IsStep catalogue.now ring.old
+        (MakesSparse n) text.now met ring.new) }
+    ensures only { IfOk result (λ met. IsOnlyStep catalogue.now ring.old
+        (MakesSparse n) text.now met ring.new) }
+    ensures kept { OnOk result (IsKept catalogue.now ring.new) }
+{
+    if let Some(errno) = sparse_refusal(catalogue, ring, n) {
+        return meet_refusal(alloc, text, "sparse", errno);
+    }
+    let met = meet_result(alloc, text, "sparse", 0)?;
+    match met {
+        Met::Here(count) => {
+            ring.slots = empty_slots(alloc, n)?;
+            Ok(Met::Here(count))
+        }
+        Met::Apart(wanted) => or_no_memory(alloc, text, "sparse", wanted),
+    }
+}
+
+/// A table of the files of a list is registered, with tags where some are given.
+///
+/// # Errors
+/// `NoMemory` where the memory of the slots or a line is refused.
+pub(crate) fn play_register(
+    alloc: Global,
+    catalogue: &Catalogue,
+    ring: &mut RingSlots,
+    list: &[i32],
+    tags: Option<&[u64]>,
+    text: &[u8],
+) -> Result<Met, NoMemory>
+    requires { IsKept catalogue.now ring.old }
+    ensures step { IfOk result (λ met. IsStep catalogue.now ring.old
+        (RegistersList list.now (option_map (λ given. given.now) tags.entry)) text.now met ring.new) }
+    ensures only { IfOk result (λ met. IsOnlyStep catalogue.now ring.old
+        (RegistersList list.now (option_map (λ given. given.now) tags.entry)) text.now met ring.new) }
+    ensures kept { OnOk result (IsKept catalogue.now ring.new) }
+{
+    if let Some(errno) = register_refusal(catalogue, ring, list, tags) {
+        return meet_refusal(alloc, text, "register", errno);
+    }
+    let met = meet_result(alloc, text, "register", 0)?;
+    match met {
+        Met::Here(count) => {
+            let mut slots = empty_slots(alloc, list.len() as u32)?;
+            let _none = apply_list(alloc, &mut slots, ring.registrations + 1, 0, list, tags)?;
+            ring.slots = slots;
+            ring.registrations += 1;
+            Ok(Met::Here(count))
+        }
+        Met::Apart(wanted) => or_no_memory(alloc, text, "register", wanted),
+    }
+}
+
+/// The table is taken away.
+///
+/// # Errors
+/// `NoMemory` where the memory of the files or a line is refused.
+pub(crate) fn play_unregister(
+    alloc: Global,
+    catalogue: &Catalogue,
+    ring: &mut RingSlots,
+    text: &[u8],
+) -> Result<Met, NoMemory>
+    requires { IsKept catalogue.now ring.old }
+    ensures step { IfOk result (λ met. IsStep catalogue.now ring.old
+        Unregisters text.now met ring.new) }
+    ensures only { IfOk result (λ met. IsOnlyStep catalogue.now ring.old
+        Unregisters text.now met ring.new) }
+    ensures kept { OnOk result (IsKept catalogue.now ring.new) }
+{
+    if let Some(errno) = unregister_refusal(catalogue, ring) {
+        return meet_refusal(alloc, text, "unregister", errno);
+    }
+    let files = files_at(alloc, &ring.slots)?;
+    let closes = close_in_order(alloc, catalogue, &files)?;
+    let line = result_line(alloc, "unregister", 0)?;
+    let whole = with_closes(alloc, line.as_str(), catalogue, &closes)?;
+    let met = meet(text, whole);
+    match met {
+        Met::Here(count) => {
+            ring.slots = Slots {
+                range: (0, 0),
+                at: Vec::new(alloc),
+            };
+            Ok(Met::Here(count))
+        }
+        Met::Apart(wanted) => or_no_memory(alloc, text, "unregister", wanted),
+    }
+}
+
+/// The allocation range is set.
+///
+/// # Errors
+/// `NoMemory` where the memory of a line is refused.
+pub(crate) fn play_range(
+    alloc: Global,
+    catalogue: &Catalogue,
+    ring: &mut RingSlots,
+    range: (u32, u32),
+    text: &[u8],
+) -> Result<Met, NoMemory>
+    requires { IsKept catalogue.now ring.old }
+    ensures step { IfOk result (λ met. IsStep catalogue.now ring.old
+        (SetsRange range.0 range.1) text.now met ring.new) }
+    ensures only { IfOk result (λ met. IsOnlyStep catalogue.now ring.old
+        (SetsRange range.0 range.1) text.now met ring.new) }
+    ensures kept { OnOk result (IsKept catalogue.now ring.new) }
+{
+    if let Some(errno) = range_refusal(catalogue, ring, range.0, range.1) {
+        return meet_refusal(alloc, text, "range", errno);
+    }
+    let met = meet_result(alloc, text, "range", 0)?;
+    match met {
+        Met::Here(count) => {
+            ring.slots.range = range;
+            Ok(Met::Here(count))
+        }
+        Met::Apart(wanted) => Ok(Met::Apart(wanted)),
+    }
+}
+
+/// The table is updated from a slot on by a list, with tags where some are given.
+///
+/// # Errors
+/// `NoMemory` where the memory of the slots, the files or a line is refused.
+pub(crate) fn play_update(
+    alloc: Global,
+    catalogue: &Catalogue,
+    ring: &mut RingSlots,
+    off: u32,
+    list: &[i32],
+    tags: Option<&[u64]>,
+    text: &[u8],
+) -> Result<Met, NoMemory>
+    requires { IsKept catalogue.now ring.old }
+    ensures step { IfOk result (λ met. IsStep catalogue.now ring.old
+        (UpdatesRing off list.now (option_map (λ given. given.now) tags.entry)) text.now met ring.new) }
+    ensures only { IfOk result (λ met. IsOnlyStep catalogue.now ring.old
+        (UpdatesRing off list.now (option_map (λ given. given.now) tags.entry)) text.now met ring.new) }
+    ensures kept { OnOk result (IsKept catalogue.now ring.new) }
+{
+    if let Some(errno) = update_refusal(catalogue, ring, off, list, tags) {
+        return meet_refusal(alloc, text, "regupdate", errno);
+    }
+    let k = ring.registrations + 1;
+    let mut slots = Slots {
+        range: ring.slots.range,
+        at: Vec::from_slice(alloc, &ring.slots.at)?,
+    };
+    let files = apply_list(alloc, &mut slots, k, off, list, tags)?;
+    let closes = close_in_order(alloc, catalogue, &files)?;
+    let count = list.len() as u32;
+    let line = result_line(alloc, "regupdate", i64::from(count))?;
+    let whole = with_closes(alloc, line.as_str(), catalogue, &closes)?;
+    let met = meet(text, whole);
+    match met {
+        Met::Here(count) => {
+            ring.slots = slots;
+            ring.registrations = k;
+            Ok(Met::Here(count))
+        }
+        Met::Apart(wanted) => or_no_memory(alloc, text, "regupdate", wanted),
+    }
+}

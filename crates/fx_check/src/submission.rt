@@ -1,0 +1,170 @@
+//! Submissions, played on what is kept of a ring against a text.
+ghost use Rattle.std.specs.Prelude.{◌≡◌, ◌<◌, ◌≤◌, IfOk, OnOk, length};
+ghost use Rattle.fx_plain.specs.declared.table.TheConstants.{MOST_SLOTS};
+ghost use Rattle.fx_chain.specs.Accepted.{IsAccepted};
+ghost use Rattle.fx_chain.specs.Operation.{all_asked};
+ghost use Rattle.fx_ring.specs.declared.ring.TheConstants.{MOST_SUBMISSIONS};
+ghost use Rattle.fx_script.specs.Instruction.{SubmitsAll};
+ghost use Rattle.fx_check.specs.Answer.{IsAnswer};
+ghost use Rattle.fx_check.specs.Kept.{IsKept};
+ghost use Rattle.fx_check.specs.Only.{IsCall, IsOnlyAnswer};
+ghost use Rattle.fx_check.specs.Told.{HasLines};
+
+use crate::answer::Answer;
+use crate::blame::wrong_line;
+use crate::judgement::{Fault, Order};
+use crate::known::unknown_file;
+use crate::met::meet;
+use crate::places::places_of;
+use crate::told::{files_told, tags_told, wrong_order, wrong_tag};
+use fx_base::{Catalogue, NoMemory};
+use fx_chain::{Request, check, cut};
+use fx_judge::{RingSlots, Told, Verdict, judge_submission};
+use fx_lines::{ReportLines, read_report};
+use fx_order::ChainAccess;
+use fx_ring::MOST_SUBMISSIONS;
+use fx_script::{refused_line, too_many_line};
+use std::alloc::Global;
+
+// What lines tell of a submission, or else which line can't be.
+fn told_by(
+    alloc: Global,
+    catalogue: &Catalogue,
+    ring: &RingSlots,
+    lines: ReportLines,
+) -> Result<Result<Told, Fault>, NoMemory>
+    ensures { IfOk result (λ told. IfOk told (HasLines catalogue.now lines)) }
+{
+    let ReportLines {
+        completions,
+        closed,
+        tags,
+    } = lines;
+    let closes = match files_told(alloc, catalogue, &ring.slots, &closed)? {
+        Ok(files) => files,
+        Err(i) => {
+            let wanted = format!(in alloc; "a closed file by its mark and its own name")?;
+            return Ok(Err(Fault::Line(completions.len().saturating_add(i), wanted)));
+        }
+    };
+    if let Some(i) = wrong_order(&closes) {
+        let wanted = format!(in alloc; "the closed files in order of mark, each once")?;
+        return Ok(Err(Fault::Line(completions.len().saturating_add(i), wanted)));
+    }
+    let wanted = tags_told(alloc, &closes)?;
+    if let Some(i) = wrong_tag(&wanted, &tags) {
+        let behind = completions.len().saturating_add(closes.len());
+        let wanted = format!(in alloc; "the tags of the closed files, in their order")?;
+        return Ok(Err(Fault::Line(behind.saturating_add(i), wanted)));
+    }
+    Ok(Ok(Told {
+        completions,
+        closes,
+    }))
+}
+
+// The same, where each closed file was at a slot or is one that a request installed.
+fn told_of(
+    alloc: Global,
+    catalogue: &Catalogue,
+    ring: &RingSlots,
+    requests: &[Request],
+    lines: ReportLines,
+) -> Result<Result<Told, Fault>, NoMemory>
+    ensures { IfOk result (λ told. IfOk told (HasLines catalogue.now lines)) }
+{
+    let told = match told_by(alloc, catalogue, ring, lines)? {
+        Ok(told) => told,
+        Err(fault) => return Ok(Err(fault)),
+    };
+    if let Some(i) = unknown_file(&ring.slots, requests, &told) {
+        let wanted = format!(in alloc; "a file that was at a slot, or that a request installed")?;
+        return Ok(Err(Fault::Line(told.completions.len().saturating_add(i), wanted)));
+    }
+    Ok(Ok(told))
+}
+
+// An order of a submission that was looked through.
+fn order_of(
+    alloc: Global,
+    ring: &RingSlots,
+    requests: &[Request],
+    told: &Told,
+    accesses: Vec<ChainAccess>,
+) -> Result<Order, NoMemory>
+    requires accepted { IsAccepted (all_asked requests.now) }
+    requires few_slots { length ring.now.slots.at.items ≤ MOST_SLOTS }
+    ensures { IfOk result (λ order. order.accesses ≡ accesses) }
+{
+    let chains = cut(alloc, requests)?;
+    let size = ring.slots.at.len() as u32;
+    let places = places_of(alloc, size, requests, &chains, &told.completions, &accesses)?;
+    Ok(Order {
+        submission: ring.submissions,
+        accesses,
+        places,
+    })
+}
+
+// A submission of which no request has a fault, and which is counted.
+fn play_accepted(
+    alloc: Global,
+    catalogue: &Catalogue,
+    ring: &mut RingSlots,
+    requests: &[Request],
+    text: &[u8],
+    states: usize,
+) -> Result<Answer, NoMemory>
+    requires accepted { IsAccepted (all_asked requests.now) }
+    requires few { ring.old.submissions < MOST_SUBMISSIONS }
+    requires kept { IsKept catalogue.now ring.old }
+    ensures answer { IfOk result (λ answer. IsAnswer catalogue.now ring.old
+        (SubmitsAll (all_asked requests.now)) text.now answer ring.new) }
+    ensures kept { OnOk result (IsKept catalogue.now ring.new) }
+{
+    let number = ring.submissions + 1;
+    let Some(front) = read_report(alloc, text, requests.len())? else {
+        return Ok(Answer::Broken(wrong_line(alloc, number, requests, text)?));
+    };
+    let (lines, rest) = front;
+    let told = match told_of(alloc, catalogue, ring, requests, lines)? {
+        Ok(told) => told,
+        Err(fault) => return Ok(Answer::Broken(fault)),
+    };
+    match judge_submission(alloc, catalogue, ring, requests, &told, states)? {
+        Verdict::Legal(accesses) => {
+            let order = order_of(alloc, ring, requests, &told, accesses)?;
+            Ok(Answer::Printed(text.len() - rest.len(), Some(order)))
+        }
+        Verdict::NotLegal(reason) => Ok(Answer::Broken(Fault::Order(number, reason))),
+        Verdict::Undecided(doubt) => Ok(Answer::Undecided(doubt)),
+    }
+}
+
+/// Requests are submitted. At most so many states are looked at.
+///
+/// # Errors
+/// `NoMemory` where the memory of a report, an order, a state or a line is refused.
+pub(crate) fn play_submission(
+    alloc: Global,
+    catalogue: &Catalogue,
+    ring: &mut RingSlots,
+    requests: &[Request],
+    text: &[u8],
+    states: usize,
+) -> Result<Answer, NoMemory>
+    requires { IsKept catalogue.now ring.old }
+    ensures answer { IfOk result (λ answer. IsAnswer catalogue.now ring.old
+        (SubmitsAll (all_asked requests.now)) text.now answer ring.new) }
+    ensures only { IfOk result (λ answer. IsCall (SubmitsAll (all_asked requests.now))
+        → IsOnlyAnswer catalogue.now ring.old (SubmitsAll (all_asked requests.now)) text.now answer ring.new) }
+    ensures kept { OnOk result (IsKept catalogue.now ring.new) }
+{
+    if let Err(fault) = check(requests) {
+        return Ok(Answer::of(meet(text, refused_line(alloc, fault)?)));
+    }
+    if ring.submissions >= MOST_SUBMISSIONS {
+        return Ok(Answer::of(meet(text, too_many_line(alloc)?)));
+    }
+    play_accepted(alloc, catalogue, ring, requests, text, states)
+}

@@ -1,0 +1,117 @@
+//! What the lines of a report tell of a submission's closes.
+ghost use Rattle.std.specs.Prelude.{◌≡◌, ◌==◌, IfNone, IfOk, IfSome, Some, filter, map, not};
+ghost use Rattle.fx_base.specs.Catalogue.{name_at};
+ghost use Rattle.fx_lines.specs.ClosedView.{close_of};
+ghost use Rattle.fx_check.specs.Told.{named_close, named_closes};
+
+use fx_base::{Catalogue, Closed, Mark, NoMemory};
+use fx_lines::ClosedLine;
+use fx_order::Slots;
+use std::alloc::Global;
+
+/// The file with this mark at a slot.
+pub(crate) fn file_marked(slots: &Slots, mark: Mark) -> Option<Closed>
+    ensures { IfSome result (λ file. file.mark ≡ mark) }
+{
+    for file in &slots.at {
+        if let Some(file) = file {
+            if file.mark == mark {
+                return Some(*file);
+            }
+        }
+    }
+    None
+}
+
+// The catalogue entry with this name.
+fn entry_named(catalogue: &Catalogue, name: &[u8]) -> Option<u8>
+    ensures { IfSome result (λ entry. name_at catalogue.now entry ≡ Some name.now) }
+{
+    for entry in 0..catalogue.len() {
+        if catalogue.name_of(entry as u8).as_bytes() == name {
+            return Some(entry as u8);
+        }
+    }
+    None
+}
+
+// The file that a line of a closed file tells: one at a slot, or else one that the submission installs, which has no tag.
+fn file_told(catalogue: &Catalogue, slots: &Slots, line: &ClosedLine) -> Option<Closed>
+    ensures { IfSome result (λ file. named_close catalogue.now file ≡ close_of line.now) }
+{
+    let entry = entry_named(catalogue, &line.name)?;
+    let Some(file) = file_marked(slots, line.mark) else {
+        let mark = line.mark;
+        return Some(Closed {
+            mark,
+            entry,
+            tag: 0,
+        });
+    };
+    if file.entry == entry {
+        Some(file)
+    } else {
+        None
+    }
+}
+
+/// The files that lines of closed files tell, in their order, or else which line, from 0, tells none.
+///
+/// # Errors
+/// `NoMemory` where the memory of the list is refused.
+pub(crate) fn files_told(
+    alloc: Global,
+    catalogue: &Catalogue,
+    slots: &Slots,
+    lines: &[ClosedLine],
+) -> Result<Result<Vec<Closed>, usize>, NoMemory>
+    ensures { IfOk result (λ told. IfOk told (λ files.
+        named_closes catalogue.now files.items ≡ map close_of lines.now)) }
+{
+    let mut files = Vec::new(alloc);
+    for (i, line) in lines.iter().enumerate() {
+        let Some(file) = file_told(catalogue, slots, line) else {
+            return Ok(Err(i));
+        };
+        files.push(file)?;
+    }
+    Ok(Ok(files))
+}
+
+/// Which of some files, from 0, is the first whose mark doesn't come behind that of the file in front of it; none where they
+/// are in order of mark, and no two have one mark.
+pub(crate) fn wrong_order(files: &[Closed]) -> Option<usize> {
+    for i in 1..files.len() {
+        if files[i].mark <= files[i - 1].mark {
+            return Some(i);
+        }
+    }
+    None
+}
+
+/// The tags of files, in their order, without those that are 0.
+///
+/// # Errors
+/// `NoMemory` where the memory of the list is refused.
+pub(crate) fn tags_told(alloc: Global, files: &[Closed]) -> Result<Vec<u64>, NoMemory>
+    ensures { IfOk result (λ tags. tags.items
+        ≡ map (λ file. file.tag) (filter (λ file. not (file.tag == 0)) files.now)) }
+{
+    let tagged = files.iter().filter(|file| file.tag != 0);
+    Ok(tagged.map(|file| file.tag).collect(alloc)?)
+}
+
+/// Which of some tags, from 0, is the first that isn't the one that is wanted there; none where they are the same.
+pub(crate) fn wrong_tag(wanted: &[u64], tags: &[u64]) -> Option<usize>
+    ensures { IfNone result (wanted.now ≡ tags.now) }
+{
+    for i in 0..wanted.len() {
+        if i >= tags.len() || tags[i] != wanted[i] {
+            return Some(i);
+        }
+    }
+    if wanted.len() < tags.len() {
+        return Some(wanted.len());
+    }
+    None
+}
