@@ -1,0 +1,103 @@
+//! The arguments of the program.
+use crate::ending::Ending;
+use clap::{Arg, ArgAction, ArgMatches, Command, Error, value_parser};
+use fx_script::PlayFault;
+use std::alloc::{AllocError, Global};
+use std::convert::AsStr;
+use std::env;
+use std::io::ErrorKind;
+
+const ABOUT: &str =
+    "Says whether the rules of the fixed file table of io_uring allow a text for a script, \
+                     for instance what a kernel answered to it";
+
+const STATUSES: &str = "\
+It prints `legal`, and for each submission an order of its requests that gives the text; or
+`not legal` with the first command that no order explains; or `undecided`, where a submission
+has more states than it may look at. Its status is then 0, 1 or 6.
+With --history it prints for a legal text every event of the table, a line each: whose it is,
+what happens, and behind it the files at the slots. scripts/draw-history draws that.
+A script is what `fixfiles` plays, and a text what `fixfiles`, or a kernel, writes.";
+
+/// How many states of a submission are looked at where no number is given.
+pub const STATES: u32 = 1_000_000;
+
+/// What is to be checked.
+#[derive(Clone, Copy, Debug, PartialEq, Eq)]
+pub struct Settings<'a> {
+    /// How many states of a submission are looked at.
+    pub states: u32,
+    /// Whether a whole history is wanted in place of the orders.
+    pub history: bool,
+    /// Where the script is: a path, or `-` for standard input.
+    pub script: &'a str,
+    /// Where the text is: a path, or `-` for standard input.
+    pub text: &'a str,
+}
+
+/// The words of the command line, the program's name first.
+///
+/// # Errors
+/// Where memory is refused, or an argument is no text.
+pub fn words(rt: &HostRuntime) -> Result<Vec<String>, Ending> {
+    match env::args(rt) {
+        Ok(args) => Ok(args.collect(rt.alloc())?),
+        Err(error) if error.kind() == ErrorKind::OutOfMemory => {
+            Err(Ending::Fault(PlayFault::NoMemory))
+        }
+        Err(_) => Err(Ending::NoText),
+    }
+}
+
+fn command<'a>(alloc: Global) -> Result<Command<'a>, AllocError> {
+    let states = Arg::new(alloc, "states")
+        .long("states")
+        .value_name("N")
+        .value_parser(value_parser!(u32))
+        .default_value("1000000")
+        .help("How many states of a submission are looked at before it is undecided");
+    let history = Arg::new(alloc, "history")
+        .long("history")
+        .action(ArgAction::SetTrue)
+        .help("Prints in place of the orders a whole legal history that gives the text");
+    let script = Arg::new(alloc, "script")
+        .value_name("SCRIPT")
+        .required(true)
+        .help("The script, or - for standard input");
+    let text = Arg::new(alloc, "text")
+        .value_name("TEXT")
+        .required(true)
+        .help("The text, or - for standard input");
+    Command::new(alloc, "fixcheck")
+        .about(ABOUT)
+        .after_help(STATUSES)
+        .arg(states)?
+        .arg(history)?
+        .arg(script)?
+        .arg(text)
+}
+
+// The number of states, which has a default.
+fn states_of(matches: &ArgMatches<'_>) -> u32 {
+    matches.get_one::<u32>("states").unwrap_or(STATES)
+}
+
+/// What the words of a command line ask to be checked.
+///
+/// # Errors
+/// Clap's, where help is asked for or the words ask for something else, or there is no memory. `TwoInputs` where both the
+/// script and the text would be standard input.
+pub fn settings_in<'a, S: AsStr>(alloc: Global, words: &'a [S]) -> Result<Settings<'a>, Ending> {
+    let matches = command(alloc)?.try_get_matches_from(words)?;
+    let script = matches.get_str("script").unwrap_or("-");
+    let text = matches.get_str("text").unwrap_or("-");
+    if script == "-" && text == "-" {
+        return Err(Ending::TwoInputs);
+    }
+    Ok(Settings {
+        states: states_of(&matches),
+        history: matches.get_flag("history"),
+        script,
+        text,
+    })
+}

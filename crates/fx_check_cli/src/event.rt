@@ -1,0 +1,140 @@
+//! Events of a history, in the words of docs/MODEL.md.
+use fx_base::{Catalogue, Closed, Mark};
+use fx_order::Access;
+use std::alloc::AllocError;
+
+/// An event of a table (docs/MODEL.md, "Steps"): the slot comes first, then the file that is installed, then the file that
+/// was found there, or none.
+#[derive(Clone, Copy, Debug, PartialEq, Eq)]
+pub enum Event {
+    /// A request finds what is at a slot, and holds it where that is a file.
+    Look(u32, Option<Closed>),
+    /// A request has done with the file that it holds.
+    Release(Closed),
+    /// A file is installed at a slot, and the one that was there is removed.
+    Put(u32, Closed, Option<Closed>),
+    /// A slot is emptied by a list, by `unregister` or by the end, and the file that was there is removed.
+    Clear(u32, Option<Closed>),
+    /// A slot is emptied by a close, and the file that was there is removed.
+    Take(u32, Option<Closed>),
+    /// A file is installed at a free slot of the allocation range.
+    Allocate(u32, Closed),
+    /// The allocation range has no free slot.
+    Full,
+    /// A removed file is closed.
+    Close(Closed),
+}
+
+/// The events that an access stands for: what was looked up is released at once, and what was removed is closed at once.
+pub fn events_of(access: Access) -> (Event, Option<Event>) {
+    match access {
+        Access::Looks(slot, file) => (Event::Look(slot, file), file.map(|it| Event::Release(it))),
+        Access::Puts(slot, file, removed) => (
+            Event::Put(slot, file, removed),
+            removed.map(|it| Event::Close(it)),
+        ),
+        Access::Clears(slot, removed) => (
+            Event::Clear(slot, removed),
+            removed.map(|it| Event::Close(it)),
+        ),
+        Access::Takes(slot, removed) => (
+            Event::Take(slot, removed),
+            removed.map(|it| Event::Close(it)),
+        ),
+        Access::Allocates(slot, file) => (Event::Allocate(slot, file), None),
+        Access::FindsFull => (Event::Full, None),
+    }
+}
+
+/// Puts a mark behind others: `rK.I` or `S.C.M.E`, as a text has it.
+///
+/// # Errors
+/// Where memory is refused.
+pub fn push_mark(told: &mut String, mark: Mark) -> Result<(), AllocError> {
+    match mark {
+        Mark::Registered { k, i } => write!(told, "r{k}.{i}"),
+        Mark::Submitted {
+            submission,
+            chain,
+            member,
+            entry,
+        } => write!(told, "{submission}.{chain}.{member}.{entry}"),
+    }
+}
+
+// Puts the mark of a file behind others, or that there is none.
+fn push_found(told: &mut String, found: Option<Closed>) -> Result<(), AllocError> {
+    match found {
+        Some(file) => push_mark(told, file.mark),
+        None => told.push_str("none"),
+    }
+}
+
+// Puts a file that is installed behind others: its mark and its name.
+fn push_new(told: &mut String, catalogue: &Catalogue, file: Closed) -> Result<(), AllocError> {
+    push_mark(told, file.mark)?;
+    if u32::from(file.entry) < catalogue.len() {
+        told.push(' ')?;
+        told.push_str(catalogue.name_of(file.entry))?;
+    }
+    Ok(())
+}
+
+// Puts an event's word, its slot and what was found there behind others.
+fn push_at(
+    told: &mut String,
+    word: &str,
+    slot: u32,
+    found: Option<Closed>,
+) -> Result<(), AllocError> {
+    write!(told, "{word}({slot}, ")?;
+    push_found(told, found)?;
+    told.push(')')
+}
+
+// Puts a close behind others, with the tag that it tells.
+fn push_close(told: &mut String, file: Closed) -> Result<(), AllocError> {
+    told.push_str("Close(")?;
+    push_mark(told, file.mark)?;
+    told.push(')')?;
+    let tag = file.tag;
+    if tag != 0 {
+        write!(told, " tag {tag}")?;
+    }
+    Ok(())
+}
+
+/// Puts an event behind others. The name of a file stands where it is installed, and its tag where it is closed.
+///
+/// # Errors
+/// Where memory is refused.
+pub fn push_event(
+    told: &mut String,
+    catalogue: &Catalogue,
+    event: Event,
+) -> Result<(), AllocError> {
+    match event {
+        Event::Look(slot, found) => push_at(told, "Look", slot, found),
+        Event::Release(file) => {
+            told.push_str("Release(")?;
+            push_mark(told, file.mark)?;
+            told.push(')')
+        }
+        Event::Put(slot, file, found) => {
+            write!(told, "Put({slot}, ")?;
+            push_new(told, catalogue, file)?;
+            told.push_str(", ")?;
+            push_found(told, found)?;
+            told.push(')')
+        }
+        Event::Clear(slot, found) => push_at(told, "Clear", slot, found),
+        Event::Take(slot, found) => push_at(told, "Take", slot, found),
+        Event::Allocate(slot, file) => {
+            write!(told, "Allocate({slot}, ")?;
+            push_new(told, catalogue, file)?;
+            told.push(')')
+        }
+        Event::Full => told.push_str("Full"),
+        Event::Close(file) => push_close(told, file),
+    }
+}

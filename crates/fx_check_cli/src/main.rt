@@ -1,0 +1,91 @@
+//! The program `fixcheck`: says whether the rules allow a text for a script.
+#![tactic(auto)]
+
+mod arguments;
+mod ending;
+mod event;
+mod history;
+mod input;
+mod lines;
+mod state;
+mod submission;
+mod telling;
+mod verdict;
+mod wording;
+
+use arguments::{settings_in, words};
+use ending::Ending;
+use fx_check::{Judgement, Order, judge};
+use fx_script::{PlayFault, Script};
+use history::History;
+use input::read_path;
+use std::io::{self, Write};
+use std::process::ExitCode;
+use verdict::{status_of, verdict_text};
+
+/// How many bytes of a history are kept before they are written.
+const KEPT: usize = 65_536;
+
+// Writes a text to standard output.
+fn write(rt: &HostRuntime, text: &str) -> Result<(), Ending> {
+    match io::writer(rt).write_all(text.as_bytes()) {
+        Ok(()) => Ok(()),
+        Err(_) => Err(Ending::Fault(PlayFault::Write)),
+    }
+}
+
+// Prints a whole history of a legal text, which is written as it is told.
+fn print_history(
+    rt: &HostRuntime,
+    script: &Script,
+    text: &[u8],
+    orders: &[Order],
+) -> Result<(), Ending> {
+    let alloc = rt.alloc();
+    let mut history = History::new(alloc, script.catalogue(), text, orders);
+    write(rt, "legal\n")?;
+    for command in script.commands() {
+        history.tell(alloc, command)?;
+        if history.lines().len() >= KEPT {
+            write(rt, history.lines())?;
+            history.clear();
+        }
+    }
+    history.tell_end()?;
+    write(rt, history.lines())
+}
+
+// Judges what the arguments name, and prints the verdict. It gives the status.
+fn check(rt: &HostRuntime) -> Result<u8, Ending> {
+    let alloc = rt.alloc();
+    let words = words(rt)?;
+    let settings = settings_in(alloc, words.as_slice())?;
+    let source = read_path(rt, settings.script)?;
+    let script = Script::read(alloc, &source)?;
+    let text = read_path(rt, settings.text)?;
+    let judgement = judge(alloc, &script, &text, settings.states as usize)?;
+    match &judgement {
+        Judgement::Legal(orders) if settings.history => {
+            print_history(rt, &script, &text, orders.as_slice())?;
+        }
+        _ => {
+            let told = verdict_text(alloc, &source, &text, settings.states, &judgement)?;
+            write(rt, told.as_str())?;
+        }
+    }
+    Ok(status_of(&judgement))
+}
+
+fn main(rt: HostRuntime) -> ExitCode {
+    match check(&rt) {
+        Ok(status) => ExitCode::from(status),
+        Err(ending) => {
+            // What can't be told changes nothing.
+            let _ = ending.tell(&rt);
+            ExitCode::from(ending.status())
+        }
+    }
+}
+
+#[cfg(test)]
+mod tests;

@@ -1,0 +1,105 @@
+//! The lines of a history: an event or an answer each, with the state behind it.
+use crate::event::{Event, events_of, push_event};
+use crate::state::State;
+use crate::wording::push_request;
+use fx_base::Catalogue;
+use fx_chain::{Completion, Request};
+use fx_order::Access;
+use std::alloc::{AllocError, Global};
+
+/// The column that the state stands in, behind what is shorter.
+const COLUMN: usize = 44;
+
+/// What was told of a history and isn't printed yet, and the state that the history has led to.
+#[derive(Debug, Drop)]
+pub struct Telling<'a> {
+    catalogue: &'a Catalogue,
+    /// The state behind the last line.
+    pub state: State,
+    told: String,
+    // Where the next line begins.
+    line: usize,
+}
+
+impl<'a> Telling<'a> {
+    /// Of a history without events, on a ring without a table. Files are named as they are in the catalogue.
+    pub fn new(alloc: Global, catalogue: &'a Catalogue) -> Telling<'a> {
+        Telling {
+            catalogue,
+            state: State::new(alloc),
+            told: String::new(alloc),
+            line: 0,
+        }
+    }
+
+    /// The lines that aren't printed yet.
+    pub fn lines(&self) -> &str {
+        self.told.as_str()
+    }
+
+    /// All lines were printed.
+    pub fn clear(&mut self) {
+        self.told.clear();
+        self.line = 0;
+    }
+
+    /// The line that is being told.
+    pub fn line(&mut self) -> &mut String {
+        &mut self.told
+    }
+
+    /// Ends the line that is being told: the state stands behind it.
+    ///
+    /// # Errors
+    /// Where memory is refused.
+    pub fn end_line(&mut self) -> Result<(), AllocError> {
+        let width = self.told.len().saturating_sub(self.line);
+        for _ in width..COLUMN {
+            self.told.push(' ')?;
+        }
+        self.told.push_str(" | ")?;
+        self.state.push(&mut self.told)?;
+        self.told.push('\n')?;
+        self.line = self.told.len();
+        Ok(())
+    }
+
+    // Tells an event, and whose it is.
+    fn tell_event(&mut self, who: &str, event: Event) -> Result<(), AllocError> {
+        self.state.meet(event);
+        self.told.push_str(who)?;
+        self.told.push(' ')?;
+        push_event(&mut self.told, self.catalogue, event)?;
+        self.end_line()
+    }
+
+    /// Tells the events of an access, and whose they are.
+    ///
+    /// # Errors
+    /// Where memory is refused.
+    pub fn tell_access(&mut self, who: &str, access: Access) -> Result<(), AllocError> {
+        let (first, second) = events_of(access);
+        self.tell_event(who, first)?;
+        match second {
+            Some(event) => self.tell_event(who, event),
+            None => Ok(()),
+        }
+    }
+
+    /// Tells what a request answered.
+    ///
+    /// # Errors
+    /// Where memory is refused.
+    pub fn tell_answer(
+        &mut self,
+        request: &Request,
+        completion: &Completion,
+    ) -> Result<(), AllocError> {
+        let (place, res) = (completion.place, completion.res);
+        let (submission, chain, member) = (place.submission, place.chain, place.member);
+        write!(self.told, "{submission}.{chain}.{member} ")?;
+        push_request(&mut self.told, request)?;
+        write!(self.told, " answers {res}")?;
+        self.end_line()
+    }
+}

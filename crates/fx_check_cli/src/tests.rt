@@ -1,0 +1,4 @@
+mod arguments;
+mod histories;
+mod lines;
+mod verdicts;

@@ -1,0 +1,92 @@
+//! Requests and commands, in the words of a script.
+use bitflags::Flags;
+use fx_chain::{Op, Request, SqeFlags, Target};
+use fx_script::Command;
+use std::alloc::AllocError;
+use std::fmt::Display;
+
+// Puts a space and a list behind others.
+fn push_list<T: Display>(told: &mut String, list: &[T]) -> Result<(), AllocError> {
+    for (i, number) in list.iter().enumerate() {
+        told.push(if i == 0 { ' ' } else { ',' })?;
+        write!(told, "{number}")?;
+    }
+    Ok(())
+}
+
+// Puts what a request does behind others.
+fn push_operation(told: &mut String, op: &Op) -> Result<(), AllocError> {
+    match op {
+        Op::Open { name, target } => {
+            told.push_str("open ")?;
+            told.push_str(name.as_str())?;
+            match *target {
+                Target::Slot(slot) => write!(told, " at {slot}"),
+                Target::Any => told.push_str(" any"),
+            }
+        }
+        Op::Read { slot, off, len } => write!(told, "read {slot} {off} {len}"),
+        Op::Close { slot } => write!(told, "close {slot}"),
+        Op::Update { off, list } => {
+            write!(told, "update {off}")?;
+            push_list(told, list.as_slice())
+        }
+    }
+}
+
+/// Puts the line of a request behind others.
+///
+/// # Errors
+/// Where memory is refused.
+pub fn push_request(told: &mut String, request: &Request) -> Result<(), AllocError> {
+    push_operation(told, &request.op)?;
+    if request.flags.contains(SqeFlags::IO_HARDLINK) {
+        told.push_str(" hardlink")
+    } else if request.flags.contains(SqeFlags::IO_LINK) {
+        told.push_str(" link")
+    } else {
+        Ok(())
+    }
+}
+
+// Puts tags behind others, where some are given.
+fn push_tags(told: &mut String, tags: &Option<Vec<u64>>) -> Result<(), AllocError> {
+    match tags {
+        Some(tags) => push_list(told, tags.as_slice()),
+        None => Ok(()),
+    }
+}
+
+/// The word of a command.
+pub fn word_of(command: &Command) -> &'static str {
+    match command {
+        Command::Sparse(_) => "sparse",
+        Command::Register(_, _) => "register",
+        Command::Unregister => "unregister",
+        Command::Range(_, _) => "range",
+        Command::Update(_, _, _) => "regupdate",
+        Command::Submit(_) => "submit",
+    }
+}
+
+/// Puts the line of a command behind others.
+///
+/// # Errors
+/// Where memory is refused.
+pub fn push_command(told: &mut String, command: &Command) -> Result<(), AllocError> {
+    told.push_str(word_of(command))?;
+    match command {
+        Command::Sparse(slots) => write!(told, " {slots}"),
+        Command::Register(list, tags) => {
+            push_list(told, list.as_slice())?;
+            push_tags(told, tags)
+        }
+        Command::Range(off, len) => write!(told, " {off} {len}"),
+        Command::Update(off, list, tags) => {
+            write!(told, " {off}")?;
+            push_list(told, list.as_slice())?;
+            push_tags(told, tags)
+        }
+        Command::Unregister | Command::Submit(_) => Ok(()),
+    }
+}
