@@ -12,16 +12,16 @@ use std::io::ErrorKind;
 use std::str::FromStr;
 
 const ABOUT: &str =
-    "Plays a script on the fixed file table of io_uring: reads it from standard input, \
-                     and prints what it answers";
+    "Plays a script on io_uring's table of fixed files: reads it from standard input, \
+                     and prints the result of each request and the files that were closed";
 
 const TABLES: &[&str] = &["words", "baton"];
 
 const SCRIPTS: &str = "\
 A script has a command on each line. `file` lines name files and their bytes; `sparse` and
-`register` make a table; `open`, `read`, `close` and `update` are requests, which the next
-`submit` submits. With `link` behind it a request has to succeed before the next one starts,
-and with `hardlink` to complete.
+`register` make a table; `open`, `read`, `close` and `update` are requests, and the next
+`submit` submits them. A request that ends in `link` must succeed before the next one starts;
+one that ends in `hardlink` need only complete.
 This is a script:
 
     file a.txt 68656c6c6f
@@ -36,7 +36,7 @@ This is a script:
 pub enum Table {
     /// The one without a lock, of packed words.
     Words,
-    /// The one behind one word.
+    /// The one guarded by one word.
     Baton,
 }
 
@@ -88,7 +88,7 @@ fn command<'a>(alloc: Global) -> Result<Command<'a>, AllocError> {
         .value_name("NAME")
         .value_parser(TABLES)
         .default_value("words")
-        .help("Which table they share: without a lock, or behind one word");
+        .help("Which table they share: `words` has no lock, `baton` is guarded by one word");
     Command::new(alloc, "fixfiles")
         .about(ABOUT)
         .after_help(SCRIPTS)
@@ -110,7 +110,7 @@ fn workers_of(matches: &ArgMatches<'_>) -> u32
 /// How the words of a command line ask for a script to be played.
 ///
 /// # Errors
-/// Clap's, where help is asked for or the words ask for something else, and want of memory.
+/// Clap's, where help is asked for, the words ask for something else, or there is no memory.
 pub fn settings_in<S: AsStr>(alloc: Global, words: &[S]) -> Result<Settings, Error>
     ensures { IfOk result (λ asked. (1 ≤ asked.workers) × (asked.workers ≤ MAX_PASSES)) }
 {

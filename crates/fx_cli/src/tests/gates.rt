@@ -129,7 +129,7 @@ fn submit_shares_out_chains_itself(rt: HostRuntime) {
     assert!(rt; !waits_in_vain(&rt, rt.alloc(), Table::Words));
 }
 
-// Behind one word the passes take turns: the first and the third chain are of one pass.
+// Guarded by one word the passes take turns: the first and the third chain are of one pass.
 #[test]
 fn passes_that_take_turns(rt: HostRuntime) {
     assert!(rt; waits_in_vain(&rt, rt.alloc(), Table::Baton));
