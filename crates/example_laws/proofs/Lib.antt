@@ -4,3 +4,6 @@ pub mod ReadRows
 pub mod Rows
 pub mod ReadTexts
 pub mod TwoChains
+pub mod Allowed
+pub mod TwoChainsPlays
+pub mod ReadPlays

@@ -130,7 +130,7 @@ pub lines_of : (start : RingState) (asked : List Asked) (printed : List ℕ) (c 
 lines_of start asked printed c accesses cs made answered few_removed few_left =
     let removed : c.report.closes.files ≡ removed_in accesses =
     few_files (removed_in accesses) c.report.closes.files few_removed
-    (subst (λ (l : List Access). IsPermutation (removed_in l) c.report.closes.files) made c.order.closed.same_files) in
+    (subst (λ (l : List Access). IsPermutation (removed_in l) c.report.closes.files) made c.order.is.closed.same_files) in
     let ring : c.left ≡ ring_left start accesses = c.order.after ∙ ap (ring_left start) made in
     let left : c.closes.files ≡ files_of (ring_left start accesses) =
     few_files (files_of (ring_left start accesses)) c.closes.files few_left

@@ -25,11 +25,11 @@ pub one_chain : (start : RingState) (asked : List Asked) (printed : List ℕ) (c
     → IsChainDone start.catalogue start.size (place 1) asked (accesses_of c.order.order) c.report.completions
 one_chain start asked printed c one first =
     let within : All (λ x. (1 ≤ x.chain) × (x.chain ≤ 1)) c.order.order =
-    subst (λ (runs : List (List Asked)). All (λ x. (1 ≤ x.chain) × (x.chain ≤ length runs)) c.order.order) one c.order.chains in
-    let number : c.report.submission ≡ 1 = c.order.submission ∙ ap (λ (n : ℕ). n + 1) first in
+    subst (λ (runs : List (List Asked)). All (λ x. (1 ≤ x.chain) × (x.chain ≤ length runs)) c.order.order) one c.order.is.chains in
+    let number : c.report.submission ≡ 1 = c.order.is.submission ∙ ap (λ (n : ℕ). n + 1) first in
     let done : AreChainsDone start.catalogue start.size 1 1 (asked ∷ []) c.order.order c.report.completions =
     subst (λ (n : ℕ). AreChainsDone start.catalogue start.size n 1 (asked ∷ []) c.order.order c.report.completions) number
-    (subst (λ (runs : List (List Asked)). AreChainsDone start.catalogue start.size c.report.submission 1 runs c.order.order c.report.completions) one c.order.done) in
+    (subst (λ (runs : List (List Asked)). AreChainsDone start.catalogue start.size c.report.submission 1 runs c.order.order c.report.completions) one c.order.is.done) in
     let all : c.report.completions ≡ done.0 = done.2 ∙ (ap (λ (l : List Completed). done.0 ++ l) done.4 ∙ append-nil done.0) in
     subst (λ (l : List Completed). IsChainDone start.catalogue start.size (place 1) asked (accesses_of c.order.order) l) (sym all)
     (subst (λ (l : List Access). IsChainDone start.catalogue start.size (place 1) asked l done.0) (of_one_chain c.order.order within) done.3)
@@ -86,18 +86,18 @@ read_nothing len printed c made answered =
 
 pub reads_whole : (printed : List ℕ) → Came with_table (requests 5) printed → (printed ≡ read_whole) ⊎ (printed ≡ without_bytes)
 unfolding digits encode_with
-reads_whole printed c = elim (comes 5 (accesses_of c.order.order) c.report.completions c.order.permitted
+reads_whole printed c = elim (comes 5 (accesses_of c.order.order) c.report.completions c.order.is.permitted
     (one_chain with_table (requests 5) printed c refl refl)) [
       | inl x ↦ inr (read_nothing 5 printed c x.0 x.1)
       | inr x ↦
-          let z = closes (accesses_of c.order.order) x.0 c.report.completions x.1 (gives catalogue (place 2) file 0 5) c.order.permitted x.2 x.3 x.4 in
+          let z = closes (accesses_of c.order.order) x.0 c.report.completions x.1 (gives catalogue (place 2) file 0 5) c.order.is.permitted x.2 x.3 x.4 in
           inl (lines_of with_table (requests 5) printed c (puts ∷ Looks 0 (Some file) ∷ Takes 0 (Some file) ∷ [])
           (opened ∷ gives catalogue (place 2) file 0 5 ∷ completed (place 3) (pos 0) [] ∷ []) z.0 z.1 (omega arith) (omega arith))
     ]
 
 pub reads_short : (printed : List ℕ) → Came with_table (requests 6) printed → (printed ≡ read_short) ⊎ (printed ≡ without_bytes)
 unfolding digits encode_with
-reads_short printed c = elim (comes 6 (accesses_of c.order.order) c.report.completions c.order.permitted
+reads_short printed c = elim (comes 6 (accesses_of c.order.order) c.report.completions c.order.is.permitted
     (one_chain with_table (requests 6) printed c refl refl)) [
       | inl x ↦ inr (read_nothing 6 printed c x.0 x.1)
       | inr x ↦

@@ -22,9 +22,9 @@ use Rattle.fx_script.specs.Instruction.{MakesSparse, SubmitsAll}
 use Rattle.fx_script.specs.Play.{IsText}
 use Rattle.fx_script.specs.Script.{Meaning, IsScript}
 use Rattle.fx_script.specs.Text.{result_line}
-use Rattle.example_laws.specs.CloseBesideAnOpen.{script, open_first, close_first, without_table, CloseBesideAnOpenPrints}
+use Rattle.example_laws.specs.CloseBesideAnOpen.{script, open_first, close_first, without_table}
 use Rattle.example_laws.proofs.Members.{after_member, of_two_chains, of_no_chain}
-use Rattle.example_laws.proofs.Printed.{Came, lines_of, sparse_then, text_of_run}
+use Rattle.example_laws.proofs.Printed.{Came, lines_of, sparse_then}
 use Rattle.example_laws.proofs.ReadRows.{catalogue, one_entry}
 
 abbrev open_request : Asked
@@ -33,19 +33,19 @@ open_request = record { operation = Opens (codes "a.txt") (Slot 0); flags = no_f
 abbrev close_request : Asked
 close_request = record { operation = Closes 0; flags = no_flags }
 
-abbrev requests : List Asked
+abbrev pub requests : List Asked
 requests = open_request ∷ close_request ∷ []
 
-abbrev place : ℕ → Place
+abbrev pub place : ℕ → Place
 place chain = record { submission = 1; chain = chain; member = 1 }
 
-abbrev file : Closed
+abbrev pub file : Closed
 file = installed (place 1) 0 0
 
-abbrev with_table : RingState
+abbrev pub with_table : RingState
 with_table = registered_sparse (new_ring catalogue) 1
 
-abbrev opened : Completed
+abbrev pub opened : Completed
 opened = completed (place 1) (pos 0) []
 
 -- each chain's completions, and those of both
@@ -59,11 +59,11 @@ record Both (start : RingState) (printed : List ℕ) (c : Came start requests pr
 both : (start : RingState) (printed : List ℕ) (c : Came start requests printed) → start.submissions ≡ 0 → start.catalogue ≡ catalogue
     → Both start printed c
 both start printed c first same =
-    let number : c.report.submission ≡ 1 = c.order.submission ∙ ap (λ (n : ℕ). n + 1) first in
+    let number : c.report.submission ≡ 1 = c.order.is.submission ∙ ap (λ (n : ℕ). n + 1) first in
     let done : AreChainsDone catalogue start.size 1 1 ((open_request ∷ []) ∷ (close_request ∷ []) ∷ []) c.order.order c.report.completions =
     subst (λ (n : ℕ). AreChainsDone catalogue start.size n 1 ((open_request ∷ []) ∷ (close_request ∷ []) ∷ []) c.order.order c.report.completions) number
     (subst (λ l. AreChainsDone l start.size c.report.submission 1 ((open_request ∷ []) ∷ (close_request ∷ []) ∷ []) c.order.order c.report.completions)
-    same c.order.done) in
+    same c.order.is.done) in
     let rest = done.4 in
     record {
       first = done.0;
@@ -120,12 +120,12 @@ missed : (printed : List ℕ) (c : Came with_table requests printed) (removed : 
     → accesses_of_chain 1 c.order.order ≡ Puts 0 file removed ∷ [] → accesses_of_chain 2 c.order.order ≡ Takes 0 None ∷ []
     → c.report.completions ≡ opened ∷ refusal (place 2) EBADF ∷ [] → printed ≡ before_open
 unfolding digits
-missed printed c removed first second answered = elim (of_two_chains c.order.order (Puts 0 file removed) (Takes 0 None) c.order.chains first second) [
+missed printed c removed first second answered = elim (of_two_chains c.order.order (Puts 0 file removed) (Takes 0 None) c.order.is.chains first second) [
   | inl is ↦
-      let at : PermitsAll (table_of with_table) (Puts 0 file removed ∷ Takes 0 None ∷ []) = subst (PermitsAll (table_of with_table)) is c.order.permitted in
+      let at : PermitsAll (table_of with_table) (Puts 0 file removed ∷ Takes 0 None ∷ []) = subst (PermitsAll (table_of with_table)) is c.order.is.permitted in
       absurd (none_is file at.1.0.1)
   | inr is ↦
-      let at : PermitsAll (table_of with_table) (Takes 0 None ∷ Puts 0 file removed ∷ []) = subst (PermitsAll (table_of with_table)) is c.order.permitted in
+      let at : PermitsAll (table_of with_table) (Takes 0 None ∷ Puts 0 file removed ∷ []) = subst (PermitsAll (table_of with_table)) is c.order.is.permitted in
       lines_of with_table requests printed c (Takes 0 None ∷ Puts 0 file None ∷ []) (opened ∷ refusal (place 2) EBADF ∷ [])
       (is ∙ ap (λ (r : Option Closed). Takes 0 None ∷ Puts 0 file r ∷ []) at.1.0.1) answered (omega arith) (omega arith)
 ]
@@ -136,15 +136,15 @@ took : (printed : List ℕ) (c : Came with_table requests printed) (removed : Op
     → c.report.completions ≡ opened ∷ completed (place 2) (pos 0) [] ∷ [] → printed ≡ behind_open
 unfolding digits
 took printed c removed found first second answered =
-    elim (of_two_chains c.order.order (Puts 0 file removed) (Takes 0 (Some found)) c.order.chains first second) [
+    elim (of_two_chains c.order.order (Puts 0 file removed) (Takes 0 (Some found)) c.order.is.chains first second) [
       | inl is ↦
           let at : PermitsAll (table_of with_table) (Puts 0 file removed ∷ Takes 0 (Some found) ∷ []) =
-          subst (PermitsAll (table_of with_table)) is c.order.permitted in
+          subst (PermitsAll (table_of with_table)) is c.order.is.permitted in
           lines_of with_table requests printed c (Puts 0 file None ∷ Takes 0 (Some file) ∷ []) (opened ∷ completed (place 2) (pos 0) [] ∷ [])
           (is ∙ (λ i. Puts 0 file (at.0.1 i) ∷ Takes 0 (at.1.0.1 i) ∷ [])) answered (omega arith) (omega arith)
       | inr is ↦
           let at : PermitsAll (table_of with_table) (Takes 0 (Some found) ∷ Puts 0 file removed ∷ []) =
-          subst (PermitsAll (table_of with_table)) is c.order.permitted in
+          subst (PermitsAll (table_of with_table)) is c.order.is.permitted in
           absurd (none_is found (sym at.0.1))
     ]
 
@@ -165,7 +165,7 @@ no_table = codes "1.1.1 -6\n1.2.1 -6\n"
 -- an order of which neither chain has an access
 no_access : (start : RingState) (printed : List ℕ) (c : Came start requests printed) → accesses_of_chain 1 c.order.order ≡ []
     → accesses_of_chain 2 c.order.order ≡ [] → accesses_of c.order.order ≡ []
-no_access start printed c first second = of_no_chain c.order.order c.order.chains first second
+no_access start printed c first second = of_no_chain c.order.order c.order.is.chains first second
 
 refused : (printed : List ℕ) → Came (new_ring catalogue) requests printed → printed ≡ no_table
 unfolding digits
@@ -183,14 +183,14 @@ refused printed c =
 
 -- the script
 
-abbrev meaning : Meaning
+abbrev pub meaning : Meaning
 meaning = record { catalogue = catalogue; commands = MakesSparse 1 ∷ SubmitsAll requests ∷ [] }
 
-says : IsScript script meaning
+pub says : IsScript script meaning
 unfolding decode_pairs
 says = refl
 
-prints : (printed : List ℕ) → IsText meaning printed → (printed ≡ open_first) ⊎ (printed ≡ close_first) ⊎ (printed ≡ without_table)
+pub prints : (printed : List ℕ) → IsText meaning printed → (printed ≡ open_first) ⊎ (printed ≡ close_first) ⊎ (printed ≡ without_table)
 unfolding digits
 prints printed is = elim (sparse_then catalogue 1 requests printed refl refl is) [
   | inl x ↦ elim (two_orders x.0 x.1) [
@@ -199,8 +199,3 @@ prints printed is = elim (sparse_then catalogue 1 requests printed refl refl is)
   ]
   | inr x ↦ inr (inr (x.2 ∙ ap (λ (l : List ℕ). result_line (codes "sparse") (negated ENOMEM) ++ l) (refused x.0 x.1)))
 ]
-
-pub close_beside_an_open_prints : CloseBesideAnOpenPrints
-close_beside_an_open_prints = λ written run.
-    let w = text_of_run script written meaning says run in
-    subst (λ (l : List ℕ). (l ≡ open_first) ⊎ (l ≡ close_first) ⊎ (l ≡ without_table)) (sym w.2) (prints w.0 w.1)

@@ -1,6 +1,6 @@
 -- What a script may print of two chains: one opens a file at a slot, and the other one closes the
 -- slot.
-use Rattle.std.specs.Prelude.{◌≡◌, ◌⊎◌, ℕ, List, [], codes, Some}
+use Rattle.std.specs.Prelude.{◌≡◌, ◌↔◌, ◌⊎◌, ℕ, List, [], codes, Some}
 use Rattle.fx_script.specs.Run.{IsRun}
 
 abbrev pub script : List ℕ
@@ -18,8 +18,8 @@ close_first = codes "sparse 0\n1.1.1 0\n1.2.1 -9\nteardown\nclosed 1.1.1.0 a.txt
 abbrev pub without_table : List ℕ
 without_table = codes "sparse -12\n1.1.1 -6\n1.2.1 -6\n"
 
--- a run of the script that came to its end wrote one of these
+-- by what is promised of a run that comes to its end, it may write each of these, and nothing else
 abbrev pub CloseBesideAnOpenPrints : Type 0
 CloseBesideAnOpenPrints =
     (written : List ℕ) → IsRun (Some script) (Some []) (Some written)
-    → (written ≡ open_first) ⊎ (written ≡ close_first) ⊎ (written ≡ without_table)
+    ↔ ((written ≡ open_first) ⊎ (written ≡ close_first) ⊎ (written ≡ without_table))

@@ -1,5 +1,5 @@
 -- What a script may print in which a chain opens a file, reads it whole and closes it.
-use Rattle.std.specs.Prelude.{◌≡◌, ◌⊎◌, ℕ, List, [], ◌++◌, codes, Some}
+use Rattle.std.specs.Prelude.{◌≡◌, ◌↔◌, ◌⊎◌, ℕ, List, [], ◌++◌, codes, Some}
 use Rattle.fx_script.specs.Run.{IsRun}
 
 abbrev pub script : List ℕ
@@ -20,8 +20,8 @@ without_bytes =
 abbrev pub without_table : List ℕ
 without_table = codes "sparse -12\n1.1.1 -6\n1.1.2 -125\n1.1.3 -125\n"
 
--- a run of the script that came to its end wrote one of these
+-- by what is promised of a run that comes to its end, it may write each of these, and nothing else
 abbrev pub OpenReadClosePrints : Type 0
 OpenReadClosePrints =
     (written : List ℕ) → IsRun (Some script) (Some []) (Some written)
-    → (written ≡ text) ⊎ (written ≡ without_bytes) ⊎ (written ≡ without_table)
+    ↔ ((written ≡ text) ⊎ (written ≡ without_bytes) ⊎ (written ≡ without_table))

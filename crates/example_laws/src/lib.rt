@@ -1,5 +1,6 @@
-//! What three scripts may print, from what `fx_script::run` promises and nothing else. Each is the contract of a function
-//! that does nothing: whoever doubts that a contract says anything sees here what it says.
+//! What three scripts may print, from what `fx_script::run` promises and nothing else: that allows each of the texts, and no
+//! other. Each is the contract of a function that does nothing: whoever doubts that a contract says anything sees here what
+//! it says.
 #![tactic(auto)]
 
 ghost use Rattle.example_laws.specs.OpenReadClose.{OpenReadClosePrints};
@@ -18,8 +19,8 @@ pub fn short_read_severs()
     ensures { ShortReadSeversPrints }
 {}
 
-/// One chain opens a file at a slot, and another one closes the slot. Where the table has memory, there are two texts: one
-/// for each order.
+/// One chain opens a file at a slot, and another one closes the slot. Where the table has memory, there are exactly two texts:
+/// one for each order.
 pub fn close_beside_an_open()
     ensures { CloseBesideAnOpenPrints }
 {}

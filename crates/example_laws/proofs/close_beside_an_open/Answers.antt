@@ -1,4 +1,4 @@
-use Rattle.example_laws.proofs.TwoChains.{close_beside_an_open_prints}
+use Rattle.example_laws.proofs.TwoChainsPlays.{close_beside_an_open_prints}
 use Rattle.example_laws.proofs.close_beside_an_open.Goals as goal
 
 pub returns : goal.returns

@@ -1,0 +1,34 @@
+//! Replaces the file at a slot, as an update does.
+ghost use Rattle.std.specs.Prelude.{◌<◌, length};
+ghost use Rattle.fx_table.specs.Opening.{size_of};
+ghost use Rattle.fx_table.specs.Pass.{IsIdle};
+
+use fx_base::{Catalogue, Mark, OpenFile};
+use fx_table::FileTable;
+use std::sync::Wait;
+
+/// Puts the second file of the catalogue at slot 0. What comes out is to be closed now: the file that was there, if nobody
+/// holds it. `None` too where there are no more chains, whose numbers new files get, or where they have none.
+pub fn replace<T: FileTable, R: Wait>(
+    rt: &R,
+    catalogue: &Catalogue,
+    table: &T,
+    pass: &mut T::Pass,
+) -> Option<OpenFile>
+    requires fits { T.fits table.now pass.old }
+    requires idle { IsIdle (T.view pass.old) }
+    requires slot { 0 < size_of (T.opening table.now) }
+    requires entry { 1 < length catalogue.now }
+    ensures fits { T.fits table.now pass.new }
+    ensures idle { IsIdle (T.view pass.new) }
+{
+    if table.numbers_left(pass) == 0 {
+        table.draw(pass)?;
+    }
+    if table.numbers_left(pass) == 0 {
+        return None;
+    }
+    let file = catalogue.open(1, Mark::Registered { k: 1, i: 1 }, 0);
+    let removed = table.put(rt, pass, 0, file)?;
+    table.retire(rt, pass, removed)
+}

@@ -1,0 +1,63 @@
+//! What the examples begin with: a catalogue of two files, a table with one of them, and a read.
+ghost use Rattle.std.specs.Prelude.{◌≡◌, ◌<◌, IfOk, length};
+ghost use Rattle.fx_plain.specs.State.{IsSettled};
+ghost use Rattle.fx_plain.specs.Contents.{state_of};
+
+use fx_base::{AddFault, Catalogue, Mark, NoMemory};
+use fx_plain::PlainTable;
+use std::alloc::Global;
+
+/// Why the program ends early.
+#[derive(Clone, Copy, Debug, PartialEq, Eq)]
+pub enum Fault {
+    /// A file was not added to the catalogue.
+    Add(AddFault),
+    /// There was no memory.
+    Memory(NoMemory),
+}
+
+impl From<AddFault> for Fault {
+    fn from(fault: AddFault) -> Fault {
+        Fault::Add(fault)
+    }
+}
+
+impl From<NoMemory> for Fault {
+    fn from(refused: NoMemory) -> Fault {
+        Fault::Memory(refused)
+    }
+}
+
+/// A catalogue of two files: the first one has five bytes.
+pub fn two_files(alloc: Global) -> Result<Catalogue, AddFault>
+    ensures { IfOk result (λ catalogue. length catalogue ≡ 2) }
+{
+    let mut catalogue = Catalogue::new(alloc);
+    let first = String::from_str(alloc, "first.txt")?;
+    catalogue.add(first, b"hello".to_vec(alloc)?)?;
+    let second = String::from_str(alloc, "second.txt")?;
+    catalogue.add(second, Vec::new(alloc))?;
+    Ok(catalogue)
+}
+
+/// A table of four slots, with the first file of the catalogue, under a tag, at slot 0.
+pub fn one_file(alloc: Global, catalogue: &Catalogue, tag: u64) -> Result<PlainTable, NoMemory>
+    requires { 0 < length catalogue.now }
+    ensures settled { IfOk result (λ plain. IsSettled (state_of plain)) }
+    ensures size { IfOk result (λ plain. (state_of plain).size ≡ 4) }
+{
+    let mut plain = PlainTable::sparse(alloc, 4)?;
+    if let Err(refused) = plain.prepare(4) {
+        plain.abandon();
+        return Err(refused);
+    }
+    plain.put_back(0, catalogue.open(0, Mark::Registered { k: 1, i: 0 }, tag));
+    Ok(plain)
+}
+
+/// The first five bytes of an entry.
+pub fn read(alloc: Global, catalogue: &Catalogue, entry: u8) -> Result<Vec<u8>, NoMemory> {
+    let mut bytes = Vec::with_capacity(alloc, 5)?;
+    catalogue.read_into(entry, 0, 5, &mut bytes);
+    Ok(bytes)
+}
