@@ -1,0 +1,74 @@
+//! The program `test_refusals`: makes one call, whose allocations somebody refuses from outside, and tells what it
+//! answers. Where memory was refused it tells what is left, and makes the call again. Then it tells what there is at the
+//! end. scripts/check-refused-calls runs it and judges what it tells.
+#![tactic(auto)]
+
+mod asked;
+mod entries;
+mod rings;
+mod scripts;
+mod setting;
+mod tables;
+mod tell;
+
+use asked::Asked;
+use fx_baton::BatonTable;
+use fx_counted::CountedTable;
+use std::alloc::Global;
+use std::process::ExitCode;
+use std::sync::Wait;
+use std::thread::Threads;
+
+const USAGE: &str = "\
+test_refusals reads a line CALL TABLE COUNT GROWTHS: it grows its memory so often for nothing, and makes the call";
+
+// How often a call is made: once more where memory was refused.
+const ATTEMPTS: u32 = 2;
+
+// Takes memory so often and gives it back, so that a run which always refuses the growth of one number refuses any growth
+// of the call.
+fn grow(alloc: Global, growths: u32) {
+    for _ in 0..growths {
+        let _ = Vec::<u8>::with_capacity(alloc, 1);
+    }
+}
+
+// Makes the call. `None` where memory is refused before it, or where there is no such call.
+fn make<R: Threads + Wait + Print + Sync>(rt: &R, alloc: Global, asked: Asked<'_>) -> Option<()> {
+    let count = asked.count;
+    match (asked.call, asked.table) {
+        ("add", _) => entries::add(rt, alloc, count),
+        ("prepare", _) => tables::prepare(rt, alloc, count),
+        ("open", "words") => tables::open::<CountedTable, R>(rt, alloc, count),
+        ("open", "baton") => tables::open::<BatonTable, R>(rt, alloc, count),
+        ("register", _) => rings::register(rt, alloc),
+        ("register_tagged", _) => rings::register_tagged(rt, alloc),
+        ("register_sparse", _) => rings::register_sparse(rt, alloc),
+        ("update", _) => rings::update(rt, alloc),
+        ("update_tagged", _) => rings::update_tagged(rt, alloc),
+        ("tags", _) => rings::tags(rt, alloc),
+        ("unregister", _) => rings::unregister(rt, alloc),
+        ("tear_down", _) => rings::tear_down(rt, alloc),
+        ("submit", "words") => rings::submit::<CountedTable, R>(rt, alloc, count),
+        ("submit", "baton") => rings::submit::<BatonTable, R>(rt, alloc, count),
+        ("read", _) => scripts::read(rt, alloc),
+        ("report_text", _) => scripts::text_of_report(rt, alloc),
+        ("run", "words") => scripts::run_script::<CountedTable, R>(rt, alloc, count),
+        ("run", "baton") => scripts::run_script::<BatonTable, R>(rt, alloc, count),
+        _ => None,
+    }
+}
+
+fn main(rt: HostRuntime) -> ExitCode {
+    let mut line = [0u8; 64];
+    let Some(asked) = Asked::read(&mut rt.reader(), &mut line) else {
+        let _ = println!(rt; "{USAGE}");
+        return ExitCode::SUCCESS;
+    };
+    grow(rt.alloc(), asked.growths);
+    if make(&rt, rt.alloc(), asked).is_none() {
+        let _ = println!(rt; "no setting");
+    }
+    tell::end(&rt, rt.alloc());
+    ExitCode::SUCCESS
+}

@@ -1,0 +1,231 @@
+//! A table that is opened with one number of passes alone: with how many a submission opens its table, and what comes of
+//! one whose table is never opened. It is refused for memory, and its ring is as it was.
+ghost use Rattle.std.specs.Prelude.{◌≡◌, length, map, All};
+ghost use Rattle.fx_table.specs.Pass.{IsIdle};
+ghost use Rattle.fx_table.specs.Closing.{ClosesTable};
+ghost use Rattle.fx_baton.specs.Passes.{view_of};
+ghost use Rattle.fx_baton.specs.Tables.{opening_of_table, IsPassOfTable};
+
+use crate::calls::Calls;
+use crate::setting::{
+    Table, close, expect_as_before, expect_left, full_ring, open_any, read, registered,
+    ring_before_refusal,
+};
+use crate::sizes::{length_at, reads};
+use fx_base::{NoMemory, OpenFile};
+use fx_baton::{BatonPass, BatonTable};
+use fx_chain::{OpenGate, Request};
+use fx_plain::PlainTable;
+use fx_ring::SubmitFault;
+use fx_table::{Empty, FileTable, Hold, LookFault, Retired};
+use std::alloc::Global;
+use std::process::Abort;
+use std::sync::Wait;
+use std::test::Fail;
+use std::thread::Threads;
+
+// A table guarded by one word, but for `open`: it refuses memory, unless it is asked for so many passes.
+struct OnlyFor<const PASSES: u32> {
+    inner: BatonTable,
+}
+
+impl<const PASSES: u32> FileTable for OnlyFor<PASSES> {
+    ghost use Rattle.fx_baton.specs.Passes.{view_of};
+    ghost use Rattle.fx_baton.specs.Tables.{opening_of_table, IsPassOfTable};
+
+    type Pass = BatonPass;
+
+    ghost opening = { λ t. opening_of_table t.inner };
+
+    ghost fits = { λ t p. IsPassOfTable t.inner p };
+
+    ghost view = { view_of };
+
+    fn open(
+        alloc: Global,
+        plain: PlainTable,
+        chains: u32,
+        passes: u32,
+    ) -> Result<(OnlyFor<PASSES>, Vec<BatonPass>), (PlainTable, NoMemory)> {
+        if passes != PASSES {
+            return Err((plain, NoMemory));
+        }
+        match BatonTable::open(alloc, plain, chains, passes) {
+            Ok((inner, list)) => Ok((OnlyFor { inner }, list)),
+            Err(refused) => Err(refused),
+        }
+    }
+
+    fn close(self, passes: Vec<BatonPass>) -> PlainTable
+        requires all { length passes.items ≡ (opening_of_table self.inner).passes }
+        requires fits { All (IsPassOfTable self.inner) passes.items }
+        requires idle { All (λ p. IsIdle (view_of p)) passes.items }
+        ensures { ClosesTable (opening_of_table self.entry.inner) (map view_of passes.items) result }
+    {
+        let OnlyFor { inner } = self;
+        inner.close(passes)
+    }
+
+    fn size(&self) -> u32 {
+        self.inner.size()
+    }
+
+    fn range(&self) -> (u32, u32) {
+        self.inner.range()
+    }
+
+    fn is_idle(&self, pass: &BatonPass) -> bool {
+        self.inner.is_idle(pass)
+    }
+
+    fn looks_left(&self, pass: &BatonPass) -> u32 {
+        self.inner.looks_left(pass)
+    }
+
+    fn numbers_left(&self, pass: &BatonPass) -> u32 {
+        self.inner.numbers_left(pass)
+    }
+
+    fn draw(&self, pass: &mut BatonPass) -> Option<u32> {
+        self.inner.draw(pass)
+    }
+
+    fn look<R: Wait>(&self, rt: &R, pass: &mut BatonPass, slot: u32) -> Result<Hold, LookFault> {
+        self.inner.look(rt, pass, slot)
+    }
+
+    fn release<R: Wait>(&self, rt: &R, pass: &mut BatonPass, hold: Hold) -> Option<OpenFile> {
+        self.inner.release(rt, pass, hold)
+    }
+
+    fn put<R: Wait>(
+        &self,
+        rt: &R,
+        pass: &mut BatonPass,
+        slot: u32,
+        file: OpenFile,
+    ) -> Option<Retired> {
+        self.inner.put(rt, pass, slot, file)
+    }
+
+    fn put_any<R: Wait>(
+        &self,
+        rt: &R,
+        pass: &mut BatonPass,
+        file: OpenFile,
+    ) -> Result<u32, OpenFile> {
+        self.inner.put_any(rt, pass, file)
+    }
+
+    fn clear<R: Wait>(&self, rt: &R, pass: &mut BatonPass, slot: u32) -> Option<Retired> {
+        self.inner.clear(rt, pass, slot)
+    }
+
+    fn take<R: Wait>(&self, rt: &R, pass: &mut BatonPass, slot: u32) -> Result<Retired, Empty> {
+        self.inner.take(rt, pass, slot)
+    }
+
+    fn retire<R: Wait>(&self, rt: &R, pass: &mut BatonPass, retired: Retired) -> Option<OpenFile> {
+        self.inner.retire(rt, pass, retired)
+    }
+
+    ghost fronts = { λ t p fits. fits.seated.front };
+}
+
+// The requests are refused for memory as often as they are submitted.
+fn expect_no_memory<R: Threads + Wait + Abort + Sync>(
+    rt: &R,
+    alloc: Global,
+    requests: &[Request],
+    workers: u32,
+) -> Result<(), Fail> {
+    let calls = Calls::new(alloc, &[])?;
+    let mut ring = ring_before_refusal(rt, alloc)?;
+    for _ in 0..2 {
+        match ring.submit::<OnlyFor<0>, Calls>(rt, alloc, requests, workers, &calls) {
+            Ok(_report) => panic!(rt; "a refusal"),
+            Err(fault) => assert_eq!(rt; fault, SubmitFault::NoMemory),
+        }
+    }
+    calls.expect(rt, &[]);
+    expect_as_before(rt, alloc, ring, Table::Baton);
+    Ok(())
+}
+
+#[test]
+fn table_that_is_not_opened(rt: HostRuntime) -> Result<(), Fail> {
+    let alloc = rt.alloc();
+    let requests = [close(0), read(0, 0, 1), open_any(alloc, "b.txt")?];
+    for workers in [1, 2, 16] {
+        expect_no_memory(&rt, alloc, &requests, workers)?;
+        expect_no_memory(&rt, alloc, &[], workers)?;
+    }
+    Ok(())
+}
+
+// The table is opened with so many passes, and no others, and the chains are played on it.
+fn expect_opened<const PASSES: u32, R: Threads + Wait + Abort + Sync>(
+    rt: &R,
+    alloc: Global,
+    requests: &[Request],
+    workers: u32,
+) -> Result<(), Fail> {
+    let mut ring = full_ring(rt, alloc, &[0])?;
+    match ring.submit::<OnlyFor<PASSES>, OpenGate>(rt, alloc, requests, workers, &OpenGate) {
+        Ok(report) => {
+            assert_eq!(rt; report.completions.len(), requests.len());
+            for (at, completion) in report.completions.iter().enumerate() {
+                assert_eq!(rt; completion.res, length_at(at) as i32);
+            }
+        }
+        Err(fault) => {
+            let chains = requests.len();
+            panic!(rt; "{PASSES} passes for {workers} workers and {chains} chains: {fault:?}")
+        }
+    }
+    expect_left(rt, alloc, ring, &[registered(1, 0, 0)]);
+    Ok(())
+}
+
+// The same, by the number of passes.
+fn expect_passes<R: Threads + Wait + Abort + Sync>(
+    rt: &R,
+    alloc: Global,
+    requests: &[Request],
+    workers: u32,
+    passes: u32,
+) -> Result<(), Fail> {
+    match passes {
+        1 => expect_opened::<1, R>(rt, alloc, requests, workers),
+        2 => expect_opened::<2, R>(rt, alloc, requests, workers),
+        3 => expect_opened::<3, R>(rt, alloc, requests, workers),
+        4 => expect_opened::<4, R>(rt, alloc, requests, workers),
+        5 => expect_opened::<5, R>(rt, alloc, requests, workers),
+        6 => expect_opened::<6, R>(rt, alloc, requests, workers),
+        7 => expect_opened::<7, R>(rt, alloc, requests, workers),
+        8 => expect_opened::<8, R>(rt, alloc, requests, workers),
+        9 => expect_opened::<9, R>(rt, alloc, requests, workers),
+        10 => expect_opened::<10, R>(rt, alloc, requests, workers),
+        11 => expect_opened::<11, R>(rt, alloc, requests, workers),
+        12 => expect_opened::<12, R>(rt, alloc, requests, workers),
+        13 => expect_opened::<13, R>(rt, alloc, requests, workers),
+        14 => expect_opened::<14, R>(rt, alloc, requests, workers),
+        15 => expect_opened::<15, R>(rt, alloc, requests, workers),
+        16 => expect_opened::<16, R>(rt, alloc, requests, workers),
+        _ => panic!(rt; "{passes} passes"),
+    }
+}
+
+// There is a pass for each worker, but no more than there are chains, and one where there are none.
+#[test]
+fn passes_are_as_many_as_workers_or_chains(rt: HostRuntime) -> Result<(), Fail> {
+    let alloc = rt.alloc();
+    for chains in 0..33 {
+        let requests = reads(alloc, chains, 1)?;
+        for workers in 1..17u32 {
+            let passes = workers.min(chains.max(1));
+            expect_passes(&rt, alloc, requests.as_slice(), workers, passes)?;
+        }
+    }
+    Ok(())
+}
