@@ -1,0 +1,93 @@
+//! Times the proved table without a lock beside a plain, unproved Rust table of the same words, and both beside arc-swap,
+//! crossbeam-epoch and a lock of std, by turns in one process. Each number is the median of the ratios of so many rounds.
+mod locked;
+mod others;
+mod proved;
+mod table;
+mod timing;
+mod words;
+mod work;
+
+use locked::Locked;
+use others::{Arcs, Epochs, Guards};
+use timing::time;
+use words::Words;
+use work::Work;
+
+const TABLES: [&str; 6] = [
+    "proved",
+    "words",
+    "arc-swap load",
+    "arc-swap load_full",
+    "crossbeam-epoch",
+    "std's Mutex",
+];
+
+/// The seconds of each of the tables, in their order.
+fn round(name: &str, what: Work, slots: usize, threads: usize) -> [f64; 6] {
+    [
+        proved::time(name, threads),
+        time::<Words>(what, slots, threads),
+        time::<Guards>(what, slots, threads),
+        time::<Arcs>(what, slots, threads),
+        time::<Epochs>(what, slots, threads),
+        time::<Locked>(what, slots, threads),
+    ]
+}
+
+fn median(mut ratios: Vec<f64>) -> f64 {
+    ratios.sort_by(f64::total_cmp);
+    ratios[ratios.len() / 2]
+}
+
+/// A line of one of the tables: the ratios of its times to those of the tables behind it.
+fn line(rounds: &[[f64; 6]], own: usize) -> String {
+    let ratio = |other: usize| {
+        let median = median(rounds.iter().map(|it| it[own] / it[other]).collect());
+        format!("{} {median:.2}", TABLES[other])
+    };
+    let ratios: Vec<String> = (own + 1..TABLES.len()).map(ratio).collect();
+    format!("{} / {}", TABLES[own], ratios.join(", "))
+}
+
+fn report(name: &str, what: Work, slots: usize, threads: usize, count: usize) {
+    let rounds: Vec<[f64; 6]> = (0..count)
+        .map(|_| round(name, what, slots, threads))
+        .collect();
+    let by = if threads == 1 { "thread" } else { "threads" };
+    for own in [0, 1] {
+        println!("{name}, {threads} {by}: {}", line(&rounds, own));
+    }
+}
+
+fn main() {
+    let mut words = std::env::args().skip(1);
+    let rounds = words.next().and_then(|it| it.parse().ok()).unwrap_or(7);
+    let wanted = words.next().unwrap_or_default();
+    // the names are those of the rows of crates/bench_tables
+    let cases = [
+        ("look and release, 256 slots", Work::Look, 256),
+        ("look and release, 16 slots", Work::Look, 16),
+        ("look and release, 1 slot", Work::Look, 1),
+        ("90 % look, 10 % replace, 256 slots", Work::Mixed, 256),
+        ("90 % look, 10 % replace, 16 slots", Work::Mixed, 16),
+        ("90 % look, 10 % replace, 1 slot", Work::Mixed, 1),
+        (
+            "own-slot chains, outside the range",
+            Work::Chain { in_range: false },
+            256,
+        ),
+        (
+            "own-slot chains, inside the range",
+            Work::Chain { in_range: true },
+            256,
+        ),
+        ("allocation and take, 240 of 256 full", Work::Allocate, 256),
+    ];
+    // arc-swap looks at every thread that it has met, so the rows of few threads come first
+    for threads in [1, 2, 4] {
+        for (name, what, slots) in cases.iter().filter(|it| it.0.contains(&wanted)) {
+            report(name, *what, *slots, threads, rounds);
+        }
+    }
+}

@@ -1,0 +1,43 @@
+//! One time alone, for a program that has this one linked in and times other tables next to it.
+ghost use Rattle.std.specs.Prelude.{◌<◌, length};
+
+use crate::cases::{Case, cases};
+use crate::report::time;
+use crate::shared::Shared;
+use fx_base::Catalogue;
+use fx_counted::CountedTable;
+use fx_table::MAX_PASSES;
+use std::alloc::Global;
+use std::rt::Clock;
+use std::sync::Wait;
+use std::thread::Threads;
+use std::time::CpuClock;
+
+// The row of this name.
+fn case_of(name: &str) -> Option<Case> {
+    for case in &cases() {
+        if case.name == name {
+            return Some(*case);
+        }
+    }
+    None
+}
+
+/// Times the table without a lock at the row of this name, on 1 to [`MAX_PASSES`] threads, and prints the nanoseconds.
+/// `None` where there is no such row, the threads are none or too many, or memory, a clock or standard output is refused.
+pub(crate) fn report_one<R: Threads + Wait + Clock + CpuClock + Print + Sync>(
+    rt: &R,
+    alloc: Global,
+    catalogue: &Catalogue,
+    row: &str,
+    threads: u32,
+) -> Option<()>
+    requires { 0 < length catalogue.now }
+{
+    if threads == 0 || threads > MAX_PASSES {
+        return None;
+    }
+    let timed = case_of(row)?.timed;
+    let nanoseconds = time::<Shared<CountedTable>, R>(rt, alloc, catalogue, timed, threads)?;
+    println!(rt; "{nanoseconds}").ok()
+}

@@ -1,6 +1,0 @@
-use Rattle.table_bench.proofs.Vacant.{vacant_settled}
-use Rattle.table_bench.proofs.guarded.Guarded.into_plain.Goals as goal
-
-pub returns : goal.returns
-returns c =
-    vacant_settled 0 _ c.none.ensures.state

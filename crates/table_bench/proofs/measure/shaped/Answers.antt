@@ -1,6 +1,0 @@
-use Rattle.table_bench.proofs.Vacant.{vacant_settled}
-use Rattle.table_bench.proofs.measure.shaped.Goals as goal
-
-pub prepare-requires-clause-settled : goal.prepare-requires-clause-settled
-prepare-requires-clause-settled c =
-    vacant_settled _ _ c.in-Ok.ensures.state
