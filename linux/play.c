@@ -28,6 +28,9 @@
  * that submits to the last completion. Making links and writing text are no part of that; the watch on the links' folder
  * is, and so an open and a close take longer than without it.
  *
+ * With the argument --async each request is started by a thread of the kernel (IOSQE_ASYNC), so that the chains of a submission
+ * run beside each other. Without it a kernel does the first requests of all chains in their order.
+ *
  * What can't be seen: when within a command a file was closed, in which order, and by whom; who holds it meanwhile; that
  * an open was started and gave up before it had opened its file. A file that is opened and closed without having been in
  * the table has a closed line like any other, since the kernel did close it.
@@ -178,7 +181,11 @@ static void play_script(struct play *play)
 int main(int count, char **words)
 {
 	static struct play play;
-	play.tells_times = count > 1 && !strcmp(words[1], "--times");
+	for (int at = 1; at < count; at++) {
+		play.tells_times |= !strcmp(words[at], "--times");
+		if (!strcmp(words[at], "--async"))
+			start_in_threads();
+	}
 	if (!read_script(&play.script)) {
 		fprintf(stderr, "play-on-kernel: line %ld: not in the language\n", play.script.bad_line);
 		return BAD_SCRIPT;

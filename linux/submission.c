@@ -51,6 +51,13 @@ void close_list(struct descriptors *list, unsigned taken)
 	free(list->installations);
 }
 
+static unsigned more_flags;
+
+void start_in_threads(void)
+{
+	more_flags = IOSQE_ASYNC;
+}
+
 static void prepare_open(struct io_uring_sqe *sqe, const struct script *script, struct member *it, unsigned submission)
 {
 	struct mark mark = { .numbers = { submission, it->chain, it->place, 0 } };
@@ -88,6 +95,7 @@ static void prepare(struct io_uring *ring, const struct script *script, struct m
 		sqe->flags |= IOSQE_IO_LINK;
 	else if (request->link == HARD_LINK)
 		sqe->flags |= IOSQE_IO_HARDLINK;
+	sqe->flags |= more_flags;
 	sqe->user_data = data;
 }
 

@@ -19,6 +19,9 @@ struct descriptors open_list(const struct script *script, const struct command *
 /* Closes what `open_list` opened. The kernel took the entries before place `taken`. */
 void close_list(struct descriptors *list, unsigned taken);
 
+/* From now on each request is started by a thread of the kernel (IOSQE_ASYNC), so that chains run beside each other. */
+void start_in_threads(void);
+
 /*
  * Submits the requests as the submission of that number, waits for all of them, and writes their lines. The answer is how
  * many nanoseconds passed from the call that submits to the last completion.
