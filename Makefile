@@ -3,39 +3,46 @@
 # The path of a script goes to the commands by the environment alone, so that it may have any characters.
 SCRIPT ?= examples/open_read_close.script
 export SCRIPT
+TEXT ?= examples/open_read_close.text
+export TEXT
 
 ifeq ($(wildcard scripts/need-script),)
 $(error Call make in the folder of this Makefile: make -C '$(patsubst %/,%,$(dir $(abspath $(lastword $(MAKEFILE_LIST)))))')
 endif
 
 .DEFAULT_GOAL := help
-.PHONY: help run try kernel prove test examples limits compare agree workers refused-growths steps mistakes checks break
+.PHONY: help run try check pictures texts kernel prove test examples limits compare agree workers meetings
+.PHONY: refused-growths steps mistakes checks break
 .PHONY: must-spend growths wrong-bodies layout bench bench-rust gate clean
 .NOTPARALLEL:
 
 help:
 	@echo 'make run          builds the program at bin/fixfiles and plays examples/open_read_close.script'
 	@echo 'make run SCRIPT=path    plays another script'
-	@echo 'make try          plays a script in less than a minute, by a run that proves nothing'
+	@echo 'make check SCRIPT=path TEXT=path    says whether the rules allow the text for the script'
+	@echo 'make try          plays a script in about a minute, and proves nothing'
 	@echo 'make kernel       plays a script on the io_uring of this machine'
 	@echo 'make prove CRATE=name   checks one crate, and says in a few lines what of it is not proved'
 	@echo 'make test         runs everything that must hold'
-	@echo 'make examples     plays every example on the built program, and the samples of docs/SCRIPT.md'
+	@echo 'make examples     plays every example and the samples of the pages on the built program'
 	@echo 'make limits       plays scripts at the limits of the language and the table, and measures the memory that they take'
-	@echo 'make compare      plays random scripts and the largest submissions on the built program and on a second, unproved one'
-	@echo 'make agree        compares the io_uring of this machine with the model on every example and 500 random scripts'
+	@echo 'make compare      compares the built program with a second, unproved one, on random scripts and the largest submissions'
+	@echo 'make texts        asks fixcheck of the texts of examples and random scripts, and of spoiled ones'
+	@echo 'make pictures     draws the histories of docs/MODEL.md again'
+	@echo 'make agree        compares the io_uring of this machine with the model, on examples, random and contending scripts'
 	@echo 'make workers      counts the threads of the program for each number of workers, and tells its tables apart'
-	@echo 'make refused-growths    plays scripts and makes calls with each growth of the memory refused in its turn'
+	@echo 'make meetings     plays random scripts by threads that go in turns of a few instructions, and judges the texts'
+	@echo 'make refused-growths    plays scripts and makes calls with each allocation refused in its turn'
 	@echo 'make steps        takes the steps of the table without a lock in every order, for small programs'
 	@echo 'make mistakes     makes the mistakes that a user may make, and wants each answered'
 	@echo 'make checks       shows that the scripts that compare notice a program that is wrong'
 	@echo 'make break        makes the wrong change of README.md, and wants its line'
-	@echo 'make must-spend   shows that a program that loses a file is refused'
-	@echo 'make growths      counts how often memory grows in the calls that need none'
+	@echo 'make must-spend   shows that a program which loses a file is refused'
+	@echo 'make growths      counts allocations in the calls that must make none'
 	@echo 'make wrong-bodies tries the wrong bodies for which the gate has no time'
 	@echo 'make layout       looks at the files of the repository'
-	@echo 'make bench        times what scripts do beside a plain program that does the same, and the tables beside each other'
-	@echo 'make bench-rust   times the proved table in one process with plain Rust, arc-swap and others'
+	@echo 'make bench        times scripts against a plain program that does the same, and the tables against each other'
+	@echo 'make bench-rust   times the proved table against plain Rust, arc-swap and others, in one process'
 	@echo 'make gate         proves and tests all crates from nothing'
 	@echo 'make clean        removes what was built; what was proved is kept'
 
@@ -44,6 +51,9 @@ run:
 
 try:
 	@scripts/try-script
+
+check:
+	@scripts/run-check
 
 prove:
 	@scripts/prove "$$CRATE"
@@ -64,15 +74,29 @@ compare:
 	@scripts/build-program
 	@scripts/compare bin/fixfiles
 
+texts:
+	@scripts/build-program
+	@scripts/build-program fx_check_cli fixcheck
+	@scripts/check-fixcheck bin/fixcheck bin/fixfiles
+
+pictures:
+	@scripts/build-program fx_check_cli fixcheck
+	@scripts/draw-pictures bin/fixcheck
+
 workers:
 	@scripts/build-program
 	@scripts/check-workers bin/fixfiles
 
+meetings:
+	@scripts/build-program
+	@scripts/build-program fx_check_cli fixcheck
+	@scripts/check-meetings bin/fixfiles bin/fixcheck
+
 refused-growths:
 	@scripts/build-program
-	@scripts/build-program refused_calls refused_calls
+	@scripts/build-program test_refusals test_refusals
 	@scripts/check-refused-growths bin/fixfiles
-	@scripts/check-refused-calls bin/refused_calls
+	@scripts/check-refused-calls bin/test_refusals
 
 steps:
 	@scripts/check-steps
@@ -82,7 +106,8 @@ mistakes:
 
 checks:
 	@scripts/build-program
-	@scripts/check-checks bin/fixfiles
+	@scripts/build-program fx_check_cli fixcheck
+	@scripts/check-checks bin/fixfiles bin/fixcheck
 
 break:
 	@scripts/check-break
@@ -102,11 +127,11 @@ layout:
 
 bench:
 	@scripts/build-program
-	@scripts/build-program table_bench table_bench
-	@scripts/bench bin/fixfiles bin/table_bench
+	@scripts/build-program bench_tables bench_tables
+	@scripts/bench bin/fixfiles bin/bench_tables
 
 bench-rust:
-	@scripts/build-program table_bench table_bench
+	@scripts/build-program bench_tables bench_tables
 	@scripts/bench-rust
 
 gate:
@@ -120,4 +145,5 @@ kernel:
 	@scripts/play-on-kernel
 
 agree:
+	@scripts/build-program fx_check_cli fixcheck
 	@scripts/agree

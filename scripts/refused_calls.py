@@ -1,4 +1,4 @@
-"""The calls of scripts/check-refused-calls, and what the program refused_calls may tell of each where one growth of its
+"""The calls of scripts/check-refused-calls, and what the program test_refusals may tell of each where one growth of its
 memory is refused. What is wanted is what the documentation of each call says: its answer, what a refusal leaves, and what
 the same call answers afterwards."""
 

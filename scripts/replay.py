@@ -1,0 +1,132 @@
+"""Plays a script on scripts/model.py with the requests of each submission done in a given order, one at a time."""
+from model import ECANCELED, Player, chains_of, completion_line, severs
+
+
+class WrongOrder(Exception):
+    """An order that is none of its submission."""
+
+
+def want(holds, what):
+    if not holds:
+        raise WrongOrder(what)
+
+
+def orders_of(lines):
+    """What the lines `order S: S.C.M S.C.M.E ..` say: for each submission its steps, each a chain, a member and a place in an
+    update's list, or None."""
+    orders = {}
+    for line in lines:
+        word, submission, *steps = line.replace(":", "").split(" ")
+        want(word == "order" and int(submission) not in orders, line)
+        parts = [[int(it) for it in step.split(".")] for step in steps]
+        want(all(it[0] == int(submission) and len(it) in (3, 4) for it in parts), line)
+        orders[int(submission)] = [(*it[1:], None)[:3] for it in parts]
+    return orders
+
+
+class Replayed(Player):
+    """`results` has the result that the text gives for each place: an open at any slot takes the slot that it says."""
+
+    def __init__(self, files, orders, results):
+        super().__init__(files)
+        self.orders, self.results = orders, results
+
+    def comes_to_the_table(self, request):
+        """Whether it does, where it is done now."""
+        kind, *words = request
+        if kind == "open":
+            return words[0] in self.names and bool(self.slots) and (words[1] is None or words[1] < len(self.slots))
+        if kind in ("read", "close"):
+            return words[0] < len(self.slots)
+        return not self.refusal_of_list(*words) and any(it != -2 for it in words[1])
+
+    def step(self, place, request, entry):
+        """Does a request, or one entry of an update. The result and the bytes."""
+        kind, *words = request
+        if entry is None:
+            want(kind != "update", f"{place} is an update, and has no place in its list")
+            self.wanted = self.results.get(place)
+            return self.perform(place, request)
+        want(kind == "update" and entry < len(words[1]) and words[1][entry] != -2, f"{place} has no entry {entry}")
+        self.work_off(words[0] + entry, [words[1][entry]], lambda _: (1, *place, entry))
+        return len(words[1]), b""
+
+    def submit(self, requests):
+        refusal = self.refusal_of_submission(requests)
+        if refusal:
+            return [f"submit refused {refusal}"]
+        self.submissions += 1
+        chains = [Chain((self.submissions, nth), chain) for nth, chain in enumerate(chains_of(requests), 1)]
+        want(self.submissions in self.orders, f"submission {self.submissions} has no order")
+        for chain, member, entry in self.orders.pop(self.submissions):
+            want(1 <= chain <= len(chains), f"there is no chain {chain}")
+            chains[chain - 1].step(self, member, entry)
+        lines = [line for chain in chains for line in chain.end(self)]
+        return lines + self.closed_lines()
+
+
+class Chain:
+    """A chain whose members are done up to one, of whose list so many entries are done."""
+
+    def __init__(self, place, members):
+        self.place, self.members = place, members
+        self.answers, self.entries, self.is_severed = [], [], False
+
+    def now(self):
+        """The place of the next member, its request and what links the next one."""
+        return (*self.place, len(self.answers) + 1), *self.members[len(self.answers)]
+
+    def is_done(self):
+        return len(self.answers) == len(self.members)
+
+    def answer(self, res, got):
+        _, request, linked_by = self.now()
+        self.answers.append((res, got))
+        self.entries = []
+        self.is_severed |= severs(request, linked_by, res)
+
+    def pass_by(self, player):
+        """A member that isn't in the order was canceled, or never came to the table."""
+        place, request, _ = self.now()
+        if self.is_severed:
+            return self.answer(-ECANCELED, b"")
+        want(not player.comes_to_the_table(request), f"{place} isn't in its place of the order")
+        self.answer(*player.perform(place, request))
+
+    def step(self, player, member, entry):
+        while len(self.answers) + 1 < member and not self.is_done():
+            self.pass_by(player)
+        want(not self.is_done() and not self.is_severed and len(self.answers) + 1 == member, f"{self.place} has no member {member} there")
+        place, request, _ = self.now()
+        want(player.comes_to_the_table(request), f"{place} never came to the table")
+        want(not self.entries or entry > self.entries[-1], f"the entries of {place} aren't in order")
+        res, got = player.step(place, request, entry)
+        if entry is None:
+            return self.answer(res, got)
+        self.entries.append(entry)
+        if self.entries == [nth for nth, it in enumerate(request[2]) if it != -2]:
+            self.answer(res, got)
+
+    def end(self, player):
+        want(not self.entries, f"an update of {self.place} is done in part")
+        while not self.is_done():
+            self.pass_by(player)
+        return [completion_line((*self.place, nth), res, got) for nth, (res, got) in enumerate(self.answers, 1)]
+
+
+def results_in(text):
+    """The results of a text by their places."""
+    results = {}
+    for line in text.split("\n"):
+        words = line.split(" ")
+        if words[0].count(".") == 2 and len(words) > 1:
+            results[tuple(map(int, words[0].split(".")))] = int(words[1])
+    return results
+
+
+def replayed(script, text, lines):
+    """The text of the script where its requests are done in the orders of these lines."""
+    player = Replayed(script.files, orders_of(lines), results_in(text))
+    played = player.play(script.commands)
+    want(not player.orders, "there are orders of no submission")
+    return played
