@@ -194,13 +194,20 @@ impl<'a> History<'a> {
         tell_submission(alloc, &mut self.telling, requests, completions, order)
     }
 
+    // Whether the next submission of the script was accepted. One without requests prints no line, so that the next line is
+    // of what comes behind it; it is refused only where no submission is accepted any more.
+    fn is_accepted(&self, requests: &[Request]) -> bool {
+        let is_empty = requests.is_empty() && !self.orders.is_empty();
+        is_empty || !self.text.starts_with(b"submit ")
+    }
+
     /// Tells the next command.
     ///
     /// # Errors
     /// Where memory is refused.
     pub fn tell(&mut self, alloc: Global, command: &Command) -> Result<(), NoMemory> {
         match command {
-            Command::Submit(requests) if !self.text.starts_with(b"submit ") => {
+            Command::Submit(requests) if self.is_accepted(requests.as_slice()) => {
                 self.tell_submission(alloc, requests.as_slice())
             }
             _ => self.tell_call(alloc, command),

@@ -54,6 +54,19 @@ fn chain_that_opens_reads_and_closes(rt: HostRuntime) -> Result<(), Fail> {
 }
 
 #[test]
+fn refused_submission_behind_an_empty_one(rt: HostRuntime) -> Result<(), Fail> {
+    let script = b"sparse 1\nsubmit\nread 0 0 4097\nsubmit\nclose 0\nsubmit\n";
+    let text = b"sparse 0\nsubmit refused long-read 1\n2.1.1 -9\n";
+    let wanted = [
+        ("sparse 1 answers 0", "empty"),
+        ("submit answers refused long-read 1", "empty"),
+        ("2.1.1 Take(0, none)", "empty"),
+        ("2.1.1 close 0 answers -9", "empty"),
+    ];
+    tells(&rt, rt.alloc(), script, text, &wanted)
+}
+
+#[test]
 fn calls_between_submissions(rt: HostRuntime) -> Result<(), Fail> {
     let script =
         b"file a 00\nfile b 00\nregister 0,-1,1 7,0,0\nrange 2 2\nrange 1 2\nregupdate 0 1,-1,-2\nunregister\nunregister\n";
