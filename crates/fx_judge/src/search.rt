@@ -221,7 +221,8 @@ fn follow(
     Ok(())
 }
 
-// Follows each step from a state that has to be looked at.
+// Follows each step from a state that has to be looked at. The state that is noted last is looked at first, and a played order
+// mostly goes on with the chain that it was at, and begins the chains in turn.
 fn follow_all(
     alloc: Global,
     web: &mut Web,
@@ -236,10 +237,13 @@ fn follow_all(
     if let Some(chain) = only {
         return follow(alloc, web, open, strands, (at, chain));
     }
-    for chain in 0..strands.len() {
-        follow(alloc, web, open, strands, (at, chain))?;
+    let last = web.by.get(at).copied().unwrap_or(0);
+    for chain in (0..strands.len()).rev() {
+        if chain != last {
+            follow(alloc, web, open, strands, (at, chain))?;
+        }
     }
-    Ok(())
+    follow(alloc, web, open, strands, (at, last))
 }
 
 // The state where no claim was made.
