@@ -23,9 +23,11 @@ pub(crate) enum Found {
 #[derive(Debug, Drop)]
 pub(crate) struct Web {
     pub nodes: Vec<Node>,
-    // For each state the state that led to it, the chain of that step, its hash, and the next one of its bucket.
+    // For each state the state that led to it, the chain of that step, the last chain on the way there that did more than
+    // test, its hash, and the next one of its bucket.
     from: Vec<usize>,
     by: Vec<usize>,
+    goes_on: Vec<usize>,
     hashes: Vec<u64>,
     others: Vec<usize>,
     // The first state of each bucket.
@@ -90,6 +92,7 @@ impl Web {
             nodes: Vec::new(alloc),
             from: Vec::new(alloc),
             by: Vec::new(alloc),
+            goes_on: Vec::new(alloc),
             hashes: Vec::new(alloc),
             others: Vec::new(alloc),
             buckets,
@@ -142,8 +145,14 @@ impl Web {
         Ok(())
     }
 
-    // One more state, which a chain's step led to.
-    fn add(&mut self, node: Node, from: usize, by: usize) -> Result<usize, NoMemory> {
+    // One more state, which a chain's step led to, behind this last one that did more than test.
+    fn add(
+        &mut self,
+        node: Node,
+        from: usize,
+        by: usize,
+        goes_on: usize,
+    ) -> Result<usize, NoMemory> {
         if self.nodes.len() >= self.buckets.len() {
             self.grow()?;
         }
@@ -152,6 +161,7 @@ impl Web {
         self.others.push(NONE)?;
         self.from.push(from)?;
         self.by.push(by)?;
+        self.goes_on.push(goes_on)?;
         self.nodes.push(node)?;
         self.enter(number);
         Ok(number)
@@ -216,7 +226,12 @@ fn follow(
     if web.find(&next).is_some() || (!is_test_next && is_dead(strands, &next, slot)) {
         return Ok(());
     }
-    let number = web.add(next, at, chain)?;
+    let goes_on = if is_test_next {
+        web.goes_on.get(at).copied().unwrap_or(chain)
+    } else {
+        chain
+    };
+    let number = web.add(next, at, chain, goes_on)?;
     open.push(number)?;
     Ok(())
 }
@@ -237,7 +252,7 @@ fn follow_all(
     if let Some(chain) = only {
         return follow(alloc, web, open, strands, (at, chain));
     }
-    let last = web.by.get(at).copied().unwrap_or(0);
+    let last = web.goes_on.get(at).copied().unwrap_or(0);
     for chain in (0..strands.len()).rev() {
         if chain != last {
             follow(alloc, web, open, strands, (at, chain))?;
@@ -273,7 +288,7 @@ pub(crate) fn explore(
     if states == 0 {
         return Ok((web, Found::TooMany));
     }
-    web.add(start_of(alloc, strands, cells)?, 0, 0)?;
+    web.add(start_of(alloc, strands, cells)?, 0, 0, 0)?;
     let mut open: Vec<usize> = Vec::new(alloc);
     open.push(0)?;
     for _ in 0..states {
