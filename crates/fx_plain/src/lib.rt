@@ -7,8 +7,6 @@ pub mod laws;
 mod node;
 mod node_list;
 mod table;
-#[cfg(test)]
-mod tests;
 
 pub use event::{Action, Event, File};
 pub use table::{BadRange, MOST_SLOTS, PlainTable};
