@@ -17,6 +17,3 @@ mod told;
 
 pub use judgement::{AccessPlace, Break, Fault, Judgement, Order};
 pub use play::judge;
-
-#[cfg(test)]
-mod tests;

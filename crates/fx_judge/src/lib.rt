@@ -23,6 +23,3 @@ mod verdict;
 pub use judge::judge_submission;
 pub use told::{RingSlots, Told};
 pub use verdict::{Doubt, Reason, Verdict};
-
-#[cfg(test)]
-mod tests;

@@ -11,6 +11,3 @@ mod report;
 pub use close::ClosedLine;
 pub use cut::rest_behind;
 pub use report::{ReportLines, read_report};
-
-#[cfg(test)]
-mod tests;

@@ -1,5 +1,5 @@
-// A text behind an expected one.
-use crate::rest_behind;
+//! A text behind an expected one.
+use fx_lines::rest_behind;
 
 #[test]
 fn behind_an_expected_line(rt: HostRuntime) {

@@ -1,7 +1,7 @@
-// Lines that are a report's, and what they say.
-use crate::read_report;
+//! Lines that are a report's, and what they say.
 use fx_base::Mark;
 use fx_chain::Place;
+use fx_lines::read_report;
 use std::test::Fail;
 
 #[test]

@@ -1,5 +1,5 @@
-// Texts that begin with no report.
-use crate::read_report;
+//! Texts that begin with no report.
+use fx_lines::read_report;
 use std::alloc::AllocGlobal;
 use std::process::Abort;
 use std::test::Fail;

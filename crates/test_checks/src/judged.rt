@@ -5,10 +5,10 @@ ghost use Rattle.fx_plain.specs.declared.table.TheConstants.{MOST_SLOTS};
 ghost use Rattle.fx_ring.specs.Ring.{IsRing};
 ghost use Rattle.fx_judge.specs.Verdict.{ring_with_slots};
 
-use crate::{Doubt, Reason, RingSlots, Told, Verdict, judge_submission};
 use bitflags::Flags;
 use fx_base::{Catalogue, Closed, Mark};
 use fx_chain::{Completion, Op, Place, Request, SqeFlags, Target, check};
+use fx_judge::{Doubt, Reason, RingSlots, Told, Verdict, judge_submission};
 use fx_order::Slots;
 use std::alloc::{AllocError, Global};
 use std::test::Fail;

@@ -1,4 +1,5 @@
-use crate::{Fault, Judgement, judge};
+//! Texts of scripts, and what is said of them.
+use fx_check::{Fault, Judgement, judge};
 use fx_script::Script;
 use std::alloc::Global;
 use std::process::Abort;

@@ -1,3 +1,0 @@
-mod read;
-mod refused;
-mod rest;
