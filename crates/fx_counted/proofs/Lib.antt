@@ -1,6 +1,7 @@
 pub mod Words
 pub mod Ones
 pub mod Places
+mod PlacesByHand
 pub mod Histories
 pub mod Frames
 pub mod Keeping
