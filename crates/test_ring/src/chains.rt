@@ -1,11 +1,12 @@
 //! Chains of linked requests: what severs them, and for which members the gate is called. The values were worked out by
 //! hand.
-use crate::calls::Calls;
 use crate::setting::{
-    PLAYERS, close, expect_closed, expect_completed, expect_left, full_ring, linked, open_at,
-    opened, read, registered, sparse_ring, submit, submit_with, update, updated,
+    expect_closed, expect_completed, expect_left, full_ring, sparse_ring, submit, submit_with,
 };
 use std::test::Fail;
+use test_setting::{
+    Calls, PLAYERS, close, linked, open_at, opened, read, registered, update, updated,
+};
 
 #[test]
 fn every_member_of_a_whole_chain_is_started(rt: HostRuntime) -> Result<(), Fail> {
@@ -19,7 +20,7 @@ fn every_member_of_a_whole_chain_is_started(rt: HostRuntime) -> Result<(), Fail>
         let completed = [(1, 1, 0, ""), (1, 2, 5, "hello"), (1, 3, 0, "")];
         expect_completed(&rt, &report, 1, &completed);
         expect_closed(&rt, &report, &[opened(1, 1, 1, 0)]);
-        calls.expect(&rt, &[3]);
+        assert!(rt; calls.were_started(&[3]));
         expect_left(&rt, alloc, ring, &[]);
     }
     Ok(())
@@ -37,7 +38,7 @@ fn short_read_severs(rt: HostRuntime) -> Result<(), Fail> {
         let completed = [(1, 1, 0, ""), (1, 2, 5, "hello"), (1, 3, -125, "")];
         expect_completed(&rt, &report, 1, &completed);
         expect_closed(&rt, &report, &[]);
-        calls.expect(&rt, &[2]);
+        assert!(rt; calls.were_started(&[2]));
         expect_left(&rt, alloc, ring, &[opened(1, 1, 1, 0)]);
     }
     Ok(())
@@ -56,7 +57,7 @@ fn read_at_the_end_severs(rt: HostRuntime) -> Result<(), Fail> {
             let completed = [(1, 1, 0, ""), (1, 2, 0, ""), (1, 3, -125, "")];
             expect_completed(&rt, &report, 1, &completed);
             expect_closed(&rt, &report, &[]);
-            calls.expect(&rt, &[2]);
+            assert!(rt; calls.were_started(&[2]));
             expect_left(&rt, alloc, ring, &[opened(1, 1, 1, 0)]);
         }
     }
@@ -73,7 +74,7 @@ fn read_of_no_bytes_severs_nothing(rt: HostRuntime) -> Result<(), Fail> {
         let report = submit_with(&rt, alloc, &mut ring, &requests, players, &calls);
         expect_completed(&rt, &report, 1, &[(1, 1, 0, ""), (1, 2, 0, "")]);
         expect_closed(&rt, &report, &[registered(1, 0, 1)]);
-        calls.expect(&rt, &[2]);
+        assert!(rt; calls.were_started(&[2]));
         expect_left(&rt, alloc, ring, &[]);
     }
     Ok(())
@@ -102,7 +103,7 @@ fn close_of_an_empty_slot_severs(rt: HostRuntime) -> Result<(), Fail> {
         let report = submit_with(&rt, alloc, &mut ring, &requests, players, &calls);
         expect_completed(&rt, &report, 1, &completed);
         expect_closed(&rt, &report, &[opened(1, 1, 1, 0)]);
-        calls.expect(&rt, &[3]);
+        assert!(rt; calls.were_started(&[3]));
         expect_left(&rt, alloc, ring, &[]);
     }
     Ok(())
@@ -139,7 +140,7 @@ fn other_chains_go_on(rt: HostRuntime) -> Result<(), Fail> {
         let report = submit_with(&rt, alloc, &mut ring, &requests, players, &calls);
         expect_completed(&rt, &report, 1, &completed);
         expect_closed(&rt, &report, &[opened(1, 2, 1, 1)]);
-        calls.expect(&rt, &[1, 3, 1, 1]);
+        assert!(rt; calls.were_started(&[1, 3, 1, 1]));
         expect_left(
             &rt,
             alloc,

@@ -1,9 +1,7 @@
 //! Links of both kinds: which member behind a failed one is started, of a submission and of a chain that is played by
 //! itself. The values were worked out by hand.
-use crate::calls::Calls;
 use crate::setting::{
-    PLAYERS, close, expect_closed, expect_completed, expect_left, full_ring, hard_linked, linked,
-    open_at, opened, read, registered, sparse_ring, submit_with, update,
+    expect_closed, expect_completed, expect_left, full_ring, sparse_ring, submit_with,
 };
 use bitflags::Flags;
 use fx_base::{Catalogue, CloseList};
@@ -16,6 +14,9 @@ use std::alloc::Global;
 use std::process::Abort;
 use std::sync::Wait;
 use std::test::Fail;
+use test_setting::{
+    Calls, PLAYERS, close, hard_linked, linked, open_at, opened, read, registered, update,
+};
 
 #[test]
 fn short_read_by_a_hard_link_goes_on(rt: HostRuntime) -> Result<(), Fail> {
@@ -29,7 +30,7 @@ fn short_read_by_a_hard_link_goes_on(rt: HostRuntime) -> Result<(), Fail> {
         let completed = [(1, 1, 0, ""), (1, 2, 5, "hello"), (1, 3, 0, "")];
         expect_completed(&rt, &report, 1, &completed);
         expect_closed(&rt, &report, &[opened(1, 1, 1, 0)]);
-        calls.expect(&rt, &[3]);
+        assert!(rt; calls.were_started(&[3]));
         expect_left(&rt, alloc, ring, &[]);
     }
     Ok(())
@@ -50,7 +51,7 @@ fn soft_link_behind_a_hard_one_severs(rt: HostRuntime) -> Result<(), Fail> {
         let completed = [(1, 1, -9, ""), (1, 2, -9, ""), (1, 3, -125, "")];
         expect_completed(&rt, &report, 1, &completed);
         expect_closed(&rt, &report, &[]);
-        calls.expect(&rt, &[2]);
+        assert!(rt; calls.were_started(&[2]));
         expect_left(&rt, alloc, ring, &[]);
     }
     Ok(())
@@ -71,7 +72,7 @@ fn hard_link_does_not_begin_a_severed_chain_again(rt: HostRuntime) -> Result<(),
         let completed = [(1, 1, -9, ""), (1, 2, -125, ""), (1, 3, -125, "")];
         expect_completed(&rt, &report, 1, &completed);
         expect_closed(&rt, &report, &[]);
-        calls.expect(&rt, &[1]);
+        assert!(rt; calls.were_started(&[1]));
         expect_left(&rt, alloc, ring, &[]);
     }
     Ok(())
@@ -92,7 +93,7 @@ fn hard_links_begin_one_chain_and_end_with_the_submission(rt: HostRuntime) -> Re
         let completed = [(1, 1, -9, ""), (1, 2, -9, ""), (2, 1, 0, "")];
         expect_completed(&rt, &report, 1, &completed);
         expect_closed(&rt, &report, &[registered(1, 0, 0)]);
-        calls.expect(&rt, &[2, 1]);
+        assert!(rt; calls.were_started(&[2, 1]));
         expect_left(&rt, alloc, ring, &[]);
     }
     Ok(())

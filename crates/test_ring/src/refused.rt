@@ -1,9 +1,5 @@
 //! Submissions that are refused, each with its fault and its place, and the ring that is then as it was.
-use crate::calls::Calls;
-use crate::setting::{
-    Players, TABLES, Table, close, expect_as_before, expect_left, full_ring, linked, open_at, read,
-    registered, ring_before_refusal, submit, try_submit, update,
-};
+use crate::setting::{expect_as_before, expect_left, full_ring, ring_before_refusal, submit};
 use fx_chain::{CutFault, CutKind, OpenGate, Request};
 use fx_ring::{Ring, SubmitFault};
 use std::alloc::{AllocError, Global};
@@ -11,6 +7,9 @@ use std::process::Abort;
 use std::sync::Wait;
 use std::test::Fail;
 use std::thread::Threads;
+use test_setting::{
+    Calls, Players, TABLES, Table, close, linked, open_at, read, registered, try_submit, update,
+};
 
 // The ring refuses the requests, and the gate is never called.
 fn expect_refused<R: Threads + Wait + Abort + Sync>(
@@ -27,7 +26,7 @@ fn expect_refused<R: Threads + Wait + Abort + Sync>(
             Ok(_report) => panic!(rt; "a refusal"),
             Err(found) => assert_eq!(rt; found, fault),
         }
-        calls.expect(rt, &[]);
+        assert!(rt; calls.were_started(&[]));
         expect_as_before(rt, alloc, ring, table);
     }
     Ok(())

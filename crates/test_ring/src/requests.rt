@@ -1,11 +1,13 @@
 //! What each kind of request answers, by itself and on any number of workers; where that depends on the order of chains,
 //! on one worker, which plays them in their order. The values were worked out by hand.
 use crate::setting::{
-    PLAYERS, TABLES, close, expect_closed, expect_completed, expect_left, full_ring, linked,
-    open_any, open_at, opened, read, registered, ring_of_two_files, sparse_ring, submit, update,
-    updated,
+    expect_closed, expect_completed, expect_left, full_ring, sparse_ring, submit,
 };
 use std::test::Fail;
+use test_setting::{
+    PLAYERS, TABLES, close, linked, open_any, open_at, opened, read, registered, ring_of_two_files,
+    update, updated,
+};
 
 #[test]
 fn open_read_close(rt: HostRuntime) -> Result<(), Fail> {

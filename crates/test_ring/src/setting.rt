@@ -1,51 +1,15 @@
-//! The rings and requests of these tests, and what a report must say. Memory is ample: where a call is refused for want
-//! of it, the test fails.
-use bitflags::Flags;
-use fx_base::{Catalogue, Closed, Mark};
-use fx_baton::BatonTable;
-use fx_chain::{Gate, Op, OpenGate, Place, Request, SqeFlags, Target};
-use fx_counted::CountedTable;
-use fx_ring::{Report, Ring, SubmitFault};
-use std::alloc::{AllocError, Global};
+//! What a report must say. Memory is ample: where a call is refused for want of it, the test fails.
+use fx_base::Closed;
+use fx_chain::{Gate, OpenGate, Place, Request};
+use fx_ring::{Report, Ring};
+use std::alloc::Global;
 use std::process::Abort;
 use std::sync::Wait;
 use std::test::Fail;
 use std::thread::Threads;
-
-/// Which table the workers share.
-#[derive(Clone, Copy, Debug)]
-pub(crate) enum Table {
-    /// The one without a lock, of packed words.
-    Words,
-    /// The one guarded by one word.
-    Baton,
-}
-
-/// Both of them.
-pub(crate) const TABLES: [Table; 2] = [Table::Words, Table::Baton];
-
-/// Who plays a submission: so many workers, over a table.
-pub(crate) type Players = (Table, u32);
-
-/// Who plays one whose report doesn't depend on the order of its chains.
-pub(crate) const PLAYERS: [Players; 8] = [
-    (Table::Words, 1),
-    (Table::Words, 2),
-    (Table::Words, 3),
-    (Table::Words, 16),
-    (Table::Baton, 1),
-    (Table::Baton, 2),
-    (Table::Baton, 3),
-    (Table::Baton, 16),
-];
-
-/// A ring without a table. Entry 0 of its catalogue is `a.txt`, with the bytes `hello`, and entry 1 is `b.txt`, with `hi`.
-pub(crate) fn ring_of_two_files(alloc: Global) -> Result<Ring, Fail> {
-    let mut catalogue = Catalogue::new(alloc);
-    catalogue.add(String::from_str(alloc, "a.txt")?, b"hello".to_vec(alloc)?)?;
-    catalogue.add(String::from_str(alloc, "b.txt")?, b"hi".to_vec(alloc)?)?;
-    Ok(Ring::new(alloc, catalogue))
-}
+use test_setting::{
+    Players, Table, open_any, opened, read, registered, ring_of_two_files, try_submit,
+};
 
 /// The same with a table of so many empty slots.
 pub(crate) fn sparse_ring<R: Abort>(rt: &R, alloc: Global, slots: u32) -> Result<Ring, Fail> {
@@ -81,82 +45,6 @@ pub(crate) fn expect_tags<R: Abort>(rt: &R, alloc: Global, report: &Report, tags
     assert_eq!(rt; given.len(), tags.len());
     for (completion, tag) in given.iter().zip(tags) {
         assert_eq!(rt; completion.user_data, *tag);
-    }
-}
-
-fn no_flags() -> SqeFlags {
-    SqeFlags::from_bits_retain(0)
-}
-
-fn open(alloc: Global, name: &str, target: Target) -> Result<Request, AllocError> {
-    let name = String::from_str(alloc, name)?;
-    Ok(Request {
-        op: Op::Open { name, target },
-        flags: no_flags(),
-    })
-}
-
-/// An open at a slot.
-pub(crate) fn open_at(alloc: Global, name: &str, slot: u32) -> Result<Request, AllocError> {
-    open(alloc, name, Target::Slot(slot))
-}
-
-/// An open at any free slot.
-pub(crate) fn open_any(alloc: Global, name: &str) -> Result<Request, AllocError> {
-    open(alloc, name, Target::Any)
-}
-
-pub(crate) fn read(slot: u32, off: u32, len: u32) -> Request {
-    let mut flags = no_flags();
-    flags.insert(SqeFlags::FIXED_FILE);
-    Request {
-        op: Op::Read { slot, off, len },
-        flags,
-    }
-}
-
-pub(crate) fn close(slot: u32) -> Request {
-    Request {
-        op: Op::Close { slot },
-        flags: no_flags(),
-    }
-}
-
-pub(crate) fn update(alloc: Global, off: u32, list: &[i32]) -> Result<Request, AllocError> {
-    let list = list.to_vec(alloc)?;
-    Ok(Request {
-        op: Op::Update { off, list },
-        flags: no_flags(),
-    })
-}
-
-/// The request, linked with the next one by a soft link.
-pub(crate) fn linked(request: Request) -> Request {
-    let Request { op, mut flags } = request;
-    flags.insert(SqeFlags::IO_LINK);
-    Request { op, flags }
-}
-
-/// The request, linked with the next one by a hard link.
-pub(crate) fn hard_linked(request: Request) -> Request {
-    let Request { op, mut flags } = request;
-    flags.insert(SqeFlags::IO_HARDLINK);
-    Request { op, flags }
-}
-
-/// Submits requests.
-pub(crate) fn try_submit<R: Threads + Wait + Sync, G: Gate>(
-    rt: &R,
-    alloc: Global,
-    ring: &mut Ring,
-    requests: &[Request],
-    players: Players,
-    gate: &G,
-) -> Result<Report, SubmitFault> {
-    let (table, workers) = players;
-    match table {
-        Table::Words => ring.submit::<CountedTable, G>(rt, alloc, requests, workers, gate),
-        Table::Baton => ring.submit::<BatonTable, G>(rt, alloc, requests, workers, gate),
     }
 }
 
@@ -209,39 +97,6 @@ pub(crate) fn expect_completed<R: Abort>(
             got.as_bytes(),
             "the bytes of {place:?}"
         );
-    }
-}
-
-/// The mark and the entry of the `i`-th file of the `k`-th registration or update, without a tag.
-pub(crate) fn registered(k: u32, i: u32, entry: u8) -> Closed {
-    tagged(k, i, entry, 0)
-}
-
-/// The same with a tag.
-pub(crate) fn tagged(k: u32, i: u32, entry: u8, tag: u64) -> Closed {
-    Closed {
-        mark: Mark::Registered { k, i },
-        entry,
-        tag,
-    }
-}
-
-/// The mark and the entry of a file that a member of a chain opened.
-pub(crate) fn opened(submission: u32, chain: u32, member: u32, entry: u8) -> Closed {
-    updated(submission, chain, member, 0, entry)
-}
-
-/// The mark and the entry of a file that a member of a chain installed, as this one of an update's list, from 0.
-pub(crate) fn updated(submission: u32, chain: u32, member: u32, in_list: u32, entry: u8) -> Closed {
-    Closed {
-        mark: Mark::Submitted {
-            submission,
-            chain,
-            member,
-            entry: in_list,
-        },
-        entry,
-        tag: 0,
     }
 }
 

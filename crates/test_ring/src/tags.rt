@@ -1,9 +1,9 @@
 //! Resource tags through submissions: each is told with the close of its file, and once. The values were worked out by hand.
 use crate::setting::{
-    PLAYERS, close, expect_closed, expect_completed, expect_left, expect_tags, linked, open_at,
-    opened, read, submit, tagged, tagged_ring, update, updated,
+    expect_closed, expect_completed, expect_left, expect_tags, submit, tagged_ring,
 };
 use std::test::Fail;
+use test_setting::{PLAYERS, close, linked, open_at, opened, read, tagged, update, updated};
 
 #[test]
 fn tagged_files_leave_in_each_way(rt: HostRuntime) -> Result<(), Fail> {

@@ -1,10 +1,6 @@
 //! The gate stands where it says: in front of each request that starts, and behind its completion, for each member of
 //! each chain of each submission. What a request did to the table is seen from another chain while the gate holds it.
-use crate::calls::Calls;
-use crate::setting::{
-    Players, TABLES, expect_closed, expect_left, linked, open_at, opened, sparse_ring, submit_with,
-    update,
-};
+use crate::setting::{expect_closed, expect_left, sparse_ring, submit_with};
 use fx_base::Closed;
 use fx_chain::{Completion, Gate, Place, Request};
 use fx_ring::Ring;
@@ -15,6 +11,7 @@ use std::sync::atomic::{AtomicBool, AtomicU32, Ordering};
 use std::test::Fail;
 use std::thread;
 use std::thread::Threads;
+use test_setting::{Calls, Players, TABLES, linked, open_at, opened, update};
 
 // A submission has 20 chains of 16 members, in pairs. The first chain of a pair opens files at slots of its own, and the
 // second one removes them, all but the last.
@@ -66,7 +63,7 @@ impl Watch {
 
     // Each member was started, and no chain waited in vain.
     fn expect<R: Abort>(&self, rt: &R) {
-        self.calls.expect(rt, &[MEMBERS; 20]);
+        assert!(rt; self.calls.were_started(&[MEMBERS; 20]));
         assert!(rt; !self.is_late.load(Ordering::SeqCst));
     }
 }
@@ -214,7 +211,7 @@ fn gate_is_called_for_each_member(rt: HostRuntime) -> Result<(), Fail> {
             for calls in [&first, &second] {
                 let players = (table, workers);
                 submit_with(&rt, alloc, &mut ring, requests.as_slice(), players, calls);
-                calls.expect(&rt, &[MEMBERS; 20]);
+                assert!(rt; calls.were_started(&[MEMBERS; 20]));
             }
             ring.abandon();
         }

@@ -1,7 +1,6 @@
 //! A gate that notes its calls.
 use fx_chain::{Gate, Place};
 use std::alloc::{AllocError, Global};
-use std::process::Abort;
 use std::sync::atomic::{AtomicU32, Ordering};
 
 // The gate's calls for a member of a chain: how often each was called, and as which call of the gate, from 1.
@@ -15,7 +14,7 @@ struct Noted {
 
 /// A gate of one submission that notes how often it is called for each member, and in which order.
 #[derive(Drop)]
-pub(crate) struct Calls {
+pub struct Calls {
     submission: u32,
     chains: Vec<Vec<Noted>>,
     made: AtomicU32,
@@ -27,14 +26,36 @@ fn is_noted(count: &AtomicU32, at: &AtomicU32, made: u32) {
     at.store(made.wrapping_add(1), Ordering::SeqCst);
 }
 
+// Whether the gate was called for so many members of a chain, once in front and once behind, in order, and for no other.
+fn is_played(chain: &[Noted], count: u32) -> bool {
+    let mut last = 0;
+    for (i, noted) in chain.iter().enumerate() {
+        let times = if i < count as usize { 1 } else { 0 };
+        if noted.before.load(Ordering::SeqCst) != times
+            || noted.after.load(Ordering::SeqCst) != times
+        {
+            return false;
+        }
+        if times == 1 {
+            let before = noted.before_at.load(Ordering::SeqCst);
+            let after = noted.after_at.load(Ordering::SeqCst);
+            if before <= last || after <= before {
+                return false;
+            }
+            last = after;
+        }
+    }
+    true
+}
+
 impl Calls {
     /// A gate of the first submission, whose chains have so many members each.
-    pub(crate) fn new(alloc: Global, members: &[u32]) -> Result<Calls, AllocError> {
+    pub fn new(alloc: Global, members: &[u32]) -> Result<Calls, AllocError> {
         Calls::of(alloc, 1, members)
     }
 
     /// A gate of a submission, whose chains have so many members each.
-    pub(crate) fn of(alloc: Global, submission: u32, members: &[u32]) -> Result<Calls, AllocError> {
+    pub fn of(alloc: Global, submission: u32, members: &[u32]) -> Result<Calls, AllocError> {
         let mut chains = Vec::new(alloc);
         for count in members {
             let mut chain = Vec::new(alloc);
@@ -64,25 +85,18 @@ impl Calls {
         chain.get((place.member as usize).checked_sub(1)?)
     }
 
-    /// The first so many members of each chain were started: the gate was called once in front of each and once behind
-    /// it, in their order. For the others it was never called.
-    pub(crate) fn expect<R: Abort>(&self, rt: &R, started: &[u32]) {
-        assert_eq!(rt; self.elsewhere.load(Ordering::SeqCst), 0);
-        assert_eq!(rt; self.chains.len(), started.len());
+    /// Whether the first so many members of each chain were started: the gate was called once in front of each and once
+    /// behind it, in their order. For the others it was never called.
+    pub fn were_started(&self, started: &[u32]) -> bool {
+        if self.elsewhere.load(Ordering::SeqCst) != 0 || self.chains.len() != started.len() {
+            return false;
+        }
         for (chain, count) in self.chains.iter().zip(started) {
-            let mut last = 0;
-            for (i, noted) in chain.iter().enumerate() {
-                let times = if i < *count as usize { 1 } else { 0 };
-                assert_eq!(rt; noted.before.load(Ordering::SeqCst), times);
-                assert_eq!(rt; noted.after.load(Ordering::SeqCst), times);
-                if times == 1 {
-                    let before = noted.before_at.load(Ordering::SeqCst);
-                    let after = noted.after_at.load(Ordering::SeqCst);
-                    assert!(rt; last < before && before < after);
-                    last = after;
-                }
+            if !is_played(chain.as_slice(), *count) {
+                return false;
             }
         }
+        true
     }
 }
 

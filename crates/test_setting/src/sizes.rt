@@ -1,7 +1,7 @@
 //! The sizes at which a call is tried, and submissions of every size.
 ghost use Rattle.std.specs.Prelude.{◌<◌};
 
-use crate::setting::{linked, read};
+use crate::requests::{linked, read};
 use fx_chain::Request;
 use std::alloc::{AllocError, Global};
 
@@ -12,7 +12,7 @@ fn is_beside_a_power(size: u32) -> bool {
 }
 
 /// Each power of two up to the limit, one less and one more, and the limit, in order.
-pub(crate) fn sizes_to(alloc: Global, limit: u32) -> Result<Vec<u32>, AllocError> {
+pub fn sizes_to(alloc: Global, limit: u32) -> Result<Vec<u32>, AllocError> {
     let mut sizes = Vec::new(alloc);
     for size in 0..limit {
         if is_beside_a_power(size) {
@@ -24,14 +24,14 @@ pub(crate) fn sizes_to(alloc: Global, limit: u32) -> Result<Vec<u32>, AllocError
 }
 
 /// The length of the read at this place of a submission, from 0: no more than the file `hello` has bytes.
-pub(crate) fn length_at(at: usize) -> usize
+pub fn length_at(at: usize) -> usize
     ensures { result < 6 }
 {
     at % 6
 }
 
 /// So many reads of slot 0 in chains of 1 or 16, the last of which may be shorter.
-pub(crate) fn reads(alloc: Global, count: u32, members: u32) -> Result<Vec<Request>, AllocError> {
+pub fn reads(alloc: Global, count: u32, members: u32) -> Result<Vec<Request>, AllocError> {
     let mut requests = Vec::new(alloc);
     for at in 0..count {
         let request = read(0, 0, length_at(at as usize) as u32);
