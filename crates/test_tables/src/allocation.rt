@@ -228,3 +228,53 @@ fn draws_by_two_passes(rt: HostRuntime) {
     five_chains::<BatonTable, _>(&rt, rt.alloc(), 4, 3);
     five_chains::<CountedTable, _>(&rt, rt.alloc(), 3, 4);
 }
+
+// The pass draws this chain, which has one number, and installs a file.
+fn install<T: FileTable, R: Wait + Abort>(
+    rt: &R,
+    table: &T,
+    pass: &mut T::Pass,
+    chain: u32,
+    file: OpenFile,
+)
+    requires { T.fits table.now pass.old }
+    ensures { T.fits table.now pass.new }
+{
+    draws(rt, table, pass, Some(chain));
+    assert_eq!(rt; table.numbers_left(pass), 1);
+    put_at(rt, table, pass, file, chain.wrapping_sub(1));
+    assert_eq!(rt; table.numbers_left(pass), 0);
+}
+
+fn one_number_each<T: FileTable, R: Wait + Abort>(rt: &R, alloc: Global) -> Result<(), Fail> {
+    let catalogue = two_names(alloc)?;
+    let plain = empty_table(rt, alloc, 2);
+    let (table, mut passes) = match T::open_for(alloc, plain, 2, 1, 2) {
+        Ok(opened) => opened,
+        Err((plain, _)) => {
+            plain.abandon();
+            panic!(rt; "memory for a shared table")
+        }
+    };
+    let (mut first, mut second) = two_passes(rt, &table, &mut passes);
+    install(rt, &table, &mut first, 1, new_file(rt, &catalogue, 1, 1, 0));
+    install(
+        rt,
+        &table,
+        &mut second,
+        2,
+        new_file(rt, &catalogue, 1, 1, 1),
+    );
+    give_back(rt, &table, &mut passes, first);
+    give_back(rt, &table, &mut passes, second);
+    let plain = table.close(passes);
+    assert_eq!(rt; plain.full(), 2);
+    plain.abandon();
+    Ok(())
+}
+
+#[test]
+fn chains_with_one_number(rt: HostRuntime) -> Result<(), Fail> {
+    one_number_each::<BatonTable, _>(&rt, rt.alloc())?;
+    one_number_each::<CountedTable, _>(&rt, rt.alloc())
+}
