@@ -6,7 +6,7 @@ use std::process::Abort;
 use std::test::Fail;
 use test_setting::ring_of_two_files;
 
-/// The same with a table that has the files of this list.
+/// The ring of two files with a table that has the files of this list.
 pub(crate) fn full_ring<R: Abort>(rt: &R, alloc: Global, list: &[i32]) -> Result<Ring, Fail> {
     let mut ring = ring_of_two_files(alloc)?;
     assert_eq!(rt; ring.register(alloc, list), Ok(()));
