@@ -11,14 +11,14 @@ use test_setting::{
     Players, Table, open_any, opened, read, registered, ring_of_two_files, try_submit,
 };
 
-/// The same with a table of so many empty slots.
+/// The ring of two files with a table of so many empty slots.
 pub(crate) fn sparse_ring<R: Abort>(rt: &R, alloc: Global, slots: u32) -> Result<Ring, Fail> {
     let mut ring = ring_of_two_files(alloc)?;
     assert_eq!(rt; ring.register_sparse(alloc, slots), Ok(()));
     Ok(ring)
 }
 
-/// The same with a table that has the files of this list.
+/// The ring of two files with a table that has the files of this list.
 pub(crate) fn full_ring<R: Abort>(rt: &R, alloc: Global, list: &[i32]) -> Result<Ring, Fail> {
     let mut ring = ring_of_two_files(alloc)?;
     assert_eq!(rt; ring.register(alloc, list), Ok(()));
