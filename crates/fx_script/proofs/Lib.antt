@@ -8,3 +8,4 @@ pub mod Hexes
 pub mod Turns
 pub mod KeptBytes
 pub mod PlaySteps
+pub mod FilesOfScripts

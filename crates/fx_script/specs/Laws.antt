@@ -1,7 +1,7 @@
 -- What holds of every byte string (this project's own).
 use Rattle.std.specs.Prelude.{◌≡◌, ◌⊎◌, ℕ, List}
 use Rattle.fx_script.specs.declared.fault.ScriptFault.{ScriptFault}
-use Rattle.fx_script.specs.Script.{Meaning, IsScript, HasFault}
+use Rattle.fx_script.specs.Script.{AreFiles, Meaning, IsScript, HasFault}
 
 -- the bytes are a script, it says one thing, and they have no fault
 pub record IsOneScript (bytes : List ℕ) : Type 0 where
@@ -21,3 +21,7 @@ pub record HasOneFault (bytes : List ℕ) : Type 0 where
 
 abbrev pub IsScriptOrFaulty : List ℕ → Type 0
 IsScriptOrFaulty bytes = IsOneScript bytes ⊎ HasOneFault bytes
+
+-- the files of each script are a catalogue, of bytes alone
+abbrev pub EachScriptHasFiles : Type 0
+EachScriptHasFiles = (bytes : List ℕ) (meaning : Meaning) → IsScript bytes meaning → AreFiles meaning.catalogue

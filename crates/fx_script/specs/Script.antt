@@ -1,8 +1,9 @@
 -- The scripts: which bytes are one and what it says, and which fault stands on which line (this
 -- project's own).
-use Rattle.std.specs.Prelude.{◌≡◌, ℕ, ◌+◌, ◌==◌, nat_lt, Bool, ◌&&◌, not, List, [], ◌∷◌, ◌++◌, length}
+use Rattle.std.specs.Prelude.{◌≡◌, ℕ, ◌+◌, ◌==◌, nat_lt, Bool, ◌&&◌, not, List, [], ◌∷◌, ◌++◌, length, All}
 use Rattle.std.specs.Prelude.{Option, Some, None, option_and_then, Result, Ok, Err, ok_or, if◌then◌else◌}
-use Rattle.fx_base.specs.Catalogue.{FileEntry}
+use Rattle.hex.specs.Hex.{IsBytes}
+use Rattle.fx_base.specs.Catalogue.{FileEntry, IsCatalogue}
 use Rattle.fx_base.specs.AddFault.{add_fault_of}
 use Rattle.fx_base.specs.declared.catalogue.AddFault.{AddFault}
 use Rattle.fx_base.specs.declared.catalogue.AddFault.TheVariants.{TooMany, EmptyName, BadName, SameName, TooLong, NoMemory}
@@ -120,3 +121,12 @@ IsScript bytes meaning = reading_of bytes ≡ Ok meaning
 -- the bytes have this fault on this line
 abbrev pub HasFault : List ℕ → ℕ → ScriptFault → Type 0
 HasFault bytes line kind = reading_of bytes ≡ Err (record { line = line; kind = kind })
+
+-- what some bytes say as a script
+abbrev pub IsRead : Meaning → Type 0
+IsRead meaning = (bytes : List ℕ) × IsScript bytes meaning
+
+-- the files of each script that was read: a catalogue, of bytes alone
+pub record AreFiles (files : List FileEntry) : Type 0 where
+  pub catalogue : IsCatalogue files
+  pub bytes : All (λ file. IsBytes file.bytes) files

@@ -2,7 +2,7 @@
 //! project's own).
 
 ghost use Rattle.std.specs.Prelude.{◌≡◌, ℕ, List};
-ghost use Rattle.fx_script.specs.Laws.{IsScriptOrFaulty};
+ghost use Rattle.fx_script.specs.Laws.{EachScriptHasFiles, IsScriptOrFaulty};
 ghost use Rattle.fx_script.specs.declared.limits.TheConstants.{LONGEST_SCRIPT, LONGEST_LINE, LARGEST_NUMBER, LARGEST_TAG};
 ghost use Rattle.fx_script.specs.declared.input.TheConstants.{MOST_TURNS};
 
@@ -19,4 +19,9 @@ pub fn limits_are_numbers()
 /// Every byte string is a script, which says one thing, or has one fault on one line, and never both.
 pub fn every_byte_string_is_a_script_or_has_one_fault()
     ensures { (bytes : List ℕ) → IsScriptOrFaulty bytes }
+{}
+
+/// The files of each script are a catalogue: no two have one name. And they are of bytes.
+pub fn each_script_has_files()
+    ensures { EachScriptHasFiles }
 {}

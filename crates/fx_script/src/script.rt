@@ -1,5 +1,5 @@
-ghost use Rattle.std.specs.Prelude.{◌≡◌, IfOk, IfErr};
-ghost use Rattle.fx_script.specs.Script.{IsScript, at_end};
+ghost use Rattle.std.specs.Prelude.{◌≡◌, ℕ, IfOk, IfErr, List};
+ghost use Rattle.fx_script.specs.Script.{AreFiles, IsScript, at_end, reading_of};
 
 use crate::command::Command;
 use crate::fault::{LineError, ScriptError, ScriptFault};
@@ -19,7 +19,7 @@ pub struct Script {
 
 impl Model for Script {
     ghost use Rattle.fx_script.specs.Instruction.{instructions_of};
-    ghost use Rattle.fx_script.specs.Script.{Meaning};
+    ghost use Rattle.fx_script.specs.Script.{IsRead, Meaning};
 
     ghost Value = { Meaning };
 
@@ -27,6 +27,11 @@ impl Model for Script {
       catalogue = script.catalogue;
       commands = instructions_of script.commands.items;
     } };
+
+    ghost invariant = { λ script. IsRead (record {
+      catalogue = script.catalogue;
+      commands = instructions_of script.commands.items;
+    }) };
 }
 
 impl Script {
@@ -36,7 +41,8 @@ impl Script {
 
     /// The files that its requests can open, in the order of their lines.
     pub fn catalogue(&self) -> &Catalogue
-        ensures { result.now ≡ self.now.catalogue }
+        ensures value { result.now ≡ self.now.catalogue }
+        ensures files { AreFiles result.now }
     {
         &self.catalogue
     }
@@ -58,6 +64,7 @@ impl Script {
 
     // The script, where no request waits for its submission.
     fn of(reader: Reader) -> Result<Script, ScriptError>
+        requires { (bytes : List ℕ) × (reading_of bytes ≡ at_end (progress_of reader)) }
         ensures { Reads (at_end (progress_of reader)) result }
     {
         if !reader.waiting.is_empty() {
