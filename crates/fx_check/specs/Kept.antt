@@ -1,15 +1,31 @@
 -- What is kept of a ring while a text is judged.
-use Rattle.std.specs.Prelude.{◌≤◌, List, length}
+use Rattle.std.specs.Prelude.{◌≡◌, ◌<◌, ◌≤◌, ◌^◌, ℕ, List, length, Option, Some}
 use Rattle.fx_base.specs.Catalogue.{FileEntry}
+use Rattle.fx_base.specs.declared.open_file.Closed.{Closed}
 use Rattle.fx_plain.specs.declared.table.TheConstants.{MOST_SLOTS}
+use Rattle.fx_order.specs.Slots.{table_of_slots}
 use Rattle.fx_judge.specs.Verdict.{ring_with_slots}
 use Rattle.fx_judge.specs.declared.told.RingSlots.{RingSlots}
 use Rattle.fx_ring.specs.Ring.{IsRing}
 use Rattle.fx_ring.specs.declared.ring.TheConstants.{MOST_REGISTRATIONS, MOST_SUBMISSIONS}
+use Rattle.fx_script.specs.Script.{AreFiles}
+use Rattle.fx_lines.specs.Lines.{IsMarkInRange}
 
--- its counts and its table are within their limits, and it is what every ring is
+-- the numbers of a file's mark, and its tag, are those that their types have
+pub record IsInRange (file : Closed) : Type 0 where
+  pub mark : IsMarkInRange file.mark
+  pub tag : file.tag < 2 ^ 64
+
+-- so are those of the file at each slot
+abbrev pub AreInRange : (ℕ → Option Closed) → Type 0
+AreInRange at = (slot : ℕ) (file : Closed) → at slot ≡ Some file → IsInRange file
+
+-- its counts and its table are within their limits, it is what every ring is, and its catalogue is
+-- that of a script
 pub record IsKept (catalogue : List FileEntry) (ring : RingSlots) : Type 0 where
   pub few_slots : length ring.slots.at.items ≤ MOST_SLOTS
   pub few_submissions : ring.submissions ≤ MOST_SUBMISSIONS
   pub few_registrations : ring.registrations ≤ MOST_REGISTRATIONS
   pub is_ring : IsRing (ring_with_slots catalogue ring)
+  pub files : AreFiles catalogue
+  pub in_range : AreInRange (table_of_slots ring.slots).at

@@ -2,8 +2,7 @@
 use Rattle.std.specs.Prelude.{◌≡◌, ℕ, List, ◌++◌, drop}
 use Rattle.fx_base.specs.Catalogue.{FileEntry}
 use Rattle.fx_ring.specs.Ring.{RingContents, RingState, ring_of}
-use Rattle.fx_chain.specs.Accepted.{IsAccepted}
-use Rattle.fx_script.specs.Instruction.{Instruction, SubmitsAll}
+use Rattle.fx_script.specs.Instruction.{Instruction}
 use Rattle.fx_script.specs.Play.{Prints}
 use Rattle.fx_lines.specs.Lines.{HasNoCloses}
 use Rattle.fx_judge.specs.Verdict.{ring_with_slots}
@@ -42,11 +41,6 @@ IsOnlyStep catalogue old command text (Here count) new =
     LeadsTo (ring_with_slots catalogue old) command text count (ring_with_slots catalogue new)
 IsOnlyStep catalogue old command text (Apart wanted) new =
     LeadsNowhere (ring_with_slots catalogue old) command text
-
--- the command is no submission that has no fault
-abbrev pub IsCall : Instruction → Type 0
-IsCall (SubmitsAll asked) = ¬ (IsAccepted asked)
-IsCall _ = Unit {0}
 
 -- the same of an answer; where it is undecided nothing is said
 abbrev pub IsOnlyAnswer :

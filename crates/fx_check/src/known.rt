@@ -1,4 +1,9 @@
 //! Whether a file that a report closes is known: at a slot before, or installed by a request.
+ghost use Rattle.std.specs.Prelude.{◌≡◌, IfSome, false};
+ghost use Rattle.fx_chain.specs.Completed.{all_completed, completed_of};
+ghost use Rattle.fx_chain.specs.Operation.{all_asked, asked_of};
+ghost use Rattle.fx_check.specs.Told.{AreFrom, Installed, OneInstalled};
+
 use crate::told::file_marked;
 use fx_base::Mark;
 use fx_chain::{Completion, Op, Place, Request};
@@ -6,7 +11,9 @@ use fx_judge::Told;
 use fx_order::Slots;
 
 // Whether a request that completed so installed a file with this mark.
-fn has_installed(request: &Request, completion: &Completion, mark: Mark) -> bool {
+fn has_installed(request: &Request, completion: &Completion, mark: Mark) -> bool
+    ensures { result ≡ false → Installed (asked_of request.now) (completed_of completion.now) mark → ⊥ }
+{
     let Mark::Submitted {
         submission,
         chain,
@@ -43,9 +50,25 @@ fn completion_of(completions: &[Completion], from: usize, mark: Mark) -> usize {
     completions.len()
 }
 
+// Whether one of the requests, each of which completed so, installed a file with this mark.
+fn is_installed(requests: &[Request], completions: &[Completion], mark: Mark) -> bool
+    ensures { result ≡ false → OneInstalled (all_asked requests.now)
+        (all_completed completions.now) mark → ⊥ }
+{
+    for (request, completion) in requests.iter().zip(completions.iter()) {
+        if has_installed(request, completion, mark) {
+            return true;
+        }
+    }
+    false
+}
+
 /// Which of the files that are told closed, from 0, was at no slot and is none that a request of the submission installed;
 /// none where there is no such file. The files are in order of mark.
-pub(crate) fn unknown_file(slots: &Slots, requests: &[Request], told: &Told) -> Option<usize> {
+pub(crate) fn unknown_file(slots: &Slots, requests: &[Request], told: &Told) -> Option<usize>
+    ensures { IfSome result (λ i. AreFrom slots.now (all_asked requests.now)
+        (all_completed told.now.completions.items) told.now.closes.items → ⊥) }
+{
     let completions = told.completions.as_slice();
     let closes = told.closes.as_slice();
     let mut at = 0usize;
@@ -55,7 +78,11 @@ pub(crate) fn unknown_file(slots: &Slots, requests: &[Request], told: &Told) -> 
         let installed = at < completions.len()
             && at < requests.len()
             && has_installed(&requests[at], &completions[at], mark);
-        if !installed && file_marked(slots, mark).is_none() {
+        if installed || file_marked(slots, mark).is_some() {
+            continue;
+        }
+        // So far one request was looked at, the one whose place the mark has; what is told unknown all are looked at for.
+        if !is_installed(requests, completions, mark) {
             return Some(i);
         }
     }

@@ -8,6 +8,7 @@ ghost use Rattle.fx_ring.specs.Registration.{file_after, files_after, removed_by
 ghost use Rattle.fx_ring.specs.Tags.{tag_at, tags_for};
 ghost use Rattle.fx_order.specs.Access.{with_file};
 ghost use Rattle.fx_order.specs.Slots.{table_of_slots};
+ghost use Rattle.fx_check.specs.Kept.{AreInRange};
 
 use fx_base::{Closed, Mark, NoMemory};
 use fx_order::Slots;
@@ -84,6 +85,8 @@ pub(crate) fn apply_list(
     }) }
     ensures removed { IfOk result (λ files.
         files.items ≡ removed_from (table_of_slots slots.old).at off list.now) }
+    ensures in_range { OnOk result (AreInRange (table_of_slots slots.old).at
+        → AreInRange (table_of_slots slots.new).at) }
 {
     let mut removed = Vec::new(alloc);
     for (i, number) in list.iter().enumerate() {

@@ -8,7 +8,8 @@ ghost use Rattle.fx_judge.specs.Verdict.{ring_with_slots};
 ghost use Rattle.fx_check.specs.Answer.{IsAnswer};
 ghost use Rattle.fx_check.specs.Judged.{IsJudged};
 ghost use Rattle.fx_check.specs.Kept.{IsKept};
-ghost use Rattle.fx_check.specs.Only.{IsCall, IsOnlyAnswer};
+ghost use Rattle.fx_check.specs.Only.{IsOnlyAnswer};
+ghost use Rattle.fx_script.specs.Script.{AreFiles};
 
 use crate::answer::Answer;
 use crate::closes::{close_in_order, files_at};
@@ -26,7 +27,7 @@ use std::alloc::Global;
 fn new_ring(alloc: Global) -> RingSlots
     ensures ring { (catalogue : List FileEntry)
         → ring_with_slots catalogue result ≡ new_ring catalogue }
-    ensures kept { (catalogue : List FileEntry) → IsKept catalogue result }
+    ensures kept { (catalogue : List FileEntry) → AreFiles catalogue → IsKept catalogue result }
 {
     RingSlots {
         slots: Slots {
@@ -50,8 +51,8 @@ fn play_command(
     requires { IsKept catalogue.now ring.old }
     ensures answer { IfOk result (λ answer. IsAnswer catalogue.now ring.old
         (instruction_of command.now) text.now answer ring.new) }
-    ensures only { IfOk result (λ answer. IsCall (instruction_of command.now)
-        → IsOnlyAnswer catalogue.now ring.old (instruction_of command.now) text.now answer ring.new) }
+    ensures only { IfOk result (λ answer. IsOnlyAnswer catalogue.now ring.old
+        (instruction_of command.now) text.now answer ring.new) }
     ensures kept { OnOk result (IsKept catalogue.now ring.new) }
 {
     let met = match command {
@@ -103,9 +104,8 @@ fn play_end(
 /// Whether a script may print a text. The commands are played against it, one after another, on what is kept of a ring; of
 /// each submission at most so many states of each part that has slots of its own are looked at.
 ///
-/// That a text which is legal is one that the script may print is proved. That one which isn't legal is none is proved where
-/// it breaks before the first accepted submission, and tested behind it. That each order is one of its submission is tested:
-/// no clause says it of the whole text. Of one submission [`fx_judge::judge_submission`] promises both.
+/// A text that is legal is one that the script may print, and one that isn't legal is none. That each order is one of its
+/// submission is tested: no clause says it of the whole text. Of one submission [`fx_judge::judge_submission`] promises it.
 ///
 /// # Errors
 /// `NoMemory` where memory is refused.

@@ -3,12 +3,14 @@ ghost use Rattle.std.specs.Prelude.{◌≡◌, ◌<◌, ◌≤◌, IfOk, OnOk, l
 ghost use Rattle.fx_plain.specs.declared.table.TheConstants.{MOST_SLOTS};
 ghost use Rattle.fx_chain.specs.Accepted.{IsAccepted};
 ghost use Rattle.fx_chain.specs.Operation.{all_asked};
+ghost use Rattle.fx_chain.specs.Runs.{runs_of};
 ghost use Rattle.fx_ring.specs.declared.ring.TheConstants.{MOST_SUBMISSIONS};
 ghost use Rattle.fx_script.specs.Instruction.{SubmitsAll};
 ghost use Rattle.fx_check.specs.Answer.{IsAnswer};
 ghost use Rattle.fx_check.specs.Kept.{IsKept};
-ghost use Rattle.fx_check.specs.Only.{IsCall, IsOnlyAnswer};
-ghost use Rattle.fx_check.specs.Told.{HasLines};
+ghost use Rattle.fx_check.specs.Only.{IsOnlyAnswer};
+ghost use Rattle.fx_check.specs.Told.{AreApart, HasLines, TellsAll, TellsKnown};
+ghost use Rattle.fx_table.specs.declared.limits.TheConstants.{MAX_CHAINS};
 
 use crate::answer::Answer;
 use crate::blame::wrong_line;
@@ -33,7 +35,9 @@ fn told_by(
     ring: &RingSlots,
     lines: ReportLines,
 ) -> Result<Result<Told, Fault>, NoMemory>
-    ensures { IfOk result (λ told. IfOk told (HasLines catalogue.now lines)) }
+    ensures lines { IfOk result (λ told. IfOk told (HasLines catalogue.now lines)) }
+    ensures only { IfOk result (λ told. AreApart catalogue.now ring.now.slots
+        → TellsAll catalogue.now ring.now.slots lines told) }
 {
     let ReportLines {
         completions,
@@ -71,7 +75,9 @@ fn told_of(
     requests: &[Request],
     lines: ReportLines,
 ) -> Result<Result<Told, Fault>, NoMemory>
-    ensures { IfOk result (λ told. IfOk told (HasLines catalogue.now lines)) }
+    ensures lines { IfOk result (λ told. IfOk told (HasLines catalogue.now lines)) }
+    ensures only { IfOk result (λ told. AreApart catalogue.now ring.now.slots
+        → TellsKnown catalogue.now ring.now.slots (all_asked requests.now) lines told) }
 {
     let told = match told_by(alloc, catalogue, ring, lines)? {
         Ok(told) => told,
@@ -117,8 +123,11 @@ fn play_accepted(
 ) -> Result<Answer, NoMemory>
     requires accepted { IsAccepted (all_asked requests.now) }
     requires few { ring.old.submissions < MOST_SUBMISSIONS }
+    requires chains { length (runs_of (all_asked requests.now)) ≤ MAX_CHAINS }
     requires kept { IsKept catalogue.now ring.old }
     ensures answer { IfOk result (λ answer. IsAnswer catalogue.now ring.old
+        (SubmitsAll (all_asked requests.now)) text.now answer ring.new) }
+    ensures only { IfOk result (λ answer. IsOnlyAnswer catalogue.now ring.old
         (SubmitsAll (all_asked requests.now)) text.now answer ring.new) }
     ensures kept { OnOk result (IsKept catalogue.now ring.new) }
 {
@@ -156,8 +165,8 @@ pub(crate) fn play_submission(
     requires { IsKept catalogue.now ring.old }
     ensures answer { IfOk result (λ answer. IsAnswer catalogue.now ring.old
         (SubmitsAll (all_asked requests.now)) text.now answer ring.new) }
-    ensures only { IfOk result (λ answer. IsCall (SubmitsAll (all_asked requests.now))
-        → IsOnlyAnswer catalogue.now ring.old (SubmitsAll (all_asked requests.now)) text.now answer ring.new) }
+    ensures only { IfOk result (λ answer. IsOnlyAnswer catalogue.now ring.old
+        (SubmitsAll (all_asked requests.now)) text.now answer ring.new) }
     ensures kept { OnOk result (IsKept catalogue.now ring.new) }
 {
     if let Err(fault) = check(requests) {

@@ -1,8 +1,10 @@
 //! What the lines of a report tell of a submission's closes.
-ghost use Rattle.std.specs.Prelude.{◌≡◌, ◌==◌, IfNone, IfOk, IfSome, Some, filter, map, not};
+ghost use Rattle.std.specs.Prelude.{◌≡◌, ◌==◌, ℕ, All, IfNone, IfOk, IfSome, List, Some, filter, map, not};
 ghost use Rattle.fx_base.specs.Catalogue.{name_at};
+ghost use Rattle.fx_base.specs.CloseList.{IsInOrderOfMark};
+ghost use Rattle.fx_base.specs.declared.open_file.Closed.{Closed as File};
 ghost use Rattle.fx_lines.specs.ClosedView.{close_of};
-ghost use Rattle.fx_check.specs.Told.{named_close, named_closes};
+ghost use Rattle.fx_check.specs.Told.{AreApart, HasDistinctMarks, HasNone, IsAtSlot, MayClose, TellsFiles, named_close, named_closes};
 
 use fx_base::{Catalogue, Closed, Mark, NoMemory};
 use fx_lines::ClosedLine;
@@ -11,7 +13,9 @@ use std::alloc::Global;
 
 /// The file with this mark at a slot.
 pub(crate) fn file_marked(slots: &Slots, mark: Mark) -> Option<Closed>
-    ensures { IfSome result (λ file. file.mark ≡ mark) }
+    ensures mark { IfSome result (λ file. file.mark ≡ mark) }
+    ensures there { IfSome result (IsAtSlot slots.now) }
+    ensures none { IfNone result (HasNone slots.now mark) }
 {
     for file in &slots.at {
         if let Some(file) = file {
@@ -25,7 +29,8 @@ pub(crate) fn file_marked(slots: &Slots, mark: Mark) -> Option<Closed>
 
 // The catalogue entry with this name.
 fn entry_named(catalogue: &Catalogue, name: &[u8]) -> Option<u8>
-    ensures { IfSome result (λ entry. name_at catalogue.now entry ≡ Some name.now) }
+    ensures named { IfSome result (λ entry. name_at catalogue.now entry ≡ Some name.now) }
+    ensures none { IfNone result ((entry : ℕ) → name_at catalogue.now entry ≡ Some name.now → ⊥) }
 {
     for entry in 0..catalogue.len() {
         if catalogue.name_of(entry as u8).as_bytes() == name {
@@ -37,7 +42,10 @@ fn entry_named(catalogue: &Catalogue, name: &[u8]) -> Option<u8>
 
 // The file that a line of a closed file tells: one at a slot, or else one that the submission installs, which has no tag.
 fn file_told(catalogue: &Catalogue, slots: &Slots, line: &ClosedLine) -> Option<Closed>
-    ensures { IfSome result (λ file. named_close catalogue.now file ≡ close_of line.now) }
+    ensures told { IfSome result (λ file. named_close catalogue.now file ≡ close_of line.now) }
+    ensures only { AreApart catalogue.now slots.now → (file : File)
+        → MayClose catalogue.now slots.now file
+        → named_close catalogue.now file ≡ close_of line.now → result ≡ Some file }
 {
     let entry = entry_named(catalogue, &line.name)?;
     let Some(file) = file_marked(slots, line.mark) else {
@@ -65,8 +73,11 @@ pub(crate) fn files_told(
     slots: &Slots,
     lines: &[ClosedLine],
 ) -> Result<Result<Vec<Closed>, usize>, NoMemory>
-    ensures { IfOk result (λ told. IfOk told (λ files.
+    ensures told { IfOk result (λ told. IfOk told (λ files.
         named_closes catalogue.now files.items ≡ map close_of lines.now)) }
+    ensures only { IfOk result (λ told. AreApart catalogue.now slots.now → (files : List File)
+        → All (MayClose catalogue.now slots.now) files
+        → named_closes catalogue.now files ≡ map close_of lines.now → TellsFiles told files) }
 {
     let mut files = Vec::new(alloc);
     for (i, line) in lines.iter().enumerate() {
@@ -80,9 +91,11 @@ pub(crate) fn files_told(
 
 /// Which of some files, from 0, is the first whose mark doesn't come behind that of the file in front of it; none where they
 /// are in order of mark, and no two have one mark.
-pub(crate) fn wrong_order(files: &[Closed]) -> Option<usize> {
+pub(crate) fn wrong_order(files: &[Closed]) -> Option<usize>
+    ensures { IfSome result (λ i. IsInOrderOfMark files.now → HasDistinctMarks files.now → ⊥) }
+{
     for i in 1..files.len() {
-        if files[i].mark <= files[i - 1].mark {
+        if !files[i - 1].mark.cmp(&files[i].mark).is_lt() {
             return Some(i);
         }
     }
@@ -103,7 +116,8 @@ pub(crate) fn tags_told(alloc: Global, files: &[Closed]) -> Result<Vec<u64>, NoM
 
 /// Which of some tags, from 0, is the first that isn't the one that is wanted there; none where they are the same.
 pub(crate) fn wrong_tag(wanted: &[u64], tags: &[u64]) -> Option<usize>
-    ensures { IfNone result (wanted.now ≡ tags.now) }
+    ensures same { IfNone result (wanted.now ≡ tags.now) }
+    ensures apart { IfSome result (λ i. wanted.now ≡ tags.now → ⊥) }
 {
     for i in 0..wanted.len() {
         if i >= tags.len() || tags[i] != wanted[i] {

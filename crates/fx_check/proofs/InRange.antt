@@ -1,0 +1,253 @@
+-- The lines of an accepted submission's report have numbers that their types have.
+use Rattle.std.proofs.Common.{◌≡◌, ◌⊎◌, inl, inr, ⊎_elim, ℕ, zero, suc, ◌+◌, ◌<◌, ◌≤◌, ◌^◌, ◌==◌, ◌||◌, nat_le, nat_lt, ℤ, pos, negsuc, Bool, true, false, not, cond}
+use Rattle.std.proofs.Common.{List, [], ◌∷◌, ◌++◌, filter, length, map, take, drop, All, Contains, refl, sym, ap, subst, ◌∙◌, arith, Option, Some, None, slice_get, slice_index, IsTrue}
+use Rattle.std.specs.Bool.{MatchBool}
+use Rattle.std.specs.List.{list_any}
+use Rattle.std.proofs.lemmas.Bool.{ltb-false}
+use Rattle.std.proofs.lemmas.List.Elements.{All-append, All-cons, All-head, All-map, All-nil, All-tail, All-weaker}
+use Rattle.hex.specs.Hex.{IsBytes}
+use Rattle.fx_base.specs.AddFault.{has_name}
+use Rattle.fx_base.specs.Catalogue.{FileEntry, IsCatalogue, bytes_at, name_at, part_of}
+use Rattle.fx_base.specs.Name.{is_name}
+use Rattle.fx_base.specs.Tags.{tag_completion, tags_of}
+use Rattle.fx_base.specs.declared.catalogue.TheConstants.{LONGEST_ENTRY}
+use Rattle.fx_base.specs.declared.errno.Errno.{Errno}
+use Rattle.fx_base.specs.declared.errno.Errno.TheVariants.{ENOENT, ENXIO, EBADF, EAGAIN, ENOMEM, EBUSY, EINVAL, ENFILE, EMFILE, ECANCELED}
+use Rattle.fx_base.specs.declared.mark.Mark.{Mark}
+use Rattle.fx_base.specs.declared.open_file.Closed.{Closed}
+use Rattle.fx_base.specs.declared.tag_completion.TagCompletion.{TagCompletion}
+use Rattle.fx_chain.specs.Answers.{installed, is_bad_entry}
+use Rattle.fx_chain.specs.Completed.{Completed, completed, next_member, refusal}
+use Rattle.fx_chain.specs.Explains.{canceled, first_member, severs}
+use Rattle.fx_chain.specs.Operation.{Asked, Operation, Opens, Reads, Closes, Updates}
+use Rattle.fx_chain.specs.declared.completion.Place.{Place}
+use Rattle.fx_chain.specs.declared.request.Target.{Target}
+use Rattle.fx_chain.specs.declared.request.Target.TheVariants.{Slot, Any}
+use Rattle.fx_order.specs.Access.{Table, PermitsAll, accesses_of, accesses_of_chain, table_with}
+use Rattle.fx_order.specs.declared.access.Access.{Access}
+use Rattle.fx_order.specs.declared.access.Access.TheVariants.{Looks, Puts, Clears, Takes, Allocates, FindsFull}
+use Rattle.fx_order.specs.declared.access.ChainAccess.{ChainAccess}
+use Rattle.fx_order.specs.Requests.{IsRefused, IsOpenDone, IsReadDone, IsCloseDone, IsUpdateDone, IsRequestDone, IsChainDone, AreChainsDone}
+use Rattle.fx_order.proofs.PlacedNew.{either_way}
+use Rattle.fx_script.specs.Script.{AreFiles}
+use Rattle.fx_script.specs.Text.{name_of}
+use Rattle.fx_lines.specs.Lines.{IsCompletionInRange, IsPlaceInRange, IsResultInRange}
+
+-- each allocation is at a slot of a table of this size
+abbrev pub AreInside : ℕ → List Access → Type 0
+AreInside size [] = Unit {0}
+AreInside size (Allocates slot file ∷ xs) = (slot < size) × AreInside size xs
+AreInside size (_ ∷ xs) = AreInside size xs
+
+pub permitted_inside : (t : Table) (xs : List Access) → PermitsAll t xs → AreInside t.size xs
+permitted_inside t [] may = tt
+permitted_inside t (Looks slot found ∷ xs) may = permitted_inside (table_with t (Looks slot found)) xs may.1
+permitted_inside t (Puts slot file removed ∷ xs) may = permitted_inside (table_with t (Puts slot file removed)) xs may.1
+permitted_inside t (Clears slot removed ∷ xs) may = permitted_inside (table_with t (Clears slot removed)) xs may.1
+permitted_inside t (Takes slot removed ∷ xs) may = permitted_inside (table_with t (Takes slot removed)) xs may.1
+permitted_inside t (Allocates slot file ∷ xs) may = (may.0.0.0, permitted_inside (table_with t (Allocates slot file)) xs may.1)
+permitted_inside t (FindsFull ∷ xs) may = permitted_inside (table_with t FindsFull) xs may.1
+
+-- of an access and others
+inside_rest : (size : ℕ) (x : Access) (xs : List Access) → AreInside size (x ∷ xs) → AreInside size xs
+inside_rest size (Looks slot found) xs inside = inside
+inside_rest size (Puts slot file removed) xs inside = inside
+inside_rest size (Clears slot removed) xs inside = inside
+inside_rest size (Takes slot removed) xs inside = inside
+inside_rest size (Allocates slot file) xs inside = inside.1
+inside_rest size FindsFull xs inside = inside
+
+inside_more : (size : ℕ) (x : Access) (xs ys : List Access) → AreInside size (x ∷ xs) → AreInside size ys → AreInside size (x ∷ ys)
+inside_more size (Looks slot found) xs ys inside more = more
+inside_more size (Puts slot file removed) xs ys inside more = more
+inside_more size (Clears slot removed) xs ys inside more = more
+inside_more size (Takes slot removed) xs ys inside more = more
+inside_more size (Allocates slot file) xs ys inside more = (inside.0, more)
+inside_more size FindsFull xs ys inside more = more
+
+inside_front : (size : ℕ) (xs ys : List Access) → AreInside size (xs ++ ys) → AreInside size xs
+inside_front size [] ys inside = tt
+inside_front size (x ∷ xs) ys inside =
+    inside_more size x (xs ++ ys) xs inside (inside_front size xs ys (inside_rest size x (xs ++ ys) inside))
+
+inside_behind : (size : ℕ) (xs ys : List Access) → AreInside size (xs ++ ys) → AreInside size ys
+inside_behind size [] ys inside = inside
+inside_behind size (x ∷ xs) ys inside = inside_behind size xs ys (inside_rest size x (xs ++ ys) inside)
+
+pub inside_chain : (size c : ℕ) (order : List ChainAccess) → AreInside size (accesses_of order) → AreInside size (accesses_of_chain c order)
+inside_chain size c [] inside = tt
+inside_chain size c (x ∷ order) inside =
+    either (x.chain == c) (inside_chain size c order (inside_rest size x.access (accesses_of order) inside))
+  where
+    either : (b : Bool) → AreInside size (accesses_of_chain c order)
+        → AreInside size (accesses_of (cond b (x ∷ filter (λ y. y.chain == c) order) (filter (λ y. y.chain == c) order)))
+    either true more = inside_more size x.access (accesses_of order) (accesses_of_chain c order) inside more
+    either false more = more
+
+-- an element of a list of which each is so
+pub all_got : {A : Type 0} (P : A → Type 0) (xs : List A) (i : ℕ) (x : A) → All P xs → slice_get xs i ≡ Some x → P x
+all_got P [] i x all is = absurd (cc)
+all_got P (y ∷ xs) zero x all is = let e : y ≡ x = cc in subst P e (All-head P y xs all)
+all_got P (y ∷ xs) (suc i) x all is = all_got P xs i x (All-tail P y xs all) is
+
+no_bytes : IsBytes []
+no_bytes zero = omega arith
+no_bytes (suc i) = omega arith
+
+one_more_byte : (x : ℕ) (xs : List ℕ) → x < 256 → IsBytes xs → IsBytes (x ∷ xs)
+one_more_byte x xs one more zero = one
+one_more_byte x xs one more (suc i) = more i
+
+taken_bytes : (n : ℕ) (xs : List ℕ) → IsBytes xs → IsBytes (take n xs)
+taken_bytes zero xs fits = no_bytes
+taken_bytes (suc n) [] fits = no_bytes
+taken_bytes (suc n) (x ∷ xs) fits = one_more_byte x (take n xs) (fits 0) (taken_bytes n xs (λ k. fits (suc k)))
+
+left_bytes : (n : ℕ) (xs : List ℕ) → IsBytes xs → IsBytes (drop n xs)
+left_bytes zero xs fits = fits
+left_bytes (suc n) [] fits = no_bytes
+left_bytes (suc n) (x ∷ xs) fits = left_bytes n xs (λ k. fits (suc k))
+
+taken_length : (n : ℕ) (xs : List ℕ) → length (take n xs) ≤ length xs
+taken_length zero xs = omega arith
+taken_length (suc n) [] = omega arith
+taken_length (suc n) (x ∷ xs) = let rest = taken_length n xs in omega arith
+
+left_length : (n : ℕ) (xs : List ℕ) → length (drop n xs) ≤ length xs
+left_length zero xs = omega arith
+left_length (suc n) [] = omega arith
+left_length (suc n) (x ∷ xs) = let rest = left_length n xs in omega arith
+
+-- bytes that a read gives
+record AreGiven (got : List ℕ) : Type 0 where
+  small : length got < 2 ^ 31
+  bytes : IsBytes got
+
+given : (catalogue : List FileEntry) (entry off len : ℕ) → AreFiles catalogue → AreGiven (bytes_at catalogue entry off len)
+given catalogue entry off len are = of (slice_get catalogue entry) refl
+  where
+    of : (x : Option FileEntry) → slice_get catalogue entry ≡ x → AreGiven (part_of x off len)
+    of None is = record { small = omega arith; bytes = no_bytes }
+    of (Some file) is =
+        let small : length file.bytes ≤ LONGEST_ENTRY = all_got (λ (f : FileEntry). length f.bytes ≤ LONGEST_ENTRY) catalogue entry file are.catalogue.small is in
+        let bytes : IsBytes file.bytes = all_got (λ (f : FileEntry). IsBytes f.bytes) catalogue entry file are.bytes is in
+        let first = taken_length len (drop off file.bytes) in
+        let rest = left_length off file.bytes in
+        record { small = omega arith; bytes = taken_bytes len (drop off file.bytes) (left_bytes off file.bytes bytes) }
+
+error_in_range : (errno : Errno) (place : Place) → IsPlaceInRange place → IsCompletionInRange (refusal place errno)
+error_in_range ENOENT place is = record { place = is; res = omega arith; got = no_bytes }
+error_in_range ENXIO place is = record { place = is; res = omega arith; got = no_bytes }
+error_in_range EBADF place is = record { place = is; res = omega arith; got = no_bytes }
+error_in_range EAGAIN place is = record { place = is; res = omega arith; got = no_bytes }
+error_in_range ENOMEM place is = record { place = is; res = omega arith; got = no_bytes }
+error_in_range EBUSY place is = record { place = is; res = omega arith; got = no_bytes }
+error_in_range EINVAL place is = record { place = is; res = omega arith; got = no_bytes }
+error_in_range ENFILE place is = record { place = is; res = omega arith; got = no_bytes }
+error_in_range EMFILE place is = record { place = is; res = omega arith; got = no_bytes }
+error_in_range ECANCELED place is = record { place = is; res = omega arith; got = no_bytes }
+
+number_in_range : (n : ℕ) (place : Place) → IsPlaceInRange place → n < 2 ^ 31 → IsCompletionInRange (completed place (pos n) [])
+number_in_range n place is few = record { place = is; res = few; got = no_bytes }
+
+module _ (catalogue : List FileEntry) (are : AreFiles catalogue) (size : ℕ) (small : size ≤ 256) where
+  module _ (place : Place) (is : IsPlaceInRange place) where
+    so : (c answer : Completed) → c ≡ answer → IsCompletionInRange answer → IsCompletionInRange c
+    so c answer same it = subst IsCompletionInRange (sym same) it
+
+    refused_so : (errno : Errno) (accesses : List Access) (c : Completed) → IsRefused place errno accesses c → IsCompletionInRange c
+    refused_so errno accesses c x = so c (refusal place errno) x.1 (error_in_range errno place is)
+
+    open_so : (entry : ℕ) (target : Target) (accesses : List Access) (c : Completed) → AreInside size accesses
+        → IsOpenDone size place entry target accesses c → IsCompletionInRange c
+    open_so entry (Slot slot) accesses c inside =
+        either_way (size == 0) _ _ _ (λ _. refused_so ENXIO accesses c)
+        (λ _. either_way (nat_le size slot) _ _ _ (λ _. refused_so EINVAL accesses c)
+        (λ _ x. so c _ x.1.1 (number_in_range 0 place is (omega arith))))
+    open_so entry Any accesses c inside =
+        either_way (size == 0) _ _ _ (λ _. refused_so ENFILE accesses c)
+        (λ _ x. elim x [
+          | inl y ↦ (let within : AreInside size (Allocates y.0 (installed place 0 entry) ∷ []) = subst (AreInside size) y.1.0 inside in
+              let low = within.0 in
+              so c _ y.1.1 (number_in_range y.0 place is (omega arith)))
+          | inr y ↦ so c _ y.1 (error_in_range ENFILE place is)
+        ])
+
+    read_so : (slot off len : ℕ) (accesses : List Access) (c : Completed) → IsReadDone catalogue size place slot off len accesses c
+        → IsCompletionInRange c
+    read_so slot off len accesses c =
+        either_way (nat_le size slot) _ _ _ (λ _. refused_so EBADF accesses c)
+        (λ _ x. elim x [
+          | inl y ↦ refused_so ENOMEM accesses c y.1
+          | inr y ↦ elim y [
+            | inl z ↦ so c _ z.1 (error_in_range EBADF place is)
+            | inr z ↦ (let g = given catalogue z.0.entry off len are in
+                so c _ z.1.1 (record { place = is; res = g.small; got = g.bytes }))
+          ]
+        ])
+
+    close_so : (slot : ℕ) (accesses : List Access) (c : Completed) → IsCloseDone size place slot accesses c → IsCompletionInRange c
+    close_so slot accesses c =
+        either_way (size == 0) _ _ _ (λ _. refused_so ENXIO accesses c)
+        (λ _. either_way (nat_le size slot) _ _ _ (λ _. refused_so EINVAL accesses c)
+        (λ _ x. elim x [
+          | inl y ↦ so c _ y.1 (error_in_range EBADF place is)
+          | inr y ↦ so c _ y.1.1 (number_in_range 0 place is (omega arith))
+        ]))
+
+    update_so : (entries off : ℕ) (list : List ℤ) (accesses : List Access) (c : Completed) → IsUpdateDone entries size place off list accesses c
+        → IsCompletionInRange c
+    update_so entries off list accesses c =
+        either_way (size == 0) _ _ _ (λ _. refused_so ENXIO accesses c)
+        (λ _. either_way (length list == 0 || nat_lt size (off + length list)) _ _ _ (λ _. refused_so EINVAL accesses c)
+        (λ fine. either_way (list_any (is_bad_entry entries) list) _ _ _ (λ _. refused_so EBADF accesses c)
+        (λ _ x. let inside : off + length list ≤ size = ltb-false size (off + length list) (second (length list == 0) (nat_lt size (off + length list)) fine) in
+        so c _ x.1 (number_in_range (length list) place is (omega arith)))))
+      where
+        second : (a b : Bool) → a || b ≡ false → b ≡ false
+        second true b is = cc
+        second false b is = is
+
+    request_so : (operation : Operation) (accesses : List Access) (c : Completed) → AreInside size accesses
+        → IsRequestDone catalogue size place operation accesses c → IsCompletionInRange c
+    request_so (Opens name target) accesses c inside =
+        either_way (has_name name catalogue) _ _ _ (λ _ x. open_so x.0 target accesses c inside x.2) (λ _. refused_so ENOENT accesses c)
+    request_so (Reads slot off len) accesses c inside = read_so slot off len accesses c
+    request_so (Closes slot) accesses c inside = close_so slot accesses c
+    request_so (Updates off list) accesses c inside = update_so (length catalogue) off list accesses c
+
+  moved : (place : Place) (n : ℕ) → IsPlaceInRange place → place.member + suc n < 2 ^ 32 → IsPlaceInRange (next_member place)
+  moved place n is few = record { submission = is.submission; chain = is.chain; member = omega arith }
+
+  canceled_so : (place : Place) (requests : List Asked) → IsPlaceInRange place → place.member + length requests < 2 ^ 32
+      → All IsCompletionInRange (canceled place requests)
+  canceled_so place [] is few = All-nil IsCompletionInRange
+  canceled_so place (r ∷ rs) is few =
+      All-cons IsCompletionInRange (refusal place ECANCELED) (canceled (next_member place) rs) (error_in_range ECANCELED place is)
+      (canceled_so (next_member place) rs (moved place (length rs) is few) (omega arith))
+
+  chain_so : (place : Place) (requests : List Asked) (accesses : List Access) (cs : List Completed) → IsPlaceInRange place
+      → place.member + length requests < 2 ^ 32 → AreInside size accesses → IsChainDone catalogue size place requests accesses cs
+      → All IsCompletionInRange cs
+  chain_so place [] accesses cs is few inside x = subst (All IsCompletionInRange) (sym x.1) (All-nil IsCompletionInRange)
+  chain_so place (r ∷ rs) accesses cs is few inside x =
+      let within : AreInside size (x.0 ++ x.1) = subst (AreInside size) x.4 inside in
+      let next : IsPlaceInRange (next_member place) = moved place (length rs) is few in
+      subst (All IsCompletionInRange) (sym x.5)
+      (All-cons IsCompletionInRange x.2 x.3 (request_so place is r.operation x.0 x.2 (inside_front size x.0 x.1 within) x.6)
+      (either_way (severs r x.2) _ _ (All IsCompletionInRange x.3)
+      (λ _ y. subst (All IsCompletionInRange) (sym y.1) (canceled_so (next_member place) rs next (omega arith)))
+      (λ _ y. chain_so (next_member place) rs x.1 x.3 next (omega arith) (inside_behind size x.0 x.1 within) y) x.7))
+
+  -- the completions of an order
+  pub chains_so : (submission first : ℕ) (runs : List (List Asked)) (order : List ChainAccess) (cs : List Completed) → submission < 2 ^ 32
+      → first + length runs < 2 ^ 32 → All (λ run. length run ≤ 16) runs → AreInside size (accesses_of order)
+      → AreChainsDone catalogue size submission first runs order cs → All IsCompletionInRange cs
+  chains_so submission first [] order cs low few short inside x = subst (All IsCompletionInRange) (sym x) (All-nil IsCompletionInRange)
+  chains_so submission first (run ∷ runs) order cs low few short inside x =
+      let one : length run ≤ 16 = All-head (λ (r : List Asked). length r ≤ 16) run runs short in
+      subst (All IsCompletionInRange) (sym x.2)
+      (All-append IsCompletionInRange x.0 x.1
+      (chain_so (first_member submission first) run (accesses_of_chain first order) x.0
+      (record { submission = low; chain = omega arith; member = omega arith }) (omega arith) (inside_chain size first order inside) x.3)
+      (chains_so submission (first + 1) runs order x.1 low (omega arith) (All-tail (λ (r : List Asked). length r ≤ 16) run runs short) inside x.4))

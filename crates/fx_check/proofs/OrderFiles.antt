@@ -1,0 +1,134 @@
+-- The files that an order closes, and those that it leaves.
+use Rattle.std.proofs.Common.{◌≡◌, ◌⊎◌, inl, inr, ⊎_elim, ℕ, ◌+◌, ◌<◌, ◌≤◌, ◌^◌, List, length, map, All, Contains, sym, ap, subst, ◌∙◌, arith, Option, Some}
+use Rattle.std.specs.List.{flat_map}
+use Rattle.std.proofs.lemmas.List.Elements.{All-map, All-weaker}
+use Rattle.std.proofs.lemmas.List.Sorted.{Contains-permutation, IsPermutation-sym}
+use Rattle.fx_base.specs.Catalogue.{FileEntry}
+use Rattle.fx_base.specs.declared.mark.Mark.{Mark}
+use Rattle.fx_base.specs.declared.mark.Mark.TheVariants.{Submitted}
+use Rattle.fx_base.specs.declared.open_file.Closed.{Closed}
+use Rattle.fx_chain.specs.Accepted.{IsAccepted, IsChain, members_of}
+use Rattle.fx_chain.specs.Explains.{first_member}
+use Rattle.fx_chain.specs.Operation.{Asked}
+use Rattle.fx_chain.specs.Runs.{runs_of}
+use Rattle.fx_chain.specs.declared.chain.Chain.{Chain}
+use Rattle.fx_chain.specs.Chains.{chains_of}
+use Rattle.fx_chain.proofs.Chains.{accepted-chains, members-are-runs}
+use Rattle.fx_chain.proofs.Runs.{are_runs}
+use Rattle.fx_table.proofs.Members.{each_all}
+use Rattle.fx_ring.specs.Ring.{HasCounted, RingState, IsRing}
+use Rattle.fx_ring.specs.Submission.{Reported}
+use Rattle.fx_order.specs.Access.{accesses_of, accesses_of_chain, removed_in}
+use Rattle.fx_order.specs.declared.access.Access.{Access}
+use Rattle.fx_order.specs.declared.slots.Slots.{Slots}
+use Rattle.fx_order.specs.Laws.{AreKnown, IsOfNext, IsThere}
+use Rattle.fx_order.specs.Order.{IsOneOrder, table_of}
+use Rattle.fx_order.specs.Slots.{ring_of_slots, table_of_slots}
+use Rattle.fx_order.proofs.OneRing.{each_closed_file_is_known}
+use Rattle.fx_order.proofs.Placed.{Has, left_from, placed, removed_from, removes_contained}
+use Rattle.fx_order.proofs.PlacedNew.{AnyPlace, InLimits, IsOfMembers, ReachesAll, chain_places, has_in_chain, reaches_all_limits}
+use Rattle.fx_check.proofs.Installations.{chains_installed}
+use Rattle.fx_check.specs.Told.{AreFrom, HasDistinctMarks, HasNone, IsAtSlot, MayClose, MayCloseAll, OneInstalled}
+use Rattle.fx_lines.specs.Lines.{IsMarkInRange}
+use Rattle.fx_check.specs.Kept.{AreInRange, IsInRange}
+
+-- the runs of an accepted submission are short
+pub short_runs : (asked : List Asked) → IsAccepted asked → All (λ run. length run ≤ 16) (runs_of asked)
+short_runs asked accepted =
+    subst (All (λ (run : List Asked). length run ≤ 16)) (members-are-runs asked)
+    (All-map (λ (run : List Asked). length run ≤ 16) (members_of asked) (chains_of (runs_of asked))
+    (All-weaker (IsChain asked) (λ (chain : Chain). length (members_of asked chain) ≤ 16) (λ chain of. of.run.members)
+    (chains_of (runs_of asked)) (accepted-chains asked accepted)))
+
+-- and their members are within their limits
+in_limits : (asked : List Asked) → IsAccepted asked → All (ReachesAll InLimits 1) (runs_of asked)
+in_limits asked accepted =
+    subst (All (ReachesAll InLimits 1)) (members-are-runs asked)
+    (All-map (ReachesAll InLimits 1) (members_of asked) (chains_of (runs_of asked))
+    (All-weaker (IsChain asked) (λ (chain : Chain). ReachesAll InLimits 1 (members_of asked chain))
+    (λ chain of. let few = of.run.members in reaches_all_limits 1 (members_of asked chain) of.run.each (omega arith))
+    (chains_of (runs_of asked)) (accepted-chains asked accepted)))
+
+module _ (catalogue : List FileEntry) (slots : Slots) (submissions registrations : ℕ) (asked : List Asked) (report : Reported) (left : RingState)
+    (is : IsRing (ring_of_slots catalogue slots submissions registrations)) (accepted : IsAccepted asked)
+    (one : IsOneOrder (ring_of_slots catalogue slots submissions registrations) asked report left) where
+  abbrev before : RingState
+  before = ring_of_slots catalogue slots submissions registrations
+
+  abbrev known : AreKnown before asked report.closes.files
+  known = each_closed_file_is_known before asked report left is accepted one
+
+  -- a mark of the next submission is of no file at a slot
+  none_next : (file : Closed) → IsOfNext before asked file → HasNone slots file.mark
+  none_next file next slot g at same =
+      let counted : HasCounted before (Submitted next.place.submission next.place.chain next.place.member next.entry) =
+      subst (HasCounted before) (same ∙ next.mark) (is.counted slot g at) in
+      let later = next.next in
+      absurd (omega arith)
+
+  may_close : (file : Closed) → IsThere before file ⊎ IsOfNext before asked file → MayClose catalogue slots file
+  may_close file = ⊎_elim
+      (λ there. record { inside = is.entries there.0 file there.2; from = inl (there.0, there.2) })
+      (λ next. record { inside = next.inside; from = inr (next.untagged, none_next file next) })
+
+  pub may_close_all : MayCloseAll catalogue slots report.closes.files
+  may_close_all = record {
+    each = each_all (MayClose catalogue slots) report.closes.files (λ file has. may_close file (known.from file has));
+    in_order = one.is.closed.in_order;
+    distinct = known.distinct;
+  }
+
+  -- what the order places, a request installed
+  placed_installed : (s : ℕ) (f : Closed) → Has (placed (accesses_of one.order)) s f → OneInstalled asked report.completions f.mark
+  placed_installed s f has =
+      let at = has_in_chain (length catalogue) AnyPlace report.submission (length (runs_of asked)) one.order one.is.chains s f has in
+      let high = at.2 in
+      subst (λ (l : List Asked). OneInstalled l report.completions f.mark) (are_runs asked).whole
+      (chains_installed s f catalogue (length slots.at.items) report.submission 1 (runs_of asked) one.order report.completions one.is.done at.0 at.1 (omega arith) at.3)
+
+  pub are_from : AreFrom slots asked report.completions report.closes.files
+  are_from = each_all (λ file. IsAtSlot slots file ⊎ OneInstalled asked report.completions file.mark) report.closes.files (λ file has.
+      let xs : List Access = accesses_of one.order in
+      let w = removed_from (table_of before) xs file one.is.permitted (removes_contained xs file
+      (Contains-permutation report.closes.files (removed_in xs) file (IsPermutation-sym (removed_in xs) report.closes.files one.is.closed.same_files) has)) in
+      ⊎_elim (λ was. inl (w.slot, was)) (λ new. inr (placed_installed w.slot file new)) w.was)
+
+  module _ (few : length (runs_of asked) ≤ 1023) (early : submissions < 65535) (in_range : AreInRange (table_of_slots slots).at) where
+    next_in_range : (file : Closed) → IsOfNext before asked file → IsInRange file
+    next_in_range file next =
+        let later = next.next in
+        let low = next.chain in
+        let members = next.member in
+        let listed = next.listed in
+        let untagged = next.untagged in
+        record {
+          mark = subst IsMarkInRange (sym next.mark)
+              (record { submission = omega arith; chain = omega arith; member = omega arith }, omega arith);
+          tag = omega arith;
+        }
+
+    pub closed_in_range : (file : Closed) → Contains report.closes.files file → IsInRange file
+    closed_in_range file has = ⊎_elim (λ there. in_range there.0 file there.2) (λ next. next_in_range file next) (known.from file has)
+
+    placed_in_range : (s : ℕ) (f : Closed) → Has (placed (accesses_of one.order)) s f → IsInRange f
+    placed_in_range s f has =
+        let at = has_in_chain (length catalogue) AnyPlace report.submission (length (runs_of asked)) one.order one.is.chains s f has in
+        let high = at.2 in
+        let own = chain_places catalogue (length slots.at.items) InLimits report.submission 1 (runs_of asked) one.order report.completions (in_limits asked accepted)
+        one.is.done at.0 at.1 (omega arith) in
+        let (m, j, low, b, n) = own.0 s f at.3 in
+        let members = b.0 in
+        let listed = b.1 in
+        let numbered = one.is.submission in
+        let untagged = n.untagged in
+        record {
+          mark = subst IsMarkInRange (sym n.mark)
+              (record { submission = omega arith; chain = omega arith; member = omega arith }, omega arith);
+          tag = omega arith;
+        }
+
+    -- the files that the order leaves
+    pub left_in_range : AreInRange left.at
+    left_in_range slot file at =
+        ⊎_elim (λ was. in_range slot file was) (λ new. placed_in_range slot file new)
+        (left_from (table_of before) (accesses_of one.order) slot file (sym (ap (λ (r : RingState). r.at slot) one.after) ∙ at))
