@@ -1,5 +1,5 @@
 -- Of some files whose marks tell them apart there is one list in order of mark.
-use Rattle.std.proofs.Common.{◌≡◌, ℕ, zero, suc, ◌+◌, ◌<◌, ◌≤◌, Bool, true, false, if◌then◌else◌, List, [], ◌∷◌, length, All, refl, sym, ap, subst, ◌∙◌, arith, slice_index_or, IsPermutation, Some}
+use Rattle.std.proofs.Common.{◌≡◌, ℕ, suc, ◌+◌, ◌<◌, ◌≤◌, Bool, true, false, if◌then◌else◌, List, [], ◌∷◌, length, All, refl, sym, ap, ◌∙◌, arith, slice_index_or, Some}
 use Rattle.std.specs.Cmp.{IsStrictWeakOrder}
 use Rattle.std.specs.Cmp.Lexicographic.{bytes_decides, nat_list_cmp_total, pointwise, slice_cmp, texts_po}
 use Rattle.std.specs.List.{sum_by}
@@ -43,7 +43,7 @@ then_equal Less = refl
 then_equal Equal = refl
 then_equal Greater = refl
 
-same_cmp : (a b : Mark) → slice_cmp nat_cmp (numbers a) (numbers b) ≡ mark_cmp a b
+pub same_cmp : (a b : Mark) → slice_cmp nat_cmp (numbers a) (numbers b) ≡ mark_cmp a b
 same_cmp (Registered k i) (Registered l j) = ap (ordering_then (nat_cmp k l)) (then_equal (nat_cmp i j))
 same_cmp (Registered k i) (Submitted s c m e) = refl
 same_cmp (Submitted s c m e) (Registered k i) = refl
@@ -67,7 +67,7 @@ level Greater Greater turned one other = absurd (true≢false (sym (ap is_lt tur
 equal_numbers : (k l : List ℕ) → slice_cmp nat_cmp k l ≡ Equal → k ≡ l
 equal_numbers k l is = (bytes_decides k l).0 ((texts_po.matches_eq k l).1 (ap Some is))
 
-neither_below : (x y : Closed) → is_below x y ≡ false → is_below y x ≡ false → x.mark ≡ y.mark
+pub neither_below : (x y : Closed) → is_below x y ≡ false → is_below y x ≡ false → x.mark ≡ y.mark
 neither_below x y one other =
     let k = numbers x.mark in
     let l = numbers y.mark in

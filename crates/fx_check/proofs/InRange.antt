@@ -1,21 +1,15 @@
 -- The lines of an accepted submission's report have numbers that their types have.
-use Rattle.std.proofs.Common.{◌≡◌, ◌⊎◌, inl, inr, ⊎_elim, ℕ, zero, suc, ◌+◌, ◌<◌, ◌≤◌, ◌^◌, ◌==◌, ◌||◌, nat_le, nat_lt, ℤ, pos, negsuc, Bool, true, false, not, cond}
-use Rattle.std.proofs.Common.{List, [], ◌∷◌, ◌++◌, filter, length, map, take, drop, All, Contains, refl, sym, ap, subst, ◌∙◌, arith, Option, Some, None, slice_get, slice_index, IsTrue}
-use Rattle.std.specs.Bool.{MatchBool}
+use Rattle.std.proofs.Common.{◌≡◌, inl, inr, ℕ, zero, suc, ◌+◌, ◌<◌, ◌≤◌, ◌^◌, ◌==◌, ◌||◌, nat_le, nat_lt, ℤ, pos, Bool, true, false, cond}
+use Rattle.std.proofs.Common.{List, [], ◌∷◌, ◌++◌, filter, length, take, drop, All, refl, sym, subst, arith, Option, Some, None, slice_get}
 use Rattle.std.specs.List.{list_any}
 use Rattle.std.proofs.lemmas.Bool.{ltb-false}
-use Rattle.std.proofs.lemmas.List.Elements.{All-append, All-cons, All-head, All-map, All-nil, All-tail, All-weaker}
+use Rattle.std.proofs.lemmas.List.Elements.{All-append, All-cons, All-head, All-nil, All-tail}
 use Rattle.hex.specs.Hex.{IsBytes}
 use Rattle.fx_base.specs.AddFault.{has_name}
-use Rattle.fx_base.specs.Catalogue.{FileEntry, IsCatalogue, bytes_at, name_at, part_of}
-use Rattle.fx_base.specs.Name.{is_name}
-use Rattle.fx_base.specs.Tags.{tag_completion, tags_of}
+use Rattle.fx_base.specs.Catalogue.{FileEntry, bytes_at, part_of}
 use Rattle.fx_base.specs.declared.catalogue.TheConstants.{LONGEST_ENTRY}
 use Rattle.fx_base.specs.declared.errno.Errno.{Errno}
 use Rattle.fx_base.specs.declared.errno.Errno.TheVariants.{ENOENT, ENXIO, EBADF, EAGAIN, ENOMEM, EBUSY, EINVAL, ENFILE, EMFILE, ECANCELED}
-use Rattle.fx_base.specs.declared.mark.Mark.{Mark}
-use Rattle.fx_base.specs.declared.open_file.Closed.{Closed}
-use Rattle.fx_base.specs.declared.tag_completion.TagCompletion.{TagCompletion}
 use Rattle.fx_chain.specs.Answers.{installed, is_bad_entry}
 use Rattle.fx_chain.specs.Completed.{Completed, completed, next_member, refusal}
 use Rattle.fx_chain.specs.Explains.{canceled, first_member, severs}
@@ -30,8 +24,7 @@ use Rattle.fx_order.specs.declared.access.ChainAccess.{ChainAccess}
 use Rattle.fx_order.specs.Requests.{IsRefused, IsOpenDone, IsReadDone, IsCloseDone, IsUpdateDone, IsRequestDone, IsChainDone, AreChainsDone}
 use Rattle.fx_order.proofs.PlacedNew.{either_way}
 use Rattle.fx_script.specs.Script.{AreFiles}
-use Rattle.fx_script.specs.Text.{name_of}
-use Rattle.fx_lines.specs.Lines.{IsCompletionInRange, IsPlaceInRange, IsResultInRange}
+use Rattle.fx_lines.specs.Lines.{IsCompletionInRange, IsPlaceInRange}
 
 -- each allocation is at a slot of a table of this size
 abbrev pub AreInside : ℕ → List Access → Type 0

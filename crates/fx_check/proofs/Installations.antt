@@ -1,17 +1,16 @@
 -- What an order places, a request installed that completed so.
-use Rattle.std.proofs.Common.{◌≡◌, ◌⊎◌, inl, inr, ⊎_elim, ℕ, zero, suc, ◌+◌, ◌<◌, ◌≤◌, ◌==◌, ◌||◌, nat_le, nat_lt, ℤ, pos, negsuc, Bool, true, false, cond}
-use Rattle.std.proofs.Common.{List, [], ◌∷◌, ◌++◌, filter, length, All, refl, sym, ap, subst, ◌∙◌, arith, Option, Some, None, slice_get}
-use Rattle.std.specs.Bool.{MatchBool}
+use Rattle.std.proofs.Common.{◌≡◌, inl, inr, ⊎_elim, ℕ, zero, suc, ◌+◌, ◌<◌, ◌≤◌, ◌==◌, ◌||◌, nat_le, nat_lt, ℤ, pos, negsuc}
+use Rattle.std.proofs.Common.{List, [], ◌∷◌, ◌++◌, length, refl, sym, ap, subst, ◌∙◌, arith, Some, slice_get}
 use Rattle.std.specs.List.{list_any, flat_map}
 use Rattle.fx_base.specs.AddFault.{has_name}
 use Rattle.fx_base.specs.Catalogue.{FileEntry}
 use Rattle.fx_base.specs.declared.errno.Errno.{Errno}
-use Rattle.fx_base.specs.declared.errno.Errno.TheVariants.{ENOENT, ENXIO, EBADF, ENOMEM, EINVAL, ENFILE}
+use Rattle.fx_base.specs.declared.errno.Errno.TheVariants.{ENOENT, ENXIO, EBADF, EINVAL, ENFILE}
 use Rattle.fx_base.specs.declared.mark.Mark.{Mark}
 use Rattle.fx_base.specs.declared.mark.Mark.TheVariants.{Submitted}
 use Rattle.fx_base.specs.declared.open_file.Closed.{Closed}
 use Rattle.fx_chain.specs.Answers.{installed, is_bad_entry}
-use Rattle.fx_chain.specs.Completed.{Completed, completed, next_member, refusal}
+use Rattle.fx_chain.specs.Completed.{Completed, completed, next_member}
 use Rattle.fx_chain.specs.Explains.{canceled, first_member, severs}
 use Rattle.fx_chain.specs.Operation.{Asked, Operation, Opens, Reads, Closes, Updates}
 use Rattle.fx_chain.specs.declared.completion.Place.{Place}

@@ -11,3 +11,9 @@ pub mod OnlyRegistrations
 pub mod OnlyRefused
 pub mod Entries
 pub mod Submissions
+pub mod InRange
+pub mod Installations
+pub mod OrderFiles
+pub mod ReportInRange
+pub mod OnlyAccepted
+pub mod Tellings

@@ -1,6 +1,6 @@
 -- A list that is worked off on slots, one number further.
-use Rattle.std.proofs.Common.{◌≡◌, ℕ, zero, suc, ◌+◌, ◌<◌, ℤ, pos, List, [], ◌∷◌, ◌++◌, length, refl, sym, ap, ◌∙◌, arith}
-use Rattle.std.proofs.Common.{Option, None, slice_index_or, take, append-nil}
+use Rattle.std.proofs.Common.{◌≡◌, ℕ, zero, suc, ◌+◌, ◌<◌, ℤ, pos, negsuc, List, [], ◌∷◌, ◌++◌, ◌^◌, length, refl, sym, ap, subst, ◌∙◌, arith, if◌then◌else◌}
+use Rattle.std.proofs.Common.{Option, Some, None, slice_index_or, take, append-nil}
 use Rattle.std.proofs.lemmas.List.{length-take-le, take_more}
 use Rattle.fx_base.specs.declared.mark.Mark.TheVariants.{Registered}
 use Rattle.fx_base.specs.declared.open_file.Closed.{Closed}
@@ -9,6 +9,8 @@ use Rattle.fx_ring.specs.Registration.{file_after, files_after, removed_by, remo
 use Rattle.fx_ring.specs.Tags.{tag_at}
 use Rattle.fx_ring.proofs.ListSteps.{files_next, files_past, removed_from-append}
 use Rattle.fx_order.specs.Access.{Table, with_file}
+use Rattle.fx_plain.proofs.Cells.{by_equality}
+use Rattle.fx_check.specs.Kept.{AreInRange, IsInRange}
 
 -- one more empty slot
 pub none_more : (xs : List (Option Closed)) → ((k : ℕ) → slice_index_or xs k None ≡ None) → (k : ℕ) → slice_index_or (xs ++ None ∷ []) k None ≡ None
@@ -16,6 +18,20 @@ none_more [] none zero = refl
 none_more [] none (suc k) = refl
 none_more (x ∷ xs) none zero = none zero
 none_more (x ∷ xs) none (suc k) = none_more xs (λ j. none (suc j)) k
+
+-- a number of a list leaves files in range
+pub in_range_after : (t : Table) (slot k i tag : ℕ) (z : ℤ) → AreInRange t.at → k < 2 ^ 32 → i < 2 ^ 32 → tag < 2 ^ 64
+    → AreInRange (with_file t slot (file_after (Registered k i) tag z (t.at slot))).at
+in_range_after t slot k i tag z fits low short small s file =
+    by_equality s slot (λ b. ◌≡◌ {A = Option Closed} (if b then file_after (Registered k i) tag z (t.at slot) else t.at s) (Some file) → IsInRange file)
+    (λ _ is. there z is) (λ _ is. fits s file is)
+  where
+    there : (z : ℤ) → file_after (Registered k i) tag z (t.at slot) ≡ Some file → IsInRange file
+    there (pos entry) is =
+        let e : file ≡ record { mark = Registered k i; entry = entry; tag = tag } = cc in
+        subst IsInRange (sym e) (record { mark = (low, short); tag = small })
+    there (negsuc zero) is = absurd (cc)
+    there (negsuc (suc n)) is = fits slot file is
 
 module _ (k off i : ℕ) (list : List ℤ) (tags : List ℕ) (z : ℤ) (first cur new : Table) (inside : i < length list)
     (is : z ≡ slice_index_or list i (pos 0)) where

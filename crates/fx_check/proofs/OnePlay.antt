@@ -1,14 +1,12 @@
 -- A play of the script that prints the text goes along with what is kept of the ring.
-use Rattle.std.proofs.Common.{◌≡◌, ℕ, zero, suc, ◌+◌, ◌<◌, List, [], ◌∷◌, All, length, take, drop, sym, subst, ◌∙◌, arith, slice_index_or}
-use Rattle.std.proofs.lemmas.List.Elements.{All-cons, All-head, All-nil, All-tail}
-use Rattle.std.proofs.lemmas.List.{drop-drop}
+use Rattle.std.proofs.Common.{◌≡◌, ℕ, ◌+◌, ◌<◌, List, [], ◌∷◌, length, drop, subst, ◌∙◌, slice_index_or}
 use Rattle.fx_ring.specs.Ring.{RingContents, RingState, new_ring, ring_of}
 use Rattle.fx_script.specs.Instruction.{Instruction, instruction_of, instructions_of}
 use Rattle.fx_script.specs.Play.{IsText, PrintsAll, PrintsEnd}
 use Rattle.fx_script.specs.Script.{Meaning}
 use Rattle.fx_script.specs.declared.command.Command.{Command}
 use Rattle.fx_lines.proofs.PlaysBegin.{plays_begin}
-use Rattle.fx_check.specs.Only.{GoesOn, IsCall, LeadsNowhere, LeadsTo}
+use Rattle.fx_check.specs.Only.{GoesOn, LeadsNowhere, LeadsTo}
 use Rattle.fx_check.proofs.Plays.{next_command}
 
 -- a ring of this state prints this by these commands and the end of the script
@@ -79,26 +77,3 @@ pub ended : (state : RingState) (commands : List Instruction) (text : List ℕ) 
 ended state commands text none can =
     let ends : PrintsEnd (ring_of can.ring) text = subst (λ (cs : List Instruction). PrintsAll can.ring cs text) none can.prints in
     subst (λ (r : RingState). PrintsEnd r text) can.same ends
-
--- what holds of the first commands holds of fewer, and of each
-pub fewer : (P : Instruction → Type 0) (commands : List Instruction) (n : ℕ) → All P (take (suc n) commands) → All P (take n commands)
-fewer P commands zero all = All-nil P
-fewer P [] (suc n) all = All-nil P
-fewer P (x ∷ commands) (suc n) all =
-    All-cons P x (take n commands) (All-head P x (take (suc n) commands) all) (fewer P commands n (All-tail P x (take (suc n) commands) all))
-
-pub of_next : (P : Instruction → Type 0) (commands : List Command) (n : ℕ) (d : Command) → n < length commands
-    → All P (take (suc n) (instructions_of commands)) → P (instruction_of (slice_index_or commands n d))
-of_next P [] n d inside all = absurd (omega arith)
-of_next P (x ∷ commands) zero d inside all = All-head P (instruction_of x) (take 0 (instructions_of commands)) all
-of_next P (x ∷ commands) (suc n) d inside all =
-    of_next P commands n d (omega arith) (All-tail P (instruction_of x) (take (suc n) (instructions_of commands)) all)
-
-pub next_up : (n : ℕ) → n + 1 ≡ suc n
-next_up n = omega arith
-
-pub called : (commands : List Command) (done : ℕ) (command : Command) → done < length commands → command ≡ slice_index_or commands done command
-    → All IsCall (take (done + 1) (instructions_of commands)) → IsCall (instruction_of command)
-called commands done command inside is calls =
-    subst (λ (c : Command). IsCall (instruction_of c)) (sym is)
-    (of_next IsCall commands done command inside (subst (λ (n : ℕ). All IsCall (take n (instructions_of commands))) (next_up done) calls))

@@ -1,8 +1,8 @@
 -- A command that has one text, or two, goes on with one of them alone.
-use Rattle.std.proofs.Common.{◌≡◌, ◌⊎◌, ℕ, pos, List, ◌++◌, length, take, drop, refl, sym, ap, subst, ◌∙◌, inl, inr, ⊎_elim, Option, Some, None}
+use Rattle.std.proofs.Common.{◌≡◌, ◌⊎◌, ℕ, List, ◌++◌, length, drop, sym, ap, subst, ◌∙◌, inl, inr, ⊎_elim, Option, Some, None}
 use Rattle.std.specs.Option.{MatchOption}
 use Rattle.std.proofs.Math.Seq.{drop-append_seam}
-use Rattle.std.proofs.lemmas.List.{append_assoc, length-take-le, take-append-drop}
+use Rattle.std.proofs.lemmas.List.{length-take-le, take-append-drop}
 use Rattle.fx_base.specs.Catalogue.{FileEntry}
 use Rattle.fx_base.specs.declared.errno.Errno.{Errno}
 use Rattle.fx_base.specs.declared.errno.Errno.TheVariants.{ENOMEM}
@@ -14,7 +14,7 @@ use Rattle.fx_script.specs.Text.{result_line}
 use Rattle.fx_judge.specs.Verdict.{ring_with_slots}
 use Rattle.fx_judge.specs.declared.told.RingSlots.{RingSlots}
 use Rattle.fx_check.specs.Met.{BeginsWith, IsMet}
-use Rattle.fx_check.specs.Only.{GoesOn, IsOnlyStep, LeadsTo}
+use Rattle.fx_check.specs.Only.{IsOnlyStep, LeadsTo}
 use Rattle.fx_check.specs.declared.met.Met.{Met}
 use Rattle.fx_check.specs.declared.met.Met.TheVariants.{Here, Apart}
 

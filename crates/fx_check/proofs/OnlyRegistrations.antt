@@ -1,5 +1,5 @@
 -- The calls between submissions: a text goes on with what they print in one way alone.
-use Rattle.std.proofs.Common.{◌≡◌, ℕ, ◌+◌, ◌<◌, ◌≤◌, ◌^◌, ℤ, pos, negsuc, List, [], ◌++◌, codes, length, All, refl, sym, ap, subst, ◌∙◌, arith, Option, Some, None, slice_index_or}
+use Rattle.std.proofs.Common.{◌≡◌, ℕ, ◌+◌, ◌<◌, ◌^◌, ℤ, pos, negsuc, List, [], ◌++◌, codes, length, sym, ap, subst, ◌∙◌, arith, Option, Some, None, slice_index_or}
 use Rattle.std.proofs.lemmas.List.{append_assoc}
 use Rattle.fx_base.specs.Catalogue.{FileEntry}
 use Rattle.fx_base.specs.CloseListView.{CloseListView}
@@ -12,7 +12,7 @@ use Rattle.fx_order.specs.Slots.{table_of_slots}
 use Rattle.fx_order.specs.declared.slots.Slots.{Slots}
 use Rattle.fx_ring.specs.Registration.{files_after, range_refusal, register_refusal, registered, registered_sparse, removed_from}
 use Rattle.fx_ring.specs.Registration.{sparse_refusal, unregister_refusal, update_refusal, updated}
-use Rattle.fx_ring.specs.Ring.{HasClosed, RingContents, RingState, IsRing, files_of, ring_of, without_table}
+use Rattle.fx_ring.specs.Ring.{HasClosed, RingState, IsRing, files_of, ring_of, without_table}
 use Rattle.fx_ring.specs.Tags.{tags_given}
 use Rattle.fx_script.specs.Instruction.{Instruction, MakesSparse, RegistersList, SetsRange, Unregisters, UpdatesRing}
 use Rattle.fx_script.specs.Text.{closes_text, result_line}
@@ -22,9 +22,9 @@ use Rattle.fx_judge.specs.declared.told.RingSlots.{RingSlots}
 use Rattle.fx_check.specs.Met.{BeginsWith, IsMet}
 use Rattle.fx_check.specs.Only.{IsOnlyStep, LeadsTo}
 use Rattle.fx_check.specs.declared.met.Met.{Met}
-use Rattle.fx_check.specs.declared.met.Met.TheVariants.{Here, Apart}
+use Rattle.fx_check.specs.declared.met.Met.TheVariants.{Here}
 use Rattle.fx_check.proofs.FilesThere.{all_in_order, all_removed, closes_printed}
-use Rattle.fx_check.proofs.OneText.{AreApart, PrintsEither, PrintsOnly, either_here, either_only, one_here, one_text, range_accepted, range_refused, refusal_only, refused_text}
+use Rattle.fx_check.proofs.OneText.{AreApart, PrintsEither, either_here, either_only, one_text, range_accepted, range_refused, refusal_only, refused_text}
 use Rattle.fx_check.proofs.Registrations.{empty_table}
 
 -- a line of success is none of a call that found no memory

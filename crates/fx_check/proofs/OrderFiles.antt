@@ -1,14 +1,11 @@
 -- The files that an order closes, and those that it leaves.
-use Rattle.std.proofs.Common.{◌≡◌, ◌⊎◌, inl, inr, ⊎_elim, ℕ, ◌+◌, ◌<◌, ◌≤◌, ◌^◌, List, length, map, All, Contains, sym, ap, subst, ◌∙◌, arith, Option, Some}
-use Rattle.std.specs.List.{flat_map}
+use Rattle.std.proofs.Common.{◌⊎◌, inl, inr, ⊎_elim, ℕ, ◌<◌, ◌≤◌, List, length, All, Contains, sym, ap, subst, ◌∙◌, arith}
 use Rattle.std.proofs.lemmas.List.Elements.{All-map, All-weaker}
 use Rattle.std.proofs.lemmas.List.Sorted.{Contains-permutation, IsPermutation-sym}
 use Rattle.fx_base.specs.Catalogue.{FileEntry}
-use Rattle.fx_base.specs.declared.mark.Mark.{Mark}
 use Rattle.fx_base.specs.declared.mark.Mark.TheVariants.{Submitted}
 use Rattle.fx_base.specs.declared.open_file.Closed.{Closed}
 use Rattle.fx_chain.specs.Accepted.{IsAccepted, IsChain, members_of}
-use Rattle.fx_chain.specs.Explains.{first_member}
 use Rattle.fx_chain.specs.Operation.{Asked}
 use Rattle.fx_chain.specs.Runs.{runs_of}
 use Rattle.fx_chain.specs.declared.chain.Chain.{Chain}
@@ -18,7 +15,7 @@ use Rattle.fx_chain.proofs.Runs.{are_runs}
 use Rattle.fx_table.proofs.Members.{each_all}
 use Rattle.fx_ring.specs.Ring.{HasCounted, RingState, IsRing}
 use Rattle.fx_ring.specs.Submission.{Reported}
-use Rattle.fx_order.specs.Access.{accesses_of, accesses_of_chain, removed_in}
+use Rattle.fx_order.specs.Access.{accesses_of, removed_in}
 use Rattle.fx_order.specs.declared.access.Access.{Access}
 use Rattle.fx_order.specs.declared.slots.Slots.{Slots}
 use Rattle.fx_order.specs.Laws.{AreKnown, IsOfNext, IsThere}
@@ -26,9 +23,9 @@ use Rattle.fx_order.specs.Order.{IsOneOrder, table_of}
 use Rattle.fx_order.specs.Slots.{ring_of_slots, table_of_slots}
 use Rattle.fx_order.proofs.OneRing.{each_closed_file_is_known}
 use Rattle.fx_order.proofs.Placed.{Has, left_from, placed, removed_from, removes_contained}
-use Rattle.fx_order.proofs.PlacedNew.{AnyPlace, InLimits, IsOfMembers, ReachesAll, chain_places, has_in_chain, reaches_all_limits}
+use Rattle.fx_order.proofs.PlacedNew.{AnyPlace, InLimits, ReachesAll, chain_places, has_in_chain, reaches_all_limits}
 use Rattle.fx_check.proofs.Installations.{chains_installed}
-use Rattle.fx_check.specs.Told.{AreFrom, HasDistinctMarks, HasNone, IsAtSlot, MayClose, MayCloseAll, OneInstalled}
+use Rattle.fx_check.specs.Told.{AreFrom, HasNone, IsAtSlot, MayClose, MayCloseAll, OneInstalled}
 use Rattle.fx_lines.specs.Lines.{IsMarkInRange}
 use Rattle.fx_check.specs.Kept.{AreInRange, IsInRange}
 

@@ -25,7 +25,7 @@ use Rattle.fx_script.specs.Instruction.{MakesSparse, RegistersList, SetsRange, U
 use Rattle.fx_script.specs.Text.{closes_text, result_line}
 use Rattle.fx_judge.specs.Verdict.{ring_with_slots}
 use Rattle.fx_judge.specs.declared.told.RingSlots.{RingSlots}
-use Rattle.fx_check.specs.Kept.{IsKept}
+use Rattle.fx_check.specs.Kept.{AreInRange, IsKept}
 use Rattle.fx_check.specs.Met.{IsMet, IsStep}
 use Rattle.fx_check.specs.declared.met.Met.{Met}
 use Rattle.fx_check.specs.declared.met.Met.TheVariants.{Here}
@@ -40,6 +40,10 @@ none_so x accepted refused is it = subst (λ (y : Option Errno). MatchOption y a
 
 abbrev pub empty_table : ℕ → Table
 empty_table n = record { size = n; range = (0, n); at = λ _. None }
+
+-- slots without files
+pub none_in_range : (at : ℕ → Option Closed) → at ≡ (λ _. None) → AreInRange at
+none_in_range at none slot file is = let e : None ≡ Some file = sym (ap (λ (a : ℕ → Option Closed). a slot) none) ∙ is in cc
 
 -- a table whose slots were copied
 pub copied : (slots : Slots) (v : Vec (Option Closed)) → v.items ≡ slots.at.items → table_of_slots (record { range = slots.range; at = v }) ≡ table_of_slots slots
@@ -92,6 +96,8 @@ module _ (catalogue : List FileEntry) (old : RingSlots) (text : List ℕ) (met :
       few_submissions = kept.few_submissions;
       few_registrations = kept.few_registrations;
       is_ring = none_rings (ring_with_slots catalogue (record old { slots = slots })) (ap (λ (t : Table). t.at) table);
+      files = kept.files;
+      in_range = none_in_range (table_of_slots slots).at (ap (λ (t : Table). t.at) table);
     }
 
   module _ (list : List ℤ) (tags : Option (List ℕ)) where
@@ -128,12 +134,15 @@ module _ (catalogue : List FileEntry) (old : RingSlots) (text : List ℕ) (met :
           (then ∙ registered_now ∙ sym (ap (λ (r : RingState). registered r list (tags_given list tags)) same), refl))
 
       pub register_keeps : length list ≤ MOST_SLOTS → list_any (is_bad_file (length catalogue)) list ≡ false
-          → old.registrations < MOST_REGISTRATIONS → IsKept catalogue old → IsKept catalogue behind
-      register_keeps few good counted kept = record {
+          → old.registrations < MOST_REGISTRATIONS → (AreInRange (table_of_slots empty).at → AreInRange (table_of_slots slots).at) → IsKept catalogue old
+          → IsKept catalogue behind
+      register_keeps few good counted fits kept = record {
         few_slots = let e : length slots.at.items ≡ length list = ap (λ (t : Table). t.size) worked ∙ ap (λ (t : Table). t.size) table in omega arith;
         few_submissions = kept.few_submissions;
         few_registrations = omega arith;
         is_ring = subst IsRing (sym registered_now) (registered_rings state list (tags_given list tags) good);
+        files = kept.files;
+        in_range = fits (none_in_range (table_of_slots empty).at (ap (λ (t : Table). t.at) table));
       }
 
   pub unregister_stays : (errno : Errno) → unregister_refusal state ≡ Some errno → IsMet text (result_line (codes "unregister") (negated errno)) met
@@ -216,11 +225,13 @@ module _ (catalogue : List FileEntry) (old : RingSlots) (text : List ℕ) (met :
           ))
 
       pub update_keeps : list_any (is_bad_entry (length catalogue)) list ≡ false → old.registrations < MOST_REGISTRATIONS
-          → IsKept catalogue old → IsKept catalogue later
-      update_keeps good counted kept = record {
+          → (AreInRange (table_of_slots old.slots).at → AreInRange (table_of_slots slots).at) → IsKept catalogue old → IsKept catalogue later
+      update_keeps good counted fits kept = record {
         few_slots = let e : length slots.at.items ≡ length old.slots.at.items = ap (λ (t : Table). t.size) worked in
             let few = kept.few_slots in omega arith;
         few_submissions = kept.few_submissions;
         few_registrations = omega arith;
         is_ring = subst IsRing (sym updated_now) (updated_rings state off list (tags_given list tags) kept.is_ring good);
+        files = kept.files;
+        in_range = fits kept.in_range;
       }

@@ -12,6 +12,8 @@ use Rattle.fx_chain.specs.Completed.{all_completed}
 use Rattle.fx_chain.specs.Faults.{fault_of}
 use Rattle.fx_chain.specs.Operation.{Asked}
 use Rattle.fx_chain.specs.declared.fault.CutFault.{CutFault}
+use Rattle.fx_chain.specs.Runs.{runs_of}
+use Rattle.fx_table.specs.declared.limits.TheConstants.{MAX_CHAINS}
 use Rattle.fx_order.specs.Order.{IsOneOrder}
 use Rattle.fx_order.proofs.Histories.{each_order_is_a_history}
 use Rattle.fx_plain.specs.declared.table.TheConstants.{MOST_SLOTS}
@@ -33,11 +35,12 @@ use Rattle.fx_lines.specs.Lines.{Lines, line_of_tag, lines_of, lines_text, named
 use Rattle.fx_judge.specs.Verdict.{ring_with_slots, told_report}
 use Rattle.fx_judge.specs.declared.told.RingSlots.{RingSlots}
 use Rattle.fx_judge.specs.declared.told.Told.{Told}
-use Rattle.fx_check.specs.Kept.{IsKept}
+use Rattle.fx_check.specs.Kept.{AreInRange, IsKept}
 use Rattle.fx_check.specs.Met.{MayPrint}
+use Rattle.fx_check.proofs.OrderFiles.{left_in_range}
 
 -- the text of a report is that of its lines
-printed_lines : (catalogue : List FileEntry) (report : Reported) → report_text catalogue report ≡ lines_text (lines_of catalogue report)
+pub printed_lines : (catalogue : List FileEntry) (report : Reported) → report_text catalogue report ≡ lines_text (lines_of catalogue report)
 printed_lines catalogue report =
     let files = report.closes.files in
     let closed : flat_map named_line (map (λ file. record { mark = file.mark; name = name_of catalogue file.entry }) files) ≡ closed_lines catalogue files =
@@ -63,12 +66,39 @@ told_lines catalogue lines files closed tags number room =
     map-map (λ (completion : TagCompletion). completion.user_data) (λ (file : Closed). tag_completion file.tag) tagged ∙ tags in
     λ i. record { completions = all_completed lines.completions.items; closed = closed i; tags = all i }
 
+-- the tags of files are those that are told of them
+pub tags_again : (files others : List Closed) → files ≡ others
+    → map (λ file. file.tag) (filter (λ file. not (file.tag == 0)) files) ≡ map (λ completion. completion.user_data) (tags_of others)
+tags_again files others same =
+    ap (λ (l : List Closed). map (λ file. file.tag) (filter (λ file. not (file.tag == 0)) l)) same
+    ∙ sym (map-map (λ (completion : TagCompletion). completion.user_data) (λ (file : Closed). tag_completion file.tag)
+    (filter (λ (file : Closed). not (file.tag == 0)) others))
+
 front_taken : (text front rest : List ℕ) (count : ℕ) → text ≡ front ++ rest → count + length rest ≡ length text → take count text ≡ front
 front_taken text front rest count split counts =
     let sizes = length-append front rest in
     let whole = ap length split in
     let same : count ≡ length front = omega arith in
     ap (λ (n : ℕ). take n text) same ∙ ap (take (length front)) split ∙ take-append_seam front rest
+
+-- what stays a ring stays kept
+pub kept_still : (catalogue : List FileEntry) (old new : RingSlots) → ring_with_slots catalogue new ≡ ring_with_slots catalogue old → IsKept catalogue old
+    → IsKept catalogue new
+kept_still catalogue old new same kept =
+    let slots : length new.slots.at.items ≡ length old.slots.at.items = ap (λ (r : RingState). r.size) same in
+    let submissions : new.submissions ≡ old.submissions = ap (λ (r : RingState). r.submissions) same in
+    let registrations : new.registrations ≡ old.registrations = ap (λ (r : RingState). r.registrations) same in
+    let few = kept.few_slots in
+    let early = kept.few_submissions in
+    let most = kept.few_registrations in
+    record {
+      few_slots = omega arith;
+      few_submissions = omega arith;
+      few_registrations = omega arith;
+      is_ring = subst IsRing (sym same) kept.is_ring;
+      files = kept.files;
+      in_range = subst AreInRange (sym (ap (λ (r : RingState). r.at) same)) kept.in_range;
+    }
 
 module _ (catalogue : List FileEntry) (old new : RingSlots) (asked : List Asked) (told : Told) where
   abbrev pub before : RingState
@@ -121,15 +151,20 @@ module _ (catalogue : List FileEntry) (old new : RingSlots) (asked : List Asked)
       let few = kept.few_slots in
       omega arith
 
-  pub accepted_keeps : IsOrdered → IsKept catalogue old → old.submissions < MOST_SUBMISSIONS → IsRing after → IsKept catalogue new
-  accepted_keeps ordered kept few is =
-      let one = ordered 0 in
+  pub accepted_keeps : IsOrdered → IsKept catalogue old → old.submissions < MOST_SUBMISSIONS → fault_of asked ≡ None → length (runs_of asked) ≤ MAX_CHAINS
+      → IsRing after → IsKept catalogue new
+  accepted_keeps ordered kept few accepted short is =
+      let one : IsOneOrder (ring_with_slots catalogue old) asked (told_report (ring_with_slots catalogue old) told 0) (ring_with_slots catalogue new) =
+      ordered 0 in
       let counted : new.submissions ≡ old.submissions + 1 = ap (λ (r : RingState). r.submissions) one.after in
       let same : new.registrations ≡ old.registrations = ap (λ (r : RingState). r.registrations) one.after in
-      let before = kept.few_registrations in
+      let most = kept.few_registrations in
       record {
         few_slots = same_slots ordered kept;
         few_submissions = omega arith;
         few_registrations = omega arith;
         is_ring = is;
+        files = kept.files;
+        in_range = left_in_range catalogue old.slots old.submissions old.registrations asked (told_report before told 0) after kept.is_ring accepted one
+            short few kept.in_range;
       }

@@ -28,7 +28,10 @@ fn has_installed(request: &Request, completion: &Completion, mark: Mark) -> bool
         chain,
         member,
     };
-    if completion.place != place || completion.res < 0 {
+    if completion.place != place {
+        return false;
+    }
+    if completion.res < 0 {
         return false;
     }
     match &request.op {
@@ -55,8 +58,8 @@ fn is_installed(requests: &[Request], completions: &[Completion], mark: Mark) ->
     ensures { result ≡ false → OneInstalled (all_asked requests.now)
         (all_completed completions.now) mark → ⊥ }
 {
-    for (request, completion) in requests.iter().zip(completions.iter()) {
-        if has_installed(request, completion, mark) {
+    for i in 0..requests.len() {
+        if i < completions.len() && has_installed(&requests[i], &completions[i], mark) {
             return true;
         }
     }
@@ -81,7 +84,7 @@ pub(crate) fn unknown_file(slots: &Slots, requests: &[Request], told: &Told) -> 
         if installed || file_marked(slots, mark).is_some() {
             continue;
         }
-        // So far one request was looked at, the one whose place the mark has; what is told unknown all are looked at for.
+        // Only the request at the mark's place was looked at; the file is unknown where none of them installed it.
         if !is_installed(requests, completions, mark) {
             return Some(i);
         }

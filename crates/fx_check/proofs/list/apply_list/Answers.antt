@@ -4,11 +4,12 @@ use Rattle.std.specs.Global.{Vec}
 use Rattle.std.specs.Option.{option_to_list}
 use Rattle.fx_base.specs.declared.mark.Mark.TheVariants.{Registered}
 use Rattle.fx_base.specs.declared.open_file.Closed.{Closed}
-use Rattle.fx_order.specs.Access.{with_file}
+use Rattle.fx_order.specs.Access.{Table, with_file}
+use Rattle.fx_check.specs.Kept.{AreInRange}
 use Rattle.fx_order.specs.Slots.{table_of_slots}
 use Rattle.fx_ring.specs.Registration.{file_after, files_after, removed_from}
 use Rattle.fx_ring.specs.Tags.{tags_for}
-use Rattle.fx_check.proofs.ListWorked.{one_more, more_removed}
+use Rattle.fx_check.proofs.ListWorked.{in_range_after, one_more, more_removed}
 use Rattle.fx_check.proofs.list.apply_list.Goals.{in-Some+in_ok-push, in_default}
 use Rattle.fx_check.proofs.list.apply_list.Goals as goal
 
@@ -29,6 +30,9 @@ loop-i-preserved c =
       table = one_more c.args.k c.args.off c.loop-i.i c.args.list.now tags z first cur new c.loop-i-test.true read c.loop-i.invariant.table
           (after ∙ ap (λ (tag : ℕ). with_file cur (c.args.off + c.loop-i.i)
           (file_after (Registered c.args.k c.loop-i.i) tag z (cur.at (c.args.off + c.loop-i.i)))) (c.tag_at.ensures c.args.list.now));
+      in_range = λ fits. subst (λ (t : Table). AreInRange t.at) (sym after)
+          (in_range_after cur (c.args.off + c.loop-i.i) c.args.k c.loop-i.i c.tag_at.result z (c.loop-i.invariant.in_range fits) (omega arith) (omega arith)
+          (omega arith));
       removed = elim c.match-apply_number.branch [
         | in-Some+in_ok-push w ↦
             ap (λ (v : Vec Closed). v.items) w.removed-is ∙ w.in_ok-push.ensures.items ∙ ap (λ (l : List Closed). l ++ w.in-Some.file ∷ []) was
@@ -50,5 +54,6 @@ returns c =
     record {
       table = subst (λ (l : List ℤ). table_of_slots c.loop-i.slots ≡ record first { at = files_after c.args.k first.at c.args.off l tags }) end
           c.loop-i.invariant.table;
+      in_range = c.loop-i.invariant.in_range;
       removed = subst (λ (l : List ℤ). c.loop-i.removed.items ≡ removed_from first.at c.args.off l) end c.loop-i.invariant.removed;
     }

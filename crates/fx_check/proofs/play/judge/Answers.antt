@@ -1,4 +1,4 @@
-use Rattle.std.proofs.Common.{◌≡◌, ◌≤◌, ◌+◌, ◌-◌, All, List, [], ℕ, length, length-drop, drop, take, sym, ap, subst, ◌∙◌, arith, Option, IfSome}
+use Rattle.std.proofs.Common.{◌≡◌, ◌≤◌, ◌+◌, ◌-◌, List, [], ℕ, length, length-drop, drop, take, sym, ap, subst, ◌∙◌, arith}
 use Rattle.std.proofs.Math.ListN.{drop_of_length-le}
 use Rattle.std.proofs.lemmas.List.{drop-drop}
 use Rattle.std.proofs.Math.Seq.{take-length}
@@ -10,24 +10,24 @@ use Rattle.fx_judge.specs.Verdict.{ring_with_slots}
 use Rattle.fx_check.specs.Answer.{IsAnswer}
 use Rattle.fx_check.specs.Judged.{MayPrintAll}
 use Rattle.fx_check.specs.Met.{MayPrint}
-use Rattle.fx_check.specs.Only.{IsCall, IsOnlyAnswer, LeadsNowhere, LeadsTo}
+use Rattle.fx_check.specs.Only.{IsOnlyAnswer, LeadsNowhere, LeadsTo}
 use Rattle.fx_check.specs.declared.answer.Answer.{Answer}
-use Rattle.fx_check.proofs.OnePlay.{CanPrintAll, begins, called, ended, fewer, further, next_up, no_further}
+use Rattle.fx_check.proofs.OnePlay.{CanPrintAll, begins, ended, further, no_further}
 use Rattle.fx_check.proofs.Plays.{one_further, whole_text}
 use Rattle.fx_check.proofs.play.judge.Goals as goal
 
 pub loop-done-init : goal.loop-done-init
 loop-done-init c = record {
   inside = omega arith;
-  kept = c.new_ring-ring.ensures.kept c.catalogue-catalogue.result.now;
+  kept = c.new_ring-ring.ensures.kept c.catalogue-catalogue.result.now c.catalogue-catalogue.ensures.files;
   legal = λ may. whole_text c.args.script.now c.args.text.now
       (subst (λ (s : RingState). MayPrintAll s c.args.script.now.commands c.args.text.now)
-      (c.new_ring-ring.ensures.ring c.catalogue-catalogue.result.now ∙ ap new_ring c.catalogue-catalogue.ensures)
+      (c.new_ring-ring.ensures.ring c.catalogue-catalogue.result.now ∙ ap new_ring c.catalogue-catalogue.ensures.value)
       (subst (λ (cs : List Instruction). MayPrintAll (ring_with_slots c.catalogue-catalogue.result.now c.new_ring-ring.result) cs c.args.text.now)
       c.commands-commands.ensures may));
-  only = λ calls is. begins c.args.script.now c.args.text.now (ring_with_slots c.catalogue-catalogue.result.now c.new_ring-ring.result)
+  only = λ is. begins c.args.script.now c.args.text.now (ring_with_slots c.catalogue-catalogue.result.now c.new_ring-ring.result)
       (instructions_of c.commands-commands.result.now)
-      (sym (c.new_ring-ring.ensures.ring c.catalogue-catalogue.result.now ∙ ap new_ring c.catalogue-catalogue.ensures))
+      (sym (c.new_ring-ring.ensures.ring c.catalogue-catalogue.result.now ∙ ap new_ring c.catalogue-catalogue.ensures.value))
       (sym c.commands-commands.ensures) is;
 }
 
@@ -44,68 +44,48 @@ loop-done-preserved c =
     c.in-Printed.is
     (subst (λ (t : List ℕ). IsAnswer c.catalogue-catalogue.result.now c.loop-done.ring (instruction_of command) t c.in_ok-count.field-0 c.play_command.new.ring)
     same c.in_ok-count.ensures.answer) in
-    let calls_before : All IsCall (take (c.loop-done.done + 1) (instructions_of c.commands-commands.result.now))
-    → All IsCall (take c.loop-done.done (instructions_of c.commands-commands.result.now)) =
-    λ calls. fewer IsCall (instructions_of c.commands-commands.result.now) c.loop-done.done
-    (subst (λ (n : ℕ). All IsCall (take n (instructions_of c.commands-commands.result.now))) (next_up c.loop-done.done) calls) in
     record {
       inside = let front = answer.0 in let before = c.loop-done.invariant.inside in omega arith;
       kept = c.in_ok-count.ensures.kept;
       legal = λ may. c.loop-done.invariant.legal (one_further c.commands-commands.result.now c.loop-done.done command old new c.args.text.now
           c.loop-done.at c.in-Printed.count c.loop-done-test.true c.index-commands-done.is answer.1 may);
-      only = λ calls is.
-          let call : IsCall (instruction_of command) = called c.commands-commands.result.now c.loop-done.done command c.loop-done-test.true
-          c.index-commands-done.is calls in
+      only = λ is.
           let leads : LeadsTo old (instruction_of command) rest c.in-Printed.count new =
           subst (λ (a : Answer). IsOnlyAnswer c.catalogue-catalogue.result.now c.loop-done.ring (instruction_of command) rest a c.play_command.new.ring)
           c.in-Printed.is
           (subst (λ (t : List ℕ). IsOnlyAnswer c.catalogue-catalogue.result.now c.loop-done.ring (instruction_of command) t c.in_ok-count.field-0 c.play_command.new.ring)
-          same (c.in_ok-count.ensures.only call)) in
+          same c.in_ok-count.ensures.only) in
           subst (λ (t : List ℕ). CanPrintAll new (instructions_of (drop (c.loop-done.done + 1) c.commands-commands.result.now)) t)
           (drop-drop c.in-Printed.count c.loop-done.at c.args.text.now)
           (further c.commands-commands.result.now c.loop-done.done command old rest c.loop-done-test.true c.index-commands-done.is new c.in-Printed.count leads
-          (c.loop-done.invariant.only (calls_before calls) is));
+          (c.loop-done.invariant.only is));
     }
 
 pub returns-in-Broken : goal.returns-in-Broken
-returns-in-Broken c = λ calls is.
+returns-in-Broken c = λ is.
     let rest = drop c.loop-done.at c.args.text.now in
     let size = length-drop c.loop-done.at c.args.text.now in
     let same : take (length c.args.text.now - c.loop-done.at) rest ≡ rest = ap (λ (n : ℕ). take n rest) (sym size) ∙ take-length rest in
     let commands = c.commands-commands.result.now in
     let command = c.index-commands-done.result in
     let old = ring_with_slots c.catalogue-catalogue.result.now c.loop-done.ring in
-    let here : All IsCall (take (c.loop-done.done + 1) (instructions_of commands)) =
-    subst (λ (cs : List Instruction). All IsCall (take (c.loop-done.done + 1) cs)) (sym c.commands-commands.ensures) calls in
-    let before : All IsCall (take c.loop-done.done (instructions_of commands)) =
-    fewer IsCall (instructions_of commands) c.loop-done.done
-    (subst (λ (n : ℕ). All IsCall (take n (instructions_of commands))) (next_up c.loop-done.done) here) in
-    let call : IsCall (instruction_of command) = called commands c.loop-done.done command c.loop-done-test.true c.index-commands-done.is here in
     let nowhere : LeadsNowhere old (instruction_of command) rest =
     subst (λ (a : Answer). IsOnlyAnswer c.catalogue-catalogue.result.now c.loop-done.ring (instruction_of command) rest a c.play_command.new.ring)
     c.in-Broken.is
     (subst (λ (t : List ℕ). IsOnlyAnswer c.catalogue-catalogue.result.now c.loop-done.ring (instruction_of command) t c.in_ok-count.field-0 c.play_command.new.ring)
-    same (c.in_ok-count.ensures.only call)) in
-    no_further commands c.loop-done.done command old rest c.loop-done-test.true c.index-commands-done.is nowhere (c.loop-done.invariant.only before is)
+    same c.in_ok-count.ensures.only) in
+    no_further commands c.loop-done.done command old rest c.loop-done-test.true c.index-commands-done.is nowhere (c.loop-done.invariant.only is)
 
 pub returns : goal.returns
-returns c = λ calls is.
+returns c = λ is.
     let rest = drop c.loop-done.at c.args.text.now in
     let size = length-drop c.loop-done.at c.args.text.now in
     let same : take (length c.args.text.now - c.loop-done.at) rest ≡ rest = ap (λ (n : ℕ). take n rest) (sym size) ∙ take-length rest in
     let commands = c.commands-commands.result.now in
     let state = ring_with_slots c.catalogue-catalogue.result.now c.loop-done.ring in
     let past = c.loop-done-test.false in
-    let below = c.loop-done.auto.done-end in
-    let all : c.loop-done.done ≡ length commands = omega arith in
-    let here : All IsCall (take (length commands + 1) (instructions_of commands)) =
-    subst (λ (cs : List Instruction). All IsCall (take (length commands + 1) cs)) (sym c.commands-commands.ensures) calls in
-    let before : All IsCall (take c.loop-done.done (instructions_of commands)) =
-    subst (λ (n : ℕ). All IsCall (take n (instructions_of commands))) (sym all)
-    (fewer IsCall (instructions_of commands) (length commands)
-    (subst (λ (n : ℕ). All IsCall (take n (instructions_of commands))) (next_up (length commands)) here)) in
     let none : instructions_of (drop c.loop-done.done commands) ≡ [] = ap (λ (cs : List Command). instructions_of cs) (drop_of_length-le commands past) in
-    let ends : PrintsEnd state rest = ended state (instructions_of (drop c.loop-done.done commands)) rest none (c.loop-done.invariant.only before is) in
+    let ends : PrintsEnd state rest = ended state (instructions_of (drop c.loop-done.done commands)) rest none (c.loop-done.invariant.only is) in
     let never = rw c.in-Some-2.is at c.in_ok-play_end.ensures.only in
     never (subst (λ (t : List ℕ). PrintsEnd state t) (sym same) ends)
 

@@ -1,10 +1,9 @@
-use Rattle.std.proofs.Common.{◌≤◌, All, drop, length, take}
+use Rattle.std.proofs.Common.{◌≤◌, drop, length}
 use Rattle.fx_judge.specs.Verdict.{ring_with_slots}
 use Rattle.fx_script.specs.Instruction.{instructions_of}
 use Rattle.fx_script.specs.Play.{IsText}
 use Rattle.fx_check.specs.Judged.{MayPrintAll}
 use Rattle.fx_check.specs.Kept.{IsKept}
-use Rattle.fx_check.specs.Only.{IsCall}
 use Rattle.fx_check.proofs.OnePlay.{CanPrintAll}
 use Rattle.fx_check.proofs.play.judge.Given as goal
 
@@ -13,6 +12,6 @@ invariant-loop-done l = record {
   inside : l.at ≤ length l.text;
   kept : IsKept l.catalogue l.ring;
   legal : MayPrintAll (ring_with_slots l.catalogue l.ring) (instructions_of (drop l.done l.commands)) (drop l.at l.text) → IsText l.script l.text;
-  only : All IsCall (take l.done (instructions_of l.commands)) → IsText l.script l.text
+  only : IsText l.script l.text
       → CanPrintAll (ring_with_slots l.catalogue l.ring) (instructions_of (drop l.done l.commands)) (drop l.at l.text);
 }

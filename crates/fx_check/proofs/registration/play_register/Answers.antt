@@ -30,7 +30,7 @@ pub returns-in_ok-_none-in-Here-clause-kept : goal.returns-in_ok-_none-in-Here-c
 returns-in_ok-_none-in-Here-clause-kept c =
     register_keeps c.args.catalogue.now c.args.ring.now c.args.text.now c.in_ok-met.met c.args.list.now (option_map (λ given. given.now) c.args.tags)
     c.in_ok-slots-in-Here.slots c.apply_list.new.slots c.in_ok-slots-in-Here.ensures c.in_ok-_none-in-Here.ensures.table
-    c.in_default.ensures.few c.in_default.ensures.good c.in_default.ensures.counted c.requires
+    c.in_default.ensures.few c.in_default.ensures.good c.in_default.ensures.counted c.in_ok-_none-in-Here.ensures.in_range c.requires
 
 pub returns-in-Some-clause-only : goal.returns-in-Some-clause-only
 returns-in-Some-clause-only c =

@@ -7,6 +7,7 @@ use Rattle.fx_script.specs.Text.{closes_text, result_line}
 use Rattle.fx_check.proofs.Entries.{all_closed, all_of_list, few_of_list, good_larger, if_ok_then}
 use Rattle.fx_check.proofs.Registrations.{copied, update_goes, update_keeps, update_no_memory, update_stays}
 use Rattle.fx_check.proofs.OnlyRegistrations.{update_apart, update_here, update_refused}
+use Rattle.fx_check.specs.Kept.{AreInRange}
 use Rattle.fx_check.specs.Met.{IsMet}
 use Rattle.std.proofs.Common.{arith, subst}
 use Rattle.fx_check.proofs.registration.play_update.Goals as goal
@@ -67,7 +68,8 @@ returns-in-Here-clause-kept c =
     (c.in_ok-files.ensures.table ∙ ap (λ (t : Table). record t {
       at = files_after (c.args.ring.now.registrations + 1) t.at c.args.off c.args.list.now (tags_for c.args.list.now c.args.tags);
     }) same)
-    c.in_default.ensures.good c.in_default.ensures.counted c.requires
+    c.in_default.ensures.good c.in_default.ensures.counted
+    (λ fits. c.in_ok-files.ensures.in_range (subst (λ (t : Table). AreInRange t.at) (sym same) fits)) c.requires
 
 pub returns-in-Apart-clause-step : goal.returns-in-Apart-clause-step
 returns-in-Apart-clause-step c =

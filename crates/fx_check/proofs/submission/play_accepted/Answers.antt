@@ -1,15 +1,17 @@
-use Rattle.std.proofs.Common.{◌≡◌, ◌-◌, ◌++◌, List, ℕ, Option, Some, Result, IfOk, length, length-append, option_map, ap, subst, arith}
+use Rattle.std.proofs.Common.{◌≡◌, ◌-◌, ◌++◌, List, ℕ, Option, Some, None, Result, Ok, IfOk, length, length-append, option_map, ap, subst, sym, arith}
+use Rattle.std.proofs.lemmas.List.{length-map}
 use Rattle.std.specs.Borrow.{Bor}
-use Rattle.fx_chain.specs.Operation.{all_asked}
+use Rattle.fx_chain.specs.Operation.{all_asked, asked_of}
 use Rattle.fx_lines.specs.Lines.{ReadsReport, lines_text}
 use Rattle.fx_lines.specs.LinesView.{front_of, lines_in}
 use Rattle.fx_lines.specs.declared.report.ReportLines.{ReportLines}
 use Rattle.fx_judge.specs.Verdict.{IsVerdict, ring_with_slots}
 use Rattle.fx_judge.specs.declared.told.Told.{Told}
 use Rattle.fx_judge.specs.declared.verdict.Verdict.{Verdict}
-use Rattle.fx_check.specs.Told.{HasLines}
+use Rattle.fx_check.specs.Told.{AreApart, HasLines, TellsKnown}
 use Rattle.fx_check.specs.declared.judgement.Fault.{Fault}
-use Rattle.fx_check.proofs.Submissions.{IsOrdered, accepted_goes, accepted_keeps, same_slots}
+use Rattle.fx_check.proofs.OnlyAccepted.{none_ordered, none_read, none_told, one_ordered}
+use Rattle.fx_check.proofs.Submissions.{IsOrdered, accepted_goes, accepted_keeps, kept_still, same_slots}
 use Rattle.fx_check.proofs.submission.play_accepted.Goals as goal
 
 pub order_of-requires-clause-few_slots : goal.order_of-requires-clause-few_slots
@@ -25,7 +27,7 @@ returns-in-Legal-clause-kept c =
     λ room. (subst (λ (v : Verdict). IsVerdict (ring_with_slots c.args.catalogue.now c.args.ring.now) (all_asked c.args.requests.now) c.in-Ok.told v
     (ring_with_slots c.args.catalogue.now c.judge_submission.new.ring)) c.in-Legal.is c.in_ok-accesses.ensures.verdict room).0 in
     accepted_keeps c.args.catalogue.now c.args.ring.now c.judge_submission.new.ring (all_asked c.args.requests.now) c.in-Ok.told ordered c.requires.kept
-    c.requires.few c.in_ok-accesses.ensures.ring
+    c.requires.few c.requires.accepted c.requires.chains c.in_ok-accesses.ensures.ring
 
 pub returns-in-Legal-clause-answer : goal.returns-in-Legal-clause-answer
 returns-in-Legal-clause-answer c =
@@ -36,10 +38,80 @@ returns-in-Legal-clause-answer c =
     subst (λ (x : Option (ReportLines × Bor (List ℕ))). ReadsReport (length c.args.requests.now) c.args.text.now (option_map front_of x))
     c.in-Some.is c.in_ok-front.ensures in
     let has : HasLines c.args.catalogue.now c.in-Some.front.0 c.in-Ok.told =
-    subst (λ (r : Result Told Fault). IfOk r (HasLines c.args.catalogue.now c.in-Some.front.0)) c.in-Ok.is c.in_ok-told.ensures in
+    subst (λ (r : Result Told Fault). IfOk r (HasLines c.args.catalogue.now c.in-Some.front.0)) c.in-Ok.is c.in_ok-told.ensures.lines in
     let split : c.args.text.now ≡ lines_text (lines_in c.in-Some.front.0) ++ c.in-Some.front.1.now = found.printed in
     let whole : length c.args.text.now ≡ length (lines_text (lines_in c.in-Some.front.0) ++ c.in-Some.front.1.now) = ap length split in
     let sizes = length-append (lines_text (lines_in c.in-Some.front.0)) c.in-Some.front.1.now in
     accepted_goes c.args.catalogue.now c.args.ring.now c.judge_submission.new.ring (all_asked c.args.requests.now) c.in-Ok.told
     (lines_in c.in-Some.front.0) c.args.text.now c.in-Some.front.1.now (length c.args.text.now - length c.in-Some.front.1.now)
     c.requires.kept c.requires.accepted c.requires.few ordered has split (omega arith)
+
+pub returns-in_default-clause-only : goal.returns-in_default-clause-only
+returns-in_default-clause-only c =
+    let none : ReadsReport (length (all_asked c.args.requests.now)) c.args.text.now None =
+    subst (λ (n : ℕ). ReadsReport n c.args.text.now None) (sym (length-map c.args.requests.now asked_of))
+    (subst (λ (x : Option (ReportLines × Bor (List ℕ))). ReadsReport (length c.args.requests.now) c.args.text.now (option_map front_of x))
+    c.in_default.is c.in_ok-front.ensures) in
+    none_read c.args.catalogue.now c.args.ring.now c.requires.kept (all_asked c.args.requests.now) c.args.text.now c.requires.accepted c.requires.few c.requires.chains none
+
+pub returns-in-Err-clause-only : goal.returns-in-Err-clause-only
+returns-in-Err-clause-only c =
+    let found : ReadsReport (length (all_asked c.args.requests.now)) c.args.text.now (Some (lines_in c.in-Some.front.0, c.in-Some.front.1.now)) =
+    subst (λ (n : ℕ). ReadsReport n c.args.text.now (Some (lines_in c.in-Some.front.0, c.in-Some.front.1.now))) (sym (length-map c.args.requests.now asked_of))
+    (subst (λ (x : Option (ReportLines × Bor (List ℕ))). ReadsReport (length c.args.requests.now) c.args.text.now (option_map front_of x))
+    c.in-Some.is c.in_ok-front.ensures) in
+    none_told c.args.catalogue.now c.args.ring.now c.requires.kept (all_asked c.args.requests.now) c.args.text.now c.requires.accepted c.requires.few c.requires.chains
+    c.in-Some.front.0 c.in-Some.front.1.now found c.in-Err.fault
+    (subst (λ (r : Result Told Fault). AreApart c.args.catalogue.now c.args.ring.now.slots
+    → TellsKnown c.args.catalogue.now c.args.ring.now.slots (all_asked c.args.requests.now) c.in-Some.front.0 r) c.in-Err.is c.in_ok-told.ensures.only)
+
+pub returns-in-Legal-clause-only : goal.returns-in-Legal-clause-only
+returns-in-Legal-clause-only c =
+    let found : ReadsReport (length (all_asked c.args.requests.now)) c.args.text.now (Some (lines_in c.in-Some.front.0, c.in-Some.front.1.now)) =
+    subst (λ (n : ℕ). ReadsReport n c.args.text.now (Some (lines_in c.in-Some.front.0, c.in-Some.front.1.now))) (sym (length-map c.args.requests.now asked_of))
+    (subst (λ (x : Option (ReportLines × Bor (List ℕ))). ReadsReport (length c.args.requests.now) c.args.text.now (option_map front_of x))
+    c.in-Some.is c.in_ok-front.ensures) in
+    let has : HasLines c.args.catalogue.now c.in-Some.front.0 c.in-Ok.told =
+    subst (λ (r : Result Told Fault). IfOk r (HasLines c.args.catalogue.now c.in-Some.front.0)) c.in-Ok.is c.in_ok-told.ensures.lines in
+    let tells : AreApart c.args.catalogue.now c.args.ring.now.slots
+    → TellsKnown c.args.catalogue.now c.args.ring.now.slots (all_asked c.args.requests.now) c.in-Some.front.0 (Ok c.in-Ok.told) =
+    subst (λ (r : Result Told Fault). AreApart c.args.catalogue.now c.args.ring.now.slots
+    → TellsKnown c.args.catalogue.now c.args.ring.now.slots (all_asked c.args.requests.now) c.in-Some.front.0 r) c.in-Ok.is c.in_ok-told.ensures.only in
+    let ordered : IsOrdered c.args.catalogue.now c.args.ring.now c.judge_submission.new.ring (all_asked c.args.requests.now) c.in-Ok.told =
+    λ room. (subst (λ (v : Verdict). IsVerdict (ring_with_slots c.args.catalogue.now c.args.ring.now) (all_asked c.args.requests.now) c.in-Ok.told v
+    (ring_with_slots c.args.catalogue.now c.judge_submission.new.ring)) c.in-Legal.is c.in_ok-accesses.ensures.verdict room).0 in
+    let split : c.args.text.now ≡ lines_text (lines_in c.in-Some.front.0) ++ c.in-Some.front.1.now = found.printed in
+    let whole : length c.args.text.now ≡ length (lines_text (lines_in c.in-Some.front.0) ++ c.in-Some.front.1.now) = ap length split in
+    let sizes = length-append (lines_text (lines_in c.in-Some.front.0)) c.in-Some.front.1.now in
+    one_ordered c.args.catalogue.now c.args.ring.now c.requires.kept (all_asked c.args.requests.now) c.args.text.now c.requires.accepted c.requires.few c.requires.chains
+    c.in-Some.front.0 c.in-Some.front.1.now found c.in-Ok.told has tells (ring_with_slots c.args.catalogue.now c.judge_submission.new.ring)
+    (length c.args.text.now - length c.in-Some.front.1.now) (omega arith) ordered
+
+pub returns-in-NotLegal-clause-only : goal.returns-in-NotLegal-clause-only
+returns-in-NotLegal-clause-only c =
+    let found : ReadsReport (length (all_asked c.args.requests.now)) c.args.text.now (Some (lines_in c.in-Some.front.0, c.in-Some.front.1.now)) =
+    subst (λ (n : ℕ). ReadsReport n c.args.text.now (Some (lines_in c.in-Some.front.0, c.in-Some.front.1.now))) (sym (length-map c.args.requests.now asked_of))
+    (subst (λ (x : Option (ReportLines × Bor (List ℕ))). ReadsReport (length c.args.requests.now) c.args.text.now (option_map front_of x))
+    c.in-Some.is c.in_ok-front.ensures) in
+    let has : HasLines c.args.catalogue.now c.in-Some.front.0 c.in-Ok.told =
+    subst (λ (r : Result Told Fault). IfOk r (HasLines c.args.catalogue.now c.in-Some.front.0)) c.in-Ok.is c.in_ok-told.ensures.lines in
+    let tells : AreApart c.args.catalogue.now c.args.ring.now.slots
+    → TellsKnown c.args.catalogue.now c.args.ring.now.slots (all_asked c.args.requests.now) c.in-Some.front.0 (Ok c.in-Ok.told) =
+    subst (λ (r : Result Told Fault). AreApart c.args.catalogue.now c.args.ring.now.slots
+    → TellsKnown c.args.catalogue.now c.args.ring.now.slots (all_asked c.args.requests.now) c.in-Some.front.0 r) c.in-Ok.is c.in_ok-told.ensures.only in
+    none_ordered c.args.catalogue.now c.args.ring.now c.requires.kept (all_asked c.args.requests.now) c.args.text.now c.requires.accepted c.requires.few c.requires.chains
+    c.in-Some.front.0 c.in-Some.front.1.now found c.in-Ok.told has tells
+    (subst (λ (v : Verdict). IsVerdict (ring_with_slots c.args.catalogue.now c.args.ring.now) (all_asked c.args.requests.now) c.in-Ok.told v
+    (ring_with_slots c.args.catalogue.now c.judge_submission.new.ring)) c.in-NotLegal.is c.in_ok-accesses.ensures.verdict).1
+
+pub returns-in-NotLegal-clause-kept : goal.returns-in-NotLegal-clause-kept
+returns-in-NotLegal-clause-kept c =
+    kept_still c.args.catalogue.now c.args.ring.now c.judge_submission.new.ring
+    (subst (λ (v : Verdict). IsVerdict (ring_with_slots c.args.catalogue.now c.args.ring.now) (all_asked c.args.requests.now) c.in-Ok.told v
+    (ring_with_slots c.args.catalogue.now c.judge_submission.new.ring)) c.in-NotLegal.is c.in_ok-accesses.ensures.verdict).0 c.requires.kept
+
+pub returns-clause-kept : goal.returns-clause-kept
+returns-clause-kept c =
+    kept_still c.args.catalogue.now c.args.ring.now c.judge_submission.new.ring
+    (subst (λ (v : Verdict). IsVerdict (ring_with_slots c.args.catalogue.now c.args.ring.now) (all_asked c.args.requests.now) c.in-Ok.told v
+    (ring_with_slots c.args.catalogue.now c.judge_submission.new.ring)) c.in-Undecided.is c.in_ok-accesses.ensures.verdict) c.requires.kept

@@ -1,18 +1,35 @@
-use Rattle.std.proofs.Common.{◌≡◌, ◌==◌, Result, IfOk, List, ℕ, filter, map, not, sym, ap, subst, ◌∙◌}
+use Rattle.std.proofs.Common.{◌≡◌, ◌==◌, All, Result, IfOk, List, ℕ, filter, map, not, sym, ap, subst, ◌∙◌}
 use Rattle.std.specs.Global.{Vec}
 use Rattle.fx_base.specs.declared.open_file.Closed.{Closed}
 use Rattle.fx_lines.specs.ClosedView.{close_of}
 use Rattle.fx_lines.specs.declared.close.ClosedLine.{ClosedLine}
 use Rattle.fx_check.specs.Told.{named_closes}
-use Rattle.fx_check.proofs.Submissions.{told_lines}
+use Rattle.fx_lines.specs.Lines.{Lines}
+use Rattle.fx_check.specs.Told.{AreApart, MayClose, TellsFiles}
+use Rattle.fx_check.proofs.Submissions.{tags_again, told_lines}
 use Rattle.fx_check.proofs.submission.told_by.Goals as goal
 
-pub returns : goal.returns
-returns c =
+pub returns-clause-lines : goal.returns-clause-lines
+returns-clause-lines c =
     let told : named_closes c.args.catalogue.now c.in-Ok.files.items ≡ map close_of c.deref.result.now =
     subst (λ (r : Result (Vec Closed) ℕ). IfOk r (λ files. named_closes c.args.catalogue.now files.items ≡ map close_of c.deref.result.now))
-    c.in-Ok.is c.in_ok-files.ensures in
+    c.in-Ok.is c.in_ok-files.ensures.told in
     told_lines c.args.catalogue.now c.args.lines c.in-Ok.files.items
     (told ∙ ap (λ (l : List ClosedLine). map close_of l) c.deref.ensures.value)
     (ap (λ (l : List Closed). map (λ file. file.tag) (filter (λ file. not (file.tag == 0)) l)) (sym c.deref-3.ensures.value)
-    ∙ sym c.in_ok-wanted-2.ensures ∙ sym c.deref-4.ensures.value ∙ c.in_default-wrong_tag.ensures ∙ c.deref-5.ensures.value)
+    ∙ sym c.in_ok-wanted-2.ensures ∙ sym c.deref-4.ensures.value ∙ c.in_default-wrong_tag.ensures.same ∙ c.deref-5.ensures.value)
+
+pub returns-in-Some-wrong_tag-clause-only : goal.returns-in-Some-wrong_tag-clause-only
+returns-in-Some-wrong_tag-clause-only c = λ apart report may same.
+    let catalogue = c.args.catalogue.now in
+    let slots = c.args.ring.now.slots in
+    let only : AreApart catalogue slots → (files : List Closed) → All (MayClose catalogue slots) files
+    → named_closes catalogue files ≡ map close_of c.deref.result.now → c.in-Ok.files.items ≡ files =
+    subst (λ (r : Result (Vec Closed) ℕ). AreApart catalogue slots → (files : List Closed) → All (MayClose catalogue slots) files
+    → named_closes catalogue files ≡ map close_of c.deref.result.now → TellsFiles r files) c.in-Ok.is c.in_ok-files.ensures.only in
+    let closed : named_closes catalogue report.closes.files ≡ map close_of c.deref.result.now =
+    ap (λ (l : Lines). l.closed) same ∙ ap (λ (l : List ClosedLine). map close_of l) (sym c.deref.ensures.value) in
+    let files : c.deref-3.result.now ≡ report.closes.files = c.deref-3.ensures.value ∙ only apart report.closes.files may.each closed in
+    c.in-Some-wrong_tag.ensures.apart
+    (c.deref-4.ensures.value ∙ c.in_ok-wanted-2.ensures ∙ tags_again c.deref-3.result.now report.closes.files files
+    ∙ ap (λ (l : Lines). l.tags) same ∙ sym c.deref-5.ensures.value)

@@ -1,7 +1,12 @@
-use Rattle.std.proofs.Common.{◌≡◌, map, take}
+use Rattle.std.proofs.Common.{◌≡◌, All, List, map, take}
+use Rattle.fx_base.specs.declared.open_file.Closed.{Closed}
 use Rattle.fx_lines.specs.ClosedView.{close_of}
-use Rattle.fx_check.specs.Told.{named_closes}
+use Rattle.fx_check.specs.Told.{AreApart, MayClose, named_closes}
 use Rattle.fx_check.proofs.told.files_told.Given as goal
 
 abbrev pub invariant-loop-i : goal.invariant-loop-i
-invariant-loop-i l = named_closes l.catalogue l.files.items ≡ map close_of (take l.i l.lines)
+invariant-loop-i l = record {
+  told : named_closes l.catalogue l.files.items ≡ map close_of (take l.i l.lines);
+  only : AreApart l.catalogue l.slots → (others : List Closed) → All (MayClose l.catalogue l.slots) others
+      → named_closes l.catalogue others ≡ map close_of l.lines → l.files.items ≡ take l.i others;
+}

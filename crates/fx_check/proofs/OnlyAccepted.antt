@@ -1,0 +1,147 @@
+-- An accepted submission: a text goes on with its lines in one way alone.
+use Rattle.std.proofs.Common.{◌≡◌, ℕ, ◌+◌, ◌<◌, ◌≤◌, Bool, false, nat_le, List, ◌++◌, length, drop, sym, ap, subst, ◌∙◌, arith, Option, Some, None, Result, Ok, Err, length-append}
+use Rattle.std.specs.Bool.{MatchBool}
+use Rattle.std.specs.Option.{MatchOption}
+use Rattle.std.proofs.Math.Seq.{drop-append_seam}
+use Rattle.std.proofs.lemmas.Bool.{lt-leb}
+use Rattle.fx_base.specs.Catalogue.{FileEntry}
+use Rattle.fx_chain.specs.Accepted.{IsAccepted}
+use Rattle.fx_chain.specs.Completed.{all_completed}
+use Rattle.fx_chain.specs.Operation.{Asked}
+use Rattle.fx_chain.specs.Runs.{runs_of}
+use Rattle.fx_chain.specs.declared.fault.CutFault.{CutFault}
+use Rattle.fx_ring.specs.Ring.{RingContents, RingState, ring_of}
+use Rattle.fx_ring.specs.Submission.{Reported}
+use Rattle.fx_ring.specs.declared.ring.TheConstants.{MOST_SUBMISSIONS}
+use Rattle.fx_order.specs.Order.{IsOneOrder}
+use Rattle.fx_order.proofs.OneRing.{each_report_leads_to_one_ring}
+use Rattle.fx_order.proofs.Ordered.{each_history_is_an_order}
+use Rattle.fx_script.specs.Instruction.{SubmitsAll}
+use Rattle.fx_script.specs.Play.{PrintsReport}
+use Rattle.fx_script.specs.Text.{refused_line, report_text, too_many_line}
+use Rattle.fx_lines.specs.Lines.{IsReportBefore, Lines, ReadsReport, lines_of, lines_text}
+use Rattle.fx_lines.specs.LinesView.{lines_in}
+use Rattle.fx_lines.specs.declared.report.ReportLines.{ReportLines}
+use Rattle.fx_lines.proofs.CompletionCounts.{each_request}
+use Rattle.fx_judge.specs.Verdict.{IsRefuted, ring_with_slots, told_report}
+use Rattle.fx_judge.specs.declared.told.RingSlots.{RingSlots}
+use Rattle.fx_judge.specs.declared.told.Told.{Told}
+use Rattle.fx_check.specs.Kept.{IsKept}
+use Rattle.fx_check.specs.Only.{GoesOn, LeadsNowhere, LeadsTo}
+use Rattle.fx_check.specs.Told.{AreApart, HasLines, Tells, TellsKnown}
+use Rattle.fx_check.specs.declared.judgement.Fault.{Fault}
+use Rattle.fx_check.proofs.OrderFiles.{are_from, may_close_all}
+use Rattle.fx_check.proofs.ReportInRange.{report_in_range}
+use Rattle.fx_check.proofs.Submissions.{printed_lines}
+
+module _ (catalogue : List FileEntry) (old : RingSlots) (kept : IsKept catalogue old) where
+  -- the files at slots are told apart
+  pub files_apart : AreApart catalogue old.slots
+  files_apart = record {
+    names = kept.files.catalogue;
+    marks = λ file other here there same.
+        let slots : here.0 ≡ there.0 = kept.is_ring.distinct here.0 there.0 file other here.1 there.1 same in
+        let one : Some file ≡ Some other = sym here.1 ∙ ap (ring_with_slots catalogue old).at slots ∙ there.1 in
+        cc;
+  }
+
+  module _ (asked : List Asked) (text : List ℕ) (accepted : IsAccepted asked) (few : old.submissions < MOST_SUBMISSIONS)
+      (short : length (runs_of asked) ≤ 1023) where
+    abbrev before : RingState
+    before = ring_with_slots catalogue old
+
+    -- what the text goes on with is a report of one order, whose lines are read in one way
+    record Played (next : RingContents) (others : List ℕ) : Type 0 where
+      report : Reported
+      order : IsOneOrder before asked report (ring_of next)
+      split : text ≡ lines_text (lines_of catalogue report) ++ others
+      fits : IsReportBefore (length asked) (lines_of catalogue report, others)
+
+    reported : (next : RingContents) (others : List ℕ) (g : GoesOn before (SubmitsAll asked) text next others) → PrintsReport g.ring asked next g.line
+    reported next others g =
+        let few_yet : nat_le MOST_SUBMISSIONS g.ring.submissions ≡ false =
+        ap (λ (r : RingState). nat_le MOST_SUBMISSIONS r.submissions) g.same ∙ lt-leb MOST_SUBMISSIONS old.submissions few in
+        let Refused : CutFault → Type 0 = λ fault. (ring_of next ≡ ring_of g.ring) × (g.line ≡ refused_line fault) in
+        let TooMany : Type 0 = (ring_of next ≡ ring_of g.ring) × (g.line ≡ too_many_line) in
+        let Reports : Type 0 = PrintsReport g.ring asked next g.line in
+        subst (λ (b : Bool). MatchBool b TooMany Reports) few_yet
+        (subst (λ (x : Option CutFault). MatchOption x (MatchBool (nat_le MOST_SUBMISSIONS g.ring.submissions) TooMany Reports) Refused) accepted g.prints)
+
+    played : (next : RingContents) (others : List ℕ) → GoesOn before (SubmitsAll asked) text next others → Played next others
+    played next others g =
+        let (report, history, printed) = reported next others g in
+        let order : IsOneOrder before asked report (ring_of next) =
+        subst (λ (r : RingState). IsOneOrder r asked report (ring_of next)) g.same (each_history_is_an_order g.ring next asked report history) in
+        record {
+          report = report;
+          order = order;
+          split = g.split ∙ ap (λ (l : List ℕ). l ++ others) (printed ∙ ap (λ (r : RingState). report_text r.catalogue report) g.same
+              ∙ printed_lines catalogue report);
+          fits = record {
+            each = each_request g.ring asked report next history;
+            in_range = report_in_range catalogue old asked report (ring_of next) kept accepted short few order;
+            behind = g.behind;
+          };
+        }
+
+    -- a text of which no report is read
+    pub none_read : ReadsReport (length asked) text None → LeadsNowhere before (SubmitsAll asked) text
+    none_read none next others g =
+        let p = played next others g in none (lines_of catalogue p.report, others) p.fits p.split
+
+    module _ (lines : ReportLines) (rest : List ℕ) (found : ReadsReport (length asked) text (Some (lines_in lines, rest))) where
+      same_front : (next : RingContents) (others : List ℕ) (p : Played next others)
+          → ◌≡◌ {A = Lines × List ℕ} (lines_of catalogue p.report, others) (lines_in lines, rest)
+      same_front next others p = found.only (lines_of catalogue p.report, others) p.fits p.split
+
+      told_files : (next : RingContents) (others : List ℕ) (p : Played next others) (told : Result Told Fault)
+          → (AreApart catalogue old.slots → TellsKnown catalogue old.slots asked lines told) → Tells told p.report.closes.files
+      told_files next others p told tells = tells files_apart p.report
+          (may_close_all catalogue old.slots old.submissions old.registrations asked p.report (ring_of next) kept.is_ring accepted p.order)
+          (are_from catalogue old.slots old.submissions old.registrations asked p.report (ring_of next) kept.is_ring accepted p.order)
+          (ap (λ (front : Lines × List ℕ). front.0) (same_front next others p))
+
+      -- lines that tell nothing
+      pub none_told : (fault : Fault) → (AreApart catalogue old.slots → TellsKnown catalogue old.slots asked lines (Err fault))
+          → LeadsNowhere before (SubmitsAll asked) text
+      none_told fault tells next others g =
+          let p = played next others g in told_files next others p (Err fault) tells
+
+      module _ (told : Told) (has : HasLines catalogue lines told)
+          (tells : AreApart catalogue old.slots → TellsKnown catalogue old.slots asked lines (Ok told)) where
+        -- the report is what was told
+        same_report : (next : RingContents) (others : List ℕ) (p : Played next others) → p.report ≡ told_report before told p.report.closes.room
+        same_report next others p =
+            let files : told.closes.items ≡ p.report.closes.files = told_files next others p (Ok told) tells in
+            let completions : all_completed told.completions.items ≡ p.report.completions =
+            ap (λ (l : Lines). l.completions) (has 0 0 ∙ sym (ap (λ (front : Lines × List ℕ). front.0) (same_front next others p))) in
+            λ i. record {
+              submission = p.order.is.submission i;
+              completions = sym completions i;
+              closes = record { files = sym files i; room = p.report.closes.room };
+            }
+
+        told_order : (next : RingContents) (others : List ℕ) (p : Played next others)
+            → IsOneOrder before asked (told_report before told p.report.closes.room) (ring_of next)
+        told_order next others p = subst (λ (r : Reported). IsOneOrder before asked r (ring_of next)) (same_report next others p) p.order
+
+        pub none_ordered : IsRefuted before asked told → LeadsNowhere before (SubmitsAll asked) text
+        none_ordered refuted next others g =
+            let p = played next others g in refuted p.report.closes.room (ring_of next) (told_order next others p)
+
+        pub one_ordered : (new : RingState) (count : ℕ) → count + length rest ≡ length text
+            → ((room : ℕ) → IsOneOrder before asked (told_report before told room) new) → LeadsTo before (SubmitsAll asked) text count new
+        one_ordered new count counts ordered next others g =
+            let p = played next others g in
+            let behind : others ≡ rest = ap (λ (front : Lines × List ℕ). front.1) (same_front next others p) in
+            let front : List ℕ = lines_text (lines_in lines) in
+            let split : text ≡ front ++ rest = found.printed in
+            let sizes = length-append front rest in
+            let whole = ap length split in
+            let size : count ≡ length front = omega arith in
+            let left : rest ≡ drop count text =
+            sym (ap (λ (n : ℕ). drop n text) size ∙ ap (drop (length front)) split ∙ drop-append_seam front rest) in (
+              each_report_leads_to_one_ring before asked (told_report before told p.report.closes.room) (ring_of next) new kept.files.catalogue kept.is_ring
+                  (told_order next others p) (ordered p.report.closes.room),
+              behind ∙ left,
+            )

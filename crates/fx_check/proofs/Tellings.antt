@@ -1,0 +1,146 @@
+-- What lines tell is one list of files, or none.
+use Rattle.std.proofs.Common.{◌≡◌, false, ⊎_elim, ℕ, zero, suc, ◌+◌, ◌<◌, ◌≤◌, List, [], ◌∷◌, length, map, drop, refl, sym, ap, subst, ◌∙◌, arith, Some, slice_get, slice_index_or}
+use Rattle.std.specs.Ordering.{is_lt}
+use Rattle.fx_base.specs.Catalogue.{FileEntry, name_at}
+use Rattle.fx_base.specs.CloseList.{IsInOrderOfMark, mark_cmp}
+use Rattle.fx_base.specs.contracts.mark.MarkOrd.TheImpl.{ghosts}
+use Rattle.fx_base.specs.declared.mark.Mark.{Mark}
+use Rattle.fx_base.specs.declared.mark.Mark.TheVariants.{Registered, Submitted}
+use Rattle.fx_base.specs.declared.open_file.Closed.{Closed}
+use Rattle.fx_chain.specs.Completed.{all_completed, completed_of}
+use Rattle.fx_chain.specs.Operation.{all_asked, asked_of}
+use Rattle.fx_chain.specs.declared.completion.Completion.{Completion}
+use Rattle.fx_chain.specs.declared.request.Request.{Request}
+use Rattle.fx_order.specs.declared.slots.Slots.{Slots}
+use Rattle.fx_script.specs.Text.{name_of}
+use Rattle.fx_lines.specs.ClosedView.{close_of}
+use Rattle.fx_lines.specs.Lines.{NamedClose}
+use Rattle.fx_lines.specs.declared.close.ClosedLine.{ClosedLine}
+use Rattle.fx_check.specs.Told.{AreApart, HasDistinctMarks, HasNone, Installed, IsAtSlot, MayClose, OneInstalled, named_close, named_closes}
+use Rattle.fx_check.proofs.ClosesInOrder.{neither_below, same_cmp}
+
+-- an entry of the catalogue has its name
+name_at_entry : (catalogue : List FileEntry) (entry : ℕ) → entry < length catalogue → name_at catalogue entry ≡ Some (name_of catalogue entry)
+name_at_entry [] entry inside = absurd (omega arith)
+name_at_entry (file ∷ catalogue) zero inside = refl
+name_at_entry (file ∷ catalogue) (suc entry) inside = name_at_entry catalogue entry (omega arith)
+
+module _ (catalogue : List FileEntry) (slots : Slots) (apart : AreApart catalogue slots) (file : Closed) (may : MayClose catalogue slots file)
+    (mark : Mark) (name : List ℕ) (marks : file.mark ≡ mark) (names : name_of catalogue file.entry ≡ name) where
+  pub has_entry : name_at catalogue file.entry ≡ Some name
+  has_entry = name_at_entry catalogue file.entry may.inside ∙ ap (λ (n : List ℕ). Some n) names
+
+  pub same_entry : (entry : ℕ) → name_at catalogue entry ≡ Some name → entry ≡ file.entry
+  same_entry entry is = apart.names.distinct entry file.entry name is has_entry
+
+  -- where a file at a slot has the mark, it is that one
+  pub same_file : (other : Closed) → other.mark ≡ mark → IsAtSlot slots other → other ≡ file
+  same_file other is there = ⊎_elim
+      (λ here. apart.marks other file there here (is ∙ sym marks))
+      (λ new. absurd (new.1 there.0 other there.1 (is ∙ sym marks)))
+      may.from
+
+  -- where none has, it has no tag
+  pub new_file : HasNone slots mark → (entry : ℕ) → name_at catalogue entry ≡ Some name
+      → ◌≡◌ {A = Closed} (record { mark = mark; entry = entry; tag = 0 }) file
+  new_file none entry is = ⊎_elim
+      (λ here. absurd (none here.0 file here.1 marks))
+      (λ new i. record { mark = sym marks i; entry = same_entry entry is i; tag = sym new.0 i })
+      may.from
+
+-- the line of one of several files
+pub close_at : (catalogue : List FileEntry) (files : List Closed) (lines : List ClosedLine) (i : ℕ) (line : ClosedLine) (d : Closed)
+    → named_closes catalogue files ≡ map close_of lines → i < length lines → line ≡ slice_index_or lines i line
+    → (i < length files) × (named_close catalogue (slice_index_or files i d) ≡ close_of line)
+close_at catalogue [] [] i line d same inside is = absurd (omega arith)
+close_at catalogue [] (l ∷ lines) i line d same inside is = let e : 0 ≡ suc (length (map close_of lines)) = ap length same in absurd (omega arith)
+close_at catalogue (f ∷ files) [] i line d same inside is = absurd (omega arith)
+close_at catalogue (f ∷ files) (l ∷ lines) zero line d same inside is =
+    (omega arith, ap (λ (xs : List NamedClose). slice_index_or xs 0 (named_close catalogue f)) same ∙ ap close_of (sym is))
+close_at catalogue (f ∷ files) (l ∷ lines) (suc i) line d same inside is =
+    let rest = close_at catalogue files lines i line d (ap (λ (xs : List NamedClose). drop 1 xs) same) (omega arith) is in
+    let low = rest.0 in
+    (omega arith, rest.1)
+
+pub as_many : (catalogue : List FileEntry) (files : List Closed) (lines : List ClosedLine) → named_closes catalogue files ≡ map close_of lines
+    → length files ≡ length lines
+as_many catalogue [] [] same = refl
+as_many catalogue [] (l ∷ lines) same = let e : 0 ≡ suc (length (map close_of lines)) = ap length same in absurd (omega arith)
+as_many catalogue (f ∷ files) [] same = let e : suc (length (map (named_close catalogue) files)) ≡ 0 = ap length same in absurd (omega arith)
+as_many catalogue (f ∷ files) (l ∷ lines) same =
+    let rest = as_many catalogue files lines (ap (λ (xs : List NamedClose). drop 1 xs) same) in omega arith
+
+-- a file in order of mark isn't at or before the one in front of it
+got_at : (files : List Closed) (i : ℕ) (d : Closed) → i < length files → slice_get files i ≡ Some (slice_index_or files i d)
+got_at [] i d inside = absurd (omega arith)
+got_at (f ∷ files) zero d inside = refl
+got_at (f ∷ files) (suc i) d inside = got_at files i d (omega arith)
+
+pub in_turn : (files : List Closed) (i j : ℕ) (d : Closed) → IsInOrderOfMark files → HasDistinctMarks files → j + 1 ≡ i → i < length files
+    → is_lt (mark_cmp (slice_index_or files j d).mark (slice_index_or files i d).mark) ≡ false → ⊥
+in_turn files i j d up distinct next inside is =
+    let x = slice_index_or files j d in
+    let y = slice_index_or files (j + 1) d in
+    let here : is_lt (mark_cmp x.mark y.mark) ≡ false = subst (λ (n : ℕ). is_lt (mark_cmp x.mark (slice_index_or files n d).mark) ≡ false) (sym next) is in
+    let marks : x.mark ≡ y.mark = neither_below x y (ap is_lt (same_cmp x.mark y.mark) ∙ here)
+    (ap is_lt (same_cmp y.mark x.mark) ∙ up j d (omega arith) (omega arith)) in
+    let one : j ≡ j + 1 = distinct j (j + 1) x y (got_at files j d (omega arith)) (got_at files (j + 1) d (omega arith)) marks in
+    absurd (omega arith)
+
+-- the derived comparison is the one by cases
+cmp_is : (a b : Mark) → ghosts.cmp a b ≡ mark_cmp a b
+cmp_is (Registered k i) (Registered l j) = refl
+cmp_is (Registered k i) (Submitted s c m e) = refl
+cmp_is (Submitted s c m e) (Registered k i) = refl
+cmp_is (Submitted s c m e) (Submitted t d n f) = refl
+
+-- where there is an element, it doesn't matter what stands for none
+same_at : (files : List Closed) (k : ℕ) (d e : Closed) → k < length files → slice_index_or files k d ≡ slice_index_or files k e
+same_at [] k d e within = absurd (omega arith)
+same_at (x ∷ files) zero d e within = refl
+same_at (x ∷ files) (suc k) d e within = same_at files k d e (omega arith)
+
+pub not_in_turn : (files : List Closed) (i j : ℕ) (d e : Closed) → j + 1 ≡ i → i < length files
+    → is_lt (ghosts.cmp (slice_index_or files j d).mark (slice_index_or files i e).mark) ≡ false → IsInOrderOfMark files → HasDistinctMarks files → ⊥
+not_in_turn files i j d e next inside is up distinct =
+    in_turn files i j d up distinct next inside
+    (ap (λ (f : Closed). is_lt (mark_cmp (slice_index_or files j d).mark f.mark)) (same_at files i d e inside)
+    ∙ ap is_lt (sym (cmp_is (slice_index_or files j d).mark (slice_index_or files i e).mark)) ∙ is)
+
+-- one of the requests from a place on, where it isn't the one there
+behind_installed : (requests : List Request) (completions : List Completion) (mark : Mark) (i : ℕ) (r : Request) (c : Completion)
+    → i < length requests → i < length completions → r ≡ slice_index_or requests i r → c ≡ slice_index_or completions i c
+    → (Installed (asked_of r) (completed_of c) mark → ⊥)
+    → OneInstalled (all_asked (drop i requests)) (all_completed (drop i completions)) mark
+    → OneInstalled (all_asked (drop (suc i) requests)) (all_completed (drop (suc i) completions)) mark
+behind_installed [] completions mark i r c low few is are none one = absurd (omega arith)
+behind_installed (x ∷ requests) [] mark i r c low few is are none one = absurd (omega arith)
+behind_installed (x ∷ requests) (y ∷ completions) mark zero r c low few is are none one =
+    ⊎_elim (λ here. absurd (none (subst (λ (p : Request). Installed (asked_of p) (completed_of c) mark) (sym is)
+    (subst (λ (q : Completion). Installed (asked_of x) (completed_of q) mark) (sym are) here)))) (λ later. later) one
+behind_installed (x ∷ requests) (y ∷ completions) mark (suc i) r c low few is are none one =
+    behind_installed requests completions mark i r c (omega arith) (omega arith) is are none one
+
+pub next_installed : (requests : List Request) (completions : List Completion) (mark : Mark) (i : ℕ) (r : Request) (c : Completion)
+    → i < length requests → i < length completions → r ≡ slice_index_or requests i r → c ≡ slice_index_or completions i c
+    → (Installed (asked_of r) (completed_of c) mark → ⊥)
+    → OneInstalled (all_asked (drop i requests)) (all_completed (drop i completions)) mark
+    → OneInstalled (all_asked (drop (i + 1) requests)) (all_completed (drop (i + 1) completions)) mark
+next_installed requests completions mark i r c low few is are none one =
+    subst (λ (n : ℕ). OneInstalled (all_asked (drop n requests)) (all_completed (drop n completions)) mark)
+    (let e : suc i ≡ i + 1 = omega arith in e) (behind_installed requests completions mark i r c low few is are none one)
+
+-- past the completions there is none
+pub none_installed : (requests : List Request) (completions : List Completion) (mark : Mark) (i : ℕ) → length completions ≤ i
+    → OneInstalled (all_asked (drop i requests)) (all_completed (drop i completions)) mark → ⊥
+none_installed [] [] mark zero past one = absurd one
+none_installed (x ∷ requests) [] mark zero past one = absurd one
+none_installed [] [] mark (suc i) past one = absurd one
+none_installed (x ∷ requests) [] mark (suc i) past one = none_there (drop i requests) mark one
+  where
+    none_there : (rs : List Request) (mark : Mark) → OneInstalled (all_asked rs) [] mark → ⊥
+    none_there [] mark one = absurd one
+    none_there (r ∷ rs) mark one = absurd one
+none_installed requests (y ∷ completions) mark zero past one = absurd (omega arith)
+none_installed [] (y ∷ completions) mark (suc i) past one = absurd one
+none_installed (x ∷ requests) (y ∷ completions) mark (suc i) past one = none_installed requests completions mark i (omega arith) one

@@ -1,0 +1,10 @@
+use Rattle.std.proofs.Common.{drop}
+use Rattle.fx_chain.specs.Completed.{all_completed}
+use Rattle.fx_chain.specs.Operation.{all_asked}
+use Rattle.fx_check.specs.Told.{OneInstalled}
+use Rattle.fx_check.proofs.known.is_installed.Given as goal
+
+-- one behind those that were looked at
+abbrev pub invariant-loop-i : goal.invariant-loop-i
+invariant-loop-i l = OneInstalled (all_asked l.requests) (all_completed l.completions) l.mark
+    → OneInstalled (all_asked (drop l.i l.requests)) (all_completed (drop l.i l.completions)) l.mark

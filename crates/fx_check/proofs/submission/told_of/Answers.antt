@@ -1,0 +1,23 @@
+use Rattle.std.proofs.Common.{◌≡◌, ◌∙◌, List, Result, IfOk, ap, subst, sym}
+use Rattle.fx_base.specs.declared.open_file.Closed.{Closed}
+use Rattle.fx_chain.specs.Completed.{Completed, all_completed}
+use Rattle.fx_chain.specs.Operation.{all_asked}
+use Rattle.fx_lines.specs.Lines.{Lines}
+use Rattle.fx_judge.specs.declared.told.Told.{Told}
+use Rattle.fx_check.specs.Told.{AreApart, AreFrom, HasLines, TellsAll}
+use Rattle.fx_check.specs.declared.judgement.Fault.{Fault}
+use Rattle.fx_check.proofs.submission.told_of.Goals as goal
+
+pub returns-in-Some-clause-only : goal.returns-in-Some-clause-only
+returns-in-Some-clause-only c = λ apart report may from same.
+    let catalogue = c.args.catalogue.now in
+    let slots = c.args.ring.now.slots in
+    let asked = all_asked c.args.requests.now in
+    let has : HasLines catalogue c.args.lines c.in-Ok.told =
+    subst (λ (r : Result Told Fault). IfOk r (HasLines catalogue c.args.lines)) c.in-Ok.is c.in_ok-told.ensures.lines in
+    let only = subst (λ (r : Result Told Fault). AreApart catalogue slots → TellsAll catalogue slots c.args.lines r) c.in-Ok.is c.in_ok-told.ensures.only in
+    let files : c.in-Ok.told.closes.items ≡ report.closes.files = only apart report may same in
+    let completions : all_completed c.in-Ok.told.completions.items ≡ report.completions = ap (λ (l : Lines). l.completions) (has 0 0 ∙ sym same) in
+    c.in-Some.ensures
+    (subst (λ (cs : List Completed). AreFrom slots asked cs c.in-Ok.told.closes.items) (sym completions)
+    (subst (λ (fs : List Closed). AreFrom slots asked report.completions fs) (sym files) from))

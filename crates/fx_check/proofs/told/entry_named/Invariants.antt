@@ -1,0 +1,6 @@
+use Rattle.std.proofs.Common.{◌≡◌, ℕ, ◌<◌, Some}
+use Rattle.fx_base.specs.Catalogue.{name_at}
+use Rattle.fx_check.proofs.told.entry_named.Given as goal
+
+abbrev pub invariant-loop-entry : goal.invariant-loop-entry
+invariant-loop-entry l = (k : ℕ) → k < l.entry → name_at l.catalogue k ≡ Some l.name → ⊥
