@@ -17,3 +17,4 @@ pub mod OrderFiles
 pub mod ReportInRange
 pub mod OnlyAccepted
 pub mod Tellings
+pub mod Fronts

@@ -1,9 +1,10 @@
 -- What a judgement says of a script and a text.
-use Rattle.std.specs.Prelude.{◌≡◌, ℕ, List}
-use Rattle.fx_ring.specs.Ring.{RingContents, RingState, ring_of}
+use Rattle.std.specs.Prelude.{◌≡◌, ◌≤◌, ℕ, List, [], ◌∷◌, ◌++◌, length, take}
+use Rattle.fx_ring.specs.Ring.{RingContents, RingState, new_ring, ring_of}
 use Rattle.fx_script.specs.Instruction.{Instruction}
-use Rattle.fx_script.specs.Play.{IsText, PrintsAll}
+use Rattle.fx_script.specs.Play.{IsText, Prints, PrintsAll}
 use Rattle.fx_script.specs.Script.{Meaning}
+use Rattle.fx_check.specs.declared.judgement.Break.{Break}
 use Rattle.fx_check.specs.declared.judgement.Judgement.{Judgement}
 use Rattle.fx_check.specs.declared.judgement.Judgement.TheVariants.{Legal, NotLegal, Undecided}
 
@@ -12,8 +13,27 @@ abbrev pub MayPrintAll : RingState → List Instruction → List ℕ → Type 0
 MayPrintAll state commands text =
     (ring : RingContents) → ring_of ring ≡ state → PrintsAll ring commands text
 
+-- the commands may print this, one after another
+abbrev pub PrintsFront : RingContents → List Instruction → List ℕ → Type 0
+PrintsFront ring [] text = text ≡ []
+PrintsFront ring (command ∷ commands) text =
+    (next : RingContents) × (line : List ℕ) × (others : List ℕ)
+    × Prints ring command next line × (text ≡ line ++ others) × PrintsFront next commands others
+
+-- each ring of this state may print this by these commands
+abbrev pub MayPrintFront : RingState → List Instruction → List ℕ → Type 0
+MayPrintFront state commands text =
+    (ring : RingContents) → ring_of ring ≡ state → PrintsFront ring commands text
+
+-- the script doesn't print the text, but its first commands may print the first bytes
+pub record IsBroken (script : Meaning) (text : List ℕ) (broken : Break) : Type 0 where
+  pub none : ¬ (IsText script text)
+  pub inside : broken.at ≤ length text
+  pub front : MayPrintFront (new_ring script.catalogue) (take broken.commands script.commands)
+      (take broken.at text)
+
 -- a text that is legal is one that the script may print, and one that isn't legal is none
 abbrev pub IsJudged : Meaning → List ℕ → Judgement → Type 0
 IsJudged script text (Legal orders) = IsText script text
-IsJudged script text (NotLegal broken) = ¬ (IsText script text)
+IsJudged script text (NotLegal broken) = IsBroken script text broken
 IsJudged script text (Undecided submission doubt) = Unit {0}

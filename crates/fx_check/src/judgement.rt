@@ -36,7 +36,7 @@ pub enum Fault {
     Order(u32, Reason),
 }
 
-/// Where a text is seen to be none of its script.
+/// Where a text is seen to be none of its script: what stands in front its first commands may print.
 #[derive(Debug, Drop)]
 pub struct Break {
     /// How many commands may have printed what stands in front. The next one, or the end, may not print what follows.

@@ -8,10 +8,11 @@ use Rattle.fx_script.specs.Play.{PrintsEnd}
 use Rattle.fx_script.specs.declared.command.Command.{Command}
 use Rattle.fx_judge.specs.Verdict.{ring_with_slots}
 use Rattle.fx_check.specs.Answer.{IsAnswer}
-use Rattle.fx_check.specs.Judged.{MayPrintAll}
+use Rattle.fx_check.specs.Judged.{MayPrintAll, MayPrintFront}
 use Rattle.fx_check.specs.Met.{MayPrint}
 use Rattle.fx_check.specs.Only.{IsOnlyAnswer, LeadsNowhere, LeadsTo}
 use Rattle.fx_check.specs.declared.answer.Answer.{Answer}
+use Rattle.fx_check.proofs.Fronts.{one_back, printed_front}
 use Rattle.fx_check.proofs.OnePlay.{CanPrintAll, begins, ended, further, no_further}
 use Rattle.fx_check.proofs.Plays.{one_further, whole_text}
 use Rattle.fx_check.proofs.play.judge.Goals as goal
@@ -29,6 +30,8 @@ loop-done-init c = record {
       (instructions_of c.commands-commands.result.now)
       (sym (c.new_ring-ring.ensures.ring c.catalogue-catalogue.result.now ∙ ap new_ring c.catalogue-catalogue.ensures.value))
       (sym c.commands-commands.ensures) is;
+  back = λ cs t may. subst (λ (s : RingState). MayPrintFront s cs t)
+      (c.new_ring-ring.ensures.ring c.catalogue-catalogue.result.now ∙ ap new_ring c.catalogue-catalogue.ensures.value) may;
 }
 
 pub loop-done-preserved : goal.loop-done-preserved
@@ -59,35 +62,55 @@ loop-done-preserved c =
           (drop-drop c.in-Printed.count c.loop-done.at c.args.text.now)
           (further c.commands-commands.result.now c.loop-done.done command old rest c.loop-done-test.true c.index-commands-done.is new c.in-Printed.count leads
           (c.loop-done.invariant.only is));
+      back = one_back (new_ring c.args.script.now.catalogue) old new c.commands-commands.result.now c.loop-done.done command c.args.text.now c.loop-done.at
+          c.in-Printed.count c.loop-done-test.true c.index-commands-done.is answer.1 c.loop-done.invariant.back;
     }
 
 pub returns-in-Broken : goal.returns-in-Broken
-returns-in-Broken c = λ is.
-    let rest = drop c.loop-done.at c.args.text.now in
-    let size = length-drop c.loop-done.at c.args.text.now in
-    let same : take (length c.args.text.now - c.loop-done.at) rest ≡ rest = ap (λ (n : ℕ). take n rest) (sym size) ∙ take-length rest in
-    let commands = c.commands-commands.result.now in
-    let command = c.index-commands-done.result in
-    let old = ring_with_slots c.catalogue-catalogue.result.now c.loop-done.ring in
-    let nowhere : LeadsNowhere old (instruction_of command) rest =
-    subst (λ (a : Answer). IsOnlyAnswer c.catalogue-catalogue.result.now c.loop-done.ring (instruction_of command) rest a c.play_command.new.ring)
-    c.in-Broken.is
-    (subst (λ (t : List ℕ). IsOnlyAnswer c.catalogue-catalogue.result.now c.loop-done.ring (instruction_of command) t c.in_ok-count.field-0 c.play_command.new.ring)
-    same c.in_ok-count.ensures.only) in
-    no_further commands c.loop-done.done command old rest c.loop-done-test.true c.index-commands-done.is nowhere (c.loop-done.invariant.only is)
+returns-in-Broken c = record {
+  none = λ is.
+      let rest = drop c.loop-done.at c.args.text.now in
+      let size = length-drop c.loop-done.at c.args.text.now in
+      let same : take (length c.args.text.now - c.loop-done.at) rest ≡ rest = ap (λ (n : ℕ). take n rest) (sym size) ∙ take-length rest in
+      let commands = c.commands-commands.result.now in
+      let command = c.index-commands-done.result in
+      let old = ring_with_slots c.catalogue-catalogue.result.now c.loop-done.ring in
+      let nowhere : LeadsNowhere old (instruction_of command) rest =
+      subst (λ (a : Answer). IsOnlyAnswer c.catalogue-catalogue.result.now c.loop-done.ring (instruction_of command) rest a c.play_command.new.ring)
+      c.in-Broken.is
+      (subst (λ (t : List ℕ). IsOnlyAnswer c.catalogue-catalogue.result.now c.loop-done.ring (instruction_of command) t c.in_ok-count.field-0 c.play_command.new.ring)
+      same c.in_ok-count.ensures.only) in
+      no_further commands c.loop-done.done command old rest c.loop-done-test.true c.index-commands-done.is nowhere (c.loop-done.invariant.only is);
+  inside = c.loop-done.invariant.inside;
+  front = printed_front (new_ring c.args.script.now.catalogue) (ring_with_slots c.catalogue-catalogue.result.now c.loop-done.ring)
+      (take c.loop-done.done (instructions_of c.commands-commands.result.now)) (take c.loop-done.done c.args.script.now.commands)
+      (take c.loop-done.at c.args.text.now) (ap (λ (cs : List Instruction). take c.loop-done.done cs) c.commands-commands.ensures) c.loop-done.invariant.back;
+}
 
 pub returns : goal.returns
-returns c = λ is.
-    let rest = drop c.loop-done.at c.args.text.now in
-    let size = length-drop c.loop-done.at c.args.text.now in
-    let same : take (length c.args.text.now - c.loop-done.at) rest ≡ rest = ap (λ (n : ℕ). take n rest) (sym size) ∙ take-length rest in
-    let commands = c.commands-commands.result.now in
-    let state = ring_with_slots c.catalogue-catalogue.result.now c.loop-done.ring in
-    let past = c.loop-done-test.false in
-    let none : instructions_of (drop c.loop-done.done commands) ≡ [] = ap (λ (cs : List Command). instructions_of cs) (drop_of_length-le commands past) in
-    let ends : PrintsEnd state rest = ended state (instructions_of (drop c.loop-done.done commands)) rest none (c.loop-done.invariant.only is) in
-    let never = rw c.in-Some-2.is at c.in_ok-play_end.ensures.only in
-    never (subst (λ (t : List ℕ). PrintsEnd state t) (sym same) ends)
+returns c = record {
+  none = λ is.
+      let rest = drop c.loop-done.at c.args.text.now in
+      let size = length-drop c.loop-done.at c.args.text.now in
+      let same : take (length c.args.text.now - c.loop-done.at) rest ≡ rest = ap (λ (n : ℕ). take n rest) (sym size) ∙ take-length rest in
+      let commands = c.commands-commands.result.now in
+      let state = ring_with_slots c.catalogue-catalogue.result.now c.loop-done.ring in
+      let past = c.loop-done-test.false in
+      let none : instructions_of (drop c.loop-done.done commands) ≡ [] = ap (λ (cs : List Command). instructions_of cs) (drop_of_length-le commands past) in
+      let ends : PrintsEnd state rest = ended state (instructions_of (drop c.loop-done.done commands)) rest none (c.loop-done.invariant.only is) in
+      let never = rw c.in-Some-2.is at c.in_ok-play_end.ensures.only in
+      never (subst (λ (t : List ℕ). PrintsEnd state t) (sym same) ends);
+  inside = c.loop-done.invariant.inside;
+  front =
+      let past = c.loop-done-test.false in
+      let below = c.loop-done.auto.done-end in
+      let all : c.loop-done.done ≡ length c.commands-commands.result.now = omega arith in
+      printed_front (new_ring c.args.script.now.catalogue) (ring_with_slots c.catalogue-catalogue.result.now c.loop-done.ring)
+      (take c.loop-done.done (instructions_of c.commands-commands.result.now)) (take (length c.commands-commands.result.now) c.args.script.now.commands)
+      (take c.loop-done.at c.args.text.now)
+      (ap (λ (n : ℕ). take n (instructions_of c.commands-commands.result.now)) all
+      ∙ ap (λ (cs : List Instruction). take (length c.commands-commands.result.now) cs) c.commands-commands.ensures) c.loop-done.invariant.back;
+}
 
 pub returns-in-None : goal.returns-in-None
 returns-in-None c =
