@@ -1,5 +1,5 @@
 -- The files that an order closes, and those that it leaves.
-use Rattle.std.proofs.Common.{◌⊎◌, inl, inr, ⊎_elim, ℕ, ◌<◌, ◌≤◌, List, length, All, Contains, sym, ap, subst, ◌∙◌, arith}
+use Rattle.std.proofs.Common.{◌≡◌, ◌^◌, ◌⊎◌, inl, inr, ⊎_elim, ℕ, ◌<◌, ◌≤◌, List, length, All, Contains, sym, ap, subst, ◌∙◌, arith}
 use Rattle.std.proofs.lemmas.List.Elements.{All-map, All-weaker}
 use Rattle.std.proofs.lemmas.List.Sorted.{Contains-permutation, IsPermutation-sym}
 use Rattle.fx_base.specs.Catalogue.{FileEntry}
@@ -45,6 +45,14 @@ in_limits asked accepted =
     (All-weaker (IsChain asked) (λ (chain : Chain). ReachesAll InLimits 1 (members_of asked chain))
     (λ chain of. let few = of.run.members in reaches_all_limits 1 (members_of asked chain) of.run.each (omega arith))
     (chains_of (runs_of asked)) (accepted-chains asked accepted)))
+
+-- a file of a member whose numbers are small
+of_member : (file : Closed) (s c m e : ℕ) → file.mark ≡ Submitted s c m e → file.tag ≡ 0 → s < 2 ^ 32 → c < 2 ^ 32 → m < 2 ^ 32 → e < 2 ^ 32
+    → IsInRange file
+of_member file s c m e is untagged submission chain member entry = record {
+  mark = subst IsMarkInRange (sym is) (record { submission = submission; chain = chain; member = member }, entry);
+  tag = omega arith;
+}
 
 module _ (catalogue : List FileEntry) (slots : Slots) (submissions registrations : ℕ) (asked : List Asked) (report : Reported) (left : RingState)
     (is : IsRing (ring_of_slots catalogue slots submissions registrations)) (accepted : IsAccepted asked)
@@ -97,12 +105,8 @@ module _ (catalogue : List FileEntry) (slots : Slots) (submissions registrations
         let low = next.chain in
         let members = next.member in
         let listed = next.listed in
-        let untagged = next.untagged in
-        record {
-          mark = subst IsMarkInRange (sym next.mark)
-              (record { submission = omega arith; chain = omega arith; member = omega arith }, omega arith);
-          tag = omega arith;
-        }
+        of_member file next.place.submission next.place.chain next.place.member next.entry next.mark next.untagged
+        (omega arith) (omega arith) (omega arith) (omega arith)
 
     pub closed_in_range : (file : Closed) → Contains report.closes.files file → IsInRange file
     closed_in_range file has = ⊎_elim (λ there. in_range there.0 file there.2) (λ next. next_in_range file next) (known.from file has)
@@ -117,12 +121,7 @@ module _ (catalogue : List FileEntry) (slots : Slots) (submissions registrations
         let members = b.0 in
         let listed = b.1 in
         let numbered = one.is.submission in
-        let untagged = n.untagged in
-        record {
-          mark = subst IsMarkInRange (sym n.mark)
-              (record { submission = omega arith; chain = omega arith; member = omega arith }, omega arith);
-          tag = omega arith;
-        }
+        of_member f report.submission at.0 m j n.mark n.untagged (omega arith) (omega arith) (omega arith) (omega arith)
 
     -- the files that the order leaves
     pub left_in_range : AreInRange left.at
