@@ -16,12 +16,12 @@ use Rattle.fx_order.specs.Access.{accesses_of}
 use Rattle.fx_order.specs.Order.{IsOneOrder, table_of}
 use Rattle.fx_script.specs.Script.{AreFiles}
 use Rattle.fx_script.specs.Text.{name_of}
-use Rattle.fx_lines.specs.Lines.{AreLinesInRange, IsCloseInRange, is_without, lines_of}
+use Rattle.fx_lines.specs.Lines.{AreLinesInRange, IsCloseInRange, is_without, lines_of, named_close}
 use Rattle.fx_lines.proofs.Names.{name_without_end}
 use Rattle.fx_judge.specs.Verdict.{ring_with_slots}
 use Rattle.fx_judge.specs.declared.told.RingSlots.{RingSlots}
 use Rattle.fx_check.specs.Kept.{IsInRange, IsKept}
-use Rattle.fx_check.specs.Told.{MayClose, named_close}
+use Rattle.fx_check.specs.Told.{MayClose}
 use Rattle.fx_check.proofs.InRange.{all_got, chains_so, permitted_inside}
 use Rattle.fx_check.proofs.OrderFiles.{closed_in_range, may_close_all, short_runs}
 

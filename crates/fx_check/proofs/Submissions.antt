@@ -30,8 +30,7 @@ use Rattle.fx_base.specs.declared.tag_completion.TagCompletion.{TagCompletion}
 use Rattle.fx_lines.specs.ClosedView.{close_of}
 use Rattle.fx_lines.specs.LinesView.{lines_in}
 use Rattle.fx_lines.specs.declared.report.ReportLines.{ReportLines}
-use Rattle.fx_check.specs.Told.{named_closes}
-use Rattle.fx_lines.specs.Lines.{Lines, line_of_tag, lines_of, lines_text, named_line}
+use Rattle.fx_lines.specs.Lines.{Lines, line_of_tag, lines_of, lines_text, named_closes, named_line}
 use Rattle.fx_judge.specs.Verdict.{ring_with_slots, told_report}
 use Rattle.fx_judge.specs.declared.told.RingSlots.{RingSlots}
 use Rattle.fx_judge.specs.declared.told.Told.{Told}

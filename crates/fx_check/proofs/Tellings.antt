@@ -14,9 +14,9 @@ use Rattle.fx_chain.specs.declared.request.Request.{Request}
 use Rattle.fx_order.specs.declared.slots.Slots.{Slots}
 use Rattle.fx_script.specs.Text.{name_of}
 use Rattle.fx_lines.specs.ClosedView.{close_of}
-use Rattle.fx_lines.specs.Lines.{NamedClose}
+use Rattle.fx_lines.specs.Lines.{NamedClose, named_close, named_closes}
 use Rattle.fx_lines.specs.declared.close.ClosedLine.{ClosedLine}
-use Rattle.fx_check.specs.Told.{AreApart, HasDistinctMarks, HasNone, Installed, IsAtSlot, MayClose, OneInstalled, named_close, named_closes}
+use Rattle.fx_check.specs.Told.{AreApart, HasDistinctMarks, HasNone, Installed, IsAtSlot, MayClose, OneInstalled}
 use Rattle.fx_check.proofs.ClosesInOrder.{neither_below, same_cmp}
 
 -- an entry of the catalogue has its name

@@ -1,5 +1,5 @@
 -- What lines tell of a submission.
-use Rattle.std.specs.Prelude.{◌≡◌, ◌⊎◌, ◌<◌, ℕ, pos, List, ◌∷◌, length, map, All, Result, Ok, Err, slice_get, Some}
+use Rattle.std.specs.Prelude.{◌≡◌, ◌⊎◌, ◌<◌, ℕ, pos, List, ◌∷◌, length, All, Result, Ok, Err, slice_get, Some}
 use Rattle.std.specs.Global.{Vec}
 use Rattle.fx_base.specs.Catalogue.{FileEntry, IsCatalogue}
 use Rattle.fx_base.specs.CloseList.{IsInOrderOfMark}
@@ -8,22 +8,14 @@ use Rattle.fx_base.specs.declared.mark.Mark.TheVariants.{Submitted}
 use Rattle.fx_base.specs.declared.open_file.Closed.{Closed}
 use Rattle.fx_chain.specs.Completed.{Completed, all_completed}
 use Rattle.fx_chain.specs.Operation.{Asked, Operation, Opens, Updates}
-use Rattle.fx_script.specs.Text.{name_of}
 use Rattle.fx_order.specs.Slots.{table_of_slots}
 use Rattle.fx_order.specs.declared.slots.Slots.{Slots}
 use Rattle.fx_judge.specs.declared.told.Told.{Told}
-use Rattle.fx_lines.specs.Lines.{NamedClose, lines_of}
+use Rattle.fx_lines.specs.Lines.{lines_of}
 use Rattle.fx_lines.specs.LinesView.{lines_in}
 use Rattle.fx_lines.specs.declared.report.ReportLines.{ReportLines}
 use Rattle.fx_ring.specs.Submission.{Reported}
 use Rattle.fx_check.specs.declared.judgement.Fault.{Fault}
-
--- what the line of a closed file says
-abbrev pub named_close : List FileEntry → Closed → NamedClose
-named_close catalogue file = record { mark = file.mark; name = name_of catalogue file.entry }
-
-abbrev pub named_closes : List FileEntry → List Closed → List NamedClose
-named_closes catalogue files = map (named_close catalogue) files
 
 -- a report of what is told has these lines, whichever submission it is of
 abbrev pub HasLines : List FileEntry → ReportLines → Told → Type 0

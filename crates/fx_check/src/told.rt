@@ -4,7 +4,8 @@ ghost use Rattle.fx_base.specs.Catalogue.{name_at};
 ghost use Rattle.fx_base.specs.CloseList.{IsInOrderOfMark};
 ghost use Rattle.fx_base.specs.declared.open_file.Closed.{Closed as File};
 ghost use Rattle.fx_lines.specs.ClosedView.{close_of};
-ghost use Rattle.fx_check.specs.Told.{AreApart, HasDistinctMarks, HasNone, IsAtSlot, MayClose, TellsFiles, named_close, named_closes};
+ghost use Rattle.fx_lines.specs.Lines.{named_close, named_closes};
+ghost use Rattle.fx_check.specs.Told.{AreApart, HasDistinctMarks, HasNone, IsAtSlot, MayClose, TellsFiles};
 
 use fx_base::{Catalogue, Closed, Mark, NoMemory};
 use fx_lines::ClosedLine;

@@ -7,6 +7,7 @@ use Rattle.fx_base.specs.Catalogue.{FileEntry}
 use Rattle.fx_base.specs.Tags.{tag_completion, tags_of}
 use Rattle.fx_base.specs.declared.mark.Mark.{Mark}
 use Rattle.fx_base.specs.declared.mark.Mark.TheVariants.{Registered, Submitted}
+use Rattle.fx_base.specs.declared.open_file.Closed.{Closed}
 use Rattle.fx_chain.specs.Completed.{Completed}
 use Rattle.fx_chain.specs.declared.completion.Place.{Place}
 use Rattle.fx_ring.specs.Submission.{Reported}
@@ -17,6 +18,13 @@ use Rattle.fx_lines.specs.Reads.{Reads}
 pub record NamedClose : Type 0 where
   pub mark : Mark
   pub name : List ℕ
+
+-- what the line of a closed file says of the file
+abbrev pub named_close : List FileEntry → Closed → NamedClose
+named_close catalogue file = record { mark = file.mark; name = name_of catalogue file.entry }
+
+abbrev pub named_closes : List FileEntry → List Closed → List NamedClose
+named_closes catalogue files = map (named_close catalogue) files
 
 -- what the lines of a report say
 pub record Lines : Type 0 where
@@ -41,7 +49,7 @@ lines_text lines =
 abbrev pub lines_of : List FileEntry → Reported → Lines
 lines_of catalogue report = record {
   completions = report.completions;
-  closed = map (λ file. record { mark = file.mark; name = name_of catalogue file.entry }) report.closes.files;
+  closed = named_closes catalogue report.closes.files;
   tags = map (λ completion. completion.user_data) (tags_of report.closes.files);
 }
 

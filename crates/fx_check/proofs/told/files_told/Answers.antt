@@ -3,8 +3,7 @@ use Rattle.std.proofs.lemmas.List.{map-append, take_more}
 use Rattle.fx_base.specs.declared.mark.Mark.TheVariants.{Registered}
 use Rattle.fx_base.specs.declared.open_file.Closed.{Closed}
 use Rattle.fx_lines.specs.ClosedView.{close_of}
-use Rattle.fx_lines.specs.Lines.{NamedClose}
-use Rattle.fx_check.specs.Told.{named_close, named_closes}
+use Rattle.fx_lines.specs.Lines.{NamedClose, named_close, named_closes}
 use Rattle.fx_check.proofs.Tellings.{close_at}
 use Rattle.fx_check.proofs.told.files_told.Goals as goal
 
