@@ -34,7 +34,7 @@ abbrev pub HasNone : Slots → Mark → Type 0
 HasNone slots mark =
     (slot : ℕ) (file : Closed) → (table_of_slots slots).at slot ≡ Some file → file.mark ≡ mark → ⊥
 
--- a submission may close the file: one at a slot, or one without a tag whose mark no other has
+-- a submission may close the file: one at a slot, or one without a tag whose mark none there has
 pub record MayClose (catalogue : List FileEntry) (slots : Slots) (file : Closed) : Type 0 where
   pub inside : file.entry < length catalogue
   pub from : IsAtSlot slots file ⊎ ((file.tag ≡ 0) × HasNone slots file.mark)
@@ -57,7 +57,7 @@ pub record MayCloseAll (catalogue : List FileEntry) (slots : Slots) (files : Lis
   pub in_order : IsInOrderOfMark files
   pub distinct : HasDistinctMarks files
 
--- lines tell these files, and none of them tells none
+-- these files are told, and each line tells one
 abbrev pub TellsFiles : Result (Vec Closed) ℕ → List Closed → Type 0
 TellsFiles (Ok told) files = told.items ≡ files
 TellsFiles (Err line) files = ⊥
