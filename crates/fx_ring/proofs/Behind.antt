@@ -1,6 +1,5 @@
 -- What a list has behind a place: the next of its elements, and less behind that.
-use Rattle.std.proofs.Common.{◌≡◌, ℕ, zero, suc, ◌+◌, ◌-◌, ◌<◌, ◌≤◌, List, length, drop, slice_index_or, sum_by, subst, arith}
-use Rattle.std.proofs.lemmas.List.Sums.{sum_by-drop_more}
+use Rattle.fx_ring.proofs.Words.{◌≡◌, ℕ, zero, suc, ◌+◌, ◌-◌, ◌<◌, ◌≤◌, List, length, drop, slice_index_or, sum_by, subst, arith, sum_by-drop_more}
 
 module _ {X : Type 0} (f : X → ℕ) (xs : List X) (d : X) where
   sum_at : (k i j : ℕ) → j ≡ i + k → j < length xs → f (slice_index_or xs j d) + sum_by f (drop (j + 1) xs) ≤ sum_by f (drop i xs)

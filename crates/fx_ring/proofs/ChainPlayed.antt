@@ -1,28 +1,14 @@
 -- A worker goes on by one chain that its pass drew.
-use Rattle.std.proofs.Common.{◌≡◌, ◌≢◌, ◌⊎◌, ℕ, ◌+◌, ◌<◌, ◌≤◌, List, [], ◌∷◌, ◌++◌, map, length, refl, sym}
-use Rattle.std.proofs.Common.{ap, subst, ◌∙◌, All, Contains, Some, None, ⊎_elim, length-append, arith}
-use Rattle.std.proofs.lemmas.List.{map-append}
-use Rattle.std.proofs.lemmas.List.Elements.{All-append}
-use Rattle.fx_base.specs.Catalogue.{FileEntry}
-use Rattle.fx_base.specs.CloseListView.{CloseListView}
-use Rattle.fx_base.specs.declared.open_file.Closed.{Closed}
-use Rattle.fx_plain.specs.declared.event.Event.{Event}
-use Rattle.fx_plain.specs.declared.event.Action.{Action}
-use Rattle.fx_plain.specs.History.{action_of, closes_in, part_of_chain, ◌▷◌}
+use Rattle.fx_ring.proofs.Words.{◌≡◌, ◌≢◌, ◌⊎◌, ℕ, ◌+◌, ◌<◌, ◌≤◌, List, [], ◌∷◌, ◌++◌, map, length, refl, sym, ap, subst, ◌∙◌, All, Contains, Some}
+use Rattle.fx_ring.proofs.Words.{None, ⊎_elim, length-append, arith, map-append, All-append, FileEntry, CloseListView, Closed, Event, Action}
+use Rattle.fx_ring.proofs.Words.{action_of, closes_in, part_of_chain, ◌▷◌, Opening, size_of, PassView, event_of, keeps_drawn_chains, Completed}
+use Rattle.fx_ring.proofs.Words.{Explains, first_member, Asked, all_weights, worker_state, run_of_chain, completions_of_chain, HasWorked, HasRoom}
 use Rattle.fx_plain.proofs.Leading.{closes_in-then}
-use Rattle.fx_table.specs.Opening.{Opening, size_of}
-use Rattle.fx_table.specs.Pass.{PassView, event_of}
 use Rattle.fx_table.specs.Calls.{Draws}
 use Rattle.fx_table.specs.declared.values.Doing.TheVariants.{Idle}
-use Rattle.fx_table.proofs.Chains.{keeps_drawn_chains}
 use Rattle.fx_table.proofs.Members.{contains_head, contains_tail, contains_cases, contains_map, each_all}
-use Rattle.fx_chain.specs.Completed.{Completed}
-use Rattle.fx_chain.specs.Explains.{Explains, first_member}
-use Rattle.fx_chain.specs.Operation.{Asked}
 use Rattle.fx_chain.specs.Performs.{PlaysChain, player}
-use Rattle.fx_chain.specs.Weights.{all_weights}
 use Rattle.fx_chain.proofs.ChainGoesOn.{explained_count}
-use Rattle.fx_ring.specs.Work.{worker_state, run_of_chain, completions_of_chain, HasWorked, HasRoom}
 use Rattle.fx_ring.proofs.Behind.{sum_behind}
 use Rattle.fx_ring.proofs.OneKey.{only_first, only_second, not_first, not_second}
 use Rattle.fx_ring.proofs.Places.{explained_of_chain}

@@ -1,12 +1,6 @@
 -- Where each chain's part of a history installs no mark twice, and marks of that chain alone, the history doesn't either.
-use Rattle.std.proofs.Common.{◌≡◌, ℕ, suc, ◌==◌, Bool, true, false, cond, List, [], ◌∷◌, map}
-use Rattle.std.proofs.Common.{Contains, refl, sym, ap, subst, ◌∙◌, inl, inr, arith, eq-eqb}
-use Rattle.fx_base.specs.declared.mark.Mark.TheVariants.{Submitted}
-use Rattle.fx_plain.specs.History.{part_of_chain, action_of}
-use Rattle.fx_plain.specs.Laws.{IsInstalled}
-use Rattle.fx_plain.specs.declared.event.File.{File}
-use Rattle.fx_plain.specs.declared.event.Event.{Event}
-use Rattle.fx_plain.specs.declared.event.Action.{Action}
+use Rattle.fx_ring.proofs.Words.{◌≡◌, ℕ, suc, ◌==◌, Bool, true, false, cond, List, [], ◌∷◌, map, Contains, refl, sym, ap, subst, ◌∙◌, inl, inr, arith}
+use Rattle.fx_ring.proofs.Words.{eq-eqb, Submitted, part_of_chain, action_of, IsInstalled, File, Event, Action}
 use Rattle.fx_ring.proofs.NewMarks.{IsPut, HasNewMarks}
 
 -- the file was installed by a chain of a submission

@@ -1,12 +1,8 @@
 -- The files that a history closed, in parts by a key of its events.
-use Rattle.std.proofs.Common.{ℕ, zero, suc, ◌+◌, ◌<◌, ◌≤◌, ◌==◌, true, false, not, cond, List, [], ◌∷◌}
-use Rattle.std.proofs.Common.{◌++◌, map, filter, flat_map, All, sym, ap, subst, arith, append_assoc}
+use Rattle.fx_ring.proofs.Words.{ℕ, zero, suc, ◌+◌, ◌<◌, ◌≤◌, ◌==◌, true, false, not, cond, List, [], ◌∷◌, ◌++◌, map, filter, flat_map, All, sym, ap}
+use Rattle.fx_ring.proofs.Words.{subst, arith, append_assoc, IsPermutation-refl, IsPermutation-trans, IsPermutation-append_left}
+use Rattle.fx_ring.proofs.Words.{IsPermutation-append_right, IsPermutation-append_comm, Closed, action_of, closed_by, closes_in, Event}
 use Rattle.std.specs.List.Sorted.{IsPermutation}
-use Rattle.std.proofs.lemmas.List.Sorted.{IsPermutation-refl, IsPermutation-trans, IsPermutation-append_left}
-use Rattle.std.proofs.lemmas.List.Sorted.{IsPermutation-append_right, IsPermutation-append_comm}
-use Rattle.fx_base.specs.declared.open_file.Closed.{Closed}
-use Rattle.fx_plain.specs.History.{action_of, closed_by, closes_in}
-use Rattle.fx_plain.specs.declared.event.Event.{Event}
 use Rattle.fx_ring.proofs.NumberedParts.{numbers_from, number_within, same_parts}
 use Rattle.fx_ring.proofs.Parts.{has, lacks, kept_lacking, within_lacking, none_within}
 

@@ -1,19 +1,8 @@
 -- Where the completions of a chain stand.
-use Rattle.std.proofs.Common.{◌≡◌, ℕ, ◌+◌, ◌==◌, ◌||◌, nat_le, nat_lt, ℤ, Bool, true, false, List}
-use Rattle.std.proofs.Common.{[], ◌∷◌, length, MatchBool, refl, sym, ap, subst, ◌∙◌, ⊎_elim}
-use Rattle.std.specs.List.{list_any}
-use Rattle.fx_base.specs.AddFault.{has_name}
-use Rattle.fx_base.specs.Catalogue.{FileEntry}
-use Rattle.fx_base.specs.declared.errno.Errno.{Errno}
-use Rattle.fx_base.specs.declared.errno.Errno.TheVariants.{ENOENT, ENXIO, EBADF, ENOMEM, EINVAL, ENFILE}
-use Rattle.fx_plain.specs.declared.event.Action.{Action}
-use Rattle.fx_chain.specs.Answers.{Answers, OpensAt, ReadsFrom, Empties, UpdatesFrom, Refuses, is_bad_entry}
-use Rattle.fx_chain.specs.Completed.{Completed, refusal, next_member}
-use Rattle.fx_chain.specs.Explains.{Explains, canceled, severs}
-use Rattle.fx_chain.specs.Operation.{Operation, Opens, Reads, Closes, Updates, Asked}
-use Rattle.fx_chain.specs.declared.completion.Place.{Place}
-use Rattle.fx_chain.specs.declared.request.Target.{Target}
-use Rattle.fx_chain.specs.declared.request.Target.TheVariants.{Slot, Any}
+use Rattle.fx_ring.proofs.Words.{◌≡◌, ℕ, ◌+◌, ◌==◌, ◌||◌, nat_le, nat_lt, ℤ, Bool, true, false, List, [], ◌∷◌, length, MatchBool, refl, sym, ap}
+use Rattle.fx_ring.proofs.Words.{subst, ◌∙◌, ⊎_elim, list_any, has_name, FileEntry, Errno, ENOENT, ENXIO, EBADF, ENOMEM, EINVAL, ENFILE, Action}
+use Rattle.fx_ring.proofs.Words.{Answers, OpensAt, ReadsFrom, Empties, UpdatesFrom, Refuses, is_bad_entry, Completed, refusal, next_member, Explains}
+use Rattle.fx_ring.proofs.Words.{canceled, severs, Operation, Opens, Reads, Closes, Updates, Asked, Place, Target, Slot, Any}
 
 -- what follows from both cases
 pub either_way : (b : Bool) {P Q R : Type 0} → (b ≡ true → P → R) → (b ≡ false → Q → R) → MatchBool b P Q → R

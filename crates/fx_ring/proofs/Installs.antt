@@ -1,27 +1,10 @@
 -- What the members of a chain install: files of the catalogue, each with a mark of its own.
-use Rattle.std.proofs.Common.{◌≡◌, ◌≢◌, ℕ, zero, suc, ◌+◌, ◌<◌, ◌≤◌, ◌==◌, ◌||◌, nat_le, nat_lt, ℤ, pos, negsuc, false, List}
-use Rattle.std.proofs.Common.{[], ◌∷◌, length, sym, ap, subst, ◌∙◌, ⊎_elim, inl, inr, Option, Some, None, option_map, arith}
-use Rattle.std.specs.List.{list_any}
-use Rattle.std.proofs.lemmas.Bool.{cases_lt, leb-false}
-use Rattle.std.proofs.lemmas.Option.{slice_get_past}
-use Rattle.fx_base.specs.AddFault.{has_name}
-use Rattle.fx_base.specs.Catalogue.{FileEntry, name_at}
-use Rattle.fx_base.specs.declared.errno.Errno.{Errno}
-use Rattle.fx_base.specs.declared.errno.Errno.TheVariants.{ENOENT, ENXIO, EBADF, ENOMEM, EINVAL, ENFILE}
-use Rattle.fx_base.specs.declared.mark.Mark.{Mark}
-use Rattle.fx_base.specs.declared.mark.Mark.TheVariants.{Submitted}
-use Rattle.fx_base.specs.declared.open_file.Closed.{Closed}
-use Rattle.fx_plain.specs.History.{◌▷◌}
-use Rattle.fx_plain.specs.declared.event.File.{File}
-use Rattle.fx_plain.specs.declared.event.Action.{Action}
-use Rattle.fx_plain.specs.declared.event.Action.TheVariants.{Look, Release, Put, Clear, Take, Allocate, Full}
-use Rattle.fx_chain.specs.Answers.{Answers, OpensAt, ReadsFrom, Empties, UpdatesFrom, AppliesEntry, AppliesList, Refuses, installed, is_bad_entry}
-use Rattle.fx_chain.specs.Completed.{Completed, next_member}
-use Rattle.fx_chain.specs.Explains.{Explains, severs}
-use Rattle.fx_chain.specs.Operation.{Operation, Opens, Reads, Closes, Updates, Asked}
-use Rattle.fx_chain.specs.declared.completion.Place.{Place}
-use Rattle.fx_chain.specs.declared.request.Target.{Target}
-use Rattle.fx_chain.specs.declared.request.Target.TheVariants.{Slot, Any}
+use Rattle.fx_ring.proofs.Words.{◌≡◌, ◌≢◌, ℕ, zero, suc, ◌+◌, ◌<◌, ◌≤◌, ◌==◌, ◌||◌, nat_le, nat_lt, ℤ, pos, negsuc, false, List, [], ◌∷◌, length, sym}
+use Rattle.fx_ring.proofs.Words.{ap, subst, ◌∙◌, ⊎_elim, inl, inr, Option, Some, None, option_map, arith, list_any, cases_lt, leb-false}
+use Rattle.fx_ring.proofs.Words.{slice_get_past, has_name, FileEntry, name_at, Errno, ENOENT, ENXIO, EBADF, ENOMEM, EINVAL, ENFILE, Mark, Submitted}
+use Rattle.fx_ring.proofs.Words.{Closed, ◌▷◌, File, Action, Look, Release, Put, Clear, Take, Allocate, Full, Answers, OpensAt, ReadsFrom, Empties}
+use Rattle.fx_ring.proofs.Words.{UpdatesFrom, AppliesEntry, AppliesList, Refuses, installed, is_bad_entry, Completed, next_member, Explains, severs}
+use Rattle.fx_ring.proofs.Words.{Operation, Opens, Reads, Closes, Updates, Asked, Place, Target, Slot, Any}
 use Rattle.fx_ring.proofs.CompletionPlaces.{either_way}
 use Rattle.fx_ring.proofs.NewMarks.{Puts, puts_then, puts_so, puts_none, puts_one, puts_may_close}
 use Rattle.fx_ring.proofs.Numbers.{or_left, or_right}

@@ -1,3 +1,4 @@
+pub mod Words
 pub mod Removals
 pub mod Rings
 pub mod Numbers

@@ -1,22 +1,9 @@
 -- What a list has done, one number further.
-use Rattle.std.proofs.Common.{◌≡◌, ◌≢◌, ℕ, zero, suc, ◌+◌, ◌-◌, ◌<◌, ◌≤◌, Bool, false, if◌then◌else◌, ℤ, pos}
-use Rattle.std.proofs.Common.{List, [], ◌∷◌, ◌++◌, length, length-append, append_assoc, append-nil, refl, sym, ap}
-use Rattle.std.proofs.Common.{subst, ◌∙◌, Option, Some, slice_get, inl, inr, take, drop, slice_index_or, arith}
-use Rattle.std.proofs.lemmas.Bool.{cases_lt, lt-ltb, le-ltb}
-use Rattle.std.proofs.lemmas.Option.{slice_get_past}
-use Rattle.std.proofs.lemmas.List.{take-append-drop, take_more, length-take-le}
-use Rattle.std.proofs.Math.Seq.{drop-cons}
-use Rattle.std.specs.List.{list_any}
-use Rattle.fx_chain.specs.Answers.{is_bad_entry}
-use Rattle.fx_base.specs.CloseListView.{CloseListView}
-use Rattle.fx_base.specs.declared.mark.Mark.TheVariants.{Registered}
-use Rattle.fx_base.specs.declared.open_file.Closed.{Closed}
-use Rattle.fx_plain.specs.State.{State, IsSettled}
-use Rattle.fx_plain.specs.Step.{changed_at}
-use Rattle.fx_plain.proofs.Cells.{by_equality}
-use Rattle.fx_ring.specs.Registration.{file_after, file_listed, files_after, removed_by, removed_from}
-use Rattle.fx_ring.specs.Tags.{tag_at}
-use Rattle.fx_ring.specs.Slots.{SetsFiles, files_at}
+use Rattle.fx_ring.proofs.Words.{◌≡◌, ◌≢◌, ℕ, zero, suc, ◌+◌, ◌-◌, ◌<◌, ◌≤◌, Bool, false, if◌then◌else◌, ℤ, pos, List, [], ◌∷◌, ◌++◌, length}
+use Rattle.fx_ring.proofs.Words.{length-append, append_assoc, append-nil, refl, sym, ap, subst, ◌∙◌, Option, Some, slice_get, inl, inr, take, drop}
+use Rattle.fx_ring.proofs.Words.{slice_index_or, arith, cases_lt, lt-ltb, le-ltb, slice_get_past, take-append-drop, take_more, length-take-le}
+use Rattle.fx_ring.proofs.Words.{drop-cons, list_any, is_bad_entry, CloseListView, Registered, Closed, State, IsSettled, changed_at, by_equality}
+use Rattle.fx_ring.proofs.Words.{file_after, file_listed, files_after, removed_by, removed_from, tag_at, SetsFiles, files_at}
 use Rattle.fx_ring.proofs.Numbers.{good_behind}
 
 slice_get-seam : {X : Type 0} (xs : List X) (y : X) (ys : List X) → slice_get (xs ++ y ∷ ys) (length xs) ≡ Some y

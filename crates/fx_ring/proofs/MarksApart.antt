@@ -1,13 +1,7 @@
 -- A table whose files have marks apart keeps them apart, as long as each mark that is installed is a new one.
-use Rattle.std.proofs.Common.{◌≡◌, ◌≢◌, ◌⊎◌, ℕ, if◌then◌else◌, List, [], ◌∷◌, refl, sym, subst, ◌∙◌, ⊎_elim, inl, inr, Option, Some, None}
-use Rattle.fx_plain.specs.State.{State}
-use Rattle.fx_plain.specs.Step.{after, changed_at}
-use Rattle.fx_plain.specs.History.{state_after}
-use Rattle.fx_plain.specs.Laws.{installed_by}
-use Rattle.fx_plain.specs.declared.event.File.{File}
-use Rattle.fx_plain.specs.declared.event.Action.{Action}
-use Rattle.fx_plain.specs.declared.event.Action.TheVariants.{Look, Release, Put, Clear, Take, Allocate, Full, Close}
-use Rattle.fx_plain.proofs.Cells.{by_equality}
+use Rattle.fx_ring.proofs.Words.{◌≡◌, ◌≢◌, ◌⊎◌, ℕ, if◌then◌else◌, List, [], ◌∷◌, refl, sym, subst, ◌∙◌, ⊎_elim, inl, inr, Option, Some, None, State}
+use Rattle.fx_ring.proofs.Words.{after, changed_at, state_after, installed_by, File, Action, Look, Release, Put, Clear, Take, Allocate, Full, Close}
+use Rattle.fx_ring.proofs.Words.{by_equality}
 use Rattle.fx_ring.proofs.NewMarks.{IsPut, HasNewMarks}
 
 -- a step leaves all slots, or changes one to what it installs

@@ -1,30 +1,13 @@
 -- What a crew is before it plays: new passes, with room for all.
-use Rattle.std.proofs.Common.{◌≡◌, ℕ, zero, suc, ◌+◌, ◌≤◌, List, [], ◌∷◌, ◌++◌, map, flat_map, reverse}
-use Rattle.std.proofs.Common.{length, All, sum_by, refl, sym, ap, subst, ◌∙◌, arith, vec_capacity}
+use Rattle.fx_ring.proofs.Words.{◌≡◌, ℕ, zero, suc, ◌+◌, ◌≤◌, List, [], ◌∷◌, ◌++◌, map, flat_map, reverse, length, All, sum_by, refl, sym, ap, subst}
+use Rattle.fx_ring.proofs.Words.{◌∙◌, arith, vec_capacity, length-map, reverse-append, map-append, map-map, length-flat_map, All-nil, All-cons}
+use Rattle.fx_ring.proofs.Words.{All-contains, All-weaker, sum_by-cons, sum_by-append, FileEntry, CloseListView, PassView, IsIdle, new_pass}
+use Rattle.fx_ring.proofs.Words.{new_passes, new_passes_from, MOST_MEMBERS, IsAccepted, IsChain, members_of, Completed, all_completed, Asked, runs_of}
+use Rattle.fx_ring.proofs.Words.{all_weights, weight_of, Completion, Chain, HasRoomFor, HasWorked, HasRoom, worker_state, Outcome, Worker}
 use Rattle.std.specs.Prelude.{Contains}
-use Rattle.std.proofs.lemmas.List.{length-map, reverse-append, map-append}
-use Rattle.std.proofs.lemmas.Simd.{map-map}
-use Rattle.std.proofs.lemmas.List.Concat.{length-flat_map}
-use Rattle.std.proofs.lemmas.List.Elements.{All-nil, All-cons, All-contains, All-weaker}
-use Rattle.std.proofs.lemmas.List.Sums.{sum_by-cons, sum_by-append}
-use Rattle.fx_base.specs.Catalogue.{FileEntry}
-use Rattle.fx_base.specs.CloseListView.{CloseListView}
-use Rattle.fx_table.specs.Pass.{PassView, IsIdle, new_pass, new_passes, new_passes_from}
 use Rattle.fx_table.proofs.Members.{contains_none, contains_map, contains_mapped, contains_reverse, each_all}
-use Rattle.fx_chain.specs.declared.fault.TheConstants.{MOST_MEMBERS}
-use Rattle.fx_chain.specs.Accepted.{IsAccepted, IsChain, members_of}
-use Rattle.fx_chain.specs.Completed.{Completed, all_completed}
-use Rattle.fx_chain.specs.Operation.{Asked}
-use Rattle.fx_chain.specs.Runs.{runs_of}
-use Rattle.fx_chain.specs.Weights.{all_weights, weight_of}
-use Rattle.fx_chain.specs.declared.completion.Completion.{Completion}
-use Rattle.fx_chain.specs.declared.chain.Chain.{Chain}
 use Rattle.fx_chain.proofs.Accepted.{accepted-length}
 use Rattle.fx_chain.proofs.Runs.{are_runs}
-use Rattle.fx_ring.specs.Outcomes.{HasRoomFor}
-use Rattle.fx_ring.specs.Work.{HasWorked, HasRoom, worker_state}
-use Rattle.fx_ring.specs.declared.outcome.Outcome.{Outcome}
-use Rattle.fx_ring.specs.declared.worker.Worker.{Worker}
 use Rattle.fx_ring.proofs.NumberedParts.{numbers_from}
 
 pub map_reversed : {X Y : Type 0} (f : X → Y) (xs : List X) → map f (reverse xs) ≡ reverse (map f xs)

@@ -1,11 +1,6 @@
 -- Steps that install no mark twice.
-use Rattle.std.proofs.Common.{◌≡◌, ◌≢◌, ◌⊎◌, List, [], ◌∷◌, sym, subst, ⊎_elim, inl, inr, Option, Some, None}
-use Rattle.fx_plain.specs.History.{◌▷◌, ◌▷▷◌}
-use Rattle.fx_plain.specs.Laws.{installed_by}
-use Rattle.fx_plain.specs.declared.event.File.{File}
-use Rattle.fx_plain.specs.declared.event.Action.{Action}
-use Rattle.fx_plain.specs.declared.event.Action.TheVariants.{Close}
-use Rattle.fx_chain.specs.Answers.{MayClose}
+use Rattle.fx_ring.proofs.Words.{◌≡◌, ◌≢◌, ◌⊎◌, List, [], ◌∷◌, sym, subst, ⊎_elim, inl, inr, Option, Some, None, ◌▷◌, ◌▷▷◌, installed_by, File}
+use Rattle.fx_ring.proofs.Words.{Action, Close, MayClose}
 
 -- one of the steps installs the file
 abbrev pub IsPut : List Action → File → Type 0

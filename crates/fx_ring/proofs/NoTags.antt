@@ -1,8 +1,6 @@
 -- A list without tags.
-use Rattle.std.proofs.Common.{◌≡◌, ℕ, zero, suc, ◌==◌, ◌||◌, not, Bool, false, ℤ, pos, negsuc, List, [], ◌∷◌, length, refl, ap, ◌∙◌, eq-eqb}
-use Rattle.std.proofs.lemmas.List.{length-map}
-use Rattle.std.specs.List.{list_any, zip}
-use Rattle.fx_ring.specs.Tags.{are_bad_tags, is_bad_tag, no_tags, tag_at}
+use Rattle.fx_ring.proofs.Words.{◌≡◌, ℕ, zero, suc, ◌==◌, ◌||◌, not, Bool, false, ℤ, pos, negsuc, List, [], ◌∷◌, length, refl, ap, ◌∙◌, eq-eqb}
+use Rattle.fx_ring.proofs.Words.{length-map, list_any, zip, are_bad_tags, is_bad_tag, no_tags, tag_at}
 
 none_bad : (list : List ℤ) → list_any (λ pair. is_bad_tag pair.0 pair.1) (zip list (no_tags list)) ≡ false
 none_bad [] = refl

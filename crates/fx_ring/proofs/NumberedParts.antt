@@ -1,15 +1,11 @@
 -- Lists with a part for each number from one on, and lists of which one element alone has a part.
-use Rattle.std.proofs.Common.{◌≡◌, ℕ, zero, suc, ◌+◌, ◌-◌, ◌<◌, ◌≤◌, List, [], ◌∷◌, ◌++◌, map, flat_map, filter, reverse}
-use Rattle.std.proofs.Common.{length, Bool, All, sum_by, slice_index_or, refl, sym, ap, subst, ◌∙◌, arith, append-nil, ⊎_elim}
+use Rattle.fx_ring.proofs.Words.{◌≡◌, ℕ, zero, suc, ◌+◌, ◌-◌, ◌<◌, ◌≤◌, List, [], ◌∷◌, ◌++◌, map, flat_map, filter, reverse, length, Bool, All}
+use Rattle.fx_ring.proofs.Words.{sum_by, slice_index_or, refl, sym, ap, subst, ◌∙◌, arith, append-nil, ⊎_elim, reverse-append, flat_map-append}
+use Rattle.fx_ring.proofs.Words.{All-nil, All-append, filter-append, IsPermutation-refl, IsPermutation-trans, IsPermutation-append_left}
+use Rattle.fx_ring.proofs.Words.{IsPermutation-append_comm, sum_by-cons, sum_of}
 use Rattle.std.specs.Prelude.{Contains}
-use Rattle.std.proofs.lemmas.List.{reverse-append}
-use Rattle.std.proofs.lemmas.List.Concat.{flat_map-append}
-use Rattle.std.proofs.lemmas.List.Elements.{All-nil, All-append, filter-append}
-use Rattle.std.proofs.lemmas.List.Sorted.{IsPermutation-refl, IsPermutation-trans, IsPermutation-append_left, IsPermutation-append_comm}
-use Rattle.std.proofs.lemmas.List.Sums.{sum_by-cons}
 use Rattle.std.specs.List.Sorted.{IsPermutation}
 use Rattle.fx_table.proofs.Members.{contains_none, contains_head, contains_tail, contains_cases}
-use Rattle.fx_table.proofs.SumLemmas.{sum_of}
 
 -- so many numbers from the first on
 abbrev pub numbers_from : ℕ → ℕ → List ℕ

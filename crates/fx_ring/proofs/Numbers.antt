@@ -1,10 +1,6 @@
 -- The numbers of a list, by their sign.
-use Rattle.std.proofs.Common.{◌≡◌, ℕ, zero, suc, ◌<◌, Bool, true, false, ◌||◌, ℤ, pos, negsuc, int_le}
-use Rattle.std.proofs.Common.{int_lt, List, [], ◌∷◌, ◌++◌, refl, sym, ap, ◌∙◌, arith, nat_abs}
-use Rattle.std.proofs.lemmas.Bool.{ltb-true, le-leb, leb-false, ltb-false, le-ltb}
-use Rattle.std.specs.List.{list_any}
-use Rattle.fx_chain.specs.Answers.{is_bad_entry}
-use Rattle.fx_ring.specs.Registration.{is_bad_file}
+use Rattle.fx_ring.proofs.Words.{◌≡◌, ℕ, zero, suc, ◌<◌, Bool, true, false, ◌||◌, ℤ, pos, negsuc, int_le, int_lt, List, [], ◌∷◌, ◌++◌, refl, sym, ap}
+use Rattle.fx_ring.proofs.Words.{◌∙◌, arith, nat_abs, ltb-true, le-leb, leb-false, ltb-false, le-ltb, list_any, is_bad_entry, is_bad_file}
 
 -- a number of 0 or more is the one that it reads as
 pub unsigned : (z : ℤ) → int_le (pos 0) z ≡ true → z ≡ pos (nat_abs z)

@@ -1,6 +1,6 @@
 -- The elements of a list that have one key, where others stand in front of them or behind them.
-use Rattle.std.proofs.Common.{◌≡◌, ◌≢◌, ℕ, ◌==◌, List, [], ◌∷◌, ◌++◌, filter, refl, ap, ◌∙◌, All, append-nil, eq-eqb, ne_eqb}
-use Rattle.std.proofs.lemmas.List.Elements.{All-head, All-tail, filter-append}
+use Rattle.fx_ring.proofs.Words.{◌≡◌, ◌≢◌, ℕ, ◌==◌, List, [], ◌∷◌, ◌++◌, filter, refl, ap, ◌∙◌, All, append-nil, eq-eqb, ne_eqb, All-head, All-tail}
+use Rattle.fx_ring.proofs.Words.{filter-append}
 
 module _ {X : Type 0} (key : X → ℕ) (c : ℕ) where
   abbrev pub with_key : List X → List X

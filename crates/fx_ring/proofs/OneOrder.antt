@@ -1,10 +1,7 @@
 -- A list in strict order is the only one of its elements that is in order.
-use Rattle.std.proofs.Common.{◌≡◌, ℕ, zero, suc, ◌+◌, ◌<◌, ◌≤◌, ◌⊎◌, cond, List, [], ◌∷◌, All, Contains, sum_by, IsPermutation}
-use Rattle.std.proofs.Common.{refl, sym, ap, subst, ◌∙◌, ◌==◌, arith, inl, inr, ⊎_elim, slice_index_or, eq-eqb, ne_eqb}
-use Rattle.std.specs.List.Sorted.{IsNonDecreasingBy}
-use Rattle.std.proofs.lemmas.List.Elements.{All-head, All-tail, All-contains}
-use Rattle.std.proofs.lemmas.List.Sums.{sum_by-cons, get_or-le-sum_by}
-use Rattle.std.proofs.lemmas.List.Sorted.{Contains-permutation, IsPermutation-sym, sum_by-IsPermutation}
+use Rattle.fx_ring.proofs.Words.{◌≡◌, ℕ, zero, suc, ◌+◌, ◌<◌, ◌≤◌, ◌⊎◌, cond, List, [], ◌∷◌, All, Contains, sum_by, IsPermutation, refl, sym, ap}
+use Rattle.fx_ring.proofs.Words.{subst, ◌∙◌, ◌==◌, arith, inl, inr, ⊎_elim, slice_index_or, eq-eqb, ne_eqb, IsNonDecreasingBy, All-head, All-tail}
+use Rattle.fx_ring.proofs.Words.{All-contains, sum_by-cons, get_or-le-sum_by, Contains-permutation, IsPermutation-sym, sum_by-IsPermutation}
 
 module _ {X : Type 0} (key : X → ℕ) where
   -- each element's key is below those behind it

@@ -1,16 +1,8 @@
 -- Where the files of a ring come from, once a list was worked off.
-use Rattle.std.proofs.Common.{◌≡◌, ◌≢◌, ◌⊎◌, ℕ, zero, suc, ◌+◌, ◌-◌, ◌<◌, ◌≤◌, false, ℤ, pos, negsuc, List, [], ◌∷◌, ◌++◌, length}
-use Rattle.std.proofs.Common.{length-append, All, refl, sym, ap, subst, ◌∙◌, Option, Some, None, slice_get, inl, inr, ⊎_elim, arith}
-use Rattle.std.specs.List.{list_any}
-use Rattle.std.proofs.lemmas.Bool.{cases_lt, leb-false}
-use Rattle.std.proofs.lemmas.List.Elements.{All-append}
-use Rattle.fx_base.specs.declared.mark.Mark.{Mark}
-use Rattle.fx_base.specs.declared.mark.Mark.TheVariants.{Registered, Submitted}
-use Rattle.fx_base.specs.declared.open_file.Closed.{Closed}
-use Rattle.fx_chain.specs.Answers.{is_bad_entry}
-use Rattle.fx_ring.specs.Ring.{RingState, IsRing, HasCounted}
-use Rattle.fx_ring.specs.Registration.{file_listed, files_after, removed_by, removed_from, registered, updated, is_bad_file}
-use Rattle.fx_ring.specs.Tags.{tag_at}
+use Rattle.fx_ring.proofs.Words.{◌≡◌, ◌≢◌, ◌⊎◌, ℕ, zero, suc, ◌+◌, ◌-◌, ◌<◌, ◌≤◌, false, ℤ, pos, negsuc, List, [], ◌∷◌, ◌++◌, length, length-append}
+use Rattle.fx_ring.proofs.Words.{All, refl, sym, ap, subst, ◌∙◌, Option, Some, None, slice_get, inl, inr, ⊎_elim, arith, list_any, cases_lt}
+use Rattle.fx_ring.proofs.Words.{leb-false, All-append, Mark, Registered, Submitted, Closed, is_bad_entry, RingState, IsRing, HasCounted, file_listed}
+use Rattle.fx_ring.proofs.Words.{files_after, removed_by, removed_from, registered, updated, is_bad_file, tag_at}
 use Rattle.fx_ring.proofs.Numbers.{or_left, or_right, good_files}
 use Rattle.fx_ring.proofs.ListSteps.{files_below, files_from}
 use Rattle.fx_ring.proofs.Rings.{IsEntry, entry_listed}

@@ -1,9 +1,7 @@
 -- A list in parts, by a key of its elements.
-use Rattle.std.proofs.Common.{◌≡◌, ◌≢◌, ℕ, zero, suc, ◌+◌, ◌<◌, ◌≤◌, Bool, not, cond, List, [], ◌∷◌, ◌++◌}
-use Rattle.std.proofs.Common.{filter, All, IsPermutation, refl, sym, ap, subst, ◌∙◌, ◌==◌, arith, ne_eqb}
-use Rattle.std.proofs.lemmas.List.Elements.{All-head, All-tail, All-cons, All-nil}
-use Rattle.std.proofs.lemmas.List.Sorted.{IsPermutation-refl, IsPermutation-trans, IsPermutation-append_right, IsPermutation-filter_both}
-use Rattle.fx_plain.proofs.Cells.{by_equality}
+use Rattle.fx_ring.proofs.Words.{◌≡◌, ◌≢◌, ℕ, zero, suc, ◌+◌, ◌<◌, ◌≤◌, Bool, not, cond, List, [], ◌∷◌, ◌++◌, filter, All, IsPermutation, refl, sym}
+use Rattle.fx_ring.proofs.Words.{ap, subst, ◌∙◌, ◌==◌, arith, ne_eqb, All-head, All-tail, All-cons, All-nil, IsPermutation-refl, IsPermutation-trans}
+use Rattle.fx_ring.proofs.Words.{IsPermutation-append_right, IsPermutation-filter_both, by_equality}
 
 -- the elements with the first key, then those with the next one, for so many keys
 abbrev pub parts_from : {X : Type 0} → (X → ℕ) → ℕ → ℕ → List X → List X

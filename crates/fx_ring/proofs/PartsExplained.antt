@@ -1,20 +1,9 @@
 -- The completions of a submission, once they are in order of place: they are the chains' parts, one after another.
-use Rattle.std.proofs.Common.{◌≡◌, ℕ, suc, ◌+◌, ◌-◌, ◌*◌, ◌<◌, ◌≤◌, List, [], ◌∷◌, ◌++◌, length, length-append}
-use Rattle.std.proofs.Common.{map, All, sum_by, IsPermutation, refl, sym, ap, subst, ◌∙◌, arith, slice_index_or}
-use Rattle.std.specs.List.Sorted.{IsNonDecreasingBy}
-use Rattle.std.proofs.lemmas.List.Elements.{All-head, All-tail, All-cons, All-nil, All-append, All-weaker}
-use Rattle.std.proofs.lemmas.List.Sums.{sum_by-cons}
-use Rattle.std.proofs.lemmas.List.Sorted.{IsPermutation-sym, IsPermutation-trans, length_permutation}
-use Rattle.fx_base.specs.Catalogue.{FileEntry}
-use Rattle.fx_plain.specs.History.{part_of_chain, action_of}
-use Rattle.fx_plain.specs.declared.event.Event.{Event}
-use Rattle.fx_chain.specs.Completed.{Completed, next_member}
-use Rattle.fx_chain.specs.Explains.{Explains, first_member}
-use Rattle.fx_chain.specs.Operation.{Asked}
-use Rattle.fx_chain.specs.declared.completion.Place.{Place}
-use Rattle.fx_chain.specs.declared.fault.TheConstants.{MOST_MEMBERS}
-use Rattle.fx_ring.specs.Submission.{ExplainsParts}
-use Rattle.fx_ring.specs.Work.{completions_of_chain, run_of_chain}
+use Rattle.fx_ring.proofs.Words.{◌≡◌, ℕ, suc, ◌+◌, ◌-◌, ◌*◌, ◌<◌, ◌≤◌, List, [], ◌∷◌, ◌++◌, length, length-append, map, All, sum_by, IsPermutation}
+use Rattle.fx_ring.proofs.Words.{refl, sym, ap, subst, ◌∙◌, arith, slice_index_or, IsNonDecreasingBy, All-head, All-tail, All-cons, All-nil}
+use Rattle.fx_ring.proofs.Words.{All-append, All-weaker, sum_by-cons, IsPermutation-sym, IsPermutation-trans, length_permutation, FileEntry}
+use Rattle.fx_ring.proofs.Words.{part_of_chain, action_of, Event, Completed, next_member, Explains, first_member, Asked, Place, MOST_MEMBERS}
+use Rattle.fx_ring.proofs.Words.{ExplainsParts, completions_of_chain, run_of_chain}
 use Rattle.fx_ring.proofs.CompletionPlaces.{AreOfMembers, explained_of_members}
 use Rattle.fx_ring.proofs.Parts.{parts_from, parts_are_all}
 use Rattle.fx_ring.proofs.OneOrder.{Rises, one_list_in_order}

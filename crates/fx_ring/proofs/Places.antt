@@ -1,12 +1,6 @@
 -- Each completion of a chain has the chain in its place.
-use Rattle.std.proofs.Common.{◌≡◌, ℕ, List, [], ◌∷◌, sym, ap, subst, All}
-use Rattle.std.proofs.lemmas.List.Elements.{All-nil, All-cons}
-use Rattle.fx_base.specs.Catalogue.{FileEntry}
-use Rattle.fx_plain.specs.declared.event.Action.{Action}
-use Rattle.fx_chain.specs.Completed.{Completed, next_member}
-use Rattle.fx_chain.specs.Explains.{Explains}
-use Rattle.fx_chain.specs.Operation.{Asked}
-use Rattle.fx_chain.specs.declared.completion.Place.{Place}
+use Rattle.fx_ring.proofs.Words.{◌≡◌, ℕ, List, [], ◌∷◌, sym, ap, subst, All, All-nil, All-cons, FileEntry, Action, Completed, next_member, Explains}
+use Rattle.fx_ring.proofs.Words.{Asked, Place}
 use Rattle.fx_ring.proofs.CompletionPlaces.{AreOfMembers, explained_of_members}
 
 -- the completion is of this chain

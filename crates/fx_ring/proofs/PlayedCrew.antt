@@ -1,27 +1,8 @@
 -- What a crew has come to, as its passes and outcomes say it once they lie in lists of their own.
-use Rattle.std.proofs.Common.{◌≡◌, ℕ, List, [], ◌∷◌, ◌++◌, map, flat_map, reverse, length, All, true, sum_by, refl, sym, ap, ◌∙◌, arith}
-use Rattle.std.proofs.lemmas.List.{length-map, reverse-reverse, map-append}
-use Rattle.std.proofs.lemmas.Simd.{map-map}
-use Rattle.std.proofs.lemmas.List.Concat.{length-flat_map}
-use Rattle.std.proofs.lemmas.List.Elements.{All-map}
-use Rattle.fx_base.specs.declared.open_file.Closed.{Closed}
-use Rattle.fx_base.specs.Catalogue.{FileEntry}
-use Rattle.fx_plain.specs.Contents.{Contents}
-use Rattle.fx_table.specs.Closing.{ClosesTable}
-use Rattle.fx_table.specs.Opening.{Opening, size_of}
-use Rattle.fx_table.specs.Pass.{PassView, new_passes}
-use Rattle.fx_table.proofs.SumLemmas.{sum_reverse}
-use Rattle.fx_chain.specs.Completed.{all_completed, completed_of}
-use Rattle.fx_chain.specs.Accepted.{members_of}
-use Rattle.fx_chain.specs.Operation.{all_asked}
-use Rattle.fx_chain.specs.Runs.{runs_of}
-use Rattle.fx_chain.specs.declared.chain.Chain.{Chain}
-use Rattle.fx_chain.specs.declared.request.Request.{Request}
-use Rattle.fx_chain.specs.declared.completion.Completion.{Completion}
-use Rattle.fx_ring.specs.Playing.{state_of_worker}
-use Rattle.fx_ring.specs.Work.{HasWorked, WorkerState}
-use Rattle.fx_ring.specs.declared.outcome.Outcome.{Outcome}
-use Rattle.fx_ring.specs.declared.worker.Worker.{Worker}
+use Rattle.fx_ring.proofs.Words.{◌≡◌, ℕ, List, [], ◌∷◌, ◌++◌, map, flat_map, reverse, length, All, true, sum_by, refl, sym, ap, ◌∙◌, arith}
+use Rattle.fx_ring.proofs.Words.{length-map, reverse-reverse, map-append, map-map, length-flat_map, All-map, Closed, FileEntry, Contents, ClosesTable}
+use Rattle.fx_ring.proofs.Words.{Opening, size_of, PassView, new_passes, sum_reverse, all_completed, completed_of, members_of, all_asked, runs_of}
+use Rattle.fx_ring.proofs.Words.{Chain, Request, Completion, state_of_worker, HasWorked, WorkerState, Outcome, Worker}
 use Rattle.fx_ring.proofs.NewCrew.{map_reversed, numbers_are}
 use Rattle.fx_ring.proofs.WorkersTogether.{HavePlayed, pass_of, number_of, completed_by, closed_by_worker}
 use Rattle.fx_ring.proofs.Runs.{as_many}

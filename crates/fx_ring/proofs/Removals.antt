@@ -1,17 +1,8 @@
 -- A file leaves its slot, and is closed at once.
-use Rattle.std.proofs.Common.{◌≡◌, ◌≢◌, ℕ, ◌+◌, ◌<◌, Bool, true, List, ◌++◌, length, refl, sym, ap}
-use Rattle.std.proofs.Common.{subst, ◌∙◌, Option, Some, None, if◌then◌else◌, option_to_list, arith}
-use Rattle.fx_base.specs.CloseListView.{CloseListView}
-use Rattle.fx_base.specs.declared.open_file.Closed.{Closed}
-use Rattle.fx_plain.specs.declared.event.File.{File}
-use Rattle.fx_plain.specs.declared.event.Action.{Action}
-use Rattle.fx_plain.specs.declared.event.Action.TheVariants.{Put, Clear}
-use Rattle.fx_plain.specs.State.{State, IsSettled}
-use Rattle.fx_plain.specs.Step.{Steps, changed_at, with_removed}
-use Rattle.fx_plain.specs.History.{Leads, close_of}
-use Rattle.fx_plain.specs.Table.{identity_of, number_of, numbered, more_leaving}
-use Rattle.fx_plain.proofs.Cells.{by_equality}
-use Rattle.fx_ring.specs.Slots.{SetsSlot, CanRetire, closes_of_removed, file_removed, files_at}
+use Rattle.fx_ring.proofs.Words.{◌≡◌, ◌≢◌, ℕ, ◌+◌, ◌<◌, Bool, true, List, ◌++◌, length, refl, sym, ap, subst, ◌∙◌, Option, Some, None, if◌then◌else◌}
+use Rattle.fx_ring.proofs.Words.{option_to_list, arith, CloseListView, Closed, File, Action, Put, Clear, State, IsSettled, Steps, changed_at}
+use Rattle.fx_ring.proofs.Words.{with_removed, Leads, close_of, identity_of, number_of, numbered, more_leaving, by_equality, files_at}
+use Rattle.fx_ring.specs.Slots.{SetsSlot, CanRetire, closes_of_removed, file_removed}
 
 pub changed_same : {X : Type 0} (f : ℕ → X) (k : ℕ) (v : X) → changed_at f k v k ≡ v
 changed_same f k v = by_equality k k (λ b. (if b then v else f k) ≡ v) (λ _. refl) (λ other. absurd (other refl))

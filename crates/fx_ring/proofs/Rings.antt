@@ -1,21 +1,10 @@
 -- What a ring keeps, as its table changes.
-use Rattle.std.proofs.Common.{◌≡◌, ℕ, Bool, zero, suc, ◌<◌, List, [], ◌∷◌, ◌++◌, length, refl, sym, ap, subst, ◌∙◌}
-use Rattle.std.proofs.Common.{Option, Some, None, All, arith, not, ◌&&◌, nat_lt, option_to_list, IsPermutation}
-use Rattle.std.proofs.lemmas.List.Elements.{All-append}
-use Rattle.std.proofs.lemmas.List.Sorted.{All-permutation}
-use Rattle.std.proofs.lemmas.Bool.{lt-ltb, le-ltb}
-use Rattle.fx_base.specs.CloseListView.{CloseListView}
-use Rattle.fx_base.specs.CloseList.{IsInOrderOfMark}
-use Rattle.fx_base.specs.declared.open_file.Closed.{Closed}
-use Rattle.fx_plain.specs.State.{State, IsSettled, opening, file_numbered, vacant, identities_of}
-use Rattle.fx_plain.specs.State.{files_in_order as files_in_order_of_state, files_of as files_of_state}
-use Rattle.fx_plain.specs.Table.{identity_of}
-use Rattle.fx_plain.specs.declared.event.File.{File}
-use Rattle.fx_plain.specs.Contents.{Contents}
-use Rattle.fx_table.specs.Opening.{IsGivenBack}
-use Rattle.fx_ring.specs.Ring.{RingContents, RingState, IsAtRest, IsRing, HasClosed, AreEntries, files_in_order, files_of}
-use Rattle.fx_ring.specs.Ring.{ring_of, ring_with, with_table}
-use Rattle.fx_ring.specs.Slots.{AreFresh, files_at}
+use Rattle.fx_ring.proofs.Words.{◌≡◌, ℕ, Bool, zero, suc, ◌<◌, List, [], ◌∷◌, ◌++◌, length, refl, sym, ap, subst, ◌∙◌, Option, Some, None, All, arith}
+use Rattle.fx_ring.proofs.Words.{not, ◌&&◌, nat_lt, option_to_list, IsPermutation, All-append, All-permutation, lt-ltb, le-ltb, CloseListView}
+use Rattle.fx_ring.proofs.Words.{IsInOrderOfMark, Closed, State, IsSettled, opening, file_numbered, vacant, identity_of, File, Contents, IsGivenBack}
+use Rattle.fx_ring.proofs.Words.{RingContents, RingState, IsAtRest, IsRing, HasClosed, AreEntries, ring_of, ring_with, with_table, AreFresh, files_at}
+use Rattle.fx_plain.specs.State.{identities_of, files_in_order as files_in_order_of_state, files_of as files_of_state}
+use Rattle.fx_ring.specs.Ring.{files_in_order, files_of}
 use Rattle.fx_ring.specs.declared.ring.Ring.TheInside.{Inside}
 
 -- what a ring keeps, by its fields

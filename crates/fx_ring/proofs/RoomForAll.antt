@@ -1,14 +1,7 @@
 -- What the requests of a submission may close fits into a list, and a sort of completions is one of what they say.
-use Rattle.std.proofs.Common.{◌≡◌, ℕ, ◌+◌, ◌<◌, ◌≤◌, List, [], ◌∷◌, map, length, take, get_or, sum_by, ap, arith}
-use Rattle.std.specs.List.Sorted.{IsNonDecreasingBy}
-use Rattle.std.proofs.lemmas.List.{get_or-map, length-map}
-use Rattle.std.proofs.lemmas.List.Sums.{sum_by_more_le}
-use Rattle.fx_chain.specs.Accepted.{IsAccepted}
-use Rattle.fx_chain.specs.Operation.{all_asked, asked_of, operation_of}
-use Rattle.fx_chain.specs.Weights.{weight_of, all_weights}
-use Rattle.fx_chain.specs.declared.request.Request.{Request}
+use Rattle.fx_ring.proofs.Words.{◌≡◌, ℕ, ◌+◌, ◌<◌, ◌≤◌, List, [], ◌∷◌, map, length, take, get_or, sum_by, ap, arith, IsNonDecreasingBy, get_or-map}
+use Rattle.fx_ring.proofs.Words.{length-map, sum_by_more_le, IsAccepted, all_asked, asked_of, operation_of, weight_of, all_weights, Request, sum_map}
 use Rattle.fx_chain.proofs.Accepted.{accepted-each, accepted-length, all_weights-small}
-use Rattle.fx_table.proofs.SumLemmas.{sum_map}
 
 abbrev weight_of_one : Request → ℕ
 weight_of_one r = weight_of (operation_of r.op)

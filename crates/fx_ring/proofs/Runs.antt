@@ -1,14 +1,8 @@
 -- Where the members of a chain stand in the list of requests.
-use Rattle.std.proofs.Common.{◌≡◌, ℕ, ◌+◌, ◌-◌, ◌≤◌, List, [], length, map, take, drop, slice_index_or, sym, ap, subst, ◌∙◌, All, arith}
-use Rattle.std.proofs.lemmas.List.{get_or-map, length-map}
-use Rattle.fx_chain.specs.Accepted.{IsChain, IsShortRun, members_of}
-use Rattle.fx_chain.specs.Operation.{Asked, all_asked}
-use Rattle.fx_chain.specs.Runs.{runs_of}
-use Rattle.fx_chain.specs.Weights.{all_installs}
-use Rattle.fx_chain.specs.declared.chain.Chain.{Chain}
-use Rattle.fx_chain.specs.declared.request.Request.{Request}
+use Rattle.fx_ring.proofs.Words.{◌≡◌, ℕ, ◌+◌, ◌-◌, ◌≤◌, List, [], length, map, take, drop, slice_index_or, sym, ap, subst, ◌∙◌, All, arith}
+use Rattle.fx_ring.proofs.Words.{get_or-map, length-map, IsChain, IsShortRun, members_of, Asked, all_asked, runs_of, all_installs, Chain, Request}
+use Rattle.fx_ring.proofs.Words.{InstallAtMost, run_of_chain}
 use Rattle.fx_chain.proofs.Asking.{asked_part}
-use Rattle.fx_ring.specs.Work.{InstallAtMost, run_of_chain}
 
 -- the part of a list that a chain is
 pub asked_of_part : (requests : List Request) (chain : Chain)

@@ -1,17 +1,9 @@
 -- What the laws of histories say of a submission's history.
-use Rattle.std.proofs.Common.{◌≡◌, ℕ, ◌<◌, false, List, length, Option, Some, None, not, ◌&&◌, nat_lt, refl, sym, ap, ◌∙◌, subst}
-use Rattle.std.proofs.lemmas.Bool.{lt-ltb}
-use Rattle.fx_plain.specs.State.{State, opening, file_numbered}
-use Rattle.fx_plain.specs.Contents.{state_of}
-use Rattle.fx_plain.specs.History.{IsLegal, ◌▷◌, ◌▷▷◌}
-use Rattle.fx_plain.specs.Laws.{IsStart}
-use Rattle.fx_plain.specs.declared.event.File.{File}
-use Rattle.fx_plain.specs.declared.event.Event.{Event}
+use Rattle.fx_ring.proofs.Words.{◌≡◌, ℕ, ◌<◌, false, List, length, Option, Some, None, not, ◌&&◌, nat_lt, refl, sym, ap, ◌∙◌, subst, lt-ltb, State}
+use Rattle.fx_ring.proofs.Words.{opening, file_numbered, state_of, IsLegal, ◌▷◌, ◌▷▷◌, IsStart, File, Event, numbers_for, runs_of}
 use Rattle.fx_plain.proofs.LawFiles.{every_removed_file_is_closed}
 use Rattle.fx_plain.proofs.LawHolds.{no_close_while_held}
 use Rattle.fx_plain.proofs.LawTallies.{closed_at_most_once}
-use Rattle.fx_table.specs.Numbers.{numbers_for}
-use Rattle.fx_chain.specs.Runs.{runs_of}
 use Rattle.fx_ring.specs.Laws.{NoHeldFileCloses, NoFileClosesTwice, NoFileIsLost, start_of_submission}
 
 none_is_some : {X : Type 0} (x : X) → Some x ≡ None → ⊥

@@ -1,27 +1,10 @@
 -- A ring behind a submission keeps what every ring keeps.
-use Rattle.std.proofs.Common.{◌≡◌, ◌≢◌, ℕ, ◌+◌, ◌<◌, ◌≤◌, List, [], ◌∷◌, length, map, Contains}
-use Rattle.std.proofs.Common.{refl, sym, ap, subst, ◌∙◌, ⊎_elim, inl, Option, Some, None, arith}
-use Rattle.fx_base.specs.Catalogue.{FileEntry}
-use Rattle.fx_base.specs.declared.mark.Mark.{Mark}
-use Rattle.fx_base.specs.declared.mark.Mark.TheVariants.{Registered, Submitted}
-use Rattle.fx_base.specs.declared.open_file.Closed.{Closed}
-use Rattle.fx_plain.specs.State.{State, IsSettled, opening}
-use Rattle.fx_plain.specs.Contents.{state_of}
-use Rattle.fx_plain.specs.History.{action_of, closes_in}
-use Rattle.fx_plain.specs.Table.{identity_of}
-use Rattle.fx_plain.specs.declared.event.File.{File}
-use Rattle.fx_plain.specs.declared.event.Event.{Event}
-use Rattle.fx_plain.specs.declared.event.Action.{Action}
-use Rattle.fx_plain.proofs.Cells.{by_equality}
+use Rattle.fx_ring.proofs.Words.{◌≡◌, ◌≢◌, ℕ, ◌+◌, ◌<◌, ◌≤◌, List, [], ◌∷◌, length, map, Contains, refl, sym, ap, subst, ◌∙◌, ⊎_elim, inl, Option}
+use Rattle.fx_ring.proofs.Words.{Some, None, arith, FileEntry, Mark, Registered, Submitted, Closed, State, IsSettled, opening, state_of, action_of}
+use Rattle.fx_ring.proofs.Words.{closes_in, identity_of, File, Event, Action, by_equality, numbers_for, Completed, first_member, Asked, runs_of}
+use Rattle.fx_ring.proofs.Words.{RingContents, RingState, IsRing, IsAtRest, HasCounted, AreEntries, ring_of, with_table, ExplainsParts, Reported}
+use Rattle.fx_ring.proofs.Words.{IsOneHistory, MOST_SUBMISSIONS}
 use Rattle.fx_plain.proofs.FilesWereInstalled.{HoldsOfAll, holds_of_closes, all_closes_in}
-use Rattle.fx_table.specs.Numbers.{numbers_for}
-use Rattle.fx_chain.specs.Completed.{Completed}
-use Rattle.fx_chain.specs.Explains.{first_member}
-use Rattle.fx_chain.specs.Operation.{Asked}
-use Rattle.fx_chain.specs.Runs.{runs_of}
-use Rattle.fx_ring.specs.Ring.{RingContents, RingState, IsRing, IsAtRest, HasCounted, AreEntries, ring_of, with_table}
-use Rattle.fx_ring.specs.Submission.{ExplainsParts, Reported, IsOneHistory}
-use Rattle.fx_ring.specs.declared.ring.TheConstants.{MOST_SUBMISSIONS}
 use Rattle.fx_ring.proofs.Rings.{opening_files, entries_closed}
 use Rattle.fx_ring.proofs.NewMarks.{IsPut, HasNewMarks, Puts}
 use Rattle.fx_ring.proofs.Installs.{IsOfMembers, explained_puts}

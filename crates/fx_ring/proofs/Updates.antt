@@ -1,15 +1,7 @@
 -- What an update comes to, as its calls make it.
-use Rattle.std.proofs.Common.{◌≡◌, ℕ, ◌+◌, ◌≤◌, ℤ, List, [], ◌++◌, length, false, sym, ap, subst, ◌∙◌, Option, arith, IsPermutation}
-use Rattle.std.specs.List.{list_any}
-use Rattle.fx_base.specs.CloseListView.{CloseListView}
-use Rattle.fx_base.specs.CloseList.{IsInOrderOfMark}
-use Rattle.fx_base.specs.declared.open_file.Closed.{Closed}
-use Rattle.fx_plain.specs.State.{State, opening}
-use Rattle.fx_plain.specs.Contents.{state_of}
-use Rattle.fx_chain.specs.Answers.{is_bad_entry}
-use Rattle.fx_ring.specs.Ring.{RingContents, IsRing, HasClosed, AreEntries, ring_of, with_table}
-use Rattle.fx_ring.specs.Registration.{files_after, removed_from, updated}
-use Rattle.fx_ring.specs.Slots.{SetsFiles, files_at}
+use Rattle.fx_ring.proofs.Words.{◌≡◌, ℕ, ◌+◌, ◌≤◌, ℤ, List, [], ◌++◌, length, false, sym, ap, subst, ◌∙◌, Option, arith, IsPermutation, list_any}
+use Rattle.fx_ring.proofs.Words.{CloseListView, IsInOrderOfMark, Closed, State, opening, state_of, is_bad_entry, RingContents, IsRing, HasClosed}
+use Rattle.fx_ring.proofs.Words.{AreEntries, ring_of, with_table, files_after, removed_from, updated, SetsFiles, files_at}
 use Rattle.fx_ring.proofs.Origins.{updated_rings, removed_entries, few_removed}
 use Rattle.fx_ring.proofs.Rings.{ring_is, list_closed, opening_files, entries_closed}
 

@@ -1,40 +1,18 @@
 -- What the workers of a submission did, taken together.
-use Rattle.std.proofs.Common.{◌≡◌, ℕ, ◌+◌, ◌-◌, ◌<◌, ◌≤◌, ◌==◌, true, false, cond, List, [], ◌∷◌, map, flat_map, reverse, length}
-use Rattle.std.proofs.Common.{All, sum_by, count_by, slice_index_or, refl, sym, ap, subst, ◌∙◌, arith, eqb, eq-eqb, ⊎_elim}
+use Rattle.fx_ring.proofs.Words.{◌≡◌, ℕ, ◌+◌, ◌-◌, ◌<◌, ◌≤◌, ◌==◌, true, false, cond, List, [], ◌∷◌, map, flat_map, reverse, length, All, sum_by}
+use Rattle.fx_ring.proofs.Words.{count_by, slice_index_or, refl, sym, ap, subst, ◌∙◌, arith, eqb, eq-eqb, ⊎_elim, IsNonDecreasingBy, All-head}
+use Rattle.fx_ring.proofs.Words.{All-tail, All-contains, length-flat_map, IsPermutation-trans, length_permutation, FileEntry, IsInOrderOfMark}
+use Rattle.fx_ring.proofs.Words.{CloseListView, Closed, by_equality, opening, Contents, state_of, IsLegal, action_of, part_of_chain, part_of_pass}
+use Rattle.fx_ring.proofs.Words.{Event, ClosesTable, times_drawn, numbers_for, Opening, size_of, state_at, PassView, IsOfDrawnChains, some_times}
+use Rattle.fx_ring.proofs.Words.{part_of_drawn, sum_reverse, sum_map, sum_le_of, MOST_MEMBERS, Completed, Explains, first_member, Asked, runs_of}
+use Rattle.fx_ring.proofs.Words.{all_weights, ring_with, IsOneHistory, WorkerState, HasWorked, run_of_chain, completions_of_chain}
 use Rattle.std.specs.Prelude.{Contains}
-use Rattle.std.specs.List.Sorted.{IsPermutation, IsNonDecreasingBy}
-use Rattle.std.proofs.lemmas.List.Elements.{All-head, All-tail, All-contains}
-use Rattle.std.proofs.lemmas.List.Concat.{length-flat_map}
-use Rattle.std.proofs.lemmas.List.Sorted.{IsPermutation-trans, length_permutation}
-use Rattle.fx_base.specs.Catalogue.{FileEntry}
-use Rattle.fx_base.specs.CloseList.{IsInOrderOfMark}
-use Rattle.fx_base.specs.CloseListView.{CloseListView}
-use Rattle.fx_base.specs.declared.open_file.Closed.{Closed}
-use Rattle.fx_plain.proofs.Cells.{by_equality}
-use Rattle.fx_plain.specs.State.{opening}
-use Rattle.fx_plain.specs.Contents.{Contents, state_of}
-use Rattle.fx_plain.specs.History.{IsLegal, action_of, part_of_chain, part_of_pass}
-use Rattle.fx_plain.specs.declared.event.Event.{Event}
-use Rattle.fx_table.specs.Closing.{ClosesTable, times_drawn}
-use Rattle.fx_table.specs.Numbers.{numbers_for}
-use Rattle.fx_table.specs.Opening.{Opening, size_of, state_at}
-use Rattle.fx_table.specs.Pass.{PassView, IsOfDrawnChains}
-use Rattle.fx_table.proofs.Chains.{some_times, part_of_drawn}
-use Rattle.fx_table.proofs.Members.{contains_none, contains_head, contains_tail, contains_cases, contains_map}
-use Rattle.fx_table.proofs.Members.{contains_mapped, contains_reverse, contains_reversed, each_all}
-use Rattle.fx_table.proofs.SumLemmas.{sum_reverse, sum_map, sum_le_of}
-use Rattle.fx_chain.specs.declared.fault.TheConstants.{MOST_MEMBERS}
-use Rattle.fx_chain.specs.Completed.{Completed}
-use Rattle.fx_chain.specs.Explains.{Explains, first_member}
-use Rattle.fx_chain.specs.Operation.{Asked}
-use Rattle.fx_chain.specs.Runs.{runs_of}
-use Rattle.fx_chain.specs.Weights.{all_weights}
-use Rattle.fx_ring.specs.Ring.{ring_with}
-use Rattle.fx_ring.specs.Submission.{IsOneHistory}
-use Rattle.fx_ring.specs.Work.{WorkerState, HasWorked, run_of_chain, completions_of_chain}
+use Rattle.std.specs.List.Sorted.{IsPermutation}
+use Rattle.fx_table.proofs.Members.{contains_none, contains_head, contains_tail, contains_cases, contains_map, contains_mapped, contains_reverse}
+use Rattle.fx_table.proofs.Members.{contains_reversed, each_all}
 use Rattle.fx_ring.proofs.ClosesInParts.{closes_of, closes_with, closes_by_key}
-use Rattle.fx_ring.proofs.NumberedParts.{numbers_from, number_within, sum_by_place, one_part, all_parts}
-use Rattle.fx_ring.proofs.NumberedParts.{filter_parts, parts_reversed, same_parts, mapped_parts}
+use Rattle.fx_ring.proofs.NumberedParts.{numbers_from, number_within, sum_by_place, one_part, all_parts, filter_parts, parts_reversed, same_parts}
+use Rattle.fx_ring.proofs.NumberedParts.{mapped_parts}
 use Rattle.fx_ring.proofs.PartsExplained.{place_key, one_of_each_request, in_order_explained}
 
 abbrev pub pass_of : WorkerState → PassView

@@ -1,4 +1,4 @@
-use Rattle.std.proofs.Common.{◌≡◌, ◌≤◌, ◌++◌, ◌+◌, length, map, reverse, vec_capacity}
+use Rattle.fx_ring.proofs.Words.{◌≡◌, ◌≤◌, ◌++◌, ◌+◌, length, map, reverse, vec_capacity}
 use Rattle.fx_ring.proofs.crew.gather.Given as goal
 
 abbrev pub invariant-loop-pass : goal.invariant-loop-pass

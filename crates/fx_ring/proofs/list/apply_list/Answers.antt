@@ -1,11 +1,5 @@
-use Rattle.std.proofs.Common.{◌≡◌, ◌+◌, ℕ, ℤ, List, pos, to_z, of_z, w32, length, slice_index_or, take, ap, subst, ◌∙◌, rules, arith}
-use Rattle.std.proofs.Math.Seq.{take-length}
-use Rattle.fx_base.specs.declared.mark.Mark.TheVariants.{Registered}
-use Rattle.fx_plain.specs.Contents.{state_of}
-use Rattle.fx_plain.specs.Step.{changed_at}
-use Rattle.fx_ring.specs.Registration.{file_after, files_after, removed_by, removed_from}
-use Rattle.fx_ring.specs.Tags.{tags_for}
-use Rattle.fx_ring.specs.Slots.{SetsFiles, files_at}
+use Rattle.fx_ring.proofs.Words.{◌≡◌, ◌+◌, ℕ, ℤ, List, pos, to_z, of_z, w32, length, slice_index_or, take, ap, subst, ◌∙◌, rules, arith, take-length}
+use Rattle.fx_ring.proofs.Words.{Registered, state_of, changed_at, file_after, files_after, removed_by, removed_from, tags_for, SetsFiles, files_at}
 use Rattle.fx_ring.proofs.ListSteps.{set_next, room_next, good_next, none_done}
 use Rattle.fx_ring.proofs.list.apply_list.Goals as goal
 

@@ -1,8 +1,4 @@
-use Rattle.std.proofs.Common.{◌+◌, length, take}
-use Rattle.fx_plain.specs.Contents.{state_of}
-use Rattle.fx_ring.specs.Registration.{files_after, removed_from}
-use Rattle.fx_ring.specs.Tags.{tags_for}
-use Rattle.fx_ring.specs.Slots.{SetsFiles, AreFresh, files_at}
+use Rattle.fx_ring.proofs.Words.{◌+◌, length, take, state_of, files_after, removed_from, tags_for, SetsFiles, AreFresh, files_at}
 use Rattle.fx_ring.proofs.list.apply_list.Given as goal
 
 abbrev pub invariant-loop-i : goal.invariant-loop-i

@@ -1,11 +1,6 @@
-use Rattle.std.proofs.Common.{◌≡◌, ◌<◌, ℕ, ℤ, true, false, pos, negsuc, int_le, int_lt, nat_abs}
-use Rattle.std.proofs.Common.{to_z, of_z, w32, Some, length, sym, ap, subst, ◌∙◌, rules}
+use Rattle.fx_ring.proofs.Words.{◌≡◌, ◌<◌, ℕ, ℤ, true, false, pos, negsuc, int_le, int_lt, nat_abs, to_z, of_z, w32, Some, length, sym, ap, subst}
+use Rattle.fx_ring.proofs.Words.{◌∙◌, rules, Closed, state_of, changed_at, file_after, removed_by, SetsFiles, files_at}
 use Rattle.std.proofs.lemmas.Int.{to_z-of_z}
-use Rattle.fx_base.specs.declared.open_file.Closed.{Closed}
-use Rattle.fx_plain.specs.Contents.{state_of}
-use Rattle.fx_plain.specs.Step.{changed_at}
-use Rattle.fx_ring.specs.Registration.{file_after, removed_by}
-use Rattle.fx_ring.specs.Slots.{SetsFiles, files_at}
 use Rattle.fx_ring.proofs.Numbers.{unsigned, minus_one, entry_inside}
 use Rattle.fx_ring.proofs.list.apply_number.Goals as goal
 

@@ -1,6 +1,4 @@
-use Rattle.std.proofs.Common.{◌≡◌, take, sum_by}
-use Rattle.fx_chain.specs.Operation.{operation_of}
-use Rattle.fx_chain.specs.Weights.{installs_of}
+use Rattle.fx_ring.proofs.Words.{◌≡◌, take, sum_by, operation_of, installs_of}
 use Rattle.fx_ring.proofs.needs.installs_of_chain.Given as goal
 
 abbrev pub invariant-loop-member : goal.invariant-loop-member

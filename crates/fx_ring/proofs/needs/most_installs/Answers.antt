@@ -1,12 +1,6 @@
-use Rattle.std.proofs.Common.{◌≤◌, ℕ, List, slice_index_or, take, ap, subst, arith}
+use Rattle.fx_ring.proofs.Words.{◌≤◌, ℕ, List, slice_index_or, take, ap, subst, arith, take_all, All-more, All-weaker, members_of, Asked, all_asked}
+use Rattle.fx_ring.proofs.Words.{all_installs, Chain, InstallAtMost}
 use Rattle.std.proofs.lemmas.Grind.{common_steps}
-use Rattle.std.proofs.lemmas.List.{take_all}
-use Rattle.std.proofs.lemmas.List.Elements.{All-more, All-weaker}
-use Rattle.fx_chain.specs.Accepted.{members_of}
-use Rattle.fx_chain.specs.Operation.{Asked, all_asked}
-use Rattle.fx_chain.specs.Weights.{all_installs}
-use Rattle.fx_chain.specs.declared.chain.Chain.{Chain}
-use Rattle.fx_ring.specs.Work.{InstallAtMost}
 use Rattle.fx_ring.proofs.Runs.{asked_of_part}
 use Rattle.fx_ring.proofs.needs.most_installs.Goals as goal
 

@@ -1,6 +1,4 @@
-use Rattle.std.proofs.Common.{◌≤◌, take}
-use Rattle.fx_chain.specs.Operation.{all_asked}
-use Rattle.fx_ring.specs.Work.{InstallAtMost}
+use Rattle.fx_ring.proofs.Words.{◌≤◌, take, all_asked, InstallAtMost}
 use Rattle.fx_ring.proofs.needs.most_installs.Given as goal
 
 abbrev pub invariant-loop-chain : goal.invariant-loop-chain

@@ -1,4 +1,4 @@
-use Rattle.std.proofs.Common.{arith}
+use Rattle.fx_ring.proofs.Words.{arith}
 use Rattle.fx_ring.proofs.RoomForAll.{one_more_fits}
 use Rattle.fx_ring.proofs.outcome.weight_of_all.Goals as goal
 

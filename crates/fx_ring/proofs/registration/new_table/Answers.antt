@@ -1,10 +1,4 @@
-use Rattle.std.proofs.Common.{◌≡◌, ◌*◌, ℕ, Option, length, ap, ◌∙◌, arith}
-use Rattle.fx_base.specs.declared.open_file.Closed.{Closed}
-use Rattle.fx_plain.specs.State.{State}
-use Rattle.fx_plain.specs.Contents.{state_of}
-use Rattle.fx_ring.specs.Registration.{files_after, removed_from}
-use Rattle.fx_ring.specs.Tags.{tags_for}
-use Rattle.fx_ring.specs.Slots.{files_at}
+use Rattle.fx_ring.proofs.Words.{◌≡◌, ◌*◌, ℕ, Option, length, ap, ◌∙◌, arith, Closed, State, state_of, files_after, removed_from, tags_for, files_at}
 use Rattle.fx_ring.proofs.Numbers.{good_files}
 use Rattle.fx_ring.proofs.Origins.{none_removed}
 use Rattle.fx_ring.proofs.Rings.{opening_settled, opening_files, opening_fresh, vacant_settled, vacant_empty, vacant_files}

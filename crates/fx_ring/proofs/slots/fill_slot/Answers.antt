@@ -1,6 +1,4 @@
-use Rattle.std.proofs.Common.{refl, ap}
-use Rattle.fx_plain.specs.State.{State}
-use Rattle.fx_plain.specs.Contents.{state_of, leaving}
+use Rattle.fx_ring.proofs.Words.{refl, ap, State, state_of, leaving}
 use Rattle.fx_ring.proofs.Removals.{can_retire, filled, filled_fresh}
 use Rattle.fx_ring.proofs.slots.fill_slot.Goals as goal
 

@@ -1,8 +1,4 @@
-use Rattle.std.proofs.Common.{◌+◌, subst, arith}
-use Rattle.fx_plain.specs.Contents.{Contents}
-use Rattle.fx_chain.specs.Operation.{all_asked}
-use Rattle.fx_ring.specs.Ring.{ring_with}
-use Rattle.fx_ring.specs.Submission.{IsOneHistory, reported}
+use Rattle.fx_ring.proofs.Words.{◌+◌, subst, arith, Contents, all_asked, ring_with, IsOneHistory, reported}
 use Rattle.fx_ring.proofs.submission.play.Goals as goal
 
 pub returns-clause-played : goal.returns-clause-played

@@ -1,22 +1,12 @@
-use Rattle.std.proofs.Common.{◌≡◌, ◌+◌, List, ◌++◌, flat_map, length, reverse, sym, ap, subst, ◌∙◌, arith}
-use Rattle.fx_table.specs.Pass.{PassView, IsIdle}
-use Rattle.fx_table.specs.Opening.{Opening, size_of}
-use Rattle.fx_chain.specs.Operation.{Asked, all_asked}
-use Rattle.fx_chain.specs.Runs.{runs_of}
-use Rattle.fx_chain.specs.Completed.{Completed, all_completed}
-use Rattle.fx_ring.specs.Outcomes.{HasRoomFor}
-use Rattle.fx_ring.proofs.NewCrew.{IsNew, all_gathered, all_scattered, all_new, all_idle, as_many_passes}
-use Rattle.fx_ring.proofs.NewCrew.{new_has_worked, new_has_room, runs_have_all, runs_weigh_all, runs_are_short}
-use Rattle.fx_ring.specs.Ring.{ring_with}
-use Rattle.fx_ring.specs.Submission.{IsOneHistory, Reported}
-use Rattle.fx_ring.specs.declared.worker.Worker.{Worker}
-use Rattle.fx_chain.specs.declared.completion.Completion.{Completion}
-use Rattle.fx_base.specs.CloseListView.{CloseListView}
-use Rattle.fx_base.specs.declared.open_file.Closed.{Closed}
+use Rattle.fx_ring.proofs.Words.{◌≡◌, ◌+◌, List, ◌++◌, flat_map, length, reverse, sym, ap, subst, ◌∙◌, arith, PassView, IsIdle, Opening, size_of}
+use Rattle.fx_ring.proofs.Words.{Asked, all_asked, runs_of, Completed, all_completed, HasRoomFor, ring_with, IsOneHistory, Reported, Worker}
+use Rattle.fx_ring.proofs.Words.{Completion, CloseListView, Closed}
 use Rattle.std.specs.List.Sorted.{IsPermutation}
+use Rattle.fx_ring.proofs.NewCrew.{IsNew, all_gathered, all_scattered, all_new, all_idle, as_many_passes, new_has_worked, new_has_room, runs_have_all}
+use Rattle.fx_ring.proofs.NewCrew.{runs_weigh_all, runs_are_short}
 use Rattle.fx_ring.proofs.WorkersTogether.{completed_by, closed_by_worker, one_of_each, closes_weigh, one_history}
-use Rattle.fx_ring.proofs.PlayedCrew.{states, crew_has_played, completions_of, files_of}
-use Rattle.fx_ring.proofs.PlayedCrew.{completions_joined, files_joined, as_many_completions, as_many_files}
+use Rattle.fx_ring.proofs.PlayedCrew.{states, crew_has_played, completions_of, files_of, completions_joined, files_joined, as_many_completions}
+use Rattle.fx_ring.proofs.PlayedCrew.{as_many_files}
 use Rattle.fx_ring.proofs.submission.play_open.Goals as goal
 
 pub gather-requires-clause-count : goal.gather-requires-clause-count

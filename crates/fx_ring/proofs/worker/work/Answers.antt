@@ -1,8 +1,4 @@
-use Rattle.std.proofs.Common.{sym, ap, ◌∙◌, arith}
-use Rattle.std.proofs.lemmas.List.{length-map}
-use Rattle.fx_table.specs.Pass.{PassView}
-use Rattle.fx_chain.specs.Completed.{completed_of}
-use Rattle.fx_chain.specs.Operation.{asked_of}
+use Rattle.fx_ring.proofs.Words.{sym, ap, ◌∙◌, arith, length-map, PassView, completed_of, asked_of}
 use Rattle.fx_ring.proofs.ChainPlayed.{enough_looks, enough_capacity, enough_room, worked_next, room_next, number_next, worked_all}
 use Rattle.fx_ring.proofs.Runs.{as_many}
 use Rattle.fx_ring.proofs.worker.work.Goals as goal

@@ -1,5 +1,4 @@
-use Rattle.std.proofs.Common.{◌≡◌, ◌-◌, ◌+◌}
-use Rattle.fx_ring.specs.Playing.{IsReady, setting_of, number_of_worker}
+use Rattle.fx_ring.proofs.Words.{◌≡◌, ◌-◌, ◌+◌, IsReady, setting_of, number_of_worker}
 use Rattle.fx_ring.proofs.worker.work.Given as goal
 
 abbrev pub invariant-loop-chain : goal.invariant-loop-chain

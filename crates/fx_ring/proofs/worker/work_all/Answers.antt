@@ -1,4 +1,4 @@
-use Rattle.std.proofs.Common.{rules}
+use Rattle.fx_ring.proofs.Words.{rules}
 use Rattle.fx_ring.proofs.SameAt.{map_same}
 use Rattle.fx_ring.proofs.worker.work_all.Goals as goal
 

@@ -1,6 +1,4 @@
-use Rattle.std.proofs.Common.{◌≡◌, ◌≤◌, length, All, vec_capacity}
-use Rattle.fx_chain.specs.Operation.{all_asked}
-use Rattle.fx_ring.specs.Outcomes.{HasRoomFor}
+use Rattle.fx_ring.proofs.Words.{◌≡◌, ◌≤◌, length, All, vec_capacity, all_asked, HasRoomFor}
 use Rattle.fx_ring.proofs.outcome.Outcome.for_each.Given as goal
 
 abbrev pub invariant-loop : goal.invariant-loop

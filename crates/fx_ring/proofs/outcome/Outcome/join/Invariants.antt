@@ -1,4 +1,4 @@
-use Rattle.std.proofs.Common.{◌≡◌, ◌≤◌, ◌++◌, ◌+◌, length, flat_map, sum_by, reverse, vec_len, vec_capacity}
+use Rattle.fx_ring.proofs.Words.{◌≡◌, ◌≤◌, ◌++◌, ◌+◌, length, flat_map, sum_by, reverse, vec_len, vec_capacity}
 use Rattle.fx_ring.proofs.outcome.Outcome.join.Given as goal
 
 abbrev pub invariant-loop-other : goal.invariant-loop-other

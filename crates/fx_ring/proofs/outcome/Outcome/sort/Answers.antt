@@ -1,6 +1,4 @@
-use Rattle.std.proofs.Common.{◌+◌, ◌*◌, rules}
-use Rattle.std.proofs.lemmas.List.Sorted.{IsPermutation-map, IsNonDecreasingBy-from_sort_by_key}
-use Rattle.fx_chain.specs.Completed.{completed_of}
+use Rattle.fx_ring.proofs.Words.{◌+◌, ◌*◌, rules, IsPermutation-map, IsNonDecreasingBy-from_sort_by_key, completed_of}
 use Rattle.fx_ring.proofs.RoomForAll.{IsNonDecreasingBy-map}
 use Rattle.fx_ring.proofs.outcome.Outcome.sort.Goals as goal
 

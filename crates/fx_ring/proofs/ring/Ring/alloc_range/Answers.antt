@@ -1,6 +1,4 @@
-use Rattle.std.proofs.Common.{ap, sym, subst, ◌∙◌}
-use Rattle.fx_plain.specs.State.{State, IsSettled}
-use Rattle.fx_ring.specs.Ring.{RingContents, IsRing, ring_of, with_table}
+use Rattle.fx_ring.proofs.Words.{ap, sym, subst, ◌∙◌, State, IsSettled, RingContents, IsRing, ring_of, with_table}
 use Rattle.fx_ring.proofs.Rings.{contents_of, ranged_rings}
 use Rattle.fx_ring.proofs.ring.Ring.alloc_range.Goals as goal
 

@@ -1,6 +1,4 @@
-use Rattle.std.proofs.Common.{refl, sym, ap, subst, arith}
-use Rattle.fx_plain.specs.State.{State, IsSettled}
-use Rattle.fx_plain.specs.Table.{identity_of}
+use Rattle.fx_ring.proofs.Words.{refl, sym, ap, subst, arith, State, IsSettled, identity_of}
 use Rattle.fx_ring.proofs.Rings.{none_rings}
 use Rattle.fx_ring.proofs.ring.Ring.new.Goals as goal
 

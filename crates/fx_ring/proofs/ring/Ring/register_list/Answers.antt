@@ -1,11 +1,5 @@
-use Rattle.std.proofs.Common.{◌≡◌, ◌+◌, ◌<◌, ap, sym, subst, ◌∙◌, false, length, rules, arith, None}
-use Rattle.std.specs.List.{list_any}
-use Rattle.fx_plain.specs.State.{IsSettled}
-use Rattle.fx_plain.specs.Contents.{Contents, state_of}
-use Rattle.fx_ring.specs.Ring.{RingContents, RingState, IsRing, ring_of}
-use Rattle.fx_ring.specs.Registration.{registered, is_bad_file, files_after}
-use Rattle.fx_ring.specs.Tags.{tags_for}
-use Rattle.fx_ring.specs.Slots.{files_at}
+use Rattle.fx_ring.proofs.Words.{◌≡◌, ◌+◌, ◌<◌, ap, sym, subst, ◌∙◌, false, length, rules, arith, None, list_any, IsSettled, Contents, state_of}
+use Rattle.fx_ring.proofs.Words.{RingContents, RingState, IsRing, ring_of, registered, is_bad_file, files_after, tags_for, files_at}
 use Rattle.fx_ring.proofs.Origins.{registered_rings}
 use Rattle.fx_ring.proofs.Rings.{contents_of, ring_is}
 use Rattle.fx_ring.proofs.ring.Ring.register_list.Goals as goal

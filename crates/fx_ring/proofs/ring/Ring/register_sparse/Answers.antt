@@ -1,8 +1,4 @@
-use Rattle.std.proofs.Common.{◌≡◌, ap, sym, subst, refl, ◌∙◌}
-use Rattle.fx_plain.specs.State.{State, IsSettled, vacant}
-use Rattle.fx_plain.specs.Contents.{state_of}
-use Rattle.fx_plain.specs.Table.{identity_of}
-use Rattle.fx_ring.specs.Ring.{RingContents, ring_of, with_table}
+use Rattle.fx_ring.proofs.Words.{◌≡◌, ap, sym, subst, refl, ◌∙◌, State, IsSettled, vacant, state_of, identity_of, RingContents, ring_of, with_table}
 use Rattle.fx_ring.specs.Registration.{registered_sparse}
 use Rattle.fx_ring.proofs.Rings.{contents_of, none_rings}
 use Rattle.fx_ring.proofs.ring.Ring.register_sparse.Goals as goal

@@ -1,11 +1,5 @@
-use Rattle.std.proofs.Common.{◌≡◌, ◌+◌, ◌<◌, List, ap, sym, subst, ◌∙◌, rules}
-use Rattle.fx_plain.specs.State.{IsSettled}
-use Rattle.fx_plain.specs.Contents.{Contents, state_of}
-use Rattle.fx_table.specs.Opening.{IsGivenBack}
-use Rattle.fx_chain.specs.Operation.{Asked, all_asked}
-use Rattle.fx_ring.specs.Ring.{RingContents, ring_of, ring_with}
-use Rattle.fx_ring.specs.Submission.{IsOneHistory, reported}
-use Rattle.fx_ring.specs.declared.ring.TheConstants.{MOST_SUBMISSIONS}
+use Rattle.fx_ring.proofs.Words.{◌≡◌, ◌+◌, ◌<◌, List, ap, sym, subst, ◌∙◌, rules, IsSettled, Contents, state_of, IsGivenBack, Asked, all_asked}
+use Rattle.fx_ring.proofs.Words.{RingContents, ring_of, ring_with, IsOneHistory, reported, MOST_SUBMISSIONS}
 use Rattle.fx_ring.proofs.Rings.{contents_of, vacant_settled, given_back_rings, given_back_at_rest}
 use Rattle.fx_ring.proofs.SubmittedRing.{submitted_at_rest, submitted_entries}
 use Rattle.fx_ring.proofs.ring.Ring.submit.Goals as goal

@@ -1,7 +1,5 @@
-use Rattle.std.proofs.Common.{◌≡◌, subst, rules}
-use Rattle.fx_plain.specs.State.{files_of}
-use Rattle.fx_plain.specs.Contents.{state_of}
-use Rattle.fx_ring.specs.Ring.{RingContents, AreEntries, HasClosed, files_of as files_of_ring, ring_of}
+use Rattle.fx_ring.proofs.Words.{◌≡◌, subst, rules, files_of, state_of, RingContents, AreEntries, HasClosed, ring_of}
+use Rattle.fx_ring.specs.Ring.{files_of as files_of_ring}
 use Rattle.fx_ring.proofs.Rings.{contents_of, all_closed, emptied_settled, entries_closed, entries_of}
 use Rattle.fx_ring.proofs.ring.Ring.tear_down.Goals as goal
 

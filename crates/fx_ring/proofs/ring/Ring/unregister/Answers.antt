@@ -1,8 +1,6 @@
-use Rattle.std.proofs.Common.{◌≡◌, ap, subst, ◌∙◌, rules}
-use Rattle.fx_plain.specs.State.{State, files_of}
-use Rattle.fx_plain.specs.Contents.{state_of}
-use Rattle.fx_plain.specs.Table.{identity_of}
-use Rattle.fx_ring.specs.Ring.{RingContents, AreEntries, HasClosed, files_of as files_of_ring, ring_of, with_table, without_table}
+use Rattle.fx_ring.proofs.Words.{◌≡◌, ap, subst, ◌∙◌, rules, State, files_of, state_of, identity_of, RingContents, AreEntries, HasClosed, ring_of}
+use Rattle.fx_ring.proofs.Words.{with_table}
+use Rattle.fx_ring.specs.Ring.{without_table, files_of as files_of_ring}
 use Rattle.fx_ring.proofs.Rings.{contents_of, all_closed, emptied_settled, entries_closed, entries_of, none_rings}
 use Rattle.fx_ring.proofs.ring.Ring.unregister.Goals as goal
 

@@ -1,10 +1,5 @@
-use Rattle.std.proofs.Common.{◌≡◌, ◌+◌, ◌<◌, [], ap, subst, ◌∙◌, false, length, rules, arith}
-use Rattle.std.specs.List.{list_any}
-use Rattle.fx_plain.specs.Contents.{state_of}
-use Rattle.fx_chain.specs.Answers.{is_bad_entry}
-use Rattle.fx_ring.specs.Ring.{RingContents, AreEntries, HasClosed, ring_of}
-use Rattle.fx_ring.specs.Registration.{updated, removed_from}
-use Rattle.fx_ring.specs.Tags.{tags_for}
+use Rattle.fx_ring.proofs.Words.{◌≡◌, ◌+◌, ◌<◌, [], ap, subst, ◌∙◌, false, length, rules, arith, list_any, state_of, is_bad_entry, RingContents}
+use Rattle.fx_ring.proofs.Words.{AreEntries, HasClosed, ring_of, updated, removed_from, tags_for}
 use Rattle.fx_ring.proofs.Rings.{contents_of, opening_settled, opening_fresh}
 use Rattle.fx_ring.proofs.Updates.{room_for, updated_is, still_ring, removed_closed, removed_entries_closed}
 use Rattle.fx_ring.proofs.ring.Ring.update_list.Goals as goal
