@@ -19,7 +19,7 @@ use Rattle.fx_table.proofs.Turns.{next_is_its_own}
 use Rattle.fx_baton.specs.declared.view.Call.TheVariants.{Look as LookCall, Release as ReleaseCall, Put as PutCall, Allocate as AllocateCall}
 use Rattle.fx_baton.specs.declared.view.Call.TheVariants.{Full as FullCall, Clear as ClearCall, Take as TakeCall, Retire as RetireCall}
 use Rattle.fx_baton.proofs.Counts.{one_if}
-use Rattle.fx_baton.proofs.CallsAreTurns.{look_turn, put_turn, clear_turn, take_turn, allocate_turn, full_turn, letting_go_turn, file_released}
+use Rattle.fx_baton.proofs.CallsAreTurns.{look_turn, slot_turn, full_turn, letting_go_turn, file_released}
 use Rattle.fx_baton.proofs.CallsAreTurns.{retire_turn, file_retired, is_held, is_leaving}
 
 module _ {id : TableId} {k : Start} {u : PassView} {p : BatonPass} where
@@ -192,16 +192,17 @@ module _ {id : TableId} {k : Start} {u : PassView} {c : Contents} {p : BatonPass
         → number ≡ next_of u → LetsLeave c d (Put slot (numbered number file) ((state_of c).at slot)) ((state_of c).at slot) found
         → is_some found ≡ not flag → HasCalled id k (PutCall slot number file) flag (lent d)
     put_called some slot number file d found flag next l says = called d (PutCall slot number file) flag l.sound
-        (put_turn view log c d p.chain h.knows is_idle_here slot (numbered number file) ((state_of c).at slot) l.step l.leaving
-        (owned some number next) (behind_own some number next))
+        (slot_turn view log c d p.chain h.knows is_idle_here (Put slot (numbered number file) ((state_of c).at slot)) slot
+        (Some (numbered number file)) ((state_of c).at slot) l.step l.step.1 refl l.leaving tt (λ _. refl)
+        (owned some number next, behind_own some number next, refl))
         (number_is some number next) (let e = same_numbers in omega arith) (omega arith) (removal_idle ((state_of c).at slot) found flag says l.answer)
 
     pub allocate_called : (some : 0 < u.numbers_left) (slot number : ℕ) (file : Closed) (d : Contents) → number ≡ next_of u
         → Steps (state_of c) (Allocate slot (numbered number file)) (state_of d) → leaving d ≡ leaving c
         → IsTable d → HasCalled id k (AllocateCall slot number file) true (lent d)
     allocate_called some slot number file d next step leaves sound = called d (AllocateCall slot number file) true sound
-        (allocate_turn view log c d p.chain h.knows is_idle_here slot (numbered number file) step leaves
-        (owned some number next) (behind_own some number next))
+        (slot_turn view log c d p.chain h.knows is_idle_here (Allocate slot (numbered number file)) slot (Some (numbered number file)) None step step.1
+        (sym step.0.2) leaves tt (λ _. refl) (owned some number next, behind_own some number next, refl))
         (number_is some number next) (let e = same_numbers in omega arith) (omega arith) refl
 
     pub full_called : (d : Contents) → Allows (state_of c) Full → d ≡ c → IsTable d → HasCalled id k FullCall true (lent d)
@@ -212,14 +213,16 @@ module _ {id : TableId} {k : Start} {u : PassView} {c : Contents} {p : BatonPass
         → LetsLeave c d (Clear slot ((state_of c).at slot)) ((state_of c).at slot) found → is_some found ≡ not flag
         → HasCalled id k (ClearCall slot) flag (lent d)
     clear_called slot d found flag l says = called d (ClearCall slot) flag l.sound
-        (clear_turn view log c d p.chain h.knows is_idle_here slot ((state_of c).at slot) l.step l.leaving) tt (omega arith) (omega arith)
+        (slot_turn view log c d p.chain h.knows is_idle_here (Clear slot ((state_of c).at slot)) slot None ((state_of c).at slot) l.step l.step.1 refl
+        l.leaving tt (λ _. refl) refl) tt (omega arith) (omega arith)
         (removal_idle ((state_of c).at slot) found flag says l.answer)
 
     pub take_called : (slot : ℕ) (d : Contents) (found : Option ℕ) (flag : Bool)
         → LetsLeave c d (Take slot ((state_of c).at slot)) ((state_of c).at slot) found → is_some found ≡ not flag
         → HasCalled id k (TakeCall slot) flag (lent d)
     take_called slot d found flag l says = called d (TakeCall slot) flag l.sound
-        (take_turn view log c d p.chain h.knows is_idle_here slot ((state_of c).at slot) l.step l.leaving) tt (omega arith) (omega arith)
+        (slot_turn view log c d p.chain h.knows is_idle_here (Take slot ((state_of c).at slot)) slot None ((state_of c).at slot) l.step l.step.1 refl
+        l.leaving tt (λ _. refl) refl) tt (omega arith) (omega arith)
         (removal_idle ((state_of c).at slot) found flag says l.answer)
 
   -- what a look-up answers: nothing, or a file

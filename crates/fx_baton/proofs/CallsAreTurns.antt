@@ -6,6 +6,8 @@ use Rattle.fx_baton.proofs.Words.{more_leaving, closed_by_release, closed_by_ret
 use Rattle.fx_baton.proofs.Words.{Allocate, Full, Close, pass_of_number, number_behind, HasFile, Idle, Holding, Retiring, legal_then, held_mine}
 use Rattle.fx_baton.proofs.Words.{one_author, Log, View, begin_of, file_held, file_in_hand, holds_by, removals_by, leaving_count, HasFreshNumbers}
 use Rattle.fx_baton.proofs.Words.{log_behind, Knows, IsTurn, by, holds_now, retires_now}
+use Rattle.fx_plain.specs.History.{held_after}
+use Rattle.fx_baton.proofs.Words.{numbers_for, Doing}
 use Rattle.fx_table.proofs.Changes.{changed_here, changed_else}
 use Rattle.fx_table.proofs.FileLemmas.{some_file, none_file, stays_put, apart_from, leaving_file, removed_file, still_there, now_removed, not_closed}
 use Rattle.fx_baton.proofs.Counts.{one_if, one_more_at, one_less_at, flag_set, flag_back, one_true}
@@ -50,60 +52,62 @@ module _ (v : View) (x : Log) (c d : Contents) (chain : ℕ) (known : Knows v x 
       (λ still. true_not_false (sym still ∙ (ap (leaving d) e ∙ retired))) stays))
       (λ other. kept g other i)
 
-  -- numbers that no installation uses stay fresh
-  module _ (fresh : (state_of d).fresh ≡ (state_of c).fresh) where
-    still_fresh : (own : List Event) → number_behind own ≡ number_behind x.own → HasFreshNumbers v.start (state_of d) (record x { own = own })
-    still_fresh own same n low from high its =
-        ap (λ (f : ℕ → Bool). f n) fresh ∙ known.fresh n low (subst (λ (m : ℕ). m ≤ n) same from) high its
+  -- of fresh numbers a turn uses that of the file that it installs, which is the pass's next
+  abbrev pub fresh_after : Option File → ℕ → Bool
+  fresh_after None = (state_of c).fresh
+  fresh_after (Some g) = changed_at (state_of c).fresh g.number false
 
-    others_fresh : (n : ℕ) → pass_of_number v.start.passes n ≢ x.number → (state_of c).fresh n ≡ true → (state_of d).fresh n ≡ true
-    others_fresh n other e = ap (λ (f : ℕ → Bool). f n) fresh ∙ e
+  abbrev pub Installs : Option File → List Event → Type 0
+  Installs None own = number_behind own ≡ number_behind x.own
+  Installs (Some g) own = (pass_of_number v.start.passes g.number ≡ x.number) × (number_behind x.own ≤ g.number) × (number_behind own ≡ g.number + 1)
 
-  -- the pass installs a file under a number of its own
-  module _ (g : File) (fresh : (state_of d).fresh ≡ changed_at (state_of c).fresh g.number false)
-      (mine : pass_of_number v.start.passes g.number ≡ x.number) (next : number_behind x.own ≤ g.number) where
-    fresh_behind : (own : List Event) → number_behind own ≡ g.number + 1 → HasFreshNumbers v.start (state_of d) (record x { own = own })
-    fresh_behind own same n low from high its =
-        let later : g.number + 1 ≤ n = subst (λ (m : ℕ). m ≤ n) same from in
-        ap (λ (f : ℕ → Bool). f n) fresh ∙ (changed_else (state_of c).fresh g.number false n (λ e. omega (arith, e, later))
-        ∙ known.fresh n low (omega (arith, later, next)) high its)
+  still_fresh : (new : Option File) (own : List Event) → Installs new own → (n : ℕ) → 256 ≤ n → number_behind own ≤ n
+      → n < numbers_for v.start.chains → pass_of_number v.start.passes n ≡ x.number → fresh_after new n ≡ true
+  still_fresh None own same n low from high its = known.fresh n low (omega (arith, same, from)) high its
+  still_fresh (Some g) own i n low from high its = let later : g.number + 1 ≤ n = omega (arith, i.2, from) in
+      changed_else (state_of c).fresh g.number false n (λ e. omega (arith, e, later)) ∙ known.fresh n low (omega (arith, later, i.1)) high its
 
-    others_fresh_still : (n : ℕ) → pass_of_number v.start.passes n ≢ x.number → (state_of c).fresh n ≡ true → (state_of d).fresh n ≡ true
-    others_fresh_still n other e = ap (λ (f : ℕ → Bool). f n) fresh
-        ∙ (changed_else (state_of c).fresh g.number false n (λ same. other (ap (pass_of_number v.start.passes) same ∙ mine)) ∙ e)
+  others_fresh : (new : Option File) (own : List Event) → Installs new own → (n : ℕ) → pass_of_number v.start.passes n ≢ x.number
+      → (state_of c).fresh n ≡ true → fresh_after new n ≡ true
+  others_fresh None own same n other e = e
+  others_fresh (Some g) own i n other e =
+      changed_else (state_of c).fresh g.number false n (λ same. other (ap (pass_of_number v.start.passes) same ∙ i.0)) ∙ e
 
-  -- a turn behind which the pass does nothing, and that installed nothing
-  ends : (xs : List Action) (y : State) → state_of d ≡ y → y.fresh ≡ (state_of c).fresh → number_behind (x.own ▷▷ done xs) ≡ number_behind x.own
-      → IsLegal (begin_of v.start) (x.front ▷▷ done xs) (state_of d)
-      → ((n : ℕ) → y.holds n + holds_by n v.doing ≡ (state_of c).holds n)
-      → ((n : ℕ) → leaving_count d n + removals_by n v.doing ≡ leaving_count c n)
+  -- what a turn has to show, where the state behind it is y
+  turn : (xs : List Action) (doing : Doing) (new : Option File) (y : State) → state_of d ≡ y → y.fresh ≡ fresh_after new
+      → Installs new (x.own ▷▷ done xs) → IsLegal (begin_of v.start) (x.front ▷▷ done xs) (state_of d)
+      → ((n : ℕ) → y.holds n + holds_by n v.doing ≡ (state_of c).holds n + holds_by n doing)
+      → ((n : ℕ) → leaving_count d n + removals_by n v.doing ≡ leaving_count c n + removals_by n doing)
       → ((g : File) → HasFile (state_of c) g → (0 < (state_of d).holds g.number) ⊎ (leaving d g.number ≡ true) → HasFile y g)
-      → held_by (x.front ▷▷ done xs) x.number ≡ None → IsTurn v x c d (done xs) Idle
-  ends xs y is same unused legal held leaves files now =
-      let fresh = ap (λ (z : State). z.fresh) is ∙ same in
+      → held_by (x.front ▷▷ done xs) x.number ≡ file_held doing → ((g : File) → file_in_hand doing ≡ Some g → HasFile y g)
+      → IsTurn v x c d (done xs) doing
+  turn xs doing new y is same installs legal held leaves files now file =
+      let fresh : (n : ℕ) → (state_of d).fresh n ≡ fresh_after new n = λ n. ap (λ (z : State). z.fresh n) is ∙ ap (λ (f : ℕ → Bool). f n) same in
       record {
         authors = one_author x.number chain xs;
         legal = legal;
         held = λ n. let a = ap (λ (z : State). z.holds n) is in let b = held n in omega arith;
-        leaves = λ n. let a = leaves n in omega arith;
+        leaves = leaves;
         files = λ g i stays. subst (λ (z : State). HasFile z g) (sym is) (files g i stays);
         now = now;
-        file = λ g e. absurd (none_file g e);
-        fresh = still_fresh fresh (x.own ▷▷ done xs) unused;
-        others = others_fresh fresh;
+        file = λ g e. subst (λ (z : State). HasFile z g) (sym is) (file g e);
+        fresh = λ n low from high its. fresh n ∙ still_fresh new (x.own ▷▷ done xs) installs n low from high its;
+        others = λ n other e. fresh n ∙ others_fresh new (x.own ▷▷ done xs) installs n other e;
       }
 
   module _ (idle : v.doing ≡ Idle) where
     held_none : held_by x.front x.number ≡ None
     held_none = known.held ∙ ap file_held idle
 
+    none_leaves_now : leaving d ≡ leaving c → (n : ℕ) → leaving_count d n + removals_by n v.doing ≡ leaving_count c n + 0
+    none_leaves_now leaves n = let e = leaves_same n leaves in let b = ap (removals_by n) idle in omega arith
+
     -- an action that changes nothing
     still_turn : (a : Action) → Steps (state_of c) a (state_of d) → state_of d ≡ state_of c → leaving d ≡ leaving c
         → ReleasesItsOwn (held_by x.front x.number) a → held_by (x.front ▷▷ done (a ∷ [])) x.number ≡ None
         → number_behind (x.own ▷▷ done (a ∷ [])) ≡ number_behind x.own → IsTurn v x c d (done (a ∷ [])) Idle
-    still_turn a step same leaves own now unused = ends (a ∷ []) (state_of c) same refl unused (legal_one a step own)
-        (λ n. let b = ap (holds_by n) idle in omega arith) (λ n. let e = leaves_same n leaves in let b = ap (removals_by n) idle in omega arith)
-        (λ f i _. i) now
+    still_turn a step same leaves own now unused = turn (a ∷ []) Idle None (state_of c) same refl unused (legal_one a step own)
+        (λ n. let b = ap (holds_by n) idle in omega arith) (none_leaves_now leaves) (λ f i _. i) now (λ g e. absurd (none_file g e))
 
     -- no slot of the range was free
     pub full_turn : Steps (state_of c) Full (state_of d) → leaving d ≡ leaving c → IsTurn v x c d (done ([] ▷ Full)) Idle
@@ -113,85 +117,34 @@ module _ (v : View) (x : Log) (c d : Contents) (chain : ℕ) (known : Knows v x 
     pub look_turn : (slot : ℕ) (found : Option File) → Steps (state_of c) (Look slot found) (state_of d) → leaving d ≡ leaving c
         → IsTurn v x c d (done ([] ▷ Look slot found)) (holds_now found)
     look_turn slot None step leaves = still_turn (Look slot None) step step.1 leaves tt (held_mine x.number chain (Look slot None) x.front) refl
-    look_turn slot (Some g) step leaves = record {
-      authors = one_author x.number chain ([] ▷ Look slot (Some g));
-      legal = legal_one (Look slot (Some g)) step tt;
-      held = λ n. let a = ap (λ (s : State). s.holds n) step.1 in let b = ap (holds_by n) idle in
-          let e = one_more_at (state_of c).holds g.number n in omega arith;
-      leaves = λ n. let e = leaves_same n leaves in let b = ap (removals_by n) idle in omega arith;
-      files = λ f i _. subst (λ (s : State). HasFile s f) (sym step.1) i;
-      now = held_mine x.number chain (Look slot (Some g)) x.front;
-      file = λ f e. subst (HasFile (state_of d)) (some_file g f e) (inl (slot, ap (λ (s : State). s.at slot) step.1 ∙ sym step.0.1));
-      fresh = still_fresh (ap (λ (s : State). s.fresh) step.1) (x.own ▷▷ done ([] ▷ Look slot (Some g))) refl;
-      others = others_fresh (ap (λ (s : State). s.fresh) step.1);
-    }
+    look_turn slot (Some g) step leaves = turn ([] ▷ Look slot (Some g)) (Holding g) None _ step.1 refl refl (legal_one (Look slot (Some g)) step tt)
+        (λ n. let b = ap (holds_by n) idle in let e = one_more_at (state_of c).holds g.number n in omega arith) (none_leaves_now leaves)
+        (λ f i _. i) (held_mine x.number chain (Look slot (Some g)) x.front) (λ f e. inl (slot, sym step.0.1 ∙ e))
 
     -- what stood at the slot, if anything did, is leaving now
     leaves_more : (slot : ℕ) (o : Option File) → o ≡ (state_of c).at slot → leaving d ≡ more_leaving (leaving c) o
         → (n : ℕ) → leaving_count d n + removals_by n v.doing ≡ leaving_count c n + removals_by n (retires_now o)
-    leaves_more slot None is leaves n = let e = leaves_same n leaves in let b = ap (removals_by n) idle in omega arith
+    leaves_more slot None is leaves n = none_leaves_now leaves n
     leaves_more slot (Some f) is leaves n =
         let a : leaving_count d n ≡ cond {A = ℕ} (changed_at (leaving c) f.number true n) 1 0 =
         ap (λ (z : ℕ → Bool). cond {A = ℕ} (z n) 1 0) leaves in
         let b = ap (removals_by n) idle in
         let e = flag_set (leaving c) f.number n (stays_put c known.sound slot f (sym is)) in omega arith
 
-    -- A slot gets another file, or none, and what stood there is removed
-    module _ (a : Action) (slot : ℕ) (new found : Option File) (step : Steps (state_of c) a (state_of d)) (is : found ≡ (state_of c).at slot)
-        (at : (state_of d).at ≡ changed_at (state_of c).at slot new) (removed : (state_of d).removed ≡ with_removed (state_of c).removed found)
-        (holds : (state_of d).holds ≡ (state_of c).holds) (leaves : leaving d ≡ more_leaving (leaving c) found)
-        (own : ReleasesItsOwn (held_by x.front x.number) a) (still : held_by (x.front ▷▷ done (a ∷ [])) x.number ≡ held_by x.front x.number)
-        (fresh : HasFreshNumbers v.start (state_of d) (log_behind (done (a ∷ [])) x))
-        (others : (n : ℕ) → pass_of_number v.start.passes n ≢ x.number → (state_of c).fresh n ≡ true → (state_of d).fresh n ≡ true) where
-      slot_turn : IsTurn v x c d (done (a ∷ [])) (retires_now found)
-      slot_turn = record {
-        authors = one_author x.number chain (a ∷ []);
-        legal = legal_one a step own;
-        held = λ n. let e = ap (λ (z : ℕ → ℕ). z n) holds in let b = ap (holds_by n) idle in let r = retires_none n found in omega arith;
-        leaves = leaves_more slot found is leaves;
-        files = λ f i _. subst (λ (z : (ℕ → Option File) × (ℕ → Option File)). ((k : ℕ) × (z.0 k ≡ Some f)) ⊎ (z.1 f.number ≡ Some f))
-            (λ i. (sym at i, sym removed i)) (still_there (state_of c) slot new found is (apart_from c known.sound slot found is) f i);
-        now = still ∙ (held_none ∙ sym (retires_held found));
-        file = λ f e. inr (ap (λ (z : ℕ → Option File). z f.number) removed
-            ∙ now_removed (state_of c) slot new found is (apart_from c known.sound slot found is) f (retires_file found f e));
-        fresh = fresh;
-        others = others;
-      }
-
-    pub put_turn : (slot : ℕ) (g : File) (found : Option File) → Steps (state_of c) (Put slot g found) (state_of d)
-        → leaving d ≡ more_leaving (leaving c) found
-        → pass_of_number v.start.passes g.number ≡ x.number → number_behind x.own ≤ g.number → IsTurn v x c d (done ([] ▷ Put slot g found))
-        (retires_now found)
-    put_turn slot g found step leaves mine next =
-        let fresh = ap (λ (s : State). s.fresh) step.1 in
-        slot_turn (Put slot g found) slot (Some g) found step step.0.2 (ap (λ (s : State). s.at) step.1) (ap (λ (s : State). s.removed) step.1)
-        (ap (λ (s : State). s.holds) step.1) leaves tt (held_mine x.number chain (Put slot g found) x.front)
-        (fresh_behind g fresh mine next (x.own ▷▷ done ([] ▷ Put slot g found)) refl) (others_fresh_still g fresh mine next)
-
-    pub allocate_turn : (slot : ℕ) (g : File) → Steps (state_of c) (Allocate slot g) (state_of d) → leaving d ≡ leaving c
-        → pass_of_number v.start.passes g.number ≡ x.number → number_behind x.own ≤ g.number → IsTurn v x c d (done ([] ▷ Allocate slot g)) Idle
-    allocate_turn slot g step leaves mine next =
-        let fresh = ap (λ (s : State). s.fresh) step.1 in
-        slot_turn (Allocate slot g) slot (Some g) None step (sym step.0.2) (ap (λ (s : State). s.at) step.1) (ap (λ (s : State). s.removed) step.1)
-        (ap (λ (s : State). s.holds) step.1) leaves tt (held_mine x.number chain (Allocate slot g) x.front)
-        (fresh_behind g fresh mine next (x.own ▷▷ done ([] ▷ Allocate slot g)) refl) (others_fresh_still g fresh mine next)
-
-    pub clear_turn : (slot : ℕ) (found : Option File) → Steps (state_of c) (Clear slot found) (state_of d)
-        → leaving d ≡ more_leaving (leaving c) found
-        → IsTurn v x c d (done ([] ▷ Clear slot found)) (retires_now found)
-    clear_turn slot found step leaves =
-        let fresh = ap (λ (s : State). s.fresh) step.1 in
-        slot_turn (Clear slot found) slot None found step step.0.1 (ap (λ (s : State). s.at) step.1) (ap (λ (s : State). s.removed) step.1)
-        (ap (λ (s : State). s.holds) step.1) leaves tt (held_mine x.number chain (Clear slot found) x.front)
-        (still_fresh fresh (x.own ▷▷ done ([] ▷ Clear slot found)) refl) (others_fresh fresh)
-
-    pub take_turn : (slot : ℕ) (found : Option File) → Steps (state_of c) (Take slot found) (state_of d) → leaving d ≡ more_leaving (leaving c) found
-        → IsTurn v x c d (done ([] ▷ Take slot found)) (retires_now found)
-    take_turn slot found step leaves =
-        let fresh = ap (λ (s : State). s.fresh) step.1 in
-        slot_turn (Take slot found) slot None found step step.0.1 (ap (λ (s : State). s.at) step.1) (ap (λ (s : State). s.removed) step.1)
-        (ap (λ (s : State). s.holds) step.1) leaves tt (held_mine x.number chain (Take slot found) x.front)
-        (still_fresh fresh (x.own ▷▷ done ([] ▷ Take slot found)) refl) (others_fresh fresh)
+    -- a slot gets another file, or none, and what stood there is removed
+    pub slot_turn : (a : Action) (slot : ℕ) (new found : Option File) → Steps (state_of c) a (state_of d) → state_of d ≡ record (state_of c) {
+      at = changed_at (state_of c).at slot new;
+      fresh = fresh_after new;
+      removed = with_removed (state_of c).removed found;
+    } → found ≡ (state_of c).at slot → leaving d ≡ more_leaving (leaving c) found → ReleasesItsOwn (held_by x.front x.number) a
+        → ((h : Option File) → held_after h a ≡ h) → Installs new (x.own ▷▷ done (a ∷ [])) → IsTurn v x c d (done (a ∷ [])) (retires_now found)
+    slot_turn a slot new found step now is leaves own still installs =
+        let apart = apart_from c known.sound slot found is in
+        turn (a ∷ []) (retires_now found) new _ now refl installs (legal_one a step own)
+        (λ n. let b = ap (holds_by n) idle in let r = retires_none n found in omega arith) (leaves_more slot found is leaves)
+        (λ f i _. still_there (state_of c) slot new found is apart f i)
+        (held_mine x.number chain a x.front ∙ (still (held_by x.front x.number) ∙ (held_none ∙ sym (retires_held found))))
+        (λ f e. inr (now_removed (state_of c) slot new found is apart f (retires_file found f e)))
 
   -- what the pass holds is given up
   module _ (f : File) (holds : v.doing ≡ Holding f) where
@@ -202,25 +155,26 @@ module _ (v : View) (x : Log) (c d : Contents) (chain : ℕ) (known : Knows v x 
     held_one = known.held ∙ ap file_held holds
 
     one_less : (n : ℕ) → 0 < (state_of c).holds f.number
-        → changed_at (state_of c).holds f.number ((state_of c).holds f.number - 1) n + holds_by n v.doing ≡ (state_of c).holds n
+        → changed_at (state_of c).holds f.number ((state_of c).holds f.number - 1) n + holds_by n v.doing ≡ (state_of c).holds n + 0
     one_less n positive = let b : holds_by n v.doing ≡ cond {A = ℕ} (eqb f.number n) 1 0 = ap (holds_by n) holds in
         let e = one_less_at (state_of c).holds f.number n positive in omega arith
 
-    none_leaves : leaving d ≡ leaving c → (n : ℕ) → leaving_count d n + removals_by n v.doing ≡ leaving_count c n
+    none_leaves : leaving d ≡ leaving c → (n : ℕ) → leaving_count d n + removals_by n v.doing ≡ leaving_count c n + 0
     none_leaves leaves n = let a = leaves_same n leaves in let b = ap (removals_by n) holds in omega arith
 
     release_turn : Leads (state_of c) ([] ▷ Release f) (state_of d) → leaving d ≡ leaving c → IsTurn v x c d (done ([] ▷ Release f)) Idle
-    release_turn leads leaves = ends ([] ▷ Release f) _ leads.1 refl refl (legal_one (Release f) (leads.0.1, leads.1) held_one)
-        (λ n. one_less n leads.0.1) (none_leaves leaves) (λ g i _. i) (held_mine x.number chain (Release f) x.front)
+    release_turn leads leaves = turn ([] ▷ Release f) Idle None _ leads.1 refl refl (legal_one (Release f) (leads.0.1, leads.1) held_one)
+        (λ n. one_less n leads.0.1) (none_leaves leaves) (λ g i _. i) (held_mine x.number chain (Release f) x.front) (λ g e. absurd (none_file g e))
 
     close_turn : Leads (state_of c) ([] ▷ Release f ▷ Close f) (state_of d) → leaving d ≡ leaving c → leaving c f.number ≡ false
         → IsTurn v x c d (done ([] ▷ Release f ▷ Close f)) Idle
-    close_turn leads leaves retired = ends ([] ▷ Release f ▷ Close f) _ leads.1 refl refl
+    close_turn leads leaves retired = turn ([] ▷ Release f ▷ Close f) Idle None _ leads.1 refl refl
         (legal_then (begin_of v.start) (state_of c) (state_of d) (done ([] ▷ Release f ▷ Close f)) x.front known.legal leads
         ((known.legal.releases, held_one), tt))
         (λ n. one_less n leads.0.0.1) (none_leaves leaves)
         (files_but f _ leads.1 leads.0.1.1 (ap (λ (z : ℕ → Bool). z f.number) leaves ∙ retired) (λ g other i. not_closed (state_of c) f g other i))
         (held_mine x.number chain (Close f) (x.front ▷▷ done ([] ▷ Release f)) ∙ held_mine x.number chain (Release f) x.front)
+        (λ g e. absurd (none_file g e))
 
     -- a file that comes out at a release is the one that was held, and was retired
     pub file_released : (g : File) → closed_by_release c f.number ≡ Some g → (f ≡ g) × (leaving c f.number ≡ false)
@@ -260,26 +214,26 @@ module _ (v : View) (x : Log) (c d : Contents) (chain : ℕ) (known : Knows v x 
     held_nothing : held_by x.front x.number ≡ None
     held_nothing = known.held ∙ ap file_held removes
 
-    leaves_less : leaving d ≡ changed_at (leaving c) f.number false → (n : ℕ) → leaving_count d n + removals_by n v.doing ≡ leaving_count c n
+    leaves_less : leaving d ≡ changed_at (leaving c) f.number false → (n : ℕ) → leaving_count d n + removals_by n v.doing ≡ leaving_count c n + 0
     leaves_less leaves n =
         let a : leaving_count d n ≡ cond {A = ℕ} (changed_at (leaving c) f.number false n) 1 0 =
         ap (λ (z : ℕ → Bool). cond {A = ℕ} (z n) 1 0) leaves in
         let b : removals_by n v.doing ≡ cond {A = ℕ} (eqb f.number n) 1 0 = ap (removals_by n) removes in
         let e = flag_back (leaving c) f.number n is_leaving in omega arith
 
-    same_holds : (n : ℕ) → (state_of c).holds n + holds_by n v.doing ≡ (state_of c).holds n
+    same_holds : (n : ℕ) → (state_of c).holds n + holds_by n v.doing ≡ (state_of c).holds n + 0
     same_holds n = let b = ap (holds_by n) removes in omega arith
 
     wait_turn : Leads (state_of c) [] (state_of d) → leaving d ≡ changed_at (leaving c) f.number false → IsTurn v x c d (done []) Idle
-    wait_turn leads leaves = ends [] _ leads.1 refl refl (subst (IsLegal (begin_of v.start) x.front) (sym leads.1) known.legal)
-        same_holds (leaves_less leaves) (λ g i _. i) held_nothing
+    wait_turn leads leaves = turn [] Idle None _ leads.1 refl refl (subst (IsLegal (begin_of v.start) x.front) (sym leads.1) known.legal)
+        same_holds (leaves_less leaves) (λ g i _. i) held_nothing (λ g e. absurd (none_file g e))
 
     out_turn : Leads (state_of c) ([] ▷ Close f) (state_of d) → leaving d ≡ changed_at (leaving c) f.number false
         → IsTurn v x c d (done ([] ▷ Close f)) Idle
-    out_turn leads leaves = ends ([] ▷ Close f) _ leads.1 refl refl (legal_one (Close f) (leads.0.1, leads.1) tt) same_holds (leaves_less leaves)
+    out_turn leads leaves = turn ([] ▷ Close f) Idle None _ leads.1 refl refl (legal_one (Close f) (leads.0.1, leads.1) tt) same_holds (leaves_less leaves)
         (files_but f _ leads.1 leads.0.1.1 (ap (λ (z : ℕ → Bool). z f.number) leaves ∙ changed_here (leaving c) f.number false f.number refl)
         (λ g other i. not_closed (state_of c) f g other i))
-        (held_mine x.number chain (Close f) x.front ∙ held_nothing)
+        (held_mine x.number chain (Close f) x.front ∙ held_nothing) (λ g e. absurd (none_file g e))
 
     -- a file that comes out at a retirement is the one that was removed; one that doesn't is held
     pub file_retired : (g : File) → closed_by_retirement c f.number ≡ Some g → f ≡ g
