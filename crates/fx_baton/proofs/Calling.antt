@@ -1,26 +1,23 @@
 -- What a pass needs for each call of the table that it has, and what it has to show behind it.
 use Rattle.fx_baton.proofs.Words.{◌≡◌, ℕ, ◌+◌, ◌*◌, ◌<◌, ◌≤◌, ◌^◌, Bool, true, false, [], ◌∷◌, map, sym, refl, ap, ◌∙◌, subst, arith, is_none, Option}
 use Rattle.fx_baton.proofs.Words.{Some, None, option_map, IfSome, is_some, not, TableId, rest, Closed, State, Steps, changed_at, Contents, IsTable}
-use Rattle.fx_baton.proofs.Words.{state_of, leaving, Leads, action_of, close_of, ◌▷◌, ◌▷▷◌, numbered, identity_of, number_of, closed_by_release}
+use Rattle.fx_baton.proofs.Words.{state_of, leaving, Leads, action_of, close_of, ◌▷◌, ◌▷▷◌, numbered, identity_of, closed_by_release}
 use Rattle.fx_baton.proofs.Words.{closed_by_retirement, HasRoomForHold, EndsHold, LetsLeave, File, Look, Release, Put, Clear, Take, Allocate, Full}
-use Rattle.fx_baton.proofs.Words.{Close, pass_of_number, number_behind, Opening, size_of, PassView, hold_of, retired_of, next_of, Adds, no_use}
-use Rattle.fx_baton.proofs.Words.{one_number, new_file, ReleasesFile, RetiresFile, Placed, Cleared, Doing, Idle, Holding, Retiring, Log, View, Start}
-use Rattle.fx_baton.proofs.Words.{Call, BatonPass, opening_of, begin_of, holds_by, IsTurn, holds_now, retires_now, release_in, retirement_in}
-use Rattle.fx_baton.proofs.Words.{actions_of, doing_of, events_of, use_of, table_of_slots, view_of, is_idle, HasTable, UsesNext, HasCalled}
-use Rattle.fx_baton.proofs.Words.{HasGivenBack, first_own, one_look}
+use Rattle.fx_baton.proofs.Words.{Close, pass_of_number, number_behind, Opening, size_of, PassView, hold_of, retired_of, next_of, Doing, Idle}
+use Rattle.fx_baton.proofs.Words.{Holding, Retiring, Log, View, Start, Call, BatonPass, opening_of, begin_of, holds_by, IsTurn, view_of, is_idle}
+use Rattle.fx_baton.proofs.Words.{HasTable, UsesNext, HasCalled, HasGivenBack, first_own, IsHoldOf, IsRetiredOf, next_is_its_own}
+use Rattle.fx_table.specs.Calls.{Adds, no_use, one_number, new_file, ReleasesFile, RetiresFile, Placed, Cleared, one_look, HasRetired, Released}
+use Rattle.fx_baton.specs.Turns.{holds_now, retires_now, release_in, retirement_in, actions_of, doing_of, events_of, use_of, table_of_slots}
 use Rattle.atomic_table.specs.Lent.{seat_with}
 use Rattle.fx_plain.specs.Step.{Allows}
 use Rattle.fx_plain.proofs.Leading.{same_size}
-use Rattle.fx_table.specs.Calls.{HasRetired, Released}
-use Rattle.fx_table.specs.Pass.{IsHoldOf, IsRetiredOf}
 use Rattle.fx_table.specs.declared.values.Hold.{Hold}
 use Rattle.fx_table.specs.declared.values.Retired.{Retired}
-use Rattle.fx_table.proofs.Turns.{next_is_its_own}
 use Rattle.fx_baton.specs.declared.view.Call.TheVariants.{Look as LookCall, Release as ReleaseCall, Put as PutCall, Allocate as AllocateCall}
 use Rattle.fx_baton.specs.declared.view.Call.TheVariants.{Full as FullCall, Clear as ClearCall, Take as TakeCall, Retire as RetireCall}
 use Rattle.fx_baton.proofs.Counts.{one_if}
-use Rattle.fx_baton.proofs.CallsAreTurns.{look_turn, slot_turn, full_turn, letting_go_turn, file_released}
-use Rattle.fx_baton.proofs.CallsAreTurns.{retire_turn, file_retired, is_held, is_leaving}
+use Rattle.fx_baton.proofs.CallsAreTurns.{look_turn, slot_turn, full_turn, letting_go_turn, file_released, retire_turn, file_retired, is_held}
+use Rattle.fx_baton.proofs.CallsAreTurns.{is_leaving}
 
 module _ {id : TableId} {k : Start} {u : PassView} {p : BatonPass} where
   -- the table may be lent
@@ -50,13 +47,11 @@ flag_is (Some x) false e = refl
 abbrev pub shown : File → ℕ × ℕ
 shown f = (f.number, f.identity.entry)
 
-look_idle : (o : Option File) (found : Option (ℕ × ℕ)) → found ≡ option_map shown o → is_none found ≡ is_idle (holds_now o)
-look_idle None found e = ap is_none e
-look_idle (Some f) found e = ap is_none e
-
-removal_idle : (o : Option File) (found : Option ℕ) (flag : Bool) → is_some found ≡ not flag → found ≡ number_of o → flag ≡ is_idle (retires_now o)
-removal_idle None found flag says e = flag_is found flag says ∙ ap is_none e
-removal_idle (Some f) found flag says e = flag_is found flag says ∙ ap is_none e
+-- what a pass does that found a file, and one that removed it
+idle_told : {X : Type 0} (tell : File → X) (o : Option File) (found : Option X) (flag : Bool) → is_some found ≡ not flag → found ≡ option_map tell o
+    → (flag ≡ is_idle (holds_now o)) × (flag ≡ is_idle (retires_now o))
+idle_told tell None found flag says e = (flag_is found flag says ∙ ap is_none e, flag_is found flag says ∙ ap is_none e)
+idle_told tell (Some f) found flag says e = (flag_is found flag says ∙ ap is_none e, flag_is found flag says ∙ ap is_none e)
 
 -- what an answer tells: nothing, or a file
 none_found : {X : Type 0} (tell : File → X) (P : Option File → Type 0) (o : Option File) → None ≡ option_map tell o → P o → P None
@@ -114,14 +109,8 @@ module _ {id : TableId} {k : Start} {u : PassView} {c : Contents} {p : BatonPass
   same_doing : view.doing ≡ u.doing
   same_doing = ap (λ (z : PassView). z.doing) h.more.same
 
-  same_next : next_of (view_of p) ≡ next_of u
-  same_next = ap next_of h.more.same
-
   same_numbers : p.numbers_left ≡ u.numbers_left
   same_numbers = ap (λ (z : PassView). z.numbers_left) h.more.same
-
-  same_looks : p.looks_left ≡ u.looks_left
-  same_looks = ap (λ (z : PassView). z.looks_left) h.more.same
 
   same_start : view.start ≡ k
   same_start = h.seated.start
@@ -129,7 +118,7 @@ module _ {id : TableId} {k : Start} {u : PassView} {c : Contents} {p : BatonPass
   -- the next number of a pass that has one
   module _ (some_left : 0 < u.numbers_left) (number : ℕ) (is_next : number ≡ next_of u) where
     number_is : number ≡ next_of (view_of p)
-    number_is = is_next ∙ sym same_next
+    number_is = is_next ∙ sym (ap next_of h.more.same)
 
     its_own : (pass_of_number k.passes number ≡ log.number) × (256 ≤ number) × (number < 256 + 64 * k.chains)
     its_own =
@@ -173,7 +162,7 @@ module _ {id : TableId} {k : Start} {u : PassView} {c : Contents} {p : BatonPass
   }
 
   -- what the call adds
-  added : {call : Call} (d : Contents) {q : BatonPass} → HasGivenBack id k call (lent d) q
+  pub added : {call : Call} (d : Contents) {q : BatonPass} → HasGivenBack id k call (lent d) q
       → Adds o u (actions_of c view.doing call) (doing_of c call) (use_of call) (view_of q)
   added d gives = gives.adds u c d (still_has h d)
 
@@ -186,7 +175,7 @@ module _ {id : TableId} {k : Start} {u : PassView} {c : Contents} {p : BatonPass
         → found ≡ option_map shown ((state_of c).at slot) → is_some found ≡ not flag → IsTable d → HasCalled id k (LookCall slot) flag (lent d)
     look_called slot d found flag some step leaves answer says sound = called d (LookCall slot) flag sound
         (look_turn view log c d p.chain h.knows is_idle_here slot ((state_of c).at slot) step leaves) tt (omega arith)
-        (let e = same_looks in omega arith) (flag_is found flag says ∙ look_idle ((state_of c).at slot) found answer)
+        (let e = ap (λ (z : PassView). z.looks_left) h.more.same in omega arith) (idle_told shown ((state_of c).at slot) found flag says answer).0
 
     pub put_called : (some : 0 < u.numbers_left) (slot number : ℕ) (file : Closed) (d : Contents) (found : Option ℕ) (flag : Bool)
         → number ≡ next_of u → LetsLeave c d (Put slot (numbered number file) ((state_of c).at slot)) ((state_of c).at slot) found
@@ -195,7 +184,7 @@ module _ {id : TableId} {k : Start} {u : PassView} {c : Contents} {p : BatonPass
         (slot_turn view log c d p.chain h.knows is_idle_here (Put slot (numbered number file) ((state_of c).at slot)) slot
         (Some (numbered number file)) ((state_of c).at slot) l.step l.step.1 refl l.leaving tt (λ _. refl)
         (owned some number next, behind_own some number next, refl))
-        (number_is some number next) (let e = same_numbers in omega arith) (omega arith) (removal_idle ((state_of c).at slot) found flag says l.answer)
+        (number_is some number next) (let e = same_numbers in omega arith) (omega arith) (idle_told (λ x. x.number) ((state_of c).at slot) found flag says l.answer).1
 
     pub allocate_called : (some : 0 < u.numbers_left) (slot number : ℕ) (file : Closed) (d : Contents) → number ≡ next_of u
         → Steps (state_of c) (Allocate slot (numbered number file)) (state_of d) → leaving d ≡ leaving c
@@ -215,7 +204,7 @@ module _ {id : TableId} {k : Start} {u : PassView} {c : Contents} {p : BatonPass
     clear_called slot d found flag l says = called d (ClearCall slot) flag l.sound
         (slot_turn view log c d p.chain h.knows is_idle_here (Clear slot ((state_of c).at slot)) slot None ((state_of c).at slot) l.step l.step.1 refl
         l.leaving tt (λ _. refl) refl) tt (omega arith) (omega arith)
-        (removal_idle ((state_of c).at slot) found flag says l.answer)
+        (idle_told (λ x. x.number) ((state_of c).at slot) found flag says l.answer).1
 
     pub take_called : (slot : ℕ) (d : Contents) (found : Option ℕ) (flag : Bool)
         → LetsLeave c d (Take slot ((state_of c).at slot)) ((state_of c).at slot) found → is_some found ≡ not flag
@@ -223,7 +212,7 @@ module _ {id : TableId} {k : Start} {u : PassView} {c : Contents} {p : BatonPass
     take_called slot d found flag l says = called d (TakeCall slot) flag l.sound
         (slot_turn view log c d p.chain h.knows is_idle_here (Take slot ((state_of c).at slot)) slot None ((state_of c).at slot) l.step l.step.1 refl
         l.leaving tt (λ _. refl) refl) tt (omega arith) (omega arith)
-        (removal_idle ((state_of c).at slot) found flag says l.answer)
+        (idle_told (λ x. x.number) ((state_of c).at slot) found flag says l.answer).1
 
   -- what a look-up answers: nothing, or a file
   pub empty_looked : (slot : ℕ) (d : Contents) {q : BatonPass} → HasGivenBack id k (LookCall slot) (lent d) q
@@ -280,9 +269,6 @@ module _ {id : TableId} {k : Start} {u : PassView} {c : Contents} {p : BatonPass
     let e = size_is in omega arith,
     subst (λ (z : ℕ × Closed). Adds o u ([] ▷ Allocate slot (numbered z.0 z.1)) Idle one_number (view_of q)) (λ i. (next i, is i)) (added d gives),
   )
-
-  pub full_so : (d : Contents) {q : BatonPass} → HasGivenBack id k FullCall (lent d) q → Adds o u ([] ▷ Full) Idle no_use (view_of q)
-  full_so d gives = added d gives
 
   module _ (hold : Hold) (held : IsHoldOf u hold) where
     abbrev f : File

@@ -2,30 +2,18 @@
 use Rattle.fx_baton.proofs.Words.{◌≡◌, ◌≢◌, ℕ, ◌+◌, ◌-◌, ◌<◌, ◌≤◌, Bool, true, false, cond, List, [], ◌∷◌, map, sym, refl, ap, ◌∙◌, subst, arith, eqb}
 use Rattle.fx_baton.proofs.Words.{eq-eqb, ◌⊎◌, inl, inr, ⊎_elim, dite, ℕ_discrete, Option, Some, None, not, ◌&&◌, ◌==◌, if◌then◌else◌, State, Steps}
 use Rattle.fx_baton.proofs.Words.{changed_at, with_removed, Contents, state_of, leaving, Leads, IsLegal, ReleasesItsOwn, held_by, close_of, ◌▷◌, ◌▷▷◌}
-use Rattle.fx_baton.proofs.Words.{more_leaving, closed_by_release, closed_by_retirement, File, Event, Action, Look, Release, Put, Clear, Take}
-use Rattle.fx_baton.proofs.Words.{Allocate, Full, Close, pass_of_number, number_behind, HasFile, Idle, Holding, Retiring, legal_then, held_mine}
-use Rattle.fx_baton.proofs.Words.{one_author, Log, View, begin_of, file_held, file_in_hand, holds_by, removals_by, leaving_count, HasFreshNumbers}
-use Rattle.fx_baton.proofs.Words.{log_behind, Knows, IsTurn, by, holds_now, retires_now}
-use Rattle.fx_plain.specs.History.{held_after}
-use Rattle.fx_baton.proofs.Words.{numbers_for, Doing}
+use Rattle.fx_baton.proofs.Words.{closed_by_release, closed_by_retirement, File, Event, Action, Look, Release, Full, Close, pass_of_number}
+use Rattle.fx_baton.proofs.Words.{number_behind, HasFile, Idle, Holding, Retiring, legal_then, held_mine, one_author, Log, View, begin_of, file_held}
+use Rattle.fx_baton.proofs.Words.{file_in_hand, holds_by, removals_by, leaving_count, Knows, IsTurn, held_after, numbers_for, Doing}
+use Rattle.fx_plain.specs.Table.{more_leaving}
+use Rattle.fx_baton.specs.Turns.{by, holds_now, retires_now}
 use Rattle.fx_table.proofs.Changes.{changed_here, changed_else}
-use Rattle.fx_table.proofs.FileLemmas.{some_file, none_file, stays_put, apart_from, leaving_file, removed_file, still_there, now_removed, not_closed}
+use Rattle.fx_table.proofs.FileLemmas.{none_file, stays_put, apart_from, leaving_file, removed_file, still_there, now_removed, not_closed}
 use Rattle.fx_baton.proofs.Counts.{one_if, one_more_at, one_less_at, flag_set, flag_back, one_true}
 
-true_not_false : true ≡ false → ⊥
-true_not_false e = cc
-
-retires_none : (n : ℕ) (o : Option File) → holds_by n (retires_now o) ≡ 0
-retires_none n None = refl
-retires_none n (Some f) = refl
-
-retires_held : (o : Option File) → file_held (retires_now o) ≡ None
-retires_held None = refl
-retires_held (Some f) = refl
-
-retires_file : (o : Option File) (f : File) → file_in_hand (retires_now o) ≡ Some f → o ≡ Some f
-retires_file None f e = absurd (none_file f e)
-retires_file (Some g) f e = e
+retires : (o : Option File) → ((n : ℕ) → holds_by n (retires_now o) ≡ 0) × (file_held (retires_now o) ≡ None) × (file_in_hand (retires_now o) ≡ o)
+retires None = (λ n. refl, refl, refl)
+retires (Some f) = (λ n. refl, refl, refl)
 
 module _ (v : View) (x : Log) (c d : Contents) (chain : ℕ) (known : Knows v x c x.front) where
   -- the events of these actions
@@ -49,7 +37,7 @@ module _ (v : View) (x : Log) (c d : Contents) (chain : ℕ) (known : Knows v x 
       (λ e. absurd (⊎_elim
       (λ (some_holds : 0 < (state_of d).holds g.number).
       let q = ap y.holds e in let a = ap (λ (z : State). z.holds g.number) is in omega (arith, q, a, some_holds))
-      (λ still. true_not_false (sym still ∙ (ap (leaving d) e ∙ retired))) stays))
+      (λ still. let no : true ≡ false = sym still ∙ (ap (leaving d) e ∙ retired) in cc no) stays))
       (λ other. kept g other i)
 
   -- of fresh numbers a turn uses that of the file that it installs, which is the pass's next
@@ -141,10 +129,10 @@ module _ (v : View) (x : Log) (c d : Contents) (chain : ℕ) (known : Knows v x 
     slot_turn a slot new found step now is leaves own still installs =
         let apart = apart_from c known.sound slot found is in
         turn (a ∷ []) (retires_now found) new _ now refl installs (legal_one a step own)
-        (λ n. let b = ap (holds_by n) idle in let r = retires_none n found in omega arith) (leaves_more slot found is leaves)
+        (λ n. let b = ap (holds_by n) idle in let r = (retires found).0 n in omega arith) (leaves_more slot found is leaves)
         (λ f i _. still_there (state_of c) slot new found is apart f i)
-        (held_mine x.number chain a x.front ∙ (still (held_by x.front x.number) ∙ (held_none ∙ sym (retires_held found))))
-        (λ f e. inr (now_removed (state_of c) slot new found is apart f (retires_file found f e)))
+        (held_mine x.number chain a x.front ∙ (still (held_by x.front x.number) ∙ (held_none ∙ sym (retires found).1)))
+        (λ f e. inr (now_removed (state_of c) slot new found is apart f (sym (retires found).2 ∙ e)))
 
   -- what the pass holds is given up
   module _ (f : File) (holds : v.doing ≡ Holding f) where
@@ -161,10 +149,6 @@ module _ (v : View) (x : Log) (c d : Contents) (chain : ℕ) (known : Knows v x 
 
     none_leaves : leaving d ≡ leaving c → (n : ℕ) → leaving_count d n + removals_by n v.doing ≡ leaving_count c n + 0
     none_leaves leaves n = let a = leaves_same n leaves in let b = ap (removals_by n) holds in omega arith
-
-    release_turn : Leads (state_of c) ([] ▷ Release f) (state_of d) → leaving d ≡ leaving c → IsTurn v x c d (done ([] ▷ Release f)) Idle
-    release_turn leads leaves = turn ([] ▷ Release f) Idle None _ leads.1 refl refl (legal_one (Release f) (leads.0.1, leads.1) held_one)
-        (λ n. one_less n leads.0.1) (none_leaves leaves) (λ g i _. i) (held_mine x.number chain (Release f) x.front) (λ g e. absurd (none_file g e))
 
     close_turn : Leads (state_of c) ([] ▷ Release f ▷ Close f) (state_of d) → leaving d ≡ leaving c → leaving c f.number ≡ false
         → IsTurn v x c d (done ([] ▷ Release f ▷ Close f)) Idle
@@ -197,7 +181,8 @@ module _ (v : View) (x : Log) (c d : Contents) (chain : ℕ) (known : Knows v x 
       where
         by_out : (o : Option File) → closed_by_release c f.number ≡ o → Leads (state_of c) ([] ▷ Release f ▷▷ close_of o) (state_of d)
             → IsTurn v x c d (done ([] ▷ Release f ▷▷ close_of o)) Idle
-        by_out None e l = release_turn l leaves
+        by_out None e l = turn ([] ▷ Release f) Idle None _ l.1 refl refl (legal_one (Release f) (l.0.1, l.1) held_one)
+            (λ n. one_less n l.0.1) (none_leaves leaves) (λ g i _. i) (held_mine x.number chain (Release f) x.front) (λ g e. absurd (none_file g e))
         by_out (Some g) e l = let is = file_released g e in
             subst (λ (z : File). Leads (state_of c) ([] ▷ Release f ▷ Close z) (state_of d) → IsTurn v x c d (done ([] ▷ Release f ▷ Close z)) Idle)
             is.0 (λ m. close_turn m leaves is.1) l
@@ -223,10 +208,6 @@ module _ (v : View) (x : Log) (c d : Contents) (chain : ℕ) (known : Knows v x 
 
     same_holds : (n : ℕ) → (state_of c).holds n + holds_by n v.doing ≡ (state_of c).holds n + 0
     same_holds n = let b = ap (holds_by n) removes in omega arith
-
-    wait_turn : Leads (state_of c) [] (state_of d) → leaving d ≡ changed_at (leaving c) f.number false → IsTurn v x c d (done []) Idle
-    wait_turn leads leaves = turn [] Idle None _ leads.1 refl refl (subst (IsLegal (begin_of v.start) x.front) (sym leads.1) known.legal)
-        same_holds (leaves_less leaves) (λ g i _. i) held_nothing (λ g e. absurd (none_file g e))
 
     out_turn : Leads (state_of c) ([] ▷ Close f) (state_of d) → leaving d ≡ changed_at (leaving c) f.number false
         → IsTurn v x c d (done ([] ▷ Close f)) Idle
@@ -255,7 +236,8 @@ module _ (v : View) (x : Log) (c d : Contents) (chain : ℕ) (known : Knows v x 
       where
         by_out : (o : Option File) → closed_by_retirement c f.number ≡ o → Leads (state_of c) (close_of o) (state_of d)
             → IsTurn v x c d (done (close_of o)) Idle
-        by_out None e l = wait_turn l leaves
+        by_out None e l = turn [] Idle None _ l.1 refl refl (subst (IsLegal (begin_of v.start) x.front) (sym l.1) known.legal)
+            same_holds (leaves_less leaves) (λ g i _. i) held_nothing (λ g e. absurd (none_file g e))
         by_out (Some g) e l =
             subst (λ (z : File). Leads (state_of c) ([] ▷ Close z) (state_of d) → IsTurn v x c d (done ([] ▷ Close z)) Idle) (file_retired g e)
             (λ m. out_turn m leaves) l

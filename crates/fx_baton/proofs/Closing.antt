@@ -1,24 +1,18 @@
 -- When all passes have come back, one history stands behind them.
-use Rattle.fx_baton.proofs.Words.{◌≡◌, ◌≢◌, ℕ, ◌<◌, ◌≤◌, cond, List, [], ◌∷◌, map, length, reverse, sym, refl, ap, ◌∙◌, subst, arith, eqb, ⊎_elim}
-use Rattle.fx_baton.proofs.Words.{length-append, dite, ℕ_discrete, some, get_elem?, None, Contains, sum_by, count_by, Contains-append_left}
+use Rattle.fx_baton.proofs.Words.{Doing, ◌≡◌, ◌≢◌, ℕ, ◌<◌, ◌≤◌, cond, List, [], ◌∷◌, map, length, reverse, sym, refl, ap, ◌∙◌, subst, arith, eqb}
+use Rattle.fx_baton.proofs.Words.{⊎_elim, length-append, dite, ℕ_discrete, some, get_elem?, None, Contains, sum_by, count_by, Contains-append_left}
 use Rattle.fx_baton.proofs.Words.{Contains-append_right, Contains-append_cases, sum_by-append, sum_by-cons, TableId, State, IsSettled, Contents}
 use Rattle.fx_baton.proofs.Words.{state_of, node_at, removed_at, is_retired, is_leaving, Node, Fresh, At, Leaving, Gone, IsSeenBy, part_of_pass}
 use Rattle.fx_baton.proofs.Words.{Event, pass_of_chain, state_at, HasSameFiles, PassView, HasDrawnInTurn, ClosesTable, times_drawn, Idle}
 use Rattle.fx_baton.proofs.Words.{contains_none, contains_head, contains_tail, contains_cases, contains_map, contains_mapped, contains_reverse}
 use Rattle.fx_baton.proofs.Words.{contains_reversed, sum_two, sum_only, sum_map, sum_reverse, Log, View, Start, BatonPass, Shared, opening_of}
 use Rattle.fx_baton.proofs.Words.{logs_of, new_logs, holds_by, removals_by, leaving_count, IsLog, IsHome, IsAway, IsKept, first_front, first_own}
-use Rattle.fx_baton.proofs.Words.{view_of, IsPassOf, logs_in, All, All-contains, Seat, ◌++◌}
-use Rattle.std.proofs.lemmas.List.{length-reverse, reverse-append}
-use Rattle.fx_plain.specs.declared.node.Node.TheVariants.{Retired}
-use Rattle.fx_table.proofs.Turns.{drawn_inside, drawn_few, all_are_drawn}
-use Rattle.fx_baton.proofs.Counts.{log_found, logs_more, at_most_one, one_of}
+use Rattle.fx_baton.proofs.Words.{view_of, IsPassOf, logs_in, All, All-contains, Seat, ◌++◌, Retired, drawn_inside, drawn_few, all_are_drawn}
+use Rattle.std.proofs.lemmas.List.{length-reverse, nil_from_length, reverse-append}
+use Rattle.fx_baton.proofs.Counts.{log_found, logs_more, new_counted}
 use Rattle.fx_baton.proofs.StepsKeepRule.{none_some, other_seat}
 use Rattle.fx_baton.proofs.GrabKeepsRule.{only_log}
 use Rattle.fx_baton.proofs.Passing.{ends_there}
-
-length_none : (l : List Log) → length l ≡ 0 → l ≡ []
-length_none [] e = refl
-length_none (x ∷ l) e = absurd (omega arith)
 
 -- the first pass, and the others behind it
 pub gathered : (ps others : List BatonPass) (first : BatonPass) (seat : Seat Contents View) (logs : List Log) → ps ≡ others ++ first ∷ []
@@ -78,7 +72,7 @@ module _ (id : TableId) (k : Start) where
         let a = sum_two (λ (z : View). length z.logs) s.views seat i v u (λ j. n (sym j)) at e in
         let b = r.count in
         let c = all_logs in
-        length_none u.logs (omega arith)
+        nil_from_length u.logs (omega arith)
 
     pub at_home : IsHome r.contents s
     at_home = ⊎_elim (λ h. h)
@@ -90,19 +84,14 @@ module _ (id : TableId) (k : Start) where
     idle_else : (i : ℕ) (u : View) → i ≢ seat → get_elem? s.views i ≡ some u → u.doing ≡ Idle
     idle_else i u n e = ((r.views i u e).empty (empty_else i u n e)).0
 
+    none_by : (f : Doing → ℕ) → f Idle ≡ 0 → sum_by (λ (z : View). f z.doing) s.views ≡ 0
+    none_by f none = sum_only (λ (z : View). f z.doing) s.views seat v at (λ i u other e. ap f (idle_else i u other e) ∙ none) ∙ (ap f idle ∙ none)
+
     no_holds : (n : ℕ) → (state_of r.contents).holds n ≡ 0
-    no_holds n =
-        let t = sum_only (λ (z : View). holds_by n z.doing) s.views seat v at (λ i u other e. ap (holds_by n) (idle_else i u other e)) in
-        let h = r.held n in
-        let z = ap (holds_by n) idle in
-        omega arith
+    no_holds n = sym (r.held n) ∙ none_by (holds_by n) refl
 
     no_leaving : (n : ℕ) → leaving_count r.contents n ≡ 0
-    no_leaving n =
-        let t = sum_only (λ (z : View). removals_by n z.doing) s.views seat v at (λ i u other e. ap (removals_by n) (idle_else i u other e)) in
-        let h = r.leaves n in
-        let z = ap (removals_by n) idle in
-        omega arith
+    no_leaving n = sym (r.leaves n) ∙ none_by (removals_by n) refl
 
     none_removed : (n : ℕ) (node : Node) → node_at r.contents.nodes n ≡ node → removed_at n node ≡ None
     none_removed n Fresh e = refl
@@ -133,7 +122,7 @@ module _ (id : TableId) (k : Start) where
     -- each number has its pass
     pass_of : (n : ℕ) → 1 ≤ n → n ≤ k.passes → (p : BatonPass) × Contains ps p × (p.number ≡ n)
     pass_of n low high =
-        let x = log_found n v.logs (let t = its_logs n in let one = one_of k.passes n low high in omega (arith, t, one)) in
+        let x = log_found n v.logs (let t = its_logs n in omega (arith, t, new_counted n 1 k.passes)) in
         let q = log_from (reverse ps) x.0 (subst (λ (l : List Log). Contains l x.0) logs_are x.1) in
         let h = contains_reverse ps q.0 q.1 in
         let is : x.0 ≡ (each q.0 h).seated.log = only_log q.0.seat.me.0.logs (each q.0 h).seated.log x.0 (each q.0 h).seated.one q.2 in
@@ -141,12 +130,6 @@ module _ (id : TableId) (k : Start) where
 
     view_from : (w : PassView) → Contains (map view_of ps) w → (p : BatonPass) × Contains ps p × (w ≡ view_of p)
     view_from w h = contains_map view_of ps w h
-
-    shown_front : (p : BatonPass) (h : Contains ps p) → (view_of p).front ≡ (each p h).seated.log.front
-    shown_front p h = ap first_front (each p h).seated.one
-
-    shown_own : (p : BatonPass) (h : Contains ps p) → (view_of p).own ≡ (each p h).seated.log.own
-    shown_own p h = ap first_own (each p h).seated.one
 
     counts : (w : PassView) → Contains (map view_of ps) w → (count : ℕ) × HasDrawnInTurn (opening_of k) count w
     counts w h = let p = view_from w h in (p.0.count, subst (HasDrawnInTurn (opening_of k) p.0.count) (sym p.2) (each p.0 p.1).seated.turns)
@@ -160,11 +143,8 @@ module _ (id : TableId) (k : Start) where
         let by = logs_by q (reverse ps) (λ p h. each p (contains_reverse ps p h)) in
         let all = ap (logs_of q) logs_are in
         let its = its_logs q in
-        let small = at_most_one k.passes q in
+        let small = new_counted q 1 k.passes in
         omega (arith, few, shown, turned, by, all, its, small)
-
-    pass_view_of : (n : ℕ) → 1 ≤ n → n ≤ k.passes → (w : PassView) × Contains (map view_of ps) w × (w.number ≡ n)
-    pass_view_of n low high = let p = pass_of n low high in (view_of p.0, contains_mapped view_of ps p.0 p.1, p.2)
 
     pub closes : 0 < k.passes → ClosesTable (opening_of k) (map view_of ps) r.contents
     closes some_passes =
@@ -173,15 +153,15 @@ module _ (id : TableId) (k : Start) where
           legal = ends_there k r.history (state_of r.contents) r.legal;
           settled = subst IsSettled end settled;
           seen = λ w h. let p = view_from w h in
-              subst (λ (f : List Event). IsSeenBy f r.history) (sym (ap (λ (z : PassView). z.front) p.2 ∙ shown_front p.0 p.1)) (known p.0 p.1).seen;
+              subst (λ (f : List Event). IsSeenBy f r.history) (sym (ap (λ (z : PassView). z.front) p.2 ∙ ap first_front (each p.0 p.1).seated.one)) (known p.0 p.1).seen;
           own = λ w h. let p = view_from w h in
               ap (λ (z : PassView). part_of_pass z.number r.history) p.2
               ∙ (ap (λ (n : ℕ). part_of_pass n r.history) (sym (each p.0 p.1).seated.number)
-              ∙ ((known p.0 p.1).own ∙ (sym (shown_own p.0 p.1) ∙ ap (λ (z : PassView). z.own) (sym p.2))));
+              ∙ ((known p.0 p.1).own ∙ (sym (ap first_own (each p.0 p.1).seated.one) ∙ ap (λ (z : PassView). z.own) (sym p.2))));
           authors = λ e h. let a = r.authors e h in let p = pass_of e.pass a.0 a.1 in (view_of p.0, contains_mapped view_of ps p.0 p.1, sym p.2);
           files = subst (λ (z : State). HasSameFiles z (state_of r.contents)) end record { size = refl; range = refl; files = λ slot. refl };
           left_settled = settled;
           chains_inside = drawn_inside (opening_of k) (map view_of ps) counts;
           drawn_once = drawn_once;
-          all_drawn = all_are_drawn (opening_of k) (map view_of ps) counts some_passes pass_view_of;
+          all_drawn = all_are_drawn (opening_of k) (map view_of ps) counts some_passes (λ n low high. let p = pass_of n low high in (view_of p.0, contains_mapped view_of ps p.0 p.1, p.2));
         }

@@ -1,8 +1,8 @@
 -- How often a pass stands among the logs of views, and what a pass's doing counts for.
 use Rattle.fx_baton.proofs.Words.{◌≡◌, ◌≢◌, ℕ, zero, suc, ◌+◌, ◌<◌, ◌≤◌, Bool, true, false, cond, List, [], ◌∷◌, map, length, refl, ap, arith, eqb}
 use Rattle.fx_baton.proofs.Words.{eq-eqb, ne_eqb, ◌⊎◌, inl, inr, dite, ℕ_discrete, dec_lt, Some, None, Contains, sum_by-cons, File, Event, Doing}
-use Rattle.fx_baton.proofs.Words.{Idle, Holding, Retiring, contains_head, contains_tail, sum_of, Log, logs_of, new_log, new_logs, file_in_hand}
-use Rattle.fx_baton.proofs.Words.{holds_by, removals_by, log_behind, changed_at, ◌-◌}
+use Rattle.fx_baton.proofs.Words.{⊎_elim, Idle, Holding, Retiring, contains_head, contains_tail, sum_of, Log, logs_of, new_log, new_logs}
+use Rattle.fx_baton.proofs.Words.{file_in_hand, holds_by, removals_by, log_behind, changed_at, ◌-◌}
 
 -- one more or none, by a test
 pub one_if : (n m : ℕ) → n ≡ m → cond {A = ℕ} (eqb n m) 1 0 ≡ 1
@@ -52,35 +52,11 @@ logs_behind p es (y ∷ xs) = let a = logs_more p y xs in let b = logs_more p (l
     let r = logs_behind p es xs in omega arith
 
 -- the new passes from q on, n of them: one with a number among theirs, and none else
-new_in : (p q n : ℕ) → 1 ≤ logs_of p (new_logs q n) → (q ≤ p) × (p < q + n)
-new_in p q zero some = absurd (omega arith)
-new_in p q (suc n) some = dite (ℕ_discrete q p)
-    (λ e. (omega arith, omega arith))
-    (λ e. let a = none_if q p e in let m = logs_more p (new_log q) (new_logs (suc q) n) in let r = new_in p (suc q) n (omega arith) in
-    (let low = r.0 in omega arith, let high = r.1 in omega arith))
-
-new_few : (p q n : ℕ) → logs_of p (new_logs q n) ≤ 1
-new_few p q zero = omega arith
-new_few p q (suc n) = let m = logs_more p (new_log q) (new_logs (suc q) n) in let r = new_few p (suc q) n in dite (ℕ_discrete q p)
-    (λ e. let one = one_at_most (eqb q p) in dite (dec_lt 0 (logs_of p (new_logs (suc q) n)))
-    (λ some. absurd (let low = (new_in p (suc q) n some).0 in omega arith)) (λ none. omega arith))
-    (λ e. let a = none_if q p e in omega arith)
-
-new_inside : (p q n : ℕ) → q ≤ p → p < q + n → logs_of p (new_logs q n) ≡ 1
-new_inside p q zero low high = absurd (omega arith)
-new_inside p q (suc n) low high = let m = logs_more p (new_log q) (new_logs (suc q) n) in dite (ℕ_discrete q p)
-    (λ e. let a = one_if q p e in let few = new_few p q (suc n) in omega arith)
-    (λ e. let a = none_if q p e in let r = new_inside p (suc q) n (omega arith) (omega arith) in omega arith)
-
--- a pass is one of n where it is among the first view's, and it is there once
-pub one_of : (n p : ℕ) → 1 ≤ p → p ≤ n → logs_of p (new_logs 1 n) ≡ 1
-one_of n p low high = new_inside p 1 n low (omega arith)
-
-pub at_most_one : (n p : ℕ) → logs_of p (new_logs 1 n) ≤ 1
-at_most_one n p = new_few p 1 n
-
-pub in_range : (n p : ℕ) → 1 ≤ logs_of p (new_logs 1 n) → (1 ≤ p) × (p ≤ n)
-in_range n p some = let r = new_in p 1 n some in (r.0, let high = r.1 in omega arith)
+pub new_counted : (p q n : ℕ) → (logs_of p (new_logs q n) ≡ 1 × (q ≤ p) × (p < q + n)) ⊎ (logs_of p (new_logs q n) ≡ 0 × ((p < q) ⊎ (q + n ≤ p)))
+new_counted p q zero = inr (refl, dite (dec_lt p q) (λ l. inl l) (λ n. inr (omega arith)))
+new_counted p q (suc n) = let m = logs_more p (new_log q) (new_logs (suc q) n) in let r = new_counted p (suc q) n in dite (ℕ_discrete q p)
+    (λ e. let a = one_if q p e in inl (omega arith, omega arith, omega arith))
+    (λ e. let a = none_if q p e in ⊎_elim (λ i. inl (omega arith, omega arith, omega arith)) (λ i. inr (omega arith, dite (dec_lt p q) (λ l. inl l) (λ n. inr (omega arith)))) r)
 
 pub length_new : (q n : ℕ) → length (new_logs q n) ≡ n
 length_new q zero = refl

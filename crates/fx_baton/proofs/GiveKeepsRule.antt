@@ -1,17 +1,12 @@
 -- A seat with one pass that has the table may give it back.
-use Rattle.fx_baton.proofs.Words.{◌≡◌, ◌≢◌, ℕ, ◌+◌, ◌<◌, true, List, [], ◌∷◌, ◌++◌, map, set, sym, refl, ap, ◌∙◌, subst, inl, inr, ⊎_elim, ◌⊎◌, dite}
-use Rattle.fx_baton.proofs.Words.{ℕ_discrete, some, none, some-injective, get_elem?, Some, Contains, step, gives, at_set, Contents, state_of, leaving}
-use Rattle.fx_baton.proofs.Words.{IsTable, IsLegal, IsSeenBy, held_by, ◌▷▷◌, Event, Doing, seen_again, Log, View, Start, pass_of_number, HasFile}
-use Rattle.fx_baton.proofs.Words.{Shared, Seated, begin_of, holds_by, removals_by, leaving_count, HasFreshNumbers, IsLog, IsHome, IsAway, IsKept}
-use Rattle.fx_baton.proofs.Words.{log_behind, view_behind, Gives, IsTurn, part_mine}
+use Rattle.fx_baton.proofs.Words.{◌≡◌, ◌≢◌, ℕ, true, List, [], ◌∷◌, ◌++◌, map, set, sym, refl, ap, ◌∙◌, subst, inl, inr, ⊎_elim, dite, ℕ_discrete}
+use Rattle.fx_baton.proofs.Words.{some, none, some-injective, get_elem?, Some, Contains, step, gives, at_set, Contents, state_of, IsTable, IsLegal}
+use Rattle.fx_baton.proofs.Words.{IsSeenBy, held_by, ◌▷▷◌, Event, Doing, seen_again, Log, View, Start, pass_of_number, Shared, Seated, begin_of}
+use Rattle.fx_baton.proofs.Words.{HasFreshNumbers, IsLog, IsHome, IsAway, IsKept, log_behind, view_behind, Gives, IsTurn, part_mine, Allows}
 use Rattle.std.proofs.lemmas.List.{length-map}
-use Rattle.atomic_table.specs.Table.{Allows}
 use Rattle.fx_baton.proofs.Counts.{logs_behind}
 use Rattle.fx_baton.proofs.StepsKeepRule.{none_some, Turns, keeps_rule}
 use Rattle.fx_baton.proofs.GrabKeepsRule.{only_log, has_one, not_empty, started}
-
-some_contents : (c d : Contents) → Some c ≡ Some d → c ≡ d
-some_contents c d e = cc
 
 module _ (k : Start) (id : ℕ) (v : View) (x : Log) (one : v.logs ≡ x ∷ []) (c d : Contents) (has : v.loan ≡ Some c) (es : List Event)
     (doing : Doing) (sound : IsTable d) (turn : IsTurn v x c d es doing) where
@@ -31,13 +26,10 @@ module _ (k : Start) (id : ℕ) (v : View) (x : Log) (one : v.logs ≡ x ∷ [])
         subst (λ (z : View). (z.loan ≡ Some r.contents) × ((y : Log) → Contains z.logs y → y.front ≡ r.history)) is (away.loan, away.whole)
 
     same : c ≡ r.contents
-    same = some_contents c r.contents (sym has ∙ holder.0)
+    same = let both : Some c ≡ Some r.contents = sym has ∙ holder.0 in cc both
 
     whole : x.front ≡ r.history
     whole = holder.1 x (has_one v.logs x one)
-
-    mine_of : IsLog k r.history r.contents v.doing x
-    mine_of = (r.views id v at).logs x (has_one v.logs x one)
 
     begun : v.start ≡ k
     begun = started k r.history r.contents v x one (r.views id v at)
@@ -46,7 +38,7 @@ module _ (k : Start) (id : ℕ) (v : View) (x : Log) (one : v.logs ≡ x ∷ [])
     longer_is = ap (λ (l : List Event). l ▷▷ es) whole
 
     given_turns : Turns k s r id v at w d es (set s.words 0 1) (set s.homes 0 (some d))
-    given_turns = record {
+    given_turns = let here : IsTurn v x r.contents d es doing = subst (λ (z : Contents). IsTurn v x z d es doing) same turn in record {
       log = x;
       log_in = has_one v.logs x one;
       authors = turn.authors;
@@ -64,7 +56,7 @@ module _ (k : Start) (id : ℕ) (v : View) (x : Log) (one : v.logs ≡ x ∷ [])
         logs = λ y h. let m = only_log w.logs (log_behind es x) y given_one h in
             subst (λ (z : Log). IsLog k (r.history ▷▷ es) d doing z) (sym m) record {
               seen = subst (λ (z : List Event). IsSeenBy (x.front ▷▷ es) z) longer_is (seen_again (x.front ▷▷ es));
-              own = part_mine x.number es r.history turn.authors ∙ ap (λ (l : List Event). es ++ l) mine_of.own;
+              own = part_mine x.number es r.history turn.authors ∙ ap (λ (l : List Event). es ++ l) ((r.views id v at).logs x (has_one v.logs x one)).own;
               held = ap (λ (z : List Event). held_by z x.number) (sym longer_is) ∙ turn.now;
               fresh = subst (λ (z : Start). HasFreshNumbers z (state_of d) (log_behind es x)) begun turn.fresh;
             };
@@ -74,15 +66,11 @@ module _ (k : Start) (id : ℕ) (v : View) (x : Log) (one : v.logs ≡ x ∷ [])
       };
       numbers = λ p. logs_behind p es v.logs;
       count = length-map v.logs (log_behind es);
-      held = λ n. subst (λ (z : Contents). (state_of d).holds n + holds_by n v.doing ≡ (state_of z).holds n + holds_by n doing) same (turn.held n);
-      leaves = λ n. subst (λ (z : Contents). leaving_count d n + removals_by n v.doing ≡ leaving_count z n + removals_by n doing) same
-          (turn.leaves n);
-      files = λ f. subst
-          (λ (z : Contents). HasFile (state_of z) f → (0 < (state_of d).holds f.number) ⊎ (leaving d f.number ≡ true) → HasFile (state_of d) f) same
-          (turn.files f);
-      others = λ n. subst
-          (λ (z : Start × Contents). pass_of_number z.0.passes n ≢ x.number → (state_of z.1).fresh n ≡ true → (state_of d).fresh n ≡ true)
-          (λ i. (begun i, same i)) (turn.others n);
+      held = here.held;
+      leaves = here.leaves;
+      files = here.files;
+      others = λ n. subst (λ (z : Start). pass_of_number z.passes n ≢ x.number → (state_of r.contents).fresh n ≡ true → (state_of d).fresh n ≡ true) begun
+          (here.others n);
     }
 
   pub give_keeps : Allows (IsKept k) 1 id (v, (0, d) ∷ []) 0 (λ _. 1) (λ _. Gives es doing (step 1 0 1 0 none) (v, (0, d) ∷ []) 1)

@@ -3,18 +3,14 @@ use Rattle.fx_baton.proofs.Words.{◌≡◌, ℕ, zero, suc, ◌≤◌, ◌==◌
 use Rattle.fx_baton.proofs.Words.{⊎_elim, some, none, some-ne-none, get_elem?, None, Contains, step, takes, keeps, set_else, set_again, Contents}
 use Rattle.fx_baton.proofs.Words.{state_of, IsLegal, Event, seen_again, contains_none, contains_head, contains_only, sum_at, sum_le_at, Log, View}
 use Rattle.fx_baton.proofs.Words.{Start, Shared, Seated, begin_of, logs_of, holds_by, removals_by, HasFreshNumbers, IsLog, IsView, IsHome, IsAway}
-use Rattle.fx_baton.proofs.Words.{IsKept, Knows, lent_view, Grabs}
+use Rattle.fx_baton.proofs.Words.{IsKept, Knows, lent_view, Grabs, Allows}
 use prog.Atomic.{either}
-use Rattle.atomic_table.specs.Table.{Allows}
 use Rattle.fx_baton.proofs.Counts.{holds_small}
 use Rattle.fx_baton.proofs.StepsKeepRule.{Turns, keeps_rule}
 
 -- a seat with one pass
 pub only_log : (xs : List Log) (x y : Log) → xs ≡ x ∷ [] → Contains xs y → y ≡ x
 only_log xs x y e h = contains_only x y (subst (λ (l : List Log). Contains l y) e h)
-
-pub same_log : (x y : Log) → x ∷ [] ≡ y ∷ [] → x ≡ y
-same_log x y e = cc
 
 pub has_one : (xs : List Log) (x : Log) → xs ≡ x ∷ [] → Contains xs x
 has_one xs x e = subst (λ (l : List Log). Contains l x) (sym e) (contains_head x [])
@@ -119,7 +115,7 @@ module _ (k : Start) (id : ℕ) (v : View) (x : Log) (one : v.logs ≡ x ∷ [])
             (keeps_rule k s r id v at (lent s r at) r.contents [] (set s.words 0 0) (set s.homes 0 none) (taken_turns s r at home)),
         inl (
           word,
-          λ y e. let is : x ≡ y = same_log x y (sym one ∙ e) in record {
+          λ y e. let both : x ∷ [] ≡ y ∷ [] = sym one ∙ e in let is : x ≡ y = cc both in record {
             contents = r.contents;
             history = r.history;
             knows = subst (λ (z : Log). Knows v z r.contents r.history) is (knows s r at);

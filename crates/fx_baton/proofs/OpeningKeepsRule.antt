@@ -3,10 +3,9 @@ use Rattle.fx_baton.proofs.Words.{◌≡◌, ℕ, zero, suc, ◌<◌, ◌≤◌,
 use Rattle.fx_baton.proofs.Words.{⊎_elim, some, some-injective, some-ne-none, get_elem?, Option, Some, None, nat_lt, not, ◌&&◌, Contains, State}
 use Rattle.fx_baton.proofs.Words.{opening, file_numbered, IsSettled, Contents, state_of, IsTable, is_leaving, node_at, removed_at, Node, Fresh, At}
 use Rattle.fx_baton.proofs.Words.{Leaving, Gone, File, identity_of, numbers_for, HasSameFiles, IsGivenBack, contains_none, contains_cases, Idle, Log}
-use Rattle.fx_baton.proofs.Words.{View, Start, IsKept, IsLog, IsView, HasFreshNumbers, leaving_count, begin_of, first_view, new_logs, new_log}
+use Rattle.fx_baton.proofs.Words.{View, Start, IsKept, IsLog, IsView, leaving_count, begin_of, first_view, new_logs, new_log, Retired}
 use Rattle.std.proofs.lemmas.Bool.{lt-ltb, ltb-true}
 use Rattle.atomic_table.specs.Table.{opening as table_opening}
-use Rattle.fx_plain.specs.declared.node.Node.TheVariants.{Retired}
 use Rattle.fx_baton.proofs.Counts.{length_new}
 
 new_is : (q n : ℕ) (x : Log) → Contains (new_logs q n) x → x ≡ new_log x.number
@@ -25,17 +24,11 @@ renumbered_identity : (o : Option File) (slot : ℕ) → identity_of (file_numbe
 renumbered_identity None slot = refl
 renumbered_identity (Some f) slot = refl
 
-same_files : (st now : State) (n : ℕ) → now ≡ opening st n → HasSameFiles st now
-same_files st now n e = subst (HasSameFiles st) (sym e)
-    record { size = refl; range = refl; files = λ slot. renumbered_identity (st.at slot) slot }
-
-opens_settled : (st now : State) (n : ℕ) → now ≡ opening st n → IsSettled now
-opens_settled st now n e = subst IsSettled (sym e) record { unheld = λ m. refl; closed = λ m. refl }
-
 pub back_prepared : (plain back : Contents) (n : ℕ) → state_of back ≡ opening (state_of plain) n → IsGivenBack plain back
 back_prepared plain back n e = record {
-  files = same_files (state_of plain) (state_of back) n e;
-  settled = opens_settled (state_of plain) (state_of back) n e;
+  files = subst (HasSameFiles (state_of plain)) (sym e)
+      record { size = refl; range = refl; files = λ slot. renumbered_identity ((state_of plain).at slot) slot };
+  settled = subst IsSettled (sym e) record { unheld = λ m. refl; closed = λ m. refl };
 }
 
 pub only_one : (c d : Contents) → c ∷ [] ≡ d ∷ [] → c ≡ d
@@ -61,14 +54,11 @@ module _ (k : Start) (c : Contents) (begins : state_of c ≡ begin_of k) (sound 
         | false ↦ λ e. lt-ltb n (numbers_for k.chains) high
       ] refl
 
-  fresh_log : (p : ℕ) → HasFreshNumbers k (state_of c) (new_log p)
-  fresh_log p n low from high its = ap (λ (z : State). z.fresh n) begins ∙ fresh_there n low high
-
   new_view : IsView k [] c (first_view k)
   new_view = record {
     logs =
         λ x h. subst (λ (z : Log). IsLog k [] c Idle z)
-        (sym (new_is 1 k.passes x h)) record { seen = ([], refl); own = refl; held = refl; fresh = fresh_log x.number };
+        (sym (new_is 1 k.passes x h)) record { seen = ([], refl); own = refl; held = refl; fresh = λ n low from high its. ap (λ (z : State). z.fresh n) begins ∙ fresh_there n low high };
     file = λ f e. let no : None ≡ Some f = e in absurd (cc no);
     empty = λ _. (refl, refl);
     start = inr refl;

@@ -2,19 +2,16 @@
 use Rattle.fx_baton.proofs.Words.{◌≡◌, ℕ, ◌+◌, ◌-◌, ◌*◌, ◌≤◌, Bool, List, [], ◌∷◌, ◌++◌, map, sym, refl, ap, ◌∙◌, subst, arith, Option, Some, None}
 use Rattle.fx_baton.proofs.Words.{TableId, Seat, State, Contents, state_of, IsLegal, IsSeenBy, part_of_pass, close_of, ◌▷◌, ◌▷▷◌, closed_by_release}
 use Rattle.fx_baton.proofs.Words.{closed_by_retirement, File, Event, Action, Release, number_behind, Opening, state_at, PassView, IsFront, next_of}
-use Rattle.fx_baton.proofs.Words.{HasDrawnInTurn, Use, Adds, Doing, Holding, Retiring, seen_again, seen_further, part_mine, Log, View, Start, Call}
-use Rattle.fx_baton.proofs.Words.{BatonPass, Seated, opening_of, begin_of, Knows, Takes, log_behind, view_behind, by, actions_of, doing_of, use_of}
-use Rattle.fx_baton.proofs.Words.{events_of, table_of_slots, table_of_loan, first_front, first_own, view_of, is_idle, IsPassOf, HasTable, HasSeenMore}
-use Rattle.fx_baton.proofs.Words.{UsesNext, HasCalled, HasGivenBack, pass_behind}
+use Rattle.fx_baton.proofs.Words.{HasDrawnInTurn, Doing, Holding, Retiring, seen_again, seen_further, part_mine, Log, View, Start, Call, BatonPass}
+use Rattle.fx_baton.proofs.Words.{Seated, opening_of, begin_of, Knows, Takes, log_behind, view_behind, first_front, first_own, view_of, is_idle}
+use Rattle.fx_baton.proofs.Words.{IsPassOf, HasTable, HasSeenMore, UsesNext, HasCalled, HasGivenBack, pass_behind}
+use Rattle.fx_table.specs.Calls.{Use, Adds}
+use Rattle.fx_baton.specs.Turns.{by, actions_of, doing_of, use_of, events_of, table_of_slots, table_of_loan}
 use Rattle.fx_baton.specs.declared.view.Call.TheVariants.{Look as LookCall, Release as ReleaseCall, Retire as RetireCall}
 
 -- a legal history leads to the state at its end
 pub ends_there : (k : Start) (h : List Event) (end : State) → IsLegal (begin_of k) h end → IsLegal (begin_of k) h (state_at (opening_of k) h)
 ends_there k h end l = record { leads = (l.leads.0, refl); releases = l.releases }
-
--- what a pass has drawn is the same when it has seen more
-turns_still : (o : Opening) (count : ℕ) (v w : PassView) → w ≡ record v { front = w.front } → HasDrawnInTurn o count v → HasDrawnInTurn o count w
-turns_still o count v w same t = subst (HasDrawnInTurn o count) (sym same) (assumption t)
 
 module _ (id : TableId) (k : Start) (p : BatonPass) (fits : IsPassOf id k p) (seat : Seat Contents View)
     (table : seat.table_id ≡ p.seat.table_id) (taken : Takes p.seat.me fits.seated.log seat.me) where
@@ -32,9 +29,6 @@ module _ (id : TableId) (k : Start) (p : BatonPass) (fits : IsPassOf id k p) (se
 
   same_doing : seat.me.0.doing ≡ p.seat.me.0.doing
   same_doing = ap (λ (z : View). z.doing) taken.view
-
-  old_front : first_front p.seat.me.0.logs ≡ old.front
-  old_front = ap first_front fits.seated.one
 
   new_front : first_front seat.me.0.logs ≡ taken.history
   new_front = ap first_front one_log
@@ -57,7 +51,7 @@ module _ (id : TableId) (k : Start) (p : BatonPass) (fits : IsPassOf id k p) (se
 
   more : HasSeenMore (view_of p) (view_of took)
   more = record {
-    seen = subst (λ (z : List Event × List Event). IsSeenBy z.0 z.1) (λ i. (sym old_front i, sym new_front i)) taken.knows.seen;
+    seen = subst (λ (z : List Event × List Event). IsSeenBy z.0 z.1) (λ i. (sym (ap first_front fits.seated.one) i, sym new_front i)) taken.knows.seen;
     same = λ i. record (view_of took) { own = same_own i; doing = same_doing i };
   }
 
@@ -74,7 +68,7 @@ module _ (id : TableId) (k : Start) (p : BatonPass) (fits : IsPassOf id k p) (se
       number = s.number;
       start = ap (λ (z : View). z.start) taken.view ∙ s.start;
       front = front_now;
-      turns = turns_still (opening_of k) p.count (view_of p) (view_of took) more.same s.turns;
+      turns = subst (HasDrawnInTurn (opening_of k) p.count) (sym more.same) (let t = s.turns in assumption t);
       flag = s.flag ∙ ap is_idle (sym same_doing);
     };
     knows = knows_now;
@@ -214,9 +208,9 @@ module _ (id : TableId) (k : Start) (call : Call) (idle : Bool) (p : BatonPass) 
       (use_of call) h.more adds_here in
       subst (λ (z : Contents). Adds (opening_of k) u (actions_of z p.seat.me.0.doing call) (doing_of z call) (use_of call) (view_of gave)) same here
 
-  -- the front leads to the state of the table that was put back
-  ends_as : state_at (opening_of k) (view_of gave).front ≡ state_of (table_of_slots p.seat.me.1)
-  ends_as = ap (state_at (opening_of k)) front_after ∙ (sym legal_now.leads.1 ∙ ap (λ l. state_of (table_of_slots l)) (sym t.has.slots))
-
   pub gives_back : HasGivenBack id k call p gave
-  gives_back = record { fits = fits_again; adds = adds_so; end = ends_as }
+  gives_back = record {
+    fits = fits_again;
+    adds = adds_so;
+    end = ap (state_at (opening_of k)) front_after ∙ (sym legal_now.leads.1 ∙ ap (λ l. state_of (table_of_slots l)) (sym t.has.slots));
+  }

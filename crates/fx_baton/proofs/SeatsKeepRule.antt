@@ -1,14 +1,10 @@
 -- A seat is split off, and one is joined back.
 use Rattle.fx_baton.proofs.Words.{◌≡◌, ◌≢◌, ℕ, ◌+◌, List, [], ◌∷◌, ◌++◌, length, set, sym, refl, ap, ◌∙◌, subst, arith, ◌⊎◌, inl, inr, ⊎_elim}
 use Rattle.fx_baton.proofs.Words.{length-append, some, get_elem?, Some, None, Contains, sum_by, Contains-append_cases, sum_by-append, Splits, Joins}
-use Rattle.fx_baton.proofs.Words.{at_set, set_else, at_snoc, at_longer, Contents, File, Event, Doing, Idle, contains_none, contains_head}
-use Rattle.fx_baton.proofs.Words.{contains_tail, contains_only, sum_set, Log, View, Start, Shared, logs_of, holds_by, removals_by, file_in_hand}
-use Rattle.fx_baton.proofs.Words.{IsLog, IsView, IsHome, IsAway, IsKept, rest_of, first_of, view_without_first, view_of_first, joined_view}
-use Rattle.fx_baton.proofs.Words.{empty_view}
+use Rattle.fx_baton.proofs.Words.{at_set, set_else, at_snoc, at_longer, Contents, Event, Doing, Idle, contains_none, contains_head, contains_tail}
+use Rattle.fx_baton.proofs.Words.{contains_only, sum_set, Log, View, Start, Shared, logs_of, holds_by, removals_by, file_in_hand, IsLog, IsView}
+use Rattle.fx_baton.proofs.Words.{IsHome, IsAway, IsKept, rest_of, first_of, view_without_first, view_of_first, joined_view, empty_view}
 use Rattle.fx_baton.proofs.StepsKeepRule.{other_seat}
-
-idle_file : (d : Doing) (f : File) → d ≡ Idle → file_in_hand d ≡ Some f → ⊥
-idle_file d f e g = let no : None ≡ Some f = sym (ap file_in_hand e) ∙ g in cc no
 
 has_rest : (l : List Log) (x : Log) → Contains (rest_of l) x → Contains l x
 has_rest [] x h = h
@@ -29,7 +25,7 @@ part_view : (k : Start) (h : List Event) (c : Contents) (v w : View) → v.doing
 part_view k h c v w idle idle' free logs start = record {
   its = record {
     logs = λ x i. subst (λ (d : Doing). IsLog k h c d x) (idle ∙ sym idle') (logs x i);
-    file = λ f e. absurd (idle_file w.doing f idle' e);
+    file = λ f e. let no : None ≡ Some f = sym (ap file_in_hand idle') ∙ e in absurd (cc no);
     empty = λ _. (idle', free);
     start = start;
   };
@@ -44,36 +40,35 @@ seats_keep : (k : Start) (s : Shared) (r : IsKept k s) (views : List View)
     → sum_by (λ (z : View). f z.logs) views ≡ sum_by (λ (z : View). f z.logs) s.views)
     → ((f : Doing → ℕ) → f Idle ≡ 0 → sum_by (λ (z : View). f z.doing) views ≡ sum_by (λ (z : View). f z.doing) s.views)
     → IsKept k (record s { views = views })
-seats_keep k s r views each holder by_logs by_doing = record {
-  history = r.history;
-  contents = r.contents;
-  legal = r.legal;
-  sound = r.sound;
-  place = ⊎_elim
-      (λ (home : IsHome r.contents s).
-      inl (home.0, home.1, λ i u e. ⊎_elim (λ (new : IsPart k r.history r.contents u). new.free) (λ old. home.2 i u old) (each i u e)))
-      (λ (away : IsAway r.contents r.history s).
-      let others = λ (i : ℕ) (u : View) (n : i ≢ away.holder) (e : get_elem? views i ≡ some u).
-      ⊎_elim (λ (new : IsPart k r.history r.contents u). new.free) (λ old. away.others i u n old) (each i u e) in
-      inr record {
-        words = away.words;
-        homes = away.homes;
-        holder = away.holder;
-        view = away.view;
-        at = holder away.holder away.view away.at away.loan;
-        loan = away.loan;
-        whole = away.whole;
-        others = others;
-      })
-      r.place;
-  views = λ i u e. ⊎_elim (λ (new : IsPart k r.history r.contents u). new.its) (λ old. r.views i u old) (each i u e);
-  numbers = λ p. by_logs (logs_of p) refl (λ xs ys. sum_by-append _ xs ys) ∙ r.numbers p;
-  count = by_logs (length {A = Log}) refl (λ xs ys. length-append xs ys) ∙ r.count;
-  few = r.few;
-  authors = r.authors;
-  held = λ n. by_doing (holds_by n) refl ∙ r.held n;
-  leaves = λ n. by_doing (removals_by n) refl ∙ r.leaves n;
-}
+seats_keep k s r views each holder by_logs by_doing =
+    let free = λ (i : ℕ) (u : View) (e : get_elem? views i ≡ some u) (old : get_elem? s.views i ≡ some u → u.loan ≡ None).
+    ⊎_elim (λ (new : IsPart k r.history r.contents u). new.free) old (each i u e) in record {
+      history = r.history;
+      contents = r.contents;
+      legal = r.legal;
+      sound = r.sound;
+      place = ⊎_elim
+          (λ (home : IsHome r.contents s). inl (home.0, home.1, λ i u e. free i u e (home.2 i u)))
+          (λ (away : IsAway r.contents r.history s).
+          inr record {
+            words = away.words;
+            homes = away.homes;
+            holder = away.holder;
+            view = away.view;
+            at = holder away.holder away.view away.at away.loan;
+            loan = away.loan;
+            whole = away.whole;
+            others = λ i u n e. free i u e (away.others i u n);
+          })
+          r.place;
+      views = λ i u e. ⊎_elim (λ (new : IsPart k r.history r.contents u). new.its) (λ old. r.views i u old) (each i u e);
+      numbers = λ p. by_logs (logs_of p) refl (λ xs ys. sum_by-append _ xs ys) ∙ r.numbers p;
+      count = by_logs (length {A = Log}) refl (λ xs ys. length-append xs ys) ∙ r.count;
+      few = r.few;
+      authors = r.authors;
+      held = λ n. by_doing (holds_by n) refl ∙ r.held n;
+      leaves = λ n. by_doing (removals_by n) refl ∙ r.leaves n;
+    }
 
 split_counts : (f : List Log → ℕ) → f [] ≡ 0 → ((xs ys : List Log) → f (xs ++ ys) ≡ f xs + f ys) → (l : List Log)
     → f (rest_of l) + f (first_of l) ≡ f l

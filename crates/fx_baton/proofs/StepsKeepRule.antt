@@ -4,7 +4,7 @@ use Rattle.fx_baton.proofs.Words.{get_elem?, Some, Contains, sum_by, Contains-ap
 use Rattle.fx_baton.proofs.Words.{IsLegal, ◌▷▷◌, File, Event, pass_of_number, HasFile, seen_further, part_other, held_other, sum_set, sum_at, sum_two}
 use Rattle.fx_baton.proofs.Words.{Log, View, Start, Shared, begin_of, logs_of, file_in_hand, holds_by, removals_by, leaving_count, IsLog, IsView}
 use Rattle.fx_baton.proofs.Words.{IsHome, IsAway, IsKept, ap, None, some-injective}
-use Rattle.fx_baton.proofs.Counts.{some_log, at_most_one, in_range, hand_is_counted, one_true}
+use Rattle.fx_baton.proofs.Counts.{some_log, new_counted, hand_is_counted, one_true}
 
 pub none_some : {A : Type 0} (a : A) → None ≡ Some a → ⊥
 none_some a e = cc
@@ -31,7 +31,7 @@ module _ (k : Start) (s : Shared) (r : IsKept k s) (id : ℕ) (v : View) (at : g
       let b = some_log x.number u.logs y hy same in
       let t = sum_two (λ (z : View). logs_of x.number z.logs) s.views id i v u (λ j. n (sym j)) at e in
       let o = r.numbers x.number in
-      let l = at_most_one k.passes x.number in
+      let l = new_counted x.number 1 k.passes in
       absurd (omega arith)
 
   -- What the step has to show: the seat's new view, what the new events are, that files with which others have to do
@@ -88,7 +88,8 @@ module _ (k : Start) (s : Shared) (r : IsKept k s) (id : ℕ) (v : View) (at : g
         let a = some_log t.log.number v.logs t.log t.log_in refl in
         let b = sum_at (λ (z : View). logs_of t.log.number z.logs) s.views id v at in
         let o = r.numbers t.log.number in
-        in_range k.passes t.log.number (omega arith)
+        let n = new_counted t.log.number 1 k.passes in
+        (omega arith, omega arith)
 
     pub keeps_rule : IsKept k next
     keeps_rule = record {

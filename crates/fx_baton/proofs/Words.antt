@@ -1,46 +1,43 @@
 -- The names that most proofs of this crate use.
 pub use Rattle.atomic_table.proofs.Lists.{at_longer, at_set, at_snoc, set_again, set_else}
 pub use Rattle.atomic_table.specs.Seated.{TableId}
-pub use Rattle.atomic_table.specs.Table.{Joins, Splits, gives, keeps, rest, step, takes}
+pub use Rattle.atomic_table.specs.Table.{Allows, Joins, Splits, gives, keeps, rest, step, takes}
 pub use Rattle.atomic_table.specs.declared.shared.Seat.{Seat}
 pub use Rattle.fx_base.specs.declared.open_file.Closed.{Closed}
 pub use Rattle.fx_baton.specs.Lives.{IsIdleSeatOf, IsNewPass, dealt, logs_in}
-pub use Rattle.fx_baton.specs.Passes.{HasCalled, HasGivenBack, HasSeenMore, HasTable, IsPassOf, UsesNext, next_of, first_front, first_own, is_idle}
+pub use Rattle.fx_baton.specs.Passes.{HasCalled, HasGivenBack, HasSeenMore, HasTable, IsPassOf, UsesNext, first_front, first_own, is_idle, next_of}
 pub use Rattle.fx_baton.specs.Passes.{pass_behind, view_of}
 pub use Rattle.fx_baton.specs.Rule.{Gives, Grabs, HasFreshNumbers, IsAway, IsHome, IsKept, IsLog, IsTurn, IsView, Knows, Seated, Shared, Takes}
 pub use Rattle.fx_baton.specs.Rule.{begin_of, empty_view, file_held, file_in_hand, first_of, first_view, holds_by, joined_view, leaving_count}
 pub use Rattle.fx_baton.specs.Rule.{lent_view, log_behind, logs_of, new_log, new_logs, opening_of, removals_by, rest_of, view_behind, view_of_first}
 pub use Rattle.fx_baton.specs.Rule.{view_without_first}
-pub use Rattle.fx_baton.specs.Turns.{actions_of, by, doing_of, events_of, holds_now, release_in, retirement_in, retires_now, table_of_loan}
-pub use Rattle.fx_baton.specs.Turns.{table_of_slots, use_of}
 pub use Rattle.fx_baton.specs.declared.pass.BatonPass.{BatonPass}
 pub use Rattle.fx_baton.specs.declared.view.Call.{Call}
 pub use Rattle.fx_baton.specs.declared.view.Log.{Log}
 pub use Rattle.fx_baton.specs.declared.view.Start.{Start}
 pub use Rattle.fx_baton.specs.declared.view.View.{View}
 pub use Rattle.fx_plain.specs.Contents.{Contents, IsTable, is_leaving, is_retired, leaving, node_at, removed_at, state_of}
-pub use Rattle.fx_plain.specs.History.{IsLegal, IsSeenBy, Leads, ReleasesItsOwn, action_of, close_of, held_by, part_of_pass, ◌▷▷◌, ◌▷◌}
+pub use Rattle.fx_plain.specs.History.{IsLegal, IsSeenBy, Leads, ReleasesItsOwn, action_of, close_of, held_after, held_by, part_of_pass, ◌▷▷◌, ◌▷◌}
 pub use Rattle.fx_plain.specs.State.{IsSettled, State, file_numbered, opening}
 pub use Rattle.fx_plain.specs.Step.{Steps, changed_at, with_removed}
-pub use Rattle.fx_plain.specs.Table.{EndsHold, HasRoomForHold, LetsLeave, closed_by_release, closed_by_retirement, identity_of, more_leaving}
-pub use Rattle.fx_plain.specs.Table.{number_of, numbered}
+pub use Rattle.fx_plain.specs.Table.{EndsHold, HasRoomForHold, LetsLeave, closed_by_release, closed_by_retirement, identity_of, numbered}
 pub use Rattle.fx_plain.specs.declared.event.Action.{Action}
 pub use Rattle.fx_plain.specs.declared.event.Action.TheVariants.{Allocate, Clear, Close, Full, Look, Put, Release, Take}
 pub use Rattle.fx_plain.specs.declared.event.Event.{Event}
 pub use Rattle.fx_plain.specs.declared.event.File.{File}
 pub use Rattle.fx_plain.specs.declared.node.Node.{Node}
-pub use Rattle.fx_plain.specs.declared.node.Node.TheVariants.{At, Fresh, Gone, Leaving}
+pub use Rattle.fx_plain.specs.declared.node.Node.TheVariants.{At, Fresh, Gone, Leaving, Retired}
 pub use Rattle.fx_table.proofs.Calls.{seen_again, seen_further}
 pub use Rattle.fx_table.proofs.Histories.{held_mine, held_other, legal_then, one_author, part_mine, part_other}
 pub use Rattle.fx_table.proofs.Members.{contains_cases, contains_head, contains_map, contains_mapped, contains_none, contains_only, contains_reverse}
 pub use Rattle.fx_table.proofs.Members.{contains_reversed, contains_tail}
 pub use Rattle.fx_table.proofs.SumLemmas.{sum_at, sum_le_at, sum_map, sum_of, sum_only, sum_reverse, sum_set, sum_two}
-pub use Rattle.fx_table.specs.Calls.{Adds, Cleared, Placed, ReleasesFile, RetiresFile, Use, new_file, no_use, one_look, one_number}
+pub use Rattle.fx_table.proofs.Turns.{all_are_drawn, drawn_few, drawn_inside, next_is_its_own}
 pub use Rattle.fx_table.specs.Closing.{ClosesTable, times_drawn}
 pub use Rattle.fx_table.specs.Files.{HasFile}
 pub use Rattle.fx_table.specs.Numbers.{chains_of_pass, number_behind, numbers_for, pass_of_chain, pass_of_number}
 pub use Rattle.fx_table.specs.Opening.{HasSameFiles, IsGivenBack, Opening, size_of, state_at}
-pub use Rattle.fx_table.specs.Pass.{IsFront, PassView, hold_of, new_pass, new_passes, new_passes_from, retired_of}
+pub use Rattle.fx_table.specs.Pass.{IsFront, IsHoldOf, IsRetiredOf, PassView, hold_of, new_pass, new_passes, new_passes_from, retired_of}
 pub use Rattle.fx_table.specs.Turns.{HasDrawnInTurn}
 pub use Rattle.fx_table.specs.declared.values.Doing.{Doing}
 pub use Rattle.fx_table.specs.declared.values.Doing.TheVariants.{Holding, Idle, Retiring}

@@ -1,5 +1,5 @@
 use Rattle.fx_baton.proofs.Words.{sym, subst, Closed, Steps, state_of, numbered, Allocate}
-use Rattle.fx_baton.proofs.Calling.{may_lend, number_fresh, allocate_called, full_called, allocated_so, full_so}
+use Rattle.fx_baton.proofs.Calling.{may_lend, number_fresh, allocate_called, full_called, allocated_so, added}
 use Rattle.fx_baton.proofs.calls.BatonTableFileTable.put_any.Goals as goal
 
 pub slot_mut-plain-requires : goal.slot_mut-plain-requires
@@ -26,4 +26,4 @@ returns-in-Ok-clause-allocated g c =
     c.identity-identity.ensures c.give_back.ensures c.in-Ok.ensures.ok.0.0
 
 pub returns-in-Err-clause-allocated : goal.returns-in-Err-clause-allocated
-returns-in-Err-clause-allocated g c = (c.in-Err.ensures.refused, full_so c.borrow.ensures c.slot_mut-plain.ensures.value c.put_any.new.self c.give_back-in-Err.ensures)
+returns-in-Err-clause-allocated g c = (c.in-Err.ensures.refused, added c.borrow.ensures c.slot_mut-plain.ensures.value c.put_any.new.self c.give_back-in-Err.ensures)
