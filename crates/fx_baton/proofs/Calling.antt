@@ -38,10 +38,7 @@ module _ {id : TableId} {k : Start} {u : PassView} {p : BatonPass} where
 
 -- whether an answer is None
 pub flag_is : {X : Type 0} (x : Option X) (b : Bool) → is_some x ≡ not b → b ≡ is_none x
-flag_is None true e = refl
-flag_is None false e = let differ : false ≡ true = e in absurd (cc differ)
-flag_is (Some x) true e = let differ : true ≡ false = e in absurd (cc differ)
-flag_is (Some x) false e = refl
+flag_is x b e = grind arith
 
 -- what answers tell of the file at a slot
 abbrev pub shown : File → ℕ × ℕ

@@ -1,11 +1,11 @@
 -- What each call of the plain table is as a turn.
 use Rattle.fx_baton.proofs.Words.{◌≡◌, ◌≢◌, ℕ, ◌+◌, ◌-◌, ◌<◌, ◌≤◌, Bool, true, false, cond, List, [], ◌∷◌, map, sym, refl, ap, ◌∙◌, subst, arith, eqb}
-use Rattle.fx_baton.proofs.Words.{eq-eqb, ◌⊎◌, inl, inr, ⊎_elim, dite, ℕ_discrete, Option, Some, None, not, ◌&&◌, ◌==◌, if◌then◌else◌, State, Steps}
+use Rattle.fx_baton.proofs.Words.{eq-eqb, ◌⊎◌, inl, inr, ⊎_elim, dite, ℕ_discrete, Option, Some, None, not, ◌&&◌, if◌then◌else◌, State, Steps}
 use Rattle.fx_baton.proofs.Words.{changed_at, with_removed, Contents, state_of, leaving, Leads, IsLegal, ReleasesItsOwn, held_by, close_of, ◌▷◌, ◌▷▷◌}
-use Rattle.fx_baton.proofs.Words.{closed_by_release, closed_by_retirement, File, Event, Action, Look, Release, Full, Close, pass_of_number}
-use Rattle.fx_baton.proofs.Words.{number_behind, HasFile, Idle, Holding, Retiring, legal_then, held_mine, one_author, Log, View, begin_of, file_held}
-use Rattle.fx_baton.proofs.Words.{file_in_hand, holds_by, removals_by, leaving_count, Knows, IsTurn, held_after, numbers_for, Doing}
-use Rattle.fx_plain.specs.Table.{more_leaving}
+use Rattle.fx_baton.proofs.Words.{closed_by_release, closed_by_retirement, File, Event, Look, Release, Full, Close, pass_of_number, number_behind}
+use Rattle.fx_baton.proofs.Words.{HasFile, Idle, Holding, Retiring, legal_then, held_mine, one_author, Log, View, begin_of, file_held, file_in_hand}
+use Rattle.fx_baton.proofs.Words.{holds_by, removals_by, leaving_count, Knows, IsTurn, held_after, numbers_for, Doing, more_leaving}
+use Rattle.fx_plain.specs.declared.event.Action.{Action}
 use Rattle.fx_baton.specs.Turns.{by, holds_now, retires_now}
 use Rattle.fx_table.proofs.Changes.{changed_here, changed_else}
 use Rattle.fx_table.proofs.FileLemmas.{none_file, stays_put, apart_from, leaving_file, removed_file, still_there, now_removed, not_closed}
@@ -14,6 +14,11 @@ use Rattle.fx_baton.proofs.Counts.{one_if, one_more_at, one_less_at, flag_set, f
 retires : (o : Option File) → ((n : ℕ) → holds_by n (retires_now o) ≡ 0) × (file_held (retires_now o) ≡ None) × (file_in_hand (retires_now o) ≡ o)
 retires None = (λ n. refl, refl, refl)
 retires (Some f) = (λ n. refl, refl, refl)
+
+-- a file that comes out at a test and another that fails
+out_by : (a b : Bool) (o : Option File) (g : File) → (if a && not b then o else None) ≡ Some g → (o ≡ Some g) × (b ≡ false)
+out_by true false o g e = (e, refl)
+out_by _ _ o g e = absurd (none_file g e)
 
 module _ (v : View) (x : Log) (c d : Contents) (chain : ℕ) (known : Knows v x c x.front) where
   -- the events of these actions
@@ -162,18 +167,8 @@ module _ (v : View) (x : Log) (c d : Contents) (chain : ℕ) (known : Knows v x 
 
     -- a file that comes out at a release is the one that was held, and was retired
     pub file_released : (g : File) → closed_by_release c f.number ≡ Some g → (f ≡ g) × (leaving c f.number ≡ false)
-    file_released g e = elim (leaving c f.number) as (λ b. leaving c f.number ≡ b
-        → (if (state_of c).holds f.number == 1 && not b then (state_of c).removed f.number else None) ≡ Some g → (f ≡ g) × (b ≡ false)) [
-          | true ↦ λ _ h. absurd (elim (eqb ((state_of c).holds f.number) 1)
-              as (λ b. (if b && not true then (state_of c).removed f.number else None) ≡ Some g → ⊥)
-              [ true ↦ λ z. none_file g z | false ↦ λ z. none_file g z ] h)
-          | false ↦ λ _ h. (
-            removed_file c known.sound f g there (elim (eqb ((state_of c).holds f.number) 1)
-                as (λ b. (if b && not false then (state_of c).removed f.number else None) ≡ Some g → (state_of c).removed f.number ≡ Some g)
-                [ true ↦ λ z. z | false ↦ λ z. absurd (none_file g z) ] h),
-            refl,
-          )
-        ] refl e
+    file_released g e = let out = out_by (eqb ((state_of c).holds f.number) 1) (leaving c f.number) ((state_of c).removed f.number) g e in
+        (removed_file c known.sound f g there out.0, out.1)
 
     pub letting_go_turn : Leads (state_of c) ([] ▷ Release f ▷▷ close_of (closed_by_release c f.number)) (state_of d) → leaving d ≡ leaving c
         → IsTurn v x c d (done ([] ▷ Release f ▷▷ close_of (closed_by_release c f.number))) Idle

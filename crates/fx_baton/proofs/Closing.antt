@@ -2,12 +2,13 @@
 use Rattle.fx_baton.proofs.Words.{Doing, ◌≡◌, ◌≢◌, ℕ, ◌<◌, ◌≤◌, cond, List, [], ◌∷◌, map, length, reverse, sym, refl, ap, ◌∙◌, subst, arith, eqb}
 use Rattle.fx_baton.proofs.Words.{⊎_elim, length-append, dite, ℕ_discrete, some, get_elem?, None, Contains, sum_by, count_by, Contains-append_left}
 use Rattle.fx_baton.proofs.Words.{Contains-append_right, Contains-append_cases, sum_by-append, sum_by-cons, TableId, State, IsSettled, Contents}
-use Rattle.fx_baton.proofs.Words.{state_of, node_at, removed_at, is_retired, is_leaving, Node, Fresh, At, Leaving, Gone, IsSeenBy, part_of_pass}
-use Rattle.fx_baton.proofs.Words.{Event, pass_of_chain, state_at, HasSameFiles, PassView, HasDrawnInTurn, ClosesTable, times_drawn, Idle}
-use Rattle.fx_baton.proofs.Words.{contains_none, contains_head, contains_tail, contains_cases, contains_map, contains_mapped, contains_reverse}
-use Rattle.fx_baton.proofs.Words.{contains_reversed, sum_two, sum_only, sum_map, sum_reverse, Log, View, Start, BatonPass, Shared, opening_of}
-use Rattle.fx_baton.proofs.Words.{logs_of, new_logs, holds_by, removals_by, leaving_count, IsLog, IsHome, IsAway, IsKept, first_front, first_own}
-use Rattle.fx_baton.proofs.Words.{view_of, IsPassOf, logs_in, All, All-contains, Seat, ◌++◌, Retired, drawn_inside, drawn_few, all_are_drawn}
+use Rattle.fx_baton.proofs.Words.{state_of, node_at, removed_at, is_retired, is_leaving, Node, IsSeenBy, part_of_pass, Event, pass_of_chain, state_at}
+use Rattle.fx_baton.proofs.Words.{HasSameFiles, PassView, HasDrawnInTurn, ClosesTable, times_drawn, Idle, contains_none, contains_head, contains_tail}
+use Rattle.fx_baton.proofs.Words.{contains_cases, contains_map, contains_mapped, contains_reverse, contains_reversed, sum_two, sum_only, sum_map}
+use Rattle.fx_baton.proofs.Words.{sum_reverse, Log, View, Start, BatonPass, Shared, opening_of, logs_of, new_logs, holds_by, removals_by}
+use Rattle.fx_baton.proofs.Words.{leaving_count, IsLog, IsHome, IsAway, IsKept, first_front, first_own, view_of, IsPassOf, logs_in, All, All-contains}
+use Rattle.fx_baton.proofs.Words.{Seat, ◌++◌, drawn_inside, drawn_few, all_are_drawn}
+use Rattle.fx_plain.specs.declared.node.Node.TheVariants.{Leaving, Retired}
 use Rattle.std.proofs.lemmas.List.{length-reverse, nil_from_length, reverse-append}
 use Rattle.fx_baton.proofs.Counts.{log_found, logs_more, new_counted}
 use Rattle.fx_baton.proofs.StepsKeepRule.{none_some, other_seat}
@@ -94,25 +95,19 @@ module _ (id : TableId) (k : Start) where
     no_leaving n = sym (r.leaves n) ∙ none_by (removals_by n) refl
 
     none_removed : (n : ℕ) (node : Node) → node_at r.contents.nodes n ≡ node → removed_at n node ≡ None
-    none_removed n Fresh e = refl
-    none_removed n (At slot file) e = refl
     none_removed n (Leaving file) e =
         let a = no_leaving n in
         let b : leaving_count r.contents n ≡ 1 = ap (λ (z : Node). cond {A = ℕ} (is_leaving z) 1 0) e in
         absurd (omega (arith, a, b))
     none_removed n (Retired file) e = absurd (let a = no_holds n in let b = r.sound.held n (ap is_retired e) in omega (arith, a, b))
-    none_removed n Gone e = refl
+    none_removed n _ e = refl
 
     settled : IsSettled (state_of r.contents)
     settled = record { unheld = no_holds; closed = λ n. none_removed n (node_at r.contents.nodes n) refl }
 
-    log_is : (p : BatonPass) (h : Contains ps p) → Contains v.logs (each p h).seated.log
-    log_is p h = subst (λ (l : List Log). Contains l (each p h).seated.log) (sym logs_are)
-        (log_in (reverse ps) p (each p h).seated.log (contains_reversed ps p h)
-        (subst (λ (l : List Log). Contains l (each p h).seated.log) (sym (each p h).seated.one) (contains_head (each p h).seated.log [])))
-
     known : (p : BatonPass) (h : Contains ps p) → IsLog k r.history r.contents v.doing (each p h).seated.log
-    known p h = (r.views seat v at).logs (each p h).seated.log (log_is p h)
+    known p h = let s = (each p h).seated in (r.views seat v at).logs s.log (subst (λ (l : List Log). Contains l s.log) (sym logs_are)
+        (log_in (reverse ps) p s.log (contains_reversed ps p h) (subst (λ (l : List Log). Contains l s.log) (sym s.one) (contains_head s.log []))))
 
     its_logs : (n : ℕ) → logs_of n v.logs ≡ logs_of n (new_logs 1 k.passes)
     its_logs n =
@@ -128,11 +123,8 @@ module _ (id : TableId) (k : Start) where
         let is : x.0 ≡ (each q.0 h).seated.log = only_log q.0.seat.me.0.logs (each q.0 h).seated.log x.0 (each q.0 h).seated.one q.2 in
         (q.0, h, sym (each q.0 h).seated.number ∙ (ap (λ (z : Log). z.number) (sym is) ∙ x.2))
 
-    view_from : (w : PassView) → Contains (map view_of ps) w → (p : BatonPass) × Contains ps p × (w ≡ view_of p)
-    view_from w h = contains_map view_of ps w h
-
     counts : (w : PassView) → Contains (map view_of ps) w → (count : ℕ) × HasDrawnInTurn (opening_of k) count w
-    counts w h = let p = view_from w h in (p.0.count, subst (HasDrawnInTurn (opening_of k) p.0.count) (sym p.2) (each p.0 p.1).seated.turns)
+    counts w h = let p = contains_map view_of ps w h in (p.0.count, subst (HasDrawnInTurn (opening_of k) p.0.count) (sym p.2) (each p.0 p.1).seated.turns)
 
     drawn_once : (c : ℕ) → sum_by (times_drawn c) (map view_of ps) ≤ 1
     drawn_once c =
@@ -152,9 +144,9 @@ module _ (id : TableId) (k : Start) where
           history = r.history;
           legal = ends_there k r.history (state_of r.contents) r.legal;
           settled = subst IsSettled end settled;
-          seen = λ w h. let p = view_from w h in
+          seen = λ w h. let p = contains_map view_of ps w h in
               subst (λ (f : List Event). IsSeenBy f r.history) (sym (ap (λ (z : PassView). z.front) p.2 ∙ ap first_front (each p.0 p.1).seated.one)) (known p.0 p.1).seen;
-          own = λ w h. let p = view_from w h in
+          own = λ w h. let p = contains_map view_of ps w h in
               ap (λ (z : PassView). part_of_pass z.number r.history) p.2
               ∙ (ap (λ (n : ℕ). part_of_pass n r.history) (sym (each p.0 p.1).seated.number)
               ∙ ((known p.0 p.1).own ∙ (sym (ap first_own (each p.0 p.1).seated.one) ∙ ap (λ (z : PassView). z.own) (sym p.2))));

@@ -26,12 +26,10 @@ pub flag_back : (f : ℕ → Bool) (q n : ℕ) → f q ≡ true
 flag_back f q n is = grind arith
 
 pub one_true : (b : Bool) → 1 ≤ cond {A = ℕ} b 1 0 → b ≡ true
-one_true true l = refl
-one_true false l = absurd (omega arith)
+one_true b l = grind arith
 
 pub one_at_most : (b : Bool) → cond {A = ℕ} b 1 0 ≤ 1
-one_at_most true = omega arith
-one_at_most false = omega arith
+one_at_most b = grind arith
 
 pub logs_more : (p : ℕ) (x : Log) (xs : List Log) → logs_of p (x ∷ xs) ≡ cond {A = ℕ} (eqb x.number p) 1 0 + logs_of p xs
 logs_more p x xs = sum_by-cons (λ (y : Log). cond {A = ℕ} (eqb y.number p) 1 0) x xs
@@ -71,6 +69,5 @@ hand_is_counted (Retiring g takes) f e = let is : Some g ≡ Some f = e in let s
     inr (let b = one_if g.number f.number (ap (λ (z : File). z.number) same) in omega arith)
 
 pub holds_small : (n : ℕ) (d : Doing) → holds_by n d ≤ 1
-holds_small n Idle = omega arith
 holds_small n (Holding f) = one_at_most (eqb f.number n)
-holds_small n (Retiring f t) = omega arith
+holds_small n _ = omega arith

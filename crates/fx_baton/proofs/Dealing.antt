@@ -48,17 +48,11 @@ module _ (id : TableId) (k : Start) (p n : ℕ) (low : 1 ≤ p) (high : p ≤ k.
   doing_is : x.seat.me.0.doing ≡ Idle
   doing_is = ap (λ (m : Seated). m.0.doing) me
 
-  front_is : first_front x.seat.me.0.logs ≡ []
-  front_is = ap first_front one_log
-
-  own_is : first_own x.seat.me.0.logs ≡ []
-  own_is = ap first_own one_log
-
   is_new : view_of x ≡ new_pass p
   is_new = λ i. record {
     number = new.its_number i;
-    front = front_is i;
-    own = own_is i;
+    front = ap first_front one_log i;
+    own = ap first_own one_log i;
     chain = new.chain i;
     drawn = ap (chains_of_pass x.number x.passes) new.count i;
     no_chains_left = new.chains_left i;
@@ -66,9 +60,6 @@ module _ (id : TableId) (k : Start) (p n : ℕ) (low : 1 ≤ p) (high : p ≤ k.
     looks_left = new.looks i;
     doing = doing_is i;
   }
-
-  new_front : IsFront (opening_of k) (new_pass p)
-  new_front = record { legal = record { leads = (tt, refl); releases = tt }; mine = refl }
 
   new_turns : HasDrawnInTurn (opening_of k) 0 (new_pass p)
   new_turns = record {
@@ -94,7 +85,7 @@ module _ (id : TableId) (k : Start) (p n : ℕ) (low : 1 ≤ p) (high : p ≤ k.
       one = one_log;
       number = sym new.its_number;
       start = ap (λ (m : Seated). m.0.start) me;
-      front = subst (IsFront (opening_of k)) (sym is_new) new_front;
+      front = subst (IsFront (opening_of k)) (sym is_new) record { legal = record { leads = (tt, refl); releases = tt }; mine = refl };
       turns = subst (λ (n : ℕ). HasDrawnInTurn (opening_of k) n (view_of x)) (sym new.count)
           (subst (HasDrawnInTurn (opening_of k) 0) (sym is_new) new_turns);
       flag = new.flag ∙ sym (ap is_idle doing_is);

@@ -1,9 +1,10 @@
 -- The rule holds when a table is opened.
 use Rattle.fx_baton.proofs.Words.{◌≡◌, ℕ, zero, suc, ◌<◌, ◌≤◌, Bool, true, false, cond, List, [], ◌∷◌, sym, refl, ap, ◌∙◌, subst, arith, inl, inr}
-use Rattle.fx_baton.proofs.Words.{⊎_elim, some, some-injective, some-ne-none, get_elem?, Option, Some, None, nat_lt, not, ◌&&◌, Contains, State}
-use Rattle.fx_baton.proofs.Words.{opening, file_numbered, IsSettled, Contents, state_of, IsTable, is_leaving, node_at, removed_at, Node, Fresh, At}
-use Rattle.fx_baton.proofs.Words.{Leaving, Gone, File, identity_of, numbers_for, HasSameFiles, IsGivenBack, contains_none, contains_cases, Idle, Log}
-use Rattle.fx_baton.proofs.Words.{View, Start, IsKept, IsLog, IsView, leaving_count, begin_of, first_view, new_logs, new_log, Retired}
+use Rattle.fx_baton.proofs.Words.{⊎_elim, some, some-injective, some-ne-none, get_elem?, Some, None, nat_lt, not, ◌&&◌, Contains, State, opening}
+use Rattle.fx_baton.proofs.Words.{file_numbered, IsSettled, Contents, state_of, IsTable, is_leaving, node_at, removed_at, Node, identity_of}
+use Rattle.fx_baton.proofs.Words.{numbers_for, HasSameFiles, IsGivenBack, contains_none, contains_cases, Idle, Log, View, Start, IsKept, IsLog}
+use Rattle.fx_baton.proofs.Words.{IsView, leaving_count, begin_of, first_view, new_logs, new_log}
+use Rattle.fx_plain.specs.declared.node.Node.TheVariants.{Leaving}
 use Rattle.std.proofs.lemmas.Bool.{lt-ltb, ltb-true}
 use Rattle.atomic_table.specs.Table.{opening as table_opening}
 use Rattle.fx_baton.proofs.Counts.{length_new}
@@ -20,37 +21,30 @@ single_at v zero u e = some-injective v u e
 single_at v (suc i) u e = absurd (some-ne-none u (sym e))
 
 -- a table that was prepared has the same files, and is settled
-renumbered_identity : (o : Option File) (slot : ℕ) → identity_of (file_numbered o slot) ≡ identity_of o
-renumbered_identity None slot = refl
-renumbered_identity (Some f) slot = refl
-
 pub back_prepared : (plain back : Contents) (n : ℕ) → state_of back ≡ opening (state_of plain) n → IsGivenBack plain back
 back_prepared plain back n e = record {
   files = subst (HasSameFiles (state_of plain)) (sym e)
-      record { size = refl; range = refl; files = λ slot. renumbered_identity ((state_of plain).at slot) slot };
+      record {
+        size = refl;
+        range = refl;
+        files = λ slot. elim ((state_of plain).at slot)
+            as (λ o. identity_of (file_numbered o slot) ≡ identity_of o) [ None ↦ refl | Some f ↦ refl ];
+      };
   settled = subst IsSettled (sym e) record { unheld = λ m. refl; closed = λ m. refl };
 }
 
-pub only_one : (c d : Contents) → c ∷ [] ≡ d ∷ [] → c ≡ d
-only_one c d e = cc
-
 -- a table without removed files has none that is leaving
 not_leaving : (number : ℕ) (node : Node) → removed_at number node ≡ None → is_leaving node ≡ false
-not_leaving number Fresh e = refl
-not_leaving number (At slot file) e = refl
 not_leaving number (Leaving file) e = let no : Some (record { number = number; identity = file }) ≡ None = e in absurd (cc no)
-not_leaving number (Retired file) e = refl
-not_leaving number Gone e = refl
+not_leaving number _ e = refl
 
 module _ (k : Start) (c : Contents) (begins : state_of c ≡ begin_of k) (sound : IsTable c) (few : k.passes ≤ 16) where
-  size_few : (state_of k.plain.value).size ≤ 256
-  size_few = let e = ap (λ (z : State). z.size) begins in let l = sound.few_slots in omega arith
-
   fresh_there : (n : ℕ) → 256 ≤ n → n < numbers_for k.chains → (begin_of k).fresh n ≡ true
   fresh_there n low high =
       elim (nat_lt n (state_of k.plain.value).size) as
       (λ b. nat_lt n (state_of k.plain.value).size ≡ b → (not b && nat_lt n (numbers_for k.chains)) ≡ true) [
-        | true ↦ λ e. absurd (let l = ltb-true n (state_of k.plain.value).size e in let few = size_few in omega arith)
+        | true ↦ λ e. absurd (let l = ltb-true n (state_of k.plain.value).size e in let size = ap (λ (z : State). z.size) begins in
+            let few = sound.few_slots in omega arith)
         | false ↦ λ e. lt-ltb n (numbers_for k.chains) high
       ] refl
 

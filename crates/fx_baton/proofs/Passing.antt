@@ -1,11 +1,11 @@
 -- A pass that takes the table, and one that puts it back.
 use Rattle.fx_baton.proofs.Words.{◌≡◌, ℕ, ◌+◌, ◌-◌, ◌*◌, ◌≤◌, Bool, List, [], ◌∷◌, ◌++◌, map, sym, refl, ap, ◌∙◌, subst, arith, Option, Some, None}
 use Rattle.fx_baton.proofs.Words.{TableId, Seat, State, Contents, state_of, IsLegal, IsSeenBy, part_of_pass, close_of, ◌▷◌, ◌▷▷◌, closed_by_release}
-use Rattle.fx_baton.proofs.Words.{closed_by_retirement, File, Event, Action, Release, number_behind, Opening, state_at, PassView, IsFront, next_of}
-use Rattle.fx_baton.proofs.Words.{HasDrawnInTurn, Doing, Holding, Retiring, seen_again, seen_further, part_mine, Log, View, Start, Call, BatonPass}
-use Rattle.fx_baton.proofs.Words.{Seated, opening_of, begin_of, Knows, Takes, log_behind, view_behind, first_front, first_own, view_of, is_idle}
-use Rattle.fx_baton.proofs.Words.{IsPassOf, HasTable, HasSeenMore, UsesNext, HasCalled, HasGivenBack, pass_behind}
-use Rattle.fx_table.specs.Calls.{Use, Adds}
+use Rattle.fx_baton.proofs.Words.{closed_by_retirement, File, Event, Release, number_behind, state_at, PassView, IsFront, next_of, HasDrawnInTurn}
+use Rattle.fx_baton.proofs.Words.{Doing, Holding, Retiring, seen_again, seen_further, part_mine, Log, View, Start, Call, BatonPass, Seated}
+use Rattle.fx_baton.proofs.Words.{opening_of, begin_of, Knows, Takes, log_behind, view_behind, first_front, first_own, view_of, is_idle, IsPassOf}
+use Rattle.fx_baton.proofs.Words.{HasTable, HasSeenMore, UsesNext, HasCalled, HasGivenBack, pass_behind}
+use Rattle.fx_table.specs.Calls.{Adds}
 use Rattle.fx_baton.specs.Turns.{by, actions_of, doing_of, use_of, events_of, table_of_slots, table_of_loan}
 use Rattle.fx_baton.specs.declared.view.Call.TheVariants.{Look as LookCall, Release as ReleaseCall, Retire as RetireCall}
 
@@ -97,14 +97,6 @@ next_behind c v now (Holding f) ReleaseCall own next inside used uses =
 next_behind c v now (Retiring f t) RetireCall own next inside used uses =
     let e = next_close v.number v.chain (closed_by_retirement c f.number) own in omega arith
 next_behind c v now _ _ own next inside used uses = omega arith
-
--- a pass that saw more, and then did something, did it behind what it had seen at first
-adds_behind : (o : Opening) (u v w : PassView) (actions : List Action) (doing : Doing) (used : Use) → HasSeenMore u v
-    → Adds o v actions doing used w → Adds o u actions doing used w
-adds_behind o u v w actions doing used s a =
-    let b : Adds o (record u { front = v.front }) actions doing used w = subst (λ (z : PassView). Adds o z actions doing used w) s.same a in
-    let seen = seen_further u.front v.front w.front s.seen b.seen in
-    assumption (seen, b)
 
 module _ (id : TableId) (k : Start) (call : Call) (idle : Bool) (p : BatonPass) (t : HasCalled id k call idle p) (seat : Seat Contents View)
     (table : seat.table_id ≡ p.seat.table_id)
@@ -204,8 +196,11 @@ module _ (id : TableId) (k : Start) (call : Call) (idle : Bool) (p : BatonPass) 
   adds_so u c d h =
       let loans : Some t.taken ≡ Some c = sym t.has.loan ∙ h.loan in
       let same : t.taken ≡ c = cc loans in
-      let here = adds_behind (opening_of k) u (view_of p) (view_of gave) (actions_of t.taken p.seat.me.0.doing call) (doing_of t.taken call)
-      (use_of call) h.more adds_here in
+      let saw = subst (λ (z : PassView). Adds (opening_of k) z (actions_of t.taken p.seat.me.0.doing call) (doing_of t.taken call) (use_of call)
+      (view_of gave)) h.more.same adds_here in
+      let seen = seen_further u.front (view_of p).front (view_of gave).front h.more.seen adds_here.seen in
+      let here : Adds (opening_of k) u (actions_of t.taken p.seat.me.0.doing call) (doing_of t.taken call) (use_of call) (view_of gave) =
+      assumption (seen, saw) in
       subst (λ (z : Contents). Adds (opening_of k) u (actions_of z p.seat.me.0.doing call) (doing_of z call) (use_of call) (view_of gave)) same here
 
   pub gives_back : HasGivenBack id k call p gave

@@ -15,22 +15,21 @@ has_first [] x h = h
 has_first (y ∷ l) x h = subst (Contains (y ∷ l)) (sym (contains_only y x h)) (contains_head y l)
 
 -- a view that doesn't have the table
-record IsPart (k : Start) (h : List Event) (c : Contents) (u : View) : Type 0 where
-  its : IsView k h c u
-  free : u.loan ≡ None
+abbrev IsPart : Start → List Event → Contents → View → Type 0
+IsPart k h c u = IsView k h c u × (u.loan ≡ None)
 
 -- a view of an idle seat without the table, which has some of what another has
 part_view : (k : Start) (h : List Event) (c : Contents) (v w : View) → v.doing ≡ Idle → w.doing ≡ Idle → w.loan ≡ None
     → ((x : Log) → Contains w.logs x → IsLog k h c v.doing x) → (w.logs ≡ []) ⊎ (w.start ≡ k) → IsPart k h c w
-part_view k h c v w idle idle' free logs start = record {
-  its = record {
+part_view k h c v w idle idle' free logs start = (
+  record {
     logs = λ x i. subst (λ (d : Doing). IsLog k h c d x) (idle ∙ sym idle') (logs x i);
     file = λ f e. let no : None ≡ Some f = sym (ap file_in_hand idle') ∙ e in absurd (cc no);
     empty = λ _. (idle', free);
     start = start;
-  };
-  free = free;
-}
+  },
+  free,
+)
 
 -- the rule holds of other views, where each is one that was there or a part of one, and all together have what all had
 seats_keep : (k : Start) (s : Shared) (r : IsKept k s) (views : List View)
@@ -42,7 +41,7 @@ seats_keep : (k : Start) (s : Shared) (r : IsKept k s) (views : List View)
     → IsKept k (record s { views = views })
 seats_keep k s r views each holder by_logs by_doing =
     let free = λ (i : ℕ) (u : View) (e : get_elem? views i ≡ some u) (old : get_elem? s.views i ≡ some u → u.loan ≡ None).
-    ⊎_elim (λ (new : IsPart k r.history r.contents u). new.free) old (each i u e) in record {
+    ⊎_elim (λ (new : IsPart k r.history r.contents u). new.1) old (each i u e) in record {
       history = r.history;
       contents = r.contents;
       legal = r.legal;
@@ -61,7 +60,7 @@ seats_keep k s r views each holder by_logs by_doing =
             others = λ i u n e. free i u e (away.others i u n);
           })
           r.place;
-      views = λ i u e. ⊎_elim (λ (new : IsPart k r.history r.contents u). new.its) (λ old. r.views i u old) (each i u e);
+      views = λ i u e. ⊎_elim (λ (new : IsPart k r.history r.contents u). new.0) (λ old. r.views i u old) (each i u e);
       numbers = λ p. by_logs (logs_of p) refl (λ xs ys. sum_by-append _ xs ys) ∙ r.numbers p;
       count = by_logs (length {A = Log}) refl (λ xs ys. length-append xs ys) ∙ r.count;
       few = r.few;

@@ -20,13 +20,12 @@ pub use Rattle.fx_plain.specs.Contents.{Contents, IsTable, is_leaving, is_retire
 pub use Rattle.fx_plain.specs.History.{IsLegal, IsSeenBy, Leads, ReleasesItsOwn, action_of, close_of, held_after, held_by, part_of_pass, ◌▷▷◌, ◌▷◌}
 pub use Rattle.fx_plain.specs.State.{IsSettled, State, file_numbered, opening}
 pub use Rattle.fx_plain.specs.Step.{Steps, changed_at, with_removed}
-pub use Rattle.fx_plain.specs.Table.{EndsHold, HasRoomForHold, LetsLeave, closed_by_release, closed_by_retirement, identity_of, numbered}
-pub use Rattle.fx_plain.specs.declared.event.Action.{Action}
+pub use Rattle.fx_plain.specs.Table.{EndsHold, HasRoomForHold, LetsLeave, closed_by_release, closed_by_retirement, identity_of, more_leaving}
+pub use Rattle.fx_plain.specs.Table.{numbered}
 pub use Rattle.fx_plain.specs.declared.event.Action.TheVariants.{Allocate, Clear, Close, Full, Look, Put, Release, Take}
 pub use Rattle.fx_plain.specs.declared.event.Event.{Event}
 pub use Rattle.fx_plain.specs.declared.event.File.{File}
 pub use Rattle.fx_plain.specs.declared.node.Node.{Node}
-pub use Rattle.fx_plain.specs.declared.node.Node.TheVariants.{At, Fresh, Gone, Leaving, Retired}
 pub use Rattle.fx_table.proofs.Calls.{seen_again, seen_further}
 pub use Rattle.fx_table.proofs.Histories.{held_mine, held_other, legal_then, one_author, part_mine, part_other}
 pub use Rattle.fx_table.proofs.Members.{contains_cases, contains_head, contains_map, contains_mapped, contains_none, contains_only, contains_reverse}

@@ -1,5 +1,5 @@
 use Rattle.fx_baton.proofs.Words.{◌≡◌, sym, ◌∙◌, ap, ◌++◌, ◌∷◌, [], opening, Contents, state_of, numbers_for}
-use Rattle.fx_baton.proofs.OpeningKeepsRule.{opens, back_prepared, only_one}
+use Rattle.fx_baton.proofs.OpeningKeepsRule.{opens, back_prepared}
 use Rattle.fx_baton.proofs.table.BatonTable.start.Goals as goal
 
 pub new-requires : goal.new-requires
@@ -14,5 +14,6 @@ new-requires c =
 pub returns-clause-refused : goal.returns-clause-refused
 returns-clause-refused c =
     let pushed = c.push_reserved.ensures.items ∙ ap (λ l. l ++ c.prepare.new.self ∷ []) c.in-Ok.ensures.items in
-    let is : c.only_table.result ≡ c.prepare.new.self = only_one _ _ (sym c.only_table.ensures ∙ (c.in-Err.ensures.err ∙ pushed)) in
+    let both : c.only_table.result ∷ [] ≡ c.prepare.new.self ∷ [] = sym c.only_table.ensures ∙ (c.in-Err.ensures.err ∙ pushed) in
+    let is : c.only_table.result ≡ c.prepare.new.self = cc both in
     back_prepared c.args.plain c.only_table.result c.numbers_for.result (ap state_of is ∙ c.in-Ok-prepare.ensures.ok)
