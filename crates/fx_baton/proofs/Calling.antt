@@ -286,7 +286,7 @@ module _ {id : TableId} {k : Start} {u : PassView} {c : Contents} {p : BatonPass
         let e : EndsHold c d f.number out = subst (λ (n : ℕ). EndsHold c d n out) node_is ends in
         called d ReleaseCall true e.sound
         (subst (λ (z : Doing). IsTurn view log c d (events_of c log.number p.chain z ReleaseCall) Idle) (sym holds_here)
-        (letting_go_turn view log c d p.chain h.knows f holds_here (e.steps f refl) e.leaving)) tt (omega arith) (omega arith) refl
+        (letting_go_turn view log c d p.chain h.knows f holds_here (closed_by_release c f.number) refl (e.steps f refl) e.leaving)) tt (omega arith) (omega arith) refl
 
     -- what a release answers
     pub released_so : (d : Contents) {q : BatonPass} → HasGivenBack id k ReleaseCall (lent d) q → (result : Option Closed)
@@ -330,7 +330,7 @@ module _ {id : TableId} {k : Start} {u : PassView} {c : Contents} {p : BatonPass
         → leaving d ≡ changed_at (leaving c) retired.node false → IsTable d → HasCalled id k RetireCall true (lent d)
     retire_called d leads leaves sound = called d RetireCall true sound
         (subst (λ (z : Doing). IsTurn view log c d (events_of c log.number p.chain z RetireCall) Idle) (sym removes_here)
-        (retire_turn view log c d p.chain h.knows gone removed.1 removes_here (leads_there d leads)
+        (retire_turn view log c d p.chain h.knows gone removed.1 removes_here (closed_by_retirement c gone.number) refl (leads_there d leads)
         (leaves ∙ ap (λ (n : ℕ). changed_at (leaving c) n false) place_is))) tt (omega arith) (omega arith) refl
 
     -- what a retirement answers

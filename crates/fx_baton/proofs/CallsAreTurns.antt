@@ -170,17 +170,13 @@ module _ (v : View) (x : Log) (c d : Contents) (chain : ℕ) (known : Knows v x 
     file_released g e = let out = out_by (eqb ((state_of c).holds f.number) 1) (leaving c f.number) ((state_of c).removed f.number) g e in
         (removed_file c known.sound f g there out.0, out.1)
 
-    pub letting_go_turn : Leads (state_of c) ([] ▷ Release f ▷▷ close_of (closed_by_release c f.number)) (state_of d) → leaving d ≡ leaving c
-        → IsTurn v x c d (done ([] ▷ Release f ▷▷ close_of (closed_by_release c f.number))) Idle
-    letting_go_turn leads leaves = by_out (closed_by_release c f.number) refl leads
-      where
-        by_out : (o : Option File) → closed_by_release c f.number ≡ o → Leads (state_of c) ([] ▷ Release f ▷▷ close_of o) (state_of d)
-            → IsTurn v x c d (done ([] ▷ Release f ▷▷ close_of o)) Idle
-        by_out None e l = turn ([] ▷ Release f) Idle None _ l.1 refl refl (legal_one (Release f) (l.0.1, l.1) held_one)
-            (λ n. one_less n l.0.1) (none_leaves leaves) (λ g i _. i) (held_mine x.number chain (Release f) x.front) (λ g e. absurd (none_file g e))
-        by_out (Some g) e l = let is = file_released g e in
-            subst (λ (z : File). Leads (state_of c) ([] ▷ Release f ▷ Close z) (state_of d) → IsTurn v x c d (done ([] ▷ Release f ▷ Close z)) Idle)
-            is.0 (λ m. close_turn m leaves is.1) l
+    pub letting_go_turn : (o : Option File) → closed_by_release c f.number ≡ o → Leads (state_of c) ([] ▷ Release f ▷▷ close_of o) (state_of d)
+        → leaving d ≡ leaving c → IsTurn v x c d (done ([] ▷ Release f ▷▷ close_of o)) Idle
+    letting_go_turn None e l leaves = turn ([] ▷ Release f) Idle None _ l.1 refl refl (legal_one (Release f) (l.0.1, l.1) held_one)
+        (λ n. one_less n l.0.1) (none_leaves leaves) (λ g i _. i) (held_mine x.number chain (Release f) x.front) (λ g e. absurd (none_file g e))
+    letting_go_turn (Some g) e l leaves = let is = file_released g e in
+        subst (λ (z : File). Leads (state_of c) ([] ▷ Release f ▷ Close z) (state_of d) → IsTurn v x c d (done ([] ▷ Release f ▷ Close z)) Idle)
+        is.0 (λ m. close_turn m leaves is.1) l
 
   -- what the pass removed is retired
   module _ (f : File) (takes : ℕ) (removes : v.doing ≡ Retiring f takes) where
@@ -225,14 +221,10 @@ module _ (v : View) (x : Log) (c d : Contents) (chain : ℕ) (known : Knows v x 
         absurd (none_file f (sym e ∙ (b ∙ leaving_file c known.sound f there_still is_leaving))))
         (λ not_zero. omega (arith, not_zero))
 
-    pub retire_turn : Leads (state_of c) (close_of (closed_by_retirement c f.number)) (state_of d) → leaving d ≡ changed_at (leaving c) f.number false
-        → IsTurn v x c d (done (close_of (closed_by_retirement c f.number))) Idle
-    retire_turn leads leaves = by_out (closed_by_retirement c f.number) refl leads
-      where
-        by_out : (o : Option File) → closed_by_retirement c f.number ≡ o → Leads (state_of c) (close_of o) (state_of d)
-            → IsTurn v x c d (done (close_of o)) Idle
-        by_out None e l = turn [] Idle None _ l.1 refl refl (subst (IsLegal (begin_of v.start) x.front) (sym l.1) known.legal)
-            same_holds (leaves_less leaves) (λ g i _. i) held_nothing (λ g e. absurd (none_file g e))
-        by_out (Some g) e l =
-            subst (λ (z : File). Leads (state_of c) ([] ▷ Close z) (state_of d) → IsTurn v x c d (done ([] ▷ Close z)) Idle) (file_retired g e)
-            (λ m. out_turn m leaves) l
+    pub retire_turn : (o : Option File) → closed_by_retirement c f.number ≡ o → Leads (state_of c) (close_of o) (state_of d)
+        → leaving d ≡ changed_at (leaving c) f.number false → IsTurn v x c d (done (close_of o)) Idle
+    retire_turn None e l leaves = turn [] Idle None _ l.1 refl refl (subst (IsLegal (begin_of v.start) x.front) (sym l.1) known.legal)
+        same_holds (leaves_less leaves) (λ g i _. i) held_nothing (λ g e. absurd (none_file g e))
+    retire_turn (Some g) e l leaves =
+        subst (λ (z : File). Leads (state_of c) ([] ▷ Close z) (state_of d) → IsTurn v x c d (done ([] ▷ Close z)) Idle) (file_retired g e)
+        (λ m. out_turn m leaves) l

@@ -61,19 +61,6 @@ module _ (id : TableId) (k : Start) (p n : ℕ) (low : 1 ≤ p) (high : p ≤ k.
     doing = doing_is i;
   }
 
-  new_turns : HasDrawnInTurn (opening_of k) 0 (new_pass p)
-  new_turns = record {
-    whole = refl;
-    number = (low, high);
-    drawn = refl;
-    chain = refl;
-    reached = omega arith;
-    last_drawn = λ e. let no : false ≡ true = e in absurd (cc no);
-    few_left = omega arith;
-    left_inside = omega arith;
-    unused = omega arith;
-  }
-
   is_pass : IsPassOf id k x
   is_pass = record {
     table = ap (λ (z : Seat Contents View). z.table_id) new.its_seat ∙ table;
@@ -86,8 +73,17 @@ module _ (id : TableId) (k : Start) (p n : ℕ) (low : 1 ≤ p) (high : p ≤ k.
       number = sym new.its_number;
       start = ap (λ (m : Seated). m.0.start) me;
       front = subst (IsFront (opening_of k)) (sym is_new) record { legal = record { leads = (tt, refl); releases = tt }; mine = refl };
-      turns = subst (λ (n : ℕ). HasDrawnInTurn (opening_of k) n (view_of x)) (sym new.count)
-          (subst (HasDrawnInTurn (opening_of k) 0) (sym is_new) new_turns);
+      turns = subst (λ (z : ℕ × PassView). HasDrawnInTurn (opening_of k) z.0 z.1) (λ i. (sym new.count i, sym is_new i)) record {
+        whole = refl;
+        number = (low, high);
+        drawn = refl;
+        chain = refl;
+        reached = omega arith;
+        last_drawn = λ e. let no : false ≡ true = e in absurd (cc no);
+        few_left = omega arith;
+        left_inside = omega arith;
+        unused = omega arith;
+      };
       flag = new.flag ∙ sym (ap is_idle doing_is);
     };
   }
