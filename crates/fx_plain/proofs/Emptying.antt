@@ -1,8 +1,8 @@
 -- The files of the slots are closed, one slot after another.
-use Rattle.fx_plain.proofs.Words.{length-set, get_or_default, ◌≡◌, ℕ, zero, suc, ◌+◌, ◌<◌, ◌≤◌, List, ◌++◌, length, length-append, add-one, refl}
-use Rattle.fx_plain.proofs.Words.{sym, ap, subst, ◌∙◌, slice_index_or, Option, Some, None, arith, inl, inr, cases_lt, option_to_list, File}
-use Rattle.fx_plain.proofs.Words.{files_in_order, identities_of, AllPlaced, SameButPlaced, slot_at, node_at, file_at, placed_at, file_named, file_in}
-use Rattle.fx_plain.proofs.Words.{nodes_without, removed_count_of, At, Gone, sum_by, Node, sum_by-set, identity_of}
+use Rattle.fx_plain.proofs.Words.{length-set, get_or_default, ◌≡◌, ℕ, zero, suc, ◌+◌, ◌<◌, ◌≤◌, List, ◌++◌, length, length-append, add-one, refl, sym}
+use Rattle.fx_plain.proofs.Words.{ap, subst, ◌∙◌, slice_index_or, Option, Some, None, arith, inl, inr, cases_lt, option_to_list, File, files_in_order}
+use Rattle.fx_plain.proofs.Words.{identities_of, AllPlaced, SameButPlaced, slot_at, node_at, file_at, placed_at, file_named, file_in, nodes_without}
+use Rattle.fx_plain.proofs.Words.{removed_count_of, At, Gone, sum_by, Node, sum_by-set, identity_of}
 use Rattle.fx_plain.proofs.Cells.{each_set}
 use Rattle.fx_plain.proofs.Writes.{inside_of-At}
 use Rattle.fx_plain.proofs.Moving.{IsLeft, left_next, named_same}

@@ -4,13 +4,11 @@ use Rattle.fx_plain.proofs.Words.{sym, ap, subst, ◌∙◌, slice_index, slice_
 use Rattle.fx_plain.proofs.Words.{get_or-set_same, get_or-set_other, Closed, File, Look, Release, Steps, changed_at, after, Leads, close_of, ◌▷▷◌}
 use Rattle.fx_plain.proofs.Words.{Contents, IsTable, IsCounted, state_of, slot_at, node_at, file_at, placed_at, leaving, removed_at, is_fresh}
 use Rattle.fx_plain.proofs.Words.{is_leaving, is_retired, file_in, node_after_retirement, removed_count_of, itself, At, Leaving, Retired, Gone}
-use Rattle.fx_plain.proofs.Words.{numbered, identity_of, closed_by_retirement, HasRoomForHold, EndsHold, Node, get_or-le-sum_by, sum_by-set}
-use Rattle.fx_plain.specs.History.{◌▷◌}
+use Rattle.fx_plain.proofs.Words.{numbered, identity_of, closed_by_retirement, HasRoomForHold, EndsHold, Node, get_or-le-sum_by, sum_by-set, ◌▷◌}
 use Rattle.fx_plain.specs.Table.{closed_by_release}
 use Rattle.fx_plain.proofs.Cells.{by_equality, each_set, unchanged, written, inside_of}
 use Rattle.fx_plain.proofs.SumLemmas.{sum_below_all}
-use Rattle.fx_plain.proofs.Writes.{IsOff, inside_of-At, inside_told, leaving_is, retired_is, state_of-holds, state_of-nodes, leaving-nodes}
-use Rattle.fx_plain.proofs.Writes.{same_file}
+use Rattle.fx_plain.proofs.Writes.{IsOff, inside_of-At, inside_told, leaving_is, retired_is, state_of-holds, state_of-nodes, leaving-nodes, same_file}
 
 -- the file at a slot
 pub at_is : (c : Contents) (slot number : ℕ) (file : Closed) → slot_at c.slots slot ≡ Some number → node_at c.nodes number ≡ At slot file

@@ -1,9 +1,8 @@
 -- While a pass releases nothing, the file that it looked up keeps a hold.
 use Rattle.fx_plain.proofs.Words.{◌≡◌, ◌≢◌, ℕ, suc, ◌+◌, ◌<◌, ◌≤◌, ◌==◌, List, [], ◌∷◌, ◌++◌, map, refl, ap, subst, ◌∙◌, Option, Some, if◌then◌else◌}
 use Rattle.fx_plain.proofs.Words.{arith, inl, inr, cases_lt, State, Allows, after, state_after, AllowsAll, action_of, closed_of, closes_of, File}
-use Rattle.fx_plain.proofs.Words.{Event, Action, Look, Release, Close}
+use Rattle.fx_plain.proofs.Words.{Event, Action, Look, Release, Close, released_by, releases_in}
 use Rattle.fx_plain.specs.History.{held_after, held_by, ReleasesItsOwn, AllReleaseTheirOwn, part_of_pass}
-use Rattle.fx_plain.specs.Laws.{released_by, releases_in}
 use Rattle.fx_plain.proofs.Cells.{by_equality}
 use Rattle.fx_plain.proofs.Named.{named, named_same}
 use Rattle.fx_plain.proofs.Sums.{sum_below, same_below, changed_below, sum_grows, sum_zero}

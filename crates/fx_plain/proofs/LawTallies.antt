@@ -1,8 +1,7 @@
 -- Each number is fresh, or at a slot, or removed, or closed, and passes from one to the next.
-use Rattle.fx_plain.proofs.Words.{◌≡◌, ℕ, ◌+◌, ◌<◌, ◌≤◌, Bool, true, false, List, [], ◌∷◌, map, length, refl, sym, ap, ◌∙◌, Option, Some, None}
-use Rattle.fx_plain.proofs.Words.{arith, inl, inr, length-append, cases_lt, State, Allows, after, changed_at, with_removed, state_after, AllowsAll}
-use Rattle.fx_plain.proofs.Words.{action_of, IsStart, closed_of, closes_of, File, Event, Action, Look, Put, Clear, Take, Allocate, Close}
-use Rattle.fx_plain.specs.Laws.{if_numbered}
+use Rattle.fx_plain.proofs.Words.{◌≡◌, ℕ, ◌+◌, ◌<◌, ◌≤◌, Bool, true, false, List, [], ◌∷◌, map, length, refl, sym, ap, ◌∙◌, Option, Some, None, arith}
+use Rattle.fx_plain.proofs.Words.{inl, inr, length-append, cases_lt, State, Allows, after, changed_at, with_removed, state_after, AllowsAll}
+use Rattle.fx_plain.proofs.Words.{action_of, IsStart, closed_of, closes_of, File, Event, Action, Look, Put, Clear, Take, Allocate, Close, if_numbered}
 use Rattle.fx_plain.proofs.Named.{named, named_at_most_one, named_file}
 use Rattle.fx_plain.proofs.Sums.{sum_below, changed_below, term_below, sum_zero, sum_one}
 

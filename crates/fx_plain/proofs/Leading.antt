@@ -1,7 +1,6 @@
 -- Histories that go on from one another.
-use Rattle.fx_plain.proofs.Words.{◌≡◌, List, [], ◌∷◌, ◌++◌, refl, sym, ap, subst, ◌∙◌, append_assoc, None, Closed, Action, Look, State, Allows}
-use Rattle.fx_plain.proofs.Words.{after, ◌▷▷◌, Leads, state_after, closes_in, closed_by}
-use Rattle.std.proofs.lemmas.List.{append-nil}
+use Rattle.fx_plain.proofs.Words.{◌≡◌, List, [], ◌∷◌, ◌++◌, refl, sym, ap, subst, ◌∙◌, append_assoc, None, Closed, Action, Look, State, Allows, after}
+use Rattle.fx_plain.proofs.Words.{◌▷▷◌, Leads, state_after, closes_in, closed_by, append-nil}
 
 -- one history goes on where another ended
 pub leads_then : (first mid last : State) (h more : List Action) → Leads first h mid → Leads mid more last → Leads first (h ▷▷ more) last

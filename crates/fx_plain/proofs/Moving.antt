@@ -2,9 +2,7 @@
 use Rattle.fx_plain.proofs.Words.{◌≡◌, ◌≢◌, ℕ, ◌+◌, ◌<◌, ◌≤◌, List, [], ◌∷◌, ◌++◌, length, refl, sym, ap, ◌∙◌, slice_set, Option, Some, None, IfSome}
 use Rattle.fx_plain.proofs.Words.{IsSome, arith, set-set, length-set, get_or-set_same, get_or-set_other, get_or_append_left, Closed, AllPlaced}
 use Rattle.fx_plain.proofs.Words.{IsRenumbered, slot_at, node_at, file_named, file_in, opening_slot, moved_node, nodes_without, file_count_of, At}
-use Rattle.fx_plain.proofs.Words.{Gone, sum_by, Node, sum_by-set}
-use Rattle.std.proofs.lemmas.List.{set-get_or}
-use Rattle.fx_plain.specs.Contents.{HaveOwnNumbers}
+use Rattle.fx_plain.proofs.Words.{Gone, sum_by, Node, sum_by-set, set-get_or, HaveOwnNumbers}
 use Rattle.std.proofs.Math.Seq.{get_or-append_seam}
 use Rattle.fx_plain.proofs.Cells.{by_equality}
 use Rattle.fx_plain.proofs.Writes.{has_file-At}

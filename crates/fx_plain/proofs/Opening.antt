@@ -3,10 +3,7 @@ use Rattle.fx_plain.proofs.Words.{◌≡◌, ℕ, ◌<◌, ◌≤◌, ◌^◌, B
 use Rattle.fx_plain.proofs.Words.{slice_index, Option, Some, None, arith, inl, inr, length-replicate, cases_lt, get_or-eq_default, Closed, IsSettled}
 use Rattle.fx_plain.proofs.Words.{opening, Contents, IsTable, IsCounted, state_of, slot_at, node_at, file_at, placed_at, removed_at, is_fresh}
 use Rattle.fx_plain.proofs.Words.{is_retired, IsRenumbered, KeepsFirst, moved_node, file_named, file_in, opening_slot, removed_count_of, itself}
-use Rattle.fx_plain.proofs.Words.{Fresh, At, Gone, Node}
-use Rattle.std.proofs.Common.{nat_lt}
-use Rattle.std.proofs.lemmas.Bool.{lt-ltb, le-ltb}
-use Rattle.fx_plain.specs.State.{file_numbered}
+use Rattle.fx_plain.proofs.Words.{Fresh, At, Gone, Node, nat_lt, lt-ltb, le-ltb, file_numbered}
 use Rattle.fx_plain.proofs.Cells.{inside_of, read_default}
 use Rattle.fx_plain.proofs.Settled.{no_holds, none_removed}
 use Rattle.fx_plain.proofs.SumLemmas.{sum_of_nothings, sum_by-replicate}

@@ -1,6 +1,5 @@
 -- What is known of the state that passes begin with.
-use Rattle.fx_plain.proofs.Words.{◌≡◌, ℕ, ap, subst, sym, ◌∙◌, None, File, Option, IsSettled, State, opening, refl}
-use Rattle.fx_plain.specs.State.{file_numbered}
+use Rattle.fx_plain.proofs.Words.{◌≡◌, ℕ, ap, subst, sym, ◌∙◌, None, File, Option, IsSettled, State, opening, refl, file_numbered}
 
 pub settled_at_opening : (st new : State) (numbers : ℕ) → new ≡ opening st numbers → IsSettled new
 settled_at_opening st new numbers is = subst IsSettled (sym is) (record { unheld = λ _. refl; closed = λ _. refl })

@@ -2,7 +2,7 @@
 use Rattle.fx_plain.proofs.Words.{◌≡◌, ◌≢◌, ℕ, zero, suc, ◌+◌, ◌-◌, ◌<◌, ◌≤◌, List, [], ◌∷◌, ◌++◌, length, length-append, replicate, refl, sym, ap}
 use Rattle.fx_plain.proofs.Words.{subst, ◌∙◌, slice_index_or, slice_set, append_assoc, IsSome, arith, inl, inr, length-set, length-replicate}
 use Rattle.fx_plain.proofs.Words.{get_or_append_left, cases_lt, get_or-eq_default, node_at, file_in, Fresh, Gone, with_rest, Node, set-set}
-use Rattle.std.proofs.lemmas.List.{get_or-append-add, set-append_left}
+use Rattle.fx_plain.proofs.Words.{get_or-append-add, set-append_left}
 
 read_replicate : {X : Type 0} (n i : ℕ) (x d : X) → i < n → slice_index_or (replicate n x) i d ≡ x
 read_replicate zero i x d inside = absurd (omega arith)

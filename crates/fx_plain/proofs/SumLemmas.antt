@@ -1,6 +1,5 @@
 -- Sums over lists of small numbers and of nothings.
-use Rattle.fx_plain.proofs.Words.{◌≡◌, sum_by-cons, sum_by, List, [], arith, length, refl, replicate, slice_index_or, suc, zero, ℕ, ◌∷◌, ◌≤◌}
-use Rattle.std.proofs.Common.{◌*◌}
+use Rattle.fx_plain.proofs.Words.{◌≡◌, sum_by-cons, sum_by, List, [], arith, length, refl, replicate, slice_index_or, suc, zero, ℕ, ◌∷◌, ◌≤◌, ◌*◌}
 
 -- a sum of small numbers
 pub sum_le : {X : Type 0} (f : X → ℕ) (most : ℕ) → ((x : X) → f x ≤ most) → (xs : List X) → sum_by f xs ≤ most * length xs

@@ -1,7 +1,7 @@
 -- What is read of a table after one of its lists was written at one place.
-use Rattle.fx_plain.proofs.Words.{◌≡◌, ◌≢◌, ℕ, ◌<◌, Bool, true, false, List, length, refl, sym, ap, ◌∙◌, slice_set, subst, IsSome, Option, Some}
-use Rattle.fx_plain.proofs.Words.{None, get_or-set_other, Closed, changed_at, Contents, IsTable, state_of, slot_at, node_at, file_at, placed_at}
-use Rattle.fx_plain.proofs.Words.{leaving, removed_at, is_fresh, is_leaving, is_retired, file_in, Fresh, At, Leaving, Retired, Gone, Node}
+use Rattle.fx_plain.proofs.Words.{◌≡◌, ◌≢◌, ℕ, ◌<◌, Bool, true, false, List, length, refl, sym, ap, ◌∙◌, slice_set, subst, IsSome, Option, Some, None}
+use Rattle.fx_plain.proofs.Words.{get_or-set_other, Closed, changed_at, Contents, IsTable, state_of, slot_at, node_at, file_at, placed_at, leaving}
+use Rattle.fx_plain.proofs.Words.{removed_at, is_fresh, is_leaving, is_retired, file_in, Fresh, At, Leaving, Retired, Gone, Node}
 use Rattle.fx_plain.proofs.Cells.{written, inside_of}
 
 -- a node that isn't gone is one of the table's

@@ -1,5 +1,4 @@
-use Rattle.fx_plain.proofs.Words.{◌≡◌, ◌+◌, length, take}
-use Rattle.std.proofs.Common.{vec_capacity}
+use Rattle.fx_plain.proofs.Words.{◌≡◌, ◌+◌, length, take, vec_capacity}
 use Rattle.fx_plain.proofs.node_list.cut_off.Given as goal
 
 abbrev pub invariant-loop : goal.invariant-loop

@@ -1,5 +1,4 @@
-use Rattle.fx_plain.proofs.Words.{◌≡◌, ◌≤◌, ◌<◌, ℕ, Fresh, with_rest}
-use Rattle.std.proofs.Common.{vec_len, vec_capacity}
+use Rattle.fx_plain.proofs.Words.{◌≡◌, ◌≤◌, ◌<◌, ℕ, Fresh, with_rest, vec_len, vec_capacity}
 use Rattle.fx_plain.proofs.node_list.write_up_to.Given as goal
 
 abbrev pub invariant-loop : goal.invariant-loop

@@ -1,6 +1,4 @@
-use Rattle.fx_plain.proofs.Words.{[], arith, refl, ◌≡◌, ℕ, List, Option, sym, ap, subst, ◌∙◌, length, IsSettled, Contents, state_of}
-use Rattle.fx_plain.specs.State.{vacant}
-use Rattle.fx_plain.specs.contracts.table.PlainTable.{the_view}
+use Rattle.fx_plain.proofs.Words.{[], arith, refl, ◌≡◌, ℕ, List, Option, sym, ap, subst, ◌∙◌, length, IsSettled, Contents, state_of, vacant, the_view}
 use Rattle.fx_plain.proofs.FilesOut.{state_of-without}
 use Rattle.fx_plain.proofs.table.PlainTable.empty_into.Goals as goal
 

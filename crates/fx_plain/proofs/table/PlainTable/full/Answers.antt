@@ -1,5 +1,4 @@
-use Rattle.fx_plain.proofs.Words.{sym, ap, ◌∙◌, length, files_of, Contents, state_of}
-use Rattle.fx_plain.specs.contracts.table.PlainTable.{the_view}
+use Rattle.fx_plain.proofs.Words.{sym, ap, ◌∙◌, length, files_of, Contents, state_of, the_view}
 use Rattle.fx_plain.proofs.Settled.{length-files_of}
 use Rattle.fx_plain.proofs.table.PlainTable.full.Goals as goal
 

@@ -1,5 +1,4 @@
-use Rattle.fx_plain.proofs.Words.{rules, ◌≡◌, ◌<◌, Some, None, length, slot_at, Contents}
-use Rattle.fx_plain.specs.contracts.table.PlainTable.{the_view}
+use Rattle.fx_plain.proofs.Words.{rules, ◌≡◌, ◌<◌, Some, None, length, slot_at, Contents, the_view}
 use Rattle.fx_plain.proofs.Writes.{has_file-At}
 use Rattle.fx_plain.proofs.Removals.{seen_at}
 use Rattle.fx_plain.proofs.table.PlainTable.identity_at.Goals as goal

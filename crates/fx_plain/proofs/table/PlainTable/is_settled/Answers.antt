@@ -1,6 +1,4 @@
-use Rattle.fx_plain.proofs.Words.{sym, subst, eqb-true, IsSettled, Contents, state_of}
-use Rattle.std.proofs.Common.{eq-eqb}
-use Rattle.fx_plain.specs.contracts.table.PlainTable.{the_view}
+use Rattle.fx_plain.proofs.Words.{sym, subst, eqb-true, IsSettled, Contents, state_of, eq-eqb, the_view}
 use Rattle.fx_plain.proofs.Settled.{settled_by_counts, no_holds, none_removed}
 use Rattle.fx_plain.proofs.table.PlainTable.is_settled.Goals as goal
 

@@ -1,6 +1,5 @@
 use Rattle.fx_plain.proofs.Words.{◌≡◌, ℕ, rules, sym, ◌<◌, ◌+◌, Some, None, length, subst, arith, ◌^◌, slice_index, Closed, Look, Steps, Contents}
-use Rattle.fx_plain.proofs.Words.{IsTable, IsCounted, state_of, slot_at, node_at, At, HasRoomForHold}
-use Rattle.fx_plain.specs.contracts.table.PlainTable.{the_view}
+use Rattle.fx_plain.proofs.Words.{IsTable, IsCounted, state_of, slot_at, node_at, At, HasRoomForHold, the_view}
 use Rattle.fx_plain.proofs.Removals.{carried, seen_at}
 use Rattle.fx_plain.proofs.Holding.{with_holds, look_steps, look_fits, look_inside, look_keeps, look_counted, held_more}
 use Rattle.fx_plain.proofs.table.PlainTable.look.Goals.{In_ok-number}

@@ -1,6 +1,5 @@
 use Rattle.fx_plain.proofs.Words.{◌≡◌, ◌≤◌, ℕ, List, sym, ap, subst, ◌∙◌, length, arith, IsSettled, opening, Contents, IsRenumbered, KeepsFirst}
-use Rattle.fx_plain.proofs.Words.{state_of, Node}
-use Rattle.fx_plain.specs.contracts.table.PlainTable.{the_view}
+use Rattle.fx_plain.proofs.Words.{state_of, Node, the_view}
 use Rattle.fx_plain.proofs.Moving.{renumbered_again}
 use Rattle.fx_plain.proofs.Opening.{fields_keep, state_of-fields}
 use Rattle.fx_plain.proofs.Prepared.{settled_at_opening, empty_at_opening}

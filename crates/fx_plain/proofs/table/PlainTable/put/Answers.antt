@@ -1,7 +1,6 @@
 use Rattle.fx_plain.proofs.Words.{rules, ◌≡◌, ◌<◌, ◌+◌, Some, None, subst, sym, List, length, slice_set, IsSome, arith, ap, ◌∙◌, ℕ, Option, ◌^◌, refl}
 use Rattle.fx_plain.proofs.Words.{Put, Contents, IsTable, IsCounted, state_of, node_at, file_in, At, slot_at, file_count_of, Node, numbered}
-use Rattle.fx_plain.proofs.Words.{LetsLeave}
-use Rattle.fx_plain.specs.contracts.table.PlainTable.{the_view}
+use Rattle.fx_plain.proofs.Words.{LetsLeave, the_view}
 use Rattle.fx_plain.proofs.FilesOut.{unnamed}
 use Rattle.fx_plain.proofs.Writes.{has_file-At}
 use Rattle.fx_plain.proofs.Removals.{put_at, IsFree, fresh_free, carried, seen_at, as_put_free, as_put_over, still_names, put_removes, put_keeps}

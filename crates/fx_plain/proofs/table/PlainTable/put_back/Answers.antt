@@ -1,7 +1,6 @@
 use Rattle.fx_plain.proofs.Words.{rules, false, ◌≡◌, ◌^◌, None, ◌+◌, ◌<◌, Some, length, sym, ap, subst, ◌∙◌, arith, IsSettled, changed_at}
-use Rattle.fx_plain.proofs.Words.{with_removed, slot_at, file_at, file_count_of, Contents, IsTable, IsCounted, state_of, numbered}
-use Rattle.fx_plain.specs.Contents.{IsPrepared}
-use Rattle.fx_plain.specs.contracts.table.PlainTable.{the_view}
+use Rattle.fx_plain.proofs.Words.{with_removed, slot_at, file_at, file_count_of, Contents, IsTable, IsCounted, state_of, numbered, IsPrepared}
+use Rattle.fx_plain.proofs.Words.{the_view}
 use Rattle.fx_plain.proofs.FilesOut.{unnamed}
 use Rattle.fx_plain.proofs.Cells.{unchanged}
 use Rattle.fx_plain.proofs.Removals.{IsFree, own_free, put_at, as_put_free, state_of-put, put_keeps, put_counted}

@@ -1,10 +1,8 @@
-use Rattle.fx_plain.proofs.Words.{rules, ◌≤◌, ◌≢◌, sym, ◌∙◌, ◌≡◌, ◌<◌, ◌-◌, false, Some, None, subst, slice_index, arith, Contents, IsTable, IsCounted}
-use Rattle.fx_plain.proofs.Words.{node_at, is_retired, EndsHold}
-use Rattle.fx_plain.specs.contracts.table.PlainTable.{the_view}
+use Rattle.fx_plain.proofs.Words.{rules, ◌≤◌, ◌≢◌, sym, ◌∙◌, ◌≡◌, ◌<◌, ◌-◌, false, Some, None, subst, slice_index, arith, Contents, IsTable}
+use Rattle.fx_plain.proofs.Words.{IsCounted, node_at, is_retired, EndsHold, the_view}
 use Rattle.fx_plain.proofs.Writes.{has_file-retired}
 use Rattle.fx_plain.proofs.Removals.{carried}
-use Rattle.fx_plain.proofs.Holding.{held_less, with_holds, less_counted, let_go_keeps, let_go_counted, let_go_releases, more_releases}
-use Rattle.fx_plain.proofs.Holding.{open_releases}
+use Rattle.fx_plain.proofs.Holding.{held_less, with_holds, less_counted, let_go_keeps, let_go_counted, let_go_releases, more_releases, open_releases}
 use Rattle.fx_plain.proofs.table.PlainTable.release.Goals.{After-end_hold-left}
 use Rattle.fx_plain.proofs.table.PlainTable.release.Goals as goal
 

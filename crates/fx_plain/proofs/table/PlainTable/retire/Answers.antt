@@ -1,6 +1,5 @@
 use Rattle.fx_plain.proofs.Words.{rules, sym, ◌∙◌, ◌≡◌, ◌-◌, true, false, subst, slice_index, changed_at, Leads, close_of, Contents, IsTable}
-use Rattle.fx_plain.proofs.Words.{IsCounted, state_of, leaving, node_at, closed_by_retirement}
-use Rattle.fx_plain.specs.contracts.table.PlainTable.{the_view}
+use Rattle.fx_plain.proofs.Words.{IsCounted, state_of, leaving, node_at, closed_by_retirement, the_view}
 use Rattle.fx_plain.proofs.Writes.{has_file-leaving}
 use Rattle.fx_plain.proofs.Removals.{carried}
 use Rattle.fx_plain.proofs.Holding.{with_nodes, as_retired, retire_closes, retire_waits, closed_leaving, retired_leaving, retire_close_keeps}

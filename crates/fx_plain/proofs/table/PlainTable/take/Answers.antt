@@ -1,6 +1,5 @@
 use Rattle.fx_plain.proofs.Words.{rules, ◌≡◌, ◌≤◌, ◌^◌, sym, ◌<◌, Some, None, subst, length, ◌+◌, ◌-◌, arith, Take, slot_at, Contents, IsTable}
-use Rattle.fx_plain.proofs.Words.{IsCounted, state_of, LetsLeave}
-use Rattle.fx_plain.specs.contracts.table.PlainTable.{the_view}
+use Rattle.fx_plain.proofs.Words.{IsCounted, state_of, LetsLeave, the_view}
 use Rattle.fx_plain.proofs.Writes.{has_file-At}
 use Rattle.fx_plain.proofs.Removals.{taken, carried, seen_at, as_taken, take_removes, take_keeps, taken_counted}
 use Rattle.fx_plain.proofs.table.PlainTable.take.Goals.{In_ok-number}

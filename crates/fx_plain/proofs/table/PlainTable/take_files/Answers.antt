@@ -1,6 +1,6 @@
 use Rattle.fx_plain.proofs.Words.{arith, rules, ◌≡◌, ℕ, List, Option, None, refl, ap, ◌∙◌, length, replicate, file_count_of, slot_at, sum_by}
+use Rattle.fx_plain.proofs.Words.{the_view}
 use Rattle.std.specs.Prelude.{vec_len}
-use Rattle.fx_plain.specs.contracts.table.PlainTable.{the_view}
 use Rattle.fx_plain.proofs.FilesOut.{without_keeps}
 use Rattle.fx_plain.proofs.Cells.{read_default}
 use Rattle.fx_plain.proofs.SumLemmas.{sum_by-replicate}
