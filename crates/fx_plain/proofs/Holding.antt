@@ -146,12 +146,6 @@ module _ (c : Contents) (n : ℕ) (t : IsTable c) (going : leaving c n ≡ true)
         },
       )
 
-  pub closed_leaving : leaving (closed_at c n) ≡ changed_at (leaving c) n false
-  closed_leaving = leaving-nodes c n Gone node_inside
-
-  pub retired_leaving : leaving retired_at ≡ changed_at (leaving c) n false
-  retired_leaving = leaving-nodes c n (Retired was_leaving.0) node_inside
-
   pub retire_close_keeps : (full held removed : ℕ) → IsCounted c full held removed
       → (1 ≤ removed) × IsTable (closed_at c n) × IsCounted (closed_at c n) full held (removed - 1)
   retire_close_keeps full held removed k =
@@ -199,16 +193,16 @@ module _ (c : Contents) (n : ℕ) (t : IsTable c) (some_hold : 0 < slice_index c
   less_keeps : (is_retired (node_at c.nodes n) ≡ true → 1 < slice_index c.holds n) → IsTable (held_less c n)
   less_keeps others = holds_keep c n (slice_index c.holds n - 1) less_inside t (λ is. let more = others is in omega arith)
 
-  -- a release that closes nothing
-  stays_open : closed_by_release c n ≡ None → (f : File) → f.number ≡ n
-      → Leads (state_of c) ([] ▷ Release f ▷▷ close_of (closed_by_release c n)) (state_of (held_less c n))
-  stays_open none f same = subst (λ (x : Option File). Leads (state_of c) ([] ▷ Release f ▷▷ close_of x) (state_of (held_less c n))) (sym none)
-      ((tt, subst (λ (k : ℕ). 0 < (state_of c).holds k) (sym same) some_hold), state_of-less f same)
-
   -- nothing comes out
   stays : closed_by_release c n ≡ None → IsTable (held_less c n) → EndsHold c (held_less c n) n None
-  stays none sound =
-      record { answer = sym (ap identity_of none); steps = stays_open none; numbers = refl; sound = sound; leaving = refl }
+  stays none sound = record {
+    answer = sym (ap identity_of none);
+    steps = λ f same. subst (λ (x : Option File). Leads (state_of c) ([] ▷ Release f ▷▷ close_of x) (state_of (held_less c n))) (sym none)
+        ((tt, subst (λ (k : ℕ). 0 < (state_of c).holds k) (sym same) some_hold), state_of-less f same);
+    numbers = refl;
+    sound = sound;
+    leaving = refl;
+  }
 
   pub more_releases : (left : ℕ) → left + 1 ≡ slice_index c.holds n → left ≢ 0 → EndsHold c (held_less c n) n None
   more_releases left was some_left =
@@ -241,9 +235,6 @@ module _ (c : Contents) (n : ℕ) (t : IsTable c) (some_hold : 0 < slice_index c
     closing : closed_by_release c n ≡ Some (numbered n was_retired.0)
     closing = ap (λ (x : ℕ × Bool). if x.0 == 1 && not x.1 then (state_of c).removed n else None) (λ i. (last i, not_leaving i)) ∙ removed_is
 
-    same_elsewhere : (slot : ℕ) → (state_of let_go).at slot ≡ (state_of c).at slot
-    same_elsewhere slot = same_file c n Gone t (off_told is_retired (node_at c.nodes n) (λ _ _. refl) closed) slot (slot_at c.slots slot) refl
-
     pub let_go_steps : (f : File) → f.number ≡ n → Leads (state_of c) ([] ▷ Release f ▷▷ close_of (closed_by_release c n)) (state_of let_go)
     let_go_steps f same =
         let unheld : changed_at (state_of c).holds f.number ((state_of c).holds f.number - 1) n ≡ 0 =
@@ -254,7 +245,7 @@ module _ (c : Contents) (n : ℕ) (t : IsTable c) (some_hold : 0 < slice_index c
         subst (λ (x : Option File). Leads (state_of c) ([] ▷ Release f ▷▷ close_of x) (state_of let_go)) (sym closing) (
           ((tt, held), (removed_is, unheld)),
           λ i. record (state_of c) {
-            at = λ slot. same_elsewhere slot i;
+            at = λ slot. same_file c n Gone t (off_told is_retired (node_at c.nodes n) (λ _ _. refl) closed) slot (slot_at c.slots slot) refl i;
             removed = written removed_at c.nodes n Gone Gone retired_inside i;
             holds = (written (λ q x. x) c.holds n (slice_index c.holds n - 1) 0 less_inside
                 ∙ ap (λ (k : ℕ). changed_at (state_of c).holds k ((state_of c).holds k - 1)) (sym same)) i;
@@ -263,12 +254,6 @@ module _ (c : Contents) (n : ℕ) (t : IsTable c) (some_hold : 0 < slice_index c
           },
         )
 
-    pub let_go_answers : identity_of (closed_by_release c n) ≡ file_in (node_at c.nodes n)
-    let_go_answers = ap identity_of closing ∙ sym (ap file_in was_retired.1)
-
-    pub let_go_leaving : leaving let_go ≡ leaving c
-    let_go_leaving = leaving-nodes c n Gone retired_inside ∙ unchanged (leaving c) n false (sym not_leaving)
-
     pub let_go_keeps : IsTable let_go
     let_go_keeps = Rattle.fx_plain.proofs.Holding.less_keeps (closed_at c n) n (keeps_node c n Gone t
         (off_told is_retired (node_at c.nodes n) (λ _ _. refl) closed) retired_inside (λ (is : false ≡ true). cc) refl) some_hold
@@ -276,7 +261,13 @@ module _ (c : Contents) (n : ℕ) (t : IsTable c) (some_hold : 0 < slice_index c
 
     pub let_go_releases : (out : Option Closed) → out ≡ file_in (node_at c.nodes n) → EndsHold c let_go n out
     let_go_releases out is =
-        record { answer = is ∙ sym let_go_answers; steps = let_go_steps; numbers = refl; sound = let_go_keeps; leaving = let_go_leaving }
+        record {
+          answer = is ∙ ap file_in was_retired.1 ∙ sym (ap identity_of closing);
+          steps = let_go_steps;
+          numbers = refl;
+          sound = let_go_keeps;
+          leaving = leaving-nodes c n Gone retired_inside ∙ unchanged (leaving c) n false (sym not_leaving);
+        }
 
     pub let_go_counted : (full held removed : ℕ) → IsCounted c full held removed → (1 ≤ removed) × IsCounted let_go full (held - 1) (removed - 1)
     let_go_counted full held removed k =

@@ -2,6 +2,7 @@
 use Rattle.fx_plain.proofs.Words.{◌≡◌, ◌⊎◌, ℕ, ◌+◌, ◌≤◌, true, false, List, [], ◌∷◌, ◌++◌, map, length, refl, sym, ap, subst, ◌∙◌, Some, None, arith}
 use Rattle.fx_plain.proofs.Words.{inl, inr, State, IsSettled, Allows, after, state_after, AllowsAll, action_of, IsStart, IsAtSlot, closed_of}
 use Rattle.fx_plain.proofs.Words.{closes_of, installed_by, IsInstalled, File, Event, Action, Look, Put, Allocate, Close, IsStillThere, IsClosedOnce}
+use Rattle.std.proofs.lemmas.List.{nil_from_length}
 use Rattle.fx_plain.proofs.FilesWereInstalled.{HoldsOfFiles, holds_after}
 use Rattle.fx_plain.proofs.Named.{named, named_same, named_file}
 use Rattle.fx_plain.proofs.Sums.{term_found}
@@ -57,10 +58,6 @@ moved_on f there left closed now (inr gone) count (inl none_now) = let e = ap le
     inr (omega (arith, gone.0), rw (gone.1, none_now) refl)
 moved_on f there left closed now (inr gone) count (inr one_now) = let e = ap length one_now in absurd (omega (arith, gone.0))
 
-few_there : (f : File) (there : ℕ) (closed : List File) → IsOneOf f there closed → there ≤ 1
-few_there f there closed (inl open_still) = omega (arith, open_still.0)
-few_there f there closed (inr gone) = omega (arith, gone.0)
-
 followed_after : (f : File) (st : State) (closed : List File) (a : Action) → IsFollowed f st closed → Allows st a
     → IsFollowed f (after st a) (closed ++ closed_of f.number a)
 followed_after f st closed a before may = record {
@@ -68,7 +65,7 @@ followed_after f st closed a before may = record {
   only = holds_after (Same f) (SameAt f) (λ _ p. p) st before.only a may (λ new is same.
       let clash : false ≡ true = sym before.used ∙ ap st.fresh (sym same) ∙ (installed_now new st a may is).0 in cc);
   one_of = moved_on f (tally f.number st) (tally f.number (after st a)) closed (closed_of f.number a) before.one_of
-      (tally_after st a f.number may (few_there f (tally f.number st) closed before.one_of)) (only_close f st a before.only may);
+      (tally_after st a f.number may (omega (arith, before.one_of))) (only_close f st a before.only may);
 }
 
 followed_from_start : (f : File) (st : State) → IsStart st → IsAtSlot st f → IsFollowed f st []
@@ -86,10 +83,6 @@ followed_from_start f st start (slot, lt, is) =
       one_of = inl (omega arith, refl);
     }
 
-empty_of : (xs : List File) → length xs ≡ 0 → xs ≡ []
-empty_of [] no_length = refl
-empty_of (x ∷ xs) no_length = absurd (omega arith)
-
 -- a file that is installed is the only one of its number
 followed_from_new : (f : File) (st : State) (closed : List File) → tally f.number st + length closed ≤ 1 → (a : Action) → Allows st a
     → installed_by a ≡ Some f → IsFollowed f (after st a) (closed ++ closed_of f.number a)
@@ -106,7 +99,7 @@ followed_from_new f st closed few a may is =
     record {
       used = used;
       only = holds_after (Same f) (SameAt f) (λ _ p. p) st only a may (λ g is_g _. let e : Some g ≡ Some f = sym is_g ∙ is in cc);
-      one_of = inl (omega arith, rw (empty_of closed (omega arith), none_closed) refl);
+      one_of = inl (omega arith, rw (nil_from_length closed (omega arith), none_closed) refl);
     }
 
 followed : (start : State) (h : List Event) (f : File) → IsStart start → AllowsAll start (map action_of h) → IsAtSlot start f ⊎ IsInstalled h f
@@ -139,15 +132,13 @@ module _ (f : File) (end : State) (closed : List File) (settled : IsSettled end)
       let at_least = placed_one f.number end.at slot end.size lt in
       omega (arith, all_placed)
 
-  at_end : (IsAtSlot end f × (closed ≡ [])) ⊎ ((IsAtSlot end f → ⊥) × (closed ≡ f ∷ []))
-  at_end = elim end_of.one_of [
-    | inl open_still ↦ inl (still_there open_still.0, open_still.1)
-    | inr gone ↦ inr (no_more_there gone.0, gone.1)
-  ]
-
 pub every_removed_file_is_closed : (start end : State) (h : List Event) (f : File) → IsStart start → AllowsAll start (map action_of h)
     → end ≡ state_after start (map action_of h)
     → IsSettled end → IsAtSlot start f ⊎ IsInstalled h f → IsStillThere h end f ⊎ IsClosedOnce h end f
 every_removed_file_is_closed start end h f begins may is settled was_there =
-    at_end f end (closes_of f.number h) settled
-    (subst (λ (st : State). IsFollowed f st (closes_of f.number h)) (sym is) (followed start h f begins may was_there))
+    let closed = closes_of f.number h in
+    let end_of = subst (λ (st : State). IsFollowed f st closed) (sym is) (followed start h f begins may was_there) in
+    elim end_of.one_of [
+      | inl open_still ↦ inl (still_there f end closed settled end_of open_still.0, open_still.1)
+      | inr gone ↦ inr (no_more_there f end closed settled end_of gone.0, gone.1)
+    ]

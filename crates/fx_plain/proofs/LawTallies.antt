@@ -46,33 +46,23 @@ close_change : (removed : ℕ → Option File) (f : File) (n : ℕ) → removed 
     → present (changed_at removed f.number None n) + length (if_numbered n f) ≡ present (removed n)
 close_change removed f n is = grind arith
 
-emptied : (st : State) (n slot : ℕ) (found : Option File) → slot < st.size → found ≡ st.at slot → tally n st ≤ 1
-    → bit (st.fresh n) + placed n (changed_at st.at slot None) st.size + present (with_removed st.removed found n) + 0 ≡ tally n st
-emptied st n slot found lt is few =
+-- a slot gets another file, or none, and what stood there is removed
+moved : (st : State) (n slot : ℕ) (new found : Option File) (fresh : ℕ → Bool) → bit (fresh n) + named n new ≡ bit (st.fresh n) → slot < st.size
+    → found ≡ st.at slot → tally n st ≤ 1
+    → bit (fresh n) + placed n (changed_at st.at slot new) st.size + present (with_removed st.removed found n) + 0 ≡ tally n st
+moved st n slot new found fresh used lt is few =
     let there = ap (named n) is in
-    let less = placed_change n st.at slot st.size None lt in
+    let change = placed_change n st.at slot st.size new lt in
     let at_least = placed_one n st.at slot st.size lt in
     let more = removed_change st.removed found n (omega arith) in
     omega arith
 
-filled : (st : State) (n slot : ℕ) (f : File) (replaced : Option File) → slot < st.size → st.fresh f.number ≡ true → replaced ≡ st.at slot
-    → tally n st ≤ 1
-    → bit (changed_at st.fresh f.number false n) + placed n (changed_at st.at slot (Some f)) st.size + present
-    (with_removed st.removed replaced n) + 0 ≡ tally n st
-filled st n slot f replaced lt fresh is few =
-    let there = ap (named n) is in
-    let used = fresh_change st.fresh f n fresh in
-    let moved = placed_change n st.at slot st.size (Some f) lt in
-    let at_least = placed_one n st.at slot st.size lt in
-    let more = removed_change st.removed replaced n (omega arith) in
-    omega arith
-
 -- a step moves a number on, and counts each close
 pub tally_after : (st : State) (a : Action) (n : ℕ) → Allows st a → tally n st ≤ 1 → tally n (after st a) + length (closed_of n a) ≡ tally n st
-tally_after st (Put slot f replaced) n may few = filled st n slot f replaced may.0 may.1 may.2 few
-tally_after st (Clear slot found) n may few = emptied st n slot found may.0 may.1 few
-tally_after st (Take slot found) n may few = emptied st n slot found may.0 may.1 few
-tally_after st (Allocate slot f) n may few = filled st n slot f None may.0 may.3 (sym may.2) few
+tally_after st (Put slot f replaced) n may few = moved st n slot (Some f) replaced (changed_at st.fresh f.number false) (fresh_change st.fresh f n may.1) may.0 may.2 few
+tally_after st (Clear slot found) n may few = moved st n slot None found st.fresh (omega arith) may.0 may.1 few
+tally_after st (Take slot found) n may few = moved st n slot None found st.fresh (omega arith) may.0 may.1 few
+tally_after st (Allocate slot f) n may few = moved st n slot (Some f) None (changed_at st.fresh f.number false) (fresh_change st.fresh f n may.3) may.0 (sym may.2) few
 tally_after st (Close f) n may few = let e = close_change st.removed f n may.0 in omega arith
 tally_after st (Look slot None) n may few = omega arith
 tally_after st _ n may few = omega arith

@@ -1,37 +1,33 @@
-use Rattle.fx_plain.proofs.Words.{rules, sym, ◌∙◌, ◌≡◌, ◌-◌, true, false, subst, slice_index, changed_at, Leads, close_of, Contents, IsTable}
+use Rattle.fx_plain.proofs.Words.{rules, is_leaving, Gone, refl, sym, ◌∙◌, ◌≡◌, ◌-◌, true, false, subst, slice_index, changed_at, Leads, close_of, Contents, IsTable}
 use Rattle.fx_plain.proofs.Words.{IsCounted, state_of, leaving, node_at, closed_by_retirement, the_view}
-use Rattle.fx_plain.proofs.Writes.{has_file-leaving}
+use Rattle.fx_plain.proofs.Writes.{has_file-leaving, inside_told, leaving-nodes}
 use Rattle.fx_plain.proofs.Removals.{carried}
-use Rattle.fx_plain.proofs.Holding.{with_nodes, as_retired, retire_closes, retire_waits, closed_leaving, retired_leaving, retire_close_keeps}
+use Rattle.fx_plain.proofs.Holding.{with_nodes, as_retired, retire_closes, retire_waits, retire_close_keeps}
 use Rattle.fx_plain.proofs.Holding.{retire_wait_keeps}
 use Rattle.fx_plain.proofs.table.PlainTable.retire.Goals as goal
 
 pub overflow_sub-self : goal.overflow_sub-self
 overflow_sub-self c =
-    let going : leaving (the_view c.self.inside) c.args.number ≡ true = search rules in
-    (retire_close_keeps (the_view c.self.inside) c.args.number c.self.invariant.0 going _ _ _ c.self.invariant.1).0
+    (retire_close_keeps (the_view c.self.inside) c.args.number c.self.invariant.0 (search rules) _ _ _ c.self.invariant.1).0
 
 pub invariant_of-self : goal.invariant_of-self
 invariant_of-self c =
-    let going : leaving (the_view c.self.inside) c.args.number ≡ true = search rules in
-    let keeps = retire_close_keeps (the_view c.self.inside) c.args.number c.self.invariant.0 going _ _ _ c.self.invariant.1 in
+    let keeps = retire_close_keeps (the_view c.self.inside) c.args.number c.self.invariant.0 (search rules) _ _ _ c.self.invariant.1 in
     subst (λ (k : Contents). IsTable k × IsCounted k c.self.inside.full c.self.inside.held (c.self.inside.removed - 1))
     (sym (with_nodes (the_view c.self.inside) c.take_file.new.self _ c.take_file.ensures.after)) (keeps.1, keeps.2)
 
 pub returns-then-of-eq0-clause-steps : goal.returns-then-of-eq0-clause-steps
 returns-then-of-eq0-clause-steps c =
-    let going : leaving (the_view c.self.inside) c.args.number ≡ true = search rules in
-    let unheld : slice_index c.self.inside.holds c.args.number ≡ 0 = search rules in
     carried (λ k m. Leads (state_of k) (close_of (closed_by_retirement k c.args.number)) (state_of m)) c.self.view_is
     (with_nodes (the_view c.self.inside) c.take_file.new.self _ c.take_file.ensures.after)
-    (retire_closes (the_view c.self.inside) c.args.number c.self.invariant.0 going unheld)
+    (retire_closes (the_view c.self.inside) c.args.number c.self.invariant.0 (search rules) (search rules))
 
 pub returns-then-of-eq0-clause-leaving : goal.returns-then-of-eq0-clause-leaving
 returns-then-of-eq0-clause-leaving c =
-    let going : leaving (the_view c.self.inside) c.args.number ≡ true = search rules in
     carried (λ k m. leaving m ≡ changed_at (leaving k) c.args.number false) c.self.view_is
     (with_nodes (the_view c.self.inside) c.take_file.new.self _ c.take_file.ensures.after)
-    (closed_leaving (the_view c.self.inside) c.args.number c.self.invariant.0 going)
+    (leaving-nodes (the_view c.self.inside) c.args.number Gone
+    (inside_told is_leaving c.self.inside.nodes c.args.number refl (search rules)))
 
 pub invariant_of-self-2 : goal.invariant_of-self-2
 invariant_of-self-2 c =
@@ -53,17 +49,13 @@ returns-clause-leaving c =
     let going : leaving (the_view c.self.inside) c.args.number ≡ true = search rules in
     carried (λ k m. leaving m ≡ changed_at (leaving k) c.args.number false) c.self.view_is
     (as_retired (the_view c.self.inside) c.args.number c.self.invariant.0 going c.retire.new.self c.retire.ensures)
-    (retired_leaving (the_view c.self.inside) c.args.number c.self.invariant.0 going)
+    (leaving-nodes (the_view c.self.inside) c.args.number _ (inside_told is_leaving c.self.inside.nodes c.args.number refl going))
 
 pub take_file-requires : goal.take_file-requires
-take_file-requires c =
-    let going : leaving (the_view c.self.inside) c.args.number ≡ true = search rules in
-    has_file-leaving (node_at c.self.inside.nodes c.args.number) going
+take_file-requires c = has_file-leaving (node_at c.self.inside.nodes c.args.number) (search rules)
 
 pub retire-requires : goal.retire-requires
-retire-requires c =
-    let going : leaving (the_view c.self.inside) c.args.number ≡ true = search rules in
-    has_file-leaving (node_at c.self.inside.nodes c.args.number) going
+retire-requires c = has_file-leaving (node_at c.self.inside.nodes c.args.number) (search rules)
 
 pub returns-then-of-eq0-clause-sound : goal.returns-then-of-eq0-clause-sound
 returns-then-of-eq0-clause-sound c = (invariant_of-self c).0
