@@ -34,10 +34,6 @@ module _ {Y : Type 0} (f : ℕ → Y) (k : ℕ) where
 pub inside_of : {X : Type 0} (xs : List X) (k : ℕ) (d : X) → slice_index_or xs k d ≢ d → k < length xs
 inside_of xs k d differs = elim (cases_lt k (length xs)) [ inl lt ↦ lt | inr le ↦ absurd (differs (get_or-eq_default xs d le)) ]
 
--- a change that a second one at the same place covers
-pub covered : {Y : Type 0} (f : ℕ → Y) (j k : ℕ) (x y z : Y) → x ≡ f j → changed_at (changed_at f j x) k y ≡ changed_at f k y
-covered f j k x y z is = ap (λ g. changed_at g k y) (unchanged f j x is)
-
 -- what holds of the element that is written, and of each other one as it was, holds of each
 pub each_set : {X : Type 0} (P : ℕ → X → Type 0) (xs : List X) (k : ℕ) (v d : X) → k < length xs → P k v
     → (m : ℕ) → (m ≢ k → P m (slice_index_or xs m d)) → P m (slice_index_or (slice_set xs k v) m d)

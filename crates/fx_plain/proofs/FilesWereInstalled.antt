@@ -1,8 +1,8 @@
 -- Each file of a table was there at the start or was installed: what holds of all those holds of every file.
 use Rattle.fx_plain.proofs.Words.{◌≡◌, ◌⊎◌, ℕ, ◌<◌, List, [], ◌∷◌, map, refl, sym, ap, subst, ◌∙◌, slice_index_or, Option, Some, None, if◌then◌else◌}
 use Rattle.fx_plain.proofs.Words.{arith, inl, inr, Closed, State, Allows, after, changed_at, with_removed, state_after, AllowsAll, action_of}
-use Rattle.fx_plain.proofs.Words.{closes_in, closed_by, IsAtSlot, IsInstalled, installed_by, File, Event, Action, Look, Put, Clear, Take, Allocate}
-use Rattle.fx_plain.proofs.Words.{Close, All, IsLegal, IsClosed}
+use Rattle.fx_plain.proofs.Words.{closes_in, closed_by, File, Event, Action, Look, Put, Clear, Take, Allocate, Close, All, IsLegal}
+use Rattle.fx_plain.specs.Laws.{IsAtSlot, IsInstalled, installed_by, IsClosed}
 use Rattle.std.proofs.lemmas.List.Elements.{All-append}
 use Rattle.fx_plain.proofs.Cells.{by_equality}
 

@@ -1,11 +1,10 @@
 -- A file gets a hold, loses one, or is retired.
 use Rattle.fx_plain.proofs.Words.{◌≡◌, ◌≢◌, ℕ, ◌+◌, ◌-◌, ◌<◌, ◌≤◌, ◌^◌, ◌==◌, ◌&&◌, not, Bool, true, false, if◌then◌else◌, List, [], length, refl}
-use Rattle.fx_plain.proofs.Words.{sym, ap, subst, ◌∙◌, slice_index, slice_index_or, slice_set, Option, Some, None, IfSome, arith, length-set}
-use Rattle.fx_plain.proofs.Words.{get_or-set_same, get_or-set_other, Closed, File, Look, Release, Steps, changed_at, after, Leads, close_of, ◌▷▷◌}
-use Rattle.fx_plain.proofs.Words.{Contents, IsTable, IsCounted, state_of, slot_at, node_at, file_at, placed_at, leaving, removed_at, is_fresh}
-use Rattle.fx_plain.proofs.Words.{is_leaving, is_retired, file_in, node_after_retirement, removed_count_of, itself, At, Leaving, Retired, Gone}
-use Rattle.fx_plain.proofs.Words.{numbered, identity_of, closed_by_retirement, HasRoomForHold, EndsHold, Node, get_or-le-sum_by, sum_by-set, ◌▷◌}
-use Rattle.fx_plain.specs.Table.{closed_by_release}
+use Rattle.fx_plain.proofs.Words.{sym, ap, subst, ◌∙◌, slice_index, slice_index_or, slice_set, Option, Some, None, arith, length-set, get_or-set_same}
+use Rattle.fx_plain.proofs.Words.{get_or-set_other, Closed, File, Look, Release, Steps, changed_at, after, Leads, close_of, ◌▷▷◌, Contents, IsTable}
+use Rattle.fx_plain.proofs.Words.{IsCounted, state_of, slot_at, node_at, file_at, placed_at, leaving, removed_at, is_fresh, is_leaving, is_retired}
+use Rattle.fx_plain.proofs.Words.{file_in, node_after_retirement, removed_count_of, itself, At, Leaving, Retired, Gone, numbered, identity_of}
+use Rattle.fx_plain.proofs.Words.{closed_by_retirement, EndsHold, Node, get_or-le-sum_by, sum_by-set, ◌▷◌, closed_by_release}
 use Rattle.fx_plain.proofs.Cells.{by_equality, each_set, unchanged, written, inside_of}
 use Rattle.fx_plain.proofs.SumLemmas.{sum_below_all}
 use Rattle.fx_plain.proofs.Writes.{IsOff, inside_of-At, inside_told, leaving_is, retired_is, state_of-holds, state_of-nodes, leaving-nodes, same_file}
@@ -56,9 +55,6 @@ module _ (c : Contents) (slot n : ℕ) (file : Closed) (t : IsTable c) (inside :
     state_of-holds c n _ look_inside
         ∙ sym (ap (λ (x : Option File). after (state_of c) (Look slot x)) (at_is c slot n file at named)),
   )
-
-  pub look_fits : HasRoomForHold (state_of c) slot → slice_index c.holds n + 1 < 2 ^ 32
-  look_fits room = subst (λ (x : Option File). IfSome x (λ f. (state_of c).holds f.number + 1 < 2 ^ 32)) (at_is c slot n file at named) room
 
   pub look_keeps : IsTable (held_more c n)
   look_keeps = holds_keep c n (slice_index c.holds n + 1) look_inside t (λ _. omega arith)
@@ -245,7 +241,7 @@ module _ (c : Contents) (n : ℕ) (t : IsTable c) (some_hold : 0 < slice_index c
         subst (λ (x : Option File). Leads (state_of c) ([] ▷ Release f ▷▷ close_of x) (state_of let_go)) (sym closing) (
           ((tt, held), (removed_is, unheld)),
           λ i. record (state_of c) {
-            at = λ slot. same_file c n Gone t (off_told is_retired (node_at c.nodes n) (λ _ _. refl) closed) slot (slot_at c.slots slot) refl i;
+            at = λ slot. same_file c n Gone t (off_told is_retired (node_at c.nodes n) (λ _ _. refl) closed) slot i;
             removed = written removed_at c.nodes n Gone Gone retired_inside i;
             holds = (written (λ q x. x) c.holds n (slice_index c.holds n - 1) 0 less_inside
                 ∙ ap (λ (k : ℕ). changed_at (state_of c).holds k ((state_of c).holds k - 1)) (sym same)) i;

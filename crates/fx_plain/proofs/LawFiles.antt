@@ -1,8 +1,8 @@
 -- A file from its slot to its close.
 use Rattle.fx_plain.proofs.Words.{◌≡◌, ◌⊎◌, ℕ, ◌+◌, ◌≤◌, true, false, List, [], ◌∷◌, ◌++◌, map, length, refl, sym, ap, subst, ◌∙◌, Some, None, arith}
-use Rattle.fx_plain.proofs.Words.{inl, inr, State, IsSettled, Allows, after, state_after, AllowsAll, action_of, IsStart, IsAtSlot, closed_of}
-use Rattle.fx_plain.proofs.Words.{closes_of, installed_by, IsInstalled, File, Event, Action, Look, Put, Allocate, Close, IsStillThere, IsClosedOnce}
-use Rattle.std.proofs.lemmas.List.{nil_from_length}
+use Rattle.fx_plain.proofs.Words.{inl, inr, State, IsSettled, Allows, after, state_after, AllowsAll, action_of, File, Event, Action, Look, Put}
+use Rattle.fx_plain.proofs.Words.{Allocate, Close, nil_from_length}
+use Rattle.fx_plain.specs.Laws.{IsStart, IsAtSlot, closed_of, closes_of, installed_by, IsInstalled, IsStillThere, IsClosedOnce}
 use Rattle.fx_plain.proofs.FilesWereInstalled.{HoldsOfFiles, holds_after}
 use Rattle.fx_plain.proofs.Named.{named, named_same, named_file}
 use Rattle.fx_plain.proofs.Sums.{term_found}

@@ -1,7 +1,8 @@
 -- While a pass releases nothing, the file that it looked up keeps a hold.
 use Rattle.fx_plain.proofs.Words.{◌≡◌, ◌≢◌, ℕ, suc, ◌+◌, ◌<◌, ◌≤◌, ◌==◌, List, [], ◌∷◌, ◌++◌, map, refl, ap, subst, ◌∙◌, Option, Some, if◌then◌else◌}
-use Rattle.fx_plain.proofs.Words.{arith, inl, inr, cases_lt, State, Allows, after, state_after, AllowsAll, action_of, closed_of, closes_of, File}
-use Rattle.fx_plain.proofs.Words.{Event, Action, Look, Release, Close, released_by, releases_in}
+use Rattle.fx_plain.proofs.Words.{arith, inl, inr, cases_lt, State, Allows, after, state_after, AllowsAll, action_of, File, Event, Action, Look}
+use Rattle.fx_plain.proofs.Words.{Release, Close}
+use Rattle.fx_plain.specs.Laws.{closed_of, closes_of, released_by, releases_in}
 use Rattle.fx_plain.specs.History.{held_after, held_by, ReleasesItsOwn, AllReleaseTheirOwn, part_of_pass}
 use Rattle.fx_plain.proofs.Cells.{by_equality}
 use Rattle.fx_plain.proofs.Named.{named, named_same}
@@ -86,11 +87,6 @@ no_close : (st : State) (a : Action) (n : ℕ) → Allows st a → 0 < st.holds 
 no_close st (Close f) n may held = let unheld = may.1 in grind arith
 no_close st _ n may held = refl
 
-is_held : (p n : ℕ) (h : List Event) (holds : ℕ) → IsCovered (keeping p n h) holds → 0 < holds
-is_held p n h holds cover =
-    let own : keeping p n h p ≡ 1 = grind arith in
-    let some_hold : keeping p n h p + sum_below (keeping p n h) p ≤ holds = cover.below (suc p) in omega arith
-
 -- the hold that a pass keeps is no other pass's, and the number isn't closed
 kept : (start : State) (h since : List Event) (p n : ℕ) → IsCovered (keeping p n h) ((state_after start (map action_of h)).holds n)
     → AllowsAll start (map action_of (since ++ h)) → AllReleaseTheirOwn (since ++ h) → releases_in (part_of_pass p since) ≡ []
@@ -106,7 +102,9 @@ kept start h (e ∷ since) p n cover may own is =
     (if b then 1 else holding n (e ∷ all) e.pass) + given n e.action ≤ (if b then 1 else holding n all e.pass) + taken n e.action)
     (λ same. let none_given = given_none n e.action (now same) in omega arith)
     (λ _. rw (own_held e all) (own_change n (held_by all e.pass) e.action own.1)) in
-    let here = no_close st e.action n may.1 (is_held p n all (st.holds n) held) in (
+    let mine : keeping p n all p ≡ 1 = grind arith in
+    let some_hold = held.below (suc p) in
+    let here = no_close st e.action n may.1 (omega arith) in (
       covered_after (keeping p n all) (keeping p n (e ∷ all)) e.pass (st.holds n) ((after st e.action).holds n) (taken n e.action)
           (given n e.action) (λ k apart. ap (λ (x : ℕ). if k == p then 1 else x) (other_holds n e all k apart)) change
           (holds_after st e.action n may.1) held,

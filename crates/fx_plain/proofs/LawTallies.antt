@@ -1,9 +1,10 @@
 -- Each number is fresh, or at a slot, or removed, or closed, and passes from one to the next.
-use Rattle.fx_plain.proofs.Words.{◌≡◌, ℕ, ◌+◌, ◌<◌, ◌≤◌, Bool, true, false, List, [], ◌∷◌, map, length, refl, sym, ap, ◌∙◌, Option, Some, None, arith}
-use Rattle.fx_plain.proofs.Words.{inl, inr, length-append, cases_lt, State, Allows, after, changed_at, with_removed, state_after, AllowsAll}
-use Rattle.fx_plain.proofs.Words.{action_of, IsStart, closed_of, closes_of, File, Event, Action, Look, Put, Clear, Take, Allocate, Close, if_numbered}
+use Rattle.fx_plain.proofs.Words.{◌≡◌, suc, ℕ, ◌+◌, ◌<◌, ◌≤◌, Bool, true, false, List, [], ◌∷◌, map, length, refl, sym, ap, ◌∙◌, Option, Some, None}
+use Rattle.fx_plain.proofs.Words.{arith, inl, inr, length-append, cases_lt, State, Allows, after, changed_at, with_removed, state_after, AllowsAll}
+use Rattle.fx_plain.proofs.Words.{action_of, File, Event, Action, Look, Put, Clear, Take, Allocate, Close}
+use Rattle.fx_plain.specs.Laws.{IsStart, closed_of, closes_of, if_numbered}
 use Rattle.fx_plain.proofs.Named.{named, named_at_most_one, named_file}
-use Rattle.fx_plain.proofs.Sums.{sum_below, changed_below, term_below, sum_zero, sum_one}
+use Rattle.fx_plain.proofs.Sums.{sum_below, changed_below, sum_grows, sum_zero, sum_one}
 
 abbrev pub bit : Bool → ℕ
 bit true = 1
@@ -29,7 +30,7 @@ placed_change n at slot size x lt =
     e ∙ ap (λ (y : Option File). placed n at size + named n y) (grind arith)
 
 pub placed_one : (n : ℕ) (at : ℕ → Option File) (slot size : ℕ) → slot < size → named n (at slot) ≤ placed n at size
-placed_one n at slot size lt = term_below (λ s. named n (at s)) size slot lt
+placed_one n at slot size lt = let more = sum_grows (λ s. named n (at s)) (suc slot) size lt in omega arith
 
 -- a fresh number is used up
 fresh_change : (fresh : ℕ → Bool) (f : File) (n : ℕ) → fresh f.number ≡ true
@@ -41,10 +42,6 @@ removed_change : (removed : ℕ → Option File) (found : Option File) (n : ℕ)
     → present (with_removed removed found n) ≡ present (removed n) + named n found
 removed_change removed None n few = omega arith
 removed_change removed (Some f) n few = grind arith
-
-close_change : (removed : ℕ → Option File) (f : File) (n : ℕ) → removed f.number ≡ Some f
-    → present (changed_at removed f.number None n) + length (if_numbered n f) ≡ present (removed n)
-close_change removed f n is = grind arith
 
 -- a slot gets another file, or none, and what stood there is removed
 moved : (st : State) (n slot : ℕ) (new found : Option File) (fresh : ℕ → Bool) → bit (fresh n) + named n new ≡ bit (st.fresh n) → slot < st.size
@@ -63,7 +60,8 @@ tally_after st (Put slot f replaced) n may few = moved st n slot (Some f) replac
 tally_after st (Clear slot found) n may few = moved st n slot None found st.fresh (omega arith) may.0 may.1 few
 tally_after st (Take slot found) n may few = moved st n slot None found st.fresh (omega arith) may.0 may.1 few
 tally_after st (Allocate slot f) n may few = moved st n slot (Some f) None (changed_at st.fresh f.number false) (fresh_change st.fresh f n may.3) may.0 (sym may.2) few
-tally_after st (Close f) n may few = let e = close_change st.removed f n may.0 in omega arith
+tally_after st (Close f) n may few = let was = may.0 in
+    let e : present (changed_at st.removed f.number None n) + length (if_numbered n f) ≡ present (st.removed n) = grind arith in omega arith
 tally_after st (Look slot None) n may few = omega arith
 tally_after st _ n may few = omega arith
 

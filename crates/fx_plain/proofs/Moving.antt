@@ -8,6 +8,10 @@ use Rattle.fx_plain.proofs.Cells.{by_equality}
 use Rattle.fx_plain.proofs.Writes.{has_file-At}
 use Rattle.fx_plain.proofs.Removals.{other_number}
 
+file_named_same : (old new : List Node) (x : Option ℕ) → ((n : ℕ) → x ≡ Some n → node_at new n ≡ node_at old n) → file_named new x ≡ file_named old x
+file_named_same old new None same = refl
+file_named_same old new (Some n) same = ap file_in (same n refl)
+
 -- what the slots from s on name is as it was
 abbrev pub IsLeft : List (Option ℕ) → List Node → List Node → ℕ → Type 0
 IsLeft slots first nodes s = (u number : ℕ) → s ≤ u → slot_at slots u ≡ Some number → node_at nodes number ≡ node_at first number
@@ -20,12 +24,8 @@ module _ (slots : List (Option ℕ)) (first nodes : List Node) (s : ℕ) (placed
   pub inside_named : IfSome (slot_at slots s) (λ n. IsSome (file_in (node_at nodes n)))
   inside_named = named_inside (slot_at slots s) refl
 
-  same_named : (x : Option ℕ) → slot_at slots s ≡ x → file_named nodes x ≡ file_named first x
-  same_named None is = refl
-  same_named (Some n) is = ap file_in (left s n (omega arith) is)
-
   pub named_same : file_named nodes (slot_at slots s) ≡ file_named first (slot_at slots s)
-  named_same = same_named (slot_at slots s) refl
+  named_same = file_named_same first nodes (slot_at slots s) (λ n is. left s n (omega arith) is)
 
   left_without : (x : Option ℕ) → slot_at slots s ≡ x → IsLeft slots first (nodes_without nodes x) (s + 1)
   left_without None is = λ u number le at. left u number (omega arith) at
@@ -110,15 +110,12 @@ module _ (slots : List (Option ℕ)) (nodes : List Node) (s : ℕ) (at : slot_at
 -- what is named stays where there are more nodes
 module _ (slots : List (Option ℕ)) (old new : List Node) (placed : AllPlaced slots old)
     (kept : (n : ℕ) → IsSome (file_in (node_at old n)) → node_at new n ≡ node_at old n) where
-  named_again : (u : ℕ) (x : Option ℕ) → slot_at slots u ≡ x → file_named new x ≡ file_named old x
-  named_again u None is = refl
-  named_again u (Some n) is = let there = placed u n is in ap file_in (kept n (has_file-At old n u there.0 there.1))
-
   pub renumbered_again : (changed : List (Option ℕ)) (moved : List Node) → IsRenumbered slots new changed moved
       → IsRenumbered slots old changed moved
   renumbered_again changed moved r = record {
     same_size = r.same_size;
     named = r.named;
-    filed = λ u lt. r.filed u lt ∙ ap (λ x. moved_node x u) (named_again u (slot_at slots u) refl);
+    filed = λ u lt. r.filed u lt ∙ ap (λ x. moved_node x u) (file_named_same old new (slot_at slots u) (λ n is. let there = placed u n is in
+        kept n (has_file-At old n u there.0 there.1)));
     same_full = r.same_full;
   }

@@ -1,5 +1,5 @@
 -- The state of a table that was prepared.
-use Rattle.fx_plain.proofs.Words.{◌≡◌, ℕ, ◌<◌, ◌≤◌, ◌^◌, Bool, true, false, not, ◌&&◌, List, length, replicate, refl, sym, ap, subst, ◌∙◌}
+use Rattle.fx_plain.proofs.Words.{sum_by, ◌≡◌, ℕ, ◌<◌, ◌≤◌, ◌^◌, Bool, true, false, not, ◌&&◌, List, length, replicate, refl, sym, ap, subst, ◌∙◌}
 use Rattle.fx_plain.proofs.Words.{slice_index, Option, Some, None, arith, inl, inr, length-replicate, cases_lt, get_or-eq_default, Closed, IsSettled}
 use Rattle.fx_plain.proofs.Words.{opening, Contents, IsTable, IsCounted, state_of, slot_at, node_at, file_at, placed_at, removed_at, is_fresh}
 use Rattle.fx_plain.proofs.Words.{is_retired, IsRenumbered, KeepsFirst, moved_node, file_named, file_in, opening_slot, removed_count_of, itself}
@@ -17,14 +17,10 @@ moved_is P slot None gone there = gone
 moved_is P slot (Some f) gone there = there f
 
 module _ (c : Contents) (slots : List (Option ℕ)) (moved nodes : List Node) (numbers : ℕ) (t : IsTable c) (enough : length c.slots ≤ numbers)
-    (few : numbers < 2 ^ 32) (r : IsRenumbered c.slots c.nodes slots moved) (first : KeepsFirst moved (length c.slots) numbers nodes) where
+    (few : numbers < 2 ^ 32) (r : IsRenumbered c.slots c.nodes slots moved) (first : KeepsFirst moved (length c.slots) numbers nodes)
+    (holds : List ℕ) (unheld : holds ≡ replicate numbers 0) where
   abbrev pub prepared : Contents
-  prepared = record { slots = slots; range = c.range; nodes = nodes; holds = replicate numbers 0; numbers = numbers }
-
-  -- as the fields of a prepared table are
-  as_prepared : (holds : List ℕ) → holds ≡ replicate numbers 0
-      → record { slots = slots; range = c.range; nodes = nodes; holds = holds; numbers = numbers } ≡ prepared
-  as_prepared holds is = λ i. record { slots = slots; range = c.range; nodes = nodes; holds = is i; numbers = numbers }
+  prepared = record { slots = slots; range = c.range; nodes = nodes; holds = holds; numbers = numbers }
 
   node_low : (n : ℕ) → n < length c.slots → node_at nodes n ≡ moved_node (file_named c.nodes (slot_at c.slots n)) n
   node_low n low = first.same n low ∙ r.filed n low
@@ -56,14 +52,16 @@ module _ (c : Contents) (slots : List (Option ℕ)) (moved nodes : List Node) (n
       (λ n ge. sym (ap (λ (b : Bool × Bool). not b.0 && b.1)
       (λ i. (le-ltb n (length c.slots) (let e = enough in omega arith) i, le-ltb n numbers ge i))))
 
+  -- the node of a slot's own number has its file
+  own_node : (u m : ℕ) → u < length c.slots → slot_at c.slots u ≡ Some m → node_at nodes u ≡ moved_node (file_in (node_at c.nodes m)) u
+  own_node u m inside is = node_low u inside ∙ ap (λ (x : Option ℕ). moved_node (file_named c.nodes x) u) is
+
   named_node : (u : ℕ) → u < length c.slots → (x : Option ℕ) → slot_at c.slots u ≡ x
       → file_at nodes (opening_slot x u) ≡ file_numbered (file_at c.nodes x) u
   named_node u inside None is = refl
-  named_node u inside (Some m) is =
-      let there = t.placed u m is in
-      let here : node_at nodes u ≡ At u there.0 = node_low u inside ∙ ap (λ (x : Option ℕ). moved_node (file_named c.nodes x) u) is
-      ∙ ap (λ (node : Node). moved_node (file_in node) u) there.1 in
-      ap (placed_at u) here ∙ sym (ap (λ (node : Node). file_numbered (placed_at m node) u) there.1)
+  named_node u inside (Some m) is = let there = (t.placed u m is).1 in
+      ap (placed_at u) (own_node u m inside is ∙ ap (λ (node : Node). moved_node (file_in node) u) there)
+      ∙ sym (ap (λ (node : Node). file_numbered (placed_at m node) u) there)
 
   at_is : (u : ℕ) → file_at nodes (slot_at slots u) ≡ file_numbered (file_at c.nodes (slot_at c.slots u)) u
   at_is u = elim (cases_lt u (length c.slots)) [
@@ -72,25 +70,24 @@ module _ (c : Contents) (slots : List (Option ℕ)) (moved nodes : List Node) (n
         ∙ sym (ap (λ (x : Option ℕ). file_numbered (file_at c.nodes x) u) (get_or-eq_default c.slots None ge))
   ]
 
-  state_of-prepared : state_of prepared ≡ opening (state_of c) numbers
-  state_of-prepared = λ i. record {
+  no_hold : (n : ℕ) → slice_index holds n ≡ 0
+  no_hold n = ap (λ (l : List ℕ). slice_index l n) unheld ∙ read_default numbers n 0
+
+  pub state_of-fields : state_of prepared ≡ opening (state_of c) numbers
+  state_of-fields = λ i. record {
     size = r.same_size i;
     range = c.range;
     at = λ u. at_is u i;
     removed = λ n. none_waits n i;
-    holds = λ n. read_default numbers n 0 i;
+    holds = λ n. no_hold n i;
     fresh = λ n. fresh_is n i;
   }
 
   named_placed : (u k : ℕ) → u < length c.slots → (x : Option ℕ) → slot_at c.slots u ≡ x → opening_slot x u ≡ Some k
       → (file : Closed) × (node_at nodes k ≡ At u file)
   named_placed u k inside None is same = cc
-  named_placed u k inside (Some m) is same =
-      let there = t.placed u m is in
-      let here : node_at nodes u ≡ At u there.0 = node_low u inside ∙ ap (λ (x : Option ℕ). moved_node (file_named c.nodes x) u) is
-      ∙ ap (λ (node : Node). moved_node (file_in node) u) there.1 in
-      let e : u ≡ k = cc in
-      (there.0, ap (node_at nodes) (sym e) ∙ here)
+  named_placed u k inside (Some m) is same = let there = t.placed u m is in let e : u ≡ k = cc in
+      (there.0, ap (node_at nodes) (sym e) ∙ own_node u m inside is ∙ ap (λ (node : Node). moved_node (file_in node) u) there.1)
 
   slot_inside : (u k : ℕ) → slot_at slots u ≡ Some k → u < length c.slots
   slot_inside u k is = let lt = inside_of slots u None (λ (gone : slot_at slots u ≡ None). let e : Some k ≡ None = sym is ∙ gone in cc) in
@@ -104,30 +101,23 @@ module _ (c : Contents) (slots : List (Option ℕ)) (moved nodes : List Node) (n
     few_slots = let f = t.few_slots in let same = r.same_size in omega arith;
     range_inside = let inside = t.range_inside in let same = r.same_size in omega arith;
     few_nodes = let len = first.size in omega arith;
-    same_numbers = length-replicate numbers 0 ∙ sym first.size;
+    same_numbers = ap (length {A = ℕ}) unheld ∙ length-replicate numbers 0 ∙ sym first.size;
     placed = λ u k is. let inside = slot_inside u k is in named_placed u k inside (slot_at c.slots u) refl (sym (r.named u inside) ∙ is);
-    held = each_node (λ n node. is_retired node ≡ true → 0 < slice_index (replicate numbers 0) n) (λ n x lt.
-        moved_is (λ node. is_retired node ≡ true → 0 < slice_index (replicate numbers 0) n) n x (λ (e : false ≡ true). cc)
+    held = each_node (λ n node. is_retired node ≡ true → 0 < slice_index holds n) (λ n x lt.
+        moved_is (λ node. is_retired node ≡ true → 0 < slice_index holds n) n x (λ (e : false ≡ true). cc)
         (λ f (e : false ≡ true). cc)) (λ n ge lt is. cc) (λ n ge is. cc);
   }
 
-  prepared_counted : (full held removed : ℕ) → IsCounted c full held removed → IsSettled (state_of c) → IsCounted prepared full held removed
-  prepared_counted full held removed k settled = record {
-    full_slots = k.full_slots ∙ sym r.same_full;
-    all_holds = no_holds c full held removed k settled ∙ sym (sum_by-replicate itself numbers 0 refl);
-    small_holds = λ n. let z : slice_index (replicate numbers 0) n ≡ 0 = read_default numbers n 0 in omega arith;
-    all_removed = none_removed c full held removed k settled ∙ sym (sum_of_nothings removed_count_of nodes Gone
-        (each_node (λ n node. removed_count_of node ≡ 0)
-        (λ n x lt. moved_is (λ node. removed_count_of node ≡ 0) n x refl (λ _. refl)) (λ n ge lt. refl) (λ n ge. refl)));
-  }
-
-  -- the same of a table as its fields are
-  pub fields_keep : (holds : List ℕ) → holds ≡ replicate numbers 0 → (full held removed : ℕ) → IsCounted c full held removed
-      → IsSettled (state_of c) → IsTable (record { slots = slots; range = c.range; nodes = nodes; holds = holds; numbers = numbers })
-      × IsCounted (record { slots = slots; range = c.range; nodes = nodes; holds = holds; numbers = numbers }) full held removed
-  fields_keep holds is full held removed k settled = subst (λ (x : Contents). IsTable x × IsCounted x full held removed)
-      (sym (as_prepared holds is)) (prepared_keeps, prepared_counted full held removed k settled)
-
-  pub state_of-fields : (holds : List ℕ) → holds ≡ replicate numbers 0
-      → state_of (record { slots = slots; range = c.range; nodes = nodes; holds = holds; numbers = numbers }) ≡ opening (state_of c) numbers
-  state_of-fields holds is = ap state_of (as_prepared holds is) ∙ state_of-prepared
+  pub fields_keep : (full held removed : ℕ) → IsCounted c full held removed → IsSettled (state_of c)
+      → IsTable prepared × IsCounted prepared full held removed
+  fields_keep full held removed k settled = (
+    prepared_keeps,
+    record {
+      full_slots = k.full_slots ∙ sym r.same_full;
+      all_holds = no_holds c full held removed k settled ∙ sym (ap (sum_by itself) unheld ∙ sum_by-replicate itself numbers 0 refl);
+      small_holds = λ n. let z = no_hold n in omega arith;
+      all_removed = none_removed c full held removed k settled ∙ sym (sum_of_nothings removed_count_of nodes Gone
+          (each_node (λ n node. removed_count_of node ≡ 0)
+          (λ n x lt. moved_is (λ node. removed_count_of node ≡ 0) n x refl (λ _. refl)) (λ n ge lt. refl) (λ n ge. refl)));
+    },
+  )

@@ -3,12 +3,12 @@ use Rattle.fx_plain.proofs.Words.{◌≡◌, ◌≢◌, ℕ, ◌+◌, ◌-◌, �
 use Rattle.fx_plain.proofs.Words.{slice_set, ◌^◌, Option, Some, None, arith, length-set, get_or-set_same, get_or-set_other, get_or_default, Closed}
 use Rattle.fx_plain.proofs.Words.{File, Put, Take, changed_at, with_removed, Contents, IsTable, IsCounted, AllPlaced, state_of, slot_at, node_at}
 use Rattle.fx_plain.proofs.Words.{file_at, placed_at, leaving, removed_at, is_fresh, is_leaving, is_retired, node_after_removal, file_count_of}
-use Rattle.fx_plain.proofs.Words.{removed_count_of, At, Gone, numbered, LetsLeave, sum_by, Node, IsSettled, get_or-le-sum_by, sum_by-set}
-use Rattle.fx_plain.specs.Table.{number_of, more_leaving}
+use Rattle.fx_plain.proofs.Words.{removed_count_of, At, Gone, numbered, LetsLeave, sum_by, Node, IsSettled, get_or-le-sum_by, sum_by-set, number_of}
+use Rattle.fx_plain.proofs.Words.{more_leaving}
 use Rattle.fx_plain.proofs.Cells.{each_set, written, unchanged}
 use Rattle.fx_plain.proofs.SumLemmas.{sum_le}
 use Rattle.fx_plain.proofs.Settled.{not_removed, IsQuiet, quiet_is}
-use Rattle.fx_plain.proofs.Writes.{inside_of-At, inside_told, fresh_is}
+use Rattle.fx_plain.proofs.Writes.{inside_of-At, inside_told, fresh_is, file_same}
 
 abbrev pub removed_of : List Node → ℕ → Option File
 removed_of nodes n = removed_at n (node_at nodes n)
@@ -111,20 +111,12 @@ module _ (c : Contents) (slot : ℕ) (y : Option ℕ) (nodes : List Node) (t : I
   names None is = tt
   names (Some old) is = let there = t.placed slot old is in (there.0, kept slot old is ∙ there.1)
 
-  same_before : (u : ℕ) (x : Option ℕ) → slot_at c.slots u ≡ x → file_at nodes x ≡ file_at c.nodes x
-  same_before u None is = refl
-  same_before u (Some m) is = ap (placed_at m) (kept u m is)
-
   stays : (u m : ℕ) → u ≢ slot → slot_at c.slots u ≡ Some m → node_at changed.nodes m ≡ node_at c.nodes m
   stays u m apart at = node_else nodes old_at m (λ old was. other_number c.slots c.nodes slot u old m t.placed apart was at) ∙ kept u m at
 
-  file_stays : (u : ℕ) → u ≢ slot → (x : Option ℕ) → slot_at c.slots u ≡ x → file_at changed.nodes x ≡ file_at c.nodes x
-  file_stays u apart None is = refl
-  file_stays u apart (Some m) is = ap (placed_at m) (stays u m apart is)
-
   changed_slots : (u : ℕ) → (state_of changed).at u ≡ changed_at (state_of c).at slot (file_at changed.nodes y) u
   changed_slots u = each_set (λ k x. file_at changed.nodes x ≡ changed_at (state_of c).at slot (file_at changed.nodes y) k) c.slots slot y None inside
-      (grind arith) u (λ apart. file_stays u apart (slot_at c.slots u) refl ∙ grind arith)
+      (grind arith) u (λ apart. file_same c.nodes changed.nodes (slot_at c.slots u) (λ m. stays u m apart) ∙ grind arith)
 
   state_of-changed : state_of changed ≡ record (state_of c) {
     at = changed_at (state_of c).at slot (file_at changed.nodes y);
@@ -134,12 +126,12 @@ module _ (c : Contents) (slot : ℕ) (y : Option ℕ) (nodes : List Node) (t : I
   state_of-changed = λ i. record (state_of c) {
     size = length-set c.slots slot y i;
     at = λ u. changed_slots u i;
-    removed = (removed-gave_way nodes old_at slot (names old_at refl) ∙ ap (with_removed (removed_of nodes)) (same_before slot old_at refl)) i;
+    removed = (removed-gave_way nodes old_at slot (names old_at refl) ∙ ap (with_removed (removed_of nodes)) (file_same c.nodes nodes old_at (kept slot))) i;
     fresh = fresh-gave_way nodes old_at slot (names old_at refl) i;
   }
 
   leaving-changed : leaving changed ≡ more_leaving (leaving_of nodes) ((state_of c).at slot)
-  leaving-changed = leaving-gave_way nodes old_at slot (names old_at refl) ∙ ap (more_leaving (leaving_of nodes)) (same_before slot old_at refl)
+  leaving-changed = leaving-gave_way nodes old_at slot (names old_at refl) ∙ ap (more_leaving (leaving_of nodes)) (file_same c.nodes nodes old_at (kept slot))
 
   changed_keeps : ((n : ℕ) → y ≡ Some n → (file : Closed) × (node_at changed.nodes n ≡ At slot file) × (n < length c.slots → n ≡ slot))
       → ((m : ℕ) → m < length c.slots → is_fresh (node_at nodes m) ≡ false)

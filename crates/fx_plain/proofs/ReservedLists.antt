@@ -1,13 +1,8 @@
 -- What stands in a list of which only a beginning is written.
-use Rattle.fx_plain.proofs.Words.{◌≡◌, ◌≢◌, ℕ, zero, suc, ◌+◌, ◌-◌, ◌<◌, ◌≤◌, List, [], ◌∷◌, ◌++◌, length, length-append, replicate, refl, sym, ap}
-use Rattle.fx_plain.proofs.Words.{subst, ◌∙◌, slice_index_or, slice_set, append_assoc, IsSome, arith, inl, inr, length-set, length-replicate}
-use Rattle.fx_plain.proofs.Words.{get_or_append_left, cases_lt, get_or-eq_default, node_at, file_in, Fresh, Gone, with_rest, Node, set-set}
-use Rattle.fx_plain.proofs.Words.{get_or-append-add, set-append_left}
-
-read_replicate : {X : Type 0} (n i : ℕ) (x d : X) → i < n → slice_index_or (replicate n x) i d ≡ x
-read_replicate zero i x d inside = absurd (omega arith)
-read_replicate (suc n) zero x d inside = refl
-read_replicate (suc n) (suc i) x d inside = read_replicate n i x d (omega arith)
+use Rattle.fx_plain.proofs.Words.{◌≡◌, ◌≢◌, ℕ, suc, ◌+◌, ◌-◌, ◌<◌, ◌≤◌, List, [], ◌∷◌, ◌++◌, length, length-append, replicate, sym, ap, subst, ◌∙◌}
+use Rattle.fx_plain.proofs.Words.{slice_index_or, slice_set, append_assoc, IsSome, arith, inl, inr, length-set, length-replicate, get_or_append_left}
+use Rattle.fx_plain.proofs.Words.{cases_lt, get_or-eq_default, node_at, file_in, Fresh, Gone, with_rest, Node, set-set, get_or-append-add}
+use Rattle.fx_plain.proofs.Words.{set-append_left, get_or-replicate}
 
 module _ {X : Type 0} (rest : X) (len : ℕ) (xs : List X) where
   pub length-with_rest : length xs ≤ len → length (with_rest rest len xs) ≡ len
@@ -24,11 +19,7 @@ module _ {X : Type 0} (rest : X) (len : ℕ) (xs : List X) where
       let at : length xs + (n - length xs) ≡ n = omega arith in
       ap (λ (k : ℕ). slice_index_or (with_rest rest len xs) k d) (sym at)
       ∙ get_or-append-add xs (replicate (len - length xs) rest) (n - length xs) d
-      ∙ read_replicate (len - length xs) (n - length xs) rest d (omega arith)
-
-  -- and behind that nothing
-  pub read_behind : (n : ℕ) (d : X) → length xs ≤ len → len ≤ n → slice_index_or (with_rest rest len xs) n d ≡ d
-  read_behind n d few behind = let e = length-with_rest few in get_or-eq_default (with_rest rest len xs) d (omega arith)
+      ∙ get_or-replicate (len - length xs) (n - length xs) rest d (omega arith)
 
   -- a write of what was written is a write of the whole list
   pub with_rest-set : (n : ℕ) (x : X) → n < length xs → with_rest rest len (slice_set xs n x) ≡ slice_set (with_rest rest len xs) n x
@@ -51,7 +42,7 @@ inside_written rest d len xs n few no_rest no_default = elim (cases_lt n (length
   | inl lt ↦ lt
   | inr behind ↦ elim (cases_lt n len) [
     | inl lt ↦ absurd (no_rest (read_rest rest len xs n d behind lt))
-    | inr past ↦ absurd (no_default (read_behind rest len xs n d few past))
+    | inr past ↦ let size = length-with_rest rest len xs few in absurd (no_default (get_or-eq_default (with_rest rest len xs) d (omega arith)))
   ]
 ]
 

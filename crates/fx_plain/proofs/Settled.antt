@@ -1,7 +1,7 @@
 -- What the counts of a table say of its state.
 use Rattle.fx_plain.proofs.Words.{◌≡◌, ℕ, zero, suc, ◌+◌, ◌<◌, ◌≤◌, ◌^◌, true, false, List, [], ◌∷◌, length, length-append, replicate, refl, sym, ap}
-use Rattle.fx_plain.proofs.Words.{subst, ◌∙◌, Option, Some, None, IsSome, IfSome, arith, State, IsSettled, files_in_order, files_of, identities_of}
-use Rattle.fx_plain.proofs.Words.{Contents, IsTable, IsCounted, state_of, slot_at, node_at, file_at, placed_at, removed_at, is_leaving, is_retired}
+use Rattle.fx_plain.proofs.Words.{subst, ◌∙◌, Option, Some, None, IfSome, arith, State, IsSettled, files_in_order, files_of, identities_of, Contents}
+use Rattle.fx_plain.proofs.Words.{IsTable, IsCounted, state_of, slot_at, node_at, file_at, placed_at, removed_at, is_leaving, is_retired}
 use Rattle.fx_plain.proofs.Words.{file_count_of, removed_count_of, itself, Fresh, Leaving, Retired, Gone, sum_by, HasRoomForHold, File, Node}
 use Rattle.fx_plain.proofs.Words.{sum_by-cons}
 use Rattle.fx_plain.proofs.Sums.{sum_below}
@@ -89,11 +89,6 @@ sparse_keeps slots n nodes holds slots_are few no_nodes no_hold len =
             refl;
       },
     )
-
--- a slot that names a number has a file
-pub some_file : (c : Contents) (slot : ℕ) → IsTable c → (x : Option ℕ) → slot_at c.slots slot ≡ x → IsSome x → IsSome (file_at c.nodes x)
-some_file c slot t None is some_number = absurd (cc some_number)
-some_file c slot t (Some n) is some_number = subst (λ (node : Node). IsSome (placed_at n node)) (sym (t.placed slot n is).1) refl
 
 fits_unheld : (st : State) → IsSettled st → (found : Option File) → IfSome found (λ f. st.holds f.number + 1 < 2 ^ 32)
 fits_unheld st settled None = tt

@@ -28,10 +28,6 @@ module _ (f : ℕ → ℕ) where
     | inr ge ↦ let rest = sum_grows n q ge in omega arith
   ]
 
-  -- each term is at most the sum
-  pub term_below : (n q : ℕ) → q < n → f q ≤ sum_below f n
-  term_below n q lt = let more = sum_grows (suc q) n lt in omega arith
-
   pub sum_zero : (n : ℕ) → ((k : ℕ) → k < n → f k ≡ 0) → sum_below f n ≡ 0
   sum_zero zero none_there = refl
   sum_zero (suc n) none_there = let rest : sum_below f n ≡ 0 = sum_zero n (λ k lt. none_there k (omega arith)) in

@@ -5,12 +5,11 @@ pub use Rattle.fx_plain.specs.Contents.{KeepsFirst, Leaving, Retired, SameButPla
 pub use Rattle.fx_plain.specs.Contents.{is_leaving, is_retired, itself, leaving, moved_node, node_after_removal, node_after_retirement, node_at}
 pub use Rattle.fx_plain.specs.Contents.{nodes_without, opening_slot, placed_at, removed_at, removed_count_of, slot_at, state_of}
 pub use Rattle.fx_plain.specs.History.{AllowsAll, IsLegal, Leads, action_of, close_of, closed_by, closes_in, state_after, ◌▷▷◌, ◌▷◌}
-pub use Rattle.fx_plain.specs.Laws.{IsAtSlot, IsClosed, IsClosedOnce, IsInstalled, IsStart, IsStillThere, closed_of, closes_of, if_numbered}
-pub use Rattle.fx_plain.specs.Laws.{installed_by, released_by, releases_in}
 pub use Rattle.fx_plain.specs.Reserved.{with_rest}
 pub use Rattle.fx_plain.specs.State.{IsSettled, State, file_numbered, files_in_order, files_of, identities_of, opening, vacant}
 pub use Rattle.fx_plain.specs.Step.{Allows, Steps, after, changed_at, with_removed}
-pub use Rattle.fx_plain.specs.Table.{EndsHold, HasRoomForHold, LetsLeave, closed_by_retirement, identity_of, numbered, slots_in_order}
+pub use Rattle.fx_plain.specs.Table.{EndsHold, HasRoomForHold, LetsLeave, closed_by_release, closed_by_retirement, identity_of, more_leaving}
+pub use Rattle.fx_plain.specs.Table.{number_of, numbered, slots_in_order}
 pub use Rattle.fx_plain.specs.contracts.table.PlainTable.{the_view}
 pub use Rattle.fx_plain.specs.declared.event.Action.{Action}
 pub use Rattle.fx_plain.specs.declared.event.Action.TheVariants.{Allocate, Clear, Close, Look, Put, Release, Take}
@@ -23,8 +22,8 @@ pub use Rattle.std.proofs.Common.{slice_index_or, slice_set, subst, suc, sym, ta
 pub use Rattle.std.proofs.Common.{◌<◌, ◌==◌, ◌^◌, ◌∙◌, ◌∷◌, ◌≡◌, ◌≢◌, ◌≤◌, ◌⊎◌}
 pub use Rattle.std.proofs.Math.ListN.{get_or-eq_default}
 pub use Rattle.std.proofs.lemmas.Bool.{cases_lt, eqb-true, le-ltb, lt-ltb}
-pub use Rattle.std.proofs.lemmas.List.{append-nil, get_or-append-add, get_or-set_other, get_or-set_same, get_or_append_left, get_or_default}
-pub use Rattle.std.proofs.lemmas.List.{length-replicate, length-set, set-append_left, set-get_or, set-set}
+pub use Rattle.std.proofs.lemmas.List.{append-nil, get_or-append-add, get_or-replicate, get_or-set_other, get_or-set_same, get_or_append_left}
+pub use Rattle.std.proofs.lemmas.List.{get_or_default, length-replicate, length-set, nil_from_length, set-append_left, set-get_or, set-set}
 pub use Rattle.std.proofs.lemmas.List.Sums.{get_or-le-sum_by, sum_by-cons, sum_by-set}
 pub use Rattle.std.specs.Option.{option_to_list}
 pub use Rattle.std.specs.Prelude.{sum_by}

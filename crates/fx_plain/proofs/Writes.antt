@@ -33,21 +33,19 @@ pub has_file-leaving : (node : Node) → is_leaving node ≡ true → IsSome (fi
 has_file-leaving (Leaving file) going = refl
 has_file-leaving _ going = cc
 
-pub has_file-retired : (node : Node) → is_retired node ≡ true → IsSome (file_in node)
-has_file-retired (Retired file) going = refl
-has_file-retired _ going = cc
-
 -- no slot names the number of a node that isn't at a slot
 abbrev pub IsOff : Node → Type 0
 IsOff node = (slot : ℕ) (file : Closed) → node ≢ At slot file
 
--- a slot's file stays where a node that isn't at a slot is written
-pub same_file : (c : Contents) (n : ℕ) (v : Node) → IsTable c → IsOff (node_at c.nodes n) → (slot : ℕ) (x : Option ℕ) → slot_at c.slots slot ≡ x
-    → file_at (slice_set c.nodes n v) x ≡ file_at c.nodes x
-same_file c n v t off slot None is = refl
-same_file c n v t off slot (Some m) is =
-    let at = t.placed slot m is in
-    ap (placed_at m) (get_or-set_other c.nodes n m v Gone (λ (same : m ≡ n). off slot at.0 (ap (node_at c.nodes) (sym same) ∙ at.1)))
+-- a file stays where its node does, as where a node that isn't at a slot is written
+pub file_same : (old new : List Node) (x : Option ℕ) → ((m : ℕ) → x ≡ Some m → node_at new m ≡ node_at old m) → file_at new x ≡ file_at old x
+file_same old new None same = refl
+file_same old new (Some m) same = ap (placed_at m) (same m refl)
+
+pub same_file : (c : Contents) (n : ℕ) (v : Node) → IsTable c → IsOff (node_at c.nodes n) → (slot : ℕ)
+    → file_at (slice_set c.nodes n v) (slot_at c.slots slot) ≡ file_at c.nodes (slot_at c.slots slot)
+same_file c n v t off slot = file_same c.nodes (slice_set c.nodes n v) (slot_at c.slots slot) (λ m is. let at = t.placed slot m is in
+    get_or-set_other c.nodes n m v Gone (λ (same : m ≡ n). off slot at.0 (ap (node_at c.nodes) (sym same) ∙ at.1)))
 
 pub state_of-holds : (c : Contents) (n h : ℕ) → n < length c.holds
     → state_of (record c { holds = slice_set c.holds n h }) ≡ record (state_of c) { holds = changed_at (state_of c).holds n h }
@@ -57,7 +55,7 @@ pub state_of-nodes : (c : Contents) (n : ℕ) (v : Node) → IsTable c → n < l
     → state_of (record c { nodes = slice_set c.nodes n v })
     ≡ record (state_of c) { removed = changed_at (state_of c).removed n (removed_at n v); fresh = changed_at (state_of c).fresh n (is_fresh v) }
 state_of-nodes c n v t inside off = λ i. record (state_of c) {
-  at = λ slot. same_file c n v t off slot (slot_at c.slots slot) refl i;
+  at = λ slot. same_file c n v t off slot i;
   removed = written removed_at c.nodes n v Gone inside i;
   fresh = written (λ q x. is_fresh x) c.nodes n v Gone inside i;
 }

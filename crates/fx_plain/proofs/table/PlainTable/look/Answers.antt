@@ -1,7 +1,7 @@
-use Rattle.fx_plain.proofs.Words.{◌≡◌, ℕ, rules, sym, ◌<◌, ◌+◌, Some, None, length, subst, arith, ◌^◌, slice_index, Closed, Look, Steps, Contents}
-use Rattle.fx_plain.proofs.Words.{IsTable, IsCounted, state_of, slot_at, node_at, At, HasRoomForHold, the_view}
+use Rattle.fx_plain.proofs.Words.{◌≡◌, ℕ, rules, Option, IfSome, File, sym, ◌<◌, ◌+◌, Some, None, length, subst, arith, ◌^◌, slice_index, Closed}
+use Rattle.fx_plain.proofs.Words.{Look, Steps, Contents, IsTable, IsCounted, state_of, slot_at, node_at, At, HasRoomForHold, the_view}
 use Rattle.fx_plain.proofs.Removals.{carried, seen_at}
-use Rattle.fx_plain.proofs.Holding.{with_holds, look_steps, look_fits, look_inside, look_keeps, look_counted, held_more}
+use Rattle.fx_plain.proofs.Holding.{with_holds, look_steps, at_is, look_inside, look_keeps, look_counted, held_more}
 use Rattle.fx_plain.proofs.table.PlainTable.look.Goals.{In_ok-number}
 use Rattle.fx_plain.proofs.table.PlainTable.look.Goals as goal
 
@@ -23,7 +23,7 @@ module _ (c : In_ok-number) where
   named = c.self.invariant.0.placed c.args.slot n at
 
   fits : slice_index table.holds n + 1 < 2 ^ 32
-  fits = look_fits table c.args.slot n named.0 c.self.invariant.0 inside at named.1
+  fits = subst (λ (x : Option File). IfSome x (λ f. (state_of table).holds f.number + 1 < 2 ^ 32)) (at_is table c.args.slot n named.0 at named.1)
       (subst (λ (k : Contents). HasRoomForHold (state_of k) c.args.slot) (sym c.self.view_is) c.requires.room)
 
   counted : (c.self.inside.held + 1 < 2 ^ 64) × IsCounted (held_more table n) c.self.inside.full (c.self.inside.held + 1) c.self.inside.removed

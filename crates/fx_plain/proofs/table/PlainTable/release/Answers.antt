@@ -1,6 +1,6 @@
-use Rattle.fx_plain.proofs.Words.{rules, ◌≤◌, ◌≢◌, sym, ◌∙◌, ◌≡◌, ◌<◌, ◌-◌, false, Some, None, subst, slice_index, arith, Contents, IsTable}
-use Rattle.fx_plain.proofs.Words.{IsCounted, node_at, is_retired, EndsHold, the_view}
-use Rattle.fx_plain.proofs.Writes.{has_file-retired}
+use Rattle.fx_plain.proofs.Words.{rules, Node, IsSome, file_in, refl, ◌≤◌, ◌≢◌, sym, ◌∙◌, ◌≡◌, ◌<◌, ◌-◌, false, Some, None, subst, slice_index, arith}
+use Rattle.fx_plain.proofs.Words.{Contents, IsTable, IsCounted, node_at, is_retired, EndsHold, the_view}
+use Rattle.fx_plain.proofs.Writes.{retired_is}
 use Rattle.fx_plain.proofs.Removals.{carried}
 use Rattle.fx_plain.proofs.Holding.{held_less, with_holds, less_counted, let_go_keeps, let_go_counted, let_go_releases, more_releases, open_releases}
 use Rattle.fx_plain.proofs.table.PlainTable.release.Goals.{After-end_hold-left}
@@ -63,7 +63,8 @@ returns c = let a = (goal.at.returns c).After-end_hold-left in
     (sym c.is_retired.ensures ∙ c.if-not-is_retired.false) (Some c.take_file.result) c.take_file.ensures.answer)
 
 pub take_file-requires : goal.take_file-requires
-take_file-requires c = has_file-retired (node_at c.self.inside.nodes c.args.number) (sym c.is_retired.ensures ∙ c.if-not-is_retired.false)
+take_file-requires c = let is = retired_is (node_at c.self.inside.nodes c.args.number) (sym c.is_retired.ensures ∙ c.if-not-is_retired.false) in
+    subst (λ (node : Node). IsSome (file_in node)) (sym is.1) refl
 
 pub returns-then-left-ne0 : goal.returns-then-left-ne0
 returns-then-left-ne0 c = let a = (goal.at.returns-then-left-ne0 c).After-end_hold-left in

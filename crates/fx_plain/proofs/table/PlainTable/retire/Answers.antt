@@ -1,9 +1,8 @@
-use Rattle.fx_plain.proofs.Words.{rules, is_leaving, Gone, refl, sym, ◌∙◌, ◌≡◌, ◌-◌, true, false, subst, slice_index, changed_at, Leads, close_of, Contents, IsTable}
-use Rattle.fx_plain.proofs.Words.{IsCounted, state_of, leaving, node_at, closed_by_retirement, the_view}
+use Rattle.fx_plain.proofs.Words.{rules, is_leaving, Gone, refl, sym, ◌∙◌, ◌≡◌, ◌-◌, true, false, subst, changed_at, Leads, close_of, Contents}
+use Rattle.fx_plain.proofs.Words.{IsTable, IsCounted, state_of, leaving, node_at, closed_by_retirement, the_view}
 use Rattle.fx_plain.proofs.Writes.{has_file-leaving, inside_told, leaving-nodes}
 use Rattle.fx_plain.proofs.Removals.{carried}
-use Rattle.fx_plain.proofs.Holding.{with_nodes, as_retired, retire_closes, retire_waits, retire_close_keeps}
-use Rattle.fx_plain.proofs.Holding.{retire_wait_keeps}
+use Rattle.fx_plain.proofs.Holding.{with_nodes, as_retired, retire_closes, retire_waits, retire_close_keeps, retire_wait_keeps}
 use Rattle.fx_plain.proofs.table.PlainTable.retire.Goals as goal
 
 pub overflow_sub-self : goal.overflow_sub-self
