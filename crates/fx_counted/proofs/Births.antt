@@ -12,7 +12,7 @@ use Rattle.fx_counted.specs.Laws.{BirthsKeep, RestsKeep}
 use Rattle.fx_counted.specs.Tells.{Births, Rests}
 use Rattle.fx_counted.proofs.Histories.{grows_none, change_here, change_else}
 use Rattle.fx_counted.proofs.Frames.{busy, does_now}
-use Rattle.fx_counted.proofs.Keeping.{word_at, now, logged, its_log, its_work, tells}
+use Rattle.fx_counted.proofs.Keeping.{Turn, turn_of, word_at, now, logged, its_log, its_work, tells}
 use Rattle.fx_counted.proofs.NodeSteps.{one_same, near, far, NodeStep, node_agrees}
 
 -- the file that a pass holds is open
@@ -20,7 +20,9 @@ pub held_file : (k : Start) (phase : ℕ → Phase) (j : ℕ) (u : View) (f : Fi
     → WorkAgrees k phase j u.work → file_in (phase f.number) ≡ Some f.identity
 held_file k phase j u f is o = (subst (WorkAgrees k phase j) is o).1
 
-module _ (st : Shared) (v : View) (r : Agrees v.start st) (id : ℕ) (x : Log) (here : get_elem? st.views id ≡ some v) (one : v.logs ≡ x ∷ []) where
+module _ (turn : Turn) where
+  open turn use {st, v, r, id, x, here, one}
+
   abbrev pub word_now : ℕ → ℕ
   word_now q = word_at st.words (word_of v.start q)
 
@@ -34,14 +36,14 @@ module _ (st : Shared) (v : View) (r : Agrees v.start st) (id : ℕ) (x : Log) (
       (looks r.history q) (word_now q) (home_now q)) is (r.each_node q its)
 
   pub roomy : (q : ℕ) → IsNumber v.start q → place_of v.start q < length st.homes
-  roomy q its = let a = r.shape.homes in let b = (near st v r id x here one).home q its in omega arith
+  roomy q its = let a = r.shape.homes in let b = (near turn).home q its in omega arith
 
   pub else_place : (q : ℕ) → IsNumber v.start q → (n : ℕ) → IsNumber v.start n → n ≢ q → place_of v.start n ≢ place_of v.start q
-  else_place q its n has other = (far st v r id x here one).homes n q has its other
+  else_place q its n has other = (far turn).homes n q has its other
 
   -- a number that is left to the pass is one of the table
   pub spare_inside : (n : ℕ) → next_in v.start x ≤ n → n < end_in v.start x → IsNumber v.start n
-  spare_inside n low high = let o = its_log st v r id x here one in let a = o.left_inside in let b = o.few_left in
+  spare_inside n low high = let o = its_log turn in let a = o.left_inside in let b = o.few_left in
       let within : v.start.numbers * chain_in x ≤ chain_numbers v.start = mul-le-mul_left v.start.numbers o.chain in
       inr (omega arith, omega (arith, high, within))
 
@@ -51,16 +53,16 @@ module _ (st : Shared) (v : View) (r : Agrees v.start st) (id : ℕ) (x : Log) (
     b = next_in v.start x
 
     end_is : b < end_in v.start x
-    end_is = let o = its_log st v r id x here one in let a = o.left_inside in omega arith
+    end_is = let o = its_log turn in let a = o.left_inside in omega arith
 
     its_b : IsNumber v.start b
     its_b = spare_inside b (omega arith) end_is
 
     is_spare : r.phase b ≡ spare x.number
-    is_spare = let o = its_log st v r id x here one in let p = ap placing idle in o.spares b (omega arith) end_is
+    is_spare = let o = its_log turn in let p = ap placing idle in o.spares b (omega arith) end_is
 
-    birth : NodeStep st v r id x here one b its_b born (set st.homes (place_of v.start b) none) r.history (placed id) (Placing b)
-    birth = let n = in_phase b its_b (spare x.number) is_spare in let o = its_log st v r id x here one in record {
+    birth : NodeStep turn b its_b born (set st.homes (place_of v.start b) none) r.history (placed id) (Placing b)
+    birth = let n = in_phase b its_b (spare x.number) is_spare in let o = its_log turn in record {
       grows = grows_none x.number r.history;
       legal = r.legal;
       told = one_same v b r.history;
@@ -90,7 +92,7 @@ module _ (st : Shared) (v : View) (r : Agrees v.start st) (id : ℕ) (x : Log) (
     birth_tells carried homes = subst (λ (n : ℕ). Stepped (v, carried) [] no_use (Placing n) v.change
         (now v (logged x r.history x.numbers_left x.looks_left) (Placing b) v.change, homes))
         (λ i. next_in v.start (first_log (sym one i)))
-        (tells st v r id x here one carried homes r.history x.numbers_left x.looks_left (Placing b) v.change [] no_use
+        (tells turn carried homes r.history x.numbers_left x.looks_left (Placing b) v.change [] no_use
         (grows_none x.number r.history) r.legal refl (omega arith) (omega arith) its_b)
 
   -- a rest, of a number whose file is closed, or which was placed in vain
@@ -101,8 +103,8 @@ module _ (st : Shared) (v : View) (r : Agrees v.start st) (id : ℕ) (x : Log) (
         (some (some None)) ph' → OwnerAgrees
         (set st.views id (now v (logged x r.history x.numbers_left x.looks_left) Idle v.change)) q ph'
         → ((n : ℕ) → next_in v.start x ≤ n → n < end_in v.start x → changed_at r.phase q ph' n ≡ spare x.number)
-        → NodeStep st v r id x here one q its 0 (set st.homes (place_of v.start q) (some None)) r.history ph' Idle
-    rest_step node known spares = let o = its_log st v r id x here one in record {
+        → NodeStep turn q its 0 (set st.homes (place_of v.start q) (some None)) r.history ph' Idle
+    rest_step node known spares = let o = its_log turn in record {
       grows = grows_none x.number r.history;
       legal = r.legal;
       told = one_same v q r.history;
@@ -130,10 +132,10 @@ module _ (st : Shared) (v : View) (r : Agrees v.start st) (id : ℕ) (x : Log) (
     }
 
   rest_emptied : (q : ℕ) → v.work ≡ Emptying q
-      → (its : IsNumber v.start q) × NodeStep st v r id x here one q its 0
+      → (its : IsNumber v.start q) × NodeStep turn q its 0
       (set st.homes (place_of v.start q) (some None)) r.history closed Idle
-  rest_emptied q is = let w = subst (WorkAgrees v.start r.phase id) is (its_work st v r id x here one) in
-      let n = in_phase q w.0 (emptied id) w.1 in let o = its_log st v r id x here one in (
+  rest_emptied q is = let w = subst (WorkAgrees v.start r.phase id) is (its_work turn) in
+      let n = in_phase q w.0 (emptied id) w.1 in let o = its_log turn in (
         w.0,
         rest_step q w.0 (emptied id) closed w.1 refl refl (λ bad. cc bad) (λ p bad. cc bad) (ap held_in is) (ap busy is)
             (λ m. ap (holding m) is) (refl, refl, n.2, n.3) tt
@@ -142,10 +144,10 @@ module _ (st : Shared) (v : View) (r : Agrees v.start st) (id : ℕ) (x : Log) (
       )
 
   rest_placed : (q : ℕ) → v.work ≡ Placing q
-      → (its : IsNumber v.start q) × NodeStep st v r id x here one q its 0
+      → (its : IsNumber v.start q) × NodeStep turn q its 0
       (set st.homes (place_of v.start q) (some None)) r.history (spare x.number) Idle
-  rest_placed q is = let w = subst (WorkAgrees v.start r.phase id) is (its_work st v r id x here one) in
-      let n = in_phase q w.0 (placed id) w.1 in let o = its_log st v r id x here one in
+  rest_placed q is = let w = subst (WorkAgrees v.start r.phase id) is (its_work turn) in
+      let n = in_phase q w.0 (placed id) w.1 in let o = its_log turn in
       let next : (q ≡ next_in v.start x) × (0 < x.numbers_left) = subst (PlacesNext v.start x) is o.next in (
         w.0,
         rest_step q w.0 (placed id) (spare x.number) w.1 refl refl (λ bad. cc bad) (λ p bad. cc bad) (ap held_in is)
@@ -158,16 +160,16 @@ module _ (st : Shared) (v : View) (r : Agrees v.start st) (id : ℕ) (x : Log) (
 births_at : (slots id : ℕ) (m : Sat) (x : Log) → m.0.logs ≡ x ∷ [] → m.0.work ≡ Idle → 0 < x.numbers_left
     → Allows (Agrees m.0.start) slots id m (word_of m.0.start (next_in m.0.start x)) (λ _. born)
     (λ _. Births (step slots (word_of m.0.start (next_in m.0.start x)) born 0 none) m born)
-births_at slots id m x one idle left st r deep here fits = (
+births_at slots id m x one idle left st r deep here fits = let turn = turn_of m x one id st r here in (
   now m.0 (logged x r.history x.numbers_left x.looks_left) (Placing (next_in m.0.start x)) m.0.change,
   takes (place_of m.0.start (next_in m.0.start x)) None,
-  (in_phase st m.0 r id x here one (next_in m.0.start x) (its_b st m.0 r id x here one idle left) (spare x.number)
-      (is_spare st m.0 r id x here one idle left)).1,
-  node_agrees st m.0 r id x here one (next_in m.0.start x) (its_b st m.0 r id x here one idle left) born
+  (in_phase turn (next_in m.0.start x) (its_b turn idle left) (spare x.number)
+      (is_spare turn idle left)).1,
+  node_agrees turn (next_in m.0.start x) (its_b turn idle left) born
       (set st.homes (place_of m.0.start (next_in m.0.start x)) none) r.history (placed id) (Placing (next_in m.0.start x))
-      (birth st m.0 r id x here one idle left),
+      (birth turn idle left),
   record {
-    stepped = birth_tells st m.0 r id x here one idle left m.1 ((place_of m.0.start (next_in m.0.start x), None) ∷ m.1);
+    stepped = birth_tells turn idle left m.1 ((place_of m.0.start (next_in m.0.start x), None) ∷ m.1);
     carried = λ i. (place_of m.0.start (next_in m.0.start (first_log (sym one i))), None) ∷ m.1;
   },
 )
@@ -181,7 +183,7 @@ births_keep k slots id i m x has idle left place = subst (λ (k : Start). i ≡ 
 rests_at : (slots id q : ℕ) (m : Sat) (x : Log) → m.0.logs ≡ x ∷ [] → (m.0.work ≡ Emptying q) ⊎ (m.0.work ≡ Placing q)
     → m.1 ≡ (place_of m.0.start q, None) ∷ []
     → Allows (Agrees m.0.start) slots id m (word_of m.0.start q) (λ _. 0) (λ _. Rests (step slots (word_of m.0.start q) 0 0 none) m 0)
-rests_at slots id q m x one works carries st r deep here fits = (
+rests_at slots id q m x one works carries st r deep here fits = let turn = turn_of m x one id st r here in (
   now m.0 (logged x r.history x.numbers_left x.looks_left) Idle m.0.change,
   gives,
   tt,
@@ -189,14 +191,14 @@ rests_at slots id q m x one works carries st r deep here fits = (
       (stepped st (word_of m.0.start q) 0 id c
       (now m.0 (logged x r.history x.numbers_left x.looks_left) Idle m.0.change) gives)) (sym carries)
       (⊎_elim
-      (λ (e : m.0.work ≡ Emptying q). let s = rest_emptied st m.0 r id x here one q e in
-      node_agrees st m.0 r id x here one q s.0 0 (set st.homes (place_of m.0.start q) (some None)) r.history closed Idle s.1)
-      (λ (e : m.0.work ≡ Placing q). let s = rest_placed st m.0 r id x here one q e in
-      node_agrees st m.0 r id x here one q s.0 0 (set st.homes (place_of m.0.start q) (some None)) r.history
+      (λ (e : m.0.work ≡ Emptying q). let s = rest_emptied turn q e in
+      node_agrees turn q s.0 0 (set st.homes (place_of m.0.start q) (some None)) r.history closed Idle s.1)
+      (λ (e : m.0.work ≡ Placing q). let s = rest_placed turn q e in
+      node_agrees turn q s.0 0 (set st.homes (place_of m.0.start q) (some None)) r.history
       (spare x.number) Idle s.1)
       works),
   record {
-    stepped = tells st m.0 r id x here one m.1
+    stepped = tells turn m.1
         (rest m.1) r.history x.numbers_left x.looks_left Idle m.0.change [] no_use
         (grows_none x.number r.history) r.legal refl (omega arith) (omega arith) tt;
     carried = refl;

@@ -4,15 +4,16 @@ use Rattle.fx_counted.proofs.Words.{range_of, NodeAgrees, PlacesNext, Agrees, Co
 use Rattle.fx_counted.proofs.Words.{draw_place, slot_place, Shared, opening_of, IsNumber, state_after_all, next_in, Change, Log, Start, View, Work, Placing}
 use Rattle.fx_counted.proofs.Frames.{stays_same, owner_same}
 use Rattle.fx_counted.proofs.Histories.{Grows, grows_none, IsHistory, seen_all}
-use Rattle.fx_counted.proofs.Keeping.{word_at, now, logged, its_log, its_work, Step, step_kept}
+use Rattle.fx_counted.proofs.Keeping.{Turn, word_at, now, logged, its_log, its_work, Step, step_kept}
 use Rattle.fx_counted.proofs.Unchanged.{slot_same, draws_same}
 
 places_same : (k : Start) (x y : Log) (d : Work) → next_in k y ≡ next_in k x → y.numbers_left ≡ x.numbers_left → PlacesNext k x d → PlacesNext k y d
 places_same k x y (Placing n) next left o = (o.0 ∙ sym next, let a = o.1 in omega arith)
 places_same k x y _ next left o = tt
 
-module _ (st : Shared) (v : View) (r : Agrees v.start st) (id : ℕ) (x : Log) (here : get_elem? st.views id ≡ some v)
-    (one : v.logs ≡ x ∷ []) (h' : List Event) where
+module _ (turn : Turn) (h' : List Event) where
+  open turn use {st, v, r, id, x, here, one}
+
   -- the history tells of nothing new
   pub record Quiet : Type 0 where
     pub grows : Grows x.number r.history h'
@@ -39,8 +40,8 @@ module _ (st : Shared) (v : View) (r : Agrees v.start st) (id : ℕ) (x : Log) (
           (set st.views id w) (word_at words' control_place)
 
     module _ (p : Calm) where
-      calm_step : Step st v r id x here one y v.work c h' r.phase words' st.homes
-      calm_step = let o = its_log st v r id x here one in record {
+      calm_step : Step turn y v.work c h' r.phase words' st.homes
+      calm_step = let o = its_log turn in record {
         words = p.words;
         homes = refl;
         number = refl;
@@ -66,7 +67,7 @@ module _ (st : Shared) (v : View) (r : Agrees v.start st) (id : ℕ) (x : Log) (
           next = places_same v.start x y v.work refl refl o.next;
           spares = o.spares;
         };
-        work = its_work st v r id x here one;
+        work = its_work turn;
         holds = λ n. let e = ap (λ (z : State). z.holds n) p.quiet.state in omega arith;
         look_ups = let a = p.quiet.all in omega arith;
         control = subst (λ (z : State). ControlCounts z.at (range_of (opening_of v.start)) (set st.views id w)
@@ -76,8 +77,10 @@ module _ (st : Shared) (v : View) (r : Agrees v.start st) (id : ℕ) (x : Log) (
       }
 
       pub calm_agrees : Agrees v.start record { words = words'; homes = st.homes; views = set st.views id w }
-      calm_agrees = step_kept st v r id x here one y v.work c h' r.phase words' st.homes calm_step
+      calm_agrees = step_kept turn y v.work c h' r.phase words' st.homes calm_step
 
-module _ (st : Shared) (v : View) (r : Agrees v.start st) (id : ℕ) (x : Log) (here : get_elem? st.views id ≡ some v) (one : v.logs ≡ x ∷ []) where
-  pub no_event : Quiet st v r id x here one r.history
+module _ (turn : Turn) where
+  open turn use {st, v, r, id, x, here, one}
+
+  pub no_event : Quiet turn r.history
   no_event = record { grows = grows_none x.number r.history; legal = r.legal; state = refl; looked = refl; all = refl; held = refl }

@@ -15,7 +15,7 @@ use Rattle.fx_counted.specs.Passes.{first_or}
 use Rattle.fx_counted.specs.Tells.{DrawTells}
 use Rattle.fx_counted.proofs.Frames.{owner_same}
 use Rattle.fx_counted.proofs.Histories.{grows_none}
-use Rattle.fx_counted.proofs.Keeping.{word_at, now, its_log, Step, step_kept}
+use Rattle.fx_counted.proofs.Keeping.{Turn, turn_of, word_at, now, its_log, Step, step_kept}
 use Rattle.fx_counted.proofs.NodeSteps.{near, far}
 use Rattle.fx_counted.proofs.Unchanged.{slot_same, control_same}
 use Rattle.fx_counted.proofs.Ones.{one_if, times, bit_here, bit_else}
@@ -81,7 +81,9 @@ chain_drawn : (l : List ℕ) → 0 < first_or 0 l → 1 ≤ times (first_or 0 l)
 chain_drawn [] a = absurd (omega arith)
 chain_drawn (c ∷ l) a = let b = bit_here c c refl in let e = sum_by-cons (λ d. one_if (eqb d c)) c l in omega arith
 
-module _ (st : Shared) (v : View) (r : Agrees v.start st) (id : ℕ) (x : Log) (here : get_elem? st.views id ≡ some v) (one : v.logs ≡ x ∷ []) where
+module _ (turn : Turn) where
+  open turn use {st, v, r, id, x, here, one}
+
   abbrev found : ℕ
   found = word_at st.words draw_place
 
@@ -89,7 +91,7 @@ module _ (st : Shared) (v : View) (r : Agrees v.start st) (id : ℕ) (x : Log) (
   d = r.draws
 
   wide : draw_place < length st.words
-  wide = let a = r.shape.words in let b = (near st v r id x here one).draw in omega arith
+  wide = let a = r.shape.words in let b = (near turn).draw in omega arith
 
   -- the pass's last chain was given
   pub chain_few : chain_in x ≤ d.given
@@ -119,8 +121,8 @@ module _ (st : Shared) (v : View) (r : Agrees v.start st) (id : ℕ) (x : Log) (
     draw_step : ((n : ℕ) → (r.phase n ≡ phase' n) ⊎ ((r.phase n ≡ unborn) × (phase' n ≡ spare x.number)))
         → LogAgrees v.start r.history phase' id v.work y → WorkAgrees v.start phase' id v.work
         → DrawsCount v.start.chains v.start.numbers phase' (set st.views id w) (found + 1)
-        → Step st v r id x here one y v.work v.change r.history phase' words' st.homes
-    draw_step phases log work draws = let apart = far st v r id x here one in record {
+        → Step turn y v.work v.change r.history phase' words' st.homes
+    draw_step phases log work draws = let apart = far turn in record {
       words = length-set st.words draw_place (found + 1);
       homes = refl;
       number = number;
@@ -236,7 +238,7 @@ module _ (st : Shared) (v : View) (r : Agrees v.start st) (id : ℕ) (x : Log) (
           }
 
       log : LogAgrees v.start r.history phase' id v.work y
-      log = let o = its_log st v r id x here one in let p = ap placing idle in record {
+      log = let o = its_log turn in let p = ap placing idle in record {
         seen = o.seen;
         own = o.own;
         held = o.held;
@@ -248,7 +250,7 @@ module _ (st : Shared) (v : View) (r : Agrees v.start st) (id : ℕ) (x : Log) (
       }
 
       drawn_agrees : Agrees v.start (stepped st draw_place (found + 1) id [] (now v y v.work v.change) keeps)
-      drawn_agrees = step_kept st v r id x here one y v.work v.change r.history phase'
+      drawn_agrees = step_kept turn y v.work v.change r.history phase'
           (set st.words draw_place (found + 1)) st.homes (draw_step y refl refl refl phase' phases log (idle_work phase') counts)
 
       drawn_tells : (carried : List (ℕ × Option Closed)) (slots : ℕ)
@@ -288,7 +290,7 @@ module _ (st : Shared) (v : View) (r : Agrees v.start st) (id : ℕ) (x : Log) (
           }
 
       log' : LogAgrees v.start r.history r.phase id v.work y'
-      log' = let o = its_log st v r id x here one in record {
+      log' = let o = its_log turn in record {
         seen = o.seen;
         own = o.own;
         held = o.held;
@@ -300,7 +302,7 @@ module _ (st : Shared) (v : View) (r : Agrees v.start st) (id : ℕ) (x : Log) (
       }
 
       told_agrees : Agrees v.start (stepped st draw_place (found + 1) id [] (now v y' v.work v.change) keeps)
-      told_agrees = step_kept st v r id x here one y' v.work v.change r.history r.phase
+      told_agrees = step_kept turn y' v.work v.change r.history r.phase
           (set st.words draw_place (found + 1)) st.homes
           (draw_step y' refl refl refl r.phase (λ n. inl refl) log' (idle_work r.phase) counts')
 
@@ -320,25 +322,25 @@ module _ (st : Shared) (v : View) (r : Agrees v.start st) (id : ℕ) (x : Log) (
 
 draws_at : (slots id : ℕ) (m : Sat) (x : Log) → m.0.logs ≡ x ∷ [] → m.0.work ≡ Idle → x.no_chains_left ≡ false
     → Allows (Agrees m.0.start) slots id m draw_place (λ word. (word + 1) % 2 ^ 64) (DrawTells (step slots draw_place 1 0 none) m)
-draws_at slots id m x one idle untold st r deep here fits = let found : ℕ = word_at st.words draw_place in
+draws_at slots id m x one idle untold st r deep here fits = let turn = turn_of m x one id st r here in let found : ℕ = word_at st.words draw_place in
     subst (λ (z : ℕ). (w : View) × (a : Act (Option Closed)) × Valid st.homes m.1 a
     × Agrees m.0.start (stepped st draw_place z id m.1 w a)
     × DrawTells (step slots draw_place 1 0 none) m found (w, carried_after m.1 a))
-    (sym (word_is st m.0 r id x here one))
+    (sym (word_is turn))
     (dite (dec_le (found + 1) m.0.start.chains)
     (λ next. let more : found < m.0.start.chains = omega (arith, next) in (
-      now m.0 (y st m.0 r id x here one idle untold more) m.0.work m.0.change,
+      now m.0 (y turn idle untold more) m.0.work m.0.change,
       keeps,
       tt,
-      drawn_agrees st m.0 r id x here one idle untold more,
-      drawn_tells st m.0 r id x here one idle untold more m.1 slots,
+      drawn_agrees turn idle untold more,
+      drawn_tells turn idle untold more m.1 slots,
     ))
     (λ done. let d : m.0.start.chains ≤ found = omega (arith, done) in (
-      now m.0 (y' st m.0 r id x here one idle untold d) m.0.work m.0.change,
+      now m.0 (y' turn idle untold d) m.0.work m.0.change,
       keeps,
       tt,
-      told_agrees st m.0 r id x here one idle untold d,
-      told_tells st m.0 r id x here one idle untold d m.1 slots,
+      told_agrees turn idle untold d,
+      told_tells turn idle untold d m.1 slots,
     )))
 
 pub draws_keep : DrawsKeep

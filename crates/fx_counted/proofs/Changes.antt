@@ -11,36 +11,36 @@ use Rattle.fx_counted.proofs.Births.{in_phase, roomy, else_place, held_file}
 use Rattle.fx_counted.proofs.Frames.{busy, stays_same, owner_stays}
 use Rattle.fx_counted.proofs.FullSlots.{Stands, control_swap}
 use Rattle.fx_counted.proofs.Histories.{grows_one, part_mine, change_here, change_else, same_shape}
-use Rattle.fx_counted.proofs.Keeping.{Homes, word_at, now, logged, its_log, its_work, tells}
+use Rattle.fx_counted.proofs.Keeping.{Turn, Homes, word_at, now, logged, its_log, its_work, tells}
 use Rattle.fx_counted.proofs.Swaps.{NotOf, Effect, h', removed_else, found, state, so, seat_of, not_old, elsewhere, w, Swap, swap_agrees}
 use Rattle.fx_counted.proofs.Unchanged.{node_same}
 
-module _ (st : Shared) (v : View) (r : Agrees v.start st) (id : ℕ) (x : Log) (here : get_elem? st.views id ≡ some v)
-    (one : v.logs ≡ x ∷ []) (s : ℕ) (inside : s < slots_of v.start) (stands : Stands (range_of (opening_of v.start)) s v.change)
-    (old : Option File) (was : (state_after_all v.start r.history).at s ≡ old) where
+module _ (turn : Turn) (s : ℕ) (inside : s < slots_of turn.v.start) (stands : Stands (range_of (opening_of turn.v.start)) s turn.v.change) (old : Option File) (was : (state_after_all turn.v.start turn.r.history).at s ≡ old) where
+  open turn use {st, v, r, id, x, here, one}
+
   abbrev f₀ : ℕ
-  f₀ = found st v r id x here one s inside
+  f₀ = found turn s inside
 
   abbrev pub s₀ : State
-  s₀ = state st v r id x here one s inside
+  s₀ = state turn s inside
 
   pub in_size : s < s₀.size
   in_size = let z = (same_shape v.start r.history).0 in omega arith
 
   pub inside_now : (file : Option File) → old ≡ file → IsInside v.start (retires_now file (takes_in f₀))
   inside_now None is = tt
-  inside_now (Some f) is = (seat_of st v r id x here one s inside f (was ∙ is)).0
+  inside_now (Some f) is = (seat_of turn s inside f (was ∙ is)).0
 
   pub names_old : Names f₀ old
-  names_old = subst (Names f₀) was (so st v r id x here one s inside).names
+  names_old = subst (Names f₀) was (so turn s inside).names
 
   abbrev pub after : Action → State
-  after a = state_after_all v.start (h' st v r id x here one s inside old was a)
+  after a = state_after_all v.start (h' turn s inside old was a)
 
   -- a removal
-  module _ (idle : v.work ≡ Idle) (a : Action) (does : Effect st v r id x here one s inside old was a None s₀.fresh) where
-    removal : Swap st v r id x here one s inside old was a 0 None st.homes r.phase x.numbers_left (turned v.change (if_full old) 0)
-    removal = let o = its_log st v r id x here one in record {
+  module _ (idle : v.work ≡ Idle) (a : Action) (does : Effect turn s inside old was a None s₀.fresh) where
+    removal : Swap turn s inside old was a 0 None st.homes r.phase x.numbers_left (turned v.change (if_full old) 0)
+    removal = let o = its_log turn in record {
       fresh = s₀.fresh;
       does = does;
       homes = refl;
@@ -56,15 +56,15 @@ module _ (st : Shared) (v : View) (r : Agrees v.start st) (id : ℕ) (x : Log) (
           (ap (λ (z : State). z.fresh n) does.state) (ap (λ (z : State). z.removed n) does.state ∙ removed_else s₀.removed old n other)
           (ap (λ (z : State). z.holds n) does.state) refl refl refl (ap (λ (z : State). z.size) does.state) (r.phase n)
           (λ i g is there. ap (λ (z : State). z.at i) does.state
-          ∙ change_else s₀.at s None i (elsewhere st v r id x here one s inside old was n i g other there))
+          ∙ change_else s₀.at s None i (elsewhere turn s inside old was n i g other there))
           (r.each_node n has);
       old_home = λ f is. refl;
       owners = λ n has other. owner_stays st.views id v
-          (w st v r id x here one s inside old was a 0 None st.homes r.phase x.numbers_left
+          (w turn s inside old was a 0 None st.homes r.phase x.numbers_left
           (turned v.change (if_full old) 0)) here n (λ bad. let b = ap busy idle in omega arith) (r.phase n) (r.each_owner n has);
       fewer = omega arith;
       spares = λ n low high. let p = ap placing idle in let q = o.spares n (omega arith) high in
-          (q, not_old st v r id x here one s inside old was n (spare x.number) q (λ g bad. cc bad));
+          (q, not_old turn s inside old was n (spare x.number) q (λ g bad. cc bad));
       none_held = (ap held_in idle, λ n. ap (holding n) idle);
       control = control_swap s₀.at (range_of (opening_of v.start)) st.views id v _ _ s old None here was stands refl r.control;
     }
@@ -74,12 +74,12 @@ module _ (st : Shared) (v : View) (r : Agrees v.start st) (id : ℕ) (x : Log) (
         (retires_now old (takes_in f₀)) (turned v.change (if_full old) 0)
 
     pub removal_agrees : Agrees v.start (stepped st (slot_place s) 0 id [] removed_view keeps)
-    removal_agrees = swap_agrees st v r id x here one s inside old was a 0 None st.homes r.phase x.numbers_left
+    removal_agrees = swap_agrees turn s inside old was a 0 None st.homes r.phase x.numbers_left
         (turned v.change (if_full old) 0) removal
 
     pub removal_tells : (carried : List (ℕ × Option Closed))
         → Stepped (v, carried) ([] ▷ a) no_use (retires_now old (takes_in f₀)) (turned v.change (if_full old) 0) (removed_view, carried)
-    removal_tells carried = tells st v r id x here one carried carried
+    removal_tells carried = tells turn carried carried
         (event_of (shown x v.work) a ∷ r.history) x.numbers_left x.looks_left (retires_now old (takes_in f₀))
         (turned v.change (if_full old) 0) ([] ▷ a) no_use
         (grows_one x.number r.history (event_of (shown x v.work) a) refl) does.legal (part_mine x.number (event_of (shown x v.work) a) r.history refl)
@@ -87,18 +87,18 @@ module _ (st : Shared) (v : View) (r : Agrees v.start st) (id : ℕ) (x : Log) (
 
   -- an installation
   module _ (n : ℕ) (file : Closed) (works : v.work ≡ Placing n) (small : file.entry < 2 ^ 8) (a : Action)
-      (does : Effect st v r id x here one s inside old was a (Some (numbered n file)) (changed_at s₀.fresh n false)) where
+      (does : Effect turn s inside old was a (Some (numbered n file)) (changed_at s₀.fresh n false)) where
     its : IsNumber v.start n × (r.phase n ≡ placed id)
-    its = subst (WorkAgrees v.start r.phase id) works (its_work st v r id x here one)
+    its = subst (WorkAgrees v.start r.phase id) works (its_work turn)
 
     next : (n ≡ next_in v.start x) × (0 < x.numbers_left)
-    next = subst (PlacesNext v.start x) works (its_log st v r id x here one).next
+    next = subst (PlacesNext v.start x) works (its_log turn).next
 
     node : NodeAgrees s₀ n (looks r.history n) (word_at st.words (word_of v.start n)) (get_elem? st.homes (place_of v.start n)) (placed id)
-    node = in_phase st v r id x here one n its.0 (placed id) its.1
+    node = in_phase turn n its.0 (placed id) its.1
 
     apart_old : NotOf n old
-    apart_old = not_old st v r id x here one s inside old was n (placed id) its.1 (λ g bad. cc bad)
+    apart_old = not_old turn s inside old was n (placed id) its.1 (λ g bad. cc bad)
 
     abbrev homes' : Homes
     homes' = set st.homes (place_of v.start n) (some (Some file))
@@ -116,7 +116,7 @@ module _ (st : Shared) (v : View) (r : Agrees v.start st) (id : ℕ) (x : Log) (
     c = turned v.change (if_full old) 1
 
     abbrev w₁ : View
-    w₁ = w st v r id x here one s inside old was a (slot_word_of n file.entry) (Some (numbered n file)) homes' phase₁ (x.numbers_left - 1) c
+    w₁ = w turn s inside old was a (slot_word_of n file.entry) (Some (numbered n file)) homes' phase₁ (x.numbers_left - 1) c
 
     abbrev Node : ℕ → Phase → Type 0
     Node m ph = NodeAgrees (after a) m (looks r.history m) (word_at st.words (word_of v.start m)) (get_elem? homes' (place_of v.start m)) ph
@@ -124,7 +124,7 @@ module _ (st : Shared) (v : View) (r : Agrees v.start st) (id : ℕ) (x : Log) (
     node_here : Node n (seated s file)
     node_here = let o = node in let h = ap (λ (z : State). z.holds n) does.state in (
       omega arith,
-      set_here st.homes (place_of v.start n) (some (Some file)) (roomy st v r id x here one n its.0),
+      set_here st.homes (place_of v.start n) (some (Some file)) (roomy turn n its.0),
       (let z = in_size in let q = ap (λ (z : State). z.size) does.state in omega arith),
       ap (λ (z : State). z.at s) does.state ∙ change_here s₀.at s (Some (numbered n file)) s refl,
       ap (λ (z : State). z.removed n) does.state ∙ (removed_else s₀.removed old n apart_old ∙ o.5),
@@ -136,14 +136,14 @@ module _ (st : Shared) (v : View) (r : Agrees v.start st) (id : ℕ) (x : Log) (
         (ap (λ (z : State). z.removed m) does.state ∙ removed_else s₀.removed old m apart)
         (ap (λ (z : State). z.holds m) does.state) refl refl
         (set_else st.homes (place_of v.start n) (place_of v.start m) (some (Some file))
-        (else_place st v r id x here one n its.0 m has other)) (ap (λ (z : State). z.size) does.state) (r.phase m)
+        (else_place turn n its.0 m has other)) (ap (λ (z : State). z.size) does.state) (r.phase m)
         (λ i g is there. ap (λ (z : State). z.at i) does.state
         ∙ change_else s₀.at s (Some (numbered n file)) i
-        (elsewhere st v r id x here one s inside old was m i g apart there)) (r.each_node m has)
+        (elsewhere turn s inside old was m i g apart there)) (r.each_node m has)
 
-    installation : Swap st v r id x here one s inside old was a (slot_word_of n file.entry)
+    installation : Swap turn s inside old was a (slot_word_of n file.entry)
         (Some (numbered n file)) homes' phase₁ (x.numbers_left - 1) c
-    installation = let o = its_log st v r id x here one in record {
+    installation = let o = its_log turn in record {
       fresh = changed_at s₀.fresh n false;
       does = does;
       homes = length-set st.homes (place_of v.start n) (some (Some file));
@@ -164,9 +164,9 @@ module _ (st : Shared) (v : View) (r : Agrees v.start st) (id : ℕ) (x : Log) (
       nodes = λ m has apart. dite (ℕ_discrete m n)
           (λ same. subst (λ (m : ℕ). Node m (phase₁ m)) (sym same) (subst (Node n) (sym here_phase) node_here))
           (λ other. subst (Node m) (sym (change_else r.phase n (seated s file) m other)) (node_else m has other apart));
-      old_home = λ f is. let q = seat_of st v r id x here one s inside f (was ∙ is) in
+      old_home = λ f is. let q = seat_of turn s inside f (was ∙ is) in
           set_else st.homes (place_of v.start n) (place_of v.start f.number) (some (Some file))
-          (else_place st v r id x here one n its.0 f.number q.0
+          (else_place turn n its.0 f.number q.0
           (λ same. let z : seated s f.identity ≡ placed id = sym q.2 ∙ (ap r.phase same ∙ its.1) in cc z));
       owners = λ m has apart. dite (ℕ_discrete m n)
           (λ same. subst (λ (z : ℕ × Phase). OwnerAgrees (set st.views id w₁) z.0 z.1)
@@ -177,7 +177,7 @@ module _ (st : Shared) (v : View) (r : Agrees v.start st) (id : ℕ) (x : Log) (
       fewer = omega arith;
       spares = λ m low high. let p = ap placing works in let z = next in let few = o.left_inside in let q = o.spares m (omega arith) high in (
         else_phase m (spare x.number) q (λ bad. cc bad),
-        not_old st v r id x here one s inside old was m (spare x.number) q (λ g bad. cc bad),
+        not_old turn s inside old was m (spare x.number) q (λ g bad. cc bad),
       );
       none_held = (ap held_in works, λ m. ap (holding m) works);
       control = control_swap s₀.at (range_of (opening_of v.start)) st.views id v _ _ s old (Some (numbered n file)) here was stands refl r.control;
@@ -191,12 +191,12 @@ module _ (st : Shared) (v : View) (r : Agrees v.start st) (id : ℕ) (x : Log) (
       homes = homes';
       views = set st.views id installed_view;
     }
-    installation_agrees = swap_agrees st v r id x here one s inside old was a (slot_word_of n file.entry)
+    installation_agrees = swap_agrees turn s inside old was a (slot_word_of n file.entry)
         (Some (numbered n file)) homes' phase₁ (x.numbers_left - 1) c installation
 
     pub installation_tells : (carried homes : List (ℕ × Option Closed)) → Stepped (v, carried) ([] ▷ a) one_number (retires_now old (takes_in f₀)) c
         (installed_view, homes)
-    installation_tells carried homes = tells st v r id x here one carried homes (event_of (shown x v.work) a ∷ r.history)
+    installation_tells carried homes = tells turn carried homes (event_of (shown x v.work) a ∷ r.history)
         (x.numbers_left - 1) x.looks_left (retires_now old (takes_in f₀)) c ([] ▷ a) one_number
         (grows_one x.number r.history (event_of (shown x v.work) a) refl) does.legal (part_mine x.number (event_of (shown x v.work) a) r.history refl)
         (let z = next in omega arith) (omega arith) (inside_now old refl)

@@ -12,7 +12,7 @@ use Rattle.fx_counted.specs.Laws.{BeginsKeep, EndsKeep, AnswersKeep}
 use Rattle.fx_counted.proofs.Calm.{Quiet, no_event, Calm, calm_agrees}
 use Rattle.fx_counted.proofs.FullSlots.{full_few, full_all}
 use Rattle.fx_counted.proofs.Histories.{IsHistory, grows_none, grows_one, legal_more, held_mine, part_mine, same_shape}
-use Rattle.fx_counted.proofs.Keeping.{word_at, now, logged, its_work, tells}
+use Rattle.fx_counted.proofs.Keeping.{Turn, turn_of, word_at, now, logged, its_work, tells}
 use Rattle.fx_counted.proofs.NodeSteps.{near, far}
 use Rattle.fx_counted.proofs.Retirements.{sub_wraps}
 
@@ -42,7 +42,9 @@ is_inside : (k : Start) (phase : ℕ → Phase) (seat : ℕ) (d : Work) → Work
 is_inside k phase seat Idle o = tt
 is_inside k phase seat _ o = o.0
 
-module _ (st : Shared) (v : View) (r : Agrees v.start st) (id : ℕ) (x : Log) (here : get_elem? st.views id ≡ some v) (one : v.logs ≡ x ∷ []) where
+module _ (turn : Turn) where
+  open turn use {st, v, r, id, x, here, one}
+
   abbrev word : ℕ
   word = word_at st.words control_place
 
@@ -53,7 +55,7 @@ module _ (st : Shared) (v : View) (r : Agrees v.start st) (id : ℕ) (x : Log) (
   range = range_of (opening_of v.start)
 
   pub its_inside : IsInside v.start v.work
-  its_inside = is_inside v.start r.phase id v.work (its_work st v r id x here one)
+  its_inside = is_inside v.start r.phase id v.work (its_work turn)
 
   few_changes : (j : ℕ) (u : View) → get_elem? st.views j ≡ some u → changes_of u ≤ lengths u
   few_changes j u there = go u.logs refl
@@ -77,7 +79,7 @@ module _ (st : Shared) (v : View) (r : Agrees v.start st) (id : ℕ) (x : Log) (
   few_added = sum_le_at added_of changes_of st.views (λ j u e. adds_inside u.change)
 
   wide : control_place < length st.words
-  wide = let a = r.shape.words in let b = (near st v r id x here one).control in omega arith
+  wide = let a = r.shape.words in let b = (near turn).control in omega arith
 
   -- what is written to the control word
   module _ (y : ℕ) where
@@ -87,9 +89,9 @@ module _ (st : Shared) (v : View) (r : Agrees v.start st) (id : ℕ) (x : Log) (
     read_else : (place : ℕ) → place ≢ control_place → word_at words' place ≡ word_at st.words place
     read_else place other = get_or-set_other st.words control_place place y 0 other
 
-    wrote : (h' : List Event) (c : Change) → Quiet st v r id x here one h' → ControlCounts at_now range
-        (set st.views id (now v (logged x h' x.numbers_left x.looks_left) v.work c)) y → Calm st v r id x here one h' c words'
-    wrote h' c quiet control = let apart = far st v r id x here one in record {
+    wrote : (h' : List Event) (c : Change) → Quiet turn h' → ControlCounts at_now range
+        (set st.views id (now v (logged x h' x.numbers_left x.looks_left) v.work c)) y → Calm turn h' c words'
+    wrote h' c quiet control = let apart = far turn in record {
       quiet = quiet;
       words = length-set st.words control_place y;
       slots = λ s. read_else (slot_place s) (apart.slot_and_control s);
@@ -109,7 +111,7 @@ module _ (st : Shared) (v : View) (r : Agrees v.start st) (id : ℕ) (x : Log) (
       let b = ap (λ (p : ℕ × ℕ). p.1) z in let i = in_range.0 in let j = in_range.1 in
       each slot (omega arith) (omega arith)) tt
 
-  told_full : ((slot : ℕ) → range.0 ≤ slot → slot < range.0 + range.1 → IsSome (at_now slot)) → Quiet st v r id x here one (e ∷ r.history)
+  told_full : ((slot : ℕ) → range.0 ≤ slot → slot < range.0 + range.1 → IsSome (at_now slot)) → Quiet turn (e ∷ r.history)
   told_full each = record {
     grows = grows_one x.number r.history e refl;
     legal = full_legal each;
@@ -121,7 +123,7 @@ module _ (st : Shared) (v : View) (r : Agrees v.start st) (id : ℕ) (x : Log) (
 
   pub goes_on : (c : Change) (carried : List (ℕ × Option Closed))
       → Stepped (v, carried) [] no_use v.work c (now v (logged x r.history x.numbers_left x.looks_left) v.work c, carried)
-  goes_on c carried = tells st v r id x here one carried carried r.history x.numbers_left x.looks_left v.work c []
+  goes_on c carried = tells turn carried carried r.history x.numbers_left x.looks_left v.work c []
       no_use (grows_none x.number r.history) r.legal refl (omega arith) (omega arith) its_inside
 
   module _ (fits : word < 18446744073709551616) where
@@ -162,13 +164,13 @@ module _ (st : Shared) (v : View) (r : Agrees v.start st) (id : ℕ) (x : Log) (
 begins_at : (slots id : ℕ) (m : Sat) (x : Log) → m.0.logs ≡ x ∷ [] → m.0.change ≡ Outside
     → Allows (Agrees m.0.start) slots id m control_place (λ word. (word + one_change) % 2 ^ 64)
     (GoesOn Same (step slots control_place one_change 0 none) m)
-begins_at slots id m x one out st r deep here fits = let y : ℕ = (word_at st.words control_place + one_change) % 2 ^ 64 in (
+begins_at slots id m x one out st r deep here fits = let turn = turn_of m x one id st r here in let y : ℕ = (word_at st.words control_place + one_change) % 2 ^ 64 in (
   now m.0 (logged x r.history x.numbers_left x.looks_left) m.0.work Same,
   keeps,
   tt,
-  calm_agrees st m.0 r id x here one r.history Same (set st.words control_place y)
-      (wrote st m.0 r id x here one y r.history Same (no_event st m.0 r id x here one) (begun st m.0 r id x here one fits out)),
-  record { stepped = goes_on st m.0 r id x here one Same m.1; carried = refl },
+  calm_agrees turn r.history Same (set st.words control_place y)
+      (wrote turn y r.history Same (no_event turn) (begun turn fits out)),
+  record { stepped = goes_on turn Same m.1; carried = refl },
 )
 
 pub begins_keep : BeginsKeep
@@ -182,14 +184,14 @@ ends_at : (slots id amount : ℕ) (m : Sat) (x : Log) → m.0.logs ≡ x ∷ [] 
     → amount + added m.0.change ≡ one_change + removed_by m.0.change
     → Allows (Agrees m.0.start) slots id m control_place (λ word. (word + (2 ^ 64 - amount)) % 2 ^ 64)
     (GoesOn Outside (step slots control_place amount 0 none) m)
-ends_at slots id amount m x one in_now amount_is st r deep here fits = let y : ℕ = (word_at st.words control_place + (2 ^ 64 - amount)) % 2 ^ 64 in (
+ends_at slots id amount m x one in_now amount_is st r deep here fits = let turn = turn_of m x one id st r here in let y : ℕ = (word_at st.words control_place + (2 ^ 64 - amount)) % 2 ^ 64 in (
   now m.0 (logged x r.history x.numbers_left x.looks_left) m.0.work Outside,
   keeps,
   tt,
-  calm_agrees st m.0 r id x here one r.history Outside (set st.words control_place y)
-      (wrote st m.0 r id x here one y r.history Outside (no_event st m.0 r id x here one)
-      (ended st m.0 r id x here one fits r.history amount in_now amount_is)),
-  record { stepped = goes_on st m.0 r id x here one Outside m.1; carried = refl },
+  calm_agrees turn r.history Outside (set st.words control_place y)
+      (wrote turn y r.history Outside (no_event turn)
+      (ended turn fits r.history amount in_now amount_is)),
+  record { stepped = goes_on turn Outside m.1; carried = refl },
 )
 
 pub ends_keep : EndsKeep
@@ -202,23 +204,23 @@ ends_keep k slots id i amount m x has in_now amount_is place = subst
 answers_at : (slots id : ℕ) (m : Sat) (x : Log) → m.0.logs ≡ x ∷ [] → m.0.change ≡ Same
     → Allows (Agrees m.0.start) slots id m control_place (λ word. (word + (2 ^ 64 - one_change)) % 2 ^ 64)
     (Answers (step slots control_place one_change 0 none) m)
-answers_at slots id m x one same st r deep here fits = let y : ℕ =
+answers_at slots id m x one same st r deep here fits = let turn = turn_of m x one id st r here in let y : ℕ =
     (word_at st.words control_place + (2 ^ 64 - one_change)) % 2 ^ 64 in let len : ℕ = (range_of (opening_of m.0.start)).1 in
     let counts : (h' : List Event) → ControlCounts (state_after_all m.0.start r.history).at
     (range_of (opening_of m.0.start)) (set st.views id
     (now m.0 (logged x h' x.numbers_left x.looks_left) m.0.work Outside)) y =
-    λ h'. ended st m.0 r id x here one fits h' one_change (ap in_change same) (let a = ap added same in let b = ap removed_by same in omega arith) in
+    λ h'. ended turn fits h' one_change (ap in_change same) (let a = ap added same in let b = ap removed_by same in omega arith) in
     dite (ℕ_discrete (word_at st.words control_place) (full_word_of len))
-    (λ says. let each = says_so st m.0 r id x here one fits same says in let e : Event = event_of (shown x m.0.work) Full in (
+    (λ says. let each = says_so turn fits same says in let e : Event = event_of (shown x m.0.work) Full in (
       now m.0 (logged x (e ∷ r.history) x.numbers_left x.looks_left) m.0.work Outside,
       keeps,
       tt,
-      calm_agrees st m.0 r id x here one (e ∷ r.history) Outside (set st.words control_place y)
-          (wrote st m.0 r id x here one y (e ∷ r.history) Outside (told_full st m.0 r id x here one each) (counts (e ∷ r.history))),
+      calm_agrees turn (e ∷ r.history) Outside (set st.words control_place y)
+          (wrote turn y (e ∷ r.history) Outside (told_full turn each) (counts (e ∷ r.history))),
       record {
-        full = λ _. tells st m.0 r id x here one m.1 m.1 (e ∷ r.history) x.numbers_left x.looks_left m.0.work Outside
-            ([] ▷ Full) no_use (grows_one x.number r.history e refl) (full_legal st m.0 r id x here one each)
-            (part_mine x.number e r.history refl) (omega arith) (omega arith) (its_inside st m.0 r id x here one);
+        full = λ _. tells turn m.1 m.1 (e ∷ r.history) x.numbers_left x.looks_left m.0.work Outside
+            ([] ▷ Full) no_use (grows_one x.number r.history e refl) (full_legal turn each)
+            (part_mine x.number e r.history refl) (omega arith) (omega arith) (its_inside turn);
         not_full = λ not_so. absurd (not_so says);
         carried = refl;
       },
@@ -227,9 +229,9 @@ answers_at slots id m x one same st r deep here fits = let y : ℕ =
       now m.0 (logged x r.history x.numbers_left x.looks_left) m.0.work Outside,
       keeps,
       tt,
-      calm_agrees st m.0 r id x here one r.history Outside (set st.words control_place y)
-          (wrote st m.0 r id x here one y r.history Outside (no_event st m.0 r id x here one) (counts r.history)),
-      record { full = λ says. absurd (not_so says); not_full = λ _. goes_on st m.0 r id x here one Outside m.1; carried = refl },
+      calm_agrees turn r.history Outside (set st.words control_place y)
+          (wrote turn y r.history Outside (no_event turn) (counts r.history)),
+      record { full = λ says. absurd (not_so says); not_full = λ _. goes_on turn Outside m.1; carried = refl },
     ))
 
 pub answers_keep : AnswersKeep

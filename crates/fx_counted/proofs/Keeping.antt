@@ -4,7 +4,7 @@ use Rattle.fx_counted.proofs.Words.{arith, get_or, Option, None, inr, eq-eqb, eq
 use Rattle.fx_counted.proofs.Words.{part_of_pass, Event, Action, Use, Adds, range_of, PassView, event_of, sum_set, sum_at, SlotAgrees, NodeAgrees}
 use Rattle.fx_counted.proofs.Words.{OwnerAgrees, WorkAgrees, LogAgrees, ViewAgrees, lengths, Agrees, ControlCounts, looks, all_looks, DrawsCount}
 use Rattle.fx_counted.proofs.Words.{control_place, draw_place, slot_place, node_place, home_place, Shared, opening_of, slots_of, IsNumber}
-use Rattle.fx_counted.proofs.Words.{state_after_all, shown, first_log, doing_in, logs_of, looks_of, held_of, Phase, IsInside, Stepped, Change, Log}
+use Rattle.fx_counted.proofs.Words.{state_after_all, Sat, shown, first_log, doing_in, logs_of, looks_of, held_of, Phase, IsInside, Stepped, Change, Log}
 use Rattle.fx_counted.proofs.Words.{View, Work}
 use mathlib.Core.Option as maybe
 use Rattle.fx_counted.proofs.Histories.{Grows, IsHistory}
@@ -24,7 +24,23 @@ now v y d c = record v { logs = y ∷ []; work = d; change = c }
 abbrev pub logged : Log → List Event → ℕ → ℕ → Log
 logged x h left looks_left = record x { front = h; numbers_left = left; looks_left = looks_left; steps = x.steps + 1 }
 
-module _ (st : Shared) (v : View) (r : Agrees v.start st) (id : ℕ) (x : Log) (here : get_elem? st.views id ≡ some v) (one : v.logs ≡ x ∷ []) where
+-- a seat with one pass, which makes the next step
+pub record Turn : Type 0 where
+  pub st : Shared
+  pub v : View
+  pub r : Agrees v.start st
+  pub id : ℕ
+  pub x : Log
+  pub here : get_elem? st.views id ≡ some v
+  pub one : v.logs ≡ x ∷ []
+
+-- the turn of the seat's pass, as laws of steps give it
+abbrev pub turn_of : (m : Sat) (x : Log) → m.0.logs ≡ x ∷ [] → (id : ℕ) (st : Shared) → Agrees m.0.start st → get_elem? st.views id ≡ some m.0 → Turn
+turn_of m x one id st r here = record { st = st; v = m.0; r = r; id = id; x = x; here = here; one = one }
+
+module _ (turn : Turn) where
+  open turn use {st, v, r, id, x, here, one}
+
   pub its_log : LogAgrees v.start r.history r.phase id v.work x
   its_log = (r.each_view id v here).logs 0 x (ap (λ (l : List Log). get_elem? l 0) one)
 

@@ -13,7 +13,7 @@ use Rattle.fx_counted.specs.Laws.{LooksKeep}
 use Rattle.fx_counted.specs.Tells.{Looks, holds_now}
 use Rattle.fx_counted.proofs.Frames.{busy, stays_same, owner_stays}
 use Rattle.fx_counted.proofs.Histories.{IsHistory, grows_one, legal_more, held_mine, part_mine, change_else, same_shape, seen_all}
-use Rattle.fx_counted.proofs.Keeping.{word_at, now, logged, its_log, tells}
+use Rattle.fx_counted.proofs.Keeping.{Turn, turn_of, word_at, now, logged, its_log, tells}
 use Rattle.fx_counted.proofs.NodeSteps.{far}
 use Rattle.fx_counted.proofs.Ones.{one_if, bit_here, one_more_at}
 use Rattle.fx_counted.proofs.SlotSteps.{SlotStep, slot_agrees}
@@ -27,8 +27,9 @@ abbrev slot_in : Phase → ℕ
 slot_in (seated s f) = s
 slot_in _ = 0
 
-module _ (st : Shared) (v : View) (r : Agrees v.start st) (id : ℕ) (x : Log) (here : get_elem? st.views id ≡ some v)
-    (one : v.logs ≡ x ∷ []) (idle : v.work ≡ Idle) (some_left : 0 < x.looks_left) (s : ℕ) (inside : s < slots_of v.start) where
+module _ (turn : Turn) (idle : turn.v.work ≡ Idle) (some_left : 0 < turn.x.looks_left) (s : ℕ) (inside : s < slots_of turn.v.start) where
+  open turn use {st, v, r, id, x, here, one}
+
   abbrev found : ℕ
   found = word_at st.words (slot_place s)
 
@@ -76,7 +77,7 @@ module _ (st : Shared) (v : View) (r : Agrees v.start st) (id : ℕ) (x : Log) (
 
       told : (carried : List (ℕ × Option Closed)) → IsInside v.start (holds_now file)
           → Stepped (v, carried) ([] ▷ Look s file) one_look (holds_now file) v.change (w, carried)
-      told carried its = tells st v r id x here one carried carried h' x.numbers_left (x.looks_left - 1)
+      told carried its = tells turn carried carried h' x.numbers_left (x.looks_left - 1)
           (holds_now file) v.change ([] ▷ Look s file) one_look (grows_one x.number r.history e refl) legal
           (part_mine x.number e r.history refl) (omega arith) some_more its
 
@@ -95,8 +96,8 @@ module _ (st : Shared) (v : View) (r : Agrees v.start st) (id : ℕ) (x : Log) (
           (next : PlacesNext v.start y (holds_now file)) (placed : placing (holds_now file) ≡ 0)
           (work : WorkAgrees v.start r.phase id (holds_now file)) (holds : (n : ℕ)
           → (state_after_all v.start h').holds n ≡ old.holds n + holding n (holds_now file)) where
-        look_step : SlotStep st v r id x here one s inside y (holds_now file) v.change h' r.phase word' st.homes
-        look_step = let o = its_log st v r id x here one in let p = ap placing idle in record {
+        look_step : SlotStep turn s inside y (holds_now file) v.change h' r.phase word' st.homes
+        look_step = let o = its_log turn in let p = ap placing idle in record {
           homes = refl;
           number = refl;
           drawn = refl;
@@ -132,7 +133,7 @@ module _ (st : Shared) (v : View) (r : Agrees v.start st) (id : ℕ) (x : Log) (
         }
 
         look_agrees : Agrees v.start record { words = set st.words (slot_place s) word'; homes = st.homes; views = set st.views id w }
-        look_agrees = slot_agrees st v r id x here one s inside y (holds_now file) v.change h' r.phase word' st.homes look_step
+        look_agrees = slot_agrees turn s inside y (holds_now file) v.change h' r.phase word' st.homes look_step
 
     missed : (is : old.at s ≡ None) → Agrees v.start (stepped st (slot_place s) word' id [] (w None is) keeps)
     missed is = look_agrees None is refl refl refl refl
@@ -204,7 +205,7 @@ module _ (st : Shared) (v : View) (r : Agrees v.start st) (id : ℕ) (x : Log) (
         → Stepped m ([] ▷ Look s file) one_look (holds_now file) v.change m'
         → Stepped m ([] ▷ Look (slot_of (slot_place s)) file) one_look (holds_now file) v.change m'
     at_slot m m' file = subst (λ (z : ℕ). Stepped m ([] ▷ Look z file) one_look (holds_now file) v.change m')
-        (sym ((far st v r id x here one).slot_back s))
+        (sym ((far turn).slot_back s))
 
     looks_either : (slots : ℕ) (carried : List (ℕ × Option Closed)) (file : Option File) → old.at s ≡ file → Goal slots carried
     looks_either slots carried None is = (
@@ -238,5 +239,5 @@ pub looks_keep : LooksKeep
 looks_keep k slots id i slot m x has idle left inside place = subst (λ (k : Start). slot < slots_of k
     → Allows (Agrees k) slots id m i (λ word. (word + 1) % 2 ^ 64) (Looks (step slots i 1 0 none) m)) has.0
     (λ within. subst (λ (z : ℕ). Allows (Agrees m.0.start) slots id m z (λ word. (word + 1) % 2 ^ 64) (Looks (step slots z 1 0 none) m)) (sym place)
-    (λ st r deep here fits. looks_either st m.0 r id x here has.1 idle left slot within fits slots m.1
+    (λ st r deep here fits. looks_either (turn_of m x has.1 id st r here) idle left slot within fits slots m.1
     ((state_after_all m.0.start r.history).at slot) refl)) inside

@@ -9,7 +9,7 @@ use Rattle.std.proofs.Common.{length-set}
 use Rattle.fx_counted.proofs.Places.{inside, apart}
 use Rattle.fx_counted.proofs.Histories.{Grows, IsHistory, change_here, change_else, seen_all}
 use Rattle.fx_counted.proofs.Frames.{busy, owner_stays}
-use Rattle.fx_counted.proofs.Keeping.{Homes, word_at, now, logged, its_log, Step, step_kept}
+use Rattle.fx_counted.proofs.Keeping.{Turn, Homes, word_at, now, logged, its_log, Step, step_kept}
 use Rattle.fx_counted.proofs.Unchanged.{slot_same, node_same, control_same, draws_same}
 
 -- what a step on the number q tells of the histories
@@ -25,7 +25,9 @@ pub record OneNumber (v : View) (q : ℕ) (h h' : List Event) : Type 0 where
 pub one_same : (v : View) (q : ℕ) (h : List Event) → OneNumber v q h h
 one_same v q h = record { at = refl; size = refl; fresh = refl; looked = refl; all = refl; removed = λ n other. refl; holds = λ n other. refl }
 
-module _ (st : Shared) (v : View) (r : Agrees v.start st) (id : ℕ) (x : Log) (here : get_elem? st.views id ≡ some v) (one : v.logs ≡ x ∷ []) where
+module _ (turn : Turn) where
+  open turn use {st, v, r, id, x, here, one}
+
   pub near : PlacesAreInside (slots_of v.start) (chain_numbers v.start)
   near = inside (slots_of v.start) (chain_numbers v.start) r.shape.slots
 
@@ -92,7 +94,7 @@ module _ (st : Shared) (v : View) (r : Agrees v.start st) (id : ℕ) (x : Log) (
       at_is : (slot : ℕ) → (state_after_all v.start h').at slot ≡ (state_after_all v.start r.history).at slot
       at_is slot = ap (λ (g : ℕ → Option File). g slot) s.told.at
 
-      pub node_kept : Step st v r id x here one y d v.change h' phase' (set st.words i word') homes'
+      pub node_kept : Step turn y d v.change h' phase' (set st.words i word') homes'
       node_kept = record {
         words = length-set st.words i word';
         homes = s.homes;
@@ -139,7 +141,7 @@ module _ (st : Shared) (v : View) (r : Agrees v.start st) (id : ℕ) (x : Log) (
           spared = λ n p is other. each_phase (λ m z. z ≡ spare p) n (λ same. s.spared p (ap r.phase (sym same) ∙ is) other) is;
         };
         keeps = λ j u f other there is. each_phase (λ m z. file_in z ≡ file_in (r.phase m)) f.number (λ same. s.keeps j u f other there is same) refl;
-        log = let o = its_log st v r id x here one in record {
+        log = let o = its_log turn in record {
           seen = seen_all h';
           own = refl;
           held = s.held;
@@ -164,4 +166,4 @@ module _ (st : Shared) (v : View) (r : Agrees v.start st) (id : ℕ) (x : Log) (
       }
 
       pub node_agrees : Agrees v.start record { words = set st.words i word'; homes = homes'; views = set st.views id w }
-      node_agrees = step_kept st v r id x here one y d v.change h' phase' (set st.words i word') homes' node_kept
+      node_agrees = step_kept turn y d v.change h' phase' (set st.words i word') homes' node_kept

@@ -13,20 +13,21 @@ use Rattle.fx_counted.proofs.Births.{in_phase, word_now, home_now, roomy, else_p
 use Rattle.fx_counted.proofs.Retirements.{sub_wraps, holding_it, few_looks, its_hold, spares_stay}
 use Rattle.fx_counted.proofs.Frames.{busy, does_now, owner_stays}
 use Rattle.fx_counted.proofs.Histories.{IsHistory, grows_one, grows_more, legal_more, held_mine, part_mine, change_here, change_else}
-use Rattle.fx_counted.proofs.Keeping.{now, logged, its_log, its_work, tells}
+use Rattle.fx_counted.proofs.Keeping.{Turn, turn_of, now, logged, its_log, its_work, tells}
 use Rattle.fx_counted.proofs.NodeSteps.{NodeStep, node_agrees}
 use Rattle.fx_counted.proofs.Ones.{one_if, one_less_at}
 
-module _ (st : Shared) (v : View) (r : Agrees v.start st) (id : ℕ) (x : Log) (here : get_elem? st.views id ≡ some v)
-    (one : v.logs ≡ x ∷ []) (f : File) (works : v.work ≡ Holding f) where
+module _ (turn : Turn) (f : File) (works : turn.v.work ≡ Holding f) where
+  open turn use {st, v, r, id, x, here, one}
+
   abbrev q : ℕ
   q = f.number
 
   mine : IsNumber v.start q × (file_in (r.phase q) ≡ Some f.identity)
-  mine = subst (WorkAgrees v.start r.phase id) works (its_work st v r id x here one)
+  mine = subst (WorkAgrees v.start r.phase id) works (its_work turn)
 
   abbrev word : ℕ
-  word = word_now st v r id x here one q
+  word = word_now turn q
 
   abbrev less : ℕ
   less = (word + (2 ^ 64 - 1)) % 2 ^ 64
@@ -47,7 +48,7 @@ module _ (st : Shared) (v : View) (r : Agrees v.start st) (id : ℕ) (x : Log) (
   h₁ = freeing ∷ r.history
 
   freed_legal : IsHistory v.start h₁
-  freed_legal = let o = its_log st v r id x here one in legal_more v.start r.history freeing r.legal held_now (o.held ∙ ap held_in works)
+  freed_legal = let o = its_log turn in legal_more v.start r.history freeing r.legal held_now (o.held ∙ ap held_in works)
 
   abbrev new : State
   new = state_after_all v.start h₁
@@ -60,32 +61,32 @@ module _ (st : Shared) (v : View) (r : Agrees v.start st) (id : ℕ) (x : Log) (
 
   -- what the number is, by its phase
   abbrev Now : ℕ → Phase → Type 0
-  Now w ph = NodeAgrees new q (looks r.history q) w (home_now st v r id x here one q) ph
+  Now w ph = NodeAgrees new q (looks r.history q) w (home_now turn q) ph
 
   still : word < 18446744073709551616 → word ≢ 1 → (ph : Phase) → r.phase q ≡ ph → file_in ph ≡ Some f.identity → Now less ph
-  still fits more (seated s g) is has = let n = in_phase st v r id x here one q mine.0 (seated s g) is in
-      let c = few_looks st v r id x here one q in let h = held_now in let z = one_less in
+  still fits more (seated s g) is has = let n = in_phase turn q mine.0 (seated s g) is in
+      let c = few_looks turn q in let h = held_now in let z = one_less in
       let e : less ≡ word - 1 = sub_wraps word 1 (omega arith) fits (omega arith) in (omega arith, n.1, n.2, n.3, n.4)
-  still fits more (leaving j t g) is has = let n = in_phase st v r id x here one q mine.0 (leaving j t g) is in
-      let c = few_looks st v r id x here one q in let h = held_now in let z = one_less in
+  still fits more (leaving j t g) is has = let n = in_phase turn q mine.0 (leaving j t g) is in
+      let c = few_looks turn q in let h = held_now in let z = one_less in
       let e : less ≡ word - 1 = sub_wraps word 1 (omega arith) fits (omega arith) in (omega arith, n.1, n.2, n.3)
-  still fits more (retired g) is has = let n = in_phase st v r id x here one q mine.0 (retired g) is in let h = held_now in let z = one_less in
+  still fits more (retired g) is has = let n = in_phase turn q mine.0 (retired g) is in let h = held_now in let z = one_less in
       let e : less ≡ word - 1 = sub_wraps word 1 (omega arith) fits (omega arith) in (omega arith, n.1, omega arith, n.3)
   still fits more _ is has = absurd (cc has)
 
   -- where the word was 1, the file was retired, and this is its last hold
   pub record IsLast : Type 0 where
     pub phase : r.phase q ≡ retired f.identity
-    pub home : home_now st v r id x here one q ≡ some (some (Some f.identity))
+    pub home : home_now turn q ≡ some (some (Some f.identity))
     pub removed : old.removed q ≡ Some f
     pub holds : old.holds q ≡ 1
 
   last : word ≡ 1 → (ph : Phase) → r.phase q ≡ ph → file_in ph ≡ Some f.identity → IsLast
-  last is_one (seated s g) is has = let n = in_phase st v r id x here one q mine.0 (seated s g) is in
-      let c = few_looks st v r id x here one q in let h = held_now in absurd (omega arith)
-  last is_one (leaving j t g) is has = let n = in_phase st v r id x here one q mine.0 (leaving j t g) is in
-      let c = few_looks st v r id x here one q in let h = held_now in absurd (omega arith)
-  last is_one (retired g) is has = let n = in_phase st v r id x here one q mine.0 (retired g) is in let same : g ≡ f.identity = cc has in record {
+  last is_one (seated s g) is has = let n = in_phase turn q mine.0 (seated s g) is in
+      let c = few_looks turn q in let h = held_now in absurd (omega arith)
+  last is_one (leaving j t g) is has = let n = in_phase turn q mine.0 (leaving j t g) is in
+      let c = few_looks turn q in let h = held_now in absurd (omega arith)
+  last is_one (retired g) is has = let n = in_phase turn q mine.0 (retired g) is in let same : g ≡ f.identity = cc has in record {
     phase = is ∙ ap retired same;
     home = n.1 ∙ ap (λ (g : Closed). some (some (Some g))) same;
     removed = n.3 ∙ ap (λ (g : Closed). Some (numbered q g)) same;
@@ -99,8 +100,8 @@ module _ (st : Shared) (v : View) (r : Agrees v.start st) (id : ℕ) (x : Log) (
   not_busy : (n : ℕ) → busy v.work ≢ n + 1
   not_busy n bad = let b = ap busy works in omega arith
 
-  waits : word < 18446744073709551616 → word ≢ 1 → NodeStep st v r id x here one q mine.0 less st.homes h₁ (r.phase q) Idle
-  waits fits more = let o = its_log st v r id x here one in record {
+  waits : word < 18446744073709551616 → word ≢ 1 → NodeStep turn q mine.0 less st.homes h₁ (r.phase q) Idle
+  waits fits more = let o = its_log turn in record {
     grows = grows_one x.number r.history freeing refl;
     legal = freed_legal;
     told = record { at = refl; size = refl; fresh = refl; looked = refl; all = omega arith; removed = λ m other. refl; holds = other_holds };
@@ -136,8 +137,8 @@ module _ (st : Shared) (v : View) (r : Agrees v.start st) (id : ℕ) (x : Log) (
     closed_legal = legal_more v.start h₁ closing freed_legal (l.removed, let a = one_less in let b = l.holds in omega arith) tt
 
     closes : word < 18446744073709551616 → word ≡ 1
-        → NodeStep st v r id x here one q mine.0 less (set st.homes (place_of v.start q) none) h₂ (emptied id) (Emptying q)
-    closes fits is_one = let o = its_log st v r id x here one in let a = one_less in let b = l.holds in
+        → NodeStep turn q mine.0 less (set st.homes (place_of v.start q) none) h₂ (emptied id) (Emptying q)
+    closes fits is_one = let o = its_log turn in let a = one_less in let b = l.holds in
         let e : less ≡ word - 1 = sub_wraps word 1 (omega arith) fits (omega arith) in record {
           grows = grows_more x.number r.history h₁ closing refl (grows_one x.number r.history freeing refl);
           legal = closed_legal;
@@ -152,18 +153,18 @@ module _ (st : Shared) (v : View) (r : Agrees v.start st) (id : ℕ) (x : Log) (
           };
           homes = length-set st.homes (place_of v.start q) none;
           home_else = λ m has other. set_else st.homes (place_of v.start q) (place_of v.start m) none
-              (else_place st v r id x here one q mine.0 m has other);
+              (else_place turn q mine.0 m has other);
           seat = λ s g is. absurd (cc (sym is ∙ l.phase));
           mine = λ some not_mine. absurd (some (ap owner l.phase));
           spared = λ p is other. absurd (cc (sym is ∙ l.phase));
           unused = λ is. absurd (cc (sym is ∙ l.phase));
           keeps = λ j u g other there holds same. absurd
-              (let a = its_hold st v r id x here one j u g q there holds same in let b = its_one in
+              (let a = its_hold turn j u g q there holds same in let b = its_one in
               let c = sum_two (held_of q) st.views j id u v other there here in let d = r.holds q in let e = l.holds in omega arith);
           free = λ m other. not_busy m;
           node = (
             omega arith,
-            set_here st.homes (place_of v.start q) none (roomy st v r id x here one q mine.0),
+            set_here st.homes (place_of v.start q) none (roomy turn q mine.0),
             (let z = one_less in omega arith),
             change_here old.removed q None q refl,
           );
@@ -171,7 +172,7 @@ module _ (st : Shared) (v : View) (r : Agrees v.start st) (id : ℕ) (x : Log) (
           held = held_mine x.number closing h₁ refl ∙ held_mine x.number freeing r.history refl;
           next = tt;
           spares = λ m low high. let p = ap placing works in
-              spares_stay st v r id x here one q (retired f.identity) (emptied id) x.number l.phase (λ z bad. cc bad) m
+              spares_stay turn q (retired f.identity) (emptied id) x.number l.phase (λ z bad. cc bad) m
               (o.spares m (omega arith) high);
           work = (mine.0, change_here r.phase q (emptied id) q refl);
           holds = holds_more;
@@ -191,7 +192,7 @@ module _ (st : Shared) (v : View) (r : Agrees v.start st) (id : ℕ) (x : Log) (
         now v (logged x h₂ x.numbers_left x.looks_left) (Emptying q) v.change,
         takes (place_of v.start q) (Some f.identity),
         l.home,
-        node_agrees st v r id x here one q mine.0 less (set st.homes (place_of v.start q) none) h₂ (emptied id) (Emptying q) (closes l fits is),
+        node_agrees turn q mine.0 less (set st.homes (place_of v.start q) none) h₂ (emptied id) (Emptying q) (closes l fits is),
         record {
           waits = λ g _ not_so. absurd (not_so is);
           closes = λ g its _. let same : f ≡ g = holding_same f g (sym works ∙ its) in
@@ -200,7 +201,7 @@ module _ (st : Shared) (v : View) (r : Agrees v.start st) (id : ℕ) (x : Log) (
                 (place_of v.start q, Some f.identity) ∷ carried,
               )) same
               record {
-                stepped = tells st v r id x here one carried
+                stepped = tells turn carried
                     ((place_of v.start q, Some f.identity) ∷ carried) h₂ x.numbers_left x.looks_left
                     (Emptying q) v.change ([] ▷ Release f ▷ Close f) no_use
                     (grows_more x.number r.history h₁ closing refl (grows_one x.number r.history freeing refl)) (closed_legal l)
@@ -215,12 +216,12 @@ module _ (st : Shared) (v : View) (r : Agrees v.start st) (id : ℕ) (x : Log) (
         now v (logged x h₁ x.numbers_left x.looks_left) Idle v.change,
         keeps,
         tt,
-        node_agrees st v r id x here one q mine.0 less st.homes h₁ (r.phase q) Idle (waits fits more),
+        node_agrees turn q mine.0 less st.homes h₁ (r.phase q) Idle (waits fits more),
         record {
           waits = λ g its _. let same : f ≡ g = holding_same f g (sym works ∙ its) in
               subst (λ (g : File). LetsGo (v, carried) ([] ▷ Release g) (now v (logged x h₁ x.numbers_left x.looks_left) Idle v.change, carried)) same
               record {
-                stepped = tells st v r id x here one carried carried h₁ x.numbers_left x.looks_left Idle v.change
+                stepped = tells turn carried carried h₁ x.numbers_left x.looks_left Idle v.change
                     ([] ▷ Release f) no_use (grows_one x.number r.history freeing refl) freed_legal
                     (part_mine x.number freeing r.history refl) (omega arith) (omega arith) tt;
                 carried = refl;
@@ -234,4 +235,4 @@ releases_keep k slots id i f m x has works place = subst (λ (k : Start). i ≡ 
     → Allows (Agrees k) slots id m i (λ word. (word + (2 ^ 64 - 1)) % 2 ^ 64) (Releases (step slots i 1 0 none) m)) has.0
     (λ at. subst (λ (z : ℕ). Allows (Agrees m.0.start) slots id m z (λ word. (word + (2 ^ 64 - 1)) % 2 ^ 64)
     (Releases (step slots z 1 0 none) m)) (sym at)
-    (λ st r deep here fits. releases_either st m.0 r id x here has.1 f works slots m.1 fits)) place
+    (λ st r deep here fits. releases_either (turn_of m x has.1 id st r here) f works slots m.1 fits)) place

@@ -12,7 +12,7 @@ use Rattle.fx_counted.specs.Tells.{Retires}
 use Rattle.fx_counted.proofs.Births.{in_phase, word_now, home_now, roomy, else_place}
 use Rattle.fx_counted.proofs.Frames.{busy, does_now}
 use Rattle.fx_counted.proofs.Histories.{IsHistory, grows_none, grows_one, legal_more, held_mine, part_mine, change_here, change_else, looks_few}
-use Rattle.fx_counted.proofs.Keeping.{now, logged, its_log, its_work, tells}
+use Rattle.fx_counted.proofs.Keeping.{Turn, turn_of, now, logged, its_log, its_work, tells}
 use Rattle.fx_counted.proofs.NodeSteps.{one_same, NodeStep, node_agrees}
 
 pub sub_wraps : (n k : ℕ) → k ≤ n → n < 18446744073709551616 → 0 < k → (n + (2 ^ 64 - k)) % 2 ^ 64 ≡ n - k
@@ -21,7 +21,9 @@ sub_wraps n k le fits more = omega arith
 pub holding_it : (n : ℕ) (f : File) → n ≡ f.number → holding n (Holding f) ≡ 1
 holding_it n f same = rw (eq-eqb f.number n (sym same)) refl
 
-module _ (st : Shared) (v : View) (r : Agrees v.start st) (id : ℕ) (x : Log) (here : get_elem? st.views id ≡ some v) (one : v.logs ≡ x ∷ []) where
+module _ (turn : Turn) where
+  open turn use {st, v, r, id, x, here, one}
+
   -- the looks of a file are few
   pub few_looks : (n : ℕ) → looks r.history n ≤ 16777216
   few_looks n = let a = looks_few r.history n in let b = r.look_ups in let c = r.shape.passes in omega arith
@@ -41,14 +43,14 @@ module _ (st : Shared) (v : View) (r : Agrees v.start st) (id : ℕ) (x : Log) (
     q = f.number
 
     mine : IsNumber v.start q × (r.phase q ≡ leaving id t f.identity)
-    mine = subst (WorkAgrees v.start r.phase id) works (its_work st v r id x here one)
+    mine = subst (WorkAgrees v.start r.phase id) works (its_work turn)
 
-    node : NodeAgrees (state_after_all v.start r.history) q (looks r.history q) (word_now st v r id x here one q)
-        (home_now st v r id x here one q) (leaving id t f.identity)
-    node = in_phase st v r id x here one q mine.0 (leaving id t f.identity) mine.1
+    node : NodeAgrees (state_after_all v.start r.history) q (looks r.history q) (word_now turn q)
+        (home_now turn q) (leaving id t f.identity)
+    node = in_phase turn q mine.0 (leaving id t f.identity) mine.1
 
     abbrev word : ℕ
-    word = word_now st v r id x here one q
+    word = word_now turn q
 
     abbrev left : ℕ
     left = (word + (2 ^ 64 - retire_amount_of t)) % 2 ^ 64
@@ -58,15 +60,15 @@ module _ (st : Shared) (v : View) (r : Agrees v.start st) (id : ℕ) (x : Log) (
         let e : left ≡ word - (4294967296 - t) = sub_wraps word (4294967296 - t) (omega arith) fits (omega arith) in omega arith
 
     keeps_spares : (ph' : Phase) (n : ℕ) → next_in v.start x + 0 ≤ n → n < end_in v.start x → changed_at r.phase q ph' n ≡ spare x.number
-    keeps_spares ph' n low high = let o = its_log st v r id x here one in let p = ap placing works in
+    keeps_spares ph' n low high = let o = its_log turn in let p = ap placing works in
         spares_stay q (leaving id t f.identity) ph' x.number mine.1 (λ z bad. cc bad) n (o.spares n (omega arith) high)
 
     not_new : r.phase q ≡ unborn → ⊥
     not_new is = cc (sym is ∙ mine.1)
 
     waits : word < 18446744073709551616 → word ≢ retire_amount_of t
-        → NodeStep st v r id x here one q mine.0 left st.homes r.history (retired f.identity) Idle
-    waits fits more = let n = node in let c = few_looks q in let e = left_is fits in let o = its_log st v r id x here one in record {
+        → NodeStep turn q mine.0 left st.homes r.history (retired f.identity) Idle
+    waits fits more = let n = node in let c = few_looks q in let e = left_is fits in let o = its_log turn in record {
       grows = grows_none x.number r.history;
       legal = r.legal;
       told = one_same v q r.history;
@@ -97,10 +99,10 @@ module _ (st : Shared) (v : View) (r : Agrees v.start st) (id : ℕ) (x : Log) (
     closed_legal is = legal_more v.start r.history closing r.legal (node.3, nobody is) tt
 
     closes : word < 18446744073709551616 → word ≡ retire_amount_of t
-        → NodeStep st v r id x here one q mine.0 left (set st.homes (place_of v.start q) none) (closing ∷ r.history)
+        → NodeStep turn q mine.0 left (set st.homes (place_of v.start q) none) (closing ∷ r.history)
         (emptied id) (Emptying q)
     closes fits is = let n = node in let c = few_looks q in let e = left_is fits in let z = nobody is in
-        let o = its_log st v r id x here one in record {
+        let o = its_log turn in record {
           grows = grows_one x.number r.history closing refl;
           legal = closed_legal is;
           told = record {
@@ -114,7 +116,7 @@ module _ (st : Shared) (v : View) (r : Agrees v.start st) (id : ℕ) (x : Log) (
           };
           homes = length-set st.homes (place_of v.start q) none;
           home_else = λ m has other. set_else st.homes (place_of v.start q) (place_of v.start m) none
-              (else_place st v r id x here one q mine.0 m has other);
+              (else_place turn q mine.0 m has other);
           seat = λ s g is. absurd (cc (sym is ∙ mine.1));
           mine = λ some not_mine. absurd (not_mine (ap owner mine.1));
           spared = λ p is other. absurd (cc (sym is ∙ mine.1));
@@ -124,7 +126,7 @@ module _ (st : Shared) (v : View) (r : Agrees v.start st) (id : ℕ) (x : Log) (
           free = λ m other bad. let b = ap busy works in other (omega arith);
           node = (
             omega arith,
-            set_here st.homes (place_of v.start q) none (roomy st v r id x here one q mine.0),
+            set_here st.homes (place_of v.start q) none (roomy turn q mine.0),
             z,
             change_here (state_after_all v.start r.history).removed q None q refl,
           );
@@ -148,7 +150,7 @@ module _ (st : Shared) (v : View) (r : Agrees v.start st) (id : ℕ) (x : Log) (
           now v (logged x (closing ∷ r.history) x.numbers_left x.looks_left) (Emptying q) v.change,
           takes (place_of v.start q) (Some f.identity),
           node.1,
-          node_agrees st v r id x here one q mine.0 left (set st.homes (place_of v.start q) none)
+          node_agrees turn q mine.0 left (set st.homes (place_of v.start q) none)
               (closing ∷ r.history) (emptied id) (Emptying q) (closes fits is),
           record {
             waits = λ g u _ not_so. absurd (not_so is);
@@ -158,7 +160,7 @@ module _ (st : Shared) (v : View) (r : Agrees v.start st) (id : ℕ) (x : Log) (
                   (place_of v.start q, Some f.identity) ∷ carried,
                 )) same
                 record {
-                  stepped = tells st v r id x here one carried ((place_of v.start q, Some f.identity) ∷ carried)
+                  stepped = tells turn carried ((place_of v.start q, Some f.identity) ∷ carried)
                       (closing ∷ r.history) x.numbers_left x.looks_left (Emptying q) v.change ([] ▷ Close f) no_use
                       (grows_one x.number r.history closing refl) (closed_legal is)
                       (part_mine x.number closing r.history refl) (omega arith) (omega arith) mine.0;
@@ -170,11 +172,11 @@ module _ (st : Shared) (v : View) (r : Agrees v.start st) (id : ℕ) (x : Log) (
           now v (logged x r.history x.numbers_left x.looks_left) Idle v.change,
           keeps,
           tt,
-          node_agrees st v r id x here one q mine.0 left st.homes r.history (retired f.identity) Idle (waits fits more),
+          node_agrees turn q mine.0 left st.homes r.history (retired f.identity) Idle (waits fits more),
           record {
             waits = λ g u its _. let same : f ≡ g = retiring_same f g t u (sym works ∙ its) in (
               record {
-                stepped = tells st v r id x here one carried carried r.history x.numbers_left x.looks_left Idle
+                stepped = tells turn carried carried r.history x.numbers_left x.looks_left Idle
                     v.change [] no_use (grows_none x.number r.history) r.legal refl (omega arith) (omega arith) tt;
                 carried = refl;
               },
@@ -192,4 +194,4 @@ retires_keep k slots id i amount t f m x has works place by = subst (λ (k : Sta
     → Allows (Agrees k) slots id m i (λ word. (word + (2 ^ 64 - amount)) % 2 ^ 64) (Retires (step slots i amount 0 none) m)) has.0
     (λ at. subst (λ (z : ℕ × ℕ). Allows (Agrees m.0.start) slots id m z.0 (λ word. (word + (2 ^ 64 - z.1)) % 2 ^ 64)
     (Retires (step slots z.0 z.1 0 none) m)) (λ j. (sym at j, sym by j))
-    (λ st r deep here fits. retires_either st m.0 r id x here has.1 f t works slots m.1 fits)) place
+    (λ st r deep here fits. retires_either (turn_of m x has.1 id st r here) f t works slots m.1 fits)) place

@@ -16,7 +16,7 @@ use Rattle.fx_counted.proofs.Calm.{no_event, calm_agrees}
 use Rattle.fx_counted.proofs.Changes.{in_size, names_old, removal_agrees, removal_tells, installation_agrees, installation_tells}
 use Rattle.fx_counted.proofs.ControlSteps.{goes_on}
 use Rattle.fx_counted.proofs.Histories.{legal_more, same_shape}
-use Rattle.fx_counted.proofs.Keeping.{word_at, now, logged, its_work}
+use Rattle.fx_counted.proofs.Keeping.{Turn, turn_of, word_at, now, logged, its_work}
 use Rattle.fx_counted.proofs.NodeSteps.{far}
 use Rattle.fx_counted.proofs.Swaps.{Effect}
 use Rattle.fx_counted.proofs.Unchanged.{control_same}
@@ -31,8 +31,9 @@ file_carried (c ∷ cs) = c.1
 carried_same : (p q : ℕ) (f g : Closed) → ◌≡◌ {A = List (ℕ × Option Closed)} ((p, Some f) ∷ []) ((q, Some g) ∷ []) → f ≡ g
 carried_same p q f g e = let z : Some f ≡ Some g = ap file_carried e in cc z
 
-module _ (st : Shared) (v : View) (r : Agrees v.start st) (id : ℕ) (x : Log) (here : get_elem? st.views id ≡ some v)
-    (one : v.logs ≡ x ∷ []) (s : ℕ) (inside : s < slots_of v.start) where
+module _ (turn : Turn) (s : ℕ) (inside : s < slots_of turn.v.start) where
+  open turn use {st, v, r, id, x, here, one}
+
   abbrev found : ℕ
   found = word_at st.words (slot_place s)
 
@@ -41,10 +42,10 @@ module _ (st : Shared) (v : View) (r : Agrees v.start st) (id : ℕ) (x : Log) (
 
   module _ (stands : MayChange v.start s v.change) where
     abbrev Facts : Action → Option File → (ℕ → Bool) → Type 0
-    Facts = Effect st v r id x here one s inside old refl
+    Facts = Effect turn s inside old refl
 
     in_range : s < (state_after_all v.start r.history).size
-    in_range = in_size st v r id x here one s inside stands old refl
+    in_range = in_size turn s inside stands old refl
 
     cleared : Facts (Clear s old) None (state_after_all v.start r.history).fresh
     cleared = let legal = legal_more v.start r.history (event_of (shown x v.work) (Clear s old)) r.legal (in_range, refl) tt in
@@ -57,40 +58,39 @@ module _ (st : Shared) (v : View) (r : Agrees v.start st) (id : ℕ) (x : Log) (
     put : (n : ℕ) (file : Closed) → v.work ≡ Placing n
         → Facts (Put s (numbered n file) old) (Some (numbered n file))
         (changed_at (state_after_all v.start r.history).fresh n false)
-    put n file works = let its = subst (WorkAgrees v.start r.phase id) works (its_work st v r id x here one) in
-        let o = in_phase st v r id x here one n its.0 (placed id) its.1 in
+    put n file works = let its = subst (WorkAgrees v.start r.phase id) works (its_work turn) in
+        let o = in_phase turn n its.0 (placed id) its.1 in
         let legal = legal_more v.start r.history (event_of (shown x v.work) (Put s (numbered n file) old)) r.legal (in_range, o.2, refl) tt in
         record { legal = legal; state = refl; looked = refl; all = omega arith; held = refl }
 
   -- the slot of a word's place
   at_slot : (m m' : Sat) (action : ℕ → Action) (used : Use) (d : Work) (c : Change)
       → Stepped m ([] ▷ action s) used d c m' → Stepped m ([] ▷ action (slot_of (slot_place s))) used d c m'
-  at_slot m m' action used d c = subst (λ (z : ℕ). Stepped m ([] ▷ action z) used d c m') (sym ((far st v r id x here one).slot_back s))
+  at_slot m m' action used d c = subst (λ (z : ℕ). Stepped m ([] ▷ action z) used d c m') (sym ((far turn).slot_back s))
 
 -- a removal, by an action that does to the slot what a removal does
 module _ (act : ℕ → Option File → Action)
-    (does : (st : Shared) (v : View) (r : Agrees v.start st) (id : ℕ) (x : Log) (here : get_elem? st.views id ≡ some v)
-    (one : v.logs ≡ x ∷ []) (s : ℕ) (inside : s < slots_of v.start) (stands : MayChange v.start s v.change)
-    → Facts st v r id x here one s inside stands (act s (old st v r id x here one s inside)) None (state_after_all v.start r.history).fresh) where
+    (does : (turn : Turn) (s : ℕ) (inside : s < slots_of turn.v.start) (stands : MayChange turn.v.start s turn.v.change)
+    → Facts turn s inside stands (act s (old turn s inside)) None (state_after_all turn.v.start turn.r.history).fresh) where
   removes_at : (slots id s : ℕ) (m : Sat) (x : Log) → m.0.logs ≡ x ∷ [] → m.0.work ≡ Idle → s < slots_of m.0.start
       → MayChange m.0.start s m.0.change → Allows (Agrees m.0.start) slots id m (slot_place s) (λ _. 0)
       (Removes act (step slots (slot_place s) 0 0 none) m)
-  removes_at slots id s m x one idle inside stands st r deep here fits = let was : Option File =
+  removes_at slots id s m x one idle inside stands st r deep here fits = let turn = turn_of m x one id st r here in let was : Option File =
       (state_after_all m.0.start r.history).at s in let f₀ : ℕ = word_at st.words (slot_place s) in
       let e : Event = event_of (shown x m.0.work) (act s was) in
       let w : View = now m.0 (logged x (e ∷ r.history) x.numbers_left x.looks_left) (retires_now was (takes_in f₀))
       (turned m.0.change (if_full was) 0) in
-      let it = does st m.0 r id x here one s inside stands in (
+      let it = does turn s inside stands in (
         w,
         keeps,
         tt,
-        removal_agrees st m.0 r id x here one s inside stands was refl idle (act s was) it,
+        removal_agrees turn s inside stands was refl idle (act s was) it,
         record {
           file = was;
-          names = names_old st m.0 r id x here one s inside stands was refl;
-          stepped = at_slot st m.0 r id x here one s inside m (w, m.1) (λ z. act z was) no_use
+          names = names_old turn s inside stands was refl;
+          stepped = at_slot turn s inside m (w, m.1) (λ z. act z was) no_use
               (retires_now was (takes_in f₀)) (turned m.0.change (if_full was) 0)
-              (removal_tells st m.0 r id x here one s inside stands was refl idle (act s was) it m.1);
+              (removal_tells turn s inside stands was refl idle (act s was) it m.1);
           carried = refl;
         },
       )
@@ -114,9 +114,9 @@ installs_at : (slots id s n : ℕ) (file : Closed) (m : Sat) (x : Log) → m.0.l
     → MayChange m.0.start s m.0.change
     → Allows (Agrees m.0.start) slots id m (slot_place s) (λ _. slot_word_of n file.entry)
     (Installs (step slots (slot_place s) (slot_word_of n file.entry) 0 none) m)
-installs_at slots id s n file m x one works carries small inside stands st r deep here fits = let old : Option File =
+installs_at slots id s n file m x one works carries small inside stands st r deep here fits = let turn = turn_of m x one id st r here in let old : Option File =
     (state_after_all m.0.start r.history).at s in let f₀ : ℕ = word_at st.words (slot_place s) in
-    let a : Action = Put s (numbered n file) old in let does = put st m.0 r id x here one s inside stands n file works in
+    let a : Action = Put s (numbered n file) old in let does = put turn s inside stands n file works in
     let e : Event = event_of (shown x m.0.work) a in
     let w : View = now m.0 (logged x (e ∷ r.history) (x.numbers_left - 1) x.looks_left)
     (retires_now old (takes_in f₀)) (turned m.0.change (if_full old) 1) in (
@@ -124,18 +124,18 @@ installs_at slots id s n file m x one works carries small inside stands st r dee
       gives,
       tt,
       subst (λ (c : List (ℕ × Option Closed)). Agrees m.0.start (stepped st (slot_place s) (slot_word_of n file.entry) id c w gives)) (sym carries)
-          (installation_agrees st m.0 r id x here one s inside stands old refl n file works small a does),
+          (installation_agrees turn s inside stands old refl n file works small a does),
       record {
         replaced = old;
-        names = names_old st m.0 r id x here one s inside stands old refl;
+        names = names_old turn s inside stands old refl;
         stepped = λ n₂ file₂ works₂ carries₂.
             let same_n : n ≡ n₂ = placing_same n n₂ (sym works ∙ works₂) in
             let same_f : file ≡ file₂ = carried_same (place_of m.0.start n) (place_of m.0.start n₂) file file₂ (sym carries ∙ carries₂) in
             subst (λ (z : ℕ × Closed). Stepped m ([] ▷ Put (slot_of (slot_place s)) (numbered z.0 z.1) old) one_number
             (retires_now old (takes_in f₀)) (turned m.0.change (if_full old) 1) (w, rest m.1)) (λ i. (same_n i, same_f i))
-            (at_slot st m.0 r id x here one s inside m (w, rest m.1) (λ z. Put z (numbered n file) old) one_number
+            (at_slot turn s inside m (w, rest m.1) (λ z. Put z (numbered n file) old) one_number
             (retires_now old (takes_in f₀)) (turned m.0.change (if_full old) 1)
-            (installation_tells st m.0 r id x here one s inside stands old refl n file works small a does m.1 (rest m.1)));
+            (installation_tells turn s inside stands old refl n file works small a does m.1 (rest m.1)));
         carried = refl;
       },
     )
@@ -149,16 +149,17 @@ installs_keep k slots id i s n new file m x has works carries small inside stand
     (installs_at slots id s n file m x has.1 works with small within may)) carries inside stands
 
 -- a step that writes what it read
-module _ (st : Shared) (v : View) (r : Agrees v.start st) (id : ℕ) (x : Log) (here : get_elem? st.views id ≡ some v)
-    (one : v.logs ≡ x ∷ []) (i : ℕ) where
+module _ (turn : Turn) (i : ℕ) where
+  open turn use {st, v, r, id, x, here, one}
+
   abbrev still : View
   still = now v (logged x r.history x.numbers_left x.looks_left) v.work v.change
 
   read_agrees : Agrees v.start (stepped st i (word_at st.words i) id [] still keeps)
   read_agrees = subst (λ (l : List ℕ). Agrees v.start record { words = l; homes = st.homes; views = set st.views id still })
       (sym (set-get_or st.words i 0))
-      (calm_agrees st v r id x here one r.history v.change st.words record {
-        quiet = no_event st v r id x here one;
+      (calm_agrees turn r.history v.change st.words record {
+        quiet = no_event turn;
         words = refl;
         slots = λ s. refl;
         nodes = λ n has. refl;
@@ -169,12 +170,12 @@ module _ (st : Shared) (v : View) (r : Agrees v.start st) (id : ℕ) (x : Log) (
 
 loads_at : (slots id i : ℕ) (m : Sat) (x : Log) → m.0.logs ≡ x ∷ []
     → Allows (Agrees m.0.start) slots id m i (λ word. word) (GoesOn m.0.change (step slots i 0 0 none) m)
-loads_at slots id i m x one st r deep here fits = (
+loads_at slots id i m x one st r deep here fits = let turn = turn_of m x one id st r here in (
   now m.0 (logged x r.history x.numbers_left x.looks_left) m.0.work m.0.change,
   keeps,
   tt,
-  read_agrees st m.0 r id x here one i,
-  record { stepped = goes_on st m.0 r id x here one m.0.change m.1; carried = refl },
+  read_agrees turn i,
+  record { stepped = goes_on turn m.0.change m.1; carried = refl },
 )
 
 pub loads_keep : LoadsKeep
@@ -184,14 +185,14 @@ loads_keep k slots id i m x has same = subst
     (GoesOn c (step slots i 0 0 none) m)) same (loads_at slots id i m x has.1))
 
 -- an exchange
-module _ (slots id s n old_word : ℕ) (file : Closed) (m : Sat) (x : Log) (one : m.0.logs ≡ x ∷ [])
-    (works : m.0.work ≡ Placing n) (carries : m.1 ≡ (place_of m.0.start n, Some file) ∷ [])
-    (small : file.entry < 2 ^ 8) (same : m.0.change ≡ Same)
-    (low : (range_of (opening_of m.0.start)).0 ≤ s)
-    (high : s < (range_of (opening_of m.0.start)).0 + (range_of (opening_of m.0.start)).1) (empty : name_in old_word ≡ 0)
-    (st : Shared) (r : Agrees m.0.start st) (here : get_elem? st.views id ≡ some m.0) where
-  abbrev v : View
-  v = m.0
+module _ (turn : Turn) (slots s n old_word : ℕ) (file : Closed) (carried : List (ℕ × Option Closed))
+    (works : turn.v.work ≡ Placing n) (carries : carried ≡ (place_of turn.v.start n, Some file) ∷ [])
+    (small : file.entry < 2 ^ 8) (same : turn.v.change ≡ Same) (low : (range_of (opening_of turn.v.start)).0 ≤ s)
+    (high : s < (range_of (opening_of turn.v.start)).0 + (range_of (opening_of turn.v.start)).1) (empty : name_in old_word ≡ 0) where
+  open turn use {st, v, r, id, x, here, one}
+
+  abbrev m : Sat
+  m = (v, carried)
 
   abbrev word : ℕ
   word = word_at st.words (slot_place s)
@@ -220,8 +221,8 @@ module _ (slots id s n old_word : ℕ) (file : Closed) (m : Sat) (x : Log) (one 
     now v (logged x r.history x.numbers_left x.looks_left) v.work v.change,
     keeps,
     tt,
-    read_agrees st v r id x here one (slot_place s),
-    record { wins = λ n₂ f₂ w₂ c₂ is. absurd (other is); loses = λ _. (goes_on st v r id x here one v.change m.1, refl) },
+    read_agrees turn (slot_place s),
+    record { wins = λ n₂ f₂ w₂ c₂ is. absurd (other is); loses = λ _. (goes_on turn v.change m.1, refl) },
   )
 
   module _ (is : word ≡ old_word) where
@@ -231,13 +232,13 @@ module _ (slots id s n old_word : ℕ) (file : Closed) (m : Sat) (x : Log) (one 
     abbrev a : Action
     a = Allocate s (numbered n file)
 
-    allocated : Effect st v r id x here one s within None at_none a (Some (numbered n file))
+    allocated : Effect turn s within None at_none a (Some (numbered n file))
         (changed_at (state_after_all v.start r.history).fresh n false)
-    allocated = let its = subst (WorkAgrees v.start r.phase id) works (its_work st v r id x here one) in
-        let o = in_phase st v r id x here one n its.0 (placed id) its.1 in
+    allocated = let its = subst (WorkAgrees v.start r.phase id) works (its_work turn) in
+        let o = in_phase turn n its.0 (placed id) its.1 in
         let z = (same_shape v.start r.history).1 in let p = ap (λ (p : ℕ × ℕ). p.0) z in let q = ap (λ (p : ℕ × ℕ). p.1) z in
         let legal = legal_more v.start r.history (event_of (shown x v.work) a) r.legal
-        (in_size st v r id x here one s within stands None at_none, (omega arith, omega arith), at_none, o.2) tt in
+        (in_size turn s within stands None at_none, (omega arith, omega arith), at_none, o.2) tt in
         record { legal = legal; state = refl; looked = refl; all = omega arith; held = refl }
 
     abbrev w : View
@@ -250,7 +251,7 @@ module _ (slots id s n old_word : ℕ) (file : Closed) (m : Sat) (x : Log) (one 
       gives,
       tt,
       subst (λ (c : List (ℕ × Option Closed)). Agrees v.start (stepped st (slot_place s) new id c w gives)) (sym carries)
-          (installation_agrees st v r id x here one s within stands None at_none n file works small a allocated),
+          (installation_agrees turn s within stands None at_none n file works small a allocated),
       record {
         wins = λ n₂ file₂ works₂ carries₂ _.
             let same_n : n ≡ n₂ = placing_same n n₂ (sym works ∙ works₂) in
@@ -258,8 +259,8 @@ module _ (slots id s n old_word : ℕ) (file : Closed) (m : Sat) (x : Log) (one 
               subst (λ (z : ℕ × Closed × Change). Stepped m
                   ([] ▷ Allocate (slot_of (slot_place s)) (numbered z.0 z.1)) one_number Idle z.2 (w, rest m.1))
                   (λ i. (same_n i, same_f i, turned (same i) 0 1))
-                  (at_slot st v r id x here one s within m (w, rest m.1) (λ z. Allocate z (numbered n file)) one_number Idle (turned v.change 0 1)
-                  (installation_tells st v r id x here one s within stands None at_none n file works small a allocated m.1 (rest m.1))),
+                  (at_slot turn s within m (w, rest m.1) (λ z. Allocate z (numbered n file)) one_number Idle (turned v.change 0 1)
+                  (installation_tells turn s within stands None at_none n file works small a allocated m.1 (rest m.1))),
               refl,
             );
         loses = λ other. absurd (other is);
@@ -274,9 +275,9 @@ exchanges_at : (slots id s n old : ℕ) (file : Closed) (m : Sat) (x : Log) → 
     (Exchanges (step slots (slot_place s) old (slot_word_of n file.entry) none) m)
 exchanges_at slots id s n old file m x one works carries small same low high empty st r deep here fits = exchanged
     (word_at st.words (slot_place s)) old (slot_word_of n file.entry)
-    (Goal slots id s n old file m x one works carries small same low high empty st r here)
-    (λ is. won slots id s n old file m x one works carries small same low high empty st r here is)
-    (λ other. lost slots id s n old file m x one works carries small same low high empty st r here other)
+    (Goal (turn_of m x one id st r here) slots s n old file m.1 works carries small same low high empty)
+    (won (turn_of m x one id st r here) slots s n old file m.1 works carries small same low high empty)
+    (lost (turn_of m x one id st r here) slots s n old file m.1 works carries small same low high empty)
 
 pub exchanges_keep : ExchangesKeep
 exchanges_keep k slots id i s n old new file m x has works carries small same low high place empty made =

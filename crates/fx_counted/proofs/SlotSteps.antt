@@ -7,13 +7,13 @@ use Rattle.fx_counted.proofs.Words.{Log, View, Work}
 use Rattle.std.proofs.Common.{length-set}
 use Rattle.fx_counted.proofs.Histories.{Grows, IsHistory}
 use Rattle.fx_counted.proofs.Frames.{Stays, KeepsHeld}
-use Rattle.fx_counted.proofs.Keeping.{Homes, word_at, now, Step, step_kept}
+use Rattle.fx_counted.proofs.Keeping.{Turn, Homes, word_at, now, Step, step_kept}
 use Rattle.fx_counted.proofs.NodeSteps.{near, far}
 use Rattle.fx_counted.proofs.Unchanged.{SameFile, slot_same, draws_same}
 
-module _ (st : Shared) (v : View) (r : Agrees v.start st) (id : ℕ) (x : Log) (here : get_elem? st.views id ≡ some v)
-    (one : v.logs ≡ x ∷ []) (s : ℕ) (inside : s < slots_of v.start)
-    (y : Log) (d : Work) (c : Change) (h' : List Event) (phase' : ℕ → Phase) (word' : ℕ) (homes' : Homes) where
+module _ (turn : Turn) (s : ℕ) (inside : s < slots_of turn.v.start) (y : Log) (d : Work) (c : Change) (h' : List Event) (phase' : ℕ → Phase) (word' : ℕ) (homes' : Homes) where
+  open turn use {st, v, r, id, x, here, one}
+
   abbrev words' : List ℕ
   words' = set st.words (slot_place s) word'
 
@@ -49,13 +49,13 @@ module _ (st : Shared) (v : View) (r : Agrees v.start st) (id : ℕ) (x : Log) (
 
   module _ (p : SlotStep) where
     wide : slot_place s < length st.words
-    wide = let a = r.shape.words in let b = (near st v r id x here one).slot s inside in omega arith
+    wide = let a = r.shape.words in let b = (near turn).slot s inside in omega arith
 
     word_else : (place : ℕ) → place ≢ slot_place s → word_at words' place ≡ word_at st.words place
     word_else place other = get_or-set_other st.words (slot_place s) place word' 0 other
 
-    slot_kept : Step st v r id x here one y d c h' phase' words' homes'
-    slot_kept = let apart = far st v r id x here one in record {
+    slot_kept : Step turn y d c h' phase' words' homes'
+    slot_kept = let apart = far turn in record {
       words = length-set st.words (slot_place s) word';
       homes = p.homes;
       number = p.number;
@@ -91,4 +91,4 @@ module _ (st : Shared) (v : View) (r : Agrees v.start st) (id : ℕ) (x : Log) (
     }
 
     pub slot_agrees : Agrees v.start record { words = words'; homes = homes'; views = views' }
-    slot_agrees = step_kept st v r id x here one y d c h' phase' words' homes' slot_kept
+    slot_agrees = step_kept turn y d c h' phase' words' homes' slot_kept

@@ -8,7 +8,7 @@ use Rattle.fx_counted.proofs.Words.{seated, leaving, owner, file_in, retires_now
 use Rattle.fx_counted.specs.Agrees.{IsSeated}
 use Rattle.fx_counted.proofs.Frames.{Stays, KeepsHeld, does_now}
 use Rattle.fx_counted.proofs.Histories.{IsHistory, grows_one, held_mine, change_here, change_else, seen_all}
-use Rattle.fx_counted.proofs.Keeping.{Homes, word_at, now, logged, its_log}
+use Rattle.fx_counted.proofs.Keeping.{Turn, Homes, word_at, now, logged, its_log}
 use Rattle.fx_counted.proofs.SlotSteps.{SlotStep, slot_agrees}
 
 -- the phases after a file has left its slot for the seat id
@@ -49,8 +49,9 @@ retires_next : (k : Start) (old : Option File) (takes : ℕ) (x : Log) → Place
 retires_next k None takes x = tt
 retires_next k (Some f) takes x = tt
 
-module _ (st : Shared) (v : View) (r : Agrees v.start st) (id : ℕ) (x : Log) (here : get_elem? st.views id ≡ some v)
-    (one : v.logs ≡ x ∷ []) (s : ℕ) (inside : s < slots_of v.start) where
+module _ (turn : Turn) (s : ℕ) (inside : s < slots_of turn.v.start) where
+  open turn use {st, v, r, id, x, here, one}
+
   abbrev pub found : ℕ
   found = word_at st.words (slot_place s)
 
@@ -164,8 +165,8 @@ module _ (st : Shared) (v : View) (r : Agrees v.start st) (id : ℕ) (x : Log) (
         else_phase : (n : ℕ) → NotOf n old → phase' n ≡ phase₁ n
         else_phase n other = out_else id old (takes_in found) phase₁ n other
 
-        swap_step : SlotStep st v r id x here one s inside y d c (h' a) phase' word' homes'
-        swap_step = let o = its_log st v r id x here one in record {
+        swap_step : SlotStep turn s inside y d c (h' a) phase' word' homes'
+        swap_step = let o = its_log turn in record {
           homes = p.homes;
           number = refl;
           drawn = refl;
@@ -245,4 +246,4 @@ module _ (st : Shared) (v : View) (r : Agrees v.start st) (id : ℕ) (x : Log) (
             works (Some f) is = ((seat_of f (was ∙ is)).0, out_here f is)
 
         pub swap_agrees : Agrees v.start record { words = set st.words (slot_place s) word'; homes = homes'; views = set st.views id w }
-        swap_agrees = slot_agrees st v r id x here one s inside y d c (h' a) phase' word' homes' swap_step
+        swap_agrees = slot_agrees turn s inside y d c (h' a) phase' word' homes' swap_step
