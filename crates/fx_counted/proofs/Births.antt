@@ -2,17 +2,16 @@
 use Rattle.fx_counted.proofs.Words.{◌≡◌, ◌≢◌, ℕ, ◌+◌, ◌*◌, ◌<◌, ◌≤◌, List, [], ◌∷◌, set, length, sym, refl, ap, ◌∙◌, subst, arith, Option, Some, None}
 use Rattle.fx_counted.proofs.Words.{◌⊎◌, inr, ⊎_elim, dite, some, none, ℕ_discrete, get_elem?, takes, gives, rest, stepped, step, set_here, set_else}
 use Rattle.fx_counted.proofs.Words.{Closed, File, changed_at, no_use, next_number, born, Home, NodeAgrees, OwnerAgrees, WorkAgrees, PlacesNext}
-use Rattle.fx_counted.proofs.Words.{Agrees, word_of, place_of, Shared, opening_of, chain_in, chain_numbers, first_log, pass_of, Sat, IsNumber, state_after_all, end_in, next_in, held_in}
-use Rattle.fx_counted.proofs.Words.{placing, held_of, holding, Phase, unborn, spare, placed, emptied, closed, owner, file_in, Stepped, Log, Start}
-use Rattle.fx_counted.proofs.Words.{View, Idle, Placing, Holding, Emptying, looks}
+use Rattle.fx_counted.proofs.Words.{Agrees, word_of, place_of, opening_of, chain_in, chain_numbers, first_log, pass_of, IsNumber, state_after_all}
+use Rattle.fx_counted.proofs.Words.{end_in, next_in, held_in, placing, held_of, holding, Phase, unborn, spare, placed, emptied, closed, owner}
+use Rattle.fx_counted.proofs.Words.{file_in, Stepped, Start, View, Idle, Placing, Holding, Emptying, looks}
 use Rattle.std.proofs.Common.{length-set}
 use Rattle.std.proofs.Math.Nat.{mul-le-mul_left}
-use Rattle.atomic_table.specs.Table.{Allows}
 use Rattle.fx_counted.specs.Laws.{BirthsKeep, RestsKeep}
 use Rattle.fx_counted.specs.Tells.{Births, Rests}
 use Rattle.fx_counted.proofs.Histories.{grows_none, change_here, change_else}
 use Rattle.fx_counted.proofs.Frames.{busy, does_now}
-use Rattle.fx_counted.proofs.Keeping.{Turn, turn_of, word_at, now, logged, its_log, its_work, tells}
+use Rattle.fx_counted.proofs.Keeping.{Turn, turn_of, word_at, its_log, its_work, tells, by_turn, went}
 use Rattle.fx_counted.proofs.NodeSteps.{one_same, near, far, NodeStep, node_agrees}
 
 -- the file that a pass holds is open
@@ -78,7 +77,7 @@ module _ (turn : Turn) where
           ∙ ap file_in is_spare in let z : None ≡ Some f.identity = sym g ∙ e in cc z);
       free = λ m other is. let e : busy v.work ≡ 0 = ap busy idle in omega arith;
       node = (refl, set_here st.homes (place_of v.start b) none (roomy b its_b), n.2, n.3, n.4, n.5);
-      known = does_now st.views id v (now v (logged x r.history x.numbers_left x.looks_left) (Placing b) v.change) (Placing b) here refl;
+      known = does_now st.views id v (went turn r.history (Placing b) v.change) (Placing b) here refl;
       held = o.held ∙ ap held_in idle;
       next = (refl, some_left);
       spares = λ n low high. let p = ap placing idle in change_else r.phase b (placed id) n (λ same. omega arith) ∙ o.spares n (omega arith) high;
@@ -88,9 +87,9 @@ module _ (turn : Turn) where
 
     birth_tells : (carried homes : List (ℕ × Option Closed))
         → Stepped (v, carried) [] no_use (Placing (next_number (opening_of v.start) (pass_of v))) v.change
-        (now v (logged x r.history x.numbers_left x.looks_left) (Placing b) v.change, homes)
+        (went turn r.history (Placing b) v.change, homes)
     birth_tells carried homes = subst (λ (n : ℕ). Stepped (v, carried) [] no_use (Placing n) v.change
-        (now v (logged x r.history x.numbers_left x.looks_left) (Placing b) v.change, homes))
+        (went turn r.history (Placing b) v.change, homes))
         (λ i. next_in v.start (first_log (sym one i)))
         (tells turn carried homes r.history x.numbers_left x.looks_left (Placing b) v.change [] no_use
         (grows_none x.number r.history) r.legal refl (omega arith) (omega arith) its_b)
@@ -101,7 +100,7 @@ module _ (turn : Turn) where
       (d : held_in v.work ≡ None) (works : busy v.work ≡ q + 1) (none_held : (n : ℕ) → holding n v.work ≡ 0) where
     rest_step : NodeAgrees (state_after_all v.start r.history) q (looks r.history q) 0
         (some (some None)) ph' → OwnerAgrees
-        (set st.views id (now v (logged x r.history x.numbers_left x.looks_left) Idle v.change)) q ph'
+        (set st.views id (went turn r.history Idle v.change)) q ph'
         → ((n : ℕ) → next_in v.start x ≤ n → n < end_in v.start x → changed_at r.phase q ph' n ≡ spare x.number)
         → NodeStep turn q its 0 (set st.homes (place_of v.start q) (some None)) r.history ph' Idle
     rest_step node known spares = let o = its_log turn in record {
@@ -157,56 +156,36 @@ module _ (turn : Turn) where
             (λ other. change_else r.phase q (spare x.number) m other ∙ o.spares m (let a = next.0 in omega arith) high)),
       )
 
-births_at : (slots id : ℕ) (m : Sat) (x : Log) → m.0.logs ≡ x ∷ [] → m.0.work ≡ Idle → 0 < x.numbers_left
-    → Allows (Agrees m.0.start) slots id m (word_of m.0.start (next_in m.0.start x)) (λ _. born)
-    (λ _. Births (step slots (word_of m.0.start (next_in m.0.start x)) born 0 none) m born)
-births_at slots id m x one idle left st r deep here fits = let turn = turn_of m x one id st r here in (
-  now m.0 (logged x r.history x.numbers_left x.looks_left) (Placing (next_in m.0.start x)) m.0.change,
-  takes (place_of m.0.start (next_in m.0.start x)) None,
-  (in_phase turn (next_in m.0.start x) (its_b turn idle left) (spare x.number)
-      (is_spare turn idle left)).1,
-  node_agrees turn (next_in m.0.start x) (its_b turn idle left) born
-      (set st.homes (place_of m.0.start (next_in m.0.start x)) none) r.history (placed id) (Placing (next_in m.0.start x))
-      (birth turn idle left),
-  record {
-    stepped = birth_tells turn idle left m.1 ((place_of m.0.start (next_in m.0.start x), None) ∷ m.1);
-    carried = λ i. (place_of m.0.start (next_in m.0.start (first_log (sym one i))), None) ∷ m.1;
-  },
-)
-
 pub births_keep : BirthsKeep
-births_keep k slots id i m x has idle left place = subst (λ (k : Start). i ≡ word_of k (next_in k x)
-    → Allows (Agrees k) slots id m i (λ _. born) (λ _. Births (step slots i born 0 none) m born)) has.0
-    (λ at. subst (λ (i : ℕ). Allows (Agrees m.0.start) slots id m i (λ _. born)
-    (λ _. Births (step slots i born 0 none) m born)) (sym at) (births_at slots id m x has.1 idle left)) place
-
-rests_at : (slots id q : ℕ) (m : Sat) (x : Log) → m.0.logs ≡ x ∷ [] → (m.0.work ≡ Emptying q) ⊎ (m.0.work ≡ Placing q)
-    → m.1 ≡ (place_of m.0.start q, None) ∷ []
-    → Allows (Agrees m.0.start) slots id m (word_of m.0.start q) (λ _. 0) (λ _. Rests (step slots (word_of m.0.start q) 0 0 none) m 0)
-rests_at slots id q m x one works carries st r deep here fits = let turn = turn_of m x one id st r here in (
-  now m.0 (logged x r.history x.numbers_left x.looks_left) Idle m.0.change,
-  gives,
-  tt,
-  subst (λ (c : List (ℕ × Option Closed)). Agrees m.0.start
-      (stepped st (word_of m.0.start q) 0 id c
-      (now m.0 (logged x r.history x.numbers_left x.looks_left) Idle m.0.change) gives)) (sym carries)
-      (⊎_elim
-      (λ (e : m.0.work ≡ Emptying q). let s = rest_emptied turn q e in
-      node_agrees turn q s.0 0 (set st.homes (place_of m.0.start q) (some None)) r.history closed Idle s.1)
-      (λ (e : m.0.work ≡ Placing q). let s = rest_placed turn q e in
-      node_agrees turn q s.0 0 (set st.homes (place_of m.0.start q) (some None)) r.history
-      (spare x.number) Idle s.1)
-      works),
-  record {
-    stepped = tells turn m.1
-        (rest m.1) r.history x.numbers_left x.looks_left Idle m.0.change [] no_use
-        (grows_none x.number r.history) r.legal refl (omega arith) (omega arith) tt;
-    carried = refl;
-  },
-)
+births_keep k slots id i m x has idle left place = by_turn k slots id i m x (λ _. Unit {0}) (λ k. word_of k (next_in k x)) (λ _. born)
+    (λ i _. Births (step slots i born 0 none) m born) has tt place (λ st r here _ fits. let turn = turn_of m x has.1 id st r here in (
+      went turn r.history (Placing (b turn idle left)) m.0.change,
+      takes (place_of m.0.start (b turn idle left)) None,
+      (in_phase turn (b turn idle left) (its_b turn idle left) (spare x.number) (is_spare turn idle left)).1,
+      node_agrees turn (b turn idle left) (its_b turn idle left) born (set st.homes (place_of m.0.start (b turn idle left)) none) r.history (placed id)
+          (Placing (b turn idle left)) (birth turn idle left),
+      record {
+        stepped = birth_tells turn idle left m.1 ((place_of m.0.start (b turn idle left), None) ∷ m.1);
+        carried = λ i. (place_of m.0.start (next_in m.0.start (first_log (sym has.1 i))), None) ∷ m.1;
+      },
+    ))
 
 pub rests_keep : RestsKeep
-rests_keep k slots id i n m x has works carries place = subst (λ (k : Start). m.1 ≡ (place_of k n, None) ∷ []
-    → i ≡ word_of k n → Allows (Agrees k) slots id m i (λ _. 0) (λ _. Rests (step slots i 0 0 none) m 0)) has.0
-    (λ with at. subst (λ (i : ℕ). Allows (Agrees m.0.start) slots id m i (λ _. 0)
-    (λ _. Rests (step slots i 0 0 none) m 0)) (sym at) (rests_at slots id n m x has.1 works with)) carries place
+rests_keep k slots id i q m x has works carries place = by_turn k slots id i m x (λ k. m.1 ≡ (place_of k q, None) ∷ []) (λ k. word_of k q) (λ _. 0)
+    (λ i _. Rests (step slots i 0 0 none) m 0) has carries place (λ st r here carries fits. let turn = turn_of m x has.1 id st r here in (
+      went turn r.history Idle m.0.change,
+      gives,
+      tt,
+      subst (λ (c : List (ℕ × Option Closed)). Agrees m.0.start (stepped st (word_of m.0.start q) 0 id c (went turn r.history Idle m.0.change) gives))
+          (sym carries) (⊎_elim
+          (λ (e : m.0.work ≡ Emptying q). let s = rest_emptied turn q e in
+          node_agrees turn q s.0 0 (set st.homes (place_of m.0.start q) (some None)) r.history closed Idle s.1)
+          (λ (e : m.0.work ≡ Placing q). let s = rest_placed turn q e in
+          node_agrees turn q s.0 0 (set st.homes (place_of m.0.start q) (some None)) r.history (spare x.number) Idle s.1)
+          works),
+      record {
+        stepped = tells turn m.1 (rest m.1) r.history x.numbers_left x.looks_left Idle m.0.change [] no_use
+            (grows_none x.number r.history) r.legal refl (omega arith) (omega arith) tt;
+        carried = refl;
+      },
+    ))

@@ -1,21 +1,20 @@
 -- A draw keeps the rule.
 use Rattle.fx_counted.proofs.Words.{sum_by, ◌≡◌, ◌≢◌, ℕ, zero, suc, ◌+◌, ◌*◌, ◌%◌, ◌^◌, ◌<◌, ◌≤◌, Bool, true, false, cond, List, [], ◌∷◌, set, length}
-use Rattle.fx_counted.proofs.Words.{sym, refl, ap, ◌∙◌, subst, arith, eqb, lt-ltb, le-ltb, get_or-set_other, get_or-set_same, Option, Some, None}
-use Rattle.fx_counted.proofs.Words.{◌⊎◌, inl, inr, ⊎_elim, dite, some, none, ℕ_discrete, dec_le, get_elem?, keeps, Act, Valid, stepped}
-use Rattle.fx_counted.proofs.Words.{carried_after, step, Closed, numbers_up_to, PassView, sum_by-cons, sum_set, sum_at, sum_le_at, NodeAgrees}
-use Rattle.fx_counted.proofs.Words.{OwnerAgrees, LogAgrees, lengths, Agrees, PlacesNext, WorkAgrees, DrawsCount, word_of, place_of, control_place}
-use Rattle.fx_counted.proofs.Words.{draw_place, slot_place, Shared, Sat, opening_of, state_after_all, chain_in, shown, first_log, drawn_of, told_of}
-use Rattle.fx_counted.proofs.Words.{once, placing, Phase, unborn, spare, owner, file_in, Log, Start, View, Idle, looks}
+use Rattle.fx_counted.proofs.Words.{sym, refl, ap, ◌∙◌, subst, arith, eqb, lt-ltb, le-ltb, get_or-set_other, get_or-set_same, Option, Some, None, ◌⊎◌}
+use Rattle.fx_counted.proofs.Words.{inl, inr, ⊎_elim, dite, none, ℕ_discrete, dec_le, get_elem?, keeps, stepped, step, Closed, numbers_up_to}
+use Rattle.fx_counted.proofs.Words.{PassView, sum_by-cons, sum_set, sum_at, sum_le_at, NodeAgrees, OwnerAgrees, LogAgrees, lengths, Agrees}
+use Rattle.fx_counted.proofs.Words.{PlacesNext, WorkAgrees, DrawsCount, word_of, place_of, control_place, draw_place, slot_place, opening_of}
+use Rattle.fx_counted.proofs.Words.{state_after_all, chain_in, shown, first_log, drawn_of, told_of, once, placing, Phase, unborn, spare, owner}
+use Rattle.fx_counted.proofs.Words.{file_in, Log, View, Idle, looks}
 use Rattle.std.proofs.Common.{length-set}
 use Rattle.std.proofs.Math.Nat.{mul-add, mul-le-mul_left}
-use Rattle.atomic_table.specs.Table.{Allows}
 use Rattle.fx_table.specs.Calls.{Draws}
 use Rattle.fx_counted.specs.Laws.{DrawsKeep}
 use Rattle.fx_counted.specs.Passes.{first_or}
 use Rattle.fx_counted.specs.Tells.{DrawTells}
 use Rattle.fx_counted.proofs.Frames.{owner_same}
 use Rattle.fx_counted.proofs.Histories.{grows_none}
-use Rattle.fx_counted.proofs.Keeping.{Turn, turn_of, word_at, now, its_log, Step, step_kept}
+use Rattle.fx_counted.proofs.Keeping.{Turn, turn_of, word_at, now, its_log, Step, step_kept, by_turn, Made}
 use Rattle.fx_counted.proofs.NodeSteps.{near, far}
 use Rattle.fx_counted.proofs.Unchanged.{slot_same, control_same}
 use Rattle.fx_counted.proofs.Ones.{one_if, times, bit_here, bit_else}
@@ -320,31 +319,22 @@ module _ (turn : Turn) where
         steps = let e = ap (λ (l : List Log). (first_log l).steps) one in omega arith;
       }
 
-draws_at : (slots id : ℕ) (m : Sat) (x : Log) → m.0.logs ≡ x ∷ [] → m.0.work ≡ Idle → x.no_chains_left ≡ false
-    → Allows (Agrees m.0.start) slots id m draw_place (λ word. (word + 1) % 2 ^ 64) (DrawTells (step slots draw_place 1 0 none) m)
-draws_at slots id m x one idle untold st r deep here fits = let turn = turn_of m x one id st r here in let found : ℕ = word_at st.words draw_place in
-    subst (λ (z : ℕ). (w : View) × (a : Act (Option Closed)) × Valid st.homes m.1 a
-    × Agrees m.0.start (stepped st draw_place z id m.1 w a)
-    × DrawTells (step slots draw_place 1 0 none) m found (w, carried_after m.1 a))
-    (sym (word_is turn))
-    (dite (dec_le (found + 1) m.0.start.chains)
-    (λ next. let more : found < m.0.start.chains = omega (arith, next) in (
+pub draws_keep : DrawsKeep
+draws_keep k slots id i m x has idle untold place = by_turn k slots id i m x (λ _. Unit {0}) (λ _. draw_place) (λ word. (word + 1) % 2 ^ 64)
+    (λ i. DrawTells (step slots i 1 0 none) m) has tt place (λ st r here _ fits. let turn = turn_of m x has.1 id st r here in
+    subst (λ (z : ℕ). Made turn m.1 draw_place (λ _. z) (DrawTells (step slots draw_place 1 0 none) m)) (sym (word_is turn))
+    (dite (dec_le (found turn + 1) m.0.start.chains)
+    (λ next. let more : found turn < m.0.start.chains = omega (arith, next) in (
       now m.0 (y turn idle untold more) m.0.work m.0.change,
       keeps,
       tt,
       drawn_agrees turn idle untold more,
       drawn_tells turn idle untold more m.1 slots,
     ))
-    (λ done. let d : m.0.start.chains ≤ found = omega (arith, done) in (
+    (λ done. let d : m.0.start.chains ≤ found turn = omega (arith, done) in (
       now m.0 (y' turn idle untold d) m.0.work m.0.change,
       keeps,
       tt,
       told_agrees turn idle untold d,
       told_tells turn idle untold d m.1 slots,
-    )))
-
-pub draws_keep : DrawsKeep
-draws_keep k slots id i m x has idle untold place = subst
-    (λ (k : Start). Allows (Agrees k) slots id m i (λ word. (word + 1) % 2 ^ 64) (DrawTells (step slots i 1 0 none) m)) has.0
-    (subst (λ (i : ℕ). Allows (Agrees m.0.start) slots id m i (λ word. (word + 1) % 2 ^ 64)
-    (DrawTells (step slots i 1 0 none) m)) (sym place) (draws_at slots id m x has.1 idle untold))
+    ))))

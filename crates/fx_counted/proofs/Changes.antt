@@ -1,17 +1,16 @@
 -- An installation and a removal keep the rule.
-use Rattle.fx_counted.proofs.Words.{◌≡◌, ◌≢◌, ℕ, ◌-◌, ◌<◌, ◌^◌, false, List, [], ◌∷◌, set, sym, refl, ap, ◌∙◌, subst, arith, Option, Some, None}
-use Rattle.fx_counted.proofs.Words.{dite, some, ℕ_discrete, get_elem?, set_here, set_else, Closed, ◌▷◌, changed_at, numbered, File, Action, State}
-use Rattle.fx_counted.proofs.Words.{no_use, one_number, range_of, event_of, takes_in, slot_word_of, name_made, entry_made, takes_made, Names}
-use Rattle.fx_counted.proofs.Words.{NodeAgrees, OwnerAgrees, WorkAgrees, PlacesNext, Agrees, if_full, looks, word_of, place_of, slot_place, Shared}
-use Rattle.fx_counted.proofs.Words.{opening_of, slots_of, IsNumber, state_after_all, shown, next_in, held_in, placing, holding, Phase, unborn, spare}
-use Rattle.fx_counted.proofs.Words.{placed, seated, owner, file_in, IsInside, Stepped, retires_now, turned, Log, View, Idle, Placing, Change, keeps}
-use Rattle.fx_counted.proofs.Words.{stepped}
+use Rattle.fx_counted.proofs.Words.{◌≡◌, ◌≢◌, ℕ, ◌-◌, ◌<◌, ◌^◌, false, List, [], ◌∷◌, set, sym, refl, ap, ◌∙◌, subst, arith, Option, Some, None, dite}
+use Rattle.fx_counted.proofs.Words.{some, ℕ_discrete, get_elem?, set_here, set_else, Closed, ◌▷◌, changed_at, numbered, File, Action, State, no_use}
+use Rattle.fx_counted.proofs.Words.{one_number, range_of, event_of, takes_in, slot_word_of, name_made, entry_made, takes_made, Names, NodeAgrees}
+use Rattle.fx_counted.proofs.Words.{OwnerAgrees, WorkAgrees, PlacesNext, Agrees, if_full, looks, word_of, place_of, slot_place, opening_of, slots_of}
+use Rattle.fx_counted.proofs.Words.{IsNumber, state_after_all, shown, next_in, held_in, placing, holding, Phase, unborn, spare, placed, seated, owner}
+use Rattle.fx_counted.proofs.Words.{file_in, IsInside, Stepped, retires_now, turned, View, Idle, Placing, Change, keeps, stepped}
 use Rattle.std.proofs.Common.{length-set}
 use Rattle.fx_counted.proofs.Births.{in_phase, roomy, else_place, held_file}
 use Rattle.fx_counted.proofs.Frames.{busy, stays_same, owner_stays}
 use Rattle.fx_counted.proofs.FullSlots.{Stands, control_swap}
 use Rattle.fx_counted.proofs.Histories.{grows_one, part_mine, change_here, change_else, same_shape}
-use Rattle.fx_counted.proofs.Keeping.{Turn, Homes, word_at, now, logged, its_log, its_work, tells}
+use Rattle.fx_counted.proofs.Keeping.{Turn, Homes, word_at, now, logged, its_log, its_work, tells, went}
 use Rattle.fx_counted.proofs.Swaps.{NotOf, Effect, h', removed_else, found, state, so, seat_of, not_old, elsewhere, w, Swap, swap_agrees}
 use Rattle.fx_counted.proofs.Unchanged.{node_same}
 
@@ -69,9 +68,8 @@ module _ (turn : Turn) (s : ℕ) (inside : s < slots_of turn.v.start) (stands : 
       control = control_swap s₀.at (range_of (opening_of v.start)) st.views id v _ _ s old None here was stands refl r.control;
     }
 
-    abbrev removed_view : View
-    removed_view = now v (logged x (event_of (shown x v.work) a ∷ r.history) x.numbers_left x.looks_left)
-        (retires_now old (takes_in f₀)) (turned v.change (if_full old) 0)
+    abbrev pub removed_view : View
+    removed_view = went turn (event_of (shown x v.work) a ∷ r.history) (retires_now old (takes_in f₀)) (turned v.change (if_full old) 0)
 
     pub removal_agrees : Agrees v.start (stepped st (slot_place s) 0 id [] removed_view keeps)
     removal_agrees = swap_agrees turn s inside old was a 0 None st.homes r.phase x.numbers_left
@@ -183,7 +181,7 @@ module _ (turn : Turn) (s : ℕ) (inside : s < slots_of turn.v.start) (stands : 
       control = control_swap s₀.at (range_of (opening_of v.start)) st.views id v _ _ s old (Some (numbered n file)) here was stands refl r.control;
     }
 
-    abbrev installed_view : View
+    abbrev pub installed_view : View
     installed_view = now v (logged x (event_of (shown x v.work) a ∷ r.history) (x.numbers_left - 1) x.looks_left) (retires_now old (takes_in f₀)) c
 
     pub installation_agrees : Agrees v.start record {

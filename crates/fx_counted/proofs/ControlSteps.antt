@@ -3,16 +3,15 @@ use Rattle.fx_counted.proofs.Words.{sum_by, ◌≡◌, ◌≢◌, ℕ, zero, suc
 use Rattle.fx_counted.proofs.Words.{subst, arith, get_or-set_other, get_or-set_same, Option, IsSome, dite, some, none, some-injective, some-ne-none}
 use Rattle.fx_counted.proofs.Words.{ℕ_discrete, get_elem?, keeps, step, sum_by-cons, Closed, ◌▷◌, File, Event, Full, no_use, range_of, event_of}
 use Rattle.fx_counted.proofs.Words.{sum_set, sum_at, sum_le_at, one_change, full_word_of, WorkAgrees, lengths, Agrees, in_change, added, removed_by}
-use Rattle.fx_counted.proofs.Words.{changes_of, added_of, removed_of, full_in, ControlCounts, word_of, control_place, draw_place, slot_place, Shared}
-use Rattle.fx_counted.proofs.Words.{Sat, opening_of, state_after_all, shown, IsInside, Stepped, GoesOn, Answers, Change, Outside, Same, Log, Start}
-use Rattle.fx_counted.proofs.Words.{View, Work, Idle, Phase}
+use Rattle.fx_counted.proofs.Words.{changes_of, added_of, removed_of, full_in, ControlCounts, word_of, control_place, draw_place, slot_place}
+use Rattle.fx_counted.proofs.Words.{opening_of, state_after_all, shown, IsInside, Stepped, GoesOn, Answers, Change, Outside, Same, Log, Start, View}
+use Rattle.fx_counted.proofs.Words.{Work, Idle, Phase}
 use Rattle.std.proofs.Common.{length-set}
-use Rattle.atomic_table.specs.Table.{Allows}
 use Rattle.fx_counted.specs.Laws.{BeginsKeep, EndsKeep, AnswersKeep}
-use Rattle.fx_counted.proofs.Calm.{Quiet, no_event, Calm, calm_agrees}
+use Rattle.fx_counted.proofs.Calm.{Quiet, no_event, calm_agrees}
 use Rattle.fx_counted.proofs.FullSlots.{full_few, full_all}
 use Rattle.fx_counted.proofs.Histories.{IsHistory, grows_none, grows_one, legal_more, held_mine, part_mine, same_shape}
-use Rattle.fx_counted.proofs.Keeping.{Turn, turn_of, word_at, now, logged, its_work, tells}
+use Rattle.fx_counted.proofs.Keeping.{Turn, turn_of, word_at, its_work, tells, by_turn, went}
 use Rattle.fx_counted.proofs.NodeSteps.{near, far}
 use Rattle.fx_counted.proofs.Retirements.{sub_wraps}
 
@@ -89,16 +88,15 @@ module _ (turn : Turn) where
     read_else : (place : ℕ) → place ≢ control_place → word_at words' place ≡ word_at st.words place
     read_else place other = get_or-set_other st.words control_place place y 0 other
 
-    wrote : (h' : List Event) (c : Change) → Quiet turn h' → ControlCounts at_now range
-        (set st.views id (now v (logged x h' x.numbers_left x.looks_left) v.work c)) y → Calm turn h' c words'
-    wrote h' c quiet control = let apart = far turn in record {
+    wrote : (h' : List Event) (c : Change) → Quiet turn h' → ControlCounts at_now range (set st.views id (went turn h' v.work c)) y
+        → Agrees v.start record { words = words'; homes = st.homes; views = set st.views id (went turn h' v.work c) }
+    wrote h' c quiet control = let apart = far turn in calm_agrees turn h' c words' record {
       quiet = quiet;
       words = length-set st.words control_place y;
       slots = λ s. read_else (slot_place s) (apart.slot_and_control s);
       nodes = λ n has. read_else (word_of v.start n) (apart.node_and_control n has);
       drawn = read_else draw_place (λ same. apart.control_and_draw (sym same));
-      control = subst (ControlCounts at_now range (set st.views id (now v (logged x h' x.numbers_left x.looks_left) v.work c)))
-          (sym (get_or-set_same st.words control_place y 0 wide)) control;
+      control = subst (ControlCounts at_now range (set st.views id (went turn h' v.work c))) (sym (get_or-set_same st.words control_place y 0 wide)) control;
     }
 
   abbrev e : Event
@@ -122,14 +120,13 @@ module _ (turn : Turn) where
   }
 
   pub goes_on : (c : Change) (carried : List (ℕ × Option Closed))
-      → Stepped (v, carried) [] no_use v.work c (now v (logged x r.history x.numbers_left x.looks_left) v.work c, carried)
+      → Stepped (v, carried) [] no_use v.work c (went turn r.history v.work c, carried)
   goes_on c carried = tells turn carried carried r.history x.numbers_left x.looks_left v.work c []
       no_use (grows_none x.number r.history) r.legal refl (omega arith) (omega arith) its_inside
 
   module _ (fits : word < 18446744073709551616) where
-    begun : v.change ≡ Outside → ControlCounts at_now range
-        (set st.views id (now v (logged x r.history x.numbers_left x.looks_left) v.work Same)) ((word + one_change) % 2 ^ 64)
-    begun out = let w : View = now v (logged x r.history x.numbers_left x.looks_left) v.work Same in
+    begun : v.change ≡ Outside → ControlCounts at_now range (set st.views id (went turn r.history v.work Same)) ((word + one_change) % 2 ^ 64)
+    begun out = let w = went turn r.history v.work Same in
         let a = sum_set changes_of st.views id v w here in let b = sum_set added_of st.views id v w here in
         let d = sum_set removed_of st.views id v w here in
         let a' = ap in_change out in let b' = ap added out in let d' = ap removed_by out in let s = few_others in
@@ -139,9 +136,8 @@ module _ (turn : Turn) where
 
     -- the difference is told: amount is 2^32 less it
     ended : (h' : List Event) (amount : ℕ) → in_change v.change ≡ 1 → amount + added v.change ≡ one_change + removed_by v.change
-        → ControlCounts at_now range (set st.views id
-        (now v (logged x h' x.numbers_left x.looks_left) v.work Outside)) ((word + (2 ^ 64 - amount)) % 2 ^ 64)
-    ended h' amount in_now amount_is = let w : View = now v (logged x h' x.numbers_left x.looks_left) v.work Outside in
+        → ControlCounts at_now range (set st.views id (went turn h' v.work Outside)) ((word + (2 ^ 64 - amount)) % 2 ^ 64)
+    ended h' amount in_now amount_is = let w = went turn h' v.work Outside in
         let a = sum_set changes_of st.views id v w here in let b = sum_set added_of st.views id v w here in
         let d = sum_set removed_of st.views id v w here in
         let s = few_others in let u = r.control.upper in let l = r.control.lower in let ff = few_full in let fr = few_removed in let fa = few_added in
@@ -161,82 +157,50 @@ module _ (turn : Turn) where
         let up : word / 4294967296 ≡ 1 = omega arith in let low : word % 4294967296 ≡ 65536 + range.1 = omega arith in
         full_all at_now range.0 range.1 (omega arith)
 
-begins_at : (slots id : ℕ) (m : Sat) (x : Log) → m.0.logs ≡ x ∷ [] → m.0.change ≡ Outside
-    → Allows (Agrees m.0.start) slots id m control_place (λ word. (word + one_change) % 2 ^ 64)
-    (GoesOn Same (step slots control_place one_change 0 none) m)
-begins_at slots id m x one out st r deep here fits = let turn = turn_of m x one id st r here in let y : ℕ = (word_at st.words control_place + one_change) % 2 ^ 64 in (
-  now m.0 (logged x r.history x.numbers_left x.looks_left) m.0.work Same,
-  keeps,
-  tt,
-  calm_agrees turn r.history Same (set st.words control_place y)
-      (wrote turn y r.history Same (no_event turn) (begun turn fits out)),
-  record { stepped = goes_on turn Same m.1; carried = refl },
-)
-
 pub begins_keep : BeginsKeep
-begins_keep k slots id i m x has out place = subst
-    (λ (k : Start). Allows (Agrees k) slots id m i (λ word. (word + one_change) % 2 ^ 64)
-    (GoesOn Same (step slots i one_change 0 none) m)) has.0
-    (subst (λ (i : ℕ). Allows (Agrees m.0.start) slots id m i (λ word. (word + one_change) % 2 ^ 64)
-    (GoesOn Same (step slots i one_change 0 none) m)) (sym place) (begins_at slots id m x has.1 out))
-
-ends_at : (slots id amount : ℕ) (m : Sat) (x : Log) → m.0.logs ≡ x ∷ [] → in_change m.0.change ≡ 1
-    → amount + added m.0.change ≡ one_change + removed_by m.0.change
-    → Allows (Agrees m.0.start) slots id m control_place (λ word. (word + (2 ^ 64 - amount)) % 2 ^ 64)
-    (GoesOn Outside (step slots control_place amount 0 none) m)
-ends_at slots id amount m x one in_now amount_is st r deep here fits = let turn = turn_of m x one id st r here in let y : ℕ = (word_at st.words control_place + (2 ^ 64 - amount)) % 2 ^ 64 in (
-  now m.0 (logged x r.history x.numbers_left x.looks_left) m.0.work Outside,
-  keeps,
-  tt,
-  calm_agrees turn r.history Outside (set st.words control_place y)
-      (wrote turn y r.history Outside (no_event turn)
-      (ended turn fits r.history amount in_now amount_is)),
-  record { stepped = goes_on turn Outside m.1; carried = refl },
-)
-
-pub ends_keep : EndsKeep
-ends_keep k slots id i amount m x has in_now amount_is place = subst
-    (λ (k : Start). Allows (Agrees k) slots id m i (λ word. (word + (2 ^ 64 - amount)) % 2 ^ 64)
-    (GoesOn Outside (step slots i amount 0 none) m)) has.0
-    (subst (λ (i : ℕ). Allows (Agrees m.0.start) slots id m i (λ word. (word + (2 ^ 64 - amount)) % 2 ^ 64)
-    (GoesOn Outside (step slots i amount 0 none) m)) (sym place) (ends_at slots id amount m x has.1 in_now amount_is))
-
-answers_at : (slots id : ℕ) (m : Sat) (x : Log) → m.0.logs ≡ x ∷ [] → m.0.change ≡ Same
-    → Allows (Agrees m.0.start) slots id m control_place (λ word. (word + (2 ^ 64 - one_change)) % 2 ^ 64)
-    (Answers (step slots control_place one_change 0 none) m)
-answers_at slots id m x one same st r deep here fits = let turn = turn_of m x one id st r here in let y : ℕ =
-    (word_at st.words control_place + (2 ^ 64 - one_change)) % 2 ^ 64 in let len : ℕ = (range_of (opening_of m.0.start)).1 in
-    let counts : (h' : List Event) → ControlCounts (state_after_all m.0.start r.history).at
-    (range_of (opening_of m.0.start)) (set st.views id
-    (now m.0 (logged x h' x.numbers_left x.looks_left) m.0.work Outside)) y =
-    λ h'. ended turn fits h' one_change (ap in_change same) (let a = ap added same in let b = ap removed_by same in omega arith) in
-    dite (ℕ_discrete (word_at st.words control_place) (full_word_of len))
-    (λ says. let each = says_so turn fits same says in let e : Event = event_of (shown x m.0.work) Full in (
-      now m.0 (logged x (e ∷ r.history) x.numbers_left x.looks_left) m.0.work Outside,
+begins_keep k slots id i m x has out place = by_turn k slots id i m x (λ _. Unit {0}) (λ _. control_place) (λ word. (word + one_change) % 2 ^ 64)
+    (λ i. GoesOn Same (step slots i one_change 0 none) m) has tt place (λ st r here _ fits. let turn = turn_of m x has.1 id st r here in (
+      went turn r.history m.0.work Same,
       keeps,
       tt,
-      calm_agrees turn (e ∷ r.history) Outside (set st.words control_place y)
-          (wrote turn y (e ∷ r.history) Outside (told_full turn each) (counts (e ∷ r.history))),
+      wrote turn _ r.history Same (no_event turn) (begun turn fits out),
+      record { stepped = goes_on turn Same m.1; carried = refl },
+    ))
+
+pub ends_keep : EndsKeep
+ends_keep k slots id i amount m x has in_now amount_is place = by_turn k slots id i m x (λ _. Unit {0}) (λ _. control_place)
+    (λ word. (word + (2 ^ 64 - amount)) % 2 ^ 64) (λ i. GoesOn Outside (step slots i amount 0 none) m) has tt place
+    (λ st r here _ fits. let turn = turn_of m x has.1 id st r here in (
+      went turn r.history m.0.work Outside,
+      keeps,
+      tt,
+      wrote turn _ r.history Outside (no_event turn) (ended turn fits r.history amount in_now amount_is),
+      record { stepped = goes_on turn Outside m.1; carried = refl },
+    ))
+
+pub answers_keep : AnswersKeep
+answers_keep k slots id i m x has same place = by_turn k slots id i m x (λ _. Unit {0}) (λ _. control_place)
+    (λ word. (word + (2 ^ 64 - one_change)) % 2 ^ 64) (λ i. Answers (step slots i one_change 0 none) m) has tt place
+    (λ st r here _ fits. let turn = turn_of m x has.1 id st r here in
+    let counts = λ (h' : List Event). ended turn fits h' one_change (ap in_change same) (let a = ap added same in let b = ap removed_by same in omega arith) in
+    dite (ℕ_discrete (word turn) (full_word_of (range turn).1))
+    (λ says. let each = says_so turn fits same says in (
+      went turn (e turn ∷ r.history) m.0.work Outside,
+      keeps,
+      tt,
+      wrote turn _ (e turn ∷ r.history) Outside (told_full turn each) (counts (e turn ∷ r.history)),
       record {
-        full = λ _. tells turn m.1 m.1 (e ∷ r.history) x.numbers_left x.looks_left m.0.work Outside
-            ([] ▷ Full) no_use (grows_one x.number r.history e refl) (full_legal turn each)
-            (part_mine x.number e r.history refl) (omega arith) (omega arith) (its_inside turn);
+        full = λ _. tells turn m.1 m.1 (e turn ∷ r.history) x.numbers_left x.looks_left m.0.work Outside ([] ▷ Full) no_use
+            (grows_one x.number r.history (e turn) refl) (full_legal turn each) (part_mine x.number (e turn) r.history refl) (omega arith) (omega arith)
+            (its_inside turn);
         not_full = λ not_so. absurd (not_so says);
         carried = refl;
       },
     ))
     (λ not_so. (
-      now m.0 (logged x r.history x.numbers_left x.looks_left) m.0.work Outside,
+      went turn r.history m.0.work Outside,
       keeps,
       tt,
-      calm_agrees turn r.history Outside (set st.words control_place y)
-          (wrote turn y r.history Outside (no_event turn) (counts r.history)),
+      wrote turn _ r.history Outside (no_event turn) (counts r.history),
       record { full = λ says. absurd (not_so says); not_full = λ _. goes_on turn Outside m.1; carried = refl },
-    ))
-
-pub answers_keep : AnswersKeep
-answers_keep k slots id i m x has same place = subst
-    (λ (k : Start). Allows (Agrees k) slots id m i (λ word. (word + (2 ^ 64 - one_change)) % 2 ^ 64)
-    (Answers (step slots i one_change 0 none) m)) has.0
-    (subst (λ (i : ℕ). Allows (Agrees m.0.start) slots id m i (λ word. (word + (2 ^ 64 - one_change)) % 2 ^ 64)
-    (Answers (step slots i one_change 0 none) m)) (sym place) (answers_at slots id m x has.1 same))
+    )))

@@ -1,15 +1,17 @@
 -- A step of a seat with one pass keeps the rule, if it keeps what the step changes.
-use Rattle.fx_counted.proofs.Words.{sum_by, ◌≡◌, ℕ, zero, suc, ◌+◌, ◌<◌, ◌≤◌, List, [], ◌∷◌, ◌++◌, map, set, length, sym, refl, ap, ◌∙◌, subst}
-use Rattle.fx_counted.proofs.Words.{arith, get_or, Option, None, inr, eq-eqb, eqb, some, some-injective, some-ne-none, get_elem?, Closed}
-use Rattle.fx_counted.proofs.Words.{part_of_pass, Event, Action, Use, Adds, range_of, PassView, event_of, sum_set, sum_at, SlotAgrees, NodeAgrees}
-use Rattle.fx_counted.proofs.Words.{OwnerAgrees, WorkAgrees, LogAgrees, ViewAgrees, lengths, Agrees, ControlCounts, looks, all_looks, DrawsCount}
-use Rattle.fx_counted.proofs.Words.{control_place, draw_place, slot_place, node_place, home_place, Shared, opening_of, slots_of, IsNumber}
-use Rattle.fx_counted.proofs.Words.{state_after_all, Sat, shown, first_log, doing_in, logs_of, looks_of, held_of, Phase, IsInside, Stepped, Change, Log}
-use Rattle.fx_counted.proofs.Words.{View, Work}
-use mathlib.Core.Option as maybe
+use Rattle.fx_counted.proofs.Words.{sum_by, ◌≡◌, ℕ, zero, suc, ◌+◌, ◌<◌, ◌≤◌, List, [], ◌∷◌, ◌++◌, map, set, length, sym, refl, ap, ◌∙◌, subst, arith}
+use Rattle.fx_counted.proofs.Words.{get_or, Option, None, inr, eq-eqb, eqb, some, some-injective, some-ne-none, get_elem?, Closed, part_of_pass}
+use Rattle.fx_counted.proofs.Words.{Event, Action, Use, Adds, range_of, PassView, event_of, sum_set, sum_at, SlotAgrees, NodeAgrees, OwnerAgrees}
+use Rattle.fx_counted.proofs.Words.{WorkAgrees, LogAgrees, ViewAgrees, lengths, Agrees, ControlCounts, looks, all_looks, DrawsCount, control_place}
+use Rattle.fx_counted.proofs.Words.{draw_place, slot_place, node_place, home_place, Shared, opening_of, slots_of, IsNumber, state_after_all, Sat}
+use Rattle.fx_counted.proofs.Words.{shown, first_log, doing_in, logs_of, looks_of, held_of, Phase, IsInside, Stepped, Change, Log, View, Work}
+use Rattle.fx_counted.proofs.Words.{stepped, step, Act, Valid, carried_after, HasPass, held_by, held_in, PlacesNext, placing, next_in, end_in, spare}
+use Rattle.fx_counted.proofs.Words.{HasShape, Start}
 use Rattle.fx_counted.proofs.Histories.{Grows, IsHistory}
 use Rattle.fx_counted.proofs.Frames.{Stays, KeepsHeld, view_stays, not_there, views_after}
 use Rattle.fx_counted.proofs.Ones.{one_if}
+use Rattle.atomic_table.specs.Table.{Allows}
+use mathlib.Core.Option as maybe
 
 abbrev pub Homes : Type 0
 Homes = List (maybe.Option (Option Closed))
@@ -23,6 +25,17 @@ now v y d c = record v { logs = y ∷ []; work = d; change = c }
 -- a pass that has seen the history, after one more step
 abbrev pub logged : Log → List Event → ℕ → ℕ → Log
 logged x h left looks_left = record x { front = h; numbers_left = left; looks_left = looks_left; steps = x.steps + 1 }
+
+pub shape_kept : (k : Start) (s s' : Shared) → length s'.words ≡ length s.words → length s'.homes ≡ length s.homes → HasShape k s → HasShape k s'
+shape_kept k s s' words homes a = record {
+  slots = a.slots;
+  range = a.range;
+  chains = a.chains;
+  passes = a.passes;
+  numbers = a.numbers;
+  words = words ∙ a.words;
+  homes = homes ∙ a.homes;
+}
 
 -- a seat with one pass, which makes the next step
 pub record Turn : Type 0 where
@@ -38,6 +51,22 @@ pub record Turn : Type 0 where
 abbrev pub turn_of : (m : Sat) (x : Log) → m.0.logs ≡ x ∷ [] → (id : ℕ) (st : Shared) → Agrees m.0.start st → get_elem? st.views id ≡ some m.0 → Turn
 turn_of m x one id st r here = record { st = st; v = m.0; r = r; id = id; x = x; here = here; one = one }
 
+-- what a law asks for: the word at the place becomes f of what it was, and the seat is told so
+abbrev pub Made : Turn → List (ℕ × Option Closed) → ℕ → (ℕ → ℕ) → (ℕ → Sat → Type 0) → Type 0
+Made turn carried i f told = (w : View) × (a : Act (Option Closed)) × Valid turn.st.homes carried a
+    × Agrees turn.v.start (stepped turn.st i (f (word_at turn.st.words i)) turn.id carried w a)
+    × told (word_at turn.st.words i) (w, carried_after carried a)
+
+-- a law whose premises are those of the seat's own beginning and of the word's own place
+pub by_turn : (k : Start) (slots id i : ℕ) (m : Sat) (x : Log) (P : Start → Type 0) (place : Start → ℕ) (f : ℕ → ℕ) (told : ℕ → ℕ → Sat → Type 0)
+    (has : HasPass k m x) → P k → i ≡ place k
+    → ((st : Shared) (r : Agrees m.0.start st) (here : get_elem? st.views id ≡ some m.0) → P m.0.start
+    → word_at st.words (place m.0.start) < 18446744073709551616
+    → Made (turn_of m x has.1 id st r here) m.1 (place m.0.start) f (told (place m.0.start)))
+    → Allows (Agrees k) slots id m i f (told i)
+by_turn k slots id i m x P place f told has its at does = subst (λ (k : Start). P k → i ≡ place k → Allows (Agrees k) slots id m i f (told i)) has.0
+    (λ its at. subst (λ (i : ℕ). Allows (Agrees m.0.start) slots id m i f (told i)) (sym at) (λ st r deep here fits. does st r here its fits)) its at
+
 module _ (turn : Turn) where
   open turn use {st, v, r, id, x, here, one}
 
@@ -46,6 +75,26 @@ module _ (turn : Turn) where
 
   pub its_work : WorkAgrees v.start r.phase id v.work
   its_work = (r.each_view id v here).work
+
+  -- the view behind a step that uses nothing up
+  abbrev pub went : List Event → Work → Change → View
+  went h' d c = now v (logged x h' x.numbers_left x.looks_left) d c
+
+  -- the pass has seen the whole history
+  pub log_now : (h' : List Event) (phase' : ℕ → Phase) (left looks_left : ℕ) (d : Work) → left ≤ x.numbers_left → held_by h' x.number ≡ held_in d
+      → PlacesNext v.start (logged x h' left looks_left) d
+      → ((n : ℕ) → next_in v.start (logged x h' left looks_left) + placing d ≤ n → n < end_in v.start x → phase' n ≡ spare x.number)
+      → LogAgrees v.start h' phase' id d (logged x h' left looks_left)
+  log_now h' phase' left looks_left d fewer held next spares = let o = its_log in let a = o.few_left in let b = o.left_inside in record {
+    seen = ([], refl);
+    own = refl;
+    held = held;
+    chain = o.chain;
+    few_left = omega arith;
+    left_inside = omega arith;
+    next = next;
+    spares = spares;
+  }
 
   module _ (y : Log) (d : Work) (c : Change) (h' : List Event) (phase' : ℕ → Phase) (words' : List ℕ) (homes' : Homes) where
     abbrev views' : List View
@@ -94,17 +143,7 @@ module _ (turn : Turn) where
 
     pub step_kept : Step → Agrees v.start record { words = words'; homes = homes'; views = views' }
     step_kept s = record {
-      shape = let a = r.shape in
-          record {
-            slots = a.slots;
-            range = a.range;
-            chains = a.chains;
-            passes = a.passes;
-            numbers = a.numbers;
-            words = s.words
-                ∙ a.words;
-            homes = s.homes ∙ a.homes;
-          };
+      shape = shape_kept v.start st _ s.words s.homes r.shape;
       history = h';
       phase = phase';
       legal = s.legal;

@@ -1,11 +1,9 @@
 -- A look-up keeps the rule.
 use Rattle.fx_counted.proofs.Words.{◌≡◌, ◌≢◌, ℕ, ◌+◌, ◌-◌, ◌%◌, ◌^◌, ◌<◌, List, [], ◌∷◌, set, sym, refl, ap, ◌∙◌, subst, arith, Option, Some, None}
-use Rattle.fx_counted.proofs.Words.{dite, some, none, ℕ_discrete, get_elem?, Act, keeps, Valid, stepped, carried_after, step, Closed, ◌▷◌, held_by}
-use Rattle.fx_counted.proofs.Words.{State, File, Event, Look, range_of, event_of, name_in, entry_in, takes_in, Names, SlotAgrees, NodeAgrees, Agrees}
-use Rattle.fx_counted.proofs.Words.{PlacesNext, WorkAgrees, looks, full_in, word_of, place_of, slot_place, slot_of, control_place, Shared}
-use Rattle.fx_counted.proofs.Words.{opening_of, slots_of, IsNumber, state_after_all, shown, held_in, placing, held_of, holding, Sat, Phase, seated}
-use Rattle.fx_counted.proofs.Words.{file_in, Stepped, IsInside, Log, Start, View, Idle, eqb}
-use Rattle.atomic_table.specs.Table.{Allows}
+use Rattle.fx_counted.proofs.Words.{dite, none, ℕ_discrete, get_elem?, keeps, stepped, step, Closed, ◌▷◌, held_by, State, File, Event, Look, range_of}
+use Rattle.fx_counted.proofs.Words.{event_of, name_in, entry_in, takes_in, Names, SlotAgrees, NodeAgrees, Agrees, PlacesNext, WorkAgrees, looks}
+use Rattle.fx_counted.proofs.Words.{full_in, word_of, place_of, slot_place, slot_of, control_place, opening_of, slots_of, IsNumber, state_after_all}
+use Rattle.fx_counted.proofs.Words.{shown, held_in, placing, held_of, holding, Sat, Phase, seated, file_in, Stepped, IsInside, Log, View, Idle, eqb}
 use Rattle.fx_table.specs.Calls.{one_look}
 use Rattle.fx_words.proofs.Parts.{name_more, entry_more, takes_more}
 use Rattle.fx_counted.specs.Agrees.{IsSeated}
@@ -13,7 +11,7 @@ use Rattle.fx_counted.specs.Laws.{LooksKeep}
 use Rattle.fx_counted.specs.Tells.{Looks, holds_now}
 use Rattle.fx_counted.proofs.Frames.{busy, stays_same, owner_stays}
 use Rattle.fx_counted.proofs.Histories.{IsHistory, grows_one, legal_more, held_mine, part_mine, change_else, same_shape, seen_all}
-use Rattle.fx_counted.proofs.Keeping.{Turn, turn_of, word_at, now, logged, its_log, tells}
+use Rattle.fx_counted.proofs.Keeping.{Turn, turn_of, word_at, now, logged, its_log, tells, by_turn, Made}
 use Rattle.fx_counted.proofs.NodeSteps.{far}
 use Rattle.fx_counted.proofs.Ones.{one_if, bit_here, one_more_at}
 use Rattle.fx_counted.proofs.SlotSteps.{SlotStep, slot_agrees}
@@ -196,18 +194,14 @@ module _ (turn : Turn) (idle : turn.v.work ≡ Idle) (some_left : 0 < turn.x.loo
           (held_mine x.number (e (Some f) is) r.history refl) tt refl (seat.0, ap file_in seat.2)
           holds_now_is
 
-    abbrev Goal : ℕ → List (ℕ × Option Closed) → Type 0
-    Goal slots carried = (w : View) × (a : Act (Option Closed)) × Valid st.homes carried a
-        × Agrees v.start (stepped st (slot_place s) word' id carried w a)
-        × Looks (step slots (slot_place s) 1 0 none) (v, carried) found (w, carried_after carried a)
-
     at_slot : (m m' : Sat) (file : Option File)
         → Stepped m ([] ▷ Look s file) one_look (holds_now file) v.change m'
         → Stepped m ([] ▷ Look (slot_of (slot_place s)) file) one_look (holds_now file) v.change m'
     at_slot m m' file = subst (λ (z : ℕ). Stepped m ([] ▷ Look z file) one_look (holds_now file) v.change m')
         (sym ((far turn).slot_back s))
 
-    looks_either : (slots : ℕ) (carried : List (ℕ × Option Closed)) (file : Option File) → old.at s ≡ file → Goal slots carried
+    looks_either : (slots : ℕ) (carried : List (ℕ × Option Closed)) (file : Option File) → old.at s ≡ file
+        → Made turn carried (slot_place s) (λ word. (word + 1) % 2 ^ 64) (Looks (step slots (slot_place s) 1 0 none) (v, carried))
     looks_either slots carried None is = (
       w None is,
       keeps,
@@ -216,8 +210,7 @@ module _ (turn : Turn) (idle : turn.v.work ≡ Idle) (some_left : 0 < turn.x.loo
       record {
         file = None;
         names = subst (Names found) is so.names;
-        stepped = at_slot (v, carried)
-            (w None is, carried) None (told None is carried tt);
+        stepped = at_slot (v, carried) (w None is, carried) None (told None is carried tt);
         carried = refl;
       },
     )
@@ -229,15 +222,12 @@ module _ (turn : Turn) (idle : turn.v.work ≡ Idle) (some_left : 0 < turn.x.loo
       record {
         file = Some f;
         names = subst (Names found) is so.names;
-        stepped = at_slot (v, carried)
-            (w (Some f) is, carried) (Some f) (told (Some f) is carried (seat f is).0);
+        stepped = at_slot (v, carried) (w (Some f) is, carried) (Some f) (told (Some f) is carried (seat f is).0);
         carried = refl;
       },
     )
 
 pub looks_keep : LooksKeep
-looks_keep k slots id i slot m x has idle left inside place = subst (λ (k : Start). slot < slots_of k
-    → Allows (Agrees k) slots id m i (λ word. (word + 1) % 2 ^ 64) (Looks (step slots i 1 0 none) m)) has.0
-    (λ within. subst (λ (z : ℕ). Allows (Agrees m.0.start) slots id m z (λ word. (word + 1) % 2 ^ 64) (Looks (step slots z 1 0 none) m)) (sym place)
-    (λ st r deep here fits. looks_either (turn_of m x has.1 id st r here) idle left slot within fits slots m.1
-    ((state_after_all m.0.start r.history).at slot) refl)) inside
+looks_keep k slots id i slot m x has idle left inside place = by_turn k slots id i m x (λ k. slot < slots_of k) (λ _. slot_place slot)
+    (λ word. (word + 1) % 2 ^ 64) (λ i. Looks (step slots i 1 0 none) m) has inside place
+    (λ st r here within fits. looks_either (turn_of m x has.1 id st r here) idle left slot within fits slots m.1 _ refl)

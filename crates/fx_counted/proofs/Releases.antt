@@ -1,19 +1,17 @@
 -- A release keeps the rule.
 use Rattle.fx_counted.proofs.Words.{◌≡◌, ◌≢◌, ℕ, ◌+◌, ◌-◌, ◌%◌, ◌^◌, ◌<◌, List, [], ◌∷◌, set, sym, refl, ap, ◌∙◌, subst, arith, Option, Some, None}
-use Rattle.fx_counted.proofs.Words.{dite, some, none, ℕ_discrete, get_elem?, Act, keeps, takes, Valid, stepped, carried_after, step, set_here}
-use Rattle.fx_counted.proofs.Words.{set_else, Closed, ◌▷◌, State, numbered, File, Event, Release, Close, no_use, event_of, sum_at, sum_two}
-use Rattle.fx_counted.proofs.Words.{NodeAgrees, WorkAgrees, Agrees, looks, word_of, place_of, Shared, IsNumber, state_after_all, shown, held_in}
-use Rattle.fx_counted.proofs.Words.{placing, held_of, holding, Phase, seated, leaving, retired, emptied, owner, file_in, LetsGo, TakesOut, Log}
-use Rattle.fx_counted.proofs.Words.{Start, View, Idle, Holding, Emptying, eqb}
+use Rattle.fx_counted.proofs.Words.{dite, some, none, ℕ_discrete, keeps, takes, stepped, step, set_here, set_else, Closed, ◌▷◌, State, numbered, File}
+use Rattle.fx_counted.proofs.Words.{Event, Release, Close, no_use, event_of, sum_at, sum_two, NodeAgrees, WorkAgrees, looks, word_of, place_of}
+use Rattle.fx_counted.proofs.Words.{IsNumber, state_after_all, shown, held_in, placing, held_of, holding, Phase, seated, leaving, retired, emptied}
+use Rattle.fx_counted.proofs.Words.{owner, file_in, LetsGo, TakesOut, Idle, Holding, Emptying, eqb}
 use Rattle.std.proofs.Common.{length-set}
-use Rattle.atomic_table.specs.Table.{Allows}
 use Rattle.fx_counted.specs.Laws.{ReleasesKeep}
 use Rattle.fx_counted.specs.Tells.{Releases}
 use Rattle.fx_counted.proofs.Births.{in_phase, word_now, home_now, roomy, else_place}
 use Rattle.fx_counted.proofs.Retirements.{sub_wraps, holding_it, few_looks, its_hold, spares_stay}
 use Rattle.fx_counted.proofs.Frames.{busy, does_now, owner_stays}
 use Rattle.fx_counted.proofs.Histories.{IsHistory, grows_one, grows_more, legal_more, held_mine, part_mine, change_here, change_else}
-use Rattle.fx_counted.proofs.Keeping.{Turn, turn_of, now, logged, its_log, its_work, tells}
+use Rattle.fx_counted.proofs.Keeping.{Turn, turn_of, its_log, its_work, tells, by_turn, Made, went}
 use Rattle.fx_counted.proofs.NodeSteps.{NodeStep, node_agrees}
 use Rattle.fx_counted.proofs.Ones.{one_if, one_less_at}
 
@@ -114,7 +112,7 @@ module _ (turn : Turn) (f : File) (works : turn.v.work ≡ Holding f) where
     keeps = λ j u g other there holds same. refl;
     free = λ m other. not_busy m;
     node = still fits more (r.phase q) refl mine.1;
-    known = owner_stays st.views id v (now v (logged x h₁ x.numbers_left x.looks_left) Idle v.change) here q
+    known = owner_stays st.views id v (went turn h₁ Idle v.change) here q
         (not_busy q) (r.phase q) (r.each_owner q mine.0);
     held = held_mine x.number freeing r.history refl;
     next = tt;
@@ -168,7 +166,7 @@ module _ (turn : Turn) (f : File) (works : turn.v.work ≡ Holding f) where
             (let z = one_less in omega arith),
             change_here old.removed q None q refl,
           );
-          known = does_now st.views id v (now v (logged x h₂ x.numbers_left x.looks_left) (Emptying q) v.change) (Emptying q) here refl;
+          known = does_now st.views id v (went turn h₂ (Emptying q) v.change) (Emptying q) here refl;
           held = held_mine x.number closing h₁ refl ∙ held_mine x.number freeing r.history refl;
           next = tt;
           spares = λ m low high. let p = ap placing works in
@@ -178,18 +176,14 @@ module _ (turn : Turn) (f : File) (works : turn.v.work ≡ Holding f) where
           holds = holds_more;
         }
 
-  abbrev Goal : ℕ → List (ℕ × Option Closed) → Type 0
-  Goal slots carried = (w : View) × (a : Act (Option Closed)) × Valid st.homes carried a
-      × Agrees v.start (stepped st (word_of v.start q) less id carried w a)
-      × Releases (step slots (word_of v.start q) 1 0 none) (v, carried) word (w, carried_after carried a)
-
   holding_same : (f g : File) → Holding f ≡ Holding g → f ≡ g
   holding_same f g e = cc e
 
-  releases_either : (slots : ℕ) (carried : List (ℕ × Option Closed)) → word < 18446744073709551616 → Goal slots carried
+  releases_either : (slots : ℕ) (carried : List (ℕ × Option Closed)) → word < 18446744073709551616
+      → Made turn carried (word_of v.start q) (λ word. (word + (2 ^ 64 - 1)) % 2 ^ 64) (Releases (step slots (word_of v.start q) 1 0 none) (v, carried))
   releases_either slots carried fits = dite (ℕ_discrete word 1)
       (λ is. let l = last is (r.phase q) refl mine.1 in (
-        now v (logged x h₂ x.numbers_left x.looks_left) (Emptying q) v.change,
+        went turn h₂ (Emptying q) v.change,
         takes (place_of v.start q) (Some f.identity),
         l.home,
         node_agrees turn q mine.0 less (set st.homes (place_of v.start q) none) h₂ (emptied id) (Emptying q) (closes l fits is),
@@ -197,7 +191,7 @@ module _ (turn : Turn) (f : File) (works : turn.v.work ≡ Holding f) where
           waits = λ g _ not_so. absurd (not_so is);
           closes = λ g its _. let same : f ≡ g = holding_same f g (sym works ∙ its) in
               subst (λ (g : File). TakesOut (v, carried) ([] ▷ Release g) g (
-                now v (logged x h₂ x.numbers_left x.looks_left) (Emptying q) v.change,
+                went turn h₂ (Emptying q) v.change,
                 (place_of v.start q, Some f.identity) ∷ carried,
               )) same
               record {
@@ -213,13 +207,13 @@ module _ (turn : Turn) (f : File) (works : turn.v.work ≡ Holding f) where
         },
       ))
       (λ more. (
-        now v (logged x h₁ x.numbers_left x.looks_left) Idle v.change,
+        went turn h₁ Idle v.change,
         keeps,
         tt,
         node_agrees turn q mine.0 less st.homes h₁ (r.phase q) Idle (waits fits more),
         record {
           waits = λ g its _. let same : f ≡ g = holding_same f g (sym works ∙ its) in
-              subst (λ (g : File). LetsGo (v, carried) ([] ▷ Release g) (now v (logged x h₁ x.numbers_left x.looks_left) Idle v.change, carried)) same
+              subst (λ (g : File). LetsGo (v, carried) ([] ▷ Release g) (went turn h₁ Idle v.change, carried)) same
               record {
                 stepped = tells turn carried carried h₁ x.numbers_left x.looks_left Idle v.change
                     ([] ▷ Release f) no_use (grows_one x.number r.history freeing refl) freed_legal
@@ -231,8 +225,6 @@ module _ (turn : Turn) (f : File) (works : turn.v.work ≡ Holding f) where
       ))
 
 pub releases_keep : ReleasesKeep
-releases_keep k slots id i f m x has works place = subst (λ (k : Start). i ≡ word_of k f.number
-    → Allows (Agrees k) slots id m i (λ word. (word + (2 ^ 64 - 1)) % 2 ^ 64) (Releases (step slots i 1 0 none) m)) has.0
-    (λ at. subst (λ (z : ℕ). Allows (Agrees m.0.start) slots id m z (λ word. (word + (2 ^ 64 - 1)) % 2 ^ 64)
-    (Releases (step slots z 1 0 none) m)) (sym at)
-    (λ st r deep here fits. releases_either (turn_of m x has.1 id st r here) f works slots m.1 fits)) place
+releases_keep k slots id i f m x has works place = by_turn k slots id i m x (λ _. Unit {0}) (λ k. word_of k f.number)
+    (λ word. (word + (2 ^ 64 - 1)) % 2 ^ 64) (λ i. Releases (step slots i 1 0 none) m) has tt place
+    (λ st r here _ fits. releases_either (turn_of m x has.1 id st r here) f works slots m.1 fits)

@@ -1,10 +1,9 @@
 -- A retirement keeps the rule.
 use Rattle.fx_counted.proofs.Words.{◌≡◌, ◌≢◌, ℕ, ◌+◌, ◌-◌, ◌%◌, ◌^◌, ◌<◌, ◌≤◌, List, [], ◌∷◌, set, sym, refl, ap, ◌∙◌, subst, arith, eq-eqb, Option}
-use Rattle.fx_counted.proofs.Words.{Some, None, dite, some, none, ℕ_discrete, get_elem?, Act, keeps, takes, Valid, stepped, carried_after, step}
-use Rattle.fx_counted.proofs.Words.{set_here, set_else, Closed, ◌▷◌, changed_at, File, Event, Close, no_use, event_of, sum_at, retire_amount_of}
-use Rattle.fx_counted.proofs.Words.{NodeAgrees, WorkAgrees, Agrees, looks, word_of, place_of, Shared, IsNumber, state_after_all, shown, end_in}
-use Rattle.fx_counted.proofs.Words.{next_in, held_in, placing, held_of, holding, Phase, unborn, spare, leaving, retired, emptied, owner, file_in}
-use Rattle.fx_counted.proofs.Words.{TakesOut, Log, Start, View, Idle, Holding, Retiring, Emptying}
+use Rattle.fx_counted.proofs.Words.{Some, None, dite, some, none, ℕ_discrete, get_elem?, keeps, takes, stepped, step, set_here, set_else, Closed, ◌▷◌}
+use Rattle.fx_counted.proofs.Words.{changed_at, File, Event, Close, no_use, event_of, sum_at, retire_amount_of, NodeAgrees, WorkAgrees, Agrees, looks}
+use Rattle.fx_counted.proofs.Words.{word_of, place_of, IsNumber, state_after_all, shown, end_in, next_in, held_in, placing, held_of, holding, Phase}
+use Rattle.fx_counted.proofs.Words.{unborn, spare, leaving, retired, emptied, owner, file_in, TakesOut, View, Idle, Holding, Retiring, Emptying}
 use Rattle.std.proofs.Common.{length-set}
 use Rattle.atomic_table.specs.Table.{Allows}
 use Rattle.fx_counted.specs.Laws.{RetiresKeep}
@@ -12,7 +11,7 @@ use Rattle.fx_counted.specs.Tells.{Retires}
 use Rattle.fx_counted.proofs.Births.{in_phase, word_now, home_now, roomy, else_place}
 use Rattle.fx_counted.proofs.Frames.{busy, does_now}
 use Rattle.fx_counted.proofs.Histories.{IsHistory, grows_none, grows_one, legal_more, held_mine, part_mine, change_here, change_else, looks_few}
-use Rattle.fx_counted.proofs.Keeping.{Turn, turn_of, now, logged, its_log, its_work, tells}
+use Rattle.fx_counted.proofs.Keeping.{Turn, turn_of, its_log, its_work, tells, by_turn, Made, went}
 use Rattle.fx_counted.proofs.NodeSteps.{one_same, NodeStep, node_agrees}
 
 pub sub_wraps : (n k : ℕ) → k ≤ n → n < 18446744073709551616 → 0 < k → (n + (2 ^ 64 - k)) % 2 ^ 64 ≡ n - k
@@ -130,7 +129,7 @@ module _ (turn : Turn) where
             z,
             change_here (state_after_all v.start r.history).removed q None q refl,
           );
-          known = does_now st.views id v (now v (logged x (closing ∷ r.history) x.numbers_left x.looks_left)
+          known = does_now st.views id v (went turn (closing ∷ r.history)
               (Emptying q) v.change) (Emptying q) here refl;
           held = held_mine x.number closing r.history refl ∙ (o.held ∙ ap held_in works);
           next = tt;
@@ -139,15 +138,12 @@ module _ (turn : Turn) where
           holds = λ m. let b = ap (holding m) works in omega arith;
         }
 
-    abbrev Goal : ℕ → List (ℕ × Option Closed) → Type 0
-    Goal slots carried = (w : View) × (a : Act (Option Closed)) × Valid st.homes carried a
-        × Agrees v.start (stepped st (word_of v.start q) left id carried w a)
-        × Retires (step slots (word_of v.start q) (retire_amount_of t) 0 none) (v, carried) word (w, carried_after carried a)
-
-    retires_either : (slots : ℕ) (carried : List (ℕ × Option Closed)) → word < 18446744073709551616 → Goal slots carried
+    retires_either : (slots : ℕ) (carried : List (ℕ × Option Closed)) → word < 18446744073709551616
+        → Made turn carried (word_of v.start q) (λ word. (word + (2 ^ 64 - retire_amount_of t)) % 2 ^ 64)
+        (Retires (step slots (word_of v.start q) (retire_amount_of t) 0 none) (v, carried))
     retires_either slots carried fits = dite (ℕ_discrete word (retire_amount_of t))
         (λ is. (
-          now v (logged x (closing ∷ r.history) x.numbers_left x.looks_left) (Emptying q) v.change,
+          went turn (closing ∷ r.history) (Emptying q) v.change,
           takes (place_of v.start q) (Some f.identity),
           node.1,
           node_agrees turn q mine.0 left (set st.homes (place_of v.start q) none)
@@ -156,7 +152,7 @@ module _ (turn : Turn) where
             waits = λ g u _ not_so. absurd (not_so is);
             closes = λ g u its _. let same : f ≡ g = retiring_same f g t u (sym works ∙ its) in
                 subst (λ (g : File). TakesOut (v, carried) [] g (
-                  now v (logged x (closing ∷ r.history) x.numbers_left x.looks_left) (Emptying q) v.change,
+                  went turn (closing ∷ r.history) (Emptying q) v.change,
                   (place_of v.start q, Some f.identity) ∷ carried,
                 )) same
                 record {
@@ -169,7 +165,7 @@ module _ (turn : Turn) where
           },
         ))
         (λ more. (
-          now v (logged x r.history x.numbers_left x.looks_left) Idle v.change,
+          went turn r.history Idle v.change,
           keeps,
           tt,
           node_agrees turn q mine.0 left st.homes r.history (retired f.identity) Idle (waits fits more),
@@ -190,8 +186,8 @@ module _ (turn : Turn) where
         retiring_same f g t u e = cc e
 
 pub retires_keep : RetiresKeep
-retires_keep k slots id i amount t f m x has works place by = subst (λ (k : Start). i ≡ word_of k f.number
-    → Allows (Agrees k) slots id m i (λ word. (word + (2 ^ 64 - amount)) % 2 ^ 64) (Retires (step slots i amount 0 none) m)) has.0
-    (λ at. subst (λ (z : ℕ × ℕ). Allows (Agrees m.0.start) slots id m z.0 (λ word. (word + (2 ^ 64 - z.1)) % 2 ^ 64)
-    (Retires (step slots z.0 z.1 0 none) m)) (λ j. (sym at j, sym by j))
-    (λ st r deep here fits. retires_either (turn_of m x has.1 id st r here) f t works slots m.1 fits)) place
+retires_keep k slots id i amount t f m x has works place by = subst (λ (a : ℕ). Allows (Agrees k) slots id m i
+    (λ word. (word + (2 ^ 64 - a)) % 2 ^ 64) (Retires (step slots i a 0 none) m)) (sym by)
+    (by_turn k slots id i m x (λ _. Unit {0}) (λ k. word_of k f.number) (λ word. (word + (2 ^ 64 - retire_amount_of t)) % 2 ^ 64)
+    (λ i. Retires (step slots i (retire_amount_of t) 0 none) m) has tt place
+    (λ st r here _ fits. retires_either (turn_of m x has.1 id st r here) f t works slots m.1 fits))

@@ -1,10 +1,10 @@
 -- Swaps, loads and exchanges keep the rule.
 use Rattle.fx_counted.proofs.Words.{◌≡◌, ◌≢◌, ℕ, ◌+◌, ◌-◌, ◌<◌, ◌≤◌, ◌^◌, Bool, List, [], ◌∷◌, set, false, sym, refl, ap, ◌∙◌, subst, arith, eqb}
-use Rattle.fx_counted.proofs.Words.{Option, Some, None, inl, some, none, get_elem?, Act, keeps, gives, rest, Valid, stepped, carried_after, step}
-use Rattle.fx_counted.proofs.Words.{Closed, ◌▷◌, changed_at, numbered, File, Event, Action, Put, Clear, Take, Allocate, Use, no_use, one_number}
-use Rattle.fx_counted.proofs.Words.{range_of, name_in, takes_in, slot_word_of, Names, WorkAgrees, Agrees, if_full, HasPass, MayChange, place_of}
-use Rattle.fx_counted.proofs.Words.{slot_place, slot_of, Shared, Sat, opening_of, slots_of, state_after_all, Stepped, Exchanges, GoesOn, retires_now}
-use Rattle.fx_counted.proofs.Words.{turned, Change, Same, Log, Start, View, Work, Idle, Placing, placed, event_of, shown}
+use Rattle.fx_counted.proofs.Words.{Option, Some, None, inl, none, keeps, gives, rest, stepped, step, Closed, ◌▷◌, changed_at, numbered, File, Action}
+use Rattle.fx_counted.proofs.Words.{Put, Clear, Take, Allocate, Use, no_use, one_number, range_of, name_in, takes_in, slot_word_of, Names, WorkAgrees}
+use Rattle.fx_counted.proofs.Words.{Agrees, if_full, HasPass, MayChange, place_of, slot_place, slot_of, Sat, opening_of, slots_of, state_after_all}
+use Rattle.fx_counted.proofs.Words.{Stepped, Exchanges, GoesOn, retires_now, turned, Change, Same, Log, Start, View, Work, Idle, Placing, placed}
+use Rattle.fx_counted.proofs.Words.{event_of, shown}
 use Rattle.std.proofs.lemmas.List.{set-get_or}
 use prog.Atomic.{either}
 use Rattle.atomic_table.specs.Table.{Allows}
@@ -13,10 +13,11 @@ use Rattle.fx_counted.specs.Laws.{ClearsKeep, TakesKeep, InstallsKeep, LoadsKeep
 use Rattle.fx_counted.specs.Tells.{Installs, Removes}
 use Rattle.fx_counted.proofs.Births.{in_phase}
 use Rattle.fx_counted.proofs.Calm.{no_event, calm_agrees}
-use Rattle.fx_counted.proofs.Changes.{in_size, names_old, removal_agrees, removal_tells, installation_agrees, installation_tells}
+use Rattle.fx_counted.proofs.Changes.{in_size, names_old, removal_agrees, removal_tells, installation_agrees, installation_tells, removed_view}
+use Rattle.fx_counted.proofs.Changes.{installed_view}
 use Rattle.fx_counted.proofs.ControlSteps.{goes_on}
 use Rattle.fx_counted.proofs.Histories.{legal_more, same_shape}
-use Rattle.fx_counted.proofs.Keeping.{Turn, turn_of, word_at, now, logged, its_work}
+use Rattle.fx_counted.proofs.Keeping.{Turn, turn_of, word_at, now, logged, its_work, by_turn, went, Made}
 use Rattle.fx_counted.proofs.NodeSteps.{far}
 use Rattle.fx_counted.proofs.Swaps.{Effect}
 use Rattle.fx_counted.proofs.Unchanged.{control_same}
@@ -72,36 +73,23 @@ module _ (turn : Turn) (s : ℕ) (inside : s < slots_of turn.v.start) where
 module _ (act : ℕ → Option File → Action)
     (does : (turn : Turn) (s : ℕ) (inside : s < slots_of turn.v.start) (stands : MayChange turn.v.start s turn.v.change)
     → Facts turn s inside stands (act s (old turn s inside)) None (state_after_all turn.v.start turn.r.history).fresh) where
-  removes_at : (slots id s : ℕ) (m : Sat) (x : Log) → m.0.logs ≡ x ∷ [] → m.0.work ≡ Idle → s < slots_of m.0.start
-      → MayChange m.0.start s m.0.change → Allows (Agrees m.0.start) slots id m (slot_place s) (λ _. 0)
-      (Removes act (step slots (slot_place s) 0 0 none) m)
-  removes_at slots id s m x one idle inside stands st r deep here fits = let turn = turn_of m x one id st r here in let was : Option File =
-      (state_after_all m.0.start r.history).at s in let f₀ : ℕ = word_at st.words (slot_place s) in
-      let e : Event = event_of (shown x m.0.work) (act s was) in
-      let w : View = now m.0 (logged x (e ∷ r.history) x.numbers_left x.looks_left) (retires_now was (takes_in f₀))
-      (turned m.0.change (if_full was) 0) in
-      let it = does turn s inside stands in (
-        w,
-        keeps,
-        tt,
-        removal_agrees turn s inside stands was refl idle (act s was) it,
-        record {
-          file = was;
-          names = names_old turn s inside stands was refl;
-          stepped = at_slot turn s inside m (w, m.1) (λ z. act z was) no_use
-              (retires_now was (takes_in f₀)) (turned m.0.change (if_full was) 0)
-              (removal_tells turn s inside stands was refl idle (act s was) it m.1);
-          carried = refl;
-        },
-      )
-
   removes_keep : (k : Start) (slots id i slot : ℕ) (m : Sat) (x : Log) → HasPass k m x → m.0.work ≡ Idle
       → slot < slots_of k → MayChange k slot m.0.change → i ≡ slot_place slot
       → Allows (Agrees k) slots id m i (λ _. 0) (Removes act (step slots i 0 0 none) m)
-  removes_keep k slots id i s m x has idle inside stands place = subst (λ (k : Start). s < slots_of k
-      → MayChange k s m.0.change → Allows (Agrees k) slots id m i (λ _. 0) (Removes act (step slots i 0 0 none) m)) has.0
-      (λ within may. subst (λ (i : ℕ). Allows (Agrees m.0.start) slots id m i (λ _. 0)
-      (Removes act (step slots i 0 0 none) m)) (sym place) (removes_at slots id s m x has.1 idle within may)) inside stands
+  removes_keep k slots id i s m x has idle inside stands place = by_turn k slots id i m x (λ k. (s < slots_of k) × MayChange k s m.0.change)
+      (λ _. slot_place s) (λ _. 0) (λ i. Removes act (step slots i 0 0 none) m) has (inside, stands) place
+      (λ st r here is fits. let turn = turn_of m x has.1 id st r here in let was = old turn s is.0 in let it = does turn s is.0 is.1 in (
+        removed_view turn s is.0 is.1 was refl idle (act s was) it,
+        keeps,
+        tt,
+        removal_agrees turn s is.0 is.1 was refl idle (act s was) it,
+        record {
+          file = was;
+          names = names_old turn s is.0 is.1 was refl;
+          stepped = at_slot turn s is.0 m _ (λ z. act z was) no_use _ _ (removal_tells turn s is.0 is.1 was refl idle (act s was) it m.1);
+          carried = refl;
+        },
+      ))
 
 pub clears_keep : ClearsKeep
 clears_keep = removes_keep Clear cleared
@@ -109,51 +97,38 @@ clears_keep = removes_keep Clear cleared
 pub takes_keep : TakesKeep
 takes_keep = removes_keep Take taken
 
-installs_at : (slots id s n : ℕ) (file : Closed) (m : Sat) (x : Log) → m.0.logs ≡ x ∷ [] → m.0.work ≡ Placing n
-    → m.1 ≡ (place_of m.0.start n, Some file) ∷ [] → file.entry < 2 ^ 8 → s < slots_of m.0.start
-    → MayChange m.0.start s m.0.change
-    → Allows (Agrees m.0.start) slots id m (slot_place s) (λ _. slot_word_of n file.entry)
-    (Installs (step slots (slot_place s) (slot_word_of n file.entry) 0 none) m)
-installs_at slots id s n file m x one works carries small inside stands st r deep here fits = let turn = turn_of m x one id st r here in let old : Option File =
-    (state_after_all m.0.start r.history).at s in let f₀ : ℕ = word_at st.words (slot_place s) in
-    let a : Action = Put s (numbered n file) old in let does = put turn s inside stands n file works in
-    let e : Event = event_of (shown x m.0.work) a in
-    let w : View = now m.0 (logged x (e ∷ r.history) (x.numbers_left - 1) x.looks_left)
-    (retires_now old (takes_in f₀)) (turned m.0.change (if_full old) 1) in (
+pub installs_keep : InstallsKeep
+installs_keep k slots id i s n new file m x has works carries small inside stands place made = by_turn k slots id i m x
+    (λ k. (m.1 ≡ (place_of k n, Some file) ∷ []) × (s < slots_of k) × MayChange k s m.0.change) (λ _. slot_place s) (λ _. new)
+    (λ i. Installs (step slots i new 0 none) m) has (carries, inside, stands) place
+    (λ st r here is fits. let turn = turn_of m x has.1 id st r here in let old = old turn s is.1 in let f₀ = word_at st.words (slot_place s) in
+    let a : Action = Put s (numbered n file) old in let does = put turn s is.1 is.2 n file works in
+    let w = installed_view turn s is.1 is.2 old refl n file works small a does in (
       w,
       gives,
       tt,
-      subst (λ (c : List (ℕ × Option Closed)). Agrees m.0.start (stepped st (slot_place s) (slot_word_of n file.entry) id c w gives)) (sym carries)
-          (installation_agrees turn s inside stands old refl n file works small a does),
+      subst (λ (z : List (ℕ × Option Closed) × ℕ). Agrees m.0.start (stepped st (slot_place s) z.1 id z.0 w gives)) (λ i. (sym is.0 i, sym made i))
+          (installation_agrees turn s is.1 is.2 old refl n file works small a does),
       record {
         replaced = old;
-        names = names_old turn s inside stands old refl;
+        names = names_old turn s is.1 is.2 old refl;
         stepped = λ n₂ file₂ works₂ carries₂.
             let same_n : n ≡ n₂ = placing_same n n₂ (sym works ∙ works₂) in
-            let same_f : file ≡ file₂ = carried_same (place_of m.0.start n) (place_of m.0.start n₂) file file₂ (sym carries ∙ carries₂) in
+            let same_f : file ≡ file₂ = carried_same (place_of m.0.start n) (place_of m.0.start n₂) file file₂ (sym is.0 ∙ carries₂) in
             subst (λ (z : ℕ × Closed). Stepped m ([] ▷ Put (slot_of (slot_place s)) (numbered z.0 z.1) old) one_number
             (retires_now old (takes_in f₀)) (turned m.0.change (if_full old) 1) (w, rest m.1)) (λ i. (same_n i, same_f i))
-            (at_slot turn s inside m (w, rest m.1) (λ z. Put z (numbered n file) old) one_number
-            (retires_now old (takes_in f₀)) (turned m.0.change (if_full old) 1)
-            (installation_tells turn s inside stands old refl n file works small a does m.1 (rest m.1)));
+            (at_slot turn s is.1 m (w, rest m.1) (λ z. Put z (numbered n file) old) one_number _ _
+            (installation_tells turn s is.1 is.2 old refl n file works small a does m.1 (rest m.1)));
         carried = refl;
       },
-    )
-
-pub installs_keep : InstallsKeep
-installs_keep k slots id i s n new file m x has works carries small inside stands place made =
-    subst (λ (k : Start). m.1 ≡ (place_of k n, Some file) ∷ [] → s < slots_of k → MayChange k s m.0.change
-    → Allows (Agrees k) slots id m i (λ _. new) (Installs (step slots i new 0 none) m)) has.0
-    (λ with within may. subst (λ (z : ℕ × ℕ). Allows (Agrees m.0.start) slots id m z.0 (λ _. z.1)
-    (Installs (step slots z.0 z.1 0 none) m)) (λ j. (sym place j, sym made j))
-    (installs_at slots id s n file m x has.1 works with small within may)) carries inside stands
+    ))
 
 -- a step that writes what it read
 module _ (turn : Turn) (i : ℕ) where
   open turn use {st, v, r, id, x, here, one}
 
   abbrev still : View
-  still = now v (logged x r.history x.numbers_left x.looks_left) v.work v.change
+  still = went turn r.history v.work v.change
 
   read_agrees : Agrees v.start (stepped st i (word_at st.words i) id [] still keeps)
   read_agrees = subst (λ (l : List ℕ). Agrees v.start record { words = l; homes = st.homes; views = set st.views id still })
@@ -168,21 +143,16 @@ module _ (turn : Turn) (i : ℕ) where
             (state_after_all v.start r.history).at (state_after_all v.start r.history).at _ _ _ refl refl refl r.control;
       })
 
-loads_at : (slots id i : ℕ) (m : Sat) (x : Log) → m.0.logs ≡ x ∷ []
-    → Allows (Agrees m.0.start) slots id m i (λ word. word) (GoesOn m.0.change (step slots i 0 0 none) m)
-loads_at slots id i m x one st r deep here fits = let turn = turn_of m x one id st r here in (
-  now m.0 (logged x r.history x.numbers_left x.looks_left) m.0.work m.0.change,
-  keeps,
-  tt,
-  read_agrees turn i,
-  record { stepped = goes_on turn m.0.change m.1; carried = refl },
-)
-
 pub loads_keep : LoadsKeep
-loads_keep k slots id i m x has same = subst
-    (λ (k : Start). Allows (Agrees k) slots id m i (λ word. word) (GoesOn Same (step slots i 0 0 none) m)) has.0
-    (subst (λ (c : Change). Allows (Agrees m.0.start) slots id m i (λ word. word)
-    (GoesOn c (step slots i 0 0 none) m)) same (loads_at slots id i m x has.1))
+loads_keep k slots id i m x has same = by_turn k slots id i m x (λ _. Unit {0}) (λ _. i) (λ word. word) (λ i. GoesOn Same (step slots i 0 0 none) m)
+    has tt refl (λ st r here _ fits. let turn = turn_of m x has.1 id st r here in (
+      went turn r.history m.0.work m.0.change,
+      keeps,
+      tt,
+      read_agrees turn i,
+      subst (λ (c : Change). GoesOn c (step slots i 0 0 none) m (word_at st.words i) (went turn r.history m.0.work m.0.change, m.1)) same
+          record { stepped = goes_on turn m.0.change m.1; carried = refl },
+    ))
 
 -- an exchange
 module _ (turn : Turn) (slots s n old_word : ℕ) (file : Closed) (carried : List (ℕ × Option Closed))
@@ -207,9 +177,7 @@ module _ (turn : Turn) (slots s n old_word : ℕ) (file : Closed) (carried : Lis
   stands = inl ((low, high), same)
 
   abbrev Goal : ℕ → Type 0
-  Goal y = (w : View) × (a : Act (Option Closed)) × Valid st.homes m.1 a
-      × Agrees v.start (stepped st (slot_place s) y id m.1 w a)
-      × Exchanges (step slots (slot_place s) old_word new none) m word (w, carried_after m.1 a)
+  Goal y = Made turn carried (slot_place s) (λ _. y) (Exchanges (step slots (slot_place s) old_word new none) m)
 
   no_file : word ≡ old_word → (found : Option File) → (state_after_all v.start r.history).at s ≡ found → found ≡ None
   no_file is None at = refl
@@ -218,7 +186,7 @@ module _ (turn : Turn) (slots s n old_word : ℕ) (file : Closed) (carried : Lis
 
   lost : word ≢ old_word → Goal word
   lost other = (
-    now v (logged x r.history x.numbers_left x.looks_left) v.work v.change,
+    went turn r.history v.work v.change,
     keeps,
     tt,
     read_agrees turn (slot_place s),
@@ -267,23 +235,13 @@ module _ (turn : Turn) (slots s n old_word : ℕ) (file : Closed) (carried : Lis
       },
     )
 
-exchanges_at : (slots id s n old : ℕ) (file : Closed) (m : Sat) (x : Log) → m.0.logs ≡ x ∷ [] → m.0.work ≡ Placing n
-    → m.1 ≡ (place_of m.0.start n, Some file) ∷ [] → file.entry < 2 ^ 8 → m.0.change ≡ Same
-    → (range_of (opening_of m.0.start)).0 ≤ s → s < (range_of (opening_of m.0.start)).0 + (range_of (opening_of m.0.start)).1 → name_in old ≡ 0
-    → Allows (Agrees m.0.start) slots id m (slot_place s)
-    (λ word. either (eqb word old) (slot_word_of n file.entry) word)
-    (Exchanges (step slots (slot_place s) old (slot_word_of n file.entry) none) m)
-exchanges_at slots id s n old file m x one works carries small same low high empty st r deep here fits = exchanged
-    (word_at st.words (slot_place s)) old (slot_word_of n file.entry)
-    (Goal (turn_of m x one id st r here) slots s n old file m.1 works carries small same low high empty)
-    (won (turn_of m x one id st r here) slots s n old file m.1 works carries small same low high empty)
-    (lost (turn_of m x one id st r here) slots s n old file m.1 works carries small same low high empty)
-
 pub exchanges_keep : ExchangesKeep
-exchanges_keep k slots id i s n old new file m x has works carries small same low high place empty made =
-    subst (λ (k : Start). m.1 ≡ (place_of k n, Some file) ∷ [] → (range_of (opening_of k)).0 ≤ s
-    → s < (range_of (opening_of k)).0 + (range_of (opening_of k)).1
-    → Allows (Agrees k) slots id m i (λ word. either (eqb word old) new word) (Exchanges (step slots i old new none) m)) has.0
-    (λ with from to. subst (λ (z : ℕ × ℕ). Allows (Agrees m.0.start) slots id m z.0
-    (λ word. either (eqb word old) z.1 word) (Exchanges (step slots z.0 old z.1 none) m)) (λ j. (sym place j, sym made j))
-    (exchanges_at slots id s n old file m x has.1 works with small same from to empty)) carries low high
+exchanges_keep k slots id i s n old new file m x has works carries small same low high place empty made = by_turn k slots id i m x
+    (λ k. (m.1 ≡ (place_of k n, Some file) ∷ []) × ((range_of (opening_of k)).0 ≤ s) × (s < (range_of (opening_of k)).0 + (range_of (opening_of k)).1))
+    (λ _. slot_place s) (λ word. either (eqb word old) new word) (λ i. Exchanges (step slots i old new none) m) has (carries, low, high) place
+    (λ st r here is fits. let turn = turn_of m x has.1 id st r here in
+    subst (λ (z : ℕ). Made turn m.1 (slot_place s) (λ word. either (eqb word old) z word) (Exchanges (step slots (slot_place s) old z none) m)) (sym made)
+    (exchanged (word_at st.words (slot_place s)) old (slot_word_of n file.entry)
+    (Goal turn slots s n old file m.1 works is.0 small same is.1 is.2 empty)
+    (won turn slots s n old file m.1 works is.0 small same is.1 is.2 empty)
+    (lost turn slots s n old file m.1 works is.0 small same is.1 is.2 empty)))

@@ -5,7 +5,7 @@ pub use Rattle.atomic_table.specs.Table.{Act, keeps, Valid, stepped, carried_aft
 pub use Rattle.atomic_table.specs.declared.shared.Seat.{Seat}
 pub use Rattle.fx_base.specs.declared.open_file.Closed.{Closed}
 pub use Rattle.fx_counted.specs.Agrees.{Names, SlotAgrees, NodeAgrees, Agrees, PlacesNext, WorkAgrees, OwnerAgrees, Does, LogAgrees, ViewAgrees}
-pub use Rattle.fx_counted.specs.Agrees.{lengths, Home}
+pub use Rattle.fx_counted.specs.Agrees.{lengths, Home, HasShape}
 pub use Rattle.fx_counted.specs.Changing.{InRange, HasToTell}
 pub use Rattle.fx_counted.specs.Control.{full_in, if_full, ControlCounts, in_change, added, removed_by, changes_of, added_of, removed_of}
 pub use Rattle.fx_counted.specs.Counts.{looks, all_looks}
