@@ -1,10 +1,10 @@
 -- A step that changes no slot and no number, and leaves the pass at its work.
-use Rattle.fx_counted.proofs.Words.{◌≡◌, ℕ, List, [], ◌∷◌, set, length, sym, refl, ap, ◌∙◌, subst, arith, some, get_elem?, held_by, State, Event}
-use Rattle.fx_counted.proofs.Words.{range_of, NodeAgrees, PlacesNext, Agrees, ControlCounts, looks, all_looks, word_of, place_of, control_place}
-use Rattle.fx_counted.proofs.Words.{draw_place, slot_place, Shared, opening_of, IsNumber, state_after_all, next_in, Change, Log, Start, View, Work, Placing}
+use Rattle.fx_counted.proofs.Words.{◌≡◌, ℕ, List, set, length, sym, refl, ap, ◌∙◌, subst, arith, get_elem?, held_by, State, Event, range_of}
+use Rattle.fx_counted.proofs.Words.{NodeAgrees, PlacesNext, Agrees, ControlCounts, looks, all_looks, word_of, place_of, control_place, draw_place}
+use Rattle.fx_counted.proofs.Words.{slot_place, opening_of, IsNumber, state_after_all, next_in, Change, Log, Start, View, Work, Placing}
 use Rattle.fx_counted.proofs.Frames.{stays_same, owner_same}
-use Rattle.fx_counted.proofs.Histories.{Grows, grows_none, IsHistory, seen_all}
-use Rattle.fx_counted.proofs.Keeping.{Turn, word_at, now, logged, its_log, its_work, Step, step_kept}
+use Rattle.fx_counted.proofs.Histories.{Grows, grows_none, IsHistory}
+use Rattle.fx_counted.proofs.Keeping.{Turn, word_at, now, logged, its_log, its_work, Step, step_kept, log_now}
 use Rattle.fx_counted.proofs.Unchanged.{slot_same, draws_same}
 
 places_same : (k : Start) (x y : Log) (d : Work) → next_in k y ≡ next_in k x → y.numbers_left ≡ x.numbers_left → PlacesNext k x d → PlacesNext k y d
@@ -57,16 +57,8 @@ module _ (turn : Turn) (h' : List Event) where
         no_other = λ n absent. ap (λ (z : State). z.removed n) p.quiet.state ∙ r.no_other n absent;
         stays = stays_same id x.number r.phase;
         keeps = λ j u f other there holds. refl;
-        log = record {
-          seen = seen_all h';
-          own = refl;
-          held = p.quiet.held ∙ o.held;
-          chain = o.chain;
-          few_left = o.few_left;
-          left_inside = o.left_inside;
-          next = places_same v.start x y v.work refl refl o.next;
-          spares = o.spares;
-        };
+        log = log_now turn h' r.phase x.numbers_left x.looks_left v.work (omega arith) (p.quiet.held ∙ o.held)
+            (places_same v.start x y v.work refl refl o.next) o.spares;
         work = its_work turn;
         holds = λ n. let e = ap (λ (z : State). z.holds n) p.quiet.state in omega arith;
         look_ups = let a = p.quiet.all in omega arith;

@@ -10,8 +10,8 @@ use Rattle.fx_counted.specs.Agrees.{IsSeated}
 use Rattle.fx_counted.specs.Laws.{LooksKeep}
 use Rattle.fx_counted.specs.Tells.{Looks, holds_now}
 use Rattle.fx_counted.proofs.Frames.{busy, stays_same, owner_stays}
-use Rattle.fx_counted.proofs.Histories.{IsHistory, grows_one, legal_more, held_mine, part_mine, change_else, same_shape, seen_all}
-use Rattle.fx_counted.proofs.Keeping.{Turn, turn_of, word_at, now, logged, its_log, tells, by_turn, Made}
+use Rattle.fx_counted.proofs.Histories.{IsHistory, grows_one, legal_more, held_mine, part_mine, change_else, same_shape}
+use Rattle.fx_counted.proofs.Keeping.{Turn, turn_of, word_at, now, logged, its_log, tells, by_turn, Made, log_now}
 use Rattle.fx_counted.proofs.NodeSteps.{far}
 use Rattle.fx_counted.proofs.Ones.{one_if, bit_here, one_more_at}
 use Rattle.fx_counted.proofs.SlotSteps.{SlotStep, slot_agrees}
@@ -111,16 +111,8 @@ module _ (turn : Turn) (idle : turn.v.work ≡ Idle) (some_left : 0 < turn.x.loo
           stays = stays_same id x.number r.phase;
           keeps = λ j u f other there is_held. refl;
           unused = λ n is_new. is_new;
-          log = record {
-            seen = seen_all h';
-            own = refl;
-            held = held;
-            chain = o.chain;
-            few_left = o.few_left;
-            left_inside = o.left_inside;
-            next = next;
-            spares = λ n low high. o.spares n (omega arith) high;
-          };
+          log = log_now turn h' r.phase x.numbers_left (x.looks_left - 1) (holds_now file) (omega arith) held next
+              (λ n low high. o.spares n (omega arith) high);
           work = work;
           holds = λ n. let b : held_of n v ≡ 0 = ap (holding n) idle in let c = holds n in omega arith;
           look_ups = omega arith;

@@ -1,15 +1,15 @@
 -- A step on the word and the place of one number, at which no slot changes.
-use Rattle.fx_counted.proofs.Words.{◌≡◌, ◌≢◌, ℕ, ◌+◌, ◌<◌, ◌≤◌, List, [], ◌∷◌, set, length, sym, refl, ap, ◌∙◌, subst, arith, get_or-set_other}
+use Rattle.fx_counted.proofs.Words.{◌≡◌, ◌≢◌, ℕ, ◌+◌, ◌<◌, ◌≤◌, List, set, length, sym, refl, ap, ◌∙◌, subst, arith, get_or-set_other}
 use Rattle.fx_counted.proofs.Words.{get_or-set_same, Option, Bool, dite, some, ℕ_discrete, get_elem?, Closed, held_by, changed_at, File, Event}
 use Rattle.fx_counted.proofs.Words.{range_of, NodeAgrees, OwnerAgrees, WorkAgrees, PlacesNext, Agrees, full_in, looks, all_looks, control_place}
-use Rattle.fx_counted.proofs.Words.{draw_place, slot_place, node_place, home_place, PlacesAreInside, PlacesAreApart, Shared, opening_of, slots_of}
-use Rattle.fx_counted.proofs.Words.{chain_numbers, IsNumber, state_after_all, end_in, next_in, held_in, placing, held_of, Phase, unborn, spare, seated, owner}
-use Rattle.fx_counted.proofs.Words.{file_in, Log, View, Work, Holding}
+use Rattle.fx_counted.proofs.Words.{draw_place, slot_place, node_place, home_place, PlacesAreInside, PlacesAreApart, opening_of, slots_of}
+use Rattle.fx_counted.proofs.Words.{chain_numbers, IsNumber, state_after_all, end_in, next_in, held_in, placing, held_of, Phase, unborn, spare}
+use Rattle.fx_counted.proofs.Words.{seated, owner, file_in, Log, View, Work, Holding}
 use Rattle.std.proofs.Common.{length-set}
 use Rattle.fx_counted.proofs.Places.{inside, apart}
-use Rattle.fx_counted.proofs.Histories.{Grows, IsHistory, change_here, change_else, seen_all}
+use Rattle.fx_counted.proofs.Histories.{Grows, IsHistory, change_here, change_else}
 use Rattle.fx_counted.proofs.Frames.{busy, owner_stays}
-use Rattle.fx_counted.proofs.Keeping.{Turn, Homes, word_at, now, logged, its_log, Step, step_kept}
+use Rattle.fx_counted.proofs.Keeping.{Turn, Homes, word_at, now, logged, Step, step_kept, log_now, went}
 use Rattle.fx_counted.proofs.Unchanged.{slot_same, node_same, control_same, draws_same}
 
 -- what a step on the number q tells of the histories
@@ -42,7 +42,7 @@ module _ (turn : Turn) where
     y = logged x h' x.numbers_left x.looks_left
 
     abbrev w : View
-    w = now v y d v.change
+    w = went turn h' d v.change
 
     abbrev phase' : ℕ → Phase
     phase' = changed_at r.phase q ph
@@ -141,16 +141,7 @@ module _ (turn : Turn) where
           spared = λ n p is other. each_phase (λ m z. z ≡ spare p) n (λ same. s.spared p (ap r.phase (sym same) ∙ is) other) is;
         };
         keeps = λ j u f other there is. each_phase (λ m z. file_in z ≡ file_in (r.phase m)) f.number (λ same. s.keeps j u f other there is same) refl;
-        log = let o = its_log turn in record {
-          seen = seen_all h';
-          own = refl;
-          held = s.held;
-          chain = o.chain;
-          few_left = o.few_left;
-          left_inside = o.left_inside;
-          next = s.next;
-          spares = s.spares;
-        };
+        log = log_now turn h' phase' x.numbers_left x.looks_left d (omega arith) s.held s.next s.spares;
         work = s.work;
         holds = s.holds;
         look_ups = let a = s.told.all in omega arith;

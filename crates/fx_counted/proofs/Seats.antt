@@ -1,14 +1,15 @@
 -- A seat is split off, and one is joined back.
 use Rattle.fx_counted.proofs.Words.{sum_by, sum_by-append, ◌≡◌, ◌≢◌, ℕ, zero, suc, ◌+◌, List, [], ◌∷◌, ◌++◌, length, set, sym, refl, ap, ◌∙◌, subst}
-use Rattle.fx_counted.proofs.Words.{arith, ◌⊎◌, inl, inr, ⊎_elim, length-append, eqb, some, some-injective, some-ne-none, get_elem?, at_set}
-use Rattle.fx_counted.proofs.Words.{set_else, at_longer, Event, sum_set, Does, WorkAgrees, LogAgrees, ViewAgrees, Agrees, lengths, in_change, added}
-use Rattle.fx_counted.proofs.Words.{removed_by, changes_of, added_of, removed_of, rest_of, first_of, without_first, first_alone, Shared, drawn_of}
-use Rattle.fx_counted.proofs.Words.{told_of, looks_of, logs_of, held_of, holding, Phase, Outside, Log, Start, View, Work, Idle}
+use Rattle.fx_counted.proofs.Words.{arith, ◌⊎◌, inl, inr, ⊎_elim, length-append, eqb, some, some-injective, some-ne-none, get_elem?, at_set, set_else}
+use Rattle.fx_counted.proofs.Words.{at_longer, Event, sum_set, Does, WorkAgrees, LogAgrees, ViewAgrees, Agrees, lengths, in_change, added, removed_by}
+use Rattle.fx_counted.proofs.Words.{rest_of, first_of, without_first, first_alone, Shared, holding, Phase, Outside, Log, Start, View, Work, Idle}
+use Rattle.fx_counted.proofs.Words.{Change}
 use Rattle.atomic_table.proofs.Lists.{at_snoc}
 use Rattle.fx_counted.specs.Cuts.{together, spent}
 use Rattle.fx_counted.specs.Laws.{SplitsKeep, JoinsKeep}
 use Rattle.fx_counted.proofs.Frames.{busy, owner_map}
 use Rattle.fx_counted.proofs.Ones.{one_if, times}
+use Rattle.fx_counted.proofs.Keeping.{shape_kept}
 
 at_rest : (l : List Log) (i : ℕ) (y : Log) → get_elem? (rest_of l) i ≡ some y → get_elem? l (suc i) ≡ some y
 at_rest [] i y e = absurd (some-ne-none y (sym e))
@@ -44,6 +45,42 @@ part_view k h phase seat w idle out logs start = record {
   empty = λ _. (idle, out);
   start = start;
 }
+
+-- the passes are in other seats now, and idle seats add nothing to what works and changes add
+module _ (k : Start) (s : Shared) (r : Agrees k s) (views' : List View)
+    (owners : (n j : ℕ) (d : Work) → busy d ≡ n + 1 → Does s.views j d → Does views' j d)
+    (views : (j : ℕ) (u : View) → get_elem? views' j ≡ some u → ViewAgrees k r.history r.phase j u)
+    (whole : sum_by lengths views' ≡ sum_by lengths s.views)
+    (logs : (f : Log → ℕ) → sum_by (λ (u : View). sum_by f u.logs) views' ≡ sum_by (λ (u : View). sum_by f u.logs) s.views)
+    (works : (f : Work → ℕ) → f Idle ≡ 0 → sum_by (λ (u : View). f u.work) views' ≡ sum_by (λ (u : View). f u.work) s.views)
+    (changes : (f : Change → ℕ) → f Outside ≡ 0 → sum_by (λ (u : View). f u.change) views' ≡ sum_by (λ (u : View). f u.change) s.views) where
+  seated_anew : Agrees k record { words = s.words; homes = s.homes; views = views' }
+  seated_anew = record {
+    shape = shape_kept k s _ refl refl r.shape;
+    history = r.history;
+    phase = r.phase;
+    legal = r.legal;
+    each_slot = r.each_slot;
+    each_node = r.each_node;
+    each_owner = λ n has. owner_map s.views views' n (owners n) (r.phase n) (r.each_owner n has);
+    no_other = r.no_other;
+    each_view = views;
+    holds = λ n. r.holds n ∙ sym (works (holding n) refl);
+    look_ups = let a = logs (λ y. y.looks_left) in let b = r.look_ups in omega arith;
+    passes = λ p. logs (λ y. one_if (eqb y.number p)) ∙ r.passes p;
+    whole = whole ∙ r.whole;
+    authors = r.authors;
+    control = let u = r.control.upper in let l = r.control.lower in let a = changes in_change refl in let b = changes added refl in
+        let c = changes removed_by refl in record { upper = omega arith; lower = omega arith };
+    draws = let d = r.draws in let t = logs (λ y. one_if y.no_chains_left) in record {
+      given = d.given;
+      few = d.few;
+      each = λ c. logs (λ y. times c y.drawn) ∙ d.each c;
+      counts = let a = d.counts in omega arith;
+      all = λ some_told. d.all (omega arith);
+      unused = d.unused;
+    };
+  }
 
 split_counts : (f : List Log → ℕ) (f0 : f [] ≡ 0) (l : List Log)
     → ((y : Log) (m : List Log) → f (y ∷ m) ≡ f (y ∷ []) + f m) → f (rest_of l) + f (first_of l) ≡ f l
@@ -93,40 +130,15 @@ module _ (k : Start) (id : ℕ) (v : View) (idle : v.work ≡ Idle) (out : v.cha
       (o.0, at_longer (set s.views id (without_first v)) (first_alone v ∷ []) j o.0 (set_else s.views id j (without_first v) other ∙ o.1), o.2)
 
   split_agrees : Agrees k record { words = s.words; homes = s.homes; views = parts }
-  split_agrees = record {
-    shape = let a = r.shape in record { slots = a.slots; range = a.range; chains = a.chains; passes = a.passes; numbers = a.numbers; words = a.words; homes = a.homes };
-    history = r.history;
-    phase = r.phase;
-    legal = r.legal;
-    each_slot = r.each_slot;
-    each_node = r.each_node;
-    each_owner = λ n has. owner_map s.views parts n (λ j d is o. does_stays j d n is o) (r.phase n) (r.each_owner n has);
-    no_other = r.no_other;
-    each_view = at_parts (ViewAgrees k r.history r.phase)
-        (λ j. part_view k r.history r.phase j (without_first v) idle out
-        (λ i y e. (id, its (suc i) y (at_rest v.logs i y e))) (start_of_part rest_of refl))
-        (λ j. part_view k r.history r.phase j (first_alone v) idle out (λ i y e. (id, its i y (at_first v.logs i y e))) (start_of_part first_of refl))
-        (λ j u other there. r.each_view j u there);
-    holds = λ n. let e = ap (holding n) idle in let a = same_counts (held_of n) e e e in let b = r.holds n in omega arith;
-    look_ups = let a = counts (sum_by (λ (y : Log). y.looks_left))
-        (λ y m. sum_by-append (λ (y : Log). y.looks_left) (y ∷ []) m) refl in let b = r.look_ups in omega arith;
-    passes = λ p. counts (sum_by (λ (y : Log). one_if (eqb y.number p)))
-        (λ y m. sum_by-append (λ (y : Log). one_if (eqb y.number p)) (y ∷ []) m) refl ∙ r.passes p;
-    whole = counts (length {A = Log}) (λ y m. omega arith) refl ∙ r.whole;
-    authors = r.authors;
-    control = let a = ap in_change out in let b = ap added out in let c = ap removed_by out in let u = r.control.upper in let l = r.control.lower in
-        let x = same_counts changes_of a a a in let y = same_counts added_of b b b in
-        let z = same_counts removed_of c c c in record { upper = omega arith; lower = omega arith };
-    draws = let d = r.draws in let t = counts (sum_by (λ (y : Log). one_if y.no_chains_left))
-        (λ y m. sum_by-append (λ (y : Log). one_if y.no_chains_left) (y ∷ []) m) refl in record {
-          given = d.given;
-          few = d.few;
-          each = λ c. counts (sum_by (λ (y : Log). times c y.drawn)) (λ y m. sum_by-append (λ (y : Log). times c y.drawn) (y ∷ []) m) refl ∙ d.each c;
-          counts = let a = d.counts in omega arith;
-          all = λ some_told. d.all (omega arith);
-          unused = d.unused;
-        };
-  }
+  split_agrees = seated_anew k s r parts (λ n j d is o. does_stays j d n is o)
+      (at_parts (ViewAgrees k r.history r.phase)
+      (λ j. part_view k r.history r.phase j (without_first v) idle out (λ i y e. (id, its (suc i) y (at_rest v.logs i y e))) (start_of_part rest_of refl))
+      (λ j. part_view k r.history r.phase j (first_alone v) idle out (λ i y e. (id, its i y (at_first v.logs i y e))) (start_of_part first_of refl))
+      (λ j u other there. r.each_view j u there))
+      (counts (length {A = Log}) (λ y m. omega arith) refl)
+      (λ f. counts (sum_by f) (λ y m. sum_by-append f (y ∷ []) m) refl)
+      (λ f none. let e = ap f idle ∙ none in same_counts (λ u. f u.work) e e e)
+      (λ f none. let e = ap f out ∙ none in same_counts (λ u. f u.change) e e e)
 
 pub splits_keep : SplitsKeep
 splits_keep k id v idle out s r here = split_agrees k id v idle out s r here
@@ -184,39 +196,15 @@ module _ (k : Start) (id : ℕ) (v : View) (begun : v.start ≡ k) (idle : v.wor
       (o.0, set_else one_set other j spent not_that ∙ (set_else s.views id j (together v w) not_this ∙ o.1), o.2)
 
   join_agrees : Agrees k record { words = s.words; homes = s.homes; views = both_set }
-  join_agrees = record {
-    shape = let a = r.shape in record { slots = a.slots; range = a.range; chains = a.chains; passes = a.passes; numbers = a.numbers; words = a.words; homes = a.homes };
-    history = r.history;
-    phase = r.phase;
-    legal = r.legal;
-    each_slot = r.each_slot;
-    each_node = r.each_node;
-    each_owner = λ n has. owner_map s.views both_set n (λ j d is o. does_on j d n is o) (r.phase n) (r.each_owner n has);
-    no_other = r.no_other;
-    each_view = at_each (ViewAgrees k r.history r.phase)
-        (λ j. part_view k r.history r.phase j spent refl refl (λ i y e. absurd (some-ne-none y (sym e))) (inl refl))
-        (λ j. part_view k r.history r.phase j (together v w) idle out joined_logs (inr begun))
-        (λ j u _ _ at. r.each_view j u at);
-    holds = λ n. let e = ap (holding n) idle in let f = ap (holding n) w_idle in
-        let a = both_counts (held_of n) refl (omega arith) in let b = r.holds n in omega arith;
-    look_ups = let a = both_counts looks_of refl (sum_by-append _ v.logs w.logs) in let b = r.look_ups in omega arith;
-    passes = λ p. both_counts (logs_of p) refl (sum_by-append _ v.logs w.logs) ∙ r.passes p;
-    whole = both_counts lengths refl (length-append v.logs w.logs) ∙ r.whole;
-    authors = r.authors;
-    control = let a = ap in_change out in let b = ap added out in let c = ap removed_by out in
-        let a' = ap in_change w_out in let b' = ap added w_out in let c' = ap removed_by w_out in
-        let u = r.control.upper in let l = r.control.lower in
-        let x = both_counts changes_of refl (omega arith) in let y = both_counts added_of refl (omega arith) in
-        let z = both_counts removed_of refl (omega arith) in record { upper = omega arith; lower = omega arith };
-    draws = let d = r.draws in let t = both_counts told_of refl (sum_by-append _ v.logs w.logs) in record {
-      given = d.given;
-      few = d.few;
-      each = λ c. both_counts (drawn_of c) refl (sum_by-append _ v.logs w.logs) ∙ d.each c;
-      counts = let a = d.counts in omega arith;
-      all = λ some_told. d.all (omega arith);
-      unused = d.unused;
-    };
-  }
+  join_agrees = seated_anew k s r both_set (λ n j d is o. does_on j d n is o)
+      (at_each (ViewAgrees k r.history r.phase)
+      (λ j. part_view k r.history r.phase j spent refl refl (λ i y e. absurd (some-ne-none y (sym e))) (inl refl))
+      (λ j. part_view k r.history r.phase j (together v w) idle out joined_logs (inr begun))
+      (λ j u _ _ at. r.each_view j u at))
+      (both_counts lengths refl (length-append v.logs w.logs))
+      (λ f. both_counts (λ u. sum_by f u.logs) refl (sum_by-append f v.logs w.logs))
+      (λ f none. both_counts (λ u. f u.work) none (let e = ap f w_idle in omega arith))
+      (λ f none. both_counts (λ u. f u.change) none (let e = ap f w_out in omega arith))
 
 pub joins_keep : JoinsKeep
 joins_keep k id v begun idle out other w w_idle w_out s r here apart there = join_agrees k id v begun idle out other w

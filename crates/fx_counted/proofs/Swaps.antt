@@ -1,14 +1,14 @@
 -- What a swap of a slot's word has to keep, whatever comes to the slot.
-use Rattle.fx_counted.proofs.Words.{◌≡◌, ◌≢◌, ℕ, ◌<◌, ◌≤◌, List, [], ◌∷◌, set, length, sym, refl, ap, ◌∙◌, subst, arith, Option, Some, None, dite}
-use Rattle.fx_counted.proofs.Words.{some, ℕ_discrete, get_elem?, Closed, held_by, held_after, changed_at, with_removed, State, numbered, File, Event}
-use Rattle.fx_counted.proofs.Words.{Bool, Action, range_of, event_of, takes_in, Names, SlotAgrees, NodeAgrees, OwnerAgrees, WorkAgrees, PlacesNext}
-use Rattle.fx_counted.proofs.Words.{Agrees, ControlCounts, looks, all_looks, word_of, place_of, control_place, slot_place, Shared, opening_of}
-use Rattle.fx_counted.proofs.Words.{slots_of, IsNumber, state_after_all, shown, end_in, next_in, held_in, placing, holding, Phase, unborn, spare}
-use Rattle.fx_counted.proofs.Words.{seated, leaving, owner, file_in, retires_now, Change, Log, Start, View, Work, Retiring}
+use Rattle.fx_counted.proofs.Words.{◌≡◌, ◌≢◌, ℕ, ◌<◌, ◌≤◌, List, ◌∷◌, set, length, sym, refl, ap, ◌∙◌, subst, arith, Option, Some, None, dite, some}
+use Rattle.fx_counted.proofs.Words.{ℕ_discrete, get_elem?, Closed, held_by, held_after, changed_at, with_removed, State, numbered, File, Event, Bool}
+use Rattle.fx_counted.proofs.Words.{Action, range_of, event_of, takes_in, Names, SlotAgrees, NodeAgrees, OwnerAgrees, WorkAgrees, PlacesNext, Agrees}
+use Rattle.fx_counted.proofs.Words.{ControlCounts, looks, all_looks, word_of, place_of, control_place, slot_place, opening_of, slots_of, IsNumber}
+use Rattle.fx_counted.proofs.Words.{state_after_all, shown, end_in, next_in, held_in, placing, holding, Phase, unborn, spare, seated, leaving, owner}
+use Rattle.fx_counted.proofs.Words.{file_in, retires_now, Change, Log, Start, View, Work, Retiring}
 use Rattle.fx_counted.specs.Agrees.{IsSeated}
 use Rattle.fx_counted.proofs.Frames.{Stays, KeepsHeld, does_now}
-use Rattle.fx_counted.proofs.Histories.{IsHistory, grows_one, held_mine, change_here, change_else, seen_all}
-use Rattle.fx_counted.proofs.Keeping.{Turn, Homes, word_at, now, logged, its_log}
+use Rattle.fx_counted.proofs.Histories.{IsHistory, grows_one, held_mine, change_here, change_else}
+use Rattle.fx_counted.proofs.Keeping.{Turn, Homes, word_at, now, logged, its_log, log_now}
 use Rattle.fx_counted.proofs.SlotSteps.{SlotStep, slot_agrees}
 
 -- the phases after a file has left its slot for the seat id
@@ -214,16 +214,10 @@ module _ (turn : Turn) (s : ℕ) (inside : s < slots_of turn.v.start) where
               ∙ (sym (ap file_in (seat_of g (was ∙ is)).2) ∙ ap (λ (m : ℕ). file_in (r.phase m)) (sym same))))
               (λ apart. ap file_in (else_phase f.number apart) ∙ p.keeps j u f other there holds);
           unused = λ n is. else_phase n (not_old n unborn is (λ f bad. cc bad)) ∙ p.unused n is;
-          log = record {
-            seen = seen_all (h' a);
-            own = refl;
-            held = held_mine x.number (e a) r.history refl ∙ (p.does.held ∙ (o.held ∙ (p.none_held.0 ∙ sym (retires_held old (takes_in found)))));
-            chain = o.chain;
-            few_left = let a = o.few_left in let b = p.fewer in omega arith;
-            left_inside = let a = o.left_inside in let b = p.fewer in omega arith;
-            next = retires_next v.start old (takes_in found) y;
-            spares = λ n low high. let z = retires_placing old (takes_in found) in let q = p.spares n (omega arith) high in else_phase n q.1 ∙ q.0;
-          };
+          log = log_now turn (h' a) phase' left x.looks_left d p.fewer
+              (held_mine x.number (e a) r.history refl ∙ (p.does.held ∙ (o.held ∙ (p.none_held.0 ∙ sym (retires_held old (takes_in found))))))
+              (retires_next v.start old (takes_in found) y)
+              (λ n low high. let z = retires_placing old (takes_in found) in let q = p.spares n (omega arith) high in else_phase n q.1 ∙ q.0);
           work = works old refl;
           holds = λ n. let a = p.none_held.1 n in let b = retires_holds old (takes_in found) n in
               let g = ap (λ (z : State). z.holds n) p.does.state in omega arith;
