@@ -5,7 +5,7 @@ use Rattle.fx_counted.proofs.Words.{ℕ_discrete, get_elem?, keeps, step, sum_by
 use Rattle.fx_counted.proofs.Words.{sum_set, sum_at, sum_le_at, one_change, full_word_of, WorkAgrees, lengths, Agrees, in_change, added, removed_by}
 use Rattle.fx_counted.proofs.Words.{changes_of, added_of, removed_of, full_in, ControlCounts, word_of, control_place, draw_place, slot_place}
 use Rattle.fx_counted.proofs.Words.{opening_of, state_after_all, shown, IsInside, Stepped, GoesOn, Answers, Change, Outside, Same, Log, Start, View}
-use Rattle.fx_counted.proofs.Words.{Work, Idle, Phase}
+use Rattle.fx_counted.proofs.Words.{Work, Idle, Phase, Shared}
 use Rattle.std.proofs.Common.{length-set}
 use Rattle.fx_counted.specs.Laws.{BeginsKeep, EndsKeep, AnswersKeep}
 use Rattle.fx_counted.proofs.Calm.{Quiet, no_event, calm_agrees}
@@ -41,6 +41,25 @@ is_inside : (k : Start) (phase : ℕ → Phase) (seat : ℕ) (d : Work) → Work
 is_inside k phase seat Idle o = tt
 is_inside k phase seat _ o = o.0
 
+module _ (k : Start) (s : Shared) (r : Agrees k s) where
+  -- a seat without a pass is in no change
+  pub few_changes : (j : ℕ) (u : View) → get_elem? s.views j ≡ some u → changes_of u ≤ lengths u
+  few_changes j u there = go u.logs refl
+    where
+      go : (l : List Log) → u.logs ≡ l → in_change u.change ≤ length u.logs
+      go [] is = let a = ap in_change ((r.each_view j u there).empty is).1 in omega arith
+      go (z ∷ l) is = let a = at_most_one u.change in let b = ap (length {A = Log}) is in omega arith
+
+  pub few_full : full_in (state_after_all k r.history).at (range_of (opening_of k)).0 (range_of (opening_of k)).1 ≤ 256
+  few_full = let a = full_few (state_after_all k r.history).at (range_of (opening_of k)).0 (range_of (opening_of k)).1 in
+      let b = r.shape.range in let c = r.shape.slots in omega arith
+
+  pub few_removed : sum_by removed_of s.views ≤ sum_by changes_of s.views
+  few_removed = sum_le_at removed_of changes_of s.views (λ j u e. removes_inside u.change)
+
+  pub few_added : sum_by added_of s.views ≤ sum_by changes_of s.views
+  few_added = sum_le_at added_of changes_of s.views (λ j u e. adds_inside u.change)
+
 module _ (turn : Turn) where
   open turn use {st, v, r, id, x, here, one}
 
@@ -56,26 +75,10 @@ module _ (turn : Turn) where
   pub its_inside : IsInside v.start v.work
   its_inside = is_inside v.start r.phase id v.work (its_work turn)
 
-  few_changes : (j : ℕ) (u : View) → get_elem? st.views j ≡ some u → changes_of u ≤ lengths u
-  few_changes j u there = go u.logs refl
-    where
-      go : (l : List Log) → u.logs ≡ l → in_change u.change ≤ length u.logs
-      go [] is = let a = ap in_change ((r.each_view j u there).empty is).1 in omega arith
-      go (z ∷ l) is = let a = at_most_one u.change in let b = ap (length {A = Log}) is in omega arith
-
   -- fewer than 16 are in a change beside this pass
   pub few_others : sum_by changes_of st.views + 1 ≤ 16 + in_change v.change
-  few_others = let a = total_gap changes_of lengths st.views id v here few_changes in let b = r.whole in
+  few_others = let a = total_gap changes_of lengths st.views id v here (few_changes v.start st r) in let b = r.whole in
       let c = r.shape.passes in let d = ap (length {A = Log}) one in omega arith
-
-  few_full : full_in at_now range.0 range.1 ≤ 256
-  few_full = let a = full_few at_now range.0 range.1 in let b = r.shape.range in let c = r.shape.slots in omega arith
-
-  few_removed : sum_by removed_of st.views ≤ sum_by changes_of st.views
-  few_removed = sum_le_at removed_of changes_of st.views (λ j u e. removes_inside u.change)
-
-  few_added : sum_by added_of st.views ≤ sum_by changes_of st.views
-  few_added = sum_le_at added_of changes_of st.views (λ j u e. adds_inside u.change)
 
   wide : control_place < length st.words
   wide = let a = r.shape.words in let b = (near turn).control in omega arith
@@ -140,7 +143,8 @@ module _ (turn : Turn) where
     ended h' amount in_now amount_is = let w = went turn h' v.work Outside in
         let a = sum_set changes_of st.views id v w here in let b = sum_set added_of st.views id v w here in
         let d = sum_set removed_of st.views id v w here in
-        let s = few_others in let u = r.control.upper in let l = r.control.lower in let ff = few_full in let fr = few_removed in let fa = few_added in
+        let s = few_others in let u = r.control.upper in let l = r.control.lower in let ff = few_full v.start st r in
+        let fr = few_removed v.start st r in let fa = few_added v.start st r in
         let o1 = sum_at added_of st.views id v here in let l1 = sum_at removed_of st.views id v here in
         let f1 = sum_at changes_of st.views id v here in
         let x1 = adds_inside v.change in let x2 = removes_inside v.change in

@@ -1,26 +1,11 @@
 -- How large the words become.
-use Rattle.std.specs.Prelude.{sum_by}
-use Rattle.std.proofs.Common.{◌≡◌, ℕ, ◌+◌, ◌<◌, ◌≤◌, List, [], ◌∷◌, length, Option, Some, None, refl, sym, ap, ◌∙◌, subst, arith}
-use mathlib.Core.Option.{some}
-use lib.ListN.{get_elem?}
-use Rattle.fx_plain.specs.declared.event.File.{File}
-use Rattle.fx_table.specs.Opening.{range_of}
-use Rattle.fx_table.proofs.SumLemmas.{sum_le_at}
-use Rattle.fx_words.specs.Words.{node_in, takes_in}
-use Rattle.fx_counted.specs.Agrees.{Agrees, NodeAgrees, IsSeated, Names, WorkAgrees, lengths}
-use Rattle.fx_counted.specs.Layout.{home_place}
+use Rattle.fx_counted.proofs.Words.{sum_by, ◌≡◌, ℕ, ◌+◌, ◌<◌, ◌≤◌, Option, Some, None, sym, ◌∙◌, subst, arith, some, get_elem?, File, sum_le_at}
+use Rattle.fx_counted.proofs.Words.{node_in, takes_in, Agrees, NodeAgrees, Names, WorkAgrees, lengths, home_place, changes_of, looks, all_looks}
+use Rattle.fx_counted.proofs.Words.{Shared, IsNumber, slots_of, looks_of, told_of, state_after_all, Phase, seated, leaving, Start, View, Retiring}
+use Rattle.fx_counted.specs.Agrees.{IsSeated}
 use Rattle.fx_counted.specs.Bounds.{AreBounded, WordsAreBounded, slot_word_in, node_word_in, draw_word_in}
-use Rattle.fx_counted.specs.Control.{in_change, changes_of, added_of, removed_of, full_in}
-use Rattle.fx_counted.specs.Counts.{looks, all_looks}
-use Rattle.fx_counted.specs.Passes.{Shared, IsNumber, opening_of, slots_of, looks_of, told_of, state_after_all}
-use Rattle.fx_counted.specs.Phases.{Phase, seated, leaving}
-use Rattle.fx_counted.specs.declared.view.Log.{Log}
-use Rattle.fx_counted.specs.declared.view.Start.{Start}
-use Rattle.fx_counted.specs.declared.view.View.{View}
-use Rattle.fx_counted.specs.declared.view.Work.TheVariants.{Retiring}
 use Rattle.fx_counted.proofs.Chains.{told_few}
-use Rattle.fx_counted.proofs.ControlSteps.{at_most_one, adds_inside, removes_inside}
-use Rattle.fx_counted.proofs.FullSlots.{full_few}
+use Rattle.fx_counted.proofs.ControlSteps.{few_changes, few_full, few_added, few_removed}
 use Rattle.fx_counted.proofs.Histories.{looks_few}
 use Rattle.fx_counted.proofs.Naming.{node_is}
 
@@ -68,29 +53,8 @@ module _ (k : Start) (s : Shared) (r : Agrees k s) where
   few_draws = let a = sum_le_at told_of lengths s.views (λ j u e. told_few u.logs) in let b = few_passes in
       let c = r.draws.counts in let d = r.draws.few in omega arith
 
-  -- a seat without a pass is in no change
-  one_change_each : (j : ℕ) (u : View) → get_elem? s.views j ≡ some u → changes_of u ≤ lengths u
-  one_change_each j u there = go u.logs refl
-    where
-      go : (l : List Log) → u.logs ≡ l → in_change u.change ≤ length u.logs
-      go [] is = let a = ap in_change ((r.each_view j u there).empty is).1 in omega arith
-      go (z ∷ l) is = let a = at_most_one u.change in let b = ap (length {A = Log}) is in omega arith
-
-  few_changes : sum_by changes_of s.views ≤ 16
-  few_changes = let a = sum_le_at changes_of lengths s.views one_change_each in let b = few_passes in omega arith
-
-  few_added : sum_by added_of s.views ≤ 16
-  few_added = let a = sum_le_at added_of changes_of s.views (λ j u e. adds_inside u.change) in let b = few_changes in omega arith
-
-  few_removed : sum_by removed_of s.views ≤ 16
-  few_removed = let a = sum_le_at removed_of changes_of s.views (λ j u e. removes_inside u.change) in let b = few_changes in omega arith
-
-  abbrev full : ℕ
-  full = full_in (state_after_all k r.history).at (range_of (opening_of k)).0 (range_of (opening_of k)).1
-
-  few_full : full ≤ 256
-  few_full = let a = full_few (state_after_all k r.history).at (range_of (opening_of k)).0 (range_of (opening_of k)).1 in
-      let b = r.shape.range in let c = r.shape.slots in omega arith
+  changes_most : sum_by changes_of s.views ≤ 16
+  changes_most = let a = sum_le_at changes_of lengths s.views (few_changes k s r) in let b = few_passes in omega arith
 
   pub bounded : AreBounded k s
   bounded = record {
@@ -98,9 +62,9 @@ module _ (k : Start) (s : Shared) (r : Agrees k s) where
     named = each_named;
     leaving = each_leaving;
     draws = few_draws;
-    changes = let a = r.control.upper in let b = few_changes in omega arith;
-    least = let a = r.control.lower in let b = few_added in omega arith;
-    most = let a = r.control.lower in let b = few_removed in let c = few_full in omega arith;
+    changes = let a = r.control.upper in let b = changes_most in omega arith;
+    least = let a = r.control.lower in let b = few_added k s r in let c = changes_most in omega arith;
+    most = let a = r.control.lower in let b = few_removed k s r in let c = few_full k s r in let d = changes_most in omega arith;
   }
 
 pub words_are_bounded : WordsAreBounded
