@@ -4,11 +4,9 @@ use Rattle.fx_counted.proofs.Words.{◌⊎◌, inr, ⊎_elim, dite, some, none, 
 use Rattle.fx_counted.proofs.Words.{Closed, File, changed_at, no_use, next_number, born, Home, NodeAgrees, OwnerAgrees, WorkAgrees, PlacesNext}
 use Rattle.fx_counted.proofs.Words.{Agrees, word_of, place_of, opening_of, chain_in, chain_numbers, first_log, pass_of, IsNumber, state_after_all}
 use Rattle.fx_counted.proofs.Words.{end_in, next_in, held_in, placing, held_of, holding, Phase, unborn, spare, placed, emptied, closed, owner}
-use Rattle.fx_counted.proofs.Words.{file_in, Stepped, Start, View, Idle, Placing, Holding, Emptying, looks}
+use Rattle.fx_counted.proofs.Words.{file_in, Stepped, Start, View, Idle, Placing, Holding, Emptying, looks, mul-le-mul_left, BirthsKeep, RestsKeep}
+use Rattle.fx_counted.proofs.Words.{Births, Rests}
 use Rattle.std.proofs.Common.{length-set}
-use Rattle.std.proofs.Math.Nat.{mul-le-mul_left}
-use Rattle.fx_counted.specs.Laws.{BirthsKeep, RestsKeep}
-use Rattle.fx_counted.specs.Tells.{Births, Rests}
 use Rattle.fx_counted.proofs.Histories.{grows_none, change_here, change_else}
 use Rattle.fx_counted.proofs.Frames.{busy, does_now}
 use Rattle.fx_counted.proofs.Keeping.{Turn, turn_of, word_at, its_log, its_work, tells, by_turn, went}

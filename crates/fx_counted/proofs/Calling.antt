@@ -1,8 +1,7 @@
 -- What a call of a table needs for its steps.
-use Rattle.fx_counted.proofs.Words.{◌≡◌, ℕ, ◌*◌, true, ◌<◌, ◌≤◌, inl, inr, sym, ap, ◌∙◌, subst, arith, range_of, full_word_of, InRange}
-use Rattle.fx_counted.proofs.Words.{HasNode, chain_numbers, slot_of, slot_place, node_place, home_place, opening_of, slots_of, IsNumber, opening_of_table, Start}
-use Rattle.fx_counted.proofs.Words.{CountedTable}
-use Rattle.fx_table.specs.Opening.{size_of}
+use Rattle.fx_counted.proofs.Words.{◌≡◌, ℕ, ◌*◌, true, ◌<◌, ◌≤◌, inl, inr, sym, ap, ◌∙◌, subst, arith, range_of, full_word_of, InRange, HasNode}
+use Rattle.fx_counted.proofs.Words.{chain_numbers, slot_of, slot_place, node_place, home_place, opening_of, slots_of, IsNumber, opening_of_table}
+use Rattle.fx_counted.proofs.Words.{Start, CountedTable, size_of}
 use Rattle.fx_counted.proofs.Places.{few_numbers, inside, apart}
 
 -- the word of a slot is one of the table

@@ -5,13 +5,8 @@ use Rattle.fx_counted.proofs.Words.{inl, inr, ⊎_elim, dite, none, ℕ_discrete
 use Rattle.fx_counted.proofs.Words.{PassView, sum_by-cons, sum_set, sum_at, sum_le_at, NodeAgrees, OwnerAgrees, LogAgrees, lengths, Agrees}
 use Rattle.fx_counted.proofs.Words.{PlacesNext, WorkAgrees, DrawsCount, word_of, place_of, control_place, draw_place, slot_place, opening_of}
 use Rattle.fx_counted.proofs.Words.{state_after_all, chain_in, shown, first_log, drawn_of, told_of, once, placing, Phase, unborn, spare, owner}
-use Rattle.fx_counted.proofs.Words.{file_in, Log, View, Idle, looks}
+use Rattle.fx_counted.proofs.Words.{file_in, Log, View, Idle, looks, mul-add, mul-le-mul_left, Draws, DrawsKeep, first_or, DrawTells}
 use Rattle.std.proofs.Common.{length-set}
-use Rattle.std.proofs.Math.Nat.{mul-add, mul-le-mul_left}
-use Rattle.fx_table.specs.Calls.{Draws}
-use Rattle.fx_counted.specs.Laws.{DrawsKeep}
-use Rattle.fx_counted.specs.Passes.{first_or}
-use Rattle.fx_counted.specs.Tells.{DrawTells}
 use Rattle.fx_counted.proofs.Frames.{owner_same}
 use Rattle.fx_counted.proofs.Histories.{grows_none}
 use Rattle.fx_counted.proofs.Keeping.{Turn, turn_of, word_at, now, its_log, Step, step_kept, by_turn, Made}

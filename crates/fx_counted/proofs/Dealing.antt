@@ -1,10 +1,9 @@
 -- The passes that are dealt out.
 use Rattle.fx_counted.proofs.Words.{◌≡◌, ℕ, zero, suc, ◌+◌, ◌-◌, ◌≤◌, List, [], ◌∷◌, ◌++◌, map, sym, refl, ◌∙◌, ap, subst, arith, Option, TableId}
 use Rattle.fx_counted.proofs.Words.{Seat, Closed, PassView, IsFront, new_passes, new_logs, without_first, first_alone, rest_of, first_of, dealt, Sat}
-use Rattle.fx_counted.proofs.Words.{opening_of, new_log, pass_of, view_of, IsPassOf, is_idle, CountedPass, Log, Start, View}
+use Rattle.fx_counted.proofs.Words.{opening_of, new_log, pass_of, view_of, IsPassOf, is_idle, CountedPass, Log, Start, View, new_pass}
+use Rattle.fx_counted.proofs.Words.{new_passes_from, IsNewPass}
 use mathlib.Core.List.{map-append}
-use Rattle.fx_table.specs.Pass.{new_pass, new_passes_from}
-use Rattle.fx_counted.specs.Lives.{IsNewPass}
 use Rattle.fx_counted.specs.Tables.{IsSeated}
 
 deal_more : (p n : ℕ) → p ≤ n → new_logs p ((n + 1) - p) ≡ new_log p ∷ new_logs (p + 1) ((n + 1) - (p + 1))

@@ -3,15 +3,14 @@ use Rattle.fx_counted.proofs.Words.{◌≡◌, ◌≢◌, ℕ, zero, suc, ◌+�
 use Rattle.fx_counted.proofs.Words.{arith, eqb, ne_eqb, ◌⊎◌, inl, inr, ⊎_elim, Option, Some, None, Contains, sum_by, dite, some, some-injective}
 use Rattle.fx_counted.proofs.Words.{ℕ_discrete, dec_le, get_elem?, sum_by-cons, Closed, Contents, state_of, file_at, IsSeenBy, part_of_pass, State}
 use Rattle.fx_counted.proofs.Words.{IsSettled, file_numbered, after, numbered, File, Event, Action, Look, Put, Clear, Take, Allocate, ClosesTable}
-use Rattle.fx_counted.proofs.Words.{times_drawn, HasSameFiles, start_of, PassView, contains_none, contains_head, contains_tail}
-use Rattle.fx_counted.proofs.Words.{contains_cases, contains_map, contains_mapped, sum_two, sum_map, Does, LogAgrees, NodeAgrees, OwnerAgrees}
-use Rattle.fx_counted.proofs.Words.{lengths, Agrees, looks, word_of, place_of, slot_place, Shared, opening_of, slots_of, chain_numbers, IsNumber, state_after_all}
-use Rattle.fx_counted.proofs.Words.{shown, held_of, logs_of, drawn_of, told_of, once, holding, Phase, unborn, spare, placed, seated, leaving}
-use Rattle.fx_counted.proofs.Words.{retired, emptied, closed, Log, Start, View, Work, Idle, Placing, Retiring, Emptying}
+use Rattle.fx_counted.proofs.Words.{times_drawn, HasSameFiles, start_of, PassView, contains_none, contains_head, contains_tail, contains_cases}
+use Rattle.fx_counted.proofs.Words.{contains_map, contains_mapped, sum_two, sum_map, Does, LogAgrees, NodeAgrees, OwnerAgrees, lengths, Agrees, looks}
+use Rattle.fx_counted.proofs.Words.{word_of, place_of, slot_place, Shared, opening_of, slots_of, chain_numbers, IsNumber, state_after_all, shown}
+use Rattle.fx_counted.proofs.Words.{held_of, logs_of, drawn_of, told_of, once, holding, Phase, unborn, spare, placed, seated, leaving, retired}
+use Rattle.fx_counted.proofs.Words.{emptied, closed, Log, Start, View, Work, Idle, Placing, Retiring, Emptying, AllowsAll, action_of, sum_only}
+use Rattle.fx_counted.proofs.Words.{sum_of, sum_zero}
 use Rattle.std.proofs.Math.ListN.{get_or-eq_default}
-use Rattle.fx_plain.specs.History.{AllowsAll, action_of}
 use Rattle.fx_plain.specs.Step.{Allows}
-use Rattle.fx_table.proofs.SumLemmas.{sum_only, sum_of, sum_zero}
 use Rattle.fx_counted.specs.Agrees.{IsSeated}
 use Rattle.fx_counted.proofs.Chains.{once_in, once_some}
 use Rattle.fx_counted.proofs.Frames.{once_few}

@@ -1,10 +1,9 @@
 -- What lies in the places at the settled end, and how it comes back.
-use Rattle.fx_counted.proofs.Words.{◌≡◌, ℕ, zero, suc, ◌+◌, ◌-◌, ◌*◌, ◌<◌, List, [], ◌∷◌, length, set, sym, refl, ap, ◌∙◌, subst, arith, inl, inr, Option}
-use Rattle.fx_counted.proofs.Words.{Some, None, slice_index, dite, some, some-injective, some-ne-none, dec_le, get_elem?, Closed, Contents, state_of}
-use Rattle.fx_counted.proofs.Words.{State, number_of, identity_of, File, HasSameFiles, Names, Agrees, HasNode, slot_place, home_place}
-use Rattle.fx_counted.proofs.Words.{homes_for, Shared, slots_of, chain_numbers, IsNumber, state_after_all, IsShellOf, AreBack, CountedTable, Start, View, Idle}
-use Rattle.atomic_table.specs.Table.{Final, Seen}
-use Rattle.fx_counted.specs.Lives.{AllAreIdle, Leaves}
+use Rattle.fx_counted.proofs.Words.{◌≡◌, ℕ, zero, suc, ◌+◌, ◌-◌, ◌*◌, ◌<◌, List, [], ◌∷◌, length, set, sym, refl, ap, ◌∙◌, subst, arith, inl, inr}
+use Rattle.fx_counted.proofs.Words.{Option, Some, None, slice_index, dite, some, some-injective, some-ne-none, dec_le, get_elem?, Closed, Contents}
+use Rattle.fx_counted.proofs.Words.{state_of, State, number_of, identity_of, File, HasSameFiles, Names, Agrees, HasNode, slot_place, home_place}
+use Rattle.fx_counted.proofs.Words.{homes_for, Shared, slots_of, chain_numbers, IsNumber, state_after_all, IsShellOf, AreBack, CountedTable, Start}
+use Rattle.fx_counted.proofs.Words.{View, Idle, Final, Seen, AllAreIdle, Leaves}
 use Rattle.fx_counted.proofs.Calling.{has_node, its_numbers}
 use Rattle.fx_counted.proofs.Ending.{home_file, file_home, one_slot, none_outside_end}
 use Rattle.fx_counted.proofs.Frames.{inside_list}

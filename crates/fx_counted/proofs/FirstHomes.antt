@@ -1,11 +1,9 @@
 -- The files of the slots move to the places of a shared table.
-use Rattle.fx_counted.proofs.Words.{◌≡◌, ℕ, zero, suc, ◌<◌, ◌≤◌, List, [], ◌∷◌, ◌++◌, length, sym, refl, ap, ◌∙◌, subst, arith, length-append}
-use Rattle.fx_counted.proofs.Words.{Option, Some, None, Result, dite, some, ℕ_discrete, get_elem?, at_longer, Closed, Contents, state_of, State}
-use Rattle.fx_counted.proofs.Words.{IsSettled, file_numbered, identity_of, File, HasSameFiles, IsGivenBack, AreFirstHomes, homes_for, IsShellOf}
-use Rattle.std.specs.Prelude.{Ok, Err, OnOk}
-use Rattle.atomic_table.proofs.Lists.{at_last}
+use Rattle.fx_counted.proofs.Words.{◌≡◌, ℕ, zero, suc, ◌<◌, ◌≤◌, List, [], ◌∷◌, ◌++◌, length, sym, refl, ap, ◌∙◌, subst, arith, length-append, Option}
+use Rattle.fx_counted.proofs.Words.{Some, None, Result, dite, some, ℕ_discrete, get_elem?, at_longer, Closed, Contents, state_of, State, IsSettled}
+use Rattle.fx_counted.proofs.Words.{file_numbered, identity_of, File, HasSameFiles, IsGivenBack, AreFirstHomes, homes_for, IsShellOf, Ok, Err, OnOk}
+use Rattle.fx_counted.proofs.Words.{at_last, slots_in_order}
 use Rattle.fx_plain.specs.State.{opening}
-use Rattle.fx_plain.specs.Table.{slots_in_order}
 
 same_identity : (found : Option File) (slot : ℕ) → identity_of (file_numbered found slot) ≡ identity_of found
 same_identity None slot = refl

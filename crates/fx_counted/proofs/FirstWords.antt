@@ -2,12 +2,9 @@
 use Rattle.fx_counted.proofs.Words.{◌≡◌, ◌≢◌, true, false, ℕ, zero, suc, ◌+◌, ◌-◌, ◌*◌, ◌<◌, ◌≤◌, List, length, get_or, set, replicate, sym, refl, ap}
 use Rattle.fx_counted.proofs.Words.{◌∙◌, arith, get_or-set_same, get_or-set_other, Option, Some, None, option_map, slice_index, dite, ℕ_discrete}
 use Rattle.fx_counted.proofs.Words.{State, file_numbered, File, born, slot_word_of, full_in, if_full, first_at, AreFirstWords, control_place}
-use Rattle.fx_counted.proofs.Words.{draw_place, slot_place, node_place, words_for, word_for, node_for}
-use Rattle.std.proofs.Common.{length-append}
-use Rattle.std.specs.Prelude.{is_some}
-use Rattle.fx_plain.specs.State.{files_in_order, identities_of}
-use lib.ListN.{length-set, length-replicate}
-use Rattle.fx_words.specs.Words.{control_word_of}
+use Rattle.fx_counted.proofs.Words.{draw_place, slot_place, node_place, words_for, word_for, node_for, length-append, is_some, files_in_order}
+use Rattle.fx_counted.proofs.Words.{identities_of, length-replicate, control_word_of}
+use lib.ListN.{length-set}
 use Rattle.fx_counted.proofs.Places.{low_node}
 
 -- the words of the slots below this one are written

@@ -1,9 +1,9 @@
 -- What a step of one seat leaves as it was.
-use Rattle.fx_counted.proofs.Words.{sum_by, ◌≡◌, ◌≢◌, ℕ, zero, suc, ◌+◌, ◌<◌, ◌≤◌, true, false, List, [], ◌∷◌, set, length, sym, refl, ap, ◌∙◌}
-use Rattle.fx_counted.proofs.Words.{subst, arith, nat_lt, ◌⊎◌, inl, inr, ⊎_elim, eqb, some, some-injective, some-ne-none, get_elem?, at_set}
-use Rattle.fx_counted.proofs.Words.{set_here, set_else, File, Event, numbered, sum_at, sum_two, Does, OwnerAgrees, WorkAgrees, ViewAgrees, Agrees}
-use Rattle.fx_counted.proofs.Words.{Shared, logs_of, once, Phase, spare, placed, leaving, emptied, owner, file_in, Log, Start, View, Work, Idle}
-use Rattle.fx_counted.proofs.Words.{Placing, Holding, Retiring, Emptying}
+use Rattle.fx_counted.proofs.Words.{sum_by, ◌≡◌, ◌≢◌, ℕ, zero, suc, ◌+◌, ◌<◌, ◌≤◌, true, false, List, [], ◌∷◌, set, length, sym, refl, ap, ◌∙◌, subst}
+use Rattle.fx_counted.proofs.Words.{arith, nat_lt, ◌⊎◌, inl, inr, ⊎_elim, eqb, some, some-injective, some-ne-none, get_elem?, at_set, set_here}
+use Rattle.fx_counted.proofs.Words.{set_else, File, Event, numbered, sum_at, sum_two, Does, OwnerAgrees, WorkAgrees, ViewAgrees, Agrees, Shared}
+use Rattle.fx_counted.proofs.Words.{logs_of, once, Phase, spare, placed, leaving, emptied, owner, file_in, Log, Start, View, Work, Idle, Placing}
+use Rattle.fx_counted.proofs.Words.{Holding, Retiring, Emptying}
 use Rattle.fx_counted.proofs.Histories.{Grows}
 use Rattle.fx_counted.proofs.Ones.{one_if, bit_here}
 

@@ -1,14 +1,10 @@
 -- All passes in one seat: what the one history says of each of them.
 use Rattle.fx_counted.proofs.Words.{◌≡◌, ℕ, ◌<◌, ◌≤◌, List, [], ◌∷◌, map, length, reverse, sym, refl, ap, ◌∙◌, subst, arith, ⊎_elim, length-append}
 use Rattle.fx_counted.proofs.Words.{Contains, sum_by, some, get_elem?, Contains-append_left, sum_by-append, sum_by-cons, TableId, Contents, state_of}
-use Rattle.fx_counted.proofs.Words.{IsSeenBy, part_of_pass, IsSettled, ClosesTable, times_drawn, HasSameFiles, PassView, contains_none}
-use Rattle.fx_counted.proofs.Words.{contains_head, contains_tail, contains_cases, contains_map, contains_mapped, sum_map, Agrees, logs_in, Shared}
-use Rattle.fx_counted.proofs.Words.{opening_of, state_after_all, first_log, view_of, IsPassOf, CountedPass, Log, Start, View, Outside, Idle}
-use Rattle.std.proofs.lemmas.List.{length-reverse}
-use Rattle.std.proofs.lemmas.List.Elements.{Contains-append_right, Contains-append_cases}
-use Rattle.fx_table.proofs.Members.{contains_only}
-use Rattle.fx_table.proofs.Members.{contains_reverse, contains_reversed}
-use Rattle.fx_table.proofs.SumLemmas.{sum_reverse}
+use Rattle.fx_counted.proofs.Words.{IsSeenBy, part_of_pass, IsSettled, ClosesTable, times_drawn, HasSameFiles, PassView, contains_none, contains_head}
+use Rattle.fx_counted.proofs.Words.{contains_tail, contains_cases, contains_map, contains_mapped, sum_map, Agrees, logs_in, Shared, opening_of}
+use Rattle.fx_counted.proofs.Words.{state_after_all, first_log, view_of, IsPassOf, CountedPass, Log, Start, View, Outside, Idle, length-reverse}
+use Rattle.fx_counted.proofs.Words.{Contains-append_right, Contains-append_cases, contains_only, contains_reverse, contains_reversed, sum_reverse}
 use Rattle.fx_counted.proofs.Ending.{showing, closes_logs, idle_each}
 use Rattle.fx_counted.proofs.Ones.{times}
 

@@ -2,13 +2,10 @@
 use Rattle.fx_counted.proofs.Words.{◌≡◌, ℕ, ◌+◌, ◌*◌, List, [], ◌∷◌, inl, sym, refl, ap, ◌∙◌, subst, arith, Some, TableId, ◌▷◌, Action, Close, Use}
 use Rattle.fx_counted.proofs.Words.{no_use, Adds, IsFront, File, Goes, HasPlace, HasPass, place_of, Sat, opening_of, pass_of, doing_in, chain_in}
 use Rattle.fx_counted.proofs.Words.{first_log, view_of, is_idle, IsPassOf, IsInside, Stepped, TakesOut, LetsGo, CountedPass, Change, Outside, Log}
-use Rattle.fx_counted.proofs.Words.{Start, Work, Idle, Placing, Holding, Retiring, Emptying}
-use Rattle.fx_plain.specs.History.{◌▷▷◌}
-use Rattle.fx_table.specs.Calls.{both_uses}
+use Rattle.fx_counted.proofs.Words.{Start, Work, Idle, Placing, Holding, Retiring, Emptying, ◌▷▷◌, both_uses, IsAtWork, IsBetweenCalls}
 use Rattle.fx_table.specs.declared.values.Doing.TheVariants.{Idle as NowIdle, Holding as NowHolding, Retiring as NowRetiring}
 use Rattle.fx_table.proofs.Calls.{adds_then}
-use Rattle.fx_counted.specs.Changing.{IsAtWork}
-use Rattle.fx_counted.specs.Tables.{IsBetweenCalls, IsSeated}
+use Rattle.fx_counted.specs.Tables.{IsSeated}
 
 pub goes_one : (m m' : Sat) (xs : List Action) (a : Use) (w : Work) (c : Change) → Stepped m xs a w c m' → Goes m xs a w c 1 m'
 goes_one m m' xs a w c s = record {

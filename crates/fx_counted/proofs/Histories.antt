@@ -1,10 +1,8 @@
 -- Histories that grow by one event.
 use Rattle.fx_counted.proofs.Words.{◌≡◌, ◌≢◌, ℕ, ◌+◌, ◌≤◌, List, [], ◌∷◌, sym, refl, ap, ◌∙◌, arith, eq-eqb, ne_eqb, Some, None, dite, ℕ_discrete}
 use Rattle.fx_counted.proofs.Words.{State, after, changed_at, held_after, held_by, IsSeenBy, part_of_pass, Event, Action, Look, start_of, range_of}
-use Rattle.fx_counted.proofs.Words.{looks, all_looks, opening_of, slots_of, state_after_all, Start}
+use Rattle.fx_counted.proofs.Words.{looks, all_looks, opening_of, slots_of, state_after_all, Start, ReleasesItsOwn, IsLegal, looks_after, look_in}
 use Rattle.fx_plain.specs.Step.{Allows}
-use Rattle.fx_plain.specs.History.{ReleasesItsOwn, IsLegal}
-use Rattle.fx_counted.specs.Counts.{looks_after, look_in}
 
 module _ {A : Type 0} (f : ℕ → A) (i : ℕ) (a : A) where
   pub change_here : (j : ℕ) → j ≡ i → changed_at f i a j ≡ a

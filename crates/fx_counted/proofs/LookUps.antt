@@ -4,11 +4,8 @@ use Rattle.fx_counted.proofs.Words.{dite, none, ℕ_discrete, get_elem?, keeps, 
 use Rattle.fx_counted.proofs.Words.{event_of, name_in, entry_in, takes_in, Names, SlotAgrees, NodeAgrees, Agrees, PlacesNext, WorkAgrees, looks}
 use Rattle.fx_counted.proofs.Words.{full_in, word_of, place_of, slot_place, slot_of, control_place, opening_of, slots_of, IsNumber, state_after_all}
 use Rattle.fx_counted.proofs.Words.{shown, held_in, placing, held_of, holding, Sat, Phase, seated, file_in, Stepped, IsInside, Log, View, Idle, eqb}
-use Rattle.fx_table.specs.Calls.{one_look}
-use Rattle.fx_words.proofs.Parts.{name_more, entry_more, takes_more}
+use Rattle.fx_counted.proofs.Words.{one_look, name_more, entry_more, takes_more, LooksKeep, Looks, holds_now}
 use Rattle.fx_counted.specs.Agrees.{IsSeated}
-use Rattle.fx_counted.specs.Laws.{LooksKeep}
-use Rattle.fx_counted.specs.Tells.{Looks, holds_now}
 use Rattle.fx_counted.proofs.Frames.{busy, stays_same, owner_stays}
 use Rattle.fx_counted.proofs.Histories.{IsHistory, grows_one, legal_more, held_mine, part_mine, change_else, same_shape}
 use Rattle.fx_counted.proofs.Keeping.{Turn, turn_of, word_at, now, logged, its_log, tells, by_turn, Made, log_now}

@@ -1,8 +1,6 @@
 -- What is read from the word of a slot, by what the word names.
 use Rattle.fx_counted.proofs.Words.{◌≡◌, ℕ, sym, refl, ap, ◌∙◌, ◌-◌, ◌≢◌, ne_eqb, Option, Some, None, dite, ℕ_discrete, number_of, File, name_in}
-use Rattle.fx_counted.proofs.Words.{node_in, Names}
-use Rattle.fx_words.specs.Words.{named}
-use Rattle.fx_words.proofs.Parts.{named_suc}
+use Rattle.fx_counted.proofs.Words.{node_in, Names, named, named_suc}
 
 pub node_is : (word : ℕ) (file : Option File) → Names word file → node_in word ≡ number_of file
 node_is word None e = ap named e

@@ -1,18 +1,15 @@
 -- A table that is opened keeps the rule.
 use Rattle.fx_counted.proofs.Words.{◌≡◌, ℕ, zero, suc, ◌+◌, ◌*◌, ◌<◌, ◌≤◌, Bool, nat_lt, cond, List, [], ◌∷◌, map, length, sym, refl, ap, ◌∙◌, subst}
-use Rattle.fx_counted.proofs.Words.{arith, eqb, lt-ltb, le-ltb, ◌⊎◌, inl, inr, ⊎_elim, Option, Some, None, slice_index, sum_by, count_by}
-use Rattle.fx_counted.proofs.Words.{sum_by-cons, dite, some, some-injective, some-ne-none, ℕ_discrete, dec_le, get_elem?, Closed, state_of, State}
-use Rattle.fx_counted.proofs.Words.{file_numbered, numbered, File, numbers_for, range_of, born, takes_in, name_made, entry_made, takes_made, Names}
-use Rattle.fx_counted.proofs.Words.{SlotAgrees, NodeAgrees, OwnerAgrees, LogAgrees, ViewAgrees, Agrees, new_logs, word_of, place_of, slot_place}
-use Rattle.fx_counted.proofs.Words.{word_for, node_for, home_for, OpensWith, opening_of, slots_of, chain_numbers, IsNumber, state_after_all, new_log, once, Phase}
-use Rattle.fx_counted.proofs.Words.{unborn, seated, closed, Log, Start, View, Idle}
-use Rattle.std.proofs.Common.{not, ◌&&◌}
-use Rattle.std.proofs.lemmas.List.{length-map}
+use Rattle.fx_counted.proofs.Words.{arith, eqb, lt-ltb, le-ltb, ◌⊎◌, inl, inr, ⊎_elim, Option, Some, None, slice_index, sum_by, count_by, sum_by-cons}
+use Rattle.fx_counted.proofs.Words.{dite, some, some-injective, some-ne-none, ℕ_discrete, dec_le, get_elem?, Closed, state_of, State, file_numbered}
+use Rattle.fx_counted.proofs.Words.{numbered, File, numbers_for, range_of, born, takes_in, name_made, entry_made, takes_made, Names, SlotAgrees}
+use Rattle.fx_counted.proofs.Words.{NodeAgrees, OwnerAgrees, LogAgrees, ViewAgrees, Agrees, new_logs, word_of, place_of, slot_place, word_for}
+use Rattle.fx_counted.proofs.Words.{node_for, home_for, OpensWith, opening_of, slots_of, chain_numbers, IsNumber, state_after_all, new_log, once}
+use Rattle.fx_counted.proofs.Words.{Phase, unborn, seated, closed, Log, Start, View, Idle, ◌&&◌, length-map, at_map, first_view, first_file}
+use Rattle.fx_counted.proofs.Words.{OpeningKeeps}
+use Rattle.std.proofs.Common.{not}
 use Rattle.atomic_table.specs.Table.{opening}
-use Rattle.atomic_table.proofs.Lists.{at_map}
 use Rattle.fx_counted.specs.Agrees.{IsSeated}
-use Rattle.fx_counted.specs.Cuts.{first_view}
-use Rattle.fx_counted.specs.Opens.{first_file, OpeningKeeps}
 use Rattle.fx_counted.proofs.FullSlots.{full_few}
 use Rattle.fx_counted.proofs.Ones.{one_if, bit_here, bit_else}
 use Rattle.fx_counted.proofs.Places.{fewer_numbers}

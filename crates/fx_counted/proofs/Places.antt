@@ -1,6 +1,5 @@
 -- Places are inside, and apart.
-use Rattle.fx_counted.proofs.Words.{◌≡◌, ℕ, ◌+◌, ◌-◌, ◌*◌, ◌<◌, ◌≤◌, Bool, cond, ap, arith, lt-ltb, le-ltb, ⊎_elim, node_place}
-use Rattle.std.proofs.Math.Nat.{mul-le-mul_right}
+use Rattle.fx_counted.proofs.Words.{◌≡◌, ℕ, ◌+◌, ◌-◌, ◌*◌, ◌<◌, ◌≤◌, Bool, cond, ap, arith, lt-ltb, le-ltb, ⊎_elim, node_place, mul-le-mul_right}
 use Rattle.fx_counted.proofs.Words.{words_for, home_place, homes_for, HasNode, PlacesAreInside, PlacesAreApart}
 
 module _ (size : ℕ) where

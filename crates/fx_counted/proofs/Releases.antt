@@ -3,10 +3,8 @@ use Rattle.fx_counted.proofs.Words.{◌≡◌, ◌≢◌, ℕ, ◌+◌, ◌-◌,
 use Rattle.fx_counted.proofs.Words.{dite, some, none, ℕ_discrete, keeps, takes, stepped, step, set_here, set_else, Closed, ◌▷◌, State, numbered, File}
 use Rattle.fx_counted.proofs.Words.{Event, Release, Close, no_use, event_of, sum_at, sum_two, NodeAgrees, WorkAgrees, looks, word_of, place_of}
 use Rattle.fx_counted.proofs.Words.{IsNumber, state_after_all, shown, held_in, placing, held_of, holding, Phase, seated, leaving, retired, emptied}
-use Rattle.fx_counted.proofs.Words.{owner, file_in, LetsGo, TakesOut, Idle, Holding, Emptying, eqb}
+use Rattle.fx_counted.proofs.Words.{owner, file_in, LetsGo, TakesOut, Idle, Holding, Emptying, eqb, ReleasesKeep, Releases}
 use Rattle.std.proofs.Common.{length-set}
-use Rattle.fx_counted.specs.Laws.{ReleasesKeep}
-use Rattle.fx_counted.specs.Tells.{Releases}
 use Rattle.fx_counted.proofs.Births.{in_phase, word_now, home_now, roomy, else_place}
 use Rattle.fx_counted.proofs.Retirements.{sub_wraps, holding_it, few_looks, its_hold, spares_stay}
 use Rattle.fx_counted.proofs.Frames.{busy, does_now, owner_stays}

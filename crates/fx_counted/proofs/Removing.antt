@@ -1,10 +1,7 @@
 -- What a pass answers that removed a file from a slot, or found none.
 use Rattle.fx_counted.proofs.Words.{◌≡◌, ℕ, [], sym, refl, ap, ◌∙◌, subst, Option, Some, None, option_map, Result, Closed, ◌▷◌, numbered, File, Put}
-use Rattle.fx_counted.proofs.Words.{Clear, Take, Adds, no_use, one_number, PassView, next_number, Retired, doing_in, retires_now}
-use Rattle.std.specs.Prelude.{ok_or}
-use Rattle.fx_table.specs.Calls.{Placed, Cleared, Taken}
-use Rattle.fx_table.specs.Opening.{Opening}
-use Rattle.fx_table.specs.Pass.{retired_of}
+use Rattle.fx_counted.proofs.Words.{Clear, Take, Adds, no_use, one_number, PassView, next_number, Retired, doing_in, retires_now, ok_or, Placed}
+use Rattle.fx_counted.proofs.Words.{Cleared, Taken, Opening, retired_of}
 use Rattle.fx_table.specs.declared.values.Doing.TheVariants.{Idle as NowIdle, Retiring as NowRetiring}
 use Rattle.fx_table.specs.declared.values.Empty.{Empty}
 

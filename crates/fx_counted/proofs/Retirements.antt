@@ -4,10 +4,9 @@ use Rattle.fx_counted.proofs.Words.{Some, None, dite, some, none, ℕ_discrete, 
 use Rattle.fx_counted.proofs.Words.{changed_at, File, Event, Close, no_use, event_of, sum_at, retire_amount_of, NodeAgrees, WorkAgrees, Agrees, looks}
 use Rattle.fx_counted.proofs.Words.{word_of, place_of, IsNumber, state_after_all, shown, end_in, next_in, held_in, placing, held_of, holding, Phase}
 use Rattle.fx_counted.proofs.Words.{unborn, spare, leaving, retired, emptied, owner, file_in, TakesOut, View, Idle, Holding, Retiring, Emptying}
+use Rattle.fx_counted.proofs.Words.{RetiresKeep, Retires}
 use Rattle.std.proofs.Common.{length-set}
 use Rattle.atomic_table.specs.Table.{Allows}
-use Rattle.fx_counted.specs.Laws.{RetiresKeep}
-use Rattle.fx_counted.specs.Tells.{Retires}
 use Rattle.fx_counted.proofs.Births.{in_phase, word_now, home_now, roomy, else_place}
 use Rattle.fx_counted.proofs.Frames.{busy, does_now}
 use Rattle.fx_counted.proofs.Histories.{IsHistory, grows_none, grows_one, legal_more, held_mine, part_mine, change_here, change_else, looks_few}

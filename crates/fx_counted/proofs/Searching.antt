@@ -1,9 +1,8 @@
 -- A pass that looks for a free slot: what its steps leave, one after another.
 use Rattle.fx_counted.proofs.Words.{◌≡◌, ℕ, ◌+◌, Bool, [], ◌∷◌, sym, ap, ◌∙◌, subst, ◌≢◌, ne_eqb, eq-eqb, Some, dite, none, ℕ_discrete, step, rest}
 use Rattle.fx_counted.proofs.Words.{Closed, ◌▷◌, numbered, Allocate, Full, no_use, one_number, Goes, place_of, slot_of, Sat, StillPlaces}
-use Rattle.fx_counted.proofs.Words.{HasAllocated, Tries, Stepped, Exchanges, Change, Outside, Same, More, Start, Work, Idle, Placing}
-use Rattle.std.proofs.Common.{nat_eq}
-use Rattle.fx_counted.specs.Searching.{IsPlacing, HasFoundAllFull}
+use Rattle.fx_counted.proofs.Words.{HasAllocated, Tries, Stepped, Exchanges, Change, Outside, Same, More, Start, Work, Idle, Placing, nat_eq}
+use Rattle.fx_counted.proofs.Words.{IsPlacing, HasFoundAllFull}
 use Rattle.fx_counted.proofs.Going.{goes_one, goes_then, still_at_work}
 
 -- a step that leaves the pass at its work

@@ -3,10 +3,7 @@ use Rattle.fx_counted.proofs.Words.{sum_by, sum_by-append, ◌≡◌, ◌≢◌,
 use Rattle.fx_counted.proofs.Words.{arith, ◌⊎◌, inl, inr, ⊎_elim, length-append, eqb, some, some-injective, some-ne-none, get_elem?, at_set, set_else}
 use Rattle.fx_counted.proofs.Words.{at_longer, Event, sum_set, Does, WorkAgrees, LogAgrees, ViewAgrees, Agrees, lengths, in_change, added, removed_by}
 use Rattle.fx_counted.proofs.Words.{rest_of, first_of, without_first, first_alone, Shared, holding, Phase, Outside, Log, Start, View, Work, Idle}
-use Rattle.fx_counted.proofs.Words.{Change}
-use Rattle.atomic_table.proofs.Lists.{at_snoc}
-use Rattle.fx_counted.specs.Cuts.{together, spent}
-use Rattle.fx_counted.specs.Laws.{SplitsKeep, JoinsKeep}
+use Rattle.fx_counted.proofs.Words.{Change, at_snoc, together, spent, SplitsKeep, JoinsKeep}
 use Rattle.fx_counted.proofs.Frames.{busy, owner_map}
 use Rattle.fx_counted.proofs.Ones.{one_if, times}
 use Rattle.fx_counted.proofs.Keeping.{shape_kept}

@@ -1,10 +1,7 @@
 -- Files leave a table of one thread, and come back.
 use Rattle.fx_counted.proofs.Words.{◌≡◌, ◌≢◌, ℕ, zero, suc, ◌+◌, ◌<◌, ◌≤◌, List, [], ◌∷◌, ◌++◌, length, sym, refl, ap, ◌∙◌, subst, arith, ◌⊎◌, inl}
 use Rattle.fx_counted.proofs.Words.{inr, ⊎_elim, Option, Some, None, dite, ℕ_discrete, dec_le, Closed, State, IsSettled, Contents, state_of, file_at}
-use Rattle.fx_counted.proofs.Words.{changed_at, numbered, identity_of, AreBack, file_in_place}
-use Rattle.std.proofs.lemmas.List.{get_or_append_left}
-use Rattle.fx_plain.specs.Contents.{slot_at}
-use Rattle.fx_counted.specs.Shells.{IsShell}
+use Rattle.fx_counted.proofs.Words.{changed_at, numbered, identity_of, AreBack, file_in_place, get_or_append_left, slot_at, IsShell}
 use Rattle.fx_counted.proofs.Histories.{change_here, change_else}
 
 -- the last of a list of places, and those before it

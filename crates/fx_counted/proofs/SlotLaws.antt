@@ -4,13 +4,10 @@ use Rattle.fx_counted.proofs.Words.{Option, Some, None, inl, none, keeps, gives,
 use Rattle.fx_counted.proofs.Words.{Put, Clear, Take, Allocate, Use, no_use, one_number, range_of, name_in, takes_in, slot_word_of, Names, WorkAgrees}
 use Rattle.fx_counted.proofs.Words.{Agrees, if_full, HasPass, MayChange, place_of, slot_place, slot_of, Sat, opening_of, slots_of, state_after_all}
 use Rattle.fx_counted.proofs.Words.{Stepped, Exchanges, GoesOn, retires_now, turned, Change, Same, Log, Start, View, Work, Idle, Placing, placed}
-use Rattle.fx_counted.proofs.Words.{event_of, shown}
-use Rattle.std.proofs.lemmas.List.{set-get_or}
+use Rattle.fx_counted.proofs.Words.{event_of, shown, set-get_or, exchanged, ClearsKeep, TakesKeep, InstallsKeep, LoadsKeep, ExchangesKeep, Installs}
+use Rattle.fx_counted.proofs.Words.{Removes}
 use prog.Atomic.{either}
 use Rattle.atomic_table.specs.Table.{Allows}
-use Rattle.atomic_table.proofs.Lists.{exchanged}
-use Rattle.fx_counted.specs.Laws.{ClearsKeep, TakesKeep, InstallsKeep, LoadsKeep, ExchangesKeep}
-use Rattle.fx_counted.specs.Tells.{Installs, Removes}
 use Rattle.fx_counted.proofs.Births.{in_phase}
 use Rattle.fx_counted.proofs.Calm.{no_event, calm_agrees}
 use Rattle.fx_counted.proofs.Changes.{in_size, names_old, removal_agrees, removal_tells, installation_agrees, installation_tells, removed_view}

@@ -1,9 +1,8 @@
 -- A table that begins with the words and places of a table of one thread keeps the rule; and what comes back where memory is refused.
 use Rattle.fx_counted.proofs.Words.{◌≡◌, ℕ, zero, suc, ◌+◌, ◌≤◌, List, [], ◌∷◌, length, sym, refl, ap, ◌∙◌, arith, Option, Some, None, dite, some}
 use Rattle.fx_counted.proofs.Words.{some-injective, some-ne-none, dec_le, get_elem?, Closed, Contents, state_of, State, file_numbered, identity_of}
-use Rattle.fx_counted.proofs.Words.{File, IsGivenBack, MAX_CHAINS, chain_numbers, AreFirstWords, AreFirstHomes, home_place, homes_for, home_for, OpensWith}
-use Rattle.fx_counted.proofs.Words.{IsShellOf, AreBack, file_in_place, Start}
-use Rattle.fx_table.specs.declared.limits.TheConstants.{MAX_PASSES}
+use Rattle.fx_counted.proofs.Words.{File, IsGivenBack, MAX_CHAINS, chain_numbers, AreFirstWords, AreFirstHomes, home_place, homes_for, home_for}
+use Rattle.fx_counted.proofs.Words.{OpensWith, IsShellOf, AreBack, file_in_place, Start, MAX_PASSES}
 use Rattle.fx_counted.proofs.Places.{high_node, low_home, high_home}
 use Rattle.fx_counted.proofs.Shells.{none_outside}
 

@@ -1,10 +1,8 @@
 -- What a pass tells of a slot that it changes.
 use Rattle.fx_counted.proofs.Words.{◌≡◌, ℕ, ◌+◌, ◌-◌, ◌%◌, ◌^◌, Bool, true, false, inl, inr, sym, ap, ◌∙◌, subst, arith, none, step, one_change}
 use Rattle.fx_counted.proofs.Words.{end_amount_of, Agrees, InRange, HasToTell, in_change, added, removed_by, HasPass, MayChange, control_place, Sat}
-use Rattle.fx_counted.proofs.Words.{GoesOn, Answers, Change, Outside, Same, More, Less, Log, Start}
-use Rattle.std.specs.Prelude.{ℤ}
+use Rattle.fx_counted.proofs.Words.{GoesOn, Answers, Change, Outside, Same, More, Less, Log, Start, ℤ, begun, difference}
 use Rattle.atomic_table.specs.Table.{Allows}
-use Rattle.fx_counted.specs.Changing.{begun, difference}
 use Rattle.fx_counted.proofs.ControlSteps.{begins_keep, ends_keep, answers_keep}
 
 pub begins_by : (k : Start) (slots id i amount : ℕ) (m : Sat) (x : Log) → HasPass k m x → m.0.change ≡ Outside → i ≡ control_place

@@ -1,5 +1,5 @@
-use Rattle.fx_counted.proofs.Words.{◌≡◌, ◌<◌, ◌≤◌, ◌+◌, ℕ, length, List, [], ◌∷◌, ◌++◌, refl, sym, ap, ◌∙◌, subst, arith, length-append, Option}
-use Rattle.fx_counted.proofs.Words.{Some, None, dite, dec_le, Closed, state_of, file_in_place}
+use Rattle.fx_counted.proofs.Words.{◌≡◌, ◌<◌, ◌≤◌, ◌+◌, ℕ, length, List, [], ◌∷◌, ◌++◌, refl, sym, ap, ◌∙◌, subst, arith, length-append, Option, Some}
+use Rattle.fx_counted.proofs.Words.{None, dite, dec_le, Closed, state_of, file_in_place}
 use Rattle.fx_counted.proofs.Shells.{IsPartlyBack, Becomes, file_put, last_place, place_before, all_away, all_back, last_back, none_given}
 use Rattle.fx_counted.proofs.shell.put_all.Goals as goal
 

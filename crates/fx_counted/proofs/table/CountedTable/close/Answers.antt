@@ -1,9 +1,6 @@
 use Rattle.fx_counted.proofs.Words.{◌≡◌, List, [], ◌∷◌, ◌++◌, reverse, sym, ◌∙◌, ap, subst, arith, Option, Contains, All-contains}
 use Rattle.fx_counted.proofs.Words.{Contains-append_left, Seat, Closed, IsIdleSeatOf, logs_in, view_of, CountedPass, CountedTable, View}
-use Rattle.std.proofs.lemmas.List.{reverse-append}
-use Rattle.fx_table.proofs.Members.{each_all}
-use Rattle.fx_table.specs.Pass.{IsIdle}
-use Rattle.fx_counted.specs.Tables.{IsPassOfTable}
+use Rattle.fx_counted.proofs.Words.{reverse-append, each_all, IsIdle, IsPassOfTable}
 use Rattle.fx_counted.proofs.Gathered.{all_idle, closes}
 use Rattle.fx_counted.proofs.Going.{idle_work}
 use Rattle.fx_counted.proofs.table.CountedTable.close.Goals as goal

@@ -1,6 +1,5 @@
 use Rattle.fx_counted.proofs.Words.{◌≡◌, ◌+◌, ◌-◌, ◌≤◌, List, [], ◌∷◌, sym, ◌∙◌, ap, subst, arith, length, length-append, All, new_passes}
-use Rattle.fx_counted.proofs.Words.{without_first, first_alone, Sat, IsPassOf, CountedPass, View}
-use Rattle.std.proofs.lemmas.List.Elements.{All-push}
+use Rattle.fx_counted.proofs.Words.{without_first, first_alone, Sat, IsPassOf, CountedPass, View, All-push}
 use Rattle.fx_counted.proofs.Dealing.{rest_is_dealt, last_is_dealt, is_pass, is_new, one_more_view}
 use Rattle.fx_counted.proofs.Seats.{splits_keep}
 use Rattle.fx_counted.proofs.table.CountedTable.deal.Goals as goal

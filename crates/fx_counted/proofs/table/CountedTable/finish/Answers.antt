@@ -1,7 +1,7 @@
-use Rattle.fx_counted.proofs.Words.{◌≡◌, ◌+◌, ◌*◌, ℕ, List, sym, ap, ◌∙◌, subst, arith, Option, Some, None, some, some-injective, get_elem?, slots_items}
-use Rattle.fx_counted.proofs.Words.{slots_len, IsFull, Closed, Contents, IsPrepared, state_of, node_in, slot_place}
-use Rattle.fx_counted.proofs.Finishing.{word_at_place, home_at_end, known_at_end, leaves_at_end}
-use Rattle.fx_counted.proofs.Finishing.{some_back, none_back, none_named, place_emptied, none_emptied}
+use Rattle.fx_counted.proofs.Words.{◌≡◌, ◌+◌, ◌*◌, ℕ, List, sym, ap, ◌∙◌, subst, arith, Option, Some, None, some, some-injective, get_elem?}
+use Rattle.fx_counted.proofs.Words.{slots_items, slots_len, IsFull, Closed, Contents, IsPrepared, state_of, node_in, slot_place}
+use Rattle.fx_counted.proofs.Finishing.{word_at_place, home_at_end, known_at_end, leaves_at_end, some_back, none_back, none_named, place_emptied}
+use Rattle.fx_counted.proofs.Finishing.{none_emptied}
 use Rattle.fx_counted.proofs.HomeComing.{number_at, file_at, emptied, all_gone}
 use Rattle.fx_counted.proofs.Shells.{IsPartlyBack, all_back, file_put}
 use Rattle.fx_counted.proofs.table.CountedTable.finish.Goals.{in-Some+in-Some-take_home, in-Some+in_default-take_home, in_default}

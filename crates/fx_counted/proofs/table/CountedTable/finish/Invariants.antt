@@ -1,5 +1,4 @@
-use Rattle.fx_counted.proofs.Words.{◌≡◌, ◌<◌, ℕ, false, get_or, slots_items, slots_len, IsFull, state_of, IsPrepared}
-use Rattle.std.specs.Mem.Slots.{slots_filled}
+use Rattle.fx_counted.proofs.Words.{◌≡◌, ◌<◌, ℕ, false, get_or, slots_items, slots_len, IsFull, state_of, IsPrepared, slots_filled}
 use Rattle.std.specs.Mem.Slots.Ownership.{Filled}
 use Rattle.fx_counted.proofs.HomeComing.{file_at, emptied}
 use Rattle.fx_counted.proofs.Shells.{IsPartlyBack}

@@ -1,5 +1,4 @@
-use Rattle.fx_counted.proofs.Words.{List, sym, subst, arith, Contains, All-contains, IsIdleSeatOf, CountedPass}
-use Rattle.std.proofs.lemmas.List.Elements.{Contains-push}
+use Rattle.fx_counted.proofs.Words.{List, sym, subst, arith, Contains, All-contains, IsIdleSeatOf, CountedPass, Contains-push}
 use Rattle.fx_counted.proofs.Seats.{joins_keep}
 use Rattle.fx_counted.proofs.table.CountedTable.gather.Goals as goal
 

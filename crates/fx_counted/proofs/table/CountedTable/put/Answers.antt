@@ -1,9 +1,8 @@
 use Rattle.fx_counted.proofs.Words.{◌≡◌, ℕ, [], ◌∷◌, ap, ◌∙◌, subst, arith, Some, Closed, ◌▷◌, numbered, Put, takes_in, slot_word_of, Adds, no_use}
 use Rattle.fx_counted.proofs.Words.{one_number, if_full, place_of, slot_of, pass_of, doing_in, view_of, opening_of_table, Stepped, retires_now}
-use Rattle.fx_counted.proofs.Words.{turned, Outside, Start, Placing, Bool, true, false, sym, File, List, Log, None, Option, Retired, first_log, is_idle, option_map, refl, rest}
-use Rattle.std.specs.Prelude.{is_some, not}
-use Rattle.fx_table.specs.Pass.{retired_of}
-use Rattle.fx_counted.specs.Tables.{IsBetweenCalls}
+use Rattle.fx_counted.proofs.Words.{turned, Outside, Start, Placing, Bool, true, false, sym, File, List, Log, None, Option, Retired, first_log}
+use Rattle.fx_counted.proofs.Words.{is_idle, option_map, refl, rest, is_some, retired_of, IsBetweenCalls}
+use Rattle.std.specs.Prelude.{not}
 use Rattle.fx_counted.proofs.Calling.{slot_inside, slot_at}
 use Rattle.fx_counted.proofs.Going.{its_pass, adds_so, goes_one, goes_then, goes_around, still_pass}
 use Rattle.fx_counted.proofs.Removing.{placed_so}

@@ -1,5 +1,4 @@
-use Rattle.fx_counted.proofs.Words.{◌∙◌, subst, Outside}
-use Rattle.fx_counted.specs.Searching.{RoundEnds}
+use Rattle.fx_counted.proofs.Words.{◌∙◌, subst, Outside, RoundEnds}
 use Rattle.fx_counted.specs.declared.round.Round.{Round}
 use Rattle.fx_counted.proofs.Searching.{still_then, allocated_then, full_then}
 use Rattle.fx_counted.proofs.table.CountedTable.rounds.Goals as goal
