@@ -1,6 +1,7 @@
 use Rattle.fx_counted.proofs.Words.{◌≡◌, ◌<◌, ◌≤◌, ◌+◌, ℕ, length, List, [], ◌∷◌, ◌++◌, refl, sym, ap, ◌∙◌, subst, arith, length-append, Option, Some}
-use Rattle.fx_counted.proofs.Words.{None, dite, dec_le, Closed, state_of, file_in_place}
+use Rattle.fx_counted.proofs.Words.{None, dite, dec_le, Closed, state_of, file_in_place, State}
 use Rattle.fx_counted.proofs.Shells.{IsPartlyBack, Becomes, file_put, last_place, place_before, all_away, all_back, last_back, none_given}
+use Rattle.fx_counted.proofs.shell.put_all.Goals.{After-len-slot}
 use Rattle.fx_counted.proofs.shell.put_all.Goals as goal
 
 pub loop-file-init : goal.loop-file-init
@@ -32,37 +33,47 @@ is_slot size file others slot one is = dite (dec_le size slot)
     (λ g. let bad : Some one ≡ None = sym is ∙ others slot g in absurd (cc bad))
     (λ l. omega (arith, l))
 
+-- what was taken from the places, in the last of them
+module _ (c : After-len-slot) where
+  abbrev all : List (Option Closed)
+  all = c.args.places.items
+
+  abbrev now : List (Option Closed)
+  now = c.pop.new.self.items
+
+  abbrev shell : State
+  shell = state_of c.args.plain.now
+
+  abbrev left : State
+  left = state_of c.loop-file.plain
+
+  slot_is : c.len-slot.result ≡ length now
+  slot_is = omega (arith, c.len-slot.ensures, c.pop.new.self.ok.0)
+
+  at : file_in_place all (length now) ≡ c.in-Some.file
+  at = last_is all c.loop-file.places.items now c.in-Some.file c.in-Some.ensures.items c.loop-file.invariant.items
+
+  before : IsPartlyBack shell (file_in_place all) 0 (length now + 1) left
+  before = subst (λ (n : ℕ). IsPartlyBack shell (file_in_place all) 0 n left)
+      (one_less all c.loop-file.places.items now c.in-Some.file c.in-Some.ensures.items c.loop-file.invariant.items) c.loop-file.invariant.part
+
+  behind : (k : ℕ) → k < length now → file_in_place now k ≡ file_in_place all k
+  behind = same_before all c.loop-file.places.items now c.in-Some.file c.in-Some.ensures.items c.loop-file.invariant.items
+
+  inside : (one : Closed) → c.in-Some.file ≡ Some one → length now < length c.args.plain.now.slots
+  inside one is = is_slot _ (file_in_place all) c.requires.others (length now) one (at ∙ is)
+
 pub overflow_cast-slot : goal.overflow_cast-slot
-overflow_cast-slot c =
-    let e = c.in-Some.ensures.items in
-    let all : List (Option Closed) = c.args.places.items in
-    let at = last_is all c.loop-file.places.items c.pop.new.self.items c.in-Some.file e c.loop-file.invariant.items in
-    let len = c.len-slot.ensures in
-    let ok = c.pop.new.self.ok.0 in
-    let l = is_slot (length c.args.plain.now.slots) (file_in_place all) c.requires.others (length c.pop.new.self.items)
-    c.in-Some-file.file (at ∙ c.in-Some-file.is) in
-    let few = c.requires.few in
-    omega (arith, len, ok, l, few)
+overflow_cast-slot c = let a = (goal.at.overflow_cast-slot c).After-len-slot in
+    omega (arith, slot_is a, inside a c.in-Some-file.file c.in-Some-file.is, c.requires.few)
 
 pub put_back-requires-clause-slot : goal.put_back-requires-clause-slot
-put_back-requires-clause-slot c =
-    let e = c.in-Some.ensures.items in
-    let all : List (Option Closed) = c.args.places.items in
-    let at = last_is all c.loop-file.places.items c.pop.new.self.items c.in-Some.file e c.loop-file.invariant.items in
-    let len = c.len-slot.ensures in
-    let ok = c.pop.new.self.ok.0 in
-    let l = is_slot (length c.args.plain.now.slots) (file_in_place all) c.requires.others (length c.pop.new.self.items)
-    c.in-Some-file.file (at ∙ c.in-Some-file.is) in
-    let size = c.loop-file.invariant.part.size in
-    omega (arith, len, ok, l, size)
+put_back-requires-clause-slot c = let a = (goal.at.put_back-requires-clause-slot c).After-len-slot in
+    omega (arith, slot_is a, inside a c.in-Some-file.file c.in-Some-file.is, c.loop-file.invariant.part.size)
 
 pub put_back-requires-clause-empty : goal.put_back-requires-clause-empty
-put_back-requires-clause-empty c =
-    let all : List (Option Closed) = c.args.places.items in
-    let more = one_less all c.loop-file.places.items c.pop.new.self.items c.in-Some.file c.in-Some.ensures.items c.loop-file.invariant.items in
-    let len = c.len-slot.ensures in
-    let ok = c.pop.new.self.ok.0 in
-    c.loop-file.invariant.part.away c.len-slot.result (omega arith) (omega (arith, more, len, ok))
+put_back-requires-clause-empty c = let a = (goal.at.put_back-requires-clause-empty c).After-len-slot in
+    (before a).away c.len-slot.result (omega arith) (omega (arith, slot_is a))
 
 pub put_back-requires-clause-settled : goal.put_back-requires-clause-settled
 put_back-requires-clause-settled c = c.loop-file.invariant.part.settled
@@ -71,50 +82,23 @@ pub put_back-requires-clause-prepared : goal.put_back-requires-clause-prepared
 put_back-requires-clause-prepared c = c.loop-file.invariant.prepared
 
 pub loop-file-preserved-in-Some-file : goal.loop-file-preserved-in-Some-file
-loop-file-preserved-in-Some-file c =
-    let all : List (Option Closed) = c.args.places.items in
-    let i = c.loop-file.invariant in
-    let e = c.in-Some.ensures.items in
-    let now : List (Option Closed) = c.pop.new.self.items in
-    let more = one_less all c.loop-file.places.items now c.in-Some.file e i.items in
-    let at = last_is all c.loop-file.places.items now c.in-Some.file e i.items in
-    let len = c.len-slot.ensures in
-    let ok = c.pop.new.self.ok.0 in
-    let here : c.len-slot.result ≡ length now = omega (arith, len, ok) in
-    let a = state_of c.args.plain.now in
-    record {
-      part = last_back a (file_in_place all) (state_of c.loop-file.plain) (state_of c.put_back.new.self) 0 (length now)
-          (subst (λ (z : ℕ × Option Closed). Becomes (state_of c.loop-file.plain) z.0 z.1 (state_of c.put_back.new.self))
-          (λ j. (here j, sym (at ∙ c.in-Some-file.is) j))
-          (file_put _ _ c.len-slot.result c.in-Some-file.file i.part.settled c.put_back.ensures.state))
-          (subst (λ (n : ℕ). IsPartlyBack a (file_in_place all) 0 n (state_of c.loop-file.plain)) more i.part);
-      prepared = c.put_back.ensures.prepared;
-      items = same_before all c.loop-file.places.items now c.in-Some.file e i.items;
-    }
+loop-file-preserved-in-Some-file c = let a = (goal.at.loop-file-preserved-in-Some-file c).After-len-slot in record {
+  part = last_back (shell a) (file_in_place (all a)) (left a) (state_of c.put_back.new.self) 0 (length (now a))
+      (subst (λ (z : ℕ × Option Closed). Becomes (left a) z.0 z.1 (state_of c.put_back.new.self)) (λ j. (slot_is a j, sym (at a ∙ c.in-Some-file.is) j))
+      (file_put _ _ c.len-slot.result c.in-Some-file.file c.loop-file.invariant.part.settled c.put_back.ensures.state)) (before a);
+  prepared = c.put_back.ensures.prepared;
+  items = behind a;
+}
 
 pub loop-file-preserved : goal.loop-file-preserved
-loop-file-preserved c =
-    let all : List (Option Closed) = c.args.places.items in
-    let i = c.loop-file.invariant in
-    let e = c.in-Some.ensures.items in
-    let now : List (Option Closed) = c.pop.new.self.items in
-    let more = one_less all c.loop-file.places.items now c.in-Some.file e i.items in
-    let at = last_is all c.loop-file.places.items now c.in-Some.file e i.items in
-    let a = state_of c.args.plain.now in
-    let before = subst (λ (n : ℕ). IsPartlyBack a (file_in_place all) 0 n (state_of c.loop-file.plain)) more i.part in
-    record {
-      part = last_back a (file_in_place all) (state_of c.loop-file.plain) (state_of c.loop-file.plain) 0 (length now)
-          (none_given a (file_in_place all) (state_of c.loop-file.plain) (length now) 0 (length now + 1) (omega arith) (omega arith)
-          (at ∙ c.in_default-file.is) before) before;
-      prepared = i.prepared;
-      items = same_before all c.loop-file.places.items now c.in-Some.file e i.items;
-    }
+loop-file-preserved c = let a = (goal.at.loop-file-preserved c).After-len-slot in record {
+  part = last_back (shell a) (file_in_place (all a)) (left a) (left a) 0 (length (now a))
+      (none_given (shell a) (file_in_place (all a)) (left a) (length (now a)) 0 (length (now a) + 1) (omega arith) (omega arith)
+      (at a ∙ c.in_default-file.is) (before a)) (before a);
+  prepared = c.loop-file.invariant.prepared;
+  items = behind a;
+}
 
 pub returns : goal.returns
-returns c =
-    let i = c.loop-file.invariant in
-    let cases = c.in_default.ensures.cases.0 in
-    let ok = c.loop-file.places.ok.0 in
-    let none_left : length c.loop-file.places.items ≤ 0 = omega (arith, cases, ok) in
-    all_back (state_of c.args.plain.now) (file_in_place c.args.places.items) (state_of c.loop-file.plain) 0 (length c.loop-file.places.items)
-    none_left i.part
+returns c = all_back (state_of c.args.plain.now) (file_in_place c.args.places.items) (state_of c.loop-file.plain) 0 (length c.loop-file.places.items)
+    (omega (arith, c.in_default.ensures.cases.0, c.loop-file.places.ok.0)) c.loop-file.invariant.part
