@@ -1,11 +1,11 @@
 -- A draw keeps the rule.
 use Rattle.fx_counted.proofs.Words.{sum_by, ◌≡◌, ◌≢◌, ℕ, zero, suc, ◌+◌, ◌*◌, ◌%◌, ◌^◌, ◌<◌, ◌≤◌, Bool, true, false, cond, List, [], ◌∷◌, set, length}
 use Rattle.fx_counted.proofs.Words.{sym, refl, ap, ◌∙◌, subst, arith, eqb, lt-ltb, le-ltb, get_or-set_other, get_or-set_same, Option, Some, None, ◌⊎◌}
-use Rattle.fx_counted.proofs.Words.{inl, inr, ⊎_elim, dite, none, ℕ_discrete, dec_le, get_elem?, keeps, stepped, step, Closed, numbers_up_to}
-use Rattle.fx_counted.proofs.Words.{PassView, sum_by-cons, sum_set, sum_at, sum_le_at, NodeAgrees, OwnerAgrees, LogAgrees, lengths, Agrees}
-use Rattle.fx_counted.proofs.Words.{PlacesNext, WorkAgrees, DrawsCount, word_of, place_of, control_place, draw_place, slot_place, opening_of}
-use Rattle.fx_counted.proofs.Words.{state_after_all, chain_in, shown, first_log, drawn_of, told_of, once, placing, Phase, unborn, spare, owner}
-use Rattle.fx_counted.proofs.Words.{file_in, Log, View, Idle, looks, mul-add, mul-le-mul_left, Draws, DrawsKeep, first_or, DrawTells}
+use Rattle.fx_counted.proofs.Words.{inl, inr, ⊎_elim, dite, none, ℕ_discrete, dec_le, get_elem?, keeps, step, Closed, numbers_up_to, sum_by-cons}
+use Rattle.fx_counted.proofs.Words.{sum_set, sum_at, sum_le_at, NodeAgrees, OwnerAgrees, lengths, PlacesNext, WorkAgrees, DrawsCount, word_of}
+use Rattle.fx_counted.proofs.Words.{place_of, control_place, draw_place, slot_place, opening_of, state_after_all, chain_in, shown, first_log}
+use Rattle.fx_counted.proofs.Words.{drawn_of, told_of, once, placing, Phase, unborn, spare, owner, file_in, Log, View, Idle, looks, mul-add}
+use Rattle.fx_counted.proofs.Words.{mul-le-mul_left, Draws, DrawsKeep, first_or, DrawTells, next_in, end_in, chain_given}
 use Rattle.std.proofs.Common.{length-set}
 use Rattle.fx_counted.proofs.Frames.{owner_same}
 use Rattle.fx_counted.proofs.Histories.{grows_none}
@@ -22,23 +22,22 @@ pick (no _) a b = b
 given_out : ℕ → ℕ → ℕ → (ℕ → Phase) → ℕ → Phase
 given_out lo hi p phase n = pick (dec_le lo n) (pick (dec_le (n + 1) hi) (spare p) (phase n)) (phase n)
 
-given_in : (lo hi p : ℕ) (phase : ℕ → Phase) (n : ℕ) → lo ≤ n → n < hi → given_out lo hi p phase n ≡ spare p
+given_either : (lo hi p : ℕ) (phase : ℕ → Phase) (n : ℕ) → ((lo ≤ n) × (n < hi) × (given_out lo hi p phase n ≡ spare p))
+    ⊎ (((lo ≤ n) → (n < hi) → ⊥) × (given_out lo hi p phase n ≡ phase n))
 unfolding given_out
-given_in lo hi p phase n a b = go (dec_le lo n) (dec_le (n + 1) hi)
+given_either lo hi p phase n = go (dec_le lo n) (dec_le (n + 1) hi)
   where
-    go : (d : Dec (lo ≤ n)) (e : Dec (n + 1 ≤ hi)) → pick d (pick e (spare p) (phase n)) (phase n) ≡ spare p
-    go (yes _) (yes _) = refl
-    go (no f) e = absurd (f a)
-    go (yes _) (no f) = absurd (f (omega arith))
+    go : (d : Dec (lo ≤ n)) (e : Dec (n + 1 ≤ hi)) → ((lo ≤ n) × (n < hi) × (pick d (pick e (spare p) (phase n)) (phase n) ≡ spare p))
+        ⊎ (((lo ≤ n) → (n < hi) → ⊥) × (pick d (pick e (spare p) (phase n)) (phase n) ≡ phase n))
+    go (yes a) (yes b) = inl (a, omega arith, refl)
+    go (no f) e = inr (λ a b. f a, refl)
+    go (yes a) (no f) = inr (λ a b. f (omega arith), refl)
+
+given_in : (lo hi p : ℕ) (phase : ℕ → Phase) (n : ℕ) → lo ≤ n → n < hi → given_out lo hi p phase n ≡ spare p
+given_in lo hi p phase n a b = ⊎_elim (λ t. t.2) (λ t. absurd (t.0 a b)) (given_either lo hi p phase n)
 
 given_else : (lo hi p : ℕ) (phase : ℕ → Phase) (n : ℕ) → ((lo ≤ n) → (n < hi) → ⊥) → given_out lo hi p phase n ≡ phase n
-unfolding given_out
-given_else lo hi p phase n out = go (dec_le lo n) (dec_le (n + 1) hi)
-  where
-    go : (d : Dec (lo ≤ n)) (e : Dec (n + 1 ≤ hi)) → pick d (pick e (spare p) (phase n)) (phase n) ≡ phase n
-    go (yes a) (yes b) = absurd (out a (omega arith))
-    go (no f) e = refl
-    go (yes _) (no f) = refl
+given_else lo hi p phase n out = ⊎_elim (λ t. absurd (out t.0 t.1)) (λ t. t.1) (given_either lo hi p phase n)
 
 pub once_in : (n p : ℕ) → 0 < p → p ≤ n → once n p ≡ 1
 once_in n zero a b = absurd (omega arith)
@@ -101,8 +100,17 @@ module _ (turn : Turn) where
   word_is : (found + 1) % 2 ^ 64 ≡ found + 1
   word_is = let a = few_told in let b = d.counts in let c = d.few in let e = r.shape.chains in omega arith
 
+  told_v : told_of v ≡ one_if x.no_chains_left
+  told_v = let e : told_of v ≡ 0 + one_if x.no_chains_left = ap (λ (l : List Log). sum_by (λ z. one_if z.no_chains_left) l) one in omega arith
+
+  drawn_v : (c : ℕ) → drawn_of c v ≡ times c x.drawn
+  drawn_v c = let e : drawn_of c v ≡ 0 + times c x.drawn = ap (λ (l : List Log). sum_by (λ z. times c z.drawn) l) one in omega arith
+
   -- what a draw has to keep
-  module _ (y : Log) (number : y.number ≡ x.number) (front : y.front ≡ x.front) (looks_left : y.looks_left ≡ x.looks_left) (phase' : ℕ → Phase) where
+  module _ (drawn : List ℕ) (told : Bool) (left : ℕ) (phase' : ℕ → Phase) where
+    abbrev y : Log
+    y = record x { drawn = drawn; no_chains_left = told; numbers_left = left; steps = x.steps + 1 }
+
     abbrev w : View
     w = now v y v.work v.change
 
@@ -112,14 +120,15 @@ module _ (turn : Turn) where
     read_else : (place : ℕ) → place ≢ draw_place → word_at words' place ≡ word_at st.words place
     read_else place other = get_or-set_other st.words draw_place place (found + 1) 0 other
 
-    draw_step : ((n : ℕ) → (r.phase n ≡ phase' n) ⊎ ((r.phase n ≡ unborn) × (phase' n ≡ spare x.number)))
-        → LogAgrees v.start r.history phase' id v.work y → WorkAgrees v.start phase' id v.work
+    draw_step : v.work ≡ Idle → ((n : ℕ) → (r.phase n ≡ phase' n) ⊎ ((r.phase n ≡ unborn) × (phase' n ≡ spare x.number)))
+        → first_or 0 drawn ≤ v.start.chains → left ≤ 64 → left ≤ v.start.numbers * first_or 0 drawn
+        → ((n : ℕ) → next_in v.start y ≤ n → n < end_in v.start y → phase' n ≡ spare x.number)
         → DrawsCount v.start.chains v.start.numbers phase' (set st.views id w) (found + 1)
         → Step turn y v.work v.change r.history phase' words' st.homes
-    draw_step phases log work draws = let apart = far turn in record {
+    draw_step idle phases chain few inside spares draws = let apart = far turn in record {
       words = length-set st.words draw_place (found + 1);
       homes = refl;
-      number = number;
+      number = refl;
       grows = grows_none x.number r.history;
       legal = r.legal;
       slots = λ s l. slot_same v.start r.history r.history r.phase phase' s (word_at st.words (slot_place s))
@@ -156,8 +165,17 @@ module _ (turn : Turn) where
       };
       keeps = λ j u f other there holds. ⊎_elim (λ e. ap file_in (sym e)) (λ (e : (r.phase f.number ≡ unborn)
           × (phase' f.number ≡ spare x.number)). ap file_in e.1 ∙ sym (ap file_in e.0)) (phases f.number);
-      log = log;
-      work = work;
+      log = let o = its_log turn in let p = ap placing idle in record {
+        seen = o.seen;
+        own = o.own;
+        held = o.held;
+        chain = chain;
+        few_left = few;
+        left_inside = inside;
+        next = subst (PlacesNext v.start y) (sym idle) tt;
+        spares = λ n low high. spares n (omega arith) high;
+      };
+      work = subst (WorkAgrees v.start phase' id) (sym idle) tt;
       holds = λ n. omega arith;
       look_ups = omega arith;
       control = control_same st.views id v w here (state_after_all v.start r.history).at
@@ -166,18 +184,32 @@ module _ (turn : Turn) where
       draws = subst (DrawsCount v.start.chains v.start.numbers phase' (set st.views id w)) (sym (get_or-set_same st.words draw_place (found + 1) 0 wide)) draws;
     }
 
-    told_v : told_of v ≡ one_if x.no_chains_left
-    told_v = let e : told_of v ≡ 0 + one_if x.no_chains_left = ap (λ (l : List Log). sum_by (λ z. one_if z.no_chains_left) l) one in omega arith
-
-    drawn_v : (c : ℕ) → drawn_of c v ≡ times c x.drawn
-    drawn_v c = let e : drawn_of c v ≡ 0 + times c x.drawn = ap (λ (l : List Log). sum_by (λ z. times c z.drawn) l) one in omega arith
+    drawn_so : Step turn y v.work v.change r.history phase' words' st.homes → (carried : List (ℕ × Option Closed)) (slots : ℕ)
+        → Draws (opening_of v.start) (shown x v.work) (chain_given v.start.chains found) (shown y v.work)
+        → Made turn carried draw_place (λ _. found + 1) (DrawTells (step slots draw_place 1 0 none) (v, carried))
+    drawn_so kept carried slots draws = (
+      w,
+      keeps,
+      tt,
+      step_kept turn y v.work v.change r.history phase' words' st.homes kept,
+      record {
+        one = (y, refl);
+        draws = subst (λ (l : List Log). Draws (opening_of v.start) (shown (first_log l) v.work) (chain_given v.start.chains found) (shown y v.work))
+            (sym one) draws;
+        same = (refl, refl, refl, refl);
+        steps = let e = ap (λ (l : List Log). (first_log l).steps) one in omega arith;
+      },
+    )
 
   module _ (idle : v.work ≡ Idle) (untold : x.no_chains_left ≡ false) where
-    idle_work : (phase' : ℕ → Phase) → WorkAgrees v.start phase' id v.work
-    idle_work phase' = subst (WorkAgrees v.start phase' id) (sym idle) tt
-
     -- there is a next chain
     module _ (more : found < v.start.chains) where
+      abbrev lo : ℕ
+      lo = numbers_up_to v.start.numbers found
+
+      abbrev hi : ℕ
+      hi = numbers_up_to v.start.numbers (found + 1)
+
       nobody_told : sum_by told_of st.views ≡ 0
       nobody_told = dite (ℕ_discrete (sum_by told_of st.views) 0) (λ e. e) (λ ne. let a = d.all (omega (arith, ne)) in
           let b = d.counts in absurd (omega arith))
@@ -189,147 +221,67 @@ module _ (turn : Turn) where
       one_more : v.start.numbers * (found + 1) ≡ v.start.numbers * found + v.start.numbers
       one_more = let a = mul-add v.start.numbers found 1 in omega (arith, a)
 
-      -- the first numbers of the table's
-      within : v.start.numbers * (found + 1) ≤ v.start.numbers * v.start.chains
-      within = mul-le-mul_left v.start.numbers (omega arith)
-
       given_numbers : v.start.numbers * d.given ≡ v.start.numbers * found
       given_numbers = ap (λ (c : ℕ). v.start.numbers * c) given_is
 
-      abbrev y : Log
-      y = record x { drawn = (found + 1) ∷ x.drawn; numbers_left = v.start.numbers; steps = x.steps + 1 }
-
       abbrev phase' : ℕ → Phase
-      phase' = given_out (numbers_up_to v.start.numbers found) (numbers_up_to v.start.numbers (found + 1)) x.number r.phase
-
-      was_unborn : (n : ℕ) → numbers_up_to v.start.numbers found ≤ n → n < numbers_up_to v.start.numbers (found + 1) → r.phase n ≡ unborn
-      was_unborn n low high = d.unused n (omega (arith, low, given_numbers)) (omega (arith, high, within))
+      phase' = given_out lo hi x.number r.phase
 
       phases : (n : ℕ) → (r.phase n ≡ phase' n) ⊎ ((r.phase n ≡ unborn) × (phase' n ≡ spare x.number))
-      phases n = dite (dec_le (numbers_up_to v.start.numbers found) n)
-          (λ low. dite (dec_le (n + 1) (numbers_up_to v.start.numbers (found + 1)))
-          (λ high. inr (
-            was_unborn n low (omega (arith, high)),
-            given_in (numbers_up_to v.start.numbers found)
-                (numbers_up_to v.start.numbers (found + 1)) x.number r.phase n low (omega (arith, high)),
-          ))
-          (λ high. inl (sym (given_else (numbers_up_to v.start.numbers found) (numbers_up_to v.start.numbers (found + 1)) x.number r.phase n (λ a b. high (omega arith))))))
-          (λ low. inl (sym (given_else (numbers_up_to v.start.numbers found) (numbers_up_to v.start.numbers (found + 1)) x.number r.phase n (λ a b. low a))))
+      phases n = ⊎_elim (λ t. inr (
+        d.unused n (omega (arith, t.0, given_numbers)) (let all : v.start.numbers * (found + 1) ≤ v.start.numbers * v.start.chains = mul-le-mul_left v.start.numbers (omega arith) in
+        omega (arith, t.1, all)),
+        t.2,
+      )) (λ t. inl (sym t.1)) (given_either lo hi x.number r.phase n)
 
-      counts : DrawsCount v.start.chains v.start.numbers phase' (set st.views id (now v y v.work v.change)) (found + 1)
-      counts = let w : View = now v y v.work v.change in let t = sum_set told_of st.views id v w here in
-          let tv = told_v y refl refl refl phase' in let z = nobody_told in let g = given_is in record {
+      counts : DrawsCount v.start.chains v.start.numbers phase' (set st.views id (w ((found + 1) ∷ x.drawn) x.no_chains_left v.start.numbers phase')) (found + 1)
+      counts = let w = w ((found + 1) ∷ x.drawn) x.no_chains_left v.start.numbers phase' in let t = sum_set told_of st.views id v w here in
+          let tv = told_v in let z = nobody_told in let g = given_is in record {
             given = found + 1;
             few = omega arith;
-            each = λ c. let s = sum_set (drawn_of c) st.views id v w here in let e = d.each c in
-                let dv = drawn_v y refl refl refl phase' c in
+            each = λ c. let s = sum_set (drawn_of c) st.views id v w here in let e = d.each c in let dv = drawn_v c in
                 let co = sum_by-cons (λ d. one_if (eqb d c)) (found + 1) x.drawn in let gg = ap (λ (n : ℕ). once n c) g in
                 let more = once_more found c in omega arith;
             counts = omega arith;
             all = λ some_told. absurd (omega arith);
-            unused = λ n low high. given_else (numbers_up_to v.start.numbers found) (numbers_up_to v.start.numbers (found + 1)) x.number r.phase n
-                (λ a b. omega (arith, low, b)) ∙ d.unused n (omega (arith, low, given_numbers, one_more)) high;
+            unused = λ n low high. given_else lo hi x.number r.phase n (λ a b. omega (arith, low, b))
+                ∙ d.unused n (omega (arith, low, given_numbers, one_more)) high;
           }
 
-      log : LogAgrees v.start r.history phase' id v.work y
-      log = let o = its_log turn in let p = ap placing idle in record {
-        seen = o.seen;
-        own = o.own;
-        held = o.held;
-        chain = omega arith;
-        few_left = r.shape.numbers;
-        left_inside = omega (arith, one_more);
-        next = subst (PlacesNext v.start y) (sym idle) tt;
-        spares = λ n low high. given_in (numbers_up_to v.start.numbers found) (numbers_up_to v.start.numbers (found + 1)) x.number r.phase n (omega (arith, low, one_more)) high;
-      }
-
-      drawn_agrees : Agrees v.start (stepped st draw_place (found + 1) id [] (now v y v.work v.change) keeps)
-      drawn_agrees = step_kept turn y v.work v.change r.history phase'
-          (set st.words draw_place (found + 1)) st.homes (draw_step y refl refl refl phase' phases log (idle_work phase') counts)
-
-      drawn_tells : (carried : List (ℕ × Option Closed)) (slots : ℕ)
-          → DrawTells (step slots draw_place 1 0 none) (v, carried) found (now v y v.work v.change, carried)
-      drawn_tells carried slots = let g = given_is in let c = chain_few in record {
-        one = (y, refl);
-        draws = subst (λ (z : PassView × Option ℕ). Draws (opening_of v.start) z.0 z.1 (shown y v.work))
-            (λ i. (
-              shown (first_log (sym one i)) v.work,
-              sym
-                  (ap (λ (b : Bool). cond b (Some (found + 1)) None) (lt-ltb found v.start.chains more)) i,
-            ))
-            (untold, omega arith, omega arith, refl);
-        same = (refl, refl, refl, refl);
-        steps = let e = ap (λ (l : List Log). (first_log l).steps) one in omega arith;
-      }
+      next_drawn : (carried : List (ℕ × Option Closed)) (slots : ℕ)
+          → Made turn carried draw_place (λ _. found + 1) (DrawTells (step slots draw_place 1 0 none) (v, carried))
+      next_drawn carried slots = drawn_so ((found + 1) ∷ x.drawn) x.no_chains_left v.start.numbers phase'
+          (draw_step _ _ _ phase' idle phases (omega arith) r.shape.numbers (omega (arith, one_more))
+          (λ n low high. given_in lo hi x.number r.phase n (omega (arith, low, one_more)) high) counts) carried slots
+          (let g = given_is in let c = chain_few in
+          subst (λ (c : Option ℕ). Draws (opening_of v.start) (shown x v.work) c (shown (y ((found + 1) ∷ x.drawn) x.no_chains_left v.start.numbers phase') v.work))
+          (sym (ap (λ (b : Bool). cond b (Some (found + 1)) None) (lt-ltb found v.start.chains more))) (untold, omega arith, omega arith, refl))
 
     -- there are no more
     module _ (done : v.start.chains ≤ found) where
-      all_given : d.given ≡ v.start.chains
-      all_given = let b = d.counts in let c = d.few in
-          dite (ℕ_discrete (sum_by told_of st.views) 0) (λ e. omega (arith, e)) (λ ne. d.all (omega (arith, ne)))
-
-      abbrev y' : Log
-      y' = record x { no_chains_left = true; steps = x.steps + 1 }
-
-      counts' : DrawsCount v.start.chains v.start.numbers r.phase (set st.views id (now v y' v.work v.change)) (found + 1)
-      counts' = let w : View = now v y' v.work v.change in let t = sum_set told_of st.views id v w here in
-          let tv = told_v y' refl refl refl r.phase in let u = ap one_if untold in record {
+      counts' : DrawsCount v.start.chains v.start.numbers r.phase (set st.views id (w x.drawn true x.numbers_left r.phase)) (found + 1)
+      counts' = let w = w x.drawn true x.numbers_left r.phase in let t = sum_set told_of st.views id v w here in
+          let tv = told_v in let u = ap one_if untold in let b = d.counts in let few = d.few in record {
             given = d.given;
             few = d.few;
-            each = λ c. let s = sum_set (drawn_of c) st.views id v w here in let e = d.each c in
-                let dv = drawn_v y' refl refl refl r.phase c in omega arith;
-            counts = let b = d.counts in omega arith;
-            all = λ some_told. all_given;
+            each = λ c. let s = sum_set (drawn_of c) st.views id v w here in let e = d.each c in let dv = drawn_v c in omega arith;
+            counts = omega arith;
+            all = λ some_told. dite (ℕ_discrete (sum_by told_of st.views) 0) (λ e. omega (arith, e)) (λ ne. d.all (omega (arith, ne)));
             unused = d.unused;
           }
 
-      log' : LogAgrees v.start r.history r.phase id v.work y'
-      log' = let o = its_log turn in record {
-        seen = o.seen;
-        own = o.own;
-        held = o.held;
-        chain = o.chain;
-        few_left = o.few_left;
-        left_inside = o.left_inside;
-        next = subst (PlacesNext v.start y') (sym idle) tt;
-        spares = o.spares;
-      }
-
-      told_agrees : Agrees v.start (stepped st draw_place (found + 1) id [] (now v y' v.work v.change) keeps)
-      told_agrees = step_kept turn y' v.work v.change r.history r.phase
-          (set st.words draw_place (found + 1)) st.homes
-          (draw_step y' refl refl refl r.phase (λ n. inl refl) log' (idle_work r.phase) counts')
-
-      told_tells : (carried : List (ℕ × Option Closed)) (slots : ℕ)
-          → DrawTells (step slots draw_place 1 0 none) (v, carried) found (now v y' v.work v.change, carried)
-      told_tells carried slots = record {
-        one = (y', refl);
-        draws = subst (λ (z : PassView × Option ℕ). Draws (opening_of v.start) z.0 z.1 (shown y' v.work))
-            (λ i. (
-              shown (first_log (sym one i)) v.work,
-              sym
-                  (ap (λ (b : Bool). cond b (Some (found + 1)) None) (le-ltb found v.start.chains done)) i,
-            )) refl;
-        same = (refl, refl, refl, refl);
-        steps = let e = ap (λ (l : List Log). (first_log l).steps) one in omega arith;
-      }
+      none_drawn : (carried : List (ℕ × Option Closed)) (slots : ℕ)
+          → Made turn carried draw_place (λ _. found + 1) (DrawTells (step slots draw_place 1 0 none) (v, carried))
+      none_drawn carried slots = let o = its_log turn in let p = ap placing idle in
+          drawn_so x.drawn true x.numbers_left r.phase (draw_step _ _ _ r.phase idle (λ n. inl refl) o.chain o.few_left o.left_inside
+          (λ n low high. o.spares n (omega arith) high) counts') carried slots
+          (subst (λ (c : Option ℕ). Draws (opening_of v.start) (shown x v.work) c (shown (y x.drawn true x.numbers_left r.phase) v.work))
+          (sym (ap (λ (b : Bool). cond b (Some (found + 1)) None) (le-ltb found v.start.chains done))) refl)
 
 pub draws_keep : DrawsKeep
 draws_keep k slots id i m x has idle untold place = by_turn k slots id i m x (λ _. Unit {0}) (λ _. draw_place) (λ word. (word + 1) % 2 ^ 64)
     (λ i. DrawTells (step slots i 1 0 none) m) has tt place (λ st r here _ fits. let turn = turn_of m x has.1 id st r here in
     subst (λ (z : ℕ). Made turn m.1 draw_place (λ _. z) (DrawTells (step slots draw_place 1 0 none) m)) (sym (word_is turn))
     (dite (dec_le (found turn + 1) m.0.start.chains)
-    (λ next. let more : found turn < m.0.start.chains = omega (arith, next) in (
-      now m.0 (y turn idle untold more) m.0.work m.0.change,
-      keeps,
-      tt,
-      drawn_agrees turn idle untold more,
-      drawn_tells turn idle untold more m.1 slots,
-    ))
-    (λ done. let d : m.0.start.chains ≤ found turn = omega (arith, done) in (
-      now m.0 (y' turn idle untold d) m.0.work m.0.change,
-      keeps,
-      tt,
-      told_agrees turn idle untold d,
-      told_tells turn idle untold d m.1 slots,
-    ))))
+    (λ next. next_drawn turn idle untold (omega (arith, next)) m.1 slots)
+    (λ done. none_drawn turn idle untold (omega (arith, done)) m.1 slots)))
