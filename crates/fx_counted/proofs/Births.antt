@@ -3,9 +3,9 @@ use Rattle.fx_counted.proofs.Words.{◌≡◌, ◌≢◌, ℕ, ◌+◌, ◌*◌,
 use Rattle.fx_counted.proofs.Words.{◌⊎◌, inr, ⊎_elim, dite, some, none, ℕ_discrete, get_elem?, takes, gives, rest, stepped, step, set_here, set_else}
 use Rattle.fx_counted.proofs.Words.{Closed, File, changed_at, no_use, next_number, born, Home, NodeAgrees, OwnerAgrees, WorkAgrees, PlacesNext}
 use Rattle.fx_counted.proofs.Words.{Agrees, word_of, place_of, opening_of, chain_in, chain_numbers, first_log, pass_of, IsNumber, state_after_all}
-use Rattle.fx_counted.proofs.Words.{end_in, next_in, held_in, placing, held_of, holding, Phase, unborn, spare, placed, emptied, closed, owner}
-use Rattle.fx_counted.proofs.Words.{file_in, Stepped, Start, View, Idle, Placing, Holding, Emptying, looks, mul-le-mul_left, BirthsKeep, RestsKeep}
-use Rattle.fx_counted.proofs.Words.{Births, Rests}
+use Rattle.fx_counted.proofs.Words.{end_in, next_in, held_in, placing, held_of, holding, Phase, spare, placed, emptied, closed, owner, file_in}
+use Rattle.fx_counted.proofs.Words.{Stepped, Start, View, Idle, Placing, Holding, Emptying, looks, mul-le-mul_left, BirthsKeep, RestsKeep, Births}
+use Rattle.fx_counted.proofs.Words.{Rests, inl}
 use Rattle.std.proofs.Common.{length-set}
 use Rattle.fx_counted.proofs.Histories.{grows_none, change_here, change_else}
 use Rattle.fx_counted.proofs.Frames.{busy, does_now}
@@ -65,10 +65,7 @@ module _ (turn : Turn) where
       told = one_same v b r.history;
       homes = length-set st.homes (place_of v.start b) none;
       home_else = λ m has other. set_else st.homes (place_of v.start b) (place_of v.start m) none (else_place b its_b m has other);
-      seat = λ s f is. absurd (cc (sym is ∙ is_spare));
-      mine = λ some not_mine. absurd (some (ap owner is_spare));
-      spared = λ p is other. absurd (other (cc (sym is ∙ is_spare)));
-      unused = λ is. absurd (cc (sym is ∙ is_spare));
+      may = inr (inr (inl is_spare));
       keeps = λ j u f other there holds same. absurd (let k = ((r.each_view j u there).work) in
           let e : file_in (r.phase f.number) ≡ Some f.identity = held_file v.start r.phase j u f holds k in
           let g : file_in (r.phase f.number) ≡ None = ap (λ (m : ℕ). file_in (r.phase m)) same
@@ -94,8 +91,7 @@ module _ (turn : Turn) where
 
   -- a rest, of a number whose file is closed, or which was placed in vain
   module _ (q : ℕ) (its : IsNumber v.start q) (ph ph' : Phase) (is : r.phase q ≡ ph) (owned : owner ph ≡ id + 1)
-      (no_file : file_in ph ≡ None) (not_new : ph ≢ unborn) (not_spare : (p : ℕ) → ph ≢ spare p)
-      (d : held_in v.work ≡ None) (works : busy v.work ≡ q + 1) (none_held : (n : ℕ) → holding n v.work ≡ 0) where
+      (no_file : file_in ph ≡ None) (d : held_in v.work ≡ None) (works : busy v.work ≡ q + 1) (none_held : (n : ℕ) → holding n v.work ≡ 0) where
     rest_step : NodeAgrees (state_after_all v.start r.history) q (looks r.history q) 0
         (some (some None)) ph' → OwnerAgrees
         (set st.views id (went turn r.history Idle v.change)) q ph'
@@ -107,10 +103,7 @@ module _ (turn : Turn) where
       told = one_same v q r.history;
       homes = length-set st.homes (place_of v.start q) (some None);
       home_else = λ m has other. set_else st.homes (place_of v.start q) (place_of v.start m) (some None) (else_place q its m has other);
-      seat = λ s f seated_is. absurd (let e : 0 ≡ id + 1 = ap owner (sym seated_is ∙ is) ∙ owned in omega arith);
-      mine = λ some not_mine. absurd (not_mine (ap owner is ∙ owned));
-      spared = λ p spare_is other. absurd (not_spare p (sym is ∙ spare_is));
-      unused = λ unborn_is. absurd (not_new (sym is ∙ unborn_is));
+      may = inr (inl (ap owner is ∙ owned));
       keeps = λ j u f other there holds same. absurd
           (let e : file_in (r.phase f.number) ≡ Some f.identity = held_file v.start r.phase j u f holds
           ((r.each_view j u there).work) in
@@ -134,7 +127,7 @@ module _ (turn : Turn) where
   rest_emptied q is = let w = subst (WorkAgrees v.start r.phase id) is (its_work turn) in
       let n = in_phase q w.0 (emptied id) w.1 in let o = its_log turn in (
         w.0,
-        rest_step q w.0 (emptied id) closed w.1 refl refl (λ bad. cc bad) (λ p bad. cc bad) (ap held_in is) (ap busy is)
+        rest_step q w.0 (emptied id) closed w.1 refl refl (ap held_in is) (ap busy is)
             (λ m. ap (holding m) is) (refl, refl, n.2, n.3) tt
             (λ m low high. let p = ap placing is in let s = o.spares m (omega arith) high in
             change_else r.phase q closed m (λ same. cc (sym s ∙ (ap r.phase same ∙ w.1))) ∙ s),
@@ -147,7 +140,7 @@ module _ (turn : Turn) where
       let n = in_phase q w.0 (placed id) w.1 in let o = its_log turn in
       let next : (q ≡ next_in v.start x) × (0 < x.numbers_left) = subst (PlacesNext v.start x) is o.next in (
         w.0,
-        rest_step q w.0 (placed id) (spare x.number) w.1 refl refl (λ bad. cc bad) (λ p bad. cc bad) (ap held_in is)
+        rest_step q w.0 (placed id) (spare x.number) w.1 refl refl (ap held_in is)
             (ap busy is) (λ m. ap (holding m) is) (refl, refl, n.2, n.3, n.4, n.5) tt
             (λ m low high. let p = ap placing is in
             dite (ℕ_discrete m q) (λ same. change_here r.phase q (spare x.number) m same)

@@ -105,6 +105,10 @@ outside k [] may slot l =
 outside k (e ∷ h) may slot l = let size = (same_shape k h).0 in
     outside_step (state_after_all k h) e.action slot (omega arith) may.1 (outside k h may.0 slot l)
 
+-- what each pass shows
+abbrev pub showing : Log → PassView
+showing x = shown x Idle
+
 -- no pass does anything
 module _ (k : Start) (s : Shared) (r : Agrees k s) (all_idle : (i : ℕ) (u : View) → get_elem? s.views i ≡ some u → u.work ≡ Idle) where
   abbrev end : State
@@ -204,10 +208,6 @@ module _ (k : Start) (s : Shared) (r : Agrees k s) (seat : ℕ) (v : View) (at :
       (λ same. let is : v ≡ u = some-injective v u (sym at ∙ (ap (λ (j : ℕ). get_elem? s.views j) (sym same) ∙ e)) in
       ap (λ (z : View). z.work) (sym is) ∙ idle)
       (λ other. ((r.each_view i u e).empty (empty_else i u other e)).0)
-
-  -- what each pass shows
-  abbrev pub showing : Log → PassView
-  showing x = shown x Idle
 
   log_at : (x : Log) → Contains v.logs x → LogAgrees k r.history r.phase seat v.work x
   log_at x has = let i = place_in v.logs x has in (r.each_view seat v at).logs i.0 x i.1

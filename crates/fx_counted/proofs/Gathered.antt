@@ -74,30 +74,28 @@ module _ (id : TableId) (k : Start) where
     all_idle = idle_each k s r seat v at idle all_logs
 
     -- what a pass shows is what its log shows, its doing aside
-    shown_in : (p : CountedPass) → Contains ps p → Contains (map (showing k s r seat v at idle all_logs) v.logs)
-        (showing k s r seat v at idle all_logs (log_of p))
-    shown_in p h = contains_mapped (showing k s r seat v at idle all_logs) v.logs (log_of p)
+    shown_in : (p : CountedPass) → Contains ps p → Contains (map showing v.logs) (showing (log_of p))
+    shown_in p h = contains_mapped showing v.logs (log_of p)
         (subst (λ (l : List Log). Contains l (log_of p)) (sym logs_are) (log_in (reverse ps) p each_back (contains_reversed ps p h)))
 
     view_from : (w : PassView) → Contains (map view_of ps) w → (p : CountedPass) × Contains ps p × (w ≡ view_of p)
     view_from w h = contains_map view_of ps w h
 
-    pass_from : (w : PassView) → Contains (map (showing k s r seat v at idle all_logs) v.logs) w
-        → (p : CountedPass) × Contains ps p × (w ≡ showing k s r seat v at idle all_logs (log_of p))
+    pass_from : (w : PassView) → Contains (map showing v.logs) w → (p : CountedPass) × Contains ps p × (w ≡ showing (log_of p))
     pass_from w h =
-        let x = contains_map (showing k s r seat v at idle all_logs) v.logs w h in
+        let x = contains_map showing v.logs w h in
         let p = log_from (reverse ps) x.0 each_back (subst (λ (l : List Log). Contains l x.0) logs_are x.1) in
-        (p.0, contains_reverse ps p.0 p.1, x.2 ∙ ap (showing k s r seat v at idle all_logs) p.2)
+        (p.0, contains_reverse ps p.0 p.1, x.2 ∙ ap showing p.2)
 
     module _ (some_passes : 0 < k.passes) (left : Contents) (files : HasSameFiles (state_after_all k r.history) (state_of left))
         (at_rest : IsSettled (state_of left)) where
-      c : ClosesTable (opening_of k) (map (showing k s r seat v at idle all_logs) v.logs) left
+      c : ClosesTable (opening_of k) (map showing v.logs) left
       c = closes_logs k s r seat v at idle all_logs left files at_rest some_passes
 
       drawn_once : (chain : ℕ) → sum_by (times_drawn chain) (map view_of ps) ≤ 1
       drawn_once chain =
           let a = c.drawn_once chain in
-          let b = sum_map (times_drawn chain) (showing k s r seat v at idle all_logs) v.logs in
+          let b = sum_map (times_drawn chain) showing v.logs in
           let d = sum_map (times_drawn chain) view_of ps in
           let e = sum_logs (λ x. times chain x.drawn) (reverse ps) each_back in
           let f = ap (sum_by (λ (x : Log). times chain x.drawn)) logs_are in

@@ -77,10 +77,7 @@ module _ (turn : Turn) (idle : turn.v.work ≡ Idle) (some_left : 0 < turn.x.loo
           (part_mine x.number e r.history refl) (omega arith) some_more its
 
       -- what is the same whatever was found
-      module _ (at_same : (state_after_all v.start h').at ≡ old.at)
-          (fresh_same : (state_after_all v.start h').fresh ≡ old.fresh)
-          (removed_same : (state_after_all v.start h').removed ≡ old.removed)
-          (size_same : (state_after_all v.start h').size ≡ old.size)
+      module _ (at_same : (state_after_all v.start h').at ≡ old.at) (removed_same : (state_after_all v.start h').removed ≡ old.removed)
           (slot : SlotAgrees v.start h' r.phase s word')
           (looks_else : (i : ℕ) → i < slots_of v.start → i ≢ s → (f : File) → old.at i ≡ Some f
           → r.phase f.number ≡ seated i f.identity → looks h' f.number ≡ looks r.history f.number)
@@ -123,7 +120,7 @@ module _ (turn : Turn) (idle : turn.v.work ≡ Idle) (some_left : 0 < turn.x.loo
         look_agrees = slot_agrees turn s inside y (holds_now file) v.change h' r.phase word' st.homes look_step
 
     missed : (is : old.at s ≡ None) → Agrees v.start (stepped st (slot_place s) word' id [] (w None is) keeps)
-    missed is = look_agrees None is refl refl refl refl
+    missed is = look_agrees None is refl refl
         record {
           names = subst (Names word') (sym is) (names_now None (subst (Names found) is so.names));
           seat = subst (IsSeated v.start (looks r.history) r.phase s word') (sym is) tt;
@@ -167,7 +164,7 @@ module _ (turn : Turn) (idle : turn.v.work ≡ Idle) (some_left : 0 < turn.x.loo
           (r.each_node n has))
 
       hit : Agrees v.start record { words = set st.words (slot_place s) word'; homes = st.homes; views = set st.views id (w (Some f) is) }
-      hit = look_agrees (Some f) is refl refl refl refl
+      hit = look_agrees (Some f) is refl refl
           record {
             names = subst (Names word') (sym is) (names_now (Some f) (subst (Names found) is so.names));
             seat = subst (IsSeated v.start (looks h₁) r.phase s word') (sym is) (

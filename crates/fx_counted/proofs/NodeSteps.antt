@@ -4,7 +4,7 @@ use Rattle.fx_counted.proofs.Words.{get_or-set_same, Option, Bool, dite, some, �
 use Rattle.fx_counted.proofs.Words.{range_of, NodeAgrees, OwnerAgrees, WorkAgrees, PlacesNext, Agrees, full_in, looks, all_looks, control_place}
 use Rattle.fx_counted.proofs.Words.{draw_place, slot_place, node_place, home_place, PlacesAreInside, PlacesAreApart, opening_of, slots_of}
 use Rattle.fx_counted.proofs.Words.{chain_numbers, IsNumber, state_after_all, end_in, next_in, held_in, placing, held_of, Phase, unborn, spare}
-use Rattle.fx_counted.proofs.Words.{seated, owner, file_in, Log, View, Work, Holding}
+use Rattle.fx_counted.proofs.Words.{seated, owner, file_in, Log, View, Work, Holding, retired, inl, inr, ⊎_elim, ◌⊎◌}
 use Rattle.std.proofs.Common.{length-set}
 use Rattle.fx_counted.proofs.Places.{inside, apart}
 use Rattle.fx_counted.proofs.Histories.{Grows, IsHistory, change_here, change_else}
@@ -62,10 +62,7 @@ module _ (turn : Turn) where
       pub home_else : (n : ℕ) → IsNumber v.start n → n ≢ q
           → get_elem? homes' (home_place (slots_of v.start) n) ≡ get_elem? st.homes (home_place (slots_of v.start) n)
       -- the phase may change
-      pub seat : (s : ℕ) (f : Closed) → r.phase q ≡ seated s f → ph ≡ seated s f
-      pub mine : owner (r.phase q) ≢ 0 → owner (r.phase q) ≢ id + 1 → ph ≡ r.phase q
-      pub spared : (p : ℕ) → r.phase q ≡ spare p → p ≢ x.number → ph ≡ spare p
-      pub unused : r.phase q ≡ unborn → ph ≡ unborn
+      pub may : (ph ≡ r.phase q) ⊎ (owner (r.phase q) ≡ id + 1) ⊎ (r.phase q ≡ spare x.number) ⊎ ((f : Closed) × (r.phase q ≡ retired f))
       pub keeps : (j : ℕ) (u : View) (f : File) → j ≢ id → get_elem? st.views j ≡ some u → u.work ≡ Holding f
           → f.number ≡ q → file_in ph ≡ file_in (r.phase q)
       pub free : (n : ℕ) → n ≢ q → busy v.work ≢ n + 1
@@ -91,6 +88,12 @@ module _ (turn : Turn) where
           (λ same. subst (λ (m : ℕ). P m (phase' m)) (sym same) (subst (P q) (sym phase_here) (mine same)))
           (λ other. subst (P n) (sym (phase_else n other)) else)
 
+      -- what others rely on stays: a number that isn't the pass's, nor retired
+      same_if : (z : Phase) → r.phase q ≡ z → (owner z ≡ id + 1 → ph ≡ z) → (z ≡ spare x.number → ph ≡ z) → ((f : Closed) → z ≡ retired f → ph ≡ z)
+          → ph ≡ z
+      same_if z is owned spared gone = ⊎_elim (λ e. e ∙ is) (λ t. ⊎_elim (λ e. owned (sym (ap owner is) ∙ e))
+          (λ t. ⊎_elim (λ e. spared (sym is ∙ e)) (λ e. gone e.0 (sym is ∙ e.1)) t) t) s.may
+
       at_is : (slot : ℕ) → (state_after_all v.start h').at slot ≡ (state_after_all v.start r.history).at slot
       at_is slot = ap (λ (g : ℕ → Option File). g slot) s.told.at
 
@@ -108,7 +111,7 @@ module _ (turn : Turn) where
               ap (λ (g : ℕ → ℕ). g f.number) s.told.looked,
               each_phase (λ m p. p ≡ r.phase m) f.number
                   (λ same. let e : r.phase q ≡ seated slot f.identity = ap r.phase (sym same) ∙ seat in
-                  s.seat slot f.identity e ∙ sym e) refl,
+                  same_if _ e (λ o. absurd (omega (arith, o))) (λ o. absurd (cc o)) (λ g o. absurd (cc o)) ∙ sym e) refl,
             ))
             (r.each_slot slot l);
         nodes = λ n has. dite (ℕ_discrete n q)
@@ -136,9 +139,10 @@ module _ (turn : Turn) where
         no_other = λ n absent. s.told.removed n (λ same. absent (subst (IsNumber v.start) (sym same) its)) ∙ r.no_other n absent;
         stays = record {
           owned = λ n some not_mine. each_phase (λ m p. p ≡ r.phase m) n
-              (λ same. s.mine (λ none. some (ap (λ (m : ℕ). owner (r.phase m)) same
-              ∙ none)) (λ is. not_mine (ap (λ (m : ℕ). owner (r.phase m)) same ∙ is))) refl;
-          spared = λ n p is other. each_phase (λ m z. z ≡ spare p) n (λ same. s.spared p (ap r.phase (sym same) ∙ is) other) is;
+              (λ same. let e = ap (λ (m : ℕ). owner (r.phase m)) same in same_if _ refl (λ o. absurd (not_mine (e ∙ o)))
+              (λ o. absurd (some (e ∙ ap owner o))) (λ g o. absurd (some (e ∙ ap owner o)))) refl;
+          spared = λ n p is other. each_phase (λ m z. z ≡ spare p) n (λ same. same_if _ (ap r.phase (sym same) ∙ is)
+              (λ o. absurd (omega (arith, o))) (λ o. absurd (other (cc o))) (λ g o. absurd (cc o))) is;
         };
         keeps = λ j u f other there is. each_phase (λ m z. file_in z ≡ file_in (r.phase m)) f.number (λ same. s.keeps j u f other there is same) refl;
         log = log_now turn h' phase' x.numbers_left x.looks_left d (omega arith) s.held s.next s.spares;
@@ -153,7 +157,8 @@ module _ (turn : Turn) where
         draws = draws_same st.views id v w here v.start.chains v.start.numbers r.phase phase'
             (word_at st.words draw_place) _ x y one refl refl refl
             (word_else draw_place (λ same. far.node_and_draw q its (sym same)))
-            (λ n is. each_phase (λ m z. z ≡ unborn) n (λ same. s.unused (ap r.phase (sym same) ∙ is)) is) r.draws;
+            (λ n is. each_phase (λ m z. z ≡ unborn) n (λ same. same_if _ (ap r.phase (sym same) ∙ is)
+            (λ o. absurd (omega (arith, o))) (λ o. absurd (cc o)) (λ g o. absurd (cc o))) is) r.draws;
       }
 
       pub node_agrees : Agrees v.start record { words = set st.words i word'; homes = homes'; views = set st.views id w }

@@ -27,15 +27,9 @@ length_new : (p n : ℕ) → length (new_logs p n) ≡ n
 length_new p zero = refl
 length_new p (suc n) = let a = length_new (suc p) n in omega arith
 
-none_drawn : (c p n : ℕ) → sum_by (λ (y : Log). count_by (λ d. eqb d c) y.drawn) (new_logs p n) ≡ 0
-none_drawn c p zero = refl
-none_drawn c p (suc n) = let a = none_drawn c (suc p) n in
-    let b = sum_by-cons (λ (y : Log). count_by (λ d. eqb d c) y.drawn) (new_log p) (new_logs (suc p) n) in omega arith
-
-none_told : (p n : ℕ) → sum_by (λ (y : Log). one_if y.no_chains_left) (new_logs p n) ≡ 0
-none_told p zero = refl
-none_told p (suc n) = let a = none_told (suc p) n in
-    let b = sum_by-cons (λ (y : Log). one_if y.no_chains_left) (new_log p) (new_logs (suc p) n) in omega arith
+none_new : (f : Log → ℕ) → ((p : ℕ) → f (new_log p) ≡ 0) → (p n : ℕ) → sum_by f (new_logs p n) ≡ 0
+none_new f none p zero = refl
+none_new f none p (suc n) = let a = none_new f none (suc p) n in let b = sum_by-cons f (new_log p) (new_logs (suc p) n) in let c = none p in omega arith
 
 abbrev counted : ℕ → ℕ → ℕ → ℕ
 counted q p n = sum_by (λ (y : Log). one_if (eqb y.number q)) (new_logs p n)
@@ -202,9 +196,9 @@ module _ (k : Start) (words : List ℕ) (homes : List (Option Closed)) (o : Open
     draws = record {
       given = 0;
       few = omega arith;
-      each = λ c. let a = none_drawn c 1 k.passes in let b = once_none c in omega arith;
-      counts = let a = none_told 1 k.passes in let b = o.draw in omega arith;
-      all = λ some_told. let a = none_told 1 k.passes in absurd (omega arith);
+      each = λ c. let a = none_new (λ y. count_by (λ d. eqb d c) y.drawn) (λ p. refl) 1 k.passes in let b = once_none c in omega arith;
+      counts = let a = none_new (λ y. one_if y.no_chains_left) (λ p. refl) 1 k.passes in let b = o.draw in omega arith;
+      all = λ some_told. let a = none_new (λ y. one_if y.no_chains_left) (λ p. refl) 1 k.passes in absurd (omega arith);
       unused = λ n low high. high_phase n (let a = o.slots in omega arith);
     };
   }

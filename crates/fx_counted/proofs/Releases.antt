@@ -3,7 +3,7 @@ use Rattle.fx_counted.proofs.Words.{◌≡◌, ◌≢◌, ℕ, ◌+◌, ◌-◌,
 use Rattle.fx_counted.proofs.Words.{dite, some, none, ℕ_discrete, keeps, takes, stepped, step, set_here, set_else, Closed, ◌▷◌, State, numbered, File}
 use Rattle.fx_counted.proofs.Words.{Event, Release, Close, no_use, event_of, sum_at, sum_two, NodeAgrees, WorkAgrees, looks, word_of, place_of}
 use Rattle.fx_counted.proofs.Words.{IsNumber, state_after_all, shown, held_in, placing, held_of, holding, Phase, seated, leaving, retired, emptied}
-use Rattle.fx_counted.proofs.Words.{owner, file_in, LetsGo, TakesOut, Idle, Holding, Emptying, eqb, ReleasesKeep, Releases}
+use Rattle.fx_counted.proofs.Words.{file_in, LetsGo, TakesOut, Idle, Holding, Emptying, eqb, ReleasesKeep, Releases, inr, inl}
 use Rattle.std.proofs.Common.{length-set}
 use Rattle.fx_counted.proofs.Births.{in_phase, word_now, home_now, roomy, else_place}
 use Rattle.fx_counted.proofs.Retirements.{sub_wraps, holding_it, few_looks, its_hold, spares_stay}
@@ -103,10 +103,7 @@ module _ (turn : Turn) (f : File) (works : turn.v.work ≡ Holding f) where
     told = record { at = refl; size = refl; fresh = refl; looked = refl; all = omega arith; removed = λ m other. refl; holds = other_holds };
     homes = refl;
     home_else = λ m has other. refl;
-    seat = λ s g is. is;
-    mine = λ some not_mine. refl;
-    spared = λ p is other. is;
-    unused = λ is. is;
+    may = inl refl;
     keeps = λ j u g other there holds same. refl;
     free = λ m other. not_busy m;
     node = still fits more (r.phase q) refl mine.1;
@@ -150,10 +147,7 @@ module _ (turn : Turn) (f : File) (works : turn.v.work ≡ Holding f) where
           homes = length-set st.homes (place_of v.start q) none;
           home_else = λ m has other. set_else st.homes (place_of v.start q) (place_of v.start m) none
               (else_place turn q mine.0 m has other);
-          seat = λ s g is. absurd (cc (sym is ∙ l.phase));
-          mine = λ some not_mine. absurd (some (ap owner l.phase));
-          spared = λ p is other. absurd (cc (sym is ∙ l.phase));
-          unused = λ is. absurd (cc (sym is ∙ l.phase));
+          may = inr (inr (inr (f.identity, l.phase)));
           keeps = λ j u g other there holds same. absurd
               (let a = its_hold turn j u g q there holds same in let b = its_one in
               let c = sum_two (held_of q) st.views j id u v other there here in let d = r.holds q in let e = l.holds in omega arith);

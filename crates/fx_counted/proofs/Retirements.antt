@@ -3,8 +3,8 @@ use Rattle.fx_counted.proofs.Words.{◌≡◌, ◌≢◌, ℕ, ◌+◌, ◌-◌,
 use Rattle.fx_counted.proofs.Words.{Some, None, dite, some, none, ℕ_discrete, get_elem?, keeps, takes, stepped, step, set_here, set_else, Closed, ◌▷◌}
 use Rattle.fx_counted.proofs.Words.{changed_at, File, Event, Close, no_use, event_of, sum_at, retire_amount_of, NodeAgrees, WorkAgrees, Agrees, looks}
 use Rattle.fx_counted.proofs.Words.{word_of, place_of, IsNumber, state_after_all, shown, end_in, next_in, held_in, placing, held_of, holding, Phase}
-use Rattle.fx_counted.proofs.Words.{unborn, spare, leaving, retired, emptied, owner, file_in, TakesOut, View, Idle, Holding, Retiring, Emptying}
-use Rattle.fx_counted.proofs.Words.{RetiresKeep, Retires}
+use Rattle.fx_counted.proofs.Words.{spare, leaving, retired, emptied, owner, file_in, TakesOut, View, Idle, Holding, Retiring, Emptying, RetiresKeep}
+use Rattle.fx_counted.proofs.Words.{Retires, inr, inl}
 use Rattle.std.proofs.Common.{length-set}
 use Rattle.atomic_table.specs.Table.{Allows}
 use Rattle.fx_counted.proofs.Births.{in_phase, word_now, home_now, roomy, else_place}
@@ -61,9 +61,6 @@ module _ (turn : Turn) where
     keeps_spares ph' n low high = let o = its_log turn in let p = ap placing works in
         spares_stay q (leaving id t f.identity) ph' x.number mine.1 (λ z bad. cc bad) n (o.spares n (omega arith) high)
 
-    not_new : r.phase q ≡ unborn → ⊥
-    not_new is = cc (sym is ∙ mine.1)
-
     waits : word < 18446744073709551616 → word ≢ retire_amount_of t
         → NodeStep turn q mine.0 left st.homes r.history (retired f.identity) Idle
     waits fits more = let n = node in let c = few_looks q in let e = left_is fits in let o = its_log turn in record {
@@ -72,10 +69,7 @@ module _ (turn : Turn) where
       told = one_same v q r.history;
       homes = refl;
       home_else = λ m has other. refl;
-      seat = λ s g is. absurd (cc (sym is ∙ mine.1));
-      mine = λ some not_mine. absurd (not_mine (ap owner mine.1));
-      spared = λ p is other. absurd (cc (sym is ∙ mine.1));
-      unused = λ is. absurd (not_new is);
+      may = inr (inl (ap owner mine.1));
       keeps = λ j u g other there holds same. sym (ap file_in mine.1);
       free = λ m other bad. let b = ap busy works in other (omega arith);
       node = (e, n.1, omega arith, n.3);
@@ -115,10 +109,7 @@ module _ (turn : Turn) where
           homes = length-set st.homes (place_of v.start q) none;
           home_else = λ m has other. set_else st.homes (place_of v.start q) (place_of v.start m) none
               (else_place turn q mine.0 m has other);
-          seat = λ s g is. absurd (cc (sym is ∙ mine.1));
-          mine = λ some not_mine. absurd (not_mine (ap owner mine.1));
-          spared = λ p is other. absurd (cc (sym is ∙ mine.1));
-          unused = λ is. absurd (not_new is);
+          may = inr (inl (ap owner mine.1));
           keeps = λ j u g other there holds same. absurd (let a = its_hold j u g q there holds same in
               let b = sum_at (held_of q) st.views j u there in let h = r.holds q in omega arith);
           free = λ m other bad. let b = ap busy works in other (omega arith);
