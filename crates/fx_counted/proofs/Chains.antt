@@ -13,6 +13,7 @@ use Rattle.fx_counted.proofs.Keeping.{Turn, turn_of, word_at, now, its_log, Step
 use Rattle.fx_counted.proofs.NodeSteps.{near, far}
 use Rattle.fx_counted.proofs.Unchanged.{slot_same, control_same}
 use Rattle.fx_counted.proofs.Ones.{one_if, times, bit_here, bit_else}
+use Rattle.std.proofs.lemmas.List.Sums.{count_by-le-length}
 
 abbrev pick : {P : Type 0} → Dec P → Phase → Phase → Phase
 pick (yes _) a b = a
@@ -62,12 +63,7 @@ once_more n (suc p) = dite (ℕ_discrete n p)
     (λ high. let o1 = once_out n (suc p) (omega (arith, high)) in let o2 = once_out (n + 1) (suc p) (omega (arith, high, other)) in omega arith))
 
 pub told_few : (l : List Log) → sum_by (λ y. one_if y.no_chains_left) l ≤ length l
-told_few [] = omega arith
-told_few (y ∷ l) = let a = told_few l in let c = sum_by-cons (λ y. one_if y.no_chains_left) y l in let b = one_bit y.no_chains_left in omega arith
-  where
-    one_bit : (b : Bool) → one_if b ≤ 1
-    one_bit true = omega arith
-    one_bit false = omega arith
+told_few l = count_by-le-length (λ y. y.no_chains_left) l
 
 -- the chain that was drawn last is among those that were drawn
 chain_drawn : (l : List ℕ) → 0 < first_or 0 l → 1 ≤ times (first_or 0 l) l

@@ -1,14 +1,14 @@
 -- The end, when one seat has all passes again, and does nothing: everything is settled, and one history stands behind it.
-use Rattle.fx_counted.proofs.Words.{◌≡◌, ◌≢◌, ℕ, zero, suc, ◌+◌, ◌<◌, ◌≤◌, Bool, true, false, List, [], ◌∷◌, map, length, sym, refl, ap, ◌∙◌, subst}
-use Rattle.fx_counted.proofs.Words.{arith, eqb, ne_eqb, ◌⊎◌, inl, inr, ⊎_elim, Option, Some, None, Contains, sum_by, dite, some, some-injective}
-use Rattle.fx_counted.proofs.Words.{ℕ_discrete, dec_le, get_elem?, sum_by-cons, Closed, Contents, state_of, file_at, IsSeenBy, part_of_pass, State}
-use Rattle.fx_counted.proofs.Words.{IsSettled, file_numbered, after, numbered, File, Event, Action, Look, Put, Clear, Take, Allocate, ClosesTable}
-use Rattle.fx_counted.proofs.Words.{times_drawn, HasSameFiles, start_of, PassView, contains_none, contains_head, contains_tail, contains_cases}
-use Rattle.fx_counted.proofs.Words.{contains_map, contains_mapped, sum_two, sum_map, Does, LogAgrees, NodeAgrees, OwnerAgrees, lengths, Agrees, looks}
-use Rattle.fx_counted.proofs.Words.{word_of, place_of, slot_place, Shared, opening_of, slots_of, chain_numbers, IsNumber, state_after_all, shown}
-use Rattle.fx_counted.proofs.Words.{held_of, logs_of, drawn_of, told_of, once, holding, Phase, unborn, spare, placed, seated, leaving, retired}
-use Rattle.fx_counted.proofs.Words.{emptied, closed, Log, Start, View, Work, Idle, Placing, Retiring, Emptying, AllowsAll, action_of, sum_only}
-use Rattle.fx_counted.proofs.Words.{sum_of, sum_zero}
+use Rattle.fx_counted.proofs.Words.{◌≡◌, ◌≢◌, ℕ, zero, suc, ◌+◌, ◌<◌, ◌≤◌, true, List, [], ◌∷◌, map, length, sym, refl, ap, ◌∙◌, subst, arith, eqb}
+use Rattle.fx_counted.proofs.Words.{◌⊎◌, inl, inr, ⊎_elim, Option, Some, None, Contains, sum_by, dite, some, some-injective, ℕ_discrete, dec_le}
+use Rattle.fx_counted.proofs.Words.{get_elem?, sum_by-cons, Closed, Contents, state_of, file_at, IsSeenBy, part_of_pass, State, IsSettled}
+use Rattle.fx_counted.proofs.Words.{file_numbered, after, numbered, File, Event, Action, Look, Put, Clear, Take, Allocate, ClosesTable, times_drawn}
+use Rattle.fx_counted.proofs.Words.{HasSameFiles, start_of, PassView, contains_none, contains_head, contains_tail, contains_cases, contains_map}
+use Rattle.fx_counted.proofs.Words.{contains_mapped, sum_two, sum_map, Does, LogAgrees, NodeAgrees, OwnerAgrees, lengths, Agrees, looks, word_of}
+use Rattle.fx_counted.proofs.Words.{place_of, slot_place, Shared, opening_of, slots_of, chain_numbers, IsNumber, state_after_all, shown, held_of}
+use Rattle.fx_counted.proofs.Words.{logs_of, drawn_of, told_of, once, holding, Phase, unborn, spare, placed, seated, leaving, retired, emptied}
+use Rattle.fx_counted.proofs.Words.{closed, Log, Start, View, Work, Idle, Placing, Retiring, Emptying, AllowsAll, action_of, sum_only, sum_of}
+use Rattle.fx_counted.proofs.Words.{sum_zero}
 use Rattle.std.proofs.Math.ListN.{get_or-eq_default}
 use Rattle.fx_plain.specs.Step.{Allows}
 use Rattle.fx_counted.specs.Agrees.{IsSeated}
@@ -16,7 +16,7 @@ use Rattle.fx_counted.proofs.Chains.{once_in, once_some}
 use Rattle.fx_counted.proofs.Frames.{once_few}
 use Rattle.fx_counted.proofs.Histories.{part_mine, part_other, same_shape, change_else}
 use Rattle.fx_counted.proofs.Keeping.{word_at}
-use Rattle.fx_counted.proofs.Ones.{one_if, times, bit_here}
+use Rattle.fx_counted.proofs.Ones.{one_if, times, bit_here, bit_else}
 
 length_none : (l : List Log) → length l ≡ 0 → l ≡ []
 length_none [] e = refl
@@ -30,22 +30,20 @@ place_in {X} (y ∷ l) x h = ⊎_elim
     (λ t. let r = place_in l x t in (suc r.0, r.1))
     (contains_cases y l x h)
 
--- an element that is counted
-found_next : {X : Type 0} (f : X → Bool) (x : X) (l : List X) (b : Bool) → f x ≡ b → 1 ≤ sum_by (λ y. one_if (f y)) (x ∷ l)
-    → (1 ≤ sum_by (λ y. one_if (f y)) l → (y : X) × Contains l y × (f y ≡ true)) → (y : X) × Contains (x ∷ l) y × (f y ≡ true)
-found_next f x l true e low rest = (x, contains_head x l, e)
-found_next {X} f x l false e low rest =
-    let a = sum_by-cons (λ (y : X). one_if (f y)) x l in
-    let b : one_if (f x) ≡ 0 = ap one_if e in
-    let r = rest (omega arith) in
-    (r.0, contains_tail x l r.0 r.1, r.2)
+-- an element that adds to a sum
+found_sum : {X : Type 0} (f : X → ℕ) (l : List X) → 1 ≤ sum_by f l → (x : X) × Contains l x × (1 ≤ f x)
+found_sum f [] low = absurd (omega arith)
+found_sum f (x ∷ l) low = dite (ℕ_discrete (f x) 0)
+    (λ none. let a = sum_by-cons f x l in let r = found_sum f l (omega arith) in (r.0, contains_tail x l r.0 r.1, r.2))
+    (λ some. (x, contains_head x l, omega (arith, some)))
 
-found_by : {X : Type 0} (f : X → Bool) (l : List X) → 1 ≤ sum_by (λ x. one_if (f x)) l → (x : X) × Contains l x × (f x ≡ true)
-found_by f [] low = absurd (omega arith)
-found_by f (x ∷ l) low = found_next f x l (f x) refl low (found_by f l)
-
-same_number : (a b : ℕ) → eqb a b ≡ true → a ≡ b
-same_number a b e = dite (ℕ_discrete a b) (λ is. is) (λ n. let f : false ≡ true = sym (ne_eqb a b n) ∙ e in absurd (cc f))
+-- one that is counted for its number
+found_by : {X : Type 0} (f : X → ℕ) (n : ℕ) (l : List X) → 1 ≤ sum_by (λ x. one_if (eqb (f x) n)) l → (x : X) × Contains l x × (f x ≡ n)
+found_by f n l low = let r = found_sum (λ x. one_if (eqb (f x) n)) l low in (
+  r.0,
+  r.1,
+  dite (ℕ_discrete (f r.0) n) (λ is. is) (λ other. let a = bit_else n (f r.0) other in absurd (omega (arith, r.2, a))),
+)
 
 -- an event of a history is in its author's part
 part_head : (p : ℕ) (x : Event) (h : List Event) → x.pass ≡ p → part_of_pass p (x ∷ h) ≡ [] → ⊥
@@ -82,12 +80,8 @@ once_low n (suc p) low = omega arith
 
 -- a pass that drew the chain
 drawer : (l : List Log) (c : ℕ) → 1 ≤ sum_by (λ (x : Log). times c x.drawn) l → (x : Log) × Contains l x × Contains x.drawn c
-drawer [] c low = absurd (omega arith)
-drawer (x ∷ l) c low = dite (ℕ_discrete (times c x.drawn) 0)
-    (λ none. let a = sum_by-cons (λ (y : Log). times c y.drawn) x l in
-    let r = drawer l c (omega arith) in (r.0, contains_tail x l r.0 r.1, r.2))
-    (λ here. let d = found_by (λ n. eqb n c) x.drawn (omega (arith, here)) in
-    (x, contains_head x l, subst (Contains x.drawn) (same_number d.0 c d.2) d.1))
+drawer l c low = let x = found_sum (λ (x : Log). times c x.drawn) l low in let d = found_by (λ n. n) c x.0.drawn x.2 in
+    (x.0, x.1, subst (Contains x.0.drawn) d.2 d.1)
 
 -- a slot behind the last one stays empty
 outside_step : (st : State) (a : Action) (slot : ℕ) → st.size ≤ slot → Allows st a → st.at slot ≡ None → (after st a).at slot ≡ None
@@ -228,8 +222,8 @@ module _ (k : Start) (s : Shared) (r : Agrees k s) (seat : ℕ) (v : View) (at :
   author e has =
       let known : once k.passes e.pass ≢ 0 = λ none. in_part r.history e has (r.authors e.pass none) in
       let n = numbers e.pass in
-      let x = found_by (λ (z : Log). eqb z.number e.pass) v.logs (omega (arith, known, n)) in
-      (showing x.0, contains_mapped showing v.logs x.0 x.1, sym (same_number x.0.number e.pass x.2))
+      let x = found_by (λ (z : Log). z.number) e.pass v.logs (omega (arith, known, n)) in
+      (showing x.0, contains_mapped showing v.logs x.0 x.1, sym x.2)
 
   given_some : (c : ℕ) (x : Log) → Contains v.logs x → Contains x.drawn c → 0 < once r.draws.given c
   given_some c x has d =
