@@ -9,7 +9,7 @@ use Rattle.fx_counted.proofs.Words.{Rests, inl}
 use Rattle.std.proofs.Common.{length-set}
 use Rattle.fx_counted.proofs.Histories.{grows_none, change_here, change_else}
 use Rattle.fx_counted.proofs.Frames.{busy, does_now}
-use Rattle.fx_counted.proofs.Keeping.{Turn, turn_of, word_at, its_log, its_work, tells, by_turn, went}
+use Rattle.fx_counted.proofs.Keeping.{Turn, turn_of, word_at, its_log, its_work, by_turn, went, tells_none}
 use Rattle.fx_counted.proofs.NodeSteps.{one_same, near, far, NodeStep, node_agrees}
 
 -- the file that a pass holds is open
@@ -37,6 +37,11 @@ module _ (turn : Turn) where
 
   pub else_place : (q : ℕ) → IsNumber v.start q → (n : ℕ) → IsNumber v.start n → n ≢ q → place_of v.start n ≢ place_of v.start q
   else_place q its n has other = (far turn).homes n q has its other
+
+  -- nobody holds the file of a number without one
+  pub unheld : (q : ℕ) → file_in (r.phase q) ≡ None → (j : ℕ) (u : View) (f : File) → get_elem? st.views j ≡ some u → u.work ≡ Holding f → f.number ≡ q → ⊥
+  unheld q empty j u f there holds same = let e = held_file v.start r.phase j u f holds (r.each_view j u there).work in
+      let z : None ≡ Some f.identity = sym empty ∙ (ap (λ (m : ℕ). file_in (r.phase m)) (sym same) ∙ e) in cc z
 
   -- a number that is left to the pass is one of the table
   pub spare_inside : (n : ℕ) → next_in v.start x ≤ n → n < end_in v.start x → IsNumber v.start n
@@ -66,10 +71,7 @@ module _ (turn : Turn) where
       homes = length-set st.homes (place_of v.start b) none;
       home_else = λ m has other. set_else st.homes (place_of v.start b) (place_of v.start m) none (else_place b its_b m has other);
       may = inr (inr (inl is_spare));
-      keeps = λ j u f other there holds same. absurd (let k = ((r.each_view j u there).work) in
-          let e : file_in (r.phase f.number) ≡ Some f.identity = held_file v.start r.phase j u f holds k in
-          let g : file_in (r.phase f.number) ≡ None = ap (λ (m : ℕ). file_in (r.phase m)) same
-          ∙ ap file_in is_spare in let z : None ≡ Some f.identity = sym g ∙ e in cc z);
+      keeps = λ j u f other there holds same. absurd (unheld b (ap file_in is_spare) j u f there holds same);
       free = λ m other is. let e : busy v.work ≡ 0 = ap busy idle in omega arith;
       node = (refl, set_here st.homes (place_of v.start b) none (roomy b its_b), n.2, n.3, n.4, n.5);
       known = does_now st.views id v (went turn r.history (Placing b) v.change) (Placing b) here refl;
@@ -85,16 +87,13 @@ module _ (turn : Turn) where
         (went turn r.history (Placing b) v.change, homes)
     birth_tells carried homes = subst (λ (n : ℕ). Stepped (v, carried) [] no_use (Placing n) v.change
         (went turn r.history (Placing b) v.change, homes))
-        (λ i. next_in v.start (first_log (sym one i)))
-        (tells turn carried homes r.history x.numbers_left x.looks_left (Placing b) v.change [] no_use
-        (grows_none x.number r.history) r.legal refl (omega arith) (omega arith) its_b)
+        (λ i. next_in v.start (first_log (sym one i))) (tells_none turn carried homes (Placing b) v.change its_b)
 
   -- a rest, of a number whose file is closed, or which was placed in vain
   module _ (q : ℕ) (its : IsNumber v.start q) (ph ph' : Phase) (is : r.phase q ≡ ph) (owned : owner ph ≡ id + 1)
       (no_file : file_in ph ≡ None) (d : held_in v.work ≡ None) (works : busy v.work ≡ q + 1) (none_held : (n : ℕ) → holding n v.work ≡ 0) where
-    rest_step : NodeAgrees (state_after_all v.start r.history) q (looks r.history q) 0
-        (some (some None)) ph' → OwnerAgrees
-        (set st.views id (went turn r.history Idle v.change)) q ph'
+    rest_step : NodeAgrees (state_after_all v.start r.history) q (looks r.history q) 0 (some (some None)) ph'
+        → OwnerAgrees (set st.views id (went turn r.history Idle v.change)) q ph'
         → ((n : ℕ) → next_in v.start x ≤ n → n < end_in v.start x → changed_at r.phase q ph' n ≡ spare x.number)
         → NodeStep turn q its 0 (set st.homes (place_of v.start q) (some None)) r.history ph' Idle
     rest_step node known spares = let o = its_log turn in record {
@@ -104,14 +103,9 @@ module _ (turn : Turn) where
       homes = length-set st.homes (place_of v.start q) (some None);
       home_else = λ m has other. set_else st.homes (place_of v.start q) (place_of v.start m) (some None) (else_place q its m has other);
       may = inr (inl (ap owner is ∙ owned));
-      keeps = λ j u f other there holds same. absurd
-          (let e : file_in (r.phase f.number) ≡ Some f.identity = held_file v.start r.phase j u f holds
-          ((r.each_view j u there).work) in
-          let g : file_in (r.phase f.number) ≡ None = ap (λ (m : ℕ). file_in (r.phase m)) same
-          ∙ (ap file_in is ∙ no_file) in let z : None ≡ Some f.identity = sym g ∙ e in cc z);
+      keeps = λ j u f other there holds same. absurd (unheld q (ap file_in is ∙ no_file) j u f there holds same);
       free = λ m other bad. other (omega arith);
-      node = subst (λ (e : Home). NodeAgrees (state_after_all v.start r.history) q
-          (looks r.history q) 0 e ph')
+      node = subst (λ (e : Home). NodeAgrees (state_after_all v.start r.history) q (looks r.history q) 0 e ph')
           (sym (set_here st.homes (place_of v.start q) (some None) (roomy q its))) node;
       known = known;
       held = o.held ∙ d;
@@ -174,9 +168,5 @@ rests_keep k slots id i q m x has works carries place = by_turn k slots id i m x
           (λ (e : m.0.work ≡ Placing q). let s = rest_placed turn q e in
           node_agrees turn q s.0 0 (set st.homes (place_of m.0.start q) (some None)) r.history (spare x.number) Idle s.1)
           works),
-      record {
-        stepped = tells turn m.1 (rest m.1) r.history x.numbers_left x.looks_left Idle m.0.change [] no_use
-            (grows_none x.number r.history) r.legal refl (omega arith) (omega arith) tt;
-        carried = refl;
-      },
+      record { stepped = tells_none turn m.1 (rest m.1) Idle m.0.change tt; carried = refl },
     ))

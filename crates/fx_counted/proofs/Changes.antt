@@ -6,11 +6,11 @@ use Rattle.fx_counted.proofs.Words.{OwnerAgrees, WorkAgrees, PlacesNext, Agrees,
 use Rattle.fx_counted.proofs.Words.{IsNumber, state_after_all, shown, next_in, held_in, placing, holding, Phase, unborn, spare, placed, seated, owner}
 use Rattle.fx_counted.proofs.Words.{file_in, IsInside, Stepped, retires_now, turned, View, Idle, Placing, Change, keeps, stepped}
 use Rattle.std.proofs.Common.{length-set}
-use Rattle.fx_counted.proofs.Births.{in_phase, roomy, else_place, held_file}
+use Rattle.fx_counted.proofs.Births.{in_phase, roomy, else_place, unheld}
 use Rattle.fx_counted.proofs.Frames.{busy, stays_same, owner_stays}
 use Rattle.fx_counted.proofs.FullSlots.{Stands, control_swap}
 use Rattle.fx_counted.proofs.Histories.{grows_one, part_mine, change_here, change_else, same_shape}
-use Rattle.fx_counted.proofs.Keeping.{Turn, Homes, word_at, now, logged, its_log, its_work, tells, went}
+use Rattle.fx_counted.proofs.Keeping.{Turn, Homes, word_at, now, logged, its_log, its_work, tells, went, tells_one}
 use Rattle.fx_counted.proofs.Swaps.{NotOf, Effect, h', removed_else, found, state, so, seat_of, not_old, elsewhere, w, Swap, swap_agrees}
 use Rattle.fx_counted.proofs.Unchanged.{node_same}
 
@@ -77,11 +77,7 @@ module _ (turn : Turn) (s : ℕ) (inside : s < slots_of turn.v.start) (stands : 
 
     pub removal_tells : (carried : List (ℕ × Option Closed))
         → Stepped (v, carried) ([] ▷ a) no_use (retires_now old (takes_in f₀)) (turned v.change (if_full old) 0) (removed_view, carried)
-    removal_tells carried = tells turn carried carried
-        (event_of (shown x v.work) a ∷ r.history) x.numbers_left x.looks_left (retires_now old (takes_in f₀))
-        (turned v.change (if_full old) 0) ([] ▷ a) no_use
-        (grows_one x.number r.history (event_of (shown x v.work) a) refl) does.legal (part_mine x.number (event_of (shown x v.work) a) r.history refl)
-        (omega arith) (omega arith) (inside_now old refl)
+    removal_tells carried = tells_one turn a does.legal carried carried (retires_now old (takes_in f₀)) (turned v.change (if_full old) 0) (inside_now old refl)
 
   -- an installation
   module _ (n : ℕ) (file : Closed) (works : v.work ≡ Placing n) (small : file.entry < 2 ^ 8) (a : Action)
@@ -156,8 +152,7 @@ module _ (turn : Turn) (s : ℕ) (inside : s < slots_of turn.v.start) (stands : 
         spared = λ m q is other. else_phase m (spare q) is (λ bad. cc bad);
       };
       keeps = λ j u f other there holds. ap file_in (else_phase f.number (r.phase f.number) refl
-          (λ bad. let e = held_file v.start r.phase j u f holds ((r.each_view j u there).work) in
-          let z : None ≡ Some f.identity = sym (ap file_in bad) ∙ e in cc z));
+          (λ bad. unheld turn f.number (ap file_in bad) j u f there holds refl));
       unused = λ m is. else_phase m unborn is (λ bad. cc bad);
       nodes = λ m has apart. dite (ℕ_discrete m n)
           (λ same. subst (λ (m : ℕ). Node m (phase₁ m)) (sym same) (subst (Node n) (sym here_phase) node_here))

@@ -1,16 +1,16 @@
 -- Begin, end, answer and load keep the rule.
 use Rattle.fx_counted.proofs.Words.{sum_by, ◌≡◌, ◌≢◌, ℕ, zero, suc, ◌+◌, ◌-◌, ◌/◌, ◌%◌, ◌^◌, ◌<◌, ◌≤◌, List, [], ◌∷◌, set, length, sym, refl, ap}
 use Rattle.fx_counted.proofs.Words.{subst, arith, get_or-set_other, get_or-set_same, Option, IsSome, dite, some, none, some-injective, some-ne-none}
-use Rattle.fx_counted.proofs.Words.{ℕ_discrete, get_elem?, keeps, step, sum_by-cons, Closed, ◌▷◌, File, Event, Full, no_use, range_of, event_of}
-use Rattle.fx_counted.proofs.Words.{sum_set, sum_at, sum_le_at, one_change, full_word_of, WorkAgrees, lengths, Agrees, in_change, added, removed_by}
+use Rattle.fx_counted.proofs.Words.{ℕ_discrete, get_elem?, keeps, step, sum_by-cons, Closed, File, Event, Full, no_use, range_of, event_of, sum_set}
+use Rattle.fx_counted.proofs.Words.{sum_at, sum_le_at, one_change, full_word_of, WorkAgrees, lengths, Agrees, in_change, added, removed_by}
 use Rattle.fx_counted.proofs.Words.{changes_of, added_of, removed_of, full_in, ControlCounts, word_of, control_place, draw_place, slot_place}
 use Rattle.fx_counted.proofs.Words.{opening_of, state_after_all, shown, IsInside, Stepped, GoesOn, Answers, Change, Outside, Same, Log, Start, View}
 use Rattle.fx_counted.proofs.Words.{Work, Idle, Phase, Shared, BeginsKeep, EndsKeep, AnswersKeep}
 use Rattle.std.proofs.Common.{length-set}
 use Rattle.fx_counted.proofs.Calm.{Quiet, no_event, calm_agrees}
 use Rattle.fx_counted.proofs.FullSlots.{full_few, full_all}
-use Rattle.fx_counted.proofs.Histories.{IsHistory, grows_none, grows_one, legal_more, held_mine, part_mine, same_shape}
-use Rattle.fx_counted.proofs.Keeping.{Turn, turn_of, word_at, its_work, tells, by_turn, went}
+use Rattle.fx_counted.proofs.Histories.{IsHistory, grows_one, legal_more, held_mine, same_shape}
+use Rattle.fx_counted.proofs.Keeping.{Turn, turn_of, word_at, its_work, by_turn, went, tells_none, tells_one}
 use Rattle.fx_counted.proofs.NodeSteps.{near, far}
 use Rattle.fx_counted.proofs.Retirements.{sub_wraps}
 
@@ -123,8 +123,7 @@ module _ (turn : Turn) where
 
   pub goes_on : (c : Change) (carried : List (ℕ × Option Closed))
       → Stepped (v, carried) [] no_use v.work c (went turn r.history v.work c, carried)
-  goes_on c carried = tells turn carried carried r.history x.numbers_left x.looks_left v.work c []
-      no_use (grows_none x.number r.history) r.legal refl (omega arith) (omega arith) its_inside
+  goes_on c carried = tells_none turn carried carried v.work c its_inside
 
   module _ (fits : word < 18446744073709551616) where
     begun : v.change ≡ Outside → ControlCounts at_now range (set st.views id (went turn r.history v.work Same)) ((word + one_change) % 2 ^ 64)
@@ -193,9 +192,7 @@ answers_keep k slots id i m x has same place = by_turn k slots id i m x (λ _. U
       tt,
       wrote turn _ (e turn ∷ r.history) Outside (told_full turn each) (counts (e turn ∷ r.history)),
       record {
-        full = λ _. tells turn m.1 m.1 (e turn ∷ r.history) x.numbers_left x.looks_left m.0.work Outside ([] ▷ Full) no_use
-            (grows_one x.number r.history (e turn) refl) (full_legal turn each) (part_mine x.number (e turn) r.history refl) (omega arith) (omega arith)
-            (its_inside turn);
+        full = λ _. tells_one turn Full (full_legal turn each) m.1 m.1 m.0.work Outside (its_inside turn);
         not_full = λ not_so. absurd (not_so says);
         carried = refl;
       },

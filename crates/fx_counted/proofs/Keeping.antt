@@ -6,8 +6,8 @@ use Rattle.fx_counted.proofs.Words.{WorkAgrees, LogAgrees, ViewAgrees, lengths, 
 use Rattle.fx_counted.proofs.Words.{draw_place, slot_place, node_place, home_place, Shared, opening_of, slots_of, IsNumber, state_after_all, Sat}
 use Rattle.fx_counted.proofs.Words.{shown, first_log, doing_in, logs_of, looks_of, held_of, Phase, IsInside, Stepped, Change, Log, View, Work}
 use Rattle.fx_counted.proofs.Words.{stepped, step, Act, Valid, carried_after, HasPass, held_by, held_in, PlacesNext, placing, next_in, end_in, spare}
-use Rattle.fx_counted.proofs.Words.{HasShape, Start}
-use Rattle.fx_counted.proofs.Histories.{Grows, IsHistory}
+use Rattle.fx_counted.proofs.Words.{HasShape, Start, no_use, ◌▷◌}
+use Rattle.fx_counted.proofs.Histories.{Grows, IsHistory, grows_none, grows_one, part_mine}
 use Rattle.fx_counted.proofs.Frames.{Stays, KeepsHeld, view_stays, not_there, views_after}
 use Rattle.fx_counted.proofs.Ones.{one_if}
 use Rattle.atomic_table.specs.Table.{Allows}
@@ -200,3 +200,14 @@ module _ (turn : Turn) where
     start = refl;
     steps = let e = ap (λ (l : List Log). (first_log l).steps) one in omega arith;
   }
+
+  -- a step that takes no action, and one that takes this one
+  pub tells_none : (carried homes : List (ℕ × Option Closed)) (d : Work) (c : Change) → IsInside v.start d
+      → Stepped (v, carried) [] no_use d c (went r.history d c, homes)
+  tells_none carried homes d c = tells carried homes r.history x.numbers_left x.looks_left d c [] no_use (grows_none x.number r.history) r.legal refl
+      (omega arith) (omega arith)
+
+  pub tells_one : (a : Action) → IsHistory v.start (event_of (shown x v.work) a ∷ r.history) → (carried homes : List (ℕ × Option Closed)) (d : Work)
+      (c : Change) → IsInside v.start d → Stepped (v, carried) ([] ▷ a) no_use d c (went (event_of (shown x v.work) a ∷ r.history) d c, homes)
+  tells_one a legal carried homes d c = tells carried homes (event_of (shown x v.work) a ∷ r.history) x.numbers_left x.looks_left d c ([] ▷ a) no_use
+      (grows_one x.number r.history _ refl) legal (part_mine x.number _ r.history refl) (omega arith) (omega arith)

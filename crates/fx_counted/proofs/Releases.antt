@@ -9,7 +9,7 @@ use Rattle.fx_counted.proofs.Births.{in_phase, word_now, home_now, roomy, else_p
 use Rattle.fx_counted.proofs.Retirements.{sub_wraps, holding_it, few_looks, its_hold, spares_stay}
 use Rattle.fx_counted.proofs.Frames.{busy, does_now, owner_stays}
 use Rattle.fx_counted.proofs.Histories.{IsHistory, grows_one, grows_more, legal_more, held_mine, part_mine, change_here, change_else}
-use Rattle.fx_counted.proofs.Keeping.{Turn, turn_of, its_log, its_work, tells, by_turn, Made, went}
+use Rattle.fx_counted.proofs.Keeping.{Turn, turn_of, its_log, its_work, tells, by_turn, Made, went, tells_one}
 use Rattle.fx_counted.proofs.NodeSteps.{NodeStep, node_agrees}
 use Rattle.fx_counted.proofs.Ones.{one_if, one_less_at}
 
@@ -182,10 +182,8 @@ module _ (turn : Turn) (f : File) (works : turn.v.work ≡ Holding f) where
         record {
           waits = λ g _ not_so. absurd (not_so is);
           closes = λ g its _. let same : f ≡ g = holding_same f g (sym works ∙ its) in
-              subst (λ (g : File). TakesOut (v, carried) ([] ▷ Release g) g (
-                went turn h₂ (Emptying q) v.change,
-                (place_of v.start q, Some f.identity) ∷ carried,
-              )) same
+              subst (λ (g : File). TakesOut (v, carried) ([] ▷ Release g) g
+              (went turn h₂ (Emptying q) v.change, (place_of v.start q, Some f.identity) ∷ carried)) same
               record {
                 stepped = tells turn carried
                     ((place_of v.start q, Some f.identity) ∷ carried) h₂ x.numbers_left x.looks_left
@@ -206,12 +204,7 @@ module _ (turn : Turn) (f : File) (works : turn.v.work ≡ Holding f) where
         record {
           waits = λ g its _. let same : f ≡ g = holding_same f g (sym works ∙ its) in
               subst (λ (g : File). LetsGo (v, carried) ([] ▷ Release g) (went turn h₁ Idle v.change, carried)) same
-              record {
-                stepped = tells turn carried carried h₁ x.numbers_left x.looks_left Idle v.change
-                    ([] ▷ Release f) no_use (grows_one x.number r.history freeing refl) freed_legal
-                    (part_mine x.number freeing r.history refl) (omega arith) (omega arith) tt;
-                carried = refl;
-              };
+              record { stepped = tells_one turn (Release f) freed_legal carried carried Idle v.change tt; carried = refl };
           closes = λ g _ is. absurd (more is);
         },
       ))

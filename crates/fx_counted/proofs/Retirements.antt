@@ -1,7 +1,7 @@
 -- A retirement keeps the rule.
 use Rattle.fx_counted.proofs.Words.{◌≡◌, ◌≢◌, ℕ, ◌+◌, ◌-◌, ◌%◌, ◌^◌, ◌<◌, ◌≤◌, List, [], ◌∷◌, set, sym, refl, ap, ◌∙◌, subst, arith, eq-eqb, Option}
-use Rattle.fx_counted.proofs.Words.{Some, None, dite, some, none, ℕ_discrete, get_elem?, keeps, takes, stepped, step, set_here, set_else, Closed, ◌▷◌}
-use Rattle.fx_counted.proofs.Words.{changed_at, File, Event, Close, no_use, event_of, sum_at, retire_amount_of, NodeAgrees, WorkAgrees, Agrees, looks}
+use Rattle.fx_counted.proofs.Words.{Some, None, dite, some, none, ℕ_discrete, get_elem?, keeps, takes, stepped, step, set_here, set_else, Closed}
+use Rattle.fx_counted.proofs.Words.{changed_at, File, Event, Close, event_of, sum_at, retire_amount_of, NodeAgrees, WorkAgrees, Agrees, looks}
 use Rattle.fx_counted.proofs.Words.{word_of, place_of, IsNumber, state_after_all, shown, end_in, next_in, held_in, placing, held_of, holding, Phase}
 use Rattle.fx_counted.proofs.Words.{spare, leaving, retired, emptied, owner, file_in, TakesOut, View, Idle, Holding, Retiring, Emptying, RetiresKeep}
 use Rattle.fx_counted.proofs.Words.{Retires, inr, inl}
@@ -9,8 +9,8 @@ use Rattle.std.proofs.Common.{length-set}
 use Rattle.atomic_table.specs.Table.{Allows}
 use Rattle.fx_counted.proofs.Births.{in_phase, word_now, home_now, roomy, else_place}
 use Rattle.fx_counted.proofs.Frames.{busy, does_now}
-use Rattle.fx_counted.proofs.Histories.{IsHistory, grows_none, grows_one, legal_more, held_mine, part_mine, change_here, change_else, looks_few}
-use Rattle.fx_counted.proofs.Keeping.{Turn, turn_of, its_log, its_work, tells, by_turn, Made, went}
+use Rattle.fx_counted.proofs.Histories.{IsHistory, grows_none, grows_one, legal_more, held_mine, change_here, change_else, looks_few}
+use Rattle.fx_counted.proofs.Keeping.{Turn, turn_of, its_log, its_work, by_turn, Made, went, tells_none, tells_one}
 use Rattle.fx_counted.proofs.NodeSteps.{one_same, NodeStep, node_agrees}
 
 pub sub_wraps : (n k : ℕ) → k ≤ n → n < 18446744073709551616 → 0 < k → (n + (2 ^ 64 - k)) % 2 ^ 64 ≡ n - k
@@ -119,8 +119,7 @@ module _ (turn : Turn) where
             z,
             change_here (state_after_all v.start r.history).removed q None q refl,
           );
-          known = does_now st.views id v (went turn (closing ∷ r.history)
-              (Emptying q) v.change) (Emptying q) here refl;
+          known = does_now st.views id v (went turn (closing ∷ r.history) (Emptying q) v.change) (Emptying q) here refl;
           held = held_mine x.number closing r.history refl ∙ (o.held ∙ ap held_in works);
           next = tt;
           spares = keeps_spares (emptied id);
@@ -141,17 +140,9 @@ module _ (turn : Turn) where
           record {
             waits = λ g u _ not_so. absurd (not_so is);
             closes = λ g u its _. let same : f ≡ g = retiring_same f g t u (sym works ∙ its) in
-                subst (λ (g : File). TakesOut (v, carried) [] g (
-                  went turn (closing ∷ r.history) (Emptying q) v.change,
-                  (place_of v.start q, Some f.identity) ∷ carried,
-                )) same
-                record {
-                  stepped = tells turn carried ((place_of v.start q, Some f.identity) ∷ carried)
-                      (closing ∷ r.history) x.numbers_left x.looks_left (Emptying q) v.change ([] ▷ Close f) no_use
-                      (grows_one x.number r.history closing refl) (closed_legal is)
-                      (part_mine x.number closing r.history refl) (omega arith) (omega arith) mine.0;
-                  carried = refl;
-                };
+                subst (λ (g : File). TakesOut (v, carried) [] g
+                (went turn (closing ∷ r.history) (Emptying q) v.change, (place_of v.start q, Some f.identity) ∷ carried)) same
+                record { stepped = tells_one turn (Close f) (closed_legal is) carried _ (Emptying q) v.change mine.0; carried = refl };
           },
         ))
         (λ more. (
@@ -161,11 +152,7 @@ module _ (turn : Turn) where
           node_agrees turn q mine.0 left st.homes r.history (retired f.identity) Idle (waits fits more),
           record {
             waits = λ g u its _. let same : f ≡ g = retiring_same f g t u (sym works ∙ its) in (
-              record {
-                stepped = tells turn carried carried r.history x.numbers_left x.looks_left Idle
-                    v.change [] no_use (grows_none x.number r.history) r.legal refl (omega arith) (omega arith) tt;
-                carried = refl;
-              },
+              record { stepped = tells_none turn carried carried Idle v.change tt; carried = refl },
               subst (λ (g : File). 0 < (state_after_all v.start r.history).holds g.number) same (let n = node in let c = few_looks q in omega arith),
             );
             closes = λ g u _ is. absurd (more is);
