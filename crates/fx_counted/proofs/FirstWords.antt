@@ -3,7 +3,7 @@ use Rattle.fx_counted.proofs.Words.{◌≡◌, ◌≢◌, true, false, ℕ, zero
 use Rattle.fx_counted.proofs.Words.{◌∙◌, arith, get_or-set_same, get_or-set_other, Option, Some, None, option_map, slice_index, dite, ℕ_discrete}
 use Rattle.fx_counted.proofs.Words.{State, file_numbered, File, born, slot_word_of, full_in, if_full, first_at, AreFirstWords, control_place}
 use Rattle.fx_counted.proofs.Words.{draw_place, slot_place, node_place, words_for, word_for, node_for, length-append, is_some, files_in_order}
-use Rattle.fx_counted.proofs.Words.{identities_of, length-replicate, control_word_of}
+use Rattle.fx_counted.proofs.Words.{identities_of, length-replicate, control_word_of, subst}
 use lib.ListN.{length-set}
 use Rattle.fx_counted.proofs.Places.{low_node}
 
@@ -50,50 +50,40 @@ module _ (st : State) (numbers slot : ℕ) (words : List ℕ) (inside : slot < s
   here : node_place st.size slot ≡ 17 + 8 * slot
   here = low_node st.size slot inside
 
-  lower : (other : ℕ) → other < slot → node_place st.size other ≡ 17 + 8 * other
-  lower other l = low_node st.size other (omega arith)
+  -- the words of one slot more
+  one_so_far : (new : List ℕ) → length new ≡ length words
+      → ((place : ℕ) → place ≢ slot_place slot → place ≢ node_place st.size slot → slice_index new place ≡ slice_index words place)
+      → slice_index new (slot_place slot) ≡ word_for (first_at st slot) → slice_index new (node_place st.size slot) ≡ node_for (first_at st slot)
+      → ((f : File) → first_at st slot ≡ Some f → f.identity.entry < 256) → AreWordsSoFar st numbers (slot + 1) new
+  one_so_far new long else slot_is node_is small = record {
+    count = long ∙ w.count;
+    entries = λ s f l at. dite (ℕ_discrete s slot) (λ same. small f (sym (ap (first_at st) same) ∙ at)) (λ ne. w.entries s f (omega (arith, ne)) at);
+    control = else 0 (omega arith) (let e = here in omega arith) ∙ w.control;
+    draw = else 8 (omega arith) (let e = here in omega arith) ∙ w.draw;
+    slots = λ s l. dite (ℕ_discrete s slot)
+        (λ same. subst (λ (n : ℕ). slice_index new (slot_place n) ≡ word_for (first_at st n)) (sym same) slot_is)
+        (λ ne. else (slot_place s) (omega (arith, ne)) (let e = here in omega arith) ∙ w.slots s (omega (arith, ne)));
+    nodes = λ s l. dite (ℕ_discrete s slot)
+        (λ same. subst (λ (n : ℕ). slice_index new (node_place st.size n) ≡ node_for (first_at st n)) (sym same) node_is)
+        (λ ne. let e = here in let d = low_node st.size s (omega (arith, ne)) in
+        else (node_place st.size s) (omega arith) (omega (arith, ne, e, d)) ∙ w.nodes s (omega (arith, ne)));
+    rest = λ place g. else place (omega arith) (let e = here in omega arith) ∙ w.rest place (omega arith);
+  }
 
   -- an empty slot's words are 0
   pub none_more : first_at st slot ≡ None → AreWordsSoFar st numbers (slot + 1) words
-  none_more vacant = record {
-    count = w.count;
-    entries = λ s f l there. dite (ℕ_discrete s slot)
-        (λ same. let bad : Some f ≡ None = sym there ∙ (ap (first_at st) same ∙ vacant) in absurd (cc bad))
-        (λ ne. w.entries s f (omega (arith, ne)) there);
-    control = w.control;
-    draw = w.draw;
-    slots = λ s l. dite (ℕ_discrete s slot)
-        (λ same. w.rest (slot_place s) (omega (arith, same)) ∙ sym (ap word_for (ap (first_at st) same ∙ vacant)))
-        (λ ne. w.slots s (omega (arith, ne)));
-    nodes = λ s l. dite (ℕ_discrete s slot)
-        (λ same. let e = low_node st.size s (omega (arith, same)) in
-        w.rest (node_place st.size s) (omega (arith, same, e)) ∙ sym (ap node_for (ap (first_at st) same ∙ vacant)))
-        (λ ne. w.nodes s (omega (arith, ne)));
-    rest = λ place g. w.rest place (omega arith);
-  }
+  none_more vacant = one_so_far words refl (λ place a b. refl) (w.rest (slot_place slot) (omega arith) ∙ sym (ap word_for vacant))
+      (w.rest (node_place st.size slot) (let e = here in omega arith) ∙ sym (ap node_for vacant))
+      (λ f there. let bad : Some f ≡ None = sym there ∙ vacant in absurd (cc bad))
 
   -- those of a slot with a file are written
   pub one_more : (f : File) (entry : ℕ) (mid new : List ℕ) → first_at st slot ≡ Some f → f.number ≡ slot → entry ≡ f.identity.entry → entry < 256
       → mid ≡ set words (slot_place slot) (slot_word_of slot entry) → new ≡ set mid (node_place st.size slot) born
       → AreWordsSoFar st numbers (slot + 1) new
-  one_more f entry mid new there number is small first second = record {
-    count = ap length second ∙ (length-set mid (node_place st.size slot) born ∙ (ap length first
-        ∙ (length-set words (slot_place slot) (slot_word_of slot entry) ∙ w.count)));
-    entries = λ s g l at. dite (ℕ_discrete s slot)
-        (λ same. let e : Some g ≡ Some f = sym at ∙ (ap (first_at st) same ∙ there) in let same_file : g ≡ f = cc e in
-        let k = ap (λ (x : File). x.identity.entry) same_file in omega (arith, k, is, small))
-        (λ ne. w.entries s g (omega (arith, ne)) at);
-    control = else 0 (omega arith) (let e = here in omega arith) ∙ w.control;
-    draw = else 8 (omega arith) (let e = here in omega arith) ∙ w.draw;
-    slots = λ s l. dite (ℕ_discrete s slot)
-        (λ same. ap (λ (n : ℕ). get_or new (slot_place n) 0) same ∙ (slot_is ∙ sym (ap word_for (ap (first_at st) same ∙ there))))
-        (λ ne. else (slot_place s) (omega (arith, ne)) (let e = here in omega arith) ∙ w.slots s (omega (arith, ne)));
-    nodes = λ s l. dite (ℕ_discrete s slot)
-        (λ same. ap (λ (n : ℕ). get_or new (node_place st.size n) 0) same ∙ (node_is ∙ sym (ap node_for (ap (first_at st) same ∙ there))))
-        (λ ne. let e = here in let d = lower s (omega (arith, ne)) in
-        else (node_place st.size s) (omega arith) (omega (arith, ne, e, d)) ∙ w.nodes s (omega (arith, ne)));
-    rest = λ place g. else place (omega arith) (let e = here in omega arith) ∙ w.rest place (omega arith);
-  }
+  one_more f entry mid new there number is small first second = one_so_far new
+      (ap length second ∙ (length-set mid (node_place st.size slot) born ∙ (ap length first ∙ length-set words (slot_place slot) (slot_word_of slot entry))))
+      else (slot_is ∙ sym (ap word_for there)) (node_is ∙ sym (ap node_for there))
+      (λ g at. let same : Some g ≡ Some f = sym at ∙ there in let k = ap (λ (x : File). x.identity.entry) (let e : g ≡ f = cc same in e) in omega (arith, k, is, small))
     where
       else : (place : ℕ) → place ≢ slot_place slot → place ≢ node_place st.size slot → slice_index new place ≡ slice_index words place
       else place a b = ap (λ (l : List ℕ). get_or l place 0) second ∙ (get_or-set_other mid (node_place st.size slot) place born 0 b

@@ -2,9 +2,9 @@
 use Rattle.fx_counted.proofs.Words.{◌≡◌, ◌≢◌, ℕ, ◌+◌, ◌-◌, ◌%◌, ◌^◌, ◌<◌, List, [], ◌∷◌, set, sym, refl, ap, ◌∙◌, subst, arith, Option, Some, None}
 use Rattle.fx_counted.proofs.Words.{dite, none, ℕ_discrete, get_elem?, keeps, stepped, step, Closed, ◌▷◌, held_by, State, File, Event, Look, range_of}
 use Rattle.fx_counted.proofs.Words.{event_of, name_in, entry_in, takes_in, Names, SlotAgrees, NodeAgrees, Agrees, PlacesNext, WorkAgrees, looks}
-use Rattle.fx_counted.proofs.Words.{full_in, word_of, place_of, slot_place, slot_of, control_place, opening_of, slots_of, IsNumber, state_after_all}
-use Rattle.fx_counted.proofs.Words.{shown, held_in, placing, held_of, holding, Sat, Phase, seated, file_in, Stepped, IsInside, Log, View, Idle, eqb}
-use Rattle.fx_counted.proofs.Words.{one_look, name_more, entry_more, takes_more, LooksKeep, Looks, holds_now}
+use Rattle.fx_counted.proofs.Words.{full_in, word_of, place_of, slot_place, control_place, opening_of, slots_of, IsNumber, state_after_all, shown}
+use Rattle.fx_counted.proofs.Words.{held_in, placing, held_of, holding, Phase, seated, file_in, Stepped, IsInside, Log, View, Idle, eqb, one_look}
+use Rattle.fx_counted.proofs.Words.{name_more, entry_more, takes_more, LooksKeep, Looks, holds_now}
 use Rattle.fx_counted.specs.Agrees.{IsSeated}
 use Rattle.fx_counted.proofs.Frames.{busy, stays_same, owner_stays}
 use Rattle.fx_counted.proofs.Histories.{IsHistory, grows_one, legal_more, held_mine, part_mine, change_else, same_shape}
@@ -180,35 +180,23 @@ module _ (turn : Turn) (idle : turn.v.work ≡ Idle) (some_left : 0 < turn.x.loo
           (held_mine x.number (e (Some f) is) r.history refl) tt refl (seat.0, ap file_in seat.2)
           holds_now_is
 
-    at_slot : (m m' : Sat) (file : Option File)
-        → Stepped m ([] ▷ Look s file) one_look (holds_now file) v.change m'
-        → Stepped m ([] ▷ Look (slot_of (slot_place s)) file) one_look (holds_now file) v.change m'
-    at_slot m m' file = subst (λ (z : ℕ). Stepped m ([] ▷ Look z file) one_look (holds_now file) v.change m')
-        (sym ((far turn).slot_back s))
+    either : (file : Option File) (is : old.at s ≡ file)
+        → Agrees v.start record { words = set st.words (slot_place s) word'; homes = st.homes; views = set st.views id (w file is) } × IsInside v.start (holds_now file)
+    either None is = (missed is, tt)
+    either (Some f) is = (hit f is, (seat f is).0)
 
-    looks_either : (slots : ℕ) (carried : List (ℕ × Option Closed)) (file : Option File) → old.at s ≡ file
+    looked : (slots : ℕ) (carried : List (ℕ × Option Closed))
         → Made turn carried (slot_place s) (λ word. (word + 1) % 2 ^ 64) (Looks (step slots (slot_place s) 1 0 none) (v, carried))
-    looks_either slots carried None is = (
-      w None is,
+    looked slots carried = let file = old.at s in let it = either file refl in (
+      w file refl,
       keeps,
       tt,
-      missed is,
+      it.0,
       record {
-        file = None;
-        names = subst (Names found) is so.names;
-        stepped = at_slot (v, carried) (w None is, carried) None (told None is carried tt);
-        carried = refl;
-      },
-    )
-    looks_either slots carried (Some f) is = (
-      w (Some f) is,
-      keeps,
-      tt,
-      hit f is,
-      record {
-        file = Some f;
-        names = subst (Names found) is so.names;
-        stepped = at_slot (v, carried) (w (Some f) is, carried) (Some f) (told (Some f) is carried (seat f is).0);
+        file = file;
+        names = so.names;
+        stepped = subst (λ (z : ℕ). Stepped (v, carried) ([] ▷ Look z file) one_look (holds_now file) v.change (w file refl, carried))
+            (sym ((far turn).slot_back s)) (told file refl carried it.1);
         carried = refl;
       },
     )
@@ -216,4 +204,4 @@ module _ (turn : Turn) (idle : turn.v.work ≡ Idle) (some_left : 0 < turn.x.loo
 pub looks_keep : LooksKeep
 looks_keep k slots id i slot m x has idle left inside place = by_turn k slots id i m x (λ k. slot < slots_of k) (λ _. slot_place slot)
     (λ word. (word + 1) % 2 ^ 64) (λ i. Looks (step slots i 1 0 none) m) has inside place
-    (λ st r here within fits. looks_either (turn_of m x has.1 id st r here) idle left slot within fits slots m.1 _ refl)
+    (λ st r here within fits. looked (turn_of m x has.1 id st r here) idle left slot within fits slots m.1)
