@@ -1,6 +1,6 @@
 -- The files of a script are a catalogue, of bytes alone.
-use Rattle.std.proofs.Common.{◌≡◌, ℕ, zero, suc, ◌+◌, ◌<◌, ◌≤◌, ◌==◌, nat_le, nat_lt, Bool, true, false, not, List, [], ◌∷◌, ◌++◌, length, All, refl, sym, subst, arith}
-use Rattle.std.proofs.Common.{Option, Some, None, option_and_then, Result, Ok, Err, ok_or, IfOk, if◌then◌else◌, slice_index}
+use Rattle.std.proofs.Common.{◌≡◌, ℕ, ◌+◌, ◌<◌, ◌≤◌, ◌==◌, nat_le, nat_lt, Bool, true, false, not, List, [], ◌∷◌, ◌++◌, length, refl, subst, arith}
+use Rattle.std.proofs.Common.{Option, option_and_then, Result, Ok, Err, ok_or, IfOk, if◌then◌else◌}
 use Rattle.std.specs.Str.{bytes_eq}
 use Rattle.std.proofs.lemmas.Bool.{leb-false, ltb-false}
 use Rattle.std.proofs.lemmas.List.Elements.{All-append, All-nil, All-cons}
@@ -9,7 +9,7 @@ use Rattle.std.specs.Result.{result_ok}
 use Rattle.hex.specs.Hex.{IsBytes, decode_of}
 use Rattle.hex.specs.declared.error.FromHexError.{FromHexError}
 use Rattle.hex.proofs.HexLemmas.{decode_of-ok}
-use Rattle.fx_base.specs.AddFault.{add_fault_of, has_name}
+use Rattle.fx_base.specs.AddFault.{has_name}
 use Rattle.fx_base.specs.Catalogue.{FileEntry}
 use Rattle.fx_base.specs.Name.{is_name}
 use Rattle.fx_base.specs.declared.catalogue.AddFault.{AddFault}
@@ -22,7 +22,6 @@ use Rattle.fx_script.specs.Line.{Line, FileLine, CommandLine, RequestLine, Submi
 use Rattle.fx_script.specs.Lines.{lines, words, is_printable, is_skipped}
 use Rattle.fx_script.specs.Script.{AreFiles, LineFault, Meaning, Progress, IsScript, after_file, after_line, after_text, after_texts, at_end, is_late, line_fault_of}
 use Rattle.fx_script.specs.Script.{nothing, on_line, reading_of, unless, with_file}
-use Rattle.fx_script.specs.Words.{hex_of}
 
 -- what holds of both branches of a test
 either_if : {A : Type 0} (P : A → Type 0) (b : Bool) (x y : A) → (b ≡ true → P x) → (b ≡ false → P y) → P (if b then x else y)

@@ -9,3 +9,4 @@ pub mod Turns
 pub mod KeptBytes
 pub mod PlaySteps
 pub mod FilesOfScripts
+pub mod Chunks

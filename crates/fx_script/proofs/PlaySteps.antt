@@ -26,7 +26,7 @@ Appends-nothing : (known : Option (List ℕ)) → Appends known known []
 Appends-nothing None = tt
 Appends-nothing (Some xs) = sym (append-nil xs)
 
-Appends-append : (a b c : Option (List ℕ)) (xs ys : List ℕ) → Appends a b xs → Appends b c ys → Appends a c (xs ++ ys)
+pub Appends-append : (a b c : Option (List ℕ)) (xs ys : List ℕ) → Appends a b xs → Appends b c ys → Appends a c (xs ++ ys)
 Appends-append None b c xs ys first second = tt
 Appends-append (Some a) None c xs ys first second = absurd first
 Appends-append (Some a) (Some b) None xs ys first second = absurd second

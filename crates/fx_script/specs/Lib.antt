@@ -10,6 +10,7 @@ pub mod LineView
 pub mod ScriptView
 pub mod Laws
 pub mod Text
+pub mod Printed
 pub mod Play
 pub mod RunView
 pub mod Run

@@ -13,6 +13,7 @@ mod number;
 mod parts;
 mod play_fault;
 mod player;
+mod printed;
 mod prints;
 mod reader;
 mod request;

@@ -217,8 +217,8 @@ pub fn too_many_line(alloc: Global) -> Result<String, NoMemory>
     Ok(String::from_str(alloc, line)?)
 }
 
-// The room for a line for each completion.
-fn room_of(completions: &[Completion]) -> usize {
+/// The room for a line for each completion.
+pub(crate) fn room_of(completions: &[Completion]) -> usize {
     let mut room = 0usize;
     for completion in completions {
         room = room.saturating_add(
@@ -236,6 +236,19 @@ fn room_of(completions: &[Completion]) -> usize {
 fn room_of_closes(files: &[Closed], tags: &[TagCompletion]) -> usize {
     let lines = files.len().saturating_mul(CLOSED_ROOM);
     lines.saturating_add(tags.len().saturating_mul(TAG_ROOM))
+}
+
+/// The lines of some completions, in their order.
+pub(crate) fn completions_text(
+    alloc: Global,
+    completions: &[Completion],
+) -> Result<String, NoMemory>
+    ensures { IfOk result (λ text.
+        string_bytes text ≡ completion_lines (all_completed completions.now)) }
+{
+    let mut text = String::with_capacity(alloc, room_of(completions))?;
+    push_completions(&mut text, completions)?;
+    Ok(text)
 }
 
 /// The text of a submission: a line for each completion, one for each file that was closed, and one for each of their
