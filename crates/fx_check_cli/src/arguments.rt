@@ -8,15 +8,16 @@ use std::env;
 use std::io::ErrorKind;
 
 const ABOUT: &str =
-    "Says whether the rules of the fixed file table of io_uring allow a text for a script, \
+    "Says whether the rules of io_uring's fixed file table allow a text for a script, \
                      for instance what a kernel answered to it";
 
 const STATUSES: &str = "\
-It prints `legal`, and for each submission an order of its requests that gives the text; or
-`not legal` with the first command that no order explains; or `undecided`, where a submission
-has more states than it may look at. Its status is then 0, 1 or 6.
+It prints `legal`, and for each accepted submission an order of its requests that gives the
+text; or `not legal`, with the command that the text breaks at; or `undecided`, where a part
+of a submission has more states than it may look at, or what was found isn't confirmed. The
+status is then 0, 1 or 6.
 With --history it prints for a legal text every event of the table, a line each: whose it is,
-what happens, and behind it the files at the slots. scripts/draw-history draws that.
+what happens, and the files then at the slots. scripts/draw-history draws that.
 A script is what `fixfiles` plays, and a text what `fixfiles`, or a kernel, writes.";
 
 /// How many states of a submission are looked at where no number is given.
@@ -55,11 +56,11 @@ fn command<'a>(alloc: Global) -> Result<Command<'a>, AllocError> {
         .value_name("N")
         .value_parser(value_parser!(u32))
         .default_value("1000000")
-        .help("How many states of a submission are looked at before it is undecided");
+        .help("How many states of a part of a submission are looked at before it is undecided");
     let history = Arg::new(alloc, "history")
         .long("history")
         .action(ArgAction::SetTrue)
-        .help("Prints in place of the orders a whole legal history that gives the text");
+        .help("Prints instead of the orders a whole legal history that gives the text");
     let script = Arg::new(alloc, "script")
         .value_name("SCRIPT")
         .required(true)

@@ -12,8 +12,8 @@ use std::io::ErrorKind;
 use std::str::FromStr;
 
 const ABOUT: &str =
-    "Plays a script on io_uring's table of fixed files: reads it from standard input, \
-                     and prints the result of each request and the files that were closed";
+    "Plays a script on a table of fixed files like io_uring's, in memory: reads it from standard \
+                     input, and prints the result of each request and the files that were closed";
 
 const TABLES: &[&str] = &["words", "baton"];
 

@@ -1,5 +1,5 @@
-//! The file table that threads share without a lock: a look-up is one atomic addition, a release one subtraction, and
-//! nobody waits.
+//! The file table that threads share without a lock: a look-up is one atomic addition, a release one subtraction, and of
+//! all calls only an open at any slot may wait.
 #![tactic(auto)]
 
 mod calls;

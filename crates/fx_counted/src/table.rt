@@ -15,8 +15,8 @@ use fx_plain::PlainTable;
 use std::alloc::Global;
 
 /// A file table that threads share without a lock. A look-up is one atomic addition to the slot's word, and a release
-/// one subtraction from the word of the file's number; nobody waits for anybody. It is no `Drop`: a program that lets one
-/// go is not accepted (this project's own).
+/// one subtraction from the word of the file's number; of all calls only `put_any` may wait. It is no `Drop`: a program
+/// that drops one is not accepted (this project's own).
 pub struct CountedTable {
     pub(crate) table: Table<Option<OpenFile>, View, Start, OneHistory, Global>,
     // The table that was opened, without its files: they go back into it at the close, which so takes no memory.
