@@ -4,7 +4,7 @@ use Rattle.fx_counted.proofs.Words.{Seat, Closed, PassView, IsFront, new_passes,
 use Rattle.fx_counted.proofs.Words.{opening_of, new_log, pass_of, view_of, IsPassOf, is_idle, CountedPass, Log, Start, View, new_pass}
 use Rattle.fx_counted.proofs.Words.{new_passes_from, IsNewPass}
 use mathlib.Core.List.{map-append}
-use Rattle.fx_counted.specs.Tables.{IsSeated}
+use Rattle.fx_counted.specs.Tables.{HasOnePass}
 
 deal_more : (p n : ℕ) → p ≤ n → new_logs p ((n + 1) - p) ≡ new_log p ∷ new_logs (p + 1) ((n + 1) - (p + 1))
 deal_more p n l = let e : (n + 1) - p ≡ suc ((n + 1) - (p + 1)) = omega arith in let f : suc p ≡ p + 1 = omega arith in
@@ -57,7 +57,7 @@ module _ (id : TableId) (k : Start) (p : ℕ) (low : 1 ≤ p) (high : p ≤ k.pa
     table = ap (λ (z : Seat (Option Closed) View). z.table_id) new.its_seat ∙ table;
     places = ap (λ (m : Sat). m.1) me;
     log = new_log p;
-    seated = subst (λ (m : Sat). IsSeated k m.0 (new_log p)) (sym me) record {
+    seated = subst (λ (m : Sat). HasOnePass k m.0 (new_log p)) (sym me) record {
       one = refl;
       start = refl;
       front = new_front;

@@ -5,7 +5,7 @@ use Rattle.fx_counted.proofs.Words.{first_log, view_of, is_idle, IsPassOf, IsIns
 use Rattle.fx_counted.proofs.Words.{Start, Work, Idle, Placing, Holding, Retiring, Emptying, ◌▷▷◌, both_uses, IsAtWork, IsBetweenCalls}
 use Rattle.fx_table.specs.declared.values.Doing.TheVariants.{Idle as NowIdle, Holding as NowHolding, Retiring as NowRetiring}
 use Rattle.fx_table.proofs.Calls.{adds_then}
-use Rattle.fx_counted.specs.Tables.{IsSeated}
+use Rattle.fx_counted.specs.Tables.{HasOnePass}
 
 pub goes_one : (m m' : Sat) (xs : List Action) (a : Use) (w : Work) (c : Change) → Stepped m xs a w c m' → Goes m xs a w c 1 m'
 goes_one m m' xs a w c s = record {
@@ -64,7 +64,7 @@ module _ (id : TableId) (k : Start) (p q : CountedPass) (fits : IsPassOf id k p)
   looks_now = let e = goes.adds.looks_left in let f = ap (λ (x : Log). x.looks_left) new_is in
       let g = ap (λ (x : Log). x.looks_left) old_is in omega arith
 
-  seated_now : IsBetweenCalls w → IsSeated k q.seat.me.0 new
+  seated_now : IsBetweenCalls w → HasOnePass k q.seat.me.0 new
   seated_now rests = let s = fits.seated in record {
     one = goes.one.1;
     start = goes.start ∙ s.start;

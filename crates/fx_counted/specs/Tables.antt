@@ -46,7 +46,7 @@ pub record Knows (p : CountedPass) (x : Log) : Type 0 where
   pub idle : p.idle ≡ is_idle p.seat.me.0.work
 
 -- a seat with one pass, which is between two calls
-pub record IsSeated (k : Start) (v : View) (x : Log) : Type 0 where
+pub record HasOnePass (k : Start) (v : View) (x : Log) : Type 0 where
   pub one : v.logs ≡ x ∷ []
   pub start : v.start ≡ k
   pub front : IsFront (opening_of k) (pass_of v)
@@ -62,7 +62,7 @@ pub record IsPassOf (id : TableId) (k : Start) (p : CountedPass) : Type 0 where
   pub table : p.seat.table_id ≡ id
   pub places : p.seat.me.1 ≡ []
   pub log : Log
-  pub seated : IsSeated k p.seat.me.0 log
+  pub seated : HasOnePass k p.seat.me.0 log
   pub knows : Knows p log
 
 abbrev pub opening_of_table : CountedTable → Opening

@@ -4,8 +4,8 @@ use Rattle.fx_chain.specs.Operation.{Operation, Opens, Reads, Closes, Updates}
 use Rattle.fx_script.specs.declared.line.Line.{Line}
 use Rattle.fx_script.specs.declared.line.Line.TheVariants.{File, Sparse, Register, Unregister, Range, Update, Request, Submit}
 use Rattle.fx_script.specs.declared.list.List as list
-use Rattle.fx_script.specs.declared.request.Action.{Action}
-use Rattle.fx_script.specs.declared.request.Action.TheVariants as action
+use Rattle.fx_script.specs.declared.request.Ask.{Ask}
+use Rattle.fx_script.specs.declared.request.Ask.TheVariants as ask
 use Rattle.fx_script.specs.Instruction.{MakesSparse, RegistersList, Unregisters, SetsRange, UpdatesRing}
 use Rattle.fx_script.specs.Line.{FileLine, CommandLine, RequestLine, SubmitLine}
 use Rattle.fx_script.specs.Line as line
@@ -15,11 +15,11 @@ use Rattle.fx_script.specs.Words.{list_of}
 abbrev pub entries_in : list.List → List ℤ
 entries_in l = unwrap_or (list_of l.text.now) []
 
-abbrev pub operation_in : Action → Operation
-operation_in (action.Open name target) = Opens name.now target
-operation_in (action.Read slot off len) = Reads slot off len
-operation_in (action.Close slot) = Closes slot
-operation_in (action.Update off l) = Updates off (entries_in l)
+abbrev pub operation_in : Ask → Operation
+operation_in (ask.Open name target) = Opens name.now target
+operation_in (ask.Read slot off len) = Reads slot off len
+operation_in (ask.Close slot) = Closes slot
+operation_in (ask.Update off l) = Updates off (entries_in l)
 
 abbrev pub line_in : Line → line.Line
 line_in (File name hex) = FileLine name.now hex.now

@@ -10,7 +10,7 @@ ghost use Rattle.fx_script.specs.ScriptView.{GivesOrFails};
 use crate::fault::{LineError, ScriptFault};
 use crate::list::List;
 use crate::parts::Parts;
-use crate::request::{self, Action};
+use crate::request::{self, Ask};
 use crate::tags::tags;
 use crate::words::{end, last, number, text, word};
 use fx_chain::SqeFlags;
@@ -32,7 +32,7 @@ pub enum Line<'a> {
     // Updates the table, perhaps with tags.
     Update(u32, List<'a>, Option<Vec<u64>>),
     // Asks for something at the next submission, by a request with these flags.
-    Request(Action<'a>, SqeFlags),
+    Request(Ask<'a>, SqeFlags),
     // Submits.
     Submit,
 }

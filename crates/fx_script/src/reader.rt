@@ -12,7 +12,7 @@ use crate::command::Command;
 use crate::fault::{LineError, ScriptFault};
 use crate::limits::LONGEST_LINE;
 use crate::line::{Line, parse};
-use crate::request::Action;
+use crate::request::Ask;
 use fx_base::{AddFault, Catalogue};
 use fx_chain::{Op, Request};
 use hex::FromHexError;
@@ -60,17 +60,17 @@ fn file_bytes(alloc: Global, hex: &[u8]) -> Result<Vec<u8>, LineError>
 }
 
 // What a request line asks for, with memory of its own.
-fn op_of(alloc: Global, action: Action<'_>) -> Result<Op, AllocError>
-    ensures { IfOk result (λ op. operation_of op ≡ operation_in action.entry) }
+fn op_of(alloc: Global, ask: Ask<'_>) -> Result<Op, AllocError>
+    ensures { IfOk result (λ op. operation_of op ≡ operation_in ask.entry) }
 {
-    match action {
-        Action::Open { name, target } => Ok(Op::Open {
+    match ask {
+        Ask::Open { name, target } => Ok(Op::Open {
             name: String::from_str(alloc, name)?,
             target,
         }),
-        Action::Read { slot, off, len } => Ok(Op::Read { slot, off, len }),
-        Action::Close { slot } => Ok(Op::Close { slot }),
-        Action::Update { off, list } => Ok(Op::Update {
+        Ask::Read { slot, off, len } => Ok(Op::Read { slot, off, len }),
+        Ask::Close { slot } => Ok(Op::Close { slot }),
+        Ask::Update { off, list } => Ok(Op::Update {
             off,
             list: list.entries(alloc)?,
         }),
@@ -149,8 +149,8 @@ impl Reader {
                 list.entries(alloc)?,
                 tags,
             )),
-            Line::Request(action, flags) => {
-                let op = op_of(alloc, action)?;
+            Line::Request(ask, flags) => {
+                let op = op_of(alloc, ask)?;
                 self.take_request(n, Request { op, flags })
             }
             Line::Submit => {

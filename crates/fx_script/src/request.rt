@@ -16,7 +16,7 @@ use fx_chain::{SqeFlags, Target};
 
 // What a request line asks for.
 #[derive(Clone, Copy)]
-pub enum Action<'a> {
+pub enum Ask<'a> {
     // To open the entry of this name.
     Open { name: &'a str, target: Target },
     // To read from the file at a slot.
@@ -35,7 +35,7 @@ fn open_at<'a>(file: &'a str, words: &mut Parts<'a>) -> Result<Line<'a>, ScriptF
     let last = last(words)?;
     let name = name(file)?;
     let target = Target::Slot(number(slot)?);
-    Ok(Line::Request(Action::Open { name, target }, link(last)?))
+    Ok(Line::Request(Ask::Open { name, target }, link(last)?))
 }
 
 // The words behind `open NAME any`: a link or no more.
@@ -45,7 +45,7 @@ fn open_any<'a>(file: &'a str, words: &mut Parts<'a>) -> Result<Line<'a>, Script
     let last = last(words)?;
     let name = name(file)?;
     let target = Target::Any;
-    Ok(Line::Request(Action::Open { name, target }, link(last)?))
+    Ok(Line::Request(Ask::Open { name, target }, link(last)?))
 }
 
 // The open that the words behind `open` ask for, or their first fault. They are printable, as those of a line are.
@@ -77,7 +77,7 @@ pub fn read<'a>(words: &mut Parts<'a>) -> Result<Line<'a>, ScriptFault>
     let off = number(off)?;
     let len = number(len)?;
     let flags = SqeFlags::FIXED_FILE.union(link(last)?);
-    Ok(Line::Request(Action::Read { slot, off, len }, flags))
+    Ok(Line::Request(Ask::Read { slot, off, len }, flags))
 }
 
 // The close that the words behind `close` ask for, or their first fault.
@@ -87,7 +87,7 @@ pub fn close<'a>(words: &mut Parts<'a>) -> Result<Line<'a>, ScriptFault>
     let slot = word(words)?;
     let last = last(words)?;
     let slot = number(slot)?;
-    Ok(Line::Request(Action::Close { slot }, link(last)?))
+    Ok(Line::Request(Ask::Close { slot }, link(last)?))
 }
 
 // The update that the words behind `update` ask for, or their first fault.
@@ -99,5 +99,5 @@ pub fn update<'a>(words: &mut Parts<'a>) -> Result<Line<'a>, ScriptFault>
     let last = last(words)?;
     let off = number(off)?;
     let list = List::new(list)?;
-    Ok(Line::Request(Action::Update { off, list }, link(last)?))
+    Ok(Line::Request(Ask::Update { off, list }, link(last)?))
 }

@@ -100,7 +100,7 @@ fn retire<T: FileTable, R: Wait + Abort>(
 
 // When the file is retired that two others release.
 #[derive(Clone, Copy)]
-enum Retires {
+enum Retirement {
     First,
     Between,
     Last,
@@ -110,7 +110,7 @@ enum Retires {
 fn let_go<T: FileTable, R: Wait + Abort>(
     rt: &R,
     table: &T,
-    retires: Retires,
+    retires: Retirement,
     one: Holder<T::Pass>,
     other: Holder<T::Pass>,
     remover: Remover<T::Pass>,
@@ -124,17 +124,17 @@ fn let_go<T: FileTable, R: Wait + Abort>(
     ensures remover { T.fits table.now result.2 }
 {
     match retires {
-        Retires::First => {
+        Retirement::First => {
             let remover = retire(rt, table, remover, Out::Nothing);
             let one = release(rt, table, one, Out::Nothing);
             (one, release(rt, table, other, Out::FirstFile), remover)
         }
-        Retires::Between => {
+        Retirement::Between => {
             let one = release(rt, table, one, Out::Nothing);
             let remover = retire(rt, table, remover, Out::Nothing);
             (one, release(rt, table, other, Out::FirstFile), remover)
         }
-        Retires::Last => {
+        Retirement::Last => {
             let one = release(rt, table, one, Out::Nothing);
             let other = release(rt, table, other, Out::Nothing);
             (one, other, retire(rt, table, remover, Out::FirstFile))
@@ -147,7 +147,7 @@ fn play_on<T: FileTable, R: Wait + Abort>(
     rt: &R,
     alloc: Global,
     takes: Takes,
-    retires: Retires,
+    retires: Retirement,
     a_is_first: bool,
 ) -> Result<(), Fail> {
     let catalogue = two_names(alloc)?;
@@ -170,7 +170,7 @@ fn play_on<T: FileTable, R: Wait + Abort>(
     Ok(())
 }
 
-fn play_on_both<R: Wait + Abort>(rt: &R, alloc: Global, retires: Retires) -> Result<(), Fail> {
+fn play_on_both<R: Wait + Abort>(rt: &R, alloc: Global, retires: Retirement) -> Result<(), Fail> {
     for a_is_first in [true, false] {
         play_on::<BatonTable, R>(rt, alloc, Takes::Zero, retires, a_is_first)?;
         play_on::<CountedTable, R>(rt, alloc, Takes::Counted, retires, a_is_first)?;
@@ -180,17 +180,17 @@ fn play_on_both<R: Wait + Abort>(rt: &R, alloc: Global, retires: Retires) -> Res
 
 #[test]
 fn two_releases_then_the_retirement(rt: HostRuntime) -> Result<(), Fail> {
-    play_on_both(&rt, rt.alloc(), Retires::Last)
+    play_on_both(&rt, rt.alloc(), Retirement::Last)
 }
 
 #[test]
 fn retirement_between_two_releases(rt: HostRuntime) -> Result<(), Fail> {
-    play_on_both(&rt, rt.alloc(), Retires::Between)
+    play_on_both(&rt, rt.alloc(), Retirement::Between)
 }
 
 #[test]
 fn retirement_then_two_releases(rt: HostRuntime) -> Result<(), Fail> {
-    play_on_both(&rt, rt.alloc(), Retires::First)
+    play_on_both(&rt, rt.alloc(), Retirement::First)
 }
 
 // The second file is taken from slot 0, where nobody looked it up, and comes out when it is retired.
