@@ -50,9 +50,6 @@ module _ (o : Opening) (catalogue : List FileEntry) (submission : ℕ) (runs : L
   drawn_is : x.drawn ≡ chain ∷ v.drawn
   drawn_is = played.2.acts.adds.drawn
 
-  chain_is : x.chain ≡ chain
-  chain_is = played.2.acts.adds.chain
-
   -- the new events and completions are of the chain
   new_events : All (λ e. chain_of e ≡ chain) events
   new_events = each_all (λ e. chain_of e ≡ chain) events
@@ -95,12 +92,6 @@ module _ (o : Opening) (catalogue : List FileEntry) (submission : ℕ) (runs : L
   drawn_cases : (c : ℕ) → Contains x.drawn c → (c ≡ chain) ⊎ Contains v.drawn c
   drawn_cases c h = contains_cases chain v.drawn c (subst (λ (l : List ℕ). Contains l c) drawn_is h)
 
-  drawn_before : (c : ℕ) → Contains v.drawn c → Contains x.drawn c
-  drawn_before c h = subst (λ (l : List ℕ). Contains l c) (sym drawn_is) (contains_tail chain v.drawn c h)
-
-  drawn_now : Contains x.drawn chain
-  drawn_now = subst (λ (l : List ℕ). Contains l chain) (sym drawn_is) (contains_head chain v.drawn)
-
   done : (c : ℕ) → Contains x.drawn c
       → IsDone catalogue (size_of o) submission runs c (map action_of (part_of_chain c x.own)) (completions_of_chain c now)
   done c h = ⊎_elim
@@ -118,10 +109,10 @@ module _ (o : Opening) (catalogue : List FileEntry) (submission : ℕ) (runs : L
     reached = omega arith;
     own = keeps_drawn_chains o (drawing o v chain) x actions Idle played.2.used (contains_head chain v.drawn)
         (λ e h. contains_tail chain v.drawn e.chain (worked.own e h)) played.2.acts.adds;
-    completed = subst (All (λ c. Contains x.drawn c.place.chain)) (sym played.1)
-        (All-append (λ c. Contains x.drawn c.place.chain) before played.0
-        (λ k d l. drawn_before _ (worked.completed k d l))
-        (λ k d l. subst (Contains x.drawn) (sym (new_completions k d l)) drawn_now));
+    completed = subst (λ (z : List Completed × List ℕ). All (λ c. Contains z.1 c.place.chain) z.0) (λ i. (sym played.1 i, sym drawn_is i))
+        (All-append (λ c. Contains (chain ∷ v.drawn) c.place.chain) before played.0
+        (λ k d l. contains_tail chain v.drawn _ (worked.completed k d l))
+        (λ k d l. subst (Contains (chain ∷ v.drawn)) (sym (new_completions k d l)) (contains_head chain v.drawn)));
     closed = played.2.acts.files
         ∙ ap (λ (l : List Closed). l ++ closes_in actions) worked.closed
         ∙ sym (closes_in-then (map action_of v.own) actions)
@@ -144,43 +135,26 @@ module _ (o : Opening) (catalogue : List FileEntry) (submission : ℕ) (runs : L
       let looks = room.looks in
       let completions = room.completions in
       let files_room = room.closes in
-      subst (λ (n : ℕ). HasRoom runs (worker_state (record x { chain = n }) now files) more) (sym chain_is) (record {
-        looks = omega arith;
-        completions = omega arith;
-        closes = omega arith;
-      })
+      subst (λ (n : ℕ). HasRoom runs (worker_state (record x { chain = n }) now files) more) (sym played.2.acts.adds.chain)
+      (record { looks = omega arith; completions = omega arith; closes = omega arith })
 
 -- what a worker has in front of a chain that its pass drew suffices for the chain
 module _ (o : Opening) (runs : List (List Asked)) (v w : PassView) (before : List Completed) (closes : CloseListView)
     (chain capacity : ℕ) (asked : List Asked) (room : HasRoom runs (worker_state v before closes) capacity)
     (count : o.chains ≡ length runs) (drew : Draws o v (Some chain) w) (are : asked ≡ run_of_chain runs chain) where
-  pub enough_looks : length asked ≤ w.looks_left
-  enough_looks =
+  pub enough : (length asked ≤ w.looks_left) × (length before + length asked ≤ capacity) × (all_weights asked ≤ closes.room)
+  enough =
       let further = drew.1 in
       let last = drew.2 in
-      let some = sum_behind (λ (run : List Asked). length run) runs [] v.chain chain further (omega arith) in
+      let requests = sum_behind (λ (run : List Asked). length run) runs [] v.chain chain further (omega arith) in
+      let weights = sum_behind all_weights runs [] v.chain chain further (omega arith) in
       let same = ap length are in
+      let weigh = ap all_weights are in
       let left = ap (λ (z : PassView). z.looks_left) drew.3 in
       let looks = room.looks in
-      omega arith
-
-  pub enough_capacity : length before + length asked ≤ capacity
-  enough_capacity =
-      let further = drew.1 in
-      let last = drew.2 in
-      let some = sum_behind (λ (run : List Asked). length run) runs [] v.chain chain further (omega arith) in
-      let same = ap length are in
       let completions = room.completions in
-      omega arith
-
-  pub enough_room : all_weights asked ≤ closes.room
-  enough_room =
-      let further = drew.1 in
-      let last = drew.2 in
-      let some = sum_behind all_weights runs [] v.chain chain further (omega arith) in
-      let same = ap all_weights are in
       let files = room.closes in
-      omega arith
+      (omega arith, omega arith, omega arith)
 
   -- and the worker goes on
   module _ (catalogue : List FileEntry) (submission more : ℕ) (x : PassView) (now : List Completed) (files : CloseListView)
@@ -208,12 +182,4 @@ pub worked_all : (o : Opening) (catalogue : List FileEntry) (size submission : �
     (closes : CloseListView) → HasWorked catalogue size submission runs (worker_state v cs closes) → Draws o v None w
     → HasWorked catalogue size submission runs (worker_state w cs closes)
 worked_all o catalogue size submission runs v w cs closes worked drew =
-    subst (λ (z : PassView). HasWorked catalogue size submission runs (worker_state z cs closes)) (sym drew) (record {
-      explained = worked.explained;
-      weighed = worked.weighed;
-      inside = worked.inside;
-      reached = worked.reached;
-      own = worked.own;
-      completed = worked.completed;
-      closed = worked.closed;
-    })
+    subst (λ (z : PassView). HasWorked catalogue size submission runs (worker_state z cs closes)) (sym drew) (assumption worked)

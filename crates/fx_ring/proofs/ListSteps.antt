@@ -152,9 +152,6 @@ none_done k off tags st closes settled = record {
     | inr above ↦ files_past k (files_at st) off [] tags slot (omega arith)
   ]
 
-split_at : (list : List ℤ) (i : ℕ) → i < length list → list ≡ take i list ++ slice_index_or list i (pos 0) ∷ drop (suc i) list
-split_at list i inside = sym (take-append-drop i list) ∙ ap (λ (l : List ℤ). take i list ++ l) (drop-cons list i (pos 0) inside)
-
 -- the same at a place of the list
 module _ (k off i : ℕ) (list : List ℤ) (tags : List ℕ) (z : ℤ) (old cur new : State) (before mid later : CloseListView)
     (inside : i < length list) (is : z ≡ slice_index_or list i (pos 0)) (done : SetsList k off (take i list) tags old cur before mid) where
@@ -163,7 +160,8 @@ module _ (k off i : ℕ) (list : List ℤ) (tags : List ℕ) (z : ℤ) (old cur 
 
   -- the number stands between the first so many and the rest
   between : list ≡ take i list ++ z ∷ drop (suc i) list
-  between = split_at list i inside ∙ ap (λ (y : ℤ). take i list ++ y ∷ drop (suc i) list) (sym is)
+  between = sym (take-append-drop i list) ∙ ap (λ (l : List ℤ). take i list ++ l) (drop-cons list i (pos 0) inside)
+      ∙ ap (λ (y : ℤ). take i list ++ y ∷ drop (suc i) list) (sym is)
 
   pub set_next : SetsNumber k off i (tag_at tags i) z cur new mid later → SetsList k off (take (i + 1) list) tags old new before later
   set_next next = subst (λ (l : List ℤ). SetsList k off l tags old new before later)

@@ -1,20 +1,16 @@
 -- A table whose files have marks apart keeps them apart, as long as each mark that is installed is a new one.
 use Rattle.fx_ring.proofs.Words.{◌≡◌, ◌≢◌, ◌⊎◌, ℕ, if◌then◌else◌, List, [], ◌∷◌, refl, sym, subst, ◌∙◌, ⊎_elim, inl, inr, Option, Some, None, State}
-use Rattle.fx_ring.proofs.Words.{after, changed_at, state_after, installed_by, File, Action, Look, Release, Put, Clear, Take, Allocate, Full, Close}
-use Rattle.fx_ring.proofs.Words.{by_equality}
+use Rattle.fx_ring.proofs.Words.{after, changed_at, state_after, installed_by, File, Action, Look, Put, Clear, Take, Allocate, by_equality}
 use Rattle.fx_ring.proofs.NewMarks.{IsPut, HasNewMarks}
 
 -- a step leaves all slots, or changes one to what it installs
 slots_after : (st : State) (a : Action) → ((after st a).at ≡ st.at) ⊎ ((slot : ℕ) × ((after st a).at ≡ changed_at st.at slot (installed_by a)))
-slots_after st (Look slot None) = inl refl
-slots_after st (Look slot (Some f)) = inl refl
-slots_after st (Release f) = inl refl
 slots_after st (Put slot f replaced) = inr (slot, refl)
 slots_after st (Clear slot found) = inr (slot, refl)
 slots_after st (Take slot found) = inr (slot, refl)
 slots_after st (Allocate slot f) = inr (slot, refl)
-slots_after st Full = inl refl
-slots_after st (Close f) = inl refl
+slots_after st (Look slot None) = inl refl
+slots_after st _ = inl refl
 
 module _ (P : File → Type 0) where
   -- each file at a slot is one of which P holds, or was installed; and no two have one mark

@@ -12,12 +12,6 @@ minus_one (pos n) low high = let e : true ≡ false = sym (le-leb 0 n (omega ari
 minus_one (negsuc zero) low high = refl
 minus_one (negsuc (suc n)) low high = let lt = ltb-true (suc n) 1 high in absurd (omega arith)
 
--- below -1
-pub minus_more : (z : ℤ) → int_le (pos 0) z ≡ false → int_lt (negsuc 1) z ≡ false → (n : ℕ) × (z ≡ negsuc (suc n))
-minus_more (pos n) low high = let e : true ≡ false = sym (le-leb 0 n (omega arith)) ∙ low in cc
-minus_more (negsuc zero) low high = cc
-minus_more (negsuc (suc n)) low high = (n, refl)
-
 -- a good number of 0 or more is an entry
 pub entry_inside : (entries : ℕ) (z : ℤ) → int_le (pos 0) z ≡ true → is_bad_entry entries z ≡ false → nat_abs z < entries
 entry_inside entries (pos n) is good = leb-false entries n good

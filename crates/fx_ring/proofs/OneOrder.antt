@@ -1,7 +1,7 @@
 -- A list in strict order is the only one of its elements that is in order.
-use Rattle.fx_ring.proofs.Words.{◌≡◌, ℕ, zero, suc, ◌+◌, ◌<◌, ◌≤◌, ◌⊎◌, cond, List, [], ◌∷◌, All, Contains, sum_by, IsPermutation, refl, sym, ap}
-use Rattle.fx_ring.proofs.Words.{subst, ◌∙◌, ◌==◌, arith, inl, inr, ⊎_elim, slice_index_or, eq-eqb, ne_eqb, IsNonDecreasingBy, All-head, All-tail}
-use Rattle.fx_ring.proofs.Words.{All-contains, sum_by-cons, get_or-le-sum_by, Contains-permutation, IsPermutation-sym, sum_by-IsPermutation}
+use Rattle.fx_ring.proofs.Words.{◌≡◌, ℕ, zero, suc, ◌<◌, ◌≤◌, ◌⊎◌, cond, List, [], ◌∷◌, All, Contains, sum_by, IsPermutation, refl, sym, ap, subst}
+use Rattle.fx_ring.proofs.Words.{◌==◌, arith, inl, inr, ⊎_elim, slice_index_or, eq-eqb, ne_eqb, IsNonDecreasingBy, All-head, All-tail, All-contains}
+use Rattle.fx_ring.proofs.Words.{sum_by-cons, get_or-le-sum_by, Contains-permutation, IsPermutation-sym, sum_by-IsPermutation}
 
 module _ {X : Type 0} (key : X → ℕ) where
   -- each element's key is below those behind it
@@ -16,9 +16,6 @@ module _ {X : Type 0} (key : X → ℕ) where
   in_front_or_behind : (x : X) (xs : List X) (y : X) → Contains (x ∷ xs) y → (x ≡ y) ⊎ Contains xs y
   in_front_or_behind x xs y (zero, lt, is) = inl is
   in_front_or_behind x xs y (suc k, lt, is) = inr (k, omega arith, is)
-
-  keyed_front : (x : X) (xs : List X) → keyed (key x) (x ∷ xs) ≡ 1 + keyed (key x) xs
-  keyed_front x xs = sum_by-cons (λ y. cond (key y == key x) 1 0) x xs ∙ ap (λ b. cond {A = ℕ} b 1 0 + keyed (key x) xs) (eq-eqb (key x) (key x) refl)
 
   keyed_above : (k : ℕ) (xs : List X) → All (λ y. k < key y) xs → keyed k xs ≡ 0
   keyed_above k [] above = refl

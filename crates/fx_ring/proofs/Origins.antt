@@ -63,16 +63,13 @@ module _ (ring next : RingState) (at : ℕ → Option Closed) (off : ℕ) (list 
       from (length ring.catalogue) (ring.registrations + 1) at off list tags slot file good
       (sym (ap (λ (a : ℕ → Option Closed). a slot) after) ∙ is)
 
-  new_counted : (mark : Mark) (i : ℕ) → mark ≡ Registered (ring.registrations + 1) i → HasCounted next mark
-  new_counted mark i is = subst (HasCounted next) (sym is) (omega arith)
-
   pub listed_rings : IsRing next
   listed_rings = record {
     entries = λ slot file is. subst (λ (n : ℕ). file.entry < n) (ap length (sym catalogue))
         (⊎_elim (λ was. entries slot file was) (λ new. new.1.1) (origin slot file is));
     counted = λ slot file is. ⊎_elim
         (λ was. counted_more ring next file.mark more submissions (counted slot file was))
-        (λ new. new_counted file.mark (slot - off) new.1.0) (origin slot file is);
+        (λ new. subst (HasCounted next) (sym new.1.0) (omega arith)) (origin slot file is);
     distinct = λ slot other file same is are marks. ⊎_elim
         (λ was. ⊎_elim (λ were. distinct slot other file same was were marks)
         (λ new. absurd (not_counted ring file.mark (other - off) (counted slot file was) (marks ∙ new.1.0))) (origin other same are))
@@ -98,9 +95,8 @@ registered_rings ring list tags good =
 -- what a list removes is of the catalogue, where all was
 removed_entries_by : (entries : ℕ) (z : ℤ) (x : Option Closed)
     → ((file : Closed) → x ≡ Some file → IsEntry entries file) → All (IsEntry entries) (removed_by z x)
-removed_entries_by entries (pos e) x has = entry_listed entries x has
-removed_entries_by entries (negsuc zero) x has = entry_listed entries x has
 removed_entries_by entries (negsuc (suc n)) x has = λ k d inside. absurd (omega arith)
+removed_entries_by entries _ x has = entry_listed entries x has
 
 pub removed_entries : (entries : ℕ) (at : ℕ → Option Closed) (slot : ℕ) (list : List ℤ)
     → ((s : ℕ) (file : Closed) → at s ≡ Some file → IsEntry entries file) → All (IsEntry entries) (removed_from at slot list)
@@ -110,9 +106,8 @@ removed_entries entries at slot (z ∷ list) has =
     (removed_entries_by entries z (at slot) (has slot)) (removed_entries entries at (slot + 1) list has)
 
 none_removed_by : (z : ℤ) → removed_by z None ≡ []
-none_removed_by (pos e) = refl
 none_removed_by (negsuc zero) = refl
-none_removed_by (negsuc (suc n)) = refl
+none_removed_by _ = refl
 
 -- nothing is removed where there are no files
 pub none_removed : (slot : ℕ) (list : List ℤ) → removed_from (λ _. None) slot list ≡ []

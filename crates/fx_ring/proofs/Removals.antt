@@ -1,14 +1,9 @@
 -- A file leaves its slot, and is closed at once.
-use Rattle.fx_ring.proofs.Words.{◌≡◌, ◌≢◌, ℕ, ◌+◌, ◌<◌, Bool, true, List, ◌++◌, length, refl, sym, ap, subst, ◌∙◌, Option, Some, None, if◌then◌else◌}
+use Rattle.fx_ring.proofs.Words.{◌≡◌, ℕ, ◌+◌, ◌<◌, Bool, true, List, ◌++◌, length, refl, sym, ap, subst, ◌∙◌, Option, Some, None, if◌then◌else◌}
 use Rattle.fx_ring.proofs.Words.{option_to_list, arith, CloseListView, Closed, File, Action, Put, Clear, State, IsSettled, Steps, changed_at}
 use Rattle.fx_ring.proofs.Words.{with_removed, Leads, close_of, identity_of, number_of, numbered, more_leaving, by_equality, files_at}
+use Rattle.fx_table.proofs.Changes.{changed_here, changed_else}
 use Rattle.fx_ring.specs.Slots.{SetsSlot, CanRetire, closes_of_removed, file_removed}
-
-pub changed_same : {X : Type 0} (f : ℕ → X) (k : ℕ) (v : X) → changed_at f k v k ≡ v
-changed_same f k v = by_equality k k (λ b. (if b then v else f k) ≡ v) (λ _. refl) (λ other. absurd (other refl))
-
-pub changed_other : {X : Type 0} (f : ℕ → X) (k q : ℕ) (v : X) → q ≢ k → changed_at f k v q ≡ f q
-changed_other f k q v apart = by_equality q k (λ b. (if b then v else f q) ≡ f q) (λ same. absurd (apart same)) (λ _. refl)
 
 -- the files of changed slots, their numbers aside
 files_changed : (at : ℕ → Option File) (slot : ℕ) (x : Option File)
@@ -23,20 +18,20 @@ pub can_retire : (first before : State) (leaves going : ℕ → Bool) (removed :
 can_retire first before leaves going None number s holds left is = subst (CanRetire leaves before) (sym is) tt
 can_retire first before leaves going (Some f) number s holds left is =
     subst (CanRetire leaves before) (sym is)
-    (ap (λ (l : ℕ → Bool). l f.number) left ∙ changed_same going f.number true, ap (λ (h : ℕ → ℕ). h f.number) holds ∙ s.unheld f.number)
+    (ap (λ (l : ℕ → Bool). l f.number) left ∙ changed_here going f.number true f.number refl, ap (λ (h : ℕ → ℕ). h f.number) holds ∙ s.unheld f.number)
 
 -- what was removed is found by its number
 pub removed_found : (first before : State) (removed : Option File) → before.removed ≡ with_removed first.removed removed
     → file_removed before (number_of removed) ≡ identity_of removed
 removed_found first before None out = refl
 removed_found first before (Some f) out =
-    ap identity_of (ap (λ (r : ℕ → Option File). r f.number) out ∙ changed_same first.removed f.number (Some f))
+    ap identity_of (ap (λ (r : ℕ → Option File). r f.number) out ∙ changed_here first.removed f.number (Some f) f.number refl)
 
 closes_found : (first before : State) (removed : Option File) → before.removed ≡ with_removed first.removed removed
     → closes_of_removed before (number_of removed) ≡ close_of removed
 closes_found first before None out = refl
 closes_found first before (Some f) out =
-    ap close_of (ap (λ (r : ℕ → Option File). r f.number) out ∙ changed_same first.removed f.number (Some f))
+    ap close_of (ap (λ (r : ℕ → Option File). r f.number) out ∙ changed_here first.removed f.number (Some f) f.number refl)
 
 -- a table whose removed file was closed
 record IsClosedUp (first before last : State) : Type 0 where
@@ -46,30 +41,29 @@ record IsClosedUp (first before last : State) : Type 0 where
   at : last.at ≡ before.at
   fresh : last.fresh ≡ before.fresh
 
+-- nothing is removed any more
+all_closed_up : (first before last : State) (removed : ℕ → Option File) → IsSettled first → before.holds ≡ first.holds
+    → last ≡ record before { removed = removed } → ((n : ℕ) → removed n ≡ None) → IsClosedUp first before last
+all_closed_up first before last removed s holds is none = record {
+  settled = record {
+    unheld = λ n. ap (λ (st : State). st.holds n) is ∙ ap (λ (h : ℕ → ℕ). h n) holds ∙ s.unheld n;
+    closed = λ n. ap (λ (st : State). st.removed n) is ∙ none n;
+  };
+  size = ap (λ (st : State). st.size) is;
+  range = ap (λ (st : State). st.range) is;
+  at = ap (λ (st : State). st.at) is;
+  fresh = ap (λ (st : State). st.fresh) is;
+}
+
 closed_up : (first before last : State) (removed : Option File) → IsSettled first
     → before.removed ≡ with_removed first.removed removed → before.holds ≡ first.holds → Leads before (close_of removed) last
     → IsClosedUp first before last
-closed_up first before last None s out holds lead = record {
-  settled = record {
-    unheld = λ n. ap (λ (st : State). st.holds n) lead.1 ∙ ap (λ (h : ℕ → ℕ). h n) holds ∙ s.unheld n;
-    closed = λ n. ap (λ (st : State). st.removed n) lead.1 ∙ ap (λ (r : ℕ → Option File). r n) out ∙ s.closed n;
-  };
-  size = ap (λ (st : State). st.size) lead.1;
-  range = ap (λ (st : State). st.range) lead.1;
-  at = ap (λ (st : State). st.at) lead.1;
-  fresh = ap (λ (st : State). st.fresh) lead.1;
-}
-closed_up first before last (Some f) s out holds lead = record {
-  settled = record {
-    unheld = λ n. ap (λ (st : State). st.holds n) lead.1 ∙ ap (λ (h : ℕ → ℕ). h n) holds ∙ s.unheld n;
-    closed = λ n. ap (λ (st : State). st.removed n) lead.1 ∙ by_equality n f.number (λ b. (if b then None else before.removed n) ≡ None) (λ _. refl)
-        (λ apart. ap (λ (r : ℕ → Option File). r n) out ∙ changed_other first.removed f.number n (Some f) apart ∙ s.closed n);
-  };
-  size = ap (λ (st : State). st.size) lead.1;
-  range = ap (λ (st : State). st.range) lead.1;
-  at = ap (λ (st : State). st.at) lead.1;
-  fresh = ap (λ (st : State). st.fresh) lead.1;
-}
+closed_up first before last None s out holds lead =
+    all_closed_up first before last before.removed s holds lead.1 (λ n. ap (λ (r : ℕ → Option File). r n) out ∙ s.closed n)
+closed_up first before last (Some f) s out holds lead =
+    all_closed_up first before last (changed_at before.removed f.number None) s holds lead.1 (λ n.
+    by_equality n f.number (λ b. (if b then None else before.removed n) ≡ None) (λ _. refl)
+    (λ apart. ap (λ (r : ℕ → Option File). r n) out ∙ changed_else first.removed f.number (Some f) n apart ∙ s.closed n))
 
 -- what a removal at a slot and the close behind it come to, as the calls make them
 module _ (first before last : State) (slot : ℕ) (there : Option File) (removed : Option ℕ) (earlier closed : CloseListView)
@@ -119,4 +113,4 @@ module _ (first before last : State) (slot : ℕ) (there : Option File) (removed
       ap (λ (g : ℕ → Bool). g other)
       ((closing (ap (λ (st : State). st.removed) step.1) (ap (λ (st : State). st.holds) step.1)).fresh
       ∙ ap (λ (st : State). st.fresh) step.1)
-      ∙ changed_other first.fresh number other _ (λ same. omega arith)
+      ∙ changed_else first.fresh number _ other (λ same. omega arith)

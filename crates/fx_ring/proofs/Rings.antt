@@ -1,8 +1,9 @@
 -- What a ring keeps, as its table changes.
-use Rattle.fx_ring.proofs.Words.{◌≡◌, ℕ, Bool, zero, suc, ◌<◌, List, [], ◌∷◌, ◌++◌, length, refl, sym, ap, subst, ◌∙◌, Option, Some, None, All, arith}
-use Rattle.fx_ring.proofs.Words.{not, ◌&&◌, nat_lt, option_to_list, IsPermutation, All-append, All-permutation, lt-ltb, le-ltb, CloseListView}
-use Rattle.fx_ring.proofs.Words.{IsInOrderOfMark, Closed, State, IsSettled, opening, file_numbered, vacant, identity_of, File, Contents, IsGivenBack}
-use Rattle.fx_ring.proofs.Words.{RingContents, RingState, IsAtRest, IsRing, HasClosed, AreEntries, ring_of, ring_with, with_table, AreFresh, files_at}
+use Rattle.fx_ring.proofs.Words.{◌≡◌, ℕ, Bool, zero, suc, ◌<◌, List, [], ◌++◌, length, refl, sym, ap, subst, ◌∙◌, Option, Some, None, All, arith, not}
+use Rattle.fx_ring.proofs.Words.{◌&&◌, nat_lt, option_to_list, IsPermutation, All-append, All-cons, All-nil, All-permutation, lt-ltb, le-ltb}
+use Rattle.fx_ring.proofs.Words.{CloseListView, IsInOrderOfMark, Closed, State, IsSettled, opening, file_numbered, vacant, identity_of, File}
+use Rattle.fx_ring.proofs.Words.{Contents, IsGivenBack, RingContents, RingState, IsAtRest, IsRing, HasClosed, AreEntries, ring_of, ring_with}
+use Rattle.fx_ring.proofs.Words.{with_table, AreFresh, files_at}
 use Rattle.fx_plain.specs.State.{identities_of, files_in_order as files_in_order_of_state, files_of as files_of_state}
 use Rattle.fx_ring.specs.Ring.{files_in_order, files_of}
 use Rattle.fx_ring.specs.declared.ring.Ring.TheInside.{Inside}
@@ -32,14 +33,10 @@ pub files_of-state : (at : ℕ → Option File) (n : ℕ) → files_in_order (λ
 files_of-state at zero = refl
 files_of-state at (suc n) = ap (λ (x : List Closed × List Closed). x.0 ++ x.1) (λ i. (files_of-state at n i, listed_is (at n) i))
 
-pub only_one : {X : Type 0} (P : X → Type 0) (x : X) → P x → All P (x ∷ [])
-only_one P x p zero d inside = p
-only_one P x p (suc k) d inside = absurd (omega arith)
-
 pub entry_listed : (entries : ℕ) (x : Option Closed) → ((file : Closed) → x ≡ Some file → IsEntry entries file)
     → All (IsEntry entries) (option_to_list x)
 entry_listed entries None has = λ k d inside. absurd (omega arith)
-entry_listed entries (Some file) has = only_one (IsEntry entries) file (has file refl)
+entry_listed entries (Some file) has = All-cons (IsEntry entries) file [] (has file refl) (All-nil (IsEntry entries))
 
 entries_in_order : (entries : ℕ) (at : ℕ → Option Closed) (n : ℕ)
     → ((slot : ℕ) (file : Closed) → at slot ≡ Some file → IsEntry entries file) → All (IsEntry entries) (files_in_order at n)
@@ -50,14 +47,19 @@ entries_in_order entries at (suc n) has = All-append (IsEntry entries) (files_in
 pub entries_of : (ring : RingState) → IsRing ring → AreEntries ring (files_of ring)
 entries_of ring is = entries_in_order (length ring.catalogue) ring.at ring.size is.entries
 
+-- a list of these files, once it is in order
+pub list_closed : (files given : List Closed) (closes : CloseListView)
+    → given ≡ files → IsPermutation given closes.files → IsInOrderOfMark closes.files → HasClosed files closes
+list_closed files given closes is same order = record {
+  same_files = subst (λ (l : List Closed). IsPermutation l closes.files) is same;
+  in_order = order;
+}
+
 -- a list of all files of a table, once it is in order
 pub all_closed : (at : ℕ → Option File) (size : ℕ) (given : List Closed) (closes : CloseListView)
     → given ≡ files_in_order_of_state at size → IsPermutation given closes.files → IsInOrderOfMark closes.files
     → HasClosed (files_in_order (λ slot. identity_of (at slot)) size) closes
-all_closed at size given closes is same order = record {
-  same_files = subst (λ (l : List Closed). IsPermutation l closes.files) (is ∙ sym (files_of-state at size)) same;
-  in_order = order;
-}
+all_closed at size given closes is = list_closed (files_in_order (λ slot. identity_of (at slot)) size) given closes (is ∙ sym (files_of-state at size))
 
 -- what was closed is of the catalogue, where all of it was
 pub entries_closed : (ring : RingState) (files : List Closed) (closes : CloseListView)
@@ -69,20 +71,9 @@ entries_closed ring files closes all closed =
 pub emptied_settled : (st : State) (fresh : ℕ → Bool) → st ≡ record (vacant 0) { fresh = fresh } → IsSettled st
 emptied_settled st fresh is = subst IsSettled (sym is) (record { unheld = λ _. refl; closed = λ _. refl })
 
--- the ring with another allocation range
-pub ranged_rings : (ring : RingState) (range : ℕ × ℕ) → IsRing ring → IsRing (record ring { range = range })
-ranged_rings ring range is = record { entries = is.entries; counted = is.counted; distinct = is.distinct }
-
--- what a prepared table is
-pub opening_settled : (st new : State) (numbers : ℕ) → new ≡ opening st numbers → IsSettled new
-opening_settled st new numbers is = subst IsSettled (sym is) (record { unheld = λ _. refl; closed = λ _. refl })
-
-same_identity : (x : Option File) (slot : ℕ) → identity_of (file_numbered x slot) ≡ identity_of x
-same_identity None slot = refl
-same_identity (Some f) slot = refl
-
 pub opening_files : (st new : State) (numbers : ℕ) → new ≡ opening st numbers → files_at new ≡ files_at st
-opening_files st new numbers is = ap files_at is ∙ (λ i slot. same_identity (st.at slot) slot i)
+opening_files st new numbers is = ap files_at is
+    ∙ (λ i slot. elim (st.at slot) as (λ x. identity_of (file_numbered x slot) ≡ identity_of x) [ None ↦ refl | Some f ↦ refl ] i)
 
 pub opening_fresh : (st new : State) (numbers : ℕ) → new ≡ opening st numbers → AreFresh new st.size numbers
 opening_fresh st new numbers is = λ number low high. ap (λ (s : State). s.fresh number) is
@@ -99,10 +90,6 @@ none_in_order (suc n) = ap (λ (l : List Closed). l ++ []) (none_in_order n)
 pub vacant_empty : (st : State) (n : ℕ) → st ≡ vacant n → files_of_state st ≡ []
 vacant_empty st n is = ap files_of_state is ∙ none_in_order n
 
--- a table without slots has no files
-pub no_slots_empty : (st : State) → st.size ≡ 0 → files_of_state st ≡ []
-no_slots_empty st is = ap (λ (n : ℕ). files_in_order_of_state st.at n) is
-
 pub vacant_files : (st : State) (n : ℕ) → st ≡ vacant n → files_at st ≡ (λ _. None)
 vacant_files st n is = ap files_at is
 
@@ -112,14 +99,6 @@ pub ring_is : (ring : RingState) (st : State) (size : ℕ) (range : ℕ × ℕ) 
     → with_table ring st ≡ record ring { size = size; range = range; at = files }
 ring_is ring st size range files same_size same_range same_files =
     λ i. record ring { size = same_size i; range = same_range i; at = same_files i }
-
--- a list of these files, once it is in order
-pub list_closed : (files given : List Closed) (closes : CloseListView)
-    → given ≡ files → IsPermutation given closes.files → IsInOrderOfMark closes.files → HasClosed files closes
-list_closed files given closes is same order = record {
-  same_files = subst (λ (l : List Closed). IsPermutation l closes.files) is same;
-  in_order = order;
-}
 
 -- a ring whose table came back where it could not be opened
 pub given_back_rings : (c : RingContents) (back : Contents) → IsGivenBack c.table back → ring_of (record c { table = back }) ≡ ring_of c

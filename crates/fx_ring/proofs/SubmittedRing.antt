@@ -105,8 +105,9 @@ module _ (old new : RingContents) (requests : List Asked) (report : Reported) (i
       let few = one.submission in
       subst (HasCounted behind) (sym mark) (omega arith)
 
-  keeps : IsRing behind
-  keeps = record {
+  -- its files are of the catalogue, with marks that are counted, and no two have one mark
+  pub submitted_rings : IsRing (ring_of new)
+  submitted_rings = subst IsRing (sym one.after) (record {
     entries = λ slot file at.
         let (f, there, told) = file_told (one.end.at slot) file at in
         subst (λ (x : Closed). x.entry < length old.catalogue) told (⊎_elim (λ was. was.1) (λ put. (put_is_new f put).2) (ended.from slot f there));
@@ -118,11 +119,7 @@ module _ (old new : RingContents) (requests : List Asked) (report : Reported) (i
         let (f, there, told) = file_told (one.end.at slot) file at in
         let (g, also, said) = file_told (one.end.at other) same at_other in
         ended.distinct slot other f g there also (ap (λ (x : Closed). x.mark) told ∙ (marks ∙ sym (ap (λ (x : Closed). x.mark) said)));
-  }
-
-  -- its files are of the catalogue, with marks that are counted, and no two have one mark
-  pub submitted_rings : IsRing (ring_of new)
-  submitted_rings = subst IsRing (sym one.after) keeps
+  })
 
   closed_entries : AreEntries behind (closes_in actions)
   closed_entries =

@@ -24,6 +24,7 @@ pub use Rattle.fx_chain.specs.declared.request.Request.{Request}
 pub use Rattle.fx_chain.specs.declared.request.Target.{Target}
 pub use Rattle.fx_chain.specs.declared.request.Target.TheVariants.{Any, Slot}
 pub use Rattle.fx_plain.proofs.Cells.{by_equality}
+pub use Rattle.fx_plain.proofs.Prepared.{settled_at_opening}
 pub use Rattle.fx_plain.specs.Contents.{Contents, leaving, state_of}
 pub use Rattle.fx_plain.specs.History.{IsLegal, Leads, action_of, close_of, closed_by, closes_in, part_of_chain, part_of_pass, state_after, ◌▷▷◌, ◌▷◌}
 pub use Rattle.fx_plain.specs.Laws.{IsInstalled, IsStart, installed_by}

@@ -77,9 +77,6 @@ module _ (catalogue : List FileEntry) (submission : ℕ) (runs : List (List Aske
   works : (w : WorkerState) → Contains crew w → HasWorked catalogue (size_of o) submission runs w
   works w h = All-contains (HasWorked catalogue (size_of o) submission runs) crew w played.worked h
 
-  own_chains : (v : PassView) → Contains passes v → IsOfDrawnChains v
-  own_chains v h = let w = worker_of v h in subst IsOfDrawnChains (sym w.2) (works w.0 w.1).own
-
   -- the author of an event is a worker, among whose own events it is
   author_of : (e : Event) → Contains closing.history e → (w : WorkerState) × Contains crew w × (e.pass ≡ w.pass.number) × Contains w.pass.own e
   author_of e h =
@@ -127,7 +124,8 @@ module _ (catalogue : List FileEntry) (submission : ℕ) (runs : List (List Aske
       (λ v i zero. none_of_chain c v.pass.drawn v.completions (works v i).completed zero)
 
   history_is : (c : ℕ) (w : WorkerState) → Contains crew w → Contains w.pass.drawn c → part_of_chain c closing.history ≡ part_of_chain c w.pass.own
-  history_is c w h drew = part_of_drawn o passes left c w.pass closing own_chains (view_of w h) drew
+  history_is c w h drew = part_of_drawn o passes left c w.pass closing
+      (λ v i. let u = worker_of v i in subst IsOfDrawnChains (sym u.2) (works u.0 u.1).own) (view_of w h) drew
 
   abbrev pub ExplainsChain : ℕ → List Event → List Completed → Type 0
   ExplainsChain c h completions = Explains catalogue (size_of o) (first_member submission c) (run_of_chain runs c) (map action_of h) completions

@@ -1,4 +1,4 @@
-use Rattle.fx_ring.proofs.Words.{◌≤◌, ℕ, List, slice_index_or, take, ap, subst, arith, take_all, All-more, All-weaker, members_of, Asked, all_asked}
+use Rattle.fx_ring.proofs.Words.{◌≤◌, List, slice_index_or, take, ap, subst, arith, take_all, All-more, All-weaker, members_of, Asked, all_asked}
 use Rattle.fx_ring.proofs.Words.{all_installs, Chain, InstallAtMost}
 use Rattle.std.proofs.lemmas.Grind.{common_steps}
 use Rattle.fx_ring.proofs.Runs.{asked_of_part}

@@ -1,7 +1,8 @@
 use Rattle.fx_ring.proofs.Words.{◌≡◌, ◌*◌, ℕ, Option, length, ap, ◌∙◌, arith, Closed, State, state_of, files_after, removed_from, tags_for, files_at}
+use Rattle.fx_ring.proofs.Words.{settled_at_opening}
 use Rattle.fx_ring.proofs.Numbers.{good_files}
 use Rattle.fx_ring.proofs.Origins.{none_removed}
-use Rattle.fx_ring.proofs.Rings.{opening_settled, opening_files, opening_fresh, vacant_settled, vacant_empty, vacant_files}
+use Rattle.fx_ring.proofs.Rings.{opening_files, opening_fresh, vacant_settled, vacant_empty, vacant_files}
 use Rattle.fx_ring.proofs.registration.new_table.Goals as goal
 
 pub prepare-requires-clause-settled : goal.prepare-requires-clause-settled
@@ -19,7 +20,7 @@ dismiss-requires-clause-empty c =
 
 pub apply_list-requires-clause-settled : goal.apply_list-requires-clause-settled
 apply_list-requires-clause-settled c =
-    opening_settled (state_of c.in_ok-table.table) (state_of c.prepare.new.self) (2 * length c.args.list.now) c.in-Ok.ensures.ok
+    settled_at_opening (state_of c.in_ok-table.table) (state_of c.prepare.new.self) (2 * length c.args.list.now) c.in-Ok.ensures.ok
 
 pub apply_list-requires-clause-good : goal.apply_list-requires-clause-good
 apply_list-requires-clause-good c = good_files (length c.args.catalogue.now) c.args.list.now c.requires.good

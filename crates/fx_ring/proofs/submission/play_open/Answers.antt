@@ -1,12 +1,11 @@
-use Rattle.fx_ring.proofs.Words.{◌≡◌, ◌+◌, List, ◌++◌, flat_map, length, reverse, sym, ap, subst, ◌∙◌, arith, PassView, IsIdle, Opening, size_of}
-use Rattle.fx_ring.proofs.Words.{Asked, all_asked, runs_of, Completed, all_completed, HasRoomFor, ring_with, IsOneHistory, Reported, Worker}
-use Rattle.fx_ring.proofs.Words.{Completion, CloseListView, Closed}
+use Rattle.fx_ring.proofs.Words.{◌≡◌, ◌+◌, List, flat_map, length, sym, ap, subst, ◌∙◌, arith, PassView, IsIdle, Opening, size_of, Asked, all_asked}
+use Rattle.fx_ring.proofs.Words.{runs_of, Completed, all_completed, HasRoomFor, ring_with, IsOneHistory, Reported, Worker, Completion, CloseListView}
+use Rattle.fx_ring.proofs.Words.{Closed}
 use Rattle.std.specs.List.Sorted.{IsPermutation}
 use Rattle.fx_ring.proofs.NewCrew.{IsNew, all_gathered, all_scattered, all_new, all_idle, as_many_passes, new_has_worked, new_has_room, runs_have_all}
 use Rattle.fx_ring.proofs.NewCrew.{runs_weigh_all, runs_are_short}
 use Rattle.fx_ring.proofs.WorkersTogether.{completed_by, closed_by_worker, one_of_each, closes_weigh, one_history}
-use Rattle.fx_ring.proofs.PlayedCrew.{states, crew_has_played, completions_of, files_of, completions_joined, files_joined, as_many_completions}
-use Rattle.fx_ring.proofs.PlayedCrew.{as_many_files}
+use Rattle.fx_ring.proofs.PlayedCrew.{states, crew_has_played, completions_joined, files_joined, as_many_completions, as_many_files}
 use Rattle.fx_ring.proofs.submission.play_open.Goals as goal
 
 pub gather-requires-clause-count : goal.gather-requires-clause-count

@@ -1,5 +1,5 @@
 use Rattle.fx_ring.proofs.Words.{sym, ap, ◌∙◌, arith, length-map, PassView, completed_of, asked_of}
-use Rattle.fx_ring.proofs.ChainPlayed.{enough_looks, enough_capacity, enough_room, worked_next, room_next, number_next, worked_all}
+use Rattle.fx_ring.proofs.ChainPlayed.{enough, worked_next, room_next, number_next, worked_all}
 use Rattle.fx_ring.proofs.Runs.{as_many}
 use Rattle.fx_ring.proofs.worker.work.Goals as goal
 
@@ -8,7 +8,7 @@ run_chain-requires-clause-looks g c κs within =
     let o = g.T.FileTable.opening c.args.play.now.table.now in
     let count = c.args.play.now.count ∙ sym (as_many c.args.play.now.submission.now.requests.now c.args.play.now.chains.now c.args.play.now.members) in
     let same = length-map c.members_of_chain.result.now asked_of in
-    let enough = enough_looks o _ _ _ _ _ _ _ _ c.loop-chain.invariant.ready.room count c.in-Some.ensures.drawn c.members_of_chain.ensures.run in
+    let looks = (enough o _ _ _ _ _ _ _ _ c.loop-chain.invariant.ready.room count c.in-Some.ensures.drawn c.members_of_chain.ensures.run).0 in
     omega arith
 
 pub run_chain-requires-clause-numbers : goal.run_chain-requires-clause-numbers
@@ -22,7 +22,7 @@ pub run_chain-requires-clause-room : goal.run_chain-requires-clause-room
 run_chain-requires-clause-room g c κs within =
     let o = g.T.FileTable.opening c.args.play.now.table.now in
     let count = c.args.play.now.count ∙ sym (as_many c.args.play.now.submission.now.requests.now c.args.play.now.chains.now c.args.play.now.members) in
-    enough_room o _ _ _ _ _ _ _ _ c.loop-chain.invariant.ready.room count c.in-Some.ensures.drawn c.members_of_chain.ensures.run
+    (enough o _ _ _ _ _ _ _ _ c.loop-chain.invariant.ready.room count c.in-Some.ensures.drawn c.members_of_chain.ensures.run).2
 
 pub run_chain-requires-clause-out : goal.run_chain-requires-clause-out
 run_chain-requires-clause-out g c κs within =
@@ -30,7 +30,7 @@ run_chain-requires-clause-out g c κs within =
     let count = c.args.play.now.count ∙ sym (as_many c.args.play.now.submission.now.requests.now c.args.play.now.chains.now c.args.play.now.members) in
     let same = length-map c.members_of_chain.result.now asked_of in
     let before = length-map c.loop-chain.worker.outcome.completions.items completed_of in
-    let enough = enough_capacity o _ _ _ _ _ _ _ _ c.loop-chain.invariant.ready.room count c.in-Some.ensures.drawn c.members_of_chain.ensures.run in
+    let room = (enough o _ _ _ _ _ _ _ _ c.loop-chain.invariant.ready.room count c.in-Some.ensures.drawn c.members_of_chain.ensures.run).1 in
     omega arith
 
 pub loop-chain-preserved : goal.loop-chain-preserved

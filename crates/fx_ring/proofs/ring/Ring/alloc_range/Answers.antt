@@ -1,5 +1,5 @@
 use Rattle.fx_ring.proofs.Words.{ap, sym, subst, ◌∙◌, State, IsSettled, RingContents, IsRing, ring_of, with_table}
-use Rattle.fx_ring.proofs.Rings.{contents_of, ranged_rings}
+use Rattle.fx_ring.proofs.Rings.{contents_of}
 use Rattle.fx_ring.proofs.ring.Ring.alloc_range.Goals as goal
 
 pub invariant_of-self-2 : goal.invariant_of-self-2
@@ -10,7 +10,7 @@ invariant_of-self-2 c =
     record {
       settled = subst IsSettled (sym same) (record { unheld = was.settled.unheld; closed = was.settled.closed });
       ring = subst (λ (st : State). IsRing (with_table (ring_of before) st)) (sym same)
-          (ranged_rings (ring_of before) (c.args.off, c.args.len) was.ring);
+          (record { entries = was.ring.entries; counted = was.ring.counted; distinct = was.ring.distinct });
       few_submissions = was.few_submissions;
       few_registrations = was.few_registrations;
     }

@@ -1,12 +1,12 @@
 use Rattle.fx_ring.proofs.Words.{◌≡◌, ◌+◌, ◌<◌, [], ap, subst, ◌∙◌, false, length, rules, arith, list_any, state_of, is_bad_entry, RingContents}
-use Rattle.fx_ring.proofs.Words.{AreEntries, HasClosed, ring_of, updated, removed_from, tags_for}
-use Rattle.fx_ring.proofs.Rings.{contents_of, opening_settled, opening_fresh}
+use Rattle.fx_ring.proofs.Words.{AreEntries, HasClosed, ring_of, updated, removed_from, tags_for, settled_at_opening}
+use Rattle.fx_ring.proofs.Rings.{contents_of, opening_fresh}
 use Rattle.fx_ring.proofs.Updates.{room_for, updated_is, still_ring, removed_closed, removed_entries_closed}
 use Rattle.fx_ring.proofs.ring.Ring.update_list.Goals as goal
 
 pub apply_list-requires-clause-settled : goal.apply_list-requires-clause-settled
 apply_list-requires-clause-settled c =
-    opening_settled (state_of c.self.inside.table) (state_of c.prepare.new.self) (c.size-size.result + length c.args.list.now)
+    settled_at_opening (state_of c.self.inside.table) (state_of c.prepare.new.self) (c.size-size.result + length c.args.list.now)
     c.in-Ok-prepare.ensures.ok
 
 pub apply_list-requires-clause-fresh : goal.apply_list-requires-clause-fresh
