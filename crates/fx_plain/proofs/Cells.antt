@@ -13,22 +13,16 @@ by_equality q k P same other =
     ] refl
 
 module _ {X Y : Type 0} (g : ℕ → X → Y) (xs : List X) (k : ℕ) (v d : X) (inside : k < length xs) where
-  read_written : (q : ℕ) → g q (slice_index_or (slice_set xs k v) q d) ≡ changed_at (λ p. g p (slice_index_or xs p d)) k (g k v) q
-  read_written q = by_equality q k (λ b. g q (slice_index_or (slice_set xs k v) q d) ≡ if b then g k v else g q (slice_index_or xs q d))
-      (λ same. rw (same, get_or-set_same xs k v d inside) refl)
-      (λ other. ap (g q) (get_or-set_other xs k q v d other))
-
   -- what is read is changed at the place that was written
   pub written : (λ q. g q (slice_index_or (slice_set xs k v) q d)) ≡ changed_at (λ p. g p (slice_index_or xs p d)) k (g k v)
-  written = λ i q. read_written q i
+  written = λ i q. by_equality q k (λ b. g q (slice_index_or (slice_set xs k v) q d) ≡ if b then g k v else g q (slice_index_or xs q d))
+      (λ same. rw (same, get_or-set_same xs k v d inside) refl)
+      (λ other. ap (g q) (get_or-set_other xs k q v d other)) i
 
 module _ {Y : Type 0} (f : ℕ → Y) (k : ℕ) where
-  same_again : (v : Y) → v ≡ f k → (q : ℕ) → changed_at f k v q ≡ f q
-  same_again v is q = by_equality q k (λ b. (if b then v else f q) ≡ f q) (λ same. is ∙ ap f (sym same)) (λ other. refl)
-
   -- to write the same value again changes nothing
   pub unchanged : (v : Y) → v ≡ f k → changed_at f k v ≡ f
-  unchanged v is = λ i q. same_again v is q i
+  unchanged v is = λ i q. by_equality q k (λ b. (if b then v else f q) ≡ f q) (λ same. is ∙ ap f (sym same)) (λ other. refl) i
 
 -- a place that does not read as the default is inside
 pub inside_of : {X : Type 0} (xs : List X) (k : ℕ) (d : X) → slice_index_or xs k d ≢ d → k < length xs

@@ -5,7 +5,7 @@ use Rattle.fx_plain.proofs.Words.{identities_of, AllPlaced, SameButPlaced, slot_
 use Rattle.fx_plain.proofs.Words.{removed_count_of, At, Gone, sum_by, Node, sum_by-set, identity_of}
 use Rattle.fx_plain.proofs.Cells.{each_set}
 use Rattle.fx_plain.proofs.Writes.{inside_of-At}
-use Rattle.fx_plain.proofs.Moving.{IsLeft, left_next, named_same}
+use Rattle.fx_plain.proofs.Moving.{IsLeft, left_without, named_same}
 
 -- more slots have no fewer files
 pub files_more : (at : ℕ → Option File) (m n : ℕ) → m ≤ n → length (files_in_order at m) ≤ length (files_in_order at n)
@@ -56,7 +56,7 @@ module _ (slots : List (Option ℕ)) (first nodes : List Node) (s : ℕ) (placed
       let before = w.opened in
       record {
         len = length-set nodes m Gone ∙ w.len;
-        left = subst (λ (x : Option ℕ). IsLeft slots first (nodes_without nodes x) (s + 1)) is (left_next slots first nodes s placed left);
+        left = left_without slots first nodes s placed left (Some m) is;
         same = λ n. each_set (λ k x. SameButPlaced (node_at first k) x) nodes m Gone Gone inside (subst (λ (node : Node). SameButPlaced node Gone)
             (sym there.1) (record { same_fresh = refl; same_leaving = refl; same_retired = refl; same_removed = λ _. refl })) n (λ _. w.same n);
         opened = omega arith;

@@ -1,10 +1,7 @@
 -- The files of the slots are taken out, one slot after another, and a file comes back to the number of its slot.
-use Rattle.fx_plain.proofs.Words.{◌≤◌, ◌≡◌, ℕ, ◌+◌, List, ◌∷◌, [], ◌++◌, length, add-one, refl, sym, ap, ◌∙◌, arith, Option, Some, None, File}
+use Rattle.fx_plain.proofs.Words.{◌≤◌, ◌≡◌, ℕ, ◌+◌, List, length, refl, sym, ap, ◌∙◌, arith, Option, Some, None}
 use Rattle.fx_plain.proofs.Words.{Contents, IsTable, IsCounted, SameButPlaced, state_of, slot_at, node_at, file_at, placed_at, file_count_of}
-use Rattle.fx_plain.proofs.Words.{removed_count_of, identity_of, numbered, slots_in_order, sum_by, Node}
-
-pub slots_next : (at : ℕ → Option File) (n : ℕ) → slots_in_order at (n + 1) ≡ slots_in_order at n ++ identity_of (at n) ∷ []
-slots_next at n = ap (slots_in_order at) (add-one n)
+use Rattle.fx_plain.proofs.Words.{removed_count_of, numbered, sum_by, Node}
 
 -- a table whose files were taken out
 module _ (c : Contents) (slots : List (Option ℕ)) (range : ℕ × ℕ) (nodes : List Node) (t : IsTable c) (none : (s : ℕ) → slot_at slots s ≡ None)

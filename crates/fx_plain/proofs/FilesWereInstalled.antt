@@ -1,9 +1,9 @@
 -- Each file of a table was there at the start or was installed: what holds of all those holds of every file.
-use Rattle.fx_plain.proofs.Words.{◌≡◌, ◌⊎◌, ℕ, ◌<◌, List, [], ◌∷◌, map, refl, sym, ap, subst, ◌∙◌, slice_index_or, Option, Some, None, if◌then◌else◌}
-use Rattle.fx_plain.proofs.Words.{arith, inl, inr, Closed, State, Allows, after, changed_at, with_removed, state_after, AllowsAll, action_of}
+use Rattle.fx_plain.proofs.Words.{◌≡◌, ◌⊎◌, ℕ, ◌<◌, List, [], ◌∷◌, map, refl, sym, ap, subst, ◌∙◌, Option, Some, None, if◌then◌else◌}
+use Rattle.fx_plain.proofs.Words.{inl, inr, Closed, State, Allows, after, changed_at, with_removed, state_after, AllowsAll, action_of}
 use Rattle.fx_plain.proofs.Words.{closes_in, closed_by, File, Event, Action, Look, Put, Clear, Take, Allocate, Close, All, IsLegal}
 use Rattle.fx_plain.specs.Laws.{IsAtSlot, IsInstalled, installed_by, IsClosed}
-use Rattle.std.proofs.lemmas.List.Elements.{All-append}
+use Rattle.std.proofs.lemmas.List.Elements.{All-append, All-cons, All-nil}
 use Rattle.fx_plain.proofs.Cells.{by_equality}
 
 -- what holds of each file at a slot, and of each removed file by its number
@@ -76,13 +76,12 @@ every_file_was_there_or_installed start end h f none legal is =
     ]
 
 closed_now : (P : Closed → Type 0) (a : Action) → ((f : File) → a ≡ Close f → P f.identity) → All P (closed_by a)
-closed_now P (Close f) all = λ k d inside. let zero_is : k ≡ 0 = omega arith in
-    subst (λ (n : ℕ). P (slice_index_or (f.identity ∷ []) n d)) (sym zero_is) (all f refl)
-closed_now P _ all = λ k d inside. absurd (omega arith)
+closed_now P (Close f) all = All-cons P f.identity [] (all f refl) (All-nil P)
+closed_now P _ all = All-nil P
 
 -- what holds of each file that was closed holds of the list of closes
 pub all_closes_in : (P : Closed → Type 0) (h : List Event) → ((f : File) → IsClosed h f → P f.identity) → All P (closes_in (map action_of h))
-all_closes_in P [] all = λ k d inside. absurd (omega arith)
+all_closes_in P [] all = All-nil P
 all_closes_in P (e ∷ h) all =
     All-append P (closes_in (map action_of h)) (closed_by e.action) (all_closes_in P h (λ f is. all f (inl is)))
     (closed_now P e.action (λ f is. all f (inr is)))

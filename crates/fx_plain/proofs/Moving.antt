@@ -17,25 +17,19 @@ abbrev pub IsLeft : List (Option ℕ) → List Node → List Node → ℕ → Ty
 IsLeft slots first nodes s = (u number : ℕ) → s ≤ u → slot_at slots u ≡ Some number → node_at nodes number ≡ node_at first number
 
 module _ (slots : List (Option ℕ)) (first nodes : List Node) (s : ℕ) (placed : AllPlaced slots first) (left : IsLeft slots first nodes s) where
-  named_inside : (x : Option ℕ) → slot_at slots s ≡ x → IfSome x (λ n. IsSome (file_in (node_at nodes n)))
+  pub named_inside : (x : Option ℕ) → slot_at slots s ≡ x → IfSome x (λ n. IsSome (file_in (node_at nodes n)))
   named_inside None is = tt
   named_inside (Some n) is = let there = placed s n is in has_file-At nodes n s there.0 (left s n (omega arith) is ∙ there.1)
-
-  pub inside_named : IfSome (slot_at slots s) (λ n. IsSome (file_in (node_at nodes n)))
-  inside_named = named_inside (slot_at slots s) refl
 
   pub named_same : file_named nodes (slot_at slots s) ≡ file_named first (slot_at slots s)
   named_same = file_named_same first nodes (slot_at slots s) (λ n is. left s n (omega arith) is)
 
-  left_without : (x : Option ℕ) → slot_at slots s ≡ x → IsLeft slots first (nodes_without nodes x) (s + 1)
+  -- one slot more was worked off
+  pub left_without : (x : Option ℕ) → slot_at slots s ≡ x → IsLeft slots first (nodes_without nodes x) (s + 1)
   left_without None is = λ u number le at. left u number (omega arith) at
   left_without (Some m) is = λ u number le at.
       let apart : u ≢ s = omega arith in
       get_or-set_other nodes m number Gone Gone (other_number slots first s u m number placed apart is at) ∙ left u number (omega arith) at
-
-  -- one slot more was worked off
-  pub left_next : IsLeft slots first (nodes_without nodes (slot_at slots s)) (s + 1)
-  left_next = left_without (slot_at slots s) refl
 
 pub length-without : (nodes : List Node) (x : Option ℕ) → length (nodes_without nodes x) ≡ length nodes
 length-without nodes None = refl
@@ -74,13 +68,10 @@ moved_next moved s node expected len is before u lt = by_equality u s (λ _. nod
 -- one slot more was worked off in the list of nodes that is there
 module _ (slots : List (Option ℕ)) (first nodes : List Node) (s : ℕ) (placed : AllPlaced slots first) (left : IsLeft slots first nodes s)
     (own : HaveOwnNumbers slots) (inside : s < length slots) where
-  pub placed_here : (number : ℕ) → slot_at slots s ≡ Some number → (file : Closed) × (node_at nodes number ≡ At s file)
-  placed_here number at = let there = placed s number at in (there.0, left s number (omega arith) at ∙ there.1)
-
   pub left_settled : (v : Node) → IsLeft slots first (slice_set (nodes_without nodes (slot_at slots s)) s v) (s + 1)
   left_settled v = λ u m le at.
       let apart : m ≢ s = λ (same : m ≡ s). let e : m ≡ u = own u m at (omega arith) in absurd (omega arith) in
-      get_or-set_other (nodes_without nodes (slot_at slots s)) s m v Gone apart ∙ left_next slots first nodes s placed left u m le at
+      get_or-set_other (nodes_without nodes (slot_at slots s)) s m v Gone apart ∙ left_without slots first nodes s placed left (slot_at slots s) refl u m le at
 
   earlier_stays : (x : Option ℕ) → slot_at slots s ≡ x → (u : ℕ) → u < s → node_at (nodes_without nodes x) u ≡ node_at nodes u
   earlier_stays None is u lt = refl

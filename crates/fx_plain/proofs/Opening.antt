@@ -25,9 +25,6 @@ module _ (c : Contents) (slots : List (Option ℕ)) (moved nodes : List Node) (n
   node_low : (n : ℕ) → n < length c.slots → node_at nodes n ≡ moved_node (file_named c.nodes (slot_at c.slots n)) n
   node_low n low = first.same n low ∙ r.filed n low
 
-  node_high : (n : ℕ) → numbers ≤ n → node_at nodes n ≡ Gone
-  node_high n high = let len = first.size in get_or-eq_default nodes Gone (omega arith)
-
   -- what holds of each kind of node holds of each
   each_node : (P : ℕ → Node → Type 0) → ((n : ℕ) (x : Option Closed) → n < length c.slots → P n (moved_node x n))
       → ((n : ℕ) → length c.slots ≤ n → n < numbers → P n Fresh) → ((n : ℕ) → numbers ≤ n → P n Gone) → (n : ℕ) → P n (node_at nodes n)
@@ -35,8 +32,7 @@ module _ (c : Contents) (slots : List (Option ℕ)) (moved nodes : List Node) (n
     | inl lt ↦ subst (P n) (sym (node_low n lt)) (low n (file_named c.nodes (slot_at c.slots n)) lt)
     | inr ge ↦ elim (cases_lt n numbers) [
       | inl lt ↦ subst (P n) (sym (first.fresh n ge lt)) (mid n ge lt)
-      | inr past ↦ subst (P n)
-          (sym (node_high n past)) (high n past)
+      | inr past ↦ let len = first.size in subst (P n) (sym (get_or-eq_default nodes Gone (omega arith))) (high n past)
     ]
   ]
 

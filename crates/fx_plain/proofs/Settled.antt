@@ -85,8 +85,7 @@ sparse_keeps slots n nodes holds slots_are few no_nodes no_hold len =
         full_slots = sym (sum_by-replicate file_count_of n None refl);
         all_holds = refl;
         small_holds = λ number. omega arith;
-        all_removed =
-            refl;
+        all_removed = refl;
       },
     )
 

@@ -1,7 +1,7 @@
-use Rattle.fx_plain.proofs.Words.{rules, ◌≡◌, ◌+◌, ◌++◌, sym, ap, subst, ◌∙◌, length, length-append, append_assoc, ℕ, List, Option, IfSome, IsSome}
+use Rattle.fx_plain.proofs.Words.{refl, rules, ◌≡◌, ◌+◌, ◌++◌, sym, ap, subst, ◌∙◌, length, length-append, append_assoc, ℕ, List, Option, IfSome, IsSome}
 use Rattle.fx_plain.proofs.Words.{arith, option_to_list, Closed, File, files_in_order, identities_of, file_at, file_in, file_named, slot_at, node_at}
 use Rattle.fx_plain.proofs.Words.{nodes_without, Node}
-use Rattle.fx_plain.proofs.Moving.{inside_named}
+use Rattle.fx_plain.proofs.Moving.{named_inside}
 use Rattle.fx_plain.proofs.Emptying.{files_more, files_next, read_slot, next_listed, worked_next, IsWorked}
 use Rattle.fx_plain.proofs.table.life.close_all.Goals.{After-index}
 use Rattle.fx_plain.proofs.table.life.close_all.Goals as goal
@@ -26,7 +26,7 @@ module _ (c : After-index) where
 pub close_file-requires-clause-inside : goal.close_file-requires-clause-inside
 close_file-requires-clause-inside c = let a = (goal.at.close_file-requires-clause-inside c).After-index in
     subst (λ (y : Option ℕ). IfSome y (λ k. IsSome (file_in (node_at c.loop-slot.nodes k)))) (sym (read a))
-    (inside_named c.args.slots.now.items c.args.nodes.now c.loop-slot.nodes c.loop-slot.slot c.requires.placed c.loop-slot.invariant.worked.left)
+    (named_inside c.args.slots.now.items c.args.nodes.now c.loop-slot.nodes c.loop-slot.slot c.requires.placed c.loop-slot.invariant.worked.left _ refl)
 
 pub close_file-requires-clause-room : goal.close_file-requires-clause-room
 close_file-requires-clause-room c =

@@ -1,6 +1,6 @@
-use Rattle.fx_plain.proofs.Words.{rules, ◌≡◌, ◌<◌, ◌+◌, sym, ap, subst, ◌∙◌, length, ℕ, List, Option, IfSome, IsSome, arith, moved_node, file_in}
+use Rattle.fx_plain.proofs.Words.{refl, rules, ◌≡◌, ◌<◌, ◌+◌, sym, ap, subst, ◌∙◌, length, ℕ, List, Option, IfSome, IsSome, arith, moved_node, file_in}
 use Rattle.fx_plain.proofs.Words.{file_named, slot_at, node_at, nodes_without, opening_slot, file_count_of, Node, sum_by}
-use Rattle.fx_plain.proofs.Moving.{IsLeft, inside_named, named_same, left_next, done_next, rest_next, full_next, moved_next}
+use Rattle.fx_plain.proofs.Moving.{IsLeft, named_inside, named_same, left_without, done_next, rest_next, full_next, moved_next}
 use Rattle.fx_plain.proofs.table.life.renumber.Goals as goal
 
 pub move_file-node-requires-clause-inside : goal.move_file-node-requires-clause-inside
@@ -8,7 +8,7 @@ move_file-node-requires-clause-inside c =
     let i = c.loop-slot.invariant in
     let here = i.rest c.loop-slot.slot (omega arith) in
     (subst (λ (x : Option ℕ). IfSome x (λ k. IsSome (file_in (node_at c.loop-slot.nodes k)))) (sym here)
-    (inside_named c.args.slots.now.items c.args.nodes.now c.loop-slot.nodes c.loop-slot.slot c.requires.placed i.left))
+    (named_inside c.args.slots.now.items c.args.nodes.now c.loop-slot.nodes c.loop-slot.slot c.requires.placed i.left _ refl))
 
 pub loop-slot-preserved : goal.loop-slot-preserved
 loop-slot-preserved c =
@@ -38,7 +38,7 @@ loop-slot-preserved c =
           (c.move_file-node.ensures.node ∙ ap (λ x. moved_node x c.loop-slot.slot) named) i.moved u lt);
       left = subst (λ (xs : List Node). IsLeft c.args.slots.now.items c.args.nodes.now xs (c.loop-slot.slot + 1))
           (sym (nodes_are ∙ ap (nodes_without c.loop-slot.nodes) here))
-          (left_next c.args.slots.now.items c.args.nodes.now c.loop-slot.nodes c.loop-slot.slot c.requires.placed i.left);
+          (left_without c.args.slots.now.items c.args.nodes.now c.loop-slot.nodes c.loop-slot.slot c.requires.placed i.left _ refl);
       full = ap (λ (xs : List (Option ℕ)). sum_by file_count_of xs) slots_are
           ∙ full_next c.args.slots.now.items c.loop-slot.slots.items c.loop-slot.slot inside here ∙ i.full;
     }

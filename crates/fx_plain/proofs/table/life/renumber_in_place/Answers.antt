@@ -1,16 +1,14 @@
 use Rattle.fx_plain.proofs.Words.{rules, ◌≡◌, ◌<◌, ◌+◌, sym, ap, subst, ◌∙◌, length, ℕ, List, Option, slice_set, arith, moved_node, file_named}
 use Rattle.fx_plain.proofs.Words.{slot_at, node_at, nodes_without, opening_slot, file_count_of, Node, sum_by}
-use Rattle.fx_plain.proofs.Moving.{IsLeft, named_same, done_next, rest_next, full_next, left_settled, moved_settled, placed_here}
+use Rattle.fx_plain.proofs.Moving.{IsLeft, named_same, done_next, rest_next, full_next, left_settled, moved_settled}
 use Rattle.fx_plain.proofs.table.life.renumber_in_place.Goals as goal
 
 pub settle-requires-clause-placed : goal.settle-requires-clause-placed
 settle-requires-clause-placed c =
     let i = c.loop-slot.invariant in
     let here = i.rest c.loop-slot.slot (omega arith) in
-    let inside : c.loop-slot.slot < length c.args.slots.now.items = let test = c.loop-slot-test.true in let len = c.args.slots.now.ok.0 in
-    let end = c.len-slot-end.ensures in omega (arith, test, len, end) in
-    λ number at. placed_here c.args.slots.now.items c.args.nodes.now c.loop-slot.nodes c.loop-slot.slot c.requires.placed i.left c.requires.own inside
-    number (sym here ∙ at)
+    λ number at. let there = c.requires.placed c.loop-slot.slot number (sym here ∙ at) in
+    (there.0, i.left c.loop-slot.slot number (omega arith) (sym here ∙ at) ∙ there.1)
 
 pub loop-slot-preserved : goal.loop-slot-preserved
 loop-slot-preserved c =
