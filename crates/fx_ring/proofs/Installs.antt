@@ -1,5 +1,5 @@
 -- What the members of a chain install: files of the catalogue, each with a mark of its own.
-use Rattle.fx_ring.proofs.Words.{◌≡◌, ◌≢◌, ℕ, zero, suc, ◌+◌, ◌<◌, ◌≤◌, ◌==◌, ◌||◌, nat_le, nat_lt, ℤ, pos, negsuc, false, List, [], ◌∷◌, length, sym}
+use Rattle.fx_ring.proofs.Words.{refl, installed_by, ◌≡◌, ◌≢◌, ℕ, zero, suc, ◌+◌, ◌<◌, ◌≤◌, ◌==◌, ◌||◌, nat_le, nat_lt, ℤ, pos, negsuc, false, List, [], ◌∷◌, length, sym}
 use Rattle.fx_ring.proofs.Words.{ap, subst, ◌∙◌, ⊎_elim, inl, inr, Option, Some, None, option_map, arith, list_any, cases_lt, leb-false}
 use Rattle.fx_ring.proofs.Words.{slice_get_past, has_name, FileEntry, name_at, Errno, ENOENT, ENXIO, EBADF, ENOMEM, EINVAL, ENFILE, Mark, Submitted}
 use Rattle.fx_ring.proofs.Words.{Closed, ◌▷◌, File, Action, Look, Release, Put, Clear, Take, Allocate, Full, Answers, OpensAt, ReadsFrom, Empties}
@@ -36,14 +36,10 @@ module _ (entries : ℕ) (place : Place) where
   here j entry f is inside = (ap (λ (x : Closed). x.mark) is, let same : f.identity.entry ≡ entry = ap (λ (x : Closed). x.entry) is in omega arith)
 
   -- the step that installs it
-  puts_here : (j entry slot : ℕ) (f : File) (replaced : Option File) → f.identity ≡ installed place j entry → entry < entries
-      → Puts (Here j) ([] ▷ Put slot f replaced)
-  puts_here j entry slot f replaced is inside = puts_one (Here j) (Put slot f replaced)
-      (λ g now. let e : f ≡ g = cc in subst (Here j) e (here j entry f is inside))
-
-  allocates_here : (j entry slot : ℕ) (f : File) → f.identity ≡ installed place j entry → entry < entries → Puts (Here j) ([] ▷ Allocate slot f)
-  allocates_here j entry slot f is inside = puts_one (Here j) (Allocate slot f)
-      (λ g now. let e : f ≡ g = cc in subst (Here j) e (here j entry f is inside))
+  installs_here : (j entry : ℕ) (f : File) (a : Action) → installed_by a ≡ Some f → f.identity ≡ installed place j entry → entry < entries
+      → Puts (Here j) ([] ▷ a)
+  installs_here j entry f a new is inside = puts_one (Here j) a
+      (λ g now. let both : Some f ≡ Some g = sym new ∙ now in let e : f ≡ g = cc both in subst (Here j) e (here j entry f is inside))
 
   refuses_none : (P : File → Type 0) (errno : Errno) (events : List Action) (c : Completed) → Refuses place errno events c → Puts P events
   refuses_none P errno events c it = subst (Puts P) (sym it.0) (puts_none P [] (λ f is. is))
@@ -53,11 +49,11 @@ module _ (entries : ℕ) (place : Place) where
   opens size entry (Slot slot) events c inside it =
       either_way (size == 0) (λ _. refuses_none (Here 0) ENXIO events c)
       (λ _. either_way (nat_le size slot) (λ _. refuses_none (Here 0) EINVAL events c)
-      (λ _ put. puts_may_close (Here 0) ([] ▷ Put slot put.0 put.1) put.1 events put.3 (puts_here 0 entry slot put.0 put.1 put.2 inside))) it
+      (λ _ put. puts_may_close (Here 0) ([] ▷ Put slot put.0 put.1) put.1 events put.3 (installs_here 0 entry put.0 (Put slot put.0 put.1) refl put.2 inside))) it
   opens size entry Any events c inside it =
       either_way (size == 0) (λ _. refuses_none (Here 0) ENFILE events c)
       (λ _. ⊎_elim
-      (λ found. subst (Puts (Here 0)) (sym found.3) (allocates_here 0 entry found.0 found.1 found.2 inside))
+      (λ found. subst (Puts (Here 0)) (sym found.3) (installs_here 0 entry found.1 (Allocate found.0 found.1) refl found.2 inside))
       (λ full. subst (Puts (Here 0)) (sym full.0) (puts_one (Here 0) Full (λ f now. let e : None ≡ Some f = now in cc)))) it
 
   module _ (P : File → Type 0) where
@@ -91,7 +87,7 @@ module _ (entries : ℕ) (place : Place) where
   applies_entry : (j slot : ℕ) (z : ℤ) (events : List Action) → is_bad_entry entries z ≡ false → AppliesEntry place j slot z events
       → Puts (Here j) events
   applies_entry j slot (pos entry) events good (f, replaced, is, may) =
-      puts_may_close (Here j) ([] ▷ Put slot f replaced) replaced events may (puts_here j entry slot f replaced is (leb-false entries entry good))
+      puts_may_close (Here j) ([] ▷ Put slot f replaced) replaced events may (installs_here j entry f (Put slot f replaced) refl is (leb-false entries entry good))
   applies_entry j slot (negsuc zero) events good (removed, may) =
       puts_may_close (Here j) ([] ▷ Clear slot removed) removed events may (puts_one (Here j) (Clear slot removed) (no_file (Here j)))
   applies_entry j slot (negsuc (suc n)) events good is = subst (Puts (Here j)) (sym is) (puts_none (Here j) [] (λ f it. it))

@@ -19,9 +19,6 @@ map_reversed {X} {Y} f (x ∷ xs) =
 
 -- what holds of all elements holds of their pieces, whichever way round
 module _ {A W : Type 0} (P : A → Type 0) (f : W → A) (ws : List W) (xs : List A) where
-  pub all_mapped : All P (map f ws) → All (λ w. P (f w)) ws
-  all_mapped a = each_all (λ w. P (f w)) ws (λ w h. All-contains P (map f ws) (f w) a (contains_mapped f ws w h))
-
   pub all_gathered : map f ws ≡ reverse xs → All P xs → All (λ w. P (f w)) ws
   all_gathered e a = each_all (λ w. P (f w)) ws (λ w h.
       All-contains P xs (f w) a (contains_reverse xs (f w) (subst (λ (l : List A). Contains l (f w)) e (contains_mapped f ws w h))))
@@ -52,7 +49,8 @@ module _ {P : Type 0} (V : P → PassView) (ps : List P) (n : ℕ) (new : map (�
   as_many_passes = let a = length-map ps V in let b = ap length new in let c = length_from 1 n in omega arith
 
   pub all_new : All (λ p. IsNew (V p)) ps
-  all_new = all_mapped IsNew V ps [] (subst (All IsNew) (sym new) (new_from 1 n))
+  all_new = each_all (λ p. IsNew (V p)) ps (λ p h.
+      All-contains IsNew (map (λ p. V p) ps) (V p) (subst (All IsNew) (sym new) (new_from 1 n)) (contains_mapped V ps p h))
 
   pub all_idle : All (λ p. IsIdle (V p)) ps
   all_idle = All-weaker (λ p. IsNew (V p)) (λ p. IsIdle (V p)) (λ p is. ap (λ (v : PassView). v.doing) is.1) ps all_new

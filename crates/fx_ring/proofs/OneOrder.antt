@@ -1,7 +1,8 @@
 -- A list in strict order is the only one of its elements that is in order.
-use Rattle.fx_ring.proofs.Words.{◌≡◌, ℕ, zero, suc, ◌<◌, ◌≤◌, ◌⊎◌, cond, List, [], ◌∷◌, All, Contains, sum_by, IsPermutation, refl, sym, ap, subst}
-use Rattle.fx_ring.proofs.Words.{◌==◌, arith, inl, inr, ⊎_elim, slice_index_or, eq-eqb, ne_eqb, IsNonDecreasingBy, All-head, All-tail, All-contains}
+use Rattle.fx_ring.proofs.Words.{◌≡◌, ℕ, suc, ◌<◌, ◌≤◌, cond, List, [], ◌∷◌, All, Contains, sum_by, IsPermutation, refl, sym, ap, subst}
+use Rattle.fx_ring.proofs.Words.{◌==◌, arith, ⊎_elim, slice_index_or, eq-eqb, ne_eqb, IsNonDecreasingBy, All-head, All-tail, All-contains}
 use Rattle.fx_ring.proofs.Words.{sum_by-cons, get_or-le-sum_by, Contains-permutation, IsPermutation-sym, sum_by-IsPermutation}
+use Rattle.fx_table.proofs.Members.{contains_cases}
 
 module _ {X : Type 0} (key : X → ℕ) where
   -- each element's key is below those behind it
@@ -12,10 +13,6 @@ module _ {X : Type 0} (key : X → ℕ) where
   -- how many elements have the key
   abbrev keyed : ℕ → List X → ℕ
   keyed k xs = sum_by (λ x. cond (key x == k) 1 0) xs
-
-  in_front_or_behind : (x : X) (xs : List X) (y : X) → Contains (x ∷ xs) y → (x ≡ y) ⊎ Contains xs y
-  in_front_or_behind x xs y (zero, lt, is) = inl is
-  in_front_or_behind x xs y (suc k, lt, is) = inr (k, omega arith, is)
 
   keyed_above : (k : ℕ) (xs : List X) → All (λ y. k < key y) xs → keyed k xs ≡ 0
   keyed_above k [] above = refl
@@ -57,24 +54,24 @@ module _ {X : Type 0} (key : X → ℕ) where
     left = λ z there. ⊎_elim
         (λ is. absurd (let above : key x < key z = All-contains (λ y. key x < key y) xs z rises.0 there in let e = ap key is in omega arith))
         (λ behind. behind)
-        (in_front_or_behind x ys z (same.left z (suc there.0, let lt = there.1 in omega arith, there.2)));
+        (contains_cases x ys z (same.left z (suc there.0, let lt = there.1 in omega arith, there.2)));
     right = λ z there. ⊎_elim
-        (λ is. absurd (no_front_behind x xs ys rises same (subst (Contains ys) (sym is) there)))
+        (λ is. absurd (no_front_behind x xs ys rises same (subst (Contains ys) is there)))
         (λ behind. behind)
-        (in_front_or_behind x xs z (same.right z (suc there.0, let lt = there.1 in omega arith, there.2)));
+        (contains_cases x xs z (same.right z (suc there.0, let lt = there.1 in omega arith, there.2)));
     often = λ k. keyed_behind k x xs ys (same.often k);
   }
 
   least : (x y : X) (xs ys : List X) → Rises (x ∷ xs) → IsNonDecreasingBy key (y ∷ ys) → HasSame (x ∷ xs) (y ∷ ys) → x ≡ y
   least x y xs ys rises up same = ⊎_elim
-      (λ is. is)
+      (λ is. sym is)
       (λ behind. absurd
       (let above : key x < key y = All-contains (λ z. key x < key z) xs y rises.0 behind in
       let there = same.left x (0, omega arith, refl) in
       let below : key y ≤ key (slice_index_or (y ∷ ys) there.0 x) = up 0 there.0 x (omega arith) there.1 in
       let e = ap key there.2 in
       omega arith))
-      (in_front_or_behind x xs y (same.right y (0, omega arith, refl)))
+      (contains_cases x xs y (same.right y (0, omega arith, refl)))
 
   one_order : (xs ys : List X) → Rises xs → IsNonDecreasingBy key ys → HasSame xs ys → xs ≡ ys
   one_order [] [] rises up same = refl

@@ -23,12 +23,9 @@ module _ (requests : List Request) (chains : List Chain) (c : ℕ) (d : Chain) (
   run_at members = asked_at ∙ sym (get_or-map (members_of (all_asked requests)) chains (c - 1) d [] (omega arith))
       ∙ ap (λ (runs : List (List Asked)). run_of_chain runs c) members
 
-  pub chain_at : All (IsChain (all_asked requests)) chains → IsChain (all_asked requests) chain
-  chain_at within = within (c - 1) d (omega arith)
-
   pub short_at : All (IsChain (all_asked requests)) chains
       → IsShortRun (all_asked (take (chain.first + chain.len - chain.first) (drop chain.first requests)))
-  short_at within = subst IsShortRun (sym asked_at) (chain_at within).run
+  short_at within = subst IsShortRun (sym asked_at) (within (c - 1) d (omega arith)).run
 
   pub few_at : (most : ℕ) → InstallAtMost (all_asked requests) most chains
       → all_installs (all_asked (take (chain.first + chain.len - chain.first) (drop chain.first requests))) ≤ most

@@ -6,9 +6,6 @@ use Rattle.fx_plain.proofs.LawHolds.{no_close_while_held}
 use Rattle.fx_plain.proofs.LawTallies.{closed_at_most_once}
 use Rattle.fx_ring.specs.Laws.{NoHeldFileCloses, NoFileClosesTwice, NoFileIsLost, start_of_submission}
 
-none_is_some : {X : Type 0} (x : X) → Some x ≡ None → ⊥
-none_is_some x is = cc
-
 -- a submission begins in a state from which the laws speak
 starts : (st : State) (numbers : ℕ) → IsStart (opening st numbers)
 starts st numbers = record {
@@ -18,13 +15,9 @@ starts st numbers = record {
   used = λ slot f small here. rw (numbered_so (st.at slot) slot f here) (below slot small);
 }
   where
-    number_or : ℕ → Option File → ℕ
-    number_or n None = n
-    number_or n (Some f) = f.number
-
     numbered_so : (x : Option File) (slot : ℕ) (f : File) → file_numbered x slot ≡ Some f → f.number ≡ slot
-    numbered_so None slot f is = let e : Some f ≡ None = sym is in absurd (none_is_some f e)
-    numbered_so (Some g) slot f is = sym (ap (number_or slot) is)
+    numbered_so None slot f is = cc
+    numbered_so (Some g) slot f is = let e : record g { number = slot } ≡ f = cc in ap (λ (x : File). x.number) (sym e)
 
     below : (slot : ℕ) → slot < st.size → (not (nat_lt slot st.size) && nat_lt slot numbers) ≡ false
     below slot small = rw (lt-ltb slot st.size small) refl
