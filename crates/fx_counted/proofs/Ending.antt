@@ -6,9 +6,8 @@ use Rattle.fx_counted.proofs.Words.{file_numbered, after, numbered, File, Event,
 use Rattle.fx_counted.proofs.Words.{HasSameFiles, start_of, PassView, contains_none, contains_head, contains_tail, contains_cases, contains_map}
 use Rattle.fx_counted.proofs.Words.{contains_mapped, sum_two, sum_map, Does, LogAgrees, NodeAgrees, OwnerAgrees, lengths, Agrees, looks, word_of}
 use Rattle.fx_counted.proofs.Words.{place_of, slot_place, Shared, opening_of, slots_of, chain_numbers, IsNumber, state_after_all, shown, held_of}
-use Rattle.fx_counted.proofs.Words.{logs_of, drawn_of, told_of, once, holding, Phase, unborn, spare, placed, seated, leaving, retired, emptied}
-use Rattle.fx_counted.proofs.Words.{closed, Log, Start, View, Work, Idle, Placing, Retiring, Emptying, AllowsAll, action_of, sum_only, sum_of}
-use Rattle.fx_counted.proofs.Words.{sum_zero}
+use Rattle.fx_counted.proofs.Words.{logs_of, drawn_of, told_of, once, holding, Phase, placed, seated, leaving, retired, emptied, closed, Log, Start}
+use Rattle.fx_counted.proofs.Words.{View, Work, Idle, Placing, Retiring, Emptying, AllowsAll, action_of, sum_only, sum_of, sum_zero}
 use Rattle.std.proofs.Math.ListN.{get_or-eq_default}
 use Rattle.fx_plain.specs.Step.{Allows}
 use Rattle.fx_counted.specs.Agrees.{IsSeated}
@@ -150,8 +149,6 @@ module _ (k : Start) (s : Shared) (r : Agrees k s) (all_idle : (i : ℕ) (u : Vi
 
   home_by : (n : ℕ) (ph : Phase) → Node n ph → OwnerAgrees s.views n ph
       → (x : Option Closed) × (get_elem? s.homes (place_of k n) ≡ some (some x)) × AtItsSlot n x
-  home_by n unborn a o = (None, a.1, nothing n)
-  home_by n (spare p) a o = (None, a.1, nothing n)
   home_by n (placed i) a o = let bad = nobody i (Placing n) o in absurd (cc bad)
   home_by n (seated slot file) a o = let size = (same_shape k r.history).0 in let l = a.2 in (
     Some file,
@@ -162,7 +159,7 @@ module _ (k : Start) (s : Shared) (r : Agrees k s) (all_idle : (i : ℕ) (u : Vi
   home_by n (leaving i takes file) a o = let bad = nobody i (Retiring (numbered n file) takes) o in absurd (cc bad)
   home_by n (retired file) a o = let w = a.0 in let h = unheld n in let p = a.2 in absurd (omega arith)
   home_by n (emptied i) a o = let bad = nobody i (Emptying n) o in absurd (cc bad)
-  home_by n closed a o = (None, a.1, nothing n)
+  home_by n _ a o = (None, a.1, nothing n)
 
   pub home_file : (n : ℕ) → IsNumber k n → (x : Option Closed) × (get_elem? s.homes (place_of k n) ≡ some (some x)) × AtItsSlot n x
   home_file n has = let a = node_is n has (r.phase n) refl in home_by n (r.phase n) a.0 a.1

@@ -1,9 +1,9 @@
 -- What a step of one seat leaves as it was.
 use Rattle.fx_counted.proofs.Words.{sum_by, ◌≡◌, ◌≢◌, ℕ, zero, suc, ◌+◌, ◌<◌, ◌≤◌, true, false, List, [], ◌∷◌, set, length, sym, refl, ap, ◌∙◌, subst}
-use Rattle.fx_counted.proofs.Words.{arith, nat_lt, ◌⊎◌, inl, inr, ⊎_elim, eqb, some, some-injective, some-ne-none, get_elem?, at_set, set_here}
-use Rattle.fx_counted.proofs.Words.{set_else, File, Event, numbered, sum_at, sum_two, Does, OwnerAgrees, WorkAgrees, ViewAgrees, Agrees, Shared}
-use Rattle.fx_counted.proofs.Words.{logs_of, once, Phase, spare, placed, leaving, emptied, owner, file_in, Log, Start, View, Work, Idle, Placing}
-use Rattle.fx_counted.proofs.Words.{Holding, Retiring, Emptying}
+use Rattle.fx_counted.proofs.Words.{arith, nat_lt, ◌⊎◌, ⊎_elim, eqb, some, some-injective, some-ne-none, get_elem?, at_set, set_here, set_else, File}
+use Rattle.fx_counted.proofs.Words.{Event, numbered, sum_at, sum_two, Does, OwnerAgrees, WorkAgrees, ViewAgrees, Agrees, Shared, logs_of, once, Phase}
+use Rattle.fx_counted.proofs.Words.{spare, placed, leaving, emptied, owner, file_in, Log, Start, View, Work, Idle, Placing, Holding, Retiring}
+use Rattle.fx_counted.proofs.Words.{Emptying, dite, ℕ_discrete}
 use Rattle.fx_counted.proofs.Histories.{Grows}
 use Rattle.fx_counted.proofs.Ones.{one_if, bit_here}
 
@@ -117,10 +117,6 @@ module _ (views : List View) (id : ℕ) (v w : View) (here : get_elem? views id 
 
   -- any number, after a step that leaves the pass at its work
   pub owner_same : w.work ≡ v.work → (n : ℕ) (ph : Phase) → OwnerAgrees views n ph → OwnerAgrees (set views id w) n ph
-  owner_same same n = owner_map views (set views id w) n (λ j d is o. ⊎_elim
+  owner_same same n = owner_map views (set views id w) n (λ j d is o. dite (ℕ_discrete j id)
       (λ (e : j ≡ id). subst (λ (i : ℕ). Does (set views id w) i d) (sym e) (does_now views id v w d here (same ∙ work_of j d e o)))
-      (λ (e : j ≢ id). does_else j d e o)
-      (either_way j))
-    where
-      either_way : (j : ℕ) → (j ≡ id) ⊎ (j ≢ id)
-      either_way j = mathlib.Core.Logic.dite (native.Mathlib.Decide.ℕ_discrete j id) (λ e. inl e) (λ e. inr e)
+      (λ (e : j ≢ id). does_else j d e o))
