@@ -1,18 +1,18 @@
 -- A draw keeps the rule.
-use Rattle.fx_counted.proofs.Words.{sum_by, ◌≡◌, ◌≢◌, ℕ, zero, suc, ◌+◌, ◌*◌, ◌%◌, ◌^◌, ◌<◌, ◌≤◌, Bool, true, false, cond, List, [], ◌∷◌, set, length}
-use Rattle.fx_counted.proofs.Words.{sym, refl, ap, ◌∙◌, subst, arith, eqb, lt-ltb, le-ltb, get_or-set_other, get_or-set_same, Option, Some, None, ◌⊎◌}
-use Rattle.fx_counted.proofs.Words.{inl, inr, ⊎_elim, dite, none, ℕ_discrete, dec_le, get_elem?, keeps, step, Closed, numbers_up_to, sum_by-cons}
-use Rattle.fx_counted.proofs.Words.{sum_set, sum_at, sum_le_at, NodeAgrees, OwnerAgrees, lengths, PlacesNext, WorkAgrees, DrawsCount, word_of}
-use Rattle.fx_counted.proofs.Words.{place_of, control_place, draw_place, slot_place, opening_of, state_after_all, chain_in, shown, first_log}
-use Rattle.fx_counted.proofs.Words.{drawn_of, told_of, once, placing, Phase, unborn, spare, owner, file_in, Log, View, Idle, looks, mul-add}
-use Rattle.fx_counted.proofs.Words.{mul-le-mul_left, Draws, DrawsKeep, first_or, DrawTells, next_in, end_in, chain_given}
+use Rattle.fx_counted.proofs.Words.{sum_by, ◌≡◌, ◌≢◌, ℕ, ◌+◌, ◌*◌, ◌%◌, ◌^◌, ◌<◌, ◌≤◌, Bool, true, false, cond, List, [], ◌∷◌, set, length, sym, refl}
+use Rattle.fx_counted.proofs.Words.{ap, ◌∙◌, subst, arith, eqb, lt-ltb, le-ltb, get_or-set_other, get_or-set_same, Option, Some, None, ◌⊎◌, inl, inr}
+use Rattle.fx_counted.proofs.Words.{⊎_elim, dite, none, ℕ_discrete, dec_le, get_elem?, keeps, step, Closed, numbers_up_to, sum_by-cons, sum_set}
+use Rattle.fx_counted.proofs.Words.{sum_at, sum_le_at, NodeAgrees, OwnerAgrees, lengths, PlacesNext, WorkAgrees, DrawsCount, word_of, place_of}
+use Rattle.fx_counted.proofs.Words.{control_place, draw_place, slot_place, opening_of, state_after_all, chain_in, shown, first_log, drawn_of, told_of}
+use Rattle.fx_counted.proofs.Words.{once, placing, Phase, unborn, spare, owner, file_in, Log, View, Idle, looks, mul-add, mul-le-mul_left, Draws}
+use Rattle.fx_counted.proofs.Words.{DrawsKeep, first_or, DrawTells, next_in, end_in, chain_given}
 use Rattle.std.proofs.Common.{length-set}
 use Rattle.fx_counted.proofs.Frames.{owner_same}
 use Rattle.fx_counted.proofs.Histories.{grows_none}
 use Rattle.fx_counted.proofs.Keeping.{Turn, turn_of, word_at, now, its_log, Step, step_kept, by_turn, Made}
 use Rattle.fx_counted.proofs.NodeSteps.{near, far}
 use Rattle.fx_counted.proofs.Unchanged.{slot_same, control_same}
-use Rattle.fx_counted.proofs.Ones.{one_if, times, bit_here, bit_else}
+use Rattle.fx_counted.proofs.Ones.{one_if, times, bit_here, once_is, once_more}
 use Rattle.std.proofs.lemmas.List.Sums.{count_by-le-length}
 
 abbrev pick : {P : Type 0} → Dec P → Phase → Phase → Phase
@@ -40,28 +40,6 @@ given_in lo hi p phase n a b = ⊎_elim (λ t. t.2) (λ t. absurd (t.0 a b)) (gi
 given_else : (lo hi p : ℕ) (phase : ℕ → Phase) (n : ℕ) → ((lo ≤ n) → (n < hi) → ⊥) → given_out lo hi p phase n ≡ phase n
 given_else lo hi p phase n out = ⊎_elim (λ t. absurd (out t.0 t.1)) (λ t. t.1) (given_either lo hi p phase n)
 
-pub once_in : (n p : ℕ) → 0 < p → p ≤ n → once n p ≡ 1
-once_in n zero a b = absurd (omega arith)
-once_in n (suc p) a b = ap one_if (lt-ltb p n (omega arith))
-
-once_out : (n p : ℕ) → n < p → once n p ≡ 0
-once_out n zero b = refl
-once_out n (suc p) b = ap one_if (le-ltb p n (omega arith))
-
-pub once_some : (n p : ℕ) → 0 < once n p → p ≤ n
-once_some n zero a = omega arith
-once_some n (suc p) a = dite (dec_le (suc p) n) (λ l. l) (λ g. let z = once_out n (suc p) (omega (arith, g)) in absurd (omega arith))
-
--- one chain more was given
-once_more : (n c : ℕ) → once (n + 1) c ≡ once n c + one_if (eqb (n + 1) c)
-once_more n zero = let e = bit_else 0 (n + 1) (λ is. omega arith) in omega arith
-once_more n (suc p) = dite (ℕ_discrete n p)
-    (λ same. let b = bit_here (suc p) (n + 1) (omega (arith, same)) in let o1 = once_out n (suc p) (omega (arith, same)) in
-    let o2 = once_in (n + 1) (suc p) (omega arith) (omega (arith, same)) in omega arith)
-    (λ other. let b = bit_else (suc p) (n + 1) (λ is. other (omega (arith, is))) in dite (dec_le (suc p) n)
-    (λ low. let o1 = once_in n (suc p) (omega arith) low in let o2 = once_in (n + 1) (suc p) (omega arith) (omega (arith, low)) in omega arith)
-    (λ high. let o1 = once_out n (suc p) (omega (arith, high)) in let o2 = once_out (n + 1) (suc p) (omega (arith, high, other)) in omega arith))
-
 pub told_few : (l : List Log) → sum_by (λ y. one_if y.no_chains_left) l ≤ length l
 told_few l = count_by-le-length (λ y. y.no_chains_left) l
 
@@ -87,7 +65,7 @@ module _ (turn : Turn) where
   chain_few = dite (ℕ_discrete (chain_in x) 0) (λ none. omega arith)
       (λ some_chain. let a = chain_drawn x.drawn (omega (arith, some_chain)) in let b = sum_at (drawn_of (chain_in x)) st.views id v here in
       let c : drawn_of (chain_in x) v ≡ 0 + times (chain_in x) x.drawn = ap (λ (l : List Log). sum_by (λ z. times (chain_in x) z.drawn) l) one in
-      let e = d.each (chain_in x) in once_some d.given (chain_in x) (omega arith))
+      let e = d.each (chain_in x) in omega (arith, once_is d.given (chain_in x)))
 
   -- few passes are told that there are no more chains
   few_told : sum_by told_of st.views ≤ 16
@@ -237,7 +215,7 @@ module _ (turn : Turn) where
             few = omega arith;
             each = λ c. let s = sum_set (drawn_of c) st.views id v w here in let e = d.each c in let dv = drawn_v c in
                 let co = sum_by-cons (λ d. one_if (eqb d c)) (found + 1) x.drawn in let gg = ap (λ (n : ℕ). once n c) g in
-                let more = once_more found c in omega arith;
+                let more = once_more found (found + 1) c refl in omega arith;
             counts = omega arith;
             all = λ some_told. absurd (omega arith);
             unused = λ n low high. given_else lo hi x.number r.phase n (λ a b. omega (arith, low, b))

@@ -1,21 +1,19 @@
 -- The end, when one seat has all passes again, and does nothing: everything is settled, and one history stands behind it.
-use Rattle.fx_counted.proofs.Words.{◌≡◌, ◌≢◌, ℕ, zero, suc, ◌+◌, ◌<◌, ◌≤◌, true, List, [], ◌∷◌, map, length, sym, refl, ap, ◌∙◌, subst, arith, eqb}
-use Rattle.fx_counted.proofs.Words.{◌⊎◌, inl, inr, ⊎_elim, Option, Some, None, Contains, sum_by, dite, some, some-injective, ℕ_discrete, dec_le}
-use Rattle.fx_counted.proofs.Words.{get_elem?, sum_by-cons, Closed, Contents, state_of, file_at, IsSeenBy, part_of_pass, State, IsSettled}
-use Rattle.fx_counted.proofs.Words.{file_numbered, after, numbered, File, Event, Action, Look, Put, Clear, Take, Allocate, ClosesTable, times_drawn}
-use Rattle.fx_counted.proofs.Words.{HasSameFiles, start_of, PassView, contains_none, contains_head, contains_tail, contains_cases, contains_map}
-use Rattle.fx_counted.proofs.Words.{contains_mapped, sum_two, sum_map, Does, LogAgrees, NodeAgrees, OwnerAgrees, lengths, Agrees, looks, word_of}
-use Rattle.fx_counted.proofs.Words.{place_of, slot_place, Shared, opening_of, slots_of, chain_numbers, IsNumber, state_after_all, shown, held_of}
-use Rattle.fx_counted.proofs.Words.{logs_of, drawn_of, told_of, once, holding, Phase, placed, seated, leaving, retired, emptied, closed, Log, Start}
-use Rattle.fx_counted.proofs.Words.{View, Work, Idle, Placing, Retiring, Emptying, AllowsAll, action_of, sum_only, sum_of, sum_zero}
+use Rattle.fx_counted.proofs.Words.{◌≡◌, ◌≢◌, ℕ, suc, ◌+◌, ◌<◌, ◌≤◌, true, List, [], ◌∷◌, map, length, sym, refl, ap, ◌∙◌, subst, arith, eqb, ◌⊎◌}
+use Rattle.fx_counted.proofs.Words.{inl, inr, ⊎_elim, Option, Some, None, Contains, sum_by, dite, some, some-injective, ℕ_discrete, dec_le, get_elem?}
+use Rattle.fx_counted.proofs.Words.{sum_by-cons, Closed, Contents, state_of, file_at, IsSeenBy, part_of_pass, State, IsSettled, file_numbered, after}
+use Rattle.fx_counted.proofs.Words.{numbered, File, Event, Action, Look, Put, Clear, Take, Allocate, ClosesTable, times_drawn, HasSameFiles, start_of}
+use Rattle.fx_counted.proofs.Words.{PassView, contains_none, contains_head, contains_tail, contains_cases, contains_map, contains_mapped, sum_two}
+use Rattle.fx_counted.proofs.Words.{sum_map, Does, LogAgrees, NodeAgrees, OwnerAgrees, lengths, Agrees, looks, word_of, place_of, slot_place, Shared}
+use Rattle.fx_counted.proofs.Words.{opening_of, slots_of, chain_numbers, IsNumber, state_after_all, shown, held_of, logs_of, drawn_of, told_of, once}
+use Rattle.fx_counted.proofs.Words.{holding, Phase, placed, seated, leaving, retired, emptied, closed, Log, Start, View, Work, Idle, Placing}
+use Rattle.fx_counted.proofs.Words.{Retiring, Emptying, AllowsAll, action_of, sum_only, sum_of, sum_zero}
 use Rattle.std.proofs.Math.ListN.{get_or-eq_default}
 use Rattle.fx_plain.specs.Step.{Allows}
 use Rattle.fx_counted.specs.Agrees.{IsSeated}
-use Rattle.fx_counted.proofs.Chains.{once_in, once_some}
-use Rattle.fx_counted.proofs.Frames.{once_few}
 use Rattle.fx_counted.proofs.Histories.{part_mine, part_other, same_shape, change_else}
 use Rattle.fx_counted.proofs.Keeping.{word_at}
-use Rattle.fx_counted.proofs.Ones.{one_if, times, bit_here, bit_else}
+use Rattle.fx_counted.proofs.Ones.{one_if, times, bit_here, bit_else, once_is}
 
 length_none : (l : List Log) → length l ≡ 0 → l ≡ []
 length_none [] e = refl
@@ -72,10 +70,6 @@ is_number k n = dite (dec_le (suc n) (slots_of k))
 first_in : {X : Type 0} (l : List X) → 0 < length l → (x : X) × Contains l x
 first_in [] low = absurd (omega arith)
 first_in (x ∷ l) low = (x, contains_head x l)
-
-once_low : (n p : ℕ) → 0 < once n p → 0 < p
-once_low n zero low = absurd (omega arith)
-once_low n (suc p) low = omega arith
 
 -- a pass that drew the chain
 drawer : (l : List Log) (c : ℕ) → 1 ≤ sum_by (λ (x : Log). times c x.drawn) l → (x : Log) × Contains l x × Contains x.drawn c
@@ -242,8 +236,7 @@ module _ (k : Start) (s : Shared) (r : Agrees k s) (seat : ℕ) (v : View) (at :
         let t = told in
         let given = r.draws.all (omega arith) in
         let d = drawn c in
-        let o = once_in r.draws.given c low (omega arith) in
-        let y = drawer v.logs c (omega arith) in
+        let y = drawer v.logs c (omega (arith, once_is r.draws.given c)) in
         (showing y.0, contains_mapped showing v.logs y.0 y.1, y.2)
 
     pub closes_logs : ClosesTable (opening_of k) (map showing v.logs) left
@@ -260,7 +253,7 @@ module _ (k : Start) (s : Shared) (r : Agrees k s) (seat : ℕ) (v : View) (at :
       left_settled = at_rest;
       chains_inside = λ w has c d. let x = contains_map showing v.logs w has in
           let g = given_some c x.0 x.1 (subst (λ (z : PassView). Contains z.drawn c) x.2 d) in
-          let few = r.draws.few in let l = once_some r.draws.given c g in (once_low r.draws.given c g, omega arith);
-      drawn_once = λ c. let m = sum_map (times_drawn c) showing v.logs in let d = drawn c in let o = once_few r.draws.given c in omega arith;
+          let few = r.draws.few in let o = once_is r.draws.given c in (omega (arith, o), omega (arith, o));
+      drawn_once = λ c. let m = sum_map (times_drawn c) showing v.logs in let d = drawn c in omega (arith, once_is r.draws.given c);
       all_drawn = all_drawn;
     }

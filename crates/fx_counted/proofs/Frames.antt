@@ -1,11 +1,11 @@
 -- What a step of one seat leaves as it was.
-use Rattle.fx_counted.proofs.Words.{sum_by, ◌≡◌, ◌≢◌, ℕ, zero, suc, ◌+◌, ◌<◌, ◌≤◌, true, false, List, [], ◌∷◌, set, length, sym, refl, ap, ◌∙◌, subst}
-use Rattle.fx_counted.proofs.Words.{arith, nat_lt, ◌⊎◌, ⊎_elim, eqb, some, some-injective, some-ne-none, get_elem?, at_set, set_here, set_else, File}
-use Rattle.fx_counted.proofs.Words.{Event, numbered, sum_at, sum_two, Does, OwnerAgrees, WorkAgrees, ViewAgrees, Agrees, Shared, logs_of, once, Phase}
-use Rattle.fx_counted.proofs.Words.{spare, placed, leaving, emptied, owner, file_in, Log, Start, View, Work, Idle, Placing, Holding, Retiring}
-use Rattle.fx_counted.proofs.Words.{Emptying, dite, ℕ_discrete}
+use Rattle.fx_counted.proofs.Words.{sum_by, ◌≡◌, ◌≢◌, ℕ, zero, suc, ◌+◌, ◌<◌, List, [], ◌∷◌, set, length, sym, refl, ap, ◌∙◌, subst, arith, ◌⊎◌}
+use Rattle.fx_counted.proofs.Words.{⊎_elim, eqb, some, some-injective, some-ne-none, get_elem?, at_set, set_here, set_else, File, Event, numbered}
+use Rattle.fx_counted.proofs.Words.{sum_at, sum_two, Does, OwnerAgrees, WorkAgrees, ViewAgrees, Agrees, Shared, logs_of, Phase, spare, placed}
+use Rattle.fx_counted.proofs.Words.{leaving, emptied, owner, file_in, Log, Start, View, Work, Idle, Placing, Holding, Retiring, Emptying, dite}
+use Rattle.fx_counted.proofs.Words.{ℕ_discrete}
 use Rattle.fx_counted.proofs.Histories.{Grows}
-use Rattle.fx_counted.proofs.Ones.{one_if, bit_here}
+use Rattle.fx_counted.proofs.Ones.{one_if, bit_here, once_is}
 
 -- the number that a pass alone works with, plus 1, or 0
 abbrev pub busy : Work → ℕ
@@ -61,10 +61,6 @@ module _ (id p j : ℕ) (other : j ≢ id) (phase phase' : ℕ → Phase) (stays
     start = ok.start;
   }
 
-pub once_few : (n p : ℕ) → once n p ≤ 1
-once_few n zero = omega arith
-once_few n (suc p) = elim (nat_lt p n) as (λ b. one_if b ≤ 1) [ true ↦ omega arith | false ↦ omega arith ]
-
 -- a pass that one view has is in no other one
 pub not_there : (k : Start) (st : Shared) → Agrees k st → (id j : ℕ) (v u : View) (x : Log)
     → get_elem? st.views id ≡ some v → v.logs ≡ x ∷ [] → j ≢ id → get_elem? st.views j ≡ some u
@@ -72,13 +68,12 @@ pub not_there : (k : Start) (st : Shared) → Agrees k st → (id j : ℕ) (v u 
 not_there k st r id j v u x here one other there i y at same =
     let t = sum_two (logs_of x.number) st.views j id u v other there here in
     let a = r.passes x.number in
-    let b = once_few k.passes x.number in
     let c : logs_of x.number v ≡ 0 + one_if (eqb x.number x.number) = ap
     (λ (l : List Log). sum_by (λ z. one_if (eqb z.number x.number)) l) one in
     let d = bit_here x.number x.number refl in
     let e = sum_at (λ z. one_if (eqb z.number x.number)) u.logs i y at in
     let f = bit_here x.number y.number same in
-    omega arith
+    omega (arith, once_is k.passes x.number)
 
 -- each view after a step of the view id
 pub views_after : (P : ℕ → View → Type 0) (views : List View) (id : ℕ) (w : View) → P id w

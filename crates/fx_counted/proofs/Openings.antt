@@ -1,17 +1,16 @@
 -- A table that is opened keeps the rule.
 use Rattle.fx_counted.proofs.Words.{◌≡◌, ℕ, zero, suc, ◌+◌, ◌*◌, ◌<◌, ◌≤◌, Bool, nat_lt, cond, List, [], ◌∷◌, map, length, sym, refl, ap, ◌∙◌, subst}
 use Rattle.fx_counted.proofs.Words.{arith, eqb, lt-ltb, le-ltb, ◌⊎◌, inl, inr, ⊎_elim, Option, Some, None, slice_index, sum_by, count_by, sum_by-cons}
-use Rattle.fx_counted.proofs.Words.{dite, some, some-injective, some-ne-none, ℕ_discrete, dec_le, get_elem?, Closed, state_of, State, file_numbered}
-use Rattle.fx_counted.proofs.Words.{numbered, File, numbers_for, range_of, born, takes_in, name_made, entry_made, takes_made, Names, SlotAgrees}
-use Rattle.fx_counted.proofs.Words.{NodeAgrees, OwnerAgrees, LogAgrees, ViewAgrees, Agrees, new_logs, word_of, place_of, slot_place, word_for}
-use Rattle.fx_counted.proofs.Words.{node_for, home_for, OpensWith, opening_of, slots_of, chain_numbers, IsNumber, state_after_all, new_log, once}
-use Rattle.fx_counted.proofs.Words.{Phase, unborn, seated, closed, Log, Start, View, Idle, ◌&&◌, length-map, at_map, first_view, first_file}
-use Rattle.fx_counted.proofs.Words.{OpeningKeeps}
+use Rattle.fx_counted.proofs.Words.{dite, some, some-injective, some-ne-none, dec_le, get_elem?, Closed, state_of, State, file_numbered, numbered}
+use Rattle.fx_counted.proofs.Words.{File, numbers_for, range_of, born, takes_in, name_made, entry_made, takes_made, Names, SlotAgrees, NodeAgrees}
+use Rattle.fx_counted.proofs.Words.{OwnerAgrees, LogAgrees, ViewAgrees, Agrees, new_logs, word_of, place_of, slot_place, word_for, node_for, home_for}
+use Rattle.fx_counted.proofs.Words.{OpensWith, opening_of, slots_of, chain_numbers, IsNumber, state_after_all, new_log, once, Phase, unborn, seated}
+use Rattle.fx_counted.proofs.Words.{closed, Log, Start, View, Idle, ◌&&◌, length-map, at_map, first_view, first_file, OpeningKeeps}
 use Rattle.std.proofs.Common.{not}
 use Rattle.atomic_table.specs.Table.{opening}
 use Rattle.fx_counted.specs.Agrees.{IsSeated}
 use Rattle.fx_counted.proofs.FullSlots.{full_few}
-use Rattle.fx_counted.proofs.Ones.{one_if, bit_here, bit_else}
+use Rattle.fx_counted.proofs.Ones.{one_if, once_is, once_more}
 use Rattle.fx_counted.proofs.Places.{fewer_numbers}
 
 at_new : (p n i : ℕ) (x : Log) → get_elem? (new_logs p n) i ≡ some x → (q : ℕ) × (x ≡ new_log q)
@@ -34,27 +33,11 @@ none_new f none p (suc n) = let a = none_new f none (suc p) n in let b = sum_by-
 abbrev counted : ℕ → ℕ → ℕ → ℕ
 counted q p n = sum_by (λ (y : Log). one_if (eqb y.number q)) (new_logs p n)
 
-new_out : (q p n : ℕ) → (q < p) ⊎ (p + n ≤ q) → counted q p n ≡ 0
-new_out q p zero out = refl
-new_out q p (suc n) out =
-    let b = sum_by-cons (λ (y : Log). one_if (eqb y.number q)) (new_log p) (new_logs (suc p) n) in
-    let c = bit_else q p (λ e. ⊎_elim (λ (l : q < p). absurd (omega arith)) (λ (g : p + suc n ≤ q). absurd (omega arith)) out) in
-    let a = new_out q (suc p) n (⊎_elim (λ (l : q < p). inl (omega arith)) (λ (g : p + suc n ≤ q). inr (omega arith)) out) in
-    omega arith
-
-new_in : (q p n : ℕ) → p ≤ q → q < p + n → counted q p n ≡ 1
-new_in q p zero low high = absurd (omega arith)
-new_in q p (suc n) low high =
-    let b = sum_by-cons (λ (y : Log). one_if (eqb y.number q)) (new_log p) (new_logs (suc p) n) in
-    dite (ℕ_discrete p q)
-    (λ e. let c = bit_here q p e in let a = new_out q (suc p) n (inl (omega (arith, e))) in omega arith)
-    (λ ne. let c = bit_else q p ne in let a = new_in q (suc p) n (omega (arith, ne)) (omega arith) in omega arith)
-
-once_is : (n q : ℕ) → counted q 1 n ≡ once n q
-once_is n zero = new_out 0 1 n (inl (omega arith))
-once_is n (suc q) = dite (dec_le (suc q) n)
-    (λ l. new_in (suc q) 1 n (omega arith) (omega (arith, l)) ∙ sym (ap one_if (lt-ltb q n (omega (arith, l)))))
-    (λ g. new_out (suc q) 1 n (inr (omega (arith, g))) ∙ sym (ap one_if (le-ltb q n (omega (arith, g)))))
+counted_is : (q p n : ℕ) → counted q (suc p) n + once p q ≡ once (p + n) q
+counted_is q p zero = let e : p ≡ p + 0 = omega arith in let f = ap (λ m. once m q) e in omega arith
+counted_is q p (suc n) = let b = sum_by-cons (λ (y : Log). one_if (eqb y.number q)) (new_log (suc p)) (new_logs (suc (suc p)) n) in
+    let e : suc p + n ≡ p + suc n = omega arith in
+    omega (arith, counted_is q (suc p) n, b, once_more p (suc p) q (omega arith), ap (λ m. once m q) e)
 
 -- the phase of a slot's number
 abbrev phase_for : ℕ → Option File → Phase
@@ -163,10 +146,6 @@ module _ (k : Start) (words : List ℕ) (homes : List (Option Closed)) (o : Open
   }
   view_opens (suc j) v e = absurd (some-ne-none v (sym e))
 
-  once_none : (c : ℕ) → once 0 c ≡ 0
-  once_none zero = refl
-  once_none (suc c) = ap one_if (le-ltb c 0 (omega arith))
-
   opens : Agrees k (opening words homes (first_view k))
   opens = record {
     shape = record {
@@ -188,7 +167,7 @@ module _ (k : Start) (words : List ℕ) (homes : List (Option Closed)) (o : Open
     each_view = view_opens;
     holds = λ n. refl;
     look_ups = let a = looks_new 1 k.passes in omega arith;
-    passes = λ p. let a = once_is k.passes p in omega arith;
+    passes = λ p. let e : 0 + k.passes ≡ k.passes = omega arith in omega (arith, counted_is p 0 k.passes, once_is 0 p, ap (λ m. once m p) e);
     whole = let a = length_new 1 k.passes in omega arith;
     authors = λ p none. refl;
     control = let a = o.control in let b = full_few (first_file k) (range_of (opening_of k)).0
@@ -196,7 +175,7 @@ module _ (k : Start) (words : List ℕ) (homes : List (Option Closed)) (o : Open
     draws = record {
       given = 0;
       few = omega arith;
-      each = λ c. let a = none_new (λ y. count_by (λ d. eqb d c) y.drawn) (λ p. refl) 1 k.passes in let b = once_none c in omega arith;
+      each = λ c. let a = none_new (λ y. count_by (λ d. eqb d c) y.drawn) (λ p. refl) 1 k.passes in omega (arith, once_is 0 c);
       counts = let a = none_new (λ y. one_if y.no_chains_left) (λ p. refl) 1 k.passes in let b = o.draw in omega arith;
       all = λ some_told. let a = none_new (λ y. one_if y.no_chains_left) (λ p. refl) 1 k.passes in absurd (omega arith);
       unused = λ n low high. high_phase n (let a = o.slots in omega arith);
