@@ -6,11 +6,9 @@ use Rattle.fx_counted.proofs.Words.{Agrees, word_of, place_of, opening_of, chain
 use Rattle.fx_counted.proofs.Words.{end_in, next_in, held_in, placing, held_of, holding, Phase, spare, placed, emptied, closed, owner, file_in}
 use Rattle.fx_counted.proofs.Words.{Stepped, Start, View, Idle, Placing, Holding, Emptying, looks, mul-le-mul_left, BirthsKeep, RestsKeep, Births}
 use Rattle.fx_counted.proofs.Words.{Rests, inl}
+use Rattle.fx_counted.proofs.Steps.{grows_none, change_here, change_else, busy, does_now, Turn, turn_of, word_at, its_log, its_work, by_turn, went}
+use Rattle.fx_counted.proofs.Steps.{tells_none, one_same, near, far, NodeStep, node_agrees}
 use Rattle.std.proofs.Common.{length-set}
-use Rattle.fx_counted.proofs.Histories.{grows_none, change_here, change_else}
-use Rattle.fx_counted.proofs.Frames.{busy, does_now}
-use Rattle.fx_counted.proofs.Keeping.{Turn, turn_of, word_at, its_log, its_work, by_turn, went, tells_none}
-use Rattle.fx_counted.proofs.NodeSteps.{one_same, near, far, NodeStep, node_agrees}
 
 -- the file that a pass holds is open
 pub held_file : (k : Start) (phase : ℕ → Phase) (j : ℕ) (u : View) (f : File) → u.work ≡ Holding f
@@ -29,8 +27,7 @@ module _ (turn : Turn) where
   -- a number in its phase
   pub in_phase : (q : ℕ) → IsNumber v.start q → (ph : Phase) → r.phase q ≡ ph
       → NodeAgrees (state_after_all v.start r.history) q (looks r.history q) (word_now q) (home_now q) ph
-  in_phase q its ph is = subst (NodeAgrees (state_after_all v.start r.history) q
-      (looks r.history q) (word_now q) (home_now q)) is (r.each_node q its)
+  in_phase q its ph is = subst (NodeAgrees (state_after_all v.start r.history) q (looks r.history q) (word_now q) (home_now q)) is (r.each_node q its)
 
   pub roomy : (q : ℕ) → IsNumber v.start q → place_of v.start q < length st.homes
   roomy q its = let a = r.shape.homes in let b = (near turn).home q its in omega arith
@@ -39,7 +36,8 @@ module _ (turn : Turn) where
   else_place q its n has other = (far turn).homes n q has its other
 
   -- nobody holds the file of a number without one
-  pub unheld : (q : ℕ) → file_in (r.phase q) ≡ None → (j : ℕ) (u : View) (f : File) → get_elem? st.views j ≡ some u → u.work ≡ Holding f → f.number ≡ q → ⊥
+  pub unheld : (q : ℕ) → file_in (r.phase q) ≡ None → (j : ℕ) (u : View) (f : File) → get_elem? st.views j ≡ some u → u.work ≡ Holding f
+      → f.number ≡ q → ⊥
   unheld q empty j u f there holds same = let e = held_file v.start r.phase j u f holds (r.each_view j u there).work in
       let z : None ≡ Some f.identity = sym empty ∙ (ap (λ (m : ℕ). file_in (r.phase m)) (sym same) ∙ e) in cc z
 
@@ -115,8 +113,7 @@ module _ (turn : Turn) where
       holds = λ n. let e = none_held n in omega arith;
     }
 
-  rest_emptied : (q : ℕ) → v.work ≡ Emptying q
-      → (its : IsNumber v.start q) × NodeStep turn q its 0
+  rest_emptied : (q : ℕ) → v.work ≡ Emptying q → (its : IsNumber v.start q) × NodeStep turn q its 0
       (set st.homes (place_of v.start q) (some None)) r.history closed Idle
   rest_emptied q is = let w = subst (WorkAgrees v.start r.phase id) is (its_work turn) in
       let n = in_phase q w.0 (emptied id) w.1 in let o = its_log turn in (
@@ -127,8 +124,7 @@ module _ (turn : Turn) where
             change_else r.phase q closed m (λ same. cc (sym s ∙ (ap r.phase same ∙ w.1))) ∙ s),
       )
 
-  rest_placed : (q : ℕ) → v.work ≡ Placing q
-      → (its : IsNumber v.start q) × NodeStep turn q its 0
+  rest_placed : (q : ℕ) → v.work ≡ Placing q → (its : IsNumber v.start q) × NodeStep turn q its 0
       (set st.homes (place_of v.start q) (some None)) r.history (spare x.number) Idle
   rest_placed q is = let w = subst (WorkAgrees v.start r.phase id) is (its_work turn) in
       let n = in_phase q w.0 (placed id) w.1 in let o = its_log turn in
@@ -147,7 +143,8 @@ births_keep k slots id i m x has idle left place = by_turn k slots id i m x (λ 
       went turn r.history (Placing (b turn idle left)) m.0.change,
       takes (place_of m.0.start (b turn idle left)) None,
       (in_phase turn (b turn idle left) (its_b turn idle left) (spare x.number) (is_spare turn idle left)).1,
-      node_agrees turn (b turn idle left) (its_b turn idle left) born (set st.homes (place_of m.0.start (b turn idle left)) none) r.history (placed id)
+      node_agrees turn (b turn idle left) (its_b turn idle left) born (set st.homes (place_of m.0.start (b turn idle left)) none) r.history
+          (placed id)
           (Placing (b turn idle left)) (birth turn idle left),
       record {
         stepped = birth_tells turn idle left m.1 ((place_of m.0.start (b turn idle left), None) ∷ m.1);

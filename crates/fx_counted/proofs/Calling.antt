@@ -5,8 +5,7 @@ use Rattle.fx_counted.proofs.Words.{Start, CountedTable, size_of}
 use Rattle.fx_counted.proofs.Places.{few_numbers, inside, apart}
 
 -- the word of a slot is one of the table
-pub slot_inside : (t : CountedTable) (slot i : ℕ) → slot < size_of (opening_of_table t) → i ≡ slot_place slot
-    → i < t.table.shared.table_id.words
+pub slot_inside : (t : CountedTable) (slot i : ℕ) → slot < size_of (opening_of_table t) → i ≡ slot_place slot → i < t.table.shared.table_id.words
 slot_inside t slot i l is =
     let size = t.same_size in
     let near = (inside t.size (t.numbers * t.chains) t.few_slots).slot slot (omega arith) in
@@ -53,6 +52,5 @@ in_size t slot r = let few = t.range_inside in let size = t.same_size in
     let below = r.1 in omega arith
 
 -- the word that says that the range is full
-pub full_of : (t : CountedTable) (k : Start) → k ≡ t.table.shared.key
-    → full_word_of t.range_len ≡ full_word_of (range_of (opening_of k)).1
+pub full_of : (t : CountedTable) (k : Start) → k ≡ t.table.shared.key → full_word_of t.range_len ≡ full_word_of (range_of (opening_of k)).1
 full_of t k is = ap (λ (z : ℕ × ℕ). full_word_of z.1) t.same_range ∙ ap (λ (z : Start). full_word_of (range_of (opening_of z)).1) (sym is)

@@ -2,10 +2,8 @@
 use Rattle.fx_counted.proofs.Words.{◌≡◌, ℕ, List, set, length, sym, refl, ap, ◌∙◌, subst, arith, get_elem?, held_by, State, Event, range_of}
 use Rattle.fx_counted.proofs.Words.{NodeAgrees, PlacesNext, Agrees, ControlCounts, looks, all_looks, word_of, place_of, control_place, draw_place}
 use Rattle.fx_counted.proofs.Words.{slot_place, opening_of, IsNumber, state_after_all, next_in, Change, Log, Start, View, Work, Placing}
-use Rattle.fx_counted.proofs.Frames.{stays_same, owner_same}
-use Rattle.fx_counted.proofs.Histories.{Grows, grows_none, IsHistory}
-use Rattle.fx_counted.proofs.Keeping.{Turn, word_at, now, logged, its_log, its_work, Step, step_kept, log_now}
-use Rattle.fx_counted.proofs.Unchanged.{slot_same, draws_same}
+use Rattle.fx_counted.proofs.Steps.{stays_same, owner_same, Grows, grows_none, IsHistory, Turn, word_at, now, logged, its_log, its_work, Step}
+use Rattle.fx_counted.proofs.Steps.{step_kept, log_now, slot_same, draws_same}
 
 places_same : (k : Start) (x y : Log) (d : Work) → next_in k y ≡ next_in k x → y.numbers_left ≡ x.numbers_left → PlacesNext k x d → PlacesNext k y d
 places_same k x y (Placing n) next left o = (o.0 ∙ sym next, let a = o.1 in omega arith)
@@ -50,8 +48,7 @@ module _ (turn : Turn) (h' : List Event) where
         slots = λ s l. slot_same v.start r.history h' r.phase r.phase s (word_at st.words (slot_place s))
             (word_at words' (slot_place s)) (p.slots s) (ap (λ (z : State). z.at s) p.quiet.state) (let a = p.quiet.all in omega arith)
             (λ f there seat. (ap (λ (g : ℕ → ℕ). g f.number) p.quiet.looked, refl)) (r.each_slot s l);
-        nodes = λ n has. subst (λ (z : State × ℕ
-            × ℕ). NodeAgrees z.0 n z.1 z.2 (get_elem? st.homes (place_of v.start n)) (r.phase n))
+        nodes = λ n has. subst (λ (z : State × ℕ × ℕ). NodeAgrees z.0 n z.1 z.2 (get_elem? st.homes (place_of v.start n)) (r.phase n))
             (λ i. (sym p.quiet.state i, sym p.quiet.looked i n, sym (p.nodes n has) i)) (r.each_node n has);
         owners = λ n has. owner_same st.views id v w here refl n (r.phase n) (r.each_owner n has);
         no_other = λ n absent. ap (λ (z : State). z.removed n) p.quiet.state ∙ r.no_other n absent;

@@ -6,13 +6,9 @@ use Rattle.fx_counted.proofs.Words.{sum_at, sum_le_at, NodeAgrees, OwnerAgrees, 
 use Rattle.fx_counted.proofs.Words.{control_place, draw_place, slot_place, opening_of, state_after_all, chain_in, shown, first_log, drawn_of, told_of}
 use Rattle.fx_counted.proofs.Words.{once, placing, Phase, unborn, spare, owner, file_in, Log, View, Idle, looks, mul-add, mul-le-mul_left, Draws}
 use Rattle.fx_counted.proofs.Words.{DrawsKeep, first_or, DrawTells, next_in, end_in, chain_given}
+use Rattle.fx_counted.proofs.Steps.{owner_same, grows_none, Turn, turn_of, word_at, now, its_log, Step, step_kept, by_turn, Made, near, far}
+use Rattle.fx_counted.proofs.Steps.{slot_same, control_same, one_if, times, bit_here, once_is, once_more}
 use Rattle.std.proofs.Common.{length-set}
-use Rattle.fx_counted.proofs.Frames.{owner_same}
-use Rattle.fx_counted.proofs.Histories.{grows_none}
-use Rattle.fx_counted.proofs.Keeping.{Turn, turn_of, word_at, now, its_log, Step, step_kept, by_turn, Made}
-use Rattle.fx_counted.proofs.NodeSteps.{near, far}
-use Rattle.fx_counted.proofs.Unchanged.{slot_same, control_same}
-use Rattle.fx_counted.proofs.Ones.{one_if, times, bit_here, once_is, once_more}
 use Rattle.std.proofs.lemmas.List.Sums.{count_by-le-length}
 
 abbrev pick : {P : Type 0} → Dec P → Phase → Phase → Phase
@@ -203,12 +199,14 @@ module _ (turn : Turn) where
 
       phases : (n : ℕ) → (r.phase n ≡ phase' n) ⊎ ((r.phase n ≡ unborn) × (phase' n ≡ spare x.number))
       phases n = ⊎_elim (λ t. inr (
-        d.unused n (omega (arith, t.0, given_numbers)) (let all : v.start.numbers * (found + 1) ≤ v.start.numbers * v.start.chains = mul-le-mul_left v.start.numbers (omega arith) in
-        omega (arith, t.1, all)),
+        d.unused n (omega (arith, t.0, given_numbers))
+            (let all : v.start.numbers * (found + 1) ≤ v.start.numbers * v.start.chains = mul-le-mul_left v.start.numbers (omega arith) in
+            omega (arith, t.1, all)),
         t.2,
       )) (λ t. inl (sym t.1)) (given_either lo hi x.number r.phase n)
 
-      counts : DrawsCount v.start.chains v.start.numbers phase' (set st.views id (w ((found + 1) ∷ x.drawn) x.no_chains_left v.start.numbers phase')) (found + 1)
+      counts : DrawsCount v.start.chains v.start.numbers phase' (set st.views id (w ((found + 1) ∷ x.drawn) x.no_chains_left v.start.numbers phase'))
+          (found + 1)
       counts = let w = w ((found + 1) ∷ x.drawn) x.no_chains_left v.start.numbers phase' in let t = sum_set told_of st.views id v w here in
           let tv = told_v in let z = nobody_told in let g = given_is in record {
             given = found + 1;
@@ -228,7 +226,8 @@ module _ (turn : Turn) where
           (draw_step _ _ _ phase' idle phases (omega arith) r.shape.numbers (omega (arith, one_more))
           (λ n low high. given_in lo hi x.number r.phase n (omega (arith, low, one_more)) high) counts) carried slots
           (let g = given_is in let c = chain_few in
-          subst (λ (c : Option ℕ). Draws (opening_of v.start) (shown x v.work) c (shown (y ((found + 1) ∷ x.drawn) x.no_chains_left v.start.numbers phase') v.work))
+          subst (λ (c : Option ℕ). Draws (opening_of v.start) (shown x v.work) c
+          (shown (y ((found + 1) ∷ x.drawn) x.no_chains_left v.start.numbers phase') v.work))
           (sym (ap (λ (b : Bool). cond b (Some (found + 1)) None) (lt-ltb found v.start.chains more))) (untold, omega arith, omega arith, refl))
 
     -- there are no more

@@ -5,16 +5,15 @@ use Rattle.fx_counted.proofs.Words.{one_number, range_of, event_of, takes_in, sl
 use Rattle.fx_counted.proofs.Words.{OwnerAgrees, WorkAgrees, PlacesNext, Agrees, if_full, looks, word_of, place_of, slot_place, opening_of, slots_of}
 use Rattle.fx_counted.proofs.Words.{IsNumber, state_after_all, shown, next_in, held_in, placing, holding, Phase, unborn, spare, placed, seated, owner}
 use Rattle.fx_counted.proofs.Words.{file_in, IsInside, Stepped, retires_now, turned, View, Idle, Placing, Change, keeps, stepped}
+use Rattle.fx_counted.proofs.Steps.{busy, stays_same, owner_stays, grows_one, part_mine, change_here, change_else, same_shape, Turn, Homes, word_at}
+use Rattle.fx_counted.proofs.Steps.{now, logged, its_log, its_work, tells, went, tells_one, node_same}
 use Rattle.std.proofs.Common.{length-set}
 use Rattle.fx_counted.proofs.Births.{in_phase, roomy, else_place, unheld}
-use Rattle.fx_counted.proofs.Frames.{busy, stays_same, owner_stays}
 use Rattle.fx_counted.proofs.FullSlots.{Stands, control_swap}
-use Rattle.fx_counted.proofs.Histories.{grows_one, part_mine, change_here, change_else, same_shape}
-use Rattle.fx_counted.proofs.Keeping.{Turn, Homes, word_at, now, logged, its_log, its_work, tells, went, tells_one}
 use Rattle.fx_counted.proofs.Swaps.{NotOf, Effect, h', removed_else, found, state, so, seat_of, not_old, elsewhere, w, Swap, swap_agrees}
-use Rattle.fx_counted.proofs.Unchanged.{node_same}
 
-module _ (turn : Turn) (s : ℕ) (inside : s < slots_of turn.v.start) (stands : Stands (range_of (opening_of turn.v.start)) s turn.v.change) (old : Option File) (was : (state_after_all turn.v.start turn.r.history).at s ≡ old) where
+module _ (turn : Turn) (s : ℕ) (inside : s < slots_of turn.v.start) (stands : Stands (range_of (opening_of turn.v.start)) s turn.v.change)
+    (old : Option File) (was : (state_after_all turn.v.start turn.r.history).at s ≡ old) where
   open turn use {st, v, r, id, x, here, one}
 
   abbrev f₀ : ℕ
@@ -72,12 +71,12 @@ module _ (turn : Turn) (s : ℕ) (inside : s < slots_of turn.v.start) (stands : 
     removed_view = went turn (event_of (shown x v.work) a ∷ r.history) (retires_now old (takes_in f₀)) (turned v.change (if_full old) 0)
 
     pub removal_agrees : Agrees v.start (stepped st (slot_place s) 0 id [] removed_view keeps)
-    removal_agrees = swap_agrees turn s inside old was a 0 None st.homes r.phase x.numbers_left
-        (turned v.change (if_full old) 0) removal
+    removal_agrees = swap_agrees turn s inside old was a 0 None st.homes r.phase x.numbers_left (turned v.change (if_full old) 0) removal
 
     pub removal_tells : (carried : List (ℕ × Option Closed))
         → Stepped (v, carried) ([] ▷ a) no_use (retires_now old (takes_in f₀)) (turned v.change (if_full old) 0) (removed_view, carried)
-    removal_tells carried = tells_one turn a does.legal carried carried (retires_now old (takes_in f₀)) (turned v.change (if_full old) 0) (inside_now old refl)
+    removal_tells carried = tells_one turn a does.legal carried carried (retires_now old (takes_in f₀)) (turned v.change (if_full old) 0)
+        (inside_now old refl)
 
   -- an installation
   module _ (n : ℕ) (file : Closed) (works : v.work ≡ Placing n) (small : file.entry < 2 ^ 8) (a : Action)
@@ -135,8 +134,7 @@ module _ (turn : Turn) (s : ℕ) (inside : s < slots_of turn.v.start) (stands : 
         ∙ change_else s₀.at s (Some (numbered n file)) i
         (elsewhere turn s inside old was m i g apart there)) (r.each_node m has)
 
-    installation : Swap turn s inside old was a (slot_word_of n file.entry)
-        (Some (numbered n file)) homes' phase₁ (x.numbers_left - 1) c
+    installation : Swap turn s inside old was a (slot_word_of n file.entry) (Some (numbered n file)) homes' phase₁ (x.numbers_left - 1) c
     installation = let o = its_log turn in record {
       fresh = changed_at s₀.fresh n false;
       does = does;

@@ -6,12 +6,11 @@ use Rattle.fx_counted.proofs.Words.{sum_at, sum_le_at, one_change, full_word_of,
 use Rattle.fx_counted.proofs.Words.{changes_of, added_of, removed_of, full_in, ControlCounts, word_of, control_place, draw_place, slot_place}
 use Rattle.fx_counted.proofs.Words.{opening_of, state_after_all, shown, IsInside, Stepped, GoesOn, Answers, Change, Outside, Same, Log, Start, View}
 use Rattle.fx_counted.proofs.Words.{Work, Idle, Phase, Shared, BeginsKeep, EndsKeep, AnswersKeep}
+use Rattle.fx_counted.proofs.Steps.{IsHistory, grows_one, legal_more, held_mine, same_shape, Turn, turn_of, word_at, its_work, by_turn, went}
+use Rattle.fx_counted.proofs.Steps.{tells_none, tells_one, near, far}
 use Rattle.std.proofs.Common.{length-set}
 use Rattle.fx_counted.proofs.Calm.{Quiet, no_event, calm_agrees}
 use Rattle.fx_counted.proofs.FullSlots.{full_few, full_all}
-use Rattle.fx_counted.proofs.Histories.{IsHistory, grows_one, legal_more, held_mine, same_shape}
-use Rattle.fx_counted.proofs.Keeping.{Turn, turn_of, word_at, its_work, by_turn, went, tells_none, tells_one}
-use Rattle.fx_counted.proofs.NodeSteps.{near, far}
 use Rattle.fx_counted.proofs.Retirements.{sub_wraps}
 
 -- what one of them adds to the gap between two totals
@@ -98,7 +97,8 @@ module _ (turn : Turn) where
       slots = λ s. read_else (slot_place s) (apart.slot_and_control s);
       nodes = λ n has. read_else (word_of v.start n) (apart.node_and_control n has);
       drawn = read_else draw_place (λ same. apart.control_and_draw (sym same));
-      control = subst (ControlCounts at_now range (set st.views id (went turn h' v.work c))) (sym (get_or-set_same st.words control_place y 0 wide)) control;
+      control = subst (ControlCounts at_now range (set st.views id (went turn h' v.work c)))
+          (sym (get_or-set_same st.words control_place y 0 wide)) control;
     }
 
   abbrev e : Event
@@ -121,8 +121,7 @@ module _ (turn : Turn) where
     held = held_mine x.number e r.history refl;
   }
 
-  pub goes_on : (c : Change) (carried : List (ℕ × Option Closed))
-      → Stepped (v, carried) [] no_use v.work c (went turn r.history v.work c, carried)
+  pub goes_on : (c : Change) (carried : List (ℕ × Option Closed)) → Stepped (v, carried) [] no_use v.work c (went turn r.history v.work c, carried)
   goes_on c carried = tells_none turn carried carried v.work c its_inside
 
   module _ (fits : word < 18446744073709551616) where
@@ -184,7 +183,8 @@ pub answers_keep : AnswersKeep
 answers_keep k slots id i m x has same place = by_turn k slots id i m x (λ _. Unit {0}) (λ _. control_place)
     (λ word. (word + (2 ^ 64 - one_change)) % 2 ^ 64) (λ i. Answers (step slots i one_change 0 none) m) has tt place
     (λ st r here _ fits. let turn = turn_of m x has.1 id st r here in
-    let counts = λ (h' : List Event). ended turn fits h' one_change (ap in_change same) (let a = ap added same in let b = ap removed_by same in omega arith) in
+    let counts = λ (h' : List Event). ended turn fits h' one_change (ap in_change same)
+    (let a = ap added same in let b = ap removed_by same in omega arith) in
     dite (ℕ_discrete (word turn) (full_word_of (range turn).1))
     (λ says. let each = says_so turn fits same says in (
       went turn (e turn ∷ r.history) m.0.work Outside,

@@ -87,8 +87,7 @@ outside_step st _ slot l may none = none
 
 outside : (k : Start) (h : List Event) → AllowsAll (start_of (opening_of k)) (map action_of h) → (slot : ℕ) → slots_of k ≤ slot
     → (state_after_all k h).at slot ≡ None
-outside k [] may slot l =
-    ap (λ (o : Option ℕ). file_numbered (file_at k.plain.value.nodes o) slot) (get_or-eq_default k.plain.value.slots None l)
+outside k [] may slot l = ap (λ (o : Option ℕ). file_numbered (file_at k.plain.value.nodes o) slot) (get_or-eq_default k.plain.value.slots None l)
 outside k (e ∷ h) may slot l = let size = (same_shape k h).0 in
     outside_step (state_after_all k h) e.action slot (omega arith) may.1 (outside k h may.0 slot l)
 
@@ -160,8 +159,7 @@ module _ (k : Start) (s : Shared) (r : Agrees k s) (all_idle : (i : ℕ) (u : Vi
 
   seat_at : (slot : ℕ) → slot < slots_of k → (f : File) → end.at slot ≡ Some f
       → IsSeated k (looks r.history) r.phase slot (word_at s.words (slot_place slot)) (Some f)
-  seat_at slot l f there =
-      subst (IsSeated k (looks r.history) r.phase slot (word_at s.words (slot_place slot))) there (r.each_slot slot l).seat
+  seat_at slot l f there = subst (IsSeated k (looks r.history) r.phase slot (word_at s.words (slot_place slot))) there (r.each_slot slot l).seat
 
   -- the file at a slot lies in the place of its number
   pub file_home : (slot : ℕ) (f : File) → slot < slots_of k → end.at slot ≡ Some f

@@ -44,8 +44,7 @@ module _ (id : TableId) (k : Start) where
       (λ i. (
         q,
         contains_head q ps,
-        contains_only (log_of q) x
-            (subst (λ (l : List Log). Contains l x) (its_log q (f q (contains_head q ps))) i),
+        contains_only (log_of q) x (subst (λ (l : List Log). Contains l x) (its_log q (f q (contains_head q ps))) i),
       ))
       (λ i. let r = log_from ps x (λ z j. f z (contains_tail q ps z j)) i in (r.0, contains_tail q ps r.0 r.1, r.2))
       (Contains-append_cases q.seat.me.0.logs (logs_in ps) x h)

@@ -137,8 +137,7 @@ out_and_home m m' m'' xs f out home = subst (λ (c : Change). Goes m (xs ▷ Clo
 
 -- a pass outside a change that has done with its file
 pub let_go : (m m' : Sat) (xs : List Action) → m.0.change ≡ Outside → LetsGo m xs m' → Goes m xs no_use Idle Outside 1 m'
-let_go m m' xs outside went = subst (λ (c : Change). Goes m xs no_use Idle c 1 m') outside
-    (goes_one m m' xs no_use Idle m.0.change went.stepped)
+let_go m m' xs outside went = subst (λ (c : Change). Goes m xs no_use Idle c 1 m') outside (goes_one m m' xs no_use Idle m.0.change went.stepped)
 
 -- a pass is still at work behind some steps
 pub still_at_work : (k : Start) (m m' : Sat) (x : Log) (xs : List Action) (a : Use) (w : Work) (c : Change) (n : ℕ) → HasPass k m x

@@ -158,8 +158,7 @@ module _ (turn : Turn) where
       holds = λ n. let t = sum_set (held_of n) st.views id v (now v y d c) here in let a = r.holds n in let b = s.holds n in omega arith;
       look_ups = let t = sum_set looks_of st.views id v (now v y d c) here in let a = r.look_ups in
           let b = s.look_ups in let e = one_total (λ z. z.looks_left) in omega arith;
-      passes = λ p. total_same (λ z. one_if (eqb z.number p))
-          (ap (λ (q : ℕ). one_if (eqb q p)) s.number) ∙ r.passes p;
+      passes = λ p. total_same (λ z. one_if (eqb z.number p)) (ap (λ (q : ℕ). one_if (eqb q p)) s.number) ∙ r.passes p;
       whole = let t = sum_set lengths st.views id v (now v y d c) here in let e = ap (length {A = Log}) one in let a = r.whole in omega arith;
       authors = λ p none. let t = r.passes p in let u = total_its p in
           s.grows.parts p (λ same. let a = its_one p same in omega arith) ∙ r.authors p none;

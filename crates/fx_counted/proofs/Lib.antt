@@ -7,6 +7,7 @@ pub mod Frames
 pub mod Keeping
 pub mod Unchanged
 pub mod NodeSteps
+pub mod Steps
 pub mod Births
 pub mod Retirements
 pub mod Releases

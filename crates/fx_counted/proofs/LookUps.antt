@@ -5,14 +5,11 @@ use Rattle.fx_counted.proofs.Words.{event_of, name_in, entry_in, takes_in, Names
 use Rattle.fx_counted.proofs.Words.{full_in, word_of, place_of, slot_place, control_place, opening_of, slots_of, IsNumber, state_after_all, shown}
 use Rattle.fx_counted.proofs.Words.{held_in, placing, held_of, holding, Phase, seated, file_in, Stepped, IsInside, Log, View, Idle, eqb, one_look}
 use Rattle.fx_counted.proofs.Words.{name_more, entry_more, takes_more, LooksKeep, Looks, holds_now}
+use Rattle.fx_counted.proofs.Steps.{busy, stays_same, owner_stays, IsHistory, grows_one, legal_more, held_mine, part_mine, change_else, same_shape}
+use Rattle.fx_counted.proofs.Steps.{Turn, turn_of, word_at, now, logged, its_log, tells, by_turn, Made, log_now, far, one_if, bit_here, one_more_at}
+use Rattle.fx_counted.proofs.Steps.{node_same, control_same}
 use Rattle.fx_counted.specs.Agrees.{IsSeated}
-use Rattle.fx_counted.proofs.Frames.{busy, stays_same, owner_stays}
-use Rattle.fx_counted.proofs.Histories.{IsHistory, grows_one, legal_more, held_mine, part_mine, change_else, same_shape}
-use Rattle.fx_counted.proofs.Keeping.{Turn, turn_of, word_at, now, logged, its_log, tells, by_turn, Made, log_now}
-use Rattle.fx_counted.proofs.NodeSteps.{far}
-use Rattle.fx_counted.proofs.Ones.{one_if, bit_here, one_more_at}
 use Rattle.fx_counted.proofs.SlotSteps.{SlotStep, slot_agrees}
-use Rattle.fx_counted.proofs.Unchanged.{node_same, control_same}
 
 pub add_one : (n : ℕ) → takes_in n + 1 < 4294967296 → n < 18446744073709551616 → (n + 1) % 2 ^ 64 ≡ n + 1
 add_one n low fits = omega arith
@@ -169,8 +166,7 @@ module _ (turn : Turn) (idle : turn.v.work ≡ Idle) (some_left : 0 < turn.x.loo
             names = subst (Names word') (sym is) (names_now (Some f) (subst (Names found) is so.names));
             seat = subst (IsSeated v.start (looks h₁) r.phase s word') (sym is) (
               seat.0,
-              takes_now
-                  ∙ (let a = seat.1 in let b = looks_now q in let e = bit_here q q refl in omega arith),
+              takes_now ∙ (let a = seat.1 in let b = looks_now q in let e = bit_here q q refl in omega arith),
               seat.2,
             );
             takes = let a = so.takes in let b = takes_now in omega arith;
@@ -181,7 +177,8 @@ module _ (turn : Turn) (idle : turn.v.work ≡ Idle) (some_left : 0 < turn.x.loo
           holds_now_is
 
     either : (file : Option File) (is : old.at s ≡ file)
-        → Agrees v.start record { words = set st.words (slot_place s) word'; homes = st.homes; views = set st.views id (w file is) } × IsInside v.start (holds_now file)
+        → Agrees v.start record { words = set st.words (slot_place s) word'; homes = st.homes; views = set st.views id (w file is) }
+        × IsInside v.start (holds_now file)
     either None is = (missed is, tt)
     either (Some f) is = (hit f is, (seat f is).0)
 

@@ -28,7 +28,8 @@ length_new p (suc n) = let a = length_new (suc p) n in omega arith
 
 none_new : (f : Log → ℕ) → ((p : ℕ) → f (new_log p) ≡ 0) → (p n : ℕ) → sum_by f (new_logs p n) ≡ 0
 none_new f none p zero = refl
-none_new f none p (suc n) = let a = none_new f none (suc p) n in let b = sum_by-cons f (new_log p) (new_logs (suc p) n) in let c = none p in omega arith
+none_new f none p (suc n) = let a = none_new f none (suc p) n in let b = sum_by-cons f (new_log p)
+    (new_logs (suc p) n) in let c = none p in omega arith
 
 abbrev counted : ℕ → ℕ → ℕ → ℕ
 counted q p n = sum_by (λ (y : Log). one_if (eqb y.number q)) (new_logs p n)

@@ -4,14 +4,12 @@ use Rattle.fx_counted.proofs.Words.{dite, some, none, ℕ_discrete, keeps, takes
 use Rattle.fx_counted.proofs.Words.{Event, Release, Close, no_use, event_of, sum_at, sum_two, NodeAgrees, WorkAgrees, looks, word_of, place_of}
 use Rattle.fx_counted.proofs.Words.{IsNumber, state_after_all, shown, held_in, placing, held_of, holding, Phase, seated, leaving, retired, emptied}
 use Rattle.fx_counted.proofs.Words.{file_in, LetsGo, TakesOut, Idle, Holding, Emptying, eqb, ReleasesKeep, Releases, inr, inl}
+use Rattle.fx_counted.proofs.Steps.{busy, does_now, owner_stays, IsHistory, grows_one, grows_more, legal_more, held_mine, part_mine, change_here}
+use Rattle.fx_counted.proofs.Steps.{change_else, Turn, turn_of, its_log, its_work, tells, by_turn, Made, went, tells_one, NodeStep, node_agrees}
+use Rattle.fx_counted.proofs.Steps.{one_if, one_less_at}
 use Rattle.std.proofs.Common.{length-set}
 use Rattle.fx_counted.proofs.Births.{in_phase, word_now, home_now, roomy, else_place}
 use Rattle.fx_counted.proofs.Retirements.{sub_wraps, holding_it, few_looks, its_hold, spares_stay}
-use Rattle.fx_counted.proofs.Frames.{busy, does_now, owner_stays}
-use Rattle.fx_counted.proofs.Histories.{IsHistory, grows_one, grows_more, legal_more, held_mine, part_mine, change_here, change_else}
-use Rattle.fx_counted.proofs.Keeping.{Turn, turn_of, its_log, its_work, tells, by_turn, Made, went, tells_one}
-use Rattle.fx_counted.proofs.NodeSteps.{NodeStep, node_agrees}
-use Rattle.fx_counted.proofs.Ones.{one_if, one_less_at}
 
 module _ (turn : Turn) (f : File) (works : turn.v.work ≡ Holding f) where
   open turn use {st, v, r, id, x, here, one}
@@ -107,8 +105,7 @@ module _ (turn : Turn) (f : File) (works : turn.v.work ≡ Holding f) where
     keeps = λ j u g other there holds same. refl;
     free = λ m other. not_busy m;
     node = still fits more (r.phase q) refl mine.1;
-    known = owner_stays st.views id v (went turn h₁ Idle v.change) here q
-        (not_busy q) (r.phase q) (r.each_owner q mine.0);
+    known = owner_stays st.views id v (went turn h₁ Idle v.change) here q (not_busy q) (r.phase q) (r.each_owner q mine.0);
     held = held_mine x.number freeing r.history refl;
     next = tt;
     spares = λ m low high. let p = ap placing works in
@@ -145,8 +142,7 @@ module _ (turn : Turn) (f : File) (works : turn.v.work ≡ Holding f) where
             holds = other_holds;
           };
           homes = length-set st.homes (place_of v.start q) none;
-          home_else = λ m has other. set_else st.homes (place_of v.start q) (place_of v.start m) none
-              (else_place turn q mine.0 m has other);
+          home_else = λ m has other. set_else st.homes (place_of v.start q) (place_of v.start m) none (else_place turn q mine.0 m has other);
           may = inr (inr (inr (f.identity, l.phase)));
           keeps = λ j u g other there holds same. absurd
               (let a = its_hold turn j u g q there holds same in let b = its_one in
@@ -172,7 +168,8 @@ module _ (turn : Turn) (f : File) (works : turn.v.work ≡ Holding f) where
   holding_same f g e = cc e
 
   releases_either : (slots : ℕ) (carried : List (ℕ × Option Closed)) → word < 18446744073709551616
-      → Made turn carried (word_of v.start q) (λ word. (word + (2 ^ 64 - 1)) % 2 ^ 64) (Releases (step slots (word_of v.start q) 1 0 none) (v, carried))
+      → Made turn carried (word_of v.start q) (λ word. (word + (2 ^ 64 - 1)) % 2 ^ 64)
+      (Releases (step slots (word_of v.start q) 1 0 none) (v, carried))
   releases_either slots carried fits = dite (ℕ_discrete word 1)
       (λ is. let l = last is (r.phase q) refl mine.1 in (
         went turn h₂ (Emptying q) v.change,

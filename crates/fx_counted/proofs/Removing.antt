@@ -9,7 +9,8 @@ use Rattle.fx_counted.proofs.Calling.{slot_at}
 use Rattle.fx_counted.proofs.Going.{adds_so, goes_around}
 
 -- a removal between a begin and an end, if there are such
-pub removal_adds : (act : ℕ → Option File → Action) (t : CountedTable) (p : CountedPass) (fits : IsPassOfTable t p) (slot i takes : ℕ) (file : Option File)
+pub removal_adds : (act : ℕ → Option File → Action) (t : CountedTable) (p : CountedPass) (fits : IsPassOfTable t p) (slot i takes : ℕ)
+    (file : Option File)
     (m m' m'' : Sat) (c c' : Change) → i ≡ slot_place slot → Goes p.seat.me [] no_use p.seat.me.0.work c 1 m
     → Stepped m ([] ▷ act (slot_of i) file) no_use (retires_now file takes) c' m' → Goes m' [] no_use m'.0.work Outside 1 m''
     → Adds (opening_of_table t) (view_of p) ([] ▷ act slot file) (doing_in (retires_now file takes)) no_use (pass_of m''.0)

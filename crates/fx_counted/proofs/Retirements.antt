@@ -5,13 +5,11 @@ use Rattle.fx_counted.proofs.Words.{changed_at, File, Event, Close, event_of, su
 use Rattle.fx_counted.proofs.Words.{word_of, place_of, IsNumber, state_after_all, shown, end_in, next_in, held_in, placing, held_of, holding, Phase}
 use Rattle.fx_counted.proofs.Words.{spare, leaving, retired, emptied, owner, file_in, TakesOut, View, Idle, Holding, Retiring, Emptying, RetiresKeep}
 use Rattle.fx_counted.proofs.Words.{Retires, inr, inl}
+use Rattle.fx_counted.proofs.Steps.{busy, does_now, IsHistory, grows_none, grows_one, legal_more, held_mine, change_here, change_else, looks_few}
+use Rattle.fx_counted.proofs.Steps.{Turn, turn_of, its_log, its_work, by_turn, Made, went, tells_none, tells_one, one_same, NodeStep, node_agrees}
 use Rattle.std.proofs.Common.{length-set}
 use Rattle.atomic_table.specs.Table.{Allows}
 use Rattle.fx_counted.proofs.Births.{in_phase, word_now, home_now, roomy, else_place}
-use Rattle.fx_counted.proofs.Frames.{busy, does_now}
-use Rattle.fx_counted.proofs.Histories.{IsHistory, grows_none, grows_one, legal_more, held_mine, change_here, change_else, looks_few}
-use Rattle.fx_counted.proofs.Keeping.{Turn, turn_of, its_log, its_work, by_turn, Made, went, tells_none, tells_one}
-use Rattle.fx_counted.proofs.NodeSteps.{one_same, NodeStep, node_agrees}
 
 pub sub_wraps : (n k : ℕ) → k ≤ n → n < 18446744073709551616 → 0 < k → (n + (2 ^ 64 - k)) % 2 ^ 64 ≡ n - k
 sub_wraps n k le fits more = omega arith
@@ -43,8 +41,7 @@ module _ (turn : Turn) where
     mine : IsNumber v.start q × (r.phase q ≡ leaving id t f.identity)
     mine = subst (WorkAgrees v.start r.phase id) works (its_work turn)
 
-    node : NodeAgrees (state_after_all v.start r.history) q (looks r.history q) (word_now turn q)
-        (home_now turn q) (leaving id t f.identity)
+    node : NodeAgrees (state_after_all v.start r.history) q (looks r.history q) (word_now turn q) (home_now turn q) (leaving id t f.identity)
     node = in_phase turn q mine.0 (leaving id t f.identity) mine.1
 
     abbrev word : ℕ
@@ -61,8 +58,7 @@ module _ (turn : Turn) where
     keeps_spares ph' n low high = let o = its_log turn in let p = ap placing works in
         spares_stay q (leaving id t f.identity) ph' x.number mine.1 (λ z bad. cc bad) n (o.spares n (omega arith) high)
 
-    waits : word < 18446744073709551616 → word ≢ retire_amount_of t
-        → NodeStep turn q mine.0 left st.homes r.history (retired f.identity) Idle
+    waits : word < 18446744073709551616 → word ≢ retire_amount_of t → NodeStep turn q mine.0 left st.homes r.history (retired f.identity) Idle
     waits fits more = let n = node in let c = few_looks q in let e = left_is fits in let o = its_log turn in record {
       grows = grows_none x.number r.history;
       legal = r.legal;
@@ -107,8 +103,7 @@ module _ (turn : Turn) where
             holds = λ m other. refl;
           };
           homes = length-set st.homes (place_of v.start q) none;
-          home_else = λ m has other. set_else st.homes (place_of v.start q) (place_of v.start m) none
-              (else_place turn q mine.0 m has other);
+          home_else = λ m has other. set_else st.homes (place_of v.start q) (place_of v.start m) none (else_place turn q mine.0 m has other);
           may = inr (inl (ap owner mine.1));
           keeps = λ j u g other there holds same. absurd (let a = its_hold j u g q there holds same in
               let b = sum_at (held_of q) st.views j u there in let h = r.holds q in omega arith);
@@ -135,8 +130,7 @@ module _ (turn : Turn) where
           went turn (closing ∷ r.history) (Emptying q) v.change,
           takes (place_of v.start q) (Some f.identity),
           node.1,
-          node_agrees turn q mine.0 left (set st.homes (place_of v.start q) none)
-              (closing ∷ r.history) (emptied id) (Emptying q) (closes fits is),
+          node_agrees turn q mine.0 left (set st.homes (place_of v.start q) none) (closing ∷ r.history) (emptied id) (Emptying q) (closes fits is),
           record {
             waits = λ g u _ not_so. absurd (not_so is);
             closes = λ g u its _. let same : f ≡ g = retiring_same f g t u (sym works ∙ its) in

@@ -6,13 +6,11 @@ use Rattle.fx_counted.proofs.Words.{IsPlacing, HasFoundAllFull}
 use Rattle.fx_counted.proofs.Going.{goes_one, goes_then, still_at_work}
 
 -- a step that leaves the pass at its work
-pub one_still : (m m' : Sat) (n : ℕ) (c : Change) → m.0.work ≡ Placing n → Stepped m [] no_use m.0.work c m' → m'.1 ≡ m.1
-    → StillPlaces n c m m'
+pub one_still : (m m' : Sat) (n : ℕ) (c : Change) → m.0.work ≡ Placing n → Stepped m [] no_use m.0.work c m' → m'.1 ≡ m.1 → StillPlaces n c m m'
 one_still m m' n c work s same = (
   (
     1,
-    goes_one m m' [] no_use (Placing n) c
-        (subst (λ (w : Work). Stepped m [] no_use w c m') work s),
+    goes_one m m' [] no_use (Placing n) c (subst (λ (w : Work). Stepped m [] no_use w c m') work s),
   ),
   same,
 )
@@ -88,8 +86,7 @@ pub answered_full : (m m' m'' : Sat) (n : ℕ) → StillPlaces n Same m m' → S
 answered_full m m' m'' n still s same = full_then m m' m'' n Same still (
   (
     1,
-    goes_one m' m'' ([] ▷ Full) no_use (Placing n) Outside
-        (subst (λ (w : Work). Stepped m' ([] ▷ Full) no_use w Outside m'') still.0.1.work s),
+    goes_one m' m'' ([] ▷ Full) no_use (Placing n) Outside (subst (λ (w : Work). Stepped m' ([] ▷ Full) no_use w Outside m'') still.0.1.work s),
   ),
   same,
 )

@@ -129,7 +129,8 @@ module _ (k : Start) (id : ℕ) (v : View) (idle : v.work ≡ Idle) (out : v.cha
   split_agrees : Agrees k record { words = s.words; homes = s.homes; views = parts }
   split_agrees = seated_anew k s r parts (λ n j d is o. does_stays j d n is o)
       (at_parts (ViewAgrees k r.history r.phase)
-      (λ j. part_view k r.history r.phase j (without_first v) idle out (λ i y e. (id, its (suc i) y (at_rest v.logs i y e))) (start_of_part rest_of refl))
+      (λ j. part_view k r.history r.phase j (without_first v) idle out (λ i y e. (id, its (suc i) y (at_rest v.logs i y e)))
+      (start_of_part rest_of refl))
       (λ j. part_view k r.history r.phase j (first_alone v) idle out (λ i y e. (id, its i y (at_first v.logs i y e))) (start_of_part first_of refl))
       (λ j u other there. r.each_view j u there))
       (counts (length {A = Log}) (λ y m. omega arith) refl)

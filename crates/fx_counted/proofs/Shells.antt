@@ -41,8 +41,7 @@ file_put a b slot file settled is = subst (Becomes a slot (Some file)) (sym is) 
 }
 
 none_came : (st : State) (slot : ℕ) → st.at slot ≡ None → IsSettled st → Becomes st slot None st
-none_came st slot none settled =
-    record { size = refl; range = refl; there = ap identity_of none; others = λ other ne. refl; settled = settled }
+none_came st slot none settled = record { size = refl; range = refl; there = ap identity_of none; others = λ other ne. refl; settled = settled }
 
 -- between these slots the files are still away
 pub record IsPartlyBack (shell : State) (file : ℕ → Option Closed) (from to : ℕ) (st : State) : Type 0 where

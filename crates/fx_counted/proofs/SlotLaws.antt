@@ -6,6 +6,7 @@ use Rattle.fx_counted.proofs.Words.{Agrees, if_full, HasPass, MayChange, place_o
 use Rattle.fx_counted.proofs.Words.{Stepped, Exchanges, GoesOn, retires_now, turned, Change, Same, Log, Start, View, Work, Idle, Placing, placed}
 use Rattle.fx_counted.proofs.Words.{event_of, shown, set-get_or, exchanged, ClearsKeep, TakesKeep, InstallsKeep, LoadsKeep, ExchangesKeep, Installs}
 use Rattle.fx_counted.proofs.Words.{Removes}
+use Rattle.fx_counted.proofs.Steps.{legal_more, same_shape, Turn, turn_of, word_at, now, logged, its_work, by_turn, went, Made, far, control_same}
 use prog.Atomic.{either}
 use Rattle.atomic_table.specs.Table.{Allows}
 use Rattle.fx_counted.proofs.Births.{in_phase}
@@ -13,11 +14,7 @@ use Rattle.fx_counted.proofs.Calm.{no_event, calm_agrees}
 use Rattle.fx_counted.proofs.Changes.{in_size, names_old, removal_agrees, removal_tells, installation_agrees, installation_tells, removed_view}
 use Rattle.fx_counted.proofs.Changes.{installed_view}
 use Rattle.fx_counted.proofs.ControlSteps.{goes_on}
-use Rattle.fx_counted.proofs.Histories.{legal_more, same_shape}
-use Rattle.fx_counted.proofs.Keeping.{Turn, turn_of, word_at, now, logged, its_work, by_turn, went, Made}
-use Rattle.fx_counted.proofs.NodeSteps.{far}
 use Rattle.fx_counted.proofs.Swaps.{Effect}
-use Rattle.fx_counted.proofs.Unchanged.{control_same}
 
 placing_same : (n m : ℕ) → Placing n ≡ Placing m → n ≡ m
 placing_same n m e = cc e
@@ -53,8 +50,7 @@ module _ (turn : Turn) (s : ℕ) (inside : s < slots_of turn.v.start) where
     taken = let legal = legal_more v.start r.history (event_of (shown x v.work) (Take s old)) r.legal (in_range, refl) tt in
         record { legal = legal; state = refl; looked = refl; all = omega arith; held = refl }
 
-    put : (n : ℕ) (file : Closed) → v.work ≡ Placing n
-        → Facts (Put s (numbered n file) old) (Some (numbered n file))
+    put : (n : ℕ) (file : Closed) → v.work ≡ Placing n → Facts (Put s (numbered n file) old) (Some (numbered n file))
         (changed_at (state_after_all v.start r.history).fresh n false)
     put n file works = let its = subst (WorkAgrees v.start r.phase id) works (its_work turn) in
         let o = in_phase turn n its.0 (placed id) its.1 in
@@ -197,8 +193,7 @@ module _ (turn : Turn) (slots s n old_word : ℕ) (file : Closed) (carried : Lis
     abbrev a : Action
     a = Allocate s (numbered n file)
 
-    allocated : Effect turn s within None at_none a (Some (numbered n file))
-        (changed_at (state_after_all v.start r.history).fresh n false)
+    allocated : Effect turn s within None at_none a (Some (numbered n file)) (changed_at (state_after_all v.start r.history).fresh n false)
     allocated = let its = subst (WorkAgrees v.start r.phase id) works (its_work turn) in
         let o = in_phase turn n its.0 (placed id) its.1 in
         let z = (same_shape v.start r.history).1 in let p = ap (λ (p : ℕ × ℕ). p.0) z in let q = ap (λ (p : ℕ × ℕ). p.1) z in
@@ -207,8 +202,7 @@ module _ (turn : Turn) (slots s n old_word : ℕ) (file : Closed) (carried : Lis
         record { legal = legal; state = refl; looked = refl; all = omega arith; held = refl }
 
     abbrev w : View
-    w = now v (logged x (event_of (shown x v.work) a ∷ r.history)
-        (x.numbers_left - 1) x.looks_left) Idle (turned v.change 0 1)
+    w = now v (logged x (event_of (shown x v.work) a ∷ r.history) (x.numbers_left - 1) x.looks_left) Idle (turned v.change 0 1)
 
     won : Goal new
     won = (
@@ -234,10 +228,12 @@ module _ (turn : Turn) (slots s n old_word : ℕ) (file : Closed) (carried : Lis
 
 pub exchanges_keep : ExchangesKeep
 exchanges_keep k slots id i s n old new file m x has works carries small same low high place empty made = by_turn k slots id i m x
-    (λ k. (m.1 ≡ (place_of k n, Some file) ∷ []) × ((range_of (opening_of k)).0 ≤ s) × (s < (range_of (opening_of k)).0 + (range_of (opening_of k)).1))
+    (λ k. (m.1 ≡ (place_of k n, Some file) ∷ []) × ((range_of (opening_of k)).0 ≤ s) ×
+    (s < (range_of (opening_of k)).0 + (range_of (opening_of k)).1))
     (λ _. slot_place s) (λ word. either (eqb word old) new word) (λ i. Exchanges (step slots i old new none) m) has (carries, low, high) place
     (λ st r here is fits. let turn = turn_of m x has.1 id st r here in
-    subst (λ (z : ℕ). Made turn m.1 (slot_place s) (λ word. either (eqb word old) z word) (Exchanges (step slots (slot_place s) old z none) m)) (sym made)
+    subst (λ (z : ℕ). Made turn m.1 (slot_place s) (λ word. either (eqb word old) z word) (Exchanges (step slots (slot_place s) old z none) m))
+    (sym made)
     (exchanged (word_at st.words (slot_place s)) old (slot_word_of n file.entry)
     (Goal turn slots s n old file m.1 works is.0 small same is.1 is.2 empty)
     (won turn slots s n old file m.1 works is.0 small same is.1 is.2 empty)

@@ -4,14 +4,12 @@ use Rattle.fx_counted.proofs.Words.{get_or-set_same, None, dite, some, ℕ_discr
 use Rattle.fx_counted.proofs.Words.{WorkAgrees, LogAgrees, Agrees, ControlCounts, looks, all_looks, control_place, draw_place, slot_place, node_place}
 use Rattle.fx_counted.proofs.Words.{home_place, Shared, opening_of, slots_of, IsNumber, state_after_all, held_of, Phase, unborn, Change, Log, View}
 use Rattle.fx_counted.proofs.Words.{Work}
+use Rattle.fx_counted.proofs.Steps.{Grows, IsHistory, Stays, KeepsHeld, Turn, Homes, word_at, now, Step, step_kept, near, far, SameFile, slot_same}
+use Rattle.fx_counted.proofs.Steps.{draws_same}
 use Rattle.std.proofs.Common.{length-set}
-use Rattle.fx_counted.proofs.Histories.{Grows, IsHistory}
-use Rattle.fx_counted.proofs.Frames.{Stays, KeepsHeld}
-use Rattle.fx_counted.proofs.Keeping.{Turn, Homes, word_at, now, Step, step_kept}
-use Rattle.fx_counted.proofs.NodeSteps.{near, far}
-use Rattle.fx_counted.proofs.Unchanged.{SameFile, slot_same, draws_same}
 
-module _ (turn : Turn) (s : ℕ) (inside : s < slots_of turn.v.start) (y : Log) (d : Work) (c : Change) (h' : List Event) (phase' : ℕ → Phase) (word' : ℕ) (homes' : Homes) where
+module _ (turn : Turn) (s : ℕ) (inside : s < slots_of turn.v.start) (y : Log) (d : Work) (c : Change) (h' : List Event) (phase' : ℕ → Phase)
+    (word' : ℕ) (homes' : Homes) where
   open turn use {st, v, r, id, x, here, one}
 
   abbrev words' : List ℕ
@@ -29,8 +27,7 @@ module _ (turn : Turn) (s : ℕ) (inside : s < slots_of turn.v.start) (y : Log) 
     pub grows : Grows x.number r.history h'
     pub legal : IsHistory v.start h'
     pub slot : SlotAgrees v.start h' phase' s word'
-    pub others : (i : ℕ) → i < slots_of v.start → i ≢ s
-        → ((state_after_all v.start h').at i ≡ (state_after_all v.start r.history).at i)
+    pub others : (i : ℕ) → i < slots_of v.start → i ≢ s → ((state_after_all v.start h').at i ≡ (state_after_all v.start r.history).at i)
         × SameFile v.start r.history h' r.phase phase' i
     pub more : all_looks r.history ≤ all_looks h'
     pub nodes : (n : ℕ) → IsNumber v.start n
@@ -65,8 +62,7 @@ module _ (turn : Turn) (s : ℕ) (inside : s < slots_of turn.v.start) (y : Log) 
           (λ same. subst (λ (z : ℕ × ℕ). SlotAgrees v.start h' phase' z.0 z.1)
           (λ j. (
             sym same j,
-            (sym (get_or-set_same st.words (slot_place s) word' 0 wide)
-                ∙ ap (λ (z : ℕ). word_at words' (slot_place z)) (sym same)) j,
+            (sym (get_or-set_same st.words (slot_place s) word' 0 wide) ∙ ap (λ (z : ℕ). word_at words' (slot_place z)) (sym same)) j,
           )) p.slot)
           (λ other. let o = p.others i l other in
           slot_same v.start r.history h' r.phase phase' i (word_at st.words (slot_place i))

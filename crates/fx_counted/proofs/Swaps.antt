@@ -5,10 +5,9 @@ use Rattle.fx_counted.proofs.Words.{Action, range_of, event_of, takes_in, Names,
 use Rattle.fx_counted.proofs.Words.{ControlCounts, looks, all_looks, word_of, place_of, control_place, slot_place, opening_of, slots_of, IsNumber}
 use Rattle.fx_counted.proofs.Words.{state_after_all, shown, end_in, next_in, held_in, placing, holding, Phase, unborn, spare, seated, leaving, owner}
 use Rattle.fx_counted.proofs.Words.{file_in, retires_now, Change, Log, Start, View, Work, Retiring}
+use Rattle.fx_counted.proofs.Steps.{Stays, KeepsHeld, does_now, IsHistory, grows_one, held_mine, change_here, change_else, Turn, Homes, word_at, now}
+use Rattle.fx_counted.proofs.Steps.{logged, its_log, log_now}
 use Rattle.fx_counted.specs.Agrees.{IsSeated}
-use Rattle.fx_counted.proofs.Frames.{Stays, KeepsHeld, does_now}
-use Rattle.fx_counted.proofs.Histories.{IsHistory, grows_one, held_mine, change_here, change_else}
-use Rattle.fx_counted.proofs.Keeping.{Turn, Homes, word_at, now, logged, its_log, log_now}
 use Rattle.fx_counted.proofs.SlotSteps.{SlotStep, slot_agrees}
 
 -- the phases after a file has left its slot for the seat id
@@ -130,8 +129,7 @@ module _ (turn : Turn) (s : ℕ) (inside : s < slots_of turn.v.start) where
         pub stays : Stays id x.number r.phase phase₁
         pub keeps : KeepsHeld id st.views r.phase phase₁
         pub unused : (n : ℕ) → r.phase n ≡ unborn → phase₁ n ≡ unborn
-        pub nodes : (n : ℕ) → IsNumber v.start n → NotOf n old
-            → NodeAgrees next_state n (looks r.history n) (word_at st.words (word_of v.start n))
+        pub nodes : (n : ℕ) → IsNumber v.start n → NotOf n old → NodeAgrees next_state n (looks r.history n) (word_at st.words (word_of v.start n))
             (get_elem? homes' (place_of v.start n)) (phase₁ n)
         pub old_home : (f : File) → old ≡ Some f → get_elem? homes' (place_of v.start f.number) ≡ get_elem? st.homes (place_of v.start f.number)
         pub owners : (n : ℕ) → IsNumber v.start n → NotOf n old → OwnerAgrees (set st.views id w) n (phase₁ n)
@@ -142,8 +140,7 @@ module _ (turn : Turn) (s : ℕ) (inside : s < slots_of turn.v.start) where
         pub control : ControlCounts (changed_at state.at s new) (range_of (opening_of v.start)) (set st.views id w) (word_at st.words control_place)
 
       module _ (p : Swap) where
-        old_node : (f : File) → old ≡ Some f
-            → NodeAgrees next_state f.number (looks r.history f.number) (word_at st.words (word_of v.start f.number))
+        old_node : (f : File) → old ≡ Some f → NodeAgrees next_state f.number (looks r.history f.number) (word_at st.words (word_of v.start f.number))
             (get_elem? homes' (place_of v.start f.number)) (leaving id (takes_in found) f.identity)
         old_node f is = let its = seat_of f (was ∙ is) in
             let n = subst (NodeAgrees state f.number (looks r.history f.number)

@@ -30,8 +30,7 @@ pub may_change : (k : Start) (slot : ℕ) (began : Bool) (c : Change) → InRang
 may_change k slot true c range is = inl (range, is)
 may_change k slot false c range is = inr (range, is)
 
-pub answers_by : (k : Start) (slots id i amount : ℕ) (m : Sat) (x : Log) → HasPass k m x → m.0.change ≡ Same → i ≡ control_place
-    → amount ≡ one_change
+pub answers_by : (k : Start) (slots id i amount : ℕ) (m : Sat) (x : Log) → HasPass k m x → m.0.change ≡ Same → i ≡ control_place → amount ≡ one_change
     → Allows (Agrees k) slots id m i (λ word. (word + (2 ^ 64 - amount)) % 2 ^ 64) (Answers (step slots i amount 0 none) m)
 answers_by k slots id i amount m x its same place is =
     subst (λ (a : ℕ). Allows (Agrees k) slots id m i (λ word. (word + (2 ^ 64 - a)) % 2 ^ 64) (Answers (step slots i a 0 none) m)) (sym is)
