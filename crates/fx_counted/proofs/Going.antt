@@ -100,9 +100,8 @@ module _ (id : TableId) (k : Start) (p q : CountedPass) (fits : IsPassOf id k p)
 pub idle_work : (w : Work) → IsBetweenCalls w → doing_in w ≡ NowIdle → w ≡ Idle
 idle_work Idle r e = refl
 idle_work (Placing n) r e = absurd r
-idle_work (Holding f) r e = absurd (cc e)
-idle_work (Retiring f t) r e = absurd (cc e)
 idle_work (Emptying n) r e = absurd r
+idle_work _ r e = absurd (cc e)
 
 pub holding_work : (w : Work) (f : File) → IsBetweenCalls w → doing_in w ≡ NowHolding f → w ≡ Holding f
 holding_work (Holding g) f r e = let same : g ≡ f = cc e in ap (λ (z : File). Holding z) same

@@ -32,21 +32,11 @@ by_old : (old : Option File) (n : ℕ) (P : Type 0) → ((f : File) → old ≡ 
 by_old None n P is else = else tt
 by_old (Some f) n P is else = dite (ℕ_discrete n f.number) (λ same. is f refl same) (λ other. else other)
 
-retires_holds : (old : Option File) (takes n : ℕ) → holding n (retires_now old takes) ≡ 0
-retires_holds None takes n = refl
-retires_holds (Some f) takes n = refl
-
-retires_held : (old : Option File) (takes : ℕ) → held_in (retires_now old takes) ≡ None
-retires_held None takes = refl
-retires_held (Some f) takes = refl
-
-retires_placing : (old : Option File) (takes : ℕ) → placing (retires_now old takes) ≡ 0
-retires_placing None takes = refl
-retires_placing (Some f) takes = refl
-
-retires_next : (k : Start) (old : Option File) (takes : ℕ) (x : Log) → PlacesNext k x (retires_now old takes)
-retires_next k None takes x = tt
-retires_next k (Some f) takes x = tt
+-- a pass that retires holds nothing, and places nothing
+retires_alone : (k : Start) (old : Option File) (takes : ℕ) (x : Log) → ((n : ℕ) → holding n (retires_now old takes) ≡ 0)
+    × (held_in (retires_now old takes) ≡ None) × (placing (retires_now old takes) ≡ 0) × PlacesNext k x (retires_now old takes)
+retires_alone k None takes x = (λ n. refl, refl, refl, tt)
+retires_alone k (Some f) takes x = (λ n. refl, refl, refl, tt)
 
 module _ (turn : Turn) (s : ℕ) (inside : s < slots_of turn.v.start) where
   open turn use {st, v, r, id, x, here, one}
@@ -163,7 +153,7 @@ module _ (turn : Turn) (s : ℕ) (inside : s < slots_of turn.v.start) where
         else_phase n other = out_else id old (takes_in found) phase₁ n other
 
         swap_step : SlotStep turn s inside y d c (h' a) phase' word' homes'
-        swap_step = let o = its_log turn in record {
+        swap_step = let o = its_log turn in let alone = retires_alone v.start old (takes_in found) y in record {
           homes = p.homes;
           number = refl;
           drawn = refl;
@@ -212,11 +202,11 @@ module _ (turn : Turn) (s : ℕ) (inside : s < slots_of turn.v.start) where
               (λ apart. ap file_in (else_phase f.number apart) ∙ p.keeps j u f other there holds);
           unused = λ n is. else_phase n (not_old n unborn is (λ f bad. cc bad)) ∙ p.unused n is;
           log = log_now turn (h' a) phase' left x.looks_left d p.fewer
-              (held_mine x.number (e a) r.history refl ∙ (p.does.held ∙ (o.held ∙ (p.none_held.0 ∙ sym (retires_held old (takes_in found))))))
-              (retires_next v.start old (takes_in found) y)
-              (λ n low high. let z = retires_placing old (takes_in found) in let q = p.spares n (omega arith) high in else_phase n q.1 ∙ q.0);
+              (held_mine x.number (e a) r.history refl ∙ (p.does.held ∙ (o.held ∙ (p.none_held.0 ∙ sym alone.1))))
+              alone.3
+              (λ n low high. let z = alone.2 in let q = p.spares n (omega arith) high in else_phase n q.1 ∙ q.0);
           work = works old refl;
-          holds = λ n. let a = p.none_held.1 n in let b = retires_holds old (takes_in found) n in
+          holds = λ n. let a = p.none_held.1 n in let b = alone.0 n in
               let g = ap (λ (z : State). z.holds n) p.does.state in omega arith;
           look_ups = let z = p.does.all in omega arith;
           control = subst (λ (z : State). ControlCounts z.at (range_of (opening_of v.start))

@@ -1,27 +1,28 @@
 use Rattle.fx_counted.proofs.Words.{◌≡◌, ◌-◌, ℕ, ap, ◌∙◌, arith, state_of, full_in, first_at}
 use Rattle.fx_counted.proofs.FirstWords.{all_counted, full_if_some, empty_if_none, one_counted}
 use Rattle.fx_counted.proofs.FullSlots.{full_few}
-use Rattle.fx_counted.proofs.open.full_in_range.Goals.{then-is_some, else-is_some}
+use Rattle.fx_counted.proofs.open.full_in_range.Goals.{then-is_some, else-is_some, After-range-start}
 use Rattle.fx_counted.proofs.open.full_in_range.Goals as goal
+
+-- the range is the table's
+start_is : (c : After-range-start) → c.range-start.result.0 ≡ (state_of c.args.plain.now).range.0
+start_is c = ap (λ (r : ℕ × ℕ). r.0) c.range-start.ensures.value
+
+len_is : (c : After-range-start) → c.range-start.result.1 ≡ (state_of c.args.plain.now).range.1
+len_is c = ap (λ (r : ℕ × ℕ). r.1) c.range-start.ensures.value
 
 pub loop-slot-init : goal.loop-slot-init
 loop-slot-init c =
     let st = state_of c.args.plain.now in
-    let start = ap (λ (r : ℕ × ℕ). r.0) c.range-start.ensures.value in
+    let start = start_is (goal.at.loop-slot-init c).After-range-start in
     let none_yet : 0 ≡ c.range-start.result.0 - st.range.0 = omega (arith, start) in
     record { full = ap (full_in (first_at st) st.range.0) none_yet; few = omega (arith, start) }
 
 pub overflow_add-full : goal.overflow_add-full
-overflow_add-full c = omega (
-  arith,
-  c.loop-slot.invariant.few,
-  c.loop-slot-test.true,
-  ap (λ (r : ℕ × ℕ). r.0) c.range-start.ensures.value,
-  ap (λ (r : ℕ × ℕ). r.1) c.range-start.ensures.value,
-  c.range-start.ensures.inside,
-  c.requires,
-  c.ranges.size.fits,
-)
+overflow_add-full c =
+    let a = (goal.at.overflow_add-full c).After-range-start in
+    let inside = c.range-start.ensures.inside in
+    omega (arith, c.loop-slot.invariant.few, c.loop-slot-test.true, start_is a, len_is a, inside, c.requires, c.ranges.size.fits)
 
 pub loop-slot-preserved : goal.loop-slot-preserved
 loop-slot-preserved c =
@@ -43,45 +44,27 @@ loop-slot-preserved c =
 pub returns-clause-full : goal.returns-clause-full
 returns-clause-full c =
     let st = state_of c.args.plain.now in
-    let whole : c.loop-slot.slot - st.range.0 ≡ st.range.1 = omega (
-      arith,
-      c.loop-slot-test.false,
-      c.loop-slot.auto.slot-end (omega arith),
-      ap (λ (r : ℕ × ℕ). r.0) c.range-start.ensures.value,
-      ap (λ (r : ℕ × ℕ). r.1) c.range-start.ensures.value,
-    ) in
+    let a = (goal.at.returns-clause-full c).After-range-start in
+    let end = c.loop-slot.auto.slot-end (omega arith) in
+    let whole : c.loop-slot.slot - st.range.0 ≡ st.range.1 = omega (arith, c.loop-slot-test.false, end, start_is a, len_is a) in
     c.loop-slot.invariant.full ∙ ap (full_in (first_at st) st.range.0) whole
 
 pub returns-clause-few : goal.returns-clause-few
-returns-clause-few c = omega (
-  arith,
-  c.loop-slot.invariant.few,
-  c.loop-slot.auto.slot-end (omega arith),
-  ap (λ (r : ℕ × ℕ). r.0) c.range-start.ensures.value,
-  ap (λ (r : ℕ × ℕ). r.1) c.range-start.ensures.value,
-)
+returns-clause-few c =
+    let a = (goal.at.returns-clause-few c).After-range-start in
+    omega (arith, c.loop-slot.invariant.few, c.loop-slot.auto.slot-end (omega arith), start_is a, len_is a)
 
 pub returns-then-len-size-clause-full : goal.returns-then-len-size-clause-full
 returns-then-len-size-clause-full c =
     let st = state_of c.args.plain.now in
-    let len = ap (λ (r : ℕ × ℕ). r.1) c.range-start.ensures.value in
-    let zero : 0 ≡ st.range.0 = omega (
-      arith,
-      ap (λ (r : ℕ × ℕ). r.0) c.range-start.ensures.value,
-      len,
-      c.range-start.ensures.inside,
-      c.requires,
-      c.if-len-size.true,
-    ) in
-    let whole : st.size ≡ st.range.1 = omega (arith, len, c.requires, c.if-len-size.true) in
+    let a = (goal.at.returns-then-len-size-clause-full c).After-range-start in
+    let zero : 0 ≡ st.range.0 = omega (arith, start_is a, len_is a, c.range-start.ensures.inside, c.requires, c.if-len-size.true) in
+    let whole : st.size ≡ st.range.1 = omega (arith, len_is a, c.requires, c.if-len-size.true) in
     c.full.ensures ∙ (all_counted st st.size ∙ λ i. full_in (first_at st) (zero i) (whole i))
 
 pub returns-then-len-size-clause-few : goal.returns-then-len-size-clause-few
-returns-then-len-size-clause-few c = let st = state_of c.args.plain.now in omega (
-  arith,
-  ap (λ (r : ℕ × ℕ). r.1) c.range-start.ensures.value,
-  c.requires,
-  c.if-len-size.true,
-  c.full.ensures ∙ all_counted st st.size,
-  full_few (first_at st) 0 st.size,
-)
+returns-then-len-size-clause-few c =
+    let st = state_of c.args.plain.now in
+    let len = len_is (goal.at.returns-then-len-size-clause-few c).After-range-start in
+    let is = c.full.ensures ∙ all_counted st st.size in
+    omega (arith, len, c.requires, c.if-len-size.true, is, full_few (first_at st) 0 st.size)
