@@ -1,5 +1,5 @@
 -- An accepted submission whose lines a text goes on with.
-use Rattle.std.proofs.Common.{◌≡◌, ℕ, ◌+◌, ◌<◌, ◌≤◌, Bool, false, nat_le, List, ◌++◌, length, map, filter, not, ◌==◌, take, sym, ap, subst, ◌∙◌, arith, Option, None, length-append}
+use Rattle.std.proofs.Common.{◌≡◌, ℕ, ◌+◌, ◌<◌, ◌≤◌, Bool, false, nat_le, List, ◌++◌, length, map, filter, not, ◌==◌, take, sym, ap, subst, ◌∙◌, arith, Option, Some, None, refl, length-append}
 use Rattle.std.specs.Bool.{MatchBool}
 use Rattle.std.specs.List.{flat_map}
 use Rattle.std.specs.Option.{MatchOption}
@@ -14,7 +14,8 @@ use Rattle.fx_chain.specs.Operation.{Asked}
 use Rattle.fx_chain.specs.declared.fault.CutFault.{CutFault}
 use Rattle.fx_chain.specs.Runs.{runs_of}
 use Rattle.fx_table.specs.declared.limits.TheConstants.{MAX_CHAINS}
-use Rattle.fx_order.specs.Order.{IsOneOrder}
+use Rattle.fx_order.specs.Order.{IsOneOrder, IsOrderOf, ring_left}
+use Rattle.fx_order.specs.declared.access.ChainAccess.{ChainAccess}
 use Rattle.fx_order.proofs.Histories.{each_order_is_a_history}
 use Rattle.fx_plain.specs.declared.table.TheConstants.{MOST_SLOTS}
 use Rattle.fx_ring.specs.Ring.{RingState, IsRing, ring_of}
@@ -31,11 +32,12 @@ use Rattle.fx_lines.specs.ClosedView.{close_of}
 use Rattle.fx_lines.specs.LinesView.{lines_in}
 use Rattle.fx_lines.specs.declared.report.ReportLines.{ReportLines}
 use Rattle.fx_lines.specs.Lines.{Lines, line_of_tag, lines_of, lines_text, named_closes, named_line}
-use Rattle.fx_judge.specs.Verdict.{ring_with_slots, told_report}
+use Rattle.fx_judge.specs.Verdict.{CameBy, ring_with_slots, told_report}
 use Rattle.fx_judge.specs.declared.told.RingSlots.{RingSlots}
 use Rattle.fx_judge.specs.declared.told.Told.{Told}
 use Rattle.fx_check.specs.Kept.{AreInRange, IsKept}
-use Rattle.fx_check.specs.Met.{MayPrint}
+use Rattle.fx_check.specs.Ordered.{MayPrintBy}
+use Rattle.fx_check.specs.declared.judgement.Order.{Order}
 use Rattle.fx_check.proofs.OrderFiles.{left_in_range}
 
 -- the text of a report is that of its lines
@@ -109,16 +111,16 @@ module _ (catalogue : List FileEntry) (old new : RingSlots) (asked : List Asked)
   abbrev pub IsOrdered : Type 0
   IsOrdered = (room : ℕ) → IsOneOrder before asked (told_report before told room) after
 
-  pub accepted_goes : (lines : Lines) (text rest : List ℕ) (count : ℕ) → IsKept catalogue old → fault_of asked ≡ None → old.submissions < MOST_SUBMISSIONS
-      → IsOrdered
+  pub accepted_goes : (lines : Lines) (text rest : List ℕ) (count : ℕ) (order : Order) → IsKept catalogue old → fault_of asked ≡ None
+      → old.submissions < MOST_SUBMISSIONS → CameBy before asked told order.accesses.items after → order.submission ≡ new.submissions
       → ((number room : ℕ) → lines_of catalogue (record {
         submission = number;
         completions = all_completed told.completions.items;
         closes = record { files = told.closes.items; room = room };
       }) ≡ lines)
       → text ≡ lines_text lines ++ rest → count + length rest ≡ length text
-      → (count ≤ length text) × MayPrint before (SubmitsAll asked) after (take count text)
-  accepted_goes lines text rest count kept accepted few ordered has split counts = (
+      → (count ≤ length text) × MayPrintBy before (SubmitsAll asked) after (take count text) (Some order)
+  accepted_goes lines text rest count order kept accepted few came numbered has split counts = (
     omega arith,
     λ ring same.
         let report : Reported = told_report before told 0 in
@@ -127,7 +129,12 @@ module _ (catalogue : List FileEntry) (old new : RingSlots) (asked : List Asked)
         ∙ ap lines_text (sym (has (old.submissions + 1) 0)) ∙ sym (printed_lines catalogue report)
         ∙ ap (λ (r : RingState). report_text r.catalogue report) (sym same) in
         let small : (ring_of ring).size ≤ MOST_SLOTS = subst (λ (r : RingState). r.size ≤ MOST_SLOTS) (sym same) kept.few_slots in
-        let one : IsOneOrder (ring_of ring) asked report after = subst (λ (r : RingState). IsOneOrder r asked report after) (sym same) (ordered 0) in
+        let accesses : List ChainAccess = order.accesses.items in
+        let first : IsOneOrder before asked report after = (came 0).0 in
+        let is : IsOrderOf accesses before asked report = subst (λ (l : List ChainAccess). IsOrderOf l before asked report) (came 0).1 first.is in
+        let led : after ≡ ring_left accesses before = first.after ∙ ap (λ (l : List ChainAccess). ring_left l before) (came 0).1 in
+        let counted : new.submissions ≡ old.submissions + 1 = ap (λ (r : RingState). r.submissions) first.after in
+        let one : IsOneOrder (ring_of ring) asked report after = subst (λ (r : RingState). IsOneOrder r asked report after) (sym same) first in
         let history = each_order_is_a_history ring asked report after small accepted one in
         let few_yet : nat_le MOST_SUBMISSIONS ring.submissions ≡ false =
         ap (λ (r : RingState). nat_le MOST_SUBMISSIONS r.submissions) same ∙ lt-leb MOST_SUBMISSIONS old.submissions few in
@@ -140,6 +147,18 @@ module _ (catalogue : List FileEntry) (old new : RingSlots) (asked : List Asked)
               (λ fault. (ring_of next ≡ ring_of ring) × (take count text ≡ refused_line fault))) (sym accepted)
               (subst (λ (b : Bool). MatchBool b ((ring_of next ≡ ring_of ring) × (take count text ≡ too_many_line)) (PrintsReport ring asked next (take count text)))
               (sym few_yet) reports),
+          (
+            asked,
+            refl,
+            record {
+              report = report;
+              history = history.2;
+              printed = printed;
+              explained = subst (λ (r : RingState). IsOrderOf accesses r asked report) (sym same) is;
+              left = history.1 ∙ led ∙ ap (ring_left accesses) (sym same);
+              submission = numbered ∙ counted;
+            },
+          ),
         ),
   )
 

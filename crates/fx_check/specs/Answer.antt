@@ -4,16 +4,17 @@ use Rattle.fx_base.specs.Catalogue.{FileEntry}
 use Rattle.fx_script.specs.Instruction.{Instruction}
 use Rattle.fx_judge.specs.Verdict.{ring_with_slots}
 use Rattle.fx_judge.specs.declared.told.RingSlots.{RingSlots}
-use Rattle.fx_check.specs.Met.{MayPrint}
+use Rattle.fx_check.specs.Ordered.{MayPrintBy}
 use Rattle.fx_check.specs.declared.answer.Answer.{Answer}
 use Rattle.fx_check.specs.declared.answer.Answer.TheVariants.{Printed, Broken, Undecided}
 
--- where the text goes on with what the command may print, the ring is led there
+-- where the text goes on with what the command may print, by this order if there is one, the ring is
+-- led there
 abbrev pub IsAnswer :
     List FileEntry → RingSlots → Instruction → List ℕ → Answer → RingSlots → Type 0
 IsAnswer catalogue old command text (Printed count order) new =
     (count ≤ length text)
-    × MayPrint (ring_with_slots catalogue old) command (ring_with_slots catalogue new)
-    (take count text)
+    × MayPrintBy (ring_with_slots catalogue old) command (ring_with_slots catalogue new)
+    (take count text) order
 IsAnswer catalogue old command text (Broken fault) new = Unit {0}
 IsAnswer catalogue old command text (Undecided doubt) new = Unit {0}

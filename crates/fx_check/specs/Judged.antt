@@ -2,16 +2,12 @@
 use Rattle.std.specs.Prelude.{◌≡◌, ◌≤◌, ℕ, List, [], ◌∷◌, ◌++◌, length, take}
 use Rattle.fx_ring.specs.Ring.{RingContents, RingState, new_ring, ring_of}
 use Rattle.fx_script.specs.Instruction.{Instruction}
-use Rattle.fx_script.specs.Play.{IsText, Prints, PrintsAll}
+use Rattle.fx_script.specs.Play.{IsText, Prints}
 use Rattle.fx_script.specs.Script.{Meaning}
+use Rattle.fx_check.specs.Ordered.{IsTextBy}
 use Rattle.fx_check.specs.declared.judgement.Break.{Break}
 use Rattle.fx_check.specs.declared.judgement.Judgement.{Judgement}
 use Rattle.fx_check.specs.declared.judgement.Judgement.TheVariants.{Legal, NotLegal, Undecided}
-
--- each ring of this state may print this by these commands and the end of the script
-abbrev pub MayPrintAll : RingState → List Instruction → List ℕ → Type 0
-MayPrintAll state commands text =
-    (ring : RingContents) → ring_of ring ≡ state → PrintsAll ring commands text
 
 -- the commands may print this, one after another
 abbrev pub PrintsFront : RingContents → List Instruction → List ℕ → Type 0
@@ -32,8 +28,9 @@ pub record IsBroken (script : Meaning) (text : List ℕ) (broken : Break) : Type
   pub front : MayPrintFront (new_ring script.catalogue) (take broken.commands script.commands)
       (take broken.at text)
 
--- a text that is legal is one that the script may print, and one that isn't legal is none
+-- a text that is legal is one that the script may print, by a play whose submissions come of these
+-- orders, and one that isn't legal is none
 abbrev pub IsJudged : Meaning → List ℕ → Judgement → Type 0
-IsJudged script text (Legal orders) = IsText script text
+IsJudged script text (Legal orders) = IsText script text × IsTextBy script text orders.items
 IsJudged script text (NotLegal broken) = IsBroken script text broken
 IsJudged script text (Undecided submission doubt) = Unit {0}

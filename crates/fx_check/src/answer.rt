@@ -1,4 +1,4 @@
-ghost use Rattle.std.specs.Prelude.{ℕ, List};
+ghost use Rattle.std.specs.Prelude.{◌≡◌, ℕ, List};
 ghost use Rattle.fx_base.specs.Catalogue.{FileEntry};
 ghost use Rattle.fx_script.specs.Instruction.{Instruction};
 ghost use Rattle.fx_judge.specs.declared.told.RingSlots.{RingSlots};
@@ -22,10 +22,11 @@ pub(crate) enum Answer {
 }
 
 impl Answer {
-    /// The answer where a command has few texts.
+    /// The answer where a command has few texts, and isn't counted as a submission.
     pub fn of(met: Met) -> Answer
         ensures step { (catalogue : List FileEntry) (old new : RingSlots) (command : Instruction)
             (text : List ℕ) → IsStep catalogue old command text met new
+            → new.submissions ≡ old.submissions
             → IsAnswer catalogue old command text result new }
         ensures only { (catalogue : List FileEntry) (old new : RingSlots) (command : Instruction)
             (text : List ℕ) → IsOnlyStep catalogue old command text met new

@@ -104,9 +104,8 @@ fn play_end(
 /// Whether a script may print a text. The commands are played against it, one after another, on what is kept of a ring; of
 /// each submission at most so many states of each part that has slots of its own are looked at.
 ///
-/// A text that is legal is one that the script may print, and one that isn't legal is none, though its first commands, up to
-/// the one that it breaks at, may print what stands in front. That each order is one of its submission is tested: no clause
-/// says it of the whole text. Of one submission [`fx_judge::judge_submission`] promises it.
+/// A text that is legal is one that the script may print, by one play in which each accepted submission comes of its order.
+/// One that isn't legal is none, though its first commands, up to the one that it breaks at, may print what stands in front.
 ///
 /// # Errors
 /// `NoMemory` where memory is refused.

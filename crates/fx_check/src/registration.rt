@@ -1,5 +1,5 @@
 //! The calls between submissions, played on a ring against a text.
-ghost use Rattle.std.specs.Prelude.{IfOk, OnOk, option_map};
+ghost use Rattle.std.specs.Prelude.{◌≡◌, IfOk, OnOk, option_map};
 ghost use Rattle.fx_base.specs.declared.errno.Errno.TheVariants.{ENOMEM};
 ghost use Rattle.fx_chain.specs.Completed.{negated};
 ghost use Rattle.fx_script.specs.Instruction.{MakesSparse, RegistersList, SetsRange, Unregisters, UpdatesRing};
@@ -46,6 +46,7 @@ pub(crate) fn play_sparse(
         (MakesSparse n) text.now met ring.new) }
     ensures only { IfOk result (λ met. IsOnlyStep catalogue.now ring.old
         (MakesSparse n) text.now met ring.new) }
+    ensures counted { ring.new.submissions ≡ ring.old.submissions }
     ensures kept { OnOk result (IsKept catalogue.now ring.new) }
 {
     if let Some(errno) = sparse_refusal(catalogue, ring, n) {
@@ -78,6 +79,7 @@ pub(crate) fn play_register(
         (RegistersList list.now (option_map (λ given. given.now) tags.entry)) text.now met ring.new) }
     ensures only { IfOk result (λ met. IsOnlyStep catalogue.now ring.old
         (RegistersList list.now (option_map (λ given. given.now) tags.entry)) text.now met ring.new) }
+    ensures counted { ring.new.submissions ≡ ring.old.submissions }
     ensures kept { OnOk result (IsKept catalogue.now ring.new) }
 {
     if let Some(errno) = register_refusal(catalogue, ring, list, tags) {
@@ -111,6 +113,7 @@ pub(crate) fn play_unregister(
         Unregisters text.now met ring.new) }
     ensures only { IfOk result (λ met. IsOnlyStep catalogue.now ring.old
         Unregisters text.now met ring.new) }
+    ensures counted { ring.new.submissions ≡ ring.old.submissions }
     ensures kept { OnOk result (IsKept catalogue.now ring.new) }
 {
     if let Some(errno) = unregister_refusal(catalogue, ring) {
@@ -149,6 +152,7 @@ pub(crate) fn play_range(
         (SetsRange range.0 range.1) text.now met ring.new) }
     ensures only { IfOk result (λ met. IsOnlyStep catalogue.now ring.old
         (SetsRange range.0 range.1) text.now met ring.new) }
+    ensures counted { ring.new.submissions ≡ ring.old.submissions }
     ensures kept { OnOk result (IsKept catalogue.now ring.new) }
 {
     if let Some(errno) = range_refusal(catalogue, ring, range.0, range.1) {
@@ -182,6 +186,7 @@ pub(crate) fn play_update(
         (UpdatesRing off list.now (option_map (λ given. given.now) tags.entry)) text.now met ring.new) }
     ensures only { IfOk result (λ met. IsOnlyStep catalogue.now ring.old
         (UpdatesRing off list.now (option_map (λ given. given.now) tags.entry)) text.now met ring.new) }
+    ensures counted { ring.new.submissions ≡ ring.old.submissions }
     ensures kept { OnOk result (IsKept catalogue.now ring.new) }
 {
     if let Some(errno) = update_refusal(catalogue, ring, off, list, tags) {

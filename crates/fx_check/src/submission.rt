@@ -100,7 +100,8 @@ fn order_of(
 ) -> Result<Order, NoMemory>
     requires accepted { IsAccepted (all_asked requests.now) }
     requires few_slots { length ring.now.slots.at.items ≤ MOST_SLOTS }
-    ensures { IfOk result (λ order. order.accesses ≡ accesses) }
+    ensures accesses { IfOk result (λ order. order.accesses ≡ accesses) }
+    ensures submission { IfOk result (λ order. order.submission ≡ ring.now.submissions) }
 {
     let chains = cut(alloc, requests)?;
     let size = ring.slots.at.len() as u32;

@@ -1,5 +1,7 @@
-use Rattle.std.proofs.Common.{◌≡◌, ◌≤◌, ◌+◌, ◌-◌, List, [], ℕ, length, length-drop, drop, take, sym, ap, subst, ◌∙◌, arith}
+use Rattle.std.proofs.Common.{◌≡◌, Option, ◌≤◌, ◌+◌, ◌-◌, List, [], ℕ, length, length-drop, drop, take, refl, sym, ap, subst, append-nil, append_assoc, ◌++◌, ◌∙◌, arith}
 use Rattle.std.proofs.Math.ListN.{drop_of_length-le}
+use Rattle.std.specs.Global.{Vec}
+use Rattle.std.specs.Option.{option_to_list}
 use Rattle.std.proofs.lemmas.List.{drop-drop}
 use Rattle.std.proofs.Math.Seq.{take-length}
 use Rattle.fx_ring.specs.Ring.{RingState, new_ring}
@@ -8,24 +10,27 @@ use Rattle.fx_script.specs.Play.{PrintsEnd}
 use Rattle.fx_script.specs.declared.command.Command.{Command}
 use Rattle.fx_judge.specs.Verdict.{ring_with_slots}
 use Rattle.fx_check.specs.Answer.{IsAnswer}
-use Rattle.fx_check.specs.Judged.{MayPrintAll, MayPrintFront}
-use Rattle.fx_check.specs.Met.{MayPrint}
+use Rattle.fx_check.specs.Judged.{MayPrintFront}
+use Rattle.fx_check.specs.Ordered.{IsTextBy, MayPrintAllBy, MayPrintBy}
 use Rattle.fx_check.specs.Only.{IsOnlyAnswer, LeadsNowhere, LeadsTo}
 use Rattle.fx_check.specs.declared.answer.Answer.{Answer}
+use Rattle.fx_check.specs.declared.judgement.Order.{Order}
 use Rattle.fx_check.proofs.Fronts.{one_back, printed_front}
 use Rattle.fx_check.proofs.OnePlay.{CanPrintAll, begins, ended, further, no_further}
-use Rattle.fx_check.proofs.Plays.{one_further, whole_text}
+use Rattle.fx_check.proofs.Plays.{is_text, may_print, one_further, whole_text}
+use Rattle.fx_check.proofs.play.judge.Goals.{in-Some+in_ok-push-in-Printed, in_default}
 use Rattle.fx_check.proofs.play.judge.Goals as goal
 
 pub loop-done-init : goal.loop-done-init
 loop-done-init c = record {
   inside = omega arith;
   kept = c.new_ring-ring.ensures.kept c.catalogue-catalogue.result.now c.catalogue-catalogue.ensures.files;
-  legal = λ may. whole_text c.args.script.now c.args.text.now
-      (subst (λ (s : RingState). MayPrintAll s c.args.script.now.commands c.args.text.now)
+  legal = λ later may. subst (λ (l : List Order). IsTextBy c.args.script.now c.args.text.now (l ++ later)) (sym c.new-orders.ensures.items)
+      (whole_text c.args.script.now c.args.text.now later
+      (subst (λ (s : RingState). MayPrintAllBy s c.args.script.now.commands c.args.text.now later)
       (c.new_ring-ring.ensures.ring c.catalogue-catalogue.result.now ∙ ap new_ring c.catalogue-catalogue.ensures.value)
-      (subst (λ (cs : List Instruction). MayPrintAll (ring_with_slots c.catalogue-catalogue.result.now c.new_ring-ring.result) cs c.args.text.now)
-      c.commands-commands.ensures may));
+      (subst (λ (cs : List Instruction). MayPrintAllBy (ring_with_slots c.catalogue-catalogue.result.now c.new_ring-ring.result) cs c.args.text.now later)
+      c.commands-commands.ensures may)));
   only = λ is. begins c.args.script.now c.args.text.now (ring_with_slots c.catalogue-catalogue.result.now c.new_ring-ring.result)
       (instructions_of c.commands-commands.result.now)
       (sym (c.new_ring-ring.ensures.ring c.catalogue-catalogue.result.now ∙ ap new_ring c.catalogue-catalogue.ensures.value))
@@ -42,7 +47,7 @@ loop-done-preserved c =
     let command = c.index-commands-done.result in
     let old = ring_with_slots c.catalogue-catalogue.result.now c.loop-done.ring in
     let new = ring_with_slots c.catalogue-catalogue.result.now c.play_command.new.ring in
-    let answer : (c.in-Printed.count ≤ length rest) × MayPrint old (instruction_of command) new (take c.in-Printed.count rest) =
+    let answer : (c.in-Printed.count ≤ length rest) × MayPrintBy old (instruction_of command) new (take c.in-Printed.count rest) c.in-Printed.order =
     subst (λ (a : Answer). IsAnswer c.catalogue-catalogue.result.now c.loop-done.ring (instruction_of command) rest a c.play_command.new.ring)
     c.in-Printed.is
     (subst (λ (t : List ℕ). IsAnswer c.catalogue-catalogue.result.now c.loop-done.ring (instruction_of command) t c.in_ok-count.field-0 c.play_command.new.ring)
@@ -50,8 +55,17 @@ loop-done-preserved c =
     record {
       inside = let front = answer.0 in let before = c.loop-done.invariant.inside in omega arith;
       kept = c.in_ok-count.ensures.kept;
-      legal = λ may. c.loop-done.invariant.legal (one_further c.commands-commands.result.now c.loop-done.done command old new c.args.text.now
-          c.loop-done.at c.in-Printed.count c.loop-done-test.true c.index-commands-done.is answer.1 may);
+      legal = λ later may.
+          let orders = c.loop-done.orders.items in
+          let own = option_to_list c.in-Printed.order in
+          let grown : c.match-order.orders.items ≡ orders ++ own = elim c.match-order.branch [
+            | in-Some+in_ok-push-in-Printed w ↦ ap (λ (v : Vec Order). v.items) w.orders-is ∙ w.in_ok-push-in-Printed.ensures.items
+                ∙ ap (λ (o : Option Order). orders ++ option_to_list o) (sym w.in-Some.is)
+            | in_default w ↦ ap (λ (v : Vec Order). v.items) w.orders-is ∙ sym (append-nil orders) ∙ ap (λ (o : Option Order). orders ++ option_to_list o) (sym w.in_default.is)
+          ] in
+          subst (λ (l : List Order). IsTextBy c.args.script.now c.args.text.now l) (sym (append_assoc orders own later) ∙ ap (λ (l : List Order). l ++ later) (sym grown))
+          (c.loop-done.invariant.legal (own ++ later) (one_further c.commands-commands.result.now c.loop-done.done command old new c.args.text.now
+          c.loop-done.at c.in-Printed.count c.in-Printed.order later c.loop-done-test.true c.index-commands-done.is answer.1 may));
       only = λ is.
           let leads : LeadsTo old (instruction_of command) rest c.in-Printed.count new =
           subst (λ (a : Answer). IsOnlyAnswer c.catalogue-catalogue.result.now c.loop-done.ring (instruction_of command) rest a c.play_command.new.ring)
@@ -63,7 +77,8 @@ loop-done-preserved c =
           (further c.commands-commands.result.now c.loop-done.done command old rest c.loop-done-test.true c.index-commands-done.is new c.in-Printed.count leads
           (c.loop-done.invariant.only is));
       back = one_back (new_ring c.args.script.now.catalogue) old new c.commands-commands.result.now c.loop-done.done command c.args.text.now c.loop-done.at
-          c.in-Printed.count c.loop-done-test.true c.index-commands-done.is answer.1 c.loop-done.invariant.back;
+          c.in-Printed.count c.loop-done-test.true c.index-commands-done.is
+          (may_print old new (instruction_of command) (take c.in-Printed.count rest) c.in-Printed.order answer.1) c.loop-done.invariant.back;
     }
 
 pub returns-in-Broken : goal.returns-in-Broken
@@ -123,5 +138,9 @@ returns-in-None c =
     let none : instructions_of (drop c.loop-done.done commands) ≡ [] = ap (λ (cs : List Command). instructions_of cs) (drop_of_length-le commands past) in
     let end : PrintsEnd state (take (length c.args.text.now - c.loop-done.at) rest) = rw c.in-None.is at c.in_ok-play_end.ensures.end in
     let ends : PrintsEnd state rest = subst (λ (t : List ℕ). PrintsEnd state t) same end in
-    c.loop-done.invariant.legal (subst (λ (cs : List Instruction). MayPrintAll state cs rest) (sym none)
-    (λ ring is. subst (λ (r : RingState). PrintsEnd r rest) (sym is) ends))
+    let orders = c.loop-done.orders.items in
+    let by : IsTextBy c.args.script.now c.args.text.now orders =
+    subst (λ (l : List Order). IsTextBy c.args.script.now c.args.text.now l) (append-nil orders)
+    (c.loop-done.invariant.legal [] (subst (λ (cs : List Instruction). MayPrintAllBy state cs rest []) (sym none)
+    (λ ring is. (subst (λ (r : RingState). PrintsEnd r rest) (sym is) ends, refl)))) in
+    (is_text c.args.script.now c.args.text.now orders by, by)

@@ -1,10 +1,11 @@
-use Rattle.std.proofs.Common.{◌≤◌, drop, length, take}
+use Rattle.std.proofs.Common.{◌≤◌, ◌++◌, List, drop, length, take}
 use Rattle.fx_ring.specs.Ring.{new_ring}
 use Rattle.fx_judge.specs.Verdict.{ring_with_slots}
 use Rattle.fx_script.specs.Instruction.{instructions_of}
 use Rattle.fx_script.specs.Play.{IsText}
-use Rattle.fx_check.specs.Judged.{MayPrintAll}
 use Rattle.fx_check.specs.Kept.{IsKept}
+use Rattle.fx_check.specs.Ordered.{IsTextBy, MayPrintAllBy}
+use Rattle.fx_check.specs.declared.judgement.Order.{Order}
 use Rattle.fx_check.proofs.Fronts.{GoesBack}
 use Rattle.fx_check.proofs.OnePlay.{CanPrintAll}
 use Rattle.fx_check.proofs.play.judge.Given as goal
@@ -13,7 +14,8 @@ abbrev pub invariant-loop-done : goal.invariant-loop-done
 invariant-loop-done l = record {
   inside : l.at ≤ length l.text;
   kept : IsKept l.catalogue l.ring;
-  legal : MayPrintAll (ring_with_slots l.catalogue l.ring) (instructions_of (drop l.done l.commands)) (drop l.at l.text) → IsText l.script l.text;
+  legal : (later : List Order) → MayPrintAllBy (ring_with_slots l.catalogue l.ring) (instructions_of (drop l.done l.commands)) (drop l.at l.text) later
+      → IsTextBy l.script l.text (l.orders.items ++ later);
   only : IsText l.script l.text
       → CanPrintAll (ring_with_slots l.catalogue l.ring) (instructions_of (drop l.done l.commands)) (drop l.at l.text);
   back : GoesBack (new_ring l.script.catalogue) (take l.done (instructions_of l.commands)) (take l.at l.text) (ring_with_slots l.catalogue l.ring);

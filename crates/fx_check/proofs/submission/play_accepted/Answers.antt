@@ -5,11 +5,14 @@ use Rattle.fx_chain.specs.Operation.{all_asked, asked_of}
 use Rattle.fx_lines.specs.Lines.{ReadsReport, lines_text}
 use Rattle.fx_lines.specs.LinesView.{front_of, lines_in}
 use Rattle.fx_lines.specs.declared.report.ReportLines.{ReportLines}
-use Rattle.fx_judge.specs.Verdict.{IsVerdict, ring_with_slots}
+use Rattle.std.specs.Global.{Vec}
+use Rattle.fx_order.specs.declared.access.ChainAccess.{ChainAccess}
+use Rattle.fx_judge.specs.Verdict.{CameBy, IsVerdict, ring_with_slots}
 use Rattle.fx_judge.specs.declared.told.Told.{Told}
 use Rattle.fx_judge.specs.declared.verdict.Verdict.{Verdict}
 use Rattle.fx_check.specs.Told.{AreApart, HasLines, TellsKnown}
 use Rattle.fx_check.specs.declared.judgement.Fault.{Fault}
+use Rattle.fx_check.specs.declared.judgement.Order.{Order}
 use Rattle.fx_check.proofs.OnlyAccepted.{none_ordered, none_read, none_told, one_ordered}
 use Rattle.fx_check.proofs.Submissions.{IsOrdered, accepted_goes, accepted_keeps, kept_still, same_slots}
 use Rattle.fx_check.proofs.submission.play_accepted.Goals as goal
@@ -31,9 +34,13 @@ returns-in-Legal-clause-kept c =
 
 pub returns-in-Legal-clause-answer : goal.returns-in-Legal-clause-answer
 returns-in-Legal-clause-answer c =
-    let ordered : IsOrdered c.args.catalogue.now c.args.ring.now c.judge_submission.new.ring (all_asked c.args.requests.now) c.in-Ok.told =
-    λ room. (subst (λ (v : Verdict). IsVerdict (ring_with_slots c.args.catalogue.now c.args.ring.now) (all_asked c.args.requests.now) c.in-Ok.told v
-    (ring_with_slots c.args.catalogue.now c.judge_submission.new.ring)) c.in-Legal.is c.in_ok-accesses.ensures.verdict room).0 in
+    let order : Order = c.in_ok-order-in-Legal.order in
+    let before = ring_with_slots c.args.catalogue.now c.args.ring.now in
+    let after = ring_with_slots c.args.catalogue.now c.judge_submission.new.ring in
+    let came : CameBy before (all_asked c.args.requests.now) c.in-Ok.told order.accesses.items after =
+    subst (λ (l : Vec ChainAccess). CameBy before (all_asked c.args.requests.now) c.in-Ok.told l.items after) (sym c.in_ok-order-in-Legal.ensures.accesses)
+    (subst (λ (v : Verdict). IsVerdict before (all_asked c.args.requests.now) c.in-Ok.told v after) c.in-Legal.is c.in_ok-accesses.ensures.verdict) in
+    let numbered : order.submission ≡ c.judge_submission.new.ring.submissions = c.in_ok-order-in-Legal.ensures.submission in
     let found : ReadsReport (length c.args.requests.now) c.args.text.now (Some (lines_in c.in-Some.front.0, c.in-Some.front.1.now)) =
     subst (λ (x : Option (ReportLines × Bor (List ℕ))). ReadsReport (length c.args.requests.now) c.args.text.now (option_map front_of x))
     c.in-Some.is c.in_ok-front.ensures in
@@ -43,8 +50,8 @@ returns-in-Legal-clause-answer c =
     let whole : length c.args.text.now ≡ length (lines_text (lines_in c.in-Some.front.0) ++ c.in-Some.front.1.now) = ap length split in
     let sizes = length-append (lines_text (lines_in c.in-Some.front.0)) c.in-Some.front.1.now in
     accepted_goes c.args.catalogue.now c.args.ring.now c.judge_submission.new.ring (all_asked c.args.requests.now) c.in-Ok.told
-    (lines_in c.in-Some.front.0) c.args.text.now c.in-Some.front.1.now (length c.args.text.now - length c.in-Some.front.1.now)
-    c.requires.kept c.requires.accepted c.requires.few ordered has split (omega arith)
+    (lines_in c.in-Some.front.0) c.args.text.now c.in-Some.front.1.now (length c.args.text.now - length c.in-Some.front.1.now) order
+    c.requires.kept c.requires.accepted c.requires.few came numbered has split (omega arith)
 
 pub returns-in_default-clause-only : goal.returns-in_default-clause-only
 returns-in_default-clause-only c =
