@@ -4,6 +4,9 @@ pub mod ClosesInOrder
 pub mod Steps
 pub mod ListWorked
 pub mod Plays
+pub mod Listed
+pub mod Lists
+pub mod Merged
 pub mod OnePlay
 pub mod Registrations
 pub mod FilesThere

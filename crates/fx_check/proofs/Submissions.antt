@@ -37,6 +37,8 @@ use Rattle.fx_judge.specs.declared.told.RingSlots.{RingSlots}
 use Rattle.fx_judge.specs.declared.told.Told.{Told}
 use Rattle.fx_check.specs.Kept.{AreInRange, IsKept}
 use Rattle.fx_check.specs.Ordered.{MayPrintBy}
+use Rattle.fx_check.specs.Places.{ArePlaces}
+use Rattle.fx_order.specs.Requests.{AreChainsDone}
 use Rattle.fx_check.specs.declared.judgement.Order.{Order}
 use Rattle.fx_check.proofs.OrderFiles.{left_in_range}
 
@@ -111,8 +113,29 @@ module _ (catalogue : List FileEntry) (old new : RingSlots) (asked : List Asked)
   abbrev pub IsOrdered : Type 0
   IsOrdered = (room : ℕ) → IsOneOrder before asked (told_report before told room) after
 
+  -- an order of the submission, at the ring behind it
+  pub ordered_is : (accesses : List ChainAccess) → CameBy before asked told accesses after → IsOrderOf accesses before asked (told_report before told 0)
+  ordered_is accesses came =
+      let first : IsOneOrder before asked (told_report before told 0) after = (came 0).0 in
+      subst (λ (l : List ChainAccess). IsOrderOf l before asked (told_report before told 0)) (came 0).1 first.is
+
+  pub ordered_done : (accesses : List ChainAccess) → CameBy before asked told accesses after
+      → AreChainsDone catalogue (length new.slots.at.items) new.submissions 1 (runs_of asked) accesses (all_completed told.completions.items)
+  ordered_done accesses came =
+      let first : IsOneOrder before asked (told_report before told 0) after = (came 0).0 in
+      let counted : new.submissions ≡ old.submissions + 1 = ap (λ (r : RingState). r.submissions) first.after in
+      let size : length new.slots.at.items ≡ length old.slots.at.items = ap (λ (r : RingState). r.size) first.after in
+      subst (λ (n : ℕ). AreChainsDone catalogue n new.submissions 1 (runs_of asked) accesses (all_completed told.completions.items)) (sym size)
+      (subst (λ (n : ℕ). AreChainsDone catalogue (length old.slots.at.items) n 1 (runs_of asked) accesses (all_completed told.completions.items)) (sym counted)
+      (ordered_is accesses came).done)
+
+  abbrev pub PlacesAt : ℕ → ℕ → Order → Type 0
+  PlacesAt size submission order =
+      ArePlaces catalogue size submission (runs_of asked) (all_completed told.completions.items) order.accesses.items order.places.items
+
   pub accepted_goes : (lines : Lines) (text rest : List ℕ) (count : ℕ) (order : Order) → IsKept catalogue old → fault_of asked ≡ None
       → old.submissions < MOST_SUBMISSIONS → CameBy before asked told order.accesses.items after → order.submission ≡ new.submissions
+      → PlacesAt (length new.slots.at.items) new.submissions order
       → ((number room : ℕ) → lines_of catalogue (record {
         submission = number;
         completions = all_completed told.completions.items;
@@ -120,7 +143,7 @@ module _ (catalogue : List FileEntry) (old new : RingSlots) (asked : List Asked)
       }) ≡ lines)
       → text ≡ lines_text lines ++ rest → count + length rest ≡ length text
       → (count ≤ length text) × MayPrintBy before (SubmitsAll asked) after (take count text) (Some order)
-  accepted_goes lines text rest count order kept accepted few came numbered has split counts = (
+  accepted_goes lines text rest count order kept accepted few came numbered listed has split counts = (
     omega arith,
     λ ring same.
         let report : Reported = told_report before told 0 in
@@ -131,7 +154,8 @@ module _ (catalogue : List FileEntry) (old new : RingSlots) (asked : List Asked)
         let small : (ring_of ring).size ≤ MOST_SLOTS = subst (λ (r : RingState). r.size ≤ MOST_SLOTS) (sym same) kept.few_slots in
         let accesses : List ChainAccess = order.accesses.items in
         let first : IsOneOrder before asked report after = (came 0).0 in
-        let is : IsOrderOf accesses before asked report = subst (λ (l : List ChainAccess). IsOrderOf l before asked report) (came 0).1 first.is in
+        let is : IsOrderOf accesses before asked report = ordered_is accesses came in
+        let size : length new.slots.at.items ≡ length old.slots.at.items = ap (λ (r : RingState). r.size) first.after in
         let led : after ≡ ring_left accesses before = first.after ∙ ap (λ (l : List ChainAccess). ring_left l before) (came 0).1 in
         let counted : new.submissions ≡ old.submissions + 1 = ap (λ (r : RingState). r.submissions) first.after in
         let one : IsOneOrder (ring_of ring) asked report after = subst (λ (r : RingState). IsOneOrder r asked report after) (sym same) first in
@@ -157,6 +181,9 @@ module _ (catalogue : List FileEntry) (old new : RingSlots) (asked : List Asked)
               explained = subst (λ (r : RingState). IsOrderOf accesses r asked report) (sym same) is;
               left = history.1 ∙ led ∙ ap (ring_left accesses) (sym same);
               submission = numbered ∙ counted;
+              places = subst (λ (r : RingState). ArePlaces r.catalogue r.size report.submission (runs_of asked) report.completions accesses order.places.items)
+                  (sym same) (subst (λ (n : ℕ). PlacesAt (length old.slots.at.items) n order) counted
+                  (subst (λ (n : ℕ). PlacesAt n new.submissions order) size listed));
             },
           ),
         ),

@@ -1,6 +1,8 @@
 pub mod Kept
 pub mod Met
 pub mod Told
+pub mod Places
+pub mod PlaceLists
 pub mod Ordered
 pub mod Answer
 pub mod Only

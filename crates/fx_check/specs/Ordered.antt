@@ -2,6 +2,7 @@
 use Rattle.std.specs.Prelude.{◌≡◌, ℕ, List, [], ◌∷◌, ◌++◌, Option, Some, None}
 use Rattle.std.specs.Option.{option_to_list}
 use Rattle.fx_chain.specs.Operation.{Asked}
+use Rattle.fx_chain.specs.Runs.{runs_of}
 use Rattle.fx_order.specs.Order.{IsOrderOf, ring_left}
 use Rattle.fx_ring.specs.Ring.{RingContents, RingState, ring_of}
 use Rattle.fx_ring.specs.Submission.{IsOneHistory, Reported}
@@ -9,6 +10,7 @@ use Rattle.fx_script.specs.Instruction.{Instruction, SubmitsAll}
 use Rattle.fx_script.specs.Play.{IsStart, Prints, PrintsEnd}
 use Rattle.fx_script.specs.Script.{Meaning}
 use Rattle.fx_script.specs.Text.{report_text}
+use Rattle.fx_check.specs.Places.{ArePlaces}
 use Rattle.fx_check.specs.declared.judgement.Order.{Order}
 
 -- an accepted submission leads from one ring to another and prints this, by this order of its requests
@@ -23,6 +25,9 @@ pub record IsReportedBy (old : RingContents) (asked : List Asked) (new : RingCon
   pub explained : IsOrderOf order.accesses.items (ring_of old) asked report
   pub left : ring_of new ≡ ring_left order.accesses.items (ring_of old)
   pub submission : order.submission ≡ report.submission
+  -- and the places that are listed are those of the requests that make them
+  pub places : ArePlaces old.catalogue (ring_of old).size report.submission (runs_of asked)
+      report.completions order.accesses.items order.places.items
 
 -- an order is that of an accepted submission; where there is none, the ring counts no submission
 abbrev pub HasOrder :

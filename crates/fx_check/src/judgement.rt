@@ -1,7 +1,7 @@
 use fx_judge::{Doubt, Reason};
 use fx_order::ChainAccess;
 
-/// Which request makes an access of an order: a person's name for it.
+/// Which request makes an access of an order.
 #[derive(Clone, Copy, Debug, PartialEq, Eq)]
 pub struct AccessPlace {
     /// Which chain of the submission, from 1.
@@ -9,7 +9,7 @@ pub struct AccessPlace {
     /// Which member of the chain, from 1.
     pub member: u32,
     /// For an update the place in its list, from 0.
-    pub entry: Option<u32>,
+    pub entry: Option<usize>,
 }
 
 /// An order of an accepted submission's requests, done one at a time.
@@ -19,7 +19,7 @@ pub struct Order {
     pub submission: u32,
     /// The accesses that the requests make, the first one first. A request that doesn't come to the table makes none.
     pub accesses: Vec<ChainAccess>,
-    /// Whose they are, in the same order. It is advice for a person, and no contract speaks of it.
+    /// Whose they are, in the same order.
     pub places: Vec<AccessPlace>,
 }
 

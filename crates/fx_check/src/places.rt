@@ -1,98 +1,211 @@
-//! Which request makes each access of an order. Nothing is promised of it: an order is looked through by its accesses.
+//! Which request makes each access of an order.
+ghost use Rattle.std.specs.Prelude.{◌≡◌, ◌≤◌, ◌<◌, ◌+◌, ◌++◌, ◌^◌, ℕ, All, IfOk, OnOk, List, length, map, slice_get, Some};
+ghost use Rattle.std.specs.Global.{Vec as Items};
+ghost use Rattle.fx_base.specs.Catalogue.{FileEntry};
+ghost use Rattle.fx_chain.specs.Accepted.{IsChain, members_of};
+ghost use Rattle.fx_chain.specs.Completed.{all_completed, completed_of};
+ghost use Rattle.fx_chain.specs.Operation.{all_asked, operation_of};
+ghost use Rattle.fx_order.specs.Requests.{AreChainsDone, IsChainDone, IsRequestDone};
+ghost use Rattle.fx_order.specs.declared.access.Access.{Access};
+ghost use Rattle.fx_order.specs.declared.access.ChainAccess.{ChainAccess as Made};
+ghost use Rattle.fx_check.specs.PlaceLists.{AreListsOf, IsListFor};
+ghost use Rattle.fx_check.specs.Places.{ArePlaces, IsChainListed, entry_places, own_places, places_of_chain};
+ghost use Rattle.fx_check.specs.declared.judgement.AccessPlace.{AccessPlace as Listed};
+
 use crate::judgement::AccessPlace;
-use fx_base::{Errno, NoMemory};
-use fx_chain::{Chain, Completion, Op, Request};
-use fx_order::ChainAccess;
+use fx_base::NoMemory;
+use fx_chain::{Chain, Completion, Op, Place, Request};
+use fx_order::{ChainAccess, accesses_made, members};
 use std::alloc::Global;
 
-// Whether a request that isn't an update came to a table of so many slots.
-fn is_access(size: u32, request: &Request, c: &Completion) -> bool {
-    let failed = c.res < 0;
-    match &request.op {
-        Op::Open { name: _, target: _ } => !failed || c.res == -Errno::ENFILE.code() && size > 0,
-        Op::Read {
-            slot,
-            off: _,
-            len: _,
-        } => !failed || c.res == -Errno::EBADF.code() && *slot < size,
-        Op::Close { slot: _ } => !failed || c.res == -Errno::EBADF.code(),
-        Op::Update { off: _, list: _ } => !failed,
-    }
+/// The completions of a submission's requests, done at a table of so many slots.
+#[derive(Clone, Copy)]
+pub(crate) struct Answered<'a> {
+    pub size: u32,
+    pub submission: u32,
+    pub requests: &'a [Request],
+    pub chains: &'a [Chain],
+    pub completions: &'a [Completion],
 }
 
-// Puts the places of a request's accesses behind others.
-fn push_places(
-    places: &mut Vec<AccessPlace>,
-    size: u32,
-    request: &Request,
-    c: &Completion,
-) -> Result<(), NoMemory> {
-    if !is_access(size, request, c) {
-        return Ok(());
-    }
-    let place = AccessPlace {
-        chain: c.place.chain,
-        member: c.place.member,
-        entry: None,
-    };
-    let Op::Update { off: _, list } = &request.op else {
-        places.push(place)?;
-        return Ok(());
-    };
+// Puts the places of an update's entries behind others.
+fn push_entries(places: &mut Vec<AccessPlace>, place: Place, list: &[i32]) -> Result<(), NoMemory>
+    ensures { OnOk result (places.new.items ≡ places.old.items ++ entry_places place 0 list.now) }
+{
     for (entry, number) in list.iter().enumerate() {
         if *number >= -1 {
-            let entry = u32::try_from(entry).ok();
-            places.push(AccessPlace { entry, ..place })?;
+            places.push(AccessPlace {
+                chain: place.chain,
+                member: place.member,
+                entry: Some(entry),
+            })?;
         }
     }
     Ok(())
 }
 
-// The places of all accesses, chain by chain, and where those of each chain begin.
-fn places_by_chain(
-    alloc: Global,
+// Puts the places of a request's accesses behind others.
+fn push_own(
+    places: &mut Vec<AccessPlace>,
     size: u32,
-    requests: &[Request],
-    chains: &[Chain],
-    completions: &[Completion],
-) -> Result<(Vec<AccessPlace>, Vec<usize>), NoMemory> {
-    let mut places = Vec::new(alloc);
-    let mut begins = Vec::new(alloc);
-    for chain in chains {
-        begins.push(places.len())?;
-        for i in 0..chain.len as usize {
-            let at = (chain.first as usize).saturating_add(i);
-            if let (Some(request), Some(c)) = (requests.get(at), completions.get(at)) {
-                push_places(&mut places, size, request, c)?;
-            }
+    place: Place,
+    request: &Request,
+    c: &Completion,
+) -> Result<(), NoMemory>
+    ensures { OnOk result ((catalogue : List FileEntry) (own : List Access)
+        → IsRequestDone catalogue size place (operation_of request.now.op) own (completed_of c.now)
+        → places.new.items ≡ places.old.items ++ own_places place (operation_of request.now.op) own) }
+{
+    let made = accesses_made(size, request, c);
+    if let Op::Update { off: _, list } = &request.op {
+        if made > 0 {
+            push_entries(places, place, list)?;
         }
+        return Ok(());
     }
-    Ok((places, begins))
+    for _access in 0..made {
+        places.push(AccessPlace {
+            chain: place.chain,
+            member: place.member,
+            entry: None,
+        })?;
+    }
+    Ok(())
 }
 
-/// Which request makes each access of an order, at a table of so many slots.
+// Puts the places of the accesses of a chain's members, from this place on, behind others.
+fn push_chain(
+    places: &mut Vec<AccessPlace>,
+    size: u32,
+    place: Place,
+    requests: &[Request],
+    completions: &[Completion],
+) -> Result<(), NoMemory>
+    requires { place.member + length requests.now < 2 ^ 32 }
+    ensures { OnOk result ((catalogue : List FileEntry) (accesses : List Access)
+        → IsChainDone catalogue size place (all_asked requests.now) accesses
+        (all_completed completions.now)
+        → (own : List Listed) × (places.new.items ≡ places.old.items ++ own)
+        × IsChainListed catalogue size place (all_asked requests.now) accesses own
+        (all_completed completions.now)) }
+{
+    let [request, requests @ ..] = requests else {
+        return Ok(());
+    };
+    let [c, completions @ ..] = completions else {
+        return Ok(());
+    };
+    push_own(places, size, place, request, c)?;
+    if request.severs(c) {
+        return Ok(());
+    }
+    let next = Place {
+        member: place.member + 1,
+        ..place
+    };
+    push_chain(places, size, next, requests, completions)
+}
+
+// Puts the places of the chains from this one on behind others, a list for each chain.
+fn push_lists(
+    alloc: Global,
+    lists: &mut Vec<Vec<AccessPlace>>,
+    answered: &Answered<'_>,
+    chain: u32,
+    chains: &[Chain],
+    completions: &[Completion],
+) -> Result<(), NoMemory>
+    requires within { All (IsChain (all_asked answered.now.requests.now)) chains.now }
+    requires numbers { chain + length chains.now < 2 ^ 32 }
+    ensures { OnOk result ((catalogue : List FileEntry) (order : List Made)
+        → AreChainsDone catalogue answered.now.size answered.now.submission chain
+        (map (members_of (all_asked answered.now.requests.now)) chains.now) order
+        (all_completed completions.now)
+        → (own : List (Items Listed)) × (lists.new.items ≡ lists.old.items ++ own)
+        × AreListsOf catalogue answered.now.size answered.now.submission chain
+        (map (members_of (all_asked answered.now.requests.now)) chains.now) order own
+        (all_completed completions.now)) }
+{
+    let [first, chains @ ..] = chains else {
+        return Ok(());
+    };
+    let members = members(answered.requests, *first);
+    if completions.len() < members.len() {
+        return Ok(());
+    }
+    let (own, others) = completions.split_at(members.len());
+    let place = Place {
+        submission: answered.submission,
+        chain,
+        member: 1,
+    };
+    let mut places = Vec::new(alloc);
+    push_chain(&mut places, answered.size, place, members, own)?;
+    lists.push(places)?;
+    push_lists(alloc, lists, answered, chain + 1, chains, others)
+}
+
+// The places of all chains, as an order has their accesses.
+fn in_order(
+    alloc: Global,
+    lists: &[Vec<AccessPlace>],
+    order: &[ChainAccess],
+) -> Result<Vec<AccessPlace>, NoMemory>
+    requires chains { All (λ x. (1 ≤ x.chain) × (x.chain ≤ length lists.now)) order.now }
+    requires lists { (k : ℕ) (list : Items Listed) → slice_get lists.now k ≡ Some list
+        → IsListFor order.now (k + 1) list.items }
+    ensures chains { IfOk result (λ places.
+        map (λ p. p.chain) places.items ≡ map (λ x. x.chain) order.now) }
+    ensures lists { IfOk result (λ places. (k : ℕ) (list : Items Listed)
+        → slice_get lists.now k ≡ Some list
+        → places_of_chain (k + 1) places.items ≡ list.items) }
+{
+    let mut next = Vec::new(alloc);
+    for _list in lists {
+        next.push(0usize)?;
+    }
+    let mut places = Vec::new(alloc);
+    for x in order {
+        let chain = x.chain as usize - 1;
+        let at = next[chain];
+        places.push(lists[chain][at])?;
+        next[chain] = at + 1;
+    }
+    Ok(places)
+}
+
+/// Which request makes each access of an order. Its completions come of the order.
 ///
 /// # Errors
 /// `NoMemory` where the memory of the list is refused.
 pub(crate) fn places_of(
     alloc: Global,
-    size: u32,
-    requests: &[Request],
-    chains: &[Chain],
-    completions: &[Completion],
+    answered: &Answered<'_>,
     order: &[ChainAccess],
-) -> Result<Vec<AccessPlace>, NoMemory> {
-    let (places, mut next) = places_by_chain(alloc, size, requests, chains, completions)?;
-    let mut found = Vec::new(alloc);
-    for x in order {
-        let chain = (x.chain as usize).wrapping_sub(1);
-        let Some(at) = next.get_mut(chain) else {
-            continue;
-        };
-        if let Some(place) = places.get(*at) {
-            found.push(*place)?;
-        }
-        *at = at.saturating_add(1);
-    }
-    Ok(found)
+) -> Result<Vec<AccessPlace>, NoMemory>
+    requires within { All (IsChain (all_asked answered.now.requests.now)) answered.now.chains.now }
+    requires few { 1 + length answered.now.chains.now < 2 ^ 32 }
+    requires chains { All (λ x. (1 ≤ x.chain) × (x.chain ≤ length answered.now.chains.now)) order.now }
+    requires done { (catalogue : List FileEntry) × AreChainsDone catalogue answered.now.size
+        answered.now.submission 1
+        (map (members_of (all_asked answered.now.requests.now)) answered.now.chains.now) order.now
+        (all_completed answered.now.completions.now) }
+    ensures { IfOk result (λ places. (catalogue : List FileEntry)
+        → AreChainsDone catalogue answered.now.size answered.now.submission 1
+        (map (members_of (all_asked answered.now.requests.now)) answered.now.chains.now)
+        order.now (all_completed answered.now.completions.now)
+        → ArePlaces catalogue answered.now.size answered.now.submission
+        (map (members_of (all_asked answered.now.requests.now)) answered.now.chains.now)
+        (all_completed answered.now.completions.now) order.now places.items) }
+{
+    let mut lists = Vec::new(alloc);
+    push_lists(
+        alloc,
+        &mut lists,
+        answered,
+        1,
+        answered.chains,
+        answered.completions,
+    )?;
+    in_order(alloc, &lists, order)
 }

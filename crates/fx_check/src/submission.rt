@@ -1,7 +1,9 @@
 //! Submissions, played on what is kept of a ring against a text.
-ghost use Rattle.std.specs.Prelude.{◌≡◌, ◌<◌, ◌≤◌, IfOk, OnOk, length};
+ghost use Rattle.std.specs.Prelude.{◌≡◌, ◌<◌, ◌≤◌, All, IfOk, List, OnOk, length};
+ghost use Rattle.fx_base.specs.Catalogue.{FileEntry};
 ghost use Rattle.fx_plain.specs.declared.table.TheConstants.{MOST_SLOTS};
 ghost use Rattle.fx_chain.specs.Accepted.{IsAccepted};
+ghost use Rattle.fx_chain.specs.Completed.{all_completed};
 ghost use Rattle.fx_chain.specs.Operation.{all_asked};
 ghost use Rattle.fx_chain.specs.Runs.{runs_of};
 ghost use Rattle.fx_ring.specs.declared.ring.TheConstants.{MOST_SUBMISSIONS};
@@ -9,6 +11,8 @@ ghost use Rattle.fx_script.specs.Instruction.{SubmitsAll};
 ghost use Rattle.fx_check.specs.Answer.{IsAnswer};
 ghost use Rattle.fx_check.specs.Kept.{IsKept};
 ghost use Rattle.fx_check.specs.Only.{IsOnlyAnswer};
+ghost use Rattle.fx_check.specs.Places.{ArePlaces};
+ghost use Rattle.fx_order.specs.Requests.{AreChainsDone};
 ghost use Rattle.fx_check.specs.Told.{AreApart, HasLines, TellsAll, TellsKnown};
 ghost use Rattle.fx_table.specs.declared.limits.TheConstants.{MAX_CHAINS};
 
@@ -17,7 +21,7 @@ use crate::blame::wrong_line;
 use crate::judgement::{Fault, Order};
 use crate::known::unknown_file;
 use crate::met::meet;
-use crate::places::places_of;
+use crate::places::{Answered, places_of};
 use crate::told::{files_told, tags_told, wrong_order, wrong_tag};
 use fx_base::{Catalogue, NoMemory};
 use fx_chain::{Request, check, cut};
@@ -90,7 +94,7 @@ fn told_of(
     Ok(Ok(told))
 }
 
-// An order of a submission that was looked through.
+// An order of a submission that was looked through; the ring has counted it.
 fn order_of(
     alloc: Global,
     ring: &RingSlots,
@@ -100,12 +104,29 @@ fn order_of(
 ) -> Result<Order, NoMemory>
     requires accepted { IsAccepted (all_asked requests.now) }
     requires few_slots { length ring.now.slots.at.items ≤ MOST_SLOTS }
+    requires chains { All (λ x. (1 ≤ x.chain)
+        × (x.chain ≤ length (runs_of (all_asked requests.now)))) accesses.items }
+    requires done { (catalogue : List FileEntry) × AreChainsDone catalogue
+        (length ring.now.slots.at.items) ring.now.submissions 1 (runs_of (all_asked requests.now))
+        accesses.items (all_completed told.now.completions.items) }
     ensures accesses { IfOk result (λ order. order.accesses ≡ accesses) }
     ensures submission { IfOk result (λ order. order.submission ≡ ring.now.submissions) }
+    ensures places { IfOk result (λ order. (catalogue : List FileEntry) → AreChainsDone catalogue
+        (length ring.now.slots.at.items) ring.now.submissions 1 (runs_of (all_asked requests.now))
+        accesses.items (all_completed told.now.completions.items)
+        → ArePlaces catalogue (length ring.now.slots.at.items) ring.now.submissions
+        (runs_of (all_asked requests.now)) (all_completed told.now.completions.items)
+        accesses.items order.places.items) }
 {
     let chains = cut(alloc, requests)?;
-    let size = ring.slots.at.len() as u32;
-    let places = places_of(alloc, size, requests, &chains, &told.completions, &accesses)?;
+    let answered = Answered {
+        size: ring.slots.at.len() as u32,
+        submission: ring.submissions,
+        requests,
+        chains: &chains,
+        completions: &told.completions,
+    };
+    let places = places_of(alloc, &answered, &accesses)?;
     Ok(Order {
         submission: ring.submissions,
         accesses,

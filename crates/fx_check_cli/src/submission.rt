@@ -40,7 +40,7 @@ fn is_last(request: &Request, place: AccessPlace) -> bool {
     let (Op::Update { off: _, list }, Some(entry)) = (&request.op, place.entry) else {
         return true;
     };
-    let behind = (entry as usize).saturating_add(1);
+    let behind = entry.saturating_add(1);
     !list.iter().skip(behind).any(|number| *number >= -1)
 }
 

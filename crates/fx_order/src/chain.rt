@@ -21,8 +21,8 @@ fn entries_done(list: &[i32]) -> usize
     list.iter().filter(|entry| **entry >= -1).count()
 }
 
-// How many accesses a request made, if it completed so.
-fn accesses_made(size: u32, request: &Request, c: &Completion) -> usize
+/// How many accesses a request made, if it completed so, at a table of so many slots.
+pub fn accesses_made(size: u32, request: &Request, c: &Completion) -> usize
     ensures { (catalogue : List FileEntry) (place : Place) (own : List Made)
         → IsRequestDone catalogue size place (operation_of request.now.op) own (completed_of c.now)
         → length own ≡ result }

@@ -15,7 +15,8 @@ mod submission;
 mod update;
 
 pub use access::{Access, ChainAccess};
+pub use chain::accesses_made;
 pub use order::{are_closed, make_all};
 pub use report::is_one_order;
 pub use slots::Slots;
-pub use submission::are_chains_done;
+pub use submission::{are_chains_done, members};

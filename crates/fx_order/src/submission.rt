@@ -12,8 +12,8 @@ use fx_base::{Catalogue, NoMemory};
 use fx_chain::{Chain, Completion, MOST_MEMBERS, Place, Request};
 use std::alloc::Global;
 
-// The members of a chain.
-fn members<'a>(requests: &'a [Request], chain: Chain) -> &'a [Request]
+/// The members of a chain, into which the requests were cut ([`fx_chain::cut`]).
+pub fn members<'a>(requests: &'a [Request], chain: Chain) -> &'a [Request]
     requires within { IsChain (all_asked requests.now) chain }
     ensures members { all_asked result.now ≡ members_of (all_asked requests.now) chain }
     ensures few { length result.now ≤ MOST_MEMBERS }

@@ -10,11 +10,14 @@ use Rattle.fx_order.specs.declared.access.ChainAccess.{ChainAccess}
 use Rattle.fx_judge.specs.Verdict.{CameBy, IsVerdict, ring_with_slots}
 use Rattle.fx_judge.specs.declared.told.Told.{Told}
 use Rattle.fx_judge.specs.declared.verdict.Verdict.{Verdict}
+use Rattle.fx_chain.specs.Completed.{all_completed}
+use Rattle.fx_chain.specs.Runs.{runs_of}
+use Rattle.fx_check.specs.Places.{ArePlaces}
 use Rattle.fx_check.specs.Told.{AreApart, HasLines, TellsKnown}
 use Rattle.fx_check.specs.declared.judgement.Fault.{Fault}
 use Rattle.fx_check.specs.declared.judgement.Order.{Order}
 use Rattle.fx_check.proofs.OnlyAccepted.{none_ordered, none_read, none_told, one_ordered}
-use Rattle.fx_check.proofs.Submissions.{IsOrdered, accepted_goes, accepted_keeps, kept_still, same_slots}
+use Rattle.fx_check.proofs.Submissions.{IsOrdered, PlacesAt, accepted_goes, accepted_keeps, ordered_done, ordered_is, kept_still, same_slots}
 use Rattle.fx_check.proofs.submission.play_accepted.Goals as goal
 
 pub order_of-requires-clause-few_slots : goal.order_of-requires-clause-few_slots
@@ -23,6 +26,26 @@ order_of-requires-clause-few_slots c =
     λ room. (subst (λ (v : Verdict). IsVerdict (ring_with_slots c.args.catalogue.now c.args.ring.now) (all_asked c.args.requests.now) c.in-Ok.told v
     (ring_with_slots c.args.catalogue.now c.judge_submission.new.ring)) c.in-Legal.is c.in_ok-accesses.ensures.verdict room).0 in
     same_slots c.args.catalogue.now c.args.ring.now c.judge_submission.new.ring (all_asked c.args.requests.now) c.in-Ok.told ordered c.requires.kept
+
+pub order_of-requires-clause-chains : goal.order_of-requires-clause-chains
+order_of-requires-clause-chains c =
+    let before = ring_with_slots c.args.catalogue.now c.args.ring.now in
+    let after = ring_with_slots c.args.catalogue.now c.judge_submission.new.ring in
+    let asked = all_asked c.args.requests.now in
+    let came : CameBy before asked c.in-Ok.told c.in-Legal.accesses.items after =
+    subst (λ (v : Verdict). IsVerdict before asked c.in-Ok.told v after) c.in-Legal.is c.in_ok-accesses.ensures.verdict in
+    (ordered_is c.args.catalogue.now c.args.ring.now c.judge_submission.new.ring asked c.in-Ok.told c.in-Legal.accesses.items came).chains
+
+pub order_of-requires-clause-done : goal.order_of-requires-clause-done
+order_of-requires-clause-done c =
+    let before = ring_with_slots c.args.catalogue.now c.args.ring.now in
+    let after = ring_with_slots c.args.catalogue.now c.judge_submission.new.ring in
+    let asked = all_asked c.args.requests.now in
+    let came : CameBy before asked c.in-Ok.told c.in-Legal.accesses.items after =
+    subst (λ (v : Verdict). IsVerdict before asked c.in-Ok.told v after) c.in-Legal.is c.in_ok-accesses.ensures.verdict in (
+      c.args.catalogue.now,
+      ordered_done c.args.catalogue.now c.args.ring.now c.judge_submission.new.ring asked c.in-Ok.told c.in-Legal.accesses.items came,
+    )
 
 pub returns-in-Legal-clause-kept : goal.returns-in-Legal-clause-kept
 returns-in-Legal-clause-kept c =
@@ -37,9 +60,17 @@ returns-in-Legal-clause-answer c =
     let order : Order = c.in_ok-order-in-Legal.order in
     let before = ring_with_slots c.args.catalogue.now c.args.ring.now in
     let after = ring_with_slots c.args.catalogue.now c.judge_submission.new.ring in
-    let came : CameBy before (all_asked c.args.requests.now) c.in-Ok.told order.accesses.items after =
-    subst (λ (l : Vec ChainAccess). CameBy before (all_asked c.args.requests.now) c.in-Ok.told l.items after) (sym c.in_ok-order-in-Legal.ensures.accesses)
-    (subst (λ (v : Verdict). IsVerdict before (all_asked c.args.requests.now) c.in-Ok.told v after) c.in-Legal.is c.in_ok-accesses.ensures.verdict) in
+    let asked = all_asked c.args.requests.now in
+    let legal : CameBy before asked c.in-Ok.told c.in-Legal.accesses.items after =
+    subst (λ (v : Verdict). IsVerdict before asked c.in-Ok.told v after) c.in-Legal.is c.in_ok-accesses.ensures.verdict in
+    let came : CameBy before asked c.in-Ok.told order.accesses.items after =
+    subst (λ (l : Vec ChainAccess). CameBy before asked c.in-Ok.told l.items after) (sym c.in_ok-order-in-Legal.ensures.accesses) legal in
+    let listed : PlacesAt c.args.catalogue.now c.args.ring.now c.judge_submission.new.ring asked c.in-Ok.told
+    (length c.judge_submission.new.ring.slots.at.items) c.judge_submission.new.ring.submissions order =
+    subst (λ (l : Vec ChainAccess). ArePlaces c.args.catalogue.now (length c.judge_submission.new.ring.slots.at.items) c.judge_submission.new.ring.submissions
+    (runs_of asked) (all_completed c.in-Ok.told.completions.items) l.items order.places.items) (sym c.in_ok-order-in-Legal.ensures.accesses)
+    (c.in_ok-order-in-Legal.ensures.places c.args.catalogue.now
+    (ordered_done c.args.catalogue.now c.args.ring.now c.judge_submission.new.ring asked c.in-Ok.told c.in-Legal.accesses.items legal)) in
     let numbered : order.submission ≡ c.judge_submission.new.ring.submissions = c.in_ok-order-in-Legal.ensures.submission in
     let found : ReadsReport (length c.args.requests.now) c.args.text.now (Some (lines_in c.in-Some.front.0, c.in-Some.front.1.now)) =
     subst (λ (x : Option (ReportLines × Bor (List ℕ))). ReadsReport (length c.args.requests.now) c.args.text.now (option_map front_of x))
@@ -51,7 +82,7 @@ returns-in-Legal-clause-answer c =
     let sizes = length-append (lines_text (lines_in c.in-Some.front.0)) c.in-Some.front.1.now in
     accepted_goes c.args.catalogue.now c.args.ring.now c.judge_submission.new.ring (all_asked c.args.requests.now) c.in-Ok.told
     (lines_in c.in-Some.front.0) c.args.text.now c.in-Some.front.1.now (length c.args.text.now - length c.in-Some.front.1.now) order
-    c.requires.kept c.requires.accepted c.requires.few came numbered has split (omega arith)
+    c.requires.kept c.requires.accepted c.requires.few came numbered listed has split (omega arith)
 
 pub returns-in_default-clause-only : goal.returns-in_default-clause-only
 returns-in_default-clause-only c =

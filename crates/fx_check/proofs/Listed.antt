@@ -1,0 +1,233 @@
+-- The places of a chain's accesses.
+use Rattle.std.proofs.Common.{◌≡◌, ◌≢◌, ℕ, suc, ◌+◌, ◌<◌, ◌==◌, ◌||◌, nat_lt, Bool, true, false, if◌then◌else◌, ℤ, negsuc, int_le, List, [], ◌∷◌, ◌++◌, All, length}
+use Rattle.std.proofs.Common.{Some, None, refl, sym, ap, subst, ◌∙◌, arith, append-nil, append_assoc, length-append, slice_index_or, drop, take}
+use Rattle.std.specs.Bool.{MatchBool}
+use Rattle.std.specs.List.{list_any}
+use Rattle.std.proofs.lemmas.List.{length-replicate, length-take-le, take_more}
+use Rattle.std.proofs.lemmas.List.Elements.{All-append, All-replicate}
+use Rattle.fx_base.specs.Catalogue.{FileEntry}
+use Rattle.fx_base.specs.declared.errno.Errno.{Errno}
+use Rattle.fx_base.specs.declared.errno.Errno.TheVariants.{EBADF, EINVAL, ENXIO}
+use Rattle.fx_chain.specs.Answers.{is_bad_entry}
+use Rattle.fx_chain.specs.Completed.{Completed, next_member}
+use Rattle.fx_chain.specs.Explains.{canceled, severs}
+use Rattle.fx_chain.specs.Operation.{Asked, Operation, Opens, Reads, Closes, Updates}
+use Rattle.fx_chain.specs.declared.completion.Place.{Place}
+use Rattle.fx_order.specs.Requests.{IsChainDone, IsRefused, IsRequestDone, IsUpdateDone}
+use Rattle.fx_order.specs.declared.access.Access.{Access}
+use Rattle.fx_order.proofs.EntriesMade.{done_ones, entries_made}
+use Rattle.fx_plain.proofs.Cells.{by_equality}
+use Rattle.fx_check.specs.Places.{IsChainListed, entry_places, own_places, place_at}
+use Rattle.fx_check.specs.declared.judgement.AccessPlace.{AccessPlace}
+
+either_way : (b : Bool) (P Q R : Type 0) → (P → R) → (Q → R) → MatchBool b P Q → R
+either_way true P Q R yes_so not_so given = yes_so given
+either_way false P Q R yes_so not_so given = not_so given
+
+-- with one more entry behind the list
+abbrev pub last_place : Place → ℕ → ℤ → List AccessPlace
+last_place place in_list entry = if int_le (negsuc 0) entry then place_at place (Some in_list) ∷ [] else []
+
+pub one_more_entry : (place : Place) (n : ℕ) (list : List ℤ) (entry : ℤ)
+    → entry_places place n (list ++ entry ∷ []) ≡ entry_places place n list ++ last_place place (n + length list) entry
+one_more_entry place n [] entry =
+    append-nil (last_place place n entry) ∙ ap (λ (k : ℕ). last_place place k entry) (let e : n ≡ n + 0 = omega arith in e)
+one_more_entry place n (x ∷ list) entry =
+    ap (λ (l : List AccessPlace). last_place place n x ++ l) (one_more_entry place (n + 1) list entry)
+    ∙ sym (append_assoc (last_place place n x) (entry_places place (n + 1) list) (last_place place (n + 1 + length list) entry))
+    ∙ ap (λ (k : ℕ). (last_place place n x ++ entry_places place (n + 1) list) ++ last_place place k entry)
+    (let e : n + 1 + length list ≡ n + suc (length list) = omega arith in e)
+
+one_taken : (place : Place) (list : List ℤ) (i : ℕ) (d : ℤ) → i < length list
+    → entry_places place 0 (take (i + 1) list) ≡ entry_places place 0 (take i list) ++ last_place place i (slice_index_or list i d)
+one_taken place list i d inside =
+    ap (entry_places place 0) (take_more list i d inside) ∙ one_more_entry place 0 (take i list) (slice_index_or list i d)
+    ∙ ap (λ (k : ℕ). entry_places place 0 (take i list) ++ last_place place k (slice_index_or list i d))
+    (let short = length-take-le i list (omega arith) in let e : 0 + length (take i list) ≡ i = omega arith in e)
+
+pub entry_put : (place : Place) (list : List ℤ) (i : ℕ) (d : ℤ) (old mid : List AccessPlace) → i < length list → int_le (negsuc 0) (slice_index_or list i d) ≡ true
+    → mid ≡ old ++ entry_places place 0 (take i list) → mid ++ place_at place (Some i) ∷ [] ≡ old ++ entry_places place 0 (take (i + 1) list)
+entry_put place list i d old mid inside some so_far =
+    ap (λ (l : List AccessPlace). l ++ place_at place (Some i) ∷ []) so_far
+    ∙ append_assoc old (entry_places place 0 (take i list)) (place_at place (Some i) ∷ [])
+    ∙ ap (λ (b : Bool). old ++ (entry_places place 0 (take i list) ++ (if b then place_at place (Some i) ∷ [] else []))) (sym some)
+    ∙ ap (λ (l : List AccessPlace). old ++ l) (sym (one_taken place list i d inside))
+
+pub entry_skipped : (place : Place) (list : List ℤ) (i : ℕ) (d : ℤ) (old mid : List AccessPlace) → i < length list
+    → int_le (negsuc 0) (slice_index_or list i d) ≡ false → mid ≡ old ++ entry_places place 0 (take i list)
+    → mid ≡ old ++ entry_places place 0 (take (i + 1) list)
+entry_skipped place list i d old mid inside none so_far =
+    so_far ∙ ap (λ (l : List AccessPlace). old ++ l) (sym (append-nil (entry_places place 0 (take i list))))
+    ∙ ap (λ (b : Bool). old ++ (entry_places place 0 (take i list) ++ (if b then place_at place (Some i) ∷ [] else []))) (sym none)
+    ∙ ap (λ (l : List AccessPlace). old ++ l) (sym (one_taken place list i d inside))
+
+-- as many places as entries that aren't skips
+same_count : (b : Bool) (p : AccessPlace) (entry : ℤ) (places : List AccessPlace) (list : List ℤ) → length places ≡ length list
+    → length ((if b then p ∷ [] else []) ++ places) ≡ length (if b then entry ∷ list else list)
+same_count true p entry places list same = ap suc same
+same_count false p entry places list same = same
+
+entries_listed : (place : Place) (n : ℕ) (list : List ℤ) → length (entry_places place n list) ≡ length (done_ones list)
+entries_listed place n [] = refl
+entries_listed place n (entry ∷ list) =
+    same_count (int_le (negsuc 0) entry) (place_at place (Some n)) entry (entry_places place (n + 1) list) (done_ones list)
+    (entries_listed place (n + 1) list)
+
+update_made : (entries size : ℕ) (place : Place) (off : ℕ) (list : List ℤ) (own : List Access) (c : Completed) → length own ≢ 0
+    → IsUpdateDone entries size place off list own c → length own ≡ length (done_ones list)
+update_made entries size place off list own c some =
+    either_way (size == 0) _ _ _ (refused ENXIO)
+    (either_way (length list == 0 || nat_lt size (off + length list)) _ _ _ (refused EINVAL)
+    (either_way (list_any (is_bad_entry entries) list) _ _ _ (refused EBADF) (λ x. entries_made place 0 off list own x.0)))
+  where
+    refused : (errno : Errno) → IsRefused place errno own c → length own ≡ length (done_ones list)
+    refused errno x = absurd (some (ap length x.0))
+
+-- as many places as accesses
+pub own_listed : (catalogue : List FileEntry) (size : ℕ) (place : Place) (operation : Operation) (own : List Access) (c : Completed)
+    → IsRequestDone catalogue size place operation own c → length (own_places place operation own) ≡ length own
+own_listed catalogue size place (Opens name target) own c done = length-replicate (length own) (place_at place None)
+own_listed catalogue size place (Reads slot off len) own c done = length-replicate (length own) (place_at place None)
+own_listed catalogue size place (Closes slot) own c done = length-replicate (length own) (place_at place None)
+own_listed catalogue size place (Updates off list) own c done =
+    by_equality (length own) 0 (λ b. length (if b then [] else entry_places place 0 list) ≡ length own) (λ none. sym none)
+    (λ some. entries_listed place 0 list ∙ sym (update_made (length catalogue) size place off list own c some done))
+
+-- the places of an update that made accesses
+pub update_listed : (place : Place) (off : ℕ) (list : List ℤ) (own : List Access) (made : ℕ) → length own ≡ made → 0 < made
+    → own_places place (Updates off list) own ≡ entry_places place 0 list
+update_listed place off list own made count some =
+    by_equality (length own) 0 (λ b. (if b then [] else entry_places place 0 list) ≡ entry_places place 0 list)
+    (λ none. absurd (omega arith)) (λ other. refl)
+
+pub update_not_listed : (place : Place) (off : ℕ) (list : List ℤ) (own : List Access) (made : ℕ) → length own ≡ made → made ≡ 0
+    → own_places place (Updates off list) own ≡ []
+update_not_listed place off list own made count none =
+    by_equality (length own) 0 (λ b. (if b then [] else entry_places place 0 list) ≡ []) (λ same. refl)
+    (λ some. absurd (some (count ∙ none)))
+
+-- they are all of the chain
+abbrev pub AreOfChain : ℕ → List AccessPlace → Type 0
+AreOfChain chain places = All (λ p. p.chain ≡ chain) places
+
+one_of_chain : (b : Bool) (place : Place) (n : ℕ) → AreOfChain place.chain (if b then place_at place (Some n) ∷ [] else [])
+one_of_chain true place n = All-replicate (λ (p : AccessPlace). p.chain ≡ place.chain) 1 (place_at place (Some n)) refl
+one_of_chain false place n = All-replicate (λ (p : AccessPlace). p.chain ≡ place.chain) 0 (place_at place (Some n)) refl
+
+none_of_chain : (chain : ℕ) → AreOfChain chain []
+none_of_chain chain = All-replicate (λ (p : AccessPlace). p.chain ≡ chain) 0 (record { chain = chain; member = 0; entry = None }) refl
+
+entries_of_chain : (place : Place) (n : ℕ) (list : List ℤ) → AreOfChain place.chain (entry_places place n list)
+entries_of_chain place n [] = none_of_chain place.chain
+entries_of_chain place n (entry ∷ list) =
+    All-append (λ (p : AccessPlace). p.chain ≡ place.chain) (last_place place n entry) (entry_places place (n + 1) list)
+    (one_of_chain (int_le (negsuc 0) entry) place n) (entries_of_chain place (n + 1) list)
+
+own_of_chain : (place : Place) (operation : Operation) (own : List Access) → AreOfChain place.chain (own_places place operation own)
+own_of_chain place (Opens name target) own = All-replicate (λ (p : AccessPlace). p.chain ≡ place.chain) (length own) (place_at place None) refl
+own_of_chain place (Reads slot off len) own = All-replicate (λ (p : AccessPlace). p.chain ≡ place.chain) (length own) (place_at place None) refl
+own_of_chain place (Closes slot) own = All-replicate (λ (p : AccessPlace). p.chain ≡ place.chain) (length own) (place_at place None) refl
+own_of_chain place (Updates off list) own = by (length own == 0)
+  where
+    by : (b : Bool) → AreOfChain place.chain (if b then [] else entry_places place 0 list)
+    by true = none_of_chain place.chain
+    by false = entries_of_chain place 0 list
+
+-- a chain has as many places as accesses
+pub chain_count : (catalogue : List FileEntry) (size : ℕ) (place : Place) (requests : List Asked) (accesses : List Access) (places : List AccessPlace)
+    (completions : List Completed) → IsChainListed catalogue size place requests accesses places completions → length places ≡ length accesses
+chain_count catalogue size place [] accesses places completions x = ap length x.1 ∙ sym (ap length x.0)
+chain_count catalogue size place (request ∷ requests) accesses places completions x =
+    let own = own_listed catalogue size place request.operation x.0 x.3 x.8 in
+    let behind : length x.2 ≡ length x.1 = either_way (severs request x.3) _ _ _ (λ y. ap length y.1 ∙ sym (ap length y.0))
+    (chain_count catalogue size (next_member place) requests x.1 x.2 x.4) x.9 in
+    let one = ap length x.5 ∙ length-append x.0 x.1 in
+    let two = ap length x.7 ∙ length-append (own_places place request.operation x.0) x.2 in
+    omega arith
+
+-- and they are its own
+pub chain_same : (catalogue : List FileEntry) (size : ℕ) (place : Place) (requests : List Asked) (accesses : List Access) (places : List AccessPlace)
+    (completions : List Completed) → IsChainListed catalogue size place requests accesses places completions → AreOfChain place.chain places
+chain_same catalogue size place [] accesses places completions x = subst (AreOfChain place.chain) (sym x.1) (none_of_chain place.chain)
+chain_same catalogue size place (request ∷ requests) accesses places completions x =
+    let behind : AreOfChain place.chain x.2 = either_way (severs request x.3) _ _ _
+    (λ y. subst (AreOfChain place.chain) (sym y.1) (none_of_chain place.chain))
+    (chain_same catalogue size (next_member place) requests x.1 x.2 x.4) x.9 in
+    subst (AreOfChain place.chain) (sym x.7)
+    (All-append (λ (p : AccessPlace). p.chain ≡ place.chain) (own_places place request.operation x.0) x.2 (own_of_chain place request.operation x.0) behind)
+
+-- what is put behind other places, for a chain that was done
+abbrev pub IsPut : List FileEntry → ℕ → Place → List Asked → List Access → List Completed → List AccessPlace → List AccessPlace → Type 0
+IsPut catalogue size place requests accesses completions old new =
+    (own : List AccessPlace) × (new ≡ old ++ own) × IsChainListed catalogue size place requests accesses own completions
+
+pub none_put : (catalogue : List FileEntry) (size : ℕ) (place : Place) (accesses : List Access) (completions : List Completed) (old : List AccessPlace)
+    → IsChainDone catalogue size place [] accesses completions → IsPut catalogue size place [] accesses completions old old
+none_put catalogue size place accesses completions old x = ([], sym (append-nil old), (x.0, refl, x.1))
+
+pub too_few : (catalogue : List FileEntry) (size : ℕ) (place : Place) (request : Asked) (requests : List Asked) (accesses : List Access)
+    → IsChainDone catalogue size place (request ∷ requests) accesses [] → ⊥
+too_few catalogue size place request requests accesses x = let e : 0 ≡ suc (length x.3) = ap length x.5 in absurd (omega arith)
+
+module _ (catalogue : List FileEntry) (size : ℕ) (place : Place) (request : Asked) (requests : List Asked) (c : Completed) (cs : List Completed)
+    (old mid : List AccessPlace)
+    (first : (own : List Access) → IsRequestDone catalogue size place request.operation own c → mid ≡ old ++ own_places place request.operation own) where
+  same_first : (d : Completed) (ds : List Completed) → ◌≡◌ {A = List Completed} (c ∷ cs) (d ∷ ds) → d ≡ c
+  same_first d ds same = sym (ap (λ (l : List Completed). slice_index_or l 0 c) same)
+
+  same_rest : (d : Completed) (ds : List Completed) → ◌≡◌ {A = List Completed} (c ∷ cs) (d ∷ ds) → ds ≡ cs
+  same_rest d ds same = sym (ap (λ (l : List Completed). drop 1 l) same)
+
+  pub severed_put : (accesses : List Access) → severs request c ≡ true → IsChainDone catalogue size place (request ∷ requests) accesses (c ∷ cs)
+      → IsPut catalogue size place (request ∷ requests) accesses (c ∷ cs) old mid
+  severed_put accesses cut x =
+      let d : x.2 ≡ c = same_first x.2 x.3 x.5 in
+      let done = subst (λ (e : Completed). IsRequestDone catalogue size place request.operation x.0 e) d x.6 in
+      let over = subst (λ (b : Bool). MatchBool b ((x.1 ≡ []) × (x.3 ≡ canceled (next_member place) requests))
+      (IsChainDone catalogue size (next_member place) requests x.1 x.3)) (ap (severs request) d ∙ cut) x.7 in (
+        own_places place request.operation x.0,
+        first x.0 done,
+        (
+          x.0,
+          x.1,
+          [],
+          x.2,
+          x.3,
+          x.4,
+          x.5,
+          sym (append-nil (own_places place request.operation x.0)),
+          x.6,
+          subst (λ (b : Bool). MatchBool b ((x.1 ≡ []) × (◌≡◌ {A = List AccessPlace} [] []) × (x.3 ≡ canceled (next_member place) requests))
+              (IsChainListed catalogue size (next_member place) requests x.1 [] x.3)) (sym (ap (severs request) d ∙ cut)) (over.0, refl, over.1),
+        ),
+      )
+
+  pub going_put : (new : List AccessPlace) (accesses : List Access) → severs request c ≡ false
+      → ((others : List Access) → IsChainDone catalogue size (next_member place) requests others cs
+      → IsPut catalogue size (next_member place) requests others cs mid new)
+      → IsChainDone catalogue size place (request ∷ requests) accesses (c ∷ cs)
+      → IsPut catalogue size place (request ∷ requests) accesses (c ∷ cs) old new
+  going_put new accesses goes rest x =
+      let d : x.2 ≡ c = same_first x.2 x.3 x.5 in
+      let done = subst (λ (e : Completed). IsRequestDone catalogue size place request.operation x.0 e) d x.6 in
+      let others = subst (λ (b : Bool). MatchBool b ((x.1 ≡ []) × (x.3 ≡ canceled (next_member place) requests))
+      (IsChainDone catalogue size (next_member place) requests x.1 x.3)) (ap (severs request) d ∙ goes) x.7 in
+      let later = rest x.1 (subst (λ (ds : List Completed). IsChainDone catalogue size (next_member place) requests x.1 ds) (same_rest x.2 x.3 x.5) others) in
+      let own = own_places place request.operation x.0 in (
+        own ++ later.0,
+        later.1 ∙ ap (λ (l : List AccessPlace). l ++ later.0) (first x.0 done) ∙ append_assoc old own later.0,
+        (
+          x.0,
+          x.1,
+          later.0,
+          x.2,
+          x.3,
+          x.4,
+          x.5,
+          refl,
+          x.6,
+          subst (λ (b : Bool). MatchBool b ((x.1 ≡ []) × (later.0 ≡ []) × (x.3 ≡ canceled (next_member place) requests))
+              (IsChainListed catalogue size (next_member place) requests x.1 later.0 x.3)) (sym (ap (severs request) d ∙ goes))
+              (subst (λ (ds : List Completed). IsChainListed catalogue size (next_member place) requests x.1 later.0 ds) (sym (same_rest x.2 x.3 x.5)) later.2),
+        ),
+      )

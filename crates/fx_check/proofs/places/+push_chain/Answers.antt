@@ -1,0 +1,30 @@
+use Rattle.std.proofs.Common.{◌≡◌, ◌-◌, ◌∷◌, List, length, take, drop, sym, ap, subst, ◌∙◌}
+use Rattle.fx_chain.specs.Completed.{all_completed, completed_of}
+use Rattle.fx_chain.specs.Operation.{all_asked, asked_of}
+use Rattle.fx_chain.specs.declared.completion.Completion.{Completion}
+use Rattle.fx_chain.specs.declared.request.Request.{Request}
+use Rattle.fx_order.specs.Requests.{IsChainDone}
+use Rattle.fx_order.proofs.FirstAndRest.{first_and_rest}
+use Rattle.fx_check.proofs.Listed.{IsPut, severed_put}
+use Rattle.fx_check.proofs.places.+push_chain.Goals as goal
+
+pub returns-then-severs : goal.returns-then-severs
+returns-then-severs t c = λ catalogue accesses.
+    let requests : List Request = c.args.requests.now in
+    let completions : List Completion = c.args.completions.now in
+    let request : Request = c.request-item.result in
+    let first : Completion = c.c-item.result in
+    let others : List Request = take (length requests - 1) (drop 1 requests) in
+    let later : List Completion = take (length completions - 1) (drop 1 completions) in
+    let whole_requests : requests ≡ request ∷ others =
+    first_and_rest requests request c.in-len1-up.len_at_least ∙ ap (λ (r : Request). r ∷ others) (sym c.request-item.is) in
+    let whole_completions : completions ≡ first ∷ later =
+    first_and_rest completions first c.in-len1-up-completions.len_at_least ∙ ap (λ (d : Completion). d ∷ later) (sym c.c-item.is) in
+    let old = c.args.places.now.items in
+    let mid = c.push_own.new.places.items in
+    subst (λ (rs : List Request). IsChainDone catalogue c.args.size c.args.place (all_asked rs) accesses (all_completed completions)
+    → IsPut catalogue c.args.size c.args.place (all_asked rs) accesses (all_completed completions) old mid) (sym whole_requests)
+    (subst (λ (cs : List Completion). IsChainDone catalogue c.args.size c.args.place (all_asked (request ∷ others)) accesses (all_completed cs)
+    → IsPut catalogue c.args.size c.args.place (all_asked (request ∷ others)) accesses (all_completed cs) old mid) (sym whole_completions)
+    (severed_put catalogue c.args.size c.args.place (asked_of request) (all_asked others) (completed_of first) (all_completed later) old mid
+    (c.in_ok-push_own.ensures catalogue) accesses (sym c.severs.ensures ∙ c.if-severs.true)))

@@ -1,0 +1,5 @@
+use Rattle.std.proofs.Common.{length}
+use Rattle.fx_check.proofs.places.+push_chain.Given as goal
+
+abbrev pub decreases-push_chain : goal.decreases-push_chain
+decreases-push_chain l = length l.requests.now
