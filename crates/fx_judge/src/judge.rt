@@ -17,7 +17,6 @@ use crate::verdict::{Doubt, Reason, Verdict};
 use fx_base::{Catalogue, Closed, NoMemory};
 use fx_chain::{Request, cut};
 use fx_order::{ChainAccess, Slots, are_chains_done, are_closed, make_all};
-use fx_table::MAX_CHAINS;
 use std::alloc::Global;
 
 // Whether each access is of one of so many chains.
@@ -132,9 +131,6 @@ fn judge_told(
         Err(Stop::Unknown) => return Ok(Outcome::Unsettled(Doubt::NotShown)),
         Err(Stop::NoMemory) => return Err(NoMemory),
     };
-    if claims.len() > MAX_CHAINS as usize {
-        return Ok(Outcome::Unsettled(Doubt::NotShown));
-    }
     let table = TableTold {
         slots: &ring.slots,
         closes: &told.closes,

@@ -1,4 +1,5 @@
 use Rattle.std.proofs.Common.{◌≡◌, ◌+◌, ◌∙◌, List, length, map, sym, ap, subst, arith}
+use Rattle.std.proofs.lemmas.List.{length-map}
 use Rattle.std.specs.Global.{Vec}
 use Rattle.fx_base.specs.declared.open_file.Closed.{Closed}
 use Rattle.fx_chain.specs.Accepted.{members_of}
@@ -15,6 +16,15 @@ use Rattle.fx_judge.specs.declared.claim.Claim.{Claim}
 use Rattle.fx_judge.proofs.Lists.{if_ok_so}
 use Rattle.fx_judge.proofs.Refuting.{moved_done, no_claims, outcome_told}
 use Rattle.fx_judge.proofs.judge.judge_told.Goals as goal
+
+pub judge_table-requires-clause-few : goal.judge_table-requires-clause-few
+judge_table-requires-clause-few c =
+    let asked : List Asked = all_asked c.args.requests.now in
+    let many : length c.in-Ok.claims.items ≡ length c.in_ok-chains.chains.items =
+    c.in-Ok.ensures.0 ∙ length-map c.deref-2.result.now (members_of asked) ∙ ap length c.deref-2.ensures.value in
+    let same = ap length c.deref-5.ensures.value in
+    let few = c.in_ok-chains.ensures.few in
+    omega (arith, c.in_ok-chains.chains.ok.0)
 
 pub returns-in-Err-Refuted : goal.returns-in-Err-Refuted
 returns-in-Err-Refuted c =
