@@ -15,7 +15,9 @@ use crate::answer::Answer;
 use crate::closes::{close_in_order, files_at};
 use crate::judgement::{Break, Fault, Judgement};
 use crate::met::{Met, meet};
-use crate::registration::{play_range, play_register, play_sparse, play_unregister, play_update};
+use crate::registration::{
+    Tagged, play_range, play_register, play_sparse, play_unregister, play_update,
+};
 use crate::submission::play_submission;
 use fx_base::{Catalogue, NoMemory};
 use fx_judge::RingSlots;
@@ -58,18 +60,27 @@ fn play_command(
     let met = match command {
         Command::Sparse(n) => play_sparse(alloc, catalogue, ring, *n, text)?,
         Command::Register(list, None) => {
-            play_register(alloc, catalogue, ring, list, None, text)?
+            play_register(alloc, catalogue, ring, &Tagged { list, tags: None }, text)?
         }
         Command::Register(list, Some(tags)) => {
-            play_register(alloc, catalogue, ring, list, Some(tags), text)?
+            let tags = Some(tags.as_slice());
+            play_register(alloc, catalogue, ring, &Tagged { list, tags }, text)?
         }
         Command::Unregister => play_unregister(alloc, catalogue, ring, text)?,
         Command::Range(off, len) => play_range(alloc, catalogue, ring, (*off, *len), text)?,
         Command::Update(off, list, None) => {
-            play_update(alloc, catalogue, ring, *off, list, None, text)?
+            play_update(
+                alloc,
+                catalogue,
+                ring,
+                *off,
+                &Tagged { list, tags: None },
+                text,
+            )?
         }
         Command::Update(off, list, Some(tags)) => {
-            play_update(alloc, catalogue, ring, *off, list, Some(tags), text)?
+            let tags = Some(tags.as_slice());
+            play_update(alloc, catalogue, ring, *off, &Tagged { list, tags }, text)?
         }
         Command::Submit(requests) => {
             return play_submission(alloc, catalogue, ring, requests, text, states);

@@ -20,6 +20,13 @@ use fx_order::Slots;
 use fx_script::{result_line, with_closes};
 use std::alloc::Global;
 
+/// The list that a call is given, with tags where some are given.
+#[derive(Clone, Copy)]
+pub(crate) struct Tagged<'a> {
+    pub list: &'a [i32],
+    pub tags: Option<&'a [u64]>,
+}
+
 // Looks for the line of a call that found no memory. Where it isn't there, another line was likelier.
 fn or_no_memory(alloc: Global, text: &[u8], word: &str, likelier: String) -> Result<Met, NoMemory>
     ensures { IfOk result (IsMet text.now (result_line word.now (negated ENOMEM))) }
@@ -70,26 +77,28 @@ pub(crate) fn play_register(
     alloc: Global,
     catalogue: &Catalogue,
     ring: &mut RingSlots,
-    list: &[i32],
-    tags: Option<&[u64]>,
+    given: &Tagged<'_>,
     text: &[u8],
 ) -> Result<Met, NoMemory>
     requires { IsKept catalogue.now ring.old }
     ensures step { IfOk result (λ met. IsStep catalogue.now ring.old
-        (RegistersList list.now (option_map (λ given. given.now) tags.entry)) text.now met ring.new) }
+        (RegistersList given.now.list.now (option_map (λ tags. tags.now) given.now.tags))
+        text.now met ring.new) }
     ensures only { IfOk result (λ met. IsOnlyStep catalogue.now ring.old
-        (RegistersList list.now (option_map (λ given. given.now) tags.entry)) text.now met ring.new) }
+        (RegistersList given.now.list.now (option_map (λ tags. tags.now) given.now.tags))
+        text.now met ring.new) }
     ensures counted { ring.new.submissions ≡ ring.old.submissions }
     ensures kept { OnOk result (IsKept catalogue.now ring.new) }
 {
-    if let Some(errno) = register_refusal(catalogue, ring, list, tags) {
+    if let Some(errno) = register_refusal(catalogue, ring, given.list, given.tags) {
         return meet_refusal(alloc, text, "register", errno);
     }
     let met = meet_result(alloc, text, "register", 0)?;
     match met {
         Met::Here(count) => {
-            let mut slots = empty_slots(alloc, list.len() as u32)?;
-            let _none = apply_list(alloc, &mut slots, ring.registrations + 1, 0, list, tags)?;
+            let mut slots = empty_slots(alloc, given.list.len() as u32)?;
+            let k = ring.registrations + 1;
+            let _none = apply_list(alloc, &mut slots, k, 0, given.list, given.tags)?;
             ring.slots = slots;
             ring.registrations += 1;
             Ok(Met::Here(count))
@@ -177,19 +186,20 @@ pub(crate) fn play_update(
     catalogue: &Catalogue,
     ring: &mut RingSlots,
     off: u32,
-    list: &[i32],
-    tags: Option<&[u64]>,
+    given: &Tagged<'_>,
     text: &[u8],
 ) -> Result<Met, NoMemory>
     requires { IsKept catalogue.now ring.old }
     ensures step { IfOk result (λ met. IsStep catalogue.now ring.old
-        (UpdatesRing off list.now (option_map (λ given. given.now) tags.entry)) text.now met ring.new) }
+        (UpdatesRing off given.now.list.now (option_map (λ tags. tags.now) given.now.tags))
+        text.now met ring.new) }
     ensures only { IfOk result (λ met. IsOnlyStep catalogue.now ring.old
-        (UpdatesRing off list.now (option_map (λ given. given.now) tags.entry)) text.now met ring.new) }
+        (UpdatesRing off given.now.list.now (option_map (λ tags. tags.now) given.now.tags))
+        text.now met ring.new) }
     ensures counted { ring.new.submissions ≡ ring.old.submissions }
     ensures kept { OnOk result (IsKept catalogue.now ring.new) }
 {
-    if let Some(errno) = update_refusal(catalogue, ring, off, list, tags) {
+    if let Some(errno) = update_refusal(catalogue, ring, off, given.list, given.tags) {
         return meet_refusal(alloc, text, "regupdate", errno);
     }
     let k = ring.registrations + 1;
@@ -197,9 +207,9 @@ pub(crate) fn play_update(
         range: ring.slots.range,
         at: Vec::from_slice(alloc, &ring.slots.at)?,
     };
-    let files = apply_list(alloc, &mut slots, k, off, list, tags)?;
+    let files = apply_list(alloc, &mut slots, k, off, given.list, given.tags)?;
     let closes = close_in_order(alloc, catalogue, &files)?;
-    let count = list.len() as u32;
+    let count = given.list.len() as u32;
     let line = result_line(alloc, "regupdate", i64::from(count))?;
     let whole = with_closes(alloc, line.as_str(), catalogue, &closes)?;
     let met = meet(text, whole);
