@@ -21,3 +21,4 @@ pub mod ReportInRange
 pub mod OnlyAccepted
 pub mod Tellings
 pub mod Fronts
+pub mod Beginnings

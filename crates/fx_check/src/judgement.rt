@@ -39,7 +39,8 @@ pub enum Fault {
 /// Where a text is seen to be none of its script: what stands in front its first commands may print.
 #[derive(Debug, Drop)]
 pub struct Break {
-    /// How many commands may have printed what stands in front. The next one, or the end, may not print what follows.
+    /// How many commands may have printed what stands in front. With the next one no play prints a beginning of the text,
+    /// unless a line of a closed file or a tag stands right behind it; where there is none, the end may not print what follows.
     pub commands: usize,
     /// How many bytes of the text stand in front.
     pub at: usize,

@@ -116,7 +116,8 @@ fn play_end(
 /// each submission at most so many states of each part that has slots of its own are looked at.
 ///
 /// A text that is legal is one that the script may print, by one play in which each accepted submission comes of its order.
-/// One that isn't legal is none, though its first commands, up to the one that it breaks at, may print what stands in front.
+/// One that isn't legal is none: the commands in front of the one that it breaks at may print what stands in front, and with
+/// that one they print no beginning of the text, unless a line of a closed file or a tag stands right behind it.
 ///
 /// # Errors
 /// `NoMemory` where memory is refused.

@@ -169,7 +169,7 @@ update_word : IsWord (codes "regupdate")
 unfolding IsWord
 update_word rest = by_first 114 (drop 1 (codes "regupdate") ++ rest) refl refl
 
-command_begins : (old : RingContents) (command : Instruction) (new : RingContents) (line others : List ℕ) → Prints old command new line
+pub command_begins : (old : RingContents) (command : Instruction) (new : RingContents) (line others : List ℕ) → Prints old command new line
     → HasNoCloses others → HasNoCloses (line ++ others)
 command_begins old (MakesSparse n) new line others prints behind =
     answer_begins (sparse_refusal (ring_of old) n) _ (ring_of old) (ring_of new) (codes "sparse") (pos 0) line others sparse_word prints

@@ -2,7 +2,7 @@ use Rattle.std.proofs.Common.{◌≡◌, Option, ◌≤◌, ◌+◌, ◌-◌, Li
 use Rattle.std.proofs.Math.ListN.{drop_of_length-le}
 use Rattle.std.specs.Global.{Vec}
 use Rattle.std.specs.Option.{option_to_list}
-use Rattle.std.proofs.lemmas.List.{drop-drop}
+use Rattle.std.proofs.lemmas.List.{drop-drop, length-map}
 use Rattle.std.proofs.Math.Seq.{take-length}
 use Rattle.fx_ring.specs.Ring.{RingState, new_ring}
 use Rattle.fx_script.specs.Instruction.{Instruction, instruction_of, instructions_of}
@@ -15,6 +15,7 @@ use Rattle.fx_check.specs.Ordered.{IsTextBy, MayPrintAllBy, MayPrintBy}
 use Rattle.fx_check.specs.Only.{IsOnlyAnswer, LeadsNowhere, LeadsTo}
 use Rattle.fx_check.specs.declared.answer.Answer.{Answer}
 use Rattle.fx_check.specs.declared.judgement.Order.{Order}
+use Rattle.fx_check.proofs.Beginnings.{CanBegin, GoesAlong, along_next, no_next}
 use Rattle.fx_check.proofs.Fronts.{one_back, printed_front}
 use Rattle.fx_check.proofs.OnePlay.{CanPrintAll, begins, ended, further, no_further}
 use Rattle.fx_check.proofs.Plays.{is_text, may_print, one_further, whole_text}
@@ -35,6 +36,13 @@ loop-done-init c = record {
       (instructions_of c.commands-commands.result.now)
       (sym (c.new_ring-ring.ensures.ring c.catalogue-catalogue.result.now ∙ ap new_ring c.catalogue-catalogue.ensures.value))
       (sym c.commands-commands.ensures) is;
+  along = λ more can.
+      let e : 0 + more ≡ more = omega arith in
+      subst (λ (s : RingState). CanBegin s (take more (instructions_of c.commands-commands.result.now)) c.args.text.now)
+      (sym (c.new_ring-ring.ensures.ring c.catalogue-catalogue.result.now ∙ ap new_ring c.catalogue-catalogue.ensures.value))
+      (subst (λ (cs : List Instruction). CanBegin (new_ring c.args.script.now.catalogue) (take more cs) c.args.text.now)
+      (sym c.commands-commands.ensures)
+      (subst (λ (n : ℕ). CanBegin (new_ring c.args.script.now.catalogue) (take n c.args.script.now.commands) c.args.text.now) e can));
   back = λ cs t may. subst (λ (s : RingState). MayPrintFront s cs t)
       (c.new_ring-ring.ensures.ring c.catalogue-catalogue.result.now ∙ ap new_ring c.catalogue-catalogue.ensures.value) may;
 }
@@ -52,6 +60,11 @@ loop-done-preserved c =
     c.in-Printed.is
     (subst (λ (t : List ℕ). IsAnswer c.catalogue-catalogue.result.now c.loop-done.ring (instruction_of command) t c.in_ok-count.field-0 c.play_command.new.ring)
     same c.in_ok-count.ensures.answer) in
+    let leads : LeadsTo old (instruction_of command) rest c.in-Printed.count new =
+    subst (λ (a : Answer). IsOnlyAnswer c.catalogue-catalogue.result.now c.loop-done.ring (instruction_of command) rest a c.play_command.new.ring)
+    c.in-Printed.is
+    (subst (λ (t : List ℕ). IsOnlyAnswer c.catalogue-catalogue.result.now c.loop-done.ring (instruction_of command) t c.in_ok-count.field-0 c.play_command.new.ring)
+    same c.in_ok-count.ensures.only) in
     record {
       inside = let front = answer.0 in let before = c.loop-done.invariant.inside in omega arith;
       kept = c.in_ok-count.ensures.kept;
@@ -67,40 +80,46 @@ loop-done-preserved c =
           (c.loop-done.invariant.legal (own ++ later) (one_further c.commands-commands.result.now c.loop-done.done command old new c.args.text.now
           c.loop-done.at c.in-Printed.count c.in-Printed.order later c.loop-done-test.true c.index-commands-done.is answer.1 may));
       only = λ is.
-          let leads : LeadsTo old (instruction_of command) rest c.in-Printed.count new =
-          subst (λ (a : Answer). IsOnlyAnswer c.catalogue-catalogue.result.now c.loop-done.ring (instruction_of command) rest a c.play_command.new.ring)
-          c.in-Printed.is
-          (subst (λ (t : List ℕ). IsOnlyAnswer c.catalogue-catalogue.result.now c.loop-done.ring (instruction_of command) t c.in_ok-count.field-0 c.play_command.new.ring)
-          same c.in_ok-count.ensures.only) in
           subst (λ (t : List ℕ). CanPrintAll new (instructions_of (drop (c.loop-done.done + 1) c.commands-commands.result.now)) t)
           (drop-drop c.in-Printed.count c.loop-done.at c.args.text.now)
           (further c.commands-commands.result.now c.loop-done.done command old rest c.loop-done-test.true c.index-commands-done.is new c.in-Printed.count leads
           (c.loop-done.invariant.only is));
+      along =
+          subst (λ (t : List ℕ). GoesAlong (new_ring c.args.script.now.catalogue) c.args.script.now.commands c.args.text.now (c.loop-done.done + 1) new
+          (instructions_of (drop (c.loop-done.done + 1) c.commands-commands.result.now)) t)
+          (drop-drop c.in-Printed.count c.loop-done.at c.args.text.now)
+          (along_next c.commands-commands.result.now c.loop-done.done command old rest c.loop-done-test.true c.index-commands-done.is
+          (new_ring c.args.script.now.catalogue) c.args.script.now.commands c.args.text.now c.loop-done.invariant.along new c.in-Printed.count leads);
       back = one_back (new_ring c.args.script.now.catalogue) old new c.commands-commands.result.now c.loop-done.done command c.args.text.now c.loop-done.at
           c.in-Printed.count c.loop-done-test.true c.index-commands-done.is
           (may_print old new (instruction_of command) (take c.in-Printed.count rest) c.in-Printed.order answer.1) c.loop-done.invariant.back;
     }
 
 pub returns-in-Broken : goal.returns-in-Broken
-returns-in-Broken c = record {
-  none = λ is.
-      let rest = drop c.loop-done.at c.args.text.now in
-      let size = length-drop c.loop-done.at c.args.text.now in
-      let same : take (length c.args.text.now - c.loop-done.at) rest ≡ rest = ap (λ (n : ℕ). take n rest) (sym size) ∙ take-length rest in
-      let commands = c.commands-commands.result.now in
-      let command = c.index-commands-done.result in
-      let old = ring_with_slots c.catalogue-catalogue.result.now c.loop-done.ring in
-      let nowhere : LeadsNowhere old (instruction_of command) rest =
-      subst (λ (a : Answer). IsOnlyAnswer c.catalogue-catalogue.result.now c.loop-done.ring (instruction_of command) rest a c.play_command.new.ring)
-      c.in-Broken.is
-      (subst (λ (t : List ℕ). IsOnlyAnswer c.catalogue-catalogue.result.now c.loop-done.ring (instruction_of command) t c.in_ok-count.field-0 c.play_command.new.ring)
-      same c.in_ok-count.ensures.only) in
-      no_further commands c.loop-done.done command old rest c.loop-done-test.true c.index-commands-done.is nowhere (c.loop-done.invariant.only is);
-  inside = c.loop-done.invariant.inside;
-  front = printed_front (new_ring c.args.script.now.catalogue) (ring_with_slots c.catalogue-catalogue.result.now c.loop-done.ring)
-      (take c.loop-done.done (instructions_of c.commands-commands.result.now)) (take c.loop-done.done c.args.script.now.commands)
-      (take c.loop-done.at c.args.text.now) (ap (λ (cs : List Instruction). take c.loop-done.done cs) c.commands-commands.ensures) c.loop-done.invariant.back;
-}
+returns-in-Broken c =
+    let rest = drop c.loop-done.at c.args.text.now in
+    let size = length-drop c.loop-done.at c.args.text.now in
+    let same : take (length c.args.text.now - c.loop-done.at) rest ≡ rest = ap (λ (n : ℕ). take n rest) (sym size) ∙ take-length rest in
+    let commands = c.commands-commands.result.now in
+    let command = c.index-commands-done.result in
+    let old = ring_with_slots c.catalogue-catalogue.result.now c.loop-done.ring in
+    let nowhere : LeadsNowhere old (instruction_of command) rest =
+    subst (λ (a : Answer). IsOnlyAnswer c.catalogue-catalogue.result.now c.loop-done.ring (instruction_of command) rest a c.play_command.new.ring)
+    c.in-Broken.is
+    (subst (λ (t : List ℕ). IsOnlyAnswer c.catalogue-catalogue.result.now c.loop-done.ring (instruction_of command) t c.in_ok-count.field-0 c.play_command.new.ring)
+    same c.in_ok-count.ensures.only) in
+    record {
+      none = λ is.
+          no_further commands c.loop-done.done command old rest c.loop-done-test.true c.index-commands-done.is nowhere (c.loop-done.invariant.only is);
+      inside = c.loop-done.invariant.inside;
+      front = printed_front (new_ring c.args.script.now.catalogue) old
+          (take c.loop-done.done (instructions_of commands)) (take c.loop-done.done c.args.script.now.commands)
+          (take c.loop-done.at c.args.text.now) (ap (λ (cs : List Instruction). take c.loop-done.done cs) c.commands-commands.ensures) c.loop-done.invariant.back;
+      next = λ there ring starts prints.
+          no_next commands c.loop-done.done command old rest c.loop-done-test.true c.index-commands-done.is
+          (new_ring c.args.script.now.catalogue) c.args.script.now.commands c.args.text.now c.loop-done.invariant.along nowhere
+          (record { ring = ring; same = starts; prints = prints });
+    }
 
 pub returns : goal.returns
 returns c = record {
@@ -125,6 +144,13 @@ returns c = record {
       (take c.loop-done.at c.args.text.now)
       (ap (λ (n : ℕ). take n (instructions_of c.commands-commands.result.now)) all
       ∙ ap (λ (cs : List Instruction). take (length c.commands-commands.result.now) cs) c.commands-commands.ensures) c.loop-done.invariant.back;
+  next = λ there ring starts prints.
+      let past = c.loop-done-test.false in
+      let as_many : length (instructions_of c.commands-commands.result.now) ≡ length c.commands-commands.result.now =
+      length-map c.commands-commands.result.now instruction_of in
+      let all : length c.args.script.now.commands ≡ length (instructions_of c.commands-commands.result.now) =
+      ap (λ (cs : List Instruction). length cs) (sym c.commands-commands.ensures) in
+      absurd (omega arith);
 }
 
 pub returns-in-None : goal.returns-in-None

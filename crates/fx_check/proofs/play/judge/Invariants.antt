@@ -6,6 +6,7 @@ use Rattle.fx_script.specs.Play.{IsText}
 use Rattle.fx_check.specs.Kept.{IsKept}
 use Rattle.fx_check.specs.Ordered.{IsTextBy, MayPrintAllBy}
 use Rattle.fx_check.specs.declared.judgement.Order.{Order}
+use Rattle.fx_check.proofs.Beginnings.{GoesAlong}
 use Rattle.fx_check.proofs.Fronts.{GoesBack}
 use Rattle.fx_check.proofs.OnePlay.{CanPrintAll}
 use Rattle.fx_check.proofs.play.judge.Given as goal
@@ -18,5 +19,7 @@ invariant-loop-done l = record {
       → IsTextBy l.script l.text (l.orders.items ++ later);
   only : IsText l.script l.text
       → CanPrintAll (ring_with_slots l.catalogue l.ring) (instructions_of (drop l.done l.commands)) (drop l.at l.text);
+  along : GoesAlong (new_ring l.script.catalogue) l.script.commands l.text l.done (ring_with_slots l.catalogue l.ring)
+      (instructions_of (drop l.done l.commands)) (drop l.at l.text);
   back : GoesBack (new_ring l.script.catalogue) (take l.done (instructions_of l.commands)) (take l.at l.text) (ring_with_slots l.catalogue l.ring);
 }
