@@ -1,12 +1,11 @@
 -- The files that a call closes are at slots of the ring, so their marks tell them apart.
 use Rattle.std.proofs.Common.{◌≡◌, ℕ, zero, suc, ◌+◌, ℤ, pos, negsuc, List, [], ◌∷◌, ◌++◌, All, refl, sym, ap, subst, ◌∙◌, arith, Option, Some, None}
 use Rattle.std.specs.Option.{option_to_list}
-use Rattle.std.proofs.lemmas.List.Elements.{All-append}
+use Rattle.std.proofs.lemmas.List.Elements.{All-append, All-cons, All-nil}
 use Rattle.fx_base.specs.CloseListView.{CloseListView}
 use Rattle.fx_base.specs.declared.open_file.Closed.{Closed}
 use Rattle.fx_ring.specs.Registration.{removed_by, removed_from}
 use Rattle.fx_ring.specs.Ring.{HasClosed, IsRing, RingState, files_in_order, files_of}
-use Rattle.fx_ring.proofs.Rings.{only_one}
 use Rattle.fx_script.specs.Play.{PrintsClosed, PrintsEnd}
 use Rattle.fx_script.specs.Text.{closes_text, teardown_text}
 use Rattle.fx_check.proofs.ClosesInOrder.{one_close_list}
@@ -16,7 +15,7 @@ IsAtOne at file = (slot : ℕ) × (at slot ≡ Some file)
 
 listed : (at : ℕ → Option Closed) (slot : ℕ) (x : Option Closed) → at slot ≡ x → All (IsAtOne at) (option_to_list x)
 listed at slot None is = λ k d inside. absurd (omega arith)
-listed at slot (Some file) is = only_one (IsAtOne at) file (slot, is)
+listed at slot (Some file) is = All-cons (IsAtOne at) file [] (slot, is) (All-nil (IsAtOne at))
 
 pub all_in_order : (at : ℕ → Option Closed) (n : ℕ) → All (IsAtOne at) (files_in_order at n)
 all_in_order at zero = λ k d inside. absurd (omega arith)
