@@ -81,10 +81,12 @@ new_file o v file = numbered (next_number o v) file
 abbrev pub Placed : Opening → PassView → ℕ → Closed → Option Retired → PassView → Type 0
 Placed o v slot file None w = Adds o v ([] ▷ Put slot (new_file o v file) None) Idle one_number w
 Placed o v slot file (Some x) w =
-    (f : File) × (x ≡ retired_of f x.takes) × Adds o v ([] ▷ Put slot (new_file o v file) (Some f)) (Retiring f x.takes) one_number w
+    (f : File) × (x ≡ retired_of f x.takes)
+    × Adds o v ([] ▷ Put slot (new_file o v file) (Some f)) (Retiring f x.takes) one_number w
 
 abbrev pub Allocated : Opening → PassView → Closed → Result ℕ Closed → PassView → Type 0
-Allocated o v file (Ok slot) w = (slot < size_of o) × Adds o v ([] ▷ Allocate slot (new_file o v file)) Idle one_number w
+Allocated o v file (Ok slot) w =
+    (slot < size_of o) × Adds o v ([] ▷ Allocate slot (new_file o v file)) Idle one_number w
 Allocated o v file (Err back) w = (back ≡ file) × Adds o v ([] ▷ Full) Idle no_use w
 
 abbrev pub Cleared : Opening → PassView → ℕ → Option Retired → PassView → Type 0

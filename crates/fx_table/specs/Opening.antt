@@ -19,13 +19,15 @@ pub record Opening : Type 0 where
   pub numbers : ℕ
 
 abbrev pub opening_of_chains : Contents → ℕ → ℕ → ℕ → Opening
-opening_of_chains plain chains numbers passes = record { contents = plain; chains = chains; passes = passes; numbers = numbers }
+opening_of_chains plain chains numbers passes =
+    record { contents = plain; chains = chains; passes = passes; numbers = numbers }
 
 -- each chain has all of its numbers
 abbrev pub opening_with : Contents → ℕ → ℕ → Opening
 opening_with plain chains passes = opening_of_chains plain chains CHAIN_NUMBERS passes
 
--- this table was opened for so many chains, of which none installs more than `most` files, and for so many passes
+-- this table was opened for so many chains, of which none installs more than `most` files,
+-- and for so many passes
 pub record IsOpenedFor (plain : Contents) (count most crew : ℕ) (o : Opening) : Type 0 where
   pub contents : o.contents ≡ plain
   pub chains : o.chains ≡ count

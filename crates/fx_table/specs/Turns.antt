@@ -5,7 +5,8 @@ use Rattle.fx_table.specs.Numbers.{chains_of_pass, last_chain_of_pass, number_be
 use Rattle.fx_table.specs.Opening.{Opening}
 use Rattle.fx_table.specs.Pass.{PassView, next_number}
 
--- the pass is one of the table's, whose chains have all their numbers, and has drawn `count` of its chains
+-- the pass is one of the table's, whose chains have all their numbers, and has drawn
+-- `count` of its chains
 pub record HasDrawnInTurn (o : Opening) (count : ℕ) (v : PassView) : Type 0 where
   pub whole : o.numbers ≡ CHAIN_NUMBERS
   pub number : (1 ≤ v.number) × (v.number ≤ o.passes)

@@ -57,9 +57,10 @@ pub trait FileTable: Sync {
         ensures new { IfOk result (λ (_, list). map (λ p. view p) list.items ≡ new_passes passes) }
         ensures refused { IfErr result (λ (back, _). IsGivenBack plain back) };
 
-    /// Shares a settled table as [`FileTable::open`] does, for chains of which none installs more than `most` files, at
-    /// most [`crate::CHAIN_NUMBERS`]: each chain has that many numbers at least, and chain `c`, where each has `n`, those
-    /// from `256 + n * (c - 1)` on. A table may make room for as many alone; one that has no use for `most` opens as ever.
+    /// Shares a settled table as [`FileTable::open`] does, for chains of which none installs more than `most` files, and
+    /// `most` is at most [`crate::CHAIN_NUMBERS`]. Each chain has the same count `n` of numbers, from `most` to
+    /// `CHAIN_NUMBERS`: chain `c` has those from `256 + n * (c - 1)` on. A table that has a use for `most` takes room for
+    /// fewer numbers; any other opens as by `open`.
     ///
     /// # Errors
     /// Those of [`FileTable::open`].
