@@ -18,7 +18,8 @@ abbrev pub lines_before : {A : Type 0} → (A → List ℕ) → List A × List �
 lines_before print front = flat_map print front.0 ++ front.1
 
 -- each of the lines fits, and the rest may stand behind them
-abbrev pub IsFront : {A : Type 0} → (A → Type 0) → (List A → List ℕ → Type 0) → List A × List ℕ → Type 0
+abbrev pub IsFront : {A : Type 0} → (A → Type 0) → (List A → List ℕ → Type 0)
+    → List A × List ℕ → Type 0
 IsFront fits may front = All fits front.0 × may front.0 front.1
 
 -- so many lines, whatever stands behind them
@@ -52,7 +53,8 @@ place_text place = number_text (place.submission, number_text (place.chain, deci
 -- `S.C.M.E`
 abbrev pub entry_text : Place × ℕ → List ℕ
 entry_text entry =
-    number_text (entry.0.submission, number_text (entry.0.chain, number_text (entry.0.member, decimal entry.1)))
+    number_text (entry.0.submission,
+        number_text (entry.0.chain, number_text (entry.0.member, decimal entry.1)))
 
 -- `RES`, and the bytes of a read
 abbrev pub answer_text : ℤ × List ℕ → List ℕ

@@ -12,19 +12,23 @@ use Rattle.fx_lines.specs.Lines.{HasNoCloses, IsResultInRange, is_without}
 -- a text begins with at most one line of a word and a result
 abbrev pub BeginsWithOneResult : Type 0
 BeginsWithOneResult =
-    (word : List ℕ) (res other : ℤ) (behind more : List ℕ) → IsResultInRange res → IsResultInRange other
-    → result_line word res ++ behind ≡ result_line word other ++ more → (res ≡ other) × (behind ≡ more)
+    (word : List ℕ) (res other : ℤ) (behind more : List ℕ)
+    → IsResultInRange res → IsResultInRange other
+    → result_line word res ++ behind ≡ result_line word other ++ more
+    → (res ≡ other) × (behind ≡ more)
 
--- whatever commands are played, their text begins with no line of a closed file, and with none of a tag
+-- whatever commands are played, their text begins with no line of a closed file, and with none
+-- of a tag
 abbrev pub PlaysBeginWithNoClose : Type 0
 PlaysBeginWithNoClose =
-    (ring : RingContents) (commands : List Instruction) (text : List ℕ) → PrintsAll ring commands text → HasNoCloses text
+    (ring : RingContents) (commands : List Instruction) (text : List ℕ)
+    → PrintsAll ring commands text → HasNoCloses text
 
 -- the report of a submission has a completion for each of its requests
 abbrev pub ReportsHaveEachRequest : Type 0
 ReportsHaveEachRequest =
-    (old : RingContents) (asked : List Asked) (report : Reported) (new : RingContents) → IsOneHistory old asked report new
-    → length report.completions ≡ length asked
+    (old : RingContents) (asked : List Asked) (report : Reported) (new : RingContents)
+    → IsOneHistory old asked report new → length report.completions ≡ length asked
 
 -- the name of a catalogue entry has no line end
 abbrev pub NamesHaveNoLineEnd : Type 0

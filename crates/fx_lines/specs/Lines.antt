@@ -43,7 +43,8 @@ line_of_tag tag = tag_line (tag_completion tag)
 -- the lines one behind another: those of the completions, of the closed files, and of the tags
 abbrev pub lines_text : Lines → List ℕ
 lines_text lines =
-    completion_lines lines.completions ++ (flat_map named_line lines.closed ++ flat_map line_of_tag lines.tags)
+    completion_lines lines.completions
+    ++ (flat_map named_line lines.closed ++ flat_map line_of_tag lines.tags)
 
 -- the lines of a report
 abbrev pub lines_of : List FileEntry → Reported → Lines
@@ -62,7 +63,8 @@ pub record IsPlaceInRange (place : Place) : Type 0 where
 -- the numbers of a mark are below 2^32
 abbrev pub IsMarkInRange : Mark → Type 0
 IsMarkInRange (Registered k i) = (k < 2 ^ 32) × (i < 2 ^ 32)
-IsMarkInRange (Submitted s c m e) = IsPlaceInRange (record { submission = s; chain = c; member = m }) × (e < 2 ^ 32)
+IsMarkInRange (Submitted s c m e) =
+    IsPlaceInRange (record { submission = s; chain = c; member = m }) × (e < 2 ^ 32)
 
 -- a result is at least -2^31, and below 2^31
 abbrev pub IsResultInRange : ℤ → Type 0
@@ -103,4 +105,5 @@ pub record IsReportBefore (count : ℕ) (front : Lines × List ℕ) : Type 0 whe
 
 -- the lines of the report that a text begins with, and what stands behind them
 abbrev pub ReadsReport : ℕ → List ℕ → Option (Lines × List ℕ) → Type 0
-ReadsReport count text found = Reads (λ front. lines_text front.0 ++ front.1) (IsReportBefore count) text found
+ReadsReport count text found =
+    Reads (λ front. lines_text front.0 ++ front.1) (IsReportBefore count) text found

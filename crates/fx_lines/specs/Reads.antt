@@ -2,7 +2,8 @@
 use Rattle.std.specs.Prelude.{◌≡◌, ℕ, List, Option, Some, None}
 
 -- a text is printed from this value, which fits, and from no other value that fits
-pub record IsPrintedFrom {A : Type 0} (print : A → List ℕ) (fits : A → Type 0) (text : List ℕ) (value : A) : Type 0 where
+pub record IsPrintedFrom {A : Type 0} (print : A → List ℕ) (fits : A → Type 0)
+    (text : List ℕ) (value : A) : Type 0 where
   pub fits_value : fits value
   pub printed : text ≡ print value
   pub only : (other : A) → fits other → text ≡ print other → other ≡ value
