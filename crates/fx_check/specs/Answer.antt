@@ -8,8 +8,8 @@ use Rattle.fx_check.specs.Ordered.{MayPrintBy}
 use Rattle.fx_check.specs.declared.answer.Answer.{Answer}
 use Rattle.fx_check.specs.declared.answer.Answer.TheVariants.{Printed, Broken, Undecided}
 
--- where the text goes on with what the command may print, by this order if there is one, the ring is
--- led there
+-- where the text goes on with what the command may print, by this order if there is one, the ring
+-- is led there
 abbrev pub IsAnswer :
     List FileEntry → RingSlots → Instruction → List ℕ → Answer → RingSlots → Type 0
 IsAnswer catalogue old command text (Printed count order) new =

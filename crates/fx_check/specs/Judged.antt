@@ -22,8 +22,8 @@ abbrev pub MayPrintFront : RingState → List Instruction → List ℕ → Type 
 MayPrintFront state commands text =
     (ring : RingContents) → ring_of ring ≡ state → PrintsFront ring commands text
 
--- the commands print a beginning of this, and behind it stands no further line of a closed file or a
--- tag, which would be one of theirs
+-- the commands print a beginning of this, and behind it stands no further line of a closed file or
+-- a tag, which would be one of theirs
 abbrev pub PrintsBeginning : RingContents → List Instruction → List ℕ → Type 0
 PrintsBeginning ring [] text = HasNoCloses text
 PrintsBeginning ring (command ∷ commands) text =
@@ -31,8 +31,8 @@ PrintsBeginning ring (command ∷ commands) text =
     × Prints ring command next line × (text ≡ line ++ others)
     × PrintsBeginning next commands others
 
--- the script doesn't print the text: its first commands may print the first bytes, but with the next
--- command they print no beginning of it
+-- the script doesn't print the text: its first commands may print the first bytes, but with the
+-- next command they print no beginning of it
 pub record IsBroken (script : Meaning) (text : List ℕ) (broken : Break) : Type 0 where
   pub none : ¬ (IsText script text)
   pub inside : broken.at ≤ length text

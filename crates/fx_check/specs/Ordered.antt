@@ -13,7 +13,8 @@ use Rattle.fx_script.specs.Text.{report_text}
 use Rattle.fx_check.specs.Places.{ArePlaces}
 use Rattle.fx_check.specs.declared.judgement.Order.{Order}
 
--- an accepted submission leads from one ring to another and prints this, by this order of its requests
+-- an accepted submission leads from one ring to another and prints this, by this order of its
+-- requests
 pub record IsReportedBy (old : RingContents) (asked : List Asked) (new : RingContents)
     (text : List ℕ) (order : Order) : Type 0 where
   -- the report that is printed comes of one legal history
@@ -59,7 +60,8 @@ MayPrintBy old command new line order =
     → (next : RingContents) × (ring_of next ≡ new) × Prints ring command next line
     × HasOrder ring command next line order
 
--- each ring of this state may print this by these commands and the end of the script, by these orders
+-- each ring of this state may print this by these commands and the end of the script, by these
+-- orders
 abbrev pub MayPrintAllBy : RingState → List Instruction → List ℕ → List Order → Type 0
 MayPrintAllBy state commands text orders =
     (ring : RingContents) → ring_of ring ≡ state → PrintsAllBy ring commands text orders

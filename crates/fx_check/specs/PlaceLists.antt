@@ -10,8 +10,8 @@ use Rattle.fx_order.specs.declared.access.ChainAccess.{ChainAccess}
 use Rattle.fx_check.specs.Places.{IsChainListed}
 use Rattle.fx_check.specs.declared.judgement.AccessPlace.{AccessPlace}
 
--- the places of the chains from this one on, as `AreChainsListed` has them, each chain's in a list of
--- its own
+-- the places of the chains from this one on, as `AreChainsListed` has them, each chain's in a list
+-- of its own
 abbrev pub AreListsOf : List FileEntry → ℕ → ℕ → ℕ → List (List Asked) → List ChainAccess
     → List (Vec AccessPlace) → List Completed → Type 0
 AreListsOf catalogue size submission chain [] order lists completions =

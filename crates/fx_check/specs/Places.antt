@@ -30,8 +30,8 @@ own_places place (Reads slot off len) own = replicate (length own) (place_at pla
 own_places place (Closes slot) own = replicate (length own) (place_at place None)
 own_places place (Updates off list) own = if length own == 0 then [] else entry_places place 0 list
 
--- the members of a chain from this place on make these accesses, one after another, and answer so, as
--- `IsChainDone` has it; and these are the places of the accesses
+-- the members of a chain from this place on make these accesses, one after another, and answer so,
+-- as `IsChainDone` has it; and these are the places of the accesses
 abbrev pub IsChainListed : List FileEntry → ℕ → Place → List Asked → List Access
     → List AccessPlace → List Completed → Type 0
 IsChainListed catalogue size place [] accesses places completions =
@@ -59,8 +59,8 @@ AreChainsListed catalogue size submission chain (run ∷ runs) order places comp
     (accesses_of_chain chain order) (places_of_chain chain places) own
     × AreChainsListed catalogue size submission (chain + 1) runs order places others
 
--- the places of an order's accesses: each is of the chain that makes the access, and those of a chain
--- are of the members that make them
+-- the places of an order's accesses: each is of the chain that makes the access, and those of a
+-- chain are of the members that make them
 pub record ArePlaces (catalogue : List FileEntry) (size submission : ℕ) (runs : List (List Asked))
     (completions : List Completed) (order : List ChainAccess) (places : List AccessPlace)
     : Type 0 where

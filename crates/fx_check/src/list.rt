@@ -1,4 +1,4 @@
-//! Lists of numbers that are worked off on the slots of a model.
+//! Lists of numbers that change the slots of a model, one after another.
 ghost use Rattle.std.specs.Prelude.{◌≡◌, ℤ, ◌+◌, ◌^◌, ◌<◌, ◌≤◌, false, IfOk, OnOk, List, length, None};
 ghost use Rattle.std.specs.List.{list_any};
 ghost use Rattle.std.specs.Option.{option_to_list};

@@ -111,7 +111,7 @@ impl<'a> History<'a> {
         Ok(())
     }
 
-    // Tells how a list is worked off, from a slot on.
+    // Tells what each number of a list does to its slot, from one on.
     fn tell_list(
         &mut self,
         off: u32,
