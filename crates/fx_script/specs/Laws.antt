@@ -24,4 +24,5 @@ IsScriptOrFaulty bytes = IsOneScript bytes ⊎ HasOneFault bytes
 
 -- the files of each script are a catalogue, of bytes alone
 abbrev pub EachScriptHasFiles : Type 0
-EachScriptHasFiles = (bytes : List ℕ) (meaning : Meaning) → IsScript bytes meaning → AreFiles meaning.catalogue
+EachScriptHasFiles =
+    (bytes : List ℕ) (meaning : Meaning) → IsScript bytes meaning → AreFiles meaning.catalogue

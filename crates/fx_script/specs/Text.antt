@@ -26,7 +26,8 @@ got_text got = if length got == 0 then [] else codes " " ++ encode_lower got
 
 -- `S.C.M`
 abbrev pub place_text : Place → List ℕ
-place_text p = decimal p.submission ++ (codes "." ++ (decimal p.chain ++ (codes "." ++ decimal p.member)))
+place_text p =
+    decimal p.submission ++ (codes "." ++ (decimal p.chain ++ (codes "." ++ decimal p.member)))
 
 -- the place, `RES`, and the bytes of a read
 abbrev pub completion_line : Completed → List ℕ

@@ -23,7 +23,7 @@ pub enum Ask<'a> {
     Read { slot: u32, off: u32, len: u32 },
     // To empty a slot.
     Close { slot: u32 },
-    // To work a list off.
+    // To change the slots from one on by a list.
     Update { off: u32, list: List<'a> },
 }
 
