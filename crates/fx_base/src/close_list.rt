@@ -64,10 +64,9 @@ impl CloseList {
         self.room -= 1;
     }
 
-    /// Adds the files of another list at the end, in their order. They take as much of the room as there are files, and
-    /// the other's room is given up. The caller has seen that there is room for all of them, as where
-    /// [`CloseList::room`] is at least the number of the other's [`CloseList::files`], so it can't fail for want of
-    /// memory.
+    /// Adds the files of another list at the end, in their order. The room falls by their number, and the other list's
+    /// own room is lost. It can't fail: the caller has seen that the room ([`CloseList::room`]) is at least the number of
+    /// the other's files ([`CloseList::files`]).
     pub fn append(&mut self, other: CloseList)
         requires { length other.files ≤ self.old.room }
         ensures files { self.new.files ≡ self.old.files ++ other.files }

@@ -140,8 +140,8 @@ fn members<T: FileTable>(table: &T, pass: &T::Pass, requests: &[Request]) -> u32
 
 /// Plays the members of a chain, one after another, and adds a completion for each, at its place, to `out`. Behind a
 /// member that severs the chain ([`Request::severs`]) the others complete with ECANCELED and never start
-/// (io_uring_enter(2), "IOSQE_IO_LINK", "IOSQE_IO_HARDLINK"). A chain without members makes no step. The gate's `before` is called in front of each member that
-/// starts, and its `after` behind that member's completion.
+/// (io_uring_enter(2), "IOSQE_IO_LINK", "IOSQE_IO_HARDLINK"). A chain without members makes no step. The gate's `before`
+/// is called in front of each member that starts, and its `after` behind that member's completion.
 ///
 /// The caller has seen that the pass is idle (`is_idle`), has a look-up for each member (`looks_left`) and a number for
 /// each file that they install ([`Request::installs`], `numbers_left`), that the list has room for all that they may

@@ -48,8 +48,8 @@ pub enum Op {
         /// The slot, from 0.
         slot: u32,
     },
-    /// Works a list off, from a slot on (io_uring_prep_files_update(3)): -1 empties its slot, -2 leaves it, and each
-    /// other number installs that catalogue entry.
+    /// Changes the slots from one on, each by its number of a list (io_uring_prep_files_update(3)): -1 empties the slot,
+    /// -2 leaves it as it is, and any other number installs the catalogue entry of that number.
     Update {
         /// The slot of the first entry, from 0.
         off: u32,

@@ -33,8 +33,8 @@ impl PlainTable {
         Some((number, entry))
     }
 
-    /// Gives a hold of the file with this number up. The file comes out, to be closed, where it was retired and this
-    /// was its last hold. The caller knows that the file has a hold, as where [`PlainTable::is_held`].
+    /// Ends one hold of the file with this number. Where the file has been retired and this was its last hold, it comes
+    /// out, to be closed. The caller has seen that the file is held ([`PlainTable::is_held`]).
     pub fn release(&mut self, number: u32) -> Option<OpenFile>
         requires { 0 < (state_of self.old).holds number }
         ensures { EndsHold self.old self.new number result }
