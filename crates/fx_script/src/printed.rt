@@ -87,7 +87,7 @@ pub fn printed_report(
     if workers < 2 || room_of(completions) < LARGE {
         return Ok(Printed::whole(alloc, report_text(alloc, report, catalogue)?));
     }
-    let size = completions.len().div_ceil(workers as usize).max(1);
+    let size = completions.len() / workers as usize + 1;
     let mut others = texts_of(rt, alloc, completions, size)?;
     others.push(with_closes(alloc, "", catalogue, &report.closes)?)?;
     Ok(Printed {
