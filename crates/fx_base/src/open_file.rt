@@ -24,9 +24,9 @@ pub struct OpenFile {
 }
 
 impl Model for OpenFile {
-    ghost use Rattle.fx_base.specs.declared.open_file.Closed.{Closed};
+    ghost use Rattle.fx_base.specs.Identity.{Identity};
 
-    ghost Value = { Closed };
+    ghost Value = { Identity };
 
     ghost view = { λ file. record { mark = file.mark; entry = file.entry; tag = file.tag } };
 }

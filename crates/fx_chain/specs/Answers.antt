@@ -9,7 +9,7 @@ use Rattle.std.specs.List.{list_any}
 use Rattle.fx_base.specs.declared.errno.Errno.{Errno}
 use Rattle.fx_base.specs.declared.errno.Errno.TheVariants.{ENOENT, ENXIO, EBADF, ENOMEM, EINVAL, ENFILE}
 use Rattle.fx_base.specs.declared.mark.Mark.TheVariants.{Submitted}
-use Rattle.fx_base.specs.declared.open_file.Closed.{Closed}
+use Rattle.fx_base.specs.Identity.{Identity}
 use Rattle.fx_base.specs.Catalogue.{FileEntry, name_at, bytes_at}
 use Rattle.fx_base.specs.AddFault.{has_name}
 use Rattle.fx_plain.specs.declared.event.File.{File}
@@ -24,7 +24,7 @@ use Rattle.fx_chain.specs.declared.request.Target.TheVariants.{Slot, Any}
 
 -- what a file is that a request installs: the place in the list is that of an update's entry, and 0
 -- for an open; it has no tag
-abbrev pub installed : Place → ℕ → ℕ → Closed
+abbrev pub installed : Place → ℕ → ℕ → Identity
 installed place in_list entry = record {
   mark = Submitted place.submission place.chain place.member in_list;
   entry = entry;

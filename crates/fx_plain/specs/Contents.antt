@@ -2,7 +2,7 @@
 -- wait for their retirement, and `numbers_of` how many numbers were prepared.
 use Rattle.std.specs.Prelude.{◌≡◌, ℕ, ◌+◌, ◌<◌, ◌≤◌, ◌^◌, Bool, true, false, List, length, Option, Some, None, slice_index, slice_index_or, slice_set}
 use Rattle.std.specs.Prelude.{nat_lt, if◌then◌else◌, sum_by}
-use Rattle.fx_base.specs.declared.open_file.Closed.{Closed}
+use Rattle.fx_base.specs.Identity.{Identity}
 use Rattle.fx_plain.specs.State.{State}
 use Rattle.fx_plain.specs.declared.event.File.{File}
 use Rattle.fx_plain.specs.declared.table.TheConstants.{MOST_SLOTS}
@@ -74,7 +74,7 @@ numbers_of c = c.numbers
 abbrev pub AllPlaced : List (Option ℕ) → List Node → Type 0
 AllPlaced slots nodes =
     (slot number : ℕ) → slot_at slots slot ≡ Some number
-    → (file : Closed) × (node_at nodes number ≡ At slot file)
+    → (file : Identity) × (node_at nodes number ≡ At slot file)
 
 -- no slot has the number of another one
 abbrev pub HaveOwnNumbers : List (Option ℕ) → Type 0
@@ -130,18 +130,18 @@ node_after_retirement (Leaving file) = Retired file
 node_after_retirement node = node
 
 -- the file of a node, wherever it stands
-abbrev pub file_in : Node → Option Closed
+abbrev pub file_in : Node → Option Identity
 file_in (At slot file) = Some file
 file_in (Leaving file) = Some file
 file_in (Retired file) = Some file
 file_in _ = None
 
 -- a node as passes begin, for the file that was at a slot
-abbrev pub moved_node : Option Closed → ℕ → Node
+abbrev pub moved_node : Option Identity → ℕ → Node
 moved_node None slot = Gone
 moved_node (Some file) slot = At slot file
 
-abbrev pub file_named : List Node → Option ℕ → Option Closed
+abbrev pub file_named : List Node → Option ℕ → Option Identity
 file_named nodes None = None
 file_named nodes (Some number) = file_in (node_at nodes number)
 

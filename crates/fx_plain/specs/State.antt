@@ -1,7 +1,7 @@
 -- The states of a file table (io_uring_register(2), "IORING_REGISTER_FILES"; the numbers and holds
 -- are this project's own).
 use Rattle.std.specs.Prelude.{◌≡◌, ℕ, zero, suc, ◌+◌, ◌<◌, ◌≤◌, Bool, false, ◌&&◌, not, nat_lt, List, [], ◌∷◌, ◌++◌, Option, Some, None}
-use Rattle.fx_base.specs.declared.open_file.Closed.{Closed}
+use Rattle.fx_base.specs.Identity.{Identity}
 use Rattle.fx_plain.specs.declared.event.File.{File}
 
 -- what a table holds, what it has given up, and who uses it
@@ -55,15 +55,15 @@ opening st numbers = record {
   fresh = λ number. not (nat_lt number st.size) && nat_lt number numbers;
 }
 
-abbrev pub identities_of : Option File → List Closed
+abbrev pub identities_of : Option File → List Identity
 identities_of None = []
 identities_of (Some f) = f.identity ∷ []
 
 -- what stands at the first so many slots, in their order
-abbrev pub files_in_order : (ℕ → Option File) → ℕ → List Closed
+abbrev pub files_in_order : (ℕ → Option File) → ℕ → List Identity
 files_in_order at zero = []
 files_in_order at (suc n) = files_in_order at n ++ identities_of (at n)
 
 -- the files of a table, in order of slot
-abbrev pub files_of : State → List Closed
+abbrev pub files_of : State → List Identity
 files_of st = files_in_order st.at st.size

@@ -1,7 +1,7 @@
 -- What the calls of a table answer.
 use Rattle.std.specs.Prelude.{◌≡◌, ℕ, zero, suc, ◌+◌, ◌<◌, ◌^◌, ◌==◌, not, ◌&&◌, Bool, true}
 use Rattle.std.specs.Prelude.{if◌then◌else◌, List, [], ◌∷◌, ◌++◌, Option, Some, None, option_map, IfSome}
-use Rattle.fx_base.specs.declared.open_file.Closed.{Closed}
+use Rattle.fx_base.specs.Identity.{Identity}
 use Rattle.fx_plain.specs.State.{State}
 use Rattle.fx_plain.specs.Step.{Steps, changed_at}
 use Rattle.fx_plain.specs.History.{Leads, close_of, ◌▷◌, ◌▷▷◌}
@@ -10,11 +10,11 @@ use Rattle.fx_plain.specs.declared.event.File.{File}
 use Rattle.fx_plain.specs.declared.event.Action.{Action}
 use Rattle.fx_plain.specs.declared.event.Action.TheVariants.{Release}
 
-abbrev pub identity_of : Option File → Option Closed
+abbrev pub identity_of : Option File → Option Identity
 identity_of found = option_map (λ f. f.identity) found
 
 -- what stands at the first so many slots, one after another: a file or none
-abbrev pub slots_in_order : (ℕ → Option File) → ℕ → List (Option Closed)
+abbrev pub slots_in_order : (ℕ → Option File) → ℕ → List (Option Identity)
 slots_in_order at zero = []
 slots_in_order at (suc n) = slots_in_order at n ++ identity_of (at n) ∷ []
 
@@ -22,7 +22,7 @@ abbrev pub number_of : Option File → Option ℕ
 number_of found = option_map (λ f. f.number) found
 
 -- a file under a number
-abbrev pub numbered : ℕ → Closed → File
+abbrev pub numbered : ℕ → Identity → File
 numbered number file = record { number = number; identity = file }
 
 -- the file that a release closes: a retired one whose last hold it was
@@ -57,7 +57,7 @@ pub record LetsLeave (old new : Contents) (action : Action) (found : Option File
 
 -- a hold of the number's file is given up; the file is closed and comes out where it was retired
 -- and this was its last hold
-pub record EndsHold (old new : Contents) (number : ℕ) (out : Option Closed) : Type 0 where
+pub record EndsHold (old new : Contents) (number : ℕ) (out : Option Identity) : Type 0 where
   pub answer : out ≡ identity_of (closed_by_release old number)
   pub steps : (f : File) → f.number ≡ number
       → Leads (state_of old) ([] ▷ Release f ▷▷ close_of (closed_by_release old number))

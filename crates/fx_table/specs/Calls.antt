@@ -1,6 +1,6 @@
 -- What each call of a shared table adds to its pass.
 use Rattle.std.specs.Prelude.{◌≡◌, ℕ, ◌+◌, ◌<◌, ◌≤◌, true, false, List, [], map, Option, Some, None, Result, Ok, Err}
-use Rattle.fx_base.specs.declared.open_file.Closed.{Closed}
+use Rattle.fx_base.specs.Identity.{Identity}
 use Rattle.fx_plain.specs.declared.event.File.{File}
 use Rattle.fx_plain.specs.declared.event.Action.{Action}
 use Rattle.fx_plain.specs.declared.event.Action.TheVariants.{Look, Release, Put, Clear, Take, Allocate, Full, Close}
@@ -49,7 +49,7 @@ pub record Adds (o : Opening) (v : PassView) (actions : List Action) (doing : Do
   pub looks_left : w.looks_left + used.looks ≡ v.looks_left
 
 -- the file that a call hands out to be closed
-abbrev pub IsHandedOut : File → Closed → Type 0
+abbrev pub IsHandedOut : File → Identity → Type 0
 IsHandedOut f file = file ≡ f.identity
 
 -- a draw takes no action: the pass has a later chain, with all numbers of it, or gets `None`
@@ -65,26 +65,26 @@ Looked o v slot (Err Spent) w = (v.looks_left ≡ 0) × (w ≡ v)
 Looked o v slot (Err EmptySlot) w = Adds o v ([] ▷ Look slot None) Idle one_look w
 
 -- what the pass held is `f`
-abbrev pub ReleasesFile : Opening → PassView → File → Option Closed → PassView → Type 0
+abbrev pub ReleasesFile : Opening → PassView → File → Option Identity → PassView → Type 0
 ReleasesFile o v f None w = Adds o v ([] ▷ Release f) Idle no_use w
 ReleasesFile o v f (Some file) w =
     IsHandedOut f file × Adds o v ([] ▷ Release f ▷ Close f) Idle no_use w
 
-abbrev pub Released : Opening → PassView → Hold → Option Closed → PassView → Type 0
+abbrev pub Released : Opening → PassView → Hold → Option Identity → PassView → Type 0
 Released o v hold result w =
     (f : File) × (v.doing ≡ Holding f) × (hold ≡ hold_of f) × ReleasesFile o v f result w
 
 -- a new file has the pass's next number
-abbrev pub new_file : Opening → PassView → Closed → File
+abbrev pub new_file : Opening → PassView → Identity → File
 new_file o v file = numbered (next_number o v) file
 
-abbrev pub Placed : Opening → PassView → ℕ → Closed → Option Retired → PassView → Type 0
+abbrev pub Placed : Opening → PassView → ℕ → Identity → Option Retired → PassView → Type 0
 Placed o v slot file None w = Adds o v ([] ▷ Put slot (new_file o v file) None) Idle one_number w
 Placed o v slot file (Some x) w =
     (f : File) × (x ≡ retired_of f x.takes)
     × Adds o v ([] ▷ Put slot (new_file o v file) (Some f)) (Retiring f x.takes) one_number w
 
-abbrev pub Allocated : Opening → PassView → Closed → Result ℕ Closed → PassView → Type 0
+abbrev pub Allocated : Opening → PassView → Identity → Result ℕ Identity → PassView → Type 0
 Allocated o v file (Ok slot) w =
     (slot < size_of o) × Adds o v ([] ▷ Allocate slot (new_file o v file)) Idle one_number w
 Allocated o v file (Err back) w = (back ≡ file) × Adds o v ([] ▷ Full) Idle no_use w
@@ -103,11 +103,11 @@ Taken o v slot (Ok x) w =
 
 -- what the pass removed is `f`: some pass holds it still, at the end of what was seen, or it is
 -- closed
-abbrev pub RetiresFile : Opening → PassView → File → Option Closed → PassView → Type 0
+abbrev pub RetiresFile : Opening → PassView → File → Option Identity → PassView → Type 0
 RetiresFile o v f None w = (0 < (state_at o w.front).holds f.number) × Adds o v [] Idle no_use w
 RetiresFile o v f (Some file) w = IsHandedOut f file × Adds o v ([] ▷ Close f) Idle no_use w
 
-abbrev pub HasRetired : Opening → PassView → Retired → Option Closed → PassView → Type 0
+abbrev pub HasRetired : Opening → PassView → Retired → Option Identity → PassView → Type 0
 HasRetired o v retired result w =
     (f : File) × (takes : ℕ) × (v.doing ≡ Retiring f takes) × (retired ≡ retired_of f takes)
     × RetiresFile o v f result w
