@@ -1,6 +1,6 @@
 -- A birth keeps the rule, and so does a rest.
 use Rattle.fx_counted.proofs.Words.{◌≡◌, ◌≢◌, ℕ, ◌+◌, ◌*◌, ◌<◌, ◌≤◌, List, [], ◌∷◌, set, length, sym, refl, ap, ◌∙◌, subst, arith, Option, Some, None}
-use Rattle.fx_counted.proofs.Words.{◌⊎◌, inr, ⊎_elim, dite, some, none, ℕ_discrete, get_elem?, takes, gives, rest, stepped, step, set_here, set_else}
+use Rattle.fx_counted.proofs.Words.{inr, ⊎_elim, dite, some, none, ℕ_discrete, get_elem?, takes, gives, rest, stepped, step, set_here, set_else}
 use Rattle.fx_counted.proofs.Words.{Closed, File, changed_at, no_use, next_number, born, Home, NodeAgrees, OwnerAgrees, WorkAgrees, PlacesNext}
 use Rattle.fx_counted.proofs.Words.{Agrees, word_of, place_of, opening_of, chain_in, chain_numbers, first_log, pass_of, IsNumber, state_after_all}
 use Rattle.fx_counted.proofs.Words.{end_in, next_in, held_in, placing, held_of, holding, Phase, spare, placed, emptied, closed, owner, file_in}
@@ -71,7 +71,14 @@ module _ (turn : Turn) where
       may = inr (inr (inl is_spare));
       keeps = λ j u f other there holds same. absurd (unheld b (ap file_in is_spare) j u f there holds same);
       free = λ m other is. let e : busy v.work ≡ 0 = ap busy idle in omega arith;
-      node = (refl, set_here st.homes (place_of v.start b) none (roomy b its_b), n.2, n.3, n.4, n.5);
+      node = record {
+        counts = refl;
+        at_home = set_here st.homes (place_of v.start b) none (roomy b its_b);
+        fresh = n.fresh;
+        no_looks = n.no_looks;
+        no_holds = n.no_holds;
+        not_removed = n.not_removed;
+      };
       known = does_now st.views id v (went turn r.history (Placing b) v.change) (Placing b) here refl;
       held = o.held ∙ ap held_in idle;
       next = (refl, some_left);
@@ -119,7 +126,7 @@ module _ (turn : Turn) where
       let n = in_phase q w.0 (emptied id) w.1 in let o = its_log turn in (
         w.0,
         rest_step q w.0 (emptied id) closed w.1 refl refl (ap held_in is) (ap busy is)
-            (λ m. ap (holding m) is) (refl, refl, n.2, n.3) tt
+            (λ m. ap (holding m) is) record { counts = refl; at_home = refl; no_holds = n.no_holds; not_removed = n.not_removed } tt
             (λ m low high. let p = ap placing is in let s = o.spares m (omega arith) high in
             change_else r.phase q closed m (λ same. cc (sym s ∙ (ap r.phase same ∙ w.1))) ∙ s),
       )
@@ -131,7 +138,14 @@ module _ (turn : Turn) where
       let next : (q ≡ next_in v.start x) × (0 < x.numbers_left) = subst (PlacesNext v.start x) is o.next in (
         w.0,
         rest_step q w.0 (placed id) (spare x.number) w.1 refl refl (ap held_in is)
-            (ap busy is) (λ m. ap (holding m) is) (refl, refl, n.2, n.3, n.4, n.5) tt
+            (ap busy is) (λ m. ap (holding m) is) record {
+              counts = refl;
+              at_home = refl;
+              fresh = n.fresh;
+              no_looks = n.no_looks;
+              no_holds = n.no_holds;
+              not_removed = n.not_removed;
+            } tt
             (λ m low high. let p = ap placing is in
             dite (ℕ_discrete m q) (λ same. change_here r.phase q (spare x.number) m same)
             (λ other. change_else r.phase q (spare x.number) m other ∙ o.spares m (let a = next.0 in omega arith) high)),
@@ -142,7 +156,7 @@ births_keep k slots id i m x has idle left place = by_turn k slots id i m x (λ 
     (λ i _. Births (step slots i born 0 none) m born) has tt place (λ st r here _ fits. let turn = turn_of m x has.1 id st r here in (
       went turn r.history (Placing (b turn idle left)) m.0.change,
       takes (place_of m.0.start (b turn idle left)) None,
-      (in_phase turn (b turn idle left) (its_b turn idle left) (spare x.number) (is_spare turn idle left)).1,
+      (in_phase turn (b turn idle left) (its_b turn idle left) (spare x.number) (is_spare turn idle left)).at_home,
       node_agrees turn (b turn idle left) (its_b turn idle left) born (set st.homes (place_of m.0.start (b turn idle left)) none) r.history
           (placed id)
           (Placing (b turn idle left)) (birth turn idle left),

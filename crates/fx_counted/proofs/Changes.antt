@@ -115,13 +115,13 @@ module _ (turn : Turn) (s : ℕ) (inside : s < slots_of turn.v.start) (stands : 
     Node m ph = NodeAgrees (after a) m (looks r.history m) (word_at st.words (word_of v.start m)) (get_elem? homes' (place_of v.start m)) ph
 
     node_here : Node n (seated s file)
-    node_here = let o = node in let h = ap (λ (z : State). z.holds n) does.state in (
-      omega arith,
-      set_here st.homes (place_of v.start n) (some (Some file)) (roomy turn n its.0),
-      (let z = in_size in let q = ap (λ (z : State). z.size) does.state in omega arith),
-      ap (λ (z : State). z.at s) does.state ∙ change_here s₀.at s (Some (numbered n file)) s refl,
-      ap (λ (z : State). z.removed n) does.state ∙ (removed_else s₀.removed old n apart_old ∙ o.5),
-    )
+    node_here = let o = node in let h = ap (λ (z : State). z.holds n) does.state in record {
+      counts = let a = o.counts in let b = o.no_looks in let c = o.no_holds in omega arith;
+      at_home = set_here st.homes (place_of v.start n) (some (Some file)) (roomy turn n its.0);
+      inside = let z = in_size in let q = ap (λ (z : State). z.size) does.state in omega arith;
+      there = ap (λ (z : State). z.at s) does.state ∙ change_here s₀.at s (Some (numbered n file)) s refl;
+      not_removed = ap (λ (z : State). z.removed n) does.state ∙ (removed_else s₀.removed old n apart_old ∙ o.not_removed);
+    }
 
     node_else : (m : ℕ) → IsNumber v.start m → m ≢ n → NotOf m old → Node m (r.phase m)
     node_else m has other apart = node_same s₀ (after a) m (looks r.history m) (looks r.history m) _ _ _ _
@@ -141,7 +141,7 @@ module _ (turn : Turn) (s : ℕ) (inside : s < slots_of turn.v.start) (stands : 
       homes = length-set st.homes (place_of v.start n) (some (Some file));
       names = (name_made n file.entry small, entry_made n file.entry small);
       no_takes = takes_made n file.entry;
-      seat = (its.0, takes_made n file.entry ∙ sym node.3, here_phase);
+      seat = (its.0, takes_made n file.entry ∙ sym node.no_looks, here_phase);
       new_apart = λ f is. let same : n ≡ f.number = (let e : numbered n file ≡ f = cc is in
           ap (λ (f : File). f.number) e) in subst (λ (m : ℕ). NotOf m old) same apart_old;
       seats = λ m i g is. else_phase m (seated i g) is (λ bad. cc bad);

@@ -6,7 +6,7 @@ use Rattle.fx_counted.proofs.Words.{numbered, File, Event, Action, Look, Put, Cl
 use Rattle.fx_counted.proofs.Words.{PassView, contains_none, contains_head, contains_tail, contains_cases, contains_map, contains_mapped, sum_two}
 use Rattle.fx_counted.proofs.Words.{sum_map, Does, LogAgrees, NodeAgrees, OwnerAgrees, lengths, Agrees, looks, word_of, place_of, slot_place, Shared}
 use Rattle.fx_counted.proofs.Words.{opening_of, slots_of, chain_numbers, IsNumber, state_after_all, shown, held_of, logs_of, drawn_of, told_of, once}
-use Rattle.fx_counted.proofs.Words.{holding, Phase, placed, seated, leaving, retired, emptied, closed, Log, Start, View, Work, Idle, Placing}
+use Rattle.fx_counted.proofs.Words.{holding, Phase, placed, seated, leaving, retired, emptied, Log, Start, View, Work, Idle, Placing}
 use Rattle.fx_counted.proofs.Words.{Retiring, Emptying, AllowsAll, action_of, sum_only, sum_of, sum_zero}
 use Rattle.std.proofs.Math.ListN.{get_or-eq_default}
 use Rattle.fx_plain.specs.Step.{Allows}
@@ -117,12 +117,10 @@ module _ (k : Start) (s : Shared) (r : Agrees k s) (all_idle : (i : ℕ) (u : Vi
   node_is n has ph is = (subst (Node n) is (r.each_node n has), subst (OwnerAgrees s.views n) is (r.each_owner n has))
 
   removed_by : (n : ℕ) (ph : Phase) → Node n ph → OwnerAgrees s.views n ph → end.removed n ≡ None
-  removed_by n (seated slot file) a o = a.4
+  removed_by n (seated slot file) a o = a.not_removed
   removed_by n (leaving i takes file) a o = let bad = nobody i (Retiring (numbered n file) takes) o in absurd (cc bad)
-  removed_by n (retired file) a o = let w = a.0 in let h = unheld n in let p = a.2 in absurd (omega arith)
-  removed_by n (emptied i) a o = a.3
-  removed_by n closed a o = a.3
-  removed_by n _ a o = a.5
+  removed_by n (retired file) a o = let w = a.counts in let h = unheld n in let p = a.some_hold in absurd (omega arith)
+  removed_by n _ a o = a.not_removed
 
   none_removed : (n : ℕ) → IsNumber k n → end.removed n ≡ None
   none_removed n has = let a = node_is n has (r.phase n) refl in removed_by n (r.phase n) a.0 a.1
@@ -143,16 +141,16 @@ module _ (k : Start) (s : Shared) (r : Agrees k s) (all_idle : (i : ℕ) (u : Vi
   home_by : (n : ℕ) (ph : Phase) → Node n ph → OwnerAgrees s.views n ph
       → (x : Option Closed) × (get_elem? s.homes (place_of k n) ≡ some (some x)) × AtItsSlot n x
   home_by n (placed i) a o = let bad = nobody i (Placing n) o in absurd (cc bad)
-  home_by n (seated slot file) a o = let size = (same_shape k r.history).0 in let l = a.2 in (
+  home_by n (seated slot file) a o = let size = (same_shape k r.history).0 in let l = a.inside in (
     Some file,
-    a.1,
+    a.at_home,
     λ other e. let same : file ≡ other = cc e in
-        (slot, omega arith, a.3 ∙ ap (λ (z : Closed). Some (numbered n z)) same),
+        (slot, omega arith, a.there ∙ ap (λ (z : Closed). Some (numbered n z)) same),
   )
   home_by n (leaving i takes file) a o = let bad = nobody i (Retiring (numbered n file) takes) o in absurd (cc bad)
-  home_by n (retired file) a o = let w = a.0 in let h = unheld n in let p = a.2 in absurd (omega arith)
+  home_by n (retired file) a o = let w = a.counts in let h = unheld n in let p = a.some_hold in absurd (omega arith)
   home_by n (emptied i) a o = let bad = nobody i (Emptying n) o in absurd (cc bad)
-  home_by n _ a o = (None, a.1, nothing n)
+  home_by n _ a o = (None, a.at_home, nothing n)
 
   pub home_file : (n : ℕ) → IsNumber k n → (x : Option Closed) × (get_elem? s.homes (place_of k n) ≡ some (some x)) × AtItsSlot n x
   home_file n has = let a = node_is n has (r.phase n) refl in home_by n (r.phase n) a.0 a.1
@@ -164,7 +162,7 @@ module _ (k : Start) (s : Shared) (r : Agrees k s) (all_idle : (i : ℕ) (u : Vi
   -- the file at a slot lies in the place of its number
   pub file_home : (slot : ℕ) (f : File) → slot < slots_of k → end.at slot ≡ Some f
       → IsNumber k f.number × (get_elem? s.homes (place_of k f.number) ≡ some (some (Some f.identity)))
-  file_home slot f l there = let sat = seat_at slot l f there in (sat.0, (node_is f.number sat.0 (seated slot f.identity) sat.2).0.1)
+  file_home slot f l there = let sat = seat_at slot l f there in (sat.0, (node_is f.number sat.0 (seated slot f.identity) sat.2).0.at_home)
 
   -- files at different slots have different numbers
   pub one_slot : (slot other : ℕ) (f g : File) → slot < slots_of k → other < slots_of k → end.at slot ≡ Some f → end.at other ≡ Some g

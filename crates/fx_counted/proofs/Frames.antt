@@ -1,5 +1,5 @@
 -- What a step of one seat leaves as it was.
-use Rattle.fx_counted.proofs.Words.{sum_by, ◌≡◌, ◌≢◌, ℕ, zero, suc, ◌+◌, ◌<◌, List, [], ◌∷◌, set, length, sym, refl, ap, ◌∙◌, subst, arith, ◌⊎◌}
+use Rattle.fx_counted.proofs.Words.{sum_by, ◌≡◌, ◌≢◌, ℕ, zero, suc, ◌+◌, ◌<◌, List, [], ◌∷◌, set, length, sym, refl, ap, ◌∙◌, subst, arith}
 use Rattle.fx_counted.proofs.Words.{⊎_elim, eqb, some, some-injective, some-ne-none, get_elem?, at_set, set_here, set_else, File, Event, numbered}
 use Rattle.fx_counted.proofs.Words.{sum_at, sum_two, Does, OwnerAgrees, WorkAgrees, ViewAgrees, Agrees, Shared, logs_of, Phase, spare, placed}
 use Rattle.fx_counted.proofs.Words.{leaving, emptied, owner, file_in, Log, Start, View, Work, Idle, Placing, Holding, Retiring, Emptying, dite}

@@ -5,7 +5,7 @@ use Rattle.fx_counted.proofs.Words.{Event, Action, Use, Adds, range_of, PassView
 use Rattle.fx_counted.proofs.Words.{WorkAgrees, LogAgrees, ViewAgrees, lengths, Agrees, ControlCounts, looks, all_looks, DrawsCount, control_place}
 use Rattle.fx_counted.proofs.Words.{draw_place, slot_place, node_place, home_place, Shared, opening_of, slots_of, IsNumber, state_after_all, Sat}
 use Rattle.fx_counted.proofs.Words.{shown, first_log, doing_in, logs_of, looks_of, held_of, Phase, IsInside, Stepped, Change, Log, View, Work}
-use Rattle.fx_counted.proofs.Words.{stepped, step, Act, Valid, carried_after, HasPass, held_by, held_in, PlacesNext, placing, next_in, end_in, spare}
+use Rattle.fx_counted.proofs.Words.{stepped, Act, Valid, carried_after, HasPass, held_by, held_in, PlacesNext, placing, next_in, end_in, spare}
 use Rattle.fx_counted.proofs.Words.{HasShape, Start, no_use, ◌▷◌}
 use Rattle.fx_counted.proofs.Histories.{Grows, IsHistory, grows_none, grows_one, part_mine}
 use Rattle.fx_counted.proofs.Frames.{Stays, KeepsHeld, view_stays, not_there, views_after}

@@ -155,7 +155,14 @@ module _ (turn : Turn) (idle : turn.v.work ≡ Idle) (some_left : 0 < turn.x.loo
           (λ same. let ph : r.phase n ≡ seated s f.identity = ap r.phase same ∙ seat.2 in
           let o = subst (NodeAgrees old n (looks r.history n) (word_at st.words (word_of v.start n))
           (get_elem? st.homes (place_of v.start n))) ph (r.each_node n has) in
-          let a = looks_now n in let b = holds_now_is n in subst (Node n) (sym ph) (omega arith, o.1, o.2, o.3, o.4))
+          let a = looks_now n in let b = holds_now_is n in let c = o.counts in
+          subst (Node n) (sym ph) record {
+            counts = omega arith;
+            at_home = o.at_home;
+            inside = o.inside;
+            there = o.there;
+            not_removed = o.not_removed;
+          })
           (λ other. node_same old (state_after_all v.start h₁) n (looks r.history n) (looks h₁ n) _ _ _ _ refl refl
           (change_else old.holds q (old.holds q + 1) n other) (looks_else_is n other) refl refl refl (r.phase n) (λ i g seat_is there. refl)
           (r.each_node n has))

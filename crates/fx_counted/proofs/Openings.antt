@@ -1,6 +1,6 @@
 -- A table that is opened keeps the rule.
 use Rattle.fx_counted.proofs.Words.{◌≡◌, ℕ, zero, suc, ◌+◌, ◌*◌, ◌<◌, ◌≤◌, Bool, nat_lt, cond, List, [], ◌∷◌, map, length, sym, refl, ap, ◌∙◌, subst}
-use Rattle.fx_counted.proofs.Words.{arith, eqb, lt-ltb, le-ltb, ◌⊎◌, inl, inr, ⊎_elim, Option, Some, None, slice_index, sum_by, count_by, sum_by-cons}
+use Rattle.fx_counted.proofs.Words.{arith, eqb, lt-ltb, le-ltb, inl, inr, ⊎_elim, Option, Some, None, slice_index, sum_by, count_by, sum_by-cons}
 use Rattle.fx_counted.proofs.Words.{dite, some, some-injective, some-ne-none, dec_le, get_elem?, Closed, state_of, State, file_numbered, numbered}
 use Rattle.fx_counted.proofs.Words.{File, numbers_for, range_of, born, takes_in, name_made, entry_made, takes_made, Names, SlotAgrees, NodeAgrees}
 use Rattle.fx_counted.proofs.Words.{OwnerAgrees, LogAgrees, ViewAgrees, Agrees, new_logs, word_of, place_of, slot_place, word_for, node_for, home_for}
@@ -98,27 +98,32 @@ module _ (k : Start) (words : List ℕ) (homes : List (Option Closed)) (o : Open
   node_opens : (n : ℕ) → IsNumber k n → Node n (first_phase k n)
   node_opens n has = ⊎_elim
       (λ (l : n < slots_of k). subst (Node n) (sym (low_phase n l)) (low n l (first_file k n) refl))
-      (λ (h : (256 ≤ n) × (n < 256 + chain_numbers k)). let few = o.slots in subst (Node n) (sym (high_phase n (omega arith))) (
-        o.fresh_words n h.0 h.1,
-        home_is n None (o.fresh_places n h.0 h.1),
-        (λ i. not (le-ltb n (slots_of k) (let f = o.slots in let a = h.0 in
+      (λ (h : (256 ≤ n) × (n < 256 + chain_numbers k)). let few = o.slots in subst (Node n) (sym (high_phase n (omega arith))) record {
+        counts = o.fresh_words n h.0 h.1;
+        at_home = home_is n None (o.fresh_places n h.0 h.1);
+        fresh = λ i. not (le-ltb n (slots_of k) (let f = o.slots in let a = h.0 in
             omega arith) i) && lt-ltb n (numbers_for k.chains)
-            (let a = h.1 in let b = fewer_numbers k.numbers k.chains o.numbers in omega (arith, a, b)) i),
-        refl,
-        refl,
-        refl,
-      ))
+            (let a = h.1 in let b = fewer_numbers k.numbers k.chains o.numbers in omega (arith, a, b)) i;
+        no_looks = refl;
+        no_holds = refl;
+        not_removed = refl;
+      })
       has
     where
       low : (n : ℕ) → n < slots_of k → (found : Option File) → first_file k n ≡ found → Node n (phase_for n found)
-      low n l None is = (o.node_words n l ∙ ap node_for is, home_is n None (o.files n l ∙ ap (λ (f : Option File). some (home_for f)) is), refl, refl)
-      low n l (Some f) is = let w : slice_index words (word_of k n) ≡ born = o.node_words n l ∙ ap node_for is in (
-        omega arith,
-        home_is n (Some f.identity) (o.files n l ∙ ap (λ (f : Option File). some (home_for f)) is),
-        l,
-        is ∙ ap (λ (m : ℕ). Some (numbered m f.identity)) (its_number n f is),
-        refl,
-      )
+      low n l None is = record {
+        counts = o.node_words n l ∙ ap node_for is;
+        at_home = home_is n None (o.files n l ∙ ap (λ (f : Option File). some (home_for f)) is);
+        no_holds = refl;
+        not_removed = refl;
+      }
+      low n l (Some f) is = let w : slice_index words (word_of k n) ≡ born = o.node_words n l ∙ ap node_for is in record {
+        counts = omega arith;
+        at_home = home_is n (Some f.identity) (o.files n l ∙ ap (λ (f : Option File). some (home_for f)) is);
+        inside = l;
+        there = is ∙ ap (λ (m : ℕ). Some (numbered m f.identity)) (its_number n f is);
+        not_removed = refl;
+      }
 
   owner_opens : (n : ℕ) → OwnerAgrees (first_view k ∷ []) n (first_phase k n)
   owner_opens n = dite (dec_le (suc n) (slots_of k))

@@ -1,6 +1,6 @@
 -- A release keeps the rule.
 use Rattle.fx_counted.proofs.Words.{◌≡◌, ◌≢◌, ℕ, ◌+◌, ◌-◌, ◌%◌, ◌^◌, ◌<◌, List, [], ◌∷◌, set, sym, refl, ap, ◌∙◌, subst, arith, Option, Some, None}
-use Rattle.fx_counted.proofs.Words.{dite, some, none, ℕ_discrete, keeps, takes, stepped, step, set_here, set_else, Closed, ◌▷◌, State, numbered, File}
+use Rattle.fx_counted.proofs.Words.{dite, some, none, ℕ_discrete, keeps, takes, step, set_here, set_else, Closed, ◌▷◌, State, numbered, File}
 use Rattle.fx_counted.proofs.Words.{Event, Release, Close, no_use, event_of, sum_at, sum_two, NodeAgrees, WorkAgrees, looks, word_of, place_of}
 use Rattle.fx_counted.proofs.Words.{IsNumber, state_after_all, shown, held_in, placing, held_of, holding, Phase, seated, leaving, retired, emptied}
 use Rattle.fx_counted.proofs.Words.{file_in, LetsGo, TakesOut, Idle, Holding, Emptying, eqb, ReleasesKeep, Releases, inr, inl}
@@ -58,14 +58,18 @@ module _ (turn : Turn) (f : File) (works : turn.v.work ≡ Holding f) where
   Now w ph = NodeAgrees new q (looks r.history q) w (home_now turn q) ph
 
   still : word < 18446744073709551616 → word ≢ 1 → (ph : Phase) → r.phase q ≡ ph → file_in ph ≡ Some f.identity → Now less ph
-  still fits more (seated s g) is has = let n = in_phase turn q mine.0 (seated s g) is in
+  still fits more (seated s g) is has = let n = in_phase turn q mine.0 (seated s g) is in let a = n.counts in
       let c = few_looks turn q in let h = held_now in let z = one_less in
-      let e : less ≡ word - 1 = sub_wraps word 1 (omega arith) fits (omega arith) in (omega arith, n.1, n.2, n.3, n.4)
-  still fits more (leaving j t g) is has = let n = in_phase turn q mine.0 (leaving j t g) is in
+      let e : less ≡ word - 1 = sub_wraps word 1 (omega arith) fits (omega arith) in
+      record { counts = omega arith; at_home = n.at_home; inside = n.inside; there = n.there; not_removed = n.not_removed }
+  still fits more (leaving j t g) is has = let n = in_phase turn q mine.0 (leaving j t g) is in let a = n.counts in
       let c = few_looks turn q in let h = held_now in let z = one_less in
-      let e : less ≡ word - 1 = sub_wraps word 1 (omega arith) fits (omega arith) in (omega arith, n.1, n.2, n.3)
-  still fits more (retired g) is has = let n = in_phase turn q mine.0 (retired g) is in let h = held_now in let z = one_less in
-      let e : less ≡ word - 1 = sub_wraps word 1 (omega arith) fits (omega arith) in (omega arith, n.1, omega arith, n.3)
+      let e : less ≡ word - 1 = sub_wraps word 1 (omega arith) fits (omega arith) in
+      record { counts = omega arith; at_home = n.at_home; all_takes = n.all_takes; removed = n.removed }
+  still fits more (retired g) is has = let n = in_phase turn q mine.0 (retired g) is in let a = n.counts in
+      let b = n.some_hold in let h = held_now in let z = one_less in
+      let e : less ≡ word - 1 = sub_wraps word 1 (omega arith) fits (omega arith) in
+      record { counts = omega arith; at_home = n.at_home; some_hold = omega arith; removed = n.removed }
   still fits more _ is has = absurd (cc has)
 
   -- where the word was 1, the file was retired, and this is its last hold
@@ -76,15 +80,15 @@ module _ (turn : Turn) (f : File) (works : turn.v.work ≡ Holding f) where
     pub holds : old.holds q ≡ 1
 
   last : word ≡ 1 → (ph : Phase) → r.phase q ≡ ph → file_in ph ≡ Some f.identity → IsLast
-  last is_one (seated s g) is has = let n = in_phase turn q mine.0 (seated s g) is in
+  last is_one (seated s g) is has = let n = in_phase turn q mine.0 (seated s g) is in let a = n.counts in
       let c = few_looks turn q in let h = held_now in absurd (omega arith)
-  last is_one (leaving j t g) is has = let n = in_phase turn q mine.0 (leaving j t g) is in
+  last is_one (leaving j t g) is has = let n = in_phase turn q mine.0 (leaving j t g) is in let a = n.counts in
       let c = few_looks turn q in let h = held_now in absurd (omega arith)
   last is_one (retired g) is has = let n = in_phase turn q mine.0 (retired g) is in let same : g ≡ f.identity = cc has in record {
     phase = is ∙ ap retired same;
-    home = n.1 ∙ ap (λ (g : Closed). some (some (Some g))) same;
-    removed = n.3 ∙ ap (λ (g : Closed). Some (numbered q g)) same;
-    holds = sym n.0 ∙ is_one;
+    home = n.at_home ∙ ap (λ (g : Closed). some (some (Some g))) same;
+    removed = n.removed ∙ ap (λ (g : Closed). Some (numbered q g)) same;
+    holds = sym n.counts ∙ is_one;
   }
   last is_one _ is has = absurd (cc has)
 
@@ -148,12 +152,12 @@ module _ (turn : Turn) (f : File) (works : turn.v.work ≡ Holding f) where
               (let a = its_hold turn j u g q there holds same in let b = its_one in
               let c = sum_two (held_of q) st.views j id u v other there here in let d = r.holds q in let e = l.holds in omega arith);
           free = λ m other. not_busy m;
-          node = (
-            omega arith,
-            set_here st.homes (place_of v.start q) none (roomy turn q mine.0),
-            (let z = one_less in omega arith),
-            change_here old.removed q None q refl,
-          );
+          node = record {
+            counts = omega arith;
+            at_home = set_here st.homes (place_of v.start q) none (roomy turn q mine.0);
+            no_holds = let z = one_less in omega arith;
+            not_removed = change_here old.removed q None q refl;
+          };
           known = does_now st.views id v (went turn h₂ (Emptying q) v.change) (Emptying q) here refl;
           held = held_mine x.number closing h₁ refl ∙ held_mine x.number freeing r.history refl;
           next = tt;

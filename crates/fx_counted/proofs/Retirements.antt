@@ -1,6 +1,6 @@
 -- A retirement keeps the rule.
 use Rattle.fx_counted.proofs.Words.{◌≡◌, ◌≢◌, ℕ, ◌+◌, ◌-◌, ◌%◌, ◌^◌, ◌<◌, ◌≤◌, List, [], ◌∷◌, set, sym, refl, ap, ◌∙◌, subst, arith, eq-eqb, Option}
-use Rattle.fx_counted.proofs.Words.{Some, None, dite, some, none, ℕ_discrete, get_elem?, keeps, takes, stepped, step, set_here, set_else, Closed}
+use Rattle.fx_counted.proofs.Words.{Some, None, dite, some, none, ℕ_discrete, get_elem?, keeps, takes, step, set_here, set_else, Closed}
 use Rattle.fx_counted.proofs.Words.{changed_at, File, Event, Close, event_of, sum_at, retire_amount_of, NodeAgrees, WorkAgrees, Agrees, looks}
 use Rattle.fx_counted.proofs.Words.{word_of, place_of, IsNumber, state_after_all, shown, end_in, next_in, held_in, placing, held_of, holding, Phase}
 use Rattle.fx_counted.proofs.Words.{spare, leaving, retired, emptied, owner, file_in, TakesOut, View, Idle, Holding, Retiring, Emptying, RetiresKeep}
@@ -51,7 +51,7 @@ module _ (turn : Turn) where
     left = (word + (2 ^ 64 - retire_amount_of t)) % 2 ^ 64
 
     left_is : word < 18446744073709551616 → left ≡ (state_after_all v.start r.history).holds q
-    left_is fits = let n = node in let c = few_looks q in
+    left_is fits = let n = node.counts in let a = node.all_takes in let c = few_looks q in
         let e : left ≡ word - (4294967296 - t) = sub_wraps word (4294967296 - t) (omega arith) fits (omega arith) in omega arith
 
     keeps_spares : (ph' : Phase) (n : ℕ) → next_in v.start x + 0 ≤ n → n < end_in v.start x → changed_at r.phase q ph' n ≡ spare x.number
@@ -59,7 +59,7 @@ module _ (turn : Turn) where
         spares_stay q (leaving id t f.identity) ph' x.number mine.1 (λ z bad. cc bad) n (o.spares n (omega arith) high)
 
     waits : word < 18446744073709551616 → word ≢ retire_amount_of t → NodeStep turn q mine.0 left st.homes r.history (retired f.identity) Idle
-    waits fits more = let n = node in let c = few_looks q in let e = left_is fits in let o = its_log turn in record {
+    waits fits more = let n = node.counts in let a = node.all_takes in let c = few_looks q in let e = left_is fits in let o = its_log turn in record {
       grows = grows_none x.number r.history;
       legal = r.legal;
       told = one_same v q r.history;
@@ -68,7 +68,7 @@ module _ (turn : Turn) where
       may = inr (inl (ap owner mine.1));
       keeps = λ j u g other there holds same. sym (ap file_in mine.1);
       free = λ m other bad. let b = ap busy works in other (omega arith);
-      node = (e, n.1, omega arith, n.3);
+      node = record { counts = e; at_home = node.at_home; some_hold = omega arith; removed = node.removed };
       known = tt;
       held = o.held ∙ ap held_in works;
       next = tt;
@@ -81,15 +81,15 @@ module _ (turn : Turn) where
     closing = event_of (shown x v.work) (Close f)
 
     nobody : word ≡ retire_amount_of t → (state_after_all v.start r.history).holds q ≡ 0
-    nobody is = let n = node in let c = few_looks q in omega arith
+    nobody is = let n = node.counts in let a = node.all_takes in let c = few_looks q in omega arith
 
     closed_legal : word ≡ retire_amount_of t → IsHistory v.start (closing ∷ r.history)
-    closed_legal is = legal_more v.start r.history closing r.legal (node.3, nobody is) tt
+    closed_legal is = legal_more v.start r.history closing r.legal (node.removed, nobody is) tt
 
     closes : word < 18446744073709551616 → word ≡ retire_amount_of t
         → NodeStep turn q mine.0 left (set st.homes (place_of v.start q) none) (closing ∷ r.history)
         (emptied id) (Emptying q)
-    closes fits is = let n = node in let c = few_looks q in let e = left_is fits in let z = nobody is in
+    closes fits is = let e = left_is fits in let z = nobody is in
         let o = its_log turn in record {
           grows = grows_one x.number r.history closing refl;
           legal = closed_legal is;
@@ -108,12 +108,12 @@ module _ (turn : Turn) where
           keeps = λ j u g other there holds same. absurd (let a = its_hold j u g q there holds same in
               let b = sum_at (held_of q) st.views j u there in let h = r.holds q in omega arith);
           free = λ m other bad. let b = ap busy works in other (omega arith);
-          node = (
-            omega arith,
-            set_here st.homes (place_of v.start q) none (roomy turn q mine.0),
-            z,
-            change_here (state_after_all v.start r.history).removed q None q refl,
-          );
+          node = record {
+            counts = omega arith;
+            at_home = set_here st.homes (place_of v.start q) none (roomy turn q mine.0);
+            no_holds = z;
+            not_removed = change_here (state_after_all v.start r.history).removed q None q refl;
+          };
           known = does_now st.views id v (went turn (closing ∷ r.history) (Emptying q) v.change) (Emptying q) here refl;
           held = held_mine x.number closing r.history refl ∙ (o.held ∙ ap held_in works);
           next = tt;
@@ -129,7 +129,7 @@ module _ (turn : Turn) where
         (λ is. (
           went turn (closing ∷ r.history) (Emptying q) v.change,
           takes (place_of v.start q) (Some f.identity),
-          node.1,
+          node.at_home,
           node_agrees turn q mine.0 left (set st.homes (place_of v.start q) none) (closing ∷ r.history) (emptied id) (Emptying q) (closes fits is),
           record {
             waits = λ g u _ not_so. absurd (not_so is);
@@ -147,7 +147,7 @@ module _ (turn : Turn) where
           record {
             waits = λ g u its _. let same : f ≡ g = retiring_same f g t u (sym works ∙ its) in (
               record { stepped = tells_none turn carried carried Idle v.change tt; carried = refl },
-              subst (λ (g : File). 0 < (state_after_all v.start r.history).holds g.number) same (let n = node in let c = few_looks q in omega arith),
+              subst (λ (g : File). 0 < (state_after_all v.start r.history).holds g.number) same (let n = node.counts in let a = node.all_takes in let c = few_looks q in omega arith),
             );
             closes = λ g u _ is. absurd (more is);
           },

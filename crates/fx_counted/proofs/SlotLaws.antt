@@ -1,14 +1,15 @@
 -- Swaps, loads and exchanges keep the rule.
-use Rattle.fx_counted.proofs.Words.{◌≡◌, ◌≢◌, ℕ, ◌+◌, ◌-◌, ◌<◌, ◌≤◌, ◌^◌, Bool, List, [], ◌∷◌, set, false, sym, refl, ap, ◌∙◌, subst, arith, eqb}
+use Rattle.fx_counted.proofs.Words.{◌≡◌, ◌≢◌, ℕ, ◌-◌, ◌<◌, ◌^◌, Bool, List, [], ◌∷◌, set, false, sym, refl, ap, ◌∙◌, subst, arith, eqb}
 use Rattle.fx_counted.proofs.Words.{Option, Some, None, inl, none, keeps, gives, rest, stepped, step, Closed, ◌▷◌, changed_at, numbered, File, Action}
-use Rattle.fx_counted.proofs.Words.{Put, Clear, Take, Allocate, Use, no_use, one_number, range_of, name_in, takes_in, slot_word_of, Names, WorkAgrees}
-use Rattle.fx_counted.proofs.Words.{Agrees, if_full, HasPass, MayChange, place_of, slot_place, slot_of, Sat, opening_of, slots_of, state_after_all}
+use Rattle.fx_counted.proofs.Words.{Put, Clear, Take, Allocate, Use, no_use, one_number, name_in, takes_in, slot_word_of, Names, WorkAgrees}
+use Rattle.fx_counted.proofs.Words.{Agrees, if_full, HasPass, MayChange, place_of, slot_place, slot_of, Sat, slots_of, state_after_all}
 use Rattle.fx_counted.proofs.Words.{Stepped, Exchanges, GoesOn, retires_now, turned, Change, Same, Log, Start, View, Work, Idle, Placing, placed}
 use Rattle.fx_counted.proofs.Words.{event_of, shown, set-get_or, exchanged, ClearsKeep, TakesKeep, InstallsKeep, LoadsKeep, ExchangesKeep, Installs}
 use Rattle.fx_counted.proofs.Words.{Removes}
 use Rattle.fx_counted.proofs.Steps.{legal_more, same_shape, Turn, turn_of, word_at, now, logged, its_work, by_turn, went, Made, far, control_same}
 use prog.Atomic.{either}
 use Rattle.atomic_table.specs.Table.{Allows}
+use Rattle.fx_counted.specs.Laws.{IsInRange}
 use Rattle.fx_counted.proofs.Births.{in_phase}
 use Rattle.fx_counted.proofs.Calm.{no_event, calm_agrees}
 use Rattle.fx_counted.proofs.Changes.{in_size, names_old, removal_agrees, removal_tells, installation_agrees, installation_tells, removed_view}
@@ -54,7 +55,7 @@ module _ (turn : Turn) (s : ℕ) (inside : s < slots_of turn.v.start) where
         (changed_at (state_after_all v.start r.history).fresh n false)
     put n file works = let its = subst (WorkAgrees v.start r.phase id) works (its_work turn) in
         let o = in_phase turn n its.0 (placed id) its.1 in
-        let legal = legal_more v.start r.history (event_of (shown x v.work) (Put s (numbered n file) old)) r.legal (in_range, o.2, refl) tt in
+        let legal = legal_more v.start r.history (event_of (shown x v.work) (Put s (numbered n file) old)) r.legal (in_range, o.fresh, refl) tt in
         record { legal = legal; state = refl; looked = refl; all = omega arith; held = refl }
 
   -- the slot of a word's place
@@ -150,8 +151,7 @@ loads_keep k slots id i m x has same = by_turn k slots id i m x (λ _. Unit {0})
 -- an exchange
 module _ (turn : Turn) (slots s n old_word : ℕ) (file : Closed) (carried : List (ℕ × Option Closed))
     (works : turn.v.work ≡ Placing n) (carries : carried ≡ (place_of turn.v.start n, Some file) ∷ [])
-    (small : file.entry < 2 ^ 8) (same : turn.v.change ≡ Same) (low : (range_of (opening_of turn.v.start)).0 ≤ s)
-    (high : s < (range_of (opening_of turn.v.start)).0 + (range_of (opening_of turn.v.start)).1) (empty : name_in old_word ≡ 0) where
+    (small : file.entry < 2 ^ 8) (same : turn.v.change ≡ Same) (in_range : IsInRange turn.v.start s) (empty : name_in old_word ≡ 0) where
   open turn use {st, v, r, id, x, here, one}
 
   abbrev m : Sat
@@ -164,10 +164,10 @@ module _ (turn : Turn) (slots s n old_word : ℕ) (file : Closed) (carried : Lis
   new = slot_word_of n file.entry
 
   within : s < slots_of v.start
-  within = let a = r.shape.range in omega arith
+  within = let a = r.shape.range in let b = in_range.1 in omega arith
 
   stands : MayChange v.start s v.change
-  stands = inl ((low, high), same)
+  stands = inl (in_range, same)
 
   abbrev Goal : ℕ → Type 0
   Goal y = Made turn carried (slot_place s) (λ _. y) (Exchanges (step slots (slot_place s) old_word new none) m)
@@ -197,8 +197,9 @@ module _ (turn : Turn) (slots s n old_word : ℕ) (file : Closed) (carried : Lis
     allocated = let its = subst (WorkAgrees v.start r.phase id) works (its_work turn) in
         let o = in_phase turn n its.0 (placed id) its.1 in
         let z = (same_shape v.start r.history).1 in let p = ap (λ (p : ℕ × ℕ). p.0) z in let q = ap (λ (p : ℕ × ℕ). p.1) z in
+        let low = in_range.0 in let high = in_range.1 in
         let legal = legal_more v.start r.history (event_of (shown x v.work) a) r.legal
-        (in_size turn s within stands None at_none, (omega arith, omega arith), at_none, o.2) tt in
+        (in_size turn s within stands None at_none, (omega arith, omega arith), at_none, o.fresh) tt in
         record { legal = legal; state = refl; looked = refl; all = omega arith; held = refl }
 
     abbrev w : View
@@ -227,14 +228,13 @@ module _ (turn : Turn) (slots s n old_word : ℕ) (file : Closed) (carried : Lis
     )
 
 pub exchanges_keep : ExchangesKeep
-exchanges_keep k slots id i s n old new file m x has works carries small same low high place empty made = by_turn k slots id i m x
-    (λ k. (m.1 ≡ (place_of k n, Some file) ∷ []) × ((range_of (opening_of k)).0 ≤ s) ×
-    (s < (range_of (opening_of k)).0 + (range_of (opening_of k)).1))
-    (λ _. slot_place s) (λ word. either (eqb word old) new word) (λ i. Exchanges (step slots i old new none) m) has (carries, low, high) place
+exchanges_keep k slots id i s n old new file m x has works carries small same in_range place empty made = by_turn k slots id i m x
+    (λ k. (m.1 ≡ (place_of k n, Some file) ∷ []) × IsInRange k s)
+    (λ _. slot_place s) (λ word. either (eqb word old) new word) (λ i. Exchanges (step slots i old new none) m) has (carries, in_range) place
     (λ st r here is fits. let turn = turn_of m x has.1 id st r here in
     subst (λ (z : ℕ). Made turn m.1 (slot_place s) (λ word. either (eqb word old) z word) (Exchanges (step slots (slot_place s) old z none) m))
     (sym made)
     (exchanged (word_at st.words (slot_place s)) old (slot_word_of n file.entry)
-    (Goal turn slots s n old file m.1 works is.0 small same is.1 is.2 empty)
-    (won turn slots s n old file m.1 works is.0 small same is.1 is.2 empty)
-    (lost turn slots s n old file m.1 works is.0 small same is.1 is.2 empty)))
+    (Goal turn slots s n old file m.1 works is.0 small same is.1 empty)
+    (won turn slots s n old file m.1 works is.0 small same is.1 empty)
+    (lost turn slots s n old file m.1 works is.0 small same is.1 empty)))

@@ -1,5 +1,5 @@
 -- What a swap of a slot's word has to keep, whatever comes to the slot.
-use Rattle.fx_counted.proofs.Words.{◌≡◌, ◌≢◌, ℕ, ◌<◌, ◌≤◌, List, ◌∷◌, set, length, sym, refl, ap, ◌∙◌, subst, arith, Option, Some, None, dite, some}
+use Rattle.fx_counted.proofs.Words.{◌≡◌, ◌≢◌, ℕ, ◌<◌, ◌≤◌, List, ◌∷◌, set, length, sym, refl, ap, ◌∙◌, subst, arith, Option, Some, None, dite}
 use Rattle.fx_counted.proofs.Words.{ℕ_discrete, get_elem?, Closed, held_by, held_after, changed_at, with_removed, State, numbered, File, Event, Bool}
 use Rattle.fx_counted.proofs.Words.{Action, range_of, event_of, takes_in, Names, SlotAgrees, NodeAgrees, OwnerAgrees, WorkAgrees, PlacesNext, Agrees}
 use Rattle.fx_counted.proofs.Words.{ControlCounts, looks, all_looks, word_of, place_of, control_place, slot_place, opening_of, slots_of, IsNumber}
@@ -136,14 +136,14 @@ module _ (turn : Turn) (s : ℕ) (inside : s < slots_of turn.v.start) where
             let n = subst (NodeAgrees state f.number (looks r.history f.number)
             (word_at st.words (word_of v.start f.number)) (get_elem? st.homes (place_of v.start f.number))) its.2
             (r.each_node f.number its.0) in
-            let h = ap (λ (z : State). z.holds f.number) p.does.state in (
-              omega arith,
-              p.old_home f is ∙ n.1,
-              its.1,
-              ap (λ (z : State). z.removed f.number) p.does.state
+            let h = ap (λ (z : State). z.holds f.number) p.does.state in record {
+              counts = let a = n.counts in omega arith;
+              at_home = p.old_home f is ∙ n.at_home;
+              all_takes = its.1;
+              removed = ap (λ (z : State). z.removed f.number) p.does.state
                   ∙ (ap (λ (o : Option File). with_removed state.removed o f.number) is
-                  ∙ change_here state.removed f.number (Some f) f.number refl),
-            )
+                  ∙ change_here state.removed f.number (Some f) f.number refl);
+            }
 
         out_here : (f : File) → old ≡ Some f → phase' f.number ≡ leaving id (takes_in found) f.identity
         out_here f is = ap (λ (o : Option File). gone_out id o (takes_in found) phase₁ f.number) is

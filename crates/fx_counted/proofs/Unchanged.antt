@@ -4,7 +4,7 @@ use Rattle.fx_counted.proofs.Words.{some, get_elem?, Closed, State, numbered, Fi
 use Rattle.fx_counted.proofs.Words.{added, removed_by, changes_of, added_of, removed_of, full_in, ControlCounts, looks, all_looks, DrawsCount}
 use Rattle.fx_counted.proofs.Words.{state_after_all, drawn_of, told_of, Phase, unborn, seated, leaving, retired, emptied, closed, Log, Start, View}
 use Rattle.fx_counted.proofs.Words.{takes_in}
-use Rattle.fx_counted.specs.Agrees.{IsSeated}
+use Rattle.fx_counted.specs.Agrees.{IsSeated, IsGone}
 use Rattle.fx_counted.proofs.Ones.{one_if, times}
 
 module _ (k : Start) (h h' : List Event) (phase phase' : ℕ → Phase) (slot : ℕ) where
@@ -30,14 +30,45 @@ module _ (k : Start) (h h' : List Event) (phase phase' : ℕ → Phase) (slot : 
 -- a number of which nothing has changed
 module _ (st st' : State) (n l l' word word' : ℕ) (home home' : Home) (fresh : st'.fresh n ≡ st.fresh n) (removed : st'.removed n ≡ st.removed n)
     (holds : st'.holds n ≡ st.holds n) (looked : l' ≡ l) (worded : word' ≡ word) (homed : home' ≡ home) (sized : st'.size ≡ st.size) where
+  gone_same : {lies : Home} → IsGone st n l word home lies → IsGone st' n l' word' home' lies
+  gone_same o = record {
+    counts = worded ∙ o.counts;
+    at_home = homed ∙ o.at_home;
+    no_holds = holds ∙ o.no_holds;
+    not_removed = removed ∙ o.not_removed;
+  }
+
   pub node_same : (ph : Phase) → ((s : ℕ) (f : Closed) → ph ≡ seated s f → st.at s ≡ Some (numbered n f) → st'.at s ≡ st.at s)
       → NodeAgrees st n l word home ph → NodeAgrees st' n l' word' home' ph
-  node_same (seated s f) at o = ((let a = o.0 in omega arith), homed ∙ o.1, (let a = o.2 in omega arith), at s f refl o.3 ∙ o.3, removed ∙ o.4)
-  node_same (leaving j t f) at o = ((let a = o.0 in omega arith), homed ∙ o.1, o.2 ∙ sym looked, removed ∙ o.3)
-  node_same (retired f) at o = (worded ∙ (o.0 ∙ sym holds), homed ∙ o.1, (let a = o.2 in omega arith), removed ∙ o.3)
-  node_same (emptied j) at o = (worded ∙ o.0, homed ∙ o.1, holds ∙ o.2, removed ∙ o.3)
-  node_same closed at o = (worded ∙ o.0, homed ∙ o.1, holds ∙ o.2, removed ∙ o.3)
-  node_same _ at o = (worded ∙ o.0, homed ∙ o.1, fresh ∙ o.2, looked ∙ o.3, holds ∙ o.4, removed ∙ o.5)
+  node_same (seated s f) at o = record {
+    counts = let a = o.counts in omega arith;
+    at_home = homed ∙ o.at_home;
+    inside = let a = o.inside in omega arith;
+    there = at s f refl o.there ∙ o.there;
+    not_removed = removed ∙ o.not_removed;
+  }
+  node_same (leaving j t f) at o = record {
+    counts = let a = o.counts in omega arith;
+    at_home = homed ∙ o.at_home;
+    all_takes = o.all_takes ∙ sym looked;
+    removed = removed ∙ o.removed;
+  }
+  node_same (retired f) at o = record {
+    counts = worded ∙ (o.counts ∙ sym holds);
+    at_home = homed ∙ o.at_home;
+    some_hold = let a = o.some_hold in omega arith;
+    removed = removed ∙ o.removed;
+  }
+  node_same (emptied j) at o = gone_same o
+  node_same closed at o = gone_same o
+  node_same _ at o = record {
+    counts = worded ∙ o.counts;
+    at_home = homed ∙ o.at_home;
+    fresh = fresh ∙ o.fresh;
+    no_looks = looked ∙ o.no_looks;
+    no_holds = holds ∙ o.no_holds;
+    not_removed = removed ∙ o.not_removed;
+  }
 
 module _ (views : List View) (id : ℕ) (v w : View) (here : get_elem? views id ≡ some v) where
   -- the control word, where no slot of the range and no change does

@@ -38,7 +38,7 @@ module _ (k : Start) (s : Shared) (r : Agrees k s) where
       let e : Some f.number ≡ Some number = sym (node_is (slot_word_in s slot) (Some f) names) ∙ is in
       let same : f.number ≡ number = cc in
       let a = of_seated f.number seat.0 (seated slot f.identity) seat.2 in
-      subst (λ (n : ℕ). 4294967296 ≤ node_word_in k s n + 16777216) same (few_releases f.number _ _ a.0)
+      subst (λ (n : ℕ). 4294967296 ≤ node_word_in k s n + 16777216) same (few_releases f.number _ _ a.counts)
 
   each_named : (slot number : ℕ) → slot < slots_of k → node_in (slot_word_in s slot) ≡ Some number → 4294967296 ≤ node_word_in k s number + 16777216
   each_named slot number inside is = let a = r.each_slot slot inside in of_slot slot number _ a.names a.seat is
@@ -47,7 +47,7 @@ module _ (k : Start) (s : Shared) (r : Agrees k s) where
       → 4294967296 ≤ node_word_in k s f.number + 16777216
   each_leaving seat takes v f there is =
       let work : WorkAgrees k r.phase seat (Retiring f takes) = subst (WorkAgrees k r.phase seat) is (r.each_view seat v there).work in
-      let a = of_seated f.number work.0 (leaving seat takes f.identity) work.1 in few_releases f.number _ _ a.0
+      let a = of_seated f.number work.0 (leaving seat takes f.identity) work.1 in few_releases f.number _ _ a.counts
 
   few_draws : draw_word_in s ≤ k.chains + 16
   few_draws = let a = sum_le_at told_of lengths s.views (λ j u e. told_few u.logs) in let b = few_passes in

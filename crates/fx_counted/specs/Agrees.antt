@@ -1,4 +1,5 @@
--- The rule of the table without a lock: words, places and views agree with the state that one legal history leads to.
+-- The rule of the table without a lock: words, places and views agree with the state that one legal
+-- history leads to.
 use Rattle.std.specs.Prelude.{◌≡◌, ℕ, ◌+◌, ◌*◌, ◌<◌, ◌≤◌, ◌⊎◌, true, List, [], length, slice_index, Option, Some, None, sum_by}
 use mathlib.Core.Option.{some, none}
 use mathlib.Core.Option as maybe
@@ -27,7 +28,7 @@ use Rattle.fx_counted.specs.declared.view.View.{View}
 use Rattle.fx_counted.specs.declared.view.Work.{Work}
 use Rattle.fx_counted.specs.declared.view.Work.TheVariants.{Idle, Placing, Holding, Retiring, Emptying}
 
--- what a slot word says of the file at the slot
+-- what a slot's word says of the file at the slot
 abbrev pub Names : ℕ → Option File → Type 0
 Names word None = name_in word ≡ 0
 Names word (Some f) = (name_in word ≡ f.number + 1) × (entry_in word ≡ f.identity.entry)
@@ -35,38 +36,74 @@ Names word (Some f) = (name_in word ≡ f.number + 1) × (entry_in word ≡ f.id
 -- the file at a slot: its takes are the look-ups that found it, and it knows its slot
 abbrev pub IsSeated : Start → (ℕ → ℕ) → (ℕ → Phase) → ℕ → ℕ → Option File → Type 0
 IsSeated k looks phase slot word None = Unit {0}
-IsSeated k looks phase slot word (Some f) = IsNumber k f.number × (takes_in word ≡ looks f.number) × (phase f.number ≡ seated slot f.identity)
+IsSeated k looks phase slot word (Some f) = IsNumber k f.number
+    × (takes_in word ≡ looks f.number) × (phase f.number ≡ seated slot f.identity)
 
--- one slot
-pub record SlotAgrees (k : Start) (h : List Event) (phase : ℕ → Phase) (slot word : ℕ) : Type 0 where
+-- One slot, and its word
+pub record SlotAgrees (k : Start) (h : List Event) (phase : ℕ → Phase)
+    (slot word : ℕ) : Type 0 where
   pub names : Names word ((state_after_all k h).at slot)
   pub seat : IsSeated k (looks h) phase slot word ((state_after_all k h).at slot)
   pub takes : takes_in word ≤ all_looks h
 
--- what lies at home: nothing, while it is out, or a file or none
+-- what lies in a number's place: nothing, while the place is with a pass, or else a file or none
 abbrev pub Home : Type 0
 Home = maybe.Option (maybe.Option (Option Closed))
 
--- One number: its word, its place, and what the state says of it. The releases of a file are its looks less its holds,
--- so `word + looks ≡ born + holds` says that the word is 2^32 less the releases
+-- One number: its word, what lies in its place, and what the state says of it. The releases of a
+-- file are its looks less its holds, so `word + looks ≡ born + holds` says that the word is 2^32
+-- less the releases
 module _ (st : State) (number looks word : ℕ) (home : Home) where
-  abbrev pub NodeAgrees : Phase → Type 0
-  NodeAgrees unborn = (word ≡ 0) × (home ≡ some (some None)) × (st.fresh number ≡ true) × (looks ≡ 0)
-      × (st.holds number ≡ 0) × (st.removed number ≡ None)
-  NodeAgrees (spare pass) = (word ≡ 0) × (home ≡ some (some None)) × (st.fresh number ≡ true) × (looks ≡ 0)
-      × (st.holds number ≡ 0) × (st.removed number ≡ None)
-  NodeAgrees (placed seat) = (word ≡ born) × (home ≡ some none) × (st.fresh number ≡ true) × (looks ≡ 0)
-      × (st.holds number ≡ 0) × (st.removed number ≡ None)
-  NodeAgrees (seated slot file) = (word + looks ≡ born + st.holds number) × (home ≡ some (some (Some file)))
-      × (slot < st.size) × (st.at slot ≡ Some (numbered number file)) × (st.removed number ≡ None)
-  NodeAgrees (leaving seat takes file) = (word + looks ≡ born + st.holds number) × (home ≡ some (some (Some file)))
-      × (takes ≡ looks) × (st.removed number ≡ Some (numbered number file))
-  NodeAgrees (retired file) = (word ≡ st.holds number) × (home ≡ some (some (Some file))) × (0 < word)
-      × (st.removed number ≡ Some (numbered number file))
-  NodeAgrees (emptied seat) = (word ≡ 0) × (home ≡ some none) × (st.holds number ≡ 0) × (st.removed number ≡ None)
-  NodeAgrees closed = (word ≡ 0) × (home ≡ some (some None)) × (st.holds number ≡ 0) × (st.removed number ≡ None)
+  -- no file has had it: this is its word, and this lies in its place
+  pub record IsUnused (first : ℕ) (lies : Home) : Type 0 where
+    pub counts : word ≡ first
+    pub at_home : home ≡ lies
+    pub fresh : st.fresh number ≡ true
+    pub no_looks : looks ≡ 0
+    pub no_holds : st.holds number ≡ 0
+    pub not_removed : st.removed number ≡ None
 
--- the seat does this work
+  -- its file is at the slot
+  pub record IsAtSlot (slot : ℕ) (file : Closed) : Type 0 where
+    pub counts : word + looks ≡ born + st.holds number
+    pub at_home : home ≡ some (some (Some file))
+    pub inside : slot < st.size
+    pub there : st.at slot ≡ Some (numbered number file)
+    pub not_removed : st.removed number ≡ None
+
+  -- its file was removed: the takes that were found are all its looks
+  pub record IsLeaving (takes : ℕ) (file : Closed) : Type 0 where
+    pub counts : word + looks ≡ born + st.holds number
+    pub at_home : home ≡ some (some (Some file))
+    pub all_takes : takes ≡ looks
+    pub removed : st.removed number ≡ Some (numbered number file)
+
+  -- its file was retired: the word counts the holds that are left
+  pub record IsRetired (file : Closed) : Type 0 where
+    pub counts : word ≡ st.holds number
+    pub at_home : home ≡ some (some (Some file))
+    pub some_hold : 0 < word
+    pub removed : st.removed number ≡ Some (numbered number file)
+
+  -- its file is closed: this lies in its place
+  pub record IsGone (lies : Home) : Type 0 where
+    pub counts : word ≡ 0
+    pub at_home : home ≡ lies
+    pub no_holds : st.holds number ≡ 0
+    pub not_removed : st.removed number ≡ None
+
+  -- what the number's phase says
+  abbrev pub NodeAgrees : Phase → Type 0
+  NodeAgrees unborn = IsUnused 0 (some (some None))
+  NodeAgrees (spare pass) = IsUnused 0 (some (some None))
+  NodeAgrees (placed seat) = IsUnused born (some none)
+  NodeAgrees (seated slot file) = IsAtSlot slot file
+  NodeAgrees (leaving seat takes file) = IsLeaving takes file
+  NodeAgrees (retired file) = IsRetired file
+  NodeAgrees (emptied seat) = IsGone (some none)
+  NodeAgrees closed = IsGone (some (some None))
+
+-- the pass of the seat does this work
 abbrev pub Does : List View → ℕ → Work → Type 0
 Does views seat work = (v : View) × (get_elem? views seat ≡ some v) × (v.work ≡ work)
 
@@ -76,7 +113,8 @@ OwnerAgrees views number unborn = Unit {0}
 OwnerAgrees views number (spare pass) = Unit {0}
 OwnerAgrees views number (placed seat) = Does views seat (Placing number)
 OwnerAgrees views number (seated slot file) = Unit {0}
-OwnerAgrees views number (leaving seat takes file) = Does views seat (Retiring (numbered number file) takes)
+OwnerAgrees views number (leaving seat takes file) =
+    Does views seat (Retiring (numbered number file) takes)
 OwnerAgrees views number (retired file) = Unit {0}
 OwnerAgrees views number (emptied seat) = Does views seat (Emptying number)
 OwnerAgrees views number closed = Unit {0}
@@ -85,8 +123,10 @@ OwnerAgrees views number closed = Unit {0}
 abbrev pub WorkAgrees : Start → (ℕ → Phase) → ℕ → Work → Type 0
 WorkAgrees k phase seat Idle = Unit {0}
 WorkAgrees k phase seat (Placing number) = IsNumber k number × (phase number ≡ placed seat)
-WorkAgrees k phase seat (Holding f) = IsNumber k f.number × (file_in (phase f.number) ≡ Some f.identity)
-WorkAgrees k phase seat (Retiring f takes) = IsNumber k f.number × (phase f.number ≡ leaving seat takes f.identity)
+WorkAgrees k phase seat (Holding f) = IsNumber k f.number
+    × (file_in (phase f.number) ≡ Some f.identity)
+WorkAgrees k phase seat (Retiring f takes) = IsNumber k f.number
+    × (phase f.number ≡ leaving seat takes f.identity)
 WorkAgrees k phase seat (Emptying number) = IsNumber k number × (phase number ≡ emptied seat)
 
 -- a pass that places a number places the next one
@@ -97,8 +137,9 @@ PlacesNext k x (Holding f) = Unit {0}
 PlacesNext k x (Retiring f takes) = Unit {0}
 PlacesNext k x (Emptying number) = Unit {0}
 
--- one pass of a seat
-pub record LogAgrees (k : Start) (h : List Event) (phase : ℕ → Phase) (seat : ℕ) (work : Work) (x : Log) : Type 0 where
+-- one pass of a seat that does this work
+pub record LogAgrees (k : Start) (h : List Event) (phase : ℕ → Phase)
+    (seat : ℕ) (work : Work) (x : Log) : Type 0 where
   -- it has seen a beginning of the history, and all that it did itself
   pub seen : IsSeenBy x.front h
   pub own : part_of_pass x.number h ≡ part_of_pass x.number x.front
@@ -110,9 +151,11 @@ pub record LogAgrees (k : Start) (h : List Event) (phase : ℕ → Phase) (seat 
   pub next : PlacesNext k x work
   pub spares : (n : ℕ) → next_in k x + placing work ≤ n → n < end_in k x → phase n ≡ spare x.number
 
--- one seat
-pub record ViewAgrees (k : Start) (h : List Event) (phase : ℕ → Phase) (seat : ℕ) (v : View) : Type 0 where
-  pub logs : (i : ℕ) (x : Log) → get_elem? v.logs i ≡ some x → LogAgrees k h phase seat v.work x
+-- one seat, and its view
+pub record ViewAgrees (k : Start) (h : List Event) (phase : ℕ → Phase)
+    (seat : ℕ) (v : View) : Type 0 where
+  pub logs : (i : ℕ) (x : Log) → get_elem? v.logs i ≡ some x
+      → LogAgrees k h phase seat v.work x
   pub work : WorkAgrees k phase seat v.work
   pub empty : v.logs ≡ [] → (v.work ≡ Idle) × (v.change ≡ Outside)
   pub start : (v.logs ≡ []) ⊎ (v.start ≡ k)
@@ -127,6 +170,7 @@ pub record HasShape (k : Start) (s : Shared) : Type 0 where
   pub words : length s.words ≡ words_for (slots_of k) (chain_numbers k)
   pub homes : length s.homes ≡ homes_for (slots_of k) (chain_numbers k)
 
+-- how many passes a seat has
 abbrev pub lengths : View → ℕ
 lengths v = length v.logs
 
@@ -136,12 +180,16 @@ pub record Agrees (k : Start) (s : Shared) : Type 0 where
   pub history : List Event
   pub phase : ℕ → Phase
   pub legal : IsLegal (start_of (opening_of k)) history (state_after_all k history)
-  pub each_slot : (slot : ℕ) → slot < slots_of k → SlotAgrees k history phase slot (slice_index s.words (slot_place slot))
-  pub each_node : (n : ℕ) → IsNumber k n → NodeAgrees (state_after_all k history) n (looks history n)
-      (slice_index s.words (node_place (slots_of k) n)) (get_elem? s.homes (home_place (slots_of k) n)) (phase n)
+  pub each_slot : (slot : ℕ) → slot < slots_of k
+      → SlotAgrees k history phase slot (slice_index s.words (slot_place slot))
+  pub each_node : (n : ℕ) → IsNumber k n
+      → NodeAgrees (state_after_all k history) n (looks history n)
+      (slice_index s.words (node_place (slots_of k) n))
+      (get_elem? s.homes (home_place (slots_of k) n)) (phase n)
   pub each_owner : (n : ℕ) → IsNumber k n → OwnerAgrees s.views n (phase n)
   pub no_other : (n : ℕ) → (IsNumber k n → ⊥) → (state_after_all k history).removed n ≡ None
-  pub each_view : (seat : ℕ) (v : View) → get_elem? s.views seat ≡ some v → ViewAgrees k history phase seat v
+  pub each_view : (seat : ℕ) (v : View) → get_elem? s.views seat ≡ some v
+      → ViewAgrees k history phase seat v
   -- the holds of a file are the passes that hold it
   pub holds : (n : ℕ) → (state_after_all k history).holds n ≡ sum_by (held_of n) s.views
   -- each pass began with as many look-ups
@@ -150,5 +198,6 @@ pub record Agrees (k : Start) (s : Shared) : Type 0 where
   pub passes : (p : ℕ) → sum_by (logs_of p) s.views ≡ once k.passes p
   pub whole : sum_by lengths s.views ≡ k.passes
   pub authors : (p : ℕ) → once k.passes p ≡ 0 → part_of_pass p history ≡ []
-  pub control : ControlCounts (state_after_all k history).at (range_of (opening_of k)) s.views (slice_index s.words control_place)
+  pub control : ControlCounts (state_after_all k history).at (range_of (opening_of k)) s.views
+      (slice_index s.words control_place)
   pub draws : DrawsCount k.chains k.numbers phase s.views (slice_index s.words draw_place)

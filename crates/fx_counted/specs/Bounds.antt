@@ -11,28 +11,35 @@ use Rattle.fx_counted.specs.declared.view.Start.{Start}
 use Rattle.fx_counted.specs.declared.view.View.{View}
 use Rattle.fx_counted.specs.declared.view.Work.TheVariants.{Retiring}
 
+-- the word of a slot
 abbrev pub slot_word_in : Shared → ℕ → ℕ
 slot_word_in s slot = slice_index s.words (slot_place slot)
 
+-- the word of a number
 abbrev pub node_word_in : Start → Shared → ℕ → ℕ
 node_word_in k s number = slice_index s.words (node_place (slots_of k) number)
 
+-- the control word
 abbrev pub control_word_in : Shared → ℕ
 control_word_in s = slice_index s.words control_place
 
+-- the draw word
 abbrev pub draw_word_in : Shared → ℕ
 draw_word_in s = slice_index s.words draw_place
 
+-- each word of the table is this large at most
 pub record AreBounded (k : Start) (s : Shared) : Type 0 where
-  -- 16 passes began with 2^20 looks each: the takes of a slot, of 32 bits, with all looks that are left
+  -- 16 passes began with 2^20 looks each: the takes of a slot, of 32 bits, with all looks that are
+  -- left
   pub takes : (slot : ℕ) → slot < slots_of k
       → takes_in (slot_word_in s slot) + sum_by looks_of s.views ≤ 2 ^ 24
   -- releases alone don't take the node word of a file to 0, while a slot names it
-  pub named : (slot number : ℕ) → slot < slots_of k → node_in (slot_word_in s slot) ≡ Some number
-      → 2 ^ 32 ≤ node_word_in k s number + 2 ^ 24
+  pub named : (slot number : ℕ) → slot < slots_of k
+      → node_in (slot_word_in s slot) ≡ Some number → 2 ^ 32 ≤ node_word_in k s number + 2 ^ 24
   -- nor behind its removal, until it is retired
-  pub leaving : (seat takes : ℕ) (v : View) (f : File) → get_elem? s.views seat ≡ some v
-      → v.work ≡ Retiring f takes → 2 ^ 32 ≤ node_word_in k s f.number + 2 ^ 24
+  pub leaving : (seat takes : ℕ) (v : View) (f : File)
+      → get_elem? s.views seat ≡ some v → v.work ≡ Retiring f takes
+      → 2 ^ 32 ≤ node_word_in k s f.number + 2 ^ 24
   -- each of 16 passes is told once that there are no more chains
   pub draws : draw_word_in s ≤ k.chains + 16
   -- at most 16 passes are in a change, and each may have one full slot of at most 256 to tell

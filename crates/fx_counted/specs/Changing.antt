@@ -1,9 +1,8 @@
 -- A pass that changes a slot, and tells of it where the slot is in the allocation range.
-use Rattle.std.specs.Prelude.{◌≡◌, ℕ, ℤ, pos, negsuc, ◌+◌, ◌<◌, ◌≤◌, ◌⊎◌, Bool, true, false}
-use Rattle.fx_table.specs.Opening.{range_of}
+use Rattle.std.specs.Prelude.{◌≡◌, ℕ, ℤ, pos, negsuc, Bool, true, false}
 use Rattle.fx_table.specs.Pass.{IsFront}
 use Rattle.fx_counted.specs.Control.{in_change}
-use Rattle.fx_counted.specs.Laws.{HasPass}
+use Rattle.fx_counted.specs.Laws.{HasPass, IsInRange, IsOutOfRange}
 use Rattle.fx_counted.specs.Passes.{Sat, opening_of, pass_of}
 use Rattle.fx_counted.specs.Tells.{IsInside}
 use Rattle.fx_counted.specs.declared.view.Change.{Change}
@@ -18,12 +17,12 @@ pub record IsAtWork (k : Start) (m : Sat) : Type 0 where
   pub front : IsFront (opening_of k) (pass_of m.0)
   pub inside : IsInside k m.0.work
 
--- the slot is in the range, or it is not
+-- the slot is in the allocation range, or it is not
 abbrev pub InRange : Start → ℕ → Bool → Type 0
-InRange k slot true = ((range_of (opening_of k)).0 ≤ slot) × (slot < (range_of (opening_of k)).0 + (range_of (opening_of k)).1)
-InRange k slot false = (slot < (range_of (opening_of k)).0) ⊎ ((range_of (opening_of k)).0 + (range_of (opening_of k)).1 ≤ slot)
+InRange k slot true = IsInRange k slot
+InRange k slot false = IsOutOfRange k slot
 
--- a pass that began a change has nothing to tell yet
+-- what a pass has to tell that began a change or didn't: nothing yet
 abbrev pub begun : Bool → Change
 begun true = Same
 begun false = Outside

@@ -1,4 +1,5 @@
--- The control word: how many slots of the allocation range are full, and how many passes are about to change that.
+-- The control word: how many slots of the allocation range are full, and how many passes are about
+-- to change that.
 use Rattle.std.specs.Prelude.{◌≡◌, ℕ, zero, suc, ◌+◌, ◌/◌, ◌%◌, List, Option, Some, None, sum_by}
 use Rattle.fx_plain.specs.declared.event.File.{File}
 use Rattle.fx_words.specs.Words.{one_change, bias}
@@ -13,28 +14,33 @@ in_change Same = 1
 in_change More = 1
 in_change Less = 1
 
--- the full slots that a pass has added, and removed, since it told
+-- the full slots that a pass has added since it told
 abbrev pub added : Change → ℕ
 added Outside = 0
 added Same = 0
 added More = 1
 added Less = 0
 
+-- the full slots that it has removed since then
 abbrev pub removed_by : Change → ℕ
 removed_by Outside = 0
 removed_by Same = 0
 removed_by More = 0
 removed_by Less = 1
 
+-- the changes of a view's pass
 abbrev pub changes_of : View → ℕ
 changes_of v = in_change v.change
 
+-- what a view's pass has added
 abbrev pub added_of : View → ℕ
 added_of v = added v.change
 
+-- what a view's pass has removed
 abbrev pub removed_of : View → ℕ
 removed_of v = removed_by v.change
 
+-- 1 for a slot with a file, and else 0
 abbrev pub if_full : Option File → ℕ
 if_full None = 0
 if_full (Some f) = 1
@@ -44,8 +50,10 @@ abbrev pub full_in : (ℕ → Option File) → ℕ → ℕ → ℕ
 full_in at off zero = 0
 full_in at off (suc len) = full_in at off len + if_full (at (off + len))
 
--- The upper half counts the passes in a change. The lower half, less the bias, and what these passes have yet to
--- tell are the full slots of the range
-pub record ControlCounts (at : ℕ → Option File) (range : ℕ × ℕ) (views : List View) (word : ℕ) : Type 0 where
+-- The upper half counts the passes in a change. The lower half, less the bias, and what these
+-- passes have yet to tell are the full slots of the range
+pub record ControlCounts (at : ℕ → Option File) (range : ℕ × ℕ)
+    (views : List View) (word : ℕ) : Type 0 where
   pub upper : word / one_change ≡ sum_by changes_of views
-  pub lower : word % one_change + sum_by added_of views ≡ bias + full_in at range.0 range.1 + sum_by removed_of views
+  pub lower : word % one_change + sum_by added_of views
+      ≡ bias + full_in at range.0 range.1 + sum_by removed_of views

@@ -22,6 +22,7 @@ abbrev pub looks : List Event → ℕ → ℕ
 looks [] = λ _. 0
 looks (e ∷ h) = looks_after (looks h) e.action
 
+-- 1 for a look-up, and else 0
 abbrev pub look_in : Action → ℕ
 look_in (Look slot found) = 1
 look_in (Release f) = 0

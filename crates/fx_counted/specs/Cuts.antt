@@ -17,18 +17,21 @@ new_logs p (suc n) = new_log p ∷ new_logs (suc p) n
 abbrev pub first_view : Start → View
 first_view k = record { start = k; logs = new_logs 1 k.passes; work = Idle; change = Outside }
 
+-- a list without its first pass
 abbrev pub rest_of : List Log → List Log
 rest_of [] = []
 rest_of (x ∷ xs) = xs
 
+-- the first pass alone
 abbrev pub first_of : List Log → List Log
 first_of [] = []
 first_of (x ∷ xs) = x ∷ []
 
--- a view without the first of its passes, and with that one alone
+-- a view without the first of its passes
 abbrev pub without_first : View → View
 without_first v = record v { logs = rest_of v.logs }
 
+-- a view with the first of them alone
 abbrev pub first_alone : View → View
 first_alone v = record v { logs = first_of v.logs }
 
@@ -36,6 +39,7 @@ first_alone v = record v { logs = first_of v.logs }
 abbrev pub together : View → View → View
 together v w = record v { logs = v.logs ++ w.logs }
 
+-- a table of no slots
 abbrev pub empty_table : Contents
 empty_table = record { slots = []; range = (0, 0); nodes = []; holds = []; numbers = 0 }
 

@@ -5,7 +5,9 @@ use Rattle.fx_counted.specs.Passes.{drawn_of, told_of, once}
 use Rattle.fx_counted.specs.Phases.{Phase, unborn}
 use Rattle.fx_counted.specs.declared.view.View.{View}
 
-pub record DrawsCount (chains numbers : ℕ) (phase : ℕ → Phase) (views : List View) (word : ℕ) : Type 0 where
+-- the draw word counts the chains that were given, and the passes that got None
+pub record DrawsCount (chains numbers : ℕ) (phase : ℕ → Phase)
+    (views : List View) (word : ℕ) : Type 0 where
   -- the chains from 1 to this one were given, each to one pass
   pub given : ℕ
   pub few : given ≤ chains
@@ -14,4 +16,5 @@ pub record DrawsCount (chains numbers : ℕ) (phase : ℕ → Phase) (views : Li
   -- a pass was told so only when all were given
   pub all : 0 < sum_by told_of views → given ≡ chains
   -- nobody uses the numbers of the others
-  pub unused : (n : ℕ) → numbers_up_to numbers given ≤ n → n < numbers_up_to numbers chains → phase n ≡ unborn
+  pub unused : (n : ℕ) → numbers_up_to numbers given ≤ n → n < numbers_up_to numbers chains
+      → phase n ≡ unborn

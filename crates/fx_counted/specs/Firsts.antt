@@ -15,19 +15,24 @@ use Rattle.fx_counted.specs.Opens.{word_for, node_for}
 abbrev pub first_at : State → ℕ → Option File
 first_at st slot = file_numbered (st.at slot) slot
 
--- the words with which the table begins, where its chains have so many numbers together: those of the slots and of their
--- numbers, and else 0
+-- the words with which the table begins, where its chains have so many numbers together: those of
+-- the slots and of their numbers, and else 0
 pub record AreFirstWords (st : State) (numbers : ℕ) (words : List ℕ) : Type 0 where
   pub count : length words ≡ words_for st.size numbers
-  pub entries : (slot : ℕ) (f : File) → slot < st.size → first_at st slot ≡ Some f → f.identity.entry < 256
-  pub control : slice_index words control_place ≡ control_word_of (full_in (first_at st) st.range.0 st.range.1)
+  pub entries : (slot : ℕ) (f : File) → slot < st.size → first_at st slot ≡ Some f
+      → f.identity.entry < 256
+  pub control : slice_index words control_place
+      ≡ control_word_of (full_in (first_at st) st.range.0 st.range.1)
   pub draw : slice_index words draw_place ≡ 0
-  pub slots : (slot : ℕ) → slot < st.size → slice_index words (slot_place slot) ≡ word_for (first_at st slot)
-  pub nodes : (slot : ℕ) → slot < st.size → slice_index words (node_place st.size slot) ≡ node_for (first_at st slot)
+  pub slots : (slot : ℕ) → slot < st.size
+      → slice_index words (slot_place slot) ≡ word_for (first_at st slot)
+  pub nodes : (slot : ℕ) → slot < st.size
+      → slice_index words (node_place st.size slot) ≡ node_for (first_at st slot)
   pub fresh : (place : ℕ) → 16 + 8 * st.size ≤ place → slice_index words place ≡ 0
 
 -- the places with which it begins: those of the slots' numbers have the files
 pub record AreFirstHomes (st : State) (numbers : ℕ) (homes : List (Option Closed)) : Type 0 where
   pub count : length homes ≡ homes_for st.size numbers
   pub files : (slot : ℕ) → slot < st.size → get_elem? homes slot ≡ some (identity_of (st.at slot))
-  pub others : (place : ℕ) → st.size ≤ place → place < homes_for st.size numbers → get_elem? homes place ≡ some None
+  pub others : (place : ℕ) → st.size ≤ place → place < homes_for st.size numbers
+      → get_elem? homes place ≡ some None

@@ -8,8 +8,10 @@ use Rattle.fx_counted.specs.declared.view.Change.{Change}
 use Rattle.fx_counted.specs.declared.view.Log.{Log}
 use Rattle.fx_counted.specs.declared.view.Work.{Work}
 
--- At most so many steps of a seat with one pass: it took these actions and used this up, and now it does this work
-pub record Goes (m : Sat) (actions : List Action) (used : Use) (w : Work) (c : Change) (most : ℕ) (m' : Sat) : Type 0 where
+-- At most so many steps of a seat with one pass: it took these actions and used this up, and now it
+-- does this work
+pub record Goes (m : Sat) (actions : List Action) (used : Use) (w : Work) (c : Change)
+    (most : ℕ) (m' : Sat) : Type 0 where
   pub one : (x : Log) × (m'.0.logs ≡ x ∷ [])
   pub adds : Adds (opening_of m.0.start) (pass_of m.0) actions (doing_in w) used (pass_of m'.0)
   pub work : m'.0.work ≡ w

@@ -2,14 +2,17 @@
 use Rattle.std.specs.Prelude.{◌≡◌, ◌≢◌, ℕ, ◌+◌, ◌-◌, ◌*◌, ◌/◌, ◌<◌, ◌≤◌, ◌⊎◌, nat_lt, if◌then◌else◌}
 use Rattle.fx_table.specs.declared.limits.TheConstants.{FIRST_CHAIN_NUMBER}
 
--- The control word and the draw word have a cache line of their own, and so has each slot. A slot's word lies next to
--- the node word of the number that the slot has at first
+-- The control word and the draw word have a cache line of their own, and so has each slot. A slot's
+-- word lies next to the node word of the number that the slot has at first.
+-- Here is the control word
 abbrev pub control_place : ℕ
 control_place = 0
 
+-- the draw word
 abbrev pub draw_place : ℕ
 draw_place = 8
 
+-- the word of a slot
 abbrev pub slot_place : ℕ → ℕ
 slot_place slot = 16 + 8 * slot
 
@@ -19,7 +22,8 @@ slot_of place = (place - 16) / 8
 
 -- the node word of a number: those of the chains' numbers lie side by side behind the slots
 abbrev pub node_place : ℕ → ℕ → ℕ
-node_place size number = if nat_lt number size then 17 + 8 * number else 16 + 8 * size + (number - FIRST_CHAIN_NUMBER)
+node_place size number =
+    if nat_lt number size then 17 + 8 * number else 16 + 8 * size + (number - FIRST_CHAIN_NUMBER)
 
 -- how many words there are, where the chains have so many numbers together
 abbrev pub words_for : ℕ → ℕ → ℕ
@@ -29,31 +33,40 @@ words_for size numbers = 16 + 8 * size + numbers
 abbrev pub home_place : ℕ → ℕ → ℕ
 home_place size number = if nat_lt number size then number else size + (number - FIRST_CHAIN_NUMBER)
 
+-- how many places for open files there are
 abbrev pub homes_for : ℕ → ℕ → ℕ
 homes_for size numbers = size + numbers
 
 -- The number has a word and a place: it is that of a slot or of a chain
 abbrev pub HasNode : ℕ → ℕ → ℕ → Type 0
-HasNode size numbers number = (number < size) ⊎ ((FIRST_CHAIN_NUMBER ≤ number) × (number < FIRST_CHAIN_NUMBER + numbers))
+HasNode size numbers number = (number < size)
+    ⊎ ((FIRST_CHAIN_NUMBER ≤ number) × (number < FIRST_CHAIN_NUMBER + numbers))
 
 -- the words of the numbers, and where their files lie, are inside
 pub record PlacesAreInside (size numbers : ℕ) : Type 0 where
   pub control : control_place < words_for size numbers
   pub draw : draw_place < words_for size numbers
   pub slot : (slot : ℕ) → slot < size → slot_place slot < words_for size numbers
-  pub node : (number : ℕ) → HasNode size numbers number → node_place size number < words_for size numbers
-  pub home : (number : ℕ) → HasNode size numbers number → home_place size number < homes_for size numbers
+  pub node : (number : ℕ) → HasNode size numbers number
+      → node_place size number < words_for size numbers
+  pub home : (number : ℕ) → HasNode size numbers number
+      → home_place size number < homes_for size numbers
 
 -- different words have different places, and so have the files of different numbers
 pub record PlacesAreApart (size numbers : ℕ) : Type 0 where
   pub slots : (slot other : ℕ) → slot_place slot ≡ slot_place other → slot ≡ other
-  pub nodes : (number other : ℕ) → HasNode size numbers number → HasNode size numbers other → number ≢ other
+  pub nodes : (number other : ℕ)
+      → HasNode size numbers number → HasNode size numbers other → number ≢ other
       → node_place size number ≢ node_place size other
-  pub homes : (number other : ℕ) → HasNode size numbers number → HasNode size numbers other → number ≢ other
+  pub homes : (number other : ℕ)
+      → HasNode size numbers number → HasNode size numbers other → number ≢ other
       → home_place size number ≢ home_place size other
-  pub node_and_slot : (number slot : ℕ) → slot < size → HasNode size numbers number → node_place size number ≢ slot_place slot
-  pub node_and_control : (number : ℕ) → HasNode size numbers number → node_place size number ≢ control_place
-  pub node_and_draw : (number : ℕ) → HasNode size numbers number → node_place size number ≢ draw_place
+  pub node_and_slot : (number slot : ℕ) → slot < size → HasNode size numbers number
+      → node_place size number ≢ slot_place slot
+  pub node_and_control : (number : ℕ) → HasNode size numbers number
+      → node_place size number ≢ control_place
+  pub node_and_draw : (number : ℕ) → HasNode size numbers number
+      → node_place size number ≢ draw_place
   pub slot_and_control : (slot : ℕ) → slot_place slot ≢ control_place
   pub slot_and_draw : (slot : ℕ) → slot_place slot ≢ draw_place
   pub control_and_draw : control_place ≢ draw_place

@@ -21,8 +21,14 @@ use Rattle.fx_counted.specs.declared.view.Work.TheVariants.{Idle}
 
 -- the view of a seat that has the new passes from p to the last
 abbrev pub dealt : Start → ℕ → View
-dealt k p = record { start = k; logs = new_logs p ((k.passes + 1) - p); work = Idle; change = Outside }
+dealt k p = record {
+  start = k;
+  logs = new_logs p ((k.passes + 1) - p);
+  work = Idle;
+  change = Outside;
+}
 
+-- the passes of these seats, in their order
 abbrev pub logs_in : List CountedPass → List Log
 logs_in [] = []
 logs_in (p ∷ ps) = p.seat.me.0.logs ++ logs_in ps

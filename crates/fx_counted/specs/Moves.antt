@@ -7,7 +7,8 @@ use Rattle.fx_counted.specs.declared.view.Log.{Log}
 use Rattle.fx_counted.specs.declared.view.Start.{Start}
 use Rattle.fx_counted.specs.declared.view.Work.TheVariants.{Idle, Placing, Emptying}
 
--- the seat's pass has the place of the number, to install its file or since its file is closed; and this is in the place
+-- the seat's pass has the place of the number, to install its file or since its file is closed; and
+-- this is in the place
 pub record HasPlace (k : Start) (number : ℕ) (inside : Option Closed) (m : Sat) : Type 0 where
   pub log : Log
   pub pass : HasPass k m log

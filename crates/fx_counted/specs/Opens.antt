@@ -16,25 +16,27 @@ use Rattle.fx_counted.specs.Layout.{control_place, draw_place, slot_place, node_
 use Rattle.fx_counted.specs.Passes.{opening_of, slots_of, chain_numbers, state_after_all}
 use Rattle.fx_counted.specs.declared.view.Start.{Start}
 
--- the word of a slot, the node word of the slot's number, and what lies in the number's place
+-- the word of a slot
 abbrev pub word_for : Option File → ℕ
 word_for None = 0
 word_for (Some f) = slot_word_of f.number f.identity.entry
 
+-- the word of the slot's number
 abbrev pub node_for : Option File → ℕ
 node_for None = 0
 node_for (Some f) = born
 
+-- what lies in the number's place
 abbrev pub home_for : Option File → Option Closed
 home_for None = None
 home_for (Some f) = Some f.identity
 
--- the file at a slot as passes begin
+-- the file at a slot when no pass has done anything
 abbrev pub first_file : Start → ℕ → Option File
 first_file k slot = (state_after_all k []).at slot
 
--- Words and places of a table that begins so: each file at a slot has no takes and no releases, no pass is in a change,
--- and no chain is drawn
+-- Words and places of a table that begins so: each file at a slot has no takes and no releases, no
+-- pass is in a change, and no chain is drawn
 pub record OpensWith (k : Start) (words : List ℕ) (homes : List (Option Closed)) : Type 0 where
   pub slots : slots_of k ≤ MOST_SLOTS
   pub range : (range_of (opening_of k)).0 + (range_of (opening_of k)).1 ≤ slots_of k
@@ -44,14 +46,21 @@ pub record OpensWith (k : Start) (words : List ℕ) (homes : List (Option Closed
   pub entries : (slot : ℕ) (f : File) → first_file k slot ≡ Some f → f.identity.entry < 256
   pub words_length : length words ≡ words_for (slots_of k) (chain_numbers k)
   pub homes_length : length homes ≡ homes_for (slots_of k) (chain_numbers k)
-  pub control : slice_index words control_place ≡ control_word_of (full_in (first_file k) (range_of (opening_of k)).0 (range_of (opening_of k)).1)
+  pub control : let range = range_of (opening_of k) in
+      slice_index words control_place ≡ control_word_of (full_in (first_file k) range.0 range.1)
   pub draw : slice_index words draw_place ≡ 0
-  pub slot_words : (slot : ℕ) → slot < slots_of k → slice_index words (slot_place slot) ≡ word_for (first_file k slot)
-  pub node_words : (slot : ℕ) → slot < slots_of k → slice_index words (node_place (slots_of k) slot) ≡ node_for (first_file k slot)
-  pub files : (slot : ℕ) → slot < slots_of k → get_elem? homes (home_place (slots_of k) slot) ≡ some (home_for (first_file k slot))
-  pub fresh_words : (n : ℕ) → FIRST_CHAIN_NUMBER ≤ n → n < FIRST_CHAIN_NUMBER + chain_numbers k → slice_index words (node_place (slots_of k) n) ≡ 0
-  pub fresh_places : (n : ℕ) → FIRST_CHAIN_NUMBER ≤ n → n < FIRST_CHAIN_NUMBER + chain_numbers k → get_elem? homes (home_place (slots_of k) n) ≡ some None
+  pub slot_words : (slot : ℕ) → slot < slots_of k
+      → slice_index words (slot_place slot) ≡ word_for (first_file k slot)
+  pub node_words : (slot : ℕ) → slot < slots_of k
+      → slice_index words (node_place (slots_of k) slot) ≡ node_for (first_file k slot)
+  pub files : (slot : ℕ) → slot < slots_of k
+      → get_elem? homes (home_place (slots_of k) slot) ≡ some (home_for (first_file k slot))
+  pub fresh_words : (n : ℕ) → FIRST_CHAIN_NUMBER ≤ n → n < FIRST_CHAIN_NUMBER + chain_numbers k
+      → slice_index words (node_place (slots_of k) n) ≡ 0
+  pub fresh_places : (n : ℕ) → FIRST_CHAIN_NUMBER ≤ n → n < FIRST_CHAIN_NUMBER + chain_numbers k
+      → get_elem? homes (home_place (slots_of k) n) ≡ some None
 
 -- a table that begins so keeps the rule, with one seat that has all passes
 abbrev pub OpeningKeeps : Type 0
-OpeningKeeps = (k : Start) (words : List ℕ) (homes : List (Option Closed)) → OpensWith k words homes → Agrees k (opening words homes (first_view k))
+OpeningKeeps = (k : Start) (words : List ℕ) (homes : List (Option Closed))
+    → OpensWith k words homes → Agrees k (opening words homes (first_view k))

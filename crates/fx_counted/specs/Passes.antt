@@ -27,9 +27,16 @@ Shared = TableState (Option Closed) View
 abbrev pub Sat : Type 0
 Sat = Me (Option Closed) View
 
+-- how the table was opened, as all shared tables show it
 abbrev pub opening_of : Start → Opening
-opening_of k = record { contents = k.plain.value; chains = k.chains; passes = k.passes; numbers = k.numbers }
+opening_of k = record {
+  contents = k.plain.value;
+  chains = k.chains;
+  passes = k.passes;
+  numbers = k.numbers;
+}
 
+-- how many slots it has
 abbrev pub slots_of : Start → ℕ
 slots_of k = size_of (opening_of k)
 
@@ -45,6 +52,7 @@ IsNumber k number = HasNode (slots_of k) (chain_numbers k) number
 abbrev pub state_after_all : Start → List Event → State
 state_after_all k h = state_at (opening_of k) h
 
+-- the head of a list, or this
 abbrev pub first_or : ℕ → List ℕ → ℕ
 first_or n [] = n
 first_or n (m ∷ ms) = m
@@ -53,10 +61,11 @@ first_or n (m ∷ ms) = m
 abbrev pub chain_in : Log → ℕ
 chain_in x = first_or 0 x.drawn
 
--- the number behind the last one of the chain, and the one that the next installation uses
+-- the number behind the last one of the chain
 abbrev pub end_in : Start → Log → ℕ
 end_in k x = numbers_up_to k.numbers (chain_in x)
 
+-- the number that the next installation uses
 abbrev pub next_in : Start → Log → ℕ
 next_in k x = end_in k x - x.numbers_left
 
@@ -84,15 +93,26 @@ shown x work = record {
 
 -- a pass that has seen and done nothing
 abbrev pub new_log : ℕ → Log
-new_log p = record { number = p; front = []; drawn = []; no_chains_left = false; numbers_left = 0; looks_left = PASS_LOOKS; steps = 0 }
+new_log p = record {
+  number = p;
+  front = [];
+  drawn = [];
+  no_chains_left = false;
+  numbers_left = 0;
+  looks_left = PASS_LOOKS;
+  steps = 0;
+}
 
+-- the one pass of a seat
 abbrev pub first_log : List Log → Log
 first_log [] = new_log 0
 first_log (x ∷ xs) = x
 
+-- that pass, as all shared tables show it
 abbrev pub pass_of : View → PassView
 pass_of v = shown (first_log v.logs) v.work
 
+-- how many atomic steps it has made
 abbrev pub steps_of : View → ℕ
 steps_of v = (first_log v.logs).steps
 
@@ -120,20 +140,23 @@ holding n (Holding f) = if f.number == n then 1 else 0
 holding n (Retiring f takes) = 0
 holding n (Emptying number) = 0
 
--- how many of a view's passes have the number, how often they drew a chain, how many got None, and
--- the look-ups that are left to them
+-- how many of a view's passes have the number
 abbrev pub logs_of : ℕ → View → ℕ
 logs_of p v = count_by (λ x. x.number == p) v.logs
 
+-- how often they drew the chain
 abbrev pub drawn_of : ℕ → View → ℕ
 drawn_of c v = sum_by (λ x. count_by (λ d. d == c) x.drawn) v.logs
 
+-- how many of them got None
 abbrev pub told_of : View → ℕ
 told_of v = count_by (λ x. x.no_chains_left) v.logs
 
+-- the look-ups that are left to them
 abbrev pub looks_of : View → ℕ
 looks_of v = sum_by (λ x. x.looks_left) v.logs
 
+-- 1 where a view's pass holds the file of the number, and else 0
 abbrev pub held_of : ℕ → View → ℕ
 held_of n v = holding n v.work
 

@@ -2,6 +2,7 @@
 use Rattle.std.specs.Prelude.{ℕ, ◌+◌, Option, Some, None}
 use Rattle.fx_base.specs.declared.open_file.Closed.{Closed}
 
+-- where a number stands
 pub data Phase : Type 0 where
   -- no file has had it, and no pass may use it
   unborn : Phase

@@ -34,11 +34,13 @@ StillPlaces number c m m' = Proceeds m [] no_use (Placing number) c m' × (m'.1 
 
 -- the file is at the slot, which was free
 abbrev pub HasAllocated : ℕ → Closed → ℕ → Change → Sat → Sat → Type 0
-HasAllocated number file slot c m m' = Proceeds m ([] ▷ Allocate slot (numbered number file)) one_number Idle c m' × (m'.1 ≡ [])
+HasAllocated number file slot c m m' =
+    Proceeds m ([] ▷ Allocate slot (numbered number file)) one_number Idle c m' × (m'.1 ≡ [])
 
 -- every slot of the range had a file, and this one is still to be installed
 abbrev pub HasFoundAllFull : ℕ → Sat → Sat → Type 0
-HasFoundAllFull number m m' = Proceeds m ([] ▷ Full) no_use (Placing number) Outside m' × (m'.1 ≡ m.1)
+HasFoundAllFull number m m' =
+    Proceeds m ([] ▷ Full) no_use (Placing number) Outside m' × (m'.1 ≡ m.1)
 
 -- a try at one slot
 abbrev pub Tries : ℕ → Closed → ℕ → Sat → Bool → Sat → Type 0
@@ -47,6 +49,7 @@ Tries number file slot m false m' = StillPlaces number Same m m'
 
 -- one round over the range
 abbrev pub RoundEnds : Start → ℕ → Closed → Sat → Round → Sat → Type 0
-RoundEnds k number file m (At slot) m' = (slot < slots_of k) × HasAllocated number file slot Outside m m'
+RoundEnds k number file m (At slot) m' =
+    (slot < slots_of k) × HasAllocated number file slot Outside m m'
 RoundEnds k number file m AllFull m' = HasFoundAllFull number m m'
 RoundEnds k number file m Again m' = StillPlaces number Outside m m'

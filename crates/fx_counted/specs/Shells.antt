@@ -1,4 +1,5 @@
--- The table of one thread from which a shared table was opened, while its files lie in the shared table's places.
+-- The table of one thread from which a shared table was opened, while its files lie in the shared
+-- table's places.
 use Rattle.std.specs.Prelude.{◌≡◌, ℕ, List, Option, None, slice_index_or}
 use Rattle.fx_base.specs.declared.open_file.Closed.{Closed}
 use Rattle.fx_plain.specs.State.{State, IsSettled}

@@ -15,6 +15,7 @@ use Rattle.fx_counted.specs.declared.view.Work.TheVariants.{Idle, Placing, Holdi
 use Rattle.fx_counted.specs.declared.pass.CountedPass.{CountedPass}
 use Rattle.fx_counted.specs.declared.table.CountedTable.{CountedTable}
 
+-- the pass, as all shared tables show it
 abbrev pub view_of : CountedPass → PassView
 view_of p = pass_of p.seat.me.0
 
@@ -30,6 +31,7 @@ IsBetweenCalls (Holding f) = Unit {0}
 IsBetweenCalls (Retiring f takes) = Unit {0}
 IsBetweenCalls (Emptying number) = ⊥
 
+-- whether it does nothing
 abbrev pub is_idle : Work → Bool
 is_idle Idle = true
 is_idle (Placing number) = false
@@ -65,8 +67,10 @@ pub record IsPassOf (id : TableId) (k : Start) (p : CountedPass) : Type 0 where
   pub seated : HasOnePass k p.seat.me.0 log
   pub knows : Knows p log
 
+-- how the table was opened
 abbrev pub opening_of_table : CountedTable → Opening
 opening_of_table t = opening_of t.table.shared.key
 
+-- the pass is one of the table
 abbrev pub IsPassOfTable : CountedTable → CountedPass → Type 0
 IsPassOfTable t p = IsPassOf t.table.shared.table_id t.table.shared.key p

@@ -34,8 +34,10 @@ IsInside k (Holding f) = IsNumber k f.number
 IsInside k (Retiring f takes) = IsNumber k f.number
 IsInside k (Emptying number) = IsNumber k number
 
--- One step of a seat with one pass: it took these actions and used this up, and now it does this work
-pub record Stepped (m : Sat) (actions : List Action) (used : Use) (w : Work) (c : Change) (m' : Sat) : Type 0 where
+-- One step of a seat with one pass: it took these actions and used this up, and now it does this
+-- work
+pub record Stepped (m : Sat) (actions : List Action) (used : Use) (w : Work) (c : Change)
+    (m' : Sat) : Type 0 where
   pub one : (x : Log) × (m'.0.logs ≡ x ∷ [])
   pub adds : Adds (opening_of m.0.start) (pass_of m.0) actions (doing_in w) used (pass_of m'.0)
   pub work : m'.0.work ≡ w
@@ -44,11 +46,12 @@ pub record Stepped (m : Sat) (actions : List Action) (used : Use) (w : Work) (c 
   pub start : m'.0.start ≡ m.0.start
   pub steps : steps_of m'.0 ≡ steps_of m.0 + 1
 
--- what a pass does that found this file, and one that removed it
+-- what a pass does that found this file
 abbrev pub holds_now : Option File → Work
 holds_now None = Idle
 holds_now (Some f) = Holding f
 
+-- what a pass does that removed it
 abbrev pub retires_now : Option File → ℕ → Work
 retires_now None takes = Idle
 retires_now (Some f) takes = Retiring f takes
@@ -69,8 +72,10 @@ turned Less old new = Less
 
 -- Birth: the place of the next number is with the pass
 pub record Births (st : At) (m : Sat) (found : ℕ) (m' : Sat) : Type 0 where
-  pub stepped : Stepped m [] no_use (Placing (next_number (opening_of m.0.start) (pass_of m.0))) m.0.change m'
-  pub carried : m'.1 ≡ (home_place (slots_of m.0.start) (next_number (opening_of m.0.start) (pass_of m.0)), None) ∷ m.1
+  pub stepped : let next = next_number (opening_of m.0.start) (pass_of m.0) in
+      Stepped m [] no_use (Placing next) m.0.change m'
+  pub carried : let next = next_number (opening_of m.0.start) (pass_of m.0) in
+      m'.1 ≡ (home_place (slots_of m.0.start) next, None) ∷ m.1
 
 -- Look: the word that was found names the file that was there
 pub record Looks (st : At) (m : Sat) (found : ℕ) (m' : Sat) : Type 0 where
@@ -79,20 +84,25 @@ pub record Looks (st : At) (m : Sat) (found : ℕ) (m' : Sat) : Type 0 where
   pub stepped : Stepped m ([] ▷ Look (slot_of st.word) file) one_look (holds_now file) m.0.change m'
   pub carried : m'.1 ≡ m.1
 
--- Swap, to the word of the file that the pass places: the word that was found names the file that it replaced
+-- Swap, to the word of the file that the pass places: the word that was found names the file that
+-- it replaced
 pub record Installs (st : At) (m : Sat) (found : ℕ) (m' : Sat) : Type 0 where
   pub replaced : Option File
   pub names : Names found replaced
-  pub stepped : (n : ℕ) (file : Closed) → m.0.work ≡ Placing n → m.1 ≡ (home_place (slots_of m.0.start) n, Some file) ∷ []
+  pub stepped : (n : ℕ) (file : Closed) → m.0.work ≡ Placing n
+      → m.1 ≡ (home_place (slots_of m.0.start) n, Some file) ∷ []
       → Stepped m ([] ▷ Put (slot_of st.word) (numbered n file) replaced) one_number
       (retires_now replaced (takes_in found)) (turned m.0.change (if_full replaced) 1) m'
   pub carried : m'.1 ≡ rest m.1
 
--- Swap, to an empty slot's word: the word that was found names the file that was removed, by a clear or by a take
-pub record Removes (action : ℕ → Option File → Action) (st : At) (m : Sat) (found : ℕ) (m' : Sat) : Type 0 where
+-- Swap, to an empty slot's word: the word that was found names the file that was removed, by a
+-- clear or by a take
+pub record Removes (action : ℕ → Option File → Action)
+    (st : At) (m : Sat) (found : ℕ) (m' : Sat) : Type 0 where
   pub file : Option File
   pub names : Names found file
-  pub stepped : Stepped m ([] ▷ action (slot_of st.word) file) no_use (retires_now file (takes_in found)) (turned m.0.change (if_full file) 0) m'
+  pub stepped : Stepped m ([] ▷ action (slot_of st.word) file) no_use
+      (retires_now file (takes_in found)) (turned m.0.change (if_full file) 0) m'
   pub carried : m'.1 ≡ m.1
 
 -- the file of the pass is closed, and with the pass
@@ -109,7 +119,8 @@ pub record LetsGo (m : Sat) (actions : List Action) (m' : Sat) : Type 0 where
 pub record Retires (st : At) (m : Sat) (found : ℕ) (m' : Sat) : Type 0 where
   pub waits : (f : File) (takes : ℕ) → m.0.work ≡ Retiring f takes → found ≢ st.first
       → LetsGo m [] m' × (0 < (state_after_all m.0.start (pass_of m'.0).front).holds f.number)
-  pub closes : (f : File) (takes : ℕ) → m.0.work ≡ Retiring f takes → found ≡ st.first → TakesOut m [] f m'
+  pub closes : (f : File) (takes : ℕ) → m.0.work ≡ Retiring f takes → found ≡ st.first
+      → TakesOut m [] f m'
 
 -- Release: where the word was 1, it was the last hold of a retired file
 pub record Releases (st : At) (m : Sat) (found : ℕ) (m' : Sat) : Type 0 where
@@ -128,14 +139,18 @@ pub record GoesOn (change : Change) (st : At) (m : Sat) (found : ℕ) (m' : Sat)
 
 -- Answer: where the word said so, every slot of the range was full
 pub record Answers (st : At) (m : Sat) (found : ℕ) (m' : Sat) : Type 0 where
-  pub full : found ≡ full_word_of (range_of (opening_of m.0.start)).1 → Stepped m ([] ▷ Full) no_use m.0.work Outside m'
-  pub not_full : found ≢ full_word_of (range_of (opening_of m.0.start)).1 → Stepped m [] no_use m.0.work Outside m'
+  pub full : found ≡ full_word_of (range_of (opening_of m.0.start)).1
+      → Stepped m ([] ▷ Full) no_use m.0.work Outside m'
+  pub not_full : found ≢ full_word_of (range_of (opening_of m.0.start)).1
+      → Stepped m [] no_use m.0.work Outside m'
   pub carried : m'.1 ≡ m.1
 
 -- Exchange: the file that the pass places is at the slot, which was empty; or nothing changed
 pub record Exchanges (st : At) (m : Sat) (found : ℕ) (m' : Sat) : Type 0 where
-  pub wins : (n : ℕ) (file : Closed) → m.0.work ≡ Placing n → m.1 ≡ (home_place (slots_of m.0.start) n, Some file) ∷ [] → found ≡ st.first
-      → Stepped m ([] ▷ Allocate (slot_of st.word) (numbered n file)) one_number Idle More m' × (m'.1 ≡ rest m.1)
+  pub wins : (n : ℕ) (file : Closed) → m.0.work ≡ Placing n
+      → m.1 ≡ (home_place (slots_of m.0.start) n, Some file) ∷ [] → found ≡ st.first
+      → Stepped m ([] ▷ Allocate (slot_of st.word) (numbered n file)) one_number Idle More m'
+      × (m'.1 ≡ rest m.1)
   pub loses : found ≢ st.first → Stepped m [] no_use m.0.work m.0.change m' × (m'.1 ≡ m.1)
 
 -- the chain that a draw gives which found this word
@@ -145,6 +160,8 @@ chain_given chains found = if nat_lt found chains then Some (found + 1) else Non
 -- Draw: the pass has the next chain, or gets `None`
 pub record DrawTells (st : At) (m : Sat) (found : ℕ) (m' : Sat) : Type 0 where
   pub one : (x : Log) × (m'.0.logs ≡ x ∷ [])
-  pub draws : Draws (opening_of m.0.start) (pass_of m.0) (chain_given m.0.start.chains found) (pass_of m'.0)
-  pub same : (m'.0.work ≡ m.0.work) × (m'.0.change ≡ m.0.change) × (m'.0.start ≡ m.0.start) × (m'.1 ≡ m.1)
+  pub draws : Draws (opening_of m.0.start) (pass_of m.0) (chain_given m.0.start.chains found)
+      (pass_of m'.0)
+  pub same : (m'.0.work ≡ m.0.work) × (m'.0.change ≡ m.0.change) × (m'.0.start ≡ m.0.start)
+      × (m'.1 ≡ m.1)
   pub steps : steps_of m'.0 ≡ steps_of m.0 + 1

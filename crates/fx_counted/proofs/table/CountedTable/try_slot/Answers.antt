@@ -32,8 +32,8 @@ compare_exchange-requires c =
       c.load-found.ensures.0 ∙ c.requires.table,
       slot_inside t slot i (in_size t slot c.requires.range) place,
       exchanges_keep k _ seat.id i slot c.args.number c.load-found.result _ c.args.file seat.me s.one.0
-          (s.start ∙ p.at.pass.0, s.one.1) (s.work ∙ p.work) (loaded.carried ∙ p.place) small s.change c.requires.range.0
-          c.requires.range.1 place (no_name c.load-found.result empty) c.slot_word-word.ensures,
+          (s.start ∙ p.at.pass.0, s.one.1) (s.work ∙ p.work) (loaded.carried ∙ p.place) small s.change c.requires.range
+          place (no_name c.load-found.result empty) c.slot_word-word.ensures,
     )
 
 pub returns-clause-tries : goal.returns-clause-tries
