@@ -9,9 +9,10 @@ use Rattle.fx_counted.proofs.Words.{Rests, inl}
 use Rattle.fx_counted.proofs.Steps.{grows_none, change_here, change_else, busy, does_now, Turn, turn_of, word_at, its_log, its_work, by_turn, went}
 use Rattle.fx_counted.proofs.Steps.{tells_none, one_same, near, far, NodeStep, node_agrees}
 use Rattle.std.proofs.Common.{length-set}
+use Rattle.fx_counted.proofs.Words.{Between}
 
 -- the file that a pass holds is open
-pub held_file : (k : Start) (phase : ℕ → Phase) (j : ℕ) (u : View) (f : File) → u.work ≡ Holding f
+pub held_file : (k : Start) (phase : ℕ → Phase) (j : ℕ) (u : View) (f : File) → u.work ≡ Between (Holding f)
     → WorkAgrees k phase j u.work → file_in (phase f.number) ≡ Some f.identity
 held_file k phase j u f is o = (subst (WorkAgrees k phase j) is o).1
 
@@ -36,7 +37,7 @@ module _ (turn : Turn) where
   else_place q its n has other = (far turn).homes n q has its other
 
   -- nobody holds the file of a number without one
-  pub unheld : (q : ℕ) → file_in (r.phase q) ≡ None → (j : ℕ) (u : View) (f : File) → get_elem? st.views j ≡ some u → u.work ≡ Holding f
+  pub unheld : (q : ℕ) → file_in (r.phase q) ≡ None → (j : ℕ) (u : View) (f : File) → get_elem? st.views j ≡ some u → u.work ≡ Between (Holding f)
       → f.number ≡ q → ⊥
   unheld q empty j u f there holds same = let e = held_file v.start r.phase j u f holds (r.each_view j u there).work in
       let z : None ≡ Some f.identity = sym empty ∙ (ap (λ (m : ℕ). file_in (r.phase m)) (sym same) ∙ e) in cc z
@@ -48,7 +49,7 @@ module _ (turn : Turn) where
       inr (omega arith, omega (arith, high, within))
 
   -- a birth
-  module _ (idle : v.work ≡ Idle) (some_left : 0 < x.numbers_left) where
+  module _ (idle : v.work ≡ Between Idle) (some_left : 0 < x.numbers_left) where
     abbrev b : ℕ
     b = next_in v.start x
 
@@ -98,9 +99,9 @@ module _ (turn : Turn) where
   module _ (q : ℕ) (its : IsNumber v.start q) (ph ph' : Phase) (is : r.phase q ≡ ph) (owned : owner ph ≡ id + 1)
       (no_file : file_in ph ≡ None) (d : held_in v.work ≡ None) (works : busy v.work ≡ q + 1) (none_held : (n : ℕ) → holding n v.work ≡ 0) where
     rest_step : NodeAgrees (state_after_all v.start r.history) q (looks r.history q) 0 (some (some None)) ph'
-        → OwnerAgrees (set st.views id (went turn r.history Idle v.change)) q ph'
+        → OwnerAgrees (set st.views id (went turn r.history (Between Idle) v.change)) q ph'
         → ((n : ℕ) → next_in v.start x ≤ n → n < end_in v.start x → changed_at r.phase q ph' n ≡ spare x.number)
-        → NodeStep turn q its 0 (set st.homes (place_of v.start q) (some None)) r.history ph' Idle
+        → NodeStep turn q its 0 (set st.homes (place_of v.start q) (some None)) r.history ph' (Between Idle)
     rest_step node known spares = let o = its_log turn in record {
       grows = grows_none x.number r.history;
       legal = r.legal;
@@ -121,7 +122,7 @@ module _ (turn : Turn) where
     }
 
   rest_emptied : (q : ℕ) → v.work ≡ Emptying q → (its : IsNumber v.start q) × NodeStep turn q its 0
-      (set st.homes (place_of v.start q) (some None)) r.history closed Idle
+      (set st.homes (place_of v.start q) (some None)) r.history closed (Between Idle)
   rest_emptied q is = let w = subst (WorkAgrees v.start r.phase id) is (its_work turn) in
       let n = in_phase q w.0 (emptied id) w.1 in let o = its_log turn in (
         w.0,
@@ -132,7 +133,7 @@ module _ (turn : Turn) where
       )
 
   rest_placed : (q : ℕ) → v.work ≡ Placing q → (its : IsNumber v.start q) × NodeStep turn q its 0
-      (set st.homes (place_of v.start q) (some None)) r.history (spare x.number) Idle
+      (set st.homes (place_of v.start q) (some None)) r.history (spare x.number) (Between Idle)
   rest_placed q is = let w = subst (WorkAgrees v.start r.phase id) is (its_work turn) in
       let n = in_phase q w.0 (placed id) w.1 in let o = its_log turn in
       let next : (q ≡ next_in v.start x) × (0 < x.numbers_left) = subst (PlacesNext v.start x) is o.next in (
@@ -169,15 +170,15 @@ births_keep k slots id i m x has idle left place = by_turn k slots id i m x (λ 
 pub rests_keep : RestsKeep
 rests_keep k slots id i q m x has works carries place = by_turn k slots id i m x (λ k. m.1 ≡ (place_of k q, None) ∷ []) (λ k. word_of k q) (λ _. 0)
     (λ i _. Rests (step slots i 0 0 none) m 0) has carries place (λ st r here carries fits. let turn = turn_of m x has.1 id st r here in (
-      went turn r.history Idle m.0.change,
+      went turn r.history (Between Idle) m.0.change,
       gives,
       tt,
-      subst (λ (c : List (ℕ × Option Closed)). Agrees m.0.start (stepped st (word_of m.0.start q) 0 id c (went turn r.history Idle m.0.change) gives))
+      subst (λ (c : List (ℕ × Option Closed)). Agrees m.0.start (stepped st (word_of m.0.start q) 0 id c (went turn r.history (Between Idle) m.0.change) gives))
           (sym carries) (⊎_elim
           (λ (e : m.0.work ≡ Emptying q). let s = rest_emptied turn q e in
-          node_agrees turn q s.0 0 (set st.homes (place_of m.0.start q) (some None)) r.history closed Idle s.1)
+          node_agrees turn q s.0 0 (set st.homes (place_of m.0.start q) (some None)) r.history closed (Between Idle) s.1)
           (λ (e : m.0.work ≡ Placing q). let s = rest_placed turn q e in
-          node_agrees turn q s.0 0 (set st.homes (place_of m.0.start q) (some None)) r.history (spare x.number) Idle s.1)
+          node_agrees turn q s.0 0 (set st.homes (place_of m.0.start q) (some None)) r.history (spare x.number) (Between Idle) s.1)
           works),
-      record { stepped = tells_none turn m.1 (rest m.1) Idle m.0.change tt; carried = refl },
+      record { stepped = tells_none turn m.1 (rest m.1) (Between Idle) m.0.change tt; carried = refl },
     ))

@@ -10,6 +10,7 @@ use Rattle.fx_counted.proofs.Steps.{owner_same, grows_none, Turn, turn_of, word_
 use Rattle.fx_counted.proofs.Steps.{slot_same, control_same, one_if, times, bit_here, once_is, once_more}
 use Rattle.std.proofs.Common.{length-set}
 use Rattle.std.proofs.lemmas.List.Sums.{count_by-le-length}
+use Rattle.fx_counted.proofs.Words.{Between}
 
 abbrev pick : {P : Type 0} → Dec P → Phase → Phase → Phase
 pick (yes _) a b = a
@@ -90,7 +91,7 @@ module _ (turn : Turn) where
     read_else : (place : ℕ) → place ≢ draw_place → word_at words' place ≡ word_at st.words place
     read_else place other = get_or-set_other st.words draw_place place (found + 1) 0 other
 
-    draw_step : v.work ≡ Idle → ((n : ℕ) → (r.phase n ≡ phase' n) ⊎ ((r.phase n ≡ unborn) × (phase' n ≡ spare x.number)))
+    draw_step : v.work ≡ Between Idle → ((n : ℕ) → (r.phase n ≡ phase' n) ⊎ ((r.phase n ≡ unborn) × (phase' n ≡ spare x.number)))
         → first_or 0 drawn ≤ v.start.chains → left ≤ 64 → left ≤ v.start.numbers * first_or 0 drawn
         → ((n : ℕ) → next_in v.start y ≤ n → n < end_in v.start y → phase' n ≡ spare x.number)
         → DrawsCount v.start.chains v.start.numbers phase' (set st.views id w) (found + 1)
@@ -171,7 +172,7 @@ module _ (turn : Turn) where
       },
     )
 
-  module _ (idle : v.work ≡ Idle) (untold : x.no_chains_left ≡ false) where
+  module _ (idle : v.work ≡ Between Idle) (untold : x.no_chains_left ≡ false) where
     -- there is a next chain
     module _ (more : found < v.start.chains) where
       abbrev lo : ℕ

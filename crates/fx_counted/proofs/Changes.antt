@@ -11,6 +11,7 @@ use Rattle.std.proofs.Common.{length-set}
 use Rattle.fx_counted.proofs.Births.{in_phase, roomy, else_place, unheld}
 use Rattle.fx_counted.proofs.FullSlots.{Stands, control_swap}
 use Rattle.fx_counted.proofs.Swaps.{NotOf, Effect, h', removed_else, found, state, so, seat_of, not_old, elsewhere, w, Swap, swap_agrees}
+use Rattle.fx_counted.proofs.Words.{Between}
 
 module _ (turn : Turn) (s : ℕ) (inside : s < slots_of turn.v.start) (stands : Stands (range_of (opening_of turn.v.start)) s turn.v.change)
     (old : Option File) (was : (state_after_all turn.v.start turn.r.history).at s ≡ old) where
@@ -36,7 +37,7 @@ module _ (turn : Turn) (s : ℕ) (inside : s < slots_of turn.v.start) (stands : 
   after a = state_after_all v.start (h' turn s inside old was a)
 
   -- a removal
-  module _ (idle : v.work ≡ Idle) (a : Action) (does : Effect turn s inside old was a None s₀.fresh) where
+  module _ (idle : v.work ≡ Between Idle) (a : Action) (does : Effect turn s inside old was a None s₀.fresh) where
     removal : Swap turn s inside old was a 0 None st.homes r.phase x.numbers_left (turned v.change (if_full old) 0)
     removal = let o = its_log turn in record {
       fresh = s₀.fresh;

@@ -12,6 +12,7 @@ use Rattle.std.proofs.Common.{length-set}
 use Rattle.fx_counted.proofs.Calm.{Quiet, no_event, calm_agrees}
 use Rattle.fx_counted.proofs.FullSlots.{full_few, full_all}
 use Rattle.fx_counted.proofs.Retirements.{sub_wraps}
+use Rattle.fx_counted.proofs.Words.{Between}
 
 -- what one of them adds to the gap between two totals
 pub total_gap : {X : Type 0} (f g : X → ℕ) (xs : List X) (i : ℕ) (v : X) → get_elem? xs i ≡ some v
@@ -36,7 +37,7 @@ removes_inside Outside = omega arith
 removes_inside _ = omega arith
 
 is_inside : (k : Start) (phase : ℕ → Phase) (seat : ℕ) (d : Work) → WorkAgrees k phase seat d → IsInside k d
-is_inside k phase seat Idle o = tt
+is_inside k phase seat (Between Idle) o = tt
 is_inside k phase seat _ o = o.0
 
 module _ (k : Start) (s : Shared) (r : Agrees k s) where

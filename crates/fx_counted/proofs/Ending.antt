@@ -14,6 +14,7 @@ use Rattle.fx_counted.specs.Agrees.{IsSeated}
 use Rattle.fx_counted.proofs.Histories.{part_mine, part_other, same_shape, change_else}
 use Rattle.fx_counted.proofs.Keeping.{word_at}
 use Rattle.fx_counted.proofs.Ones.{one_if, times, bit_here, bit_else, once_is}
+use Rattle.fx_counted.proofs.Words.{Between}
 
 length_none : (l : List Log) → length l ≡ 0 → l ≡ []
 length_none [] e = refl
@@ -93,15 +94,15 @@ outside k (e ∷ h) may slot l = let size = (same_shape k h).0 in
 
 -- what each pass shows
 abbrev pub showing : Log → PassView
-showing x = shown x Idle
+showing x = shown x (Between Idle)
 
 -- no pass does anything
-module _ (k : Start) (s : Shared) (r : Agrees k s) (all_idle : (i : ℕ) (u : View) → get_elem? s.views i ≡ some u → u.work ≡ Idle) where
+module _ (k : Start) (s : Shared) (r : Agrees k s) (all_idle : (i : ℕ) (u : View) → get_elem? s.views i ≡ some u → u.work ≡ Between Idle) where
   abbrev end : State
   end = state_after_all k r.history
 
   -- no pass works with a number
-  nobody : (i : ℕ) (w : Work) → Does s.views i w → w ≡ Idle
+  nobody : (i : ℕ) (w : Work) → Does s.views i w → w ≡ Between Idle
   nobody i w d = sym d.2 ∙ all_idle i d.0 d.1
 
   unheld : (n : ℕ) → end.holds n ≡ 0
@@ -118,7 +119,7 @@ module _ (k : Start) (s : Shared) (r : Agrees k s) (all_idle : (i : ℕ) (u : Vi
 
   removed_by : (n : ℕ) (ph : Phase) → Node n ph → OwnerAgrees s.views n ph → end.removed n ≡ None
   removed_by n (seated slot file) a o = a.not_removed
-  removed_by n (leaving i takes file) a o = let bad = nobody i (Retiring (numbered n file) takes) o in absurd (cc bad)
+  removed_by n (leaving i takes file) a o = let bad = nobody i (Between (Retiring (numbered n file) takes)) o in absurd (cc bad)
   removed_by n (retired file) a o = let w = a.counts in let h = unheld n in let p = a.some_hold in absurd (omega arith)
   removed_by n _ a o = a.not_removed
 
@@ -147,7 +148,7 @@ module _ (k : Start) (s : Shared) (r : Agrees k s) (all_idle : (i : ℕ) (u : Vi
     λ other e. let same : file ≡ other = cc e in
         (slot, omega arith, a.there ∙ ap (λ (z : Closed). Some (numbered n z)) same),
   )
-  home_by n (leaving i takes file) a o = let bad = nobody i (Retiring (numbered n file) takes) o in absurd (cc bad)
+  home_by n (leaving i takes file) a o = let bad = nobody i (Between (Retiring (numbered n file) takes)) o in absurd (cc bad)
   home_by n (retired file) a o = let w = a.counts in let h = unheld n in let p = a.some_hold in absurd (omega arith)
   home_by n (emptied i) a o = let bad = nobody i (Emptying n) o in absurd (cc bad)
   home_by n _ a o = (None, a.at_home, nothing n)
@@ -176,7 +177,7 @@ module _ (k : Start) (s : Shared) (r : Agrees k s) (all_idle : (i : ℕ) (u : Vi
   pub none_outside_end : (slot : ℕ) → slots_of k ≤ slot → end.at slot ≡ None
   none_outside_end = outside k r.history r.legal.leads.0
 
-module _ (k : Start) (s : Shared) (r : Agrees k s) (seat : ℕ) (v : View) (at : get_elem? s.views seat ≡ some v) (idle : v.work ≡ Idle)
+module _ (k : Start) (s : Shared) (r : Agrees k s) (seat : ℕ) (v : View) (at : get_elem? s.views seat ≡ some v) (idle : v.work ≡ Between Idle)
     (all : length v.logs ≡ k.passes) where
   empty_else : (i : ℕ) (u : View) → i ≢ seat → get_elem? s.views i ≡ some u → u.logs ≡ []
   empty_else i u other e =
@@ -184,7 +185,7 @@ module _ (k : Start) (s : Shared) (r : Agrees k s) (seat : ℕ) (v : View) (at :
       let b = r.whole in
       length_none u.logs (omega arith)
 
-  pub idle_each : (i : ℕ) (u : View) → get_elem? s.views i ≡ some u → u.work ≡ Idle
+  pub idle_each : (i : ℕ) (u : View) → get_elem? s.views i ≡ some u → u.work ≡ Between Idle
   idle_each i u e = dite (ℕ_discrete i seat)
       (λ same. let is : v ≡ u = some-injective v u (sym at ∙ (ap (λ (j : ℕ). get_elem? s.views j) (sym same) ∙ e)) in
       ap (λ (z : View). z.work) (sym is) ∙ idle)

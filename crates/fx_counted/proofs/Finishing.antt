@@ -13,6 +13,7 @@ use Rattle.fx_counted.proofs.Naming.{node_is}
 use Rattle.fx_counted.proofs.Places.{apart, low_home, high_home}
 use Rattle.fx_counted.proofs.Shells.{IsPartlyBack, Becomes, first_back, none_given}
 use Rattle.fx_counted.proofs.Starting.{at_place}
+use Rattle.fx_counted.proofs.Words.{Between}
 
 pub word_at_place : (ws : List ℕ) (i w : ℕ) → get_elem? ws i ≡ some w → slice_index ws i ≡ w
 word_at_place [] i w e = absurd (some-ne-none w (sym e))
@@ -58,7 +59,7 @@ module _ (size : ℕ) (words : List ℕ) (numbers : ℕ) (xs : List (Option Clos
       ∙ ap (λ (m : ℕ). emptied size words m xs) next)
 
 -- the places at the end
-module _ (k : Start) (s : Shared) (r : Agrees k s) (all_idle : (i : ℕ) (u : View) → get_elem? s.views i ≡ some u → u.work ≡ Idle)
+module _ (k : Start) (s : Shared) (r : Agrees k s) (all_idle : (i : ℕ) (u : View) → get_elem? s.views i ≡ some u → u.work ≡ Between Idle)
     (words : List ℕ) (xs : List (Option Closed)) (same : s.words ≡ words) (long : length s.homes ≡ length xs)
     (at_home : (place : ℕ) (y : Option Closed) → get_elem? s.homes place ≡ some (some y) → get_elem? xs place ≡ some y) where
   abbrev end : State
@@ -138,7 +139,7 @@ module _ (t : CountedTable) (id : ℕ) (v : View) (words : List ℕ) (xs : List 
   abbrev k : Start
   k = t.table.shared.key
 
-  all_idle : (i : ℕ) (u : View) → get_elem? final.0.views i ≡ some u → u.work ≡ Idle
+  all_idle : (i : ℕ) (u : View) → get_elem? final.0.views i ≡ some u → u.work ≡ Between Idle
   all_idle = idle final.0 final.1.0 final.1.1
 
   pub home_at_end : AreAtHome t.size words (t.numbers * t.chains) xs

@@ -6,14 +6,14 @@ use Rattle.fx_counted.proofs.Words.{leaving, emptied, owner, file_in, Log, Start
 use Rattle.fx_counted.proofs.Words.{ℕ_discrete}
 use Rattle.fx_counted.proofs.Histories.{Grows}
 use Rattle.fx_counted.proofs.Ones.{one_if, bit_here, once_is}
+use Rattle.fx_counted.proofs.Words.{Between}
 
 -- the number that a pass alone works with, plus 1, or 0
 abbrev pub busy : Work → ℕ
-busy Idle = 0
+busy (Between (Retiring f takes)) = f.number + 1
 busy (Placing number) = number + 1
-busy (Holding f) = 0
-busy (Retiring f takes) = f.number + 1
 busy (Emptying number) = number + 1
+busy _ = 0
 
 -- what belongs to another seat, and the spare numbers of another pass, are as they were
 pub record Stays (id p : ℕ) (phase phase' : ℕ → Phase) : Type 0 where
@@ -26,24 +26,24 @@ stays_same id p phase = record { owned = λ n a b. refl; spared = λ n q is othe
 -- the files that other seats hold stay the same
 abbrev pub KeepsHeld : ℕ → List View → (ℕ → Phase) → (ℕ → Phase) → Type 0
 KeepsHeld id views phase phase' = (j : ℕ) (u : View) (f : File) → j ≢ id → get_elem? views j ≡ some u
-    → u.work ≡ Holding f → file_in (phase' f.number) ≡ file_in (phase f.number)
+    → u.work ≡ Between (Holding f) → file_in (phase' f.number) ≡ file_in (phase f.number)
 
 module _ (id p j : ℕ) (other : j ≢ id) (phase phase' : ℕ → Phase) (stays : Stays id p phase phase') where
   same_for : (n : ℕ) (ph : Phase) → phase n ≡ ph → owner ph ≡ j + 1 → phase' n ≡ ph
   same_for n ph is own = stays.owned n (λ z. let e : owner (phase n) ≡ owner ph = ap owner is in
       omega arith) (λ z. other (let e : owner (phase n) ≡ owner ph = ap owner is in omega arith)) ∙ is
 
-  work_stays : (k : Start) (d : Work) → ((f : File) → d ≡ Holding f
+  work_stays : (k : Start) (d : Work) → ((f : File) → d ≡ Between (Holding f)
       → file_in (phase' f.number) ≡ file_in (phase f.number)) → WorkAgrees k phase j d → WorkAgrees k phase' j d
-  work_stays k Idle keeps o = tt
+  work_stays k (Between Idle) keeps o = tt
   work_stays k (Placing n) keeps o = (o.0, same_for n (placed j) o.1 refl)
-  work_stays k (Holding f) keeps o = (o.0, keeps f refl ∙ o.1)
-  work_stays k (Retiring f t) keeps o = (o.0, same_for f.number (leaving j t f.identity) o.1 refl)
+  work_stays k (Between (Holding f)) keeps o = (o.0, keeps f refl ∙ o.1)
+  work_stays k (Between (Retiring f t)) keeps o = (o.0, same_for f.number (leaving j t f.identity) o.1 refl)
   work_stays k (Emptying n) keeps o = (o.0, same_for n (emptied j) o.1 refl)
 
   -- another view, after events of a pass that it doesn't have
   pub view_stays : (k : Start) (h h' : List Event) → Grows p h h' → (u : View) → ((i : ℕ) (y : Log) → get_elem? u.logs i ≡ some y → y.number ≢ p)
-      → ((f : File) → u.work ≡ Holding f → file_in (phase' f.number) ≡ file_in (phase f.number))
+      → ((f : File) → u.work ≡ Between (Holding f) → file_in (phase' f.number) ≡ file_in (phase f.number))
       → ViewAgrees k h phase j u → ViewAgrees k h' phase' j u
   view_stays k h h' g u not_its keeps ok = record {
     logs = λ i y e. let o = ok.logs i y e in let n : p ≢ y.number = λ same. not_its i y e (sym same) in record {
@@ -95,7 +95,7 @@ pub owner_map : (views views' : List View) (n : ℕ)
     → ((j : ℕ) (d : Work) → busy d ≡ n + 1 → Does views j d → Does views' j d) → (ph : Phase) → OwnerAgrees views n ph
     → OwnerAgrees views' n ph
 owner_map views views' n f (placed j) o = f j (Placing n) refl o
-owner_map views views' n f (leaving j t g) o = f j (Retiring (numbered n g) t) refl o
+owner_map views views' n f (leaving j t g) o = f j (Between (Retiring (numbered n g) t)) refl o
 owner_map views views' n f (emptied j) o = f j (Emptying n) refl o
 owner_map views views' n f _ o = tt
 

@@ -7,6 +7,7 @@ use Rattle.fx_counted.proofs.Words.{state_after_all, first_log, view_of, IsPassO
 use Rattle.fx_counted.proofs.Words.{Contains-append_right, Contains-append_cases, contains_only, contains_reverse, contains_reversed, sum_reverse}
 use Rattle.fx_counted.proofs.Ending.{showing, closes_logs, idle_each}
 use Rattle.fx_counted.proofs.Ones.{times}
+use Rattle.fx_counted.proofs.Words.{Between}
 
 module _ (id : TableId) (k : Start) where
   abbrev pub Is : CountedPass → Type 0
@@ -62,14 +63,14 @@ module _ (id : TableId) (k : Start) where
 
   module _ (ps : List CountedPass) (each : (p : CountedPass) → Contains ps p → Is p) (count : length ps ≡ k.passes)
       (s : Shared) (r : Agrees k s) (seat : ℕ) (v : View) (at : get_elem? s.views seat ≡ some v) (logs_are : v.logs ≡ logs_in (reverse ps))
-      (idle : v.work ≡ Idle) (out : v.change ≡ Outside) where
+      (idle : v.work ≡ Between Idle) (out : v.change ≡ Outside) where
     each_back : (p : CountedPass) → Contains (reverse ps) p → Is p
     each_back p h = each p (contains_reverse ps p h)
 
     all_logs : length v.logs ≡ k.passes
     all_logs = ap (length {A = Log}) logs_are ∙ (length_logs (reverse ps) each_back ∙ (length-reverse ps ∙ count))
 
-    pub all_idle : (i : ℕ) (u : View) → get_elem? s.views i ≡ some u → u.work ≡ Idle
+    pub all_idle : (i : ℕ) (u : View) → get_elem? s.views i ≡ some u → u.work ≡ Between Idle
     all_idle = idle_each k s r seat v at idle all_logs
 
     -- what a pass shows is what its log shows, its doing aside

@@ -1,11 +1,13 @@
 -- Some steps in a row, and the pass behind them.
-use Rattle.fx_counted.proofs.Words.{◌≡◌, ℕ, ◌+◌, ◌*◌, List, [], ◌∷◌, inl, sym, refl, ap, ◌∙◌, subst, arith, Some, TableId, ◌▷◌, Action, Close, Use}
+use Rattle.fx_counted.proofs.Words.{◌≡◌, ℕ, ◌+◌, ◌*◌, List, [], ◌∷◌, inl, sym, ap, ◌∙◌, subst, arith, Some, TableId, ◌▷◌, Action, Close, Use}
 use Rattle.fx_counted.proofs.Words.{no_use, Adds, IsFront, File, Goes, HasPlace, HasPass, place_of, Sat, opening_of, pass_of, doing_in, chain_in}
 use Rattle.fx_counted.proofs.Words.{first_log, view_of, is_idle, IsPassOf, IsInside, Stepped, TakesOut, LetsGo, CountedPass, Change, Outside, Log}
-use Rattle.fx_counted.proofs.Words.{Start, Work, Idle, Placing, Holding, Retiring, Emptying, ◌▷▷◌, both_uses, IsAtWork, IsBetweenCalls}
-use Rattle.fx_table.specs.declared.values.Doing.TheVariants.{Idle as NowIdle, Holding as NowHolding, Retiring as NowRetiring}
+use Rattle.fx_counted.proofs.Words.{Start, Work, Idle, Emptying, ◌▷▷◌, both_uses, IsAtWork, IsBetweenCalls}
+use Rattle.fx_counted.proofs.Words.{Idle}
 use Rattle.fx_table.proofs.Calls.{adds_then}
 use Rattle.fx_counted.specs.Tables.{HasOnePass}
+use Rattle.fx_table.specs.declared.values.Doing.{Doing}
+use Rattle.fx_counted.proofs.Words.{Between}
 
 pub goes_one : (m m' : Sat) (xs : List Action) (a : Use) (w : Work) (c : Change) → Stepped m xs a w c m' → Goes m xs a w c 1 m'
 goes_one m m' xs a w c s = record {
@@ -97,19 +99,9 @@ module _ (id : TableId) (k : Start) (p q : CountedPass) (fits : IsPassOf id k p)
   }
 
 -- what a pass does between two calls
-pub idle_work : (w : Work) → IsBetweenCalls w → doing_in w ≡ NowIdle → w ≡ Idle
-idle_work Idle r e = refl
-idle_work (Placing n) r e = absurd r
-idle_work (Emptying n) r e = absurd r
-idle_work _ r e = absurd (cc e)
-
-pub holding_work : (w : Work) (f : File) → IsBetweenCalls w → doing_in w ≡ NowHolding f → w ≡ Holding f
-holding_work (Holding g) f r e = let same : g ≡ f = cc e in ap (λ (z : File). Holding z) same
-holding_work _ f r e = absurd (cc e)
-
-pub retiring_work : (w : Work) (f : File) (t : ℕ) → IsBetweenCalls w → doing_in w ≡ NowRetiring f t → w ≡ Retiring f t
-retiring_work (Retiring g u) f t r e = let same : g ≡ f = cc e in let takes : u ≡ t = cc e in λ i. Retiring (same i) (takes i)
-retiring_work _ f t r e = absurd (cc e)
+pub work_between : (w : Work) (d : Doing) → IsBetweenCalls w → doing_in w ≡ d → w ≡ Between d
+work_between (Between _) d rests is = ap (λ (z : Doing). Between z) is
+work_between _ d rests is = absurd rests
 
 -- the pass of a seat
 pub its_pass : (id : TableId) (k : Start) (p : CountedPass) (fits : IsPassOf id k p) → HasPass k p.seat.me fits.log
@@ -127,16 +119,16 @@ out_place k m m' xs f x its empty out = let s = out.stepped in record {
 }
 
 -- the file of a pass comes out: its close, and the step in which its place goes home
-pub out_and_home : (m m' m'' : Sat) (xs : List Action) (f : File) → TakesOut m xs f m' → Stepped m' [] no_use Idle m'.0.change m''
-    → Goes m (xs ▷ Close f) no_use Idle m.0.change 2 m''
-out_and_home m m' m'' xs f out home = subst (λ (c : Change). Goes m (xs ▷ Close f) no_use Idle c 2 m'') out.stepped.change
-    (goes_then m m' m'' (xs ▷ Close f) [] no_use no_use (Emptying f.number) Idle m.0.change m'.0.change 1 1
+pub out_and_home : (m m' m'' : Sat) (xs : List Action) (f : File) → TakesOut m xs f m' → Stepped m' [] no_use (Between Idle) m'.0.change m''
+    → Goes m (xs ▷ Close f) no_use (Between Idle) m.0.change 2 m''
+out_and_home m m' m'' xs f out home = subst (λ (c : Change). Goes m (xs ▷ Close f) no_use (Between Idle) c 2 m'') out.stepped.change
+    (goes_then m m' m'' (xs ▷ Close f) [] no_use no_use (Emptying f.number) (Between Idle) m.0.change m'.0.change 1 1
     (goes_one m m' (xs ▷ Close f) no_use (Emptying f.number) m.0.change out.stepped)
-    (goes_one m' m'' [] no_use Idle m'.0.change home))
+    (goes_one m' m'' [] no_use (Between Idle) m'.0.change home))
 
 -- a pass outside a change that has done with its file
-pub let_go : (m m' : Sat) (xs : List Action) → m.0.change ≡ Outside → LetsGo m xs m' → Goes m xs no_use Idle Outside 1 m'
-let_go m m' xs outside went = subst (λ (c : Change). Goes m xs no_use Idle c 1 m') outside (goes_one m m' xs no_use Idle m.0.change went.stepped)
+pub let_go : (m m' : Sat) (xs : List Action) → m.0.change ≡ Outside → LetsGo m xs m' → Goes m xs no_use (Between Idle) Outside 1 m'
+let_go m m' xs outside went = subst (λ (c : Change). Goes m xs no_use (Between Idle) c 1 m') outside (goes_one m m' xs no_use (Between Idle) m.0.change went.stepped)
 
 -- a pass is still at work behind some steps
 pub still_at_work : (k : Start) (m m' : Sat) (x : Log) (xs : List Action) (a : Use) (w : Work) (c : Change) (n : ℕ) → HasPass k m x

@@ -10,6 +10,7 @@ use Rattle.fx_counted.proofs.Steps.{Turn, turn_of, word_at, now, logged, its_log
 use Rattle.fx_counted.proofs.Steps.{node_same, control_same}
 use Rattle.fx_counted.specs.Agrees.{IsSeated}
 use Rattle.fx_counted.proofs.SlotSteps.{SlotStep, slot_agrees}
+use Rattle.fx_counted.proofs.Words.{Between}
 
 pub add_one : (n : ℕ) → takes_in n + 1 < 4294967296 → n < 18446744073709551616 → (n + 1) % 2 ^ 64 ≡ n + 1
 add_one n low fits = omega arith
@@ -19,7 +20,7 @@ abbrev slot_in : Phase → ℕ
 slot_in (seated s f) = s
 slot_in _ = 0
 
-module _ (turn : Turn) (idle : turn.v.work ≡ Idle) (some_left : 0 < turn.x.looks_left) (s : ℕ) (inside : s < slots_of turn.v.start) where
+module _ (turn : Turn) (idle : turn.v.work ≡ Between Idle) (some_left : 0 < turn.x.looks_left) (s : ℕ) (inside : s < slots_of turn.v.start) where
   open turn use {st, v, r, id, x, here, one}
 
   abbrev found : ℕ

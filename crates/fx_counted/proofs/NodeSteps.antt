@@ -11,6 +11,7 @@ use Rattle.fx_counted.proofs.Histories.{Grows, IsHistory, change_here, change_el
 use Rattle.fx_counted.proofs.Frames.{busy, owner_stays}
 use Rattle.fx_counted.proofs.Keeping.{Turn, Homes, word_at, logged, Step, step_kept, log_now, went}
 use Rattle.fx_counted.proofs.Unchanged.{slot_same, node_same, control_same, draws_same}
+use Rattle.fx_counted.proofs.Words.{Between}
 
 -- what a step on the number q tells of the histories
 pub record OneNumber (v : View) (q : ℕ) (h h' : List Event) : Type 0 where
@@ -63,7 +64,7 @@ module _ (turn : Turn) where
           → get_elem? homes' (home_place (slots_of v.start) n) ≡ get_elem? st.homes (home_place (slots_of v.start) n)
       -- the phase may change
       pub may : (ph ≡ r.phase q) ⊎ (owner (r.phase q) ≡ id + 1) ⊎ (r.phase q ≡ spare x.number) ⊎ ((f : Closed) × (r.phase q ≡ retired f))
-      pub keeps : (j : ℕ) (u : View) (f : File) → j ≢ id → get_elem? st.views j ≡ some u → u.work ≡ Holding f
+      pub keeps : (j : ℕ) (u : View) (f : File) → j ≢ id → get_elem? st.views j ≡ some u → u.work ≡ Between (Holding f)
           → f.number ≡ q → file_in ph ≡ file_in (r.phase q)
       pub free : (n : ℕ) → n ≢ q → busy v.work ≢ n + 1
       -- what the number is now, and who works with it

@@ -12,6 +12,7 @@ use Rattle.fx_counted.specs.Agrees.{IsSeated}
 use Rattle.fx_counted.proofs.FullSlots.{full_few}
 use Rattle.fx_counted.proofs.Ones.{one_if, once_is, once_more}
 use Rattle.fx_counted.proofs.Places.{fewer_numbers}
+use Rattle.fx_counted.proofs.Words.{Between}
 
 at_new : (p n i : ℕ) (x : Log) → get_elem? (new_logs p n) i ≡ some x → (q : ℕ) × (x ≡ new_log q)
 at_new p zero i x e = absurd (some-ne-none x (sym e))
@@ -136,7 +137,7 @@ module _ (k : Start) (words : List ℕ) (homes : List (Option Closed)) (o : Open
 
   view_opens : (j : ℕ) (v : View) → get_elem? (first_view k ∷ []) j ≡ some v → ViewAgrees k [] (first_phase k) j v
   view_opens zero v e = subst (ViewAgrees k [] (first_phase k) 0) (some-injective (first_view k) v e) record {
-    logs = λ i x at. let new = at_new 1 k.passes i x at in subst (LogAgrees k [] (first_phase k) 0 Idle) (sym new.1) record {
+    logs = λ i x at. let new = at_new 1 k.passes i x at in subst (LogAgrees k [] (first_phase k) 0 (Between Idle)) (sym new.1) record {
       seen = ([], refl);
       own = refl;
       held = refl;

@@ -10,8 +10,9 @@ use Rattle.fx_counted.proofs.Steps.{one_if, one_less_at}
 use Rattle.std.proofs.Common.{length-set}
 use Rattle.fx_counted.proofs.Births.{in_phase, word_now, home_now, roomy, else_place}
 use Rattle.fx_counted.proofs.Retirements.{sub_wraps, holding_it, few_looks, its_hold, spares_stay}
+use Rattle.fx_counted.proofs.Words.{Between}
 
-module _ (turn : Turn) (f : File) (works : turn.v.work ≡ Holding f) where
+module _ (turn : Turn) (f : File) (works : turn.v.work ≡ Between (Holding f)) where
   open turn use {st, v, r, id, x, here, one}
 
   abbrev q : ℕ
@@ -98,7 +99,7 @@ module _ (turn : Turn) (f : File) (works : turn.v.work ≡ Holding f) where
   not_busy : (n : ℕ) → busy v.work ≢ n + 1
   not_busy n bad = let b = ap busy works in omega arith
 
-  waits : word < 18446744073709551616 → word ≢ 1 → NodeStep turn q mine.0 less st.homes h₁ (r.phase q) Idle
+  waits : word < 18446744073709551616 → word ≢ 1 → NodeStep turn q mine.0 less st.homes h₁ (r.phase q) (Between Idle)
   waits fits more = let o = its_log turn in record {
     grows = grows_one x.number r.history freeing refl;
     legal = freed_legal;
@@ -109,7 +110,7 @@ module _ (turn : Turn) (f : File) (works : turn.v.work ≡ Holding f) where
     keeps = λ j u g other there holds same. refl;
     free = λ m other. not_busy m;
     node = still fits more (r.phase q) refl mine.1;
-    known = owner_stays st.views id v (went turn h₁ Idle v.change) here q (not_busy q) (r.phase q) (r.each_owner q mine.0);
+    known = owner_stays st.views id v (went turn h₁ (Between Idle) v.change) here q (not_busy q) (r.phase q) (r.each_owner q mine.0);
     held = held_mine x.number freeing r.history refl;
     next = tt;
     spares = λ m low high. let p = ap placing works in
@@ -168,7 +169,7 @@ module _ (turn : Turn) (f : File) (works : turn.v.work ≡ Holding f) where
           holds = holds_more;
         }
 
-  holding_same : (f g : File) → Holding f ≡ Holding g → f ≡ g
+  holding_same : (f g : File) → Between (Holding f) ≡ Between (Holding g) → f ≡ g
   holding_same f g e = cc e
 
   releases_either : (slots : ℕ) (carried : List (ℕ × Option Closed)) → word < 18446744073709551616
@@ -198,14 +199,14 @@ module _ (turn : Turn) (f : File) (works : turn.v.work ≡ Holding f) where
         },
       ))
       (λ more. (
-        went turn h₁ Idle v.change,
+        went turn h₁ (Between Idle) v.change,
         keeps,
         tt,
-        node_agrees turn q mine.0 less st.homes h₁ (r.phase q) Idle (waits fits more),
+        node_agrees turn q mine.0 less st.homes h₁ (r.phase q) (Between Idle) (waits fits more),
         record {
           waits = λ g its _. let same : f ≡ g = holding_same f g (sym works ∙ its) in
-              subst (λ (g : File). LetsGo (v, carried) ([] ▷ Release g) (went turn h₁ Idle v.change, carried)) same
-              record { stepped = tells_one turn (Release f) freed_legal carried carried Idle v.change tt; carried = refl };
+              subst (λ (g : File). LetsGo (v, carried) ([] ▷ Release g) (went turn h₁ (Between Idle) v.change, carried)) same
+              record { stepped = tells_one turn (Release f) freed_legal carried carried (Between Idle) v.change tt; carried = refl };
           closes = λ g _ is. absurd (more is);
         },
       ))

@@ -3,7 +3,7 @@ use Rattle.fx_counted.proofs.Words.{◌≡◌, ℕ, [], sym, refl, ap, ◌∙◌
 use Rattle.fx_counted.proofs.Words.{Clear, Take, Adds, no_use, one_number, PassView, next_number, Retired, doing_in, retires_now, ok_or, Placed}
 use Rattle.fx_counted.proofs.Words.{Cleared, Taken, Opening, retired_of, IsPassOfTable, slot_place, slot_of, Goes, Stepped, Outside, Change, Sat}
 use Rattle.fx_counted.proofs.Words.{Action, CountedTable, CountedPass, opening_of_table, view_of, pass_of}
-use Rattle.fx_table.specs.declared.values.Doing.TheVariants.{Idle as NowIdle, Retiring as NowRetiring}
+use Rattle.fx_counted.proofs.Words.{Idle, Retiring}
 use Rattle.fx_table.specs.declared.values.Empty.{Empty}
 use Rattle.fx_counted.proofs.Calling.{slot_at}
 use Rattle.fx_counted.proofs.Going.{adds_so, goes_around}
@@ -40,6 +40,6 @@ pub placed_so : (o : Opening) (v : PassView) (slot n : ℕ) (file : Closed) (rep
     → Adds o v ([] ▷ Put slot (numbered n file) replaced) (doing_in (retires_now replaced takes)) one_number w
     → Placed o v slot file result w
 placed_so o v slot n file None takes result w next is adds = subst (λ (r : Option Retired). Placed o v slot file r w) (sym is)
-    (subst (λ (z : ℕ). Adds o v ([] ▷ Put slot (numbered z file) None) NowIdle one_number w) next adds)
+    (subst (λ (z : ℕ). Adds o v ([] ▷ Put slot (numbered z file) None) Idle one_number w) next adds)
 placed_so o v slot n file (Some f) takes result w next is adds = subst (λ (r : Option Retired). Placed o v slot file r w) (sym is)
-    (f, refl, subst (λ (z : ℕ). Adds o v ([] ▷ Put slot (numbered z file) (Some f)) (NowRetiring f takes) one_number w) next adds)
+    (f, refl, subst (λ (z : ℕ). Adds o v ([] ▷ Put slot (numbered z file) (Some f)) (Retiring f takes) one_number w) next adds)

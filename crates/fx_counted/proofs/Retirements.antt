@@ -10,11 +10,12 @@ use Rattle.fx_counted.proofs.Steps.{Turn, turn_of, its_log, its_work, by_turn, M
 use Rattle.std.proofs.Common.{length-set}
 use Rattle.atomic_table.specs.Table.{Allows}
 use Rattle.fx_counted.proofs.Births.{in_phase, word_now, home_now, roomy, else_place}
+use Rattle.fx_counted.proofs.Words.{Between}
 
 pub sub_wraps : (n k : ℕ) → k ≤ n → n < 18446744073709551616 → 0 < k → (n + (2 ^ 64 - k)) % 2 ^ 64 ≡ n - k
 sub_wraps n k le fits more = omega arith
 
-pub holding_it : (n : ℕ) (f : File) → n ≡ f.number → holding n (Holding f) ≡ 1
+pub holding_it : (n : ℕ) (f : File) → n ≡ f.number → holding n (Between (Holding f)) ≡ 1
 holding_it n f same = rw (eq-eqb f.number n (sym same)) refl
 
 module _ (turn : Turn) where
@@ -25,7 +26,7 @@ module _ (turn : Turn) where
   few_looks n = let a = looks_few r.history n in let b = r.look_ups in let c = r.shape.passes in omega arith
 
   -- a seat that holds the file is among those that do
-  pub its_hold : (j : ℕ) (u : View) (f : File) (n : ℕ) → get_elem? st.views j ≡ some u → u.work ≡ Holding f → f.number ≡ n → held_of n u ≡ 1
+  pub its_hold : (j : ℕ) (u : View) (f : File) (n : ℕ) → get_elem? st.views j ≡ some u → u.work ≡ Between (Holding f) → f.number ≡ n → held_of n u ≡ 1
   its_hold j u f n there holds same = ap (holding n) holds ∙ holding_it n f (sym same)
 
   -- the spare numbers, where a number changes that is none of them
@@ -34,7 +35,7 @@ module _ (turn : Turn) where
   spares_stay q ph ph' p is not_spare n its = change_else r.phase q ph' n (λ same. not_spare p (sym is ∙ (ap r.phase (sym same) ∙ its))) ∙ its
 
   -- a retirement
-  module _ (f : File) (t : ℕ) (works : v.work ≡ Retiring f t) where
+  module _ (f : File) (t : ℕ) (works : v.work ≡ Between (Retiring f t)) where
     abbrev q : ℕ
     q = f.number
 
@@ -58,7 +59,7 @@ module _ (turn : Turn) where
     keeps_spares ph' n low high = let o = its_log turn in let p = ap placing works in
         spares_stay q (leaving id t f.identity) ph' x.number mine.1 (λ z bad. cc bad) n (o.spares n (omega arith) high)
 
-    waits : word < 18446744073709551616 → word ≢ retire_amount_of t → NodeStep turn q mine.0 left st.homes r.history (retired f.identity) Idle
+    waits : word < 18446744073709551616 → word ≢ retire_amount_of t → NodeStep turn q mine.0 left st.homes r.history (retired f.identity) (Between Idle)
     waits fits more = let n = node.counts in let a = node.all_takes in let c = few_looks q in let e = left_is fits in let o = its_log turn in record {
       grows = grows_none x.number r.history;
       legal = r.legal;
@@ -140,20 +141,20 @@ module _ (turn : Turn) where
           },
         ))
         (λ more. (
-          went turn r.history Idle v.change,
+          went turn r.history (Between Idle) v.change,
           keeps,
           tt,
-          node_agrees turn q mine.0 left st.homes r.history (retired f.identity) Idle (waits fits more),
+          node_agrees turn q mine.0 left st.homes r.history (retired f.identity) (Between Idle) (waits fits more),
           record {
             waits = λ g u its _. let same : f ≡ g = retiring_same f g t u (sym works ∙ its) in (
-              record { stepped = tells_none turn carried carried Idle v.change tt; carried = refl },
+              record { stepped = tells_none turn carried carried (Between Idle) v.change tt; carried = refl },
               subst (λ (g : File). 0 < (state_after_all v.start r.history).holds g.number) same (let n = node.counts in let a = node.all_takes in let c = few_looks q in omega arith),
             );
             closes = λ g u _ is. absurd (more is);
           },
         ))
       where
-        retiring_same : (f g : File) (t u : ℕ) → Retiring f t ≡ Retiring g u → f ≡ g
+        retiring_same : (f g : File) (t u : ℕ) → Between (Retiring f t) ≡ Between (Retiring g u) → f ≡ g
         retiring_same f g t u e = cc e
 
 pub retires_keep : RetiresKeep

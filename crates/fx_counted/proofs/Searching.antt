@@ -4,6 +4,7 @@ use Rattle.fx_counted.proofs.Words.{Closed, ◌▷◌, numbered, Allocate, Full,
 use Rattle.fx_counted.proofs.Words.{HasAllocated, Tries, Stepped, Exchanges, Change, Outside, Same, More, Start, Work, Idle, Placing, nat_eq}
 use Rattle.fx_counted.proofs.Words.{IsPlacing, HasFoundAllFull}
 use Rattle.fx_counted.proofs.Going.{goes_one, goes_then, still_at_work}
+use Rattle.fx_counted.proofs.Words.{Between}
 
 -- a step that leaves the pass at its work
 pub one_still : (m m' : Sat) (n : ℕ) (c : Change) → m.0.work ≡ Placing n → Stepped m [] no_use m.0.work c m' → m'.1 ≡ m.1 → StillPlaces n c m m'
@@ -24,7 +25,7 @@ still_then m m' m'' n c c' a b = (
 pub allocated_then : (m m' m'' : Sat) (n slot : ℕ) (file : Closed) (c c' : Change) → StillPlaces n c m m'
     → HasAllocated n file slot c' m' m'' → HasAllocated n file slot c' m m''
 allocated_then m m' m'' n slot file c c' a b = (
-  (a.0.0 + b.0.0, goes_then m m' m'' [] ([] ▷ Allocate slot (numbered n file)) no_use one_number (Placing n) Idle c c' a.0.0 b.0.0 a.0.1 b.0.1),
+  (a.0.0 + b.0.0, goes_then m m' m'' [] ([] ▷ Allocate slot (numbered n file)) no_use one_number (Placing n) (Between Idle) c c' a.0.0 b.0.0 a.0.1 b.0.1),
   b.1,
 )
 
@@ -62,8 +63,8 @@ exchange_tried k m m' m'' n slot i slots found old new file p here s same e =
     let at_home : m'.1 ≡ (place_of m'.0.start n, Some file) ∷ [] = place ∙ λ i. (place_of (sym start i) n, Some file) ∷ [] in
     tries_by m m'' n slot file found old
     (λ is. let w = e.wins n file work at_home is in
-    let put = subst (λ (z : ℕ). Stepped m' ([] ▷ Allocate z (numbered n file)) one_number Idle More m'') here w.0 in
-    allocated_then m m' m'' n slot file Same More loaded ((1, goes_one m' m'' _ one_number Idle More put), w.1 ∙ ap rest place))
+    let put = subst (λ (z : ℕ). Stepped m' ([] ▷ Allocate z (numbered n file)) one_number (Between Idle) More m'') here w.0 in
+    allocated_then m m' m'' n slot file Same More loaded ((1, goes_one m' m'' _ one_number (Between Idle) More put), w.1 ∙ ap rest place))
     (λ other. let l = e.loses other in
     still_then m m' m'' n Same Same loaded (one_still m' m'' n Same work
     (subst (λ (z : Change). Stepped m' [] no_use m'.0.work z m'') s.change l.0) l.1))
@@ -74,7 +75,7 @@ pub allocated_told : (m m' m'' : Sat) (n slot : ℕ) (file : Closed) → HasAllo
 allocated_told m m' m'' n slot file a goes same = (
   (
     a.0.0 + 1,
-    goes_then m m' m'' ([] ▷ Allocate slot (numbered n file)) [] one_number no_use Idle Idle More Outside a.0.0 1 a.0.1
+    goes_then m m' m'' ([] ▷ Allocate slot (numbered n file)) [] one_number no_use (Between Idle) (Between Idle) More Outside a.0.0 1 a.0.1
         (subst (λ (w : Work). Goes m' [] no_use w Outside 1 m'') a.0.1.work goes),
   ),
   same ∙ a.1,

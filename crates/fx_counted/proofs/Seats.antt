@@ -7,6 +7,7 @@ use Rattle.fx_counted.proofs.Words.{Change, at_snoc, together, spent, SplitsKeep
 use Rattle.fx_counted.proofs.Frames.{busy, owner_map}
 use Rattle.fx_counted.proofs.Ones.{one_if, times}
 use Rattle.fx_counted.proofs.Keeping.{shape_kept}
+use Rattle.fx_counted.proofs.Words.{Between}
 
 at_rest : (l : List Log) (i : ℕ) (y : Log) → get_elem? (rest_of l) i ≡ some y → get_elem? l (suc i) ≡ some y
 at_rest [] i y e = absurd (some-ne-none y (sym e))
@@ -24,8 +25,8 @@ at_either (x ∷ l) m y zero e = inl (0, e)
 at_either (x ∷ l) m y (suc j) e = ⊎_elim (λ (t : (i : ℕ) × (get_elem? l i ≡ some y)). inl (suc t.0, t.1)) (λ t. inr t) (at_either l m y j e)
 
 -- a view of an idle seat that has some of the passes of the seats j
-part_view : (k : Start) (h : List Event) (phase : ℕ → Phase) (seat : ℕ) (w : View) → w.work ≡ Idle → w.change ≡ Outside
-    → ((i : ℕ) (y : Log) → get_elem? w.logs i ≡ some y → (j : ℕ) × LogAgrees k h phase j Idle y)
+part_view : (k : Start) (h : List Event) (phase : ℕ → Phase) (seat : ℕ) (w : View) → w.work ≡ Between Idle → w.change ≡ Outside
+    → ((i : ℕ) (y : Log) → get_elem? w.logs i ≡ some y → (j : ℕ) × LogAgrees k h phase j (Between Idle) y)
     → (w.logs ≡ []) ⊎ (w.start ≡ k) → ViewAgrees k h phase seat w
 part_view k h phase seat w idle out logs start = record {
   logs = λ i y e. subst (λ (d : Work). LogAgrees k h phase seat d y) (sym idle) (let o = (logs i y e).1 in record {
@@ -49,7 +50,7 @@ module _ (k : Start) (s : Shared) (r : Agrees k s) (views' : List View)
     (views : (j : ℕ) (u : View) → get_elem? views' j ≡ some u → ViewAgrees k r.history r.phase j u)
     (whole : sum_by lengths views' ≡ sum_by lengths s.views)
     (logs : (f : Log → ℕ) → sum_by (λ (u : View). sum_by f u.logs) views' ≡ sum_by (λ (u : View). sum_by f u.logs) s.views)
-    (works : (f : Work → ℕ) → f Idle ≡ 0 → sum_by (λ (u : View). f u.work) views' ≡ sum_by (λ (u : View). f u.work) s.views)
+    (works : (f : Work → ℕ) → f (Between Idle) ≡ 0 → sum_by (λ (u : View). f u.work) views' ≡ sum_by (λ (u : View). f u.work) s.views)
     (changes : (f : Change → ℕ) → f Outside ≡ 0 → sum_by (λ (u : View). f u.change) views' ≡ sum_by (λ (u : View). f u.change) s.views) where
   seated_anew : Agrees k record { words = s.words; homes = s.homes; views = views' }
   seated_anew = record {
@@ -84,7 +85,7 @@ split_counts : (f : List Log → ℕ) (f0 : f [] ≡ 0) (l : List Log)
 split_counts f f0 [] more = omega arith
 split_counts f f0 (y ∷ l) more = let a = more y l in omega arith
 
-module _ (k : Start) (id : ℕ) (v : View) (idle : v.work ≡ Idle) (out : v.change ≡ Outside) (s : Shared)
+module _ (k : Start) (id : ℕ) (v : View) (idle : v.work ≡ Between Idle) (out : v.change ≡ Outside) (s : Shared)
     (r : Agrees k s) (here : get_elem? s.views id ≡ some v) where
   abbrev parts : List View
   parts = set s.views id (without_first v) ++ first_alone v ∷ []
@@ -114,7 +115,7 @@ module _ (k : Start) (id : ℕ) (v : View) (idle : v.work ≡ Idle) (out : v.cha
       (λ (m : first_alone v ≡ u). subst (P j) m (b j))
       (at_snoc (set s.views id (without_first v)) (first_alone v) u j e)
 
-  its : (i : ℕ) (y : Log) → get_elem? v.logs i ≡ some y → LogAgrees k r.history r.phase id Idle y
+  its : (i : ℕ) (y : Log) → get_elem? v.logs i ≡ some y → LogAgrees k r.history r.phase id (Between Idle) y
   its i y e = subst (λ (d : Work). LogAgrees k r.history r.phase id d y) idle ((r.each_view id v here).logs i y e)
 
   start_of_part : (part : List Log → List Log) → part [] ≡ [] → (part v.logs ≡ []) ⊎ (v.start ≡ k)
@@ -141,8 +142,8 @@ module _ (k : Start) (id : ℕ) (v : View) (idle : v.work ≡ Idle) (out : v.cha
 pub splits_keep : SplitsKeep
 splits_keep k id v idle out s r here = split_agrees k id v idle out s r here
 
-module _ (k : Start) (id : ℕ) (v : View) (begun : v.start ≡ k) (idle : v.work ≡ Idle) (out : v.change ≡ Outside)
-    (other : ℕ) (w : View) (w_idle : w.work ≡ Idle) (w_out : w.change ≡ Outside)
+module _ (k : Start) (id : ℕ) (v : View) (begun : v.start ≡ k) (idle : v.work ≡ Between Idle) (out : v.change ≡ Outside)
+    (other : ℕ) (w : View) (w_idle : w.work ≡ Between Idle) (w_out : w.change ≡ Outside)
     (s : Shared) (r : Agrees k s) (here : get_elem? s.views id ≡ some v) (apart : ¬ (other ≡ id))
     (there : get_elem? (set s.views id (together v w)) other ≡ some w) where
   abbrev one_set : List View
@@ -171,19 +172,19 @@ module _ (k : Start) (id : ℕ) (v : View) (begun : v.start ≡ k) (idle : v.wor
       let d = sum_set f one_set other w spent there in
       omega arith
 
-  its_v : (i : ℕ) (y : Log) → get_elem? v.logs i ≡ some y → LogAgrees k r.history r.phase id Idle y
+  its_v : (i : ℕ) (y : Log) → get_elem? v.logs i ≡ some y → LogAgrees k r.history r.phase id (Between Idle) y
   its_v i y e = subst (λ (d : Work). LogAgrees k r.history r.phase id d y) idle ((r.each_view id v here).logs i y e)
 
-  its_w : (i : ℕ) (y : Log) → get_elem? w.logs i ≡ some y → LogAgrees k r.history r.phase other Idle y
+  its_w : (i : ℕ) (y : Log) → get_elem? w.logs i ≡ some y → LogAgrees k r.history r.phase other (Between Idle) y
   its_w i y e = subst (λ (d : Work). LogAgrees k r.history r.phase other d y) w_idle ((r.each_view other w w_at).logs i y e)
 
-  joined_logs : (i : ℕ) (y : Log) → get_elem? (v.logs ++ w.logs) i ≡ some y → (j : ℕ) × LogAgrees k r.history r.phase j Idle y
+  joined_logs : (i : ℕ) (y : Log) → get_elem? (v.logs ++ w.logs) i ≡ some y → (j : ℕ) × LogAgrees k r.history r.phase j (Between Idle) y
   joined_logs i y e = ⊎_elim
       (λ (t : (i : ℕ) × (get_elem? v.logs i ≡ some y)). (id, its_v t.0 y t.1))
       (λ (t : (i : ℕ) × (get_elem? w.logs i ≡ some y)). (other, its_w t.0 y t.1))
       (at_either v.logs w.logs y i e)
 
-  no_work : (j : ℕ) (d : Work) (n : ℕ) (z : View) → busy d ≡ n + 1 → get_elem? s.views j ≡ some z → z.work ≡ Idle → Does s.views j d → ⊥
+  no_work : (j : ℕ) (d : Work) (n : ℕ) (z : View) → busy d ≡ n + 1 → get_elem? s.views j ≡ some z → z.work ≡ Between Idle → Does s.views j d → ⊥
   no_work j d n z is at z_idle o = let e : z.work ≡ d = ap (λ (u : View). u.work) (some-injective z o.0 (sym at
       ∙ o.1)) ∙ o.2 in let f : busy d ≡ 0 = ap busy (sym e ∙ z_idle) in omega arith
 

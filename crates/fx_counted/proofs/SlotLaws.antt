@@ -16,6 +16,7 @@ use Rattle.fx_counted.proofs.Changes.{in_size, names_old, removal_agrees, remova
 use Rattle.fx_counted.proofs.Changes.{installed_view}
 use Rattle.fx_counted.proofs.ControlSteps.{goes_on}
 use Rattle.fx_counted.proofs.Swaps.{Effect}
+use Rattle.fx_counted.proofs.Words.{Between}
 
 placing_same : (n m : ℕ) → Placing n ≡ Placing m → n ≡ m
 placing_same n m e = cc e
@@ -67,7 +68,7 @@ module _ (turn : Turn) (s : ℕ) (inside : s < slots_of turn.v.start) where
 module _ (act : ℕ → Option File → Action)
     (does : (turn : Turn) (s : ℕ) (inside : s < slots_of turn.v.start) (stands : MayChange turn.v.start s turn.v.change)
     → Facts turn s inside stands (act s (old turn s inside)) None (state_after_all turn.v.start turn.r.history).fresh) where
-  removes_keep : (k : Start) (slots id i slot : ℕ) (m : Sat) (x : Log) → HasPass k m x → m.0.work ≡ Idle
+  removes_keep : (k : Start) (slots id i slot : ℕ) (m : Sat) (x : Log) → HasPass k m x → m.0.work ≡ Between Idle
       → slot < slots_of k → MayChange k slot m.0.change → i ≡ slot_place slot
       → Allows (Agrees k) slots id m i (λ _. 0) (Removes act (step slots i 0 0 none) m)
   removes_keep k slots id i s m x has idle inside stands place = by_turn k slots id i m x (λ k. (s < slots_of k) × MayChange k s m.0.change)
@@ -203,7 +204,7 @@ module _ (turn : Turn) (slots s n old_word : ℕ) (file : Closed) (carried : Lis
         record { legal = legal; state = refl; looked = refl; all = omega arith; held = refl }
 
     abbrev w : View
-    w = now v (logged x (event_of (shown x v.work) a ∷ r.history) (x.numbers_left - 1) x.looks_left) Idle (turned v.change 0 1)
+    w = now v (logged x (event_of (shown x v.work) a ∷ r.history) (x.numbers_left - 1) x.looks_left) (Between Idle) (turned v.change 0 1)
 
     won : Goal new
     won = (
@@ -217,9 +218,9 @@ module _ (turn : Turn) (slots s n old_word : ℕ) (file : Closed) (carried : Lis
             let same_n : n ≡ n₂ = placing_same n n₂ (sym works ∙ works₂) in
             let same_f : file ≡ file₂ = carried_same (place_of v.start n) (place_of v.start n₂) file file₂ (sym carries ∙ carries₂) in (
               subst (λ (z : ℕ × Closed × Change). Stepped m
-                  ([] ▷ Allocate (slot_of (slot_place s)) (numbered z.0 z.1)) one_number Idle z.2 (w, rest m.1))
+                  ([] ▷ Allocate (slot_of (slot_place s)) (numbered z.0 z.1)) one_number (Between Idle) z.2 (w, rest m.1))
                   (λ i. (same_n i, same_f i, turned (same i) 0 1))
-                  (at_slot turn s within m (w, rest m.1) (λ z. Allocate z (numbered n file)) one_number Idle (turned v.change 0 1)
+                  (at_slot turn s within m (w, rest m.1) (λ z. Allocate z (numbered n file)) one_number (Between Idle) (turned v.change 0 1)
                   (installation_tells turn s within stands None at_none n file works small a allocated m.1 (rest m.1))),
               refl,
             );

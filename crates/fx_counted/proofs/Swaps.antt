@@ -9,6 +9,7 @@ use Rattle.fx_counted.proofs.Steps.{Stays, KeepsHeld, does_now, IsHistory, grows
 use Rattle.fx_counted.proofs.Steps.{logged, its_log, log_now}
 use Rattle.fx_counted.specs.Agrees.{IsSeated}
 use Rattle.fx_counted.proofs.SlotSteps.{SlotStep, slot_agrees}
+use Rattle.fx_counted.proofs.Words.{Between}
 
 -- the phases after a file has left its slot for the seat id
 abbrev pub gone_out : ℕ → Option File → ℕ → (ℕ → Phase) → ℕ → Phase
@@ -187,7 +188,7 @@ module _ (turn : Turn) (s : ℕ) (inside : s < slots_of turn.v.start) where
           owners = λ n has. by_old old n (OwnerAgrees (set st.views id w) n (phase' n))
               (λ f is same. subst (λ (m : ℕ). OwnerAgrees (set st.views id w) m (phase' m)) (sym same)
               (subst (OwnerAgrees (set st.views id w) f.number) (sym (out_here f is))
-              (does_now st.views id v w (Retiring f (takes_in found)) here (ap (λ (o : Option File). retires_now o (takes_in found)) is))))
+              (does_now st.views id v w (Between (Retiring f (takes_in found))) here (ap (λ (o : Option File). retires_now o (takes_in found)) is))))
               (λ other. subst (OwnerAgrees (set st.views id w) n) (sym (else_phase n other)) (p.owners n has other));
           no_other = λ n absent. ap (λ (z : State). z.removed n) p.does.state
               ∙ (removed_else state.removed old n (absent_old n absent old refl) ∙ r.no_other n absent);

@@ -8,6 +8,7 @@ use Rattle.fx_counted.proofs.Chains.{told_few}
 use Rattle.fx_counted.proofs.ControlSteps.{few_changes, few_full, few_added, few_removed}
 use Rattle.fx_counted.proofs.Histories.{looks_few}
 use Rattle.fx_counted.proofs.Naming.{node_is}
+use Rattle.fx_counted.proofs.Words.{Between}
 
 module _ (k : Start) (s : Shared) (r : Agrees k s) where
   few_passes : sum_by lengths s.views ≤ 16
@@ -43,10 +44,10 @@ module _ (k : Start) (s : Shared) (r : Agrees k s) where
   each_named : (slot number : ℕ) → slot < slots_of k → node_in (slot_word_in s slot) ≡ Some number → 4294967296 ≤ node_word_in k s number + 16777216
   each_named slot number inside is = let a = r.each_slot slot inside in of_slot slot number _ a.names a.seat is
 
-  each_leaving : (seat takes : ℕ) (v : View) (f : File) → get_elem? s.views seat ≡ some v → v.work ≡ Retiring f takes
+  each_leaving : (seat takes : ℕ) (v : View) (f : File) → get_elem? s.views seat ≡ some v → v.work ≡ Between (Retiring f takes)
       → 4294967296 ≤ node_word_in k s f.number + 16777216
   each_leaving seat takes v f there is =
-      let work : WorkAgrees k r.phase seat (Retiring f takes) = subst (WorkAgrees k r.phase seat) is (r.each_view seat v there).work in
+      let work : WorkAgrees k r.phase seat (Between (Retiring f takes)) = subst (WorkAgrees k r.phase seat) is (r.each_view seat v there).work in
       let a = of_seated f.number work.0 (leaving seat takes f.identity) work.1 in few_releases f.number _ _ a.counts
 
   few_draws : draw_word_in s ≤ k.chains + 16

@@ -38,7 +38,8 @@ pub use Rattle.fx_counted.specs.declared.view.Log.{Log}
 pub use Rattle.fx_counted.specs.declared.view.Start.{Start}
 pub use Rattle.fx_counted.specs.declared.view.View.{View}
 pub use Rattle.fx_counted.specs.declared.view.Work.{Work}
-pub use Rattle.fx_counted.specs.declared.view.Work.TheVariants.{Idle, Placing, Holding, Retiring, Emptying}
+pub use Rattle.fx_counted.specs.declared.view.Work.TheVariants.{Between, Placing, Emptying}
+pub use Rattle.fx_table.specs.declared.values.Doing.TheVariants.{Idle, Holding, Retiring}
 pub use Rattle.fx_plain.specs.Contents.{Contents, state_of, file_at, IsPrepared, slot_at}
 pub use Rattle.fx_plain.specs.History.{◌▷◌, held_by, held_after, part_of_pass, IsSeenBy, AllowsAll, action_of, ◌▷▷◌, ReleasesItsOwn, IsLegal}
 pub use Rattle.fx_plain.specs.State.{State, IsSettled, file_numbered, files_in_order, identities_of}

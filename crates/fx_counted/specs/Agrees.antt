@@ -26,7 +26,8 @@ use Rattle.fx_counted.specs.declared.view.Log.{Log}
 use Rattle.fx_counted.specs.declared.view.Start.{Start}
 use Rattle.fx_counted.specs.declared.view.View.{View}
 use Rattle.fx_counted.specs.declared.view.Work.{Work}
-use Rattle.fx_counted.specs.declared.view.Work.TheVariants.{Idle, Placing, Holding, Retiring, Emptying}
+use Rattle.fx_counted.specs.declared.view.Work.TheVariants.{Between, Placing, Emptying}
+use Rattle.fx_table.specs.declared.values.Doing.TheVariants.{Idle, Holding, Retiring}
 
 -- what a slot's word says of the file at the slot
 abbrev pub Names : ℕ → Option File → Type 0
@@ -109,33 +110,26 @@ Does views seat work = (v : View) × (get_elem? views seat ≡ some v) × (v.wor
 
 -- a number that a pass works with is known to the pass
 abbrev pub OwnerAgrees : List View → ℕ → Phase → Type 0
-OwnerAgrees views number unborn = Unit {0}
-OwnerAgrees views number (spare pass) = Unit {0}
 OwnerAgrees views number (placed seat) = Does views seat (Placing number)
-OwnerAgrees views number (seated slot file) = Unit {0}
 OwnerAgrees views number (leaving seat takes file) =
-    Does views seat (Retiring (numbered number file) takes)
-OwnerAgrees views number (retired file) = Unit {0}
+    Does views seat (Between (Retiring (numbered number file) takes))
 OwnerAgrees views number (emptied seat) = Does views seat (Emptying number)
-OwnerAgrees views number closed = Unit {0}
+OwnerAgrees views number _ = Unit {0}
 
 -- what a pass works with is where the pass left it
 abbrev pub WorkAgrees : Start → (ℕ → Phase) → ℕ → Work → Type 0
-WorkAgrees k phase seat Idle = Unit {0}
+WorkAgrees k phase seat (Between Idle) = Unit {0}
 WorkAgrees k phase seat (Placing number) = IsNumber k number × (phase number ≡ placed seat)
-WorkAgrees k phase seat (Holding f) = IsNumber k f.number
+WorkAgrees k phase seat (Between (Holding f)) = IsNumber k f.number
     × (file_in (phase f.number) ≡ Some f.identity)
-WorkAgrees k phase seat (Retiring f takes) = IsNumber k f.number
+WorkAgrees k phase seat (Between (Retiring f takes)) = IsNumber k f.number
     × (phase f.number ≡ leaving seat takes f.identity)
 WorkAgrees k phase seat (Emptying number) = IsNumber k number × (phase number ≡ emptied seat)
 
 -- a pass that places a number places the next one
 abbrev pub PlacesNext : Start → Log → Work → Type 0
-PlacesNext k x Idle = Unit {0}
 PlacesNext k x (Placing number) = (number ≡ next_in k x) × (0 < x.numbers_left)
-PlacesNext k x (Holding f) = Unit {0}
-PlacesNext k x (Retiring f takes) = Unit {0}
-PlacesNext k x (Emptying number) = Unit {0}
+PlacesNext k x _ = Unit {0}
 
 -- one pass of a seat that does this work
 pub record LogAgrees (k : Start) (h : List Event) (phase : ℕ → Phase)
@@ -157,7 +151,7 @@ pub record ViewAgrees (k : Start) (h : List Event) (phase : ℕ → Phase)
   pub logs : (i : ℕ) (x : Log) → get_elem? v.logs i ≡ some x
       → LogAgrees k h phase seat v.work x
   pub work : WorkAgrees k phase seat v.work
-  pub empty : v.logs ≡ [] → (v.work ≡ Idle) × (v.change ≡ Outside)
+  pub empty : v.logs ≡ [] → (v.work ≡ Between Idle) × (v.change ≡ Outside)
   pub start : (v.logs ≡ []) ⊎ (v.start ≡ k)
 
 -- how large everything is

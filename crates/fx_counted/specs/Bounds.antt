@@ -9,7 +9,8 @@ use Rattle.fx_counted.specs.Layout.{control_place, draw_place, slot_place, node_
 use Rattle.fx_counted.specs.Passes.{Shared, slots_of, looks_of}
 use Rattle.fx_counted.specs.declared.view.Start.{Start}
 use Rattle.fx_counted.specs.declared.view.View.{View}
-use Rattle.fx_counted.specs.declared.view.Work.TheVariants.{Retiring}
+use Rattle.fx_counted.specs.declared.view.Work.TheVariants.{Between}
+use Rattle.fx_table.specs.declared.values.Doing.TheVariants.{Retiring}
 
 -- the word of a slot
 abbrev pub slot_word_in : Shared → ℕ → ℕ
@@ -38,7 +39,7 @@ pub record AreBounded (k : Start) (s : Shared) : Type 0 where
       → node_in (slot_word_in s slot) ≡ Some number → 2 ^ 32 ≤ node_word_in k s number + 2 ^ 24
   -- nor behind its removal, until it is retired
   pub leaving : (seat takes : ℕ) (v : View) (f : File)
-      → get_elem? s.views seat ≡ some v → v.work ≡ Retiring f takes
+      → get_elem? s.views seat ≡ some v → v.work ≡ Between (Retiring f takes)
       → 2 ^ 32 ≤ node_word_in k s f.number + 2 ^ 24
   -- each of 16 passes is told once that there are no more chains
   pub draws : draw_word_in s ≤ k.chains + 16

@@ -4,29 +4,23 @@ use Rattle.std.specs.Prelude.{◌≡◌, ℕ, zero, suc, ◌+◌, ◌/◌, ◌%�
 use Rattle.fx_plain.specs.declared.event.File.{File}
 use Rattle.fx_words.specs.Words.{one_change, bias}
 use Rattle.fx_counted.specs.declared.view.Change.{Change}
-use Rattle.fx_counted.specs.declared.view.Change.TheVariants.{Outside, Same, More, Less}
+use Rattle.fx_counted.specs.declared.view.Change.TheVariants.{Outside, More, Less}
 use Rattle.fx_counted.specs.declared.view.View.{View}
 
 -- 1 between begin and end, and else 0
 abbrev pub in_change : Change → ℕ
 in_change Outside = 0
-in_change Same = 1
-in_change More = 1
-in_change Less = 1
+in_change _ = 1
 
 -- the full slots that a pass has added since it told
 abbrev pub added : Change → ℕ
-added Outside = 0
-added Same = 0
 added More = 1
-added Less = 0
+added _ = 0
 
 -- the full slots that it has removed since then
 abbrev pub removed_by : Change → ℕ
-removed_by Outside = 0
-removed_by Same = 0
-removed_by More = 0
 removed_by Less = 1
+removed_by _ = 0
 
 -- the changes of a view's pass
 abbrev pub changes_of : View → ℕ

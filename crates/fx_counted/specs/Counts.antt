@@ -1,21 +1,14 @@
 -- How often files were looked up in a history.
-use Rattle.std.specs.Prelude.{ℕ, ◌+◌, List, [], ◌∷◌, Some, None}
+use Rattle.std.specs.Prelude.{ℕ, ◌+◌, List, [], ◌∷◌, Some}
 use Rattle.fx_plain.specs.Step.{changed_at}
 use Rattle.fx_plain.specs.declared.event.Event.{Event}
 use Rattle.fx_plain.specs.declared.event.Action.{Action}
-use Rattle.fx_plain.specs.declared.event.Action.TheVariants.{Look, Release, Put, Clear, Take, Allocate, Full, Close}
+use Rattle.fx_plain.specs.declared.event.Action.TheVariants.{Look}
 
 -- by number, the look-ups that found its file, after one more action
 abbrev pub looks_after : (ℕ → ℕ) → Action → ℕ → ℕ
-looks_after looks (Look slot None) = looks
 looks_after looks (Look slot (Some f)) = changed_at looks f.number (looks f.number + 1)
-looks_after looks (Release f) = looks
-looks_after looks (Put slot f replaced) = looks
-looks_after looks (Clear slot found) = looks
-looks_after looks (Take slot found) = looks
-looks_after looks (Allocate slot f) = looks
-looks_after looks Full = looks
-looks_after looks (Close f) = looks
+looks_after looks _ = looks
 
 -- by number, how many look-ups found its file
 abbrev pub looks : List Event → ℕ → ℕ
@@ -25,13 +18,7 @@ looks (e ∷ h) = looks_after (looks h) e.action
 -- 1 for a look-up, and else 0
 abbrev pub look_in : Action → ℕ
 look_in (Look slot found) = 1
-look_in (Release f) = 0
-look_in (Put slot f replaced) = 0
-look_in (Clear slot found) = 0
-look_in (Take slot found) = 0
-look_in (Allocate slot f) = 0
-look_in Full = 0
-look_in (Close f) = 0
+look_in _ = 0
 
 -- all look-ups, those of empty slots too
 abbrev pub all_looks : List Event → ℕ

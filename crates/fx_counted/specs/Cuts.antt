@@ -6,7 +6,8 @@ use Rattle.fx_counted.specs.declared.view.Change.TheVariants.{Outside}
 use Rattle.fx_counted.specs.declared.view.Log.{Log}
 use Rattle.fx_counted.specs.declared.view.Start.{Start}
 use Rattle.fx_counted.specs.declared.view.View.{View}
-use Rattle.fx_counted.specs.declared.view.Work.TheVariants.{Idle}
+use Rattle.fx_counted.specs.declared.view.Work.TheVariants.{Between}
+use Rattle.fx_table.specs.declared.values.Doing.TheVariants.{Idle}
 
 -- so many new passes, from p on
 abbrev pub new_logs : ℕ → ℕ → List Log
@@ -15,7 +16,12 @@ new_logs p (suc n) = new_log p ∷ new_logs (suc p) n
 
 -- the view of the seat that opens the table
 abbrev pub first_view : Start → View
-first_view k = record { start = k; logs = new_logs 1 k.passes; work = Idle; change = Outside }
+first_view k = record {
+  start = k;
+  logs = new_logs 1 k.passes;
+  work = Between Idle;
+  change = Outside;
+}
 
 -- a list without its first pass
 abbrev pub rest_of : List Log → List Log
@@ -53,6 +59,6 @@ spent = record {
     numbers = 0;
   };
   logs = [];
-  work = Idle;
+  work = Between Idle;
   change = Outside;
 }

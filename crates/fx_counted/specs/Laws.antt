@@ -20,7 +20,8 @@ use Rattle.fx_counted.specs.declared.view.Change.TheVariants.{Outside, Same}
 use Rattle.fx_counted.specs.declared.view.Log.{Log}
 use Rattle.fx_counted.specs.declared.view.Start.{Start}
 use Rattle.fx_counted.specs.declared.view.View.{View}
-use Rattle.fx_counted.specs.declared.view.Work.TheVariants.{Idle, Placing, Holding, Retiring, Emptying}
+use Rattle.fx_counted.specs.declared.view.Work.TheVariants.{Between, Placing, Emptying}
+use Rattle.fx_table.specs.declared.values.Doing.TheVariants.{Idle, Holding, Retiring}
 
 -- the seat has one pass of the table
 abbrev pub HasPass : Start → Sat → Log → Type 0
@@ -51,25 +52,26 @@ MayChange k slot change =
 
 -- the first pass of an idle seat goes to a seat of its own
 abbrev pub SplitsKeep : Type 0
-SplitsKeep = (k : Start) (id : ℕ) (v : View) → v.work ≡ Idle → v.change ≡ Outside
+SplitsKeep = (k : Start) (id : ℕ) (v : View) → v.work ≡ Between Idle → v.change ≡ Outside
     → Splits (Agrees k) id v (without_first v) (first_alone v)
 
 -- an idle seat takes in the passes of another
 abbrev pub JoinsKeep : Type 0
-JoinsKeep = (k : Start) (id : ℕ) (v : View) → v.start ≡ k → v.work ≡ Idle → v.change ≡ Outside
-    → (other : ℕ) (w : View) → w.work ≡ Idle → w.change ≡ Outside
+JoinsKeep = (k : Start) (id : ℕ) (v : View)
+    → v.start ≡ k → v.work ≡ Between Idle → v.change ≡ Outside
+    → (other : ℕ) (w : View) → w.work ≡ Between Idle → w.change ≡ Outside
     → Joins (Agrees k) id v other w (together v w) spent
 
 -- an idle pass stores 2^32 in the word of its next number
 abbrev pub BirthsKeep : Type 0
 BirthsKeep = (k : Start) (slots id i : ℕ) (m : Sat) (x : Log) → HasPass k m x
-    → m.0.work ≡ Idle → 0 < x.numbers_left → i ≡ word_of k (next_in k x)
+    → m.0.work ≡ Between Idle → 0 < x.numbers_left → i ≡ word_of k (next_in k x)
     → Allows (Agrees k) slots id m i (λ _. born) (λ _. Births (step slots i born 0 none) m born)
 
 -- an idle pass adds 1 to a slot's word
 abbrev pub LooksKeep : Type 0
 LooksKeep = (k : Start) (slots id i slot : ℕ) (m : Sat) (x : Log) → HasPass k m x
-    → m.0.work ≡ Idle → 0 < x.looks_left → slot < slots_of k → i ≡ slot_place slot
+    → m.0.work ≡ Between Idle → 0 < x.looks_left → slot < slots_of k → i ≡ slot_place slot
     → Allows (Agrees k) slots id m i (λ word. (word + 1) % 2 ^ 64) (Looks (step slots i 1 0 none) m)
 
 -- a pass swaps the word of the file that it places into a slot
@@ -82,20 +84,20 @@ InstallsKeep = (k : Start) (slots id i slot n new : ℕ) (file : Closed) (m : Sa
 
 -- an idle pass swaps 0 into a slot's word, for an update
 abbrev pub ClearsKeep : Type 0
-ClearsKeep = (k : Start) (slots id i slot : ℕ) (m : Sat) (x : Log) → HasPass k m x → m.0.work ≡ Idle
-    → slot < slots_of k → MayChange k slot m.0.change → i ≡ slot_place slot
+ClearsKeep = (k : Start) (slots id i slot : ℕ) (m : Sat) (x : Log) → HasPass k m x
+    → m.0.work ≡ Between Idle → slot < slots_of k → MayChange k slot m.0.change → i ≡ slot_place slot
     → Allows (Agrees k) slots id m i (λ _. 0) (Removes Clear (step slots i 0 0 none) m)
 
 -- an idle pass swaps 0 into a slot's word, for a close
 abbrev pub TakesKeep : Type 0
-TakesKeep = (k : Start) (slots id i slot : ℕ) (m : Sat) (x : Log) → HasPass k m x → m.0.work ≡ Idle
-    → slot < slots_of k → MayChange k slot m.0.change → i ≡ slot_place slot
+TakesKeep = (k : Start) (slots id i slot : ℕ) (m : Sat) (x : Log) → HasPass k m x
+    → m.0.work ≡ Between Idle → slot < slots_of k → MayChange k slot m.0.change → i ≡ slot_place slot
     → Allows (Agrees k) slots id m i (λ _. 0) (Removes Take (step slots i 0 0 none) m)
 
 -- a pass subtracts 2^32 less the takes from the word of the file that it removed
 abbrev pub RetiresKeep : Type 0
 RetiresKeep = (k : Start) (slots id i amount takes : ℕ) (f : File) (m : Sat) (x : Log)
-    → HasPass k m x → m.0.work ≡ Retiring f takes → i ≡ word_of k f.number
+    → HasPass k m x → m.0.work ≡ Between (Retiring f takes) → i ≡ word_of k f.number
     → amount ≡ retire_amount_of takes
     → Allows (Agrees k) slots id m i (λ word. (word + (2 ^ 64 - amount)) % 2 ^ 64)
     (Retires (step slots i amount 0 none) m)
@@ -103,7 +105,7 @@ RetiresKeep = (k : Start) (slots id i amount takes : ℕ) (f : File) (m : Sat) (
 -- a pass subtracts 1 from the word of the file that it holds
 abbrev pub ReleasesKeep : Type 0
 ReleasesKeep = (k : Start) (slots id i : ℕ) (f : File) (m : Sat) (x : Log) → HasPass k m x
-    → m.0.work ≡ Holding f → i ≡ word_of k f.number
+    → m.0.work ≡ Between (Holding f) → i ≡ word_of k f.number
     → Allows (Agrees k) slots id m i (λ word. (word + (2 ^ 64 - 1)) % 2 ^ 64)
     (Releases (step slots i 1 0 none) m)
 
@@ -154,6 +156,6 @@ ExchangesKeep = (k : Start) (slots id i slot n old new : ℕ) (file : Closed) (m
 -- an idle pass that didn't get None adds 1 to the draw word
 abbrev pub DrawsKeep : Type 0
 DrawsKeep = (k : Start) (slots id i : ℕ) (m : Sat) (x : Log) → HasPass k m x
-    → m.0.work ≡ Idle → x.no_chains_left ≡ false → i ≡ draw_place
+    → m.0.work ≡ Between Idle → x.no_chains_left ≡ false → i ≡ draw_place
     → Allows (Agrees k) slots id m i (λ word. (word + 1) % 2 ^ 64)
     (DrawTells (step slots i 1 0 none) m)

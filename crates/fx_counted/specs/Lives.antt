@@ -17,14 +17,15 @@ use Rattle.fx_counted.specs.declared.view.Change.TheVariants.{Outside}
 use Rattle.fx_counted.specs.declared.view.Log.{Log}
 use Rattle.fx_counted.specs.declared.view.Start.{Start}
 use Rattle.fx_counted.specs.declared.view.View.{View}
-use Rattle.fx_counted.specs.declared.view.Work.TheVariants.{Idle}
+use Rattle.fx_counted.specs.declared.view.Work.TheVariants.{Between}
+use Rattle.fx_table.specs.declared.values.Doing.TheVariants.{Idle}
 
 -- the view of a seat that has the new passes from p to the last
 abbrev pub dealt : Start → ℕ → View
 dealt k p = record {
   start = k;
   logs = new_logs p ((k.passes + 1) - p);
-  work = Idle;
+  work = Between Idle;
   change = Outside;
 }
 
@@ -52,13 +53,13 @@ pub record IsIdleSeatOf (t : CountedTable) (seat : Seat (Option Closed) View) : 
   pub table : seat.table_id ≡ t.table.shared.table_id
   pub places : seat.me.1 ≡ []
   pub start : seat.me.0.start ≡ t.table.shared.key
-  pub work : seat.me.0.work ≡ Idle
+  pub work : seat.me.0.work ≡ Between Idle
   pub change : seat.me.0.change ≡ Outside
 
 -- whatever the last state is, no pass does anything
 abbrev pub AllAreIdle : Start → ℕ → View → Type 0
 AllAreIdle k id v = (s : Shared) → Agrees k s → get_elem? s.views id ≡ some v
-    → (seat : ℕ) (u : View) → get_elem? s.views seat ≡ some u → u.work ≡ Idle
+    → (seat : ℕ) (u : View) → get_elem? s.views seat ≡ some u → u.work ≡ Between Idle
 
 -- the files of the table are those of some last state
 pub record Leaves (k : Start) (id : ℕ) (v : View) (left : Contents) : Type 0 where

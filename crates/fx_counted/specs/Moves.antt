@@ -5,7 +5,8 @@ use Rattle.fx_counted.specs.Laws.{HasPass, place_of}
 use Rattle.fx_counted.specs.Passes.{Sat, IsNumber, next_in}
 use Rattle.fx_counted.specs.declared.view.Log.{Log}
 use Rattle.fx_counted.specs.declared.view.Start.{Start}
-use Rattle.fx_counted.specs.declared.view.Work.TheVariants.{Idle, Placing, Emptying}
+use Rattle.fx_counted.specs.declared.view.Work.TheVariants.{Between, Placing, Emptying}
+use Rattle.fx_table.specs.declared.values.Doing.TheVariants.{Idle}
 
 -- the seat's pass has the place of the number, to install its file or since its file is closed; and
 -- this is in the place
@@ -20,7 +21,7 @@ pub record HasPlace (k : Start) (number : ℕ) (inside : Option Closed) (m : Sat
 pub record MayPlace (k : Start) (number : ℕ) (m : Sat) : Type 0 where
   pub log : Log
   pub pass : HasPass k m log
-  pub idle : m.0.work ≡ Idle
+  pub idle : m.0.work ≡ Between Idle
   pub some_left : 0 < log.numbers_left
   pub next : number ≡ next_in k log
   pub known : IsNumber k number

@@ -11,13 +11,13 @@ use Rattle.fx_table.specs.Numbers.{numbers_up_to}
 use Rattle.fx_table.specs.Pass.{PassView}
 use Rattle.fx_table.specs.declared.limits.TheConstants.{PASS_LOOKS}
 use Rattle.fx_table.specs.declared.values.Doing.{Doing}
-use Rattle.fx_table.specs.declared.values.Doing.TheVariants.{Idle as NowIdle, Holding as NowHolding, Retiring as NowRetiring}
 use Rattle.fx_counted.specs.Layout.{HasNode}
 use Rattle.fx_counted.specs.declared.view.Log.{Log}
 use Rattle.fx_counted.specs.declared.view.Start.{Start}
 use Rattle.fx_counted.specs.declared.view.View.{View}
 use Rattle.fx_counted.specs.declared.view.Work.{Work}
-use Rattle.fx_counted.specs.declared.view.Work.TheVariants.{Idle, Placing, Holding, Retiring, Emptying}
+use Rattle.fx_counted.specs.declared.view.Work.TheVariants.{Between, Placing}
+use Rattle.fx_table.specs.declared.values.Doing.TheVariants.{Idle, Holding}
 
 -- the table as steps see it: a place has an open file or none
 abbrev pub Shared : Type 0
@@ -71,11 +71,8 @@ next_in k x = end_in k x - x.numbers_left
 
 -- what a pass of a shared table does, between two calls
 abbrev pub doing_in : Work → Doing
-doing_in Idle = NowIdle
-doing_in (Placing number) = NowIdle
-doing_in (Holding f) = NowHolding f
-doing_in (Retiring f takes) = NowRetiring f takes
-doing_in (Emptying number) = NowIdle
+doing_in (Between doing) = doing
+doing_in _ = Idle
 
 -- a pass, as all shared tables show it
 abbrev pub shown : Log → Work → PassView
@@ -118,27 +115,18 @@ steps_of v = (first_log v.logs).steps
 
 -- the file that the pass holds
 abbrev pub held_in : Work → Option File
-held_in Idle = None
-held_in (Placing number) = None
-held_in (Holding f) = Some f
-held_in (Retiring f takes) = None
-held_in (Emptying number) = None
+held_in (Between (Holding f)) = Some f
+held_in _ = None
 
 -- 1 where the pass is about to install a file, and else 0
 abbrev pub placing : Work → ℕ
-placing Idle = 0
 placing (Placing number) = 1
-placing (Holding f) = 0
-placing (Retiring f takes) = 0
-placing (Emptying number) = 0
+placing _ = 0
 
 -- 1 where the pass holds the file of the number, and else 0
 abbrev pub holding : ℕ → Work → ℕ
-holding n Idle = 0
-holding n (Placing number) = 0
-holding n (Holding f) = if f.number == n then 1 else 0
-holding n (Retiring f takes) = 0
-holding n (Emptying number) = 0
+holding n (Between (Holding f)) = if f.number == n then 1 else 0
+holding n _ = 0
 
 -- how many of a view's passes have the number
 abbrev pub logs_of : ℕ → View → ℕ

@@ -23,22 +23,14 @@ pub data Phase : Type 0 where
 
 -- the seat that alone may go on with it, plus 1, or 0
 abbrev pub owner : Phase → ℕ
-owner unborn = 0
-owner (spare pass) = 0
 owner (placed seat) = seat + 1
-owner (seated slot file) = 0
 owner (leaving seat takes file) = seat + 1
-owner (retired file) = 0
 owner (emptied seat) = seat + 1
-owner closed = 0
+owner _ = 0
 
 -- its file, while it is open
 abbrev pub file_in : Phase → Option Closed
-file_in unborn = None
-file_in (spare pass) = None
-file_in (placed seat) = None
 file_in (seated slot file) = Some file
 file_in (leaving seat takes file) = Some file
 file_in (retired file) = Some file
-file_in (emptied seat) = None
-file_in closed = None
+file_in _ = None

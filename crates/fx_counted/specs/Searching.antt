@@ -16,7 +16,8 @@ use Rattle.fx_counted.specs.declared.view.Change.{Change}
 use Rattle.fx_counted.specs.declared.view.Change.TheVariants.{Outside, Same, More}
 use Rattle.fx_counted.specs.declared.view.Start.{Start}
 use Rattle.fx_counted.specs.declared.view.Work.{Work}
-use Rattle.fx_counted.specs.declared.view.Work.TheVariants.{Idle, Placing}
+use Rattle.fx_counted.specs.declared.view.Work.TheVariants.{Between, Placing}
+use Rattle.fx_table.specs.declared.values.Doing.TheVariants.{Idle}
 
 -- the seat's pass has the place of the number, with the file that it is about to install
 pub record IsPlacing (k : Start) (number : ℕ) (file : Closed) (m : Sat) : Type 0 where
@@ -35,7 +36,8 @@ StillPlaces number c m m' = Proceeds m [] no_use (Placing number) c m' × (m'.1 
 -- the file is at the slot, which was free
 abbrev pub HasAllocated : ℕ → Closed → ℕ → Change → Sat → Sat → Type 0
 HasAllocated number file slot c m m' =
-    Proceeds m ([] ▷ Allocate slot (numbered number file)) one_number Idle c m' × (m'.1 ≡ [])
+    Proceeds m ([] ▷ Allocate slot (numbered number file)) one_number (Between Idle) c m'
+    × (m'.1 ≡ [])
 
 -- every slot of the range had a file, and this one is still to be installed
 abbrev pub HasFoundAllFull : ℕ → Sat → Sat → Type 0

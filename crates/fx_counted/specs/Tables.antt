@@ -11,7 +11,8 @@ use Rattle.fx_counted.specs.declared.view.Log.{Log}
 use Rattle.fx_counted.specs.declared.view.Start.{Start}
 use Rattle.fx_counted.specs.declared.view.View.{View}
 use Rattle.fx_counted.specs.declared.view.Work.{Work}
-use Rattle.fx_counted.specs.declared.view.Work.TheVariants.{Idle, Placing, Holding, Retiring, Emptying}
+use Rattle.fx_counted.specs.declared.view.Work.TheVariants.{Between}
+use Rattle.fx_table.specs.declared.values.Doing.TheVariants.{Idle}
 use Rattle.fx_counted.specs.declared.pass.CountedPass.{CountedPass}
 use Rattle.fx_counted.specs.declared.table.CountedTable.{CountedTable}
 
@@ -25,19 +26,13 @@ steps_taken p = steps_of p.seat.me.0
 
 -- between two calls a pass has no number's place
 abbrev pub IsBetweenCalls : Work → Type 0
-IsBetweenCalls Idle = Unit {0}
-IsBetweenCalls (Placing number) = ⊥
-IsBetweenCalls (Holding f) = Unit {0}
-IsBetweenCalls (Retiring f takes) = Unit {0}
-IsBetweenCalls (Emptying number) = ⊥
+IsBetweenCalls (Between doing) = Unit {0}
+IsBetweenCalls _ = ⊥
 
 -- whether it does nothing
 abbrev pub is_idle : Work → Bool
-is_idle Idle = true
-is_idle (Placing number) = false
-is_idle (Holding f) = false
-is_idle (Retiring f takes) = false
-is_idle (Emptying number) = false
+is_idle (Between Idle) = true
+is_idle _ = false
 
 -- what the pass itself knows of its log, and of what it does
 pub record Knows (p : CountedPass) (x : Log) : Type 0 where

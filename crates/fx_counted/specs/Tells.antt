@@ -20,7 +20,8 @@ use Rattle.fx_counted.specs.declared.view.Change.TheVariants.{Outside, Same, Mor
 use Rattle.fx_counted.specs.declared.view.Log.{Log}
 use Rattle.fx_counted.specs.declared.view.Start.{Start}
 use Rattle.fx_counted.specs.declared.view.Work.{Work}
-use Rattle.fx_counted.specs.declared.view.Work.TheVariants.{Idle, Placing, Holding, Retiring, Emptying}
+use Rattle.fx_counted.specs.declared.view.Work.TheVariants.{Between, Placing, Emptying}
+use Rattle.fx_table.specs.declared.values.Doing.TheVariants.{Idle, Holding, Retiring}
 
 -- a step of a table whose places have an open file or none
 abbrev pub At : Type 0
@@ -28,10 +29,10 @@ At = Step (Option Closed)
 
 -- the number that a pass works with is one of the table
 abbrev pub IsInside : Start → Work → Type 0
-IsInside k Idle = Unit {0}
+IsInside k (Between Idle) = Unit {0}
 IsInside k (Placing number) = IsNumber k number
-IsInside k (Holding f) = IsNumber k f.number
-IsInside k (Retiring f takes) = IsNumber k f.number
+IsInside k (Between (Holding f)) = IsNumber k f.number
+IsInside k (Between (Retiring f takes)) = IsNumber k f.number
 IsInside k (Emptying number) = IsNumber k number
 
 -- One step of a seat with one pass: it took these actions and used this up, and now it does this
@@ -48,13 +49,13 @@ pub record Stepped (m : Sat) (actions : List Action) (used : Use) (w : Work) (c 
 
 -- what a pass does that found this file
 abbrev pub holds_now : Option File → Work
-holds_now None = Idle
-holds_now (Some f) = Holding f
+holds_now None = Between Idle
+holds_now (Some f) = Between (Holding f)
 
 -- what a pass does that removed it
 abbrev pub retires_now : Option File → ℕ → Work
-retires_now None takes = Idle
-retires_now (Some f) takes = Retiring f takes
+retires_now None takes = Between Idle
+retires_now (Some f) takes = Between (Retiring f takes)
 
 -- what a pass in a change has to tell when a slot had so many files, and has so many now
 abbrev pub changed : ℕ → ℕ → Change
@@ -112,24 +113,25 @@ pub record TakesOut (m : Sat) (actions : List Action) (f : File) (m' : Sat) : Ty
 
 -- the file of the pass stays open, and the pass has done with it
 pub record LetsGo (m : Sat) (actions : List Action) (m' : Sat) : Type 0 where
-  pub stepped : Stepped m actions no_use Idle m.0.change m'
+  pub stepped : Stepped m actions no_use (Between Idle) m.0.change m'
   pub carried : m'.1 ≡ m.1
 
 -- Retire: where the word was what was subtracted, nobody holds the file
 pub record Retires (st : At) (m : Sat) (found : ℕ) (m' : Sat) : Type 0 where
-  pub waits : (f : File) (takes : ℕ) → m.0.work ≡ Retiring f takes → found ≢ st.first
+  pub waits : (f : File) (takes : ℕ) → m.0.work ≡ Between (Retiring f takes) → found ≢ st.first
       → LetsGo m [] m' × (0 < (state_after_all m.0.start (pass_of m'.0).front).holds f.number)
-  pub closes : (f : File) (takes : ℕ) → m.0.work ≡ Retiring f takes → found ≡ st.first
+  pub closes : (f : File) (takes : ℕ) → m.0.work ≡ Between (Retiring f takes) → found ≡ st.first
       → TakesOut m [] f m'
 
 -- Release: where the word was 1, it was the last hold of a retired file
 pub record Releases (st : At) (m : Sat) (found : ℕ) (m' : Sat) : Type 0 where
-  pub waits : (f : File) → m.0.work ≡ Holding f → found ≢ 1 → LetsGo m ([] ▷ Release f) m'
-  pub closes : (f : File) → m.0.work ≡ Holding f → found ≡ 1 → TakesOut m ([] ▷ Release f) f m'
+  pub waits : (f : File) → m.0.work ≡ Between (Holding f) → found ≢ 1 → LetsGo m ([] ▷ Release f) m'
+  pub closes : (f : File) → m.0.work ≡ Between (Holding f) → found ≡ 1
+      → TakesOut m ([] ▷ Release f) f m'
 
 -- Rest: the place is home, without a file
 pub record Rests (st : At) (m : Sat) (found : ℕ) (m' : Sat) : Type 0 where
-  pub stepped : Stepped m [] no_use Idle m.0.change m'
+  pub stepped : Stepped m [] no_use (Between Idle) m.0.change m'
   pub carried : m'.1 ≡ rest m.1
 
 -- a step that leaves the pass at its work: Begin, End and Load
@@ -149,7 +151,8 @@ pub record Answers (st : At) (m : Sat) (found : ℕ) (m' : Sat) : Type 0 where
 pub record Exchanges (st : At) (m : Sat) (found : ℕ) (m' : Sat) : Type 0 where
   pub wins : (n : ℕ) (file : Closed) → m.0.work ≡ Placing n
       → m.1 ≡ (home_place (slots_of m.0.start) n, Some file) ∷ [] → found ≡ st.first
-      → Stepped m ([] ▷ Allocate (slot_of st.word) (numbered n file)) one_number Idle More m'
+      → Stepped m ([] ▷ Allocate (slot_of st.word) (numbered n file))
+      one_number (Between Idle) More m'
       × (m'.1 ≡ rest m.1)
   pub loses : found ≢ st.first → Stepped m [] no_use m.0.work m.0.change m' × (m'.1 ≡ m.1)
 

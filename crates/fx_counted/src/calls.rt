@@ -18,8 +18,9 @@ use fx_table::{Empty, FIRST_CHAIN_NUMBER, Hold, LookFault, Retired};
 use fx_words::{entry_of, node_of, retire_amount, slot_word, takes_of};
 
 impl CountedTable {
-    /// The next chain of an idle pass (`is_idle`), in at most one atomic step, or `None` where there are no more. The chains
-    /// of a pass rise, and no chain is given twice. After `None` a pass is answered `None`, with no step.
+    /// Gives an idle pass (`is_idle`) its next chain, by at most one atomic step. No two passes get the same chain, and
+    /// each chain of a pass is greater than the one before. `None` says that all chains are given: from then on the pass
+    /// gets `None`, without a step.
     pub fn draw(&self, pass: &mut CountedPass) -> Option<u32>
         requires fits { IsPassOfTable self.now pass.old }
         requires idle { IsIdle (view_of pass.old) }

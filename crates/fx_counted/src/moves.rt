@@ -4,7 +4,8 @@ ghost use Rattle.fx_base.specs.declared.open_file.Closed.{Closed};
 ghost use Rattle.fx_table.specs.Calls.{no_use};
 ghost use Rattle.fx_counted.specs.Moves.{HasPlace, MayPlace};
 ghost use Rattle.fx_counted.specs.Tells.{Stepped};
-ghost use Rattle.fx_counted.specs.declared.view.Work.TheVariants.{Idle, Placing};
+ghost use Rattle.fx_counted.specs.declared.view.Work.TheVariants.{Between, Placing};
+ghost use Rattle.fx_table.specs.declared.values.Doing.TheVariants.{Idle};
 
 use crate::kinds::{Birth, Rest};
 use crate::layout::{home_place, node_place};
@@ -46,7 +47,7 @@ impl CountedTable {
         ensures table { seat.new.table_id ≡ seat.old.table_id }
         ensures file { let k = self.now.table.shared.key in
             (file : Closed) → HasPlace k number (Some file) seat.old.me → result ≡ file }
-        ensures rests { Stepped seat.old.me [] no_use Idle seat.old.me.0.change seat.new.me }
+        ensures rests { Stepped seat.old.me [] no_use (Between Idle) seat.old.me.0.change seat.new.me }
         ensures empty { seat.new.me.1 ≡ [] }
     {
         let shared = &self.table.shared;

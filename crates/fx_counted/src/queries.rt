@@ -24,7 +24,7 @@ impl CountedTable {
         (self.range_start, self.range_len)
     }
 
-    // Whether the pass does nothing now.
+    // Whether the pass holds no file, and has none to retire.
     pub(crate) fn is_idle(&self, pass: &CountedPass) -> bool
         requires { IsPassOfTable self.now pass.now }
         ensures { IsTrue result ↔ IsIdle (view_of pass.now) }

@@ -1,4 +1,5 @@
-use fx_plain::{Event, File, PlainTable};
+use fx_plain::{Event, PlainTable};
+use fx_table::Doing;
 use std::collections::LinkedList;
 use std::snapshot::Snapshot;
 
@@ -36,14 +37,10 @@ pub struct Log {
 
 /// What the pass of a seat does between two steps, as contracts see it. No value of it is made.
 pub enum Work {
-    /// Nothing.
-    Idle,
+    /// What a pass of any shared table may do.
+    Between(Doing),
     /// It has the place of a number, whose file it is about to install.
     Placing(u32),
-    /// It looked the file up, and has not released it.
-    Holding(File),
-    /// It removed the file, and has not retired it; and the takes of the slot word that it found.
-    Retiring(File, u32),
     /// It has the place of a number, whose file is closed.
     Emptying(u32),
 }

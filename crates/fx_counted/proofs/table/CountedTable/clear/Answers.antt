@@ -1,6 +1,6 @@
 use Rattle.fx_counted.proofs.Words.{◌∙◌, Clear, takes_in, pass_of, view_of, opening_of_table}
 use Rattle.fx_counted.proofs.Calling.{slot_inside}
-use Rattle.fx_counted.proofs.Going.{its_pass, idle_work}
+use Rattle.fx_counted.proofs.Going.{its_pass, work_between}
 use Rattle.fx_counted.proofs.Removing.{cleared_so, removal_adds}
 use Rattle.fx_counted.proofs.SlotLaws.{clears_keep}
 use Rattle.fx_counted.proofs.Telling.{may_change}
@@ -18,7 +18,7 @@ swap-found-requires c =
       began.table ∙ fits.table,
       slot_inside c.args.self.now c.args.slot c.slot_place.result c.requires.slot place,
       clears_keep k _ seat.id _ c.args.slot seat.me goes.one.0 (goes.start ∙ (its_pass _ _ p fits).0, goes.one.1)
-          (goes.work ∙ idle_work p.seat.me.0.work fits.seated.work c.requires.idle) c.requires.slot
+          (goes.work ∙ work_between p.seat.me.0.work _ fits.seated.work c.requires.idle) c.requires.slot
           (may_change k c.args.slot c.begin-began.result seat.me.0.change began.range goes.change) place,
     )
 

@@ -2,7 +2,7 @@ use Rattle.fx_counted.proofs.Words.{◌≡◌, List, [], ◌∷◌, ◌++◌, re
 use Rattle.fx_counted.proofs.Words.{Contains-append_left, Seat, Closed, IsIdleSeatOf, logs_in, view_of, CountedPass, CountedTable, View}
 use Rattle.fx_counted.proofs.Words.{reverse-append, each_all, IsIdle, IsPassOfTable}
 use Rattle.fx_counted.proofs.Gathered.{all_idle, closes}
-use Rattle.fx_counted.proofs.Going.{idle_work}
+use Rattle.fx_counted.proofs.Going.{work_between}
 use Rattle.fx_counted.proofs.table.CountedTable.close.Goals as goal
 
 -- the seat of an idle pass
@@ -11,7 +11,7 @@ idle_seat t p fits idle = record {
   table = fits.table;
   places = fits.places;
   start = fits.seated.start;
-  work = idle_work p.seat.me.0.work fits.seated.work idle;
+  work = work_between p.seat.me.0.work _ fits.seated.work idle;
   change = fits.seated.change;
 }
 

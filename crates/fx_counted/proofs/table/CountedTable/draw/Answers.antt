@@ -1,6 +1,6 @@
 use Rattle.fx_counted.proofs.Words.{refl, sym, ◌∙◌, arith}
 use Rattle.fx_counted.proofs.Chains.{draws_keep}
-use Rattle.fx_counted.proofs.Going.{its_pass, idle_work}
+use Rattle.fx_counted.proofs.Going.{its_pass, work_between}
 use Rattle.fx_counted.proofs.table.CountedTable.draw.Goals as goal
 
 pub fetch_add-given-requires : goal.fetch_add-given-requires
@@ -9,7 +9,7 @@ fetch_add-given-requires c =
     let p = c.args.pass.now in
     let f = c.requires.fits in
     let words = t.words in
-    let idle = idle_work p.seat.me.0.work f.seated.work c.requires.idle in
+    let idle = work_between p.seat.me.0.work _ f.seated.work c.requires.idle in
     let more = sym f.knows.no_chains_left ∙ c.if-pass.false in (
       f.table,
       omega arith,

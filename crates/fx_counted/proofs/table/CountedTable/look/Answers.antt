@@ -1,6 +1,6 @@
 use Rattle.fx_counted.proofs.Words.{arith}
 use Rattle.fx_counted.proofs.Calling.{slot_inside}
-use Rattle.fx_counted.proofs.Going.{its_pass, idle_work}
+use Rattle.fx_counted.proofs.Going.{its_pass, work_between}
 use Rattle.fx_counted.proofs.LookUps.{looks_keep}
 use Rattle.fx_counted.proofs.table.CountedTable.look.Goals as goal
 
@@ -11,7 +11,7 @@ fetch_add-word-requires c =
     let f = c.requires.fits in
     let some_left = c.if-pass-eq0.false in
     let left = f.knows.looks_left in
-    let idle = idle_work p.seat.me.0.work f.seated.work c.requires.idle in
+    let idle = work_between p.seat.me.0.work _ f.seated.work c.requires.idle in
     let place = c.slot_place.ensures in (
       f.table,
       slot_inside t c.args.slot c.slot_place.result c.requires.slot place,

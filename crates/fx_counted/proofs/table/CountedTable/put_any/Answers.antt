@@ -1,8 +1,9 @@
 use Rattle.fx_counted.proofs.Words.{ℕ, [], inr, ◌∙◌, subst, arith, Some, Closed, ◌▷◌, numbered, Allocate, Full, Adds, no_use, one_number, HasPlace}
 use Rattle.fx_counted.proofs.Words.{pass_of, HasAllocated, view_of, opening_of_table, Outside, Idle, Placing}
-use Rattle.fx_table.specs.declared.values.Doing.TheVariants.{Idle as NowIdle}
+use Rattle.fx_counted.proofs.Words.{Idle}
 use Rattle.fx_counted.proofs.Going.{its_pass, adds_so, goes_one, goes_then}
 use Rattle.fx_counted.proofs.table.CountedTable.put_any.Goals as goal
+use Rattle.fx_counted.proofs.Words.{Between}
 
 pub returns-in-Some-clause-allocated : goal.returns-in-Some-clause-allocated
 returns-in-Some-clause-allocated g c =
@@ -20,10 +21,10 @@ returns-in-Some-clause-allocated g c =
     let below = c.in-Some.ensures.slot in
     let found = subst (λ (f : Closed). HasAllocated n f slot Outside m₁ m₂) c.identity-identity.ensures c.in-Some.ensures.found in
     let born = goes_one m m₁ [] no_use (Placing n) m.0.change c.put_in.ensures.born in
-    let placed = goes_then m m₁ m₂ [] _ no_use one_number (Placing n) Idle m.0.change Outside 1 found.0.0 born found.0.1 in
-    let adds = adds_so _ k p fits m₂ _ one_number Idle Outside _ placed in (
+    let placed = goes_then m m₁ m₂ [] _ no_use one_number (Placing n) (Between Idle) m.0.change Outside 1 found.0.0 born found.0.1 in
+    let adds = adds_so _ k p fits m₂ _ one_number (Between Idle) Outside _ placed in (
       omega arith,
-      subst (λ (z : ℕ). Adds (opening_of_table t) v ([] ▷ Allocate slot (numbered z c.args.file)) NowIdle one_number
+      subst (λ (z : ℕ). Adds (opening_of_table t) v ([] ▷ Allocate slot (numbered z c.args.file)) Idle one_number
           (pass_of m₂.0)) c.next_number-number.ensures.number adds,
     )
 
@@ -49,6 +50,6 @@ returns-in-None-clause-allocated g c =
     } in
     let first = goes_one m m₁ [] no_use (Placing n) m.0.change born.born in
     let found = goes_then m m₁ m₂ [] ([] ▷ Full) no_use no_use (Placing n) (Placing n) m.0.change Outside 1 full.0.0 first full.0.1 in
-    let home = goes_one m₂ m₃ [] no_use Idle m₂.0.change c.take_out.ensures.rests in
-    let goes = goes_then m m₂ m₃ ([] ▷ Full) [] no_use no_use (Placing n) Idle Outside m₂.0.change _ 1 found home in
-    (c.take_out.ensures.file c.args.file place, adds_so _ k p fits m₃ ([] ▷ Full) no_use Idle m₂.0.change _ goes)
+    let home = goes_one m₂ m₃ [] no_use (Between Idle) m₂.0.change c.take_out.ensures.rests in
+    let goes = goes_then m m₂ m₃ ([] ▷ Full) [] no_use no_use (Placing n) (Between Idle) Outside m₂.0.change _ 1 found home in
+    (c.take_out.ensures.file c.args.file place, adds_so _ k p fits m₃ ([] ▷ Full) no_use (Between Idle) m₂.0.change _ goes)

@@ -1,9 +1,10 @@
 use Rattle.fx_counted.proofs.Words.{ℕ, [], sym, ap, ◌∙◌, arith, subst, Some, ◌▷◌, Release, Close, no_use, node_place, HasPlace, IsInside, Idle}
 use Rattle.fx_table.specs.declared.values.Hold.{Hold}
 use Rattle.fx_counted.proofs.Calling.{node_inside, node_is_at}
-use Rattle.fx_counted.proofs.Going.{its_pass, holding_work, adds_so, out_place, out_and_home}
+use Rattle.fx_counted.proofs.Going.{its_pass, work_between, adds_so, out_place, out_and_home}
 use Rattle.fx_counted.proofs.Releases.{releases_keep}
 use Rattle.fx_counted.proofs.table.CountedTable.release.Goals as goal
+use Rattle.fx_counted.proofs.Words.{Between}
 
 pub fetch_sub-found-requires : goal.fetch_sub-found-requires
 fetch_sub-found-requires c =
@@ -11,7 +12,7 @@ fetch_sub-found-requires c =
     let p = c.args.pass.now in
     let fits = c.requires.fits in
     let f = c.requires.held.0 in
-    let work = holding_work p.seat.me.0.work f fits.seated.work c.requires.held.1 in
+    let work = work_between p.seat.me.0.work _ fits.seated.work c.requires.held.1 in
     let known = subst (IsInside t.table.shared.key) work fits.seated.inside in
     let is = c.node_place-place.ensures ∙ ap (λ (h : Hold). node_place t.size h.node) c.requires.held.2 in
     let i = c.node_place-place.result in (
@@ -27,7 +28,7 @@ returns-clause-released c =
     let p = c.args.pass.now in
     let fits = c.requires.fits in
     let f = c.requires.held.0 in
-    let work = holding_work p.seat.me.0.work f fits.seated.work c.requires.held.1 in
+    let work = work_between p.seat.me.0.work _ fits.seated.work c.requires.held.1 in
     let m = p.seat.me in
     let m' = c.fetch_sub-found.new.seat.me in
     let m'' = c.take_out.new.seat.me in
@@ -41,6 +42,6 @@ returns-clause-released c =
       c.requires.held.2,
       (
         c.take_out.ensures.file f.identity (subst (λ (n : ℕ). HasPlace k n (Some f.identity) m') (sym node) place),
-        adds_so _ k p fits m'' (xs ▷ Close f) no_use Idle m.0.change 2 goes,
+        adds_so _ k p fits m'' (xs ▷ Close f) no_use (Between Idle) m.0.change 2 goes,
       ),
     )

@@ -2,10 +2,11 @@ use Rattle.fx_counted.proofs.Words.{ℕ, ◌<◌, ◌≢◌, ◌≡◌, [], refl
 use Rattle.fx_counted.proofs.Words.{Goes, node_place, HasPlace, Sat, pass_of, state_after_all, IsInside, LetsGo, TakesOut, Change, Outside, Start}
 use Rattle.fx_counted.proofs.Words.{Idle, Retiring}
 use Rattle.fx_counted.proofs.Calling.{node_inside, node_is_at}
-use Rattle.fx_counted.proofs.Going.{its_pass, retiring_work, adds_so, still_pass, let_go, out_place, out_and_home}
+use Rattle.fx_counted.proofs.Going.{its_pass, work_between, adds_so, still_pass, let_go, out_place, out_and_home}
 use Rattle.fx_counted.proofs.Retirements.{retires_keep}
 use Rattle.fx_counted.proofs.table.CountedTable.retire.Goals.{After-fetch_sub-found}
 use Rattle.fx_counted.proofs.table.CountedTable.retire.Goals as goal
+use Rattle.fx_counted.proofs.Words.{Between}
 
 pub fetch_sub-found-requires : goal.fetch_sub-found-requires
 fetch_sub-found-requires c =
@@ -13,7 +14,7 @@ fetch_sub-found-requires c =
     let p = c.args.pass.now in
     let fits = c.requires.fits in
     let (f, takes, doing, value) = c.requires.removed in
-    let work = retiring_work p.seat.me.0.work f takes fits.seated.work doing in
+    let work = work_between p.seat.me.0.work _ fits.seated.work doing in
     let is = c.node_place-place.ensures ∙ ap (λ (r : Retired). node_place t.size r.node) value in (
       fits.table,
       node_inside t f.number c.node_place-place.result (subst (IsInside t.table.shared.key) work fits.seated.inside) is,
@@ -36,8 +37,8 @@ module _ (c : After-fetch_sub-found) where
   abbrev k : Start
   k = c.args.self.now.table.shared.key
 
-  work : m.0.work ≡ Retiring file c.requires.removed.1
-  work = retiring_work m.0.work file _ c.requires.fits.seated.work c.requires.removed.2
+  work : m.0.work ≡ Between (Retiring file c.requires.removed.1)
+  work = work_between m.0.work _ c.requires.fits.seated.work c.requires.removed.2
 
   waits : c.fetch_sub-found.result ≢ c.retire_amount-amount.result
       → LetsGo m [] m' × (0 < (state_after_all m.0.start (pass_of m'.0).front).holds file.number)
@@ -54,7 +55,7 @@ pub returns-then-found-amount-clause-fits : goal.returns-then-found-amount-claus
 returns-then-found-amount-clause-fits c =
     let a = (goal.at.returns-then-found-amount-clause-fits c).After-fetch_sub-found in
     let went = waits a c.if-found-amount.true in
-    still_pass _ _ c.args.pass.now _ c.requires.fits [] no_use Idle 1 (let_go (m a) (m' a) [] c.requires.fits.seated.change went.0)
+    still_pass _ _ c.args.pass.now _ c.requires.fits [] no_use (Between Idle) 1 (let_go (m a) (m' a) [] c.requires.fits.seated.change went.0)
     c.fetch_sub-found.ensures.0 (went.0.carried ∙ c.requires.fits.places) tt refl refl (omega arith) (omega arith) refl
 
 pub returns-then-found-amount-clause-retired : goal.returns-then-found-amount-clause-retired
@@ -68,7 +69,7 @@ returns-then-found-amount-clause-retired c =
       c.requires.removed.3,
       (
         subst (λ (z : Start). 0 < (state_after_all z (pass_of (m' a).0).front).holds (file a).number) fits.seated.start went.1,
-        adds_so _ _ c.args.pass.now fits (m' a) [] no_use Idle Outside 1 (let_go (m a) (m' a) [] fits.seated.change went.0),
+        adds_so _ _ c.args.pass.now fits (m' a) [] no_use (Between Idle) Outside 1 (let_go (m a) (m' a) [] fits.seated.change went.0),
       ),
     )
 
@@ -93,7 +94,7 @@ returns-clause-retired c =
       c.requires.removed.3,
       (
         c.take_out.ensures.file (file a).identity (place a is),
-        adds_so _ _ c.args.pass.now c.requires.fits m'' ([] ▷ Close (file a)) no_use Idle (m a).0.change 2
+        adds_so _ _ c.args.pass.now c.requires.fits m'' ([] ▷ Close (file a)) no_use (Between Idle) (m a).0.change 2
             (out_and_home (m a) (m' a) m'' [] (file a) (closes a is) c.take_out.ensures.rests),
       ),
     )
@@ -103,9 +104,9 @@ returns-clause-fits c =
     let a = (goal.at.returns-clause-fits c).After-fetch_sub-found in
     let out = closes a (omega (arith, c.if-found-amount.false)) in
     let m'' = c.take_out.new.seat.me in
-    let goes = subst (λ (z : Change). Goes (m a) ([] ▷ Close (file a)) no_use Idle z 2 m'') c.requires.fits.seated.change
+    let goes = subst (λ (z : Change). Goes (m a) ([] ▷ Close (file a)) no_use (Between Idle) z 2 m'') c.requires.fits.seated.change
     (out_and_home (m a) (m' a) m'' [] (file a) out c.take_out.ensures.rests) in
-    still_pass _ _ c.args.pass.now _ c.requires.fits ([] ▷ Close (file a)) no_use Idle 2 goes
+    still_pass _ _ c.args.pass.now _ c.requires.fits ([] ▷ Close (file a)) no_use (Between Idle) 2 goes
     (c.take_out.ensures.table ∙ c.fetch_sub-found.ensures.0) c.take_out.ensures.empty tt refl refl (omega arith) (omega arith) refl
 
 pub returns-clause-steps : goal.returns-clause-steps
