@@ -191,7 +191,7 @@ module _ (k : Start) (s : Shared) (r : Agrees k s) (seat : ℕ) (v : View) (at :
       ap (λ (z : View). z.work) (sym is) ∙ idle)
       (λ other. ((r.each_view i u e).empty (empty_else i u other e)).0)
 
-  log_at : (x : Log) → Contains v.logs x → LogAgrees k r.history r.phase seat v.work x
+  log_at : (x : Log) → Contains v.logs x → LogAgrees k r.history r.phase v.work x
   log_at x has = let i = place_in v.logs x has in (r.each_view seat v at).logs i.0 x i.1
 
   only_here : (f : View → ℕ) → ((u : View) → u.logs ≡ [] → f u ≡ 0) → sum_by f s.views ≡ f v

@@ -70,7 +70,7 @@ by_turn k slots id i m x P place f told has its at does = subst (λ (k : Start).
 module _ (turn : Turn) where
   open turn use {st, v, r, id, x, here, one}
 
-  pub its_log : LogAgrees v.start r.history r.phase id v.work x
+  pub its_log : LogAgrees v.start r.history r.phase v.work x
   its_log = (r.each_view id v here).logs 0 x (ap (λ (l : List Log). get_elem? l 0) one)
 
   pub its_work : WorkAgrees v.start r.phase id v.work
@@ -84,7 +84,7 @@ module _ (turn : Turn) where
   pub log_now : (h' : List Event) (phase' : ℕ → Phase) (left looks_left : ℕ) (d : Work) → left ≤ x.numbers_left → held_by h' x.number ≡ held_in d
       → PlacesNext v.start (logged x h' left looks_left) d
       → ((n : ℕ) → next_in v.start (logged x h' left looks_left) + placing d ≤ n → n < end_in v.start x → phase' n ≡ spare x.number)
-      → LogAgrees v.start h' phase' id d (logged x h' left looks_left)
+      → LogAgrees v.start h' phase' d (logged x h' left looks_left)
   log_now h' phase' left looks_left d fewer held next spares = let o = its_log in let a = o.few_left in let b = o.left_inside in record {
     seen = ([], refl);
     own = refl;
@@ -115,7 +115,7 @@ module _ (turn : Turn) where
       pub no_other : (n : ℕ) → (IsNumber v.start n → ⊥) → (state_after_all v.start h').removed n ≡ None
       pub stays : Stays id x.number r.phase phase'
       pub keeps : KeepsHeld id st.views r.phase phase'
-      pub log : LogAgrees v.start h' phase' id d y
+      pub log : LogAgrees v.start h' phase' d y
       pub work : WorkAgrees v.start phase' id d
       pub holds : (n : ℕ) → (state_after_all v.start h').holds n + held_of n v ≡ (state_after_all v.start r.history).holds n + held_of n (now v y d c)
       pub look_ups : all_looks h' + y.looks_left ≡ all_looks r.history + x.looks_left
@@ -137,8 +137,8 @@ module _ (turn : Turn) where
       start = inr refl;
     }
       where
-        its : (i : ℕ) (z : Log) → get_elem? (y ∷ []) i ≡ some z → LogAgrees v.start h' phase' id d z
-        its zero z e = subst (LogAgrees v.start h' phase' id d) (some-injective y z e) s.log
+        its : (i : ℕ) (z : Log) → get_elem? (y ∷ []) i ≡ some z → LogAgrees v.start h' phase' d z
+        its zero z e = subst (LogAgrees v.start h' phase' d) (some-injective y z e) s.log
         its (suc i) z e = absurd (some-ne-none z (sym e))
 
     pub step_kept : Step → Agrees v.start record { words = words'; homes = homes'; views = views' }

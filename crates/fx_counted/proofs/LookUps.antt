@@ -86,12 +86,9 @@ module _ (turn : Turn) (idle : turn.v.work ≡ Between Idle) (some_left : 0 < tu
           (next : PlacesNext v.start y (holds_now file)) (placed : placing (holds_now file) ≡ 0)
           (work : WorkAgrees v.start r.phase id (holds_now file)) (holds : (n : ℕ)
           → (state_after_all v.start h').holds n ≡ old.holds n + holding n (holds_now file)) where
-        look_step : SlotStep turn s inside y (holds_now file) v.change h' r.phase word' st.homes
+        look_step : SlotStep turn s inside x.numbers_left (x.looks_left - 1) (holds_now file) v.change h' r.phase word' st.homes
         look_step = let o = its_log turn in let p = ap placing idle in record {
           homes = refl;
-          number = refl;
-          drawn = refl;
-          told = refl;
           grows = grows_one x.number r.history e refl;
           legal = legal;
           slot = slot;
@@ -115,7 +112,7 @@ module _ (turn : Turn) (idle : turn.v.work ≡ Between Idle) (some_left : 0 < tu
         }
 
         look_agrees : Agrees v.start record { words = set st.words (slot_place s) word'; homes = st.homes; views = set st.views id w }
-        look_agrees = slot_agrees turn s inside y (holds_now file) v.change h' r.phase word' st.homes look_step
+        look_agrees = slot_agrees turn s inside x.numbers_left (x.looks_left - 1) (holds_now file) v.change h' r.phase word' st.homes look_step
 
     missed : (is : old.at s ≡ None) → Agrees v.start (stepped st (slot_place s) word' id [] (w None is) keeps)
     missed is = look_agrees None is refl refl

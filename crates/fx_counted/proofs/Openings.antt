@@ -137,7 +137,7 @@ module _ (k : Start) (words : List ℕ) (homes : List (Option Closed)) (o : Open
 
   view_opens : (j : ℕ) (v : View) → get_elem? (first_view k ∷ []) j ≡ some v → ViewAgrees k [] (first_phase k) j v
   view_opens zero v e = subst (ViewAgrees k [] (first_phase k) 0) (some-injective (first_view k) v e) record {
-    logs = λ i x at. let new = at_new 1 k.passes i x at in subst (LogAgrees k [] (first_phase k) 0 (Between Idle)) (sym new.1) record {
+    logs = λ i x at. let new = at_new 1 k.passes i x at in subst (LogAgrees k [] (first_phase k) (Between Idle)) (sym new.1) record {
       seen = ([], refl);
       own = refl;
       held = refl;

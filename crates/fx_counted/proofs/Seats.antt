@@ -24,21 +24,17 @@ at_either [] m y j e = inr (j, e)
 at_either (x ∷ l) m y zero e = inl (0, e)
 at_either (x ∷ l) m y (suc j) e = ⊎_elim (λ (t : (i : ℕ) × (get_elem? l i ≡ some y)). inl (suc t.0, t.1)) (λ t. inr t) (at_either l m y j e)
 
--- a view of an idle seat that has some of the passes of the seats j
+-- the passes of an idle seat
+idle_logs : (k : Start) (s : Shared) (r : Agrees k s) (id : ℕ) (v : View) → get_elem? s.views id ≡ some v → v.work ≡ Between Idle
+    → (i : ℕ) (y : Log) → get_elem? v.logs i ≡ some y → LogAgrees k r.history r.phase (Between Idle) y
+idle_logs k s r id v here idle i y e = subst (λ (d : Work). LogAgrees k r.history r.phase d y) idle ((r.each_view id v here).logs i y e)
+
+-- a view of an idle seat that has some of the passes of such seats
 part_view : (k : Start) (h : List Event) (phase : ℕ → Phase) (seat : ℕ) (w : View) → w.work ≡ Between Idle → w.change ≡ Outside
-    → ((i : ℕ) (y : Log) → get_elem? w.logs i ≡ some y → (j : ℕ) × LogAgrees k h phase j (Between Idle) y)
+    → ((i : ℕ) (y : Log) → get_elem? w.logs i ≡ some y → LogAgrees k h phase (Between Idle) y)
     → (w.logs ≡ []) ⊎ (w.start ≡ k) → ViewAgrees k h phase seat w
 part_view k h phase seat w idle out logs start = record {
-  logs = λ i y e. subst (λ (d : Work). LogAgrees k h phase seat d y) (sym idle) (let o = (logs i y e).1 in record {
-    seen = o.seen;
-    own = o.own;
-    held = o.held;
-    chain = o.chain;
-    few_left = o.few_left;
-    left_inside = o.left_inside;
-    next = o.next;
-    spares = o.spares;
-  });
+  logs = λ i y e. subst (λ (d : Work). LogAgrees k h phase d y) (sym idle) (logs i y e);
   work = subst (WorkAgrees k phase seat) (sym idle) tt;
   empty = λ _. (idle, out);
   start = start;
@@ -115,9 +111,6 @@ module _ (k : Start) (id : ℕ) (v : View) (idle : v.work ≡ Between Idle) (out
       (λ (m : first_alone v ≡ u). subst (P j) m (b j))
       (at_snoc (set s.views id (without_first v)) (first_alone v) u j e)
 
-  its : (i : ℕ) (y : Log) → get_elem? v.logs i ≡ some y → LogAgrees k r.history r.phase id (Between Idle) y
-  its i y e = subst (λ (d : Work). LogAgrees k r.history r.phase id d y) idle ((r.each_view id v here).logs i y e)
-
   start_of_part : (part : List Log → List Log) → part [] ≡ [] → (part v.logs ≡ []) ⊎ (v.start ≡ k)
   start_of_part part none = ⊎_elim (λ (z : v.logs ≡ []). inl (ap part z ∙ none)) (λ z. inr z) (r.each_view id v here).start
 
@@ -130,9 +123,9 @@ module _ (k : Start) (id : ℕ) (v : View) (idle : v.work ≡ Between Idle) (out
   split_agrees : Agrees k record { words = s.words; homes = s.homes; views = parts }
   split_agrees = seated_anew k s r parts (λ n j d is o. does_stays j d n is o)
       (at_parts (ViewAgrees k r.history r.phase)
-      (λ j. part_view k r.history r.phase j (without_first v) idle out (λ i y e. (id, its (suc i) y (at_rest v.logs i y e)))
+      (λ j. part_view k r.history r.phase j (without_first v) idle out (λ i y e. idle_logs k s r id v here idle (suc i) y (at_rest v.logs i y e))
       (start_of_part rest_of refl))
-      (λ j. part_view k r.history r.phase j (first_alone v) idle out (λ i y e. (id, its i y (at_first v.logs i y e))) (start_of_part first_of refl))
+      (λ j. part_view k r.history r.phase j (first_alone v) idle out (λ i y e. idle_logs k s r id v here idle i y (at_first v.logs i y e)) (start_of_part first_of refl))
       (λ j u other there. r.each_view j u there))
       (counts (length {A = Log}) (λ y m. omega arith) refl)
       (λ f. counts (sum_by f) (λ y m. sum_by-append f (y ∷ []) m) refl)
@@ -172,16 +165,10 @@ module _ (k : Start) (id : ℕ) (v : View) (begun : v.start ≡ k) (idle : v.wor
       let d = sum_set f one_set other w spent there in
       omega arith
 
-  its_v : (i : ℕ) (y : Log) → get_elem? v.logs i ≡ some y → LogAgrees k r.history r.phase id (Between Idle) y
-  its_v i y e = subst (λ (d : Work). LogAgrees k r.history r.phase id d y) idle ((r.each_view id v here).logs i y e)
-
-  its_w : (i : ℕ) (y : Log) → get_elem? w.logs i ≡ some y → LogAgrees k r.history r.phase other (Between Idle) y
-  its_w i y e = subst (λ (d : Work). LogAgrees k r.history r.phase other d y) w_idle ((r.each_view other w w_at).logs i y e)
-
-  joined_logs : (i : ℕ) (y : Log) → get_elem? (v.logs ++ w.logs) i ≡ some y → (j : ℕ) × LogAgrees k r.history r.phase j (Between Idle) y
+  joined_logs : (i : ℕ) (y : Log) → get_elem? (v.logs ++ w.logs) i ≡ some y → LogAgrees k r.history r.phase (Between Idle) y
   joined_logs i y e = ⊎_elim
-      (λ (t : (i : ℕ) × (get_elem? v.logs i ≡ some y)). (id, its_v t.0 y t.1))
-      (λ (t : (i : ℕ) × (get_elem? w.logs i ≡ some y)). (other, its_w t.0 y t.1))
+      (λ (t : (i : ℕ) × (get_elem? v.logs i ≡ some y)). idle_logs k s r id v here idle t.0 y t.1)
+      (λ (t : (i : ℕ) × (get_elem? w.logs i ≡ some y)). idle_logs k s r other w w_at w_idle t.0 y t.1)
       (at_either v.logs w.logs y i e)
 
   no_work : (j : ℕ) (d : Work) (n : ℕ) (z : View) → busy d ≡ n + 1 → get_elem? s.views j ≡ some z → z.work ≡ Between Idle → Does s.views j d → ⊥

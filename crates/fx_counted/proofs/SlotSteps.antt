@@ -4,13 +4,16 @@ use Rattle.fx_counted.proofs.Words.{get_or-set_same, None, dite, ℕ_discrete, g
 use Rattle.fx_counted.proofs.Words.{WorkAgrees, LogAgrees, Agrees, ControlCounts, looks, all_looks, control_place, draw_place, slot_place, node_place}
 use Rattle.fx_counted.proofs.Words.{home_place, opening_of, slots_of, IsNumber, state_after_all, held_of, Phase, unborn, Change, Log, View}
 use Rattle.fx_counted.proofs.Words.{Work}
-use Rattle.fx_counted.proofs.Steps.{Grows, IsHistory, Stays, KeepsHeld, Turn, Homes, word_at, now, Step, step_kept, near, far, SameFile, slot_same}
+use Rattle.fx_counted.proofs.Steps.{Grows, IsHistory, Stays, KeepsHeld, Turn, Homes, word_at, now, logged, Step, step_kept, near, far, SameFile, slot_same}
 use Rattle.fx_counted.proofs.Steps.{draws_same}
 use Rattle.std.proofs.Common.{length-set}
 
-module _ (turn : Turn) (s : ℕ) (inside : s < slots_of turn.v.start) (y : Log) (d : Work) (c : Change) (h' : List Event) (phase' : ℕ → Phase)
+module _ (turn : Turn) (s : ℕ) (inside : s < slots_of turn.v.start) (left looks_left : ℕ) (d : Work) (c : Change) (h' : List Event) (phase' : ℕ → Phase)
     (word' : ℕ) (homes' : Homes) where
   open turn use {st, v, r, id, x, here, one}
+
+  abbrev y : Log
+  y = logged x h' left looks_left
 
   abbrev words' : List ℕ
   words' = set st.words (slot_place s) word'
@@ -21,9 +24,6 @@ module _ (turn : Turn) (s : ℕ) (inside : s < slots_of turn.v.start) (y : Log) 
   -- what a step on a slot's word has to keep
   pub record SlotStep : Type 0 where
     pub homes : length homes' ≡ length st.homes
-    pub number : y.number ≡ x.number
-    pub drawn : y.drawn ≡ x.drawn
-    pub told : y.no_chains_left ≡ x.no_chains_left
     pub grows : Grows x.number r.history h'
     pub legal : IsHistory v.start h'
     pub slot : SlotAgrees v.start h' phase' s word'
@@ -38,10 +38,10 @@ module _ (turn : Turn) (s : ℕ) (inside : s < slots_of turn.v.start) (y : Log) 
     pub stays : Stays id x.number r.phase phase'
     pub keeps : KeepsHeld id st.views r.phase phase'
     pub unused : (n : ℕ) → r.phase n ≡ unborn → phase' n ≡ unborn
-    pub log : LogAgrees v.start h' phase' id d y
+    pub log : LogAgrees v.start h' phase' d y
     pub work : WorkAgrees v.start phase' id d
     pub holds : (n : ℕ) → (state_after_all v.start h').holds n + held_of n v ≡ (state_after_all v.start r.history).holds n + held_of n (now v y d c)
-    pub look_ups : all_looks h' + y.looks_left ≡ all_looks r.history + x.looks_left
+    pub look_ups : all_looks h' + looks_left ≡ all_looks r.history + x.looks_left
     pub control : ControlCounts (state_after_all v.start h').at (range_of (opening_of v.start)) views' (word_at st.words control_place)
 
   module _ (p : SlotStep) where
@@ -55,7 +55,7 @@ module _ (turn : Turn) (s : ℕ) (inside : s < slots_of turn.v.start) (y : Log) 
     slot_kept = let apart = far turn in record {
       words = length-set st.words (slot_place s) word';
       homes = p.homes;
-      number = p.number;
+      number = refl;
       grows = p.grows;
       legal = p.legal;
       slots = λ i l. dite (ℕ_discrete i s)
@@ -82,7 +82,7 @@ module _ (turn : Turn) (s : ℕ) (inside : s < slots_of turn.v.start) (y : Log) 
       control = subst (ControlCounts (state_after_all v.start h').at (range_of (opening_of v.start)) views')
           (sym (word_else control_place (λ same. apart.slot_and_control s (sym same)))) p.control;
       draws = draws_same st.views id v (now v y d c) here v.start.chains v.start.numbers r.phase phase'
-          (word_at st.words draw_place) _ x y one refl p.drawn p.told
+          (word_at st.words draw_place) _ x y one refl refl refl
           (word_else draw_place (λ same. apart.slot_and_draw s (sym same))) p.unused r.draws;
     }
 

@@ -153,12 +153,9 @@ module _ (turn : Turn) (s : ℕ) (inside : s < slots_of turn.v.start) where
         else_phase : (n : ℕ) → NotOf n old → phase' n ≡ phase₁ n
         else_phase n other = out_else id old (takes_in found) phase₁ n other
 
-        swap_step : SlotStep turn s inside y d c (h' a) phase' word' homes'
+        swap_step : SlotStep turn s inside left x.looks_left d c (h' a) phase' word' homes'
         swap_step = let o = its_log turn in let alone = retires_alone v.start old (takes_in found) y in record {
           homes = p.homes;
-          number = refl;
-          drawn = refl;
-          told = refl;
           grows = grows_one x.number r.history (e a) refl;
           legal = p.does.legal;
           slot = let at_is : next_state.at s ≡ new = ap (λ (z : State). z.at s) p.does.state ∙ change_here state.at s new s refl in record {
@@ -228,4 +225,4 @@ module _ (turn : Turn) (s : ℕ) (inside : s < slots_of turn.v.start) where
             works (Some f) is = ((seat_of f (was ∙ is)).0, out_here f is)
 
         pub swap_agrees : Agrees v.start record { words = set st.words (slot_place s) word'; homes = homes'; views = set st.views id w }
-        swap_agrees = slot_agrees turn s inside y d c (h' a) phase' word' homes' swap_step
+        swap_agrees = slot_agrees turn s inside left x.looks_left d c (h' a) phase' word' homes' swap_step

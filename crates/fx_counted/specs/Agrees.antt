@@ -133,7 +133,7 @@ PlacesNext k x _ = Unit {0}
 
 -- one pass of a seat that does this work
 pub record LogAgrees (k : Start) (h : List Event) (phase : ℕ → Phase)
-    (seat : ℕ) (work : Work) (x : Log) : Type 0 where
+    (work : Work) (x : Log) : Type 0 where
   -- it has seen a beginning of the history, and all that it did itself
   pub seen : IsSeenBy x.front h
   pub own : part_of_pass x.number h ≡ part_of_pass x.number x.front
@@ -149,7 +149,7 @@ pub record LogAgrees (k : Start) (h : List Event) (phase : ℕ → Phase)
 pub record ViewAgrees (k : Start) (h : List Event) (phase : ℕ → Phase)
     (seat : ℕ) (v : View) : Type 0 where
   pub logs : (i : ℕ) (x : Log) → get_elem? v.logs i ≡ some x
-      → LogAgrees k h phase seat v.work x
+      → LogAgrees k h phase v.work x
   pub work : WorkAgrees k phase seat v.work
   pub empty : v.logs ≡ [] → (v.work ≡ Between Idle) × (v.change ≡ Outside)
   pub start : (v.logs ≡ []) ⊎ (v.start ≡ k)
