@@ -9,8 +9,8 @@ use Rattle.fx_counted.specs.Tables.{HasOnePass}
 use Rattle.fx_table.specs.declared.values.Doing.{Doing}
 use Rattle.fx_counted.proofs.Words.{Between}
 
-pub goes_one : (m m' : Sat) (xs : List Action) (a : Use) (w : Work) (c : Change) → Stepped m xs a w c m' → Goes m xs a w c 1 m'
-goes_one m m' xs a w c s = record {
+pub goes_one : {m m' : Sat} {xs : List Action} {a : Use} {w : Work} {c : Change} → Stepped m xs a w c m' → Goes m xs a w c 1 m'
+goes_one s = record {
   one = s.one;
   adds = s.adds;
   work = s.work;
@@ -20,9 +20,9 @@ goes_one m m' xs a w c s = record {
   steps = let e = s.steps in omega arith;
 }
 
-pub goes_then : (m m' m'' : Sat) (xs ys : List Action) (a b : Use) (w w' : Work) (c c' : Change) (n n' : ℕ) → Goes m xs a w c n m'
+pub goes_then : {m m' m'' : Sat} {xs ys : List Action} {a b : Use} {w w' : Work} {c c' : Change} {n n' : ℕ} → Goes m xs a w c n m'
     → Goes m' ys b w' c' n' m'' → Goes m (xs ▷▷ ys) (both_uses a b) w' c' (n + n') m''
-goes_then m m' m'' xs ys a b w w' c c' n n' g h = record {
+goes_then {m} {m'} {m''} {xs} {ys} {a} {b} {w} {w'} g h = record {
   one = h.one;
   adds = adds_then (opening_of m.0.start) (pass_of m.0) (pass_of m'.0) (pass_of m''.0) xs ys (doing_in w) (doing_in w') a b g.adds
       (subst (λ (z : Start). Adds (opening_of z) (pass_of m'.0) ys (doing_in w') b (pass_of m''.0)) g.start h.adds);
@@ -119,16 +119,14 @@ out_place k m m' xs f x its empty out = let s = out.stepped in record {
 }
 
 -- the file of a pass comes out: its close, and the step in which its place goes home
-pub out_and_home : (m m' m'' : Sat) (xs : List Action) (f : File) → TakesOut m xs f m' → Stepped m' [] no_use (Between Idle) m'.0.change m''
-    → Goes m (xs ▷ Close f) no_use (Between Idle) m.0.change 2 m''
-out_and_home m m' m'' xs f out home = subst (λ (c : Change). Goes m (xs ▷ Close f) no_use (Between Idle) c 2 m'') out.stepped.change
-    (goes_then m m' m'' (xs ▷ Close f) [] no_use no_use (Emptying f.number) (Between Idle) m.0.change m'.0.change 1 1
-    (goes_one m m' (xs ▷ Close f) no_use (Emptying f.number) m.0.change out.stepped)
-    (goes_one m' m'' [] no_use (Between Idle) m'.0.change home))
+pub out_and_home : {m m' m'' : Sat} {xs : List Action} {f : File} → TakesOut m xs f m'
+    → Stepped m' [] no_use (Between Idle) m'.0.change m'' → Goes m (xs ▷ Close f) no_use (Between Idle) m.0.change 2 m''
+out_and_home {m} {m'} {m''} {xs} {f} out home = subst (λ (c : Change). Goes m (xs ▷ Close f) no_use (Between Idle) c 2 m'')
+    out.stepped.change (goes_then (goes_one out.stepped) (goes_one home))
 
 -- a pass outside a change that has done with its file
-pub let_go : (m m' : Sat) (xs : List Action) → m.0.change ≡ Outside → LetsGo m xs m' → Goes m xs no_use (Between Idle) Outside 1 m'
-let_go m m' xs outside went = subst (λ (c : Change). Goes m xs no_use (Between Idle) c 1 m') outside (goes_one m m' xs no_use (Between Idle) m.0.change went.stepped)
+pub let_go : {m m' : Sat} {xs : List Action} → m.0.change ≡ Outside → LetsGo m xs m' → Goes m xs no_use (Between Idle) Outside 1 m'
+let_go {m} {m'} {xs} outside went = subst (λ (c : Change). Goes m xs no_use (Between Idle) c 1 m') outside (goes_one went.stepped)
 
 -- a pass is still at work behind some steps
 pub still_at_work : (k : Start) (m m' : Sat) (x : Log) (xs : List Action) (a : Use) (w : Work) (c : Change) (n : ℕ) → HasPass k m x
@@ -147,9 +145,7 @@ use_alone a = λ i. record {
 }
 
 -- a step between a begin and an end, if there are such
-pub goes_around : (m m' m'' m''' : Sat) (action : Action) (a : Use) (w w' : Work) (c c' : Change) → Goes m [] no_use w c 1 m'
-    → Stepped m' ([] ▷ action) a w' c' m'' → Goes m'' [] no_use m''.0.work Outside 1 m''' → Goes m ([] ▷ action) a w' Outside 3 m'''
-goes_around m m' m'' m''' action a w w' c c' before s behind = subst (λ (z : Use). Goes m ([] ▷ action) z w' Outside 3 m''') (use_alone a)
-    (goes_then m m'' m''' ([] ▷ action) [] (both_uses no_use a) no_use w' w' c' Outside 2 1
-    (goes_then m m' m'' [] ([] ▷ action) no_use a w w' c c' 1 1 before (goes_one m' m'' ([] ▷ action) a w' c' s))
-    (subst (λ (z : Work). Goes m'' [] no_use z Outside 1 m''') s.work behind))
+pub goes_around : {m m' m'' m₃ : Sat} {action : Action} {a : Use} {w w' : Work} {c c' : Change} → Goes m [] no_use w c 1 m'
+    → Stepped m' ([] ▷ action) a w' c' m'' → Goes m'' [] no_use m''.0.work Outside 1 m₃ → Goes m ([] ▷ action) a w' Outside 3 m₃
+goes_around {m} {m'} {m''} {m₃} {action} {a} {w} {w'} before s behind = subst (λ (z : Use). Goes m ([] ▷ action) z w' Outside 3 m₃)
+    (use_alone a) (goes_then (goes_then before (goes_one s)) (subst (λ (z : Work). Goes m'' [] no_use z Outside 1 m₃) s.work behind))

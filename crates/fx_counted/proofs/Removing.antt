@@ -10,14 +10,13 @@ use Rattle.fx_counted.proofs.Going.{adds_so, goes_around}
 
 -- a removal between a begin and an end, if there are such
 pub removal_adds : (act : ℕ → Option File → Action) (t : CountedTable) (p : CountedPass) (fits : IsPassOfTable t p) (slot i takes : ℕ)
-    (file : Option File)
-    (m m' m'' : Sat) (c c' : Change) → i ≡ slot_place slot → Goes p.seat.me [] no_use p.seat.me.0.work c 1 m
+    (file : Option File) {m m' m'' : Sat} {c c' : Change} → i ≡ slot_place slot → Goes p.seat.me [] no_use p.seat.me.0.work c 1 m
     → Stepped m ([] ▷ act (slot_of i) file) no_use (retires_now file takes) c' m' → Goes m' [] no_use m'.0.work Outside 1 m''
     → Adds (opening_of_table t) (view_of p) ([] ▷ act slot file) (doing_in (retires_now file takes)) no_use (pass_of m''.0)
-removal_adds act t p fits slot i takes file m m' m'' c c' place began stepped ended =
+removal_adds act t p fits slot i takes file {m} {m'} {m''} place began stepped ended =
     subst (λ (s : ℕ). Adds (opening_of_table t) (view_of p) ([] ▷ act s file) (doing_in (retires_now file takes)) no_use (pass_of m''.0))
     (slot_at t slot i place) (adds_so _ t.table.shared.key p fits m'' _ no_use (retires_now file takes) Outside 3
-    (goes_around p.seat.me m m' m'' (act (slot_of i) file) no_use _ _ c c' began stepped ended))
+    (goes_around began stepped ended))
 
 pub cleared_so : (o : Opening) (v : PassView) (slot : ℕ) (file : Option File) (takes : ℕ) (result : Option Retired) (w : PassView)
     → result ≡ option_map (λ f. retired_of f takes) file

@@ -3,42 +3,37 @@ use Rattle.fx_counted.proofs.Words.{◌≡◌, ℕ, ◌+◌, Bool, [], ◌∷◌
 use Rattle.fx_counted.proofs.Words.{Closed, ◌▷◌, numbered, Allocate, Full, no_use, one_number, Goes, place_of, slot_of, Sat, StillPlaces}
 use Rattle.fx_counted.proofs.Words.{HasAllocated, Tries, Stepped, Exchanges, Change, Outside, Same, More, Start, Work, Idle, Placing, nat_eq}
 use Rattle.fx_counted.proofs.Words.{IsPlacing, HasFoundAllFull}
+use Rattle.fx_counted.specs.Searching.{Proceeds}
+use Rattle.fx_counted.proofs.Words.{List, Action, Use, ◌▷▷◌, both_uses}
 use Rattle.fx_counted.proofs.Going.{goes_one, goes_then, still_at_work}
 use Rattle.fx_counted.proofs.Words.{Between}
 
+-- one step more, and some more
+proceeds_one : {m m' : Sat} {xs : List Action} {a : Use} {w : Work} {c : Change} → Stepped m xs a w c m' → Proceeds m xs a w c m'
+proceeds_one s = (1, goes_one s)
+
+proceeds_then : {m m' m'' : Sat} {xs ys : List Action} {a b : Use} {w w' : Work} {c c' : Change} → Proceeds m xs a w c m'
+    → Proceeds m' ys b w' c' m'' → Proceeds m (xs ▷▷ ys) (both_uses a b) w' c' m''
+proceeds_then g h = (g.0 + h.0, goes_then g.1 h.1)
+
 -- a step that leaves the pass at its work
-pub one_still : (m m' : Sat) (n : ℕ) (c : Change) → m.0.work ≡ Placing n → Stepped m [] no_use m.0.work c m' → m'.1 ≡ m.1 → StillPlaces n c m m'
-one_still m m' n c work s same = (
-  (
-    1,
-    goes_one m m' [] no_use (Placing n) c (subst (λ (w : Work). Stepped m [] no_use w c m') work s),
-  ),
-  same,
-)
+pub one_still : {m m' : Sat} {n : ℕ} {c : Change} → m.0.work ≡ Placing n → Stepped m [] no_use m.0.work c m' → m'.1 ≡ m.1 → StillPlaces n c m m'
+one_still {m} {m'} {n} {c} work s same = (proceeds_one (subst (λ (w : Work). Stepped m [] no_use w c m') work s), same)
 
-pub still_then : (m m' m'' : Sat) (n : ℕ) (c c' : Change) → StillPlaces n c m m' → StillPlaces n c' m' m'' → StillPlaces n c' m m''
-still_then m m' m'' n c c' a b = (
-  (a.0.0 + b.0.0, goes_then m m' m'' [] [] no_use no_use (Placing n) (Placing n) c c' a.0.0 b.0.0 a.0.1 b.0.1),
-  b.1 ∙ a.1,
-)
+pub still_then : {m m' m'' : Sat} {n : ℕ} {c c' : Change} → StillPlaces n c m m' → StillPlaces n c' m' m'' → StillPlaces n c' m m''
+still_then a b = (proceeds_then a.0 b.0, b.1 ∙ a.1)
 
-pub allocated_then : (m m' m'' : Sat) (n slot : ℕ) (file : Closed) (c c' : Change) → StillPlaces n c m m'
+pub allocated_then : {m m' m'' : Sat} {n slot : ℕ} {file : Closed} {c c' : Change} → StillPlaces n c m m'
     → HasAllocated n file slot c' m' m'' → HasAllocated n file slot c' m m''
-allocated_then m m' m'' n slot file c c' a b = (
-  (a.0.0 + b.0.0, goes_then m m' m'' [] ([] ▷ Allocate slot (numbered n file)) no_use one_number (Placing n) (Between Idle) c c' a.0.0 b.0.0 a.0.1 b.0.1),
-  b.1,
-)
+allocated_then a b = (proceeds_then a.0 b.0, b.1)
 
-pub full_then : (m m' m'' : Sat) (n : ℕ) (c : Change) → StillPlaces n c m m' → HasFoundAllFull n m' m'' → HasFoundAllFull n m m''
-full_then m m' m'' n c a b = (
-  (a.0.0 + b.0.0, goes_then m m' m'' [] ([] ▷ Full) no_use no_use (Placing n) (Placing n) c Outside a.0.0 b.0.0 a.0.1 b.0.1),
-  b.1 ∙ a.1,
-)
+pub full_then : {m m' m'' : Sat} {n : ℕ} {c : Change} → StillPlaces n c m m' → HasFoundAllFull n m' m'' → HasFoundAllFull n m m''
+full_then a b = (proceeds_then a.0 b.0, b.1 ∙ a.1)
 
 -- the pass goes on placing the file
-pub still_placing : (k : Start) (m m' : Sat) (n : ℕ) (file : Closed) (c : Change) → IsPlacing k n file m → StillPlaces n c m m'
+pub still_placing : {k : Start} {m m' : Sat} {n : ℕ} {file : Closed} {c : Change} → IsPlacing k n file m → StillPlaces n c m m'
     → IsPlacing k n file m'
-still_placing k m m' n file c p s = record {
+still_placing {k} {m} {m'} {n} {file} {c} p s = record {
   at = still_at_work k m m' p.at.log [] no_use (Placing n) c s.0.0 p.at.pass s.0.1;
   work = s.0.1.work;
   place = s.1 ∙ p.place;
@@ -56,7 +51,7 @@ pub exchange_tried : (k : Start) (m m' m'' : Sat) (n slot i slots found old new 
     → slot_of i ≡ slot → Stepped m [] no_use m.0.work Same m' → m'.1 ≡ m.1
     → Exchanges (step slots i old new none) m' found m'' → Tries n file slot m (nat_eq found old) m''
 exchange_tried k m m' m'' n slot i slots found old new file p here s same e =
-    let loaded = one_still m m' n Same p.work s same in
+    let loaded = one_still p.work s same in
     let work = s.work ∙ p.work in
     let place = same ∙ p.place in
     let start = s.start ∙ p.at.pass.0 in
@@ -64,34 +59,23 @@ exchange_tried k m m' m'' n slot i slots found old new file p here s same e =
     tries_by m m'' n slot file found old
     (λ is. let w = e.wins n file work at_home is in
     let put = subst (λ (z : ℕ). Stepped m' ([] ▷ Allocate z (numbered n file)) one_number (Between Idle) More m'') here w.0 in
-    allocated_then m m' m'' n slot file Same More loaded ((1, goes_one m' m'' _ one_number (Between Idle) More put), w.1 ∙ ap rest place))
+    allocated_then loaded (proceeds_one put, w.1 ∙ ap rest place))
     (λ other. let l = e.loses other in
-    still_then m m' m'' n Same Same loaded (one_still m' m'' n Same work
+    still_then loaded (one_still work
     (subst (λ (z : Change). Stepped m' [] no_use m'.0.work z m'') s.change l.0) l.1))
 
 -- a pass that has told of the slot that it found
-pub allocated_told : (m m' m'' : Sat) (n slot : ℕ) (file : Closed) → HasAllocated n file slot More m m'
+pub allocated_told : {m m' m'' : Sat} {n slot : ℕ} {file : Closed} → HasAllocated n file slot More m m'
     → Goes m' [] no_use m'.0.work Outside 1 m'' → m''.1 ≡ m'.1 → HasAllocated n file slot Outside m m''
-allocated_told m m' m'' n slot file a goes same = (
-  (
-    a.0.0 + 1,
-    goes_then m m' m'' ([] ▷ Allocate slot (numbered n file)) [] one_number no_use (Between Idle) (Between Idle) More Outside a.0.0 1 a.0.1
-        (subst (λ (w : Work). Goes m' [] no_use w Outside 1 m'') a.0.1.work goes),
-  ),
-  same ∙ a.1,
-)
+allocated_told {m} {m'} {m''} a goes same =
+    (proceeds_then a.0 (1, subst (λ (w : Work). Goes m' [] no_use w Outside 1 m'') a.0.1.work goes), same ∙ a.1)
 
 -- a pass that was answered that every slot is full, and one that wasn't
-pub answered_full : (m m' m'' : Sat) (n : ℕ) → StillPlaces n Same m m' → Stepped m' ([] ▷ Full) no_use m'.0.work Outside m'' → m''.1 ≡ m'.1
+pub answered_full : {m m' m'' : Sat} {n : ℕ} → StillPlaces n Same m m' → Stepped m' ([] ▷ Full) no_use m'.0.work Outside m'' → m''.1 ≡ m'.1
     → HasFoundAllFull n m m''
-answered_full m m' m'' n still s same = full_then m m' m'' n Same still (
-  (
-    1,
-    goes_one m' m'' ([] ▷ Full) no_use (Placing n) Outside (subst (λ (w : Work). Stepped m' ([] ▷ Full) no_use w Outside m'') still.0.1.work s),
-  ),
-  same,
-)
+answered_full {m} {m'} {m''} still s same =
+    full_then still (proceeds_one (subst (λ (w : Work). Stepped m' ([] ▷ Full) no_use w Outside m'') still.0.1.work s), same)
 
-pub answered_not : (m m' m'' : Sat) (n : ℕ) → StillPlaces n Same m m' → Stepped m' [] no_use m'.0.work Outside m'' → m''.1 ≡ m'.1
+pub answered_not : {m m' m'' : Sat} {n : ℕ} → StillPlaces n Same m m' → Stepped m' [] no_use m'.0.work Outside m'' → m''.1 ≡ m'.1
     → StillPlaces n Outside m m''
-answered_not m m' m'' n still s same = still_then m m' m'' n Same Outside still (one_still m' m'' n Outside still.0.1.work s same)
+answered_not still s same = still_then still (one_still still.0.1.work s same)

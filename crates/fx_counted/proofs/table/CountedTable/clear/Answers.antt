@@ -31,4 +31,4 @@ returns-clause-cleared c =
     let went = c.swap-found.ensures.2 in
     cleared_so (opening_of_table t) (view_of p) c.args.slot went.file takes c.removed_in-removed.result (pass_of m.0)
     (c.removed_in-removed.ensures went.file went.names) (removal_adds Clear t p c.requires.fits c.args.slot c.slot_place.result takes went.file
-    c.begin-began.new.seat.me c.swap-found.new.seat.me m _ _ c.slot_place.ensures c.begin-began.ensures.goes went.stepped c.end.ensures.goes)
+    c.slot_place.ensures c.begin-began.ensures.goes went.stepped c.end.ensures.goes)

@@ -1,4 +1,4 @@
-use Rattle.fx_counted.proofs.Words.{◌≡◌, ℕ, [], ◌∷◌, ap, ◌∙◌, subst, arith, Some, Closed, ◌▷◌, numbered, Put, takes_in, slot_word_of, Adds, no_use}
+use Rattle.fx_counted.proofs.Words.{◌≡◌, ℕ, [], ◌∷◌, ap, ◌∙◌, subst, arith, Some, Closed, ◌▷◌, numbered, Put, takes_in, slot_word_of, Adds}
 use Rattle.fx_counted.proofs.Words.{one_number, if_full, place_of, slot_of, pass_of, doing_in, view_of, opening_of_table, Stepped, retires_now}
 use Rattle.fx_counted.proofs.Words.{turned, Outside, Start, Placing, Bool, true, false, sym, File, List, Log, None, Option, Retired, first_log}
 use Rattle.fx_counted.proofs.Words.{is_idle, option_map, refl, rest, is_some, retired_of, IsBetweenCalls}
@@ -71,8 +71,8 @@ returns c =
     let stepped = subst (λ (z : Start). (j : ℕ) (x : Closed) → m₂.0.work ≡ Placing j → m₂.1 ≡ (place_of z j, Some x) ∷ []
     → Stepped m₂ ([] ▷ Put (slot_of c.slot_place.result) (numbered j x) went.replaced) one_number (retires_now went.replaced takes)
     (turned m₂.0.change (if_full went.replaced) 1) m₃) start went.stepped n file (began.goes.work ∙ born.born.work) carried in
-    let around = goes_around m₁ m₂ m₃ m₄ (Put _ (numbered n file) went.replaced) one_number _ _ _ _ began.goes stepped c.end.ensures.goes in
-    let goes = goes_then m m₁ m₄ [] _ no_use one_number _ _ _ _ 1 3 (goes_one m m₁ [] no_use (Placing n) m.0.change born.born) around in
+    let around = goes_around began.goes stepped c.end.ensures.goes in
+    let goes = goes_then (goes_one born.born) around in
     let adds = adds_so _ k p fits m₄ _ one_number (retires_now went.replaced takes) Outside 4 goes in
     let here = slot_at t c.args.slot c.slot_place.result c.slot_place.ensures in
     let left = c.requires.numbers in

@@ -1,5 +1,5 @@
 use Rattle.fx_counted.proofs.Words.{ℕ, [], inr, ◌∙◌, subst, arith, Some, Closed, ◌▷◌, numbered, Allocate, Full, Adds, no_use, one_number, HasPlace}
-use Rattle.fx_counted.proofs.Words.{pass_of, HasAllocated, view_of, opening_of_table, Outside, Idle, Placing}
+use Rattle.fx_counted.proofs.Words.{pass_of, HasAllocated, view_of, opening_of_table, Outside, Idle}
 use Rattle.fx_counted.proofs.Words.{Idle}
 use Rattle.fx_counted.proofs.Going.{its_pass, adds_so, goes_one, goes_then}
 use Rattle.fx_counted.proofs.table.CountedTable.put_any.Goals as goal
@@ -20,8 +20,8 @@ returns-in-Some-clause-allocated g c =
     let size = t.same_size in
     let below = c.in-Some.ensures.slot in
     let found = subst (λ (f : Closed). HasAllocated n f slot Outside m₁ m₂) c.identity-identity.ensures c.in-Some.ensures.found in
-    let born = goes_one m m₁ [] no_use (Placing n) m.0.change c.put_in.ensures.born in
-    let placed = goes_then m m₁ m₂ [] _ no_use one_number (Placing n) (Between Idle) m.0.change Outside 1 found.0.0 born found.0.1 in
+    let born = goes_one c.put_in.ensures.born in
+    let placed = goes_then born found.0.1 in
     let adds = adds_so _ k p fits m₂ _ one_number (Between Idle) Outside _ placed in (
       omega arith,
       subst (λ (z : ℕ). Adds (opening_of_table t) v ([] ▷ Allocate slot (numbered z c.args.file)) Idle one_number
@@ -48,8 +48,8 @@ returns-in-None-clause-allocated g c =
       work = inr full.0.1.work;
       place = full.1 ∙ born.place.place;
     } in
-    let first = goes_one m m₁ [] no_use (Placing n) m.0.change born.born in
-    let found = goes_then m m₁ m₂ [] ([] ▷ Full) no_use no_use (Placing n) (Placing n) m.0.change Outside 1 full.0.0 first full.0.1 in
-    let home = goes_one m₂ m₃ [] no_use (Between Idle) m₂.0.change c.take_out.ensures.rests in
-    let goes = goes_then m m₂ m₃ ([] ▷ Full) [] no_use no_use (Placing n) (Between Idle) Outside m₂.0.change _ 1 found home in
+    let first = goes_one born.born in
+    let found = goes_then first full.0.1 in
+    let home = goes_one c.take_out.ensures.rests in
+    let goes = goes_then found home in
     (c.take_out.ensures.file c.args.file place, adds_so _ k p fits m₃ ([] ▷ Full) no_use (Between Idle) m₂.0.change _ goes)

@@ -36,7 +36,7 @@ returns-clause-released c =
     let node = ap (λ (h : Hold). h.node) c.requires.held.2 in
     let out = c.fetch_sub-found.ensures.2.closes f work (omega (arith, c.if-found-ne1.false)) in
     let place = out_place k m m' xs f fits.log (its_pass _ _ p fits) fits.places out in
-    let goes = out_and_home m m' m'' xs f out c.take_out.ensures.rests in (
+    let goes = out_and_home out c.take_out.ensures.rests in (
       f,
       c.requires.held.1,
       c.requires.held.2,

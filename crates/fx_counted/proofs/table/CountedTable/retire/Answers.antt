@@ -55,7 +55,7 @@ pub returns-then-found-amount-clause-fits : goal.returns-then-found-amount-claus
 returns-then-found-amount-clause-fits c =
     let a = (goal.at.returns-then-found-amount-clause-fits c).After-fetch_sub-found in
     let went = waits a c.if-found-amount.true in
-    still_pass _ _ c.args.pass.now _ c.requires.fits [] no_use (Between Idle) 1 (let_go (m a) (m' a) [] c.requires.fits.seated.change went.0)
+    still_pass _ _ c.args.pass.now _ c.requires.fits [] no_use (Between Idle) 1 (let_go c.requires.fits.seated.change went.0)
     c.fetch_sub-found.ensures.0 (went.0.carried ∙ c.requires.fits.places) tt refl refl (omega arith) (omega arith) refl
 
 pub returns-then-found-amount-clause-retired : goal.returns-then-found-amount-clause-retired
@@ -69,7 +69,7 @@ returns-then-found-amount-clause-retired c =
       c.requires.removed.3,
       (
         subst (λ (z : Start). 0 < (state_after_all z (pass_of (m' a).0).front).holds (file a).number) fits.seated.start went.1,
-        adds_so _ _ c.args.pass.now fits (m' a) [] no_use (Between Idle) Outside 1 (let_go (m a) (m' a) [] fits.seated.change went.0),
+        adds_so _ _ c.args.pass.now fits (m' a) [] no_use (Between Idle) Outside 1 (let_go fits.seated.change went.0),
       ),
     )
 
@@ -95,7 +95,7 @@ returns-clause-retired c =
       (
         c.take_out.ensures.file (file a).identity (place a is),
         adds_so _ _ c.args.pass.now c.requires.fits m'' ([] ▷ Close (file a)) no_use (Between Idle) (m a).0.change 2
-            (out_and_home (m a) (m' a) m'' [] (file a) (closes a is) c.take_out.ensures.rests),
+            (out_and_home (closes a is) c.take_out.ensures.rests),
       ),
     )
 
@@ -105,7 +105,7 @@ returns-clause-fits c =
     let out = closes a (omega (arith, c.if-found-amount.false)) in
     let m'' = c.take_out.new.seat.me in
     let goes = subst (λ (z : Change). Goes (m a) ([] ▷ Close (file a)) no_use (Between Idle) z 2 m'') c.requires.fits.seated.change
-    (out_and_home (m a) (m' a) m'' [] (file a) out c.take_out.ensures.rests) in
+    (out_and_home out c.take_out.ensures.rests) in
     still_pass _ _ c.args.pass.now _ c.requires.fits ([] ▷ Close (file a)) no_use (Between Idle) 2 goes
     (c.take_out.ensures.table ∙ c.fetch_sub-found.ensures.0) c.take_out.ensures.empty tt refl refl (omega arith) (omega arith) refl
 

@@ -19,21 +19,18 @@ fetch_add-requires c =
 
 -- the pass is in a change, and has found no slot free
 still_searching : (c : In-None) → StillPlaces c.args.number Same c.args.seat.now.me c.scan.new.seat.me
-still_searching c = let began = c.fetch_add.ensures.2 in let m₁ = c.fetch_add.new.seat.me in
-    still_then c.args.seat.now.me m₁ c.scan.new.seat.me c.args.number Same Same
-    (one_still c.args.seat.now.me m₁ c.args.number Same c.requires.placing.work began.stepped began.carried) (c.scan.ensures.none c.in-None.is)
+still_searching c = let began = c.fetch_add.ensures.2 in
+    still_then (one_still c.requires.placing.work began.stepped began.carried) (c.scan.ensures.none c.in-None.is)
 
 pub returns-in-Some-clause-ends : goal.returns-in-Some-clause-ends
 returns-in-Some-clause-ends c =
     let size = c.args.self.now.same_size in
-    let m = c.args.seat.now.me in
-    let m₂ = c.scan.new.seat.me in
     let found = c.in-Some.ensures in
     let below = found.slot in
     let began = c.fetch_add.ensures.2 in
-    let still = one_still m c.fetch_add.new.seat.me c.args.number Same c.requires.placing.work began.stepped began.carried in
-    let more = allocated_then m c.fetch_add.new.seat.me m₂ c.args.number c.in-Some.slot c.args.file _ _ still found.found in
-    (omega arith, allocated_told m m₂ c.end.new.seat.me c.args.number c.in-Some.slot c.args.file more c.end.ensures.goes c.end.ensures.places)
+    let still = one_still c.requires.placing.work began.stepped began.carried in
+    let more = allocated_then still found.found in
+    (omega arith, allocated_told more c.end.ensures.goes c.end.ensures.places)
 
 pub fetch_sub-word-requires : goal.fetch_sub-word-requires
 fetch_sub-word-requires c =
@@ -41,7 +38,7 @@ fetch_sub-word-requires c =
     let words = t.words in
     let seat = c.scan.new.seat in
     let all = still_searching (goal.at.fetch_sub-word-requires c).In-None in
-    let at = (still_placing t.table.shared.key c.args.seat.now.me seat.me c.args.number c.args.file Same c.requires.placing all).at in
+    let at = (still_placing c.requires.placing all).at in
     let amount = c.begin_amount-in-None in (
       c.scan.ensures.table ∙ (c.fetch_add.ensures.0 ∙ c.requires.table),
       omega arith,
@@ -56,7 +53,7 @@ returns-then-says_full-clause-ends c =
     let told : c.fetch_sub-word.result ≡ full_word_of t.range_len = search rules in
     let full = told ∙ full_of t m₂.0.start (all.0.1.start ∙ c.requires.placing.at.pass.0) in
     let answer = c.fetch_sub-word.ensures.2 in
-    answered_full c.args.seat.now.me m₂ c.fetch_sub-word.new.seat.me c.args.number all (answer.full full) answer.carried
+    answered_full all (answer.full full) answer.carried
 
 pub returns-else-says_full-clause-ends : goal.returns-else-says_full-clause-ends
 returns-else-says_full-clause-ends c =
@@ -66,4 +63,4 @@ returns-else-says_full-clause-ends c =
     let told : c.fetch_sub-word.result ≢ full_word_of t.range_len = search rules in
     let full = full_of t m₂.0.start (all.0.1.start ∙ c.requires.placing.at.pass.0) in
     let answer = c.fetch_sub-word.ensures.2 in
-    answered_not c.args.seat.now.me m₂ c.fetch_sub-word.new.seat.me c.args.number all (answer.not_full (λ e. told (e ∙ sym full))) answer.carried
+    answered_not all (answer.not_full (λ e. told (e ∙ sym full))) answer.carried

@@ -1,4 +1,4 @@
-use Rattle.fx_counted.proofs.Words.{◌∙◌, subst, Outside, RoundEnds}
+use Rattle.fx_counted.proofs.Words.{◌∙◌, subst, RoundEnds}
 use Rattle.fx_counted.specs.declared.round.Round.{Round}
 use Rattle.fx_counted.proofs.Searching.{still_then, allocated_then, full_then}
 use Rattle.fx_counted.proofs.table.CountedTable.rounds.Goals as goal
@@ -11,7 +11,7 @@ returns-in-At-clause-found g c =
     let m = c.loop.seat.me in
     let m' = c.round.new.seat.me in
     let end = subst (λ (r : Round). RoundEnds k n file m r m') c.in-At.is c.round.ensures.ends in
-    allocated_then c.args.seat.now.me m m' n c.in-At.slot file Outside Outside c.loop.invariant.still end.1
+    allocated_then c.loop.invariant.still end.1
 
 pub returns-in-AllFull-clause-full : goal.returns-in-AllFull-clause-full
 returns-in-AllFull-clause-full g c none =
@@ -20,7 +20,7 @@ returns-in-AllFull-clause-full g c none =
     let m = c.loop.seat.me in
     let m' = c.round.new.seat.me in
     let end = subst (λ (r : Round). RoundEnds k n c.args.file m r m') c.in-AllFull.is c.round.ensures.ends in
-    full_then c.args.seat.now.me m m' n Outside c.loop.invariant.still end
+    full_then c.loop.invariant.still end
 
 pub loop-preserved : goal.loop-preserved
 loop-preserved g c =
@@ -31,7 +31,7 @@ loop-preserved g c =
     let end = subst (λ (r : Round). RoundEnds k n c.args.file m r m') c.in-Again.is c.round.ensures.ends in
     record {
       table = c.round.ensures.table ∙ c.loop.invariant.table;
-      still = still_then c.args.seat.now.me m m' n Outside Outside c.loop.invariant.still end;
+      still = still_then c.loop.invariant.still end;
       can = tt;
       ends = tt;
     }

@@ -1,4 +1,4 @@
-use Rattle.fx_counted.proofs.Words.{Bool, ◌∙◌, subst, Tries, Same, More}
+use Rattle.fx_counted.proofs.Words.{Bool, ◌∙◌, subst, Tries}
 use Rattle.fx_counted.proofs.Searching.{still_then, allocated_then}
 use Rattle.fx_counted.proofs.table.CountedTable.scan.Goals as goal
 
@@ -10,7 +10,7 @@ returns-then-try_slot-clause-found c =
     let m = c.loop-slot.seat.me in
     let m' = c.try_slot.new.seat.me in
     let won = subst (λ (z : Bool). Tries n file slot m z m') c.if-try_slot.true c.try_slot.ensures.tries in
-    allocated_then c.args.seat.now.me m m' n slot file Same More c.loop-slot.invariant.still won
+    allocated_then c.loop-slot.invariant.still won
 
 pub loop-slot-preserved : goal.loop-slot-preserved
 loop-slot-preserved c =
@@ -22,5 +22,5 @@ loop-slot-preserved c =
     let lost = subst (λ (z : Bool). Tries n file slot m z m') c.if-try_slot.false c.try_slot.ensures.tries in
     record {
       table = c.try_slot.ensures.table ∙ c.loop-slot.invariant.table;
-      still = still_then c.args.seat.now.me m m' n Same Same c.loop-slot.invariant.still lost;
+      still = still_then c.loop-slot.invariant.still lost;
     }

@@ -31,5 +31,4 @@ returns-clause-taken c =
     let went = c.swap-found.ensures.2 in
     taken_so (opening_of_table t) (view_of p) c.args.slot went.file takes c.removed_in-removed.result c.ok_or.result _ (pass_of m.0)
     (c.removed_in-removed.ensures went.file went.names) c.ok_or.ensures.value
-    (removal_adds Take t p c.requires.fits c.args.slot c.slot_place.result takes went.file
-    c.begin-began.new.seat.me c.swap-found.new.seat.me m _ _ c.slot_place.ensures c.begin-began.ensures.goes went.stepped c.end.ensures.goes)
+    (removal_adds Take t p c.requires.fits c.args.slot c.slot_place.result takes went.file c.slot_place.ensures c.begin-began.ensures.goes went.stepped c.end.ensures.goes)
