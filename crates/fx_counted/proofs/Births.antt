@@ -10,6 +10,7 @@ use Rattle.fx_counted.proofs.Steps.{grows_none, change_here, change_else, busy, 
 use Rattle.fx_counted.proofs.Steps.{tells_none, one_same, near, far, NodeStep, node_agrees}
 use Rattle.std.proofs.Common.{length-set}
 use Rattle.fx_counted.proofs.Words.{Between}
+use Rattle.fx_counted.proofs.Steps.{NodeIn}
 
 -- the file that a pass holds is open
 pub held_file : (k : Start) (phase : ℕ → Phase) (j : ℕ) (u : View) (f : File) → u.work ≡ Between (Holding f)
@@ -27,8 +28,8 @@ module _ (turn : Turn) where
 
   -- a number in its phase
   pub in_phase : (q : ℕ) → IsNumber v.start q → (ph : Phase) → r.phase q ≡ ph
-      → NodeAgrees (state_after_all v.start r.history) q (looks r.history q) (word_now q) (home_now q) ph
-  in_phase q its ph is = subst (NodeAgrees (state_after_all v.start r.history) q (looks r.history q) (word_now q) (home_now q)) is (r.each_node q its)
+      → NodeIn v.start st.words st.homes r.history q ph
+  in_phase q its ph is = subst (NodeIn v.start st.words st.homes r.history q) is (r.each_node q its)
 
   pub roomy : (q : ℕ) → IsNumber v.start q → place_of v.start q < length st.homes
   roomy q its = let a = r.shape.homes in let b = (near turn).home q its in omega arith

@@ -11,6 +11,7 @@ use Rattle.fx_counted.proofs.Steps.{slot_same, control_same, one_if, times, bit_
 use Rattle.std.proofs.Common.{length-set}
 use Rattle.std.proofs.lemmas.List.Sums.{count_by-le-length}
 use Rattle.fx_counted.proofs.Words.{Between}
+use Rattle.fx_counted.proofs.Steps.{NodeIn}
 
 abbrev pick : {P : Type 0} → Dec P → Phase → Phase → Phase
 pick (yes _) a b = a
@@ -91,7 +92,14 @@ module _ (turn : Turn) where
     read_else : (place : ℕ) → place ≢ draw_place → word_at words' place ≡ word_at st.words place
     read_else place other = get_or-set_other st.words draw_place place (found + 1) 0 other
 
-    draw_step : v.work ≡ Between Idle → ((n : ℕ) → (r.phase n ≡ phase' n) ⊎ ((r.phase n ≡ unborn) × (phase' n ≡ spare x.number)))
+    -- a number's phase stays, or the number becomes the pass's
+    abbrev Phases : Type 0
+    Phases = (n : ℕ) → (r.phase n ≡ phase' n) ⊎ ((r.phase n ≡ unborn) × (phase' n ≡ spare x.number))
+
+    either_phase : {P : Type 0} → Phases → (n : ℕ) → (r.phase n ≡ phase' n → P) → (r.phase n ≡ unborn → phase' n ≡ spare x.number → P) → P
+    either_phase phases n same new = ⊎_elim (λ e. same e) (λ t. new t.0 t.1) (phases n)
+
+    draw_step : v.work ≡ Between Idle → Phases
         → first_or 0 drawn ≤ v.start.chains → left ≤ 64 → left ≤ v.start.numbers * first_or 0 drawn
         → ((n : ℕ) → next_in v.start y ≤ n → n < end_in v.start y → phase' n ≡ spare x.number)
         → DrawsCount v.start.chains v.start.numbers phase' (set st.views id w) (found + 1)
@@ -104,38 +112,21 @@ module _ (turn : Turn) where
       legal = r.legal;
       slots = λ s l. slot_same v.start r.history r.history r.phase phase' s (word_at st.words (slot_place s))
           (word_at words' (slot_place s)) (read_else (slot_place s) (apart.slot_and_draw s)) refl (omega arith)
-          (λ f there seat. (
-            refl,
-            ⊎_elim (λ e. sym e) (λ (e : (r.phase f.number ≡ unborn)
-                × (phase' f.number ≡ spare x.number)). absurd (cc (sym seat ∙ e.0))) (phases f.number),
-          )) (r.each_slot s l);
-      nodes = λ n has. subst (λ (z : ℕ). NodeAgrees (state_after_all v.start r.history) n
-          (looks r.history n) z (get_elem? st.homes (place_of v.start n)) (phase' n))
+          (λ f there seat. (refl, either_phase phases f.number (λ e. sym e) (λ new _. absurd (cc (sym seat ∙ new))))) (r.each_slot s l);
+      nodes = λ n has. let Node = NodeIn v.start st.words st.homes r.history n in
+          subst (λ (z : ℕ). NodeAgrees (state_after_all v.start r.history) n (looks r.history n) z (get_elem? st.homes (place_of v.start n)) (phase' n))
           (sym (read_else (word_of v.start n) (apart.node_and_draw n has)))
-          (⊎_elim
-          (λ (e : r.phase n ≡ phase' n). subst
-          (NodeAgrees (state_after_all v.start r.history) n (looks r.history n)
-          (word_at st.words (word_of v.start n)) (get_elem? st.homes (place_of v.start n))) e (r.each_node n has))
-          (λ (e : (r.phase n ≡ unborn) × (phase' n ≡ spare x.number)). subst
-          (NodeAgrees (state_after_all v.start r.history) n (looks r.history n)
-          (word_at st.words (word_of v.start n)) (get_elem? st.homes (place_of v.start n))) (sym e.1)
-          (subst (NodeAgrees (state_after_all v.start r.history) n (looks r.history n)
-          (word_at st.words (word_of v.start n)) (get_elem? st.homes (place_of v.start n))) e.0 (r.each_node n has)))
-          (phases n));
-      owners = λ n has. ⊎_elim
-          (λ (e : r.phase n ≡ phase' n). subst (OwnerAgrees (set st.views id w) n) e
-          (owner_same st.views id v w here refl n (r.phase n) (r.each_owner n has)))
-          (λ (e : (r.phase n ≡ unborn) × (phase' n ≡ spare x.number)). subst (OwnerAgrees (set st.views id w) n) (sym e.1) tt)
-          (phases n);
+          (either_phase phases n (λ e. subst Node e (r.each_node n has))
+          (λ new its. subst Node (sym its) (subst Node new (r.each_node n has))));
+      owners = λ n has. either_phase phases n
+          (λ e. subst (OwnerAgrees (set st.views id w) n) e (owner_same st.views id v w here refl n (r.phase n) (r.each_owner n has)))
+          (λ _ its. subst (OwnerAgrees (set st.views id w) n) (sym its) tt);
       no_other = r.no_other;
       stays = record {
-        owned = λ n owned not_mine. ⊎_elim (λ e. sym e) (λ (e : (r.phase n ≡ unborn)
-            × (phase' n ≡ spare x.number)). absurd (owned (ap owner e.0))) (phases n);
-        spared = λ n q is other. ⊎_elim (λ e. sym e
-            ∙ is) (λ (e : (r.phase n ≡ unborn) × (phase' n ≡ spare x.number)). absurd (cc (sym is ∙ e.0))) (phases n);
+        owned = λ n owned not_mine. either_phase phases n (λ e. sym e) (λ new _. absurd (owned (ap owner new)));
+        spared = λ n q is other. either_phase phases n (λ e. sym e ∙ is) (λ new _. absurd (cc (sym is ∙ new)));
       };
-      keeps = λ j u f other there holds. ⊎_elim (λ e. ap file_in (sym e)) (λ (e : (r.phase f.number ≡ unborn)
-          × (phase' f.number ≡ spare x.number)). ap file_in e.1 ∙ sym (ap file_in e.0)) (phases f.number);
+      keeps = λ j u f other there holds. either_phase phases f.number (λ e. ap file_in (sym e)) (λ new its. ap file_in its ∙ sym (ap file_in new));
       log = let o = its_log turn in let p = ap placing idle in record {
         seen = o.seen;
         own = o.own;

@@ -19,6 +19,11 @@ Homes = List (maybe.Option (Option Closed))
 abbrev pub word_at : List ℕ → ℕ → ℕ
 word_at words place = get_or words place 0
 
+-- a number in its phase, with these words and places, behind this history
+abbrev pub NodeIn : Start → List ℕ → Homes → List Event → ℕ → Phase → Type 0
+NodeIn k words homes h n = NodeAgrees (state_after_all k h) n (looks h n) (word_at words (node_place (slots_of k) n))
+    (get_elem? homes (home_place (slots_of k) n))
+
 abbrev pub now : View → Log → Work → Change → View
 now v y d c = record v { logs = y ∷ []; work = d; change = c }
 
@@ -108,9 +113,7 @@ module _ (turn : Turn) where
       pub grows : Grows x.number r.history h'
       pub legal : IsHistory v.start h'
       pub slots : (s : ℕ) → s < slots_of v.start → SlotAgrees v.start h' phase' s (word_at words' (slot_place s))
-      pub nodes : (n : ℕ) → IsNumber v.start n
-          → NodeAgrees (state_after_all v.start h') n (looks h' n) (word_at words' (node_place (slots_of v.start) n))
-          (get_elem? homes' (home_place (slots_of v.start) n)) (phase' n)
+      pub nodes : (n : ℕ) → IsNumber v.start n → NodeIn v.start words' homes' h' n (phase' n)
       pub owners : (n : ℕ) → IsNumber v.start n → OwnerAgrees views' n (phase' n)
       pub no_other : (n : ℕ) → (IsNumber v.start n → ⊥) → (state_after_all v.start h').removed n ≡ None
       pub stays : Stays id x.number r.phase phase'

@@ -1,8 +1,8 @@
 -- A look-up keeps the rule.
 use Rattle.fx_counted.proofs.Words.{◌≡◌, ◌≢◌, ℕ, ◌+◌, ◌-◌, ◌%◌, ◌^◌, ◌<◌, List, [], ◌∷◌, set, sym, refl, ap, ◌∙◌, subst, arith, Option, Some, None}
-use Rattle.fx_counted.proofs.Words.{dite, none, ℕ_discrete, get_elem?, keeps, stepped, step, Closed, ◌▷◌, held_by, State, File, Event, Look, range_of}
-use Rattle.fx_counted.proofs.Words.{event_of, name_in, entry_in, takes_in, Names, SlotAgrees, NodeAgrees, Agrees, PlacesNext, WorkAgrees, looks}
-use Rattle.fx_counted.proofs.Words.{full_in, word_of, place_of, slot_place, control_place, opening_of, slots_of, IsNumber, state_after_all, shown}
+use Rattle.fx_counted.proofs.Words.{dite, none, ℕ_discrete, keeps, stepped, step, Closed, ◌▷◌, held_by, State, File, Event, Look, range_of}
+use Rattle.fx_counted.proofs.Words.{event_of, name_in, entry_in, takes_in, Names, SlotAgrees, Agrees, PlacesNext, WorkAgrees, looks}
+use Rattle.fx_counted.proofs.Words.{full_in, slot_place, control_place, opening_of, slots_of, IsNumber, state_after_all, shown}
 use Rattle.fx_counted.proofs.Words.{held_in, placing, held_of, holding, Phase, seated, file_in, Stepped, IsInside, Log, View, Idle, eqb, one_look}
 use Rattle.fx_counted.proofs.Words.{name_more, entry_more, takes_more, LooksKeep, Looks, holds_now}
 use Rattle.fx_counted.proofs.Steps.{busy, stays_same, owner_stays, IsHistory, grows_one, legal_more, held_mine, part_mine, change_else, same_shape}
@@ -11,6 +11,7 @@ use Rattle.fx_counted.proofs.Steps.{node_same, control_same}
 use Rattle.fx_counted.specs.Agrees.{IsSeated}
 use Rattle.fx_counted.proofs.SlotSteps.{SlotStep, slot_agrees}
 use Rattle.fx_counted.proofs.Words.{Between}
+use Rattle.fx_counted.proofs.Steps.{NodeIn}
 
 pub add_one : (n : ℕ) → takes_in n + 1 < 4294967296 → n < 18446744073709551616 → (n + 1) % 2 ^ 64 ≡ n + 1
 add_one n low fits = omega arith
@@ -79,9 +80,7 @@ module _ (turn : Turn) (idle : turn.v.work ≡ Between Idle) (some_left : 0 < tu
           (slot : SlotAgrees v.start h' r.phase s word')
           (looks_else : (i : ℕ) → i < slots_of v.start → i ≢ s → (f : File) → old.at i ≡ Some f
           → r.phase f.number ≡ seated i f.identity → looks h' f.number ≡ looks r.history f.number)
-          (nodes : (n : ℕ) → IsNumber v.start n
-          → NodeAgrees (state_after_all v.start h') n (looks h' n) (word_at st.words (word_of v.start n))
-          (get_elem? st.homes (place_of v.start n)) (r.phase n))
+          (nodes : (n : ℕ) → IsNumber v.start n → NodeIn v.start st.words st.homes h' n (r.phase n))
           (held : held_by h' x.number ≡ held_in (holds_now file))
           (next : PlacesNext v.start y (holds_now file)) (placed : placing (holds_now file) ≡ 0)
           (work : WorkAgrees v.start r.phase id (holds_now file)) (holds : (n : ℕ)
@@ -144,17 +143,12 @@ module _ (turn : Turn) (idle : turn.v.work ≡ Between Idle) (some_left : 0 < tu
       holds_now_is : (n : ℕ) → (state_after_all v.start h₁).holds n ≡ old.holds n + one_if (eqb q n)
       holds_now_is n = one_more_at old.holds q n
 
-      abbrev Node : ℕ → Phase → Type 0
-      Node n ph = NodeAgrees (state_after_all v.start h₁) n (looks h₁ n) (word_at st.words (word_of v.start n))
-          (get_elem? st.homes (place_of v.start n)) ph
-
-      node_now : (n : ℕ) → IsNumber v.start n → Node n (r.phase n)
+      node_now : (n : ℕ) → IsNumber v.start n → NodeIn v.start st.words st.homes h₁ n (r.phase n)
       node_now n has = dite (ℕ_discrete n q)
           (λ same. let ph : r.phase n ≡ seated s f.identity = ap r.phase same ∙ seat.2 in
-          let o = subst (NodeAgrees old n (looks r.history n) (word_at st.words (word_of v.start n))
-          (get_elem? st.homes (place_of v.start n))) ph (r.each_node n has) in
+          let o = subst (NodeIn v.start st.words st.homes r.history n) ph (r.each_node n has) in
           let a = looks_now n in let b = holds_now_is n in let c = o.counts in
-          subst (Node n) (sym ph) record {
+          subst (NodeIn v.start st.words st.homes h₁ n) (sym ph) record {
             counts = omega arith;
             at_home = o.at_home;
             inside = o.inside;

@@ -12,6 +12,7 @@ use Rattle.fx_counted.proofs.Frames.{busy, owner_stays}
 use Rattle.fx_counted.proofs.Keeping.{Turn, Homes, word_at, logged, Step, step_kept, log_now, went}
 use Rattle.fx_counted.proofs.Unchanged.{slot_same, node_same, control_same, draws_same}
 use Rattle.fx_counted.proofs.Words.{Between}
+use Rattle.fx_counted.proofs.Keeping.{NodeIn}
 
 -- what a step on the number q tells of the histories
 pub record OneNumber (v : View) (q : ℕ) (h h' : List Event) : Type 0 where
@@ -116,18 +117,11 @@ module _ (turn : Turn) where
             ))
             (r.each_slot slot l);
         nodes = λ n has. dite (ℕ_discrete n q)
-            (λ same. subst (λ (m : ℕ). NodeAgrees (state_after_all v.start h') m (looks h' m)
-            (word_at (set st.words i word') (node_place (slots_of v.start) m))
-            (get_elem? homes' (home_place (slots_of v.start) m)) (phase' m)) (sym same)
+            (λ same. subst (λ (m : ℕ). NodeIn v.start (set st.words i word') homes' h' m (phase' m)) (sym same)
             (subst (λ (z : ℕ × ℕ × Phase). NodeAgrees (state_after_all v.start h') q z.0 z.1 (get_elem? homes' (home_place (slots_of v.start) q)) z.2)
             (λ j. (sym s.told.looked j q, sym (get_or-set_same st.words i word' 0 wide) j, sym phase_here j)) s.node))
-            (λ other. subst (NodeAgrees (state_after_all v.start h') n (looks h' n)
-            (word_at (set st.words i word') (node_place (slots_of v.start) n))
-            (get_elem? homes' (home_place (slots_of v.start) n))) (sym (phase_else n other))
-            (node_same (state_after_all v.start r.history) (state_after_all v.start h') n (looks r.history n)
-            (looks h' n) (word_at st.words (node_place (slots_of v.start) n))
-            (word_at (set st.words i word') (node_place (slots_of v.start) n))
-            (get_elem? st.homes (home_place (slots_of v.start) n)) (get_elem? homes' (home_place (slots_of v.start) n))
+            (λ other. subst (NodeIn v.start (set st.words i word') homes' h' n) (sym (phase_else n other))
+            (node_same (state_after_all v.start r.history) (state_after_all v.start h') n _ _ _ _ _ _
             (ap (λ (g : ℕ → Bool). g n) s.told.fresh) (s.told.removed n other)
             (s.told.holds n other) (ap (λ (g : ℕ → ℕ). g n) s.told.looked)
             (word_else (node_place (slots_of v.start) n) (far.nodes n q has its other))

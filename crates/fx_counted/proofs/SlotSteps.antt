@@ -7,6 +7,7 @@ use Rattle.fx_counted.proofs.Words.{Work}
 use Rattle.fx_counted.proofs.Steps.{Grows, IsHistory, Stays, KeepsHeld, Turn, Homes, word_at, now, logged, Step, step_kept, near, far, SameFile, slot_same}
 use Rattle.fx_counted.proofs.Steps.{draws_same}
 use Rattle.std.proofs.Common.{length-set}
+use Rattle.fx_counted.proofs.Steps.{NodeIn}
 
 module _ (turn : Turn) (s : ℕ) (inside : s < slots_of turn.v.start) (left looks_left : ℕ) (d : Work) (c : Change) (h' : List Event) (phase' : ℕ → Phase)
     (word' : ℕ) (homes' : Homes) where
@@ -30,9 +31,7 @@ module _ (turn : Turn) (s : ℕ) (inside : s < slots_of turn.v.start) (left look
     pub others : (i : ℕ) → i < slots_of v.start → i ≢ s → ((state_after_all v.start h').at i ≡ (state_after_all v.start r.history).at i)
         × SameFile v.start r.history h' r.phase phase' i
     pub more : all_looks r.history ≤ all_looks h'
-    pub nodes : (n : ℕ) → IsNumber v.start n
-        → NodeAgrees (state_after_all v.start h') n (looks h' n) (word_at st.words (node_place (slots_of v.start) n))
-        (get_elem? homes' (home_place (slots_of v.start) n)) (phase' n)
+    pub nodes : (n : ℕ) → IsNumber v.start n → NodeIn v.start st.words homes' h' n (phase' n)
     pub owners : (n : ℕ) → IsNumber v.start n → OwnerAgrees views' n (phase' n)
     pub no_other : (n : ℕ) → (IsNumber v.start n → ⊥) → (state_after_all v.start h').removed n ≡ None
     pub stays : Stays id x.number r.phase phase'

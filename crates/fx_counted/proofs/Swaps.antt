@@ -10,6 +10,7 @@ use Rattle.fx_counted.proofs.Steps.{logged, its_log, log_now}
 use Rattle.fx_counted.specs.Agrees.{IsSeated}
 use Rattle.fx_counted.proofs.SlotSteps.{SlotStep, slot_agrees}
 use Rattle.fx_counted.proofs.Words.{Between}
+use Rattle.fx_counted.proofs.Steps.{NodeIn}
 
 -- the phases after a file has left its slot for the seat id
 abbrev pub gone_out : ℕ → Option File → ℕ → (ℕ → Phase) → ℕ → Phase
@@ -120,8 +121,8 @@ module _ (turn : Turn) (s : ℕ) (inside : s < slots_of turn.v.start) where
         pub stays : Stays id x.number r.phase phase₁
         pub keeps : KeepsHeld id st.views r.phase phase₁
         pub unused : (n : ℕ) → r.phase n ≡ unborn → phase₁ n ≡ unborn
-        pub nodes : (n : ℕ) → IsNumber v.start n → NotOf n old → NodeAgrees next_state n (looks r.history n) (word_at st.words (word_of v.start n))
-            (get_elem? homes' (place_of v.start n)) (phase₁ n)
+        pub nodes : (n : ℕ) → IsNumber v.start n → NotOf n old
+            → NodeAgrees next_state n (looks r.history n) (word_at st.words (word_of v.start n)) (get_elem? homes' (place_of v.start n)) (phase₁ n)
         pub old_home : (f : File) → old ≡ Some f → get_elem? homes' (place_of v.start f.number) ≡ get_elem? st.homes (place_of v.start f.number)
         pub owners : (n : ℕ) → IsNumber v.start n → NotOf n old → OwnerAgrees (set st.views id w) n (phase₁ n)
         -- the pass
@@ -134,9 +135,7 @@ module _ (turn : Turn) (s : ℕ) (inside : s < slots_of turn.v.start) where
         old_node : (f : File) → old ≡ Some f → NodeAgrees next_state f.number (looks r.history f.number) (word_at st.words (word_of v.start f.number))
             (get_elem? homes' (place_of v.start f.number)) (leaving id (takes_in found) f.identity)
         old_node f is = let its = seat_of f (was ∙ is) in
-            let n = subst (NodeAgrees state f.number (looks r.history f.number)
-            (word_at st.words (word_of v.start f.number)) (get_elem? st.homes (place_of v.start f.number))) its.2
-            (r.each_node f.number its.0) in
+            let n = subst (NodeIn v.start st.words st.homes r.history f.number) its.2 (r.each_node f.number its.0) in
             let h = ap (λ (z : State). z.holds f.number) p.does.state in record {
               counts = let a = n.counts in omega arith;
               at_home = p.old_home f is ∙ n.at_home;
@@ -152,6 +151,12 @@ module _ (turn : Turn) (s : ℕ) (inside : s < slots_of turn.v.start) where
 
         else_phase : (n : ℕ) → NotOf n old → phase' n ≡ phase₁ n
         else_phase n other = out_else id old (takes_in found) phase₁ n other
+
+        -- no look is told
+        now_in : (n : ℕ) {ph : Phase} → ph ≡ phase' n → NodeAgrees next_state n (looks r.history n) (word_at st.words (word_of v.start n))
+            (get_elem? homes' (place_of v.start n)) ph → NodeIn v.start st.words homes' (h' a) n (phase' n)
+        now_in n is = subst (λ (z : ℕ × Phase). NodeAgrees next_state n z.0 (word_at st.words (word_of v.start n))
+            (get_elem? homes' (place_of v.start n)) z.1) (λ i. (sym p.does.looked i n, is i))
 
         swap_step : SlotStep turn s inside left x.looks_left d c (h' a) phase' word' homes'
         swap_step = let o = its_log turn in let alone = retires_alone v.start old (takes_in found) y in record {
@@ -172,16 +177,10 @@ module _ (turn : Turn) (s : ℕ) (inside : s < slots_of turn.v.start) where
             ),
           );
           more = let z = p.does.all in omega arith;
-          nodes = λ n has. by_old old n (NodeAgrees next_state n (looks (h' a) n) (word_at st.words (word_of v.start n))
-              (get_elem? homes' (place_of v.start n)) (phase' n))
-              (λ f is same. subst (λ (m : ℕ). NodeAgrees next_state m (looks (h' a) m)
-              (word_at st.words (word_of v.start m)) (get_elem? homes' (place_of v.start m)) (phase' m)) (sym same)
-              (subst (λ (z : ℕ × Phase). NodeAgrees next_state f.number z.0
-              (word_at st.words (word_of v.start f.number)) (get_elem? homes' (place_of v.start f.number)) z.1)
-              (λ i. (sym p.does.looked i f.number, sym (out_here f is) i)) (old_node f is)))
-              (λ other. subst (λ (z : ℕ × Phase). NodeAgrees next_state n z.0 (word_at st.words (word_of v.start n))
-              (get_elem? homes' (place_of v.start n)) z.1) (λ i. (sym p.does.looked i n, sym (else_phase n other) i))
-              (p.nodes n has other));
+          nodes = λ n has. by_old old n (NodeIn v.start st.words homes' (h' a) n (phase' n))
+              (λ f is same. subst (λ (m : ℕ). NodeIn v.start st.words homes' (h' a) m (phase' m)) (sym same)
+              (now_in f.number (sym (out_here f is)) (old_node f is)))
+              (λ other. now_in n (sym (else_phase n other)) (p.nodes n has other));
           owners = λ n has. by_old old n (OwnerAgrees (set st.views id w) n (phase' n))
               (λ f is same. subst (λ (m : ℕ). OwnerAgrees (set st.views id w) m (phase' m)) (sym same)
               (subst (OwnerAgrees (set st.views id w) f.number) (sym (out_here f is))
