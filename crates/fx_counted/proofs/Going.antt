@@ -34,13 +34,13 @@ goes_then {m} {m'} {m''} {xs} {ys} {a} {b} {w} {w'} g h = record {
 }
 
 -- what the steps of a pass add to what callers see
-pub adds_so : (id : TableId) (k : Start) (p : CountedPass) (fits : IsPassOf id k p) (m' : Sat) (xs : List Action) (a : Use) (w : Work)
-    (c : Change) (n : ℕ) → Goes p.seat.me xs a w c n m' → Adds (opening_of k) (view_of p) xs (doing_in w) a (pass_of m'.0)
-adds_so id k p fits m' xs a w c n goes = subst (λ (z : Start). Adds (opening_of z) (view_of p) xs (doing_in w) a (pass_of m'.0))
+pub adds_so : {id : TableId} {k : Start} {p : CountedPass} (fits : IsPassOf id k p) {m' : Sat} {xs : List Action} {a : Use} {w : Work}
+    {c : Change} {n : ℕ} → Goes p.seat.me xs a w c n m' → Adds (opening_of k) (view_of p) xs (doing_in w) a (pass_of m'.0)
+adds_so {id} {k} {p} fits {m'} {xs} {a} {w} goes = subst (λ (z : Start). Adds (opening_of z) (view_of p) xs (doing_in w) a (pass_of m'.0))
     fits.seated.start goes.adds
 
 -- a seat with one pass behind some steps
-module _ (id : TableId) (k : Start) (p q : CountedPass) (fits : IsPassOf id k p) (xs : List Action) (a : Use) (w : Work) (n : ℕ)
+module _ {id : TableId} {k : Start} {p : CountedPass} (q : CountedPass) (fits : IsPassOf id k p) {xs : List Action} {a : Use} {w : Work} {n : ℕ}
     (goes : Goes p.seat.me xs a w Outside n q.seat.me) where
   abbrev old : Log
   old = fits.log
@@ -104,13 +104,13 @@ work_between (Between _) d rests is = ap (λ (z : Doing). Between z) is
 work_between _ d rests is = absurd rests
 
 -- the pass of a seat
-pub its_pass : (id : TableId) (k : Start) (p : CountedPass) (fits : IsPassOf id k p) → HasPass k p.seat.me fits.log
-its_pass id k p fits = (fits.seated.start, fits.seated.one)
+pub its_pass : {id : TableId} {k : Start} {p : CountedPass} (fits : IsPassOf id k p) → HasPass k p.seat.me fits.log
+its_pass fits = (fits.seated.start, fits.seated.one)
 
 -- the pass has the place of a file that is closed
-pub out_place : (k : Start) (m m' : Sat) (xs : List Action) (f : File) (x : Log) → HasPass k m x → m.1 ≡ [] → TakesOut m xs f m'
+pub out_place : {k : Start} {m m' : Sat} {xs : List Action} {f : File} {x : Log} → HasPass k m x → m.1 ≡ [] → TakesOut m xs f m'
     → HasPlace k f.number (Some f.identity) m'
-out_place k m m' xs f x its empty out = let s = out.stepped in record {
+out_place {k} {m} {m'} {xs} {f} its empty out = let s = out.stepped in record {
   log = s.one.0;
   pass = (s.start ∙ its.0, s.one.1);
   known = subst (λ (z : Start). IsInside z (Emptying f.number)) its.0 s.inside;
@@ -129,9 +129,9 @@ pub let_go : {m m' : Sat} {xs : List Action} → m.0.change ≡ Outside → Lets
 let_go {m} {m'} {xs} outside went = subst (λ (c : Change). Goes m xs no_use (Between Idle) c 1 m') outside (goes_one went.stepped)
 
 -- a pass is still at work behind some steps
-pub still_at_work : (k : Start) (m m' : Sat) (x : Log) (xs : List Action) (a : Use) (w : Work) (c : Change) (n : ℕ) → HasPass k m x
+pub still_at_work : {k : Start} {m m' : Sat} {x : Log} {xs : List Action} {a : Use} {w : Work} {c : Change} {n : ℕ} → HasPass k m x
     → Goes m xs a w c n m' → IsAtWork k m'
-still_at_work k m m' x xs a w c n its goes = record {
+still_at_work {k} {m} {m'} its goes = record {
   log = goes.one.0;
   pass = (goes.start ∙ its.0, goes.one.1);
   front = subst (λ (z : Start). IsFront (opening_of z) (pass_of m'.0)) its.0 goes.adds.front;

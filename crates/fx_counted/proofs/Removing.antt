@@ -15,8 +15,7 @@ pub removal_adds : (act : ℕ → Option File → Action) (t : CountedTable) (p 
     → Adds (opening_of_table t) (view_of p) ([] ▷ act slot file) (doing_in (retires_now file takes)) no_use (pass_of m''.0)
 removal_adds act t p fits slot i takes file {m} {m'} {m''} place began stepped ended =
     subst (λ (s : ℕ). Adds (opening_of_table t) (view_of p) ([] ▷ act s file) (doing_in (retires_now file takes)) no_use (pass_of m''.0))
-    (slot_at t slot i place) (adds_so _ t.table.shared.key p fits m'' _ no_use (retires_now file takes) Outside 3
-    (goes_around began stepped ended))
+    (slot_at t slot i place) (adds_so fits (goes_around began stepped ended))
 
 pub cleared_so : (o : Opening) (v : PassView) (slot : ℕ) (file : Option File) (takes : ℕ) (result : Option Retired) (w : PassView)
     → result ≡ option_map (λ f. retired_of f takes) file

@@ -33,8 +33,8 @@ full_then a b = (proceeds_then a.0 b.0, b.1 ∙ a.1)
 -- the pass goes on placing the file
 pub still_placing : {k : Start} {m m' : Sat} {n : ℕ} {file : Closed} {c : Change} → IsPlacing k n file m → StillPlaces n c m m'
     → IsPlacing k n file m'
-still_placing {k} {m} {m'} {n} {file} {c} p s = record {
-  at = still_at_work k m m' p.at.log [] no_use (Placing n) c s.0.0 p.at.pass s.0.1;
+still_placing p s = record {
+  at = still_at_work p.at.pass s.0.1;
   work = s.0.1.work;
   place = s.1 ∙ p.place;
 }

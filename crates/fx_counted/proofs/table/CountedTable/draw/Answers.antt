@@ -13,5 +13,5 @@ fetch_add-given-requires c =
     let more = sym f.knows.no_chains_left ∙ c.if-pass.false in (
       f.table,
       omega arith,
-      draws_keep t.table.shared.key _ p.seat.id _ p.seat.me f.log (its_pass _ _ p f) idle more refl,
+      draws_keep t.table.shared.key _ p.seat.id _ p.seat.me f.log (its_pass f) idle more refl,
     )

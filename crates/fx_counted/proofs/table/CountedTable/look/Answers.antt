@@ -15,5 +15,5 @@ fetch_add-word-requires c =
     let place = c.slot_place.ensures in (
       f.table,
       slot_inside t c.args.slot c.slot_place.result c.requires.slot place,
-      looks_keep t.table.shared.key _ p.seat.id _ c.args.slot p.seat.me f.log (its_pass _ _ p f) idle (omega arith) c.requires.slot place,
+      looks_keep t.table.shared.key _ p.seat.id _ c.args.slot p.seat.me f.log (its_pass f) idle (omega arith) c.requires.slot place,
     )

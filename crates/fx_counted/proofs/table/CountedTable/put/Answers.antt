@@ -1,6 +1,6 @@
 use Rattle.fx_counted.proofs.Words.{◌≡◌, ℕ, [], ◌∷◌, ap, ◌∙◌, subst, arith, Some, Closed, ◌▷◌, numbered, Put, takes_in, slot_word_of, Adds}
 use Rattle.fx_counted.proofs.Words.{one_number, if_full, place_of, slot_of, pass_of, doing_in, view_of, opening_of_table, Stepped, retires_now}
-use Rattle.fx_counted.proofs.Words.{turned, Outside, Start, Placing, Bool, true, false, sym, File, List, Log, None, Option, Retired, first_log}
+use Rattle.fx_counted.proofs.Words.{turned, Start, Placing, Bool, true, false, sym, File, List, Log, None, Option, Retired, first_log}
 use Rattle.fx_counted.proofs.Words.{is_idle, option_map, refl, rest, is_some, retired_of, IsBetweenCalls}
 use Rattle.std.specs.Prelude.{not}
 use Rattle.fx_counted.proofs.Calling.{slot_inside, slot_at}
@@ -14,9 +14,8 @@ pub swap-found-requires : goal.swap-found-requires
 swap-found-requires c =
     let t = c.args.self.now in
     let k = t.table.shared.key in
-    let p = c.args.pass.now in
     let fits = c.requires.fits in
-    let its = its_pass _ _ p fits in
+    let its = its_pass fits in
     let n = c.next_number-number.result in
     let born = c.put_in.ensures in
     let began = c.begin-began.ensures in
@@ -49,16 +48,13 @@ idle_if_none (Some f) takes removed true told is = let bad : false ≡ true = sy
 pub returns : goal.returns
 returns c =
     let t = c.args.self.now in
-    let k = t.table.shared.key in
     let o = opening_of_table t in
     let p = c.args.pass.now in
     let v = view_of p in
     let fits = c.requires.fits in
-    let its = its_pass _ _ p fits in
+    let its = its_pass fits in
     let n = c.next_number-number.result in
     let file = c.args.file in
-    let m = p.seat.me in
-    let m₁ = c.put_in.new.seat.me in
     let m₂ = c.begin-began.new.seat.me in
     let m₃ = c.swap-found.new.seat.me in
     let m₄ = c.end.new.seat.me in
@@ -73,13 +69,13 @@ returns c =
     (turned m₂.0.change (if_full went.replaced) 1) m₃) start went.stepped n file (began.goes.work ∙ born.born.work) carried in
     let around = goes_around began.goes stepped c.end.ensures.goes in
     let goes = goes_then (goes_one born.born) around in
-    let adds = adds_so _ k p fits m₄ _ one_number (retires_now went.replaced takes) Outside 4 goes in
+    let adds = adds_so fits goes in
     let here = slot_at t c.args.slot c.slot_place.result c.slot_place.ensures in
     let left = c.requires.numbers in
     let shown = ap (λ (l : List Log). (first_log l).numbers_left) fits.seated.one in
     let known = fits.knows.numbers_left in
     record {
-      fits = still_pass _ k p _ fits _ one_number (retires_now went.replaced takes) 4 goes
+      fits = still_pass _ fits goes
           (c.end.ensures.table ∙ (c.swap-found.ensures.0 ∙ (began.table ∙ born.table)))
           (c.end.ensures.places ∙ (went.carried ∙ ap rest carried))
           (is_between went.replaced takes) refl refl (omega (arith, left, shown, known)) (omega arith)

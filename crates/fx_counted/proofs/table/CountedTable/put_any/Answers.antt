@@ -1,20 +1,17 @@
-use Rattle.fx_counted.proofs.Words.{ℕ, [], inr, ◌∙◌, subst, arith, Some, Closed, ◌▷◌, numbered, Allocate, Full, Adds, no_use, one_number, HasPlace}
+use Rattle.fx_counted.proofs.Words.{ℕ, [], inr, ◌∙◌, subst, arith, Some, Closed, ◌▷◌, numbered, Allocate, Adds, one_number, HasPlace}
 use Rattle.fx_counted.proofs.Words.{pass_of, HasAllocated, view_of, opening_of_table, Outside, Idle}
 use Rattle.fx_counted.proofs.Words.{Idle}
 use Rattle.fx_counted.proofs.Going.{its_pass, adds_so, goes_one, goes_then}
 use Rattle.fx_counted.proofs.table.CountedTable.put_any.Goals as goal
-use Rattle.fx_counted.proofs.Words.{Between}
 
 pub returns-in-Some-clause-allocated : goal.returns-in-Some-clause-allocated
 returns-in-Some-clause-allocated g c =
     let t = c.args.self.now in
-    let k = t.table.shared.key in
     let p = c.args.pass.now in
     let v = view_of p in
     let fits = c.requires.fits in
     let n = c.next_number-number.result in
     let slot = c.in-Some.slot in
-    let m = p.seat.me in
     let m₁ = c.put_in.new.seat.me in
     let m₂ = c.rounds.new.seat.me in
     let size = t.same_size in
@@ -22,7 +19,7 @@ returns-in-Some-clause-allocated g c =
     let found = subst (λ (f : Closed). HasAllocated n f slot Outside m₁ m₂) c.identity-identity.ensures c.in-Some.ensures.found in
     let born = goes_one c.put_in.ensures.born in
     let placed = goes_then born found.0.1 in
-    let adds = adds_so _ k p fits m₂ _ one_number (Between Idle) Outside _ placed in (
+    let adds = adds_so fits placed in (
       omega arith,
       subst (λ (z : ℕ). Adds (opening_of_table t) v ([] ▷ Allocate slot (numbered z c.args.file)) Idle one_number
           (pass_of m₂.0)) c.next_number-number.ensures.number adds,
@@ -31,14 +28,10 @@ returns-in-Some-clause-allocated g c =
 pub returns-in-None-clause-allocated : goal.returns-in-None-clause-allocated
 returns-in-None-clause-allocated g c =
     let k = c.args.self.now.table.shared.key in
-    let p = c.args.pass.now in
     let fits = c.requires.fits in
-    let its = its_pass _ _ p fits in
+    let its = its_pass fits in
     let n = c.next_number-number.result in
-    let m = p.seat.me in
-    let m₁ = c.put_in.new.seat.me in
     let m₂ = c.rounds.new.seat.me in
-    let m₃ = c.take_out.new.seat.me in
     let born = c.put_in.ensures in
     let full = c.rounds.ensures.full c.in-None.is in
     let place : HasPlace k n (Some c.args.file) m₂ = record {
@@ -52,4 +45,4 @@ returns-in-None-clause-allocated g c =
     let found = goes_then first full.0.1 in
     let home = goes_one c.take_out.ensures.rests in
     let goes = goes_then found home in
-    (c.take_out.ensures.file c.args.file place, adds_so _ k p fits m₃ ([] ▷ Full) no_use (Between Idle) m₂.0.change _ goes)
+    (c.take_out.ensures.file c.args.file place, adds_so fits goes)

@@ -1,10 +1,9 @@
-use Rattle.fx_counted.proofs.Words.{ℕ, [], sym, ap, ◌∙◌, arith, subst, Some, ◌▷◌, Release, Close, no_use, node_place, HasPlace, IsInside, Idle}
+use Rattle.fx_counted.proofs.Words.{ℕ, [], sym, ap, ◌∙◌, arith, subst, Some, ◌▷◌, Release, node_place, HasPlace, IsInside}
 use Rattle.fx_table.specs.declared.values.Hold.{Hold}
 use Rattle.fx_counted.proofs.Calling.{node_inside, node_is_at}
 use Rattle.fx_counted.proofs.Going.{its_pass, work_between, adds_so, out_place, out_and_home}
 use Rattle.fx_counted.proofs.Releases.{releases_keep}
 use Rattle.fx_counted.proofs.table.CountedTable.release.Goals as goal
-use Rattle.fx_counted.proofs.Words.{Between}
 
 pub fetch_sub-found-requires : goal.fetch_sub-found-requires
 fetch_sub-found-requires c =
@@ -18,7 +17,7 @@ fetch_sub-found-requires c =
     let i = c.node_place-place.result in (
       fits.table,
       node_inside t f.number i known is,
-      releases_keep t.table.shared.key _ p.seat.id i f p.seat.me fits.log (its_pass _ _ p fits) work (node_is_at t f.number i is),
+      releases_keep t.table.shared.key _ p.seat.id i f p.seat.me fits.log (its_pass fits) work (node_is_at t f.number i is),
     )
 
 pub returns-clause-released : goal.returns-clause-released
@@ -29,19 +28,17 @@ returns-clause-released c =
     let fits = c.requires.fits in
     let f = c.requires.held.0 in
     let work = work_between p.seat.me.0.work _ fits.seated.work c.requires.held.1 in
-    let m = p.seat.me in
     let m' = c.fetch_sub-found.new.seat.me in
-    let m'' = c.take_out.new.seat.me in
     let xs = [] ▷ Release f in
     let node = ap (λ (h : Hold). h.node) c.requires.held.2 in
     let out = c.fetch_sub-found.ensures.2.closes f work (omega (arith, c.if-found-ne1.false)) in
-    let place = out_place k m m' xs f fits.log (its_pass _ _ p fits) fits.places out in
+    let place = out_place (its_pass fits) fits.places out in
     let goes = out_and_home out c.take_out.ensures.rests in (
       f,
       c.requires.held.1,
       c.requires.held.2,
       (
         c.take_out.ensures.file f.identity (subst (λ (n : ℕ). HasPlace k n (Some f.identity) m') (sym node) place),
-        adds_so _ k p fits m'' (xs ▷ Close f) no_use (Between Idle) m.0.change 2 goes,
+        adds_so fits goes,
       ),
     )

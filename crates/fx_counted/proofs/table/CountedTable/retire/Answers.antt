@@ -1,5 +1,5 @@
 use Rattle.fx_counted.proofs.Words.{ℕ, ◌<◌, ◌≢◌, ◌≡◌, [], refl, sym, ap, ◌∙◌, arith, subst, Some, ◌▷◌, Close, File, no_use, Retired, retire_amount_of}
-use Rattle.fx_counted.proofs.Words.{Goes, node_place, HasPlace, Sat, pass_of, state_after_all, IsInside, LetsGo, TakesOut, Change, Outside, Start}
+use Rattle.fx_counted.proofs.Words.{Goes, node_place, HasPlace, Sat, pass_of, state_after_all, IsInside, LetsGo, TakesOut, Change, Start}
 use Rattle.fx_counted.proofs.Words.{Idle, Retiring}
 use Rattle.fx_counted.proofs.Calling.{node_inside, node_is_at}
 use Rattle.fx_counted.proofs.Going.{its_pass, work_between, adds_so, still_pass, let_go, out_place, out_and_home}
@@ -18,7 +18,7 @@ fetch_sub-found-requires c =
     let is = c.node_place-place.ensures ∙ ap (λ (r : Retired). node_place t.size r.node) value in (
       fits.table,
       node_inside t f.number c.node_place-place.result (subst (IsInside t.table.shared.key) work fits.seated.inside) is,
-      retires_keep t.table.shared.key _ p.seat.id _ c.retire_amount-amount.result takes f p.seat.me fits.log (its_pass _ _ p fits) work
+      retires_keep t.table.shared.key _ p.seat.id _ c.retire_amount-amount.result takes f p.seat.me fits.log (its_pass fits) work
           (node_is_at t f.number c.node_place-place.result is)
           (c.retire_amount-amount.ensures ∙ ap (λ (r : Retired). retire_amount_of r.takes) value),
     )
@@ -49,13 +49,13 @@ module _ (c : After-fetch_sub-found) where
 
   place : c.fetch_sub-found.result ≡ c.retire_amount-amount.result → HasPlace k c.args.retired.node (Some file.identity) m'
   place is = subst (λ (n : ℕ). HasPlace k n (Some file.identity) m') (sym (ap (λ (r : Retired). r.node) c.requires.removed.3))
-      (out_place k m m' [] file c.requires.fits.log (its_pass _ _ c.args.pass.now c.requires.fits) c.requires.fits.places (closes is))
+      (out_place (its_pass c.requires.fits) c.requires.fits.places (closes is))
 
 pub returns-then-found-amount-clause-fits : goal.returns-then-found-amount-clause-fits
 returns-then-found-amount-clause-fits c =
     let a = (goal.at.returns-then-found-amount-clause-fits c).After-fetch_sub-found in
     let went = waits a c.if-found-amount.true in
-    still_pass _ _ c.args.pass.now _ c.requires.fits [] no_use (Between Idle) 1 (let_go c.requires.fits.seated.change went.0)
+    still_pass _ c.requires.fits (let_go c.requires.fits.seated.change went.0)
     c.fetch_sub-found.ensures.0 (went.0.carried ∙ c.requires.fits.places) tt refl refl (omega arith) (omega arith) refl
 
 pub returns-then-found-amount-clause-retired : goal.returns-then-found-amount-clause-retired
@@ -69,7 +69,7 @@ returns-then-found-amount-clause-retired c =
       c.requires.removed.3,
       (
         subst (λ (z : Start). 0 < (state_after_all z (pass_of (m' a).0).front).holds (file a).number) fits.seated.start went.1,
-        adds_so _ _ c.args.pass.now fits (m' a) [] no_use (Between Idle) Outside 1 (let_go fits.seated.change went.0),
+        adds_so fits (let_go fits.seated.change went.0),
       ),
     )
 
@@ -94,8 +94,7 @@ returns-clause-retired c =
       c.requires.removed.3,
       (
         c.take_out.ensures.file (file a).identity (place a is),
-        adds_so _ _ c.args.pass.now c.requires.fits m'' ([] ▷ Close (file a)) no_use (Between Idle) (m a).0.change 2
-            (out_and_home (closes a is) c.take_out.ensures.rests),
+        adds_so c.requires.fits (out_and_home (closes a is) c.take_out.ensures.rests),
       ),
     )
 
@@ -106,7 +105,7 @@ returns-clause-fits c =
     let m'' = c.take_out.new.seat.me in
     let goes = subst (λ (z : Change). Goes (m a) ([] ▷ Close (file a)) no_use (Between Idle) z 2 m'') c.requires.fits.seated.change
     (out_and_home out c.take_out.ensures.rests) in
-    still_pass _ _ c.args.pass.now _ c.requires.fits ([] ▷ Close (file a)) no_use (Between Idle) 2 goes
+    still_pass _ c.requires.fits goes
     (c.take_out.ensures.table ∙ c.fetch_sub-found.ensures.0) c.take_out.ensures.empty tt refl refl (omega arith) (omega arith) refl
 
 pub returns-clause-steps : goal.returns-clause-steps

@@ -24,7 +24,6 @@ still_searching c = let began = c.fetch_add.ensures.2 in
 
 pub returns-in-Some-clause-ends : goal.returns-in-Some-clause-ends
 returns-in-Some-clause-ends c =
-    let size = c.args.self.now.same_size in
     let found = c.in-Some.ensures in
     let below = found.slot in
     let began = c.fetch_add.ensures.2 in

@@ -17,7 +17,7 @@ swap-found-requires c =
     let place = c.slot_place.ensures in (
       began.table ∙ fits.table,
       slot_inside c.args.self.now c.args.slot c.slot_place.result c.requires.slot place,
-      takes_keep k _ seat.id _ c.args.slot seat.me goes.one.0 (goes.start ∙ (its_pass _ _ p fits).0, goes.one.1)
+      takes_keep k _ seat.id _ c.args.slot seat.me goes.one.0 (goes.start ∙ (its_pass fits).0, goes.one.1)
           (goes.work ∙ work_between p.seat.me.0.work _ fits.seated.work c.requires.idle) c.requires.slot
           (may_change k c.args.slot c.begin-began.result seat.me.0.change began.range goes.change) place,
     )
