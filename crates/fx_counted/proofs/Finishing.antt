@@ -21,27 +21,27 @@ word_at_place (x ∷ ws) zero w e = some-injective x w e
 word_at_place (x ∷ ws) (suc i) w e = word_at_place ws i w e
 
 -- one slot's file comes back, or there is none
-module _ (size : ℕ) (words : List ℕ) (numbers : ℕ) (xs : List (Option Closed)) (home : AreAtHome size words numbers xs) (shell : State)
-    (slot : ℕ) (inside : slot < size) (now : List (Option Closed)) (are : now ≡ emptied size words slot xs) (st : State)
+module _ {size : ℕ} {words : List ℕ} {numbers : ℕ} {xs : List (Option Closed)} (home : AreAtHome size words numbers xs) {shell : State}
+    {slot : ℕ} (inside : slot < size) {now : List (Option Closed)} (are : now ≡ emptied size words slot xs) {st : State}
     (part : IsPartlyBack shell (file_at size words xs) slot size st) where
-  file_is : (n place : ℕ) (x : Option Closed) → number_at size words slot ≡ Some n → place ≡ home_place size n → get_elem? now place ≡ some x
+  file_is : {n place : ℕ} {x : Option Closed} → number_at size words slot ≡ Some n → place ≡ home_place size n → get_elem? now place ≡ some x
       → file_at size words xs slot ≡ x
-  file_is n place x named is there = here_at size words xs slot inside ∙ (ap (file_of size words xs) named
+  file_is {n} {place} {x} named is there = here_at size words xs slot inside ∙ (ap (file_of size words xs) named
       ∙ at_place xs (home_place size n) x (sym (untouched size words numbers xs home slot slot n (omega arith) inside named)
       ∙ (ap (λ (l : List (Option Closed)). get_elem? l (home_place size n)) (sym are) ∙ (ap (get_elem? now) (sym is) ∙ there))))
 
-  pub some_back : (n place : ℕ) (one : Closed) (st' : State) → number_at size words slot ≡ Some n → place ≡ home_place size n
+  pub some_back : {n place : ℕ} {one : Closed} {st' : State} → number_at size words slot ≡ Some n → place ≡ home_place size n
       → get_elem? now place ≡ some (Some one) → Becomes st slot (Some one) st' → IsPartlyBack shell (file_at size words xs) (slot + 1) size st'
-  some_back n place one st' named is there gets = first_back shell (file_at size words xs) st st' slot size
-      (subst (λ (x : Option Closed). Becomes st slot x st') (sym (file_is n place (Some one) named is there)) gets) part
+  some_back {n} {place} {one} {st'} named is there gets = first_back shell (file_at size words xs) st st' slot size
+      (subst (λ (x : Option Closed). Becomes st slot x st') (sym (file_is named is there)) gets) part
 
   not_back : file_at size words xs slot ≡ None → IsPartlyBack shell (file_at size words xs) (slot + 1) size st
   not_back none = first_back shell (file_at size words xs) st st slot size
       (none_given shell (file_at size words xs) st slot slot size (omega arith) inside none part) part
 
-  pub none_back : (n place : ℕ) → number_at size words slot ≡ Some n → place ≡ home_place size n
+  pub none_back : {n place : ℕ} → number_at size words slot ≡ Some n → place ≡ home_place size n
       → get_elem? now place ≡ some None → IsPartlyBack shell (file_at size words xs) (slot + 1) size st
-  none_back n place named is there = not_back (file_is n place None named is there)
+  none_back named is there = not_back (file_is named is there)
 
   pub none_named : number_at size words slot ≡ None → IsPartlyBack shell (file_at size words xs) (slot + 1) size st
   none_named named = not_back (here_at size words xs slot inside ∙ ap (file_of size words xs) named)
@@ -49,9 +49,9 @@ module _ (size : ℕ) (words : List ℕ) (numbers : ℕ) (xs : List (Option Clos
   next : suc slot ≡ slot + 1
   next = omega arith
 
-  pub place_emptied : (n place : ℕ) (new : List (Option Closed)) → number_at size words slot ≡ Some n → place ≡ home_place size n
+  pub place_emptied : {n place : ℕ} {new : List (Option Closed)} → number_at size words slot ≡ Some n → place ≡ home_place size n
       → new ≡ set now place None → new ≡ emptied size words (slot + 1) xs
-  place_emptied n place new named is written = written ∙ ((λ i. set (are i) (is i) None)
+  place_emptied named is written = written ∙ ((λ i. set (are i) (is i) None)
       ∙ (ap (λ (m : Option ℕ). without size words m (emptied size words slot xs)) (sym named) ∙ ap (λ (m : ℕ). emptied size words m xs) next))
 
   pub none_emptied : number_at size words slot ≡ None → now ≡ emptied size words (slot + 1) xs
@@ -134,7 +134,7 @@ module _ (k : Start) (s : Shared) (r : Agrees k s) (all_idle : (i : ℕ) (u : Vi
   }
 
 -- the end of a table whose passes are all idle
-module _ (t : CountedTable) (id : ℕ) (v : View) (words : List ℕ) (xs : List (Option Closed))
+module _ (t : CountedTable) {id : ℕ} {v : View} {words : List ℕ} (xs : List (Option Closed))
     (final : Final (Seen (Agrees t.table.shared.key) id v) words xs) (idle : AllAreIdle t.table.shared.key id v) where
   abbrev k : Start
   k = t.table.shared.key

@@ -8,9 +8,9 @@ use Rattle.fx_counted.proofs.table.CountedTable.finish.Goals.{in-Some+in-Some-ta
 use Rattle.fx_counted.proofs.table.CountedTable.finish.Goals as goal
 
 -- what a slot's word names
-named_by : (size : ℕ) (ws now : List ℕ) (slot place word : ℕ) (n : Option ℕ) → now ≡ ws → place ≡ slot_place slot → get_elem? now place ≡ some word
+named_by : (size slot : ℕ) {ws now : List ℕ} {place word : ℕ} (n : Option ℕ) → now ≡ ws → place ≡ slot_place slot → get_elem? now place ≡ some word
     → n ≡ node_in word → number_at size ws slot ≡ n
-named_by size ws now slot place word n same is there named =
+named_by size slot {ws} {now} {place} {word} n same is there named =
     ap node_in (word_at_place ws (slot_place slot) word (ap (get_elem? ws) (sym is) ∙ (ap (λ (l : List ℕ). get_elem? l place) (sym same) ∙ there)))
     ∙ sym named
 
@@ -19,8 +19,8 @@ home_place-requires-clause-number c =
     let t = c.args.self in
     let e = c.close_with-closed.ensures.values.2 in
     let i = c.loop-slot.invariant in
-    known_at_end t c.args.seat.id c.args.seat.me.0 _ _ e c.requires.idle c.loop-slot.slot c.in-Some.number c.loop-slot-test.true
-    (named_by t.size _ _ c.loop-slot.slot c.slot_place.result c.word.result (Some c.in-Some.number) (ap slots_items i.words)
+    known_at_end t _ e c.requires.idle c.loop-slot.slot c.in-Some.number c.loop-slot-test.true
+    (named_by t.size c.loop-slot.slot (Some c.in-Some.number) (ap slots_items i.words)
     c.slot_place.ensures c.word.ensures c.in-Some.ensures)
 
 pub take_home-requires-clause-inside : goal.take_home-requires-clause-inside
@@ -31,8 +31,8 @@ take_home-requires-clause-inside c =
     let count = i.count in
     let ok = c.close_with-closed.result.slots.ok.0 in
     let is = c.home_place.ensures in
-    let l = (home_at_end t c.args.seat.id c.args.seat.me.0 _ _ e c.requires.idle).inside c.loop-slot.slot c.in-Some.number c.loop-slot-test.true
-    (named_by t.size _ _ c.loop-slot.slot c.slot_place.result c.word.result (Some c.in-Some.number) (ap slots_items i.words)
+    let l = (home_at_end t _ e c.requires.idle).inside c.loop-slot.slot c.in-Some.number c.loop-slot-test.true
+    (named_by t.size c.loop-slot.slot (Some c.in-Some.number) (ap slots_items i.words)
     c.slot_place.ensures c.word.ensures c.in-Some.ensures) in
     omega (arith, count, ok, is, l)
 
@@ -46,41 +46,35 @@ loop-slot-preserved c =
     let xs : List (Option Closed) = slots_items c.close_with-closed.result.slots in
     let now : List (Option Closed) = slots_items c.loop-slot.closed.slots in
     let st = state_of c.loop-slot.shell in
-    let home = home_at_end t c.args.seat.id c.args.seat.me.0 ws xs e c.requires.idle in
+    let home = home_at_end t xs e c.requires.idle in
     let named : (n : Option ℕ) → n ≡ node_in c.word.result → number_at t.size ws slot ≡ n =
-    λ n is. named_by t.size ws _ slot c.slot_place.result c.word.result n (ap slots_items i.words) c.slot_place.ensures c.word.ensures is in
+    λ n is. named_by t.size c.loop-slot.slot n (ap slots_items i.words) c.slot_place.ensures c.word.ensures is in
     elim c.match-node_of.branch [
       | in-Some+in-Some-take_home w ↦ let took = w.take_home.ensures in let n = w.in-Some.number in let is = w.closed-is in record {
         part = subst (λ (p : Contents). IsPartlyBack (state_of t.shell) (file_at t.size ws xs) (slot + 1) t.size (state_of p)) (sym w.shell-is)
-            (some_back t.size ws (t.numbers * t.chains) xs home (state_of t.shell) slot c.loop-slot-test.true now i.items st i.part n w.home_place.result
-            w.in-Some-take_home.file (state_of w.put_back.new.self) (named (Some n) w.in-Some.ensures) w.home_place.ensures
+            (some_back home c.loop-slot-test.true i.items i.part (named (Some n) w.in-Some.ensures) w.home_place.ensures
             (took.value ∙ ap some w.in-Some-take_home.is)
             (file_put _ _ slot w.in-Some-take_home.file i.part.settled w.put_back.ensures.state));
         prepared = subst IsPrepared (sym w.shell-is) w.put_back.ensures.prepared;
-        items = ap (λ x. slots_items x.slots) is ∙ place_emptied t.size ws (t.numbers * t.chains) xs home (state_of t.shell) slot c.loop-slot-test.true now
-            i.items st i.part n w.home_place.result _ (named (Some n) w.in-Some.ensures) w.home_place.ensures took.items;
+        items = ap (λ x. slots_items x.slots) is ∙ place_emptied home c.loop-slot-test.true i.items i.part (named (Some n) w.in-Some.ensures) w.home_place.ensures took.items;
         count = ap (λ x. slots_len x.slots) is ∙ (took.count ∙ i.count);
         full = subst (λ x. IsFull x.slots) (sym is) took.full;
         words = ap (λ x. x.words) is ∙ (took.words ∙ i.words);
       }
       | in-Some+in_default-take_home w ↦ let took = w.take_home.ensures in let n = w.in-Some.number in let is = w.closed-is in record {
         part = subst (λ (p : Contents). IsPartlyBack (state_of t.shell) (file_at t.size ws xs) (slot + 1) t.size (state_of p)) (sym w.shell-is)
-            (none_back t.size ws (t.numbers * t.chains) xs home (state_of t.shell) slot c.loop-slot-test.true now i.items st i.part n w.home_place.result
-            (named (Some n) w.in-Some.ensures) w.home_place.ensures (took.value ∙ ap some w.in_default-take_home.is));
+            (none_back home c.loop-slot-test.true i.items i.part (named (Some n) w.in-Some.ensures) w.home_place.ensures (took.value ∙ ap some w.in_default-take_home.is));
         prepared = subst IsPrepared (sym w.shell-is) i.prepared;
-        items = ap (λ x. slots_items x.slots) is ∙ place_emptied t.size ws (t.numbers * t.chains) xs home (state_of t.shell) slot c.loop-slot-test.true now
-            i.items st i.part n w.home_place.result _ (named (Some n) w.in-Some.ensures) w.home_place.ensures took.items;
+        items = ap (λ x. slots_items x.slots) is ∙ place_emptied home c.loop-slot-test.true i.items i.part (named (Some n) w.in-Some.ensures) w.home_place.ensures took.items;
         count = ap (λ x. slots_len x.slots) is ∙ (took.count ∙ i.count);
         full = subst (λ x. IsFull x.slots) (sym is) took.full;
         words = ap (λ x. x.words) is ∙ (took.words ∙ i.words);
       }
       | in_default w ↦ let is = w.closed-is in record {
         part = subst (λ (p : Contents). IsPartlyBack (state_of t.shell) (file_at t.size ws xs) (slot + 1) t.size (state_of p)) (sym w.shell-is)
-            (none_named t.size ws (t.numbers * t.chains) xs home (state_of t.shell) slot c.loop-slot-test.true now i.items st i.part
-            (named None w.in_default.ensures));
+            (none_named home c.loop-slot-test.true i.items i.part (named None w.in_default.ensures));
         prepared = subst IsPrepared (sym w.shell-is) i.prepared;
-        items = ap (λ x. slots_items x.slots) is ∙ none_emptied t.size ws (t.numbers * t.chains) xs home (state_of t.shell) slot c.loop-slot-test.true now
-            i.items st i.part (named None w.in_default.ensures);
+        items = ap (λ x. slots_items x.slots) is ∙ none_emptied home c.loop-slot-test.true i.items i.part (named None w.in_default.ensures);
         count = ap (λ x. slots_len x.slots) is ∙ i.count;
         full = subst (λ x. IsFull x.slots) (sym is) i.full;
         words = ap (λ x. x.words) is ∙ i.words;
@@ -94,7 +88,7 @@ unreachable-requires c =
     let i = c.loop-slot.invariant in
     let ws : List ℕ = slots_items c.close_with-closed.result.words in
     let xs : List (Option Closed) = slots_items c.close_with-closed.result.slots in
-    let home = home_at_end t c.args.seat.id c.args.seat.me.0 ws xs e c.requires.idle in
+    let home = home_at_end t xs e c.requires.idle in
     let past = c.loop-slot-test.false in
     let end = c.loop-slot.auto.slot-end in
     let whole : c.loop-slot.slot ≡ t.size = omega (arith, past, end) in
@@ -113,5 +107,5 @@ returns c =
     let t = c.args.self in
     let e = c.close_with-closed.ensures.values.2 in
     let i = c.loop-slot.invariant in
-    leaves_at_end t c.args.seat.id c.args.seat.me.0 _ _ e c.requires.idle c.loop-slot.shell
+    leaves_at_end t _ e c.requires.idle c.loop-slot.shell
     (all_back (state_of t.shell) _ (state_of c.loop-slot.shell) c.loop-slot.slot t.size c.loop-slot-test.false i.part)
