@@ -3,8 +3,8 @@ use Rattle.fx_counted.proofs.Words.{◌≡◌, ◌≢◌, ℕ, suc, ◌+◌, ◌
 use Rattle.fx_counted.proofs.Words.{inl, inr, ⊎_elim, Option, Some, None, Contains, sum_by, dite, some, some-injective, ℕ_discrete, dec_le, get_elem?}
 use Rattle.fx_counted.proofs.Words.{sum_by-cons, Closed, Contents, state_of, file_at, IsSeenBy, part_of_pass, State, IsSettled, file_numbered, after}
 use Rattle.fx_counted.proofs.Words.{numbered, File, Event, Action, Look, Put, Clear, Take, Allocate, ClosesTable, times_drawn, HasSameFiles, start_of}
-use Rattle.fx_counted.proofs.Words.{PassView, contains_none, contains_head, contains_tail, contains_cases, contains_map, contains_mapped, sum_two}
-use Rattle.fx_counted.proofs.Words.{sum_map, Does, LogAgrees, NodeAgrees, OwnerAgrees, lengths, Agrees, looks, word_of, place_of, slot_place, Shared}
+use Rattle.fx_counted.proofs.Words.{PassView, contains_none, contains_head, contains_tail, contains_cases, sum_two}
+use Rattle.fx_counted.proofs.Words.{Does, LogAgrees, NodeAgrees, OwnerAgrees, lengths, Agrees, looks, word_of, place_of, slot_place, Shared}
 use Rattle.fx_counted.proofs.Words.{opening_of, slots_of, chain_numbers, IsNumber, state_after_all, shown, held_of, logs_of, drawn_of, told_of, once}
 use Rattle.fx_counted.proofs.Words.{holding, Phase, placed, seated, leaving, retired, emptied, Log, Start, View, Work, Idle, Placing}
 use Rattle.fx_counted.proofs.Words.{Retiring, Emptying, AllowsAll, action_of, sum_only, sum_of, sum_zero}
@@ -91,10 +91,6 @@ outside : (k : Start) (h : List Event) → AllowsAll (start_of (opening_of k)) (
 outside k [] may slot l = ap (λ (o : Option ℕ). file_numbered (file_at k.plain.value.nodes o) slot) (get_or-eq_default k.plain.value.slots None l)
 outside k (e ∷ h) may slot l = let size = (same_shape k h).0 in
     outside_step (state_after_all k h) e.action slot (omega arith) may.1 (outside k h may.0 slot l)
-
--- what each pass shows
-abbrev pub showing : Log → PassView
-showing x = shown x (Between Idle)
 
 -- no pass does anything
 module _ (k : Start) (s : Shared) (r : Agrees k s) (all_idle : (i : ℕ) (u : View) → get_elem? s.views i ≡ some u → u.work ≡ Between Idle) where
@@ -206,12 +202,12 @@ module _ (k : Start) (s : Shared) (r : Agrees k s) (seat : ℕ) (v : View) (at :
   told : sum_by (λ (x : Log). one_if x.no_chains_left) v.logs ≡ sum_by told_of s.views
   told = sym (only_here told_of (λ u e. ap (λ (l : List Log). sum_by (λ x. one_if x.no_chains_left) l) e))
 
-  author : (e : Event) → Contains r.history e → (w : PassView) × Contains (map showing v.logs) w × (e.pass ≡ w.number)
+  author : (e : Event) → Contains r.history e → (x : Log) × Contains v.logs x × (e.pass ≡ x.number)
   author e has =
       let known : once k.passes e.pass ≢ 0 = λ none. in_part r.history e has (r.authors e.pass none) in
       let n = numbers e.pass in
       let x = found_by (λ (z : Log). z.number) e.pass v.logs (omega (arith, known, n)) in
-      (showing x.0, contains_mapped showing v.logs x.0 x.1, sym x.2)
+      (x.0, x.1, sym x.2)
 
   given_some : (c : ℕ) (x : Log) → Contains v.logs x → Contains x.drawn c → 0 < once r.draws.given c
   given_some c x has d =
@@ -221,36 +217,40 @@ module _ (k : Start) (s : Shared) (r : Agrees k s) (seat : ℕ) (v : View) (at :
       let f = drawn c in
       omega arith
 
+  -- what each pass shows is what its log shows, its doing aside
   module _ (left : Contents) (files : HasSameFiles (state_after_all k r.history) (state_of left)) (at_rest : IsSettled (state_of left))
-      (some_passes : 0 < k.passes) where
-    all_drawn : ((w : PassView) → Contains (map showing v.logs) w → w.no_chains_left ≡ true) → (c : ℕ) → 0 < c → c ≤ k.chains
-        → (w : PassView) × Contains (map showing v.logs) w × Contains w.drawn c
+      (some_passes : 0 < k.passes) (ws : List PassView)
+      (log_of : (w : PassView) → Contains ws w → (x : Log) × (d : Work) × Contains v.logs x × (w ≡ shown x d))
+      (shown_by : (x : Log) → Contains v.logs x → (d : Work) × Contains ws (shown x d))
+      (draws : (c : ℕ) → sum_by (times_drawn c) ws ≡ sum_by (λ (x : Log). times c x.drawn) v.logs) where
+    all_drawn : ((w : PassView) → Contains ws w → w.no_chains_left ≡ true) → (c : ℕ) → 0 < c → c ≤ k.chains
+        → (w : PassView) × Contains ws w × Contains w.drawn c
     all_drawn each c low high =
         let x = first_in v.logs (omega arith) in
-        let is = each (showing x.0) (contains_mapped showing v.logs x.0 x.1) in
+        let w = shown_by x.0 x.1 in
         let a = sum_of (λ (z : Log). one_if z.no_chains_left) v.logs x.0 x.1 in
-        let b : one_if x.0.no_chains_left ≡ 1 = ap one_if is in
+        let b : one_if x.0.no_chains_left ≡ 1 = ap one_if (each (shown x.0 w.0) w.1) in
         let t = told in
         let given = r.draws.all (omega arith) in
         let d = drawn c in
         let y = drawer v.logs c (omega (arith, once_is r.draws.given c)) in
-        (showing y.0, contains_mapped showing v.logs y.0 y.1, y.2)
+        let z = shown_by y.0 y.1 in
+        (shown y.0 z.0, z.1, y.2)
 
-    pub closes_logs : ClosesTable (opening_of k) (map showing v.logs) left
+    pub closes_logs : ClosesTable (opening_of k) ws left
     closes_logs = record {
       history = r.history;
       legal = r.legal;
       settled = settled_end k s r idle_each;
-      seen = λ w has. let x = contains_map showing v.logs w has in
-          subst (λ (z : PassView). IsSeenBy z.front r.history) (sym x.2) (log_at x.0 x.1).seen;
-      own = λ w has. let x = contains_map showing v.logs w has in
-          subst (λ (z : PassView). part_of_pass z.number r.history ≡ z.own) (sym x.2) (log_at x.0 x.1).own;
-      authors = author;
+      seen = λ w has. let x = log_of w has in subst (λ (z : PassView). IsSeenBy z.front r.history) (sym x.3) (log_at x.0 x.2).seen;
+      own = λ w has. let x = log_of w has in
+          subst (λ (z : PassView). part_of_pass z.number r.history ≡ z.own) (sym x.3) (log_at x.0 x.2).own;
+      authors = λ e has. let x = author e has in let w = shown_by x.0 x.1 in (shown x.0 w.0, w.1, x.2);
       files = files;
       left_settled = at_rest;
-      chains_inside = λ w has c d. let x = contains_map showing v.logs w has in
-          let g = given_some c x.0 x.1 (subst (λ (z : PassView). Contains z.drawn c) x.2 d) in
+      chains_inside = λ w has c d. let x = log_of w has in
+          let g = given_some c x.0 x.2 (subst (λ (z : PassView). Contains z.drawn c) x.3 d) in
           let few = r.draws.few in let o = once_is r.draws.given c in (omega (arith, o), omega (arith, o));
-      drawn_once = λ c. let m = sum_map (times_drawn c) showing v.logs in let d = drawn c in omega (arith, once_is r.draws.given c);
+      drawn_once = λ c. let m = draws c in let d = drawn c in omega (arith, once_is r.draws.given c);
       all_drawn = all_drawn;
     }

@@ -1,11 +1,12 @@
 -- All passes in one seat: what the one history says of each of them.
-use Rattle.fx_counted.proofs.Words.{◌≡◌, ℕ, ◌<◌, ◌≤◌, List, [], ◌∷◌, map, length, reverse, sym, refl, ap, ◌∙◌, subst, arith, ⊎_elim, length-append}
+use Rattle.fx_counted.proofs.Words.{◌≡◌, ℕ, ◌<◌, List, [], ◌∷◌, map, length, reverse, sym, refl, ap, ◌∙◌, subst, arith, ⊎_elim, length-append}
 use Rattle.fx_counted.proofs.Words.{Contains, sum_by, some, get_elem?, Contains-append_left, sum_by-append, sum_by-cons, TableId, Contents, state_of}
-use Rattle.fx_counted.proofs.Words.{IsSeenBy, part_of_pass, IsSettled, ClosesTable, times_drawn, HasSameFiles, PassView, contains_none, contains_head}
+use Rattle.fx_counted.proofs.Words.{IsSettled, ClosesTable, times_drawn, HasSameFiles, PassView, contains_none, contains_head}
 use Rattle.fx_counted.proofs.Words.{contains_tail, contains_cases, contains_map, contains_mapped, sum_map, Agrees, logs_in, Shared, opening_of}
 use Rattle.fx_counted.proofs.Words.{state_after_all, first_log, view_of, IsPassOf, CountedPass, Log, Start, View, Outside, Idle, length-reverse}
 use Rattle.fx_counted.proofs.Words.{Contains-append_right, Contains-append_cases, contains_only, contains_reverse, contains_reversed, sum_reverse}
-use Rattle.fx_counted.proofs.Ending.{showing, closes_logs, idle_each}
+use Rattle.fx_counted.proofs.Ending.{closes_logs, idle_each}
+use Rattle.fx_counted.proofs.Words.{Work, shown}
 use Rattle.fx_counted.proofs.Ones.{times}
 use Rattle.fx_counted.proofs.Words.{Between}
 
@@ -74,53 +75,32 @@ module _ (id : TableId) (k : Start) where
     all_idle = idle_each k s r seat v at idle all_logs
 
     -- what a pass shows is what its log shows, its doing aside
-    shown_in : (p : CountedPass) → Contains ps p → Contains (map showing v.logs) (showing (log_of p))
-    shown_in p h = contains_mapped showing v.logs (log_of p)
-        (subst (λ (l : List Log). Contains l (log_of p)) (sym logs_are) (log_in (reverse ps) p each_back (contains_reversed ps p h)))
+    view_from : (w : PassView) → Contains (map view_of ps) w → (x : Log) × (d : Work) × Contains v.logs x × (w ≡ shown x d)
+    view_from w h = let p = contains_map view_of ps w h in (
+      log_of p.0,
+      p.0.seat.me.0.work,
+      subst (λ (l : List Log). Contains l (log_of p.0)) (sym logs_are) (log_in (reverse ps) p.0 each_back (contains_reversed ps p.0 p.1)),
+      p.2,
+    )
 
-    view_from : (w : PassView) → Contains (map view_of ps) w → (p : CountedPass) × Contains ps p × (w ≡ view_of p)
-    view_from w h = contains_map view_of ps w h
+    shown_from : (x : Log) → Contains v.logs x → (d : Work) × Contains (map view_of ps) (shown x d)
+    shown_from x h =
+        let p = log_from (reverse ps) x each_back (subst (λ (l : List Log). Contains l x) logs_are h) in
+        let work = p.0.seat.me.0.work in (
+          work,
+          subst (λ (z : Log). Contains (map view_of ps) (shown z work)) (sym p.2)
+              (contains_mapped view_of ps p.0 (contains_reverse ps p.0 p.1)),
+        )
 
-    pass_from : (w : PassView) → Contains (map showing v.logs) w → (p : CountedPass) × Contains ps p × (w ≡ showing (log_of p))
-    pass_from w h =
-        let x = contains_map showing v.logs w h in
-        let p = log_from (reverse ps) x.0 each_back (subst (λ (l : List Log). Contains l x.0) logs_are x.1) in
-        (p.0, contains_reverse ps p.0 p.1, x.2 ∙ ap showing p.2)
+    draws : (chain : ℕ) → sum_by (times_drawn chain) (map view_of ps) ≡ sum_by (λ (x : Log). times chain x.drawn) v.logs
+    draws chain =
+        let a = sum_map (times_drawn chain) view_of ps in
+        let b = sum_logs (λ x. times chain x.drawn) (reverse ps) each_back in
+        let c = ap (sum_by (λ (x : Log). times chain x.drawn)) logs_are in
+        let d = sum_reverse (λ (p : CountedPass). times chain (log_of p).drawn) ps in
+        omega arith
 
-    module _ (some_passes : 0 < k.passes) (left : Contents) (files : HasSameFiles (state_after_all k r.history) (state_of left))
-        (at_rest : IsSettled (state_of left)) where
-      c : ClosesTable (opening_of k) (map showing v.logs) left
-      c = closes_logs k s r seat v at idle all_logs left files at_rest some_passes
-
-      drawn_once : (chain : ℕ) → sum_by (times_drawn chain) (map view_of ps) ≤ 1
-      drawn_once chain =
-          let a = c.drawn_once chain in
-          let b = sum_map (times_drawn chain) showing v.logs in
-          let d = sum_map (times_drawn chain) view_of ps in
-          let e = sum_logs (λ x. times chain x.drawn) (reverse ps) each_back in
-          let f = ap (sum_by (λ (x : Log). times chain x.drawn)) logs_are in
-          let g = sum_reverse (λ (p : CountedPass). times chain (log_of p).drawn) ps in
-          omega arith
-
-      pub closes : ClosesTable (opening_of k) (map view_of ps) left
-      closes = record {
-        history = c.history;
-        legal = c.legal;
-        settled = c.settled;
-        seen = λ w h. let p = view_from w h in
-            subst (λ (z : PassView). IsSeenBy z.front c.history) (sym p.2) (c.seen _ (shown_in p.0 p.1));
-        own = λ w h. let p = view_from w h in
-            subst (λ (z : PassView). part_of_pass z.number c.history ≡ z.own) (sym p.2) (c.own _ (shown_in p.0 p.1));
-        authors = λ e h. let a = c.authors e h in let p = pass_from a.0 a.1 in
-            (view_of p.0, contains_mapped view_of ps p.0 p.1, a.2 ∙ ap (λ (z : PassView). z.number) p.2);
-        files = c.files;
-        left_settled = c.left_settled;
-        chains_inside = λ w h chain d. let p = view_from w h in
-            c.chains_inside _ (shown_in p.0 p.1) chain (subst (λ (z : PassView). Contains z.drawn chain) p.2 d);
-        drawn_once = drawn_once;
-        all_drawn = λ told chain low high.
-            let a = c.all_drawn (λ w h. let p = pass_from w h in
-            ap (λ (z : PassView). z.no_chains_left) p.2 ∙ told (view_of p.0) (contains_mapped view_of ps p.0 p.1)) chain low high in
-            let p = pass_from a.0 a.1 in
-            (view_of p.0, contains_mapped view_of ps p.0 p.1, subst (λ (z : PassView). Contains z.drawn chain) p.2 a.2);
-      }
+    pub closes : 0 < k.passes → (left : Contents) → HasSameFiles (state_after_all k r.history) (state_of left) → IsSettled (state_of left)
+        → ClosesTable (opening_of k) (map view_of ps) left
+    closes some_passes left files at_rest =
+        closes_logs k s r seat v at idle all_logs left files at_rest some_passes (map view_of ps) view_from shown_from draws
