@@ -51,65 +51,36 @@ module _ (c : After-fetch_sub-found) where
   place is = subst (λ (n : ℕ). HasPlace k n (Some file.identity) m') (sym (ap (λ (r : Retired). r.node) c.requires.removed.3))
       (out_place (its_pass c.requires.fits) c.requires.fits.places (closes is))
 
-pub returns-then-found-amount-clause-fits : goal.returns-then-found-amount-clause-fits
-returns-then-found-amount-clause-fits c =
-    let a = (goal.at.returns-then-found-amount-clause-fits c).After-fetch_sub-found in
+pub returns-then-found-amount : goal.returns-then-found-amount
+returns-then-found-amount c =
+    let a = (goal.at.returns-then-found-amount c).After-fetch_sub-found in
+    let fits = c.requires.fits in
+    let (f, takes, doing, value) = c.requires.removed in
     let went = waits a c.if-found-amount.true in
-    still_pass _ c.requires.fits (let_go c.requires.fits.seated.change went.0)
-    c.fetch_sub-found.ensures.0 (went.0.carried ∙ c.requires.fits.places) tt refl refl (omega arith) (omega arith) refl
-
-pub returns-then-found-amount-clause-retired : goal.returns-then-found-amount-clause-retired
-returns-then-found-amount-clause-retired c =
-    let a = (goal.at.returns-then-found-amount-clause-retired c).After-fetch_sub-found in
-    let went = waits a c.if-found-amount.true in
-    let fits = c.requires.fits in (
-      file a,
-      c.requires.removed.1,
-      c.requires.removed.2,
-      c.requires.removed.3,
-      (
-        subst (λ (z : Start). 0 < (state_after_all z (pass_of (m' a).0).front).holds (file a).number) fits.seated.start went.1,
-        adds_so fits (let_go fits.seated.change went.0),
-      ),
-    )
-
-pub returns-then-found-amount-clause-steps : goal.returns-then-found-amount-clause-steps
-returns-then-found-amount-clause-steps c =
-    let made = (waits (goal.at.returns-then-found-amount-clause-steps c).After-fetch_sub-found c.if-found-amount.true).0.stepped.steps in
-    omega arith
+    let goes = let_go fits.seated.change went.0 in
+    let held = subst (λ (z : Start). 0 < (state_after_all z (pass_of (m' a).0).front).holds (file a).number) fits.seated.start went.1 in
+    record {
+      fits = still_pass _ fits goes c.fetch_sub-found.ensures.0 (went.0.carried ∙ fits.places) tt refl refl (omega arith) (omega arith) refl;
+      retired = (f, takes, doing, value, (held, adds_so fits goes));
+      steps = let few = goes.steps in omega arith;
+    }
 
 pub take_out-requires-clause-place : goal.take_out-requires-clause-place
 take_out-requires-clause-place c =
     let a = (goal.at.take_out-requires-clause-place c).After-fetch_sub-found in
     ((file a).identity, place a (omega (arith, c.if-found-amount.false)))
 
-pub returns-clause-retired : goal.returns-clause-retired
-returns-clause-retired c =
-    let a = (goal.at.returns-clause-retired c).After-fetch_sub-found in
+pub returns : goal.returns
+returns c =
+    let a = (goal.at.returns c).After-fetch_sub-found in
+    let fits = c.requires.fits in
+    let (f, takes, doing, value) = c.requires.removed in
     let is : c.fetch_sub-found.result ≡ c.retire_amount-amount.result = omega (arith, c.if-found-amount.false) in
-    let m'' = c.take_out.new.seat.me in (
-      file a,
-      c.requires.removed.1,
-      c.requires.removed.2,
-      c.requires.removed.3,
-      (
-        c.take_out.ensures.file (file a).identity (place a is),
-        adds_so c.requires.fits (out_and_home (closes a is) c.take_out.ensures.rests),
-      ),
-    )
-
-pub returns-clause-fits : goal.returns-clause-fits
-returns-clause-fits c =
-    let a = (goal.at.returns-clause-fits c).After-fetch_sub-found in
-    let out = closes a (omega (arith, c.if-found-amount.false)) in
-    let m'' = c.take_out.new.seat.me in
-    let goes = subst (λ (z : Change). Goes (m a) ([] ▷ Close (file a)) no_use (Between Idle) z 2 m'') c.requires.fits.seated.change
-    (out_and_home out c.take_out.ensures.rests) in
-    still_pass _ c.requires.fits goes
-    (c.take_out.ensures.table ∙ c.fetch_sub-found.ensures.0) c.take_out.ensures.empty tt refl refl (omega arith) (omega arith) refl
-
-pub returns-clause-steps : goal.returns-clause-steps
-returns-clause-steps c =
-    let one = (closes (goal.at.returns-clause-steps c).After-fetch_sub-found (omega (arith, c.if-found-amount.false))).stepped.steps in
-    let two = c.take_out.ensures.rests.steps in
-    omega arith
+    let goes = subst (λ (z : Change). Goes (m a) ([] ▷ Close (file a)) no_use (Between Idle) z 2 c.take_out.new.seat.me) fits.seated.change
+    (out_and_home (closes a is) c.take_out.ensures.rests) in
+    record {
+      fits = still_pass _ fits goes (c.take_out.ensures.table ∙ c.fetch_sub-found.ensures.0) c.take_out.ensures.empty tt refl refl (omega arith)
+          (omega arith) refl;
+      retired = (f, takes, doing, value, (c.take_out.ensures.file (file a).identity (place a is), adds_so fits goes));
+      steps = let few = goes.steps in omega arith;
+    }
