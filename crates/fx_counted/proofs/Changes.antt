@@ -4,7 +4,7 @@ use Rattle.fx_counted.proofs.Words.{some, ℕ_discrete, get_elem?, set_here, set
 use Rattle.fx_counted.proofs.Words.{one_number, range_of, event_of, takes_in, slot_word_of, name_made, entry_made, takes_made, Names, NodeAgrees}
 use Rattle.fx_counted.proofs.Words.{OwnerAgrees, WorkAgrees, PlacesNext, Agrees, if_full, looks, word_of, place_of, slot_place, opening_of, slots_of}
 use Rattle.fx_counted.proofs.Words.{IsNumber, state_after_all, shown, next_in, held_in, placing, holding, Phase, unborn, spare, placed, seated, owner}
-use Rattle.fx_counted.proofs.Words.{file_in, IsInside, Stepped, retires_now, turned, View, Idle, Placing, Change, keeps, stepped}
+use Rattle.fx_counted.proofs.Words.{file_in, IsInside, Stepped, retiring, turned, View, Idle, Placing, Change, keeps, stepped}
 use Rattle.fx_counted.proofs.Steps.{busy, stays_same, owner_stays, grows_one, part_mine, change_here, change_else, same_shape, Turn, Homes, word_at}
 use Rattle.fx_counted.proofs.Steps.{now, logged, its_log, its_work, tells, went, tells_one, node_same}
 use Rattle.std.proofs.Common.{length-set}
@@ -26,7 +26,7 @@ module _ (turn : Turn) (s : ℕ) (inside : s < slots_of turn.v.start) (stands : 
   pub in_size : s < s₀.size
   in_size = let z = (same_shape v.start r.history).0 in omega arith
 
-  pub inside_now : (file : Option File) → old ≡ file → IsInside v.start (retires_now file (takes_in f₀))
+  pub inside_now : (file : Option File) → old ≡ file → IsInside v.start (Between (retiring file (takes_in f₀)))
   inside_now None is = tt
   inside_now (Some f) is = (seat_of turn s inside f (was ∙ is)).0
 
@@ -69,14 +69,14 @@ module _ (turn : Turn) (s : ℕ) (inside : s < slots_of turn.v.start) (stands : 
     }
 
     abbrev pub removed_view : View
-    removed_view = went turn (event_of (shown x v.work) a ∷ r.history) (retires_now old (takes_in f₀)) (turned v.change (if_full old) 0)
+    removed_view = went turn (event_of (shown x v.work) a ∷ r.history) (Between (retiring old (takes_in f₀))) (turned v.change (if_full old) 0)
 
     pub removal_agrees : Agrees v.start (stepped st (slot_place s) 0 id [] removed_view keeps)
     removal_agrees = swap_agrees turn s inside old was a 0 None st.homes r.phase x.numbers_left (turned v.change (if_full old) 0) removal
 
     pub removal_tells : (carried : List (ℕ × Option Closed))
-        → Stepped (v, carried) ([] ▷ a) no_use (retires_now old (takes_in f₀)) (turned v.change (if_full old) 0) (removed_view, carried)
-    removal_tells carried = tells_one turn a does.legal carried carried (retires_now old (takes_in f₀)) (turned v.change (if_full old) 0)
+        → Stepped (v, carried) ([] ▷ a) no_use (Between (retiring old (takes_in f₀))) (turned v.change (if_full old) 0) (removed_view, carried)
+    removal_tells carried = tells_one turn a does.legal carried carried (Between (retiring old (takes_in f₀))) (turned v.change (if_full old) 0)
         (inside_now old refl)
 
   -- an installation
@@ -176,7 +176,7 @@ module _ (turn : Turn) (s : ℕ) (inside : s < slots_of turn.v.start) (stands : 
     }
 
     abbrev pub installed_view : View
-    installed_view = now v (logged x (event_of (shown x v.work) a ∷ r.history) (x.numbers_left - 1) x.looks_left) (retires_now old (takes_in f₀)) c
+    installed_view = now v (logged x (event_of (shown x v.work) a ∷ r.history) (x.numbers_left - 1) x.looks_left) (Between (retiring old (takes_in f₀))) c
 
     pub installation_agrees : Agrees v.start record {
       words = set st.words (slot_place s) (slot_word_of n file.entry);
@@ -186,9 +186,9 @@ module _ (turn : Turn) (s : ℕ) (inside : s < slots_of turn.v.start) (stands : 
     installation_agrees = swap_agrees turn s inside old was a (slot_word_of n file.entry)
         (Some (numbered n file)) homes' phase₁ (x.numbers_left - 1) c installation
 
-    pub installation_tells : (carried homes : List (ℕ × Option Closed)) → Stepped (v, carried) ([] ▷ a) one_number (retires_now old (takes_in f₀)) c
+    pub installation_tells : (carried homes : List (ℕ × Option Closed)) → Stepped (v, carried) ([] ▷ a) one_number (Between (retiring old (takes_in f₀))) c
         (installed_view, homes)
     installation_tells carried homes = tells turn carried homes (event_of (shown x v.work) a ∷ r.history)
-        (x.numbers_left - 1) x.looks_left (retires_now old (takes_in f₀)) c ([] ▷ a) one_number
+        (x.numbers_left - 1) x.looks_left (Between (retiring old (takes_in f₀))) c ([] ▷ a) one_number
         (grows_one x.number r.history (event_of (shown x v.work) a) refl) does.legal (part_mine x.number (event_of (shown x v.work) a) r.history refl)
         (let z = next in omega arith) (omega arith) (inside_now old refl)

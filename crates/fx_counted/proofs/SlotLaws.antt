@@ -3,7 +3,7 @@ use Rattle.fx_counted.proofs.Words.{◌≡◌, ◌≢◌, ℕ, ◌-◌, ◌<◌,
 use Rattle.fx_counted.proofs.Words.{Option, Some, None, inl, none, keeps, gives, rest, stepped, step, Closed, ◌▷◌, changed_at, numbered, File, Action}
 use Rattle.fx_counted.proofs.Words.{Put, Clear, Take, Allocate, Use, no_use, one_number, name_in, takes_in, slot_word_of, Names, WorkAgrees}
 use Rattle.fx_counted.proofs.Words.{Agrees, if_full, HasPass, MayChange, place_of, slot_place, slot_of, Sat, slots_of, state_after_all}
-use Rattle.fx_counted.proofs.Words.{Stepped, Exchanges, GoesOn, retires_now, turned, Change, Same, Log, Start, View, Work, Idle, Placing, placed}
+use Rattle.fx_counted.proofs.Words.{Stepped, Exchanges, GoesOn, retiring, turned, Change, Same, Log, Start, View, Work, Idle, Placing, placed}
 use Rattle.fx_counted.proofs.Words.{event_of, shown, set-get_or, exchanged, ClearsKeep, TakesKeep, InstallsKeep, LoadsKeep, ExchangesKeep, Installs}
 use Rattle.fx_counted.proofs.Words.{Removes}
 use Rattle.fx_counted.proofs.Steps.{legal_more, same_shape, Turn, turn_of, word_at, now, logged, its_work, by_turn, went, Made, far, control_same}
@@ -111,7 +111,7 @@ installs_keep k slots id i s n new file m x has works carries small inside stand
             let same_n : n ≡ n₂ = placing_same n n₂ (sym works ∙ works₂) in
             let same_f : file ≡ file₂ = carried_same (place_of m.0.start n) (place_of m.0.start n₂) file file₂ (sym is.0 ∙ carries₂) in
             subst (λ (z : ℕ × Closed). Stepped m ([] ▷ Put (slot_of (slot_place s)) (numbered z.0 z.1) old) one_number
-            (retires_now old (takes_in f₀)) (turned m.0.change (if_full old) 1) (w, rest m.1)) (λ i. (same_n i, same_f i))
+            (Between (retiring old (takes_in f₀))) (turned m.0.change (if_full old) 1) (w, rest m.1)) (λ i. (same_n i, same_f i))
             (at_slot turn s is.1 m (w, rest m.1) (λ z. Put z (numbered n file) old) one_number _ _
             (installation_tells turn s is.1 is.2 old refl n file works small a does m.1 (rest m.1)));
         carried = refl;

@@ -1,10 +1,10 @@
 -- What a swap of a slot's word has to keep, whatever comes to the slot.
 use Rattle.fx_counted.proofs.Words.{◌≡◌, ◌≢◌, ℕ, ◌<◌, ◌≤◌, List, ◌∷◌, set, length, sym, refl, ap, ◌∙◌, subst, arith, Option, Some, None, dite}
 use Rattle.fx_counted.proofs.Words.{ℕ_discrete, get_elem?, Closed, held_by, held_after, changed_at, with_removed, State, numbered, File, Event, Bool}
-use Rattle.fx_counted.proofs.Words.{Action, range_of, event_of, takes_in, Names, SlotAgrees, NodeAgrees, OwnerAgrees, WorkAgrees, PlacesNext, Agrees}
+use Rattle.fx_counted.proofs.Words.{Action, range_of, event_of, takes_in, Names, SlotAgrees, NodeAgrees, OwnerAgrees, WorkAgrees, Agrees}
 use Rattle.fx_counted.proofs.Words.{ControlCounts, looks, all_looks, word_of, place_of, control_place, slot_place, opening_of, slots_of, IsNumber}
-use Rattle.fx_counted.proofs.Words.{state_after_all, shown, end_in, next_in, held_in, placing, holding, Phase, unborn, spare, seated, leaving, owner}
-use Rattle.fx_counted.proofs.Words.{file_in, retires_now, Change, Log, Start, View, Work, Retiring}
+use Rattle.fx_counted.proofs.Words.{state_after_all, shown, end_in, next_in, held_in, holding, Phase, unborn, spare, seated, leaving, owner}
+use Rattle.fx_counted.proofs.Words.{file_in, retiring, Change, Log, View, Work, Retiring}
 use Rattle.fx_counted.proofs.Steps.{Stays, KeepsHeld, does_now, IsHistory, grows_one, held_mine, change_here, change_else, Turn, Homes, word_at, now}
 use Rattle.fx_counted.proofs.Steps.{logged, its_log, log_now}
 use Rattle.fx_counted.specs.Agrees.{IsSeated}
@@ -34,11 +34,11 @@ by_old : (old : Option File) (n : ℕ) (P : Type 0) → ((f : File) → old ≡ 
 by_old None n P is else = else tt
 by_old (Some f) n P is else = dite (ℕ_discrete n f.number) (λ same. is f refl same) (λ other. else other)
 
--- a pass that retires holds nothing, and places nothing
-retires_alone : (k : Start) (old : Option File) (takes : ℕ) (x : Log) → ((n : ℕ) → holding n (retires_now old takes) ≡ 0)
-    × (held_in (retires_now old takes) ≡ None) × (placing (retires_now old takes) ≡ 0) × PlacesNext k x (retires_now old takes)
-retires_alone k None takes x = (λ n. refl, refl, refl, tt)
-retires_alone k (Some f) takes x = (λ n. refl, refl, refl, tt)
+-- a pass that retires holds nothing
+retires_alone : (old : Option File) (takes : ℕ) → ((n : ℕ) → holding n (Between (retiring old takes)) ≡ 0)
+    × (held_in (Between (retiring old takes)) ≡ None)
+retires_alone None takes = (λ n. refl, refl)
+retires_alone (Some f) takes = (λ n. refl, refl)
 
 module _ (turn : Turn) (s : ℕ) (inside : s < slots_of turn.v.start) where
   open turn use {st, v, r, id, x, here, one}
@@ -96,7 +96,7 @@ module _ (turn : Turn) (s : ℕ) (inside : s < slots_of turn.v.start) where
       y = logged x (h' a) left x.looks_left
 
       abbrev pub d : Work
-      d = retires_now old (takes_in found)
+      d = Between (retiring old (takes_in found))
 
       abbrev pub w : View
       w = now v y d c
@@ -159,7 +159,7 @@ module _ (turn : Turn) (s : ℕ) (inside : s < slots_of turn.v.start) where
             (get_elem? homes' (place_of v.start n)) z.1) (λ i. (sym p.does.looked i n, is i))
 
         swap_step : SlotStep turn s inside left x.looks_left d c (h' a) phase' word' homes'
-        swap_step = let o = its_log turn in let alone = retires_alone v.start old (takes_in found) y in record {
+        swap_step = let o = its_log turn in let alone = retires_alone old (takes_in found) in record {
           homes = p.homes;
           grows = grows_one x.number r.history (e a) refl;
           legal = p.does.legal;
@@ -184,7 +184,7 @@ module _ (turn : Turn) (s : ℕ) (inside : s < slots_of turn.v.start) where
           owners = λ n has. by_old old n (OwnerAgrees (set st.views id w) n (phase' n))
               (λ f is same. subst (λ (m : ℕ). OwnerAgrees (set st.views id w) m (phase' m)) (sym same)
               (subst (OwnerAgrees (set st.views id w) f.number) (sym (out_here f is))
-              (does_now st.views id v w (Between (Retiring f (takes_in found))) here (ap (λ (o : Option File). retires_now o (takes_in found)) is))))
+              (does_now st.views id v w (Between (Retiring f (takes_in found))) here (ap (λ (o : Option File). Between (retiring o (takes_in found))) is))))
               (λ other. subst (OwnerAgrees (set st.views id w) n) (sym (else_phase n other)) (p.owners n has other));
           no_other = λ n absent. ap (λ (z : State). z.removed n) p.does.state
               ∙ (removed_else state.removed old n (absent_old n absent old refl) ∙ r.no_other n absent);
@@ -200,8 +200,7 @@ module _ (turn : Turn) (s : ℕ) (inside : s < slots_of turn.v.start) where
           unused = λ n is. else_phase n (not_old n unborn is (λ f bad. cc bad)) ∙ p.unused n is;
           log = log_now turn (h' a) phase' left x.looks_left d p.fewer
               (held_mine x.number (e a) r.history refl ∙ (p.does.held ∙ (o.held ∙ (p.none_held.0 ∙ sym alone.1))))
-              alone.3
-              (λ n low high. let z = alone.2 in let q = p.spares n (omega arith) high in else_phase n q.1 ∙ q.0);
+              tt (λ n low high. let q = p.spares n (omega arith) high in else_phase n q.1 ∙ q.0);
           work = works old refl;
           holds = λ n. let a = p.none_held.1 n in let b = alone.0 n in
               let g = ap (λ (z : State). z.holds n) p.does.state in omega arith;
@@ -219,7 +218,7 @@ module _ (turn : Turn) (s : ℕ) (inside : s < slots_of turn.v.start) where
             absent_old n absent None is = tt
             absent_old n absent (Some f) is = λ same. absent (subst (IsNumber v.start) (sym same) (seat_of f (was ∙ is)).0)
 
-            works : (file : Option File) → old ≡ file → WorkAgrees v.start phase' id (retires_now file (takes_in found))
+            works : (file : Option File) → old ≡ file → WorkAgrees v.start phase' id (Between (retiring file (takes_in found)))
             works None is = tt
             works (Some f) is = ((seat_of f (was ∙ is)).0, out_here f is)
 

@@ -28,7 +28,7 @@ pub use Rattle.fx_counted.specs.Phases.{Phase, seated, file_in, placed, unborn, 
 pub use Rattle.fx_counted.specs.Searching.{StillPlaces, HasAllocated, Tries, IsPlacing, HasFoundAllFull, RoundEnds}
 pub use Rattle.fx_counted.specs.Shells.{file_in_place, AreBack, IsShellOf, IsShell}
 pub use Rattle.fx_counted.specs.Tables.{view_of, is_idle, IsPassOf, opening_of_table, IsBetweenCalls, IsPassOfTable}
-pub use Rattle.fx_counted.specs.Tells.{Stepped, IsInside, Exchanges, GoesOn, retires_now, turned, TakesOut, LetsGo, Answers, Births, Rests, DrawTells}
+pub use Rattle.fx_counted.specs.Tells.{Stepped, IsInside, Exchanges, GoesOn, retiring, turned, TakesOut, LetsGo, Answers, Births, Rests, DrawTells}
 pub use Rattle.fx_counted.specs.Tells.{chain_given, changed, Looks, holds_now, Releases, Retires, Installs, Removes}
 pub use Rattle.fx_counted.specs.declared.pass.CountedPass.{CountedPass}
 pub use Rattle.fx_counted.specs.declared.table.CountedTable.{CountedTable}

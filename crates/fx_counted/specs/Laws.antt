@@ -85,13 +85,15 @@ InstallsKeep = (k : Start) (slots id i slot n new : ℕ) (file : Closed) (m : Sa
 -- an idle pass swaps 0 into a slot's word, for an update
 abbrev pub ClearsKeep : Type 0
 ClearsKeep = (k : Start) (slots id i slot : ℕ) (m : Sat) (x : Log) → HasPass k m x
-    → m.0.work ≡ Between Idle → slot < slots_of k → MayChange k slot m.0.change → i ≡ slot_place slot
+    → m.0.work ≡ Between Idle → slot < slots_of k → MayChange k slot m.0.change
+    → i ≡ slot_place slot
     → Allows (Agrees k) slots id m i (λ _. 0) (Removes Clear (step slots i 0 0 none) m)
 
 -- an idle pass swaps 0 into a slot's word, for a close
 abbrev pub TakesKeep : Type 0
 TakesKeep = (k : Start) (slots id i slot : ℕ) (m : Sat) (x : Log) → HasPass k m x
-    → m.0.work ≡ Between Idle → slot < slots_of k → MayChange k slot m.0.change → i ≡ slot_place slot
+    → m.0.work ≡ Between Idle → slot < slots_of k → MayChange k slot m.0.change
+    → i ≡ slot_place slot
     → Allows (Agrees k) slots id m i (λ _. 0) (Removes Take (step slots i 0 0 none) m)
 
 -- a pass subtracts 2^32 less the takes from the word of the file that it removed

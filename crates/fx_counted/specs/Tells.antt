@@ -21,6 +21,7 @@ use Rattle.fx_counted.specs.declared.view.Log.{Log}
 use Rattle.fx_counted.specs.declared.view.Start.{Start}
 use Rattle.fx_counted.specs.declared.view.Work.{Work}
 use Rattle.fx_counted.specs.declared.view.Work.TheVariants.{Between, Placing, Emptying}
+use Rattle.fx_table.specs.declared.values.Doing.{Doing}
 use Rattle.fx_table.specs.declared.values.Doing.TheVariants.{Idle, Holding, Retiring}
 
 -- a step of a table whose places have an open file or none
@@ -52,10 +53,10 @@ abbrev pub holds_now : Option File → Work
 holds_now None = Between Idle
 holds_now (Some f) = Between (Holding f)
 
--- what a pass does that removed it
-abbrev pub retires_now : Option File → ℕ → Work
-retires_now None takes = Between Idle
-retires_now (Some f) takes = Between (Retiring f takes)
+-- what a pass does between two calls that removed it
+abbrev pub retiring : Option File → ℕ → Doing
+retiring None takes = Idle
+retiring (Some f) takes = Retiring f takes
 
 -- what a pass in a change has to tell when a slot had so many files, and has so many now
 abbrev pub changed : ℕ → ℕ → Change
@@ -93,7 +94,7 @@ pub record Installs (st : At) (m : Sat) (found : ℕ) (m' : Sat) : Type 0 where
   pub stepped : (n : ℕ) (file : Closed) → m.0.work ≡ Placing n
       → m.1 ≡ (home_place (slots_of m.0.start) n, Some file) ∷ []
       → Stepped m ([] ▷ Put (slot_of st.word) (numbered n file) replaced) one_number
-      (retires_now replaced (takes_in found)) (turned m.0.change (if_full replaced) 1) m'
+      (Between (retiring replaced (takes_in found))) (turned m.0.change (if_full replaced) 1) m'
   pub carried : m'.1 ≡ rest m.1
 
 -- Swap, to an empty slot's word: the word that was found names the file that was removed, by a
@@ -103,7 +104,7 @@ pub record Removes (action : ℕ → Option File → Action)
   pub file : Option File
   pub names : Names found file
   pub stepped : Stepped m ([] ▷ action (slot_of st.word) file) no_use
-      (retires_now file (takes_in found)) (turned m.0.change (if_full file) 0) m'
+      (Between (retiring file (takes_in found))) (turned m.0.change (if_full file) 0) m'
   pub carried : m'.1 ≡ m.1
 
 -- the file of the pass is closed, and with the pass

@@ -41,30 +41,25 @@ loop-slot-preserved c =
       }
     ]
 
-pub returns-clause-full : goal.returns-clause-full
-returns-clause-full c =
+pub returns : goal.returns
+returns c =
     let st = state_of c.args.plain.now in
-    let a = (goal.at.returns-clause-full c).After-range-start in
+    let a = (goal.at.returns c).After-range-start in
     let end = c.loop-slot.auto.slot-end (omega arith) in
     let whole : c.loop-slot.slot - st.range.0 ≡ st.range.1 = omega (arith, c.loop-slot-test.false, end, start_is a, len_is a) in
-    c.loop-slot.invariant.full ∙ ap (full_in (first_at st) st.range.0) whole
+    record {
+      full = c.loop-slot.invariant.full ∙ ap (full_in (first_at st) st.range.0) whole;
+      few = omega (arith, c.loop-slot.invariant.few, end, start_is a, len_is a);
+    }
 
-pub returns-clause-few : goal.returns-clause-few
-returns-clause-few c =
-    let a = (goal.at.returns-clause-few c).After-range-start in
-    omega (arith, c.loop-slot.invariant.few, c.loop-slot.auto.slot-end (omega arith), start_is a, len_is a)
-
-pub returns-then-len-size-clause-full : goal.returns-then-len-size-clause-full
-returns-then-len-size-clause-full c =
+pub returns-then-len-size : goal.returns-then-len-size
+returns-then-len-size c =
     let st = state_of c.args.plain.now in
-    let a = (goal.at.returns-then-len-size-clause-full c).After-range-start in
+    let a = (goal.at.returns-then-len-size c).After-range-start in
     let zero : 0 ≡ st.range.0 = omega (arith, start_is a, len_is a, c.range-start.ensures.inside, c.requires, c.if-len-size.true) in
     let whole : st.size ≡ st.range.1 = omega (arith, len_is a, c.requires, c.if-len-size.true) in
-    c.full.ensures ∙ (all_counted st st.size ∙ λ i. full_in (first_at st) (zero i) (whole i))
-
-pub returns-then-len-size-clause-few : goal.returns-then-len-size-clause-few
-returns-then-len-size-clause-few c =
-    let st = state_of c.args.plain.now in
-    let len = len_is (goal.at.returns-then-len-size-clause-few c).After-range-start in
-    let is = c.full.ensures ∙ all_counted st st.size in
-    omega (arith, len, c.requires, c.if-len-size.true, is, full_few (first_at st) 0 st.size)
+    let counted = c.full.ensures ∙ all_counted st st.size in
+    record {
+      full = counted ∙ λ i. full_in (first_at st) (zero i) (whole i);
+      few = omega (arith, whole, counted, full_few (first_at st) 0 st.size);
+    }

@@ -43,30 +43,20 @@ loop-number-preserved c =
       room = let a = i.room in let b = c.push_reserved.ensures.capacity in omega arith;
     }
 
-pub returns-clause-fits : goal.returns-clause-fits
-returns-clause-fits c =
+pub returns : goal.returns
+returns c =
     let i = c.loop-number.invariant in
     let t = c.args.self.now.table.shared in
     let all = c.args.self.now.key.1 in
     let p = c.loop-number.number in
-    let past = c.loop-number-test.false in
     let most = i.high in
-    let last : p ≡ t.key.passes = omega (arith, past, most, all) in
+    let last : p ≡ t.key.passes = omega (arith, c.loop-number-test.false, most, all) in
+    let new = c.new-2.result in
+    let items = c.push_reserved-2.ensures.items in
     let me = i.me ∙ ap (λ (v : View). (v, [])) (last_is_dealt t.key p last) in
-    let pass = is_pass t.table_id t.key p i.low (omega (arith, last)) c.loop-number.seat c.new-2.result c.new-2.ensures i.table me in
-    subst (All (IsPassOf t.table_id t.key)) (sym c.push_reserved-2.ensures.items)
-    (All-push (IsPassOf t.table_id t.key) c.loop-number.list.items c.new-2.result i.list pass)
-
-pub returns-clause-new : goal.returns-clause-new
-returns-clause-new c =
-    let i = c.loop-number.invariant in
-    let t = c.args.self.now.table.shared in
-    let all = c.args.self.now.key.1 in
-    let p = c.loop-number.number in
-    let past = c.loop-number-test.false in
-    let most = i.high in
-    let last : p ≡ t.key.passes = omega (arith, past, most, all) in
-    let me = i.me ∙ ap (λ (v : View). (v, [])) (last_is_dealt t.key p last) in
-    let shown = is_new t.table_id t.key p i.low (omega (arith, last)) c.loop-number.seat c.new-2.result c.new-2.ensures i.table me in
-    one_more_view c.loop-number.list.items c.push_reserved-2.new.self.items c.new-2.result p i.low
-    c.push_reserved-2.ensures.items i.new shown ∙ ap new_passes (last ∙ sym all)
+    let pass = is_pass t.table_id t.key p i.low (omega (arith, last)) c.loop-number.seat new c.new-2.ensures i.table me in
+    let shown = is_new t.table_id t.key p i.low (omega (arith, last)) c.loop-number.seat new c.new-2.ensures i.table me in
+    record {
+      fits = subst (All (IsPassOf t.table_id t.key)) (sym items) (All-push (IsPassOf t.table_id t.key) c.loop-number.list.items new i.list pass);
+      new = one_more_view c.loop-number.list.items c.push_reserved-2.new.self.items new p i.low items i.new shown ∙ ap new_passes (last ∙ sym all);
+    }

@@ -1,8 +1,9 @@
 use Rattle.fx_counted.proofs.Words.{◌≡◌, ℕ, [], ◌∷◌, ap, ◌∙◌, subst, arith, Some, Closed, ◌▷◌, numbered, Put, takes_in, slot_word_of, Adds}
-use Rattle.fx_counted.proofs.Words.{one_number, if_full, place_of, slot_of, pass_of, doing_in, view_of, opening_of_table, Stepped, retires_now}
+use Rattle.fx_counted.proofs.Words.{one_number, if_full, place_of, slot_of, pass_of, doing_in, view_of, opening_of_table, Stepped, retiring}
 use Rattle.fx_counted.proofs.Words.{turned, Start, Placing, Bool, true, false, sym, File, List, Log, None, Option, Retired, first_log}
-use Rattle.fx_counted.proofs.Words.{is_idle, option_map, refl, rest, is_some, retired_of, IsBetweenCalls}
+use Rattle.fx_counted.proofs.Words.{is_idle, option_map, refl, rest, is_some, retired_of}
 use Rattle.std.specs.Prelude.{not}
+use Rattle.fx_counted.proofs.Words.{Between}
 use Rattle.fx_counted.proofs.Calling.{slot_inside, slot_at}
 use Rattle.fx_counted.proofs.Going.{its_pass, adds_so, goes_one, goes_then, goes_around, still_pass}
 use Rattle.fx_counted.proofs.Removing.{placed_so}
@@ -33,13 +34,9 @@ swap-found-requires c =
           (c.slot_word-word.ensures ∙ ap (slot_word_of n) entry),
     )
 
--- what the pass does that found this file, or none
-is_between : (found : Option File) (takes : ℕ) → IsBetweenCalls (retires_now found takes)
-is_between None takes = tt
-is_between (Some f) takes = tt
-
+-- a pass is idle that found none
 idle_if_none : (found : Option File) (takes : ℕ) (removed : Option Retired) (b : Bool) → is_some removed ≡ not b
-    → removed ≡ option_map (λ f. retired_of f takes) found → b ≡ is_idle (retires_now found takes)
+    → removed ≡ option_map (λ f. retired_of f takes) found → b ≡ is_idle (Between (retiring found takes))
 idle_if_none None takes removed true told is = refl
 idle_if_none None takes removed false told is = let bad : true ≡ false = sym told ∙ ap is_some is in absurd (cc bad)
 idle_if_none (Some f) takes removed false told is = refl
@@ -65,7 +62,7 @@ returns c =
     let start = began.goes.start ∙ (born.born.start ∙ its.0) in
     let carried = began.places ∙ born.place.place in
     let stepped = subst (λ (z : Start). (j : ℕ) (x : Closed) → m₂.0.work ≡ Placing j → m₂.1 ≡ (place_of z j, Some x) ∷ []
-    → Stepped m₂ ([] ▷ Put (slot_of c.slot_place.result) (numbered j x) went.replaced) one_number (retires_now went.replaced takes)
+    → Stepped m₂ ([] ▷ Put (slot_of c.slot_place.result) (numbered j x) went.replaced) one_number (Between (retiring went.replaced takes))
     (turned m₂.0.change (if_full went.replaced) 1) m₃) start went.stepped n file (began.goes.work ∙ born.born.work) carried in
     let around = goes_around began.goes stepped c.end.ensures.goes in
     let goes = goes_then (goes_one born.born) around in
@@ -78,11 +75,11 @@ returns c =
       fits = still_pass _ fits goes
           (c.end.ensures.table ∙ (c.swap-found.ensures.0 ∙ (began.table ∙ born.table)))
           (c.end.ensures.places ∙ (went.carried ∙ ap rest carried))
-          (is_between went.replaced takes) refl refl (omega (arith, left, shown, known)) (omega arith)
+          tt refl refl (omega (arith, left, shown, known)) (omega arith)
           (idle_if_none went.replaced takes _ _ c.is_none-pass.ensures (c.removed_in-replaced.ensures went.replaced went.names));
       placed = placed_so o v c.args.slot n file went.replaced takes c.removed_in-replaced.result (pass_of m₄.0) c.next_number-number.ensures.number
           (c.removed_in-replaced.ensures went.replaced went.names)
-          (subst (λ (s : ℕ). Adds o v ([] ▷ Put s (numbered n file) went.replaced) (doing_in (retires_now went.replaced takes)) one_number
+          (subst (λ (s : ℕ). Adds o v ([] ▷ Put s (numbered n file) went.replaced) (doing_in (Between (retiring went.replaced takes))) one_number
           (pass_of m₄.0)) here adds);
       steps = let few = goes.steps in omega (arith, few);
     }
