@@ -1,5 +1,5 @@
 -- The numbers of a list, by their sign.
-use Rattle.fx_ring.proofs.Words.{◌≡◌, ℕ, zero, suc, ◌<◌, Bool, true, false, ◌||◌, ℤ, pos, negsuc, int_le, int_lt, List, [], ◌∷◌, ◌++◌, refl, sym, ap}
+use Rattle.fx_ring.proofs.Words.{◌≡◌, ℕ, zero, suc, ◌<◌, Bool, true, false, ◌||◌, ℤ, pos, negsuc, int_le, int_lt, List, [], ◌∷◌, ◌++◌, refl, sym, ap, Some, slice_get}
 use Rattle.fx_ring.proofs.Words.{◌∙◌, arith, nat_abs, ltb-true, le-leb, leb-false, ltb-false, le-ltb, list_any, is_bad_entry, is_bad_file}
 
 -- a number of 0 or more is the one that it reads as
@@ -39,8 +39,8 @@ good_files entries [] good = refl
 good_files entries (z ∷ list) good = both_good _ _ (good_file entries z (or_left _ _ good)) (good_files entries list (or_right _ _ good))
 
 -- a number of a good list is good
-pub good_behind : (entries : ℕ) (xs : List ℤ) (z : ℤ) (ys : List ℤ) (list : List ℤ) → list ≡ xs ++ z ∷ ys
-    → list_any (is_bad_entry entries) list ≡ false → is_bad_entry entries z ≡ false
-good_behind entries [] z ys list is good = or_left _ _ (ap (list_any (is_bad_entry entries)) (sym is) ∙ good)
-good_behind entries (x ∷ xs) z ys list is good =
-    good_behind entries xs z ys (xs ++ z ∷ ys) refl (or_right _ _ (ap (list_any (is_bad_entry entries)) (sym is) ∙ good))
+pub good_get : (entries : ℕ) (list : List ℤ) (j : ℕ) (z : ℤ) → list_any (is_bad_entry entries) list ≡ false
+    → slice_get list j ≡ Some z → is_bad_entry entries z ≡ false
+good_get entries [] j z good is = cc
+good_get entries (y ∷ list) zero z good is = let same : y ≡ z = cc in ap (is_bad_entry entries) (sym same) ∙ or_left _ _ good
+good_get entries (y ∷ list) (suc j) z good is = good_get entries list j z (or_right _ _ good) is

@@ -3,19 +3,13 @@ use Rattle.fx_ring.proofs.Words.{◌≡◌, ◌≢◌, ◌⊎◌, ℕ, zero, suc
 use Rattle.fx_ring.proofs.Words.{All, refl, sym, ap, subst, ◌∙◌, Option, Some, None, slice_get, inl, inr, ⊎_elim, arith, list_any, cases_lt}
 use Rattle.fx_ring.proofs.Words.{leb-false, All-append, Mark, Registered, Submitted, Closed, is_bad_entry, RingState, IsRing, HasCounted, file_listed}
 use Rattle.fx_ring.proofs.Words.{files_after, removed_by, removed_from, registered, updated, is_bad_file, tag_at}
-use Rattle.fx_ring.proofs.Numbers.{or_left, or_right, good_files}
+use Rattle.fx_ring.proofs.Numbers.{good_get, good_files}
 use Rattle.fx_ring.proofs.ListSteps.{files_below, files_from}
 use Rattle.fx_ring.proofs.Rings.{IsEntry, entry_listed}
 
 -- a file that the k-th list installed at its place i
 abbrev IsListed : ℕ → ℕ → ℕ → Closed → Type 0
 IsListed entries k i file = (file.mark ≡ Registered k i) × (file.entry < entries)
-
-good_get : (entries : ℕ) (list : List ℤ) (j : ℕ) (z : ℤ) → list_any (is_bad_entry entries) list ≡ false
-    → slice_get list j ≡ Some z → is_bad_entry entries z ≡ false
-good_get entries [] j z good is = cc
-good_get entries (y ∷ list) zero z good is = let same : y ≡ z = cc in ap (is_bad_entry entries) (sym same) ∙ or_left _ _ good
-good_get entries (y ∷ list) (suc j) z good is = good_get entries list j z (or_right _ _ good) is
 
 from_listed : (entries k i tag : ℕ) (x : Option ℤ) (before : Option Closed) (file : Closed)
     → ((z : ℤ) → x ≡ Some z → is_bad_entry entries z ≡ false) → file_listed k i tag x before ≡ Some file

@@ -1,13 +1,15 @@
 -- The files of a table, without their numbers, and how they change.
-use Rattle.std.specs.Prelude.{◌≡◌, ℕ, ◌+◌, ◌<◌, ◌≤◌, Bool, true, List, [], ◌++◌, length, Option, Some, None}
+use Rattle.std.specs.Prelude.{◌≡◌, ℕ, ◌+◌, ◌<◌, ◌≤◌, Bool, true, ℤ, List, [], ◌++◌, length, Option, Some, None}
 use Rattle.std.specs.Option.{option_to_list}
 use Rattle.fx_base.specs.CloseListView.{CloseListView}
+use Rattle.fx_base.specs.declared.mark.Mark.TheVariants.{Registered}
 use Rattle.fx_base.specs.declared.open_file.Closed.{Closed}
 use Rattle.fx_plain.specs.declared.event.Action.{Action}
 use Rattle.fx_plain.specs.State.{State, IsSettled}
 use Rattle.fx_plain.specs.Step.{changed_at}
 use Rattle.fx_plain.specs.History.{close_of}
 use Rattle.fx_plain.specs.Table.{identity_of}
+use Rattle.fx_ring.specs.Registration.{file_after, files_after, removed_by, removed_from}
 
 -- the file at each slot, its number aside
 abbrev pub files_at : State → ℕ → Option Closed
@@ -32,6 +34,21 @@ abbrev pub SetsSlot : State → State → ℕ → Option Closed → CloseListVie
 SetsSlot old new slot file before after =
     SetsFiles old new (changed_at (files_at old) slot file)
     (option_to_list (files_at old slot)) before after
+
+-- the number at place i of the k-th list was applied with its tag
+abbrev pub SetsNumber : ℕ → ℕ → ℕ → ℕ → ℤ → State → State → CloseListView → CloseListView
+    → Type 0
+SetsNumber k off i tag z old new before after =
+    let was = files_at old (off + i) in
+    SetsFiles old new (changed_at (files_at old) (off + i) (file_after (Registered k i) tag z was))
+    (removed_by z was) before after
+
+-- the k-th list was applied with its tags, from a slot on
+abbrev pub SetsList : ℕ → ℕ → List ℤ → List ℕ → State → State → CloseListView → CloseListView
+    → Type 0
+SetsList k off list tags old new before after =
+    SetsFiles old new (files_after k (files_at old) off list tags)
+    (removed_from (files_at old) off list) before after
 
 -- the removed file of a number, its number aside
 abbrev pub file_removed : State → Option ℕ → Option Closed

@@ -1,13 +1,14 @@
 //! Lists of numbers, each for a slot, and their tags.
-ghost use Rattle.std.specs.Prelude.{◌≡◌, ◌+◌, ◌<◌, ◌≤◌, ◌++◌, ℕ, ℤ, List, false, true, length};
+ghost use Rattle.std.specs.Prelude.{◌≡◌, ◌+◌, ◌<◌, ◌≤◌, ℕ, ℤ, pos, List, false, true, length, slice_index_or};
 ghost use Rattle.std.specs.List.{list_any, zip};
 ghost use Rattle.fx_plain.specs.State.{IsSettled};
 ghost use Rattle.fx_plain.specs.Contents.{state_of};
+ghost use Rattle.fx_plain.specs.declared.table.TheConstants.{MOST_SLOTS};
+ghost use Rattle.fx_base.specs.declared.catalogue.TheConstants.{MOST_ENTRIES};
 ghost use Rattle.fx_chain.specs.Answers.{is_bad_entry};
-ghost use Rattle.fx_ring.specs.Registration.{file_after, files_after, is_bad_file, removed_by, removed_from};
+ghost use Rattle.fx_ring.specs.Registration.{is_bad_file, removed_by, removed_from};
 ghost use Rattle.fx_ring.specs.Tags.{are_bad_tags, is_bad_tag, tag_at, tags_for};
-ghost use Rattle.fx_ring.specs.Slots.{SetsFiles, AreFresh, files_at};
-ghost use Rattle.fx_plain.specs.Step.{changed_at};
+ghost use Rattle.fx_ring.specs.Slots.{AreFresh, SetsList, SetsNumber, files_at};
 
 use crate::slots::{clear_slot, fill_slot};
 use fx_base::{Catalogue, CloseList, MOST_ENTRIES, Mark};
@@ -77,35 +78,48 @@ fn tag_at(tags: Option<&[u64]>, place: usize) -> u64
     tags.get(place).copied().unwrap_or(0)
 }
 
-// Works one number off: -1 empties the slot, -2 leaves it, and every other one opens that catalogue entry there, with
-// this mark and this tag, and under this number of the table.
-fn apply_number(
-    table: &mut PlainTable,
-    catalogue: &Catalogue,
-    mark: Mark,
-    tag: u64,
-    slot: u32,
-    number: i32,
-    fresh: u32,
-    closes: &mut CloseList,
-)
+/// The k-th list, which applies to the slots from `off` on, with tags 0 where none are given. Its files get the numbers of
+/// the table from `first` on.
+#[derive(Drop)]
+pub(crate) struct NumberList<'a> {
+    pub(crate) catalogue: &'a Catalogue,
+    pub(crate) k: u32,
+    pub(crate) off: u32,
+    pub(crate) list: &'a [i32],
+    pub(crate) tags: Option<&'a [u64]>,
+    pub(crate) first: u32,
+    pub ghost entries: { length catalogue.now ≤ MOST_ENTRIES },
+    pub ghost good: { list_any (is_bad_entry (length catalogue.now)) list.now ≡ false },
+    pub ghost few: { first ≤ MOST_SLOTS },
+}
+
+// Applies the number at place `i`: -1 empties its slot, -2 leaves it, and every other one opens that catalogue entry there.
+fn apply_number(table: &mut PlainTable, numbers: &NumberList<'_>, i: usize, closes: &mut CloseList)
+    requires place { i < length numbers.now.list.now }
     requires settled { IsSettled (state_of table.old) }
-    requires slot { slot < (state_of table.old).size }
-    requires entries { length catalogue.now ≤ MOST_ENTRIES }
-    requires good { is_bad_entry (length catalogue.now) number ≡ false }
-    requires fresh { (state_of table.old).fresh fresh ≡ true }
-    requires room { length (removed_by number (files_at (state_of table.old) slot))
-        ≤ closes.old.room }
-    ensures files { let was = files_at (state_of table.old) in
-        SetsFiles (state_of table.old) (state_of table.new)
-        (changed_at was slot (file_after mark tag number (was slot))) (removed_by number (was slot))
-        closes.old closes.new }
-    ensures fresh { (other : ℕ) → fresh < other
+    requires slots { numbers.now.off + length numbers.now.list.now ≤ (state_of table.old).size }
+    requires few_slots { (state_of table.old).size ≤ MOST_SLOTS }
+    requires fresh { (state_of table.old).fresh (numbers.now.first + i) ≡ true }
+    requires room { length (removed_by (slice_index_or numbers.now.list.now i (pos 0))
+        (files_at (state_of table.old) (numbers.now.off + i))) ≤ closes.old.room }
+    ensures files { SetsNumber numbers.now.k numbers.now.off i
+        (tag_at (tags_for numbers.now.list.now numbers.now.tags) i)
+        (slice_index_or numbers.now.list.now i (pos 0))
+        (state_of table.old) (state_of table.new) closes.old closes.new }
+    ensures fresh { (other : ℕ) → numbers.now.first + i < other
         → (state_of table.new).fresh other ≡ (state_of table.old).fresh other }
 {
+    let number = numbers.list[i];
+    let place = i as u32;
+    let slot = numbers.off + place;
     if number >= 0 {
-        let file = catalogue.open(number as u8, mark, tag);
-        fill_slot(table, slot, fresh, file, closes);
+        let mark = Mark::Registered {
+            k: numbers.k,
+            i: place,
+        };
+        let tag = tag_at(numbers.tags, i);
+        let file = numbers.catalogue.open(number as u8, mark, tag);
+        fill_slot(table, slot, numbers.first + place, file, closes);
         return;
     }
     if number > -2 {
@@ -113,43 +127,20 @@ fn apply_number(
     }
 }
 
-/// Works the k-th list off, from the slot `off` on, with tags 0 where none are given. The numbers of the table from `first` on are fresh, one for each
-/// number of the list.
-pub(crate) fn apply_list(
-    table: &mut PlainTable,
-    catalogue: &Catalogue,
-    k: u32,
-    off: u32,
-    list: &[i32],
-    tags: Option<&[u64]>,
-    first: u32,
-    closes: &mut CloseList,
-)
+/// Applies a list to a table. The numbers of the table from its `first` on are fresh, one for each number of the list.
+pub(crate) fn apply_list(table: &mut PlainTable, numbers: &NumberList<'_>, closes: &mut CloseList)
     requires settled { IsSettled (state_of table.old) }
-    requires slots { off + length list.now ≤ (state_of table.old).size }
+    requires slots { numbers.now.off + length numbers.now.list.now ≤ (state_of table.old).size }
     requires few_slots { (state_of table.old).size ≤ MOST_SLOTS }
-    requires entries { length catalogue.now ≤ MOST_ENTRIES }
-    requires good { list_any (is_bad_entry (length catalogue.now)) list.now ≡ false }
-    requires first { first ≤ MOST_SLOTS }
-    requires fresh { AreFresh (state_of table.old) first (first + length list.now) }
-    requires room { length (removed_from (files_at (state_of table.old)) off list.now)
-        ≤ closes.old.room }
-    ensures { let was = files_at (state_of table.old) in
-        SetsFiles (state_of table.old) (state_of table.new)
-        (files_after k was off list.now (tags_for list.now tags.entry))
-        (removed_from was off list.now) closes.old closes.new }
+    requires fresh { AreFresh (state_of table.old) numbers.now.first
+        (numbers.now.first + length numbers.now.list.now) }
+    requires room { length (removed_from (files_at (state_of table.old)) numbers.now.off
+        numbers.now.list.now) ≤ closes.old.room }
+    ensures { SetsList numbers.now.k numbers.now.off numbers.now.list.now
+        (tags_for numbers.now.list.now numbers.now.tags)
+        (state_of table.old) (state_of table.new) closes.old closes.new }
 {
-    for (i, number) in list.iter().enumerate() {
-        let place = i as u32;
-        apply_number(
-            table,
-            catalogue,
-            Mark::Registered { k, i: place },
-            tag_at(tags, i),
-            off + place,
-            *number,
-            first + place,
-            closes,
-        );
+    for i in 0..numbers.list.len() {
+        apply_number(table, numbers, i, closes);
     }
 }

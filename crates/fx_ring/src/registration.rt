@@ -9,7 +9,7 @@ ghost use Rattle.fx_ring.specs.Registration.{files_after, is_bad_file, range_ref
 ghost use Rattle.fx_ring.specs.Tags.{no_tags, tags_for};
 ghost use Rattle.fx_ring.specs.Slots.{files_at};
 
-use crate::list::{apply_list, are_bad_tags, has_bad_entry, has_bad_file};
+use crate::list::{NumberList, apply_list, are_bad_tags, has_bad_entry, has_bad_file};
 use crate::ring::{MOST_REGISTRATIONS, Ring};
 use fx_base::{Catalogue, CloseList, Errno, MOST_ENTRIES, NoMemory};
 use fx_plain::{MOST_SLOTS, PlainTable};
@@ -258,16 +258,15 @@ impl Ring {
             return Err(Errno::ENOMEM);
         };
         self.registrations += 1;
-        apply_list(
-            &mut self.table,
-            &self.catalogue,
-            self.registrations,
+        let numbers = NumberList {
+            catalogue: &self.catalogue,
+            k: self.registrations,
             off,
             list,
             tags,
-            size,
-            &mut closes,
-        );
+            first: size,
+        };
+        apply_list(&mut self.table, &numbers, &mut closes);
         closes.sort();
         Ok((len, closes))
     }
@@ -357,6 +356,14 @@ fn new_table(
         table.dismiss();
         return Err(NoMemory);
     };
-    apply_list(&mut table, catalogue, k, 0, list, tags, len, &mut closes);
+    let numbers = NumberList {
+        catalogue,
+        k,
+        off: 0,
+        list,
+        tags,
+        first: len,
+    };
+    apply_list(&mut table, &numbers, &mut closes);
     Ok(table)
 }

@@ -22,8 +22,8 @@ pub apply_list-requires-clause-settled : goal.apply_list-requires-clause-settled
 apply_list-requires-clause-settled c =
     settled_at_opening (state_of c.in_ok-table.table) (state_of c.prepare.new.self) (2 * length c.args.list.now) c.in-Ok.ensures.ok
 
-pub apply_list-requires-clause-good : goal.apply_list-requires-clause-good
-apply_list-requires-clause-good c = good_files (length c.args.catalogue.now) c.args.list.now c.requires.good
+pub invariant_of-numbers-clause-good : goal.invariant_of-numbers-clause-good
+invariant_of-numbers-clause-good c = good_files (length c.args.catalogue.now) c.args.list.now c.requires.good
 
 pub apply_list-requires-clause-fresh : goal.apply_list-requires-clause-fresh
 apply_list-requires-clause-fresh c =
