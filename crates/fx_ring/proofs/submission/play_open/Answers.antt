@@ -1,11 +1,13 @@
 use Rattle.fx_ring.proofs.Words.{◌≡◌, ◌+◌, List, flat_map, length, sym, ap, subst, ◌∙◌, arith, PassView, IsIdle, Opening, size_of, Asked, all_asked}
 use Rattle.fx_ring.proofs.Words.{runs_of, Completed, all_completed, HasRoomFor, ring_with, IsOneHistory, Reported, Worker, Completion, CloseListView}
-use Rattle.fx_ring.proofs.Words.{Closed}
+use Rattle.fx_ring.proofs.Words.{Closed, map}
 use Rattle.std.specs.List.Sorted.{IsPermutation}
 use Rattle.fx_ring.proofs.NewCrew.{IsNew, all_gathered, all_scattered, all_new, all_idle, as_many_passes, new_has_worked, new_has_room, runs_have_all}
 use Rattle.fx_ring.proofs.NewCrew.{runs_weigh_all, runs_are_short}
-use Rattle.fx_ring.proofs.WorkersTogether.{completed_by, closed_by_worker, one_of_each, closes_weigh, one_history}
+use Rattle.fx_ring.proofs.WorkersTogether.{HavePlayed, one_of_each, closes_weigh, one_history}
 use Rattle.fx_ring.proofs.PlayedCrew.{states, crew_has_played, completions_joined, files_joined, as_many_completions, as_many_files}
+use Rattle.fx_ring.proofs.submission.play_open.Given.{Over}
+use Rattle.fx_ring.proofs.submission.play_open.Goals.{After-close-left}
 use Rattle.fx_ring.proofs.submission.play_open.Goals as goal
 
 pub gather-requires-clause-count : goal.gather-requires-clause-count
@@ -43,19 +45,26 @@ close-left-requires-clause-idle g c = all_scattered (λ p. IsIdle (g.T.FileTable
 pub joined-all-requires-clause-nothing_yet : goal.joined-all-requires-clause-nothing_yet
 joined-all-requires-clause-nothing_yet g c = (c.requires.room.all.no_completions, ap (λ (l : CloseListView). l.files) c.requires.room.all.closes)
 
+-- the crew has played, and its passes are back
+module _ (g : Over) (c : After-close-left g) where
+  abbrev V : g.row.T-Pass.Denot → PassView
+  V p = g.T.FileTable.view p
+
+  abbrev ws : List (Worker g.row.T-Pass.Denot)
+  ws = c.work_crew.new.crew.items
+
+  played : HavePlayed c.args.submission.now.catalogue.now (c.args.submission.now.earlier + 1) (runs_of (all_asked c.args.submission.now.requests.now))
+      (g.T.FileTable.opening c.args.table) (states V ws) (map V c.scatter.new.passes.items) c.close-left.result
+  played = crew_has_played V c.args.submission.now.catalogue.now (c.args.submission.now.earlier + 1) c.args.submission.now.requests.now c.args.chains.now
+      (g.T.FileTable.opening c.args.table) c.args.passes.items c.gather.new.crew.items ws c.scatter.new.passes.items c.close-left.result
+      c.requires.members c.requires.chains c.requires.new c.gather.ensures.passes c.work_crew.ensures.numbers c.scatter.ensures.passes
+      (λ k d l. (c.work_crew.ensures.done k d l).between.worked) (λ k d l. (c.work_crew.ensures.done k d l).all_drawn) c.close-left.ensures
+
 pub joined-all-requires-clause-completions : goal.joined-all-requires-clause-completions
 joined-all-requires-clause-completions g c =
-    let V : g.row.T-Pass.Denot → PassView = λ p. g.T.FileTable.view p in
-    let asked : List Asked = all_asked c.args.submission.now.requests.now in
-    let o : Opening = g.T.FileTable.opening c.args.table in
-    let ws : List (Worker g.row.T-Pass.Denot) = c.work_crew.new.crew.items in
-    let played = crew_has_played V c.args.submission.now.catalogue.now (c.args.submission.now.earlier + 1) c.args.submission.now.requests.now c.args.chains.now o c.args.passes.items
-    c.gather.new.crew.items ws c.scatter.new.passes.items c.close-left.result c.requires.members c.requires.chains c.requires.new
-    c.gather.ensures.passes c.work_crew.ensures.numbers c.scatter.ensures.passes
-    (λ k d l. (c.work_crew.ensures.done k d l).between.worked) (λ k d l. (c.work_crew.ensures.done k d l).all_drawn) c.close-left.ensures in
-    let all = one_of_each c.args.submission.now.catalogue.now (c.args.submission.now.earlier + 1) (runs_of asked) o (states V ws) _ _ played in
-    let sum = as_many_completions V ws c.scatter.new.outcomes.items c.scatter.ensures.outcomes in
-    let have = runs_have_all asked in
+    let all = one_of_each _ _ _ _ _ _ _ (played g c) in
+    let sum = as_many_completions (V g c) (ws g c) c.scatter.new.outcomes.items c.scatter.ensures.outcomes in
+    let have = runs_have_all (all_asked c.args.submission.now.requests.now) in
     let room = c.requires.room.all.room in
     let none = ap (λ (l : List Completion). length l) c.requires.room.all.no_completions in
     let len = c.args.room.all.completions.ok.0 in
@@ -63,40 +72,25 @@ joined-all-requires-clause-completions g c =
 
 pub joined-all-requires-clause-closes : goal.joined-all-requires-clause-closes
 joined-all-requires-clause-closes g c =
-    let V : g.row.T-Pass.Denot → PassView = λ p. g.T.FileTable.view p in
-    let asked : List Asked = all_asked c.args.submission.now.requests.now in
-    let o : Opening = g.T.FileTable.opening c.args.table in
-    let ws : List (Worker g.row.T-Pass.Denot) = c.work_crew.new.crew.items in
-    let played = crew_has_played V c.args.submission.now.catalogue.now (c.args.submission.now.earlier + 1) c.args.submission.now.requests.now c.args.chains.now o c.args.passes.items
-    c.gather.new.crew.items ws c.scatter.new.passes.items c.close-left.result c.requires.members c.requires.chains c.requires.new
-    c.gather.ensures.passes c.work_crew.ensures.numbers c.scatter.ensures.passes
-    (λ k d l. (c.work_crew.ensures.done k d l).between.worked) (λ k d l. (c.work_crew.ensures.done k d l).all_drawn) c.close-left.ensures in
-    let few = closes_weigh c.args.submission.now.catalogue.now (c.args.submission.now.earlier + 1) (runs_of asked) o (states V ws) _ _ played in
-    let sum = as_many_files V ws c.scatter.new.outcomes.items c.scatter.ensures.outcomes in
-    let weigh = runs_weigh_all asked in
+    let few = closes_weigh _ _ _ _ _ _ _ (played g c) in
+    let sum = as_many_files (V g c) (ws g c) c.scatter.new.outcomes.items c.scatter.ensures.outcomes in
+    let weigh = runs_weigh_all (all_asked c.args.submission.now.requests.now) in
     let room = ap (λ (l : CloseListView). l.room) c.requires.room.all.closes in
     omega arith
 
 pub returns-clause-played : goal.returns-clause-played
-returns-clause-played g c =
-    let V : g.row.T-Pass.Denot → PassView = λ p. g.T.FileTable.view p in
-    let asked : List Asked = all_asked c.args.submission.now.requests.now in
-    let o : Opening = g.T.FileTable.opening c.args.table in
-    let ws : List (Worker g.row.T-Pass.Denot) = c.work_crew.new.crew.items in
-    let played = crew_has_played V c.args.submission.now.catalogue.now (c.args.submission.now.earlier + 1) c.args.submission.now.requests.now c.args.chains.now o c.args.passes.items
-    c.gather.new.crew.items ws c.scatter.new.passes.items c.close-left.result c.requires.members c.requires.chains c.requires.new
-    c.gather.ensures.passes c.work_crew.ensures.numbers c.scatter.ensures.passes
-    (λ k d l. (c.work_crew.ensures.done k d l).between.worked) (λ k d l. (c.work_crew.ensures.done k d l).all_drawn) c.close-left.ensures in
-    let completions : all_completed c.joined-all.result.completions.items ≡ flat_map completed_by (states V ws) =
-    ap all_completed c.joined-all.ensures.completions ∙ completions_joined V ws c.scatter.new.outcomes.items c.scatter.ensures.outcomes in
-    let files : c.joined-all.result.closes.files ≡ flat_map closed_by_worker (states V ws) =
-    c.joined-all.ensures.closes ∙ files_joined V ws c.scatter.new.outcomes.items c.scatter.ensures.outcomes in
-    let one = one_history c.args.submission.now.catalogue.now c.args.submission.now.earlier asked o (states V ws) _ _ played
-    (all_completed c.sort.new.self.completions.items) c.sort.new.self.closes
+returns-clause-played g c registrations =
+    let a = (goal.at.returns-clause-played g c).After-close-left in
+    let s = c.args.submission.now in
+    let asked = all_asked s.requests.now in
+    let one = one_history _ _ asked _ _ _ _ (played g a) (all_completed c.sort.new.self.completions.items) c.sort.new.self.closes
     (runs_are_short asked c.args.chains.now c.requires.members c.requires.within)
-    (subst (λ (l : List Completed). IsPermutation l (all_completed c.sort.new.self.completions.items)) completions c.sort.ensures.completions)
+    (subst (λ (l : List Completed). IsPermutation l (all_completed c.sort.new.self.completions.items))
+    (ap all_completed c.joined-all.ensures.completions ∙ completions_joined (V g a) (ws g a) c.scatter.new.outcomes.items c.scatter.ensures.outcomes)
+    c.sort.ensures.completions)
     c.sort.ensures.in_order
-    (subst (λ (l : List Closed). IsPermutation l c.sort.new.self.closes.files) files c.sort.ensures.closes)
-    c.sort.ensures.in_order_of_mark in
-    λ registrations. subst (λ (r : Reported). IsOneHistory (ring_with c.args.submission.now.catalogue.now o.contents c.args.submission.now.earlier registrations) asked r
-    (ring_with c.args.submission.now.catalogue.now c.close-left.result (c.args.submission.now.earlier + 1) registrations)) (sym c.report.ensures) (one registrations)
+    (subst (λ (l : List Closed). IsPermutation l c.sort.new.self.closes.files)
+    (c.joined-all.ensures.closes ∙ files_joined (V g a) (ws g a) c.scatter.new.outcomes.items c.scatter.ensures.outcomes) c.sort.ensures.closes)
+    c.sort.ensures.in_order_of_mark registrations in
+    subst (λ (r : Reported). IsOneHistory (ring_with s.catalogue.now (g.T.FileTable.opening c.args.table).contents s.earlier registrations) asked r
+    (ring_with s.catalogue.now c.close-left.result (s.earlier + 1) registrations)) (sym c.report.ensures) one
