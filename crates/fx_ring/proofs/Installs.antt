@@ -4,8 +4,7 @@ use Rattle.fx_ring.proofs.Words.{ap, subst, ◌∙◌, ⊎_elim, inl, inr, Optio
 use Rattle.fx_ring.proofs.Words.{slice_get_past, has_name, FileEntry, name_at, Errno, ENOENT, ENXIO, EBADF, ENOMEM, EINVAL, ENFILE, Mark, Submitted}
 use Rattle.fx_ring.proofs.Words.{Closed, ◌▷◌, File, Action, Look, Release, Put, Clear, Take, Allocate, Full, Answers, OpensAt, ReadsFrom, Empties}
 use Rattle.fx_ring.proofs.Words.{UpdatesFrom, AppliesEntry, AppliesList, Refuses, installed, is_bad_entry, Completed, next_member, Explains, severs}
-use Rattle.fx_ring.proofs.Words.{Operation, Opens, Reads, Closes, Updates, Asked, Place, Target, Slot, Any}
-use Rattle.fx_ring.proofs.CompletionPlaces.{either_way}
+use Rattle.fx_ring.proofs.Words.{Operation, Opens, Reads, Closes, Updates, Asked, Place, Target, Slot, Any, Bool, MatchBool, true}
 use Rattle.fx_ring.proofs.NewMarks.{Puts, puts_then, puts_so, puts_none, puts_one, puts_may_close}
 use Rattle.fx_ring.proofs.Numbers.{or_left, or_right}
 
@@ -28,61 +27,69 @@ entry_named catalogue entry name is = elim (cases_lt entry (length catalogue)) [
   | inr past ↦ let e : None ≡ Some name = sym (ap (option_map (λ (file : FileEntry). file.name)) (slice_get_past catalogue entry past)) ∙ is in cc
 ]
 
+-- what follows from both cases
+pub either_way : (b : Bool) {P Q R : Type 0} → (b ≡ true → P → R) → (b ≡ false → Q → R) → MatchBool b P Q → R
+either_way true here there it = here refl it
+either_way false here there it = there refl it
+
+no_file : (P : File → Type 0) (f : File) → ◌≡◌ {A = Option File} None (Some f) → P f
+no_file P f is = cc
+
+abbrev place_of : Completed → Place
+place_of c = c.place
+
+-- the completion stands at the place, and the steps install such files
+abbrev Gives : Place → (File → Type 0) → List Action → Completed → Type 0
+Gives place P events c = (c.place ≡ place) × Puts P events
+
 module _ (entries : ℕ) (place : Place) where
   abbrev Here : ℕ → File → Type 0
   Here j f = IsMarked entries (Submitted place.submission place.chain place.member j) f
-
-  here : (j entry : ℕ) (f : File) → f.identity ≡ installed place j entry → entry < entries → Here j f
-  here j entry f is inside = (ap (λ (x : Closed). x.mark) is, let same : f.identity.entry ≡ entry = ap (λ (x : Closed). x.entry) is in omega arith)
 
   -- the step that installs it
   installs_here : (j entry : ℕ) (f : File) (a : Action) → installed_by a ≡ Some f → f.identity ≡ installed place j entry → entry < entries
       → Puts (Here j) ([] ▷ a)
   installs_here j entry f a new is inside = puts_one (Here j) a
-      (λ g now. let both : Some f ≡ Some g = sym new ∙ now in let e : f ≡ g = cc both in subst (Here j) e (here j entry f is inside))
+      (λ g now. let both : Some f ≡ Some g = sym new ∙ now in let e : f ≡ g = cc both in subst (Here j) e
+      (ap (λ (x : Closed). x.mark) is, let same : f.identity.entry ≡ entry = ap (λ (x : Closed). x.entry) is in omega arith))
 
-  refuses_none : (P : File → Type 0) (errno : Errno) (events : List Action) (c : Completed) → Refuses place errno events c → Puts P events
-  refuses_none P errno events c it = subst (Puts P) (sym it.0) (puts_none P [] (λ f is. is))
+  refuses : (P : File → Type 0) (errno : Errno) (events : List Action) (c : Completed) → Refuses place errno events c → Gives place P events c
+  refuses P errno events c it = (ap place_of it.1, subst (Puts P) (sym it.0) (puts_none P [] (λ f is. is)))
 
   opens : (size entry : ℕ) (target : Target) (events : List Action) (c : Completed) → entry < entries → OpensAt size place entry target events c
-      → Puts (Here 0) events
+      → Gives place (Here 0) events c
   opens size entry (Slot slot) events c inside it =
-      either_way (size == 0) (λ _. refuses_none (Here 0) ENXIO events c)
-      (λ _. either_way (nat_le size slot) (λ _. refuses_none (Here 0) EINVAL events c)
-      (λ _ put. puts_may_close (Here 0) ([] ▷ Put slot put.0 put.1) put.1 events put.3 (installs_here 0 entry put.0 (Put slot put.0 put.1) refl put.2 inside))) it
+      either_way (size == 0) (λ _. refuses (Here 0) ENXIO events c)
+      (λ _. either_way (nat_le size slot) (λ _. refuses (Here 0) EINVAL events c)
+      (λ _ put. (ap place_of put.4, puts_may_close (Here 0) ([] ▷ Put slot put.0 put.1) put.1 events put.3
+      (installs_here 0 entry put.0 (Put slot put.0 put.1) refl put.2 inside)))) it
   opens size entry Any events c inside it =
-      either_way (size == 0) (λ _. refuses_none (Here 0) ENFILE events c)
+      either_way (size == 0) (λ _. refuses (Here 0) ENFILE events c)
       (λ _. ⊎_elim
-      (λ found. subst (Puts (Here 0)) (sym found.3) (installs_here 0 entry found.1 (Allocate found.0 found.1) refl found.2 inside))
-      (λ full. subst (Puts (Here 0)) (sym full.0) (puts_one (Here 0) Full (λ f now. let e : None ≡ Some f = now in cc)))) it
+      (λ found. (ap place_of found.4, subst (Puts (Here 0)) (sym found.3) (installs_here 0 entry found.1 (Allocate found.0 found.1) refl found.2 inside)))
+      (λ full. (ap place_of full.1, subst (Puts (Here 0)) (sym full.0) (puts_one (Here 0) Full (no_file (Here 0)))))) it
 
   module _ (P : File → Type 0) where
-    no_file : (f : File) → ◌≡◌ {A = Option File} None (Some f) → P f
-    no_file f is = cc
-
-    looks : (slot : ℕ) (found : Option File) → Puts P ([] ▷ Look slot found)
-    looks slot found = puts_one P (Look slot found) no_file
-
     reads : (catalogue : List FileEntry) (size slot off len : ℕ) (events : List Action) (c : Completed)
-        → ReadsFrom catalogue size place slot off len events c → Puts P events
+        → ReadsFrom catalogue size place slot off len events c → Gives place P events c
     reads catalogue size slot off len events c it =
-        either_way (nat_le size slot) (λ _. refuses_none P EBADF events c)
+        either_way (nat_le size slot) (λ _. refuses P EBADF events c)
         (λ _. ⊎_elim
-        (λ large. refuses_none P ENOMEM events c large.1)
+        (λ large. refuses P ENOMEM events c large.1)
         (⊎_elim
-        (λ none. subst (Puts P) (sym none.0) (looks slot None))
-        (λ found. puts_may_close P ([] ▷ Look slot (Some found.0) ▷ Release found.0) (Some found.0) events found.1
+        (λ none. (ap place_of none.1, subst (Puts P) (sym none.0) (puts_one P (Look slot None) (no_file P))))
+        (λ found. (ap place_of found.2, puts_may_close P ([] ▷ Look slot (Some found.0) ▷ Release found.0) (Some found.0) events found.1
         (puts_none P ([] ▷ Look slot (Some found.0) ▷ Release found.0)
-        (λ f. ⊎_elim (⊎_elim (λ before. before) (λ look. let e : None ≡ Some f = look in cc))
-        (λ release. let e : None ≡ Some f = release in cc)))))) it
+        (λ f. ⊎_elim (⊎_elim (λ before. before) (no_file (λ _. ⊥) f)) (no_file (λ _. ⊥) f))))))) it
 
-    empties : (size slot : ℕ) (events : List Action) (c : Completed) → Empties size place slot events c → Puts P events
+    empties : (size slot : ℕ) (events : List Action) (c : Completed) → Empties size place slot events c → Gives place P events c
     empties size slot events c it =
-        either_way (size == 0) (λ _. refuses_none P ENXIO events c)
-        (λ _. either_way (nat_le size slot) (λ _. refuses_none P EINVAL events c)
+        either_way (size == 0) (λ _. refuses P ENXIO events c)
+        (λ _. either_way (nat_le size slot) (λ _. refuses P EINVAL events c)
         (λ _. ⊎_elim
-        (λ none. subst (Puts P) (sym none.0) (puts_one P (Take slot None) no_file))
-        (λ taken. puts_may_close P ([] ▷ Take slot (Some taken.0)) (Some taken.0) events taken.1 (puts_one P (Take slot (Some taken.0)) no_file)))) it
+        (λ none. (ap place_of none.1, subst (Puts P) (sym none.0) (puts_one P (Take slot None) (no_file P))))
+        (λ taken. (ap place_of taken.2, puts_may_close P ([] ▷ Take slot (Some taken.0)) (Some taken.0) events taken.1
+        (puts_one P (Take slot (Some taken.0)) (no_file P)))))) it
 
   applies_entry : (j slot : ℕ) (z : ℤ) (events : List Action) → is_bad_entry entries z ≡ false → AppliesEntry place j slot z events
       → Puts (Here j) events
@@ -112,25 +119,25 @@ module _ (entries : ℕ) (place : Place) where
       (applies_list (j + 1) (slot + 1) list others (or_right _ _ good) more))
 
   updates : (size off : ℕ) (list : List ℤ) (events : List Action) (c : Completed) → UpdatesFrom entries size place off list events c
-      → Puts (IsListed entries place 0) events
+      → Gives place (IsListed entries place 0) events c
   updates size off list events c it =
-      either_way (size == 0) (λ _. refuses_none (IsListed entries place 0) ENXIO events c)
-      (λ _. either_way (length list == 0 || nat_lt size (off + length list)) (λ _. refuses_none (IsListed entries place 0) EINVAL events c)
-      (λ _. either_way (list_any (is_bad_entry entries) list) (λ _. refuses_none (IsListed entries place 0) EBADF events c)
-      (λ good applied. applies_list 0 off list events good applied.0))) it
+      either_way (size == 0) (λ _. refuses (IsListed entries place 0) ENXIO events c)
+      (λ _. either_way (length list == 0 || nat_lt size (off + length list)) (λ _. refuses (IsListed entries place 0) EINVAL events c)
+      (λ _. either_way (list_any (is_bad_entry entries) list) (λ _. refuses (IsListed entries place 0) EBADF events c)
+      (λ good applied. (ap place_of applied.1, applies_list 0 off list events good applied.0)))) it
 
 module _ (catalogue : List FileEntry) (size : ℕ) where
-  answer_puts : (place : Place) (operation : Operation) (events : List Action) (c : Completed) → Answers catalogue size place operation events c
-      → Puts (IsListed (length catalogue) place 0) events
-  answer_puts place (Opens name target) events c it =
+  pub answered : (place : Place) (operation : Operation) (events : List Action) (c : Completed) → Answers catalogue size place operation events c
+      → Gives place (IsListed (length catalogue) place 0) events c
+  answered place (Opens name target) events c it =
       either_way (has_name name catalogue)
-      (λ _ found. puts_so (Here (length catalogue) place 0) (IsListed (length catalogue) place 0) events (λ f at. (0, omega arith, at))
-      (opens (length catalogue) place size found.0 target events c (entry_named catalogue found.0 name found.1) found.2))
-      (λ _. refuses_none (length catalogue) place (IsListed (length catalogue) place 0) ENOENT events c) it
-  answer_puts place (Reads slot off len) events c it =
+      (λ _ found. let o = opens (length catalogue) place size found.0 target events c (entry_named catalogue found.0 name found.1) found.2 in
+      (o.0, puts_so (Here (length catalogue) place 0) (IsListed (length catalogue) place 0) events (λ f at. (0, omega arith, at)) o.1))
+      (λ _. refuses (length catalogue) place (IsListed (length catalogue) place 0) ENOENT events c) it
+  answered place (Reads slot off len) events c it =
       reads (length catalogue) place (IsListed (length catalogue) place 0) catalogue size slot off len events c it
-  answer_puts place (Closes slot) events c it = empties (length catalogue) place (IsListed (length catalogue) place 0) size slot events c it
-  answer_puts place (Updates off list) events c it = updates (length catalogue) place size off list events c it
+  answered place (Closes slot) events c it = empties (length catalogue) place (IsListed (length catalogue) place 0) size slot events c it
+  answered place (Updates off list) events c it = updates (length catalogue) place size off list events c it
 
   later_member : (place : Place) (f g : File) → IsOfMembers (length catalogue) (next_member place) f → IsListed (length catalogue) place 0 g
       → f.identity.mark ≢ g.identity.mark
@@ -151,7 +158,7 @@ module _ (catalogue : List FileEntry) (size : ℕ) where
       (λ f at. (place.member, at.0, omega arith, at.2))
       (λ f at. (at.0, at.1, let le = at.2 in omega arith, at.3))
       (later_member place)
-      (answer_puts place request.operation own c answers)
+      (answered place request.operation own c answers).1
       (either_way (severs request c)
       (λ _ cut. subst (Puts P) (sym cut.0) (puts_none P [] (λ f it. it)))
       (λ _ more. explained_puts (next_member place) requests others cs more)

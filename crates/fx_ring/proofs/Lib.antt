@@ -9,10 +9,10 @@ pub mod Updates
 pub mod RoomForAll
 pub mod Parts
 pub mod OneOrder
-pub mod CompletionPlaces
-pub mod PartsExplained
 pub mod NewMarks
 pub mod Installs
+pub mod CompletionPlaces
+pub mod PartsExplained
 pub mod ChainsApart
 pub mod MarksApart
 pub mod SubmittedRing
