@@ -11,7 +11,7 @@ use Rattle.fx_chain.specs.Performs.{PlaysChain, player}
 use Rattle.fx_chain.proofs.ChainGoesOn.{explained_count}
 use Rattle.fx_ring.proofs.Behind.{sum_behind}
 use Rattle.fx_ring.proofs.OneKey.{only_first, only_second, not_first, not_second}
-use Rattle.fx_ring.proofs.Places.{explained_of_chain}
+use Rattle.fx_ring.proofs.CompletionPlaces.{explained_of_members}
 
 abbrev chain_of : Event → ℕ
 chain_of e = e.chain
@@ -56,8 +56,8 @@ module _ (o : Opening) (catalogue : List FileEntry) (submission : ℕ) (runs : L
       (λ e h. ap chain_of (contains_map (event_of (drawing o v chain)) actions e h).2)
 
   new_completions : All (λ c. chain_of_completed c ≡ chain) played.0
-  new_completions = explained_of_chain catalogue (size_of o) (first_member submission chain) (run_of_chain runs chain) actions played.0
-      played.2.says
+  new_completions k d l = ((explained_of_members catalogue (size_of o) (first_member submission chain) (run_of_chain runs chain) actions played.0
+      played.2.says).within k d l).0
 
   -- those before are of chains before it
   old_events : All (λ e. chain_of e ≢ chain) v.own

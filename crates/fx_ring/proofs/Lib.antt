@@ -18,7 +18,6 @@ pub mod MarksApart
 pub mod SubmittedRing
 pub mod Behind
 pub mod OneKey
-pub mod Places
 pub mod ChainPlayed
 pub mod Runs
 pub mod NumberedParts

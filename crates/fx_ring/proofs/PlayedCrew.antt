@@ -2,8 +2,8 @@
 use Rattle.fx_ring.proofs.Words.{◌≡◌, ℕ, List, [], ◌∷◌, ◌++◌, map, flat_map, reverse, length, All, true, sum_by, refl, sym, ap, ◌∙◌, arith}
 use Rattle.fx_ring.proofs.Words.{length-map, reverse-reverse, map-append, map-map, length-flat_map, All-map, Closed, FileEntry, Contents, ClosesTable}
 use Rattle.fx_ring.proofs.Words.{Opening, size_of, PassView, new_passes, sum_reverse, all_completed, completed_of, members_of, all_asked, runs_of}
-use Rattle.fx_ring.proofs.Words.{Chain, Request, Completion, state_of_worker, HasWorked, WorkerState, Outcome, Worker}
-use Rattle.fx_ring.proofs.NewCrew.{map_reversed, numbers_are}
+use Rattle.fx_ring.proofs.Words.{Chain, Request, IsChain, Completion, state_of_worker, HasWorked, WorkerState, Outcome, Worker}
+use Rattle.fx_ring.proofs.NewCrew.{map_reversed, numbers_are, runs_are_short}
 use Rattle.fx_ring.proofs.WorkersTogether.{HavePlayed, pass_of, number_of, completed_by, closed_by_worker}
 use Rattle.fx_ring.proofs.Runs.{as_many}
 use Rattle.fx_ring.proofs.NumberedParts.{mapped_parts}
@@ -59,7 +59,7 @@ module _ {P : Type 0} (V : P → PassView) where
   -- a crew has played, once its passes are back: what each worker did is known, and each was told that no chains are left
   module _ (catalogue : List FileEntry) (submission : ℕ) (requests : List Request) (chains : List Chain) (o : Opening)
       (ps : List P) (begun ws : List (Worker P)) (back : List P) (left : Contents)
-      (members : map (members_of (all_asked requests)) chains ≡ runs_of (all_asked requests)) (count : o.chains ≡ length chains)
+      (members : map (members_of (all_asked requests)) chains ≡ runs_of (all_asked requests)) (within : All (IsChain (all_asked requests)) chains) (count : o.chains ≡ length chains)
       (new : map (λ p. V p) ps ≡ new_passes o.passes) (gathered : map (λ w. w.pass) begun ≡ reverse ps)
       (numbers : map (λ w. (V w.pass).number) ws ≡ map (λ w. (V w.pass).number) begun) (scattered : back ≡ reverse (map (λ w. w.pass) ws)) where
     pub crew_has_played : All (λ w. HasWorked catalogue (size_of o) submission (runs_of (all_asked requests)) (state_of_worker V w)) ws
@@ -69,6 +69,7 @@ module _ {P : Type 0} (V : P → PassView) where
       worked = All-map (HasWorked catalogue (size_of o) submission (runs_of (all_asked requests))) (state_of_worker V) ws worked;
       told = All-map (λ w. w.pass.no_chains_left ≡ true) (state_of_worker V) ws told;
       chains = count ∙ sym (as_many requests chains members);
+      short = runs_are_short (all_asked requests) chains members within;
       are = scattered_views ws back scattered;
       numbers = map-map number_of (state_of_worker V) ws ∙ (numbers ∙ numbers_are V ps o.passes new begun gathered);
       closing = closing;

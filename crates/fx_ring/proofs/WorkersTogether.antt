@@ -4,7 +4,7 @@ use Rattle.fx_ring.proofs.Words.{count_by, slice_index_or, refl, sym, ap, subst,
 use Rattle.fx_ring.proofs.Words.{All-tail, All-contains, length-flat_map, IsPermutation-trans, length_permutation, FileEntry, IsInOrderOfMark}
 use Rattle.fx_ring.proofs.Words.{CloseListView, Closed, by_equality, opening, Contents, state_of, IsLegal, action_of, part_of_chain, part_of_pass}
 use Rattle.fx_ring.proofs.Words.{Event, ClosesTable, times_drawn, numbers_for, Opening, size_of, state_at, PassView, IsOfDrawnChains, some_times}
-use Rattle.fx_ring.proofs.Words.{part_of_drawn, sum_reverse, sum_map, sum_le_of, MOST_MEMBERS, Completed, Explains, first_member, Asked, runs_of}
+use Rattle.fx_ring.proofs.Words.{part_of_drawn, sum_reverse, sum_map, sum_le_of, Completed, Explains, first_member, Asked, runs_of}
 use Rattle.fx_ring.proofs.Words.{all_weights, ring_with, IsOneHistory, WorkerState, HasWorked, run_of_chain, completions_of_chain}
 use Rattle.std.specs.Prelude.{Contains}
 use Rattle.std.specs.List.Sorted.{IsPermutation}
@@ -13,7 +13,8 @@ use Rattle.fx_table.proofs.Members.{contains_reversed, each_all}
 use Rattle.fx_ring.proofs.ClosesInParts.{closes_of, closes_with, closes_by_key}
 use Rattle.fx_ring.proofs.NumberedParts.{numbers_from, number_within, sum_by_place, one_part, all_parts, filter_parts, parts_reversed, same_parts}
 use Rattle.fx_ring.proofs.NumberedParts.{mapped_parts}
-use Rattle.fx_ring.proofs.PartsExplained.{place_key, one_of_each_request, in_order_explained}
+use Rattle.fx_ring.proofs.CompletionPlaces.{place_key}
+use Rattle.fx_ring.proofs.PartsExplained.{IsShort, one_of_each_request, in_order_explained}
 
 abbrev pub pass_of : WorkerState → PassView
 pass_of w = w.pass
@@ -55,6 +56,7 @@ pub record HavePlayed (catalogue : List FileEntry) (submission : ℕ) (runs : Li
   pub worked : All (HasWorked catalogue (size_of o) submission runs) crew
   pub told : All (λ w. w.pass.no_chains_left ≡ true) crew
   pub chains : o.chains ≡ length runs
+  pub short : All IsShort runs
   pub are : passes ≡ reverse (map pass_of crew)
   pub numbers : map number_of crew ≡ reverse (numbers_from 1 o.passes)
   pub closing : ClosesTable o passes left
@@ -143,7 +145,7 @@ module _ (catalogue : List FileEntry) (submission : ℕ) (runs : List (List Aske
 
   -- there is a completion for each request
   pub one_of_each : length joined ≡ sum_by (λ run. length run) runs
-  one_of_each = one_of_each_request catalogue (size_of o) submission closing.history joined runs inside explained
+  one_of_each = one_of_each_request catalogue (size_of o) submission closing.history joined runs played.short inside explained
 
   passes_inside : All (λ e. (1 ≤ e.pass) × (e.pass < 1 + o.passes)) closing.history
   passes_inside = each_all (λ e. (1 ≤ e.pass) × (e.pass < 1 + o.passes)) closing.history (λ e h.
@@ -205,21 +207,21 @@ module _ (catalogue : List FileEntry) (submissions : ℕ) (requests : List Asked
   abbrev history : List Event
   history = played.closing.history
 
-  pub one_history : All (λ run. length run ≤ MOST_MEMBERS) runs → IsPermutation (flat_map completed_by crew) sorted → IsNonDecreasingBy place_key sorted
+  pub one_history : IsPermutation (flat_map completed_by crew) sorted → IsNonDecreasingBy place_key sorted
       → IsPermutation (flat_map closed_by_worker crew) closes.files → IsInOrderOfMark closes.files → (registrations : ℕ)
       → IsOneHistory (ring_with catalogue o.contents submissions registrations) requests
       (record { submission = submissions + 1; completions = sorted; closes = closes })
       (ring_with catalogue left (submissions + 1) registrations)
-  one_history short same rises closed in_order registrations = record {
+  one_history same rises closed in_order registrations = record {
     history = history;
     end = state_at o history;
     legal = subst (λ (n : ℕ). IsLegal (opening (state_of o.contents) (numbers_for n)) history (state_at o history))
         played.chains played.closing.legal;
     settled = played.closing.settled;
     chains = events_inside catalogue (submissions + 1) runs o crew passes left played;
-    explained = in_order_explained catalogue (size_of o) (submissions + 1) history (flat_map completed_by crew) runs
+    explained = in_order_explained catalogue (size_of o) (submissions + 1) history (flat_map completed_by crew) runs played.short
         (inside catalogue (submissions + 1) runs o crew passes left played)
-        (explained catalogue (submissions + 1) runs o crew passes left played) sorted short same rises;
+        (explained catalogue (submissions + 1) runs o crew passes left played) sorted same rises;
     closed = record {
       same_files = IsPermutation-trans _ _ _ (closes_joined catalogue (submissions + 1) runs o crew passes left played) closed;
       in_order = in_order;

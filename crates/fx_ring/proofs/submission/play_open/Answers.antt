@@ -3,7 +3,7 @@ use Rattle.fx_ring.proofs.Words.{runs_of, Completed, all_completed, HasRoomFor, 
 use Rattle.fx_ring.proofs.Words.{Closed, map}
 use Rattle.std.specs.List.Sorted.{IsPermutation}
 use Rattle.fx_ring.proofs.NewCrew.{IsNew, all_gathered, all_scattered, all_new, all_idle, as_many_passes, new_has_worked, new_has_room, runs_have_all}
-use Rattle.fx_ring.proofs.NewCrew.{runs_weigh_all, runs_are_short}
+use Rattle.fx_ring.proofs.NewCrew.{runs_weigh_all}
 use Rattle.fx_ring.proofs.WorkersTogether.{HavePlayed, one_of_each, closes_weigh, one_history}
 use Rattle.fx_ring.proofs.PlayedCrew.{states, crew_has_played, completions_joined, files_joined, as_many_completions, as_many_files}
 use Rattle.fx_ring.proofs.submission.play_open.Given.{Over}
@@ -57,7 +57,7 @@ module _ (g : Over) (c : After-close-left g) where
       (g.T.FileTable.opening c.args.table) (states V ws) (map V c.scatter.new.passes.items) c.close-left.result
   played = crew_has_played V c.args.submission.now.catalogue.now (c.args.submission.now.earlier + 1) c.args.submission.now.requests.now c.args.chains.now
       (g.T.FileTable.opening c.args.table) c.args.passes.items c.gather.new.crew.items ws c.scatter.new.passes.items c.close-left.result
-      c.requires.members c.requires.chains c.requires.new c.gather.ensures.passes c.work_crew.ensures.numbers c.scatter.ensures.passes
+      c.requires.members c.requires.within c.requires.chains c.requires.new c.gather.ensures.passes c.work_crew.ensures.numbers c.scatter.ensures.passes
       (λ k d l. (c.work_crew.ensures.done k d l).between.worked) (λ k d l. (c.work_crew.ensures.done k d l).all_drawn) c.close-left.ensures
 
 pub joined-all-requires-clause-completions : goal.joined-all-requires-clause-completions
@@ -84,7 +84,6 @@ returns-clause-played g c registrations =
     let s = c.args.submission.now in
     let asked = all_asked s.requests.now in
     let one = one_history _ _ asked _ _ _ _ (played g a) (all_completed c.sort.new.self.completions.items) c.sort.new.self.closes
-    (runs_are_short asked c.args.chains.now c.requires.members c.requires.within)
     (subst (λ (l : List Completed). IsPermutation l (all_completed c.sort.new.self.completions.items))
     (ap all_completed c.joined-all.ensures.completions ∙ completions_joined (V g a) (ws g a) c.scatter.new.outcomes.items c.scatter.ensures.outcomes)
     c.sort.ensures.completions)
