@@ -1,7 +1,7 @@
 -- A file leaves its slot, and is closed at once.
 use Rattle.fx_ring.proofs.Words.{◌≡◌, ℕ, ◌+◌, ◌<◌, Bool, true, List, ◌++◌, length, refl, sym, ap, subst, ◌∙◌, Option, Some, None, if◌then◌else◌}
-use Rattle.fx_ring.proofs.Words.{option_to_list, arith, CloseListView, Closed, File, Action, Put, Clear, State, IsSettled, Steps, changed_at}
-use Rattle.fx_ring.proofs.Words.{with_removed, Leads, close_of, identity_of, number_of, numbered, more_leaving, by_equality, files_at}
+use Rattle.fx_ring.proofs.Words.{option_to_list, arith, CloseListView, Closed, File, Action, State, IsSettled, changed_at}
+use Rattle.fx_ring.proofs.Words.{with_removed, Leads, close_of, identity_of, number_of, more_leaving, by_equality, files_at}
 use Rattle.fx_table.proofs.Changes.{changed_here, changed_else}
 use Rattle.fx_ring.specs.Slots.{SetsSlot, CanRetire, closes_of_removed, file_removed}
 
@@ -66,51 +66,26 @@ closed_up first before last (Some f) s out holds lead =
     (λ apart. ap (λ (r : ℕ → Option File). r n) out ∙ changed_else first.removed f.number (Some f) n apart ∙ s.closed n))
 
 -- what a removal at a slot and the close behind it come to, as the calls make them
-module _ (first before last : State) (slot : ℕ) (there : Option File) (removed : Option ℕ) (earlier closed : CloseListView)
-    (settled : IsSettled first) (was : first.at slot ≡ there) (is : removed ≡ number_of there)
-    (lead : Leads before (closes_of_removed before removed) last)
-    (files : closed.files ≡ earlier.files ++ option_to_list (file_removed before removed))
-    (room : closed.room + length (option_to_list (file_removed before removed)) ≡ earlier.room) where
-  found : before.removed ≡ with_removed first.removed there → file_removed before removed ≡ files_at first slot
-  found out = ap (file_removed before) is ∙ removed_found first before there out ∙ ap identity_of (sym was)
-
-  closing : before.removed ≡ with_removed first.removed there → before.holds ≡ first.holds → IsClosedUp first before last
-  closing out holds = closed_up first before last there settled out holds
-      (subst (λ (h : List Action). Leads before h last) (ap (closes_of_removed before) is ∙ closes_found first before there out) lead)
-
-  sets : (x : Option File) → before.removed ≡ with_removed first.removed there → before.holds ≡ first.holds
-      → before.size ≡ first.size → before.range ≡ first.range → before.at ≡ changed_at first.at slot x
-      → SetsSlot first last slot (identity_of x) earlier closed
-  sets x out holds size range at =
-      let up = closing out holds in
+pub removed_and_closed : (first before last : State) (slot : ℕ) (x there : Option File) (fresh : ℕ → Bool) (removed : Option ℕ)
+    (earlier closed : CloseListView) → IsSettled first → first.at slot ≡ there → removed ≡ number_of there
+    → before ≡ record first { at = changed_at first.at slot x; fresh = fresh; removed = with_removed first.removed there }
+    → Leads before (closes_of_removed before removed) last
+    → closed.files ≡ earlier.files ++ option_to_list (file_removed before removed)
+    → closed.room + length (option_to_list (file_removed before removed)) ≡ earlier.room
+    → SetsSlot first last slot (identity_of x) earlier closed × (last.fresh ≡ fresh)
+removed_and_closed first before last slot x there fresh removed earlier closed settled was is step lead files room =
+    let out = ap (λ (st : State). st.removed) step in
+    let found = ap (file_removed before) is ∙ removed_found first before there out ∙ ap identity_of (sym was) in
+    let up = closed_up first before last there settled out (ap (λ (st : State). st.holds) step)
+    (subst (λ (h : List Action). Leads before h last) (ap (closes_of_removed before) is ∙ closes_found first before there out) lead) in (
       record {
-        size = up.size ∙ size;
-        range = up.range ∙ range;
-        at_slots = ap (λ (a : ℕ → Option File). (λ (s : ℕ). identity_of (a s))) (up.at ∙ at) ∙ files_changed first.at slot x;
+        size = up.size ∙ ap (λ (st : State). st.size) step;
+        range = up.range ∙ ap (λ (st : State). st.range) step;
+        at_slots = ap (λ (a : ℕ → Option File). (λ (s : ℕ). identity_of (a s))) (up.at ∙ ap (λ (st : State). st.at) step)
+            ∙ files_changed first.at slot x;
         settled = up.settled;
-        closed = files ∙ ap (λ (y : Option Closed). earlier.files ++ option_to_list y) (found out);
-        room = ap (λ (y : Option Closed). closed.room + length (option_to_list y)) (sym (found out)) ∙ room;
-      }
-
-  pub cleared : Steps first (Clear slot there) before → SetsSlot first last slot None earlier closed
-  cleared step = sets None (ap (λ (st : State). st.removed) step.1) (ap (λ (st : State). st.holds) step.1)
-      (ap (λ (st : State). st.size) step.1) (ap (λ (st : State). st.range) step.1) (ap (λ (st : State). st.at) step.1)
-
-  pub cleared_fresh : Steps first (Clear slot there) before → last.fresh ≡ first.fresh
-  cleared_fresh step =
-      (closing (ap (λ (st : State). st.removed) step.1) (ap (λ (st : State). st.holds) step.1)).fresh
-      ∙ ap (λ (st : State). st.fresh) step.1
-
-  pub filled : (number : ℕ) (file : Closed) → Steps first (Put slot (numbered number file) there) before
-      → SetsSlot first last slot (Some file) earlier closed
-  filled number file step = sets (Some (numbered number file))
-      (ap (λ (st : State). st.removed) step.1) (ap (λ (st : State). st.holds) step.1)
-      (ap (λ (st : State). st.size) step.1) (ap (λ (st : State). st.range) step.1) (ap (λ (st : State). st.at) step.1)
-
-  pub filled_fresh : (number : ℕ) (file : Closed) → Steps first (Put slot (numbered number file) there) before
-      → (other : ℕ) → number < other → last.fresh other ≡ first.fresh other
-  filled_fresh number file step other above =
-      ap (λ (g : ℕ → Bool). g other)
-      ((closing (ap (λ (st : State). st.removed) step.1) (ap (λ (st : State). st.holds) step.1)).fresh
-      ∙ ap (λ (st : State). st.fresh) step.1)
-      ∙ changed_else first.fresh number _ other (λ same. omega arith)
+        closed = files ∙ ap (λ (y : Option Closed). earlier.files ++ option_to_list y) found;
+        room = ap (λ (y : Option Closed). closed.room + length (option_to_list y)) (sym found) ∙ room;
+      },
+      up.fresh ∙ ap (λ (st : State). st.fresh) step,
+    )

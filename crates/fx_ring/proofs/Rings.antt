@@ -1,7 +1,7 @@
 -- What a ring keeps, as its table changes.
 use Rattle.fx_ring.proofs.Words.{◌≡◌, ℕ, Bool, zero, suc, ◌<◌, List, [], ◌++◌, length, refl, sym, ap, subst, ◌∙◌, Option, Some, None, All, arith, not}
 use Rattle.fx_ring.proofs.Words.{◌&&◌, nat_lt, option_to_list, IsPermutation, All-append, All-cons, All-nil, All-permutation, lt-ltb, le-ltb}
-use Rattle.fx_ring.proofs.Words.{CloseListView, IsInOrderOfMark, Closed, State, IsSettled, opening, file_numbered, vacant, identity_of, File}
+use Rattle.fx_ring.proofs.Words.{CloseListView, IsInOrderOfMark, Closed, State, IsSettled, opening, file_numbered, vacant, state_of, identity_of, File}
 use Rattle.fx_ring.proofs.Words.{Contents, IsGivenBack, RingContents, RingState, IsAtRest, IsRing, HasClosed, AreEntries, ring_of, ring_with}
 use Rattle.fx_ring.proofs.Words.{with_table, AreFresh, files_at}
 use Rattle.fx_plain.specs.State.{identities_of, files_in_order as files_in_order_of_state, files_of as files_of_state}
@@ -55,17 +55,21 @@ list_closed files given closes is same order = record {
   in_order = order;
 }
 
--- a list of all files of a table, once it is in order
-pub all_closed : (at : ℕ → Option File) (size : ℕ) (given : List Closed) (closes : CloseListView)
-    → given ≡ files_in_order_of_state at size → IsPermutation given closes.files → IsInOrderOfMark closes.files
-    → HasClosed (files_in_order (λ slot. identity_of (at slot)) size) closes
-all_closed at size given closes is = list_closed (files_in_order (λ slot. identity_of (at slot)) size) given closes (is ∙ sym (files_of-state at size))
-
 -- what was closed is of the catalogue, where all of it was
 pub entries_closed : (ring : RingState) (files : List Closed) (closes : CloseListView)
     → AreEntries ring files → HasClosed files closes → AreEntries ring closes.files
 entries_closed ring files closes all closed =
     All-permutation (IsEntry (length ring.catalogue)) files closes.files closed.same_files all
+
+-- a list of all files of a ring, once it is in order
+pub all_closed : (ring seen : RingContents) (given : List Closed) (closes : CloseListView) → ring ≡ seen → IsRing (ring_of ring)
+    → given ≡ files_of_state (state_of ring.table) → IsPermutation given closes.files → IsInOrderOfMark closes.files
+    → HasClosed (files_of (ring_of seen)) closes × AreEntries (ring_of seen) closes.files
+all_closed ring seen given closes same is all permutation order =
+    let closed = list_closed (files_of (ring_of ring)) given closes
+    (all ∙ sym (files_of-state (state_of ring.table).at (state_of ring.table).size)) permutation order in
+    subst (λ (c : RingContents). HasClosed (files_of (ring_of c)) closes × AreEntries (ring_of c) closes.files) same
+    (closed, entries_closed (ring_of ring) (files_of (ring_of ring)) closes (entries_of (ring_of ring) is) closed)
 
 -- a table that was emptied is settled
 pub emptied_settled : (st : State) (fresh : ℕ → Bool) → st ≡ record (vacant 0) { fresh = fresh } → IsSettled st

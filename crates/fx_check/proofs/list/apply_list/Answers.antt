@@ -1,5 +1,6 @@
-use Rattle.std.proofs.Common.{◌≡◌, ◌+◌, ℕ, ℤ, List, [], ◌∷◌, ◌++◌, pos, to_z, of_z, w32, slice_index_or, take, ap, subst, sym, ◌∙◌, rules, arith, length, append-nil}
-use Rattle.std.proofs.Math.Seq.{take-length}
+use Rattle.std.proofs.Common.{◌≡◌, ◌+◌, ℕ, ℤ, List, [], ◌∷◌, ◌++◌, pos, to_z, of_z, w32, slice_index_or, drop, ap, refl, subst, sym, ◌∙◌, rules, arith, length, append-nil}
+use Rattle.std.proofs.Math.Seq.{drop-length}
+use Rattle.fx_ring.proofs.ListSteps.{files_upto, upto_none, upto_all}
 use Rattle.std.specs.Global.{Vec}
 use Rattle.std.specs.Option.{option_to_list}
 use Rattle.fx_base.specs.declared.mark.Mark.TheVariants.{Registered}
@@ -13,6 +14,17 @@ use Rattle.fx_check.proofs.ListWorked.{in_range_after, one_more, more_removed}
 use Rattle.fx_check.proofs.list.apply_list.Goals.{in-Some+in_ok-push, in_default}
 use Rattle.fx_check.proofs.list.apply_list.Goals as goal
 
+pub loop-i-init : goal.loop-i-init
+loop-i-init c =
+    let first = table_of_slots c.args.slots.now in
+    record {
+      table = ap (λ (a : ℕ → _). record first { at = a }) (sym (upto_none c.args.k first.at c.args.off c.args.list.now (tags_for c.args.list.now c.args.tags)));
+      in_range = λ fits. fits;
+      removed = let e : c.args.off + 0 ≡ c.args.off = omega arith in
+          ap (λ (l : List Closed). l ++ removed_from first.at (c.args.off + 0) c.args.list.now) c.new-removed.ensures.empty
+          ∙ ap (λ (n : ℕ). removed_from first.at n c.args.list.now) e;
+    }
+
 pub loop-i-preserved : goal.loop-i-preserved
 loop-i-preserved c =
     let number = slice_index_or c.args.list.now c.loop-i.i (pos 0) in
@@ -25,7 +37,7 @@ loop-i-preserved c =
     let after : new ≡ with_file cur (c.args.off + c.loop-i.i) (file_after (Registered c.args.k c.loop-i.i) c.tag_at.result z (cur.at (c.args.off + c.loop-i.i))) =
     c.apply_number.ensures.table in
     let gone = more_removed c.args.k c.args.off c.loop-i.i c.args.list.now tags z first cur new c.loop-i-test.true read c.loop-i.invariant.table in
-    let was = c.loop-i.invariant.removed in
+    let rest = removed_from first.at (c.args.off + (c.loop-i.i + 1)) (drop (c.loop-i.i + 1) c.args.list.now) in
     record {
       table = one_more c.args.k c.args.off c.loop-i.i c.args.list.now tags z first cur new c.loop-i-test.true read c.loop-i.invariant.table
           (after ∙ ap (λ (tag : ℕ). with_file cur (c.args.off + c.loop-i.i)
@@ -35,11 +47,12 @@ loop-i-preserved c =
           (omega arith));
       removed = elim c.match-apply_number.branch [
         | in-Some+in_ok-push w ↦
-            ap (λ (v : Vec Closed). v.items) w.removed-is ∙ w.in_ok-push.ensures.items ∙ ap (λ (l : List Closed). l ++ w.in-Some.file ∷ []) was
-            ∙ gone (w.in-Some.file ∷ []) (ap option_to_list (sym w.in-Some.is) ∙ c.apply_number.ensures.removed)
+            ap (λ (v : Vec Closed). v.items ++ rest) w.removed-is ∙ ap (λ (l : List Closed). l ++ rest) w.in_ok-push.ensures.items
+            ∙ gone (w.in-Some.file ∷ []) c.loop-i.removed.items (ap option_to_list (sym w.in-Some.is) ∙ c.apply_number.ensures.removed)
+            c.loop-i.invariant.removed
         | in_default w ↦
-            ap (λ (v : Vec Closed). v.items) w.removed-is ∙ was ∙ sym (append-nil _)
-            ∙ gone [] (ap option_to_list (sym w.in_default.is) ∙ c.apply_number.ensures.removed)
+            ap (λ (v : Vec Closed). v.items ++ rest) w.removed-is ∙ ap (λ (l : List Closed). l ++ rest) (sym (append-nil c.loop-i.removed.items))
+            ∙ gone [] c.loop-i.removed.items (ap option_to_list (sym w.in_default.is) ∙ c.apply_number.ensures.removed) c.loop-i.invariant.removed
       ];
     }
 
@@ -48,12 +61,13 @@ returns c =
     let past = c.loop-i-test.false in
     let below = c.loop-i.auto.i-end in
     let all : c.loop-i.i ≡ length c.args.list.now = omega arith in
-    let end : take c.loop-i.i c.args.list.now ≡ c.args.list.now = ap (λ (n : ℕ). take n c.args.list.now) all ∙ take-length c.args.list.now in
     let first = table_of_slots c.args.slots.now in
     let tags = tags_for c.args.list.now c.args.tags in
     record {
-      table = subst (λ (l : List ℤ). table_of_slots c.loop-i.slots ≡ record first { at = files_after c.args.k first.at c.args.off l tags }) end
-          c.loop-i.invariant.table;
+      table = c.loop-i.invariant.table ∙ ap (λ (i : ℕ). record first { at = files_upto c.args.k first.at c.args.off c.args.list.now tags i }) all
+          ∙ ap (λ (a : ℕ → _). record first { at = a }) (upto_all c.args.k first.at c.args.off c.args.list.now tags);
       in_range = c.loop-i.invariant.in_range;
-      removed = subst (λ (l : List ℤ). c.loop-i.removed.items ≡ removed_from first.at c.args.off l) end c.loop-i.invariant.removed;
+      removed = sym (append-nil c.loop-i.removed.items)
+          ∙ ap (λ (l : List ℤ). c.loop-i.removed.items ++ removed_from first.at (c.args.off + c.loop-i.i) l)
+          (sym (ap (λ (i : ℕ). drop i c.args.list.now) all ∙ drop-length c.args.list.now)) ∙ c.loop-i.invariant.removed;
     }

@@ -1,5 +1,5 @@
-use Rattle.fx_ring.proofs.Words.{refl, ap, State, state_of, leaving}
-use Rattle.fx_ring.proofs.Removals.{can_retire, cleared, cleared_fresh}
+use Rattle.fx_ring.proofs.Words.{refl, ap, None, State, state_of, leaving}
+use Rattle.fx_ring.proofs.Removals.{can_retire, removed_and_closed}
 use Rattle.fx_ring.proofs.slots.clear_slot.Goals as goal
 
 pub close_removed-requires-clause-removed : goal.close_removed-requires-clause-removed
@@ -9,18 +9,9 @@ close_removed-requires-clause-removed c =
     c.clear-removed.result c.requires.settled
     (ap (λ (st : State). st.holds) c.clear-removed.ensures.step.1) c.clear-removed.ensures.leaving c.clear-removed.ensures.answer
 
-pub returns-clause-set : goal.returns-clause-set
-returns-clause-set c =
-    cleared (state_of c.args.table.now) (state_of c.clear-removed.new.self) (state_of c.close_removed.new.table)
-    c.args.slot ((state_of c.args.table.now).at c.args.slot) c.clear-removed.result c.args.closes.now c.close_removed.new.closes
-    c.requires.settled refl c.clear-removed.ensures.answer
-    c.close_removed.ensures.steps c.close_removed.ensures.files c.close_removed.ensures.room
-    c.clear-removed.ensures.step
-
-pub returns-clause-fresh : goal.returns-clause-fresh
-returns-clause-fresh c =
-    cleared_fresh (state_of c.args.table.now) (state_of c.clear-removed.new.self) (state_of c.close_removed.new.table)
-    c.args.slot ((state_of c.args.table.now).at c.args.slot) c.clear-removed.result c.args.closes.now c.close_removed.new.closes
-    c.requires.settled refl c.clear-removed.ensures.answer
-    c.close_removed.ensures.steps c.close_removed.ensures.files c.close_removed.ensures.room
-    c.clear-removed.ensures.step
+pub returns : goal.returns
+returns c =
+    let left = removed_and_closed (state_of c.args.table.now) (state_of c.clear-removed.new.self) (state_of c.close_removed.new.table)
+    c.args.slot None _ _ c.clear-removed.result c.args.closes.now c.close_removed.new.closes c.requires.settled refl c.clear-removed.ensures.answer
+    c.clear-removed.ensures.step.1 c.close_removed.ensures.steps c.close_removed.ensures.files c.close_removed.ensures.room in
+    record { set = left.0; fresh = left.1 }

@@ -1,23 +1,18 @@
-use Rattle.fx_ring.proofs.Words.{◌≡◌, subst, rules, files_of, state_of, RingContents, AreEntries, HasClosed, ring_of}
-use Rattle.fx_ring.specs.Ring.{files_of as files_of_ring}
-use Rattle.fx_ring.proofs.Rings.{contents_of, all_closed, emptied_settled, entries_closed, entries_of}
+use Rattle.fx_ring.proofs.Words.{◌≡◌, subst, rules, AreEntries, HasClosed, ring_of}
+use Rattle.fx_ring.specs.Ring.{files_of}
+use Rattle.fx_ring.proofs.Rings.{contents_of, all_closed, emptied_settled}
+use Rattle.fx_ring.proofs.ring.Ring.tear_down.Goals.{After-sort}
 use Rattle.fx_ring.proofs.ring.Ring.tear_down.Goals as goal
 
 pub dismiss-requires-clause-settled : goal.dismiss-requires-clause-settled
 dismiss-requires-clause-settled c = emptied_settled _ _ c.empty_into.ensures.empty
 
+closed : (c : After-sort) → HasClosed (files_of (ring_of c.args.self)) c.sort.new.self × AreEntries (ring_of c.args.self) c.sort.new.self.files
+closed c = all_closed (contents_of c.self.inside) _ c.empty_into.new.closes.files c.sort.new.self c.self.view_is c.self.invariant.ring (search rules)
+    c.sort.ensures.same_files c.sort.ensures.in_order
+
 pub returns-clause-closes : goal.returns-clause-closes
-returns-clause-closes c =
-    let all : c.empty_into.new.closes.files ≡ files_of (state_of c.self.inside.table) = search rules in
-    subst (λ (v : RingContents). HasClosed (files_of_ring (ring_of v)) c.sort.new.self) c.self.view_is
-    (all_closed (state_of c.self.inside.table).at (state_of c.self.inside.table).size c.empty_into.new.closes.files c.sort.new.self
-    all c.sort.ensures.same_files c.sort.ensures.in_order)
+returns-clause-closes c = (closed (goal.at.returns-clause-closes c).After-sort).0
 
 pub returns-clause-entries : goal.returns-clause-entries
-returns-clause-entries c =
-    let all : c.empty_into.new.closes.files ≡ files_of (state_of c.self.inside.table) = search rules in
-    let before = contents_of c.self.inside in
-    subst (λ (v : RingContents). AreEntries (ring_of v) c.sort.new.self.files) c.self.view_is
-    (entries_closed (ring_of before) (files_of_ring (ring_of before)) c.sort.new.self (entries_of (ring_of before) c.self.invariant.ring)
-    (all_closed (state_of c.self.inside.table).at (state_of c.self.inside.table).size c.empty_into.new.closes.files c.sort.new.self
-    all c.sort.ensures.same_files c.sort.ensures.in_order))
+returns-clause-entries c = (closed (goal.at.returns-clause-entries c).After-sort).1

@@ -1,24 +1,19 @@
-use Rattle.fx_ring.proofs.Words.{◌≡◌, ap, subst, ◌∙◌, rules, State, files_of, state_of, identity_of, RingContents, AreEntries, HasClosed, ring_of}
+use Rattle.fx_ring.proofs.Words.{◌≡◌, ap, subst, ◌∙◌, rules, State, state_of, identity_of, RingContents, AreEntries, HasClosed, ring_of}
 use Rattle.fx_ring.proofs.Words.{with_table}
-use Rattle.fx_ring.specs.Ring.{without_table, files_of as files_of_ring}
-use Rattle.fx_ring.proofs.Rings.{contents_of, all_closed, emptied_settled, entries_closed, entries_of, none_rings}
+use Rattle.fx_ring.specs.Ring.{without_table, files_of}
+use Rattle.fx_ring.proofs.Rings.{contents_of, all_closed, emptied_settled, none_rings}
+use Rattle.fx_ring.proofs.ring.Ring.unregister.Goals.{After-sort}
 use Rattle.fx_ring.proofs.ring.Ring.unregister.Goals as goal
 
+closed : (c : After-sort) → HasClosed (files_of (ring_of c.args.self.now)) c.sort.new.self × AreEntries (ring_of c.args.self.now) c.sort.new.self.files
+closed c = all_closed (contents_of c.self.inside) _ c.empty_into.new.closes.files c.sort.new.self c.self.view_is c.self.invariant.ring (search rules)
+    c.sort.ensures.same_files c.sort.ensures.in_order
+
 pub returns-clause-closes : goal.returns-clause-closes
-returns-clause-closes c =
-    let all : c.empty_into.new.closes.files ≡ files_of (state_of c.self.inside.table) = search rules in
-    subst (λ (v : RingContents). HasClosed (files_of_ring (ring_of v)) c.sort.new.self) c.self.view_is
-    (all_closed (state_of c.self.inside.table).at (state_of c.self.inside.table).size c.empty_into.new.closes.files c.sort.new.self
-    all c.sort.ensures.same_files c.sort.ensures.in_order)
+returns-clause-closes c = (closed (goal.at.returns-clause-closes c).After-sort).0
 
 pub returns-clause-entries : goal.returns-clause-entries
-returns-clause-entries c =
-    let all : c.empty_into.new.closes.files ≡ files_of (state_of c.self.inside.table) = search rules in
-    let before = contents_of c.self.inside in
-    subst (λ (v : RingContents). AreEntries (ring_of v) c.sort.new.self.files) c.self.view_is
-    (entries_closed (ring_of before) (files_of_ring (ring_of before)) c.sort.new.self (entries_of (ring_of before) c.self.invariant.ring)
-    (all_closed (state_of c.self.inside.table).at (state_of c.self.inside.table).size c.empty_into.new.closes.files c.sort.new.self
-    all c.sort.ensures.same_files c.sort.ensures.in_order))
+returns-clause-entries c = (closed (goal.at.returns-clause-entries c).After-sort).1
 
 pub invariant_of-self : goal.invariant_of-self
 invariant_of-self c =
