@@ -25,5 +25,4 @@ pub mod ClosesInParts
 pub mod WorkersTogether
 pub mod NewCrew
 pub mod PlayedCrew
-pub mod SameAt
 pub mod SubmissionLaws

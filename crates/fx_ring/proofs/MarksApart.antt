@@ -34,29 +34,22 @@ module _ (P : File → Type 0) where
     no_other : (slot : ℕ) (f g : File) → installed_by a ≡ Some f → at slot ≡ Some g → f.identity.mark ≢ g.identity.mark
     no_other slot f g now is = ⊎_elim (λ was. unlike f g (inr now) was) (λ put. fresh.1 f g now put) (apart.from slot g is)
 
-    changed_from : (slot : ℕ) (f : File) → changed_at at place (installed_by a) slot ≡ Some f → P f ⊎ IsPut (a ∷ h) f
-    changed_from slot f = by_equality slot place (λ b. ◌≡◌ {A = Option File} (if b then installed_by a else at slot) (Some f) → P f ⊎ IsPut (a ∷ h) f)
-        (λ _ now. inr (inr now))
-        (λ _ is. ⊎_elim (λ was. inl was) (λ put. inr (inl put)) (apart.from slot f is))
-
-    changed_distinct : (slot other : ℕ) (f g : File) → changed_at at place (installed_by a) slot ≡ Some f
-        → changed_at at place (installed_by a) other ≡ Some g
-        → f.identity.mark ≡ g.identity.mark → slot ≡ other
-    changed_distinct slot other f g =
-        by_equality slot place
-        (λ b. ◌≡◌ {A = Option File} (if b then installed_by a else at slot) (Some f) → changed_at at place (installed_by a) other ≡ Some g
-        → f.identity.mark ≡ g.identity.mark → slot ≡ other)
-        (λ here now. by_equality other place
-        (λ b. ◌≡◌ {A = Option File} (if b then installed_by a else at other) (Some g) → f.identity.mark ≡ g.identity.mark → slot ≡ other)
-        (λ there too marks. here ∙ sym there)
-        (λ there is marks. absurd (no_other other f g now is marks)))
-        (λ here is. by_equality other place
-        (λ b. ◌≡◌ {A = Option File} (if b then installed_by a else at other) (Some g) → f.identity.mark ≡ g.identity.mark → slot ≡ other)
-        (λ there now marks. absurd (no_other slot g f now is (sym marks)))
-        (λ there are marks. apart.distinct slot other f g is are marks))
+    -- a file is where the step put it, or was there
+    cases : (slot : ℕ) (f : File) → changed_at at place (installed_by a) slot ≡ Some f
+        → ((slot ≡ place) × (installed_by a ≡ Some f)) ⊎ (at slot ≡ Some f)
+    cases slot f = by_equality slot place
+        (λ b. ◌≡◌ {A = Option File} (if b then installed_by a else at slot) (Some f) → ((slot ≡ place) × (installed_by a ≡ Some f)) ⊎ (at slot ≡ Some f))
+        (λ here now. inl (here, now)) (λ _ is. inr is)
 
     changed_apart : IsApart (a ∷ h) (changed_at at place (installed_by a))
-    changed_apart = record { from = changed_from; distinct = changed_distinct }
+    changed_apart = record {
+      from = λ slot f is. ⊎_elim (λ new. inr (inr new.1)) (λ was. (kept_apart h a at apart).from slot f was) (cases slot f is);
+      distinct = λ slot other f g is are marks. ⊎_elim
+          (λ new. ⊎_elim (λ newer. new.0 ∙ sym newer.0) (λ were. absurd (no_other other f g new.1 were marks)) (cases other g are))
+          (λ was. ⊎_elim (λ newer. absurd (no_other slot g f newer.1 was (sym marks))) (λ were. apart.distinct slot other f g was were marks)
+          (cases other g are))
+          (cases slot f is);
+    }
 
   pub apart_after : (start : State) (h : List Action) → IsApart [] start.at → HasNewMarks h → IsUnlike h → IsApart h (state_after start h).at
   apart_after start [] begins fresh unlike = begins

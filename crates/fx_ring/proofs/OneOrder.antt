@@ -36,27 +36,16 @@ module _ {X : Type 0} (key : X → ℕ) where
       let right = sum_by-cons (λ y. cond (key y == k) 1 0) x ys in
       omega arith
 
-  -- the lists have the same elements, each key as often
+  -- each element of the second list is one of the first, and both have each key as often
   record HasSame (xs ys : List X) : Type 0 where
-    left : (x : X) → Contains xs x → Contains ys x
     right : (y : X) → Contains ys y → Contains xs y
     often : (k : ℕ) → keyed k xs ≡ keyed k ys
 
-  no_front_behind : (x : X) (xs ys : List X) → Rises (x ∷ xs) → HasSame (x ∷ xs) (x ∷ ys) → Contains ys x → ⊥
-  no_front_behind x xs ys rises same there =
-      let once = keyed_once x ys there in
-      let none = keyed_above (key x) xs rises.0 in
-      let counts = keyed_behind (key x) x xs ys (same.often (key x)) in
-      omega arith
-
   same_behind : (x : X) (xs ys : List X) → Rises (x ∷ xs) → HasSame (x ∷ xs) (x ∷ ys) → HasSame xs ys
   same_behind x xs ys rises same = record {
-    left = λ z there. ⊎_elim
-        (λ is. absurd (let above : key x < key z = All-contains (λ y. key x < key y) xs z rises.0 there in let e = ap key is in omega arith))
-        (λ behind. behind)
-        (contains_cases x ys z (same.left z (suc there.0, let lt = there.1 in omega arith, there.2)));
     right = λ z there. ⊎_elim
-        (λ is. absurd (no_front_behind x xs ys rises same (subst (Contains ys) is there)))
+        (λ is. absurd (let once = keyed_once x ys (subst (Contains ys) is there) in let none = keyed_above (key x) xs rises.0 in
+        let counts = keyed_behind (key x) x xs ys (same.often (key x)) in omega arith))
         (λ behind. behind)
         (contains_cases x xs z (same.right z (suc there.0, let lt = there.1 in omega arith, there.2)));
     often = λ k. keyed_behind k x xs ys (same.often k);
@@ -67,16 +56,17 @@ module _ {X : Type 0} (key : X → ℕ) where
       (λ is. sym is)
       (λ behind. absurd
       (let above : key x < key y = All-contains (λ z. key x < key z) xs y rises.0 behind in
-      let there = same.left x (0, omega arith, refl) in
-      let below : key y ≤ key (slice_index_or (y ∷ ys) there.0 x) = up 0 there.0 x (omega arith) there.1 in
-      let e = ap key there.2 in
+      let none = keyed_above (key x) (y ∷ ys) (λ k d lt. let low : key y ≤ key (slice_index_or (y ∷ ys) k d) = up 0 k d (omega arith) lt in omega arith) in
+      let once = keyed_once x (x ∷ xs) (0, omega arith, refl) in
+      let counts = same.often (key x) in
       omega arith))
       (contains_cases x xs y (same.right y (0, omega arith, refl)))
 
   one_order : (xs ys : List X) → Rises xs → IsNonDecreasingBy key ys → HasSame xs ys → xs ≡ ys
   one_order [] [] rises up same = refl
   one_order [] (y ∷ ys) rises up same = let there = same.right y (0, omega arith, refl) in let lt = there.1 in absurd (omega arith)
-  one_order (x ∷ xs) [] rises up same = let there = same.left x (0, omega arith, refl) in let lt = there.1 in absurd (omega arith)
+  one_order (x ∷ xs) [] rises up same =
+      let once = keyed_once x (x ∷ xs) (0, omega arith, refl) in let counts = same.often (key x) in absurd (omega arith)
   one_order (x ∷ xs) (y ∷ ys) rises up same =
       let is = least x y xs ys rises up same in
       let same_x : HasSame (x ∷ xs) (x ∷ ys) = subst (λ z. HasSame (x ∷ xs) (z ∷ ys)) (sym is) same in
@@ -86,7 +76,6 @@ module _ {X : Type 0} (key : X → ℕ) where
   -- two lists of the same elements, one in strict order of key and one in order: they are equal
   pub one_list_in_order : (xs ys : List X) → IsPermutation xs ys → Rises xs → IsNonDecreasingBy key ys → xs ≡ ys
   one_list_in_order xs ys same rises up = one_order xs ys rises up record {
-    left = λ x. Contains-permutation xs ys x same;
     right = λ y. Contains-permutation ys xs y (IsPermutation-sym xs ys same);
     often = λ k. sym (sum_by-IsPermutation (λ x. cond (key x == k) 1 0) xs ys same);
   }
