@@ -84,7 +84,3 @@ module _ {W X : Type 0} (g : W → List X) where
 pub same_parts : {W X : Type 0} (g h : W → List X) (ws : List W) → ((w : W) → Contains ws w → g w ≡ h w) → flat_map g ws ≡ flat_map h ws
 same_parts g h [] each = refl
 same_parts g h (w ∷ ws) each = λ i. each w (contains_head w ws) i ++ same_parts g h ws (λ v t. each v (contains_tail w ws v t)) i
-
-pub mapped_parts : {V W X : Type 0} (g : W → List X) (f : V → W) (vs : List V) → flat_map g (map f vs) ≡ flat_map (λ v. g (f v)) vs
-mapped_parts g f [] = refl
-mapped_parts {V} {W} {X} g f (v ∷ vs) = ap (λ (l : List X). g (f v) ++ l) (mapped_parts g f vs)

@@ -5,7 +5,7 @@ use Rattle.fx_ring.proofs.Words.{leb-false, All-append, Mark, Registered, Submit
 use Rattle.fx_ring.proofs.Words.{files_after, removed_by, removed_from, registered, updated, is_bad_file, tag_at}
 use Rattle.fx_ring.proofs.Numbers.{good_get, good_files}
 use Rattle.fx_ring.proofs.ListSteps.{files_below, files_from}
-use Rattle.fx_ring.proofs.Rings.{IsEntry, entry_listed}
+use Rattle.fx_ring.proofs.Rings.{IsEntry, counted_still, entry_listed, none_rings}
 
 -- a file that the k-th list installed at its place i
 abbrev IsListed : ℕ → ℕ → ℕ → Closed → Type 0
@@ -33,58 +33,38 @@ from entries k at off list tags slot file good is = elim (cases_lt slot off) [
       (λ z at_z. good_get entries list (slot - off) z good at_z) (sym (files_from k at off list tags slot above) ∙ is))
 ]
 
--- a mark that was counted still is
-counted_more : (ring next : RingState) (mark : Mark)
-    → next.registrations ≡ ring.registrations + 1 → next.submissions ≡ ring.submissions → HasCounted ring mark → HasCounted next mark
-counted_more ring next (Registered k i) more same counted = omega arith
-counted_more ring next (Submitted s c m e) more same counted = omega arith
-
 -- no counted mark is one of the next list
 not_counted : (ring : RingState) (mark : Mark) (i : ℕ) → HasCounted ring mark → mark ≢ Registered (ring.registrations + 1) i
 not_counted ring (Registered k j) i counted = λ same. let e : k ≡ ring.registrations + 1 = cc in omega arith
 not_counted ring (Submitted s c m e) i counted = λ same. cc
 
-module _ (ring next : RingState) (at : ℕ → Option Closed) (off : ℕ) (list : List ℤ) (tags : List ℕ)
-    (good : list_any (is_bad_entry (length ring.catalogue)) list ≡ false)
-    (entries : (slot : ℕ) (file : Closed) → at slot ≡ Some file → file.entry < length ring.catalogue)
-    (counted : (slot : ℕ) (file : Closed) → at slot ≡ Some file → HasCounted ring file.mark)
-    (distinct : (slot other : ℕ) (file same : Closed) → at slot ≡ Some file → at other ≡ Some same → file.mark ≡ same.mark → slot ≡ other)
-    (catalogue : next.catalogue ≡ ring.catalogue) (more : next.registrations ≡ ring.registrations + 1)
-    (submissions : next.submissions ≡ ring.submissions) (after : next.at ≡ files_after (ring.registrations + 1) at off list tags) where
-  origin : (slot : ℕ) (file : Closed) → next.at slot ≡ Some file
-      → (at slot ≡ Some file) ⊎ ((off ≤ slot) × IsListed (length ring.catalogue) (ring.registrations + 1) (slot - off) file)
-  origin slot file is =
-      from (length ring.catalogue) (ring.registrations + 1) at off list tags slot file good
-      (sym (ap (λ (a : ℕ → Option Closed). a slot) after) ∙ is)
+module _ (ring : RingState) (off : ℕ) (list : List ℤ) (tags : List ℕ) (is : IsRing ring)
+    (good : list_any (is_bad_entry (length ring.catalogue)) list ≡ false) where
+  origin : (slot : ℕ) (file : Closed) → (updated ring off list tags).at slot ≡ Some file
+      → (ring.at slot ≡ Some file) ⊎ ((off ≤ slot) × IsListed (length ring.catalogue) (ring.registrations + 1) (slot - off) file)
+  origin slot file at = from (length ring.catalogue) (ring.registrations + 1) ring.at off list tags slot file good at
 
-  pub listed_rings : IsRing next
-  listed_rings = record {
-    entries = λ slot file is. subst (λ (n : ℕ). file.entry < n) (ap length (sym catalogue))
-        (⊎_elim (λ was. entries slot file was) (λ new. new.1.1) (origin slot file is));
-    counted = λ slot file is. ⊎_elim
-        (λ was. counted_more ring next file.mark more submissions (counted slot file was))
-        (λ new. subst (HasCounted next) (sym new.1.0) (omega arith)) (origin slot file is);
-    distinct = λ slot other file same is are marks. ⊎_elim
-        (λ was. ⊎_elim (λ were. distinct slot other file same was were marks)
-        (λ new. absurd (not_counted ring file.mark (other - off) (counted slot file was) (marks ∙ new.1.0))) (origin other same are))
-        (λ new. ⊎_elim (λ were. absurd (not_counted ring same.mark (slot - off) (counted other same were) (sym marks ∙ new.1.0)))
+  pub updated_rings : IsRing (updated ring off list tags)
+  updated_rings = record {
+    entries = λ slot file at. ⊎_elim (λ was. is.entries slot file was) (λ new. new.1.1) (origin slot file at);
+    counted = λ slot file at. ⊎_elim
+        (λ was. counted_still ring (updated ring off list tags) file.mark (omega arith) (omega arith) (is.counted slot file was))
+        (λ new. subst (HasCounted (updated ring off list tags)) (sym new.1.0) (omega arith)) (origin slot file at);
+    distinct = λ slot other file same at too marks. ⊎_elim
+        (λ was. ⊎_elim (λ were. is.distinct slot other file same was were marks)
+        (λ new. absurd (not_counted ring file.mark (other - off) (is.counted slot file was) (marks ∙ new.1.0))) (origin other same too))
+        (λ new. ⊎_elim (λ were. absurd (not_counted ring same.mark (slot - off) (is.counted other same were) (sym marks ∙ new.1.0)))
         (λ newer.
         let place : Registered (ring.registrations + 1) (slot - off) ≡ Registered (ring.registrations + 1) (other - off) =
         sym new.1.0 ∙ (marks ∙ newer.1.0) in
-        let apart : slot - off ≡ other - off = cc in let low = new.0 in let too = newer.0 in omega arith) (origin other same are))
-        (origin slot file is);
+        let apart : slot - off ≡ other - off = cc in let low = new.0 in let too = newer.0 in omega arith) (origin other same too))
+        (origin slot file at);
   }
-
-pub updated_rings : (ring : RingState) (off : ℕ) (list : List ℤ) (tags : List ℕ) → IsRing ring
-    → list_any (is_bad_entry (length ring.catalogue)) list ≡ false → IsRing (updated ring off list tags)
-updated_rings ring off list tags is good =
-    listed_rings ring (updated ring off list tags) ring.at off list tags good is.entries is.counted is.distinct refl refl refl refl
 
 pub registered_rings : (ring : RingState) (list : List ℤ) (tags : List ℕ)
     → list_any (is_bad_file (length ring.catalogue)) list ≡ false → IsRing (registered ring list tags)
-registered_rings ring list tags good =
-    listed_rings ring (registered ring list tags) (λ _. None) 0 list tags (good_files (length ring.catalogue) list good)
-    (λ slot file is. cc) (λ slot file is. cc) (λ slot other file same is are marks. cc) refl refl refl refl
+registered_rings ring list tags good = updated_rings (record ring { size = length list; range = (0, length list); at = λ _. None }) 0 list tags
+    (none_rings _ refl) (good_files (length ring.catalogue) list good)
 
 -- what a list removes is of the catalogue, where all was
 removed_entries_by : (entries : ℕ) (z : ℤ) (x : Option Closed)
@@ -109,11 +89,9 @@ none_removed slot [] = refl
 none_removed slot (z ∷ list) = ap (λ (x : List Closed × List Closed). x.0 ++ x.1) (λ i. (none_removed_by z i, none_removed (slot + 1) list i))
 
 one_removed_by : (z : ℤ) (x : Option Closed) → length (removed_by z x) ≤ 1
-one_removed_by (pos e) None = omega arith
-one_removed_by (pos e) (Some f) = omega arith
-one_removed_by (negsuc zero) None = omega arith
-one_removed_by (negsuc zero) (Some f) = omega arith
 one_removed_by (negsuc (suc n)) x = omega arith
+one_removed_by _ None = omega arith
+one_removed_by _ (Some f) = omega arith
 
 -- a list removes no more files than it has numbers
 pub few_removed : (at : ℕ → Option Closed) (slot : ℕ) (list : List ℤ) → length (removed_from at slot list) ≤ length list

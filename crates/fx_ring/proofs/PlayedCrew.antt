@@ -6,7 +6,7 @@ use Rattle.fx_ring.proofs.Words.{Chain, Request, IsChain, Completion, state_of_w
 use Rattle.fx_ring.proofs.NewCrew.{map_reversed, numbers_are, runs_are_short}
 use Rattle.fx_ring.proofs.WorkersTogether.{HavePlayed, pass_of, number_of, completed_by, closed_by_worker}
 use Rattle.fx_ring.proofs.Runs.{as_many}
-use Rattle.fx_ring.proofs.NumberedParts.{mapped_parts}
+use Rattle.std.proofs.lemmas.List.Folds.{flat_map-map}
 
 abbrev pub completions_of : Outcome → List Completion
 completions_of outcome = outcome.completions.items
@@ -34,12 +34,12 @@ module _ {P : Type 0} (V : P → PassView) where
     pub completions_joined : all_completed (flat_map completions_of (reverse outcomes)) ≡ flat_map completed_by (states ws)
     completions_joined =
         ap (λ (l : List Outcome). all_completed (flat_map completions_of l)) turned
-        ∙ (ap all_completed (mapped_parts completions_of (λ w. w.outcome) ws)
-        ∙ (map_parts completed_of (λ w. w.outcome.completions.items) ws ∙ sym (mapped_parts completed_by (state_of_worker V) ws)))
+        ∙ (ap all_completed (flat_map-map completions_of (λ w. w.outcome) ws)
+        ∙ (map_parts completed_of (λ w. w.outcome.completions.items) ws ∙ sym (flat_map-map completed_by (state_of_worker V) ws)))
 
     pub files_joined : flat_map files_of (reverse outcomes) ≡ flat_map closed_by_worker (states ws)
     files_joined = ap (flat_map files_of) turned
-        ∙ (mapped_parts files_of (λ w. w.outcome) ws ∙ sym (mapped_parts closed_by_worker (state_of_worker V) ws))
+        ∙ (flat_map-map files_of (λ w. w.outcome) ws ∙ sym (flat_map-map closed_by_worker (state_of_worker V) ws))
 
     pub as_many_completions : sum_by (λ outcome. length outcome.completions.items) outcomes ≡ length (flat_map completed_by (states ws))
     as_many_completions =

@@ -2,7 +2,7 @@
 use Rattle.fx_ring.proofs.Words.{◌≡◌, ℕ, Bool, zero, suc, ◌<◌, List, [], ◌++◌, length, refl, sym, ap, subst, ◌∙◌, Option, Some, None, All, arith, not}
 use Rattle.fx_ring.proofs.Words.{◌&&◌, nat_lt, option_to_list, IsPermutation, All-append, All-cons, All-nil, All-permutation, lt-ltb, le-ltb}
 use Rattle.fx_ring.proofs.Words.{CloseListView, IsInOrderOfMark, Closed, State, IsSettled, opening, file_numbered, vacant, state_of, identity_of, File}
-use Rattle.fx_ring.proofs.Words.{Contents, IsGivenBack, RingContents, RingState, IsAtRest, IsRing, HasClosed, AreEntries, ring_of, ring_with}
+use Rattle.fx_ring.proofs.Words.{Contents, IsGivenBack, RingContents, RingState, IsAtRest, IsRing, HasCounted, Mark, Registered, Submitted, ◌≤◌, HasClosed, AreEntries, ring_of, ring_with}
 use Rattle.fx_ring.proofs.Words.{with_table, AreFresh, files_at}
 use Rattle.fx_plain.specs.State.{identities_of, files_in_order as files_in_order_of_state, files_of as files_of_state}
 use Rattle.fx_ring.specs.Ring.{files_in_order, files_of}
@@ -23,6 +23,12 @@ none_rings ring no_files = record {
   counted = λ slot file is. let e : None ≡ Some file = sym (ap (λ (at : ℕ → Option Closed). at slot) no_files) ∙ is in cc;
   distinct = λ slot other file same is are marks. let e : None ≡ Some file = sym (ap (λ (at : ℕ → Option Closed). at slot) no_files) ∙ is in cc;
 }
+
+-- a mark that was counted still is
+pub counted_still : (ring next : RingState) (mark : Mark) → ring.registrations ≤ next.registrations → ring.submissions ≤ next.submissions
+    → HasCounted ring mark → HasCounted next mark
+counted_still ring next (Registered k i) lists submissions counted = omega arith
+counted_still ring next (Submitted s c m e) lists submissions counted = omega arith
 
 listed_is : (x : Option File) → option_to_list (identity_of x) ≡ identities_of x
 listed_is None = refl
@@ -72,8 +78,8 @@ all_closed ring seen given closes same is all permutation order =
     (closed, entries_closed (ring_of ring) (files_of (ring_of ring)) closes (entries_of (ring_of ring) is) closed)
 
 -- a table that was emptied is settled
-pub emptied_settled : (st : State) (fresh : ℕ → Bool) → st ≡ record (vacant 0) { fresh = fresh } → IsSettled st
-emptied_settled st fresh is = subst IsSettled (sym is) (record { unheld = λ _. refl; closed = λ _. refl })
+pub emptied_settled : (st : State) (n : ℕ) (fresh : ℕ → Bool) → st ≡ record (vacant n) { fresh = fresh } → IsSettled st
+emptied_settled st n fresh is = subst IsSettled (sym is) (record { unheld = λ _. refl; closed = λ _. refl })
 
 pub opening_files : (st new : State) (numbers : ℕ) → new ≡ opening st numbers → files_at new ≡ files_at st
 opening_files st new numbers is = ap files_at is
@@ -84,9 +90,6 @@ opening_fresh st new numbers is = λ number low high. ap (λ (s : State). s.fres
     ∙ ap (λ (b : Bool). not b && nat_lt number numbers) (le-ltb number st.size low) ∙ lt-ltb number numbers high
 
 -- what a table of empty slots is
-pub vacant_settled : (st : State) (n : ℕ) → st ≡ vacant n → IsSettled st
-vacant_settled st n is = subst IsSettled (sym is) (record { unheld = λ _. refl; closed = λ _. refl })
-
 none_in_order : (n : ℕ) → files_in_order_of_state (λ _. None) n ≡ []
 none_in_order zero = refl
 none_in_order (suc n) = ap (λ (l : List Closed). l ++ []) (none_in_order n)

@@ -5,7 +5,7 @@ use Rattle.fx_ring.proofs.Words.{closes_in, identity_of, File, Event, Action, by
 use Rattle.fx_ring.proofs.Words.{RingContents, RingState, IsRing, IsAtRest, HasCounted, AreEntries, ring_of, with_table, ExplainsParts, Reported}
 use Rattle.fx_ring.proofs.Words.{IsOneHistory, MOST_SUBMISSIONS}
 use Rattle.fx_plain.proofs.FilesWereInstalled.{HoldsOfAll, holds_of_closes, all_closes_in}
-use Rattle.fx_ring.proofs.Rings.{opening_files, entries_closed}
+use Rattle.fx_ring.proofs.Rings.{counted_still, opening_files, entries_closed}
 use Rattle.fx_ring.proofs.NewMarks.{IsPut, HasNewMarks, Puts}
 use Rattle.fx_ring.proofs.Installs.{IsOfMembers, explained_puts}
 use Rattle.fx_ring.proofs.ChainsApart.{IsOfChain, part_actions, put_in_part, installed_put, whole_new}
@@ -26,12 +26,6 @@ part_puts catalogue size submission first (run ∷ runs) history completions (ow
 file_told : (x : Option File) (told : Closed) → identity_of x ≡ Some told → (f : File) × (x ≡ Some f) × (f.identity ≡ told)
 file_told None told is = let e : None ≡ Some told = is in cc
 file_told (Some f) told is = let e : Some f.identity ≡ Some told = is in (f, refl, let same : f.identity ≡ told = cc in same)
-
--- what was counted is counted once one more submission is
-counted_still : (ring next : RingState) (mark : Mark) → next.registrations ≡ ring.registrations → next.submissions ≡ ring.submissions + 1
-    → HasCounted ring mark → HasCounted next mark
-counted_still ring next (Registered k i) same more counted = omega arith
-counted_still ring next (Submitted s c m j) same more counted = omega arith
 
 -- no counted mark is one of the next submission
 not_yet : (ring : RingState) (mark : Mark) (c m j : ℕ) → HasCounted ring mark → mark ≢ Submitted (ring.submissions + 1) c m j
@@ -114,7 +108,7 @@ module _ (old new : RingContents) (requests : List Asked) (report : Reported) (i
     counted = λ slot file at.
         let (f, there, told) = file_told (one.end.at slot) file at in
         subst (λ (x : Closed). HasCounted behind x.mark) told
-        (⊎_elim (λ was. counted_still before behind f.identity.mark refl refl was.0) (λ put. put_counted f put) (ended.from slot f there));
+        (⊎_elim (λ was. counted_still before behind f.identity.mark (omega arith) (omega arith) was.0) (λ put. put_counted f put) (ended.from slot f there));
     distinct = λ slot other file same at at_other marks.
         let (f, there, told) = file_told (one.end.at slot) file at in
         let (g, also, said) = file_told (one.end.at other) same at_other in

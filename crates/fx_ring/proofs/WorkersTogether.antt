@@ -12,7 +12,7 @@ use Rattle.fx_table.proofs.Members.{contains_none, contains_head, contains_tail,
 use Rattle.fx_table.proofs.Members.{contains_reversed, each_all}
 use Rattle.fx_ring.proofs.ClosesInParts.{closes_of, closes_with, closes_by_key}
 use Rattle.fx_ring.proofs.NumberedParts.{numbers_from, number_within, sum_by_place, one_part, all_parts, filter_parts, parts_reversed, same_parts}
-use Rattle.fx_ring.proofs.NumberedParts.{mapped_parts}
+use Rattle.std.proofs.lemmas.List.Folds.{flat_map-map}
 use Rattle.fx_ring.proofs.CompletionPlaces.{place_key}
 use Rattle.fx_ring.proofs.PartsExplained.{IsShort, one_of_each_request, in_order_explained}
 
@@ -90,11 +90,7 @@ module _ (catalogue : List FileEntry) (submission : ℕ) (runs : List (List Aske
 
   drawn_inside : (w : WorkerState) → Contains crew w → (c : ℕ) → Contains w.pass.drawn c → (1 ≤ c) × (c ≤ length runs)
   drawn_inside w h c drew =
-      let b = closing.chains_inside w.pass (view_of w h) c drew in
-      let low = b.0 in
-      let high = b.1 in
-      let chains = played.chains in
-      (omega arith, omega arith)
+      let b = (works w h).inside c drew in let low = b.0 in let high = b.1 in let last = (works w h).reached in (low, omega arith)
 
   pub events_inside : (e : Event) → Contains closing.history e → (1 ≤ e.chain) × (e.chain ≤ length runs)
   events_inside e h = let a = author_of e h in drawn_inside a.0 a.1 e.chain ((works a.0 a.1).own e a.3)
@@ -165,7 +161,7 @@ module _ (catalogue : List FileEntry) (submission : ℕ) (runs : List (List Aske
       let by_pass = closes_by_key (λ e. e.pass) 1 o.passes closing.history passes_inside in
       let back = parts_reversed part (numbers_from 1 o.passes) in
       let of_crew : flat_map part (reverse (numbers_from 1 o.passes)) ≡ flat_map closed_by_worker crew =
-      ap (flat_map part) (sym played.numbers) ∙ mapped_parts part number_of crew
+      ap (flat_map part) (sym played.numbers) ∙ flat_map-map part number_of crew
       ∙ same_parts (λ w. part w.pass.number) closed_by_worker crew
       (λ w h. ap closes_of (closing.own w.pass (view_of w h)) ∙ sym (works w h).closed) in
       subst (IsPermutation (closes_of closing.history)) of_crew (IsPermutation-trans _ _ _ by_pass back)

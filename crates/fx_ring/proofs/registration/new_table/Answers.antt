@@ -2,15 +2,15 @@ use Rattle.fx_ring.proofs.Words.{◌≡◌, ◌*◌, ℕ, Option, length, ap, �
 use Rattle.fx_ring.proofs.Words.{settled_at_opening}
 use Rattle.fx_ring.proofs.Numbers.{good_files}
 use Rattle.fx_ring.proofs.Origins.{none_removed}
-use Rattle.fx_ring.proofs.Rings.{opening_files, opening_fresh, vacant_settled, vacant_empty, vacant_files}
+use Rattle.fx_ring.proofs.Rings.{opening_files, opening_fresh, emptied_settled, vacant_empty, vacant_files}
 use Rattle.fx_ring.proofs.registration.new_table.Goals as goal
 
 pub prepare-requires-clause-settled : goal.prepare-requires-clause-settled
-prepare-requires-clause-settled c = vacant_settled (state_of c.in_ok-table.table) (length c.args.list.now) c.in_ok-table.ensures.state
+prepare-requires-clause-settled c = emptied_settled (state_of c.in_ok-table.table) (length c.args.list.now) _ c.in_ok-table.ensures.state
 
 pub dismiss-requires-clause-settled : goal.dismiss-requires-clause-settled
 dismiss-requires-clause-settled c =
-    vacant_settled (state_of c.prepare.new.self) (length c.args.list.now)
+    emptied_settled (state_of c.prepare.new.self) (length c.args.list.now) _
     (ap state_of c.in_default.ensures.err ∙ c.in_ok-table.ensures.state)
 
 pub dismiss-requires-clause-empty : goal.dismiss-requires-clause-empty

@@ -1,17 +1,17 @@
 use Rattle.fx_ring.proofs.Words.{◌≡◌, ◌+◌, ◌<◌, List, ap, sym, subst, ◌∙◌, rules, IsSettled, Contents, state_of, IsGivenBack, Asked, all_asked}
 use Rattle.fx_ring.proofs.Words.{RingContents, ring_of, ring_with, IsOneHistory, reported, MOST_SUBMISSIONS}
-use Rattle.fx_ring.proofs.Rings.{contents_of, vacant_settled, given_back_rings, given_back_at_rest}
+use Rattle.fx_ring.proofs.Rings.{contents_of, emptied_settled, given_back_rings, given_back_at_rest}
 use Rattle.fx_ring.proofs.SubmittedRing.{submitted_at_rest, submitted_entries}
 use Rattle.fx_ring.proofs.ring.Ring.submit.Goals as goal
 
 pub dismiss-requires-clause-settled : goal.dismiss-requires-clause-settled
 dismiss-requires-clause-settled g c =
-    vacant_settled (state_of c.replace.result) 0
+    emptied_settled (state_of c.replace.result) 0 _
     (ap state_of (c.replace.ensures.value ∙ c.replace-plain.ensures.after) ∙ c.none.ensures.state)
 
 pub dismiss-requires-in-Err-clause-settled : goal.dismiss-requires-in-Err-clause-settled
 dismiss-requires-in-Err-clause-settled g c =
-    vacant_settled (state_of c.replace-in-Err.result) 0
+    emptied_settled (state_of c.replace-in-Err.result) 0 _
     (ap state_of (c.replace-in-Err.ensures.value ∙ c.replace-plain.ensures.after) ∙ c.none.ensures.state)
 
 pub invariant_of-self : goal.invariant_of-self

@@ -19,7 +19,7 @@ pub invariant_of-self : goal.invariant_of-self
 invariant_of-self c =
     let was = c.self.invariant in
     record {
-      settled = emptied_settled _ _ c.empty_into.ensures.empty;
+      settled = emptied_settled _ 0 _ c.empty_into.ensures.empty;
       ring = none_rings _ (ap (λ (st : State). (λ slot. identity_of (st.at slot))) c.empty_into.ensures.empty);
       few_submissions = was.few_submissions;
       few_registrations = was.few_registrations;
