@@ -3,15 +3,34 @@ use Rattle.fx_ring.proofs.Words.{◌≡◌, ◌≢◌, ◌⊎◌, ℕ, ◌+◌, 
 use Rattle.fx_ring.proofs.Words.{None, ⊎_elim, length-append, arith, map-append, All-append, FileEntry, CloseListView, Closed, Event, Action}
 use Rattle.fx_ring.proofs.Words.{action_of, closes_in, part_of_chain, ◌▷◌, Opening, size_of, PassView, event_of, keeps_drawn_chains, Completed}
 use Rattle.fx_ring.proofs.Words.{Explains, first_member, Asked, all_weights, worker_state, run_of_chain, completions_of_chain, HasWorked, HasRoom}
+use Rattle.fx_ring.proofs.Words.{zero, suc, ◌-◌, drop, slice_index_or, sum_by, sum_by-drop_more}
 use Rattle.fx_plain.proofs.Leading.{closes_in-then}
 use Rattle.fx_table.specs.Calls.{Draws}
 use Rattle.fx_table.specs.declared.values.Doing.TheVariants.{Idle}
 use Rattle.fx_table.proofs.Members.{contains_head, contains_tail, contains_cases, contains_map, each_all}
 use Rattle.fx_chain.specs.Performs.{PlaysChain, player}
 use Rattle.fx_chain.proofs.ChainGoesOn.{explained_count}
-use Rattle.fx_ring.proofs.Behind.{sum_behind}
-use Rattle.fx_ring.proofs.OneKey.{only_first, only_second, not_first, not_second}
+use Rattle.fx_ring.proofs.Parts.{only_first, only_second, not_first, not_second}
 use Rattle.fx_ring.proofs.CompletionPlaces.{explained_of_members}
+
+-- what a list has behind a place: the next of its elements, and less behind that
+module _ {X : Type 0} (f : X → ℕ) (xs : List X) (d : X) where
+  sum_at : (k i j : ℕ) → j ≡ i + k → j < length xs → f (slice_index_or xs j d) + sum_by f (drop (j + 1) xs) ≤ sum_by f (drop i xs)
+  sum_at zero i j is inside =
+      let same : j ≡ i = omega arith in
+      let here = sum_by-drop_more f xs j d inside in
+      subst (λ (n : ℕ). f (slice_index_or xs j d) + sum_by f (drop (j + 1) xs) ≤ sum_by f (drop n xs)) same (omega arith)
+  sum_at (suc k) i j is inside =
+      let here = sum_by-drop_more f xs i d (omega arith) in
+      let further = sum_at k (i + 1) j (omega arith) inside in
+      omega arith
+
+  -- what stands at a further place, counted from 1, and what stands behind that
+  sum_behind : (i c : ℕ) → i < c → c ≤ length xs → f (slice_index_or xs (c - 1) d) + sum_by f (drop c xs) ≤ sum_by f (drop i xs)
+  sum_behind i c further inside =
+      let next : (c - 1) + 1 ≡ c = omega arith in
+      subst (λ (n : ℕ). f (slice_index_or xs (c - 1) d) + sum_by f (drop n xs) ≤ sum_by f (drop i xs)) next
+      (sum_at (c - 1 - i) i (c - 1) (omega arith) (omega arith))
 
 abbrev chain_of : Event → ℕ
 chain_of e = e.chain

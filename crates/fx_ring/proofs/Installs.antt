@@ -61,8 +61,11 @@ module _ (entries : ℕ) (place : Place) where
   opens size entry (Slot slot) events c inside it =
       either_way (size == 0) (λ _. refuses (Here 0) ENXIO events c)
       (λ _. either_way (nat_le size slot) (λ _. refuses (Here 0) EINVAL events c)
-      (λ _ put. (ap place_of put.4, puts_may_close (Here 0) ([] ▷ Put slot put.0 put.1) put.1 events put.3
-      (installs_here 0 entry put.0 (Put slot put.0 put.1) refl put.2 inside)))) it
+      (λ _ put. (
+        ap place_of put.4,
+        puts_may_close (Here 0) ([] ▷ Put slot put.0 put.1) put.1 events put.3
+            (installs_here 0 entry put.0 (Put slot put.0 put.1) refl put.2 inside),
+      ))) it
   opens size entry Any events c inside it =
       either_way (size == 0) (λ _. refuses (Here 0) ENFILE events c)
       (λ _. ⊎_elim
@@ -78,9 +81,12 @@ module _ (entries : ℕ) (place : Place) where
         (λ large. refuses P ENOMEM events c large.1)
         (⊎_elim
         (λ none. (ap place_of none.1, subst (Puts P) (sym none.0) (puts_one P (Look slot None) (no_file P))))
-        (λ found. (ap place_of found.2, puts_may_close P ([] ▷ Look slot (Some found.0) ▷ Release found.0) (Some found.0) events found.1
-        (puts_none P ([] ▷ Look slot (Some found.0) ▷ Release found.0)
-        (λ f. ⊎_elim (⊎_elim (λ before. before) (no_file (λ _. ⊥) f)) (no_file (λ _. ⊥) f))))))) it
+        (λ found. (
+          ap place_of found.2,
+          puts_may_close P ([] ▷ Look slot (Some found.0) ▷ Release found.0) (Some found.0) events found.1
+              (puts_none P ([] ▷ Look slot (Some found.0) ▷ Release found.0)
+              (λ f. ⊎_elim (⊎_elim (λ before. before) (no_file (λ _. ⊥) f)) (no_file (λ _. ⊥) f))),
+        )))) it
 
     empties : (size slot : ℕ) (events : List Action) (c : Completed) → Empties size place slot events c → Gives place P events c
     empties size slot events c it =
@@ -88,8 +94,11 @@ module _ (entries : ℕ) (place : Place) where
         (λ _. either_way (nat_le size slot) (λ _. refuses P EINVAL events c)
         (λ _. ⊎_elim
         (λ none. (ap place_of none.1, subst (Puts P) (sym none.0) (puts_one P (Take slot None) (no_file P))))
-        (λ taken. (ap place_of taken.2, puts_may_close P ([] ▷ Take slot (Some taken.0)) (Some taken.0) events taken.1
-        (puts_one P (Take slot (Some taken.0)) (no_file P)))))) it
+        (λ taken. (
+          ap place_of taken.2,
+          puts_may_close P ([] ▷ Take slot (Some taken.0)) (Some taken.0) events taken.1
+              (puts_one P (Take slot (Some taken.0)) (no_file P)),
+        )))) it
 
   applies_entry : (j slot : ℕ) (z : ℤ) (events : List Action) → is_bad_entry entries z ≡ false → AppliesEntry place j slot z events
       → Puts (Here j) events

@@ -6,7 +6,6 @@ pub mod NoTags
 pub mod ListSteps
 pub mod Origins
 pub mod Updates
-pub mod RoomForAll
 pub mod Parts
 pub mod OneOrder
 pub mod NewMarks
@@ -16,8 +15,6 @@ pub mod PartsExplained
 pub mod ChainsApart
 pub mod MarksApart
 pub mod SubmittedRing
-pub mod Behind
-pub mod OneKey
 pub mod ChainPlayed
 pub mod Runs
 pub mod NumberedParts

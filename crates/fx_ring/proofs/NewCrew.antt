@@ -101,11 +101,9 @@ module _ (catalogue : List FileEntry) (size submission : ℕ) (runs : List (List
   pub new_has_worked : (v : PassView) (outcome : Outcome) (requests : List Asked) → IsNew v → HasRoomFor requests outcome
       → HasWorked catalogue size submission runs (worker_state v (all_completed outcome.completions.items) outcome.closes)
   new_has_worked v outcome requests is room =
-      subst (λ (z : PassView). HasWorked catalogue size submission runs (worker_state z (all_completed outcome.completions.items) outcome.closes))
-      (sym is.1)
-      (subst (λ (cs : List Completed). HasWorked catalogue size submission runs (worker_state (new_pass is.0) cs outcome.closes))
-      (sym (ap all_completed room.no_completions))
-      (begun is.0 outcome.closes (ap (λ (l : CloseListView). l.files) room.closes)))
+      subst (λ (z : PassView × List Completed). HasWorked catalogue size submission runs (worker_state z.0 z.1 outcome.closes))
+      (λ i. (sym is.1 i, sym (ap all_completed room.no_completions) i))
+      (begun is.0 outcome.closes (ap (λ (l : CloseListView). l.files) room.closes))
 
 pub new_has_room : (v : PassView) (outcome : Outcome) (requests : List Asked) → IsAccepted requests → IsNew v → HasRoomFor requests outcome
     → HasRoom (runs_of requests) (worker_state v (all_completed outcome.completions.items) outcome.closes) (vec_capacity outcome.completions)

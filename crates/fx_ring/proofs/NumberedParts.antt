@@ -1,6 +1,6 @@
 -- Lists with a part for each number from one on, and lists of which one element alone has a part.
-use Rattle.fx_ring.proofs.Words.{◌≡◌, ℕ, zero, suc, ◌+◌, ◌-◌, ◌<◌, ◌≤◌, List, [], ◌∷◌, ◌++◌, map, flat_map, filter, reverse, length, Bool, All}
-use Rattle.fx_ring.proofs.Words.{sum_by, slice_index_or, refl, sym, ap, subst, ◌∙◌, arith, append-nil, ⊎_elim, reverse-append, flat_map-append}
+use Rattle.fx_ring.proofs.Words.{◌≡◌, ℕ, zero, suc, ◌+◌, ◌<◌, ◌≤◌, List, [], ◌∷◌, ◌++◌, flat_map, filter, reverse, length, Bool, All}
+use Rattle.fx_ring.proofs.Words.{sum_by, slice_index_or, length-append, refl, sym, ap, subst, ◌∙◌, arith, append-nil, ⊎_elim, reverse-append, flat_map-append}
 use Rattle.fx_ring.proofs.Words.{All-nil, All-append, filter-append, IsPermutation-refl, IsPermutation-trans, IsPermutation-append_left}
 use Rattle.fx_ring.proofs.Words.{IsPermutation-append_comm, sum_by-cons, sum_of}
 use Rattle.std.specs.Prelude.{Contains}
@@ -19,22 +19,19 @@ number_within first (suc n) k h = ⊎_elim
     (λ t. let r = number_within (first + 1) n k t in let low = r.0 in let high = r.1 in (omega arith, omega arith))
     (contains_cases first (numbers_from (first + 1) n) k h)
 
--- the sum of what stands at each place, counted from 1, is that of the list
-pub sum_by_place : {X : Type 0} (f : X → ℕ) (d : X) (all xs : List X) (first : ℕ)
-    → ((k : ℕ) → k < length xs → slice_index_or all (first - 1 + k) d ≡ slice_index_or xs k d) → 1 ≤ first
-    → sum_by (λ c. f (slice_index_or all (c - 1) d)) (numbers_from first (length xs)) ≡ sum_by f xs
-sum_by_place f d all [] first at some = refl
-sum_by_place f d all (x ∷ xs) first at some =
-    let g : ℕ → ℕ = λ c. f (slice_index_or all (c - 1) d) in
-    let a = sum_by-cons g first (numbers_from (first + 1) (length xs)) in
-    let b = sum_by-cons f x xs in
-    let here : slice_index_or all (first - 1 + 0) d ≡ x = at 0 (omega arith) in
-    let place : first - 1 + 0 ≡ first - 1 = omega arith in
-    let one : g first ≡ f x = ap (λ (k : ℕ). f (slice_index_or all k d)) (sym place) ∙ ap f here in
-    let rest = sum_by_place f d all xs (first + 1)
-    (λ k inside.
-    let e : first + 1 - 1 + k ≡ first - 1 + suc k = omega arith in
-    ap (λ (j : ℕ). slice_index_or all j d) e ∙ at (suc k) (omega arith)) (omega arith) in
+-- what the numbers' parts have together, where each has no more than what stands at its place of a list
+pub few_in_parts : {X Y : Type 0} (f : X → ℕ) (d : X) (g : ℕ → List Y) (first : ℕ) (xs : List X)
+    → ((i : ℕ) → i < length xs → length (g (first + i)) ≤ f (slice_index_or xs i d))
+    → length (flat_map g (numbers_from first (length xs))) ≤ sum_by f xs
+few_in_parts f d g first [] few = omega arith
+few_in_parts f d g first (x ∷ xs) few =
+    let rest = few_in_parts f d g (first + 1) xs (λ i lt. let on : first + suc i ≡ first + 1 + i = omega arith in
+    subst (λ (k : ℕ). length (g k) ≤ f (slice_index_or xs i d)) on (few (suc i) (omega arith))) in
+    let here = few 0 (omega arith) in
+    let place : first + 0 ≡ first = omega arith in
+    let one = ap (λ (k : ℕ). length (g k)) place in
+    let both = length-append (g first) (flat_map g (numbers_from (first + 1) (length xs))) in
+    let sum = sum_by-cons f x xs in
     omega arith
 
 module _ {W X : Type 0} (g : W → List X) where

@@ -1,21 +1,6 @@
 -- The numbers of a list, by their sign.
-use Rattle.fx_ring.proofs.Words.{◌≡◌, ℕ, zero, suc, ◌<◌, Bool, true, false, ◌||◌, ℤ, pos, negsuc, int_le, int_lt, List, [], ◌∷◌, ◌++◌, refl, sym, ap, Some, slice_get}
-use Rattle.fx_ring.proofs.Words.{◌∙◌, arith, nat_abs, ltb-true, le-leb, leb-false, ltb-false, le-ltb, list_any, is_bad_entry, is_bad_file}
-
--- a number of 0 or more is the one that it reads as
-pub unsigned : (z : ℤ) → int_le (pos 0) z ≡ true → z ≡ pos (nat_abs z)
-unsigned (pos n) is = refl
-unsigned (negsuc n) is = cc
-
-pub minus_one : (z : ℤ) → int_le (pos 0) z ≡ false → int_lt (negsuc 1) z ≡ true → z ≡ negsuc 0
-minus_one (pos n) low high = let e : true ≡ false = sym (le-leb 0 n (omega arith)) ∙ low in cc
-minus_one (negsuc zero) low high = refl
-minus_one (negsuc (suc n)) low high = let lt = ltb-true (suc n) 1 high in absurd (omega arith)
-
--- a good number of 0 or more is an entry
-pub entry_inside : (entries : ℕ) (z : ℤ) → int_le (pos 0) z ≡ true → is_bad_entry entries z ≡ false → nat_abs z < entries
-entry_inside entries (pos n) is good = leb-false entries n good
-entry_inside entries (negsuc n) is good = cc
+use Rattle.fx_ring.proofs.Words.{◌≡◌, ℕ, zero, suc, Bool, true, false, ◌||◌, ℤ, pos, negsuc, List, [], ◌∷◌, refl, sym, ap, Some, slice_get}
+use Rattle.fx_ring.proofs.Words.{◌∙◌, arith, ltb-false, le-ltb, list_any, is_bad_entry, is_bad_file}
 
 pub or_left : (a b : Bool) → a || b ≡ false → a ≡ false
 or_left true b is = cc

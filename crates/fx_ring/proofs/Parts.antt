@@ -1,7 +1,7 @@
 -- A list in parts, by a key of its elements.
 use Rattle.fx_ring.proofs.Words.{◌≡◌, ◌≢◌, ℕ, zero, suc, ◌+◌, ◌<◌, ◌≤◌, Bool, not, cond, List, [], ◌∷◌, ◌++◌, filter, All, IsPermutation, refl, sym}
 use Rattle.fx_ring.proofs.Words.{ap, subst, ◌∙◌, ◌==◌, arith, ne_eqb, All-head, All-tail, All-cons, All-nil, IsPermutation-refl, IsPermutation-trans}
-use Rattle.fx_ring.proofs.Words.{IsPermutation-append_right, IsPermutation-filter_both, by_equality}
+use Rattle.fx_ring.proofs.Words.{IsPermutation-append_right, IsPermutation-filter_both, by_equality, append-nil, eq-eqb, filter-append}
 
 -- the elements with the first key, then those with the next one, for so many keys
 abbrev pub parts_from : {X : Type 0} → (X → ℕ) → ℕ → ℕ → List X → List X
@@ -61,3 +61,32 @@ module _ {X : Type 0} (key : X → ℕ) where
       IsPermutation-trans xs (filter (has first) xs ++ filter (lacks first) xs) (parts_from key first (suc n) xs)
       (IsPermutation-filter_both (has first) (lacks first) (λ _. refl) xs)
       (IsPermutation-append_right (filter (has first) xs) (filter (lacks first) xs) (parts_from key (first + 1) n xs) behind)
+
+-- the elements with one key, where others stand in front of them or behind them
+module _ {X : Type 0} (key : X → ℕ) (c : ℕ) where
+  abbrev pub with_key : List X → List X
+  with_key xs = filter (λ x. key x == c) xs
+
+  all_kept : (xs : List X) → All (λ x. key x ≡ c) xs → with_key xs ≡ xs
+  all_kept [] all = refl
+  all_kept (x ∷ xs) all = rw (eq-eqb (key x) c (All-head (λ x. key x ≡ c) x xs all))
+      (ap (λ (l : List X). x ∷ l) (all_kept xs (All-tail (λ x. key x ≡ c) x xs all)))
+
+  pub none_kept : (xs : List X) → All (λ x. key x ≢ c) xs → with_key xs ≡ []
+  none_kept [] none = refl
+  none_kept (x ∷ xs) none = rw (ne_eqb (key x) c (All-head (λ x. key x ≢ c) x xs none))
+      (none_kept xs (All-tail (λ x. key x ≢ c) x xs none))
+
+  module _ (xs ys : List X) where
+    pub not_first : All (λ x. key x ≢ c) xs → with_key (xs ++ ys) ≡ with_key ys
+    not_first none = filter-append (λ x. key x == c) xs ys ∙ ap (λ (l : List X). l ++ with_key ys) (none_kept xs none)
+
+    pub not_second : All (λ x. key x ≢ c) ys → with_key (xs ++ ys) ≡ with_key xs
+    not_second none = filter-append (λ x. key x == c) xs ys ∙ ap (λ (l : List X). with_key xs ++ l) (none_kept ys none)
+        ∙ append-nil (with_key xs)
+
+    pub only_first : All (λ x. key x ≡ c) xs → All (λ x. key x ≢ c) ys → with_key (xs ++ ys) ≡ xs
+    only_first all none = not_second none ∙ all_kept xs all
+
+    pub only_second : All (λ x. key x ≢ c) xs → All (λ x. key x ≡ c) ys → with_key (xs ++ ys) ≡ ys
+    only_second none all = not_first none ∙ all_kept ys all

@@ -3,7 +3,7 @@ use Rattle.fx_ring.proofs.Words.{◌≡◌, ℕ, suc, ◌+◌, ◌-◌, ◌*◌,
 use Rattle.fx_ring.proofs.Words.{refl, sym, subst, ◌∙◌, arith, slice_index_or, IsNonDecreasingBy, All-head, All-tail, All-nil, FileEntry}
 use Rattle.fx_ring.proofs.Words.{All-append, All-weaker, sum_by-cons, IsPermutation-sym, IsPermutation-trans, length_permutation, Asked, MOST_MEMBERS}
 use Rattle.fx_ring.proofs.Words.{part_of_chain, action_of, Event, Completed, Explains, first_member, ExplainsParts, completions_of_chain, run_of_chain}
-use Rattle.fx_ring.proofs.CompletionPlaces.{IsWithin, place_key, explained_of_members}
+use Rattle.fx_ring.proofs.CompletionPlaces.{place_key, explained_of_members}
 use Rattle.fx_ring.proofs.Parts.{parts_from, parts_are_all}
 use Rattle.fx_ring.proofs.OneOrder.{Rises, one_list_in_order}
 

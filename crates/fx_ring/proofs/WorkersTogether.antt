@@ -1,19 +1,20 @@
 -- What the workers of a submission did, taken together.
 use Rattle.fx_ring.proofs.Words.{◌≡◌, ℕ, ◌+◌, ◌-◌, ◌<◌, ◌≤◌, ◌==◌, true, false, cond, List, [], ◌∷◌, map, flat_map, reverse, length, All, sum_by}
-use Rattle.fx_ring.proofs.Words.{count_by, slice_index_or, refl, sym, ap, subst, ◌∙◌, arith, eqb, eq-eqb, ⊎_elim, IsNonDecreasingBy, All-head}
-use Rattle.fx_ring.proofs.Words.{All-tail, All-contains, length-flat_map, IsPermutation-trans, length_permutation, FileEntry, IsInOrderOfMark}
-use Rattle.fx_ring.proofs.Words.{CloseListView, Closed, by_equality, opening, Contents, state_of, IsLegal, action_of, part_of_chain, part_of_pass}
+use Rattle.fx_ring.proofs.Words.{count_by, slice_index_or, refl, sym, ap, subst, ◌∙◌, arith, eqb, eq-eqb, ⊎_elim, IsNonDecreasingBy}
+use Rattle.fx_ring.proofs.Words.{All-contains, IsPermutation-trans, length_permutation, FileEntry, IsInOrderOfMark}
+use Rattle.fx_ring.proofs.Words.{CloseListView, Closed, opening, Contents, state_of, IsLegal, action_of, part_of_chain, part_of_pass}
 use Rattle.fx_ring.proofs.Words.{Event, ClosesTable, times_drawn, numbers_for, Opening, size_of, state_at, PassView, IsOfDrawnChains, some_times}
-use Rattle.fx_ring.proofs.Words.{part_of_drawn, sum_reverse, sum_map, sum_le_of, Completed, Explains, first_member, Asked, runs_of}
+use Rattle.fx_ring.proofs.Words.{part_of_drawn, sum_reverse, sum_map, Completed, Explains, first_member, Asked, runs_of}
 use Rattle.fx_ring.proofs.Words.{all_weights, ring_with, IsOneHistory, WorkerState, HasWorked, run_of_chain, completions_of_chain}
 use Rattle.std.specs.Prelude.{Contains}
 use Rattle.std.specs.List.Sorted.{IsPermutation}
 use Rattle.fx_table.proofs.Members.{contains_none, contains_head, contains_tail, contains_cases, contains_map, contains_mapped, contains_reverse}
 use Rattle.fx_table.proofs.Members.{contains_reversed, each_all}
 use Rattle.fx_ring.proofs.ClosesInParts.{closes_of, closes_with, closes_by_key}
-use Rattle.fx_ring.proofs.NumberedParts.{numbers_from, number_within, sum_by_place, one_part, all_parts, filter_parts, parts_reversed, same_parts}
+use Rattle.fx_ring.proofs.NumberedParts.{numbers_from, number_within, few_in_parts, one_part, all_parts, filter_parts, parts_reversed, same_parts}
 use Rattle.std.proofs.lemmas.List.Folds.{flat_map-map}
 use Rattle.fx_ring.proofs.CompletionPlaces.{place_key}
+use Rattle.fx_ring.proofs.Parts.{none_kept}
 use Rattle.fx_ring.proofs.PartsExplained.{IsShort, one_of_each_request, in_order_explained}
 
 abbrev pub pass_of : WorkerState → PassView
@@ -43,12 +44,8 @@ in_part p (x ∷ h) e i is = ⊎_elim
 -- a worker that did not draw a chain has none of its completions
 none_of_chain : (c : ℕ) (drawn : List ℕ) (xs : List Completed) → All (λ x. Contains drawn x.place.chain) xs
     → count_by (λ d. eqb d c) drawn ≡ 0 → completions_of_chain c xs ≡ []
-none_of_chain c drawn [] own zero = refl
-none_of_chain c drawn (x ∷ xs) own zero =
-    let P : Completed → Type 0 = λ x. Contains drawn x.place.chain in
-    by_equality x.place.chain c (λ b. cond b (x ∷ completions_of_chain c xs) (completions_of_chain c xs) ≡ [])
-    (λ same. let some = some_times c drawn (subst (Contains drawn) same (All-head P x xs own)) in absurd (omega arith))
-    (λ _. none_of_chain c drawn xs (All-tail P x xs own) zero)
+none_of_chain c drawn xs own zero = none_kept (λ x. x.place.chain) c xs
+    (λ k d l same. let some = some_times c drawn (subst (Contains drawn) same (own k d l)) in absurd (omega arith))
 
 -- the workers of a submission have played all of its chains, and their passes have come back
 pub record HavePlayed (catalogue : List FileEntry) (submission : ℕ) (runs : List (List Asked)) (o : Opening) (crew : List WorkerState)
@@ -166,31 +163,25 @@ module _ (catalogue : List FileEntry) (submission : ℕ) (runs : List (List Aske
       (λ w h. ap closes_of (closing.own w.pass (view_of w h)) ∙ sym (works w h).closed) in
       subst (IsPermutation (closes_of closing.history)) of_crew (IsPermutation-trans _ _ _ by_pass back)
 
-  weighed : (c : ℕ) → Contains (numbers_from 1 (length runs)) c
-      → length (closes_of (part_of_chain c closing.history)) ≤ all_weights (run_of_chain runs c)
-  weighed c h =
-      let r = number_within 1 (length runs) c h in
-      let low = r.0 in
-      let high = r.1 in
-      let d = drawer c low (omega arith) in
-      let few = (works d.0 d.1).weighed c d.2 in
-      let same = ap (λ (h : List Event). length (closes_of h)) (history_is c d.0 d.1 d.2) in
+  weighed : (i : ℕ) → i < length runs → length (closes_of (part_of_chain (1 + i) closing.history)) ≤ all_weights (slice_index_or runs i [])
+  weighed i inside =
+      let d = drawer (1 + i) (omega arith) (omega arith) in
+      let few = (works d.0 d.1).weighed (1 + i) d.2 in
+      let same = ap (λ (h : List Event). length (closes_of h)) (history_is (1 + i) d.0 d.1 d.2) in
+      let place : 1 + i - 1 ≡ i = omega arith in
+      let run = ap (λ (j : ℕ). all_weights (slice_index_or runs j [])) place in
       omega arith
 
   -- and no more than the requests weigh
   pub closes_weigh : length (flat_map closed_by_worker crew) ≤ sum_by all_weights runs
   closes_weigh =
       let part : ℕ → List Closed = closes_with (λ e. e.chain) closing.history in
-      let all : All (λ e. (1 ≤ e.chain) × (e.chain < 1 + length runs)) closing.history =
-      each_all (λ e. (1 ≤ e.chain) × (e.chain < 1 + length runs)) closing.history
+      let all = each_all (λ e. (1 ≤ e.chain) × (e.chain < 1 + length runs)) closing.history
       (λ e h. let r = events_inside e h in let low = r.0 in let high = r.1 in (omega arith, omega arith)) in
       let a = length_permutation (closes_of closing.history) (flat_map part (numbers_from 1 (length runs)))
       (closes_by_key (λ e. e.chain) 1 (length runs) closing.history all) in
       let b = length_permutation (closes_of closing.history) (flat_map closed_by_worker crew) closes_joined in
-      let c = length-flat_map part (numbers_from 1 (length runs)) in
-      let d = sum_le_of (λ c. length (part c)) (λ c. all_weights (run_of_chain runs c)) (numbers_from 1 (length runs)) weighed in
-      let e = sum_by_place all_weights [] runs runs 1
-      (λ k _. let e : 1 - 1 + k ≡ k = omega arith in ap (λ (j : ℕ). slice_index_or runs j []) e) (omega arith) in
+      let few = few_in_parts all_weights [] part 1 runs weighed in
       omega arith
 
 -- the headline, once the completions are in order of place and the closes in order of mark

@@ -1,18 +1,28 @@
-use Rattle.fx_ring.proofs.Words.{arith}
-use Rattle.fx_ring.proofs.RoomForAll.{one_more_fits}
+use Rattle.fx_ring.proofs.Words.{ℕ, ◌+◌, ◌<◌, ◌≤◌, ◌≡◌, List, length, take, get_or, sum_by, ap, arith, sum_by_more_le, IsAccepted, all_asked, asked_of}
+use Rattle.fx_ring.proofs.Words.{operation_of, weight_of, Request, sum_map}
+use Rattle.fx_chain.proofs.Accepted.{accepted-each, accepted-length, all_weights-small}
 use Rattle.fx_ring.proofs.outcome.weight_of_all.Goals as goal
+
+abbrev weight_of_one : Request → ℕ
+weight_of_one r = weight_of (operation_of r.op)
+
+-- one more weight fits
+one_more : (requests : List Request) (i : ℕ) (x : Request) → i < length requests → x ≡ get_or requests i x → IsAccepted (all_asked requests)
+    → sum_by weight_of_one (take i requests) + weight_of_one x ≤ 261888
+one_more requests i x inside is accepted =
+    let more = sum_by_more_le weight_of_one requests i x inside in
+    let same = ap weight_of_one is in
+    let all = sum_map (λ a. weight_of a.operation) asked_of requests in
+    let few = accepted-length (all_asked requests) accepted in
+    let small = all_weights-small (all_asked requests) (accepted-each (all_asked requests) accepted) in
+    omega arith
 
 pub overflow_cast-weight : goal.overflow_cast-weight
 overflow_cast-weight c =
-    let fits = one_more_fits c.args.requests.now c.loop-request.request-index c.request-item.result c.loop-request-test.true
-    c.request-item.is c.requires in
-    let is = c.weight.ensures in
-    omega arith
+    let fits = one_more c.args.requests.now c.loop-request.request-index c.request-item.result c.loop-request-test.true c.request-item.is c.requires in
+    omega (arith, fits, c.weight.ensures)
 
 pub overflow_add-weight : goal.overflow_add-weight
 overflow_add-weight c =
-    let fits = one_more_fits c.args.requests.now c.loop-request.request-index c.request-item.result c.loop-request-test.true
-    c.request-item.is c.requires in
-    let is = c.weight.ensures in
-    let so_far = c.loop-request.invariant in
-    omega arith
+    let fits = one_more c.args.requests.now c.loop-request.request-index c.request-item.result c.loop-request-test.true c.request-item.is c.requires in
+    omega (arith, fits, c.weight.ensures, c.loop-request.invariant)

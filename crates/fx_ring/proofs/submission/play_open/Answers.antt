@@ -1,6 +1,5 @@
-use Rattle.fx_ring.proofs.Words.{◌≡◌, ◌+◌, List, flat_map, length, sym, ap, subst, ◌∙◌, arith, PassView, IsIdle, Opening, size_of, Asked, all_asked}
-use Rattle.fx_ring.proofs.Words.{runs_of, Completed, all_completed, HasRoomFor, ring_with, IsOneHistory, Reported, Worker, Completion, CloseListView}
-use Rattle.fx_ring.proofs.Words.{Closed, map}
+use Rattle.fx_ring.proofs.Words.{◌+◌, List, length, sym, ap, subst, ◌∙◌, arith, PassView, IsIdle, size_of, all_asked, runs_of, Completed}
+use Rattle.fx_ring.proofs.Words.{all_completed, HasRoomFor, ring_with, IsOneHistory, Reported, Worker, Completion, CloseListView, Closed, map}
 use Rattle.std.specs.List.Sorted.{IsPermutation}
 use Rattle.fx_ring.proofs.NewCrew.{IsNew, all_gathered, all_scattered, all_new, all_idle, as_many_passes, new_has_worked, new_has_room, runs_have_all}
 use Rattle.fx_ring.proofs.NewCrew.{runs_weigh_all}

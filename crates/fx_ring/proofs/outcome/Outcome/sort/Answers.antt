@@ -1,6 +1,16 @@
 use Rattle.fx_ring.proofs.Words.{◌+◌, ◌*◌, rules, IsPermutation-map, IsNonDecreasingBy-from_sort_by_key, completed_of}
-use Rattle.fx_ring.proofs.RoomForAll.{IsNonDecreasingBy-map}
+use Rattle.fx_ring.proofs.Words.{ℕ, List, [], ◌∷◌, map, arith, ap, IsNonDecreasingBy, get_or-map, length-map}
 use Rattle.fx_ring.proofs.outcome.Outcome.sort.Goals as goal
+
+IsNonDecreasingBy-map : {X Y : Type 0} (f : X → Y) (n : Y → ℕ) (xs : List X) → IsNonDecreasingBy (λ x. n (f x)) xs
+    → IsNonDecreasingBy n (map f xs)
+IsNonDecreasingBy-map f n [] rises i j d low inside = absurd (omega arith)
+IsNonDecreasingBy-map f n (x ∷ xs) rises i j d low inside =
+    let len = length-map (x ∷ xs) f in
+    let a = ap n (get_or-map f (x ∷ xs) i x d (omega arith)) in
+    let b = ap n (get_or-map f (x ∷ xs) j x d (omega arith)) in
+    let r = rises i j x low (omega arith) in
+    omega arith
 
 pub returns-clause-completions : goal.returns-clause-completions
 returns-clause-completions c = IsPermutation-map completed_of _ _ c.sort_unstable_by_key.ensures.permutation

@@ -1,4 +1,4 @@
-use Rattle.fx_ring.proofs.Words.{◌≡◌, subst, rules, AreEntries, HasClosed, ring_of}
+use Rattle.fx_ring.proofs.Words.{rules, AreEntries, HasClosed, ring_of}
 use Rattle.fx_ring.specs.Ring.{files_of}
 use Rattle.fx_ring.proofs.Rings.{contents_of, all_closed, emptied_settled}
 use Rattle.fx_ring.proofs.ring.Ring.tear_down.Goals.{After-sort}

@@ -1,5 +1,4 @@
-use Rattle.fx_ring.proofs.Words.{◌≡◌, ap, subst, ◌∙◌, rules, State, state_of, identity_of, RingContents, AreEntries, HasClosed, ring_of}
-use Rattle.fx_ring.proofs.Words.{with_table}
+use Rattle.fx_ring.proofs.Words.{ap, ◌∙◌, rules, State, identity_of, RingContents, AreEntries, HasClosed, ring_of, with_table}
 use Rattle.fx_ring.specs.Ring.{without_table, files_of}
 use Rattle.fx_ring.proofs.Rings.{contents_of, all_closed, emptied_settled, none_rings}
 use Rattle.fx_ring.proofs.ring.Ring.unregister.Goals.{After-sort}
