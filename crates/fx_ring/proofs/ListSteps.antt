@@ -5,6 +5,7 @@ use Rattle.fx_ring.proofs.Words.{slice_index_or, arith, cases_lt, lt-ltb, le-ltb
 use Rattle.fx_ring.proofs.Words.{IsSettled, changed_at, by_equality, file_after, file_listed, files_after, removed_by, removed_from, tag_at, files_at}
 use Rattle.fx_ring.specs.Slots.{SetsList, SetsNumber}
 use Rattle.std.proofs.Math.Seq.{drop-length}
+use Rattle.std.proofs.lemmas.Bool.Decides.{nat_tests}
 use Rattle.std.proofs.lemmas.Option.{slice_get-get_or}
 
 module _ (k : ℕ) (at : ℕ → Option Closed) (off : ℕ) (list : List ℤ) (tags : List ℕ) where
@@ -25,17 +26,17 @@ module _ (k : ℕ) (at : ℕ → Option Closed) (off : ℕ) (list : List ℤ) (t
   abbrev pub files_upto : ℕ → ℕ → Option Closed
   files_upto i slot = if nat_lt slot (off + i) then files_after k at off list tags slot else at slot
 
+  none_at : (slot : ℕ) → files_upto 0 slot ≡ at slot
+  none_at slot = grind (arith, nat_tests, files_below)
+
   pub upto_none : files_upto 0 ≡ at
-  upto_none = λ j slot. elim (cases_lt slot (off + 0)) as (λ _. files_upto 0 slot ≡ at slot) [
-    | inl below ↦ rw (lt-ltb slot (off + 0) below) (files_below slot (omega arith))
-    | inr above ↦ rw (le-ltb slot (off + 0) above) refl
-  ] j
+  upto_none = λ j slot. none_at slot j
+
+  all_at : (slot : ℕ) → files_upto (length list) slot ≡ files_after k at off list tags slot
+  all_at slot = grind (arith, nat_tests, files_past)
 
   pub upto_all : files_upto (length list) ≡ files_after k at off list tags
-  upto_all = λ j slot. elim (cases_lt slot (off + length list)) as (λ _. files_upto (length list) slot ≡ files_after k at off list tags slot) [
-    | inl below ↦ rw (lt-ltb slot (off + length list) below) refl
-    | inr above ↦ rw (le-ltb slot (off + length list) above) (sym (files_past slot above))
-  ] j
+  upto_all = λ j slot. all_at slot j
 
   module _ (i : ℕ) (z : ℤ) (inside : i < length list) (is : z ≡ slice_index_or list i (pos 0)) where
     -- the next slot is as it was
@@ -56,10 +57,7 @@ module _ (k : ℕ) (at : ℕ → Option Closed) (off : ℕ) (list : List ℤ) (t
             ∙ ap (λ (x : Option ℤ). file_listed k i (tag_at tags i) x (at (off + i))) (slice_get-get_or list i (pos 0) inside ∙ ap Some (sym is)))
 
         other : (slot : ℕ) → (slot ≡ off + i → ⊥) → files_upto (i + 1) slot ≡ files_upto i slot
-        other slot apart = elim (cases_lt slot (off + i)) [
-          | inl below ↦ rw (lt-ltb slot (off + i) below, lt-ltb slot (off + (i + 1)) (omega arith)) refl
-          | inr above ↦ rw (le-ltb slot (off + i) above, le-ltb slot (off + (i + 1)) (omega arith)) refl
-        ]
+        other slot apart = grind (arith, nat_tests)
 
     -- what the rest of the list removes, with the next number in front
     pub removed_next : removed_from at (off + i) (drop i list) ≡ removed_by z (at (off + i)) ++ removed_from at (off + (i + 1)) (drop (i + 1) list)

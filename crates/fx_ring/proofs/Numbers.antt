@@ -1,14 +1,7 @@
 -- The numbers of a list, by their sign.
 use Rattle.fx_ring.proofs.Words.{◌≡◌, ℕ, zero, suc, Bool, true, false, ◌||◌, ℤ, pos, negsuc, List, [], ◌∷◌, refl, sym, ap, Some, slice_get}
 use Rattle.fx_ring.proofs.Words.{◌∙◌, arith, ltb-false, le-ltb, list_any, is_bad_entry, is_bad_file}
-
-pub or_left : (a b : Bool) → a || b ≡ false → a ≡ false
-or_left true b is = cc
-or_left false b is = refl
-
-pub or_right : (a b : Bool) → a || b ≡ false → b ≡ false
-or_right true b is = cc
-or_right false b is = is
+pub use Rattle.fx_base.proofs.Entries.{or_left, or_right}
 
 good_file : (entries : ℕ) (z : ℤ) → is_bad_file entries z ≡ false → is_bad_entry entries z ≡ false
 good_file entries (pos n) good = good

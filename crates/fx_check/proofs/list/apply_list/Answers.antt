@@ -21,7 +21,7 @@ loop-i-init c =
       table = ap (λ (a : ℕ → _). record first { at = a }) (sym (upto_none c.args.k first.at c.args.off c.args.list.now (tags_for c.args.list.now c.args.tags)));
       in_range = λ fits. fits;
       removed = let e : c.args.off + 0 ≡ c.args.off = omega arith in
-          ap (λ (l : List Closed). l ++ removed_from first.at (c.args.off + 0) c.args.list.now) c.new-removed.ensures.empty
+          ap (λ (l : List Closed). l ++ removed_from first.at (c.args.off + 0) c.args.list.now) c.new-removed.ensures.items
           ∙ ap (λ (n : ℕ). removed_from first.at n c.args.list.now) e;
     }
 
