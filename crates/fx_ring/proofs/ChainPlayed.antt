@@ -147,13 +147,6 @@ module _ (o : Opening) (catalogue : List FileEntry) (submission : ℕ) (runs : L
       let weights = sum_behind all_weights runs [] v.chain chain further inside in
       let count = explained_count catalogue (size_of o) (first_member submission chain) (run_of_chain runs chain) actions played.0 played.2.says in
       let longer = ap length played.1 ∙ length-append before played.0 in
-      let few_looks = played.2.few_looks in
-      let few_files = played.2.few_files in
-      let looks_left = played.2.acts.adds.looks_left in
-      let room_is = played.2.acts.room in
-      let looks = room.looks in
-      let completions = room.completions in
-      let files_room = room.closes in
       subst (λ (n : ℕ). HasRoom runs (worker_state (record x { chain = n }) now files) more) (sym played.2.acts.adds.chain)
       (record { looks = omega arith; completions = omega arith; closes = omega arith })
 
@@ -170,9 +163,6 @@ module _ (o : Opening) (runs : List (List Asked)) (v w : PassView) (before : Lis
       let same = ap length are in
       let weigh = ap all_weights are in
       let left = ap (λ (z : PassView). z.looks_left) drew.3 in
-      let looks = room.looks in
-      let completions = room.completions in
-      let files = room.closes in
       (omega arith, omega arith, omega arith)
 
   -- and the worker goes on
@@ -185,12 +175,10 @@ module _ (o : Opening) (runs : List (List Asked)) (v w : PassView) (before : Lis
 
     pub worked_next : HasWorked catalogue (size_of o) submission runs (worker_state x now files)
     worked_next =
-        let last = drew.2 in
         worked_on o catalogue submission runs v x before now closes files chain worked drew.1 (omega arith) played_so
 
     pub room_next : HasRoom runs (worker_state x now files) more
     room_next =
-        let last = drew.2 in
         room_left o catalogue submission runs v x before now closes files chain worked drew.1 (omega arith) played_so capacity more room grows
 
     pub number_next : x.number ≡ v.number

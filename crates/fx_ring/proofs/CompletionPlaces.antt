@@ -28,7 +28,6 @@ more_of_members : (place : Place) (request : Asked) (requests : List Asked) (c :
     → AreOfMembers (next_member place) requests cs → AreOfMembers place (request ∷ requests) (c ∷ cs)
 more_of_members place request requests c cs at rest =
     let key : place_key c ≡ key_of place = ap key_of at in
-    let count = rest.count in
     let Behind : Completed → Type 0 = IsWithin (next_member place) (length requests) in
     let Here : Completed → Type 0 = IsWithin place (length (request ∷ requests)) in
     record {

@@ -1,7 +1,7 @@
 -- What a list has done, one number further.
 use Rattle.fx_ring.proofs.Words.{◌≡◌, ℕ, suc, ◌+◌, ◌-◌, ◌<◌, ◌≤◌, if◌then◌else◌, ℤ, pos, List, ◌++◌, length, nat_lt}
-use Rattle.fx_ring.proofs.Words.{length-append, append_assoc, append-nil, refl, sym, ap, ◌∙◌, Option, Some, slice_get, inl, inr, drop}
-use Rattle.fx_ring.proofs.Words.{slice_index_or, arith, cases_lt, lt-ltb, le-ltb, slice_get_past, drop-cons, CloseListView, Registered, Closed, State}
+use Rattle.fx_ring.proofs.Words.{length-append, append_assoc, append-nil, refl, sym, ap, ◌∙◌, Option, Some, slice_get, drop}
+use Rattle.fx_ring.proofs.Words.{slice_index_or, arith, lt-ltb, le-ltb, slice_get_past, drop-cons, CloseListView, Registered, Closed, State}
 use Rattle.fx_ring.proofs.Words.{IsSettled, changed_at, by_equality, file_after, file_listed, files_after, removed_by, removed_from, tag_at, files_at}
 use Rattle.fx_ring.specs.Slots.{SetsList, SetsNumber}
 use Rattle.std.proofs.Math.Seq.{drop-length}
@@ -91,7 +91,6 @@ module _ (k off : ℕ) (list : List ℤ) (tags : List ℕ) (old : State) (before
   all_applied cur mid done =
       let none = ap (removed_from (files_at old) (off + length list)) (drop-length list) in
       let rest = ap length none in
-      let room = done.room in
       record {
         size = done.size;
         range = done.range;
@@ -114,7 +113,6 @@ module _ (k off : ℕ) (list : List ℤ) (tags : List ℕ) (old : State) (before
         let rest = removed_from (files_at old) (off + (i + 1)) (drop (i + 1) list) in
         let parts = ap length (removed_next k (files_at old) off list tags i number inside refl) ∙ length-append (removed_by number (files_at old (off + i))) rest in
         let same = ap (λ (x : Option Closed). length (removed_by number x)) here in
-        let room = done.room in
         omega arith
 
     pub applied_next : SetsNumber k off i (tag_at tags i) number cur new mid later → IsApplied k off list tags old new before later (i + 1)
@@ -122,8 +120,6 @@ module _ (k off : ℕ) (list : List ℤ) (tags : List ℕ) (old : State) (before
         let rest = removed_from (files_at old) (off + (i + 1)) (drop (i + 1) list) in
         let split = removed_next k (files_at old) off list tags i number inside refl ∙ ap (λ (x : Option Closed). removed_by number x ++ rest) (sym here) in
         let parts = ap length split ∙ length-append (removed_by number (files_at cur (off + i))) rest in
-        let room = done.room in
-        let used = next.room in
         record {
           size = next.size ∙ done.size;
           range = next.range ∙ done.range;

@@ -111,7 +111,6 @@ new_has_room v outcome requests accepted is room =
     let few = accepted-length requests accepted in
     let all = runs_have_all requests in
     let weights = runs_weigh_all requests in
-    let space = room.room in
     let closes = ap (λ (l : CloseListView). l.room) room.closes in
     let none = ap (λ (l : List Completion). length (all_completed l)) room.no_completions in
     subst (λ (z : PassView).

@@ -48,8 +48,6 @@ module _ (catalogue : List FileEntry) (size submission : ℕ) (history : List Ev
       (λ i lt. let on : chain + suc i ≡ chain + 1 + i = omega arith in
       subst (λ c. IsExplainedPart c (slice_index_or runs i [])) on (explained (suc i) (omega arith))) in
       let short : length run ≤ MOST_MEMBERS = All-head IsShort run runs few in
-      let count = are.count in
-      let more = rest.count in
       let whole = length-append mine (parts (chain + 1) runs) in
       let sum = sum_by-cons (λ (r : List Asked). length r) run runs in
       record {

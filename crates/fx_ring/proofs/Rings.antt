@@ -4,6 +4,7 @@ use Rattle.fx_ring.proofs.Words.{◌&&◌, nat_lt, option_to_list, IsPermutation
 use Rattle.fx_ring.proofs.Words.{CloseListView, IsInOrderOfMark, Closed, State, IsSettled, opening, file_numbered, vacant, state_of, identity_of, File}
 use Rattle.fx_ring.proofs.Words.{Contents, IsGivenBack, RingContents, RingState, IsAtRest, IsRing, HasCounted, Mark, Registered, Submitted, ◌≤◌, HasClosed, AreEntries, ring_of, ring_with}
 use Rattle.fx_ring.proofs.Words.{with_table, AreFresh, files_at}
+use Rattle.fx_table.specs.Opening.{HasSameFiles}
 use Rattle.fx_plain.specs.State.{identities_of, files_in_order as files_in_order_of_state, files_of as files_of_state}
 use Rattle.fx_ring.specs.Ring.{files_in_order, files_of}
 use Rattle.fx_ring.specs.declared.ring.Ring.TheInside.{Inside}
@@ -107,16 +108,13 @@ pub ring_is : (ring : RingState) (st : State) (size : ℕ) (range : ℕ × ℕ) 
 ring_is ring st size range files same_size same_range same_files =
     λ i. record ring { size = same_size i; range = same_range i; at = same_files i }
 
+-- a ring whose table has the files of a state, their numbers aside
+pub ring_as : (c : RingContents) (st : State) (t : Contents) → HasSameFiles st (state_of t) → ring_of (record c { table = t }) ≡ with_table (ring_of c) st
+ring_as c st t same = λ i. record (ring_of c) { size = same.size i; range = same.range i; at = λ slot. same.files slot i }
+
 -- a ring whose table came back where it could not be opened
 pub given_back_rings : (c : RingContents) (back : Contents) → IsGivenBack c.table back → ring_of (record c { table = back }) ≡ ring_of c
-given_back_rings c back given = λ i. record {
-  catalogue = c.catalogue;
-  size = given.files.size i;
-  range = given.files.range i;
-  at = λ slot. given.files.files slot i;
-  submissions = c.submissions;
-  registrations = c.registrations;
-}
+given_back_rings c back given = ring_as c (state_of c.table) back given.files
 
 pub given_back_at_rest : (c : RingContents) (back : Contents) → IsAtRest c → IsGivenBack c.table back → IsAtRest (record c { table = back })
 given_back_at_rest c back rest given = record {

@@ -136,7 +136,6 @@ pub submitted_at_rest : (old new : RingContents) (requests : List Asked) (report
 submitted_at_rest old new requests report rest one settled few =
     let submissions : new.submissions ≡ old.submissions + 1 = ap (λ (ring : RingState). ring.submissions) one.after in
     let registrations : new.registrations ≡ old.registrations = ap (λ (ring : RingState). ring.registrations) one.after in
-    let many = rest.few_registrations in
     record {
       settled = settled;
       ring = submitted_rings old new requests report rest.ring one;

@@ -11,7 +11,7 @@ pub use Rattle.fx_base.specs.declared.open_file.Closed.{Closed}
 pub use Rattle.fx_chain.specs.Accepted.{IsAccepted, IsChain, IsShortRun, members_of}
 pub use Rattle.fx_chain.specs.Answers.{Answers, AppliesEntry, AppliesList, Empties, MayClose, OpensAt, ReadsFrom, Refuses, UpdatesFrom, installed}
 pub use Rattle.fx_chain.specs.Answers.{is_bad_entry}
-pub use Rattle.fx_chain.specs.Completed.{Completed, all_completed, completed_of, next_member, refusal}
+pub use Rattle.fx_chain.specs.Completed.{Completed, all_completed, completed_of, next_member}
 pub use Rattle.fx_chain.specs.Explains.{Explains, canceled, first_member, severs}
 pub use Rattle.fx_chain.specs.Operation.{Asked, Closes, Opens, Operation, Reads, Updates, all_asked, asked_of, operation_of}
 pub use Rattle.fx_chain.specs.Runs.{runs_of}
@@ -28,8 +28,8 @@ pub use Rattle.fx_plain.proofs.Prepared.{settled_at_opening}
 pub use Rattle.fx_plain.specs.Contents.{Contents, leaving, state_of}
 pub use Rattle.fx_plain.specs.History.{IsLegal, Leads, action_of, close_of, closed_by, closes_in, part_of_chain, part_of_pass, state_after, ◌▷▷◌, ◌▷◌}
 pub use Rattle.fx_plain.specs.Laws.{IsInstalled, IsStart, installed_by}
-pub use Rattle.fx_plain.specs.State.{IsSettled, State, file_numbered, files_of, opening, vacant}
-pub use Rattle.fx_plain.specs.Step.{Steps, after, changed_at, with_removed}
+pub use Rattle.fx_plain.specs.State.{IsSettled, State, file_numbered, opening, vacant}
+pub use Rattle.fx_plain.specs.Step.{after, changed_at, with_removed}
 pub use Rattle.fx_plain.specs.Table.{identity_of, more_leaving, number_of, numbered}
 pub use Rattle.fx_plain.specs.declared.event.Action.{Action}
 pub use Rattle.fx_plain.specs.declared.event.Action.TheVariants.{Allocate, Clear, Close, Full, Look, Put, Release, Take}
@@ -39,7 +39,7 @@ pub use Rattle.fx_ring.specs.Outcomes.{HasRoomFor}
 pub use Rattle.fx_ring.specs.Playing.{IsReady, number_of_worker, setting_of, state_of_worker}
 pub use Rattle.fx_ring.specs.Registration.{file_after, file_listed, files_after, is_bad_file, registered, removed_by, removed_from, updated}
 pub use Rattle.fx_ring.specs.Ring.{AreEntries, HasClosed, HasCounted, IsAtRest, IsRing, RingContents, RingState, ring_of, ring_with, with_table}
-pub use Rattle.fx_ring.specs.Slots.{AreFresh, SetsFiles, files_at}
+pub use Rattle.fx_ring.specs.Slots.{AreFresh, files_at}
 pub use Rattle.fx_ring.specs.Submission.{ExplainsParts, IsOneHistory, Reported, reported}
 pub use Rattle.fx_ring.specs.Tags.{are_bad_tags, is_bad_tag, no_tags, tag_at, tags_for}
 pub use Rattle.fx_ring.specs.Work.{HasRoom, HasWorked, InstallAtMost, WorkerState, completions_of_chain, run_of_chain, worker_state}
@@ -47,20 +47,19 @@ pub use Rattle.fx_ring.specs.declared.outcome.Outcome.{Outcome}
 pub use Rattle.fx_ring.specs.declared.ring.TheConstants.{MOST_SUBMISSIONS}
 pub use Rattle.fx_ring.specs.declared.worker.Worker.{Worker}
 pub use Rattle.fx_table.proofs.Chains.{keeps_drawn_chains, part_of_drawn, some_times}
-pub use Rattle.fx_table.proofs.SumLemmas.{sum_le_of, sum_map, sum_of, sum_reverse}
+pub use Rattle.fx_table.proofs.SumLemmas.{sum_map, sum_of, sum_reverse}
 pub use Rattle.fx_table.specs.Closing.{ClosesTable, times_drawn}
 pub use Rattle.fx_table.specs.Numbers.{numbers_for}
 pub use Rattle.fx_table.specs.Opening.{IsGivenBack, Opening, size_of, state_at}
 pub use Rattle.fx_table.specs.Pass.{IsIdle, IsOfDrawnChains, PassView, event_of, new_pass, new_passes, new_passes_from}
 pub use Rattle.std.proofs.Common.{All, Bool, Contains, IsPermutation, List, MatchBool, None, Option, Some, [], ap, append-nil, append_assoc, arith}
-pub use Rattle.std.proofs.Common.{cond, count_by, drop, eq-eqb, eqb, false, filter, flat_map, get_or, if◌then◌else◌, inl, inr, int_le, int_lt, length}
-pub use Rattle.std.proofs.Common.{length-append, map, nat_abs, nat_le, nat_lt, ne_eqb, negsuc, not, of_z, option_map, option_to_list, pos, refl}
-pub use Rattle.std.proofs.Common.{reverse, rules, slice_get, slice_index_or, subst, suc, sum_by, sym, take, to_z, true, vec_capacity, vec_len, w32}
-pub use Rattle.std.proofs.Common.{zero, ℕ, ℤ, ⊎_elim, ◌&&◌, ◌*◌, ◌++◌, ◌+◌, ◌-◌, ◌<◌, ◌==◌, ◌||◌, ◌∙◌, ◌∷◌, ◌≡◌, ◌≢◌, ◌≤◌, ◌⊎◌}
-pub use Rattle.std.proofs.Math.Seq.{drop-cons, take-length}
-pub use Rattle.std.proofs.lemmas.Bool.{cases_lt, le-leb, le-ltb, leb-false, lt-ltb, ltb-false, ltb-true}
-pub use Rattle.std.proofs.lemmas.List.{get_or-map, length-map, length-take-le, map-append, reverse-append, reverse-reverse, take-append-drop}
-pub use Rattle.std.proofs.lemmas.List.{take_all, take_more}
+pub use Rattle.std.proofs.Common.{cond, count_by, drop, eq-eqb, eqb, false, filter, flat_map, get_or, if◌then◌else◌, inl, inr, length, length-append}
+pub use Rattle.std.proofs.Common.{map, nat_le, nat_lt, ne_eqb, negsuc, not, option_map, option_to_list, pos, refl, reverse, rules, slice_get}
+pub use Rattle.std.proofs.Common.{slice_index_or, subst, suc, sum_by, sym, take, true, vec_capacity, vec_len, zero, ℕ, ℤ, ⊎_elim, ◌&&◌, ◌*◌, ◌++◌}
+pub use Rattle.std.proofs.Common.{◌+◌, ◌-◌, ◌<◌, ◌==◌, ◌||◌, ◌∙◌, ◌∷◌, ◌≡◌, ◌≢◌, ◌≤◌, ◌⊎◌}
+pub use Rattle.std.proofs.Math.Seq.{drop-cons}
+pub use Rattle.std.proofs.lemmas.Bool.{cases_lt, le-ltb, leb-false, lt-ltb, ltb-false}
+pub use Rattle.std.proofs.lemmas.List.{get_or-map, length-map, map-append, reverse-append, reverse-reverse, take_all}
 pub use Rattle.std.proofs.lemmas.List.Concat.{flat_map-append, length-flat_map}
 pub use Rattle.std.proofs.lemmas.List.Elements.{All-append, All-cons, All-contains, All-head, All-map, All-more, All-nil, All-tail, All-weaker}
 pub use Rattle.std.proofs.lemmas.List.Elements.{filter-append}

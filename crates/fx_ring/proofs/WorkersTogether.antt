@@ -14,6 +14,7 @@ use Rattle.fx_ring.proofs.ClosesInParts.{closes_of, closes_with, closes_by_key}
 use Rattle.fx_ring.proofs.NumberedParts.{numbers_from, number_within, few_in_parts, one_part, all_parts, filter_parts, parts_reversed, same_parts}
 use Rattle.std.proofs.lemmas.List.Folds.{flat_map-map}
 use Rattle.fx_ring.proofs.CompletionPlaces.{place_key}
+use Rattle.fx_ring.proofs.Rings.{ring_as}
 use Rattle.fx_ring.proofs.Parts.{none_kept}
 use Rattle.fx_ring.proofs.PartsExplained.{IsShort, one_of_each_request, in_order_explained}
 
@@ -95,7 +96,6 @@ module _ (catalogue : List FileEntry) (submission : ℕ) (runs : List (List Aske
   -- each chain was drawn by a worker, and by no other one
   drawer : (c : ℕ) → 1 ≤ c → c ≤ length runs → (w : WorkerState) × Contains crew w × Contains w.pass.drawn c
   drawer c low high =
-      let chains = played.chains in
       let told : (v : PassView) → Contains passes v → v.no_chains_left ≡ true = λ v h.
       let w = worker_of v h in
       ap (λ (u : PassView). u.no_chains_left) w.2 ∙ All-contains (λ w. w.pass.no_chains_left ≡ true) crew w.0 played.told w.1 in
@@ -214,12 +214,5 @@ module _ (catalogue : List FileEntry) (submissions : ℕ) (requests : List Asked
       in_order = in_order;
     };
     submission = refl;
-    after = λ i. record {
-      catalogue = catalogue;
-      size = played.closing.files.size i;
-      range = played.closing.files.range i;
-      at = λ slot. played.closing.files.files slot i;
-      submissions = submissions + 1;
-      registrations = registrations;
-    };
+    after = ring_as (ring_with catalogue o.contents (submissions + 1) registrations) (state_at o history) left played.closing.files;
   }

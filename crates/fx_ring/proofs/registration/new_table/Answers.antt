@@ -1,8 +1,9 @@
 use Rattle.fx_ring.proofs.Words.{◌≡◌, ◌*◌, ℕ, Option, length, ap, ◌∙◌, arith, Closed, State, state_of, files_after, removed_from, tags_for, files_at}
-use Rattle.fx_ring.proofs.Words.{settled_at_opening}
+use Rattle.fx_ring.proofs.Words.{settled_at_opening, None}
 use Rattle.fx_ring.proofs.Numbers.{good_files}
 use Rattle.fx_ring.proofs.Origins.{none_removed}
 use Rattle.fx_ring.proofs.Rings.{opening_files, opening_fresh, emptied_settled, vacant_empty, vacant_files}
+use Rattle.fx_ring.proofs.registration.new_table.Goals.{In-Ok}
 use Rattle.fx_ring.proofs.registration.new_table.Goals as goal
 
 pub prepare-requires-clause-settled : goal.prepare-requires-clause-settled
@@ -32,20 +33,17 @@ apply_list-requires-clause-fresh c =
     opening_fresh (state_of c.in_ok-table.table) (state_of c.prepare.new.self) (2 * length c.args.list.now) c.in-Ok.ensures.ok
     number (omega arith) (omega arith)
 
+no_files : (c : In-Ok) → files_at (state_of c.prepare.new.self) ≡ (λ _. None)
+no_files c = opening_files (state_of c.in_ok-table.table) (state_of c.prepare.new.self) (2 * length c.args.list.now) c.in-Ok.ensures.ok
+    ∙ vacant_files (state_of c.in_ok-table.table) (length c.args.list.now) c.in_ok-table.ensures.state
+
 pub apply_list-requires-clause-room : goal.apply_list-requires-clause-room
 apply_list-requires-clause-room c =
-    let files =
-    opening_files (state_of c.in_ok-table.table) (state_of c.prepare.new.self) (2 * length c.args.list.now) c.in-Ok.ensures.ok
-    ∙ vacant_files (state_of c.in_ok-table.table) (length c.args.list.now) c.in_ok-table.ensures.state in
     let none : length (removed_from (files_at (state_of c.prepare.new.self)) 0 c.args.list.now) ≡ 0 =
-    ap (λ (a : ℕ → Option Closed). length (removed_from a 0 c.args.list.now)) files
+    ap (λ (a : ℕ → Option Closed). length (removed_from a 0 c.args.list.now)) (no_files (goal.at.apply_list-requires-clause-room c).In-Ok)
     ∙ ap length (none_removed 0 c.args.list.now) in
     omega (arith, none)
 
 pub returns-clause-files : goal.returns-clause-files
-returns-clause-files c =
-    let files =
-    opening_files (state_of c.in_ok-table.table) (state_of c.prepare.new.self) (2 * length c.args.list.now) c.in-Ok.ensures.ok
-    ∙ vacant_files (state_of c.in_ok-table.table) (length c.args.list.now) c.in_ok-table.ensures.state in
-    c.apply_list.ensures.at_slots ∙ ap (λ (a : ℕ → Option Closed). files_after c.args.k a 0 c.args.list.now
-    (tags_for c.args.list.now c.args.tags)) files
+returns-clause-files c = c.apply_list.ensures.at_slots ∙ ap (λ (a : ℕ → Option Closed). files_after c.args.k a 0 c.args.list.now
+    (tags_for c.args.list.now c.args.tags)) (no_files (goal.at.returns-clause-files c).In-Ok)
