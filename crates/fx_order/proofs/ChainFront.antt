@@ -1,6 +1,6 @@
 -- What the first member of a chain made stands at the front of what the chain made.
 use Rattle.fx_order.proofs.Words.{◌≡◌, ◌↔◌, ℕ, ◌+◌, Bool, true, false, IsTrue, List, [], ◌∷◌, ◌++◌, length, take, drop, refl, sym, ap, subst, ◌∙◌}
-use Rattle.fx_order.proofs.Words.{arith, min, MatchBool, when_true, when_false, take-append-drop, length-append, take-append_seam, drop-append_seam}
+use Rattle.fx_order.proofs.Words.{arith, min, MatchBool, when_false, take-append-drop, length-append, take-append_seam, drop-append_seam}
 use Rattle.fx_order.proofs.Words.{FileEntry, Completed, next_member, canceled, severs, Asked, Place, Access, IsChainDone, IsRequestDone}
 
 -- the first part of a list of a known length
@@ -50,32 +50,12 @@ module _ (catalogue : List FileEntry) (size : ℕ) (place : Place) (request : As
             (IsChainDone catalogue size (next_member place) requests x.1 x.3)) (sym same) x.7)),
       )
 
-  -- and a chain of two parts
-  of_parts : (n : ℕ) → IsRequestDone catalogue size place request.operation (take n accesses) c → Behind (drop n accesses) → IsDone
-  of_parts n done behind = (take n accesses, drop n accesses, c, cs, sym (take-append-drop n accesses), refl, done, behind)
-
-  pub not_done : IsMade
-      → (IsRequestDone catalogue size place request.operation (take (min made (length accesses)) accesses) c → ⊥) → IsDone → ⊥
-  not_done counts other x = other ((parts_of counts x).0)
-
-  pub severed : IsMade → severs request c ≡ true
-      → IsRequestDone catalogue size place request.operation (take (min made (length accesses)) accesses) c → (b : Bool)
-      → (IsTrue b ↔ ((drop (min made (length accesses)) accesses ≡ []) × (cs ≡ canceled (next_member place) requests)))
-      → IsTrue b ↔ IsDone
-  severed counts cut done b same = (
-    λ yes. of_parts (min made (length accesses)) done (subst (λ (s : Bool). MatchBool s ((drop (min made (length accesses)) accesses ≡ []) × (cs ≡ canceled (next_member place) requests))
-        (IsChainDone catalogue size (next_member place) requests (drop (min made (length accesses)) accesses) cs)) (sym cut) (same.0 yes)),
-    λ x. same.1 (when_true _ _ cut (parts_of counts x).1),
-  )
-
-  pub goes_on : IsMade → severs request c ≡ false
-      → IsRequestDone catalogue size place request.operation (take (min made (length accesses)) accesses) c → (b : Bool)
-      → (IsTrue b ↔ IsChainDone catalogue size (next_member place) requests (drop (min made (length accesses)) accesses) cs)
-      → IsTrue b ↔ IsDone
-  goes_on counts cut done b same = (
-    λ yes. of_parts (min made (length accesses)) done (subst (λ (s : Bool). MatchBool s ((drop (min made (length accesses)) accesses ≡ []) × (cs ≡ canceled (next_member place) requests))
-        (IsChainDone catalogue size (next_member place) requests (drop (min made (length accesses)) accesses) cs)) (sym cut) (same.0 yes)),
-    λ x. same.1 (when_false _ _ cut (parts_of counts x).1),
+  pub goes_on : (own others : List Access) (n : ℕ) → n ≡ min made (length accesses) → own ≡ take n accesses → others ≡ drop n accesses → IsMade
+      → severs request c ≡ false → IsRequestDone catalogue size place request.operation own c → (b : Bool)
+      → (IsTrue b ↔ IsChainDone catalogue size (next_member place) requests others cs) → IsTrue b ↔ IsDone
+  goes_on own others n least front back counts cut done b same = (
+    λ yes. (own, others, c, cs, sym (take-append-drop n accesses) ∙ sym (ap (λ l. l ++ others) front ∙ ap (λ l. take n accesses ++ l) back), refl, done, rw cut (same.0 yes)),
+    λ x. same.1 (rw (back, least) (when_false _ _ cut (parts_of counts x).1)),
   )
 
 -- a chain has as many completions as members

@@ -14,7 +14,6 @@ pub mod OrderSteps
 pub mod SameFiles
 pub mod ChainFront
 pub mod EntriesMade
-pub mod BothWays
 pub mod FirstAndRest
 pub mod ChainsFront
 pub mod OrderOf

@@ -68,9 +68,6 @@ own_both : (P Q R : Closed → Type 0) (xs ys accesses : List Access) → access
 own_both P Q R xs ys accesses is left right apart first behind =
     subst (Own R) (sym (ap placed is ∙ placed-append xs ys)) (own_then P Q R (placed xs) (placed ys) left right apart first behind)
 
-own_so : (P Q : Closed → Type 0) (accesses : List Access) → ((f : Closed) → P f → Q f) → OwnOf P accesses → OwnOf Q accesses
-own_so P Q accesses so own = (λ s f has. so f (own.0 s f has), own.1)
-
 -- a file of the catalogue without a tag, of a place of a member's list
 pub record IsMarked (entries : ℕ) (place : Place) (j : ℕ) (f : Closed) : Type 0 where
   pub mark : f.mark ≡ Submitted place.submission place.chain place.member j

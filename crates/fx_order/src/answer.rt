@@ -10,6 +10,14 @@ use crate::access::Access;
 use fx_base::{Closed, Errno};
 use fx_chain::{Completion, Place};
 
+/// What a request is told to have done: the accesses that it made, and its completion.
+#[derive(Drop)]
+pub(crate) struct Answer<'a> {
+    pub(crate) place: Place,
+    pub(crate) own: &'a [Access],
+    pub(crate) c: &'a Completion,
+}
+
 /// Whether a completion says this.
 pub(crate) fn is_answer(c: &Completion, place: Place, res: i32, got: &[u8]) -> bool
     ensures { IsTrue result ↔ (completed_of c.now ≡ completed place res got.now) }
@@ -17,11 +25,22 @@ pub(crate) fn is_answer(c: &Completion, place: Place, res: i32, got: &[u8]) -> b
     c.place == place && c.res == res && c.got.as_slice() == got
 }
 
-/// Whether a request made no access and failed.
-pub(crate) fn is_refused(place: Place, errno: Errno, own: &[Access], c: &Completion) -> bool
-    ensures { IsTrue result ↔ IsRefused place errno own.now (completed_of c.now) }
-{
-    own.is_empty() && is_answer(c, place, -errno.code(), &[])
+impl Answer<'_> {
+    /// Whether the completion says this.
+    pub(crate) fn says(&self, res: i32, got: &[u8]) -> bool
+        ensures { IsTrue result
+            ↔ (completed_of self.now.c.now ≡ completed self.now.place res got.now) }
+    {
+        is_answer(self.c, self.place, res, got)
+    }
+
+    /// Whether the request made no access and failed.
+    pub(crate) fn is_refusal(&self, errno: Errno) -> bool
+        ensures { IsTrue result
+            ↔ IsRefused self.now.place errno self.now.own.now (completed_of self.now.c.now) }
+    {
+        self.own.is_empty() && self.says(-errno.code(), &[])
+    }
 }
 
 /// What a file is that a request installs: that of an update's place in its list, or of an open, whose place is 0.

@@ -8,11 +8,11 @@ ghost use Rattle.fx_order.specs.declared.access.Access.{Access as Made};
 ghost use Rattle.fx_order.specs.Requests.{IsChainDone, IsRequestDone};
 
 use crate::access::Access;
-use crate::answer::is_answer;
+use crate::answer::{Answer, is_answer};
 use crate::request::is_request_done;
-use fx_base::{Catalogue, Errno, NoMemory};
+use crate::setting::Setting;
+use fx_base::{Errno, NoMemory};
 use fx_chain::{Completion, Op, Place, Request};
-use std::alloc::Global;
 
 // How many entries of a list aren't skips.
 fn entries_done(list: &[i32]) -> usize
@@ -70,17 +70,16 @@ fn are_canceled(place: Place, requests: &[Request], completions: &[Completion]) 
 /// of so many slots: up to and with the first one that severs the chain, and the others canceled. `NoMemory` where there
 /// is no memory for the bytes of a read.
 pub(crate) fn is_chain_done(
-    alloc: Global,
-    catalogue: &Catalogue,
-    size: u32,
+    setting: &Setting<'_>,
     place: Place,
     requests: &[Request],
     accesses: &[Access],
     completions: &[Completion],
 ) -> Result<bool, NoMemory>
     requires { place.member + length requests.now < 2 ^ 32 }
-    ensures { IfOk result (λ yes. IsTrue yes ↔ IsChainDone catalogue.now size place
-        (all_asked requests.now) accesses.now (all_completed completions.now)) }
+    ensures { IfOk result (λ yes. IsTrue yes ↔ IsChainDone setting.now.catalogue.now
+        setting.now.size place (all_asked requests.now) accesses.now
+        (all_completed completions.now)) }
 {
     let [request, requests @ ..] = requests else {
         return Ok(accesses.is_empty() && completions.is_empty());
@@ -88,9 +87,9 @@ pub(crate) fn is_chain_done(
     let [c, completions @ ..] = completions else {
         return Ok(false);
     };
-    let made = accesses_made(size, request, c).min(accesses.len());
+    let made = accesses_made(setting.size, request, c).min(accesses.len());
     let (own, others) = accesses.split_at(made);
-    if !is_request_done(alloc, catalogue, size, place, request, own, c)? {
+    if !is_request_done(setting, request, &Answer { place, own, c })? {
         return Ok(false);
     }
     let next = Place {
@@ -100,5 +99,5 @@ pub(crate) fn is_chain_done(
     if request.severs(c) {
         return Ok(others.is_empty() && are_canceled(next, requests, completions));
     }
-    is_chain_done(alloc, catalogue, size, next, requests, others, completions)
+    is_chain_done(setting, next, requests, others, completions)
 }

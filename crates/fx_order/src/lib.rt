@@ -10,6 +10,7 @@ mod open;
 mod order;
 mod report;
 mod request;
+mod setting;
 mod slots;
 mod submission;
 mod update;

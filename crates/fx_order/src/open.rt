@@ -10,9 +10,10 @@ ghost use Rattle.fx_order.specs.Access.{Puts, Allocates};
 ghost use Rattle.fx_order.specs.Requests.{IsOpenDone, IsRequestDone};
 
 use crate::access::Access;
-use crate::answer::{installed, is_answer, is_refused, puts};
+use crate::answer::{Answer, installed, puts};
+use crate::setting::Setting;
 use fx_base::{Catalogue, Errno};
-use fx_chain::{Completion, Place, Target};
+use fx_chain::Target;
 
 // The entry of the file that a request installed by one access.
 fn entry_installed(own: &[Access]) -> Option<u8>
@@ -58,65 +59,57 @@ fn entry_of(catalogue: &Catalogue, name: &str, own: &[Access]) -> Option<u8>
 }
 
 // Whether an open at a slot was done so.
-fn is_open_at_done(
-    size: u32,
-    place: Place,
-    entry: u8,
-    slot: u32,
-    own: &[Access],
-    c: &Completion,
-) -> bool
-    ensures { IsTrue result
-        ↔ IsOpenDone size place entry (Slot slot) own.now (completed_of c.now) }
+fn is_open_at_done(size: u32, entry: u8, slot: u32, answer: &Answer<'_>) -> bool
+    ensures { IsTrue result ↔ IsOpenDone size answer.now.place entry (Slot slot) answer.now.own.now
+        (completed_of answer.now.c.now) }
 {
     if size == 0 {
-        return is_refused(place, Errno::ENXIO, own, c);
+        return answer.is_refusal(Errno::ENXIO);
     }
     if slot >= size {
-        return is_refused(place, Errno::EINVAL, own, c);
+        return answer.is_refusal(Errno::EINVAL);
     }
-    match own {
-        [access] => puts(place, 0, slot, entry, access) && is_answer(c, place, 0, &[]),
+    match answer.own {
+        [access] => puts(answer.place, 0, slot, entry, access) && answer.says(0, &[]),
         _ => false,
     }
 }
 
 // Whether an open at any slot was done so.
-fn is_open_any_done(size: u32, place: Place, entry: u8, own: &[Access], c: &Completion) -> bool
-    ensures { IsTrue result ↔ IsOpenDone size place entry Any own.now (completed_of c.now) }
+fn is_open_any_done(size: u32, entry: u8, answer: &Answer<'_>) -> bool
+    ensures { IsTrue result ↔ IsOpenDone size answer.now.place entry Any answer.now.own.now
+        (completed_of answer.now.c.now) }
 {
     if size == 0 {
-        return is_refused(place, Errno::ENFILE, own, c);
+        return answer.is_refusal(Errno::ENFILE);
     }
-    match own {
+    match answer.own {
         [Access::Allocates(slot, file)] => {
-            *file == installed(place, 0, entry)
-                && i64::from(c.res) == i64::from(*slot)
-                && is_answer(c, place, c.res, &[])
+            *file == installed(answer.place, 0, entry)
+                && i64::from(answer.c.res) == i64::from(*slot)
+                && answer.says(answer.c.res, &[])
         }
-        [Access::FindsFull] => is_answer(c, place, -Errno::ENFILE.code(), &[]),
+        [Access::FindsFull] => answer.says(-Errno::ENFILE.code(), &[]),
         _ => false,
     }
 }
 
 /// Whether an open was done so.
 pub(crate) fn is_open_done(
-    catalogue: &Catalogue,
-    size: u32,
-    place: Place,
+    setting: &Setting<'_>,
     name: &str,
     target: Target,
-    own: &[Access],
-    c: &Completion,
+    answer: &Answer<'_>,
 ) -> bool
-    ensures { IsTrue result ↔ IsRequestDone catalogue.now size place (Opens name.now target)
-        own.now (completed_of c.now) }
+    ensures { IsTrue result ↔ IsRequestDone setting.now.catalogue.now setting.now.size
+        answer.now.place (Opens name.now target) answer.now.own.now
+        (completed_of answer.now.c.now) }
 {
-    let Some(entry) = entry_of(catalogue, name, own) else {
-        return is_refused(place, Errno::ENOENT, own, c);
+    let Some(entry) = entry_of(setting.catalogue, name, answer.own) else {
+        return answer.is_refusal(Errno::ENOENT);
     };
     match target {
-        Target::Slot(slot) => is_open_at_done(size, place, entry, slot, own, c),
-        Target::Any => is_open_any_done(size, place, entry, own, c),
+        Target::Slot(slot) => is_open_at_done(setting.size, entry, slot, answer),
+        Target::Any => is_open_any_done(setting.size, entry, answer),
     }
 }

@@ -7,30 +7,28 @@ ghost use Rattle.fx_order.specs.Access.{Looks};
 ghost use Rattle.fx_order.specs.Requests.{IsReadDone, IsCloseDone, IsRequestDone, gives};
 
 use crate::access::Access;
-use crate::answer::{is_answer, is_refused};
+use crate::answer::Answer;
 use crate::open::is_open_done;
+use crate::setting::Setting;
 use crate::update::is_update_done;
-use fx_base::{Catalogue, Closed, Errno, NoMemory};
-use fx_chain::{Completion, Op, Place, Request};
-use std::alloc::Global;
+use fx_base::{Closed, Errno, NoMemory};
+use fx_chain::{Op, Request};
 
 // Whether a read of a file gave this.
 fn is_given(
-    alloc: Global,
-    catalogue: &Catalogue,
-    place: Place,
+    setting: &Setting<'_>,
     file: &Closed,
     off: u32,
     len: u32,
-    c: &Completion,
+    answer: &Answer<'_>,
 ) -> Result<bool, NoMemory>
-    ensures { IfOk result (λ yes. IsTrue yes
-        ↔ (completed_of c.now ≡ gives catalogue.now place file.now off len)) }
+    ensures { IfOk result (λ yes. IsTrue yes ↔ (completed_of answer.now.c.now
+        ≡ gives setting.now.catalogue.now answer.now.place file.now off len)) }
 {
-    let mut got = Vec::new(alloc);
+    let mut got = Vec::new(setting.alloc);
     got.reserve_exact(len as usize)?;
-    let res = catalogue.read_into(file.entry, off, len, &mut got);
-    Ok(is_answer(c, place, res as i32, &got))
+    let res = setting.catalogue.read_into(file.entry, off, len, &mut got);
+    Ok(answer.says(res as i32, &got))
 }
 
 // What a request found that looked at a slot and did no more.
@@ -46,74 +44,60 @@ fn found_at(slot: u32, own: &[Access]) -> Option<Option<Closed>>
 
 // Whether a read was done so.
 fn is_read_done(
-    alloc: Global,
-    catalogue: &Catalogue,
-    size: u32,
-    place: Place,
+    setting: &Setting<'_>,
     slot: u32,
     off: u32,
     len: u32,
-    own: &[Access],
-    c: &Completion,
+    answer: &Answer<'_>,
 ) -> Result<bool, NoMemory>
-    ensures { IfOk result (λ yes. IsTrue yes
-        ↔ IsReadDone catalogue.now size place slot off len own.now (completed_of c.now)) }
+    ensures { IfOk result (λ yes. IsTrue yes ↔ IsReadDone setting.now.catalogue.now setting.now.size
+        answer.now.place slot off len answer.now.own.now (completed_of answer.now.c.now)) }
 {
-    if slot >= size {
-        return Ok(is_refused(place, Errno::EBADF, own, c));
+    if slot >= setting.size {
+        return Ok(answer.is_refusal(Errno::EBADF));
     }
-    if own.is_empty() {
-        return Ok(len > 0 && is_refused(place, Errno::ENOMEM, own, c));
+    if answer.own.is_empty() {
+        return Ok(len > 0 && answer.is_refusal(Errno::ENOMEM));
     }
-    match found_at(slot, own) {
-        Some(Some(file)) => is_given(alloc, catalogue, place, &file, off, len, c),
-        Some(None) => Ok(is_answer(c, place, -Errno::EBADF.code(), &[])),
+    match found_at(slot, answer.own) {
+        Some(Some(file)) => is_given(setting, &file, off, len, answer),
+        Some(None) => Ok(answer.says(-Errno::EBADF.code(), &[])),
         None => Ok(false),
     }
 }
 
 // Whether a close was done so.
-fn is_close_done(size: u32, place: Place, slot: u32, own: &[Access], c: &Completion) -> bool
-    ensures { IsTrue result ↔ IsCloseDone size place slot own.now (completed_of c.now) }
+fn is_close_done(size: u32, slot: u32, answer: &Answer<'_>) -> bool
+    ensures { IsTrue result ↔ IsCloseDone size answer.now.place slot answer.now.own.now
+        (completed_of answer.now.c.now) }
 {
     if size == 0 {
-        return is_refused(place, Errno::ENXIO, own, c);
+        return answer.is_refusal(Errno::ENXIO);
     }
     if slot >= size {
-        return is_refused(place, Errno::EINVAL, own, c);
+        return answer.is_refusal(Errno::EINVAL);
     }
-    match own {
-        [Access::Takes(at, None)] => {
-            *at == slot && is_answer(c, place, -Errno::EBADF.code(), &[])
-        }
-        [Access::Takes(at, Some(_))] => *at == slot && is_answer(c, place, 0, &[]),
+    match answer.own {
+        [Access::Takes(at, None)] => *at == slot && answer.says(-Errno::EBADF.code(), &[]),
+        [Access::Takes(at, Some(_))] => *at == slot && answer.says(0, &[]),
         _ => false,
     }
 }
 
 /// Whether a request was done so.
 pub(crate) fn is_request_done(
-    alloc: Global,
-    catalogue: &Catalogue,
-    size: u32,
-    place: Place,
+    setting: &Setting<'_>,
     request: &Request,
-    own: &[Access],
-    c: &Completion,
+    answer: &Answer<'_>,
 ) -> Result<bool, NoMemory>
-    ensures { IfOk result (λ yes. IsTrue yes ↔ IsRequestDone catalogue.now size place
-        (operation_of request.now.op) own.now (completed_of c.now)) }
+    ensures { IfOk result (λ yes. IsTrue yes ↔ IsRequestDone setting.now.catalogue.now
+        setting.now.size answer.now.place (operation_of request.now.op) answer.now.own.now
+        (completed_of answer.now.c.now)) }
 {
     match &request.op {
-        Op::Open { name, target } => {
-            Ok(is_open_done(catalogue, size, place, name, *target, own, c))
-        }
-        Op::Read { slot, off, len } => {
-            is_read_done(alloc, catalogue, size, place, *slot, *off, *len, own, c)
-        }
-        Op::Close { slot } => Ok(is_close_done(size, place, *slot, own, c)),
-        Op::Update { off, list } => {
-            Ok(is_update_done(catalogue.len(), size, place, *off, list, own, c))
-        }
+        Op::Open { name, target } => Ok(is_open_done(setting, name, *target, answer)),
+        Op::Read { slot, off, len } => is_read_done(setting, *slot, *off, *len, answer),
+        Op::Close { slot } => Ok(is_close_done(setting.size, *slot, answer)),
+        Op::Update { off, list } => Ok(is_update_done(setting, *off, list, answer)),
     }
 }

@@ -1,13 +1,14 @@
 //! What all chains of a submission made and answered, looked through chain by chain.
 ghost use Rattle.std.specs.Prelude.{◌≡◌, ◌<◌, ◌≤◌, ◌+◌, ◌^◌, ◌↔◌, All, IfOk, IsTrue, length, map};
-ghost use Rattle.fx_chain.specs.Accepted.{IsChain, members_of};
+ghost use Rattle.fx_chain.specs.Accepted.{IsChain, IsWithinLimits, members_of};
 ghost use Rattle.fx_chain.specs.Completed.{all_completed};
-ghost use Rattle.fx_chain.specs.Operation.{all_asked};
+ghost use Rattle.fx_chain.specs.Operation.{all_asked, asked_of};
 ghost use Rattle.fx_order.specs.Requests.{AreChainsDone};
 
 use crate::access::ChainAccess;
 use crate::chain::is_chain_done;
 use crate::order::accesses_of_chain;
+use crate::setting::Setting;
 use fx_base::{Catalogue, NoMemory};
 use fx_chain::{Chain, Completion, MOST_MEMBERS, Place, Request};
 use std::alloc::Global;
@@ -16,10 +17,55 @@ use std::alloc::Global;
 pub fn members<'a>(requests: &'a [Request], chain: Chain) -> &'a [Request]
     requires within { IsChain (all_asked requests.now) chain }
     ensures members { all_asked result.now ≡ members_of (all_asked requests.now) chain }
+    ensures limits { All (λ r. IsWithinLimits (asked_of r)) result.now }
     ensures few { length result.now ≤ MOST_MEMBERS }
 {
     let first = chain.first as usize;
     &requests[first..first + chain.len as usize]
+}
+
+/// A submission's requests, and an order of their accesses.
+#[derive(Drop)]
+pub(crate) struct Ordered<'a> {
+    pub(crate) setting: &'a Setting<'a>,
+    pub(crate) submission: u32,
+    pub(crate) requests: &'a [Request],
+    pub(crate) order: &'a [ChainAccess],
+}
+
+/// Whether the chains from this one on made their accesses of the order, and answered so. The completions are those of
+/// these chains.
+pub(crate) fn are_done_from(
+    ordered: &Ordered<'_>,
+    chain: u32,
+    chains: &[Chain],
+    completions: &[Completion],
+) -> Result<bool, NoMemory>
+    requires within { All (IsChain (all_asked ordered.now.requests.now)) chains.now }
+    requires numbers { chain + length chains.now < 2 ^ 32 }
+    ensures { IfOk result (λ yes. IsTrue yes ↔ AreChainsDone ordered.now.setting.now.catalogue.now
+        ordered.now.setting.now.size ordered.now.submission chain
+        (map (members_of (all_asked ordered.now.requests.now)) chains.now) ordered.now.order.now
+        (all_completed completions.now)) }
+{
+    let [first, chains @ ..] = chains else {
+        return Ok(completions.is_empty());
+    };
+    let members = members(ordered.requests, *first);
+    if completions.len() < members.len() {
+        return Ok(false);
+    }
+    let (own, others) = completions.split_at(members.len());
+    let accesses = accesses_of_chain(ordered.setting.alloc, chain, ordered.order)?;
+    let place = Place {
+        submission: ordered.submission,
+        chain,
+        member: 1,
+    };
+    if !is_chain_done(ordered.setting, place, members, &accesses, own)? {
+        return Ok(false);
+    }
+    are_done_from(ordered, chain + 1, chains, others)
 }
 
 /// Whether the chains from this one on made their accesses of an order, and answered so, at a table of so many slots. The
@@ -45,32 +91,16 @@ pub fn are_chains_done(
         (map (members_of (all_asked requests.now)) chains.now) order.now
         (all_completed completions.now)) }
 {
-    let [first, chains @ ..] = chains else {
-        return Ok(completions.is_empty());
-    };
-    let members = members(requests, *first);
-    if completions.len() < members.len() {
-        return Ok(false);
-    }
-    let (own, others) = completions.split_at(members.len());
-    let accesses = accesses_of_chain(alloc, chain, order)?;
-    let place = Place {
-        submission,
-        chain,
-        member: 1,
-    };
-    if !is_chain_done(alloc, catalogue, size, place, members, &accesses, own)? {
-        return Ok(false);
-    }
-    are_chains_done(
+    let setting = Setting {
         alloc,
         catalogue,
         size,
+    };
+    let ordered = Ordered {
+        setting: &setting,
         submission,
-        chain + 1,
         requests,
-        chains,
         order,
-        others,
-    )
+    };
+    are_done_from(&ordered, chain, chains, completions)
 }

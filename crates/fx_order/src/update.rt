@@ -4,9 +4,10 @@ ghost use Rattle.fx_chain.specs.Completed.{completed_of};
 ghost use Rattle.fx_order.specs.Requests.{IsEntryDone, AreEntriesDone, IsUpdateDone};
 
 use crate::access::Access;
-use crate::answer::{installed, is_answer, is_refused};
+use crate::answer::{Answer, installed};
+use crate::setting::Setting;
 use fx_base::Errno;
-use fx_chain::{Completion, Place};
+use fx_chain::Place;
 use fx_ring::has_bad_entry;
 
 // Whether one entry, which isn't a skip, was done by this access.
@@ -51,27 +52,24 @@ fn are_entries_done(
 
 /// Whether an update was done so.
 pub(crate) fn is_update_done(
-    entries: u32,
-    size: u32,
-    place: Place,
+    setting: &Setting<'_>,
     off: u32,
     list: &[i32],
-    own: &[Access],
-    c: &Completion,
+    answer: &Answer<'_>,
 ) -> bool
-    ensures { IsTrue result
-        ↔ IsUpdateDone entries size place off list.now own.now (completed_of c.now) }
+    ensures { IsTrue result ↔ IsUpdateDone (length setting.now.catalogue.now) setting.now.size
+        answer.now.place off list.now answer.now.own.now (completed_of answer.now.c.now) }
 {
-    if size == 0 {
-        return is_refused(place, Errno::ENXIO, own, c);
+    if setting.size == 0 {
+        return answer.is_refusal(Errno::ENXIO);
     }
-    if list.is_empty() || off as u64 + list.len() as u64 > size as u64 {
-        return is_refused(place, Errno::EINVAL, own, c);
+    if list.is_empty() || off as u64 + list.len() as u64 > setting.size as u64 {
+        return answer.is_refusal(Errno::EINVAL);
     }
-    if has_bad_entry(entries, list) {
-        return is_refused(place, Errno::EBADF, own, c);
+    if has_bad_entry(setting.catalogue.len(), list) {
+        return answer.is_refusal(Errno::EBADF);
     }
-    are_entries_done(place, 0, off, list, own)
-        && i64::from(c.res) == list.len() as i64
-        && is_answer(c, place, c.res, &[])
+    are_entries_done(answer.place, 0, off, list, answer.own)
+        && i64::from(answer.c.res) == list.len() as i64
+        && answer.says(answer.c.res, &[])
 }
