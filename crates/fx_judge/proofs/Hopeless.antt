@@ -1,10 +1,10 @@
 -- From a state where a claim waits for a file that doesn't come, no end is reached.
-use Rattle.std.proofs.Common.{◌≡◌, ◌≢◌, ◌⊎◌, inl, inr, ⊎_elim, ℕ, zero, suc, ◌+◌, ◌<◌, ◌≤◌, ◌==◌, ◌&&◌, ◌||◌, not, Bool, true, false, List, [], ◌∷◌, map, refl, sym, ap, subst, ◌∙◌, arith, Option, Some, None, slice_get, slice_index, slice_set, slice_index_or, length, eq-eqb, if◌then◌else◌}
+use Rattle.std.proofs.Common.{◌≡◌, ◌⊎◌, inl, inr, ⊎_elim, ℕ, zero, suc, ◌+◌, ◌<◌, ◌≤◌, ◌==◌, ◌&&◌, ◌||◌, not, Bool, true, false, List, [], ◌∷◌, refl, sym, ap, subst, ◌∙◌, arith, Option, Some, None, slice_get, slice_index, slice_set, slice_index_or, length, eq-eqb, if◌then◌else◌}
 use Rattle.std.specs.Prelude.{option_and_then}
 use Rattle.std.proofs.lemmas.Bool.{cases_lt}
 use Rattle.fx_plain.proofs.Cells.{by_equality}
 use Rattle.fx_judge.specs.Dead.{IsHopeless, NoneHelps, may_find, no_help}
-use Rattle.fx_judge.specs.Machine.{Standing, allows, cell_at, cells_after, claim_at, Ends, HasNoEnd, is_same, made, may_leave, next, suits, with_cell}
+use Rattle.fx_judge.specs.Machine.{Standing, allows, cell_at, cells_after, claim_at, Ends, HasNoEnd, made, may_leave, suits, with_cell}
 use Rattle.fx_judge.specs.Strands.{slot_of}
 use Rattle.fx_judge.specs.declared.cell.Cell.{Cell}
 use Rattle.fx_judge.specs.declared.claim.Claim.{Claim}

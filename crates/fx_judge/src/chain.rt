@@ -12,7 +12,8 @@ use crate::request::{Setting, claims_of_request, is_failure};
 use crate::stop::Stop;
 use crate::verdict::Reason;
 use fx_base::Errno;
-use fx_chain::{Chain, Completion, MOST_MEMBERS, Place, Request};
+use fx_chain::{Chain, Completion, Place, Request};
+use fx_order::members;
 use std::alloc::Global;
 
 /// The claims of a member, and whether the chain is severed behind it.
@@ -87,17 +88,6 @@ fn claims_of_chain(
         cut = told.cut;
     }
     Ok(claims)
-}
-
-// The members of a chain.
-fn members<'a>(requests: &'a [Request], chain: Chain) -> &'a [Request]
-    requires within { IsChain (all_asked requests.now) chain }
-    ensures members { all_asked result.now ≡ members_of (all_asked requests.now) chain }
-    ensures limits { All (λ r. IsWithinLimits (asked_of r)) result.now }
-    ensures few { length result.now ≤ MOST_MEMBERS }
-{
-    let first = chain.first as usize;
-    &requests[first..first + chain.len as usize]
 }
 
 /// What was told of a submission, cut into chains.

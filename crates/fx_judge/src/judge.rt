@@ -42,29 +42,33 @@ fn copy_slots(alloc: Global, slots: &Slots) -> Result<Slots, NoMemory>
     })
 }
 
-// Makes an order, if what was told came of it; the ring is then the one behind the submission.
-fn confirm(
+/// What is judged: what was told of a submission's requests.
+#[derive(Drop)]
+struct Case<'a> {
     alloc: Global,
-    catalogue: &Catalogue,
-    ring: &mut RingSlots,
-    requests: &[Request],
-    told: &Told,
-    order: &[ChainAccess],
-) -> Result<bool, NoMemory>
-    requires accepted { IsAccepted (all_asked requests.now) }
-    requires ring { IsRing (ring_with_slots catalogue.now ring.old) }
+    catalogue: &'a Catalogue,
+    requests: &'a [Request],
+    told: &'a Told,
+    pub ghost accepted: { IsAccepted (all_asked requests.now) },
+}
+
+// Makes an order, if what was told came of it; the ring is then the one behind the submission.
+fn confirm(case: &Case<'_>, ring: &mut RingSlots, order: &[ChainAccess]) -> Result<bool, NoMemory>
+    requires ring { IsRing (ring_with_slots case.now.catalogue.now ring.old) }
     requires few_slots { length ring.old.slots.at.items ≤ MOST_SLOTS }
     requires few { ring.old.submissions + 1 < 2 ^ 32 }
     ensures came { IfOk result (λ yes. IsTrue yes → CameBy
-        (ring_with_slots catalogue.now ring.old) (all_asked requests.now) told.now order.now
-        (ring_with_slots catalogue.now ring.new)) }
-    ensures ring { IsRing (ring_with_slots catalogue.now ring.new) }
-    ensures stays { IfOk result (λ yes. yes ≡ false → ring_with_slots catalogue.now ring.new
-        ≡ ring_with_slots catalogue.now ring.old) }
-    ensures no_memory { OnErr result
-        (ring_with_slots catalogue.now ring.new ≡ ring_with_slots catalogue.now ring.old) }
+        (ring_with_slots case.now.catalogue.now ring.old) (all_asked case.now.requests.now)
+        case.now.told.now order.now (ring_with_slots case.now.catalogue.now ring.new)) }
+    ensures ring { IsRing (ring_with_slots case.now.catalogue.now ring.new) }
+    ensures stays { IfOk result (λ yes. yes ≡ false
+        → ring_with_slots case.now.catalogue.now ring.new
+        ≡ ring_with_slots case.now.catalogue.now ring.old) }
+    ensures no_memory { OnErr result (ring_with_slots case.now.catalogue.now ring.new
+        ≡ ring_with_slots case.now.catalogue.now ring.old) }
 {
-    let chains = cut(alloc, requests)?;
+    let alloc = case.alloc;
+    let chains = cut(alloc, case.requests)?;
     if !are_within(order, chains.len()) {
         return Ok(false);
     }
@@ -72,18 +76,18 @@ fn confirm(
     let submission = ring.submissions + 1;
     if !are_chains_done(
         alloc,
-        catalogue,
+        case.catalogue,
         size,
         submission,
         1,
-        requests,
+        case.requests,
         &chains,
         order,
-        &told.completions,
+        &case.told.completions,
     )? {
         return Ok(false);
     }
-    if !are_closed(alloc, order, &told.closes)? {
+    if !are_closed(alloc, order, &case.told.closes)? {
         return Ok(false);
     }
     let mut slots = copy_slots(alloc, &ring.slots)?;
@@ -97,35 +101,27 @@ fn confirm(
 
 // What was told, as a search has it: no order of the accesses that the completions tell of is known to be missing, or one
 // is known to be that has to be made.
-fn judge_told(
-    alloc: Global,
-    catalogue: &Catalogue,
-    ring: &RingSlots,
-    requests: &[Request],
-    told: &Told,
-    states: usize,
-) -> Result<Outcome, NoMemory>
-    requires accepted { IsAccepted (all_asked requests.now) }
-    requires ring { IsRing (ring_with_slots catalogue.now ring.now) }
+fn judge_told(case: &Case<'_>, ring: &RingSlots, states: usize) -> Result<Outcome, NoMemory>
+    requires ring { IsRing (ring_with_slots case.now.catalogue.now ring.now) }
     requires few_slots { length ring.now.slots.at.items ≤ MOST_SLOTS }
     requires few { ring.now.submissions + 1 < 2 ^ 32 }
-    ensures { IfOk result (IsToldOutcome (ring_with_slots catalogue.now ring.now)
-        (all_asked requests.now) told.now) }
+    ensures { IfOk result (IsToldOutcome (ring_with_slots case.now.catalogue.now ring.now)
+        (all_asked case.now.requests.now) case.now.told.now) }
 {
-    let chains = cut(alloc, requests)?;
+    let chains = cut(case.alloc, case.requests)?;
     let setting = Setting {
-        catalogue,
+        catalogue: case.catalogue,
         size: ring.slots.at.len() as u32,
         range: ring.slots.range,
-        closes: &told.closes,
+        closes: &case.told.closes,
     };
     let parts = Parts {
         submission: ring.submissions + 1,
-        requests,
+        requests: case.requests,
         chains: &chains,
-        completions: &told.completions,
+        completions: &case.told.completions,
     };
-    let claims = match claims_of_chains(alloc, &setting, &parts) {
+    let claims = match claims_of_chains(case.alloc, &setting, &parts) {
         Ok(claims) => claims,
         Err(Stop::Refuted(reason)) => return Ok(Outcome::Refuted(reason)),
         Err(Stop::Unknown) => return Ok(Outcome::Unsettled(Doubt::NotShown)),
@@ -133,10 +129,10 @@ fn judge_told(
     };
     let table = TableTold {
         slots: &ring.slots,
-        closes: &told.closes,
+        closes: &case.told.closes,
         chains: &claims,
     };
-    judge_table(alloc, &table, states)
+    judge_table(case.alloc, &table, states)
 }
 
 /// Whether what was told of a submission's requests comes of an order of them, done one at a time, at a ring with this
@@ -166,10 +162,16 @@ pub fn judge_submission(
     ensures no_memory { OnErr result
         (ring_with_slots catalogue.now ring.new ≡ ring_with_slots catalogue.now ring.old) }
 {
-    let outcome = judge_told(alloc, catalogue, ring, requests, told, states)?;
+    let case = Case {
+        alloc,
+        catalogue,
+        requests,
+        told,
+    };
+    let outcome = judge_told(&case, ring, states)?;
     match outcome {
         Outcome::Order(order) => {
-            if confirm(alloc, catalogue, ring, requests, told, &order)? {
+            if confirm(&case, ring, &order)? {
                 return Ok(Verdict::Legal(order));
             }
             Ok(Verdict::Undecided(Doubt::NotShown))

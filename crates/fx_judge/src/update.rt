@@ -13,20 +13,9 @@ use crate::request::{Setting, installed, is_answer, refused};
 use crate::stop::Stop;
 use crate::verdict::Reason;
 use fx_base::{Errno, MOST_ENTRIES};
-use fx_chain::{Completion, LONGEST_UPDATE, Place, is_bad_entry};
+use fx_chain::{Completion, LONGEST_UPDATE, Place};
+use fx_ring::has_bad_entry;
 use std::alloc::Global;
-
-// Whether a list has an entry that is below -2 or past the catalogue.
-fn has_bad_entry(entries: u32, list: &[i32]) -> bool
-    ensures { result ≡ list_any (is_bad_entry entries) list.now }
-{
-    for entry in list {
-        if is_bad_entry(entries, *entry) {
-            return true;
-        }
-    }
-    false
-}
 
 // The claim of an entry at a place in its list, and at a slot; an entry that leaves its slot has none.
 fn claim_of_entry(setting: &Setting<'_>, place: Place, at: (u32, u32), entry: i32) -> Option<Claim>
