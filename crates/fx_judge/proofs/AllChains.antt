@@ -1,28 +1,10 @@
 -- The claims of chains, one chain after another.
-use Rattle.std.proofs.Common.{◌≡◌, inl, inr, ℕ, zero, suc, ◌+◌, ◌<◌, ◌≤◌, Bool, true, false, List, [], ◌∷◌, ◌++◌, length, map, take, drop, refl, sym, ap, subst, ◌∙◌, arith, Ok, Err, length-append, drop-cons, get_or}
-use Rattle.std.proofs.lemmas.List.{length-map, get_or-map}
-use Rattle.std.specs.Bool.{MatchBool}
-use Rattle.std.specs.Global.{Vec}
-use Rattle.std.specs.List.{AllZip, AllByRecursion}
-use Rattle.fx_base.specs.Catalogue.{FileEntry}
-use Rattle.fx_base.specs.declared.open_file.Closed.{Closed}
-use Rattle.fx_chain.specs.Accepted.{members_of}
-use Rattle.fx_chain.specs.Completed.{Completed, all_completed, completed_of, next_member}
-use Rattle.fx_chain.specs.declared.completion.Completion.{Completion}
-use Rattle.fx_chain.specs.declared.request.Request.{Request}
-use Rattle.fx_chain.specs.Explains.{canceled, severs, first_member}
-use Rattle.fx_chain.specs.Operation.{Asked, all_asked, asked_of}
-use Rattle.fx_chain.specs.declared.chain.Chain.{Chain}
-use Rattle.fx_chain.specs.declared.completion.Place.{Place}
-use Rattle.fx_order.specs.Access.{accesses_of, accesses_of_chain}
-use Rattle.fx_order.specs.Requests.{IsChainDone, AreChainsDone}
-use Rattle.fx_order.specs.declared.access.Access.{Access}
-use Rattle.fx_order.specs.declared.access.ChainAccess.{ChainAccess}
-use Rattle.fx_judge.specs.Chains.{AreDone, TellsChains}
-use Rattle.fx_judge.specs.Claims.{AreClaims, Fits, IsPossible, Possibly, Tells}
-use Rattle.fx_judge.specs.declared.claim.Claim.{Claim}
-use Rattle.fx_judge.specs.declared.stop.Stop.{Stop}
-use Rattle.fx_judge.specs.declared.stop.Stop.TheVariants.{Refuted, Unknown, NoMemory}
+use Rattle.fx_judge.proofs.Words.{◌≡◌, inl, inr, ℕ, zero, suc, ◌+◌, ◌<◌, ◌≤◌, Bool, true, false, List, [], ◌∷◌, ◌++◌, length, map, take, drop, refl}
+use Rattle.fx_judge.proofs.Words.{sym, ap, subst, ◌∙◌, arith, Ok, Err, length-append, drop-cons, get_or, length-map, get_or-map, MatchBool, Vec}
+use Rattle.fx_judge.proofs.Words.{AllZip, AllByRecursion, FileEntry, Closed, members_of, Completed, all_completed, completed_of, next_member}
+use Rattle.fx_judge.proofs.Words.{Completion, Request, canceled, severs, first_member, Asked, all_asked, asked_of, Chain, Place, accesses_of}
+use Rattle.fx_judge.proofs.Words.{accesses_of_chain, IsChainDone, AreChainsDone, Access, ChainAccess, AreDone, TellsChains, AreClaims, Fits}
+use Rattle.fx_judge.proofs.Words.{IsPossible, Possibly, Tells, Claim, Stop, Refuted, Unknown, NoMemory}
 use Rattle.fx_judge.proofs.Projected.{of_chain}
 use Rattle.fx_judge.proofs.StrandSteps.{get_push}
 

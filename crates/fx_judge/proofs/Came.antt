@@ -1,18 +1,7 @@
 -- An order that was made again, with its closes and its chains looked through, is the one that was told.
-use Rattle.std.proofs.Common.{◌≡◌, ◌+◌, ◌≤◌, List, length, refl, ◌∙◌, All, IsPermutation}
-use Rattle.fx_base.specs.Catalogue.{FileEntry}
-use Rattle.fx_base.specs.CloseList.{IsInOrderOfMark}
-use Rattle.fx_chain.specs.Completed.{all_completed}
-use Rattle.fx_chain.specs.Operation.{Asked}
-use Rattle.fx_chain.specs.Runs.{runs_of}
-use Rattle.fx_order.specs.Access.{PermitsAll, table_after, removed_in, accesses_of}
-use Rattle.fx_order.specs.Requests.{AreChainsDone}
-use Rattle.fx_order.specs.Slots.{table_of_slots}
-use Rattle.fx_order.specs.declared.access.ChainAccess.{ChainAccess}
-use Rattle.fx_order.proofs.Ordered.{ring_after, same_outline}
-use Rattle.fx_judge.specs.Verdict.{CameBy, ring_with_slots}
-use Rattle.fx_judge.specs.declared.told.RingSlots.{RingSlots}
-use Rattle.fx_judge.specs.declared.told.Told.{Told}
+use Rattle.fx_judge.proofs.Words.{◌≡◌, ◌+◌, ◌≤◌, List, length, refl, ◌∙◌, All, IsPermutation, FileEntry, IsInOrderOfMark, all_completed, Asked}
+use Rattle.fx_judge.proofs.Words.{runs_of, PermitsAll, table_after, removed_in, accesses_of, AreChainsDone, table_of_slots, ChainAccess, ring_after}
+use Rattle.fx_judge.proofs.Words.{same_outline, CameBy, ring_with_slots, RingSlots, Told}
 
 pub came : (catalogue : List FileEntry) (old new : RingSlots) (requests : List Asked) (told : Told) (order : List ChainAccess)
     → PermitsAll (table_of_slots old.slots) (accesses_of order) → table_of_slots new.slots ≡ table_after (table_of_slots old.slots) (accesses_of order)

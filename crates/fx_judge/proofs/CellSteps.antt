@@ -1,25 +1,10 @@
 -- A claim of an access may be made where the access may, and leaves the same files.
-use Rattle.std.proofs.Common.{◌≡◌, ℕ, ◌+◌, ◌<◌, ◌≤◌, ◌&&◌, ◌||◌, not, Bool, true, false, List, [], ◌∷◌, refl, sym, ap, subst, ◌∙◌, All, Contains, Option, Some, None, IsSome, IsTrue, if◌then◌else◌, is_some, slice_index_or}
-use Rattle.std.specs.List.{list_all}
-use Rattle.std.proofs.lemmas.List.Elements.{All-head, All-tail, All-map, All-weaker}
-use Rattle.fx_base.specs.declared.open_file.Closed.{Closed}
-use Rattle.fx_plain.specs.Step.{changed_at}
-use Rattle.fx_plain.proofs.Cells.{by_equality, unchanged}
-use Rattle.fx_order.specs.Access.{Table, IsInRange, Permits, table_with, removed_by}
-use Rattle.fx_order.specs.declared.access.Access.{Access}
-use Rattle.fx_order.specs.declared.access.Access.TheVariants.{Looks, Puts, Clears, Takes, Allocates, FindsFull}
-use Rattle.fx_judge.specs.Claims.{Fits, IsLeft, IsResident, Wanted, touched, found_by, left_by}
-use Rattle.fx_judge.specs.Machine.{allows, cell_at, cells_after, cell_with, suits, may_leave, is_same, is_taken}
-use Rattle.fx_judge.specs.Played.{IsCell, ShowsFile}
-use Rattle.fx_judge.specs.Strands.{has_slot}
-use Rattle.fx_judge.specs.declared.cell.Cell.{Cell}
-use Rattle.fx_judge.specs.declared.claim.Claim.{Claim}
-use Rattle.fx_judge.specs.declared.claim.Claim.TheVariants.{At, Full}
-use Rattle.fx_judge.specs.declared.claim.Wants.{Wants}
-use Rattle.fx_judge.specs.declared.claim.Wants.TheVariants.{Anything, Nothing, NothingToTake, Something, Bytes}
-use Rattle.fx_judge.specs.declared.claim.Leaves.{Leaves}
-use Rattle.fx_judge.specs.declared.claim.Leaves.TheVariants.{Same, Empty, File}
-use Rattle.fx_judge.specs.declared.claim.Resident.{Resident}
+use Rattle.fx_judge.proofs.Words.{◌≡◌, ℕ, ◌+◌, ◌<◌, ◌≤◌, ◌&&◌, ◌||◌, not, Bool, true, false, List, [], ◌∷◌, refl, sym, ap, subst, ◌∙◌, All, Contains}
+use Rattle.fx_judge.proofs.Words.{Option, Some, None, IsSome, IsTrue, if◌then◌else◌, is_some, slice_index_or, list_all, All-head, All-tail, All-map}
+use Rattle.fx_judge.proofs.Words.{All-weaker, Closed, changed_at, by_equality, unchanged, Table, IsInRange, Permits, table_with, removed_by, Access}
+use Rattle.fx_judge.proofs.Words.{Looks, Puts, Clears, Takes, Allocates, FindsFull, Fits, IsLeft, IsResident, Wanted, touched, found_by, left_by}
+use Rattle.fx_judge.proofs.Words.{allows, cell_at, cells_after, cell_with, suits, may_leave, is_same, is_taken, IsCell, ShowsFile, has_slot, Cell}
+use Rattle.fx_judge.proofs.Words.{Claim, At, Full, Wants, Anything, Nothing, NothingToTake, Something, Bytes, Leaves, Same, Empty, File, Resident}
 
 slot_is : (a b : ℕ) → Some a ≡ Some b → a ≡ b
 slot_is a b is = cc

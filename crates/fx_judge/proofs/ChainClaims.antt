@@ -1,24 +1,8 @@
 -- The claims of a chain, from those of its first member and of the others.
-use Rattle.std.proofs.Common.{◌≡◌, ℕ, zero, suc, ◌+◌, ◌≤◌, Bool, true, false, List, [], ◌∷◌, ◌++◌, length, drop, arith, append_assoc, refl, sym, ap, subst, ◌∙◌, Ok, Err}
-use Rattle.std.proofs.lemmas.List.{append-nil}
-use Rattle.std.specs.Bool.{MatchBool}
-use Rattle.std.specs.Global.{Vec}
-use Rattle.std.specs.List.{AllZip, AllByRecursion}
-use Rattle.fx_base.specs.Catalogue.{FileEntry}
-use Rattle.fx_base.specs.declared.open_file.Closed.{Closed}
-use Rattle.fx_base.specs.declared.errno.Errno.TheVariants.{ECANCELED}
-use Rattle.fx_chain.specs.Completed.{Completed, next_member, refusal}
-use Rattle.fx_chain.specs.Explains.{canceled, severs}
-use Rattle.fx_chain.specs.Operation.{Asked}
-use Rattle.fx_chain.specs.declared.completion.Place.{Place}
-use Rattle.fx_order.specs.Requests.{IsRequestDone, IsChainDone}
-use Rattle.fx_order.specs.declared.access.Access.{Access}
-use Rattle.fx_judge.specs.Claims.{Fits, IsPossible, Possibly, Tells}
-use Rattle.fx_judge.specs.Chains.{TellsMember}
-use Rattle.fx_judge.specs.declared.chain.MemberClaims.{MemberClaims}
-use Rattle.fx_judge.specs.declared.claim.Claim.{Claim}
-use Rattle.fx_judge.specs.declared.stop.Stop.{Stop}
-use Rattle.fx_judge.specs.declared.stop.Stop.TheVariants.{Refuted, Unknown, NoMemory}
+use Rattle.fx_judge.proofs.Words.{◌≡◌, ℕ, zero, suc, ◌+◌, ◌≤◌, Bool, true, false, List, [], ◌∷◌, ◌++◌, length, drop, arith, append_assoc, refl, sym}
+use Rattle.fx_judge.proofs.Words.{ap, subst, ◌∙◌, Ok, Err, append-nil, MatchBool, Vec, AllZip, AllByRecursion, FileEntry, Closed, ECANCELED}
+use Rattle.fx_judge.proofs.Words.{Completed, next_member, refusal, canceled, severs, Asked, Place, IsRequestDone, IsChainDone, Access, Fits}
+use Rattle.fx_judge.proofs.Words.{IsPossible, Possibly, Tells, TellsMember, MemberClaims, Claim, Stop, Refuted, Unknown, NoMemory}
 use Rattle.fx_judge.proofs.Entries.{all_zip_append}
 
 pub both_parts : {X : Type 0} (P : X → Type 0) (xs ys : List X) → AllByRecursion P (xs ++ ys) → AllByRecursion P xs × AllByRecursion P ys

@@ -1,18 +1,7 @@
 -- The claims of the entries of an update, one after another.
-use Rattle.std.proofs.Common.{◌≡◌, ℕ, zero, suc, ◌+◌, ◌<◌, ◌≤◌, ℤ, pos, negsuc, List, [], ◌∷◌, ◌++◌, length, drop, refl, sym, ap, subst, ◌∙◌, arith, append_assoc, drop-cons, get_or}
-use Rattle.std.specs.List.{AllZip}
-use Rattle.std.proofs.lemmas.List.{append-nil}
-use Rattle.fx_base.specs.declared.open_file.Closed.{Closed}
-use Rattle.fx_chain.specs.Answers.{installed}
-use Rattle.fx_chain.specs.declared.completion.Place.{Place}
-use Rattle.fx_order.specs.Requests.{IsEntryDone, AreEntriesDone}
-use Rattle.fx_order.specs.declared.access.Access.{Access}
-use Rattle.fx_judge.specs.Claims.{Fits, IsResident}
-use Rattle.fx_judge.specs.declared.claim.Claim.{Claim}
-use Rattle.fx_judge.specs.declared.claim.Claim.TheVariants.{At}
-use Rattle.fx_judge.specs.declared.claim.Wants.TheVariants.{Anything}
-use Rattle.fx_judge.specs.declared.claim.Leaves.TheVariants.{Empty, File}
-use Rattle.fx_judge.specs.declared.claim.Resident.{Resident}
+use Rattle.fx_judge.proofs.Words.{◌≡◌, ℕ, zero, suc, ◌+◌, ◌<◌, ◌≤◌, ℤ, pos, negsuc, List, [], ◌∷◌, ◌++◌, length, drop, refl, sym, ap, subst, ◌∙◌}
+use Rattle.fx_judge.proofs.Words.{arith, append_assoc, drop-cons, get_or, AllZip, append-nil, Closed, installed, Place, IsEntryDone, AreEntriesDone}
+use Rattle.fx_judge.proofs.Words.{Access, Fits, IsResident, Claim, At, Anything, Empty, File, Resident}
 
 pub all_zip_append : {A B : Type 0} (R : A → B → Type 0) (xs ys : List A) (us vs : List B) → AllZip R xs us → AllZip R ys vs → AllZip R (xs ++ ys) (us ++ vs)
 all_zip_append R [] ys [] vs first second = second

@@ -1,19 +1,10 @@
 -- From a state where a claim waits for a file that doesn't come, no end is reached.
-use Rattle.std.proofs.Common.{◌≡◌, ◌⊎◌, inl, inr, ⊎_elim, ℕ, zero, suc, ◌+◌, ◌<◌, ◌≤◌, ◌==◌, ◌&&◌, ◌||◌, not, Bool, true, false, List, [], ◌∷◌, refl, sym, ap, subst, ◌∙◌, arith, Option, Some, None, slice_get, slice_index, slice_set, slice_index_or, length, eq-eqb, if◌then◌else◌}
-use Rattle.std.specs.Prelude.{option_and_then}
-use Rattle.std.proofs.lemmas.Bool.{cases_lt}
-use Rattle.fx_plain.proofs.Cells.{by_equality}
-use Rattle.fx_judge.specs.Dead.{IsHopeless, NoneHelps, may_find, no_help}
-use Rattle.fx_judge.specs.Machine.{Standing, allows, cell_at, cells_after, claim_at, Ends, HasNoEnd, made, may_leave, suits, with_cell}
-use Rattle.fx_judge.specs.Strands.{slot_of}
-use Rattle.fx_judge.specs.declared.cell.Cell.{Cell}
-use Rattle.fx_judge.specs.declared.claim.Claim.{Claim}
-use Rattle.fx_judge.specs.declared.claim.Claim.TheVariants.{At, Full}
-use Rattle.fx_judge.specs.declared.claim.Leaves.{Leaves}
-use Rattle.fx_judge.specs.declared.claim.Leaves.TheVariants.{Same, Empty, File}
-use Rattle.fx_judge.specs.declared.claim.Resident.{Resident}
-use Rattle.fx_judge.specs.declared.claim.Wants.{Wants}
-use Rattle.fx_judge.specs.declared.strand.Strand.{Strand}
+use Rattle.fx_judge.proofs.Words.{◌≡◌, ◌⊎◌, inl, inr, ⊎_elim, ℕ, zero, suc, ◌+◌, ◌<◌, ◌≤◌, ◌==◌, ◌&&◌, ◌||◌, not, Bool, true, false, List, [], ◌∷◌}
+use Rattle.fx_judge.proofs.Words.{refl, sym, ap, subst, ◌∙◌, arith, Option, Some, None, slice_get, slice_index, slice_set, slice_index_or, length}
+use Rattle.fx_judge.proofs.Words.{eq-eqb, if◌then◌else◌, option_and_then, cases_lt, by_equality, IsHopeless, NoneHelps, may_find, no_help, Standing}
+use Rattle.fx_judge.proofs.Words.{allows, cell_at, cells_after, claim_at, Ends, made, may_leave, suits, with_cell, slot_of, Cell, Claim, At, Full}
+use Rattle.fx_judge.proofs.Words.{Leaves, Same, Empty, File, Resident, Wants, Strand}
+use Rattle.fx_judge.specs.Machine.{HasNoEnd}
 use Rattle.fx_judge.proofs.Reaching.{both_steps, chosen}
 
 -- what is at a slot once one was written: what was there, or what was written

@@ -1,6 +1,6 @@
 -- Lists that have the same at each place.
-use Rattle.std.proofs.lemmas.List.{length-map, get_or-map}
-use Rattle.std.proofs.Common.{◌∙◌, drop-cons, ◌≡◌, ℕ, suc, ◌<◌, ◌≤◌, drop, get_or, sym, List, [], ◌∷◌, length, refl, ap, arith, slice_index_or, slice_get, map, Contains, Some, Result, Ok, Err, IfOk}
+use Rattle.fx_judge.proofs.Words.{length-map, get_or-map, ◌∙◌, drop-cons, ◌≡◌, ℕ, suc, ◌<◌, ◌≤◌, drop, get_or, sym, List, [], ◌∷◌, length, refl, ap}
+use Rattle.fx_judge.proofs.Words.{arith, slice_index_or, slice_get, map, Contains, Some, Result, Ok, Err, IfOk}
 
 pub same_lists : {X : Type 0} (xs ys : List X) → length xs ≡ length ys → ((k : ℕ) (d : X) → k < length xs → slice_index_or xs k d ≡ slice_index_or ys k d) → xs ≡ ys
 same_lists [] [] same each = refl

@@ -1,11 +1,6 @@
 -- A table without files is one of a ring.
-use Rattle.std.proofs.Common.{◌≡◌, ℕ, zero, suc, List, [], ◌∷◌, ap, slice_index_or, refl, ◌∙◌, Option, None}
-use Rattle.fx_base.specs.Catalogue.{FileEntry}
-use Rattle.fx_base.specs.declared.open_file.Closed.{Closed}
-use Rattle.fx_ring.specs.Ring.{IsRing}
-use Rattle.fx_ring.proofs.Rings.{none_rings}
-use Rattle.fx_judge.specs.Verdict.{ring_with_slots}
-use Rattle.fx_judge.specs.declared.told.RingSlots.{RingSlots}
+use Rattle.fx_judge.proofs.Words.{◌≡◌, ℕ, zero, suc, List, [], ◌∷◌, ap, slice_index_or, refl, ◌∙◌, Option, None, FileEntry, Closed, IsRing}
+use Rattle.fx_judge.proofs.Words.{none_rings, ring_with_slots, RingSlots}
 
 abbrev two : List (Option Closed)
 two = None ∷ None ∷ []

@@ -1,29 +1,14 @@
 -- An order whose accesses the claims tell of is, at some slots alone, an order of the claims of these slots.
-use Rattle.std.proofs.Common.{◌≡◌, ◌⊎◌, inl, inr, ℕ, zero, suc, ◌+◌, ◌<◌, ◌≤◌, ◌==◌, ◌&&◌, ◌||◌, not, Bool, true, false, List, [], ◌∷◌, ◌++◌, length, map, filter, drop, cond, refl, sym, ap, subst, ◌∙◌, arith, All, Contains, slice_get, slice_index, slice_index_or, slice_set, Option, Some, None, if◌then◌else◌}
-use Rattle.std.specs.Prelude.{option_and_then}
-use Rattle.std.specs.List.{AllZip, list_all, list_any}
-use Rattle.std.specs.Option.{option_to_list}
-use Rattle.std.proofs.lemmas.List.{length-map, length-set, get_or-set_same, get_or-set_other}
-use Rattle.std.proofs.lemmas.List.Elements.{All-contains, All-head, All-tail, Contains-append_right}
-use Rattle.std.proofs.lemmas.Option.{slice_get_within}
-use Rattle.fx_base.specs.declared.open_file.Closed.{Closed}
-use Rattle.fx_plain.proofs.Cells.{by_equality}
-use Rattle.fx_table.proofs.Members.{contains_head, contains_tail}
-use Rattle.fx_order.specs.Access.{Table, Permits, PermitsAll, table_with, table_after, removed_by, removed_in, access_of, accesses_of, accesses_of_chain}
-use Rattle.fx_order.specs.declared.access.Access.{Access}
-use Rattle.fx_order.specs.declared.access.Access.TheVariants.{Looks, Puts, Clears, Takes, Allocates, FindsFull}
-use Rattle.fx_order.specs.declared.access.ChainAccess.{ChainAccess}
-use Rattle.fx_judge.specs.Claims.{Fits, left_by, touched}
-use Rattle.fx_judge.specs.Machine.{Standing, IsEnd, Ends, HasNoEnd, cells_after, is_staying, made, may_stay, next, with_cell}
-use Rattle.fx_judge.specs.Played.{IsCell, IsPlayed, ShowsFile}
-use Rattle.fx_judge.specs.Starts.{starting}
-use Rattle.fx_judge.specs.Strands.{AreStrands, has_slot, seen}
-use Rattle.fx_judge.specs.declared.cell.Cell.{Cell}
-use Rattle.fx_judge.specs.declared.claim.Claim.{Claim}
-use Rattle.fx_judge.specs.declared.claim.Claim.TheVariants.{At, Full}
-use Rattle.fx_judge.specs.declared.claim.Leaves.TheVariants.{Same, Empty, File}
-use Rattle.fx_judge.specs.declared.claim.Resident.{Resident}
-use Rattle.fx_judge.specs.declared.strand.Strand.{Strand}
+use Rattle.fx_judge.proofs.Words.{◌≡◌, ◌⊎◌, inl, inr, ℕ, zero, suc, ◌+◌, ◌<◌, ◌≤◌, ◌==◌, ◌&&◌, ◌||◌, not, Bool, true, false, List, [], ◌∷◌, ◌++◌}
+use Rattle.fx_judge.proofs.Words.{length, map, filter, drop, cond, refl, sym, ap, subst, ◌∙◌, arith, All, Contains, slice_get, slice_index}
+use Rattle.fx_judge.proofs.Words.{slice_index_or, slice_set, Option, Some, None, if◌then◌else◌, option_and_then, AllZip, list_all, list_any}
+use Rattle.fx_judge.proofs.Words.{option_to_list, length-map, length-set, get_or-set_same, get_or-set_other, All-contains, All-head, All-tail}
+use Rattle.fx_judge.proofs.Words.{Contains-append_right, slice_get_within, Closed, by_equality, contains_head, contains_tail, Table, Permits}
+use Rattle.fx_judge.proofs.Words.{PermitsAll, table_with, table_after, removed_by, removed_in, access_of, accesses_of, accesses_of_chain, Access}
+use Rattle.fx_judge.proofs.Words.{Looks, Puts, Clears, Takes, Allocates, FindsFull, ChainAccess, Fits, left_by, touched, Standing, IsEnd, Ends}
+use Rattle.fx_judge.proofs.Words.{cells_after, is_staying, made, may_stay, next, with_cell, IsCell, IsPlayed, ShowsFile, starting, AreStrands}
+use Rattle.fx_judge.proofs.Words.{has_slot, seen, Cell, Claim, At, Full, Same, Empty, File, Resident, Strand}
+use Rattle.fx_judge.specs.Machine.{HasNoEnd}
 use Rattle.fx_judge.proofs.CellSteps.{allowed, cells_follow, at_after, same_size, same_range}
 
 -- the accesses of a chain with one more in front

@@ -1,18 +1,11 @@
 -- A list of states that leaves none of their steps out, and has no end, shows that no order leads to one.
-use Rattle.std.proofs.Common.{◌≡◌, ◌≢◌, inl, inr, ℕ, zero, suc, ◌+◌, ◌<◌, Bool, true, false, List, [], ◌∷◌, length, map, Option, Some, None, refl, sym, ap, subst, ◌∙◌, arith, Contains, All, slice_index, slice_index_or, slice_set, if◌then◌else◌}
-use Rattle.std.proofs.lemmas.List.{length-map, get_or-set_other}
-use Rattle.std.proofs.lemmas.List.Elements.{All-contains, All-map}
-use Rattle.std.specs.Prelude.{slice_get, option_and_then}
-use Rattle.fx_plain.proofs.Cells.{by_equality}
-use Rattle.fx_judge.specs.Starts.{starting}
+use Rattle.fx_judge.proofs.Words.{◌≡◌, ◌≢◌, inl, inr, ℕ, zero, suc, ◌+◌, ◌<◌, Bool, true, false, List, [], ◌∷◌, length, map, Option, Some, None, refl}
+use Rattle.fx_judge.proofs.Words.{sym, ap, subst, ◌∙◌, arith, Contains, All, slice_index, slice_index_or, slice_set, if◌then◌else◌, length-map}
+use Rattle.fx_judge.proofs.Words.{get_or-set_other, All-contains, All-map, slice_get, option_and_then, by_equality, starting, Cell, Claim, At, Full}
+use Rattle.fx_judge.proofs.Words.{Same, Empty, File, Node, Strand, Standing, allows, cells_after, next, made, claim_at, Ends, IsEnd, is_test, view}
+use Rattle.fx_judge.proofs.Words.{views}
 use Rattle.fx_judge.proofs.Lists.{same_lists}
-use Rattle.fx_judge.specs.declared.cell.Cell.{Cell}
-use Rattle.fx_judge.specs.declared.claim.Claim.{Claim}
-use Rattle.fx_judge.specs.declared.claim.Claim.TheVariants.{At, Full}
-use Rattle.fx_judge.specs.declared.claim.Leaves.TheVariants.{Same, Empty, File}
-use Rattle.fx_judge.specs.declared.node.Node.{Node}
-use Rattle.fx_judge.specs.declared.strand.Strand.{Strand}
-use Rattle.fx_judge.specs.Machine.{Standing, allows, cells_after, next, made, claim_at, Ends, IsEnd, HasNoEnd, is_test, LeadsInside, IsExplored, view, views}
+use Rattle.fx_judge.specs.Machine.{HasNoEnd, LeadsInside, IsExplored}
 
 -- an answer of two steps has one of the first, to which the second was applied
 pub both_steps : {A B : Type 0} (f : A → Option B) (o : Option A) (y : B) → option_and_then f o ≡ Some y → (x : A) × (o ≡ Some x) × (f x ≡ Some y)

@@ -1,28 +1,11 @@
 -- Where there is no order of a table's accesses, what was told comes of none.
-use Rattle.std.proofs.Common.{◌≡◌, ℕ, ◌+◌, ◌<◌, ◌≤◌, List, [], ◌∷◌, length, refl, sym, ap, subst, ◌∙◌, All, Contains}
-use Rattle.std.specs.Global.{Vec}
-use Rattle.std.specs.List.{AllByRecursion}
-use Rattle.std.proofs.lemmas.List.Elements.{All-contains, All-contains_itself}
-use Rattle.std.proofs.lemmas.List.Sorted.{All-permutation, IsPermutation-sym}
-use Rattle.fx_base.specs.Catalogue.{FileEntry}
-use Rattle.fx_chain.specs.Completed.{Completed, all_completed}
-use Rattle.fx_chain.specs.Operation.{Asked}
-use Rattle.fx_chain.specs.Runs.{runs_of}
-use Rattle.fx_ring.specs.Ring.{RingState, IsRing}
-use Rattle.fx_order.specs.Access.{Table, Permits, PermitsAll, table_with, removed_in, accesses_of}
-use Rattle.fx_order.specs.declared.access.Access.{Access}
-use Rattle.fx_order.specs.declared.access.Access.TheVariants.{Looks, Puts, Clears, Takes, Allocates, FindsFull}
-use Rattle.fx_order.specs.declared.access.ChainAccess.{ChainAccess}
-use Rattle.fx_order.specs.Order.{IsOneOrder, table_of}
-use Rattle.fx_judge.specs.Chains.{AreDone}
-use Rattle.fx_judge.specs.Claims.{AreClaims, IsPossible}
-use Rattle.fx_judge.specs.Played.{HasNoOrder, IsOutcome}
-use Rattle.fx_judge.specs.Verdict.{IsToldOutcome, IsRefuted, told_report}
-use Rattle.fx_judge.specs.declared.claim.Claim.{Claim}
-use Rattle.fx_judge.specs.declared.part.Outcome.{Outcome}
-use Rattle.fx_judge.specs.declared.part.Outcome.TheVariants.{Order, Refuted, Unsettled}
-use Rattle.fx_judge.specs.declared.told.Told.{Told}
-use Rattle.fx_order.proofs.OneRing.{no_file_that_stays_is_closed}
+use Rattle.fx_judge.proofs.Words.{◌≡◌, ℕ, ◌+◌, ◌<◌, ◌≤◌, List, [], ◌∷◌, length, refl, sym, ap, subst, ◌∙◌, All, Contains, Vec, AllByRecursion}
+use Rattle.fx_judge.proofs.Words.{All-contains, All-contains_itself, All-permutation, IsPermutation-sym, FileEntry, Completed, all_completed, Asked}
+use Rattle.fx_judge.proofs.Words.{runs_of, RingState, IsRing, Table, Permits, PermitsAll, table_with, removed_in, accesses_of, Access, Looks, Puts}
+use Rattle.fx_judge.proofs.Words.{Clears, Takes, Allocates, FindsFull, ChainAccess, IsOneOrder, table_of, AreDone, AreClaims, IsPossible, HasNoOrder}
+use Rattle.fx_judge.proofs.Words.{IsOutcome, IsToldOutcome, IsRefuted, told_report, Claim, Outcome, Order, Unsettled, Told}
+use Rattle.fx_judge.proofs.Words.{no_file_that_stays_is_closed}
+use Rattle.fx_judge.specs.declared.part.Outcome.TheVariants.{Refuted}
 use Rattle.fx_judge.proofs.CellSteps.{same_size, same_range}
 
 possible_one : (table : Table) (size : ℕ) (range : ℕ × ℕ) (a : Access) → table.size ≡ size → table.range ≡ range → Permits table a → IsPossible size range a

@@ -1,30 +1,12 @@
 -- The claims of requests, case by case.
-use Rattle.std.proofs.Common.{◌≡◌, ◌⊎◌, inl, inr, ℕ, ◌+◌, ◌<◌, ◌≤◌, ◌==◌, ◌||◌, nat_lt, nat_abs, int_lt, Bool, true, false, ℤ, pos, negsuc, List, [], length, refl, sym, ap, subst, ◌∙◌, arith, eq-eqb, Some, None, Result, slice_index_or}
-use Rattle.std.proofs.lemmas.Bool.{MatchBool-at_true, MatchBool-at_false, le-leb, lt-leb, lt-ltb, le-ltb}
-use Rattle.std.specs.Global.{Vec}
-use Rattle.std.specs.List.{list_any}
-use Rattle.fx_base.specs.AddFault.{has_name}
-use Rattle.fx_base.specs.Catalogue.{FileEntry, name_at}
-use Rattle.fx_base.specs.declared.errno.Errno.{Errno}
-use Rattle.fx_base.specs.declared.errno.Errno.TheVariants.{ENOENT, ENXIO, EBADF, EAGAIN, ENOMEM, EBUSY, EINVAL, ENFILE, EMFILE, ECANCELED}
-use Rattle.fx_base.specs.declared.open_file.Closed.{Closed}
-use Rattle.fx_plain.proofs.Cells.{by_equality}
-use Rattle.fx_chain.specs.Answers.{installed, is_bad_entry}
-use Rattle.fx_chain.specs.Completed.{Completed, completed, refusal}
-use Rattle.fx_chain.specs.declared.completion.Place.{Place}
-use Rattle.fx_chain.specs.Operation.{Opens}
-use Rattle.fx_chain.specs.declared.request.Target.{Target}
-use Rattle.fx_chain.specs.declared.request.Target.TheVariants.{Slot, Any}
-use Rattle.fx_order.specs.Requests.{IsRefused, IsOpenDone, IsReadDone, IsCloseDone, IsUpdateDone, IsRequestDone, AreEntriesDone, Makes, gives}
-use Rattle.fx_order.specs.declared.access.Access.{Access}
-use Rattle.fx_order.specs.declared.access.Access.TheVariants.{Looks, Puts, Takes, Allocates, FindsFull}
-use Rattle.fx_judge.specs.Claims.{IsResident, Possibly, Tells}
-use Rattle.fx_judge.specs.declared.claim.Claim.{Claim}
-use Rattle.fx_judge.specs.declared.claim.Claim.TheVariants.{At, Full}
-use Rattle.fx_judge.specs.declared.claim.Wants.TheVariants.{Anything, Nothing, NothingToTake, Something, Bytes}
-use Rattle.fx_judge.specs.declared.claim.Leaves.TheVariants.{Same, Empty, File}
-use Rattle.fx_judge.specs.declared.claim.Resident.{Resident}
-use Rattle.fx_judge.specs.declared.stop.Stop.{Stop}
+use Rattle.fx_judge.proofs.Words.{◌≡◌, ◌⊎◌, inl, inr, ℕ, ◌+◌, ◌<◌, ◌≤◌, ◌==◌, ◌||◌, nat_lt, nat_abs, int_lt, Bool, true, false, ℤ, pos, negsuc, List}
+use Rattle.fx_judge.proofs.Words.{[], length, refl, sym, ap, subst, ◌∙◌, arith, eq-eqb, Some, None, Result, slice_index_or, MatchBool-at_true}
+use Rattle.fx_judge.proofs.Words.{MatchBool-at_false, le-leb, lt-leb, lt-ltb, le-ltb, Vec, list_any, has_name, FileEntry, name_at, Errno, ENOENT}
+use Rattle.fx_judge.proofs.Words.{ENXIO, EBADF, EAGAIN, ENOMEM, EBUSY, EINVAL, ENFILE, EMFILE, ECANCELED, Closed, by_equality, installed}
+use Rattle.fx_judge.proofs.Words.{is_bad_entry, Completed, completed, refusal, Place, Opens, Target, Slot, Any, IsRefused, IsOpenDone, IsReadDone}
+use Rattle.fx_judge.proofs.Words.{IsCloseDone, IsUpdateDone, IsRequestDone, AreEntriesDone, Makes, gives, Access, Looks, Puts, Takes, Allocates}
+use Rattle.fx_judge.proofs.Words.{FindsFull, IsResident, Possibly, Tells, Claim, At, Full, Anything, Nothing, NothingToTake, Something, Bytes, Same}
+use Rattle.fx_judge.proofs.Words.{Empty, File, Resident, Stop}
 use Rattle.fx_judge.proofs.Telling.{tells_so, IsOne}
 
 differ : (n : ℕ) (m : ℕ) → pos n ≡ negsuc m → ⊥

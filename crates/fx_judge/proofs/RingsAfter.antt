@@ -1,17 +1,7 @@
 -- An order leads from a ring to a ring.
-use Rattle.std.proofs.Common.{◌≡◌, ◌≤◌, List, sym, subst, None}
-use Rattle.std.proofs.Math.ListN.{get_or-eq_default}
-use Rattle.fx_base.specs.Catalogue.{FileEntry}
-use Rattle.fx_chain.specs.Accepted.{IsAccepted}
-use Rattle.fx_chain.specs.Operation.{Asked}
-use Rattle.fx_ring.specs.Ring.{RingState, IsRing, ring_of}
-use Rattle.fx_ring.specs.Submission.{Reported}
-use Rattle.fx_ring.proofs.SubmittedRing.{submitted_rings}
-use Rattle.fx_order.specs.Order.{IsOneOrder}
-use Rattle.fx_order.proofs.Histories.{each_order_is_a_history}
-use Rattle.fx_order.proofs.Shown.{NonePast, ring_with_files, shows_ring}
-use Rattle.fx_judge.specs.Verdict.{ring_with_slots}
-use Rattle.fx_judge.specs.declared.told.RingSlots.{RingSlots}
+use Rattle.fx_judge.proofs.Words.{◌≡◌, ◌≤◌, List, sym, subst, None, get_or-eq_default, FileEntry, IsAccepted, Asked, RingState, IsRing, ring_of}
+use Rattle.fx_judge.proofs.Words.{Reported, submitted_rings, IsOneOrder, each_order_is_a_history, NonePast, ring_with_files, shows_ring}
+use Rattle.fx_judge.proofs.Words.{ring_with_slots, RingSlots}
 
 pub order_rings : (old left : RingState) (requests : List Asked) (report : Reported) → IsRing old → NonePast old.size old.at → old.size ≤ 256
     → IsAccepted requests → IsOneOrder old requests report left → IsRing left

@@ -1,20 +1,8 @@
 -- The strands of chains, one chain after another.
-use Rattle.std.proofs.Common.{◌≡◌, ◌⊎◌, inl, inr, ℕ, zero, suc, ◌+◌, ◌≤◌, Bool, true, false, List, [], ◌∷◌, ◌++◌, length, filter, cond, refl, sym, ap, subst, ◌∙◌, arith, slice_get, Some, if◌then◌else◌}
-use Rattle.std.specs.Global.{Vec}
-use Rattle.std.specs.List.{AllZip}
-use Rattle.std.proofs.lemmas.List.{append-nil}
-use Rattle.std.proofs.lemmas.Bool.{cases_lt}
-use Rattle.fx_base.specs.declared.open_file.Closed.{Closed}
-use Rattle.fx_plain.proofs.Cells.{by_equality}
-use Rattle.fx_order.specs.Access.{accesses_of_chain}
-use Rattle.fx_order.specs.declared.access.Access.{Access}
-use Rattle.fx_order.specs.declared.access.ChainAccess.{ChainAccess}
-use Rattle.fx_judge.specs.Claims.{AreClaims, Fits, touched}
-use Rattle.fx_judge.specs.Strands.{AreStrands, has_slot, keeps, seen, slot_of, strand_for}
-use Rattle.fx_judge.specs.declared.cell.Cell.{Cell}
-use Rattle.fx_judge.specs.declared.claim.Claim.{Claim}
-use Rattle.fx_judge.specs.declared.claim.Claim.TheVariants.{At, Full}
-use Rattle.fx_judge.specs.declared.strand.Strand.{Strand}
+use Rattle.fx_judge.proofs.Words.{◌≡◌, ◌⊎◌, inl, inr, ℕ, zero, suc, ◌+◌, ◌≤◌, Bool, true, false, List, [], ◌∷◌, ◌++◌, length, filter, cond, refl, sym}
+use Rattle.fx_judge.proofs.Words.{ap, subst, ◌∙◌, arith, slice_get, Some, if◌then◌else◌, Vec, AllZip, append-nil, cases_lt, Closed, by_equality}
+use Rattle.fx_judge.proofs.Words.{accesses_of_chain, Access, ChainAccess, AreClaims, Fits, touched, AreStrands, has_slot, keeps, seen, slot_of}
+use Rattle.fx_judge.proofs.Words.{strand_for, Cell, Claim, At, Full, Strand}
 
 -- a claim is of the slot of its access
 same_slot : (closes : List Closed) (claim : Claim) (a : Access) → Fits closes claim a → touched a ≡ slot_of claim

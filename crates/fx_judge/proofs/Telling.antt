@@ -1,13 +1,6 @@
 -- What claims tell of accesses, from what they tell of others.
-use Rattle.std.proofs.Common.{◌≡◌, List, [], ◌∷◌, sym, subst, Result, Ok, Err}
-use Rattle.std.specs.Global.{Vec}
-use Rattle.std.specs.List.{AllZip}
-use Rattle.fx_base.specs.declared.open_file.Closed.{Closed}
-use Rattle.fx_order.specs.declared.access.Access.{Access}
-use Rattle.fx_judge.specs.Claims.{Fits, Tells}
-use Rattle.fx_judge.specs.declared.claim.Claim.{Claim}
-use Rattle.fx_judge.specs.declared.stop.Stop.{Stop}
-use Rattle.fx_judge.specs.declared.stop.Stop.TheVariants.{Refuted, Unknown, NoMemory}
+use Rattle.fx_judge.proofs.Words.{◌≡◌, List, [], ◌∷◌, sym, subst, Result, Ok, Err, Vec, AllZip, Closed, Access, Fits, Tells, Claim, Stop, Refuted}
+use Rattle.fx_judge.proofs.Words.{Unknown, NoMemory}
 
 pub tells_so : (P Q : List Access → Type 0) (closes : List Closed) (r : Result (Vec Claim) Stop) → ((own : List Access) → P own → Q own)
     → Tells Q closes r → Tells P closes r

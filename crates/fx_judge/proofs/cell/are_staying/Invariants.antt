@@ -1,6 +1,4 @@
-use Rattle.std.proofs.Common.{◌≡◌, drop}
-use Rattle.std.specs.List.{list_all}
-use Rattle.fx_judge.specs.Machine.{is_staying}
+use Rattle.fx_judge.proofs.Words.{◌≡◌, drop, list_all, is_staying}
 use Rattle.fx_judge.proofs.cell.are_staying.Given as goal
 
 -- whether all do is told by the cells that are left

@@ -1,5 +1,4 @@
-use Rattle.std.proofs.Common.{◌≡◌, drop}
-use Rattle.fx_judge.specs.Machine.{cell_at}
+use Rattle.fx_judge.proofs.Words.{◌≡◌, drop, cell_at}
 use Rattle.fx_judge.proofs.cell.cell_at.Given as goal
 
 -- what is at the slot is told by the cells that are left

@@ -1,4 +1,4 @@
-use Rattle.std.proofs.Common.{arith}
+use Rattle.fx_judge.proofs.Words.{arith}
 use Rattle.fx_judge.proofs.Writing.{none_written, all_written, write_hit, write_miss}
 use Rattle.fx_judge.proofs.cell.write.Goals.{then-cells-i, else-cells-i}
 use Rattle.fx_judge.proofs.cell.write.Goals as goal

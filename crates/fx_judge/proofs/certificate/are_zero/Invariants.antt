@@ -1,4 +1,4 @@
-use Rattle.std.proofs.Common.{◌≡◌, ℕ, ◌<◌, slice_index_or}
+use Rattle.fx_judge.proofs.Words.{◌≡◌, ℕ, ◌<◌, slice_index_or}
 use Rattle.fx_judge.proofs.certificate.are_zero.Given as goal
 
 abbrev pub invariant-loop-place : goal.invariant-loop-place

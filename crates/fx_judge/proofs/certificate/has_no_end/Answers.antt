@@ -1,8 +1,4 @@
-use Rattle.std.proofs.Common.{◌≡◌, false, true, All, subst}
-use Rattle.std.proofs.lemmas.List.Elements.{All-more}
-use Rattle.std.proofs.lemmas.List.{take_all}
-use Rattle.fx_judge.specs.declared.node.Node.{Node}
-use Rattle.fx_judge.specs.Machine.{IsEnd, view}
+use Rattle.fx_judge.proofs.Words.{◌≡◌, false, true, All, subst, All-more, take_all, Node, IsEnd, view}
 use Rattle.fx_judge.proofs.certificate.has_no_end.Goals as goal
 
 pub loop-i-preserved : goal.loop-i-preserved

@@ -1,5 +1,4 @@
-use Rattle.std.proofs.Common.{All, take}
-use Rattle.fx_judge.specs.Machine.{IsEnd, view}
+use Rattle.fx_judge.proofs.Words.{All, take, IsEnd, view}
 use Rattle.fx_judge.proofs.certificate.has_no_end.Given as goal
 
 abbrev pub invariant-loop-i : goal.invariant-loop-i

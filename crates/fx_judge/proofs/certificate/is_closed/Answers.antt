@@ -1,8 +1,4 @@
-use Rattle.std.proofs.Common.{◌<◌, All, length, subst, arith}
-use Rattle.std.proofs.lemmas.List.Elements.{All-more}
-use Rattle.std.proofs.lemmas.List.{take_all}
-use Rattle.fx_judge.specs.declared.node.Node.{Node}
-use Rattle.fx_judge.specs.Machine.{view, views, IsExplored}
+use Rattle.fx_judge.proofs.Words.{◌<◌, All, length, subst, arith, All-more, take_all, Node, view, views, IsExplored}
 use Rattle.fx_judge.proofs.certificate.is_closed.Goals as goal
 
 pub loop-i-preserved : goal.loop-i-preserved

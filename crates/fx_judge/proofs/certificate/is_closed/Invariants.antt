@@ -1,5 +1,4 @@
-use Rattle.std.proofs.Common.{All, take}
-use Rattle.fx_judge.specs.Machine.{view, views, IsExplored}
+use Rattle.fx_judge.proofs.Words.{All, take, view, views, IsExplored}
 use Rattle.fx_judge.proofs.certificate.is_closed.Given as goal
 
 abbrev pub invariant-loop-i : goal.invariant-loop-i

@@ -1,5 +1,4 @@
-use Rattle.std.proofs.Common.{◌≡◌, ◌∙◌, ℕ, All, subst, refl, sym, arith}
-use Rattle.fx_judge.specs.Machine.{view}
+use Rattle.fx_judge.proofs.Words.{◌≡◌, ◌∙◌, ℕ, All, subst, refl, sym, arith, view}
 use Rattle.fx_judge.proofs.Reaching.{started}
 use Rattle.fx_judge.proofs.certificate.is_start.Goals as goal
 

@@ -1,5 +1,4 @@
-use Rattle.std.proofs.Common.{◌<◌, ℕ}
-use Rattle.fx_judge.specs.Machine.{view, views, StepLeadsInside}
+use Rattle.fx_judge.proofs.Words.{◌<◌, ℕ, view, views, StepLeadsInside}
 use Rattle.fx_judge.proofs.certificate.leads_inside.Given as goal
 
 abbrev pub invariant-loop-chain : goal.invariant-loop-chain

@@ -1,7 +1,5 @@
-use Rattle.std.proofs.Common.{refl, sym, ap, subst, ◌∙◌, List, All, Contains, IsTrue, option_copied}
-use Rattle.fx_judge.specs.declared.node.Node.{Node}
-use Rattle.fx_judge.specs.Machine.{Standing, IsEnd, IsExplored, HasNoEnd, view, views}
-use Rattle.fx_judge.specs.Starts.{starting}
+use Rattle.fx_judge.proofs.Words.{refl, sym, ap, subst, ◌∙◌, List, All, Contains, IsTrue, option_copied, Node, Standing, IsEnd, IsExplored, HasNoEnd}
+use Rattle.fx_judge.proofs.Words.{view, views, starting}
 use Rattle.fx_judge.proofs.Lists.{if_ok_so, first_inside}
 use Rattle.fx_judge.proofs.Reaching.{never_reached}
 use Rattle.fx_judge.proofs.certificate.shows_no_end.Goals as goal

@@ -1,8 +1,4 @@
-use Rattle.std.proofs.Common.{◌+◌, List, sym, subst, arith}
-use Rattle.std.proofs.lemmas.List.{length-map}
-use Rattle.fx_chain.specs.Completed.{all_completed, completed_of}
-use Rattle.fx_chain.specs.Operation.{all_asked, asked_of}
-use Rattle.fx_judge.specs.declared.claim.Claim.{Claim}
+use Rattle.fx_judge.proofs.Words.{◌+◌, List, sym, subst, arith, length-map, all_completed, completed_of, all_asked, asked_of, Claim}
 use Rattle.fx_judge.proofs.ChainClaims.{ChainTold, nothing_told, all_told, one_more, one_stops}
 use Rattle.fx_judge.proofs.Lists.{mapped_at}
 use Rattle.fx_judge.proofs.chain.claims_of_chain.Goals as goal

@@ -1,5 +1,4 @@
-use Rattle.fx_chain.specs.Completed.{all_completed}
-use Rattle.fx_chain.specs.Operation.{all_asked}
+use Rattle.fx_judge.proofs.Words.{all_completed, all_asked}
 use Rattle.fx_judge.proofs.ChainClaims.{ChainTold}
 use Rattle.fx_judge.proofs.chain.claims_of_chain.Given as goal
 

@@ -1,11 +1,5 @@
-use Rattle.std.proofs.Common.{◌≡◌, ◌+◌, ◌∙◌, List, length, map, sym, subst, arith, eq-eqb, true, false, slice_index_or}
-use Rattle.std.specs.Global.{Vec}
-use Rattle.std.proofs.lemmas.List.{length-map, get_or_default}
-use Rattle.fx_chain.specs.declared.chain.Chain.{Chain}
-use Rattle.fx_chain.specs.Accepted.{members_of}
-use Rattle.fx_chain.specs.Completed.{all_completed, completed_of}
-use Rattle.fx_chain.specs.Operation.{Asked, all_asked}
-use Rattle.fx_judge.specs.declared.claim.Claim.{Claim}
+use Rattle.fx_judge.proofs.Words.{◌≡◌, ◌+◌, ◌∙◌, List, length, map, sym, subst, arith, eq-eqb, true, false, slice_index_or, Vec, length-map}
+use Rattle.fx_judge.proofs.Words.{get_or_default, Chain, members_of, all_completed, completed_of, Asked, all_asked, Claim}
 use Rattle.fx_judge.proofs.AllChains.{Sofar, none_told, few_completions, chain_stops, chain_told, none_left}
 use Rattle.fx_judge.proofs.chain.claims_of_chains.Goals as goal
 

@@ -1,7 +1,4 @@
-use Rattle.std.proofs.Common.{map}
-use Rattle.fx_chain.specs.Accepted.{members_of}
-use Rattle.fx_chain.specs.Completed.{all_completed}
-use Rattle.fx_chain.specs.Operation.{all_asked}
+use Rattle.fx_judge.proofs.Words.{map, members_of, all_completed, all_asked}
 use Rattle.fx_judge.proofs.AllChains.{Sofar}
 use Rattle.fx_judge.proofs.chain.claims_of_chains.Given as goal
 

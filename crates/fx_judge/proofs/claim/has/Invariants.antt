@@ -1,5 +1,4 @@
-use Rattle.std.proofs.Common.{◌≢◌, ℕ, ◌<◌, slice_index_or}
-use Rattle.fx_base.specs.declared.open_file.Closed.{Closed}
+use Rattle.fx_judge.proofs.Words.{◌≢◌, ℕ, ◌<◌, slice_index_or, Closed}
 use Rattle.fx_judge.proofs.claim.has.Given as goal
 
 -- none of those that were looked at is the file

@@ -1,7 +1,4 @@
-use Rattle.std.proofs.Common.{◌≡◌, ℕ, ◌<◌, ◌≤◌, true, Some, slice_get, slice_index}
-use Rattle.fx_judge.specs.Dead.{no_help}
-use Rattle.fx_judge.specs.declared.claim.Claim.{Claim}
-use Rattle.fx_judge.specs.declared.strand.Strand.{Strand}
+use Rattle.fx_judge.proofs.Words.{◌≡◌, ℕ, ◌<◌, ◌≤◌, true, Some, slice_get, slice_index, no_help, Claim, Strand}
 use Rattle.fx_judge.proofs.dead.none_helps.Given as goal
 
 abbrev pub invariant-loop-c : goal.invariant-loop-c

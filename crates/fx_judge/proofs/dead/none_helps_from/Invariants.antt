@@ -1,6 +1,4 @@
-use Rattle.std.proofs.Common.{◌≡◌, ℕ, ◌<◌, ◌≤◌, true, Some, slice_get}
-use Rattle.fx_judge.specs.Dead.{no_help}
-use Rattle.fx_judge.specs.declared.claim.Claim.{Claim}
+use Rattle.fx_judge.proofs.Words.{◌≡◌, ℕ, ◌<◌, ◌≤◌, true, Some, slice_get, no_help, Claim}
 use Rattle.fx_judge.proofs.dead.none_helps_from.Given as goal
 
 abbrev pub invariant-loop-k : goal.invariant-loop-k

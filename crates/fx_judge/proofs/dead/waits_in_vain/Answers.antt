@@ -1,5 +1,4 @@
-use Rattle.std.proofs.Common.{ℕ, ◌<◌, ◌≤◌, ◌∙◌, List, length, ap, subst, arith, slice_index}
-use Rattle.fx_judge.specs.Machine.{view}
+use Rattle.fx_judge.proofs.Words.{ℕ, ◌<◌, ◌≤◌, ◌∙◌, List, length, ap, subst, arith, slice_index, view}
 use Rattle.fx_judge.proofs.Hopeless.{get_at, vain}
 use Rattle.fx_judge.proofs.dead.waits_in_vain.Goals as goal
 

@@ -1,5 +1,4 @@
-use Rattle.std.proofs.Common.{ℕ, ◌<◌, ◌≤◌, slice_index_or}
-use Rattle.fx_order.specs.declared.access.ChainAccess.{ChainAccess}
+use Rattle.fx_judge.proofs.Words.{ℕ, ◌<◌, ◌≤◌, slice_index_or, ChainAccess}
 use Rattle.fx_judge.proofs.judge.are_within.Given as goal
 
 abbrev pub invariant-loop-x : goal.invariant-loop-x

@@ -1,18 +1,7 @@
-use Rattle.std.proofs.Common.{◌≡◌, ℕ, ◌+◌, ◌≤◌, ◌∙◌, List, length, map, refl, sym, ap, subst, All, IsPermutation, arith}
-use Rattle.std.proofs.lemmas.List.{length-map}
-use Rattle.fx_base.specs.CloseList.{IsInOrderOfMark}
-use Rattle.fx_chain.specs.Accepted.{members_of}
-use Rattle.fx_chain.specs.Completed.{all_completed}
-use Rattle.fx_chain.specs.Operation.{Asked, all_asked}
-use Rattle.fx_chain.specs.Runs.{runs_of}
-use Rattle.fx_chain.specs.declared.chain.Chain.{Chain}
-use Rattle.fx_chain.specs.declared.completion.Completion.{Completion}
-use Rattle.fx_order.specs.Access.{Table, PermitsAll, table_after, removed_in, accesses_of}
-use Rattle.fx_order.specs.Requests.{AreChainsDone}
-use Rattle.fx_order.specs.Slots.{table_of_slots}
-use Rattle.fx_order.specs.declared.access.ChainAccess.{ChainAccess}
-use Rattle.fx_judge.specs.Verdict.{ring_with_slots, told_report}
-use Rattle.fx_judge.specs.declared.told.RingSlots.{RingSlots}
+use Rattle.fx_judge.proofs.Words.{◌≡◌, ℕ, ◌+◌, ◌≤◌, ◌∙◌, List, length, map, refl, sym, ap, subst, All, IsPermutation, arith, length-map}
+use Rattle.fx_judge.proofs.Words.{IsInOrderOfMark, members_of, all_completed, Asked, all_asked, runs_of, Chain, Completion, Table, PermitsAll}
+use Rattle.fx_judge.proofs.Words.{table_after, removed_in, accesses_of, AreChainsDone, table_of_slots, ChainAccess, ring_with_slots, told_report}
+use Rattle.fx_judge.proofs.Words.{RingSlots}
 use Rattle.fx_judge.proofs.Came.{came}
 use Rattle.fx_judge.proofs.RingsAfter.{order_rings, none_past}
 use Rattle.fx_judge.proofs.judge.confirm.Goals as goal

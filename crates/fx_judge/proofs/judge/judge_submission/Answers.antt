@@ -1,7 +1,4 @@
-use Rattle.std.proofs.Common.{List, subst}
-use Rattle.fx_chain.specs.Operation.{all_asked}
-use Rattle.fx_order.specs.declared.access.ChainAccess.{ChainAccess}
-use Rattle.fx_judge.specs.Verdict.{CameBy, ring_with_slots}
+use Rattle.fx_judge.proofs.Words.{List, subst, all_asked, ChainAccess, CameBy, ring_with_slots}
 use Rattle.fx_judge.proofs.judge.judge_submission.Goals as goal
 
 pub returns-then-branch-clause-verdict : goal.returns-then-branch-clause-verdict

@@ -1,18 +1,5 @@
-use Rattle.std.proofs.Common.{◌≡◌, ◌+◌, ◌∙◌, List, length, map, sym, ap, subst, arith}
-use Rattle.std.proofs.lemmas.List.{length-map}
-use Rattle.std.specs.Global.{Vec}
-use Rattle.fx_base.specs.declared.open_file.Closed.{Closed}
-use Rattle.fx_chain.specs.Accepted.{members_of}
-use Rattle.fx_chain.specs.Completed.{all_completed}
-use Rattle.fx_chain.specs.Operation.{Asked, all_asked}
-use Rattle.fx_chain.specs.Runs.{runs_of}
-use Rattle.fx_chain.specs.declared.chain.Chain.{Chain}
-use Rattle.fx_order.specs.Slots.{table_of_slots}
-use Rattle.fx_ring.specs.Ring.{RingState}
-use Rattle.fx_judge.specs.Claims.{AreClaims}
-use Rattle.fx_judge.specs.Played.{IsOutcome}
-use Rattle.fx_judge.specs.Verdict.{IsToldOutcome, ring_with_slots}
-use Rattle.fx_judge.specs.declared.claim.Claim.{Claim}
+use Rattle.fx_judge.proofs.Words.{◌≡◌, ◌+◌, ◌∙◌, List, length, map, sym, ap, subst, arith, length-map, Vec, Closed, members_of, all_completed, Asked}
+use Rattle.fx_judge.proofs.Words.{all_asked, runs_of, Chain, table_of_slots, RingState, AreClaims, IsOutcome, IsToldOutcome, ring_with_slots, Claim}
 use Rattle.fx_judge.proofs.Lists.{if_ok_so}
 use Rattle.fx_judge.proofs.Refuting.{moved_done, no_claims, outcome_told}
 use Rattle.fx_judge.proofs.judge.judge_told.Goals as goal

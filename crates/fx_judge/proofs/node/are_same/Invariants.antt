@@ -1,5 +1,4 @@
-use Rattle.std.proofs.Common.{◌≡◌, ℕ, ◌<◌, slice_index_or}
-use Rattle.fx_judge.specs.declared.cell.Cell.{Cell}
+use Rattle.fx_judge.proofs.Words.{◌≡◌, ℕ, ◌<◌, slice_index_or, Cell}
 use Rattle.fx_judge.proofs.node.are_same.Given as goal
 
 abbrev pub invariant-loop-i : goal.invariant-loop-i

@@ -1,6 +1,4 @@
-use Rattle.std.proofs.Common.{All}
-use Rattle.fx_order.specs.Slots.{table_of_slots}
-use Rattle.fx_judge.specs.Played.{IsCell}
+use Rattle.fx_judge.proofs.Words.{All, table_of_slots, IsCell}
 use Rattle.fx_judge.proofs.part.cells_of.Given as goal
 
 abbrev pub invariant-loop-slot : goal.invariant-loop-slot

@@ -1,8 +1,4 @@
-use Rattle.std.proofs.Common.{length, subst, List}
-use Rattle.fx_order.specs.Slots.{table_of_slots}
-use Rattle.fx_judge.specs.Machine.{HasNoEnd}
-use Rattle.fx_judge.specs.Starts.{starting}
-use Rattle.fx_judge.specs.declared.strand.Strand.{Strand}
+use Rattle.fx_judge.proofs.Words.{length, subst, List, table_of_slots, HasNoEnd, starting, Strand}
 use Rattle.fx_judge.proofs.Projected.{projected}
 use Rattle.fx_judge.proofs.part.judge_part.Goals as goal
 

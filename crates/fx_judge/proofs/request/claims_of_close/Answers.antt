@@ -1,5 +1,4 @@
-use Rattle.std.proofs.Common.{refl}
-use Rattle.fx_chain.specs.Completed.{completed_of}
+use Rattle.fx_judge.proofs.Words.{refl, completed_of}
 use Rattle.fx_judge.proofs.RequestClaims.{close_none, close_past, close_missed, close_here}
 use Rattle.fx_judge.proofs.request.claims_of_close.Goals as goal
 

@@ -1,9 +1,4 @@
-use Rattle.std.proofs.Common.{refl, sym, subst}
-use Rattle.fx_chain.specs.Completed.{completed_of}
-use Rattle.fx_chain.specs.declared.request.Target.{Target}
-use Rattle.fx_order.specs.Requests.{IsRequestDone}
-use Rattle.fx_chain.specs.Operation.{Opens}
-use Rattle.fx_judge.specs.Claims.{Possibly, Tells}
+use Rattle.fx_judge.proofs.Words.{refl, sym, subst, completed_of, Target, IsRequestDone, Opens, Possibly, Tells}
 use Rattle.fx_judge.proofs.RequestClaims.{name_none, name_at_slot, name_any}
 use Rattle.fx_judge.proofs.request.claims_of_open.Goals as goal
 

@@ -1,7 +1,4 @@
-use Rattle.std.proofs.Common.{ℤ, refl, ap, subst, ◌∙◌, []}
-use Rattle.fx_base.specs.declared.open_file.Closed.{Closed}
-use Rattle.fx_chain.specs.Completed.{completed, completed_of}
-use Rattle.fx_judge.specs.Claims.{IsResident}
+use Rattle.fx_judge.proofs.Words.{ℤ, refl, ap, subst, ◌∙◌, [], Closed, completed, completed_of, IsResident}
 use Rattle.fx_judge.proofs.RequestClaims.{any_none, any_full, any_here, not_below}
 use Rattle.fx_judge.proofs.request.claims_of_open_any.Goals as goal
 

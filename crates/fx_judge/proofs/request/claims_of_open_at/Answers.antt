@@ -1,7 +1,4 @@
-use Rattle.std.proofs.Common.{subst}
-use Rattle.fx_base.specs.declared.open_file.Closed.{Closed}
-use Rattle.fx_judge.specs.Claims.{IsResident}
-use Rattle.fx_chain.specs.Completed.{completed_of}
+use Rattle.fx_judge.proofs.Words.{subst, Closed, IsResident, completed_of}
 use Rattle.fx_judge.proofs.RequestClaims.{open_none, open_past, open_here}
 use Rattle.fx_judge.proofs.request.claims_of_open_at.Goals as goal
 

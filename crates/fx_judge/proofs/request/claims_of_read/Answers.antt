@@ -1,5 +1,4 @@
-use Rattle.std.proofs.Common.{◌≡◌, true, false, refl, arith}
-use Rattle.fx_chain.specs.Completed.{completed_of}
+use Rattle.fx_judge.proofs.Words.{◌≡◌, true, false, refl, arith, completed_of}
 use Rattle.fx_judge.proofs.RequestClaims.{read_past, read_missed, read_found}
 use Rattle.fx_judge.proofs.request.claims_of_read.Goals.{else-len-gt0-via-then-len-gt0+else-is_failure, else-len-gt0-via-else-len-gt0}
 use Rattle.fx_judge.proofs.request.claims_of_read.Goals as goal

@@ -1,7 +1,5 @@
-use Rattle.std.proofs.Common.{◌≡◌, ℕ, inl, inr, true, replicate, slice_index_or, arith}
-use Rattle.std.proofs.lemmas.Bool.{cases_lt}
-use Rattle.std.proofs.lemmas.List.{get_or-replicate, length-replicate}
-use Rattle.std.proofs.Math.ListN.{get_or-eq_default}
+use Rattle.fx_judge.proofs.Words.{◌≡◌, ℕ, inl, inr, true, replicate, slice_index_or, arith, cases_lt, get_or-replicate, length-replicate}
+use Rattle.fx_judge.proofs.Words.{get_or-eq_default}
 use Rattle.fx_judge.proofs.request.fits_of.Goals as goal
 
 all_fit : (n k : ℕ) → slice_index_or (replicate n true) k true ≡ true

@@ -1,7 +1,4 @@
-use Rattle.std.proofs.Common.{◌≡◌, true, slice_index_or}
-use Rattle.fx_base.specs.declared.open_file.Closed.{Closed}
-use Rattle.fx_chain.specs.Completed.{completed_of}
-use Rattle.fx_order.specs.Requests.{gives}
+use Rattle.fx_judge.proofs.Words.{◌≡◌, true, slice_index_or, Closed, completed_of, gives}
 use Rattle.fx_judge.proofs.request.fits_of.Given as goal
 
 -- each entry that was left out gives other bytes

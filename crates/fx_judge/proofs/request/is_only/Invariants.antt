@@ -1,5 +1,4 @@
-use Rattle.std.proofs.Common.{◌≡◌, ℕ, ◌<◌, Some}
-use Rattle.fx_base.specs.Catalogue.{name_at}
+use Rattle.fx_judge.proofs.Words.{◌≡◌, ℕ, ◌<◌, Some, name_at}
 use Rattle.fx_judge.proofs.request.is_only.Given as goal
 
 -- no other one of those that were looked at has the name

@@ -1,5 +1,4 @@
-use Rattle.std.proofs.Common.{◌≡◌, drop}
-use Rattle.std.specs.List.{list_any}
+use Rattle.fx_judge.proofs.Words.{◌≡◌, drop, list_any}
 use Rattle.fx_judge.proofs.strand.has_range.Given as goal
 
 -- whether there is one is told by the cells that are left

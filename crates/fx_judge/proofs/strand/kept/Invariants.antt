@@ -1,5 +1,4 @@
-use Rattle.std.proofs.Common.{◌≡◌, take, filter}
-use Rattle.fx_judge.specs.Strands.{keeps}
+use Rattle.fx_judge.proofs.Words.{◌≡◌, take, filter, keeps}
 use Rattle.fx_judge.proofs.strand.kept.Given as goal
 
 abbrev pub invariant-loop-claim : goal.invariant-loop-claim

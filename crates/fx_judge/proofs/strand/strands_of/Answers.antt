@@ -1,7 +1,4 @@
-use Rattle.std.proofs.Common.{◌≡◌, ◌∙◌, ℕ, List, length, refl, sym, ap, subst, arith, filter}
-use Rattle.std.proofs.lemmas.Option.{slice_get_read}
-use Rattle.fx_judge.specs.Strands.{AreStrands, keeps}
-use Rattle.fx_judge.specs.declared.strand.Strand.{Strand}
+use Rattle.fx_judge.proofs.Words.{◌≡◌, ◌∙◌, ℕ, List, length, refl, sym, ap, subst, arith, filter, slice_get_read, AreStrands, keeps, Strand}
 use Rattle.fx_judge.proofs.StrandSteps.{SoFar, none_yet, one_more}
 use Rattle.fx_judge.proofs.strand.strands_of.Goals as goal
 

@@ -1,9 +1,5 @@
-use Rattle.std.proofs.Common.{◌≡◌, ◌∙◌, ℕ, zero, suc, ℤ, pos, negsuc, int_le, int_lt, true, false, refl, sym, subst, arith, to_z, of_z, w32}
-use Rattle.std.proofs.lemmas.Int.{to_z-of_z}
-use Rattle.std.proofs.lemmas.Bool.{le-leb}
-use Rattle.fx_base.specs.declared.open_file.Closed.{Closed}
-use Rattle.fx_chain.proofs.EntryKinds.{unsigned, minus_one}
-use Rattle.fx_judge.specs.Claims.{IsResident}
+use Rattle.fx_judge.proofs.Words.{◌≡◌, ◌∙◌, ℕ, zero, suc, ℤ, pos, negsuc, int_le, int_lt, true, false, refl, sym, subst, arith, to_z, of_z, w32}
+use Rattle.fx_judge.proofs.Words.{to_z-of_z, le-leb, Closed, unsigned, minus_one, IsResident}
 use Rattle.fx_judge.proofs.Entries.{installs_one, empties_one, skips_one}
 use Rattle.fx_judge.proofs.update.claim_of_entry.Goals as goal
 

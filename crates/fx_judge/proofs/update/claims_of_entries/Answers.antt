@@ -1,11 +1,5 @@
-use Rattle.std.proofs.Common.{◌≡◌, ◌∙◌, ◌+◌, ◌++◌, List, ℤ, pos, sym, ap, subst, rules, to_z, of_z, w32, slice_index_or, Option, Some, None}
-use Rattle.std.proofs.lemmas.List.{append-nil}
-use Rattle.std.specs.Global.{Vec}
-use Rattle.std.specs.List.{AllZip}
-use Rattle.std.specs.Option.{option_to_list}
-use Rattle.fx_order.specs.Requests.{IsEntryDone}
-use Rattle.fx_judge.specs.Claims.{Fits}
-use Rattle.fx_judge.specs.declared.claim.Claim.{Claim}
+use Rattle.fx_judge.proofs.Words.{◌≡◌, ◌∙◌, ◌+◌, ◌++◌, List, ℤ, pos, sym, ap, subst, rules, to_z, of_z, w32, slice_index_or, Option, Some, None}
+use Rattle.fx_judge.proofs.Words.{append-nil, Vec, AllZip, option_to_list, IsEntryDone, Fits, Claim}
 use Rattle.fx_judge.proofs.Entries.{EntriesTold, none_told, one_more, all_told}
 use Rattle.fx_judge.proofs.update.claims_of_entries.Goals.{in-Some+in_ok-push, in_default}
 use Rattle.fx_judge.proofs.update.claims_of_entries.Goals as goal

@@ -1,8 +1,5 @@
-use Rattle.std.proofs.Common.{◌≡◌, ◌∙◌, ◌+◌, ◌==◌, ◌||◌, nat_lt, ℕ, Bool, true, false, length, sym, ap}
-use Rattle.std.specs.List.{list_any}
-use Rattle.fx_chain.specs.Answers.{is_bad_entry}
-use Rattle.std.proofs.lemmas.Bool.{le-ltb}
-use Rattle.fx_chain.specs.Completed.{completed_of}
+use Rattle.fx_judge.proofs.Words.{◌≡◌, ◌∙◌, ◌+◌, ◌==◌, ◌||◌, nat_lt, ℕ, Bool, true, false, length, sym, ap, list_any, is_bad_entry, le-ltb}
+use Rattle.fx_judge.proofs.Words.{completed_of}
 use Rattle.fx_judge.proofs.RequestClaims.{update_none, update_past, update_bad, update_here, outside}
 use Rattle.fx_judge.proofs.update.claims_of_update.Goals.{then-is_empty-via-then-is_empty, then-is_empty-via-else-is_empty+then-off-list}
 use Rattle.fx_judge.proofs.update.claims_of_update.Goals as goal

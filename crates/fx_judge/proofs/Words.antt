@@ -1,0 +1,86 @@
+-- The names that most proofs of this crate use.
+pub use Rattle.fx_base.specs.AddFault.{has_name}
+pub use Rattle.fx_base.specs.Catalogue.{FileEntry, name_at}
+pub use Rattle.fx_base.specs.CloseList.{IsInOrderOfMark}
+pub use Rattle.fx_base.specs.declared.errno.Errno.{Errno}
+pub use Rattle.fx_base.specs.declared.errno.Errno.TheVariants.{EAGAIN, EBADF, EBUSY, ECANCELED, EINVAL, EMFILE, ENFILE, ENOENT, ENOMEM, ENXIO}
+pub use Rattle.fx_base.specs.declared.open_file.Closed.{Closed}
+pub use Rattle.fx_chain.proofs.EntryKinds.{minus_one, unsigned}
+pub use Rattle.fx_chain.specs.Accepted.{IsAccepted, members_of}
+pub use Rattle.fx_chain.specs.Answers.{installed, is_bad_entry}
+pub use Rattle.fx_chain.specs.Completed.{Completed, all_completed, completed, completed_of, next_member, refusal}
+pub use Rattle.fx_chain.specs.Explains.{canceled, first_member, severs}
+pub use Rattle.fx_chain.specs.Operation.{Asked, Opens, all_asked, asked_of}
+pub use Rattle.fx_chain.specs.Runs.{runs_of}
+pub use Rattle.fx_chain.specs.declared.chain.Chain.{Chain}
+pub use Rattle.fx_chain.specs.declared.completion.Completion.{Completion}
+pub use Rattle.fx_chain.specs.declared.completion.Place.{Place}
+pub use Rattle.fx_chain.specs.declared.request.Request.{Request}
+pub use Rattle.fx_chain.specs.declared.request.Target.{Target}
+pub use Rattle.fx_chain.specs.declared.request.Target.TheVariants.{Any, Slot}
+pub use Rattle.fx_judge.specs.Chains.{AreDone, TellsChains, TellsMember}
+pub use Rattle.fx_judge.specs.Claims.{AreClaims, Fits, IsLeft, IsPossible, IsResident, Possibly, Tells, Wanted, found_by, left_by, touched}
+pub use Rattle.fx_judge.specs.Dead.{IsHopeless, NoneHelps, may_find, no_help}
+pub use Rattle.fx_judge.specs.Machine.{Ends, HasNoEnd, IsEnd, IsExplored, Standing, StepLeadsInside, allows, cell_at, cell_with, cells_after}
+pub use Rattle.fx_judge.specs.Machine.{claim_at, is_same, is_staying, is_taken, is_test, made, may_leave, may_stay, next, suits, view, views}
+pub use Rattle.fx_judge.specs.Machine.{with_cell}
+pub use Rattle.fx_judge.specs.Played.{HasNoOrder, IsCell, IsOutcome, IsPlayed, ShowsFile}
+pub use Rattle.fx_judge.specs.Starts.{starting}
+pub use Rattle.fx_judge.specs.Strands.{AreStrands, has_slot, keeps, seen, slot_of, strand_for}
+pub use Rattle.fx_judge.specs.Verdict.{CameBy, IsRefuted, IsToldOutcome, ring_with_slots, told_report}
+pub use Rattle.fx_judge.specs.declared.cell.Cell.{Cell}
+pub use Rattle.fx_judge.specs.declared.chain.MemberClaims.{MemberClaims}
+pub use Rattle.fx_judge.specs.declared.claim.Claim.{Claim}
+pub use Rattle.fx_judge.specs.declared.claim.Claim.TheVariants.{At, Full}
+pub use Rattle.fx_judge.specs.declared.claim.Leaves.{Leaves}
+pub use Rattle.fx_judge.specs.declared.claim.Leaves.TheVariants.{Empty, File, Same}
+pub use Rattle.fx_judge.specs.declared.claim.Resident.{Resident}
+pub use Rattle.fx_judge.specs.declared.claim.Wants.{Wants}
+pub use Rattle.fx_judge.specs.declared.claim.Wants.TheVariants.{Anything, Bytes, Nothing, NothingToTake, Something}
+pub use Rattle.fx_judge.specs.declared.node.Node.{Node}
+pub use Rattle.fx_judge.specs.declared.part.Outcome.{Outcome}
+pub use Rattle.fx_judge.specs.declared.part.Outcome.TheVariants.{Order, Unsettled}
+pub use Rattle.fx_judge.specs.declared.stop.Stop.{Stop}
+pub use Rattle.fx_judge.specs.declared.stop.Stop.TheVariants.{NoMemory, Refuted, Unknown}
+pub use Rattle.fx_judge.specs.declared.strand.Strand.{Strand}
+pub use Rattle.fx_judge.specs.declared.told.RingSlots.{RingSlots}
+pub use Rattle.fx_judge.specs.declared.told.Told.{Told}
+pub use Rattle.fx_order.proofs.Histories.{each_order_is_a_history}
+pub use Rattle.fx_order.proofs.OneRing.{no_file_that_stays_is_closed}
+pub use Rattle.fx_order.proofs.Ordered.{ring_after, same_outline}
+pub use Rattle.fx_order.proofs.Shown.{NonePast, ring_with_files, shows_ring}
+pub use Rattle.fx_order.specs.Access.{IsInRange, Permits, PermitsAll, Table, access_of, accesses_of, accesses_of_chain, removed_by, removed_in}
+pub use Rattle.fx_order.specs.Access.{table_after, table_with}
+pub use Rattle.fx_order.specs.Order.{IsOneOrder, table_of}
+pub use Rattle.fx_order.specs.Requests.{AreChainsDone, AreEntriesDone, IsChainDone, IsCloseDone, IsEntryDone, IsOpenDone, IsReadDone, IsRefused}
+pub use Rattle.fx_order.specs.Requests.{IsRequestDone, IsUpdateDone, Makes, gives}
+pub use Rattle.fx_order.specs.Slots.{table_of_slots}
+pub use Rattle.fx_order.specs.declared.access.Access.{Access}
+pub use Rattle.fx_order.specs.declared.access.Access.TheVariants.{Allocates, Clears, FindsFull, Looks, Puts, Takes}
+pub use Rattle.fx_order.specs.declared.access.ChainAccess.{ChainAccess}
+pub use Rattle.fx_plain.proofs.Cells.{by_equality, unchanged}
+pub use Rattle.fx_plain.specs.Step.{changed_at}
+pub use Rattle.fx_ring.proofs.Rings.{none_rings}
+pub use Rattle.fx_ring.proofs.SubmittedRing.{submitted_rings}
+pub use Rattle.fx_ring.specs.Ring.{IsRing, RingState, ring_of}
+pub use Rattle.fx_ring.specs.Submission.{Reported}
+pub use Rattle.fx_table.proofs.Members.{contains_head, contains_tail}
+pub use Rattle.std.proofs.Common.{All, Bool, Contains, Err, IfOk, IsPermutation, IsSome, IsTrue, List, None, Ok, Option, Result, Some, [], ap}
+pub use Rattle.std.proofs.Common.{append_assoc, arith, cond, drop, drop-cons, eq-eqb, false, filter, get_or, if◌then◌else◌, inl, inr, int_le, int_lt}
+pub use Rattle.std.proofs.Common.{is_some, length, length-append, map, nat_abs, nat_lt, negsuc, not, of_z, option_copied, pos, refl, replicate, rules}
+pub use Rattle.std.proofs.Common.{slice_get, slice_index, slice_index_or, slice_set, subst, suc, sym, take, to_z, true, w32, zero, ℕ, ℤ, ⊎_elim, ◌&&◌}
+pub use Rattle.std.proofs.Common.{◌++◌, ◌+◌, ◌<◌, ◌==◌, ◌||◌, ◌∙◌, ◌∷◌, ◌≡◌, ◌≢◌, ◌≤◌, ◌⊎◌}
+pub use Rattle.std.proofs.Math.ListN.{get_or-eq_default}
+pub use Rattle.std.proofs.lemmas.Bool.{MatchBool-at_false, MatchBool-at_true, cases_lt, le-leb, le-ltb, lt-leb, lt-ltb}
+pub use Rattle.std.proofs.lemmas.Int.{to_z-of_z}
+pub use Rattle.std.proofs.lemmas.List.{append-nil, get_or-map, get_or-replicate, get_or-set_other, get_or-set_same, get_or_default, length-map}
+pub use Rattle.std.proofs.lemmas.List.{length-replicate, length-set, take_all}
+pub use Rattle.std.proofs.lemmas.List.Elements.{All-contains, All-contains_itself, All-head, All-map, All-more, All-tail, All-weaker}
+pub use Rattle.std.proofs.lemmas.List.Elements.{Contains-append_right}
+pub use Rattle.std.proofs.lemmas.List.Sorted.{All-permutation, IsPermutation-sym}
+pub use Rattle.std.proofs.lemmas.Option.{slice_get_read, slice_get_within}
+pub use Rattle.std.specs.Bool.{MatchBool}
+pub use Rattle.std.specs.Global.{Vec}
+pub use Rattle.std.specs.List.{AllByRecursion, AllZip, list_all, list_any}
+pub use Rattle.std.specs.Option.{option_to_list}
+pub use Rattle.std.specs.Prelude.{option_and_then}
