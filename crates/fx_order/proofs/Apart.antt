@@ -1,8 +1,6 @@
 -- Where no mark is placed twice, and none that is in the table, what was removed isn't there afterwards, and was removed once.
-use Rattle.std.proofs.Common.{◌≡◌, ◌≢◌, ◌⊎◌, inl, inr, ⊎_elim, ℕ, List, [], ◌∷◌, ◌++◌, sym, ◌∙◌, Some}
-use Rattle.fx_base.specs.declared.open_file.Closed.{Closed}
-use Rattle.fx_order.specs.Access.{Table, Looks, Puts, Clears, Takes, Allocates, FindsFull, Permits, PermitsAll, table_with, table_after, removed_by}
-use Rattle.fx_order.specs.declared.access.Access.{Access}
+use Rattle.fx_order.proofs.Words.{◌≡◌, ◌≢◌, ◌⊎◌, inl, inr, ⊎_elim, ℕ, List, [], ◌∷◌, ◌++◌, sym, ◌∙◌, Some, Closed, Table, Looks, Puts, Clears, Takes}
+use Rattle.fx_order.proofs.Words.{Allocates, FindsFull, Permits, PermitsAll, table_with, table_after, removed_by, Access}
 use Rattle.fx_order.proofs.Placed.{Has, Removes, emptied, has_left, has_right, left_from, placed, placed_by, removed_from, step_from}
 
 -- no mark is placed twice

@@ -1,7 +1,7 @@
 -- What the first member of a chain made stands at the front of what the chain made.
 use Rattle.fx_order.proofs.Words.{◌≡◌, ◌↔◌, ℕ, ◌+◌, Bool, true, false, IsTrue, List, [], ◌∷◌, ◌++◌, length, take, drop, refl, sym, ap, subst, ◌∙◌}
-use Rattle.fx_order.proofs.Words.{arith, min, MatchBool, when_false, take-append-drop, length-append, take-append_seam, drop-append_seam}
-use Rattle.fx_order.proofs.Words.{FileEntry, Completed, next_member, canceled, severs, Asked, Place, Access, IsChainDone, IsRequestDone}
+use Rattle.fx_order.proofs.Words.{arith, min, MatchBool, when_false, take-append-drop, length-append, take-append_seam, drop-append_seam, FileEntry}
+use Rattle.fx_order.proofs.Words.{Completed, next_member, canceled, severs, Asked, Place, Access, IsChainDone, IsRequestDone}
 
 -- the first part of a list of a known length
 pub front_is : {X : Type 0} (xs ys zs : List X) (n : ℕ) → zs ≡ xs ++ ys → length xs ≡ n → (take n zs ≡ xs) × (drop n zs ≡ ys)

@@ -5,12 +5,9 @@ use Rattle.fx_order.proofs.Words.{All-map, All-weaker, sum_by-cons, FileEntry, h
 use Rattle.fx_order.proofs.Words.{IsAccepted, IsChain, members_of, is_bad_entry, Completed, next_member, severs, first_member, Operation, Opens}
 use Rattle.fx_order.proofs.Words.{Reads, Closes, Updates, Asked, runs_of, Chain, Place, Target, Slot, Any, by_equality, accesses_of}
 use Rattle.fx_order.proofs.Words.{accesses_of_chain, Access, ChainAccess, IsRefused, IsOpenDone, IsReadDone, IsCloseDone, IsEntryDone, AreEntriesDone}
-use Rattle.fx_order.proofs.Words.{IsUpdateDone, IsRequestDone, IsChainDone, AreChainsDone}
-use Rattle.fx_chain.specs.Chains.{chains_of}
-use Rattle.fx_chain.specs.Weights.{entry_installs, list_installs, installs_of, all_installs}
-use Rattle.fx_chain.proofs.Chains.{accepted-chains, members-are-runs}
-use Rattle.fx_chain.proofs.EntryKinds.{list_installs-cons}
-use Rattle.fx_ring.proofs.Parts.{has, lacks, kept_lacking, within_lacking, none_within}
+use Rattle.fx_order.proofs.Words.{IsUpdateDone, IsRequestDone, IsChainDone, AreChainsDone, chains_of, entry_installs, list_installs, installs_of}
+use Rattle.fx_order.proofs.Words.{all_installs, accepted-chains, members-are-runs, list_installs-cons, has, lacks, kept_lacking, within_lacking}
+use Rattle.fx_order.proofs.Words.{none_within}
 use Rattle.fx_order.proofs.AtOnce.{installs}
 use Rattle.fx_order.proofs.Made.{installs_in}
 

@@ -3,8 +3,7 @@ use Rattle.fx_order.proofs.Words.{◌≡◌, inl, inr, ℕ, zero, suc, ◌+◌, 
 use Rattle.fx_order.proofs.Words.{ap, subst, ◌∙◌, append_assoc, arith, All, Contains, slice_index_or, append-nil, map-append, All-head, All-tail}
 use Rattle.fx_order.proofs.Words.{Contains-append_cases, filter-append, Event, Action, State, IsSettled, ◌▷▷◌, action_of, part_of_chain, AllowsAll}
 use Rattle.fx_order.proofs.Words.{Leads, AllReleaseTheirOwn, state_after, closes_in, by_equality, Table, PermitsAll, access_of, accesses_of}
-use Rattle.fx_order.proofs.Words.{accesses_of_chain, removed_in, table_after, Access, ChainAccess}
-use Rattle.fx_plain.proofs.Leading.{leads_then, closes_in-then}
+use Rattle.fx_order.proofs.Words.{accesses_of_chain, removed_in, table_after, Access, ChainAccess, leads_then, closes_in-then}
 use Rattle.fx_order.proofs.Accesses.{shown}
 use Rattle.fx_order.proofs.AtOnce.{Does, Done, by, done, installs}
 use Rattle.fx_order.proofs.Ordered.{IsWithin}

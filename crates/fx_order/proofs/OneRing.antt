@@ -1,29 +1,10 @@
 -- One report of a submission leads to one ring, and what it closes is known.
-use Rattle.std.proofs.Common.{◌≡◌, ◌≢◌, inl, inr, ⊎_elim, ℕ, zero, suc, ◌+◌, ◌≤◌, Bool, true, false, cond, List, [], ◌∷◌, ◌++◌, length}
-use Rattle.std.proofs.Common.{refl, sym, ap, subst, ◌∙◌, arith, Option, Some, None, All, Contains, slice_get, slice_index_or}
-use Rattle.std.specs.List.{sum_by}
-use Rattle.std.proofs.lemmas.List.Elements.{All-map, All-weaker}
-use Rattle.std.specs.Option.{option_to_list}
-use Rattle.std.proofs.lemmas.List.Sums.{sum_by-cons}
-use Rattle.std.proofs.lemmas.List.Sorted.{sum_by-IsPermutation, Contains-permutation, IsPermutation-sym}
-use Rattle.fx_base.specs.Catalogue.{IsCatalogue}
-use Rattle.fx_base.specs.declared.mark.Mark.{Mark}
-use Rattle.fx_base.specs.declared.mark.Mark.TheVariants.{Registered, Submitted}
-use Rattle.fx_base.specs.declared.open_file.Closed.{Closed}
-use Rattle.fx_chain.specs.Accepted.{IsAccepted, IsChain, members_of}
-use Rattle.fx_chain.specs.Chains.{chains_of}
-use Rattle.fx_chain.specs.Explains.{first_member}
-use Rattle.fx_chain.specs.Operation.{Asked}
-use Rattle.fx_chain.specs.Runs.{runs_of}
-use Rattle.fx_chain.specs.declared.chain.Chain.{Chain}
-use Rattle.fx_chain.proofs.Chains.{accepted-chains, members-are-runs}
-use Rattle.fx_ring.specs.Ring.{RingState, IsRing, HasCounted}
-use Rattle.fx_ring.specs.Submission.{Reported}
-use Rattle.fx_order.specs.Access.{table_after, removed_by, removed_in, accesses_of, accesses_of_chain}
-use Rattle.fx_order.specs.Laws.{AreKnown, IsOfNext}
-use Rattle.fx_order.specs.Order.{IsOneOrder, IsOrderOf, table_of}
-use Rattle.fx_order.specs.declared.access.Access.{Access}
-use Rattle.fx_order.specs.declared.access.ChainAccess.{ChainAccess}
+use Rattle.fx_order.proofs.Words.{◌≡◌, ◌≢◌, inl, inr, ⊎_elim, ℕ, zero, suc, ◌+◌, ◌≤◌, Bool, true, false, cond, List, [], ◌∷◌, ◌++◌, length, refl, sym}
+use Rattle.fx_order.proofs.Words.{ap, subst, ◌∙◌, arith, Option, Some, None, All, Contains, slice_get, slice_index_or, sum_by, All-map, All-weaker}
+use Rattle.fx_order.proofs.Words.{option_to_list, sum_by-cons, sum_by-IsPermutation, Contains-permutation, IsPermutation-sym, IsCatalogue, Mark}
+use Rattle.fx_order.proofs.Words.{Registered, Submitted, Closed, IsAccepted, IsChain, members_of, chains_of, first_member, Asked, runs_of, Chain}
+use Rattle.fx_order.proofs.Words.{accepted-chains, members-are-runs, RingState, IsRing, HasCounted, Reported, table_after, removed_by, removed_in}
+use Rattle.fx_order.proofs.Words.{accesses_of, accesses_of_chain, AreKnown, IsOfNext, IsOneOrder, IsOrderOf, table_of, Access, ChainAccess}
 use Rattle.fx_order.proofs.Apart.{IsApart, RemovesOnce, removed_is_gone, removes_once}
 use Rattle.fx_order.proofs.Placed.{Has, Removes, contains_removed, left_from, left_or_removed, placed, removed_from, removes_contained}
 use Rattle.fx_order.proofs.PlacedNew.{AnyPlace, InLimits, IsOfMembers, OwnOf, ReachesAll, chain_places, has_in_chain, has_of_chain, order_places_once, reaches_all_any, reaches_all_limits}

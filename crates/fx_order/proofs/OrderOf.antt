@@ -1,8 +1,7 @@
 -- An order whose parts were looked through, and the ring that it leaves.
 use Rattle.fx_order.proofs.Words.{◌≡◌, ◌↔◌, ℕ, ◌+◌, Bool, IsTrue, List, length, map, sym, ap, subst, ◌∙◌, length-map, FileEntry, members_of}
 use Rattle.fx_order.proofs.Words.{all_completed, Asked, runs_of, Chain, Completion, table_after, accesses_of, ring_left, AreChainsDone, ring_of_slots}
-use Rattle.fx_order.proofs.Words.{table_of_slots, ChainAccess}
-use Rattle.fx_order.specs.declared.slots.Slots.{Slots}
+use Rattle.fx_order.proofs.Words.{table_of_slots, ChainAccess, Slots}
 use Rattle.fx_order.proofs.Ordered.{ring_after, same_outline}
 
 -- the chains that were cut are the submission's

@@ -3,8 +3,7 @@ use Rattle.fx_order.proofs.Words.{◌≡◌, ℕ, ◌+◌, ◌≤◌, List, [], 
 use Rattle.fx_order.proofs.Words.{All-nil, All-cons, All-append, IsPermutation-trans, Closed, Event, Action, State, opening, state_of, action_of}
 use Rattle.fx_order.proofs.Words.{closes_in, numbers_for, Asked, runs_of, RingContents, RingState, ring_of, IsOneHistory, Reported, Table, Looks}
 use Rattle.fx_order.proofs.Words.{Puts, Clears, Takes, Allocates, FindsFull, PermitsAll, table_with, Access, ChainAccess, table_after, removed_in}
-use Rattle.fx_order.proofs.Words.{accesses_of, IsOneOrder, table_of}
-use Rattle.fx_table.proofs.Members.{contains_head, contains_tail}
+use Rattle.fx_order.proofs.Words.{accesses_of, IsOneOrder, table_of, contains_head, contains_tail}
 use Rattle.fx_order.proofs.Begins.{opening_is_start}
 use Rattle.fx_order.proofs.Accesses.{shown, accesses_by, accesses_in, order_in, by_chain, accesses_of-order_in, permitted_along, shown-opening}
 use Rattle.fx_order.proofs.Requests.{all_explained}

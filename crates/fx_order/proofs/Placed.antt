@@ -1,12 +1,8 @@
 -- What accesses place at slots, what is at the slots then, and what they removed.
-use Rattle.std.proofs.Common.{◌≡◌, ◌≢◌, ◌⊎◌, inl, inr, ⊎_elim, ℕ, ◌<◌, List, [], ◌∷◌, ◌++◌, Contains, refl, sym, ap, ◌∙◌, subst, append_assoc, arith, Option, Some, None, if◌then◌else◌}
-use Rattle.std.specs.Option.{option_to_list}
-use Rattle.std.proofs.lemmas.List.Elements.{Contains-append_right}
-use Rattle.fx_base.specs.declared.open_file.Closed.{Closed}
-use Rattle.fx_plain.proofs.Cells.{by_equality}
-use Rattle.fx_table.proofs.Members.{contains_none, contains_head, contains_cases}
-use Rattle.fx_order.specs.Access.{Table, Looks, Puts, Clears, Takes, Allocates, FindsFull, Permits, PermitsAll, table_with, table_after, removed_by, removed_in}
-use Rattle.fx_order.specs.declared.access.Access.{Access}
+use Rattle.fx_order.proofs.Words.{◌≡◌, ◌≢◌, ◌⊎◌, inl, inr, ⊎_elim, ℕ, ◌<◌, List, [], ◌∷◌, ◌++◌, Contains, refl, sym, ap, ◌∙◌, subst, append_assoc}
+use Rattle.fx_order.proofs.Words.{arith, Option, Some, None, if◌then◌else◌, option_to_list, Contains-append_right, Closed, by_equality, contains_none}
+use Rattle.fx_order.proofs.Words.{contains_head, contains_cases, Table, Looks, Puts, Clears, Takes, Allocates, FindsFull, Permits, PermitsAll}
+use Rattle.fx_order.proofs.Words.{table_with, table_after, removed_by, removed_in, Access}
 
 -- the file that an access places, with its slot
 abbrev pub placed_by : Access → List (ℕ × Closed)

@@ -1,35 +1,12 @@
 -- What a submission places: files of the catalogue without a tag, with marks of its own, and no mark twice.
-use Rattle.std.proofs.Common.{◌≡◌, ◌≢◌, inl, inr, ⊎_elim, ℕ, zero, suc, ◌+◌, ◌<◌, ◌≤◌, ◌==◌, ◌||◌, nat_le, nat_lt, ℤ, pos, negsuc, Bool, true, false, cond}
-use Rattle.std.proofs.Common.{List, [], ◌∷◌, ◌++◌, filter, length, refl, sym, ap, subst, ◌∙◌, arith, Some, None, option_map, All, eq-eqb}
-use Rattle.std.specs.Bool.{MatchBool}
-use Rattle.std.specs.List.{list_any}
-use Rattle.std.proofs.lemmas.Bool.{cases_lt, leb-false, ltb-false}
-use Rattle.std.proofs.lemmas.Option.{slice_get_past}
-use Rattle.std.proofs.lemmas.List.Elements.{All-head, All-tail}
-use Rattle.fx_base.specs.AddFault.{has_name}
-use Rattle.fx_base.specs.Catalogue.{FileEntry, name_at}
-use Rattle.fx_base.specs.declared.errno.Errno.{Errno}
-use Rattle.fx_base.specs.declared.errno.Errno.TheVariants.{ENOENT, ENXIO, EBADF, ENOMEM, EINVAL, ENFILE}
-use Rattle.fx_base.specs.declared.mark.Mark.TheVariants.{Submitted}
-use Rattle.fx_base.specs.declared.open_file.Closed.{Closed}
-use Rattle.fx_chain.specs.Accepted.{IsWithinLimits}
-use Rattle.fx_chain.specs.Answers.{installed, is_bad_entry}
-use Rattle.fx_chain.specs.Completed.{Completed, next_member}
-use Rattle.fx_chain.specs.Explains.{severs, first_member}
-use Rattle.fx_chain.specs.Faults.{is_long_update}
-use Rattle.fx_chain.specs.declared.fault.TheConstants.{MOST_MEMBERS}
-use Rattle.fx_chain.specs.declared.request.TheConstants.{LONGEST_UPDATE}
-use Rattle.fx_chain.specs.Operation.{Operation, Opens, Reads, Closes, Updates, Asked}
-use Rattle.fx_chain.specs.declared.completion.Place.{Place}
-use Rattle.fx_chain.specs.declared.request.Target.{Target}
-use Rattle.fx_chain.specs.declared.request.Target.TheVariants.{Slot, Any}
-use Rattle.fx_plain.proofs.Cells.{by_equality}
-use Rattle.fx_ring.proofs.Numbers.{or_left, or_right}
-use Rattle.fx_order.specs.Access.{accesses_of, accesses_of_chain}
-use Rattle.fx_order.specs.declared.access.Access.{Access}
-use Rattle.fx_order.specs.declared.access.ChainAccess.{ChainAccess}
-use Rattle.fx_order.specs.Requests.{IsRefused, IsOpenDone, IsReadDone, IsCloseDone, IsEntryDone, AreEntriesDone, IsUpdateDone, IsRequestDone}
-use Rattle.fx_order.specs.Requests.{IsChainDone, AreChainsDone}
+use Rattle.fx_order.proofs.Words.{◌≡◌, ◌≢◌, inl, inr, ⊎_elim, ℕ, zero, suc, ◌+◌, ◌<◌, ◌≤◌, ◌==◌, ◌||◌, nat_le, nat_lt, ℤ, pos, negsuc, Bool, true}
+use Rattle.fx_order.proofs.Words.{false, cond, List, [], ◌∷◌, ◌++◌, filter, length, refl, sym, ap, subst, ◌∙◌, arith, Some, None, option_map, All}
+use Rattle.fx_order.proofs.Words.{eq-eqb, MatchBool, list_any, cases_lt, leb-false, ltb-false, slice_get_past, All-head, All-tail, has_name}
+use Rattle.fx_order.proofs.Words.{FileEntry, name_at, Errno, ENOENT, ENXIO, EBADF, ENOMEM, EINVAL, ENFILE, Submitted, Closed, IsWithinLimits}
+use Rattle.fx_order.proofs.Words.{installed, is_bad_entry, Completed, next_member, severs, first_member, is_long_update, MOST_MEMBERS, LONGEST_UPDATE}
+use Rattle.fx_order.proofs.Words.{Operation, Opens, Reads, Closes, Updates, Asked, Place, Target, Slot, Any, by_equality, or_left, or_right}
+use Rattle.fx_order.proofs.Words.{accesses_of, accesses_of_chain, Access, ChainAccess, IsRefused, IsOpenDone, IsReadDone, IsCloseDone, IsEntryDone}
+use Rattle.fx_order.proofs.Words.{AreEntriesDone, IsUpdateDone, IsRequestDone, IsChainDone, AreChainsDone}
 use Rattle.fx_order.proofs.Apart.{PlacesOnce, once_between}
 use Rattle.fx_order.proofs.Placed.{Has, has_either, has_left, has_right, placed, placed_by, placed-append}
 

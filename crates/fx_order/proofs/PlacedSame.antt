@@ -1,24 +1,10 @@
 -- What answers of a submission tell of what was placed: two orders with one list of completions place the same files at the same slots.
-use Rattle.std.proofs.Common.{◌≡◌, inl, inr, ℕ, zero, suc, ◌+◌, ◌<◌, ◌≤◌, ◌==◌, ◌||◌, nat_le, nat_lt, ℤ, pos, negsuc, Bool, true, false}
-use Rattle.std.proofs.Common.{List, [], ◌∷◌, ◌++◌, length, refl, sym, ap, subst, ◌∙◌, arith}
-use Rattle.std.specs.Bool.{MatchBool}
-use Rattle.std.specs.List.{list_any}
-use Rattle.std.proofs.lemmas.Bool.{false≢true}
-use Rattle.fx_base.specs.AddFault.{has_name}
-use Rattle.fx_base.specs.Catalogue.{FileEntry, IsCatalogue}
-use Rattle.fx_chain.specs.Answers.{installed, is_bad_entry}
-use Rattle.fx_chain.specs.Completed.{Completed, next_member}
-use Rattle.fx_chain.specs.Explains.{severs, first_member, canceled}
-use Rattle.fx_chain.specs.Operation.{Operation, Opens, Reads, Closes, Updates, Asked}
-use Rattle.fx_chain.specs.declared.completion.Place.{Place}
-use Rattle.fx_chain.specs.declared.request.Target.{Target}
-use Rattle.fx_chain.specs.declared.request.Target.TheVariants.{Slot, Any}
-use Rattle.fx_plain.proofs.Cells.{by_equality}
-use Rattle.fx_order.specs.Access.{accesses_of_chain}
-use Rattle.fx_order.specs.declared.access.Access.{Access}
-use Rattle.fx_order.specs.declared.access.ChainAccess.{ChainAccess}
-use Rattle.fx_order.specs.Requests.{IsOpenDone, IsReadDone, IsCloseDone, IsEntryDone, AreEntriesDone, IsUpdateDone, IsRequestDone}
-use Rattle.fx_order.specs.Requests.{IsChainDone, AreChainsDone}
+use Rattle.fx_order.proofs.Words.{◌≡◌, inl, inr, ℕ, zero, suc, ◌+◌, ◌<◌, ◌≤◌, ◌==◌, ◌||◌, nat_le, nat_lt, ℤ, pos, negsuc, Bool, true, false, List, []}
+use Rattle.fx_order.proofs.Words.{◌∷◌, ◌++◌, length, refl, sym, ap, subst, ◌∙◌, arith, MatchBool, list_any, false≢true, has_name, FileEntry}
+use Rattle.fx_order.proofs.Words.{IsCatalogue, installed, is_bad_entry, Completed, next_member, severs, first_member, canceled, Operation, Opens}
+use Rattle.fx_order.proofs.Words.{Reads, Closes, Updates, Asked, Place, Target, Slot, Any, by_equality, accesses_of_chain, Access, ChainAccess}
+use Rattle.fx_order.proofs.Words.{IsOpenDone, IsReadDone, IsCloseDone, IsEntryDone, AreEntriesDone, IsUpdateDone, IsRequestDone, IsChainDone}
+use Rattle.fx_order.proofs.Words.{AreChainsDone}
 use Rattle.fx_order.proofs.Placed.{placed, placed-append}
 
 -- both ways of a test

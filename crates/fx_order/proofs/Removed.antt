@@ -4,9 +4,8 @@ use Rattle.fx_order.proofs.Words.{None, if◌then◌else◌, arith, IsPermutatio
 use Rattle.fx_order.proofs.Words.{IsPermutation-cons, IsPermutation-to_front, IsPermutation-middle, IsPermutation-map, IsPermutation-pop_more}
 use Rattle.fx_order.proofs.Words.{option_to_list, Closed, File, Event, Action, Look, Release, Put, Clear, Take, Allocate, Full, Close, State}
 use Rattle.fx_order.proofs.Words.{IsSettled, Allows, after, with_removed, state_after, AllowsAll, action_of, closes_in, closed_by, IsStart}
-use Rattle.fx_order.proofs.Words.{identity_of, by_equality, removed_by, removed_in, Access}
-use Rattle.fx_plain.proofs.Named.{named, named_same}
-use Rattle.fx_plain.proofs.LawTallies.{present, placed_one, tally, tally_all, tally_start}
+use Rattle.fx_order.proofs.Words.{identity_of, by_equality, removed_by, removed_in, Access, named, named_same, present, placed_one, tally, tally_all}
+use Rattle.fx_order.proofs.Words.{tally_start}
 use Rattle.fx_order.proofs.Accesses.{accesses_in, accesses_by}
 
 abbrev identity : File → Closed

@@ -2,9 +2,7 @@
 use Rattle.fx_order.proofs.Words.{◌≡◌, inl, inr, ℕ, zero, suc, ◌<◌, ◌≤◌, List, [], ◌∷◌, length, refl, sym, ap, ◌∙◌, arith, Option, Some, None}
 use Rattle.fx_order.proofs.Words.{slice_index_or, if◌then◌else◌, cases_lt, Closed, Contents, state_of, file_at, placed_at, node_at, moved_node}
 use Rattle.fx_order.proofs.Words.{changed_at, identity_of, by_equality, RingContents, RingState, ring_of, Table, Looks, Puts, Clears, Takes}
-use Rattle.fx_order.proofs.Words.{Allocates, FindsFull, PermitsAll, table_with, table_after, Access}
-use Rattle.std.proofs.Math.ListN.{get_or-eq_default}
-use Rattle.fx_plain.specs.declared.node.Node.{Node}
+use Rattle.fx_order.proofs.Words.{Allocates, FindsFull, PermitsAll, table_with, table_after, Access, get_or-eq_default, Node}
 
 -- the first so many values of a function
 pub listed : {X : Type 0} → (ℕ → X) → ℕ → List X

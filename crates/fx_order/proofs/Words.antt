@@ -1,35 +1,49 @@
 -- The names that most proofs of this crate use.
 pub use Rattle.fx_base.specs.AddFault.{has_name}
-pub use Rattle.fx_base.specs.Catalogue.{FileEntry, name_at}
+pub use Rattle.fx_base.specs.Catalogue.{FileEntry, IsCatalogue, name_at}
 pub use Rattle.fx_base.specs.CloseList.{IsInOrderOfMark, mark_cmp}
+pub use Rattle.fx_base.specs.contracts.mark.MarkOrd.TheImpl.{ghosts}
 pub use Rattle.fx_base.specs.declared.errno.Errno.{Errno}
 pub use Rattle.fx_base.specs.declared.errno.Errno.TheVariants.{EAGAIN, EBADF, EBUSY, ECANCELED, EINVAL, EMFILE, ENFILE, ENOENT, ENOMEM, ENXIO}
 pub use Rattle.fx_base.specs.declared.mark.Mark.{Mark}
 pub use Rattle.fx_base.specs.declared.mark.Mark.TheVariants.{Registered, Submitted}
 pub use Rattle.fx_base.specs.declared.open_file.Closed.{Closed}
-pub use Rattle.fx_chain.specs.Accepted.{IsAccepted, IsChain, members_of}
+pub use Rattle.fx_chain.proofs.Asking.{asked_part}
+pub use Rattle.fx_chain.proofs.Chains.{accepted-chains, members-are-runs}
+pub use Rattle.fx_chain.proofs.EntryKinds.{list_installs-cons}
+pub use Rattle.fx_chain.specs.Accepted.{IsAccepted, IsChain, IsWithinLimits, members_of}
 pub use Rattle.fx_chain.specs.Answers.{Answers, AppliesEntry, AppliesList, Empties, MayClose, OpensAt, ReadsAt, ReadsFrom, Refuses, UpdatesFrom}
 pub use Rattle.fx_chain.specs.Answers.{installed, is_bad_entry}
+pub use Rattle.fx_chain.specs.Chains.{chains_of}
 pub use Rattle.fx_chain.specs.Completed.{Completed, all_completed, completed, completed_of, negated, next_member, refusal}
 pub use Rattle.fx_chain.specs.Explains.{Explains, canceled, first_member, severs}
+pub use Rattle.fx_chain.specs.Faults.{is_long_update}
 pub use Rattle.fx_chain.specs.Operation.{Asked, Closes, Opens, Operation, Reads, Updates, all_asked, asked_of, operation_of}
 pub use Rattle.fx_chain.specs.Runs.{runs_of}
+pub use Rattle.fx_chain.specs.Weights.{all_installs, entry_installs, installs_of, list_installs}
 pub use Rattle.fx_chain.specs.declared.chain.Chain.{Chain}
 pub use Rattle.fx_chain.specs.declared.completion.Completion.{Completion}
 pub use Rattle.fx_chain.specs.declared.completion.Place.{Place}
+pub use Rattle.fx_chain.specs.declared.fault.TheConstants.{MOST_MEMBERS}
 pub use Rattle.fx_chain.specs.declared.request.Op.{Op}
 pub use Rattle.fx_chain.specs.declared.request.Request.{Request}
 pub use Rattle.fx_chain.specs.declared.request.Target.{Target}
 pub use Rattle.fx_chain.specs.declared.request.Target.TheVariants.{Any, Slot}
+pub use Rattle.fx_chain.specs.declared.request.TheConstants.{LONGEST_UPDATE}
 pub use Rattle.fx_order.specs.Access.{Allocates, Clears, FindsFull, Looks, Permits, PermitsAll, Puts, Table, Takes, access_of, accesses_of}
 pub use Rattle.fx_order.specs.Access.{accesses_of_chain, removed_by, removed_in, table_after, table_with}
-pub use Rattle.fx_order.specs.Order.{IsOneOrder, ring_left, table_of}
+pub use Rattle.fx_order.specs.Laws.{AreKnown, IsOfNext}
+pub use Rattle.fx_order.specs.Order.{IsOneOrder, IsOrderOf, ring_left, table_of}
 pub use Rattle.fx_order.specs.Requests.{AreChainsDone, AreEntriesDone, IsChainDone, IsCloseDone, IsEntryDone, IsOpenDone, IsReadDone, IsRefused}
 pub use Rattle.fx_order.specs.Requests.{IsRequestDone, IsUpdateDone, Makes, gives}
 pub use Rattle.fx_order.specs.Slots.{ring_of_slots, table_of_slots}
 pub use Rattle.fx_order.specs.declared.access.Access.{Access}
 pub use Rattle.fx_order.specs.declared.access.ChainAccess.{ChainAccess}
+pub use Rattle.fx_order.specs.declared.slots.Slots.{Slots}
 pub use Rattle.fx_plain.proofs.Cells.{by_equality}
+pub use Rattle.fx_plain.proofs.LawTallies.{placed_one, present, tally, tally_all, tally_start}
+pub use Rattle.fx_plain.proofs.Leading.{closes_in-then, leads_then}
+pub use Rattle.fx_plain.proofs.Named.{named, named_same}
 pub use Rattle.fx_plain.specs.Contents.{Contents, file_at, moved_node, node_at, placed_at, state_of}
 pub use Rattle.fx_plain.specs.History.{AllReleaseTheirOwn, AllowsAll, Leads, action_of, close_of, closed_by, closes_in, held_by, part_of_chain}
 pub use Rattle.fx_plain.specs.History.{state_after, ◌▷▷◌, ◌▷◌}
@@ -41,25 +55,35 @@ pub use Rattle.fx_plain.specs.declared.event.Action.{Action}
 pub use Rattle.fx_plain.specs.declared.event.Action.TheVariants.{Allocate, Clear, Close, Full, Look, Put, Release, Take}
 pub use Rattle.fx_plain.specs.declared.event.Event.{Event}
 pub use Rattle.fx_plain.specs.declared.event.File.{File}
-pub use Rattle.fx_ring.specs.Ring.{HasClosed, RingContents, RingState, ring_of}
+pub use Rattle.fx_plain.specs.declared.node.Node.{Node}
+pub use Rattle.fx_ring.proofs.Numbers.{or_left, or_right}
+pub use Rattle.fx_ring.proofs.Parts.{has, kept_lacking, lacks, none_within, within_lacking}
+pub use Rattle.fx_ring.specs.Ring.{HasClosed, HasCounted, IsRing, RingContents, RingState, ring_of}
 pub use Rattle.fx_ring.specs.Submission.{ExplainsParts, IsOneHistory, Reported}
+pub use Rattle.fx_table.proofs.Members.{contains_cases, contains_head, contains_none, contains_tail}
 pub use Rattle.fx_table.specs.Numbers.{numbers_for}
 pub use Rattle.std.proofs.Common.{All, Bool, Contains, Decides, IfOk, IsPermutation, IsSome, IsTrue, List, None, Option, Result, Some, [], ap}
-pub use Rattle.std.proofs.Common.{append_assoc, arith, cond, drop, false, filter, if◌then◌else◌, inl, inr, int_le, length, map, min, nat_le, nat_lt}
-pub use Rattle.std.proofs.Common.{negsuc, not, of_z, pos, refl, rules, slice_index_or, subst, suc, sym, take, to_z, true, w32, zero, ℕ, ℤ, ◌&&◌, ◌*◌}
-pub use Rattle.std.proofs.Common.{◌++◌, ◌+◌, ◌-◌, ◌<◌, ◌==◌, ◌||◌, ◌↔◌, ◌∙◌, ◌∷◌, ◌≡◌, ◌≢◌, ◌≤◌, ◌⊎◌}
+pub use Rattle.std.proofs.Common.{append_assoc, arith, cond, drop, eq-eqb, false, filter, if◌then◌else◌, inl, inr, int_le, length, map, min, nat_le}
+pub use Rattle.std.proofs.Common.{nat_lt, negsuc, not, of_z, option_map, pos, refl, rules, slice_get, slice_index_or, subst, suc, sym, take, to_z}
+pub use Rattle.std.proofs.Common.{true, w32, zero, ℕ, ℤ, ⊎_elim, ◌&&◌, ◌*◌, ◌++◌, ◌+◌, ◌-◌, ◌<◌, ◌==◌, ◌||◌, ◌↔◌, ◌∙◌, ◌∷◌, ◌≡◌, ◌≢◌, ◌≤◌, ◌⊎◌}
+pub use Rattle.std.proofs.Math.ListN.{get_or-eq_default}
 pub use Rattle.std.proofs.Math.Seq.{drop-append_seam, split_at, take-append_seam, take-length}
-pub use Rattle.std.proofs.lemmas.Bool.{cases_lt, false≢true, le-ltb, lt-ltb}
+pub use Rattle.std.proofs.lemmas.Bool.{cases_lt, false≢true, le-ltb, leb-false, lt-ltb, ltb-false}
 pub use Rattle.std.proofs.lemmas.Bool.Decides.{Decides-and, Decides-eqb, Decides-like, nat_tests, when_false, when_true}
-pub use Rattle.std.proofs.lemmas.List.{append-nil, drop-map, length-append, length-map, map-append, take-append-drop, take-map, take_all, take_more}
+pub use Rattle.std.proofs.lemmas.List.{append-nil, drop-map, get_or-map, length-append, length-map, map-append, take-append-drop, take-map, take_all}
+pub use Rattle.std.proofs.lemmas.List.{take_more}
 pub use Rattle.std.proofs.lemmas.List.Elements.{All-append, All-cons, All-head, All-map, All-nil, All-tail, All-weaker, Contains-append_cases}
-pub use Rattle.std.proofs.lemmas.List.Elements.{filter-append}
-pub use Rattle.std.proofs.lemmas.List.Sorted.{IsPermutation-cons, IsPermutation-map, IsPermutation-middle, IsPermutation-more, IsPermutation-pop_more}
-pub use Rattle.std.proofs.lemmas.List.Sorted.{IsPermutation-refl, IsPermutation-sym, IsPermutation-to_front, IsPermutation-trans, length_permutation}
-pub use Rattle.std.proofs.lemmas.List.Sorted.{sum_by-IsPermutation}
+pub use Rattle.std.proofs.lemmas.List.Elements.{Contains-append_right, filter-append}
+pub use Rattle.std.proofs.lemmas.List.Sorted.{Contains-permutation, IsPermutation-cons, IsPermutation-map, IsPermutation-middle, IsPermutation-more}
+pub use Rattle.std.proofs.lemmas.List.Sorted.{IsPermutation-pop_more, IsPermutation-refl, IsPermutation-sym, IsPermutation-to_front}
+pub use Rattle.std.proofs.lemmas.List.Sorted.{IsPermutation-trans, length_permutation, sum_by-IsPermutation}
 pub use Rattle.std.proofs.lemmas.List.Sums.{sum_by-append, sum_by-cons}
+pub use Rattle.std.proofs.lemmas.Option.{slice_get_past}
 pub use Rattle.std.proofs.lemmas.Result.{IfOk-weaker}
 pub use Rattle.std.specs.Bool.{MatchBool}
+pub use Rattle.std.specs.Cmp.Lexicographic.{bytes_decides}
+pub use Rattle.std.specs.Global.{Vec}
 pub use Rattle.std.specs.List.{list_any, remove, sum_by}
 pub use Rattle.std.specs.Option.{option_to_list}
 pub use Rattle.std.specs.Ordering.{is_lt}
+pub use Rattle.std.specs.Str.{bytes_eq}

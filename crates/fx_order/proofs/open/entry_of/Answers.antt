@@ -1,6 +1,5 @@
 use Rattle.fx_order.proofs.Words.{◌≡◌, ℕ, zero, suc, Bool, true, false, ◌||◌, List, [], ◌∷◌, refl, sym, ap, ◌∙◌, Some, has_name, FileEntry, name_at}
-use Rattle.std.specs.Str.{bytes_eq}
-use Rattle.std.specs.Cmp.Lexicographic.{bytes_decides}
+use Rattle.fx_order.proofs.Words.{bytes_eq, bytes_decides}
 use Rattle.fx_order.proofs.open.entry_of.Goals as goal
 
 or_true : (b : Bool) → (b || true) ≡ true

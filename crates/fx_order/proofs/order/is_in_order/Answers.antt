@@ -1,6 +1,5 @@
 use Rattle.fx_order.proofs.Words.{◌≡◌, inl, inr, ℕ, zero, suc, ◌+◌, ◌-◌, ◌<◌, false, List, [], ◌∷◌, length, refl, sym, ap, ◌∙◌, arith, slice_index_or}
-use Rattle.fx_order.proofs.Words.{is_lt, cases_lt, mark_cmp, Mark, Registered, Submitted, Closed}
-use Rattle.fx_base.specs.contracts.mark.MarkOrd.TheImpl.{ghosts}
+use Rattle.fx_order.proofs.Words.{is_lt, cases_lt, mark_cmp, Mark, Registered, Submitted, Closed, ghosts}
 use Rattle.fx_order.proofs.order.is_in_order.Goals as goal
 
 -- the derived comparison is the one by cases

@@ -1,6 +1,6 @@
-use Rattle.fx_order.proofs.Words.{◌≡◌, ◌⊎◌, ◌↔◌, inl, inr, ℕ, ◌<◌, nat_le, Bool, IsTrue, List, [], ◌∷◌, sym, ap, subst, ◌∙◌, arith, Option, Some, None}
-use Rattle.fx_order.proofs.Words.{MatchBool, when_false, nat_tests, FileEntry, EBADF, ENOMEM, Closed, Completed, refusal, Place, Looks, IfOk-weaker}
-use Rattle.fx_order.proofs.Words.{false, Access, Makes, IsReadDone, IsRefused, gives}
+use Rattle.fx_order.proofs.Words.{◌≡◌, ◌⊎◌, ◌↔◌, inl, inr, ℕ, ◌<◌, nat_le, Bool, IsTrue, List, [], ◌∷◌, sym, ap, subst, ◌∙◌, arith, Option, Some}
+use Rattle.fx_order.proofs.Words.{None, MatchBool, when_false, nat_tests, FileEntry, EBADF, ENOMEM, Closed, Completed, refusal, Place, Looks}
+use Rattle.fx_order.proofs.Words.{IfOk-weaker, false, Access, Makes, IsReadDone, IsRefused, gives}
 use Rattle.fx_order.proofs.request.is_read_done.Goals as goal
 
 -- a read that found a file

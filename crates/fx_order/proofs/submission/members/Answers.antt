@@ -1,7 +1,5 @@
-use Rattle.fx_order.proofs.Words.{◌≡◌, ℕ, ◌+◌, ◌-◌, List, take, drop, sym, ap, subst, ◌∙◌, All, arith, length-map, members_of, all_asked, asked_of, Chain, Request}
-use Rattle.std.proofs.lemmas.List.{get_or-map}
-use Rattle.fx_chain.specs.Accepted.{IsWithinLimits}
-use Rattle.fx_chain.proofs.Asking.{asked_part}
+use Rattle.fx_order.proofs.Words.{◌≡◌, ℕ, ◌+◌, ◌-◌, List, take, drop, sym, ap, subst, ◌∙◌, All, arith, length-map, members_of, all_asked, asked_of}
+use Rattle.fx_order.proofs.Words.{Chain, Request, get_or-map, IsWithinLimits, asked_part}
 use Rattle.fx_order.proofs.submission.members.Goals as goal
 
 members_are : (requests : List Request) (chain : Chain)
