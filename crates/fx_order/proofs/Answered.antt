@@ -8,7 +8,7 @@ use Rattle.fx_order.proofs.Words.{severs, first_member, Operation, Opens, Reads,
 use Rattle.fx_order.proofs.Words.{Looks, Puts, Clears, Takes, Allocates, FindsFull, accesses_of_chain, Access, ChainAccess, Makes, IsRefused}
 use Rattle.fx_order.proofs.Words.{IsOpenDone, IsReadDone, IsCloseDone, IsEntryDone, AreEntriesDone, IsUpdateDone, IsRequestDone, IsChainDone}
 use Rattle.fx_order.proofs.Words.{AreChainsDone, gives}
-use Rattle.fx_order.proofs.Requests.{same_cases}
+use Rattle.fx_order.proofs.Cases.{same_cases}
 use Rattle.fx_order.proofs.AtOnce.{Does, release_of, no_file}
 use Rattle.fx_order.proofs.Made.{AllDo}
 

@@ -1,7 +1,8 @@
 -- What the first member of a chain made stands at the front of what the chain made.
-use Rattle.fx_order.proofs.Words.{◌≡◌, ◌↔◌, ℕ, ◌+◌, Bool, true, false, IsTrue, List, [], ◌∷◌, ◌++◌, length, take, drop, refl, sym, ap, subst, ◌∙◌}
+use Rattle.fx_order.proofs.Words.{◌≡◌, ◌↔◌, ℕ, ◌+◌, Bool, false, IsTrue, List, [], ◌∷◌, ◌++◌, length, take, drop, refl, sym, ap, subst, ◌∙◌}
 use Rattle.fx_order.proofs.Words.{arith, min, MatchBool, when_false, take-append-drop, length-append, take-append_seam, drop-append_seam, FileEntry}
 use Rattle.fx_order.proofs.Words.{Completed, next_member, canceled, severs, Asked, Place, Access, IsChainDone, IsRequestDone}
+use Rattle.fx_order.proofs.Cases.{either_way}
 
 -- the first part of a list of a known length
 pub front_is : {X : Type 0} (xs ys zs : List X) (n : ℕ) → zs ≡ xs ++ ys → length xs ≡ n → (take n zs ≡ xs) × (drop n zs ≡ ys)
@@ -70,10 +71,6 @@ length-done catalogue size place [] accesses cs x = ap length x.1
 length-done catalogue size place (request ∷ requests) accesses cs x =
     let rest : length x.3 ≡ length requests =
     either_way (severs request x.2) _ _ (length x.3 ≡ length requests)
-    (λ y. ap length y.1 ∙ length-canceled (next_member place) requests)
-    (length-done catalogue size (next_member place) requests x.1 x.3) x.7 in
+    (λ _ y. ap length y.1 ∙ length-canceled (next_member place) requests)
+    (λ _. length-done catalogue size (next_member place) requests x.1 x.3) x.7 in
     ap length x.5 ∙ omega arith
-  where
-    either_way : (b : Bool) (P Q R : Type 0) → (P → R) → (Q → R) → MatchBool b P Q → R
-    either_way true P Q R yes_so not_so given = yes_so given
-    either_way false P Q R yes_so not_so given = not_so given

@@ -1,8 +1,9 @@
 -- How many accesses an update made.
 use Rattle.fx_order.proofs.Words.{◌≡◌, ℕ, zero, suc, ◌+◌, ◌==◌, ◌||◌, nat_lt, ℤ, pos, negsuc, int_le, Bool, true, false, if◌then◌else◌, List, [], ◌∷◌}
-use Rattle.fx_order.proofs.Words.{length, filter, refl, sym, ap, ◌∙◌, arith, MatchBool, list_any, false≢true, nat_tests, length-append, Errno, ENOENT}
+use Rattle.fx_order.proofs.Words.{length, filter, refl, sym, ap, ◌∙◌, arith, list_any, false≢true, nat_tests, length-append, Errno, ENOENT}
 use Rattle.fx_order.proofs.Words.{ENXIO, EBADF, EAGAIN, ENOMEM, EBUSY, EINVAL, ENFILE, EMFILE, ECANCELED, is_bad_entry, Completed, negated, Place}
 use Rattle.fx_order.proofs.Words.{Access, IsRefused, IsEntryDone, AreEntriesDone, IsUpdateDone}
+use Rattle.fx_order.proofs.Cases.{either_way}
 
 -- the entries that aren't skips
 abbrev pub done_ones : List ℤ → List ℤ
@@ -41,14 +42,10 @@ no_success ECANCELED = refl
 pub update_made : (entries size : ℕ) (place : Place) (off : ℕ) (list : List ℤ) (own : List Access) (c : Completed)
     → int_le (pos 0) c.res ≡ true → IsUpdateDone entries size place off list own c → length own ≡ length (done_ones list)
 update_made entries size place off list own c good =
-    either_way (size == 0) _ _ _ (refused ENXIO)
-    (either_way (length list == 0 || nat_lt size (off + length list)) _ _ _ (refused EINVAL)
-    (either_way (list_any (is_bad_entry entries) list) _ _ _ (refused EBADF) (λ x. entries_made place 0 off list own x.0)))
+    either_way (size == 0) _ _ _ (λ _. refused ENXIO)
+    (λ _. either_way (length list == 0 || nat_lt size (off + length list)) _ _ _ (λ _. refused EINVAL)
+    (λ _. either_way (list_any (is_bad_entry entries) list) _ _ _ (λ _. refused EBADF) (λ _ x. entries_made place 0 off list own x.0)))
   where
-    either_way : (b : Bool) (P Q R : Type 0) → (P → R) → (Q → R) → MatchBool b P Q → R
-    either_way true P Q R yes_so not_so given = yes_so given
-    either_way false P Q R yes_so not_so given = not_so given
-
     refused : (errno : Errno) → IsRefused place errno own c → length own ≡ length (done_ones list)
     refused errno x =
         absurd (false≢true (sym (no_success errno) ∙ (ap (λ (d : Completed). int_le (pos 0) d.res) (sym x.1) ∙ good)))

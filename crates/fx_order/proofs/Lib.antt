@@ -1,4 +1,5 @@
 pub mod Words
+pub mod Cases
 pub mod Begins
 pub mod Accesses
 pub mod Requests

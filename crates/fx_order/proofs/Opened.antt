@@ -2,7 +2,7 @@
 use Rattle.fx_order.proofs.Words.{◌≡◌, ◌↔◌, inl, inr, ℕ, ◌==◌, nat_le, Bool, true, IsTrue, List, [], ◌∷◌, sym, subst, Option, Some, pos, MatchBool}
 use Rattle.fx_order.proofs.Words.{when_true, has_name, FileEntry, name_at, ENOENT, Closed, installed, Completed, completed, Place, Target, Slot, Any}
 use Rattle.fx_order.proofs.Words.{Puts, Allocates, Access, Makes, IsOpenDone, IsRefused}
-use Rattle.fx_order.proofs.Requests.{same_cases}
+use Rattle.fx_order.proofs.Cases.{same_cases}
 
 module _ (catalogue : List FileEntry) (name : List ℕ) (size : ℕ) (place : Place) (entry : ℕ) (own : List Access) (c : Completed)
     (at_a_slot : (slot : ℕ) (file : Closed) (removed : Option Closed) → name_at catalogue file.entry ≡ Some name

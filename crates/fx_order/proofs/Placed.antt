@@ -3,6 +3,7 @@ use Rattle.fx_order.proofs.Words.{◌≡◌, ◌≢◌, ◌⊎◌, inl, inr, ⊎
 use Rattle.fx_order.proofs.Words.{arith, Option, Some, None, if◌then◌else◌, option_to_list, Contains-append_right, Closed, by_equality, contains_none}
 use Rattle.fx_order.proofs.Words.{contains_head, contains_cases, Table, Looks, Puts, Clears, Takes, Allocates, FindsFull, Permits, PermitsAll}
 use Rattle.fx_order.proofs.Words.{table_with, table_after, removed_by, removed_in, Access}
+use Rattle.fx_order.specs.Access.{IsAt, with_file}
 
 -- the file that an access places, with its slot
 abbrev pub placed_by : Access → List (ℕ × Closed)
@@ -47,22 +48,24 @@ abbrev pub Removes : List Access → Closed → Type 0
 Removes [] file = ⊥
 Removes (access ∷ accesses) file = (removed_by access ≡ Some file) ⊎ Removes accesses file
 
+-- what is at a slot after a write was there, and the write was elsewhere, or it is what was written
+written : (t : Table) (slot : ℕ) (new : Option Closed) (s : ℕ) (f : Closed) → (with_file t slot new).at s ≡ Some f
+    → ((s ≢ slot) × (t.at s ≡ Some f)) ⊎ ((s ≡ slot) × (new ≡ Some f))
+written t slot new s f =
+    by_equality s slot (λ b. ◌≡◌ {A = Option Closed} (if b then new else t.at s) (Some f) → ((s ≢ slot) × (t.at s ≡ Some f)) ⊎ ((s ≡ slot) × (new ≡ Some f)))
+    (λ same is. inr (same, is)) (λ other is. inl (other, is))
+
+is_placed : (slot : ℕ) (file : Closed) (s : ℕ) (f : Closed) → (s ≡ slot) × (Some file ≡ Some f) → Has ((slot, file) ∷ []) s f
+is_placed slot file s f here = let e : file ≡ f = cc (here.1) in inl (λ i. (sym here.0 i, e i))
+
 -- what an access leaves at a slot was there, or was placed by it
 pub step_from : (t : Table) (x : Access) (s : ℕ) (f : Closed) → (table_with t x).at s ≡ Some f → (t.at s ≡ Some f) ⊎ Has (placed_by x) s f
-step_from t (Looks slot found) s f = λ is. inl is
-step_from t (Puts slot file removed) s f =
-    by_equality s slot (λ b. ◌≡◌ {A = Option Closed} (if b then Some file else t.at s) (Some f) → (t.at s ≡ Some f) ⊎ Has ((slot, file) ∷ []) s f)
-    (λ same is. let e : file ≡ f = cc in inr (inl (λ i. (sym same i, e i)))) (λ _ is. inl is)
-step_from t (Clears slot removed) s f =
-    by_equality s slot (λ b. ◌≡◌ {A = Option Closed} (if b then None else t.at s) (Some f) → (t.at s ≡ Some f) ⊎ Has [] s f)
-    (λ _ is. cc) (λ _ is. inl is)
-step_from t (Takes slot removed) s f =
-    by_equality s slot (λ b. ◌≡◌ {A = Option Closed} (if b then None else t.at s) (Some f) → (t.at s ≡ Some f) ⊎ Has [] s f)
-    (λ _ is. cc) (λ _ is. inl is)
-step_from t (Allocates slot file) s f =
-    by_equality s slot (λ b. ◌≡◌ {A = Option Closed} (if b then Some file else t.at s) (Some f) → (t.at s ≡ Some f) ⊎ Has ((slot, file) ∷ []) s f)
-    (λ same is. let e : file ≡ f = cc in inr (inl (λ i. (sym same i, e i)))) (λ _ is. inl is)
-step_from t FindsFull s f = λ is. inl is
+step_from t (Looks slot found) s f is = inl is
+step_from t (Puts slot file removed) s f is = ⊎_elim (λ o. inl o.1) (λ h. inr (is_placed slot file s f h)) (written t slot (Some file) s f is)
+step_from t (Clears slot removed) s f is = ⊎_elim (λ o. inl o.1) (λ h. absurd (cc (h.1))) (written t slot None s f is)
+step_from t (Takes slot removed) s f is = ⊎_elim (λ o. inl o.1) (λ h. absurd (cc (h.1))) (written t slot None s f is)
+step_from t (Allocates slot file) s f is = ⊎_elim (λ o. inl o.1) (λ h. inr (is_placed slot file s f h)) (written t slot (Some file) s f is)
+step_from t FindsFull s f is = inl is
 
 -- a file that is at a slot after all of them was there, or was placed there
 pub left_from : (t : Table) (xs : List Access) (s : ℕ) (f : Closed) → (table_after t xs).at s ≡ Some f → (t.at s ≡ Some f) ⊎ Has (placed xs) s f
@@ -72,22 +75,21 @@ left_from t (x ∷ xs) s f is = ⊎_elim
     (λ later. inr (has_right (placed_by x) (placed xs) s f later))
     (left_from (table_with t x) xs s f is)
 
+-- what is found at a slot is there after a write, or the write removed it
+kept : (t : Table) (slot : ℕ) (removed new : Option Closed) (s : ℕ) (f : Closed) → removed ≡ t.at slot → t.at s ≡ Some f
+    → ((with_file t slot new).at s ≡ Some f) ⊎ (removed ≡ Some f)
+kept t slot removed new s f found was =
+    by_equality s slot (λ b. (◌≡◌ {A = Option Closed} (if b then new else t.at s) (Some f)) ⊎ (removed ≡ Some f))
+    (λ same. inr (found ∙ (ap t.at (sym same) ∙ was))) (λ _. inl was)
+
 -- what an access finds at a slot is there afterwards, or was removed by it
 step_kept : (t : Table) (x : Access) (s : ℕ) (f : Closed) → Permits t x → t.at s ≡ Some f
     → ((table_with t x).at s ≡ Some f) ⊎ (removed_by x ≡ Some f)
 step_kept t (Looks slot found) s f may was = inl was
-step_kept t (Puts slot file removed) s f may was =
-    by_equality s slot (λ b. (◌≡◌ {A = Option Closed} (if b then Some file else t.at s) (Some f)) ⊎ (removed ≡ Some f))
-    (λ same. inr (may.1 ∙ (ap t.at (sym same) ∙ was))) (λ _. inl was)
-step_kept t (Clears slot removed) s f may was =
-    by_equality s slot (λ b. (◌≡◌ {A = Option Closed} (if b then None else t.at s) (Some f)) ⊎ (removed ≡ Some f))
-    (λ same. inr (may.1 ∙ (ap t.at (sym same) ∙ was))) (λ _. inl was)
-step_kept t (Takes slot removed) s f may was =
-    by_equality s slot (λ b. (◌≡◌ {A = Option Closed} (if b then None else t.at s) (Some f)) ⊎ (removed ≡ Some f))
-    (λ same. inr (may.1 ∙ (ap t.at (sym same) ∙ was))) (λ _. inl was)
-step_kept t (Allocates slot file) s f may was =
-    by_equality s slot (λ b. (◌≡◌ {A = Option Closed} (if b then Some file else t.at s) (Some f)) ⊎ (◌≡◌ {A = Option Closed} None (Some f)))
-    (λ same. inr (may.0.1 ∙ (ap t.at (sym same) ∙ was))) (λ _. inl was)
+step_kept t (Puts slot file removed) s f may was = kept t slot removed (Some file) s f may.1 was
+step_kept t (Clears slot removed) s f may was = kept t slot removed None s f may.1 was
+step_kept t (Takes slot removed) s f may was = kept t slot removed None s f may.1 was
+step_kept t (Allocates slot file) s f may was = kept t slot None (Some file) s f may.0.1 was
 step_kept t FindsFull s f may was = inl was
 
 -- what an access places is there afterwards
@@ -126,32 +128,22 @@ pub record IsEmptied (t : Table) (x : Access) (g : Closed) : Type 0 where
   pub was : t.at slot ≡ Some g
   pub behind : (s : ℕ) (f : Closed) → (table_with t x).at s ≡ Some f → ((s ≢ slot) × (t.at s ≡ Some f)) ⊎ Has (placed_by x) s f
 
+emptied_at : (t : Table) (x : Access) (slot : ℕ) (removed new : Option Closed) (g : Closed) → IsAt t slot removed → removed ≡ Some g
+    → ((s : ℕ) (f : Closed) → (table_with t x).at s ≡ Some f → (with_file t slot new).at s ≡ Some f)
+    → ((s : ℕ) (f : Closed) → (s ≡ slot) × (new ≡ Some f) → Has (placed_by x) s f) → IsEmptied t x g
+emptied_at t x slot removed new g may is left puts = record {
+  slot = slot;
+  inside = may.0;
+  was = sym may.1 ∙ is;
+  behind = λ s f now. ⊎_elim (λ o. inl o) (λ h. inr (puts s f h)) (written t slot new s f (left s f now));
+}
+
 pub emptied : (t : Table) (x : Access) (g : Closed) → Permits t x → removed_by x ≡ Some g → IsEmptied t x g
 emptied t (Looks slot found) g may is = cc
-emptied t (Puts slot file removed) g may is = record {
-  slot = slot;
-  inside = may.0;
-  was = sym may.1 ∙ is;
-  behind = λ s f. by_equality s slot
-      (λ b. ◌≡◌ {A = Option Closed} (if b then Some file else t.at s) (Some f) → ((s ≢ slot) × (t.at s ≡ Some f)) ⊎ Has ((slot, file) ∷ []) s f)
-      (λ same now. let e : file ≡ f = cc in inr (inl (λ i. (sym same i, e i)))) (λ other now. inl (other, now));
-}
-emptied t (Clears slot removed) g may is = record {
-  slot = slot;
-  inside = may.0;
-  was = sym may.1 ∙ is;
-  behind = λ s f. by_equality s slot
-      (λ b. ◌≡◌ {A = Option Closed} (if b then None else t.at s) (Some f) → ((s ≢ slot) × (t.at s ≡ Some f)) ⊎ Has [] s f)
-      (λ same now. cc) (λ other now. inl (other, now));
-}
-emptied t (Takes slot removed) g may is = record {
-  slot = slot;
-  inside = may.0;
-  was = sym may.1 ∙ is;
-  behind = λ s f. by_equality s slot
-      (λ b. ◌≡◌ {A = Option Closed} (if b then None else t.at s) (Some f) → ((s ≢ slot) × (t.at s ≡ Some f)) ⊎ Has [] s f)
-      (λ same now. cc) (λ other now. inl (other, now));
-}
+emptied t (Puts slot file removed) g may is =
+    emptied_at t (Puts slot file removed) slot removed (Some file) g may is (λ s f now. now) (λ s f h. is_placed slot file s f h)
+emptied t (Clears slot removed) g may is = emptied_at t (Clears slot removed) slot removed None g may is (λ s f now. now) (λ s f h. absurd (cc (h.1)))
+emptied t (Takes slot removed) g may is = emptied_at t (Takes slot removed) slot removed None g may is (λ s f now. now) (λ s f h. absurd (cc (h.1)))
 emptied t (Allocates slot file) g may is = cc
 emptied t FindsFull g may is = cc
 

@@ -1,12 +1,13 @@
 -- What a submission places: files of the catalogue without a tag, with marks of its own, and no mark twice.
 use Rattle.fx_order.proofs.Words.{◌≡◌, ◌≢◌, inl, inr, ⊎_elim, ℕ, zero, suc, ◌+◌, ◌<◌, ◌≤◌, ◌==◌, ◌||◌, nat_le, nat_lt, ℤ, pos, negsuc, Bool, true}
 use Rattle.fx_order.proofs.Words.{false, cond, List, [], ◌∷◌, ◌++◌, filter, length, refl, sym, ap, subst, ◌∙◌, arith, Some, None, option_map, All}
-use Rattle.fx_order.proofs.Words.{eq-eqb, MatchBool, list_any, cases_lt, leb-false, ltb-false, slice_get_past, All-head, All-tail, has_name}
+use Rattle.fx_order.proofs.Words.{eq-eqb, list_any, cases_lt, leb-false, ltb-false, slice_get_past, All-head, All-tail, has_name}
 use Rattle.fx_order.proofs.Words.{FileEntry, name_at, Errno, ENOENT, ENXIO, EBADF, ENOMEM, EINVAL, ENFILE, Submitted, Closed, IsWithinLimits}
 use Rattle.fx_order.proofs.Words.{installed, is_bad_entry, Completed, next_member, severs, first_member, is_long_update, MOST_MEMBERS, LONGEST_UPDATE}
 use Rattle.fx_order.proofs.Words.{Operation, Opens, Reads, Closes, Updates, Asked, Place, Target, Slot, Any, by_equality, or_left, or_right}
 use Rattle.fx_order.proofs.Words.{accesses_of, accesses_of_chain, Access, ChainAccess, IsRefused, IsOpenDone, IsReadDone, IsCloseDone, IsEntryDone}
 use Rattle.fx_order.proofs.Words.{AreEntriesDone, IsUpdateDone, IsRequestDone, IsChainDone, AreChainsDone}
+pub use Rattle.fx_order.proofs.Cases.{either_way}
 use Rattle.fx_order.proofs.Apart.{PlacesOnce, once_between}
 use Rattle.fx_order.proofs.Placed.{Has, has_either, has_left, has_right, placed, placed_by, placed-append}
 
@@ -112,10 +113,6 @@ entry_named catalogue entry name is = elim (cases_lt entry (length catalogue)) [
   | inl inside ↦ inside
   | inr past ↦ let e : None ≡ Some name = sym (ap (option_map (λ (file : FileEntry). file.name)) (slice_get_past catalogue entry past)) ∙ is in cc
 ]
-
-pub either_way : (b : Bool) (P Q R : Type 0) → (b ≡ true → P → R) → (b ≡ false → Q → R) → MatchBool b P Q → R
-either_way true P Q R yes_so not_so given = yes_so refl given
-either_way false P Q R yes_so not_so given = not_so refl given
 
 module _ (entries : ℕ) (B : ℕ → Type 0) (place : Place) where
   marked : (j entry : ℕ) → entry < entries → IsMarked entries place j (installed place j entry)

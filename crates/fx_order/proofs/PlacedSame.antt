@@ -5,16 +5,9 @@ use Rattle.fx_order.proofs.Words.{IsCatalogue, installed, is_bad_entry, Complete
 use Rattle.fx_order.proofs.Words.{Reads, Closes, Updates, Asked, Place, Target, Slot, Any, by_equality, accesses_of_chain, Access, ChainAccess}
 use Rattle.fx_order.proofs.Words.{IsOpenDone, IsReadDone, IsCloseDone, IsEntryDone, AreEntriesDone, IsUpdateDone, IsRequestDone, IsChainDone}
 use Rattle.fx_order.proofs.Words.{AreChainsDone}
+use Rattle.fx_order.proofs.Cases.{both_ways, either_way}
+use Rattle.fx_order.proofs.ChainFront.{length-done}
 use Rattle.fx_order.proofs.Placed.{placed, placed-append}
-
--- both ways of a test
-both_ways : (b : Bool) (P Q S T R : Type 0) → (P → S → R) → (Q → T → R) → MatchBool b P Q → MatchBool b S T → R
-both_ways true P Q S T R yes_so not_so one other = yes_so one other
-both_ways false P Q S T R yes_so not_so one other = not_so one other
-
-one_way : (b : Bool) (P Q R : Type 0) → (P → R) → (Q → R) → MatchBool b P Q → R
-one_way true P Q R yes_so not_so given = yes_so given
-one_way false P Q R yes_so not_so given = not_so given
 
 -- both place the same
 abbrev pub PlaceSame : List Access → List Access → Type 0
@@ -55,8 +48,8 @@ module _ (one other : List Access) (c : Completed) where
 read_none : (catalogue : List FileEntry) (size : ℕ) (place : Place) (slot off len : ℕ) (accesses : List Access) (c : Completed)
     → IsReadDone catalogue size place slot off len accesses c → placed accesses ≡ []
 read_none catalogue size place slot off len accesses c =
-    one_way (nat_le size slot) _ _ _ (λ x. ap placed x.0)
-    (λ x. elim x [
+    either_way (nat_le size slot) _ _ _ (λ _ x. ap placed x.0)
+    (λ _ x. elim x [
       | inl y ↦ ap placed y.1.0
       | inr y ↦ elim y [
         | inl z ↦ ap placed z.0
@@ -67,9 +60,9 @@ read_none catalogue size place slot off len accesses c =
 close_none : (size : ℕ) (place : Place) (slot : ℕ) (accesses : List Access) (c : Completed) → IsCloseDone size place slot accesses c
     → placed accesses ≡ []
 close_none size place slot accesses c =
-    one_way (size == 0) _ _ _ (λ x. ap placed x.0)
-    (one_way (nat_le size slot) _ _ _ (λ x. ap placed x.0)
-    (λ x. elim x [
+    either_way (size == 0) _ _ _ (λ _ x. ap placed x.0)
+    (λ _. either_way (nat_le size slot) _ _ _ (λ _ x. ap placed x.0)
+    (λ _ x. elim x [
       | inl y ↦ ap placed y.0
       | inr y ↦ ap placed y.1.0
     ]))
@@ -129,18 +122,6 @@ module _ (catalogue : List FileEntry) (is : IsCatalogue catalogue) (size : ℕ) 
       (λ p q. chain_same (next_member place) rs x.1 y.1 x.3 p (subst (IsChainDone catalogue size (next_member place) rs y.1) same.1 q))
       x.7 (subst (λ d. MatchBool (severs r d) ((y.1 ≡ []) × (y.3 ≡ canceled (next_member place) rs)) (IsChainDone catalogue size (next_member place) rs y.1 y.3)) same.0 y.7))
 
-  canceled_long : (place : Place) (requests : List Asked) → length (canceled place requests) ≡ length requests
-  canceled_long place [] = refl
-  canceled_long place (r ∷ rs) = ap suc (canceled_long (next_member place) rs)
-
-  -- a completion for each member
-  chain_long : (place : Place) (requests : List Asked) (one : List Access) (cs : List Completed)
-      → IsChainDone catalogue size place requests one cs → length cs ≡ length requests
-  chain_long place [] one cs x = ap length x.1
-  chain_long place (r ∷ rs) one cs x =
-      ap length x.5
-      ∙ ap suc (one_way (severs r x.2) _ _ _ (λ y. ap length y.1 ∙ canceled_long (next_member place) rs) (λ y. chain_long (next_member place) rs x.1 x.3 y) x.7)
-
   -- lists whose first parts are as long have the same parts
   same_halves : {X : Type 0} (xs ys us vs : List X) → length xs ≡ length us → xs ++ ys ≡ us ++ vs → (us ≡ xs) × (vs ≡ ys)
   same_halves [] ys [] vs long same = (refl, sym same)
@@ -158,8 +139,8 @@ module _ (catalogue : List FileEntry) (is : IsCatalogue catalogue) (size : ℕ) 
       → (c : ℕ) → first ≤ c → c < first + length runs → PlaceSame (accesses_of_chain c one) (accesses_of_chain c other)
   chains_same submission first [] one other cs x y c low high = absurd (omega arith)
   chains_same submission first (run ∷ runs) one other cs x y c low high =
-      let long = chain_long (first_member submission first) run (accesses_of_chain first one) x.0 x.3 in
-      let long_too = chain_long (first_member submission first) run (accesses_of_chain first other) y.0 y.3 in
+      let long = length-done catalogue size (first_member submission first) run (accesses_of_chain first one) x.0 x.3 in
+      let long_too = length-done catalogue size (first_member submission first) run (accesses_of_chain first other) y.0 y.3 in
       let same = same_halves x.0 x.1 y.0 y.1 (omega arith) (sym x.2 ∙ y.2) in
       by_equality c first (λ _. PlaceSame (accesses_of_chain c one) (accesses_of_chain c other))
       (λ at. subst (λ k. PlaceSame (accesses_of_chain k one) (accesses_of_chain k other)) (sym at)

@@ -1,16 +1,13 @@
 -- What explains an answer by steps explains it by their accesses.
-use Rattle.fx_order.proofs.Words.{◌≡◌, inl, inr, ℕ, zero, suc, ◌+◌, ◌==◌, ◌||◌, nat_le, nat_lt, ℤ, pos, negsuc, Bool, true, false, List, [], ◌∷◌}
-use Rattle.fx_order.proofs.Words.{length, map, sym, ap, subst, ◌∙◌, Option, Some, None, MatchBool, list_any, append-nil, FileEntry, has_name, Errno}
+use Rattle.fx_order.proofs.Words.{◌≡◌, inl, inr, ℕ, zero, suc, ◌+◌, ◌==◌, ◌||◌, nat_le, nat_lt, ℤ, pos, negsuc, List, [], ◌∷◌}
+use Rattle.fx_order.proofs.Words.{length, map, sym, ap, subst, ◌∙◌, Option, Some, None, list_any, append-nil, FileEntry, has_name, Errno}
 use Rattle.fx_order.proofs.Words.{ENOENT, ENXIO, EBADF, ENOMEM, EINVAL, ENFILE, Closed, File, Event, Action, Look, Release, Put, Clear, Take, ◌▷◌}
 use Rattle.fx_order.proofs.Words.{action_of, part_of_chain, identity_of, Refuses, MayClose, OpensAt, ReadsFrom, Empties, AppliesEntry, AppliesList}
 use Rattle.fx_order.proofs.Words.{UpdatesFrom, Answers, is_bad_entry, Completed, next_member, Explains, severs, first_member, Operation, Opens, Reads}
 use Rattle.fx_order.proofs.Words.{Closes, Updates, Asked, Place, Target, Slot, Any, ExplainsParts, Puts, Allocates, Access, IsRefused, IsOpenDone}
 use Rattle.fx_order.proofs.Words.{IsReadDone, IsCloseDone, IsEntryDone, AreEntriesDone, IsUpdateDone, IsRequestDone, IsChainDone, AreChainsDone}
+use Rattle.fx_order.proofs.Cases.{same_cases}
 use Rattle.fx_order.proofs.Accesses.{accesses_in, accesses_in-then, order_in, accesses_of_chain-order_in}
-
-pub same_cases : (b : Bool) (P Q R S : Type 0) → (P → R) → (Q → S) → MatchBool b P Q → MatchBool b R S
-same_cases true P Q R S yes_so not_so given = yes_so given
-same_cases false P Q R S yes_so not_so given = not_so given
 
 accesses_may_close : (steps : List Action) (removed : Option File) (events : List Action) → MayClose steps removed events
     → accesses_in events ≡ accesses_in steps

@@ -1,0 +1,15 @@
+-- What holds by the cases of a test.
+use Rattle.std.proofs.Common.{◌≡◌, Bool, true, false, refl}
+use Rattle.std.specs.Bool.{MatchBool}
+
+pub either_way : (b : Bool) (P Q R : Type 0) → (b ≡ true → P → R) → (b ≡ false → Q → R) → MatchBool b P Q → R
+either_way true P Q R yes_so not_so given = yes_so refl given
+either_way false P Q R yes_so not_so given = not_so refl given
+
+pub same_cases : (b : Bool) (P Q R S : Type 0) → (P → R) → (Q → S) → MatchBool b P Q → MatchBool b R S
+same_cases true P Q R S yes_so not_so given = yes_so given
+same_cases false P Q R S yes_so not_so given = not_so given
+
+pub both_ways : (b : Bool) (P Q S T R : Type 0) → (P → S → R) → (Q → T → R) → MatchBool b P Q → MatchBool b S T → R
+both_ways true P Q S T R yes_so not_so one other = yes_so one other
+both_ways false P Q S T R yes_so not_so one other = not_so one other
