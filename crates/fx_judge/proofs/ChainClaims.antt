@@ -14,9 +14,6 @@ module _ (catalogue : List FileEntry) (size : ℕ) (range : ℕ × ℕ) (closes 
   abbrev First : List Access → Type 0
   First = Possibly size range (λ own. IsRequestDone catalogue size place request.operation own c)
 
-  abbrev Others : List Access → Type 0
-  Others = Possibly size range (λ own. IsChainDone catalogue size (next_member place) requests own cs)
-
   abbrev Whole : List Access → Type 0
   Whole = Possibly size range (λ own. IsChainDone catalogue size place (request ∷ requests) own (c ∷ cs))
 

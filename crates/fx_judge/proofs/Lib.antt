@@ -13,5 +13,4 @@ pub mod StrandSteps
 pub mod RingsAfter
 pub mod Came
 pub mod AllChains
-pub mod NoFiles
 pub mod Refuting

@@ -1,10 +1,9 @@
 -- A list of states that leaves none of their steps out, and has no end, shows that no order leads to one.
-use Rattle.fx_judge.proofs.Words.{◌≡◌, ◌≢◌, inl, inr, ℕ, zero, suc, ◌+◌, ◌<◌, Bool, true, false, List, [], ◌∷◌, length, map, Option, Some, None, refl}
+use Rattle.fx_judge.proofs.Words.{◌≡◌, ◌≢◌, inl, inr, ℕ, zero, suc, ◌+◌, ◌<◌, Bool, true, false, List, [], ◌∷◌, length, map, Option, Some, None, refl, same_lists}
 use Rattle.fx_judge.proofs.Words.{sym, ap, subst, ◌∙◌, arith, Contains, All, slice_index, slice_index_or, slice_set, if◌then◌else◌, length-map}
 use Rattle.fx_judge.proofs.Words.{get_or-set_other, All-contains, All-map, slice_get, option_and_then, by_equality, starting, Cell, Claim, At, Full}
 use Rattle.fx_judge.proofs.Words.{Same, Empty, File, Node, Strand, Standing, allows, cells_after, next, made, claim_at, Ends, IsEnd, is_test, view}
 use Rattle.fx_judge.proofs.Words.{views}
-use Rattle.fx_judge.proofs.Lists.{same_lists}
 use Rattle.fx_judge.specs.Machine.{HasNoEnd, LeadsInside, IsExplored}
 
 -- an answer of two steps has one of the first, to which the second was applied

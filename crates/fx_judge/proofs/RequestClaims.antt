@@ -151,18 +151,6 @@ module _ (size : ℕ) (place : Place) (closes : List Closed) (c : Completed) (r 
           ]
         ])
 
-    -- a read without memory
-    pub read_refused : slot < size → c ≡ refusal place ENOMEM → (own : List Access) → IsReadDone catalogue size place slot off len own c → own ≡ []
-    read_refused within is own done = elim (within_read within own done) [
-      | inl refused ↦ refused.1.0
-      | inr made ↦ elim made [
-        | inl missed ↦
-            absurd (two_failures place c is missed.1)
-        | inr found ↦
-            absurd (never_both place _ _ ENOMEM c found.1.1 is)
-      ]
-    ]
-
     -- neither of the two refusals
     pub read_found : (fits : List Bool) → slot < size → ((0 < len) → c ≡ refusal place ENOMEM → ⊥) → (c ≡ refusal place EBADF → ⊥)
         → ((file : Closed) → c ≡ gives catalogue place file off len → slice_index_or fits file.entry true ≡ true)
@@ -176,17 +164,6 @@ module _ (size : ℕ) (place : Place) (closes : List Closed) (c : Completed) (r 
             | inr found ↦ (Looks slot (Some found.0), found.1.0, (refl, (found.0, refl, told found.0 found.1.1), refl))
           ]
         ])
-
-    -- no read answers so: another place, or another error
-    pub read_never : slot < size → ((0 < len) → c ≡ refusal place ENOMEM → ⊥) → (c ≡ refusal place EBADF → ⊥)
-        → ((file : Closed) → c ≡ gives catalogue place file off len → ⊥) → (own : List Access) → IsReadDone catalogue size place slot off len own c → ⊥
-    read_never within memory there none own done = elim (within_read within own done) [
-      | inl refused ↦ memory refused.0 refused.1.1
-      | inr made ↦ elim made [
-        | inl missed ↦ there missed.1
-        | inr found ↦ none found.0 found.1.1
-      ]
-    ]
 
 -- opens by name
 module _ (catalogue : List FileEntry) (size : ℕ) (range : ℕ × ℕ) (place : Place) (name : List ℕ) (closes : List Closed) (c : Completed)

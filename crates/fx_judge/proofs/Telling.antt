@@ -1,5 +1,5 @@
 -- What claims tell of accesses, from what they tell of others.
-use Rattle.fx_judge.proofs.Words.{◌≡◌, List, [], ◌∷◌, sym, subst, Result, Ok, Err, Vec, AllZip, Closed, Access, Fits, Tells, Claim, Stop, Refuted}
+use Rattle.fx_judge.proofs.Words.{◌≡◌, List, [], ◌∷◌, Result, Ok, Err, Vec, Closed, Access, Fits, Tells, Claim, Stop, Refuted}
 use Rattle.fx_judge.proofs.Words.{Unknown, NoMemory}
 
 pub tells_so : (P Q : List Access → Type 0) (closes : List Closed) (r : Result (Vec Claim) Stop) → ((own : List Access) → P own → Q own)
@@ -12,6 +12,3 @@ tells_so P Q closes (Err NoMemory) so tells = tt
 -- a single access
 abbrev pub IsOne : List Closed → Claim → List Access → Type 0
 IsOne closes claim own = (access : Access) × (own ≡ access ∷ []) × Fits closes claim access
-
-pub one_told : (closes : List Closed) (claim : Claim) (own : List Access) → IsOne closes claim own → AllZip (Fits closes) (claim ∷ []) own
-one_told closes claim own one = subst (AllZip (Fits closes) (claim ∷ [])) (sym one.1) (one.2, tt)

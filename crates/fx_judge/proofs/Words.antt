@@ -60,7 +60,6 @@ pub use Rattle.fx_order.specs.declared.access.Access.TheVariants.{Allocates, Cle
 pub use Rattle.fx_order.specs.declared.access.ChainAccess.{ChainAccess}
 pub use Rattle.fx_plain.proofs.Cells.{by_equality, unchanged}
 pub use Rattle.fx_plain.specs.Step.{changed_at}
-pub use Rattle.fx_ring.proofs.Rings.{none_rings}
 pub use Rattle.fx_ring.proofs.SubmittedRing.{submitted_rings}
 pub use Rattle.fx_ring.specs.Ring.{IsRing, RingState, ring_of}
 pub use Rattle.fx_ring.specs.Submission.{Reported}
@@ -73,7 +72,7 @@ pub use Rattle.std.proofs.Common.{◌++◌, ◌+◌, ◌<◌, ◌==◌, ◌||◌
 pub use Rattle.std.proofs.Math.ListN.{get_or-eq_default}
 pub use Rattle.std.proofs.lemmas.Bool.{MatchBool-at_false, MatchBool-at_true, cases_lt, le-leb, le-ltb, lt-leb, lt-ltb}
 pub use Rattle.std.proofs.lemmas.Int.{to_z-of_z}
-pub use Rattle.std.proofs.lemmas.List.{append-nil, get_or-map, get_or-replicate, get_or-set_other, get_or-set_same, get_or_default, length-map}
+pub use Rattle.std.proofs.lemmas.List.{same_lists, append-nil, get_or-map, get_or-replicate, get_or-set_other, get_or-set_same, get_or_default, length-map}
 pub use Rattle.std.proofs.lemmas.List.{length-replicate, length-set, take_all}
 pub use Rattle.std.proofs.lemmas.List.Elements.{All-contains, All-contains_itself, All-head, All-map, All-more, All-tail, All-weaker}
 pub use Rattle.std.proofs.lemmas.List.Elements.{Contains-append_right}
@@ -84,3 +83,4 @@ pub use Rattle.std.specs.Global.{Vec}
 pub use Rattle.std.specs.List.{AllByRecursion, AllZip, list_all, list_any}
 pub use Rattle.std.specs.Option.{option_to_list}
 pub use Rattle.std.specs.Prelude.{option_and_then}
+pub use Rattle.std.proofs.lemmas.Result.{IfOk-weaker}

@@ -1,8 +1,7 @@
 -- Cells written one after another.
-use Rattle.fx_judge.proofs.Words.{◌≡◌, ◌≢◌, inl, inr, ℕ, ◌+◌, ◌<◌, ◌≤◌, ◌==◌, false, Bool, List, length, refl, sym, ap, ◌∙◌, arith, eq-eqb}
+use Rattle.fx_judge.proofs.Words.{◌≡◌, ◌≢◌, inl, inr, ℕ, ◌+◌, ◌<◌, ◌≤◌, ◌==◌, false, Bool, List, length, refl, sym, ap, ◌∙◌, arith, eq-eqb, same_lists}
 use Rattle.fx_judge.proofs.Words.{slice_index_or, slice_set, Option, if◌then◌else◌, length-set, length-map, get_or-set_same, get_or-set_other}
 use Rattle.fx_judge.proofs.Words.{get_or-map, get_or_default, cases_lt, by_equality, cell_with, with_cell, Cell, Resident}
-use Rattle.fx_judge.proofs.Lists.{same_lists}
 
 pub record Written (old now : List Cell) (slot : ℕ) (file : Option Resident) (i : ℕ) : Type 0 where
   pub long : length now ≡ length old

@@ -1,6 +1,5 @@
-use Rattle.fx_judge.proofs.Words.{◌≡◌, ◌+◌, ◌∙◌, List, length, map, sym, ap, subst, arith, length-map, Vec, Closed, members_of, all_completed, Asked}
+use Rattle.fx_judge.proofs.Words.{◌≡◌, ◌+◌, ◌∙◌, List, length, map, sym, ap, subst, arith, length-map, Vec, Closed, members_of, all_completed, Asked, IfOk-weaker}
 use Rattle.fx_judge.proofs.Words.{all_asked, runs_of, Chain, table_of_slots, RingState, AreClaims, IsOutcome, IsToldOutcome, ring_with_slots, Claim}
-use Rattle.fx_judge.proofs.Lists.{if_ok_so}
 use Rattle.fx_judge.proofs.Refuting.{moved_done, no_claims, outcome_told}
 use Rattle.fx_judge.proofs.judge.judge_told.Goals as goal
 
@@ -32,7 +31,7 @@ returns c =
     let size : length c.args.ring.now.slots.at.items ≡ c.len.result = omega (arith, c.args.ring.now.slots.at.ok.0) in
     let runs : runs_of asked ≡ map (members_of asked) c.deref-2.result.now =
     sym (ap (λ (l : List Chain). map (members_of asked) l) c.deref-2.ensures.value ∙ c.in_ok-chains.ensures.members) in
-    if_ok_so c.judge_table.result (IsOutcome (table_of_slots c.args.ring.now.slots) c.deref-4.result.now c.deref-5.result.now) (IsToldOutcome old asked c.args.case.now.told.now)
+    IfOk-weaker c.judge_table.result (IsOutcome (table_of_slots c.args.ring.now.slots) c.deref-4.result.now c.deref-5.result.now) (IsToldOutcome old asked c.args.case.now.told.now)
     (λ o is. outcome_told old asked c.args.case.now.told.now c.requires.ring c.in-Ok.claims.items (c.in-Ok.ensures.0 ∙ ap length (sym runs))
     (λ order done. subst (λ (l : List Closed). AreClaims l c.in-Ok.claims.items order) c.deref.ensures.value
     (c.in-Ok.ensures.1 order

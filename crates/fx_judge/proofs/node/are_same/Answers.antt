@@ -1,5 +1,4 @@
-use Rattle.fx_judge.proofs.Words.{arith}
-use Rattle.fx_judge.proofs.Lists.{same_lists}
+use Rattle.fx_judge.proofs.Words.{arith, same_lists}
 use Rattle.fx_judge.proofs.node.are_same.Goals as goal
 
 pub returns : goal.returns
