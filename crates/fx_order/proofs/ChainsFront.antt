@@ -23,7 +23,7 @@ module _ (catalogue : List FileEntry) (size submission chain : ℕ) (run : List 
       let whole : length cs ≡ length x.0 + length x.1 = ap length x.2 ∙ length-append x.0 x.1 in
       omega arith
 
-  parts_of : AreDone → IsFirstDone × AreOthersDone
+  pub parts_of : AreDone → IsFirstDone × AreOthersDone
   parts_of x =
       let own : length x.0 ≡ length run = length-done catalogue size (first_member submission chain) run (accesses_of_chain chain order) x.0 x.3 in
       let front = front_is x.0 x.1 cs (length run) x.2 own in (
@@ -31,7 +31,7 @@ module _ (catalogue : List FileEntry) (size submission chain : ℕ) (run : List 
         subst (AreChainsDone catalogue size submission (chain + 1) runs order) (sym front.1) x.4,
       )
 
-  too_few : length cs < length run → AreDone → ⊥
+  pub too_few : length cs < length run → AreDone → ⊥
   too_few few x = let long = long_enough x in absurd (omega arith)
 
   module _ (accesses : List Access) (own others : List Completed) (are : accesses ≡ accesses_of_chain chain order) (front : own ≡ take (length run) cs)
