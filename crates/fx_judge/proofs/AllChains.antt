@@ -1,5 +1,5 @@
 -- The claims of chains, one chain after another.
-use Rattle.fx_judge.proofs.Words.{◌≡◌, inl, inr, ℕ, zero, suc, ◌+◌, ◌<◌, ◌≤◌, List, [], ◌∷◌, ◌++◌, length, map, take, drop, refl}
+use Rattle.fx_judge.proofs.Words.{◌≡◌, inl, inr, ℕ, suc, ◌+◌, ◌<◌, ◌≤◌, List, [], ◌∷◌, ◌++◌, length, map, take, drop, refl}
 use Rattle.fx_judge.proofs.Words.{sym, ap, subst, ◌∙◌, arith, Ok, Err, length-append, drop-cons, get_or, length-map, get_or-map, Vec}
 use Rattle.fx_judge.proofs.Words.{AllZip, AllByRecursion, FileEntry, Closed, members_of, Completed, all_completed, completed_of}
 use Rattle.fx_judge.proofs.Words.{Completion, Request, first_member, Asked, all_asked, asked_of, Chain, accesses_of}

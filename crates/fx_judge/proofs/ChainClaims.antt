@@ -1,8 +1,9 @@
 -- The claims of a chain, from those of its first member and of the others.
-use Rattle.fx_judge.proofs.Words.{◌≡◌, ℕ, zero, suc, ◌+◌, ◌≤◌, Bool, true, false, List, [], ◌∷◌, ◌++◌, length, drop, arith, append_assoc, refl, sym}
+use Rattle.fx_judge.proofs.Words.{◌≡◌, ℕ, suc, ◌+◌, ◌≤◌, Bool, true, false, List, [], ◌∷◌, ◌++◌, length, drop, arith, append_assoc, refl, sym}
 use Rattle.fx_judge.proofs.Words.{ap, subst, ◌∙◌, Ok, Err, append-nil, MatchBool, Vec, AllZip, AllByRecursion, FileEntry, Closed, ECANCELED}
 use Rattle.fx_judge.proofs.Words.{Completed, next_member, refusal, canceled, severs, Asked, Place, IsRequestDone, IsChainDone, Access, Fits}
 use Rattle.fx_judge.proofs.Words.{IsPossible, Possibly, Tells, TellsMember, MemberClaims, Claim, Stop, Refuted, Unknown, NoMemory}
+use Rattle.std.proofs.lemmas.List.{drop_all}
 use Rattle.fx_judge.proofs.Entries.{all_zip_append}
 
 pub both_parts : {X : Type 0} (P : X → Type 0) (xs ys : List X) → AllByRecursion P (xs ++ ys) → AllByRecursion P xs × AllByRecursion P ys
@@ -87,18 +88,12 @@ module _ (catalogue : List FileEntry) (size : ℕ) (range : ℕ × ℕ) (closes 
       → (accesses : List Access) → Possibly size range (λ own. IsChainDone catalogue size place requests own cs) accesses → AllZip (Fits closes) claims accesses
   all_told i cut claims all t accesses done =
       let b = t.each accesses done in
-      let none : b.others ≡ [] = nothing cut (member_at place i) (drop i requests) b.others (drop i cs) (past requests i all) b.left in
+      let none : b.others ≡ [] = nothing cut (member_at place i) (drop i requests) b.others (drop i cs) (drop_all i requests all) b.left in
       subst (AllZip (Fits closes) claims) (sym (b.whole ∙ (ap (λ (l : List Access). b.own ++ l) none ∙ append-nil b.own))) b.told
     where
       nothing : (d : Bool) (p : Place) (l : List Asked) (others : List Access) (ds : List Completed) → l ≡ [] → IsLeftOver catalogue size p d l others ds → others ≡ []
       nothing true p l others ds is left = left.0
       nothing false p l others ds is left = (subst (λ (m : List Asked). IsChainDone catalogue size p m others ds) is left).0
-
-      past : (l : List Asked) (n : ℕ) → length l ≤ n → drop n l ≡ []
-      past [] zero le = refl
-      past [] (suc n) le = refl
-      past (x ∷ l) zero le = absurd (omega arith)
-      past (x ∷ l) (suc n) le = past l n (omega arith)
 
   module _ (i : ℕ) (claims : List Claim) (request : Asked) (c : Completed)
       (requests_are : drop i requests ≡ request ∷ drop (suc i) requests) (cs_are : drop i cs ≡ c ∷ drop (suc i) cs) where

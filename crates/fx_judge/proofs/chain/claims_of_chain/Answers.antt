@@ -1,35 +1,25 @@
-use Rattle.fx_judge.proofs.Words.{◌+◌, List, sym, subst, arith, length-map, all_completed, completed_of, all_asked, asked_of, Claim}
-use Rattle.fx_judge.proofs.ChainClaims.{ChainTold, nothing_told, all_told, one_more, one_stops}
+use Rattle.fx_judge.proofs.Words.{arith, length-map, asked_of, completed_of}
+use Rattle.fx_judge.proofs.ChainClaims.{nothing_told, all_told, one_more, one_stops}
 use Rattle.fx_judge.proofs.Lists.{mapped_at}
 use Rattle.fx_judge.proofs.chain.claims_of_chain.Goals as goal
 
 pub loop-i-init : goal.loop-i-init
-loop-i-init c =
-    subst (λ (l : List Claim). ChainTold c.args.setting.now.catalogue.now c.args.setting.now.size c.args.setting.now.range c.args.setting.now.closes.now c.args.place
-    (all_asked c.args.requests.now) (all_completed c.args.completions.now) 0 _ l) (sym c.new-claims.ensures.items)
-    (nothing_told c.args.setting.now.catalogue.now c.args.setting.now.size c.args.setting.now.range c.args.setting.now.closes.now c.args.place
-    (all_asked c.args.requests.now) (all_completed c.args.completions.now))
+loop-i-init c = rw c.new-claims.ensures.items (nothing_told _ _ _ _ _ _ _)
 
 pub loop-i-preserved : goal.loop-i-preserved
 loop-i-preserved c =
     let reqs = mapped_at asked_of c.args.requests.now c.loop-i.i c.index-requests-i.result c.loop-i-test.true c.index-requests-i.is in
     let cs = mapped_at completed_of c.args.completions.now c.loop-i.i c.index-completions-i.result (omega arith) c.index-completions-i.is in
-    subst (λ (l : List Claim). ChainTold c.args.setting.now.catalogue.now c.args.setting.now.size c.args.setting.now.range c.args.setting.now.closes.now c.args.place
-    (all_asked c.args.requests.now) (all_completed c.args.completions.now) (c.loop-i.i + 1) c.in-Ok.told.cut l) (sym c.in_ok-append.ensures.items)
-    (one_more c.args.setting.now.catalogue.now c.args.setting.now.size c.args.setting.now.range c.args.setting.now.closes.now c.args.place
-    (all_asked c.args.requests.now) (all_completed c.args.completions.now) c.loop-i.i c.loop-i.claims.items (asked_of c.index-requests-i.result)
-    (completed_of c.index-completions-i.result) reqs cs c.loop-i.cut c.in-Ok.told c.loop-i.invariant c.in-Ok.ensures)
+    rw c.in_ok-append.ensures.items
+    (one_more _ _ _ _ _ _ _ c.loop-i.i c.loop-i.claims.items _ _ reqs cs c.loop-i.cut c.in-Ok.told c.loop-i.invariant c.in-Ok.ensures)
 
 pub returns-in-Err : goal.returns-in-Err
 returns-in-Err c =
     let reqs = mapped_at asked_of c.args.requests.now c.loop-i.i c.index-requests-i.result c.loop-i-test.true c.index-requests-i.is in
     let cs = mapped_at completed_of c.args.completions.now c.loop-i.i c.index-completions-i.result (omega arith) c.index-completions-i.is in
-    one_stops c.args.setting.now.catalogue.now c.args.setting.now.size c.args.setting.now.range c.args.setting.now.closes.now c.args.place
-    (all_asked c.args.requests.now) (all_completed c.args.completions.now) c.loop-i.i c.loop-i.claims.items (asked_of c.index-requests-i.result)
-    (completed_of c.index-completions-i.result) reqs cs c.loop-i.cut c.in-Err.stop c.loop-i.invariant c.in-Err.ensures
+    one_stops _ _ _ _ _ _ _ c.loop-i.i c.loop-i.claims.items _ _ reqs cs c.loop-i.cut c.in-Err.stop c.loop-i.invariant c.in-Err.ensures
 
 pub returns : goal.returns
 returns c = λ accesses done.
-    all_told c.args.setting.now.catalogue.now c.args.setting.now.size c.args.setting.now.range c.args.setting.now.closes.now c.args.place
-    (all_asked c.args.requests.now) (all_completed c.args.completions.now) c.loop-i.i c.loop-i.cut c.loop-i.claims.items
-    (let long = length-map c.args.requests.now asked_of in omega arith) c.loop-i.invariant accesses done
+    all_told _ _ _ _ _ _ _ c.loop-i.i c.loop-i.cut c.loop-i.claims.items (let long = length-map c.args.requests.now asked_of in omega arith)
+    c.loop-i.invariant accesses done
