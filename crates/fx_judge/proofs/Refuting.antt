@@ -1,6 +1,6 @@
 -- Where there is no order of a table's accesses, what was told comes of none.
 use Rattle.fx_judge.proofs.Words.{◌≡◌, ℕ, ◌+◌, ◌<◌, ◌≤◌, List, [], ◌∷◌, length, refl, sym, ap, subst, ◌∙◌, All, Contains, Vec, AllByRecursion}
-use Rattle.fx_judge.proofs.Words.{All-contains, All-contains_itself, All-permutation, IsPermutation-sym, FileEntry, Completed, all_completed, Asked}
+use Rattle.fx_judge.proofs.Words.{All-contains, All-contains_itself, All-permutation, IsPermutation-sym, all_completed, Asked}
 use Rattle.fx_judge.proofs.Words.{runs_of, RingState, IsRing, Table, Permits, PermitsAll, table_with, removed_in, accesses_of, Access, Looks, Puts}
 use Rattle.fx_judge.proofs.Words.{Clears, Takes, Allocates, FindsFull, ChainAccess, IsOneOrder, table_of, AreDone, AreClaims, IsPossible, HasNoOrder}
 use Rattle.fx_judge.proofs.Words.{IsOutcome, IsToldOutcome, IsRefuted, told_report, Claim, Outcome, Order, Unsettled, Told}
@@ -61,10 +61,3 @@ module _ (old : RingState) (requests : List Asked) (told : Told) where
   outcome_told ring chains many claims (Order order) is = tt
   outcome_told ring chains many claims (Refuted reason) is = no_order ring chains many claims is
   outcome_told ring chains many claims (Unsettled doubt) is = tt
-
-pub moved_done : (catalogue : List FileEntry) (range : ℕ × ℕ) (submission : ℕ) (order : List ChainAccess) (s t : ℕ) (rs qs : List (List Asked))
-    (cs ds : List Completed) → s ≡ t → rs ≡ qs → cs ≡ ds → AreDone catalogue s range submission rs cs order → AreDone catalogue t range submission qs ds order
-moved_done catalogue range submission order s t rs qs cs ds size runs completions done =
-    subst (λ (l : List Completed). AreDone catalogue t range submission qs l order) completions
-    (subst (λ (l : List (List Asked)). AreDone catalogue t range submission l cs order) runs
-    (subst (λ (n : ℕ). AreDone catalogue n range submission rs cs order) size done))

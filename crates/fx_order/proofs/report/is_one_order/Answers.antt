@@ -1,6 +1,6 @@
-use Rattle.fx_order.proofs.Words.{◌≡◌, ℕ, ◌+◌, ◌≤◌, List, length, refl, sym, subst, ap, ◌∙◌, All, IsPermutation, arith, false≢true, IsInOrderOfMark}
-use Rattle.fx_order.proofs.Words.{Closed, all_asked, runs_of, Table, PermitsAll, removed_in, accesses_of, table_after}
-use Rattle.fx_order.proofs.OrderOf.{as_many, done_told, ring_left_is}
+use Rattle.fx_order.proofs.Words.{◌≡◌, ℕ, ◌+◌, ◌≤◌, length, refl, sym, subst, ap, ◌∙◌, All, IsPermutation, arith, false≢true, IsInOrderOfMark, all_asked}
+use Rattle.fx_order.proofs.Words.{runs_of, Table, removed_in, accesses_of, table_after}
+use Rattle.fx_order.proofs.OrderOf.{as_many, ring_left_is}
 use Rattle.fx_order.proofs.report.is_one_order.Goals.{then-report-number-via-then-report-number}
 use Rattle.fx_order.proofs.report.is_one_order.Goals.{then-report-number-via-else-report-number+then-not-are_within}
 use Rattle.fx_order.proofs.report.is_one_order.Goals as goal
@@ -14,48 +14,42 @@ returns-then-report-number-clause-order c = (
         | then-report-number-via-else-report-number+then-not-are_within w ↦
             let count : w.len.result ≡ length (runs_of (all_asked c.args.requests.now)) =
             as_many (all_asked c.args.requests.now) c.in_ok-chains.chains.items w.len.result (omega (arith, c.in_ok-chains.chains.ok.0)) c.in_ok-chains.ensures.members in
-            absurd (false≢true (sym w.if-not-are_within.true
-            ∙ w.are_within.ensures.1 (subst (λ (n : ℕ). All (λ x. (1 ≤ x.chain) × (x.chain ≤ n)) c.args.order.now) (sym count) (o 0).chains)))
+            absurd (false≢true (sym w.if-not-are_within.true ∙ w.are_within.ensures.1 (rw count (o 0).chains)))
       ],
 )
 
 pub returns-then-not-branch-clause-order : goal.returns-then-not-branch-clause-order
 returns-then-not-branch-clause-order c = (
   λ no. absurd (false≢true no),
-  λ o. let told = done_told c.args.catalogue.now (length c.args.slots.now.at.items) c.len-size.result c.args.report.now.submission (all_asked c.args.requests.now)
-      c.in_ok-chains.chains.items c.deref.result.now c.args.order.now c.args.report.now.completions.items c.deref-2.result.now c.in_ok-are_chains_done.field-0
-      (omega (arith, c.args.slots.now.at.ok.0)) c.deref.ensures.value c.deref-2.ensures.value c.in_ok-chains.ensures.members c.in_ok-are_chains_done.ensures in
-      absurd (false≢true (sym c.if-not-branch.true ∙ told.1 (o 0).done)),
+  λ o. let size : c.len-size.result ≡ length c.args.slots.now.at.items = omega (arith, c.args.slots.now.at.ok.0) in
+      absurd (false≢true (sym c.if-not-branch.true ∙ c.in_ok-are_chains_done.ensures.1
+      (rw (size, c.deref.ensures.value, c.in_ok-chains.ensures.members, c.deref-2.ensures.value) (o 0).done))),
 )
 
 pub returns-then-not-branch-2-clause-order : goal.returns-then-not-branch-2-clause-order
 returns-then-not-branch-2-clause-order c = (
   λ no. absurd (false≢true no),
-  λ o. absurd (false≢true (sym c.if-not-branch-2.true ∙ c.in_ok-are_closed.ensures.1
-      (subst (λ (l : List Closed). IsPermutation (removed_in (accesses_of c.args.order.now)) l × IsInOrderOfMark l) (sym c.files.ensures)
-      ((o 0).closed.same_files, (o 0).closed.in_order)))),
+  λ o. absurd (false≢true (sym c.if-not-branch-2.true
+      ∙ c.in_ok-are_closed.ensures.1 (rw c.files.ensures ((o 0).closed.same_files, (o 0).closed.in_order)))),
 )
 
 pub returns-then-not-make_all-clause-order : goal.returns-then-not-make_all-clause-order
 returns-then-not-make_all-clause-order c = (
   λ no. absurd (false≢true no),
-  λ o. absurd (false≢true (sym c.if-not-make_all.true ∙ c.make_all.ensures.permitted.1
-      (subst (λ (t : Table). PermitsAll t (accesses_of c.args.order.now)) (sym c.in_ok-left.ensures) (o 0).permitted))),
+  λ o. absurd (false≢true (sym c.if-not-make_all.true ∙ c.make_all.ensures.permitted.1 (rw c.in_ok-left.ensures (o 0).permitted))),
 )
 
 pub returns-clause-order : goal.returns-clause-order
 returns-clause-order c = (
   λ yes registrations.
-      let told = done_told c.args.catalogue.now (length c.args.slots.now.at.items) c.len-size.result c.args.report.now.submission (all_asked c.args.requests.now)
-      c.in_ok-chains.chains.items c.deref.result.now c.args.order.now c.args.report.now.completions.items c.deref-2.result.now c.in_ok-are_chains_done.field-0
-      (omega (arith, c.args.slots.now.at.ok.0)) c.deref.ensures.value c.deref-2.ensures.value c.in_ok-chains.ensures.members c.in_ok-are_chains_done.ensures in
+      let size : c.len-size.result ≡ length c.args.slots.now.at.items = omega (arith, c.args.slots.now.at.ok.0) in
       let count : c.len.result ≡ length (runs_of (all_asked c.args.requests.now)) =
       as_many (all_asked c.args.requests.now) c.in_ok-chains.chains.items c.len.result (omega (arith, c.in_ok-chains.chains.ok.0)) c.in_ok-chains.ensures.members in
       let closed = c.in_ok-are_closed.ensures.0 c.if-not-branch-2.false in
       record {
-        permitted = subst (λ (t : Table). PermitsAll t (accesses_of c.args.order.now)) c.in_ok-left.ensures (c.make_all.ensures.permitted.0 c.if-not-make_all.false);
+        permitted = rw c.in_ok-left.ensures at (c.make_all.ensures.permitted.0 c.if-not-make_all.false);
         chains = subst (λ (n : ℕ). All (λ x. (1 ≤ x.chain) × (x.chain ≤ n)) c.args.order.now) count (c.are_within.ensures.0 c.if-not-are_within.false);
-        done = told.0 c.if-not-branch.false;
+        done = rw (c.deref.ensures.value, c.in_ok-chains.ensures.members, c.deref-2.ensures.value, size) at (c.in_ok-are_chains_done.ensures.0 c.if-not-branch.false);
         closed = record { same_files = subst (IsPermutation (removed_in (accesses_of c.args.order.now))) c.files.ensures closed.0; in_order = subst IsInOrderOfMark c.files.ensures closed.1 };
         submission = omega arith;
       },
