@@ -4,7 +4,7 @@ use Rattle.fx_judge.proofs.Words.{sym, ap, subst, ◌∙◌, arith, Ok, Err, len
 use Rattle.fx_judge.proofs.Words.{AllZip, AllByRecursion, FileEntry, Closed, members_of, Completed, all_completed, completed_of}
 use Rattle.fx_judge.proofs.Words.{Completion, Request, first_member, Asked, all_asked, asked_of, Chain, accesses_of}
 use Rattle.fx_judge.proofs.Words.{accesses_of_chain, IsChainDone, AreChainsDone, Access, ChainAccess, AreDone, TellsChains, AreClaims, Fits}
-use Rattle.fx_judge.proofs.Words.{IsPossible, Possibly, Tells, Claim, Stop, Refuted, Unknown, NoMemory}
+use Rattle.fx_judge.proofs.Words.{IsPossible, Possibly, Tells, Claim, Stop, Refuted}
 use Rattle.std.proofs.lemmas.List.{drop_all}
 use Rattle.fx_order.proofs.ChainsFront.{others_completed, own_completed, parts_of, too_few}
 use Rattle.fx_judge.proofs.Projected.{of_chain}
@@ -122,8 +122,7 @@ module _ (catalogue : List FileEntry) (size : ℕ) (range : ℕ × ℕ) (closes 
         → TellsChains catalogue size range closes submission (map (members_of asked) chains) completions (Err stop)
     chain_stops (Refuted reason) tells = none_of_chain catalogue size range closes submission (map (members_of asked) chains) completions i (all_completed rest) claims so
         (all_asked members) inside run_is n same (λ accesses done. tells accesses (of_own accesses done))
-    chain_stops Unknown tells = tt
-    chain_stops NoMemory tells = tt
+    chain_stops stop tells = tt
 
     pub chain_told : (told : Vec Claim)
         → Tells (Possibly size range (λ a. IsChainDone catalogue size (first_member submission n) (all_asked members) a (all_completed own))) closes (Ok told)

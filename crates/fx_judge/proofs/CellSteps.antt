@@ -1,5 +1,5 @@
 -- A claim of an access may be made where the access may, and leaves the same files.
-use Rattle.fx_judge.proofs.Words.{◌≡◌, ℕ, ◌+◌, ◌<◌, ◌≤◌, ◌&&◌, ◌||◌, not, Bool, true, false, List, [], ◌∷◌, refl, sym, ap, subst, ◌∙◌, All, Contains}
+use Rattle.fx_judge.proofs.Words.{◌≡◌, ℕ, ◌&&◌, ◌||◌, not, Bool, true, false, List, [], ◌∷◌, refl, sym, ap, subst, ◌∙◌, All, Contains}
 use Rattle.fx_judge.proofs.Words.{Option, Some, None, IsSome, IsTrue, if◌then◌else◌, is_some, slice_index_or, list_all, All-head, All-tail, All-map}
 use Rattle.fx_judge.proofs.Words.{All-weaker, Closed, changed_at, by_equality, unchanged, Table, IsInRange, Permits, table_with, removed_by, Access}
 use Rattle.fx_judge.proofs.Words.{Looks, Puts, Clears, Takes, Allocates, FindsFull, Fits, IsLeft, IsResident, Wanted, touched, found_by, left_by}
@@ -30,19 +30,20 @@ at_after table FindsFull slot is may = absurd (cc)
 
 pub same_size : (table : Table) (a : Access) → (table_with table a).size ≡ table.size
 same_size table (Looks s found) = refl
-same_size table (Puts s file removed) = refl
-same_size table (Clears s removed) = refl
-same_size table (Takes s removed) = refl
-same_size table (Allocates s file) = refl
-same_size table FindsFull = refl
+same_size table a = refl
 
 pub same_range : (table : Table) (a : Access) → (table_with table a).range ≡ table.range
 same_range table (Looks s found) = refl
-same_range table (Puts s file removed) = refl
-same_range table (Clears s removed) = refl
-same_range table (Takes s removed) = refl
-same_range table (Allocates s file) = refl
-same_range table FindsFull = refl
+same_range table a = refl
+
+-- a cell behind an access, with what is at its slot then
+pub moved : (table : Table) (closes : List Closed) (a : Access) (cell : Cell) (file : Option Resident) → IsCell table closes cell
+    → ShowsFile closes ((table_with table a).at cell.slot) file → IsCell (table_with table a) closes (record cell { file = file })
+moved table closes a cell file now shows = record {
+  inside = rw (same_size table a) now.inside;
+  range = λ yes. rw (same_range table a) (now.range yes);
+  shows = shows;
+}
 
 not_some : (x : Option Closed) → IsSome x → x ≡ None → ⊥
 not_some x some is = let bad : false ≡ true = ap is_some (sym is) ∙ some in absurd (cc)
@@ -122,18 +123,10 @@ module _ (closes : List Closed) where
         → IsCell (table_with table a) closes (cell_with slot file cell)
     kept_cell slot file cell is shows cells_now =
         by_equality cell.slot slot (λ b. IsCell (table_with table a) closes (if b then record cell { file = file } else cell))
-        (λ same. record {
-          inside = subst (λ (n : ℕ). cell.slot < n) (sym (same_size table a)) cells_now.inside;
-          range = λ yes. subst (λ (r : ℕ × ℕ). (r.0 ≤ cell.slot) × (cell.slot < r.0 + r.1)) (sym (same_range table a)) (cells_now.range yes);
-          shows = subst (λ (x : Option Closed). ShowsFile closes x file)
-              (sym (ap (λ (at : ℕ → Option Closed). at cell.slot) (at_after table a slot is may) ∙ at_changed cell.slot same)) shows;
-        })
-        (λ other. record {
-          inside = subst (λ (n : ℕ). cell.slot < n) (sym (same_size table a)) cells_now.inside;
-          range = λ yes. subst (λ (r : ℕ × ℕ). (r.0 ≤ cell.slot) × (cell.slot < r.0 + r.1)) (sym (same_range table a)) (cells_now.range yes);
-          shows = subst (λ (x : Option Closed). ShowsFile closes x cell.file)
-              (sym (ap (λ (at : ℕ → Option Closed). at cell.slot) (at_after table a slot is may) ∙ at_others cell.slot other)) cells_now.shows;
-        })
+        (λ same. moved table closes a cell file cells_now (subst (λ (x : Option Closed). ShowsFile closes x file)
+        (sym (ap (λ (at : ℕ → Option Closed). at cell.slot) (at_after table a slot is may) ∙ at_changed cell.slot same)) shows))
+        (λ other. moved table closes a cell cell.file cells_now (subst (λ (x : Option Closed). ShowsFile closes x cell.file)
+        (sym (ap (λ (at : ℕ → Option Closed). at cell.slot) (at_after table a slot is may) ∙ at_others cell.slot other)) cells_now.shows))
       where
         at_changed : (k : ℕ) → k ≡ slot → changed_at table.at slot (left_by a) k ≡ left_by a
         at_changed k same = by_equality k slot (λ b. (if b then left_by a else table.at k) ≡ left_by a) (λ _. refl) (λ other. absurd (other same))
@@ -146,11 +139,8 @@ module _ (closes : List Closed) where
     same_cell slot cell is left cells_now =
         let at : (table_with table a).at ≡ table.at =
         at_after table a slot is may ∙ unchanged table.at slot (left_by a) (left ∙ found_at table a slot is may) in
-        record {
-          inside = subst (λ (n : ℕ). cell.slot < n) (sym (same_size table a)) cells_now.inside;
-          range = λ yes. subst (λ (r : ℕ × ℕ). (r.0 ≤ cell.slot) × (cell.slot < r.0 + r.1)) (sym (same_range table a)) (cells_now.range yes);
-          shows = subst (λ (f : ℕ → Option Closed). ShowsFile closes (f cell.slot) cell.file) (sym at) cells_now.shows;
-        }
+        moved table closes a cell cell.file cells_now
+        (subst (λ (f : ℕ → Option Closed). ShowsFile closes (f cell.slot) cell.file) (sym at) cells_now.shows)
 
     shows_none : left_by a ≡ None → ShowsFile closes (left_by a) None
     shows_none is = subst (λ (x : Option Closed). ShowsFile closes x None) (sym is) tt

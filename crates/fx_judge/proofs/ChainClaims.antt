@@ -2,7 +2,7 @@
 use Rattle.fx_judge.proofs.Words.{◌≡◌, ℕ, suc, ◌+◌, ◌≤◌, Bool, true, false, List, [], ◌∷◌, ◌++◌, length, drop, arith, append_assoc, refl, sym}
 use Rattle.fx_judge.proofs.Words.{ap, subst, ◌∙◌, Ok, Err, append-nil, MatchBool, Vec, AllZip, AllByRecursion, FileEntry, Closed, ECANCELED}
 use Rattle.fx_judge.proofs.Words.{Completed, next_member, refusal, canceled, severs, Asked, Place, IsRequestDone, IsChainDone, Access, Fits}
-use Rattle.fx_judge.proofs.Words.{IsPossible, Possibly, Tells, TellsMember, MemberClaims, Claim, Stop, Refuted, Unknown, NoMemory}
+use Rattle.fx_judge.proofs.Words.{IsPossible, Possibly, Tells, TellsMember, MemberClaims, Claim, Stop, Refuted}
 use Rattle.std.proofs.lemmas.List.{drop_all}
 use Rattle.fx_judge.proofs.Entries.{all_zip_append}
 
@@ -192,5 +192,4 @@ module _ (catalogue : List FileEntry) (size : ℕ) (range : ℕ × ℕ) (closes 
         → Tells (Possibly size range (λ own. IsChainDone catalogue size place requests own cs)) closes (Err stop)
     one_stops true (Refuted reason) t tells = never_canceled t tells
     one_stops false (Refuted reason) t tells = never_done t tells
-    one_stops cut Unknown t tells = tt
-    one_stops cut NoMemory t tells = tt
+    one_stops cut stop t tells = tt

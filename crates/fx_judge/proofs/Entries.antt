@@ -1,7 +1,8 @@
 -- The claims of the entries of an update, one after another.
-use Rattle.fx_judge.proofs.Words.{◌≡◌, ℕ, zero, suc, ◌+◌, ◌<◌, ◌≤◌, ℤ, pos, negsuc, List, [], ◌∷◌, ◌++◌, length, drop, refl, sym, ap, subst, ◌∙◌}
+use Rattle.fx_judge.proofs.Words.{◌≡◌, ℕ, suc, ◌+◌, ◌<◌, ◌≤◌, ℤ, pos, negsuc, List, [], ◌∷◌, ◌++◌, length, drop, refl, sym, ap, subst, ◌∙◌}
 use Rattle.fx_judge.proofs.Words.{arith, append_assoc, drop-cons, get_or, AllZip, append-nil, Closed, installed, Place, IsEntryDone, AreEntriesDone}
 use Rattle.fx_judge.proofs.Words.{Access, Fits, IsResident, Claim, At, Anything, Empty, File, Resident}
+use Rattle.std.proofs.lemmas.List.{drop_all}
 
 pub all_zip_append : {A B : Type 0} (R : A → B → Type 0) (xs ys : List A) (us vs : List B) → AllZip R xs us → AllZip R ys vs → AllZip R (xs ++ ys) (us ++ vs)
 all_zip_append R [] ys [] vs first second = second
@@ -36,18 +37,13 @@ module _ (closes : List Closed) (place : Place) (off : ℕ) (list : List ℤ) (i
   one_up : suc i ≡ i + 1
   one_up = omega arith
 
-  behind : (j s : ℕ) (l : List ℤ) (k t : ℕ) (m : List ℤ) (accesses : List Access) → j ≡ k → s ≡ t → l ≡ m → AreEntriesDone place j s l accesses
-      → AreEntriesDone place k t m accesses
-  behind j s l k t m accesses same too lists done =
-      subst (λ (x : List ℤ). AreEntriesDone place k t x accesses) lists
-      (subst (λ (x : ℕ). AreEntriesDone place k x l accesses) too (subst (λ (x : ℕ). AreEntriesDone place x s l accesses) same done))
-
   -- one more entry, with the claims that it has
   pub one_more : (own : List Claim) → ((accesses : List Access) → IsEntryDone place i (off + i) (get_or list i d) accesses → AllZip (Fits closes) own accesses)
       → EntriesTold closes place off list (i + 1) (claims ++ own)
   one_more own each = record {
     each = λ accesses done.
         let parts = t.each accesses done in
+        let slot : off + i + 1 ≡ off + (i + 1) = omega arith in
         let next : AreEntriesDone place i (off + i) (get_or list i d ∷ drop (suc i) list) parts.others =
         subst (λ (l : List ℤ). AreEntriesDone place i (off + i) l parts.others) (drop-cons list i d within) parts.left in
         record {
@@ -55,8 +51,8 @@ module _ (closes : List Closed) (place : Place) (off : ℕ) (list : List ℤ) (i
           others = next.1;
           whole = parts.whole ∙ (ap (λ (l : List Access). parts.own ++ l) next.2 ∙ sym (append_assoc parts.own next.0 next.1));
           told = all_zip_append (Fits closes) claims own parts.own next.0 parts.told (each next.0 next.3);
-          left = behind (i + 1) (off + i + 1) (drop (suc i) list) (i + 1) (off + (i + 1)) (drop (i + 1) list) next.1 refl (omega arith)
-              (ap (λ (n : ℕ). drop n list) one_up) next.4;
+          left = subst (λ (n : ℕ). AreEntriesDone place (i + 1) n (drop (i + 1) list) next.1) slot
+              (subst (λ (n : ℕ). AreEntriesDone place (i + 1) (off + i + 1) (drop n list) next.1) one_up next.4);
         };
   }
 
@@ -87,11 +83,5 @@ pub all_told : (closes : List Closed) (place : Place) (off : ℕ) (list : List �
     → EntriesTold closes place off list i claims → (accesses : List Access) → AreEntriesDone place 0 off list accesses → AllZip (Fits closes) claims accesses
 all_told closes place off list i claims all t accesses done =
     let parts = t.each accesses done in
-    let none : parts.others ≡ [] = subst (λ (l : List ℤ). AreEntriesDone place i (off + i) l parts.others) (drop-all list i all) parts.left in
+    let none : parts.others ≡ [] = subst (λ (l : List ℤ). AreEntriesDone place i (off + i) l parts.others) (drop_all i list all) parts.left in
     subst (AllZip (Fits closes) claims) (sym (parts.whole ∙ (ap (λ (l : List Access). parts.own ++ l) none ∙ append-nil parts.own))) parts.told
-  where
-    drop-all : (l : List ℤ) (n : ℕ) → length l ≤ n → drop n l ≡ []
-    drop-all [] zero le = refl
-    drop-all [] (suc n) le = refl
-    drop-all (x ∷ l) zero le = absurd (omega arith)
-    drop-all (x ∷ l) (suc n) le = drop-all l n (omega arith)

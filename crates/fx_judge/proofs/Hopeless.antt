@@ -27,11 +27,9 @@ written (cell ∷ cells) s x slot =
 
 -- the number at a place of a list once one was written
 index_written : (l : List ℕ) (c x e : ℕ) → (slice_index (slice_set l c x) e ≡ slice_index l e) ⊎ ((e ≡ c) × (slice_index (slice_set l c x) e ≡ x))
-index_written [] c x e = inl refl
 index_written (a ∷ l) zero x zero = inr (refl, refl)
-index_written (a ∷ l) zero x (suc e) = inl refl
-index_written (a ∷ l) (suc c) x zero = inl refl
 index_written (a ∷ l) (suc c) x (suc e) = ⊎_elim (λ same. inl same) (λ is. inr (ap suc is.0, is.1)) (index_written l c x e)
+index_written l c x e = inl refl
 
 -- no list ends before a place that it has
 past_none : {X : Type 0} (xs : List X) (i k : ℕ) (x : X) → i ≤ k → slice_get xs k ≡ Some x → slice_get xs i ≡ None → ⊥

@@ -5,11 +5,11 @@ use Rattle.fx_judge.proofs.Words.{slice_index_or, slice_set, Option, Some, None,
 use Rattle.fx_judge.proofs.Words.{option_to_list, length-map, length-set, get_or-set_same, get_or-set_other, All-contains, All-head, All-tail}
 use Rattle.fx_judge.proofs.Words.{Contains-append_right, slice_get_within, Closed, by_equality, contains_head, contains_tail, Table, Permits}
 use Rattle.fx_judge.proofs.Words.{PermitsAll, table_with, table_after, removed_by, removed_in, access_of, accesses_of, accesses_of_chain, Access}
-use Rattle.fx_judge.proofs.Words.{Looks, Puts, Clears, Takes, Allocates, FindsFull, ChainAccess, Fits, left_by, touched, Standing, IsEnd, Ends}
+use Rattle.fx_judge.proofs.Words.{Looks, FindsFull, ChainAccess, Fits, left_by, touched, Standing, IsEnd, Ends}
 use Rattle.fx_judge.proofs.Words.{cells_after, is_staying, made, may_stay, next, with_cell, IsCell, IsPlayed, ShowsFile, starting, AreStrands}
-use Rattle.fx_judge.proofs.Words.{has_slot, seen, Cell, Claim, At, Full, Same, Empty, File, Resident, Strand}
+use Rattle.fx_judge.proofs.Words.{has_slot, seen, Cell, Claim, At, Empty, File, Resident, Strand}
 use Rattle.fx_judge.specs.Machine.{HasNoEnd}
-use Rattle.fx_judge.proofs.CellSteps.{allowed, cells_follow, at_after, same_size, same_range}
+use Rattle.fx_judge.proofs.CellSteps.{allowed, cells_follow, at_after, moved}
 
 -- the accesses of a chain with one more in front
 pub of_chain : (x : ChainAccess) (order : List ChainAccess) (chain : ℕ)
@@ -59,10 +59,9 @@ slots_stay (cell ∷ cells) slot file (Some k) =
     (λ _. ap (λ (b : Bool). (cell.slot == k) || b) (slots_stay cells slot file (Some k)))
 
 slots_after : (cells : List Cell) (claim : Claim) (o : Option ℕ) → has_slot (cells_after cells claim) o ≡ has_slot cells o
-slots_after cells (At slot wants Same) o = refl
 slots_after cells (At slot wants Empty) o = slots_stay cells slot None o
 slots_after cells (At slot wants (File resident)) o = slots_stay cells slot (Some resident) o
-slots_after cells Full o = refl
+slots_after cells claim o = refl
 
 some_or_none : {X : Type 0} (x : Option X) → ((y : X) × (x ≡ Some y)) ⊎ (x ≡ None)
 some_or_none None = inr refl
@@ -181,19 +180,14 @@ module _ (closes : List Closed) (strands : List Strand) (first : List Cell)
           (by_equality cell.slot slot (λ b. (b || has_slot l (Some slot)) ≡ false → has_slot l (Some slot) ≡ false) (λ _ bad. absurd (cc)) (λ _ rest. rest) none) k d (omega arith)
 
       elsewhere : (o : Option ℕ) → touched a ≡ o → All (IsCell (table_with table a) closes) cells
-      elsewhere None is = λ k d lt. let now = all k d lt in record {
-        inside = subst (λ (n : ℕ). (slice_index_or cells k d).slot < n) (sym (same_size table a)) now.inside;
-        range = λ yes. subst (λ (r : ℕ × ℕ). (r.0 ≤ (slice_index_or cells k d).slot) × ((slice_index_or cells k d).slot < r.0 + r.1)) (sym (same_range table a)) (now.range yes);
-        shows = subst (λ (f : ℕ → Option Closed). ShowsFile closes (f (slice_index_or cells k d).slot) (slice_index_or cells k d).file) (sym (no_slot a is)) now.shows;
-      }
+      elsewhere None is = λ k d lt. let now = all k d lt in
+          moved table closes a (slice_index_or cells k d) (slice_index_or cells k d).file now
+          (subst (λ (f : ℕ → Option Closed). ShowsFile closes (f (slice_index_or cells k d).slot) (slice_index_or cells k d).file) (sym (no_slot a is)) now.shows)
         where
           no_slot : (b : Access) → touched b ≡ None → (table_with table b).at ≡ table.at
           no_slot (Looks s found) is = refl
-          no_slot (Puts s file removed) is = absurd (cc)
-          no_slot (Clears s removed) is = absurd (cc)
-          no_slot (Takes s removed) is = absurd (cc)
-          no_slot (Allocates s file) is = absurd (cc)
           no_slot FindsFull is = refl
+          no_slot b is = absurd (cc)
       elsewhere (Some slot) is = λ k d lt.
           let now = all k d lt in
           let apart : (slice_index_or cells k d).slot ≡ slot → ⊥ = unlike cells slot (ap (has_slot cells) (sym is) ∙ out) k d lt in
@@ -201,11 +195,8 @@ module _ (closes : List Closed) (strands : List Strand) (first : List Cell)
           ap (λ (f : ℕ → Option Closed). f (slice_index_or cells k d).slot) (at_after table a slot is may)
           ∙ by_equality (slice_index_or cells k d).slot slot (λ b. (if b then left_by a else table.at (slice_index_or cells k d).slot) ≡ table.at (slice_index_or cells k d).slot)
           (λ same. absurd (apart same)) (λ _. refl) in
-          record {
-            inside = subst (λ (n : ℕ). (slice_index_or cells k d).slot < n) (sym (same_size table a)) now.inside;
-            range = λ yes. subst (λ (r : ℕ × ℕ). (r.0 ≤ (slice_index_or cells k d).slot) × ((slice_index_or cells k d).slot < r.0 + r.1)) (sym (same_range table a)) (now.range yes);
-            shows = subst (λ (x : Option Closed). ShowsFile closes x (slice_index_or cells k d).file) (sym at) now.shows;
-          }
+          moved table closes a (slice_index_or cells k d) (slice_index_or cells k d).file now
+          (subst (λ (x : Option Closed). ShowsFile closes x (slice_index_or cells k d).file) (sym at) now.shows)
 
   -- a cell whose file the closes don't have
   stays : (found : Option Closed) (shown : Option Resident) → ShowsFile closes found shown → ((file : Closed) → found ≡ Some file → Contains closes file → ⊥)

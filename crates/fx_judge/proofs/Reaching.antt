@@ -1,8 +1,8 @@
 -- A list of states that leaves none of their steps out, and has no end, shows that no order leads to one.
 use Rattle.fx_judge.proofs.Words.{◌≡◌, ◌≢◌, inl, inr, ℕ, zero, suc, ◌+◌, ◌<◌, Bool, true, false, List, [], ◌∷◌, length, map, Option, Some, None, refl, same_lists}
 use Rattle.fx_judge.proofs.Words.{sym, ap, subst, ◌∙◌, arith, Contains, All, slice_index, slice_index_or, slice_set, if◌then◌else◌, length-map}
-use Rattle.fx_judge.proofs.Words.{get_or-set_other, All-contains, All-map, slice_get, option_and_then, by_equality, starting, Cell, Claim, At, Full}
-use Rattle.fx_judge.proofs.Words.{Same, Empty, File, Node, Strand, Standing, allows, cells_after, next, made, claim_at, Ends, IsEnd, is_test, view}
+use Rattle.fx_judge.proofs.Words.{get_or-set_other, All-contains, All-map, slice_get, option_and_then, by_equality, starting, Cell, Claim, At}
+use Rattle.fx_judge.proofs.Words.{Empty, File, Node, Strand, Standing, allows, cells_after, next, made, claim_at, Ends, IsEnd, is_test, view}
 use Rattle.fx_judge.proofs.Words.{views}
 use Rattle.fx_judge.specs.Machine.{HasNoEnd, LeadsInside, IsExplored}
 
@@ -17,10 +17,9 @@ chosen true x y is = (refl, cc)
 chosen false x y is = absurd (cc)
 
 test_keeps : (cells : List Cell) (claim : Claim) → is_test claim ≡ true → cells_after cells claim ≡ cells
-test_keeps cells (At slot wants Same) is = refl
 test_keeps cells (At slot wants Empty) is = absurd (cc)
 test_keeps cells (At slot wants (File resident)) is = absurd (cc)
-test_keeps cells Full is = refl
+test_keeps cells claim is = refl
 
 abbrev standing : List ℕ → List Cell → Standing
 standing places cells = record { places = places; cells = cells }
@@ -33,11 +32,9 @@ abbrev pub skipped : Standing → ℕ → Standing
 skipped at c = record { places = slice_set at.places c (slice_index at.places c + 1); cells = at.cells }
 
 writes_commute : (l : List ℕ) (c d x y : ℕ) → c ≢ d → slice_set (slice_set l c x) d y ≡ slice_set (slice_set l d y) c x
-writes_commute [] c d x y other = refl
 writes_commute (a ∷ l) zero zero x y other = absurd (other refl)
-writes_commute (a ∷ l) zero (suc d) x y other = refl
-writes_commute (a ∷ l) (suc c) zero x y other = refl
 writes_commute (a ∷ l) (suc c) (suc d) x y other = ap (λ (m : List ℕ). a ∷ m) (writes_commute l c d x y (λ same. other (ap suc same)))
+writes_commute l c d x y other = refl
 
 claim_other : (strands : List Strand) (places : List ℕ) (c d x : ℕ) → d ≢ c → claim_at strands (slice_set places c x) d ≡ claim_at strands places d
 claim_other strands places c d x other =

@@ -1,21 +1,17 @@
 -- Where there is no order of a table's accesses, what was told comes of none.
 use Rattle.fx_judge.proofs.Words.{◌≡◌, ℕ, ◌+◌, ◌<◌, ◌≤◌, List, [], ◌∷◌, length, refl, sym, ap, subst, ◌∙◌, All, Contains, Vec, AllByRecursion}
 use Rattle.fx_judge.proofs.Words.{All-contains, All-contains_itself, All-permutation, IsPermutation-sym, all_completed, Asked}
-use Rattle.fx_judge.proofs.Words.{runs_of, RingState, IsRing, Table, Permits, PermitsAll, table_with, removed_in, accesses_of, Access, Looks, Puts}
-use Rattle.fx_judge.proofs.Words.{Clears, Takes, Allocates, FindsFull, ChainAccess, IsOneOrder, table_of, AreDone, AreClaims, IsPossible, HasNoOrder}
-use Rattle.fx_judge.proofs.Words.{IsOutcome, IsToldOutcome, IsRefuted, told_report, Claim, Outcome, Order, Unsettled, Told}
+use Rattle.fx_judge.proofs.Words.{runs_of, RingState, IsRing, Table, Permits, PermitsAll, table_with, removed_in, accesses_of, Access}
+use Rattle.fx_judge.proofs.Words.{Allocates, ChainAccess, IsOneOrder, table_of, AreDone, AreClaims, IsPossible, HasNoOrder}
+use Rattle.fx_judge.proofs.Words.{IsOutcome, IsToldOutcome, IsRefuted, told_report, Claim, Outcome, Told}
 use Rattle.fx_judge.proofs.Words.{no_file_that_stays_is_closed}
 use Rattle.fx_judge.specs.declared.part.Outcome.TheVariants.{Refuted}
 use Rattle.fx_judge.proofs.CellSteps.{same_size, same_range}
 
 possible_one : (table : Table) (size : ℕ) (range : ℕ × ℕ) (a : Access) → table.size ≡ size → table.range ≡ range → Permits table a → IsPossible size range a
-possible_one table size range (Looks s found) is are may = tt
-possible_one table size range (Puts s file removed) is are may = tt
-possible_one table size range (Clears s removed) is are may = tt
-possible_one table size range (Takes s removed) is are may = tt
 possible_one table size range (Allocates s file) is are may =
     (subst (λ (n : ℕ). s < n) is may.0.0, subst (λ (r : ℕ × ℕ). r.0 ≤ s) are may.1.0, subst (λ (r : ℕ × ℕ). s < r.0 + r.1) are may.1.1)
-possible_one table size range FindsFull is are may = tt
+possible_one table size range a is are may = tt
 
 -- what a table permits is possible there
 possible_all : (table : Table) (size : ℕ) (range : ℕ × ℕ) (accesses : List Access) → table.size ≡ size → table.range ≡ range → PermitsAll table accesses
@@ -58,6 +54,5 @@ module _ (old : RingState) (requests : List Asked) (told : Told) where
       → ((order : List ChainAccess) → AreDone old.catalogue old.size old.range (old.submissions + 1) (runs_of requests) (all_completed told.completions.items) order
       → AreClaims told.closes.items chains order)
       → (o : Outcome) → IsOutcome (table_of old) told.closes.items chains o → IsToldOutcome old requests told o
-  outcome_told ring chains many claims (Order order) is = tt
   outcome_told ring chains many claims (Refuted reason) is = no_order ring chains many claims is
-  outcome_told ring chains many claims (Unsettled doubt) is = tt
+  outcome_told ring chains many claims o is = tt
