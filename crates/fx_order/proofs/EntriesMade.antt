@@ -1,7 +1,7 @@
 -- How many accesses an update made.
 use Rattle.fx_order.proofs.Words.{◌≡◌, ℕ, zero, suc, ◌+◌, ◌==◌, ◌||◌, nat_lt, ℤ, pos, negsuc, int_le, Bool, true, false, if◌then◌else◌, List, [], ◌∷◌}
 use Rattle.fx_order.proofs.Words.{length, filter, refl, sym, ap, ◌∙◌, arith, list_any, false≢true, nat_tests, length-append, Errno, ENOENT}
-use Rattle.fx_order.proofs.Words.{ENXIO, EBADF, EAGAIN, ENOMEM, EBUSY, EINVAL, ENFILE, EMFILE, ECANCELED, is_bad_entry, Completed, negated, Place}
+use Rattle.fx_order.proofs.Words.{ENXIO, EBADF, EINVAL, is_bad_entry, Completed, negated, Place}
 use Rattle.fx_order.proofs.Words.{Access, IsRefused, IsEntryDone, AreEntriesDone, IsUpdateDone}
 use Rattle.fx_order.proofs.Cases.{either_way}
 
@@ -29,15 +29,7 @@ entries_made place in_list slot (entry ∷ list) accesses x =
 -- a refusal is no success
 no_success : (errno : Errno) → int_le (pos 0) (negated errno) ≡ false
 no_success ENOENT = refl
-no_success ENXIO = refl
-no_success EBADF = refl
-no_success EAGAIN = refl
-no_success ENOMEM = refl
-no_success EBUSY = refl
-no_success EINVAL = refl
-no_success ENFILE = refl
-no_success EMFILE = refl
-no_success ECANCELED = refl
+no_success errno = refl
 
 pub update_made : (entries size : ℕ) (place : Place) (off : ℕ) (list : List ℤ) (own : List Access) (c : Completed)
     → int_le (pos 0) c.res ≡ true → IsUpdateDone entries size place off list own c → length own ≡ length (done_ones list)

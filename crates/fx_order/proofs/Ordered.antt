@@ -2,7 +2,7 @@
 use Rattle.fx_order.proofs.Words.{◌≡◌, ℕ, ◌+◌, ◌≤◌, List, [], ◌∷◌, map, length, refl, sym, ap, subst, ◌∙◌, All, Contains, Option, IsPermutation}
 use Rattle.fx_order.proofs.Words.{All-nil, All-cons, All-append, IsPermutation-trans, Closed, Event, Action, State, opening, state_of, action_of}
 use Rattle.fx_order.proofs.Words.{closes_in, numbers_for, Asked, runs_of, RingContents, RingState, ring_of, IsOneHistory, Reported, Table, Looks}
-use Rattle.fx_order.proofs.Words.{Puts, Clears, Takes, Allocates, FindsFull, PermitsAll, table_with, Access, ChainAccess, table_after, removed_in}
+use Rattle.fx_order.proofs.Words.{PermitsAll, table_with, Access, ChainAccess, table_after, removed_in}
 use Rattle.fx_order.proofs.Words.{accesses_of, IsOneOrder, table_of, contains_head, contains_tail}
 use Rattle.fx_order.proofs.Begins.{opening_is_start}
 use Rattle.fx_order.proofs.Accesses.{shown, accesses_by, accesses_in, order_in, by_chain, accesses_of-order_in, permitted_along, shown-opening}
@@ -31,11 +31,7 @@ table_with_files table at = record table { at = at }
 pub same_outline : (table : Table) (accesses : List Access) → table_after table accesses ≡ table_with_files table (table_after table accesses).at
 same_outline table [] = refl
 same_outline table (Looks slot found ∷ accesses) = same_outline table accesses
-same_outline table (Puts slot file removed ∷ accesses) = same_outline (table_with table (Puts slot file removed)) accesses
-same_outline table (Clears slot removed ∷ accesses) = same_outline (table_with table (Clears slot removed)) accesses
-same_outline table (Takes slot removed ∷ accesses) = same_outline (table_with table (Takes slot removed)) accesses
-same_outline table (Allocates slot file ∷ accesses) = same_outline (table_with table (Allocates slot file)) accesses
-same_outline table (FindsFull ∷ accesses) = same_outline table accesses
+same_outline table (access ∷ accesses) = same_outline (table_with table access) accesses
 
 -- a ring with another table, and so many submissions counted
 abbrev pub ring_after : RingState → ℕ → Table → RingState

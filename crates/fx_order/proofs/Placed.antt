@@ -60,12 +60,11 @@ is_placed slot file s f here = let e : file ≡ f = cc (here.1) in inl (λ i. (s
 
 -- what an access leaves at a slot was there, or was placed by it
 pub step_from : (t : Table) (x : Access) (s : ℕ) (f : Closed) → (table_with t x).at s ≡ Some f → (t.at s ≡ Some f) ⊎ Has (placed_by x) s f
-step_from t (Looks slot found) s f is = inl is
 step_from t (Puts slot file removed) s f is = ⊎_elim (λ o. inl o.1) (λ h. inr (is_placed slot file s f h)) (written t slot (Some file) s f is)
 step_from t (Clears slot removed) s f is = ⊎_elim (λ o. inl o.1) (λ h. absurd (cc (h.1))) (written t slot None s f is)
 step_from t (Takes slot removed) s f is = ⊎_elim (λ o. inl o.1) (λ h. absurd (cc (h.1))) (written t slot None s f is)
 step_from t (Allocates slot file) s f is = ⊎_elim (λ o. inl o.1) (λ h. inr (is_placed slot file s f h)) (written t slot (Some file) s f is)
-step_from t FindsFull s f is = inl is
+step_from t x s f is = inl is
 
 -- a file that is at a slot after all of them was there, or was placed there
 pub left_from : (t : Table) (xs : List Access) (s : ℕ) (f : Closed) → (table_after t xs).at s ≡ Some f → (t.at s ≡ Some f) ⊎ Has (placed xs) s f
@@ -85,27 +84,23 @@ kept t slot removed new s f found was =
 -- what an access finds at a slot is there afterwards, or was removed by it
 step_kept : (t : Table) (x : Access) (s : ℕ) (f : Closed) → Permits t x → t.at s ≡ Some f
     → ((table_with t x).at s ≡ Some f) ⊎ (removed_by x ≡ Some f)
-step_kept t (Looks slot found) s f may was = inl was
 step_kept t (Puts slot file removed) s f may was = kept t slot removed (Some file) s f may.1 was
 step_kept t (Clears slot removed) s f may was = kept t slot removed None s f may.1 was
 step_kept t (Takes slot removed) s f may was = kept t slot removed None s f may.1 was
 step_kept t (Allocates slot file) s f may was = kept t slot None (Some file) s f may.0.1 was
-step_kept t FindsFull s f may was = inl was
+step_kept t x s f may was = inl was
 
 -- what an access places is there afterwards
 step_placed : (t : Table) (x : Access) (s : ℕ) (f : Closed) → Has (placed_by x) s f → (table_with t x).at s ≡ Some f
-step_placed t (Looks slot found) s f has = absurd has
 step_placed t (Puts slot file removed) s f (inl here) =
     by_equality s slot (λ b. ◌≡◌ {A = Option Closed} (if b then Some file else t.at s) (Some f))
     (λ _. λ i. Some ((here i).1)) (λ other. absurd (other (λ i. (sym here i).0)))
 step_placed t (Puts slot file removed) s f (inr none) = absurd none
-step_placed t (Clears slot removed) s f has = absurd has
-step_placed t (Takes slot removed) s f has = absurd has
 step_placed t (Allocates slot file) s f (inl here) =
     by_equality s slot (λ b. ◌≡◌ {A = Option Closed} (if b then Some file else t.at s) (Some f))
     (λ _. λ i. Some ((here i).1)) (λ other. absurd (other (λ i. (sym here i).0)))
 step_placed t (Allocates slot file) s f (inr none) = absurd none
-step_placed t FindsFull s f has = absurd has
+step_placed t x s f has = absurd has
 
 -- a file that was at a slot, or was placed there, is there after all of them, or they removed it
 pub left_or_removed : (t : Table) (xs : List Access) (s : ℕ) (f : Closed) → PermitsAll t xs → (t.at s ≡ Some f) ⊎ Has (placed xs) s f
@@ -139,21 +134,15 @@ emptied_at t x slot removed new g may is left puts = record {
 }
 
 pub emptied : (t : Table) (x : Access) (g : Closed) → Permits t x → removed_by x ≡ Some g → IsEmptied t x g
-emptied t (Looks slot found) g may is = cc
 emptied t (Puts slot file removed) g may is =
     emptied_at t (Puts slot file removed) slot removed (Some file) g may is (λ s f now. now) (λ s f h. is_placed slot file s f h)
 emptied t (Clears slot removed) g may is = emptied_at t (Clears slot removed) slot removed None g may is (λ s f now. now) (λ s f h. absurd (cc (h.1)))
 emptied t (Takes slot removed) g may is = emptied_at t (Takes slot removed) slot removed None g may is (λ s f now. now) (λ s f h. absurd (cc (h.1)))
-emptied t (Allocates slot file) g may is = cc
-emptied t FindsFull g may is = cc
+emptied t x g may is = cc
 
 same_size : (t : Table) (x : Access) → (table_with t x).size ≡ t.size
 same_size t (Looks slot found) = refl
-same_size t (Puts slot file removed) = refl
-same_size t (Clears slot removed) = refl
-same_size t (Takes slot removed) = refl
-same_size t (Allocates slot file) = refl
-same_size t FindsFull = refl
+same_size t x = refl
 
 -- where a removed file was
 pub record WasAt (t : Table) (l : List (ℕ × Closed)) (g : Closed) : Type 0 where

@@ -80,10 +80,8 @@ abbrev pub AnyPlace : ℕ → ℕ → Type 0
 AnyPlace m j = Unit {0}
 
 reaches_any : (member : ℕ) (operation : Operation) → Reaches (AnyPlace member) operation
-reaches_any member (Opens name target) = tt
-reaches_any member (Reads slot off len) = tt
-reaches_any member (Closes slot) = tt
 reaches_any member (Updates off list) = λ j lt. tt
+reaches_any member operation = tt
 
 pub reaches_all_any : (member : ℕ) (requests : List Asked) → ReachesAll AnyPlace member requests
 reaches_all_any member [] = tt
@@ -95,9 +93,8 @@ InLimits m j = (m ≤ MOST_MEMBERS) × (j < LONGEST_UPDATE)
 
 reaches_limits : (member : ℕ) (operation : Operation) → member ≤ MOST_MEMBERS → is_long_update operation ≡ false → Reaches (InLimits member) operation
 reaches_limits member (Opens name target) few short = (few, omega arith)
-reaches_limits member (Reads slot off len) few short = tt
-reaches_limits member (Closes slot) few short = tt
 reaches_limits member (Updates off list) few short = λ j lt. (few, let all = ltb-false LONGEST_UPDATE (length list) short in omega arith)
+reaches_limits member operation few short = tt
 
 pub reaches_all_limits : (member : ℕ) (requests : List Asked) → All IsWithinLimits requests → member + length requests ≤ MOST_MEMBERS + 1
     → ReachesAll InLimits member requests

@@ -2,7 +2,7 @@
 use Rattle.fx_order.proofs.Words.{◌≡◌, ◌≢◌, ℕ, ◌<◌, ◌≤◌, ◌==◌, Bool, List, [], ◌∷◌, ◌++◌, map, refl, sym, ap, subst, ◌∙◌, append_assoc, Option, Some}
 use Rattle.fx_order.proofs.Words.{None, if◌then◌else◌, arith, IsPermutation, append-nil, IsPermutation-refl, IsPermutation-sym, IsPermutation-trans}
 use Rattle.fx_order.proofs.Words.{IsPermutation-cons, IsPermutation-to_front, IsPermutation-middle, IsPermutation-map, IsPermutation-pop_more}
-use Rattle.fx_order.proofs.Words.{option_to_list, Closed, File, Event, Action, Look, Release, Put, Clear, Take, Allocate, Full, Close, State}
+use Rattle.fx_order.proofs.Words.{option_to_list, Closed, File, Event, Action, Look, Put, Clear, Take, Close, State}
 use Rattle.fx_order.proofs.Words.{IsSettled, Allows, after, with_removed, state_after, AllowsAll, action_of, closes_in, closed_by, IsStart}
 use Rattle.fx_order.proofs.Words.{identity_of, by_equality, removed_by, removed_in, Access, named, named_same, present, placed_one, tally, tally_all}
 use Rattle.fx_order.proofs.Words.{tally_start}
@@ -137,14 +137,11 @@ emptied st next removed closed slot (Some f) lt is few same a =
 accounts_after : (st : State) (a : Action) (removed closed : List Closed) → Allows st a → ((n : ℕ) → tally n st ≤ 1) → Accounts st removed closed
     → Accounts (after st a) (removed ++ removed_in (accesses_by a)) (closed ++ closed_by a)
 accounts_after st (Look slot None) removed closed may few a = kept st st removed closed refl a
-accounts_after st (Look slot (Some f)) removed closed may few a = kept st (after st (Look slot (Some f))) removed closed refl a
-accounts_after st (Release f) removed closed may few a = kept st (after st (Release f)) removed closed refl a
 accounts_after st (Put slot f found) removed closed may few a = emptied st (after st (Put slot f found)) removed closed slot found may.0 may.2 few refl a
 accounts_after st (Clear slot found) removed closed may few a = emptied st (after st (Clear slot found)) removed closed slot found may.0 may.1 few refl a
 accounts_after st (Take slot found) removed closed may few a = emptied st (after st (Take slot found)) removed closed slot found may.0 may.1 few refl a
-accounts_after st (Allocate slot f) removed closed may few a = kept st (after st (Allocate slot f)) removed closed refl a
-accounts_after st Full removed closed may few a = kept st st removed closed refl a
 accounts_after st (Close f) removed closed may few a = closed_one st removed closed f may.0 a
+accounts_after st action removed closed may few a = kept st (after st action) removed closed refl a
 
 pub removed_in-append : (xs ys : List Access) → removed_in (xs ++ ys) ≡ removed_in xs ++ removed_in ys
 removed_in-append [] ys = refl
