@@ -4,7 +4,7 @@ use Rattle.std.specs.Prelude.{◌≡◌, ℕ, ◌+◌, ◌*◌, ◌<◌, ◌≤�
 use mathlib.Core.Option.{some, none}
 use mathlib.Core.Option as maybe
 use lib.ListN.{get_elem?}
-use Rattle.fx_base.specs.declared.open_file.Closed.{Closed}
+use Rattle.fx_base.specs.Identity.{Identity}
 use Rattle.fx_plain.specs.History.{IsLegal, IsSeenBy, part_of_pass, held_by}
 use Rattle.fx_plain.specs.State.{State}
 use Rattle.fx_plain.specs.Table.{numbered}
@@ -49,7 +49,7 @@ pub record SlotAgrees (k : Start) (h : List Event) (phase : ℕ → Phase)
 
 -- what lies in a number's place: nothing, while the place is with a pass, or else a file or none
 abbrev pub Home : Type 0
-Home = maybe.Option (maybe.Option (Option Closed))
+Home = maybe.Option (maybe.Option (Option Identity))
 
 -- One number: its word, what lies in its place, and what the state says of it. The releases of a
 -- file are its looks less its holds, so `word + looks ≡ born + holds` says that the word is 2^32
@@ -65,7 +65,7 @@ module _ (st : State) (number looks word : ℕ) (home : Home) where
     pub not_removed : st.removed number ≡ None
 
   -- its file is at the slot
-  pub record IsAtSlot (slot : ℕ) (file : Closed) : Type 0 where
+  pub record IsAtSlot (slot : ℕ) (file : Identity) : Type 0 where
     pub counts : word + looks ≡ born + st.holds number
     pub at_home : home ≡ some (some (Some file))
     pub inside : slot < st.size
@@ -73,14 +73,14 @@ module _ (st : State) (number looks word : ℕ) (home : Home) where
     pub not_removed : st.removed number ≡ None
 
   -- its file was removed: the takes that were found are all its looks
-  pub record IsLeaving (takes : ℕ) (file : Closed) : Type 0 where
+  pub record IsLeaving (takes : ℕ) (file : Identity) : Type 0 where
     pub counts : word + looks ≡ born + st.holds number
     pub at_home : home ≡ some (some (Some file))
     pub all_takes : takes ≡ looks
     pub removed : st.removed number ≡ Some (numbered number file)
 
   -- its file was retired: the word counts the holds that are left
-  pub record IsRetired (file : Closed) : Type 0 where
+  pub record IsRetired (file : Identity) : Type 0 where
     pub counts : word ≡ st.holds number
     pub at_home : home ≡ some (some (Some file))
     pub some_hold : 0 < word

@@ -2,7 +2,7 @@
 use Rattle.std.specs.Prelude.{◌≡◌, ℕ, ◌+◌, ◌*◌, ◌<◌, ◌≤◌, List, Option, Some, None, length, slice_index}
 use mathlib.Core.Option.{some}
 use lib.ListN.{get_elem?}
-use Rattle.fx_base.specs.declared.open_file.Closed.{Closed}
+use Rattle.fx_base.specs.Identity.{Identity}
 use Rattle.fx_plain.specs.State.{State, file_numbered}
 use Rattle.fx_plain.specs.Table.{identity_of}
 use Rattle.fx_plain.specs.declared.event.File.{File}
@@ -31,7 +31,7 @@ pub record AreFirstWords (st : State) (numbers : ℕ) (words : List ℕ) : Type 
   pub fresh : (place : ℕ) → 16 + 8 * st.size ≤ place → slice_index words place ≡ 0
 
 -- the places with which it begins: those of the slots' numbers have the files
-pub record AreFirstHomes (st : State) (numbers : ℕ) (homes : List (Option Closed)) : Type 0 where
+pub record AreFirstHomes (st : State) (numbers : ℕ) (homes : List (Option Identity)) : Type 0 where
   pub count : length homes ≡ homes_for st.size numbers
   pub files : (slot : ℕ) → slot < st.size → get_elem? homes slot ≡ some (identity_of (st.at slot))
   pub others : (place : ℕ) → st.size ≤ place → place < homes_for st.size numbers

@@ -4,7 +4,7 @@ use Rattle.std.specs.Prelude.{◌≡◌, ℕ, ◌+◌, ◌-◌, ◌%◌, ◌^◌
 use mathlib.Core.Option.{none}
 use prog.Atomic.{either}
 use Rattle.atomic_table.specs.Table.{step, Splits, Joins, Allows}
-use Rattle.fx_base.specs.declared.open_file.Closed.{Closed}
+use Rattle.fx_base.specs.Identity.{Identity}
 use Rattle.fx_plain.specs.declared.event.File.{File}
 use Rattle.fx_plain.specs.declared.event.Action.TheVariants.{Clear, Take}
 use Rattle.fx_table.specs.Opening.{range_of}
@@ -76,7 +76,7 @@ LooksKeep = (k : Start) (slots id i slot : ℕ) (m : Sat) (x : Log) → HasPass 
 
 -- a pass swaps the word of the file that it places into a slot
 abbrev pub InstallsKeep : Type 0
-InstallsKeep = (k : Start) (slots id i slot n new : ℕ) (file : Closed) (m : Sat) (x : Log)
+InstallsKeep = (k : Start) (slots id i slot n new : ℕ) (file : Identity) (m : Sat) (x : Log)
     → HasPass k m x → m.0.work ≡ Placing n → m.1 ≡ (place_of k n, Some file) ∷ []
     → file.entry < 2 ^ 8 → slot < slots_of k → MayChange k slot m.0.change
     → i ≡ slot_place slot → new ≡ slot_word_of n file.entry
@@ -148,7 +148,7 @@ LoadsKeep = (k : Start) (slots id i : ℕ) (m : Sat) (x : Log) → HasPass k m x
 -- a pass in a change exchanges a word that names no file, at a slot of the range, for the word of
 -- the file that it places
 abbrev pub ExchangesKeep : Type 0
-ExchangesKeep = (k : Start) (slots id i slot n old new : ℕ) (file : Closed) (m : Sat) (x : Log)
+ExchangesKeep = (k : Start) (slots id i slot n old new : ℕ) (file : Identity) (m : Sat) (x : Log)
     → HasPass k m x → m.0.work ≡ Placing n → m.1 ≡ (place_of k n, Some file) ∷ []
     → file.entry < 2 ^ 8 → m.0.change ≡ Same → IsInRange k slot → i ≡ slot_place slot
     → name_in old ≡ 0 → new ≡ slot_word_of n file.entry

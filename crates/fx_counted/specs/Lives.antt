@@ -3,7 +3,7 @@ use Rattle.std.specs.Prelude.{◌≡◌, ℕ, ◌+◌, ◌-◌, true, false, Lis
 use Rattle.atomic_table.specs.declared.shared.Seat.{Seat}
 use mathlib.Core.Option.{some}
 use lib.ListN.{get_elem?}
-use Rattle.fx_base.specs.declared.open_file.Closed.{Closed}
+use Rattle.fx_base.specs.Identity.{Identity}
 use Rattle.fx_plain.specs.Contents.{Contents, state_of}
 use Rattle.fx_plain.specs.State.{IsSettled}
 use Rattle.fx_table.specs.Opening.{HasSameFiles}
@@ -35,7 +35,7 @@ logs_in [] = []
 logs_in (p ∷ ps) = p.seat.me.0.logs ++ logs_in ps
 
 -- the pass of this seat has done nothing
-pub record IsNewPass (seat : Seat (Option Closed) View) (p : CountedPass) : Type 0 where
+pub record IsNewPass (seat : Seat (Option Identity) View) (p : CountedPass) : Type 0 where
   pub its_seat : p.seat ≡ seat
   pub chain : p.chain ≡ 0
   pub chains_left : p.no_chains_left ≡ false
@@ -44,12 +44,12 @@ pub record IsNewPass (seat : Seat (Option Closed) View) (p : CountedPass) : Type
   pub flag : p.idle ≡ true
 
 -- the seat of a table that was just opened
-pub record HasAllPasses (t : CountedTable) (seat : Seat (Option Closed) View) : Type 0 where
+pub record HasAllPasses (t : CountedTable) (seat : Seat (Option Identity) View) : Type 0 where
   pub table : seat.table_id ≡ t.table.shared.table_id
   pub me : seat.me ≡ (first_view t.table.shared.key, [])
 
 -- a seat of the table with some passes, which do nothing
-pub record IsIdleSeatOf (t : CountedTable) (seat : Seat (Option Closed) View) : Type 0 where
+pub record IsIdleSeatOf (t : CountedTable) (seat : Seat (Option Identity) View) : Type 0 where
   pub table : seat.table_id ≡ t.table.shared.table_id
   pub places : seat.me.1 ≡ []
   pub start : seat.me.0.start ≡ t.table.shared.key

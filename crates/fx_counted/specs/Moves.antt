@@ -1,6 +1,6 @@
 -- A pass that has the place of a number.
 use Rattle.std.specs.Prelude.{◌≡◌, ℕ, ◌<◌, ◌⊎◌, [], ◌∷◌, Option}
-use Rattle.fx_base.specs.declared.open_file.Closed.{Closed}
+use Rattle.fx_base.specs.Identity.{Identity}
 use Rattle.fx_counted.specs.Laws.{HasPass, place_of}
 use Rattle.fx_counted.specs.Passes.{Sat, IsNumber, next_in}
 use Rattle.fx_counted.specs.declared.view.Log.{Log}
@@ -10,7 +10,7 @@ use Rattle.fx_table.specs.declared.values.Doing.TheVariants.{Idle}
 
 -- the seat's pass has the place of the number, to install its file or since its file is closed; and
 -- this is in the place
-pub record HasPlace (k : Start) (number : ℕ) (inside : Option Closed) (m : Sat) : Type 0 where
+pub record HasPlace (k : Start) (number : ℕ) (inside : Option Identity) (m : Sat) : Type 0 where
   pub log : Log
   pub pass : HasPass k m log
   pub known : IsNumber k number

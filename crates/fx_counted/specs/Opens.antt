@@ -3,7 +3,7 @@ use Rattle.std.specs.Prelude.{◌≡◌, ℕ, ◌+◌, ◌<◌, ◌≤◌, List,
 use mathlib.Core.Option.{some}
 use lib.ListN.{get_elem?}
 use Rattle.atomic_table.specs.Table.{opening}
-use Rattle.fx_base.specs.declared.open_file.Closed.{Closed}
+use Rattle.fx_base.specs.Identity.{Identity}
 use Rattle.fx_plain.specs.declared.event.File.{File}
 use Rattle.fx_plain.specs.declared.table.TheConstants.{MOST_SLOTS}
 use Rattle.fx_table.specs.declared.limits.TheConstants.{CHAIN_NUMBERS, FIRST_CHAIN_NUMBER, MAX_CHAINS, MAX_PASSES}
@@ -27,7 +27,7 @@ node_for None = 0
 node_for (Some f) = born
 
 -- what lies in the number's place
-abbrev pub home_for : Option File → Option Closed
+abbrev pub home_for : Option File → Option Identity
 home_for None = None
 home_for (Some f) = Some f.identity
 
@@ -37,7 +37,7 @@ first_file k slot = (state_after_all k []).at slot
 
 -- Words and places of a table that begins so: each file at a slot has no takes and no releases, no
 -- pass is in a change, and no chain is drawn
-pub record OpensWith (k : Start) (words : List ℕ) (homes : List (Option Closed)) : Type 0 where
+pub record OpensWith (k : Start) (words : List ℕ) (homes : List (Option Identity)) : Type 0 where
   pub slots : slots_of k ≤ MOST_SLOTS
   pub range : (range_of (opening_of k)).0 + (range_of (opening_of k)).1 ≤ slots_of k
   pub chains : k.chains ≤ MAX_CHAINS
@@ -62,5 +62,5 @@ pub record OpensWith (k : Start) (words : List ℕ) (homes : List (Option Closed
 
 -- a table that begins so keeps the rule, with one seat that has all passes
 abbrev pub OpeningKeeps : Type 0
-OpeningKeeps = (k : Start) (words : List ℕ) (homes : List (Option Closed))
+OpeningKeeps = (k : Start) (words : List ℕ) (homes : List (Option Identity))
     → OpensWith k words homes → Agrees k (opening words homes (first_view k))

@@ -1,7 +1,7 @@
 -- What views say of passes.
 use Rattle.std.specs.Prelude.{ℕ, zero, suc, ◌-◌, ◌*◌, ◌==◌, nat_lt, false, List, [], ◌∷◌, Option, Some, None, sum_by, count_by, if◌then◌else◌}
 use Rattle.atomic_table.specs.Table.{State as TableState, Me}
-use Rattle.fx_base.specs.declared.open_file.Closed.{Closed}
+use Rattle.fx_base.specs.Identity.{Identity}
 use Rattle.fx_plain.specs.History.{part_of_pass}
 use Rattle.fx_plain.specs.State.{State}
 use Rattle.fx_plain.specs.declared.event.File.{File}
@@ -21,11 +21,11 @@ use Rattle.fx_table.specs.declared.values.Doing.TheVariants.{Idle, Holding}
 
 -- the table as steps see it: a place has an open file or none
 abbrev pub Shared : Type 0
-Shared = TableState (Option Closed) View
+Shared = TableState (Option Identity) View
 
 -- a seat's view, and the places that are with it
 abbrev pub Sat : Type 0
-Sat = Me (Option Closed) View
+Sat = Me (Option Identity) View
 
 -- how the table was opened, as all shared tables show it
 abbrev pub opening_of : Start → Opening

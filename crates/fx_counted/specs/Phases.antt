@@ -1,6 +1,6 @@
 -- Where each number of a file stands in its life.
 use Rattle.std.specs.Prelude.{ℕ, ◌+◌, Option, Some, None}
-use Rattle.fx_base.specs.declared.open_file.Closed.{Closed}
+use Rattle.fx_base.specs.Identity.{Identity}
 
 -- where a number stands
 pub data Phase : Type 0 where
@@ -11,11 +11,11 @@ pub data Phase : Type 0 where
   -- the pass at the seat is about to install its file
   placed : ℕ → Phase
   -- its file is at the slot
-  seated : ℕ → Closed → Phase
+  seated : ℕ → Identity → Phase
   -- its file was removed by the pass at the seat, which found so many takes
-  leaving : ℕ → ℕ → Closed → Phase
+  leaving : ℕ → ℕ → Identity → Phase
   -- its file was removed and retired, and somebody holds it
-  retired : Closed → Phase
+  retired : Identity → Phase
   -- its file is closed, and the pass at the seat is about to take it out
   emptied : ℕ → Phase
   -- its file is closed and gone, or it never had one
@@ -29,7 +29,7 @@ owner (emptied seat) = seat + 1
 owner _ = 0
 
 -- its file, while it is open
-abbrev pub file_in : Phase → Option Closed
+abbrev pub file_in : Phase → Option Identity
 file_in (seated slot file) = Some file
 file_in (leaving seat takes file) = Some file
 file_in (retired file) = Some file

@@ -1,6 +1,6 @@
 -- A pass that looks for a free slot of the allocation range.
 use Rattle.std.specs.Prelude.{◌≡◌, ℕ, ◌<◌, Bool, true, false, [], ◌∷◌, List, Some}
-use Rattle.fx_base.specs.declared.open_file.Closed.{Closed}
+use Rattle.fx_base.specs.Identity.{Identity}
 use Rattle.fx_plain.specs.History.{◌▷◌}
 use Rattle.fx_plain.specs.Table.{numbered}
 use Rattle.fx_plain.specs.declared.event.Action.{Action}
@@ -20,7 +20,7 @@ use Rattle.fx_counted.specs.declared.view.Work.TheVariants.{Between, Placing}
 use Rattle.fx_table.specs.declared.values.Doing.TheVariants.{Idle}
 
 -- the seat's pass has the place of the number, with the file that it is about to install
-pub record IsPlacing (k : Start) (number : ℕ) (file : Closed) (m : Sat) : Type 0 where
+pub record IsPlacing (k : Start) (number : ℕ) (file : Identity) (m : Sat) : Type 0 where
   pub at : IsAtWork k m
   pub work : m.0.work ≡ Placing number
   pub place : m.1 ≡ (place_of k number, Some file) ∷ []
@@ -34,7 +34,7 @@ abbrev pub StillPlaces : ℕ → Change → Sat → Sat → Type 0
 StillPlaces number c m m' = Proceeds m [] no_use (Placing number) c m' × (m'.1 ≡ m.1)
 
 -- the file is at the slot, which was free
-abbrev pub HasAllocated : ℕ → Closed → ℕ → Change → Sat → Sat → Type 0
+abbrev pub HasAllocated : ℕ → Identity → ℕ → Change → Sat → Sat → Type 0
 HasAllocated number file slot c m m' =
     Proceeds m ([] ▷ Allocate slot (numbered number file)) one_number (Between Idle) c m'
     × (m'.1 ≡ [])
@@ -45,12 +45,12 @@ HasFoundAllFull number m m' =
     Proceeds m ([] ▷ Full) no_use (Placing number) Outside m' × (m'.1 ≡ m.1)
 
 -- a try at one slot
-abbrev pub Tries : ℕ → Closed → ℕ → Sat → Bool → Sat → Type 0
+abbrev pub Tries : ℕ → Identity → ℕ → Sat → Bool → Sat → Type 0
 Tries number file slot m true m' = HasAllocated number file slot More m m'
 Tries number file slot m false m' = StillPlaces number Same m m'
 
 -- one round over the range
-abbrev pub RoundEnds : Start → ℕ → Closed → Sat → Round → Sat → Type 0
+abbrev pub RoundEnds : Start → ℕ → Identity → Sat → Round → Sat → Type 0
 RoundEnds k number file m (At slot) m' =
     (slot < slots_of k) × HasAllocated number file slot Outside m m'
 RoundEnds k number file m AllFull m' = HasFoundAllFull number m m'

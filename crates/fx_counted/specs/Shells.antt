@@ -1,7 +1,7 @@
 -- The table of one thread from which a shared table was opened, while its files lie in the shared
 -- table's places.
 use Rattle.std.specs.Prelude.{◌≡◌, ℕ, List, Option, None, slice_index_or}
-use Rattle.fx_base.specs.declared.open_file.Closed.{Closed}
+use Rattle.fx_base.specs.Identity.{Identity}
 use Rattle.fx_plain.specs.State.{State, IsSettled}
 use Rattle.fx_plain.specs.Table.{identity_of}
 
@@ -17,12 +17,12 @@ pub record IsShellOf (st empty : State) : Type 0 where
   pub shell : IsShell empty
 
 -- each of these files is at its slot
-pub record AreBack (shell : State) (file : ℕ → Option Closed) (st : State) : Type 0 where
+pub record AreBack (shell : State) (file : ℕ → Option Identity) (st : State) : Type 0 where
   pub size : st.size ≡ shell.size
   pub range : st.range ≡ shell.range
   pub files : (slot : ℕ) → identity_of (st.at slot) ≡ file slot
   pub settled : IsSettled st
 
 -- what lies in the place of this number
-abbrev pub file_in_place : List (Option Closed) → ℕ → Option Closed
+abbrev pub file_in_place : List (Option Identity) → ℕ → Option Identity
 file_in_place places place = slice_index_or places place None

@@ -1,7 +1,7 @@
 -- What each kind of step tells the pass that makes it.
 use Rattle.std.specs.Prelude.{◌≡◌, ◌≢◌, ℕ, zero, suc, ◌+◌, ◌<◌, nat_lt, if◌then◌else◌, List, [], ◌∷◌, Option, Some, None}
 use Rattle.atomic_table.specs.Table.{Step, rest}
-use Rattle.fx_base.specs.declared.open_file.Closed.{Closed}
+use Rattle.fx_base.specs.Identity.{Identity}
 use Rattle.fx_plain.specs.History.{◌▷◌}
 use Rattle.fx_plain.specs.Table.{numbered}
 use Rattle.fx_plain.specs.declared.event.File.{File}
@@ -26,7 +26,7 @@ use Rattle.fx_table.specs.declared.values.Doing.TheVariants.{Idle, Holding, Reti
 
 -- a step of a table whose places have an open file or none
 abbrev pub At : Type 0
-At = Step (Option Closed)
+At = Step (Option Identity)
 
 -- the number that a pass works with is one of the table
 abbrev pub IsInside : Start → Work → Type 0
@@ -91,7 +91,7 @@ pub record Looks (st : At) (m : Sat) (found : ℕ) (m' : Sat) : Type 0 where
 pub record Installs (st : At) (m : Sat) (found : ℕ) (m' : Sat) : Type 0 where
   pub replaced : Option File
   pub names : Names found replaced
-  pub stepped : (n : ℕ) (file : Closed) → m.0.work ≡ Placing n
+  pub stepped : (n : ℕ) (file : Identity) → m.0.work ≡ Placing n
       → m.1 ≡ (home_place (slots_of m.0.start) n, Some file) ∷ []
       → Stepped m ([] ▷ Put (slot_of st.word) (numbered n file) replaced) one_number
       (Between (retiring replaced (takes_in found))) (turned m.0.change (if_full replaced) 1) m'
@@ -150,7 +150,7 @@ pub record Answers (st : At) (m : Sat) (found : ℕ) (m' : Sat) : Type 0 where
 
 -- Exchange: the file that the pass places is at the slot, which was empty; or nothing changed
 pub record Exchanges (st : At) (m : Sat) (found : ℕ) (m' : Sat) : Type 0 where
-  pub wins : (n : ℕ) (file : Closed) → m.0.work ≡ Placing n
+  pub wins : (n : ℕ) (file : Identity) → m.0.work ≡ Placing n
       → m.1 ≡ (home_place (slots_of m.0.start) n, Some file) ∷ [] → found ≡ st.first
       → Stepped m ([] ▷ Allocate (slot_of st.word) (numbered n file))
       one_number (Between Idle) More m'

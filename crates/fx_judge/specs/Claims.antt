@@ -2,6 +2,7 @@
 use Rattle.std.specs.Prelude.{◌≡◌, ℕ, ◌+◌, ◌<◌, ◌≤◌, true, List, slice_get, slice_index_or, Option, Some, None, Result, Ok, Err, IsTrue, ◌↔◌, Contains}
 use Rattle.std.specs.Global.{Vec}
 use Rattle.std.specs.List.{AllZip, AllByRecursion}
+use Rattle.fx_base.specs.Identity.{Identity}
 use Rattle.fx_base.specs.declared.open_file.Closed.{Closed}
 use Rattle.fx_order.specs.Access.{removed_by, accesses_of_chain}
 use Rattle.fx_order.specs.declared.access.Access.TheVariants.{Looks, Puts, Clears, Takes, Allocates, FindsFull}
@@ -27,7 +28,7 @@ touched (Allocates slot file) = Some slot
 touched FindsFull = None
 
 -- the file that it found there
-abbrev pub found_by : Access → Option Closed
+abbrev pub found_by : Access → Option Identity
 found_by (Looks slot found) = found
 found_by (Puts slot file removed) = removed
 found_by (Clears slot removed) = removed
@@ -36,7 +37,7 @@ found_by (Allocates slot file) = None
 found_by FindsFull = None
 
 -- the file that is there then
-abbrev pub left_by : Access → Option Closed
+abbrev pub left_by : Access → Option Identity
 left_by (Looks slot found) = found
 left_by (Puts slot file removed) = Some file
 left_by (Clears slot removed) = None
@@ -45,18 +46,18 @@ left_by (Allocates slot file) = Some file
 left_by FindsFull = None
 
 -- a file, and whether the closes have it
-pub record IsResident (closes : List Closed) (file : Closed) (resident : Resident) : Type 0 where
+pub record IsResident (closes : List Closed) (file : Identity) (resident : Resident) : Type 0 where
   pub same : resident.file ≡ file
   pub leaves : IsTrue resident.leaves ↔ Contains closes file
 
 -- the file that was found is one that the claim speaks of
-abbrev pub Wanted : Wants → Option Closed → Type 0
+abbrev pub Wanted : Wants → Option Identity → Type 0
 Wanted Anything found = Unit {0}
 Wanted Nothing found = found ≡ None
 Wanted NothingToTake found = found ≡ None
-Wanted Something found = (file : Closed) × (found ≡ Some file)
+Wanted Something found = (file : Identity) × (found ≡ Some file)
 Wanted (Bytes fits) found =
-    (file : Closed) × (found ≡ Some file) × (slice_index_or fits file.entry true ≡ true)
+    (file : Identity) × (found ≡ Some file) × (slice_index_or fits file.entry true ≡ true)
 
 -- the access removed what it found, if it found a file
 abbrev pub Empties : Access → Type 0
@@ -67,7 +68,8 @@ abbrev pub IsLeft : List Closed → Leaves → Access → Type 0
 IsLeft closes Same access = left_by access ≡ found_by access
 IsLeft closes Empty access = Empties access × (left_by access ≡ None)
 IsLeft closes (File resident) access =
-    Empties access × ((file : Closed) × (left_by access ≡ Some file) × IsResident closes file resident)
+    Empties access
+    × ((file : Identity) × (left_by access ≡ Some file) × IsResident closes file resident)
 
 -- the access is one that the claim speaks of
 abbrev pub Fits : List Closed → Claim → Access → Type 0

@@ -1,4 +1,5 @@
--- The claims of chains as a machine: how many claims of each chain were made, and the files at slots.
+-- The claims of chains as a machine: how many claims of each chain were made, and the files
+-- at slots.
 use Rattle.std.specs.Prelude.{◌≡◌, ◌⊎◌, ℕ, ◌+◌, ◌==◌, ◌&&◌, ◌||◌, not, Bool, true, false, List, [], ◌∷◌, map, slice_get, slice_index, slice_index_or, slice_set, Option, Some, None}
 use Rattle.std.specs.Prelude.{option_and_then, if◌then◌else◌, is_some, Contains}
 use Rattle.std.specs.List.{list_all}
@@ -81,7 +82,8 @@ views nodes = map view nodes
 -- the claim that a chain makes next
 abbrev pub claim_at : List Strand → List ℕ → ℕ → Option Claim
 claim_at strands places c =
-    option_and_then (λ strand. slice_get strand.claims.items (slice_index places c)) (slice_get strands c)
+    option_and_then (λ strand. slice_get strand.claims.items (slice_index places c))
+        (slice_get strands c)
 
 -- where a claim of a chain leads, if it may be made
 abbrev pub made : Standing → ℕ → Claim → Option Standing

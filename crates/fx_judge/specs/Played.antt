@@ -1,6 +1,7 @@
 -- What an order does to a table, as the claims of chains and the closes tell it.
 use Rattle.std.specs.Prelude.{◌≡◌, ℕ, ◌<◌, ◌≤◌, List, length, Option, Some, None, Contains, All, IsTrue}
 use Rattle.std.specs.Global.{Vec}
+use Rattle.fx_base.specs.Identity.{Identity}
 use Rattle.fx_base.specs.declared.open_file.Closed.{Closed}
 use Rattle.fx_order.specs.Access.{Table, IsInRange, PermitsAll, table_after, removed_in, accesses_of}
 use Rattle.fx_order.specs.declared.access.ChainAccess.{ChainAccess}
@@ -12,7 +13,7 @@ use Rattle.fx_judge.specs.declared.part.Outcome.{Outcome}
 use Rattle.fx_judge.specs.declared.part.Outcome.TheVariants.{Order, Refuted, Unsettled}
 
 -- the file that is there, with whether the closes have it
-abbrev pub ShowsFile : List Closed → Option Closed → Option Resident → Type 0
+abbrev pub ShowsFile : List Closed → Option Identity → Option Resident → Type 0
 ShowsFile closes None None = Unit {0}
 ShowsFile closes None (Some resident) = ⊥
 ShowsFile closes (Some file) None = ⊥
@@ -30,9 +31,9 @@ pub record IsPlayed (table : Table) (closes : List Closed) (chains : ℕ) (order
     : Type 0 where
   pub permitted : PermitsAll table (accesses_of order)
   pub within : All (λ x. (1 ≤ x.chain) × (x.chain ≤ chains)) order
-  pub removed : (file : Closed) → Contains (removed_in (accesses_of order)) file
+  pub removed : (file : Identity) → Contains (removed_in (accesses_of order)) file
       → Contains closes file
-  pub stay : (slot : ℕ) (file : Closed)
+  pub stay : (slot : ℕ) (file : Identity)
       → (table_after table (accesses_of order)).at slot ≡ Some file → Contains closes file → ⊥
 
 -- the claims tell of no such order

@@ -12,7 +12,8 @@ use Rattle.fx_judge.specs.declared.claim.Claim.{Claim}
 use Rattle.fx_judge.specs.declared.claim.Claim.TheVariants.{At, Full}
 use Rattle.fx_judge.specs.declared.strand.Strand.{Strand}
 
--- the claim, or the access, is of one of these slots, or of the allocation range where they have one of it
+-- the claim, or the access, is of one of these slots, or of the allocation range where they
+-- have one of it
 abbrev pub has_slot : List Cell → Option ℕ → Bool
 has_slot cells (Some slot) = list_any (λ cell. cell.slot == slot) cells
 has_slot cells None = list_any (λ cell. cell.in_range) cells
@@ -28,7 +29,8 @@ keeps cells claim = has_slot cells (slot_of claim)
 abbrev pub seen : List Cell → List Access → List Access
 seen cells accesses = filter (λ access. has_slot cells (touched access)) accesses
 
--- these are the claims of an order's chains at these slots, each chain's once; the other chains have none
+-- these are the claims of an order's chains at these slots, each chain's once; the other
+-- chains have none
 pub record AreStrands (closes : List Closed) (cells : List Cell) (chains : ℕ)
     (order : List ChainAccess) (strands : List Strand) : Type 0 where
   pub fits : (i : ℕ) (strand : Strand) → slice_get strands i ≡ Some strand

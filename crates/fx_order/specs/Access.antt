@@ -1,7 +1,9 @@
 -- What a request does to a table that is only its size, its allocation range and the file at each
--- slot. A request that comes to the table does so once, and an update once for each entry of its list.
+-- slot. A request that comes to the table does so once, and an update once for each entry of its
+-- list.
 use Rattle.std.specs.Prelude.{◌≡◌, ℕ, ◌+◌, ◌<◌, ◌≤◌, ◌==◌, List, [], ◌∷◌, ◌++◌, map, filter, Option, Some, None, IsSome}
 use Rattle.std.specs.Option.{option_to_list}
+use Rattle.fx_base.specs.Identity.{Identity}
 use Rattle.fx_base.specs.declared.open_file.Closed.{Closed}
 use Rattle.fx_plain.specs.Step.{changed_at}
 use Rattle.fx_order.specs.declared.access.Access.{Access}
@@ -14,14 +16,14 @@ pub record Table : Type 0 where
   -- where the allocation range begins, and how long it is
   pub range : ℕ × ℕ
   -- the file at each slot
-  pub at : ℕ → Option Closed
+  pub at : ℕ → Option Identity
 
 -- the slot is one of the allocation range
 abbrev pub IsInRange : Table → ℕ → Type 0
 IsInRange table slot = (table.range.0 ≤ slot) × (slot < table.range.0 + table.range.1)
 
 -- the slot is one of the table, and this is what is there
-abbrev pub IsAt : Table → ℕ → Option Closed → Type 0
+abbrev pub IsAt : Table → ℕ → Option Identity → Type 0
 IsAt table slot found = (slot < table.size) × (found ≡ table.at slot)
 
 -- what an access asks of the table before it
@@ -34,7 +36,7 @@ Permits table (Allocates slot file) = IsAt table slot None × IsInRange table sl
 Permits table FindsFull =
     (slot : ℕ) → slot < table.size → IsInRange table slot → IsSome (table.at slot)
 
-abbrev pub with_file : Table → ℕ → Option Closed → Table
+abbrev pub with_file : Table → ℕ → Option Identity → Table
 with_file table slot file = record table { at = changed_at table.at slot file }
 
 -- the table after an access
@@ -47,7 +49,7 @@ table_with table (Allocates slot file) = with_file table slot (Some file)
 table_with table FindsFull = table
 
 -- the file that an access takes from its slot, if there is one
-abbrev pub removed_by : Access → Option Closed
+abbrev pub removed_by : Access → Option Identity
 removed_by (Puts slot file removed) = removed
 removed_by (Clears slot removed) = removed
 removed_by (Takes slot removed) = removed

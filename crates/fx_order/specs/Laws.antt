@@ -2,7 +2,7 @@
 use Rattle.std.specs.Prelude.{◌≡◌, ◌⊎◌, ℕ, ◌+◌, ◌<◌, ◌≤◌, List, length, slice_get, Some, Contains}
 use Rattle.fx_base.specs.Catalogue.{IsCatalogue}
 use Rattle.fx_base.specs.declared.mark.Mark.TheVariants.{Submitted}
-use Rattle.fx_base.specs.declared.open_file.Closed.{Closed}
+use Rattle.fx_base.specs.Identity.{Identity}
 use Rattle.fx_plain.specs.declared.table.TheConstants.{MOST_SLOTS}
 use Rattle.fx_chain.specs.Accepted.{IsAccepted}
 use Rattle.fx_chain.specs.Operation.{Asked}
@@ -42,12 +42,12 @@ EachReportLeadsToOneRing =
     → left ≡ other
 
 -- the file is at a slot of the ring
-abbrev pub IsThere : RingState → Closed → Type 0
+abbrev pub IsThere : RingState → Identity → Type 0
 IsThere ring file = (slot : ℕ) × (slot < ring.size) × (ring.at slot ≡ Some file)
 
 -- the file is one that the next submission installs, of these requests: of the catalogue, without a
 -- tag, and with the mark of a member and a place in its list
-pub record IsOfNext (ring : RingState) (requests : List Asked) (file : Closed) : Type 0 where
+pub record IsOfNext (ring : RingState) (requests : List Asked) (file : Identity) : Type 0 where
   pub place : Place
   pub entry : ℕ
   pub next : place.submission ≡ ring.submissions + 1
@@ -59,9 +59,11 @@ pub record IsOfNext (ring : RingState) (requests : List Asked) (file : Closed) :
   pub untagged : file.tag ≡ 0
 
 -- each file was at a slot or is of the next submission, and no two have one mark
-pub record AreKnown (ring : RingState) (requests : List Asked) (files : List Closed) : Type 0 where
-  pub from : (file : Closed) → Contains files file → IsThere ring file ⊎ IsOfNext ring requests file
-  pub distinct : (i j : ℕ) (one other : Closed) → slice_get files i ≡ Some one
+pub record AreKnown (ring : RingState) (requests : List Asked)
+    (files : List Identity) : Type 0 where
+  pub from : (file : Identity) → Contains files file
+      → IsThere ring file ⊎ IsOfNext ring requests file
+  pub distinct : (i j : ℕ) (one other : Identity) → slice_get files i ≡ Some one
       → slice_get files j ≡ Some other → one.mark ≡ other.mark → i ≡ j
 
 -- what an accepted submission closes was in the table, or the submission installed it, and it is
@@ -80,5 +82,5 @@ NoFileThatStaysIsClosed =
     (old : RingState) (requests : List Asked) (report : Reported) (left : RingState)
     → IsRing old
     → IsOneOrder old requests report left
-    → (slot : ℕ) (file : Closed) → left.at slot ≡ Some file
+    → (slot : ℕ) (file : Identity) → left.at slot ≡ Some file
     → Contains report.closes.files file → ⊥

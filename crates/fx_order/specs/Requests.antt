@@ -5,7 +5,7 @@ use Rattle.std.specs.Bool.{MatchBool}
 use Rattle.std.specs.List.{list_any}
 use Rattle.fx_base.specs.declared.errno.Errno.{Errno}
 use Rattle.fx_base.specs.declared.errno.Errno.TheVariants.{ENOENT, ENXIO, EBADF, ENOMEM, EINVAL, ENFILE}
-use Rattle.fx_base.specs.declared.open_file.Closed.{Closed}
+use Rattle.fx_base.specs.Identity.{Identity}
 use Rattle.fx_base.specs.Catalogue.{FileEntry, name_at, bytes_at}
 use Rattle.fx_base.specs.AddFault.{has_name}
 use Rattle.fx_chain.specs.Answers.{installed, is_bad_entry}
@@ -32,7 +32,7 @@ abbrev pub IsOpenDone : ℕ → Place → ℕ → Target → List Access → Com
 IsOpenDone size place entry (Slot slot) accesses c =
     MatchBool (size == 0) (IsRefused place ENXIO accesses c)
     (MatchBool (nat_le size slot) (IsRefused place EINVAL accesses c)
-    ((removed : Option Closed)
+    ((removed : Option Identity)
     × Makes (Puts slot (installed place 0 entry) removed) (completed place (pos 0) []) accesses c))
 IsOpenDone size place entry Any accesses c =
     MatchBool (size == 0) (IsRefused place ENFILE accesses c)
@@ -41,7 +41,7 @@ IsOpenDone size place entry Any accesses c =
     ⊎ Makes FindsFull (refusal place ENFILE) accesses c)
 
 -- what a read of a file gives
-abbrev pub gives : List FileEntry → Place → Closed → ℕ → ℕ → Completed
+abbrev pub gives : List FileEntry → Place → Identity → ℕ → ℕ → Completed
 gives catalogue place file off len =
     completed place (pos (length (bytes_at catalogue file.entry off len)))
     (bytes_at catalogue file.entry off len)
@@ -52,7 +52,7 @@ IsReadDone catalogue size place slot off len accesses c =
     MatchBool (nat_le size slot) (IsRefused place EBADF accesses c)
     (((0 < len) × IsRefused place ENOMEM accesses c)
     ⊎ Makes (Looks slot None) (refusal place EBADF) accesses c
-    ⊎ ((file : Closed)
+    ⊎ ((file : Identity)
     × Makes (Looks slot (Some file)) (gives catalogue place file off len) accesses c))
 
 -- a close of a slot
@@ -61,16 +61,17 @@ IsCloseDone size place slot accesses c =
     MatchBool (size == 0) (IsRefused place ENXIO accesses c)
     (MatchBool (nat_le size slot) (IsRefused place EINVAL accesses c)
     (Makes (Takes slot None) (refusal place EBADF) accesses c
-    ⊎ ((removed : Closed)
+    ⊎ ((removed : Identity)
     × Makes (Takes slot (Some removed)) (completed place (pos 0) []) accesses c)))
 
--- one entry of an update: its place in the list, and its slot. -1 empties the slot, another number of
--- 0 or more installs that catalogue entry, and the others leave the slot
+-- one entry of an update: its place in the list, and its slot. -1 empties the slot, another number
+-- of 0 or more installs that catalogue entry, and the others leave the slot
 abbrev pub IsEntryDone : Place → ℕ → ℕ → ℤ → List Access → Type 0
 IsEntryDone place in_list slot (pos entry) accesses =
-    (removed : Option Closed) × (accesses ≡ Puts slot (installed place in_list entry) removed ∷ [])
+    (removed : Option Identity)
+    × (accesses ≡ Puts slot (installed place in_list entry) removed ∷ [])
 IsEntryDone place in_list slot (negsuc zero) accesses =
-    (removed : Option Closed) × (accesses ≡ Clears slot removed ∷ [])
+    (removed : Option Identity) × (accesses ≡ Clears slot removed ∷ [])
 IsEntryDone place in_list slot (negsuc (suc n)) accesses = accesses ≡ []
 
 -- the entries of an update from a place in its list on, one after another
@@ -103,8 +104,8 @@ IsRequestDone catalogue size place (Closes slot) accesses c = IsCloseDone size p
 IsRequestDone catalogue size place (Updates off list) accesses c =
     IsUpdateDone (length catalogue) size place off list accesses c
 
--- the members of a chain from this place on make these accesses, one after another, and answer so: up
--- to and with the first one that severs the chain; the others are canceled
+-- the members of a chain from this place on make these accesses, one after another, and answer so:
+-- up to and with the first one that severs the chain; the others are canceled
 abbrev pub IsChainDone :
     List FileEntry → ℕ → Place → List Asked → List Access → List Completed → Type 0
 IsChainDone catalogue size place [] accesses completions = (accesses ≡ []) × (completions ≡ [])

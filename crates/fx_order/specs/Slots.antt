@@ -1,6 +1,6 @@
 -- What contracts see of a table's slots.
 use Rattle.std.specs.Prelude.{◌≡◌, ℕ, ◌<◌, List, length, slice_index_or, Option, None}
-use Rattle.fx_base.specs.declared.open_file.Closed.{Closed}
+use Rattle.fx_base.specs.Identity.{Identity}
 use Rattle.fx_base.specs.Catalogue.{FileEntry}
 use Rattle.fx_ring.specs.Ring.{RingState}
 use Rattle.fx_order.specs.Access.{Table}
@@ -14,7 +14,7 @@ table_of_slots slots = record {
 }
 
 -- the slot is one of the list, and this is what is there
-abbrev pub IsFoundAt : List (Option Closed) → ℕ → Option Closed → Type 0
+abbrev pub IsFoundAt : List (Option Identity) → ℕ → Option Identity → Type 0
 IsFoundAt at slot found = (slot < length at) × (found ≡ slice_index_or at slot None)
 
 -- a ring whose table has these slots

@@ -8,6 +8,7 @@ use Rattle.fx_base.specs.declared.errno.Errno.{Errno}
 use Rattle.fx_base.specs.declared.errno.Errno.TheVariants.{ENXIO, EBADF, EAGAIN, EBUSY, EINVAL, EMFILE}
 use Rattle.fx_base.specs.declared.mark.Mark.{Mark}
 use Rattle.fx_base.specs.declared.mark.Mark.TheVariants.{Registered}
+use Rattle.fx_base.specs.Identity.{Identity}
 use Rattle.fx_base.specs.declared.open_file.Closed.{Closed}
 use Rattle.fx_chain.specs.Answers.{is_bad_entry}
 use Rattle.fx_plain.specs.declared.table.TheConstants.{MOST_SLOTS}
@@ -58,32 +59,32 @@ update_refusal ring off list tags =
 
 -- what a number of a list leaves at its slot: -1 empties the slot, one of 0 or more installs that
 -- entry of the catalogue with its tag, and the others leave what was there
-abbrev pub file_after : Mark → ℕ → ℤ → Option Closed → Option Closed
+abbrev pub file_after : Mark → ℕ → ℤ → Option Identity → Option Identity
 file_after mark tag (pos entry) before = Some (record { mark = mark; entry = entry; tag = tag })
 file_after mark tag (negsuc zero) before = None
 file_after mark tag (negsuc (suc n)) before = before
 
 -- what the k-th list leaves at the slot of its place i; where the list has no such place, what was
 -- there
-abbrev pub file_listed : ℕ → ℕ → ℕ → Option ℤ → Option Closed → Option Closed
+abbrev pub file_listed : ℕ → ℕ → ℕ → Option ℤ → Option Identity → Option Identity
 file_listed k i tag None before = before
 file_listed k i tag (Some number) before = file_after (Registered k i) tag number before
 
 -- the file at each slot, once the k-th list was worked off from a slot on
-abbrev pub files_after : ℕ → (ℕ → Option Closed) → ℕ → List ℤ → List ℕ → ℕ → Option Closed
+abbrev pub files_after : ℕ → (ℕ → Option Identity) → ℕ → List ℤ → List ℕ → ℕ → Option Identity
 files_after k at off list tags slot =
     if nat_lt slot off then at slot
     else file_listed k (slot - off) (tag_at tags (slot - off)) (slice_get list (slot - off))
     (at slot)
 
 -- the file that a number of a list removes from its slot
-abbrev pub removed_by : ℤ → Option Closed → List Closed
+abbrev pub removed_by : ℤ → Option Identity → List Closed
 removed_by (pos entry) before = option_to_list before
 removed_by (negsuc zero) before = option_to_list before
 removed_by (negsuc (suc n)) before = []
 
 -- the files that a list removes, worked off from a slot on
-abbrev pub removed_from : (ℕ → Option Closed) → ℕ → List ℤ → List Closed
+abbrev pub removed_from : (ℕ → Option Identity) → ℕ → List ℤ → List Closed
 removed_from at slot [] = []
 removed_from at slot (number ∷ list) =
     removed_by number (at slot) ++ removed_from at (slot + 1) list

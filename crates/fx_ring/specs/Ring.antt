@@ -6,6 +6,7 @@ use Rattle.fx_base.specs.CloseList.{IsInOrderOfMark}
 use Rattle.fx_base.specs.CloseListView.{CloseListView}
 use Rattle.fx_base.specs.declared.mark.Mark.{Mark}
 use Rattle.fx_base.specs.declared.mark.Mark.TheVariants.{Registered, Submitted}
+use Rattle.fx_base.specs.Identity.{Identity}
 use Rattle.fx_base.specs.declared.open_file.Closed.{Closed}
 use Rattle.fx_plain.specs.State.{State, IsSettled}
 use Rattle.fx_plain.specs.Contents.{Contents, state_of}
@@ -27,7 +28,7 @@ pub record RingState : Type 0 where
   -- each slot; without a table the size is 0
   pub size : ℕ
   pub range : ℕ × ℕ
-  pub at : ℕ → Option Closed
+  pub at : ℕ → Option Identity
   -- how many submissions were accepted, and how many registrations and updates
   pub submissions : ℕ
   pub registrations : ℕ
@@ -63,11 +64,11 @@ abbrev pub without_table : RingState → RingState
 without_table ring = record ring { size = 0; range = (0, 0); at = λ _. None }
 
 -- the files at the first so many slots, in order of slot
-abbrev pub files_in_order : (ℕ → Option Closed) → ℕ → List Closed
+abbrev pub files_in_order : (ℕ → Option Identity) → ℕ → List Identity
 files_in_order at zero = []
 files_in_order at (suc n) = files_in_order at n ++ option_to_list (at n)
 
-abbrev pub files_of : RingState → List Closed
+abbrev pub files_of : RingState → List Identity
 files_of ring = files_in_order ring.at ring.size
 
 -- the ring has counted the registration or the submission that the mark is of
@@ -76,15 +77,15 @@ HasCounted ring (Registered k i) = k ≤ ring.registrations
 HasCounted ring (Submitted submission chain member entry) = submission ≤ ring.submissions
 
 -- the files are of the catalogue
-abbrev pub AreEntries : RingState → List Closed → Type 0
+abbrev pub AreEntries : RingState → List Identity → Type 0
 AreEntries ring files = All (λ file. file.entry < length ring.catalogue) files
 
 -- what every ring keeps: its files are of the catalogue, and no two of them have one mark
 pub record IsRing (ring : RingState) : Type 0 where
-  pub entries : (slot : ℕ) (file : Closed) → ring.at slot ≡ Some file
+  pub entries : (slot : ℕ) (file : Identity) → ring.at slot ≡ Some file
       → file.entry < length ring.catalogue
-  pub counted : (slot : ℕ) (file : Closed) → ring.at slot ≡ Some file → HasCounted ring file.mark
-  pub distinct : (slot other : ℕ) (file same : Closed) → ring.at slot ≡ Some file
+  pub counted : (slot : ℕ) (file : Identity) → ring.at slot ≡ Some file → HasCounted ring file.mark
+  pub distinct : (slot other : ℕ) (file same : Identity) → ring.at slot ≡ Some file
       → ring.at other ≡ Some same → file.mark ≡ same.mark → slot ≡ other
 
 -- a ring between two of its calls

@@ -3,6 +3,7 @@ use Rattle.std.specs.Prelude.{◌≡◌, ℕ, ◌+◌, ◌<◌, ◌≤◌, Bool,
 use Rattle.std.specs.Option.{option_to_list}
 use Rattle.fx_base.specs.CloseListView.{CloseListView}
 use Rattle.fx_base.specs.declared.mark.Mark.TheVariants.{Registered}
+use Rattle.fx_base.specs.Identity.{Identity}
 use Rattle.fx_base.specs.declared.open_file.Closed.{Closed}
 use Rattle.fx_plain.specs.declared.event.Action.{Action}
 use Rattle.fx_plain.specs.State.{State, IsSettled}
@@ -12,7 +13,7 @@ use Rattle.fx_plain.specs.Table.{identity_of}
 use Rattle.fx_ring.specs.Registration.{file_after, files_after, removed_by, removed_from}
 
 -- the file at each slot, its number aside
-abbrev pub files_at : State → ℕ → Option Closed
+abbrev pub files_at : State → ℕ → Option Identity
 files_at st slot = identity_of (st.at slot)
 
 -- these numbers are fresh
@@ -20,7 +21,7 @@ abbrev pub AreFresh : State → ℕ → ℕ → Type 0
 AreFresh st first last = (number : ℕ) → first ≤ number → number < last → st.fresh number ≡ true
 
 -- the slots have these files now, and the files that were removed are closed; size and range stay
-pub record SetsFiles (old new : State) (files : ℕ → Option Closed) (removed : List Closed)
+pub record SetsFiles (old new : State) (files : ℕ → Option Identity) (removed : List Closed)
     (before after : CloseListView) : Type 0 where
   pub size : new.size ≡ old.size
   pub range : new.range ≡ old.range
@@ -30,7 +31,7 @@ pub record SetsFiles (old new : State) (files : ℕ → Option Closed) (removed 
   pub room : after.room + length removed ≡ before.room
 
 -- one slot has this file now, or none, and the file that was there is closed
-abbrev pub SetsSlot : State → State → ℕ → Option Closed → CloseListView → CloseListView → Type 0
+abbrev pub SetsSlot : State → State → ℕ → Option Identity → CloseListView → CloseListView → Type 0
 SetsSlot old new slot file before after =
     SetsFiles old new (changed_at (files_at old) slot file)
     (option_to_list (files_at old slot)) before after
@@ -51,7 +52,7 @@ SetsList k off list tags old new before after =
     (removed_from (files_at old) off list) before after
 
 -- the removed file of a number, its number aside
-abbrev pub file_removed : State → Option ℕ → Option Closed
+abbrev pub file_removed : State → Option ℕ → Option Identity
 file_removed st None = None
 file_removed st (Some number) = identity_of (st.removed number)
 

@@ -27,7 +27,8 @@ run_of_chain runs chain = slice_index_or runs (chain - 1) []
 
 -- none of these chains installs more files
 abbrev pub InstallAtMost : List Asked → ℕ → List Chain → Type 0
-InstallAtMost requests most chains = All (λ chain. all_installs (members_of requests chain) ≤ most) chains
+InstallAtMost requests most chains =
+    All (λ chain. all_installs (members_of requests chain) ≤ most) chains
 
 abbrev pub completions_of_chain : ℕ → List Completed → List Completed
 completions_of_chain chain completions = filter (λ c. c.place.chain == chain) completions

@@ -1,5 +1,5 @@
-//! The ring: a catalogue, the file table that is registered with it, and what was counted. Lists are registered and
-//! worked off between submissions.
+//! The ring: a catalogue, the file table that is registered with it, and what was counted. Between submissions
+//! lists are registered, and change slots.
 #![tactic(auto)]
 
 mod crew;
