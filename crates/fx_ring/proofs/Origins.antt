@@ -1,4 +1,4 @@
--- Where the files of a ring come from, once a list was worked off.
+-- Where the files of a ring come from, once a list was applied.
 use Rattle.fx_ring.proofs.Words.{◌≡◌, ◌≢◌, ◌⊎◌, ℕ, zero, suc, ◌+◌, ◌-◌, ◌<◌, ◌≤◌, false, ℤ, pos, negsuc, List, [], ◌∷◌, ◌++◌, length, length-append}
 use Rattle.fx_ring.proofs.Words.{All, refl, sym, ap, subst, ◌∙◌, Option, Some, None, slice_get, inl, inr, ⊎_elim, arith, list_any, cases_lt}
 use Rattle.fx_ring.proofs.Words.{leb-false, All-append, Mark, Registered, Submitted, Closed, is_bad_entry, RingState, IsRing, HasCounted, file_listed}

@@ -70,7 +70,7 @@ abbrev pub file_listed : ℕ → ℕ → ℕ → Option ℤ → Option Identity 
 file_listed k i tag None before = before
 file_listed k i tag (Some number) before = file_after (Registered k i) tag number before
 
--- the file at each slot, once the k-th list was worked off from a slot on
+-- the file at each slot, once the k-th list was applied from a slot on
 abbrev pub files_after : ℕ → (ℕ → Option Identity) → ℕ → List ℤ → List ℕ → ℕ → Option Identity
 files_after k at off list tags slot =
     if nat_lt slot off then at slot
@@ -83,7 +83,7 @@ removed_by (pos entry) before = option_to_list before
 removed_by (negsuc zero) before = option_to_list before
 removed_by (negsuc (suc n)) before = []
 
--- the files that a list removes, worked off from a slot on
+-- the files that a list removes, applied from a slot on
 abbrev pub removed_from : (ℕ → Option Identity) → ℕ → List ℤ → List Closed
 removed_from at slot [] = []
 removed_from at slot (number ∷ list) =

@@ -1,17 +1,20 @@
-//! The limits of a ring, as numbers, and what each submission does to files, from what `Ring::submit` promises alone
-//! (`one_history`). Each is the contract of a function that does nothing (this project's own).
+//! The limits of a ring, as numbers, and what each submission does to files, from what
+//! `Ring::submit` promises alone (`one_history`). Each is the contract of a function that does
+//! nothing (this project's own).
 
 ghost use Rattle.std.specs.Prelude.{◌≡◌};
 ghost use Rattle.fx_ring.specs.Laws.{NoHeldFileCloses, NoFileClosesTwice, NoFileIsLost};
 ghost use Rattle.fx_ring.specs.declared.ring.TheConstants.{MOST_SUBMISSIONS, MOST_REGISTRATIONS};
 
-/// A ring accepts at most 65,535 submissions, and at most 65,535 registrations and updates together.
+/// A ring accepts at most 65,535 submissions, and at most 65,535 registrations and updates
+/// together.
 pub fn limits_are_numbers()
     ensures most_submissions { MOST_SUBMISSIONS ≡ 65535 }
     ensures most_registrations { MOST_REGISTRATIONS ≡ 65535 }
 {}
 
-/// In the history of a submission a file that a request looked up is not closed before the request releases it.
+/// In the history of a submission a file that a request looked up is not closed before the request
+/// releases it.
 pub fn no_held_file_closes()
     ensures { NoHeldFileCloses }
 {}
@@ -21,8 +24,8 @@ pub fn no_file_closes_twice()
     ensures { NoFileClosesTwice }
 {}
 
-/// Each file that was at a slot before a submission, or that it installed, is at a slot afterwards and was never closed, or
-/// is at no slot and was closed once.
+/// Each file that was at a slot before a submission, or that it installed, is at a slot afterwards
+/// and was never closed, or is at no slot and was closed once.
 pub fn no_file_is_lost()
     ensures { NoFileIsLost }
 {}

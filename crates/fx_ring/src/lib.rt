@@ -1,5 +1,5 @@
-//! The ring: a catalogue, the file table that is registered with it, and what was counted. Between submissions
-//! lists are registered, and change slots.
+//! The ring: a catalogue, the file table that is registered with it, and what was counted. Between
+//! submissions, lists are registered and slots are updated.
 #![tactic(auto)]
 
 mod crew;

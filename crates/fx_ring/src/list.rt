@@ -55,8 +55,8 @@ fn has_bad_tag(list: &[i32], tags: &[u64]) -> bool
         .any(|(number, tag)| is_bad_tag(*number, *tag))
 }
 
-/// Whether there are more tags than numbers, or fewer, or one of a number that opens no file. Where none are given, every
-/// number has tag 0.
+/// Whether there are more tags than numbers, or fewer, or one of a number that opens no file. Where
+/// none are given, every number has tag 0.
 #[tactic(auto, using(crate::proofs::NoTags::no_bad_tags))]
 pub fn are_bad_tags(list: &[i32], tags: Option<&[u64]>) -> bool
     ensures { result ≡ are_bad_tags list.now (tags_for list.now tags.entry) }
@@ -78,8 +78,8 @@ fn tag_at(tags: Option<&[u64]>, place: usize) -> u64
     tags.get(place).copied().unwrap_or(0)
 }
 
-/// The k-th list, which applies to the slots from `off` on, with tags 0 where none are given. Its files get the numbers of
-/// the table from `first` on.
+/// The k-th list, which applies to the slots from `off` on, with tags 0 where none are given. Its
+/// files get the numbers of the table from `first` on.
 #[derive(Drop)]
 pub(crate) struct NumberList<'a> {
     pub(crate) catalogue: &'a Catalogue,
@@ -93,7 +93,8 @@ pub(crate) struct NumberList<'a> {
     pub ghost few: { first ≤ MOST_SLOTS },
 }
 
-// Applies the number at place `i`: -1 empties its slot, -2 leaves it, and every other one opens that catalogue entry there.
+// Applies the number at place `i`: -1 empties its slot, -2 leaves it, and every other one opens
+// that catalogue entry there.
 fn apply_number(table: &mut PlainTable, numbers: &NumberList<'_>, i: usize, closes: &mut CloseList)
     requires place { i < length numbers.now.list.now }
     requires settled { IsSettled (state_of table.old) }
@@ -127,7 +128,8 @@ fn apply_number(table: &mut PlainTable, numbers: &NumberList<'_>, i: usize, clos
     }
 }
 
-/// Applies a list to a table. The numbers of the table from its `first` on are fresh, one for each number of the list.
+/// Applies a list to a table. The numbers of the table from its `first` on are fresh, one for each
+/// number of the list.
 pub(crate) fn apply_list(table: &mut PlainTable, numbers: &NumberList<'_>, closes: &mut CloseList)
     requires settled { IsSettled (state_of table.old) }
     requires slots { numbers.now.off + length numbers.now.list.now ≤ (state_of table.old).size }

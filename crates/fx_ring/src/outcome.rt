@@ -41,7 +41,8 @@ fn weight_of_all(requests: &[Request]) -> u32
 }
 
 impl Outcome {
-    /// Nothing yet, with room for a completion of each request and for all files that the requests may close.
+    /// Nothing yet, with room for a completion of each request and for all files that the requests
+    /// may close.
     pub(crate) fn with_room(alloc: Global, requests: &[Request]) -> Result<Outcome, NoMemory>
         requires { IsAccepted (all_asked requests.now) }
         ensures { IfOk result (HasRoomFor (all_asked requests.now)) }
@@ -94,8 +95,9 @@ impl Outcome {
         }
     }
 
-    /// What all of these came to together. What one alone came to is answered as it is, and what several came to goes into
-    /// lists in which nothing is yet, and which have room for it. It can't run out of memory.
+    /// What all of these came to together. What one alone came to is answered as it is, and what
+    /// several came to goes into lists in which nothing is yet, and which have room for it. It
+    /// can't run out of memory.
     pub(crate) fn joined(mut self, mut others: Vec<Outcome>) -> Outcome
         requires nothing_yet { (self.completions.items ≡ []) × (self.closes.files ≡ []) }
         requires completions { sum_by (λ other. length other.completions.items) others.items

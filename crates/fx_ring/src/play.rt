@@ -25,8 +25,8 @@ pub(crate) struct Submission<'a, R, G> {
     pub ghost accepted: { IsAccepted (all_asked requests.now) },
 }
 
-/// What doesn't change while the workers of a submission play: its chains, on a table that was opened for so many, each
-/// with a number for all that it installs.
+/// What doesn't change while the workers of a submission play: its chains, on a table that was
+/// opened for so many, each with a number for all that it installs.
 #[derive(Drop)]
 pub(crate) struct Play<'a, T: FileTable, R, G> {
     pub(crate) submission: &'a Submission<'a, R, G>,

@@ -89,12 +89,15 @@ impl Ring {
         list: &[i32],
         tags: Option<&[u64]>,
     ) -> Result<(), Errno>
-        ensures refused { IfSome (register_refusal (ring_of self.old) list.now (tags_for list.now tags.entry))
+        ensures refused { IfSome
+            (register_refusal (ring_of self.old) list.now (tags_for list.now tags.entry))
             (λ errno. result ≡ Err errno) }
-        ensures only_refusal { IfNone (register_refusal (ring_of self.old) list.now (tags_for list.now tags.entry))
+        ensures only_refusal { IfNone
+            (register_refusal (ring_of self.old) list.now (tags_for list.now tags.entry))
             (IsOkUnless result ENOMEM) }
         ensures ok { OnOk result
-            (ring_of self.new ≡ registered (ring_of self.old) list.now (tags_for list.now tags.entry)) }
+            (ring_of self.new
+            ≡ registered (ring_of self.old) list.now (tags_for list.now tags.entry)) }
         ensures err { OnErr result (self.new ≡ self.old) }
     {
         if let Some(errno) = self.register_refusal(list, tags) {
@@ -110,20 +113,22 @@ impl Ring {
         }
     }
 
-    /// Registers a table with a slot for each number of the list, all of them in the allocation range: -1 is an empty
-    /// slot, and a number of 0 or more the catalogue entry to open there (io_uring_register(2),
-    /// "IORING_REGISTER_FILES"). The k of the files' marks is the number of this call among the accepted calls of
-    /// `register`, `register_tagged`, `update` and `update_tagged`, from 1, and their i the place in the list, from 0.
-    /// The files have no tags: it is [`Ring::register_tagged`] with a 0 for each number.
+    /// Registers a table with a slot for each number of the list, all of them in the allocation
+    /// range: -1 is an empty slot, and a number of 0 or more the catalogue entry to open there
+    /// (io_uring_register(2), "IORING_REGISTER_FILES"). The k of the files' marks is the number of
+    /// this call among the accepted calls of `register`, `register_tagged`, `update` and
+    /// `update_tagged`, from 1, and their i the place in the list, from 0. The files have no tags:
+    /// it is [`Ring::register_tagged`] with a 0 for each number.
     ///
     /// # Errors
-    /// In this order: EBUSY where there is a table, EINVAL for an empty list, EMFILE for more than 256 numbers, EBADF for
-    /// a number below -1 or past the catalogue, EAGAIN after 65,535 accepted calls of these four, and ENOMEM where memory
-    /// is refused. The ring is then as before.
+    /// In this order: EBUSY where there is a table, EINVAL for an empty list, EMFILE for more than
+    /// 256 numbers, EBADF for a number below -1 or past the catalogue, EAGAIN after 65,535 accepted
+    /// calls of these four, and ENOMEM where memory is refused. The ring is then as before.
     pub fn register(&mut self, alloc: Global, list: &[i32]) -> Result<(), Errno>
         ensures refused { IfSome (register_refusal (ring_of self.old) list.now (no_tags list.now))
             (λ errno. result ≡ Err errno) }
-        ensures only_refusal { IfNone (register_refusal (ring_of self.old) list.now (no_tags list.now))
+        ensures only_refusal { IfNone
+            (register_refusal (ring_of self.old) list.now (no_tags list.now))
             (IsOkUnless result ENOMEM) }
         ensures ok { OnOk result
             (ring_of self.new ≡ registered (ring_of self.old) list.now (no_tags list.now)) }
@@ -132,13 +137,15 @@ impl Ring {
         self.register_list(alloc, list, None)
     }
 
-    /// Registers a table as [`Ring::register`] does, and gives each of its files the tag of the same place, 0 for none
-    /// (io_uring_register(2), "IORING_REGISTER_FILES2"). Once a file with a tag is closed, the list of closes that has it
-    /// gives the completion of its tag ([`CloseList::tags`]).
+    /// Registers a table as [`Ring::register`] does, and gives each of its files the tag of the
+    /// same place, 0 for none (io_uring_register(2), "IORING_REGISTER_FILES2"). Once a file with a
+    /// tag is closed, the list of closes that has it gives the completion of its tag
+    /// ([`CloseList::tags`]).
     ///
     /// # Errors
-    /// Those of [`Ring::register`], in their order. EINVAL comes at its place also where there are more tags than numbers,
-    /// or fewer, and where a number below 0 has a tag other than 0. The ring is then as before.
+    /// Those of [`Ring::register`], in their order. EINVAL comes at its place also where there are
+    /// more tags than numbers, or fewer, and where a number below 0 has a tag other than 0. The
+    /// ring is then as before.
     pub fn register_tagged(
         &mut self,
         alloc: Global,
@@ -156,12 +163,12 @@ impl Ring {
         self.register_list(alloc, list, Some(tags))
     }
 
-    /// Registers a table of `n` empty slots, all of them in the allocation range (io_uring_register_files(3),
-    /// `io_uring_register_files_sparse`). It isn't counted.
+    /// Registers a table of `n` empty slots, all of them in the allocation range
+    /// (io_uring_register_files(3), `io_uring_register_files_sparse`). It isn't counted.
     ///
     /// # Errors
-    /// In this order: EBUSY where there is a table, EINVAL for no slots, EMFILE for more than 256, and ENOMEM where memory
-    /// is refused. The ring is then as before.
+    /// In this order: EBUSY where there is a table, EINVAL for no slots, EMFILE for more than 256,
+    /// and ENOMEM where memory is refused. The ring is then as before.
     pub fn register_sparse(&mut self, alloc: Global, n: u32) -> Result<(), Errno>
         ensures refused { IfSome (sparse_refusal (ring_of self.old) n)
             (λ errno. result ≡ Err errno) }
@@ -182,11 +189,12 @@ impl Ring {
         }
     }
 
-    /// Unregisters the table. The list has all of its files, in order of mark (io_uring_register(2),
-    /// "IORING_UNREGISTER_FILES").
+    /// Unregisters the table. The list has all of its files, in order of mark
+    /// (io_uring_register(2), "IORING_UNREGISTER_FILES").
     ///
     /// # Errors
-    /// ENXIO where there is no table, and else ENOMEM where the memory of the list is refused. The ring is then as before.
+    /// ENXIO where there is no table, and else ENOMEM where the memory of the list is refused. The
+    /// ring is then as before.
     pub fn unregister(&mut self, alloc: Global) -> Result<CloseList, Errno>
         ensures refused { IfSome (unregister_refusal (ring_of self.old))
             (λ errno. result ≡ Err errno) }
@@ -208,7 +216,8 @@ impl Ring {
         Ok(closes)
     }
 
-    /// Sets the allocation range (io_uring_register(2), "IORING_REGISTER_FILE_ALLOC_RANGE"). Length 0 is permitted.
+    /// Sets the allocation range (io_uring_register(2), "IORING_REGISTER_FILE_ALLOC_RANGE"). Length
+    /// 0 is permitted.
     ///
     /// # Errors
     /// EINVAL where `off + len`, as whole numbers, is above the size. The ring is then as before.
@@ -226,7 +235,7 @@ impl Ring {
         Ok(())
     }
 
-    // Works a list off, from the slot `off` on, with its tags, if any are given.
+    // Updates the slots from `off` on by a list with its tags, if any are given.
     fn update_list(
         &mut self,
         alloc: Global,
@@ -234,12 +243,15 @@ impl Ring {
         list: &[i32],
         tags: Option<&[u64]>,
     ) -> Result<(u32, CloseList), Errno>
-        ensures refused { IfSome (update_refusal (ring_of self.old) off list.now (tags_for list.now tags.entry))
+        ensures refused { IfSome
+            (update_refusal (ring_of self.old) off list.now (tags_for list.now tags.entry))
             (λ errno. result ≡ Err errno) }
-        ensures only_refusal { IfNone (update_refusal (ring_of self.old) off list.now (tags_for list.now tags.entry))
+        ensures only_refusal { IfNone
+            (update_refusal (ring_of self.old) off list.now (tags_for list.now tags.entry))
             (IsOkUnless result ENOMEM) }
         ensures ok { OnOk result
-            (ring_of self.new ≡ updated (ring_of self.old) off list.now (tags_for list.now tags.entry)) }
+            (ring_of self.new
+            ≡ updated (ring_of self.old) off list.now (tags_for list.now tags.entry)) }
         ensures count { IfOk result (λ answer. answer.0 ≡ length list.now) }
         ensures closes { IfOk result
             (λ answer. HasClosed (removed_from (ring_of self.old).at off list.now) answer.1) }
@@ -271,15 +283,17 @@ impl Ring {
         Ok((len, closes))
     }
 
-    /// Works a list off, from the slot `off` on: -1 empties its slot, -2 leaves it, and a number of 0 or more opens that
-    /// catalogue entry there (io_uring_register(2), "IORING_REGISTER_FILES_UPDATE"). The answer is the length of the
-    /// list, and the files that were replaced or removed, in order of mark. Marks are those of [`Ring::register`]. The new
+    /// Updates the slots from `off` on by a list: -1 empties its slot, -2 leaves it, and a number
+    /// of 0 or more opens that catalogue entry there (io_uring_register(2),
+    /// "IORING_REGISTER_FILES_UPDATE"). The answer is the length of the list, and the files that
+    /// were replaced or removed, in order of mark. Marks are those of [`Ring::register`]. The new
     /// files have no tags: it is [`Ring::update_tagged`] with a 0 for each number.
     ///
     /// # Errors
-    /// In this order: ENXIO where there is no table, EINVAL for an empty list or one that ends past the last slot, EBADF
-    /// for a number below -2 or past the catalogue, EAGAIN after 65,535 accepted calls of `register`, `register_tagged`,
-    /// `update` and `update_tagged`, and ENOMEM where memory is refused. The ring is then as before.
+    /// In this order: ENXIO where there is no table, EINVAL for an empty list or one that ends past
+    /// the last slot, EBADF for a number below -2 or past the catalogue, EAGAIN after 65,535
+    /// accepted calls of `register`, `register_tagged`, `update` and `update_tagged`, and ENOMEM
+    /// where memory is refused. The ring is then as before.
     pub fn update(
         &mut self,
         alloc: Global,
@@ -288,7 +302,8 @@ impl Ring {
     ) -> Result<(u32, CloseList), Errno>
         ensures refused { IfSome (update_refusal (ring_of self.old) off list.now (no_tags list.now))
             (λ errno. result ≡ Err errno) }
-        ensures only_refusal { IfNone (update_refusal (ring_of self.old) off list.now (no_tags list.now))
+        ensures only_refusal { IfNone
+            (update_refusal (ring_of self.old) off list.now (no_tags list.now))
             (IsOkUnless result ENOMEM) }
         ensures ok { OnOk result
             (ring_of self.new ≡ updated (ring_of self.old) off list.now (no_tags list.now)) }
@@ -301,13 +316,14 @@ impl Ring {
         self.update_list(alloc, off, list, None)
     }
 
-    /// Works a list off as [`Ring::update`] does, and gives each new file the tag of the same place, 0 for none
-    /// (io_uring_register(2), "IORING_REGISTER_FILES_UPDATE2"). The tags of the files that were replaced or removed are
-    /// those that they were installed with ([`CloseList::tags`]).
+    /// Updates slots as [`Ring::update`] does, and gives each new file the tag of the same place, 0
+    /// for none (io_uring_register(2), "IORING_REGISTER_FILES_UPDATE2"). The tags of the files that
+    /// were replaced or removed are those that they were installed with ([`CloseList::tags`]).
     ///
     /// # Errors
-    /// Those of [`Ring::update`], in their order. EINVAL comes at its place also where there are more tags than numbers, or
-    /// fewer, and where a number below 0 has a tag other than 0. The ring is then as before.
+    /// Those of [`Ring::update`], in their order. EINVAL comes at its place also where there are
+    /// more tags than numbers, or fewer, and where a number below 0 has a tag other than 0. The
+    /// ring is then as before.
     pub fn update_tagged(
         &mut self,
         alloc: Global,

@@ -1,8 +1,8 @@
 use fx_base::CloseList;
 use fx_chain::{Completion, CutFault};
 
-/// Why a submission was refused, in the order in which the faults are looked for. The ring is then as before (this
-/// project's own).
+/// Why a submission was refused, in the order in which the faults are looked for. The ring is then
+/// as before (this project's own).
 #[derive(Clone, Copy, Debug, PartialEq, Eq)]
 pub enum SubmitFault {
     /// There are not 1 to 16 workers.

@@ -12,12 +12,13 @@ pub const MOST_SUBMISSIONS: u32 = 65_535;
 /// How many registrations and updates a ring accepts together.
 pub const MOST_REGISTRATIONS: u32 = 65_535;
 
-/// A ring (io_uring_setup(2)): the files that can be opened, the registered file table, and how many submissions and
-/// registrations were accepted. It is no `Drop`: a program that drops one without closing its files is not accepted.
+/// A ring (io_uring_setup(2)): the files that can be opened, the registered file table, and how
+/// many submissions and registrations were accepted. It is no `Drop`: a program that drops one
+/// without closing its files is not accepted.
 ///
-/// A ring without a table is one whose table has no slots. Contracts see it by `ring_of`, in which the numbers of its
-/// files are left out. Its files are of the catalogue, no two of them have one mark, and no mark is of a registration
-/// or a submission that the ring has not counted.
+/// A ring without a table is one whose table has no slots. Contracts see it by `ring_of`, in which
+/// the numbers of its files are left out. Its files are of the catalogue, no two of them have one
+/// mark, and no mark is of a registration or a submission that the ring has not counted.
 pub struct Ring {
     pub(crate) catalogue: Catalogue,
     pub(crate) table: PlainTable,
@@ -87,8 +88,8 @@ impl Ring {
         self.submissions
     }
 
-    /// How many calls of [`Ring::register`], [`Ring::register_tagged`], [`Ring::update`] and [`Ring::update_tagged`] were
-    /// accepted, at most 65,535.
+    /// How many calls of [`Ring::register`], [`Ring::register_tagged`], [`Ring::update`] and
+    /// [`Ring::update_tagged`] were accepted, at most 65,535.
     pub fn registrations(&self) -> u32
         ensures { result ≡ (ring_of self.now).registrations }
     {
@@ -119,8 +120,8 @@ impl Ring {
         Ok(closes)
     }
 
-    /// Drops every file of the ring, in no list. It is the way out after a fault, and can't run out of memory
-    /// (this project's own).
+    /// Drops every file of the ring, in no list. It is the way out after a fault, and can't run out
+    /// of memory (this project's own).
     pub fn abandon(self) {
         let Ring {
             catalogue: _,

@@ -126,29 +126,32 @@ impl Ring {
         None
     }
 
-    /// Plays a submission on the ring's table (io_uring_enter(2)). Requests that are linked with each other make a
-    /// chain, whose members start one after another; a request that isn't linked is a chain of its own. Each worker draws
-    /// a chain, plays it and draws the next one, and every chain is played once. Which table `T` the workers share, and
-    /// how many they are, makes no difference to what is said here; there are no more of them than chains.
+    /// Plays a submission on the ring's table (io_uring_enter(2)). Requests that are linked with
+    /// each other make a chain, whose members start one after another; a request that isn't linked
+    /// is a chain of its own. Each worker draws a chain, plays it and draws the next one, and every
+    /// chain is played once. Which table `T` the workers share, and how many they are, makes no
+    /// difference to what is said here; there are no more of them than chains.
     ///
-    /// The workers are threads where threads can be made, and else they work one after another, with a report of which
-    /// the same holds. One worker starts no thread. The gate is called in front of each request that starts, and behind
-    /// its completion.
+    /// The workers are threads where threads can be made, and else they work one after another,
+    /// with a report of which the same holds. One worker starts no thread. The gate is called in
+    /// front of each request that starts, and behind its completion.
     ///
-    /// The report and the table afterwards are those of one history of a table of one thread, which goes on from the files
-    /// of the ring. The completions of each chain are explained by the steps of its own members, in their order; there is
-    /// one for each request, in order of place. The closes are the files that the history closed, in order of mark, and
-    /// all of them are of the catalogue.
+    /// The report and the table afterwards are those of one history of a table of one thread, which
+    /// goes on from the files of the ring. The completions of each chain are explained by the steps
+    /// of its own members, in their order; there is one for each request, in order of place. The
+    /// closes are the files that the history closed, in order of mark, and all of them are of the
+    /// catalogue.
     ///
-    /// The submission is counted, also where each of its requests fails. The catalogue, the size, the range and the count
-    /// of the registrations stay as they are.
+    /// The submission is counted, also where each of its requests fails. The catalogue, the size,
+    /// the range and the count of the registrations stay as they are.
     ///
     /// # Errors
-    /// In this order: `Workers` where there are not 1 to [`MAX_PASSES`], `Cut` with the first request that has a fault
-    /// ([`fx_chain::check`]), `TooMany` after [`MOST_SUBMISSIONS`] accepted submissions, and `NoMemory` where memory is
-    /// refused. Then the ring has the files, the size, the range and the counts that it had. That no request has
-    /// started is tested.
-    /// Memory for the bytes of a read is taken while it is played: where that is refused, the read completes with ENOMEM.
+    /// In this order: `Workers` where there are not 1 to [`MAX_PASSES`], `Cut` with the first
+    /// request that has a fault ([`fx_chain::check`]), `TooMany` after [`MOST_SUBMISSIONS`]
+    /// accepted submissions, and `NoMemory` where memory is refused. Then the ring has the files,
+    /// the size, the range and the counts that it had. That no request has started is tested.
+    /// Memory for the bytes of a read is taken while it is played: where that is refused, the read
+    /// completes with ENOMEM.
     pub fn submit<T: FileTable, G: Gate>(
         &mut self,
         rt: &(impl Threads + Wait + Sync),

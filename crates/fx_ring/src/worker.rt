@@ -15,8 +15,9 @@ use std::sync::Wait;
 use std::thread;
 use std::thread::Threads;
 
-/// A pass of a shared table, with what its chains came to. It is no `Drop`, as the pass is none. What is used of two
-/// workers that lie side by side in a list is 64 bytes apart, so that threads that have one each share no cache line.
+/// A pass of a shared table, with what its chains came to. It is no `Drop`, as the pass is none.
+/// What is used of two workers that lie side by side in a list is 64 bytes apart, so that threads
+/// that have one each share no cache line.
 pub(crate) struct Worker<P> {
     pub(crate) pass: P,
     pub(crate) outcome: Outcome,
@@ -83,8 +84,8 @@ fn work<T: FileTable, R: Wait, G: Gate>(play: &Play<'_, T, R, G>, worker: &mut W
     }
 }
 
-// Each worker plays the chains that its pass draws, in a thread of its own where one can be made. A worker alone starts
-// no thread.
+// Each worker plays the chains that its pass draws, in a thread of its own where one can be made. A
+// worker alone starts no thread.
 fn work_all<T: FileTable, R: Threads + Wait + Sync, G: Gate>(
     play: &Play<'_, T, R, G>,
     workers: &mut [Worker<T::Pass>],
