@@ -65,12 +65,11 @@ module _ (turn : Turn) where
       let c : drawn_of (chain_in x) v ≡ 0 + times (chain_in x) x.drawn = ap (λ (l : List Log). sum_by (λ z. times (chain_in x) z.drawn) l) one in
       let e = d.each (chain_in x) in omega (arith, once_is d.given (chain_in x)))
 
-  -- few passes are told that there are no more chains
-  few_told : sum_by told_of st.views ≤ 16
-  few_told = let a = sum_le_at told_of lengths st.views (λ j u e. told_few u.logs) in let b = r.whole in let c = r.shape.passes in omega arith
-
+  -- few passes are told that there are no more chains, so the word doesn't run over
   word_is : (found + 1) % 2 ^ 64 ≡ found + 1
-  word_is = let a = few_told in let b = d.counts in let c = d.few in let e = r.shape.chains in omega arith
+  word_is = let a = sum_le_at told_of lengths st.views (λ j u e. told_few u.logs) in let b = r.whole in let f = r.shape.passes in
+      let told : sum_by told_of st.views ≤ 16 = omega arith in
+      let b = d.counts in let c = d.few in let e = r.shape.chains in omega (arith, told, b, c, e)
 
   told_v : told_of v ≡ one_if x.no_chains_left
   told_v = let e : told_of v ≡ 0 + one_if x.no_chains_left = ap (λ (l : List Log). sum_by (λ z. one_if z.no_chains_left) l) one in omega arith

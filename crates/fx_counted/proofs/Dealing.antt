@@ -1,7 +1,7 @@
 -- The passes that are dealt out.
 use Rattle.fx_counted.proofs.Words.{◌≡◌, ℕ, zero, suc, ◌+◌, ◌-◌, ◌≤◌, List, [], ◌∷◌, ◌++◌, map, sym, refl, ◌∙◌, ap, subst, arith, Option, TableId}
-use Rattle.fx_counted.proofs.Words.{Seat, Closed, PassView, IsFront, new_passes, new_logs, without_first, first_alone, rest_of, first_of, dealt, Sat}
-use Rattle.fx_counted.proofs.Words.{opening_of, new_log, pass_of, view_of, IsPassOf, is_idle, CountedPass, Log, Start, View, new_pass}
+use Rattle.fx_counted.proofs.Words.{Seat, Closed, PassView, new_passes, new_logs, without_first, first_alone, rest_of, first_of, dealt, Sat}
+use Rattle.fx_counted.proofs.Words.{new_log, pass_of, view_of, IsPassOf, is_idle, CountedPass, Log, Start, View, new_pass}
 use Rattle.fx_counted.proofs.Words.{new_passes_from, IsNewPass}
 use mathlib.Core.List.{map-append}
 use Rattle.fx_counted.specs.Tables.{HasOnePass}
@@ -49,9 +49,6 @@ module _ (id : TableId) (k : Start) (p : ℕ) (low : 1 ≤ p) (high : p ≤ k.pa
   pub is_new : view_of x ≡ new_pass p
   is_new = ap (λ (m : Sat). pass_of m.0) me
 
-  new_front : IsFront (opening_of k) (new_pass p)
-  new_front = record { legal = record { leads = (tt, refl); releases = tt }; mine = refl }
-
   pub is_pass : IsPassOf id k x
   is_pass = record {
     table = ap (λ (z : Seat (Option Closed) View). z.table_id) new.its_seat ∙ table;
@@ -60,7 +57,7 @@ module _ (id : TableId) (k : Start) (p : ℕ) (low : 1 ≤ p) (high : p ≤ k.pa
     seated = subst (λ (m : Sat). HasOnePass k m.0 (new_log p)) (sym me) record {
       one = refl;
       start = refl;
-      front = new_front;
+      front = record { legal = record { leads = (tt, refl); releases = tt }; mine = refl };
       work = tt;
       inside = tt;
       change = refl;

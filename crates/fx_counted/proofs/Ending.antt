@@ -119,21 +119,15 @@ module _ (k : Start) (s : Shared) (r : Agrees k s) (all_idle : (i : ℕ) (u : Vi
   removed_by n (retired file) a o = let w = a.counts in let h = unheld n in let p = a.some_hold in absurd (omega arith)
   removed_by n _ a o = a.not_removed
 
-  none_removed : (n : ℕ) → IsNumber k n → end.removed n ≡ None
-  none_removed n has = let a = node_is n has (r.phase n) refl in removed_by n (r.phase n) a.0 a.1
-
   pub settled_end : IsSettled end
   settled_end = record {
     unheld = unheld;
-    closed = λ n. ⊎_elim (λ has. none_removed n has) (λ absent. r.no_other n absent) (is_number k n);
+    closed = λ n. ⊎_elim (λ has. let a = node_is n has (r.phase n) refl in removed_by n (r.phase n) a.0 a.1) (λ absent. r.no_other n absent) (is_number k n);
   }
 
   -- at the end the file that lies in the place of a number is at its slot
   abbrev AtItsSlot : ℕ → Option Closed → Type 0
   AtItsSlot n x = (file : Closed) → x ≡ Some file → (slot : ℕ) × (slot < slots_of k) × (end.at slot ≡ Some (numbered n file))
-
-  nothing : (n : ℕ) → AtItsSlot n None
-  nothing n file e = absurd (cc e)
 
   home_by : (n : ℕ) (ph : Phase) → Node n ph → OwnerAgrees s.views n ph
       → (x : Option Closed) × (get_elem? s.homes (place_of k n) ≡ some (some x)) × AtItsSlot n x
@@ -147,7 +141,7 @@ module _ (k : Start) (s : Shared) (r : Agrees k s) (all_idle : (i : ℕ) (u : Vi
   home_by n (leaving i takes file) a o = let bad = nobody i (Between (Retiring (numbered n file) takes)) o in absurd (cc bad)
   home_by n (retired file) a o = let w = a.counts in let h = unheld n in let p = a.some_hold in absurd (omega arith)
   home_by n (emptied i) a o = let bad = nobody i (Emptying n) o in absurd (cc bad)
-  home_by n _ a o = (None, a.at_home, nothing n)
+  home_by n _ a o = (None, a.at_home, λ file e. absurd (cc e))
 
   pub home_file : (n : ℕ) → IsNumber k n → (x : Option Closed) × (get_elem? s.homes (place_of k n) ≡ some (some x)) × AtItsSlot n x
   home_file n has = let a = node_is n has (r.phase n) refl in home_by n (r.phase n) a.0 a.1

@@ -17,11 +17,8 @@ module _ (id : TableId) (k : Start) where
   abbrev log_of : CountedPass → Log
   log_of p = first_log p.seat.me.0.logs
 
-  log_is : (p : CountedPass) (fits : Is p) → log_of p ≡ fits.log
-  log_is p fits = ap first_log fits.seated.one
-
   its_log : (p : CountedPass) → Is p → p.seat.me.0.logs ≡ log_of p ∷ []
-  its_log p fits = fits.seated.one ∙ ap (λ (x : Log). x ∷ []) (sym (log_is p fits))
+  its_log p fits = fits.seated.one ∙ ap (λ (x : Log). x ∷ []) (sym (ap first_log fits.seated.one))
 
   length_logs : (ps : List CountedPass) → ((p : CountedPass) → Contains ps p → Is p) → length (logs_in ps) ≡ length ps
   length_logs [] f = refl

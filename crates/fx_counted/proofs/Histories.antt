@@ -23,9 +23,6 @@ held_mine p e h is = rw (eq-eqb e.pass p is) refl
 pub held_other : (p : ℕ) (e : Event) (h : List Event) → e.pass ≢ p → held_by (e ∷ h) p ≡ held_by h p
 held_other p e h is = rw (ne_eqb e.pass p is) refl
 
-pub seen_all : (h : List Event) → IsSeenBy h h
-seen_all h = ([], refl)
-
 -- the history grew by events of p
 pub record Grows (p : ℕ) (h h' : List Event) : Type 0 where
   pub seen : (f : List Event) → IsSeenBy f h → IsSeenBy f h'

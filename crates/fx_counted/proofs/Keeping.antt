@@ -163,15 +163,12 @@ module _ (turn : Turn) where
           let b = s.look_ups in let e = one_total (λ z. z.looks_left) in omega arith;
       passes = λ p. total_same (λ z. one_if (eqb z.number p)) (ap (λ (q : ℕ). one_if (eqb q p)) s.number) ∙ r.passes p;
       whole = let t = sum_set lengths st.views id v (now v y d c) here in let e = ap (length {A = Log}) one in let a = r.whole in omega arith;
-      authors = λ p none. let t = r.passes p in let u = total_its p in
+      authors = λ p none. let t = r.passes p in let u = sum_at (logs_of p) st.views id v here in
           s.grows.parts p (λ same. let a = its_one p same in omega arith) ∙ r.authors p none;
       control = s.control;
       draws = s.draws;
     }
       where
-        total_its : (p : ℕ) → logs_of p v ≤ sum_by (logs_of p) st.views
-        total_its p = sum_at (logs_of p) st.views id v here
-
         its_one : (p : ℕ) → x.number ≡ p → logs_of p v ≡ 1
         its_one p same = one_total (λ z. one_if (eqb z.number p)) ∙ rw (eq-eqb x.number p same) refl
 

@@ -39,9 +39,6 @@ module _ (turn : Turn) (idle : turn.v.work ≡ Between Idle) (some_left : 0 < tu
   room : takes_in found + 1 < 4294967296
   room = let a = so.takes in let b = r.look_ups in let c = r.shape.passes in omega arith
 
-  some_more : x.looks_left - 1 + 1 ≡ x.looks_left
-  some_more = omega arith
-
   module _ (fits : found < 18446744073709551616) where
     word_is : word' ≡ found + 1
     word_is = add_one found room fits
@@ -73,7 +70,7 @@ module _ (turn : Turn) (idle : turn.v.work ≡ Between Idle) (some_left : 0 < tu
           → Stepped (v, carried) ([] ▷ Look s file) one_look (holds_now file) v.change (w, carried)
       told carried its = tells turn carried carried h' x.numbers_left (x.looks_left - 1)
           (holds_now file) v.change ([] ▷ Look s file) one_look (grows_one x.number r.history e refl) legal
-          (part_mine x.number e r.history refl) (omega arith) some_more its
+          (part_mine x.number e r.history refl) (omega arith) (omega (arith, some_left)) its
 
       -- what is the same whatever was found
       module _ (at_same : (state_after_all v.start h').at ≡ old.at) (removed_same : (state_after_all v.start h').removed ≡ old.removed)

@@ -27,8 +27,8 @@ module _ (size : ℕ) where
     home_is n has = ⊎_elim (λ (l : n < size). inl (l, low_home n l))
         (λ (h : (256 ≤ n) × (n < 256 + numbers)). inr (h.0, h.1, high_home n (omega (arith, h.0)))) has
 
-    places_inside : PlacesAreInside size numbers
-    places_inside = record {
+    pub inside : PlacesAreInside size numbers
+    inside = record {
       control = omega arith;
       draw = omega arith;
       slot = λ slot l. omega arith;
@@ -36,8 +36,8 @@ module _ (size : ℕ) where
       home = λ n has. omega (arith, home_is n has);
     }
 
-    places_apart : PlacesAreApart size numbers
-    places_apart = record {
+    pub apart : PlacesAreApart size numbers
+    apart = record {
       slots = λ slot other e. omega arith;
       nodes = λ n m has its differ same. omega (arith, node_is n has, node_is m its);
       homes = λ n m has its differ same. omega (arith, home_is n has, home_is m its);
@@ -49,12 +49,6 @@ module _ (size : ℕ) where
       control_and_draw = λ same. absurd (omega arith);
       slot_back = λ slot. omega arith;
     }
-
-pub inside : (size numbers : ℕ) → size ≤ 256 → PlacesAreInside size numbers
-inside size numbers few = places_inside size numbers few
-
-pub apart : (size numbers : ℕ) → size ≤ 256 → PlacesAreApart size numbers
-apart size numbers few = places_apart size numbers few
 
 -- chains that have few numbers each have fewer than they may have
 pub fewer_numbers : (numbers chains : ℕ) → numbers ≤ 64 → numbers * chains ≤ 64 * chains

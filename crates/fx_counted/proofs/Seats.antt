@@ -133,7 +133,7 @@ module _ (k : Start) (id : ℕ) (v : View) (idle : v.work ≡ Between Idle) (out
       (λ f none. let e = ap f out ∙ none in same_counts (λ u. f u.change) e e e)
 
 pub splits_keep : SplitsKeep
-splits_keep k id v idle out s r here = split_agrees k id v idle out s r here
+splits_keep = split_agrees
 
 module _ (k : Start) (id : ℕ) (v : View) (begun : v.start ≡ k) (idle : v.work ≡ Between Idle) (out : v.change ≡ Outside)
     (other : ℕ) (w : View) (w_idle : w.work ≡ Between Idle) (w_out : w.change ≡ Outside)
@@ -193,5 +193,4 @@ module _ (k : Start) (id : ℕ) (v : View) (begun : v.start ≡ k) (idle : v.wor
       (λ f none. both_counts (λ u. f u.change) none (let e = ap f w_out in omega arith))
 
 pub joins_keep : JoinsKeep
-joins_keep k id v begun idle out other w w_idle w_out s r here apart there = join_agrees k id v begun idle out other w
-    w_idle w_out s r here apart there
+joins_keep = join_agrees

@@ -1,16 +1,13 @@
 -- Files leave a table of one thread, and come back.
 use Rattle.fx_counted.proofs.Words.{◌≡◌, ◌≢◌, ℕ, zero, suc, ◌+◌, ◌<◌, ◌≤◌, List, [], ◌∷◌, ◌++◌, length, sym, refl, ap, ◌∙◌, subst, arith, ◌⊎◌, inl}
 use Rattle.fx_counted.proofs.Words.{inr, ⊎_elim, Option, Some, None, dite, ℕ_discrete, dec_le, Closed, State, IsSettled, Contents, state_of, file_at}
-use Rattle.fx_counted.proofs.Words.{changed_at, numbered, identity_of, AreBack, file_in_place, get_or_append_left, slot_at, IsShell}
+use Rattle.fx_counted.proofs.Words.{changed_at, numbered, identity_of, AreBack, file_in_place, slot_at, IsShell}
 use Rattle.fx_counted.proofs.Histories.{change_here, change_else}
 
--- the last of a list of places, and those before it
+-- the last of a list of places
 pub last_place : (xs : List (Option Closed)) (x : Option Closed) → file_in_place (xs ++ x ∷ []) (length xs) ≡ x
 last_place [] x = refl
 last_place (y ∷ xs) x = last_place xs x
-
-pub place_before : (xs : List (Option Closed)) (x : Option Closed) (k : ℕ) → k < length xs → file_in_place (xs ++ x ∷ []) k ≡ file_in_place xs k
-place_before xs x k l = get_or_append_left xs (x ∷ []) None k l
 
 -- a table has no file behind its slots
 pub none_outside : (c : Contents) (slot : ℕ) → (state_of c).size ≤ slot → (state_of c).at slot ≡ None
@@ -39,9 +36,6 @@ file_put a b slot file settled is = subst (Becomes a slot (Some file)) (sym is) 
   others = λ other ne. change_else a.at slot (Some (numbered slot file)) other ne;
   settled = record { unheld = settled.unheld; closed = settled.closed };
 }
-
-none_came : (st : State) (slot : ℕ) → st.at slot ≡ None → IsSettled st → Becomes st slot None st
-none_came st slot none settled = record { size = refl; range = refl; there = ap identity_of none; others = λ other ne. refl; settled = settled }
 
 -- between these slots the files are still away
 pub record IsPartlyBack (shell : State) (file : ℕ → Option Closed) (from to : ℕ) (st : State) : Type 0 where
@@ -99,4 +93,5 @@ module _ (shell : State) (file : ℕ → Option Closed) where
   pub none_given : (st : State) (slot from to : ℕ) → from ≤ slot → slot < to → file slot ≡ None → IsPartlyBack shell file from to st
       → Becomes st slot (file slot) st
   none_given st slot from to low high none p =
-      subst (λ (x : Option Closed). Becomes st slot x st) (sym none) (none_came st slot (p.away slot low high) p.settled)
+      subst (λ (x : Option Closed). Becomes st slot x st) (sym none)
+      record { size = refl; range = refl; there = ap identity_of (p.away slot low high); others = λ other ne. refl; settled = p.settled }

@@ -1,6 +1,6 @@
 -- How large the words become.
-use Rattle.fx_counted.proofs.Words.{sum_by, ◌≡◌, ℕ, ◌+◌, ◌<◌, ◌≤◌, Option, Some, None, sym, ◌∙◌, subst, arith, some, get_elem?, File, sum_le_at}
-use Rattle.fx_counted.proofs.Words.{node_in, takes_in, Agrees, NodeAgrees, Names, WorkAgrees, lengths, home_place, changes_of, looks, all_looks}
+use Rattle.fx_counted.proofs.Words.{sum_by, ◌≡◌, ℕ, ◌+◌, ◌≤◌, Option, Some, None, sym, ◌∙◌, subst, arith, some, get_elem?, File, sum_le_at}
+use Rattle.fx_counted.proofs.Words.{node_in, Agrees, NodeAgrees, Names, WorkAgrees, lengths, home_place, changes_of, looks, all_looks}
 use Rattle.fx_counted.proofs.Words.{Shared, IsNumber, slots_of, looks_of, told_of, state_after_all, Phase, seated, leaving, Start, View, Retiring}
 use Rattle.fx_counted.specs.Agrees.{IsSeated}
 use Rattle.fx_counted.specs.Bounds.{AreBounded, WordsAreBounded, slot_word_in, node_word_in, draw_word_in}
@@ -17,9 +17,6 @@ module _ (k : Start) (s : Shared) (r : Agrees k s) where
   -- all looks that were made
   few_looks : all_looks r.history + sum_by looks_of s.views ≤ 16777216
   few_looks = let a = r.look_ups in let b = r.shape.passes in omega arith
-
-  each_takes : (slot : ℕ) → slot < slots_of k → takes_in (slot_word_in s slot) + sum_by looks_of s.views ≤ 16777216
-  each_takes slot inside = let a = (r.each_slot slot inside).takes in let b = few_looks in omega arith
 
   -- a node word counts no more releases than looks
   few_releases : (n word holds : ℕ) → word + looks r.history n ≡ 4294967296 + holds → 4294967296 ≤ word + 16777216
@@ -41,9 +38,6 @@ module _ (k : Start) (s : Shared) (r : Agrees k s) where
       let a = of_seated f.number seat.0 (seated slot f.identity) seat.2 in
       subst (λ (n : ℕ). 4294967296 ≤ node_word_in k s n + 16777216) same (few_releases f.number _ _ a.counts)
 
-  each_named : (slot number : ℕ) → slot < slots_of k → node_in (slot_word_in s slot) ≡ Some number → 4294967296 ≤ node_word_in k s number + 16777216
-  each_named slot number inside is = let a = r.each_slot slot inside in of_slot slot number _ a.names a.seat is
-
   each_leaving : (seat takes : ℕ) (v : View) (f : File) → get_elem? s.views seat ≡ some v → v.work ≡ Between (Retiring f takes)
       → 4294967296 ≤ node_word_in k s f.number + 16777216
   each_leaving seat takes v f there is =
@@ -59,8 +53,8 @@ module _ (k : Start) (s : Shared) (r : Agrees k s) where
 
   pub bounded : AreBounded k s
   bounded = record {
-    takes = each_takes;
-    named = each_named;
+    takes = λ slot inside. let a = (r.each_slot slot inside).takes in let b = few_looks in omega arith;
+    named = λ slot number inside is. let a = r.each_slot slot inside in of_slot slot number _ a.names a.seat is;
     leaving = each_leaving;
     draws = few_draws;
     changes = let a = r.control.upper in let b = changes_most in omega arith;

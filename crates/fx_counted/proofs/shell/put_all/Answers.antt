@@ -1,6 +1,7 @@
 use Rattle.fx_counted.proofs.Words.{◌≡◌, ◌<◌, ◌≤◌, ◌+◌, ℕ, length, List, [], ◌∷◌, ◌++◌, refl, sym, ap, ◌∙◌, subst, arith, length-append, Option, Some}
 use Rattle.fx_counted.proofs.Words.{None, dite, dec_le, Closed, state_of, file_in_place, State}
-use Rattle.fx_counted.proofs.Shells.{IsPartlyBack, Becomes, file_put, last_place, place_before, all_away, all_back, last_back, none_given}
+use Rattle.fx_counted.proofs.Words.{get_or_append_left}
+use Rattle.fx_counted.proofs.Shells.{IsPartlyBack, Becomes, file_put, last_place, all_away, all_back, last_back, none_given}
 use Rattle.fx_counted.proofs.shell.put_all.Goals.{After-len-slot}
 use Rattle.fx_counted.proofs.shell.put_all.Goals as goal
 
@@ -23,7 +24,7 @@ module _ (all xs ys : List (Option Closed)) (x : Option Closed) (split : xs ≡ 
       ∙ (ap (λ (l : List (Option Closed)). file_in_place l (length ys)) split ∙ last_place ys x)
 
   same_before : (k : ℕ) → k < length ys → file_in_place ys k ≡ file_in_place all k
-  same_before k l = sym (place_before ys x k l) ∙ (ap (λ (z : List (Option Closed)). file_in_place z k) (sym split)
+  same_before k l = sym (get_or_append_left ys (x ∷ []) None k l) ∙ (ap (λ (z : List (Option Closed)). file_in_place z k) (sym split)
       ∙ same k (let a = one_less in omega arith))
 
 -- a file that comes back is one of a slot
