@@ -45,8 +45,7 @@ module _ (turn : Turn) (h' : List Event) where
         number = refl;
         grows = p.quiet.grows;
         legal = p.quiet.legal;
-        slots = λ s l. slot_same v.start r.history h' r.phase r.phase s (word_at st.words (slot_place s))
-            (word_at words' (slot_place s)) (p.slots s) (ap (λ (z : State). z.at s) p.quiet.state) (let a = p.quiet.all in omega arith)
+        slots = λ s l. slot_same (p.slots s) (ap (λ (z : State). z.at s) p.quiet.state) (let a = p.quiet.all in omega arith)
             (λ f there seat. (ap (λ (g : ℕ → ℕ). g f.number) p.quiet.looked, refl)) (r.each_slot s l);
         nodes = λ n has. subst (λ (z : State × ℕ × ℕ). NodeAgrees z.0 n z.1 z.2 (get_elem? st.homes (place_of v.start n)) (r.phase n))
             (λ i. (sym p.quiet.state i, sym p.quiet.looked i n, sym (p.nodes n has) i)) (r.each_node n has);
@@ -61,8 +60,7 @@ module _ (turn : Turn) (h' : List Event) where
         look_ups = let a = p.quiet.all in omega arith;
         control = subst (λ (z : State). ControlCounts z.at (range_of (opening_of v.start)) (set st.views id w)
             (word_at words' control_place)) (sym p.quiet.state) p.control;
-        draws = draws_same st.views id v w here v.start.chains v.start.numbers r.phase r.phase (word_at st.words draw_place)
-            (word_at words' draw_place) x y one refl refl refl p.drawn (λ n is. is) r.draws;
+        draws = draws_same st.views id v w here one refl refl refl p.drawn (λ n is. is) r.draws;
       }
 
       pub calm_agrees : Agrees v.start record { words = words'; homes = st.homes; views = set st.views id w }

@@ -109,8 +109,7 @@ module _ (turn : Turn) where
       number = refl;
       grows = grows_none x.number r.history;
       legal = r.legal;
-      slots = λ s l. slot_same v.start r.history r.history r.phase phase' s (word_at st.words (slot_place s))
-          (word_at words' (slot_place s)) (read_else (slot_place s) (apart.slot_and_draw s)) refl (omega arith)
+      slots = λ s l. slot_same (read_else (slot_place s) (apart.slot_and_draw s)) refl (omega arith)
           (λ f there seat. (refl, either_phase phases f.number (λ e. sym e) (λ new _. absurd (cc (sym seat ∙ new))))) (r.each_slot s l);
       nodes = λ n has. let Node = NodeIn v.start st.words st.homes r.history n in
           subst (λ (z : ℕ). NodeAgrees (state_after_all v.start r.history) n (looks r.history n) z (get_elem? st.homes (place_of v.start n)) (phase' n))
@@ -139,9 +138,7 @@ module _ (turn : Turn) where
       work = subst (WorkAgrees v.start phase' id) (sym idle) tt;
       holds = λ n. omega arith;
       look_ups = omega arith;
-      control = control_same st.views id v w here (state_after_all v.start r.history).at
-          (state_after_all v.start r.history).at _ (word_at st.words control_place) _ refl
-          (read_else control_place apart.control_and_draw) refl r.control;
+      control = control_same st.views id v w here refl (read_else control_place apart.control_and_draw) refl r.control;
       draws = subst (DrawsCount v.start.chains v.start.numbers phase' (set st.views id w)) (sym (get_or-set_same st.words draw_place (found + 1) 0 wide)) draws;
     }
 

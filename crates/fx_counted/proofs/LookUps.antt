@@ -2,7 +2,7 @@
 use Rattle.fx_counted.proofs.Words.{◌≡◌, ◌≢◌, ℕ, ◌+◌, ◌-◌, ◌%◌, ◌^◌, ◌<◌, List, [], ◌∷◌, set, sym, refl, ap, ◌∙◌, subst, arith, Option, Some, None}
 use Rattle.fx_counted.proofs.Words.{dite, none, ℕ_discrete, keeps, stepped, step, Closed, ◌▷◌, held_by, State, File, Event, Look, range_of}
 use Rattle.fx_counted.proofs.Words.{event_of, name_in, entry_in, takes_in, Names, SlotAgrees, Agrees, PlacesNext, WorkAgrees, looks}
-use Rattle.fx_counted.proofs.Words.{full_in, slot_place, control_place, opening_of, slots_of, IsNumber, state_after_all, shown}
+use Rattle.fx_counted.proofs.Words.{full_in, slot_place, opening_of, slots_of, IsNumber, state_after_all, shown}
 use Rattle.fx_counted.proofs.Words.{held_in, placing, held_of, holding, Phase, seated, file_in, Stepped, IsInside, Log, View, Idle, eqb, one_look}
 use Rattle.fx_counted.proofs.Words.{name_more, entry_more, takes_more, LooksKeep, Looks, holds_now}
 use Rattle.fx_counted.proofs.Steps.{busy, stays_same, owner_stays, IsHistory, grows_one, legal_more, held_mine, part_mine, change_else, same_shape}
@@ -101,8 +101,7 @@ module _ (turn : Turn) (idle : turn.v.work ≡ Between Idle) (some_left : 0 < tu
           work = work;
           holds = λ n. let b : held_of n v ≡ 0 = ap (holding n) idle in let c = holds n in omega arith;
           look_ups = omega arith;
-          control = control_same st.views id v w here old.at (state_after_all v.start h').at _
-              (word_at st.words control_place) _ (ap (λ (g : ℕ
+          control = control_same st.views id v w here (ap (λ (g : ℕ
               → Option File). full_in g (range_of (opening_of v.start)).0
               (range_of (opening_of v.start)).1) at_same) refl refl r.control;
         }

@@ -106,9 +106,7 @@ module _ (turn : Turn) where
         number = refl;
         grows = s.grows;
         legal = s.legal;
-        slots = λ slot l. slot_same v.start r.history h' r.phase phase' slot (word_at st.words (slot_place slot))
-            (word_at (set st.words i word') (slot_place slot))
-            (word_else (slot_place slot) (λ same. far.node_and_slot q slot l its (sym same))) (at_is slot) (omega (arith, s.told.all))
+        slots = λ slot l. slot_same (word_else (slot_place slot) (λ same. far.node_and_slot q slot l its (sym same))) (at_is slot) (omega (arith, s.told.all))
             (λ f there seat. (
               ap (λ (g : ℕ → ℕ). g f.number) s.told.looked,
               each_phase (λ m p. p ≡ r.phase m) f.number
@@ -144,13 +142,10 @@ module _ (turn : Turn) where
         work = s.work;
         holds = s.holds;
         look_ups = let a = s.told.all in omega arith;
-        control = control_same st.views id v w here (state_after_all v.start r.history).at
-            (state_after_all v.start h').at _ (word_at st.words control_place) _
-            (ap (λ (g : ℕ → Option File). full_in g (range_of (opening_of v.start)).0
+        control = control_same st.views id v w here (ap (λ (g : ℕ → Option File). full_in g (range_of (opening_of v.start)).0
             (range_of (opening_of v.start)).1) s.told.at)
             (word_else control_place (λ same. far.node_and_control q its (sym same))) refl r.control;
-        draws = draws_same st.views id v w here v.start.chains v.start.numbers r.phase phase'
-            (word_at st.words draw_place) _ x y one refl refl refl
+        draws = draws_same st.views id v w here one refl refl refl
             (word_else draw_place (λ same. far.node_and_draw q its (sym same)))
             (λ n is. each_phase (λ m z. z ≡ unborn) n (λ same. same_if _ (ap r.phase (sym same) ∙ is)
             (λ o. absurd (omega (arith, o))) (λ o. absurd (cc o)) (λ g o. absurd (cc o))) is) r.draws;

@@ -134,8 +134,7 @@ module _ (turn : Turn) (i : ℕ) where
         slots = λ s. refl;
         nodes = λ n has. refl;
         drawn = refl;
-        control = control_same st.views id v still here
-            (state_after_all v.start r.history).at (state_after_all v.start r.history).at _ _ _ refl refl refl r.control;
+        control = control_same st.views id v still here refl refl refl r.control;
       })
 
 pub loads_keep : LoadsKeep

@@ -64,9 +64,7 @@ module _ (turn : Turn) (s : ℕ) (inside : s < slots_of turn.v.start) (left look
             (sym (get_or-set_same st.words (slot_place s) word' 0 wide) ∙ ap (λ (z : ℕ). word_at words' (slot_place z)) (sym same)) j,
           )) p.slot)
           (λ other. let o = p.others i l other in
-          slot_same v.start r.history h' r.phase phase' i (word_at st.words (slot_place i))
-          (word_at words' (slot_place i))
-          (word_else (slot_place i) (λ same. other (apart.slots i s same))) o.0 p.more o.1 (r.each_slot i l));
+          slot_same (word_else (slot_place i) (λ same. other (apart.slots i s same))) o.0 p.more o.1 (r.each_slot i l));
       nodes = λ n has. subst (λ (w : ℕ). NodeAgrees (state_after_all v.start h') n (looks h' n) w
           (get_elem? homes' (home_place (slots_of v.start) n)) (phase' n))
           (sym (word_else (node_place (slots_of v.start) n) (apart.node_and_slot n s inside has))) (p.nodes n has);
@@ -80,8 +78,7 @@ module _ (turn : Turn) (s : ℕ) (inside : s < slots_of turn.v.start) (left look
       look_ups = p.look_ups;
       control = subst (ControlCounts (state_after_all v.start h').at (range_of (opening_of v.start)) views')
           (sym (word_else control_place (λ same. apart.slot_and_control s (sym same)))) p.control;
-      draws = draws_same st.views id v (now v y d c) here v.start.chains v.start.numbers r.phase phase'
-          (word_at st.words draw_place) _ x y one refl refl refl
+      draws = draws_same st.views id v (now v y d c) here one refl refl refl
           (word_else draw_place (λ same. apart.slot_and_draw s (sym same))) p.unused r.draws;
     }
 

@@ -17,15 +17,16 @@ module _ (k : Start) (h h' : List Event) (phase phase' : ℕ → Phase) (slot : 
   seat_same word same None is o = tt
   seat_same word same (Some f) is o = let q = same f is o.2 in (o.0, o.1 ∙ sym q.0, q.1 ∙ o.2)
 
-  -- a slot whose word and file stay
-  pub slot_same : (word word' : ℕ) → word' ≡ word → (state_after_all k h').at slot ≡ (state_after_all k h).at slot
-      → all_looks h ≤ all_looks h' → SameFile → SlotAgrees k h phase slot word → SlotAgrees k h' phase' slot word'
-  slot_same word word' same_word same_file more same so = record {
-    names = subst (λ (z : ℕ × Option File). Names z.0 z.1) (λ i. (sym same_word i, sym same_file i)) so.names;
-    seat = subst (λ (z : ℕ × Option File). IsSeated k (looks h') phase' slot z.0 z.1)
-        (λ i. (sym same_word i, sym same_file i)) (seat_same word same ((state_after_all k h).at slot) refl so.seat);
-    takes = let t = so.takes in let e = ap takes_in same_word in omega arith;
-  }
+-- a slot whose word and file stay
+pub slot_same : {k : Start} {h h' : List Event} {phase phase' : ℕ → Phase} {slot word word' : ℕ} → word' ≡ word
+    → (state_after_all k h').at slot ≡ (state_after_all k h).at slot → all_looks h ≤ all_looks h' → SameFile k h h' phase phase' slot
+    → SlotAgrees k h phase slot word → SlotAgrees k h' phase' slot word'
+slot_same {k} {h} {h'} {phase} {phase'} {slot} {word} same_word same_file more same so = record {
+  names = subst (λ (z : ℕ × Option File). Names z.0 z.1) (λ i. (sym same_word i, sym same_file i)) so.names;
+  seat = subst (λ (z : ℕ × Option File). IsSeated k (looks h') phase' slot z.0 z.1)
+      (λ i. (sym same_word i, sym same_file i)) (seat_same k h h' phase phase' slot word same ((state_after_all k h).at slot) refl so.seat);
+  takes = let t = so.takes in let e = ap takes_in same_word in omega arith;
+}
 
 -- a number of which nothing has changed
 module _ (st st' : State) (n l l' word word' : ℕ) (home home' : Home) (fresh : st'.fresh n ≡ st.fresh n) (removed : st'.removed n ≡ st.removed n)
@@ -72,10 +73,10 @@ module _ (st st' : State) (n l l' word word' : ℕ) (home home' : Home) (fresh :
 
 module _ (views : List View) (id : ℕ) (v w : View) (here : get_elem? views id ≡ some v) where
   -- the control word, where no slot of the range and no change does
-  pub control_same : (at at' : ℕ → Option File) (range : ℕ × ℕ) (word word' : ℕ)
+  pub control_same : {at at' : ℕ → Option File} {range : ℕ × ℕ} {word word' : ℕ}
       → full_in at' range.0 range.1 ≡ full_in at range.0 range.1 → word' ≡ word → w.change ≡ v.change
       → ControlCounts at range views word → ControlCounts at' range (set views id w) word'
-  control_same at at' range word word' full same change ok =
+  control_same {at} {at'} {range} {word} {word'} full same change ok =
       let a = sum_set changes_of views id v w here in let b = sum_set added_of views id v w here in let c = sum_set removed_of views id v w here in
       let d = ap in_change change in let e = ap added change in let f = ap removed_by change in
       let u = ok.upper in let l = ok.lower in
@@ -84,10 +85,10 @@ module _ (views : List View) (id : ℕ) (v w : View) (here : get_elem? views id 
       record { upper = omega arith; lower = omega arith }
 
   -- the draw word, where no chain was drawn
-  pub draws_same : (chains numbers : ℕ) (phase phase' : ℕ → Phase) (word word' : ℕ) (x y : Log) → v.logs ≡ x ∷ []
+  pub draws_same : {chains numbers : ℕ} {phase phase' : ℕ → Phase} {word word' : ℕ} {x y : Log} → v.logs ≡ x ∷ []
       → w.logs ≡ y ∷ [] → y.drawn ≡ x.drawn → y.no_chains_left ≡ x.no_chains_left → word' ≡ word
       → ((n : ℕ) → phase n ≡ unborn → phase' n ≡ unborn) → DrawsCount chains numbers phase views word → DrawsCount chains numbers phase' (set views id w) word'
-  draws_same chains numbers phase phase' word word' x y one one' drawn told same keeps ok =
+  draws_same {chains} {numbers} {phase} {phase'} {word} {word'} {x} {y} one one' drawn told same keeps ok =
       let t = sum_set told_of views id v w here in
       let told_v : told_of v ≡ 0 + one_if x.no_chains_left = ap (λ (l : List Log). sum_by (λ z. one_if z.no_chains_left) l) one in
       let told_w : told_of w ≡ 0 + one_if y.no_chains_left = ap (λ (l : List Log). sum_by (λ z. one_if z.no_chains_left) l) one' in
