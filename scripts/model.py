@@ -359,7 +359,7 @@ class Player:
         return 0
 
     def update(self, place, off, listed, first=0):
-        """`first` is the place of the list's first entry, where a list is worked off in parts."""
+        """`first` is the place of the list's first entry, where a list is applied in parts."""
         return self.refusal_of_list(off, listed) or self.work_off(off, listed, lambda nth: submitted(place, first + nth))
 
     def perform(self, place, request):

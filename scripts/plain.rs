@@ -219,7 +219,7 @@ impl Table {
         }
     }
 
-    /// Works the k-th list off.
+    /// Applies the k-th list.
     fn work_off(&mut self, k: u32, off: usize, List(list, tags): &List) {
         for (nth, entry) in list.iter().enumerate().filter(|(_, entry)| **entry != -2) {
             let mark = Mark::Registered([k, nth as u32]);

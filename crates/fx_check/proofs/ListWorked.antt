@@ -1,4 +1,4 @@
--- A list that is worked off on slots, one number further.
+-- A list that is applied to slots, one number further.
 use Rattle.std.proofs.Common.{◌≡◌, ℕ, zero, suc, ◌+◌, ◌<◌, ℤ, pos, negsuc, List, [], ◌∷◌, ◌++◌, ◌^◌, length, refl, sym, ap, subst, ◌∙◌, arith, if◌then◌else◌}
 use Rattle.std.proofs.Common.{Option, Some, None, slice_index_or, drop, append_assoc}
 use Rattle.fx_base.specs.declared.mark.Mark.TheVariants.{Registered}

@@ -40,7 +40,7 @@ fn tag_at(tags: Option<&[u64]>, place: usize) -> u64
     tags.get(place).copied().unwrap_or(0)
 }
 
-// Works one number off: -1 empties the slot, -2 leaves it, and every other one opens that catalogue entry there. It gives
+// Applies one number: -1 empties the slot, -2 leaves it, and every other one opens that catalogue entry there. It gives
 // the file that was removed.
 fn apply_number(slots: &mut Slots, mark: Mark, tag: u64, slot: u32, number: i32) -> Option<Closed>
     requires slot { slot < length slots.old.at.items }
@@ -63,7 +63,7 @@ fn apply_number(slots: &mut Slots, mark: Mark, tag: u64, slot: u32, number: i32)
     was
 }
 
-/// Works the k-th list off, from the slot `off` on, with tags 0 where none are given. It gives the files that were removed,
+/// Applies the k-th list, from the slot `off` on, with tags 0 where none are given. It gives the files that were removed,
 /// in order of slot.
 ///
 /// # Errors

@@ -62,6 +62,6 @@ module _ (slots : List (Option ℕ)) (first nodes : List Node) (s : ℕ) (placed
         opened = omega arith;
       }
 
-  -- one slot more was worked off
+  -- one slot more was done
   pub worked_next : IsWorked slots first nodes s → IsWorked slots first (nodes_without nodes (slot_at slots s)) (s + 1)
   worked_next = worked_without (slot_at slots s) refl

@@ -24,7 +24,7 @@ module _ (slots : List (Option ℕ)) (first nodes : List Node) (s : ℕ) (placed
   pub named_same : file_named nodes (slot_at slots s) ≡ file_named first (slot_at slots s)
   named_same = file_named_same first nodes (slot_at slots s) (λ n is. left s n (omega arith) is)
 
-  -- one slot more was worked off
+  -- one slot more was done
   pub left_without : (x : Option ℕ) → slot_at slots s ≡ x → IsLeft slots first (nodes_without nodes x) (s + 1)
   left_without None is = λ u number le at. left u number (omega arith) at
   left_without (Some m) is = λ u number le at.
@@ -65,7 +65,7 @@ moved_next moved s node expected len is before u lt = by_equality u s (λ _. nod
     (λ same. ap (node_at (moved ++ node ∷ [])) (same ∙ sym len) ∙ get_or-append_seam moved node [] Gone ∙ is ∙ ap expected (sym same))
     (λ other. let below : u < length moved = omega arith in get_or_append_left moved (node ∷ []) Gone u below ∙ before u (omega arith))
 
--- one slot more was worked off in the list of nodes that is there
+-- one slot more was done in the list of nodes that is there
 module _ (slots : List (Option ℕ)) (first nodes : List Node) (s : ℕ) (placed : AllPlaced slots first) (left : IsLeft slots first nodes s)
     (own : HaveOwnNumbers slots) (inside : s < length slots) where
   pub left_settled : (v : Node) → IsLeft slots first (slice_set (nodes_without nodes (slot_at slots s)) s v) (s + 1)
