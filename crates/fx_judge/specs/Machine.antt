@@ -83,7 +83,7 @@ views nodes = map view nodes
 abbrev pub claim_at : List Strand → List ℕ → ℕ → Option Claim
 claim_at strands places c =
     option_and_then (λ strand. slice_get strand.claims.items (slice_index places c))
-        (slice_get strands c)
+    (slice_get strands c)
 
 -- where a claim of a chain leads, if it may be made
 abbrev pub made : Standing → ℕ → Claim → Option Standing

@@ -53,8 +53,10 @@ place_text place = number_text (place.submission, number_text (place.chain, deci
 -- `S.C.M.E`
 abbrev pub entry_text : Place × ℕ → List ℕ
 entry_text entry =
-    number_text (entry.0.submission,
-        number_text (entry.0.chain, number_text (entry.0.member, decimal entry.1)))
+    number_text (
+      entry.0.submission,
+      number_text (entry.0.chain, number_text (entry.0.member, decimal entry.1)),
+    )
 
 -- `RES`, and the bytes of a read
 abbrev pub answer_text : ℤ × List ℕ → List ℕ
