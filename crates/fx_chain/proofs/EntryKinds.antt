@@ -1,7 +1,7 @@
 -- The entries of an update, by their sign, and how a list of them goes on.
 use Rattle.fx_chain.proofs.Words.{◌≡◌, ℕ, zero, suc, ◌+◌, ◌<◌, Bool, true, false, if◌then◌else◌, ◌||◌, ℤ, pos, negsuc, int_le, int_lt, List, [], ◌∷◌}
 use Rattle.fx_chain.proofs.Words.{◌++◌, length, filter, take, drop, add-one, refl, sym, ap, subst, ◌∙◌, slice_index_or, arith, nat_abs, ltb-true}
-use Rattle.fx_chain.proofs.Words.{le-leb, append-nil, length-take-le, take_more, filter-append, list_any, Action, ◌▷▷◌, AppliesEntry, AppliesList}
+use Rattle.fx_chain.proofs.Words.{le-leb, append-nil, length-take-le, take_more, filter-append, Action, ◌▷▷◌, AppliesEntry, AppliesList}
 use Rattle.fx_chain.proofs.Words.{is_bad_entry, Opening, PlayerView, ActsSo, entry_installs, list_installs, Place}
 use Rattle.std.proofs.lemmas.List.{append_assoc, length-append}
 use Rattle.std.proofs.Math.Seq.{drop-cons}
@@ -38,13 +38,6 @@ or_left false b is = refl
 or_right : (a b : Bool) → a || b ≡ false → b ≡ false
 or_right true b is = cc
 or_right false b is = is
-
--- no entry of a list is bad where none is
-pub good_at : (entries : ℕ) (list : List ℤ) (i : ℕ) (d : ℤ) → list_any (is_bad_entry entries) list ≡ false → i < length list
-    → is_bad_entry entries (slice_index_or list i d) ≡ false
-good_at entries [] i d good inside = absurd (omega arith)
-good_at entries (z ∷ list) zero d good inside = or_left _ _ good
-good_at entries (z ∷ list) (suc i) d good inside = good_at entries list i d (or_right _ _ good) (omega arith)
 
 -- an entry that is neither installed nor emptied leaves its slot
 pub leaves_slot : (place : Place) (in_list slot entries : ℕ) (z : ℤ) → is_bad_entry entries z ≡ false → int_le (pos 0) z ≡ false

@@ -94,18 +94,6 @@ own_listed catalogue size place (Updates off list) own c done =
     (λ some. entries_listed place 0 list ∙ sym (update_made (length catalogue) size place off list own c some done))
 
 -- the places of an update that made accesses
-pub update_listed : (place : Place) (off : ℕ) (list : List ℤ) (own : List Access) (made : ℕ) → length own ≡ made → 0 < made
-    → own_places place (Updates off list) own ≡ entry_places place 0 list
-update_listed place off list own made count some =
-    by_equality (length own) 0 (λ b. (if b then [] else entry_places place 0 list) ≡ entry_places place 0 list)
-    (λ none. absurd (omega arith)) (λ other. refl)
-
-pub update_not_listed : (place : Place) (off : ℕ) (list : List ℤ) (own : List Access) (made : ℕ) → length own ≡ made → made ≡ 0
-    → own_places place (Updates off list) own ≡ []
-update_not_listed place off list own made count none =
-    by_equality (length own) 0 (λ b. (if b then [] else entry_places place 0 list) ≡ []) (λ same. refl)
-    (λ some. absurd (some (count ∙ none)))
-
 -- they are all of the chain
 abbrev pub AreOfChain : ℕ → List AccessPlace → Type 0
 AreOfChain chain places = All (λ p. p.chain ≡ chain) places
@@ -160,10 +148,6 @@ chain_same catalogue size place (request ∷ requests) accesses places completio
 abbrev pub IsPut : List FileEntry → ℕ → Place → List Asked → List Access → List Completed → List AccessPlace → List AccessPlace → Type 0
 IsPut catalogue size place requests accesses completions old new =
     (own : List AccessPlace) × (new ≡ old ++ own) × IsChainListed catalogue size place requests accesses own completions
-
-pub none_put : (catalogue : List FileEntry) (size : ℕ) (place : Place) (accesses : List Access) (completions : List Completed) (old : List AccessPlace)
-    → IsChainDone catalogue size place [] accesses completions → IsPut catalogue size place [] accesses completions old old
-none_put catalogue size place accesses completions old x = ([], sym (append-nil old), (x.0, refl, x.1))
 
 pub too_few : (catalogue : List FileEntry) (size : ℕ) (place : Place) (request : Asked) (requests : List Asked) (accesses : List Access)
     → IsChainDone catalogue size place (request ∷ requests) accesses [] → ⊥

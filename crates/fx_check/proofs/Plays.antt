@@ -1,5 +1,5 @@
 -- A text that is gone along with command by command is one of the script.
-use Rattle.std.proofs.Common.{◌≡◌, ℕ, suc, ◌+◌, ◌<◌, List, [], ◌∷◌, ◌++◌, length, take, drop, refl, sym, ap, subst, ◌∙◌, slice_index_or, arith, Option, None}
+use Rattle.std.proofs.Common.{◌≡◌, ℕ, suc, ◌+◌, ◌<◌, List, [], ◌∷◌, ◌++◌, length, take, drop, refl, sym, ap, subst, ◌∙◌, slice_index_or, arith, Option}
 use Rattle.std.specs.Option.{option_to_list}
 use Rattle.std.proofs.lemmas.List.{take-append-drop, drop-drop}
 use Rattle.std.proofs.Math.Seq.{drop-cons}
@@ -9,12 +9,7 @@ use Rattle.fx_script.specs.Instruction.{Instruction, instruction_of, instruction
 use Rattle.fx_script.specs.Play.{IsText, PrintsAll}
 use Rattle.fx_script.specs.Script.{Meaning}
 use Rattle.fx_script.specs.declared.command.Command.{Command}
-use Rattle.fx_base.specs.Catalogue.{FileEntry}
-use Rattle.fx_judge.specs.declared.told.RingSlots.{RingSlots}
-use Rattle.fx_check.specs.Answer.{IsAnswer}
-use Rattle.fx_check.specs.Met.{IsStep, MayPrint}
-use Rattle.fx_check.specs.declared.met.Met.TheVariants.{Here}
-use Rattle.fx_check.specs.declared.answer.Answer.TheVariants.{Printed}
+use Rattle.fx_check.specs.Met.{MayPrint}
 use Rattle.fx_check.specs.Ordered.{IsTextBy, MayPrintAllBy, MayPrintBy, PrintsAllBy}
 use Rattle.fx_check.specs.declared.judgement.Order.{Order}
 
@@ -65,12 +60,3 @@ one_further commands done command old new text at count own later inside is may 
     (one_printed old new (instruction_of command) (instructions_of (drop (done + 1) commands)) (drop at text) (take count (drop at text))
     (drop count (drop at text)) own later parts may
     (subst (λ (t : List ℕ). MayPrintAllBy new (instructions_of (drop (done + 1) commands)) t later) (sym behind) rest))
-
--- where no submission is counted, there is no order
-pub of_step : (catalogue : List FileEntry) (old new : RingSlots) (command : Instruction) (text : List ℕ) (count : ℕ)
-    → IsStep catalogue old command text (Here count) new → new.submissions ≡ old.submissions → IsAnswer catalogue old command text (Printed count None) new
-of_step catalogue old new command text count step counted = (
-  step.0,
-  λ ring same. let next = step.1 ring same in
-      (next.0, next.1, next.2, ap (λ (r : RingState). r.submissions) next.1 ∙ counted ∙ sym (ap (λ (r : RingState). r.submissions) same)),
-)

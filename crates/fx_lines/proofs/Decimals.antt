@@ -12,9 +12,6 @@ use Rattle.fx_lines.specs.Lines.{is_without}
 use Rattle.std.proofs.lemmas.Bool.{true≢false}
 use Rattle.fx_lines.specs.Reads.{Reads}
 
-AreDigits : List ℕ → Type 0
-AreDigits ds = list_all is_digit ds ≡ true
-
 le_is : (a b : ℕ) → a ≤ b → nat_le a b ≡ true
 le_is a b is = grind (arith, nat_tests)
 

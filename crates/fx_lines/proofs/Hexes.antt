@@ -70,8 +70,3 @@ by_length false got some = refl
 -- the text of a read's bytes, where there are any
 pub some_got : (got : List ℕ) → 0 < length got → got_text got ≡ 32 ∷ encode_lower got
 some_got got some = by_length (length got == 0) got (λ none. let empty : length got ≡ 0 = eqb-true _ _ none in omega arith)
-
--- no bytes print nothing
-pub no_got : (got : List ℕ) → length got ≡ 0 → got ≡ []
-no_got [] empty = refl
-no_got (b ∷ got) empty = absurd (omega arith)
