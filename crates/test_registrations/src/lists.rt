@@ -43,12 +43,12 @@ fn expect_updated<R: Abort>(
 ) {
     match ring.update(alloc, off, list) {
         Ok((count, closes)) => {
-            assert_eq!(rt; count as usize, list.len());
-            assert_eq!(rt; closes.files(), files);
+            assert!(rt; count as usize == list.len());
+            assert!(rt; closes.files() == files);
         }
         Err(errno) => panic!(rt; "an update of {} numbers: {errno:?}", list.len()),
     }
-    assert_eq!(rt; ring.registrations(), 2);
+    assert!(rt; ring.registrations() == 2);
 }
 
 // What is left of the first registration, so many files, and those of an update behind it, which are entry 1.
@@ -67,10 +67,10 @@ fn lists_of_each_size(rt: HostRuntime) -> Result<(), Fail> {
         let list = list_of(alloc, 0, size)?;
         let files = files_from(alloc, 0, size)?;
         let mut ring = full_ring(&rt, alloc, list.as_slice())?;
-        assert_eq!(rt; (ring.size(), ring.range()), (size, (0, size)));
-        assert_eq!(rt; ring.registrations(), 1);
+        assert!(rt; (ring.size(), ring.range()) == (size, (0, size)));
+        assert!(rt; ring.registrations() == 1);
         expect_closes(&rt, ring.unregister(alloc), files.as_slice(), "unregister");
-        assert_eq!(rt; (ring.size(), ring.range()), (0, (0, 0)));
+        assert!(rt; (ring.size(), ring.range()) == (0, (0, 0)));
         expect_left(&rt, alloc, ring, &[]);
         let ring = full_ring(&rt, alloc, list.as_slice())?;
         expect_left(&rt, alloc, ring, files.as_slice());
@@ -84,7 +84,7 @@ fn sparse_tables_of_each_size(rt: HostRuntime) -> Result<(), Fail> {
     for size in 1..257 {
         let mut ring = ring_of_two_files(alloc)?;
         assert_eq!(rt; ring.register_sparse(alloc, size), Ok(()), "{size}");
-        assert_eq!(rt; (ring.size(), ring.range()), (size, (0, size)));
+        assert!(rt; (ring.size(), ring.range()) == (size, (0, size)));
         expect_closes(&rt, ring.unregister(alloc), &[], "unregister");
         assert_eq!(rt; ring.register_sparse(alloc, size), Ok(()), "{size}");
         expect_left(&rt, alloc, ring, &[]);

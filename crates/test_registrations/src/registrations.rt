@@ -14,10 +14,10 @@ fn ring_of_one_file(alloc: Global) -> Result<Ring, Fail> {
 
 // The list has the files of these marks, and each is of entry 0.
 fn expect_closed<R: Abort>(rt: &R, closes: &CloseList, marks: &[(u32, u32)]) {
-    assert_eq!(rt; closes.files().len(), marks.len());
+    assert!(rt; closes.files().len() == marks.len());
     for (file, (k, i)) in closes.files().iter().zip(marks) {
-        assert_eq!(rt; file.mark, Mark::Registered { k: *k, i: *i });
-        assert_eq!(rt; file.entry, 0);
+        assert!(rt; file.mark == Mark::Registered { k: *k, i: *i });
+        assert!(rt; file.entry == 0);
     }
 }
 
@@ -49,7 +49,7 @@ fn expect_updated<R: Abort>(
 ) {
     match ring.update(alloc, off, list) {
         Ok((count, closes)) => {
-            assert_eq!(rt; count as usize, list.len());
+            assert!(rt; count as usize == list.len());
             expect_closed(rt, &closes, marks);
         }
         Err(_errno) => panic!(rt; "an update"),
@@ -66,7 +66,7 @@ fn expect_refused<R: Abort>(
 ) {
     match ring.update(alloc, off, list) {
         Ok(_updated) => panic!(rt; "a refusal"),
-        Err(refusal) => assert_eq!(rt; refusal, errno),
+        Err(refusal) => assert!(rt; refusal == errno),
     }
 }
 
@@ -74,14 +74,14 @@ fn expect_refused<R: Abort>(
 fn without_a_table_each_call_answers_its_own_error(rt: HostRuntime) -> Result<(), Fail> {
     let alloc = rt.alloc();
     let mut ring = ring_of_one_file(alloc)?;
-    assert_eq!(rt; ring.size(), 0);
-    assert_eq!(rt; ring.range(), (0, 0));
+    assert!(rt; ring.size() == 0);
+    assert!(rt; ring.range() == (0, 0));
     match ring.unregister(alloc) {
         Ok(_closes) => panic!(rt; "a refusal"),
-        Err(errno) => assert_eq!(rt; errno, Errno::ENXIO),
+        Err(errno) => assert!(rt; errno == Errno::ENXIO),
     }
-    assert_eq!(rt; ring.alloc_range(0, 0), Ok(()));
-    assert_eq!(rt; ring.alloc_range(0, 1), Err(Errno::EINVAL));
+    assert!(rt; ring.alloc_range(0, 0) == Ok(()));
+    assert!(rt; ring.alloc_range(0, 1) == Err(Errno::EINVAL));
     expect_refused(&rt, alloc, &mut ring, 0, &[-1], Errno::ENXIO);
     expect_left(&rt, alloc, ring, &[]);
     Ok(())
@@ -91,23 +91,23 @@ fn without_a_table_each_call_answers_its_own_error(rt: HostRuntime) -> Result<()
 fn a_list_with_empty_slots_is_registered(rt: HostRuntime) -> Result<(), Fail> {
     let alloc = rt.alloc();
     let mut ring = ring_of_one_file(alloc)?;
-    assert_eq!(rt; ring.register(alloc, &[0, -1, 0]), Ok(()));
-    assert_eq!(rt; ring.size(), 3);
-    assert_eq!(rt; ring.range(), (0, 3));
-    assert_eq!(rt; ring.registrations(), 1);
-    assert_eq!(rt; ring.submissions(), 0);
-    assert_eq!(rt; ring.catalogue().len(), 1);
-    assert_eq!(rt; ring.register(alloc, &[0]), Err(Errno::EBUSY));
+    assert!(rt; ring.register(alloc, &[0, -1, 0]) == Ok(()));
+    assert!(rt; ring.size() == 3);
+    assert!(rt; ring.range() == (0, 3));
+    assert!(rt; ring.registrations() == 1);
+    assert!(rt; ring.submissions() == 0);
+    assert!(rt; ring.catalogue().len() == 1);
+    assert!(rt; ring.register(alloc, &[0]) == Err(Errno::EBUSY));
     expect_unregistered(&rt, alloc, &mut ring, &[(1, 0), (1, 2)]);
-    assert_eq!(rt; ring.size(), 0);
-    assert_eq!(rt; ring.range(), (0, 0));
-    assert_eq!(rt; ring.register(alloc, &[9]), Err(Errno::EBADF));
-    assert_eq!(rt; ring.register(alloc, &[-2]), Err(Errno::EBADF));
-    assert_eq!(rt; ring.register(alloc, &[1]), Err(Errno::EBADF));
-    assert_eq!(rt; ring.register(alloc, &[]), Err(Errno::EINVAL));
-    assert_eq!(rt; ring.register(alloc, &[9; 257]), Err(Errno::EMFILE));
-    assert_eq!(rt; ring.registrations(), 1);
-    assert_eq!(rt; ring.register(alloc, &[0; 256]), Ok(()));
+    assert!(rt; ring.size() == 0);
+    assert!(rt; ring.range() == (0, 0));
+    assert!(rt; ring.register(alloc, &[9]) == Err(Errno::EBADF));
+    assert!(rt; ring.register(alloc, &[-2]) == Err(Errno::EBADF));
+    assert!(rt; ring.register(alloc, &[1]) == Err(Errno::EBADF));
+    assert!(rt; ring.register(alloc, &[]) == Err(Errno::EINVAL));
+    assert!(rt; ring.register(alloc, &[9; 257]) == Err(Errno::EMFILE));
+    assert!(rt; ring.registrations() == 1);
+    assert!(rt; ring.register(alloc, &[0; 256]) == Ok(()));
     ring.abandon();
     Ok(())
 }
@@ -116,12 +116,12 @@ fn a_list_with_empty_slots_is_registered(rt: HostRuntime) -> Result<(), Fail> {
 fn a_sparse_table_has_1_to_256_slots(rt: HostRuntime) -> Result<(), Fail> {
     let alloc = rt.alloc();
     let mut ring = ring_of_one_file(alloc)?;
-    assert_eq!(rt; ring.register_sparse(alloc, 0), Err(Errno::EINVAL));
-    assert_eq!(rt; ring.register_sparse(alloc, 257), Err(Errno::EMFILE));
-    assert_eq!(rt; ring.register_sparse(alloc, 256), Ok(()));
-    assert_eq!(rt; ring.register_sparse(alloc, 1), Err(Errno::EBUSY));
-    assert_eq!(rt; ring.register_sparse(alloc, 0), Err(Errno::EBUSY));
-    assert_eq!(rt; ring.registrations(), 0);
+    assert!(rt; ring.register_sparse(alloc, 0) == Err(Errno::EINVAL));
+    assert!(rt; ring.register_sparse(alloc, 257) == Err(Errno::EMFILE));
+    assert!(rt; ring.register_sparse(alloc, 256) == Ok(()));
+    assert!(rt; ring.register_sparse(alloc, 1) == Err(Errno::EBUSY));
+    assert!(rt; ring.register_sparse(alloc, 0) == Err(Errno::EBUSY));
+    assert!(rt; ring.registrations() == 0);
     expect_left(&rt, alloc, ring, &[]);
     Ok(())
 }
@@ -130,16 +130,13 @@ fn a_sparse_table_has_1_to_256_slots(rt: HostRuntime) -> Result<(), Fail> {
 fn a_range_is_within_the_table(rt: HostRuntime) -> Result<(), Fail> {
     let alloc = rt.alloc();
     let mut ring = ring_of_one_file(alloc)?;
-    assert_eq!(rt; ring.register_sparse(alloc, 4), Ok(()));
-    assert_eq!(rt; ring.alloc_range(3, 2), Err(Errno::EINVAL));
-    assert_eq!(rt;
-        ring.alloc_range(4_294_967_295, 4_294_967_295),
-        Err(Errno::EINVAL)
-    );
-    assert_eq!(rt; ring.range(), (0, 4));
-    assert_eq!(rt; ring.alloc_range(4, 0), Ok(()));
-    assert_eq!(rt; ring.alloc_range(1, 2), Ok(()));
-    assert_eq!(rt; ring.range(), (1, 2));
+    assert!(rt; ring.register_sparse(alloc, 4) == Ok(()));
+    assert!(rt; ring.alloc_range(3, 2) == Err(Errno::EINVAL));
+    assert!(rt; ring.alloc_range(4_294_967_295, 4_294_967_295) == Err(Errno::EINVAL));
+    assert!(rt; ring.range() == (0, 4));
+    assert!(rt; ring.alloc_range(4, 0) == Ok(()));
+    assert!(rt; ring.alloc_range(1, 2) == Ok(()));
+    assert!(rt; ring.range() == (1, 2));
     expect_left(&rt, alloc, ring, &[]);
     Ok(())
 }
@@ -148,7 +145,7 @@ fn a_range_is_within_the_table(rt: HostRuntime) -> Result<(), Fail> {
 fn an_update_past_the_end_or_of_a_bad_entry_is_refused_whole(rt: HostRuntime) -> Result<(), Fail> {
     let alloc = rt.alloc();
     let mut ring = ring_of_one_file(alloc)?;
-    assert_eq!(rt; ring.register_sparse(alloc, 1), Ok(()));
+    assert!(rt; ring.register_sparse(alloc, 1) == Ok(()));
     expect_updated(&rt, alloc, &mut ring, 0, &[0], &[]);
     expect_refused(&rt, alloc, &mut ring, 1, &[0], Errno::EINVAL);
     expect_refused(&rt, alloc, &mut ring, 0, &[], Errno::EINVAL);
@@ -156,8 +153,8 @@ fn an_update_past_the_end_or_of_a_bad_entry_is_refused_whole(rt: HostRuntime) ->
     expect_refused(&rt, alloc, &mut ring, 0, &[-3], Errno::EBADF);
     expect_updated(&rt, alloc, &mut ring, 0, &[-2], &[]);
     expect_unregistered(&rt, alloc, &mut ring, &[(1, 0)]);
-    assert_eq!(rt; ring.register_sparse(alloc, 1), Ok(()));
-    assert_eq!(rt; ring.registrations(), 2);
+    assert!(rt; ring.register_sparse(alloc, 1) == Ok(()));
+    assert!(rt; ring.registrations() == 2);
     expect_left(&rt, alloc, ring, &[]);
     Ok(())
 }
@@ -166,7 +163,7 @@ fn an_update_past_the_end_or_of_a_bad_entry_is_refused_whole(rt: HostRuntime) ->
 fn an_update_clears_skips_and_replaces(rt: HostRuntime) -> Result<(), Fail> {
     let alloc = rt.alloc();
     let mut ring = ring_of_one_file(alloc)?;
-    assert_eq!(rt; ring.register(alloc, &[0, 0, 0, 0]), Ok(()));
+    assert!(rt; ring.register(alloc, &[0, 0, 0, 0]) == Ok(()));
     expect_updated(&rt, alloc, &mut ring, 1, &[0, -2, -1], &[(1, 1), (1, 3)]);
     expect_updated(&rt, alloc, &mut ring, 1, &[-1, -1, -1], &[(1, 2), (2, 0)]);
     expect_left(&rt, alloc, ring, &[(1, 0)]);
@@ -178,13 +175,13 @@ fn a_ring_accepts_65535_registrations(rt: HostRuntime) -> Result<(), Fail> {
     let alloc = rt.alloc();
     let mut ring = ring_of_one_file(alloc)?;
     for k in 1..65_536 {
-        assert_eq!(rt; ring.register(alloc, &[0]), Ok(()));
+        assert!(rt; ring.register(alloc, &[0]) == Ok(()));
         expect_unregistered(&rt, alloc, &mut ring, &[(k, 0)]);
     }
-    assert_eq!(rt; ring.registrations(), 65_535);
-    assert_eq!(rt; ring.register(alloc, &[0]), Err(Errno::EAGAIN));
-    assert_eq!(rt; ring.register(alloc, &[9]), Err(Errno::EBADF));
-    assert_eq!(rt; ring.register_sparse(alloc, 1), Ok(()));
+    assert!(rt; ring.registrations() == 65_535);
+    assert!(rt; ring.register(alloc, &[0]) == Err(Errno::EAGAIN));
+    assert!(rt; ring.register(alloc, &[9]) == Err(Errno::EBADF));
+    assert!(rt; ring.register_sparse(alloc, 1) == Ok(()));
     expect_refused(&rt, alloc, &mut ring, 0, &[0], Errno::EAGAIN);
     expect_left(&rt, alloc, ring, &[]);
     Ok(())
@@ -194,9 +191,9 @@ fn a_ring_accepts_65535_registrations(rt: HostRuntime) -> Result<(), Fail> {
 fn expect_tags_left<R: Abort>(rt: &R, alloc: Global, ring: Ring, tags: &[u64]) {
     match ring.tear_down(alloc) {
         Ok(closes) => {
-            assert_eq!(rt; closes.files().len(), tags.len());
+            assert!(rt; closes.files().len() == tags.len());
             for (file, tag) in closes.files().iter().zip(tags) {
-                assert_eq!(rt; file.tag, *tag);
+                assert!(rt; file.tag == *tag);
             }
         }
         Err((ring, _refused)) => {
@@ -210,27 +207,21 @@ fn expect_tags_left<R: Abort>(rt: &R, alloc: Global, ring: Ring, tags: &[u64]) {
 fn a_tag_stands_with_its_number_of_the_list(rt: HostRuntime) -> Result<(), Fail> {
     let alloc = rt.alloc();
     let mut ring = ring_of_one_file(alloc)?;
-    assert_eq!(rt;
-        ring.register_tagged(alloc, &[0, -1, 0], &[7, 0, 9]),
-        Ok(())
-    );
-    assert_eq!(rt;
-        (ring.size(), ring.range(), ring.registrations()),
-        (3, (0, 3), 1)
-    );
+    assert!(rt; ring.register_tagged(alloc, &[0, -1, 0], &[7, 0, 9]) == Ok(()));
+    assert!(rt; (ring.size(), ring.range(), ring.registrations()) == (3, (0, 3), 1));
     match ring.update_tagged(alloc, 0, &[0, 0, -2], &[0, 5, 0]) {
         Ok((count, closes)) => {
-            assert_eq!(rt; count, 3);
+            assert!(rt; count == 3);
             expect_closed(&rt, &closes, &[(1, 0)]);
             let Ok(tags) = closes.tags(alloc) else {
                 panic!(rt; "completions")
             };
-            assert_eq!(rt; tags.len(), 1);
+            assert!(rt; tags.len() == 1);
             assert!(rt; tags.iter().all(|tag| tag.user_data == 7));
         }
         Err(_errno) => panic!(rt; "an update"),
     }
-    assert_eq!(rt; ring.registrations(), 2);
+    assert!(rt; ring.registrations() == 2);
     expect_tags_left(&rt, alloc, ring, &[9, 0, 5]);
     Ok(())
 }
@@ -239,11 +230,11 @@ fn a_tag_stands_with_its_number_of_the_list(rt: HostRuntime) -> Result<(), Fail>
 fn a_list_without_tags_gives_none(rt: HostRuntime) -> Result<(), Fail> {
     let alloc = rt.alloc();
     let mut ring = ring_of_one_file(alloc)?;
-    assert_eq!(rt; ring.register_tagged(alloc, &[0, 0], &[1, 2]), Ok(()));
+    assert!(rt; ring.register_tagged(alloc, &[0, 0], &[1, 2]) == Ok(()));
     expect_updated(&rt, alloc, &mut ring, 0, &[0], &[(1, 0)]);
     expect_tags_left(&rt, alloc, ring, &[2, 0]);
     let mut ring = ring_of_one_file(alloc)?;
-    assert_eq!(rt; ring.register(alloc, &[0]), Ok(()));
+    assert!(rt; ring.register(alloc, &[0]) == Ok(()));
     expect_tags_left(&rt, alloc, ring, &[0]);
     Ok(())
 }
@@ -264,15 +255,15 @@ fn bad_tags_are_refused_at_their_place(rt: HostRuntime) -> Result<(), Fail> {
         ([9; 257].as_slice(), [1; 257].as_slice(), Errno::EMFILE),
         ([9, -1].as_slice(), [1, 0].as_slice(), Errno::EBADF),
     ] {
-        assert_eq!(rt; ring.register_tagged(alloc, list, tags), Err(errno));
+        assert!(rt; ring.register_tagged(alloc, list, tags) == Err(errno));
     }
     match ring.update_tagged(alloc, 0, &[0], &[]) {
         Ok(_updated) => panic!(rt; "a refusal"),
-        Err(errno) => assert_eq!(rt; errno, Errno::ENXIO),
+        Err(errno) => assert!(rt; errno == Errno::ENXIO),
     }
-    assert_eq!(rt; ring.registrations(), 0);
-    assert_eq!(rt; ring.register_tagged(alloc, &[-1, 0], &[0, 3]), Ok(()));
-    assert_eq!(rt; ring.register_tagged(alloc, &[0], &[]), Err(Errno::EBUSY));
+    assert!(rt; ring.registrations() == 0);
+    assert!(rt; ring.register_tagged(alloc, &[-1, 0], &[0, 3]) == Ok(()));
+    assert!(rt; ring.register_tagged(alloc, &[0], &[]) == Err(Errno::EBUSY));
     for (list, tags, errno) in [
         ([0].as_slice(), [].as_slice(), Errno::EINVAL),
         ([0].as_slice(), [1, 2].as_slice(), Errno::EINVAL),
@@ -284,10 +275,10 @@ fn bad_tags_are_refused_at_their_place(rt: HostRuntime) -> Result<(), Fail> {
     ] {
         match ring.update_tagged(alloc, 0, list, tags) {
             Ok(_updated) => panic!(rt; "a refusal"),
-            Err(refusal) => assert_eq!(rt; refusal, errno),
+            Err(refusal) => assert!(rt; refusal == errno),
         }
     }
-    assert_eq!(rt; ring.registrations(), 1);
+    assert!(rt; ring.registrations() == 1);
     expect_tags_left(&rt, alloc, ring, &[3]);
     Ok(())
 }

@@ -37,14 +37,14 @@ fn entries_keep_their_names_and_sizes(rt: HostRuntime) -> Result<(), Fail> {
     assert!(rt; Catalogue::new(rt.alloc()).is_empty());
     let catalogue = two_files(rt.alloc())?;
     assert!(rt; !catalogue.is_empty());
-    assert_eq!(rt; catalogue.len(), 2);
+    assert!(rt; catalogue.len() == 2);
     for (entry, name, size) in [(0, "a.txt", 5), (1, "b.txt", 2)] {
-        assert_eq!(rt; catalogue.find(name), Some(entry));
+        assert!(rt; catalogue.find(name) == Some(entry));
         assert!(rt; (entry as u32) < catalogue.len());
-        assert_eq!(rt; catalogue.name_of(entry), name);
-        assert_eq!(rt; catalogue.size_of(entry), size);
+        assert!(rt; catalogue.name_of(entry) == name);
+        assert!(rt; catalogue.size_of(entry) == size);
     }
-    assert_eq!(rt; catalogue.find("c.txt"), None);
+    assert!(rt; catalogue.find("c.txt") == None);
     Ok(())
 }
 
@@ -74,9 +74,9 @@ fn reads_end_with_the_entry(rt: HostRuntime) -> Result<(), Fail> {
 fn reads_append(rt: HostRuntime) -> Result<(), Fail> {
     let catalogue = two_files(rt.alloc())?;
     let mut into = Vec::with_capacity(rt.alloc(), 6)?;
-    assert_eq!(rt; catalogue.read_into(1, 0, 2, &mut into), 2);
-    assert_eq!(rt; catalogue.read_into(0, 0, 4, &mut into), 4);
-    assert_eq!(rt; into.as_slice(), b"hihell".as_slice());
+    assert!(rt; catalogue.read_into(1, 0, 2, &mut into) == 2);
+    assert!(rt; catalogue.read_into(0, 0, 4, &mut into) == 4);
+    assert!(rt; into.as_slice() == b"hihell".as_slice());
     Ok(())
 }
 
@@ -105,7 +105,7 @@ fn names_and_bytes_have_their_limits(rt: HostRuntime) -> Result<(), Fail> {
             "{name}"
         );
     }
-    assert_eq!(rt; catalogue.len(), 5);
+    assert!(rt; catalogue.len() == 5);
     Ok(())
 }
 
@@ -115,12 +115,12 @@ fn a_catalogue_has_256_entries(rt: HostRuntime) -> Result<(), Fail> {
     for i in 0u32..256 {
         catalogue.add(format!(in rt.alloc(); "{i}")?, Vec::new(rt.alloc()))?;
     }
-    assert_eq!(rt; catalogue.find("255"), Some(255));
+    assert!(rt; catalogue.find("255") == Some(255));
     for name in ["256", "", "a b", "7"] {
         let refused = catalogue.add(String::from_str(rt.alloc(), name)?, Vec::new(rt.alloc()));
         assert_eq!(rt; refused, Err(AddFault::TooMany), "{name}");
     }
-    assert_eq!(rt; catalogue.len(), 256);
+    assert!(rt; catalogue.len() == 256);
     Ok(())
 }
 
@@ -154,8 +154,8 @@ fn closes_are_in_order_of_mark(rt: HostRuntime) -> Result<(), Fail> {
     };
     let catalogue = two_files(rt.alloc())?;
     let mut list = CloseList::with_room(rt.alloc(), 7)?;
-    assert_eq!(rt; list.room(), 7);
-    assert_eq!(rt; catalogue.len(), 2);
+    assert!(rt; list.room() == 7);
+    assert!(rt; catalogue.len() == 2);
     for (entry, mark) in [
         (1, sixth),
         (0, third),
@@ -165,8 +165,8 @@ fn closes_are_in_order_of_mark(rt: HostRuntime) -> Result<(), Fail> {
         (0, fourth),
     ] {
         let file = catalogue.open(entry, mark, 0);
-        assert_eq!(rt; file.entry(), entry);
-        assert_eq!(rt; file.mark(), mark);
+        assert!(rt; file.entry() == entry);
+        assert!(rt; file.mark() == mark);
         assert!(rt; list.room() > 0);
         list.close(file);
     }
@@ -203,8 +203,8 @@ fn closes_are_in_order_of_mark(rt: HostRuntime) -> Result<(), Fail> {
             tag: 0,
         },
     ];
-    assert_eq!(rt; list.files(), want.as_slice());
-    assert_eq!(rt; list.room(), 1);
+    assert!(rt; list.files() == want.as_slice());
+    assert!(rt; list.room() == 1);
     Ok(())
 }
 
@@ -212,12 +212,12 @@ fn closes_are_in_order_of_mark(rt: HostRuntime) -> Result<(), Fail> {
 fn a_discarded_file_is_in_no_list(rt: HostRuntime) -> Result<(), Fail> {
     let catalogue = two_files(rt.alloc())?;
     let list = CloseList::with_room(rt.alloc(), 1)?;
-    assert_eq!(rt; catalogue.len(), 2);
+    assert!(rt; catalogue.len() == 2);
     catalogue
         .open(1, Mark::Registered { k: 1, i: 0 }, 0)
         .discard();
-    assert_eq!(rt; list.room(), 1);
-    assert_eq!(rt; list.files().len(), 0);
+    assert!(rt; list.room() == 1);
+    assert!(rt; list.files().len() == 0);
     Ok(())
 }
 
@@ -225,29 +225,29 @@ fn a_discarded_file_is_in_no_list(rt: HostRuntime) -> Result<(), Fail> {
 fn an_identity_is_what_the_close_says(rt: HostRuntime) -> Result<(), Fail> {
     let catalogue = two_files(rt.alloc())?;
     let mut list = CloseList::with_room(rt.alloc(), 1)?;
-    assert_eq!(rt; catalogue.len(), 2);
+    assert!(rt; catalogue.len() == 2);
     let mark = Mark::Registered { k: 3, i: 4 };
     let tag = 18_446_744_073_709_551_615;
     let file = catalogue.open(1, mark, tag);
-    assert_eq!(rt; file.tag(), tag);
-    assert_eq!(rt;
-        file.identity(),
-        Closed {
-            mark,
-            entry: 1,
-            tag
-        }
+    assert!(rt; file.tag() == tag);
+    assert!(rt;
+        file.identity()
+            == Closed {
+                mark,
+                entry: 1,
+                tag
+            }
     );
-    assert_eq!(rt; list.room(), 1);
+    assert!(rt; list.room() == 1);
     list.close(file);
-    assert_eq!(rt;
-        list.files(),
-        [Closed {
-            mark,
-            entry: 1,
-            tag
-        }]
-        .as_slice()
+    assert!(rt;
+        list.files()
+            == [Closed {
+                mark,
+                entry: 1,
+                tag
+            }]
+            .as_slice()
     );
     Ok(())
 }
@@ -257,19 +257,19 @@ fn an_appended_list_stands_behind(rt: HostRuntime) -> Result<(), Fail> {
     let catalogue = two_files(rt.alloc())?;
     let mut list = CloseList::with_room(rt.alloc(), 4)?;
     let mut other = CloseList::with_room(rt.alloc(), 7)?;
-    assert_eq!(rt; catalogue.len(), 2);
-    assert_eq!(rt; list.room(), 4);
-    assert_eq!(rt; other.room(), 7);
+    assert!(rt; catalogue.len() == 2);
+    assert!(rt; list.room() == 4);
+    assert!(rt; other.room() == 7);
     list.close(catalogue.open(0, Mark::Registered { k: 9, i: 0 }, 0));
     other.close(catalogue.open(1, Mark::Registered { k: 2, i: 0 }, 0));
     other.close(catalogue.open(0, Mark::Registered { k: 1, i: 0 }, 0));
     assert!(rt; other.files().len() <= list.room() as usize);
     list.append(other);
-    assert_eq!(rt; list.room(), 1);
+    assert!(rt; list.room() == 1);
     for (file, k) in list.files().iter().zip([9u32, 2, 1]) {
-        assert_eq!(rt; file.mark, Mark::Registered { k, i: 0 });
+        assert!(rt; file.mark == Mark::Registered { k, i: 0 });
     }
-    assert_eq!(rt; list.files().len(), 3);
+    assert!(rt; list.files().len() == 3);
     Ok(())
 }
 
@@ -309,7 +309,7 @@ fn each_file_with_a_tag_has_one_completion(rt: HostRuntime) -> Result<(), Fail> 
             };
             assert_eq!(rt; *completion, want, "{tags:?}");
         }
-        assert_eq!(rt; list.files().len(), tags.len());
+        assert!(rt; list.files().len() == tags.len());
     }
     Ok(())
 }
@@ -319,9 +319,9 @@ fn tags_are_in_the_order_of_the_list(rt: HostRuntime) -> Result<(), Fail> {
     let mut list = tagged(rt.alloc(), &[3, 0, 9, 4])?;
     list.sort();
     let given = list.tags(rt.alloc())?;
-    assert_eq!(rt; given.len(), 3);
+    assert!(rt; given.len() == 3);
     for (completion, tag) in given.iter().zip([4u64, 9, 3]) {
-        assert_eq!(rt; completion.user_data, tag);
+        assert!(rt; completion.user_data == tag);
     }
     Ok(())
 }
@@ -341,15 +341,15 @@ fn a_name_has_1_to_32_letters_digits_and_signs(rt: HostRuntime) {
     ] {
         assert_eq!(rt; is_name(text.as_bytes()), want, "{text}");
     }
-    assert_eq!(rt; LONGEST_NAME, 32);
+    assert!(rt; LONGEST_NAME == 32);
 }
 
 #[test]
 fn a_list_has_room_for_all_that_a_submission_may_weigh(rt: HostRuntime) -> Result<(), Fail> {
     for room in [65_536, 261_888, 1_000_000] {
         let list = CloseList::with_room(rt.alloc(), room)?;
-        assert_eq!(rt; list.room(), room);
-        assert_eq!(rt; list.files().len(), 0);
+        assert!(rt; list.room() == room);
+        assert!(rt; list.files().len() == 0);
     }
     Ok(())
 }
@@ -357,20 +357,20 @@ fn a_list_has_room_for_all_that_a_submission_may_weigh(rt: HostRuntime) -> Resul
 #[test]
 fn a_list_of_1200_files_is_sorted(rt: HostRuntime) -> Result<(), Fail> {
     let catalogue = two_files(rt.alloc())?;
-    assert_eq!(rt; catalogue.len(), 2);
+    assert!(rt; catalogue.len() == 2);
     let mut list = CloseList::with_room(rt.alloc(), 1200)?;
     for i in 0..1200u32 {
         let room = list.room();
-        assert_eq!(rt; room, 1200 - i);
+        assert!(rt; room == 1200 - i);
         list.close(catalogue.open(1, Mark::Registered { k: 1200 - i, i }, 0));
     }
     list.sort();
-    assert_eq!(rt; list.files().len(), 1200);
+    assert!(rt; list.files().len() == 1200);
     for (at, file) in list.files().iter().enumerate() {
         let k = at as u32 + 1;
-        assert_eq!(rt; file.mark, Mark::Registered { k, i: 1200 - k });
+        assert!(rt; file.mark == Mark::Registered { k, i: 1200 - k });
     }
-    assert_eq!(rt; list.room(), 0);
+    assert!(rt; list.room() == 0);
     Ok(())
 }
 
@@ -390,13 +390,13 @@ fn each_of_256_long_names_is_found(rt: HostRuntime) -> Result<(), Fail> {
     let mut catalogue = Catalogue::new(rt.alloc());
     for i in 1000u32..1256 {
         let name = format!(in rt.alloc(); "a_name_with_twenty_eight_byt{i}")?;
-        assert_eq!(rt; catalogue.find(name.as_str()), None);
+        assert!(rt; catalogue.find(name.as_str()) == None);
         catalogue.add(name, Vec::new(rt.alloc()))?;
     }
     for i in 1000u32..1256 {
         let name = format!(in rt.alloc(); "a_name_with_twenty_eight_byt{i}")?;
-        assert_eq!(rt; catalogue.find(name.as_str()), Some((i - 1000) as u8));
+        assert!(rt; catalogue.find(name.as_str()) == Some((i - 1000) as u8));
     }
-    assert_eq!(rt; catalogue.find("a_name_with_twenty_eight_byt999"), None);
+    assert!(rt; catalogue.find("a_name_with_twenty_eight_byt999") == None);
     Ok(())
 }
