@@ -10,7 +10,7 @@ use std::test::Fail;
 fn with_first<R: Abort>(rt: &R, alloc: Global, catalogue: &Catalogue) -> Result<PlainTable, Fail> {
     let mut table = PlainTable::sparse(alloc, 1)?;
     prepare(rt, &mut table, 2);
-    assert_eq!(rt; put(rt, catalogue, &mut table, 0, 1, FIRST), None);
+    assert!(rt; put(rt, catalogue, &mut table, 0, 1, FIRST) == None);
     prepare(rt, &mut table, 320);
     assert!(rt; table.is_settled() && table.size() == 1);
     assert!(rt; table.is_fresh(256));
@@ -19,8 +19,8 @@ fn with_first<R: Abort>(rt: &R, alloc: Global, catalogue: &Catalogue) -> Result<
 
 // The second file takes the place of the first one, which then is leaving.
 fn replace<R: Abort>(rt: &R, catalogue: &Catalogue, table: &mut PlainTable) {
-    assert_eq!(rt; table.size(), 1);
-    assert_eq!(rt; put(rt, catalogue, table, 0, 256, SECOND), Some(0));
+    assert!(rt; table.size() == 1);
+    assert!(rt; put(rt, catalogue, table, 0, 256, SECOND) == Some(0));
     assert!(rt; table.is_leaving(0) && !table.is_fresh(256) && !table.is_settled());
 }
 
@@ -29,16 +29,16 @@ fn retired_while_held_it_comes_out_at_the_release(rt: HostRuntime) -> Result<(),
     let catalogue = two_files(rt.alloc())?;
     let mut table = with_first(&rt, rt.alloc(), &catalogue)?;
     let told = (Some(FIRST.mark), Some(FIRST.entry));
-    assert_eq!(rt; told_at(&rt, &table, 0), told);
-    assert_eq!(rt; look(&rt, &mut table, 0), Some((0, 0)));
+    assert!(rt; told_at(&rt, &table, 0) == told);
+    assert!(rt; look(&rt, &mut table, 0) == Some((0, 0)));
     assert!(rt; table.is_held(0) && !table.is_leaving(0) && !table.is_settled());
     replace(&rt, &catalogue, &mut table);
     assert!(rt; table.is_held(0));
-    assert_eq!(rt; retire(&rt, &mut table, 0), None);
+    assert!(rt; retire(&rt, &mut table, 0) == None);
     assert!(rt; table.is_held(0) && !table.is_leaving(0) && !table.is_settled());
-    assert_eq!(rt; release(&rt, &mut table, 0), Some(FIRST));
+    assert!(rt; release(&rt, &mut table, 0) == Some(FIRST));
     assert!(rt; !table.is_held(0) && table.size() == 1);
-    assert_eq!(rt; look(&rt, &mut table, 0), Some((256, 1)));
+    assert!(rt; look(&rt, &mut table, 0) == Some((256, 1)));
     table.abandon();
     Ok(())
 }
@@ -47,11 +47,11 @@ fn retired_while_held_it_comes_out_at_the_release(rt: HostRuntime) -> Result<(),
 fn released_before_its_retirement_it_comes_out_there(rt: HostRuntime) -> Result<(), Fail> {
     let catalogue = two_files(rt.alloc())?;
     let mut table = with_first(&rt, rt.alloc(), &catalogue)?;
-    assert_eq!(rt; look(&rt, &mut table, 0), Some((0, 0)));
+    assert!(rt; look(&rt, &mut table, 0) == Some((0, 0)));
     replace(&rt, &catalogue, &mut table);
-    assert_eq!(rt; release(&rt, &mut table, 0), None);
+    assert!(rt; release(&rt, &mut table, 0) == None);
     assert!(rt; !table.is_held(0) && table.is_leaving(0) && !table.is_settled());
-    assert_eq!(rt; retire(&rt, &mut table, 0), Some(FIRST));
+    assert!(rt; retire(&rt, &mut table, 0) == Some(FIRST));
     assert!(rt; table.is_settled());
     table.abandon();
     Ok(())
@@ -61,11 +61,11 @@ fn released_before_its_retirement_it_comes_out_there(rt: HostRuntime) -> Result<
 fn released_before_its_removal_it_comes_out_at_its_retirement(rt: HostRuntime) -> Result<(), Fail> {
     let catalogue = two_files(rt.alloc())?;
     let mut table = with_first(&rt, rt.alloc(), &catalogue)?;
-    assert_eq!(rt; look(&rt, &mut table, 0), Some((0, 0)));
-    assert_eq!(rt; release(&rt, &mut table, 0), None);
+    assert!(rt; look(&rt, &mut table, 0) == Some((0, 0)));
+    assert!(rt; release(&rt, &mut table, 0) == None);
     assert!(rt; table.is_settled() && table.is_fresh(256));
     replace(&rt, &catalogue, &mut table);
-    assert_eq!(rt; retire(&rt, &mut table, 0), Some(FIRST));
+    assert!(rt; retire(&rt, &mut table, 0) == Some(FIRST));
     assert!(rt; table.is_settled());
     table.abandon();
     Ok(())

@@ -47,7 +47,7 @@ pub(crate) fn spent(file: OpenFile) -> Closed {
 /// Makes so many numbers. The table is settled before it.
 pub(crate) fn prepare<R: Abort>(rt: &R, table: &mut PlainTable, numbers: u32) {
     assert!(rt; table.is_settled() && table.size() <= numbers);
-    assert_eq!(rt; table.prepare(numbers), Ok(()));
+    assert!(rt; table.prepare(numbers) == Ok(()));
 }
 
 /// Puts a file into a slot under a fresh number.
