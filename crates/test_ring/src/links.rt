@@ -147,7 +147,7 @@ fn two_closes<T: FileTable, R: Wait + Abort>(
         &mut closes,
     );
     table.close(passes).abandon();
-    assert_eq!(rt; out.len(), 2);
+    assert!(rt; out.len() == 2);
     Ok((out[0].res, out[1].res))
 }
 

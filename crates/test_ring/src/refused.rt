@@ -24,7 +24,7 @@ fn expect_refused<R: Threads + Wait + Abort + Sync>(
         let mut ring = ring_before_refusal(rt, alloc)?;
         match try_submit(rt, alloc, &mut ring, requests, (table, workers), &calls) {
             Ok(_report) => panic!(rt; "a refusal"),
-            Err(found) => assert_eq!(rt; found, fault),
+            Err(found) => assert!(rt; found == fault),
         }
         assert!(rt; calls.were_started(&[]));
         expect_as_before(rt, alloc, ring, table);
@@ -171,15 +171,15 @@ fn expect_too_many<R: Threads + Wait + Abort + Sync>(
     });
     for _ in 0..2 {
         let fault = fault_of(rt, alloc, ring, &[], (table, 1));
-        assert_eq!(rt; fault, SubmitFault::TooMany);
+        assert!(rt; fault == SubmitFault::TooMany);
         let fault = fault_of(rt, alloc, ring, &[close(0)], (table, 2));
-        assert_eq!(rt; fault, SubmitFault::TooMany);
+        assert!(rt; fault == SubmitFault::TooMany);
         let fault = fault_of(rt, alloc, ring, &long, (table, 16));
-        assert_eq!(rt; fault, long_read);
+        assert!(rt; fault == long_read);
         let fault = fault_of(rt, alloc, ring, &long, (table, 17));
-        assert_eq!(rt; fault, SubmitFault::Workers);
+        assert!(rt; fault == SubmitFault::Workers);
         let fault = fault_of(rt, alloc, ring, &[], (table, 0));
-        assert_eq!(rt; fault, SubmitFault::Workers);
+        assert!(rt; fault == SubmitFault::Workers);
     }
 }
 
@@ -190,12 +190,12 @@ fn too_many_submissions(rt: HostRuntime) -> Result<(), Fail> {
         let mut ring = full_ring(&rt, alloc, &[0])?;
         for submission in 1..65_536 {
             let report = submit(&rt, alloc, &mut ring, &[], (table, 1));
-            assert_eq!(rt; report.submission, submission);
+            assert!(rt; report.submission == submission);
         }
-        assert_eq!(rt; ring.submissions(), 65_535);
+        assert!(rt; ring.submissions() == 65_535);
         expect_too_many(&rt, alloc, &mut ring, table);
-        assert_eq!(rt; (ring.submissions(), ring.registrations()), (65_535, 1));
-        assert_eq!(rt; (ring.size(), ring.range()), (1, (0, 1)));
+        assert!(rt; (ring.submissions(), ring.registrations()) == (65_535, 1));
+        assert!(rt; (ring.size(), ring.range()) == (1, (0, 1)));
         expect_left(&rt, alloc, ring, &[registered(1, 0, 0)]);
     }
     Ok(())

@@ -140,7 +140,7 @@ fn expect_no_memory<R: Threads + Wait + Abort + Sync>(
     for _ in 0..2 {
         match ring.submit::<OnlyFor<0>, Calls>(rt, alloc, requests, workers, &calls) {
             Ok(_report) => panic!(rt; "a refusal"),
-            Err(fault) => assert_eq!(rt; fault, SubmitFault::NoMemory),
+            Err(fault) => assert!(rt; fault == SubmitFault::NoMemory),
         }
     }
     assert!(rt; calls.were_started(&[]));
@@ -169,9 +169,9 @@ fn expect_opened<const PASSES: u32, R: Threads + Wait + Abort + Sync>(
     let mut ring = full_ring(rt, alloc, &[0])?;
     match ring.submit::<OnlyFor<PASSES>, OpenGate>(rt, alloc, requests, workers, &OpenGate) {
         Ok(report) => {
-            assert_eq!(rt; report.completions.len(), requests.len());
+            assert!(rt; report.completions.len() == requests.len());
             for (at, completion) in report.completions.iter().enumerate() {
-                assert_eq!(rt; completion.res, length_at(at) as i32);
+                assert!(rt; completion.res == length_at(at) as i32);
             }
         }
         Err(fault) => {

@@ -14,14 +14,14 @@ use test_setting::{
 /// The ring of two files with a table of so many empty slots.
 pub(crate) fn sparse_ring<R: Abort>(rt: &R, alloc: Global, slots: u32) -> Result<Ring, Fail> {
     let mut ring = ring_of_two_files(alloc)?;
-    assert_eq!(rt; ring.register_sparse(alloc, slots), Ok(()));
+    assert!(rt; ring.register_sparse(alloc, slots) == Ok(()));
     Ok(ring)
 }
 
 /// The ring of two files with a table that has the files of this list.
 pub(crate) fn full_ring<R: Abort>(rt: &R, alloc: Global, list: &[i32]) -> Result<Ring, Fail> {
     let mut ring = ring_of_two_files(alloc)?;
-    assert_eq!(rt; ring.register(alloc, list), Ok(()));
+    assert!(rt; ring.register(alloc, list) == Ok(()));
     Ok(ring)
 }
 
@@ -33,7 +33,7 @@ pub(crate) fn tagged_ring<R: Abort>(
     tags: &[u64],
 ) -> Result<Ring, Fail> {
     let mut ring = ring_of_two_files(alloc)?;
-    assert_eq!(rt; ring.register_tagged(alloc, list, tags), Ok(()));
+    assert!(rt; ring.register_tagged(alloc, list, tags) == Ok(()));
     Ok(ring)
 }
 
@@ -42,9 +42,9 @@ pub(crate) fn expect_tags<R: Abort>(rt: &R, alloc: Global, report: &Report, tags
     let Ok(given) = report.closes.tags(alloc) else {
         panic!(rt; "completions")
     };
-    assert_eq!(rt; given.len(), tags.len());
+    assert!(rt; given.len() == tags.len());
     for (completion, tag) in given.iter().zip(tags) {
-        assert_eq!(rt; completion.user_data, *tag);
+        assert!(rt; completion.user_data == *tag);
     }
 }
 
@@ -81,8 +81,8 @@ pub(crate) fn expect_completed<R: Abort>(
     submission: u32,
     expected: &[(u32, u32, i32, &str)],
 ) {
-    assert_eq!(rt; report.submission, submission);
-    assert_eq!(rt; report.completions.len(), expected.len());
+    assert!(rt; report.submission == submission);
+    assert!(rt; report.completions.len() == expected.len());
     for (completion, said) in report.completions.iter().zip(expected) {
         let (chain, member, res, got) = *said;
         let place = Place {
@@ -90,7 +90,7 @@ pub(crate) fn expect_completed<R: Abort>(
             chain,
             member,
         };
-        assert_eq!(rt; completion.place, place);
+        assert!(rt; completion.place == place);
         assert_eq!(rt; completion.res, res, "the result of {place:?}");
         assert_eq!(rt;
             completion.got.as_slice(),
@@ -102,13 +102,13 @@ pub(crate) fn expect_completed<R: Abort>(
 
 /// The report has these closes.
 pub(crate) fn expect_closed<R: Abort>(rt: &R, report: &Report, files: &[Closed]) {
-    assert_eq!(rt; report.closes.files(), files);
+    assert!(rt; report.closes.files() == files);
 }
 
 /// Ends the ring, which has these files.
 pub(crate) fn expect_left<R: Abort>(rt: &R, alloc: Global, ring: Ring, files: &[Closed]) {
     match ring.tear_down(alloc) {
-        Ok(closes) => assert_eq!(rt; closes.files(), files),
+        Ok(closes) => assert!(rt; closes.files() == files),
         Err((ring, _refused)) => {
             ring.abandon();
             panic!(rt; "a list of closes")
@@ -119,7 +119,7 @@ pub(crate) fn expect_left<R: Abort>(rt: &R, alloc: Global, ring: Ring, files: &[
 /// The ring of a submission that is to be refused: `a.txt` is at slot 0 of two, and slot 1 is the allocation range.
 pub(crate) fn ring_before_refusal<R: Abort>(rt: &R, alloc: Global) -> Result<Ring, Fail> {
     let mut ring = full_ring(rt, alloc, &[0, -1])?;
-    assert_eq!(rt; ring.alloc_range(1, 1), Ok(()));
+    assert!(rt; ring.alloc_range(1, 1) == Ok(()));
     Ok(ring)
 }
 
@@ -130,8 +130,8 @@ pub(crate) fn expect_as_before<R: Threads + Wait + Abort + Sync>(
     mut ring: Ring,
     table: Table,
 ) {
-    assert_eq!(rt; (ring.size(), ring.range()), (2, (1, 1)));
-    assert_eq!(rt; (ring.submissions(), ring.registrations()), (0, 1));
+    assert!(rt; (ring.size(), ring.range()) == (2, (1, 1)));
+    assert!(rt; (ring.submissions(), ring.registrations()) == (0, 1));
     let Ok(open) = open_any(alloc, "b.txt") else {
         panic!(rt; "a request")
     };
@@ -139,6 +139,6 @@ pub(crate) fn expect_as_before<R: Threads + Wait + Abort + Sync>(
     let report = submit(rt, alloc, &mut ring, &requests, (table, 2));
     expect_completed(rt, &report, 1, &[(1, 1, 5, "hello"), (2, 1, 1, "")]);
     expect_closed(rt, &report, &[]);
-    assert_eq!(rt; (ring.submissions(), ring.registrations()), (1, 1));
+    assert!(rt; (ring.submissions(), ring.registrations()) == (1, 1));
     expect_left(rt, alloc, ring, &[registered(1, 0, 0), opened(1, 2, 1, 1)]);
 }
