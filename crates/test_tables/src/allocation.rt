@@ -24,7 +24,7 @@ pub(crate) fn put_at<T: FileTable, R: Wait + Abort>(
     assert!(rt; table.is_idle(pass));
     assert!(rt; 0 < table.numbers_left(pass));
     match table.put_any(rt, pass, file) {
-        Ok(at) => assert_eq!(rt; at, slot),
+        Ok(at) => assert!(rt; at == slot),
         Err(_file) => panic!(rt; "a free slot"),
     }
 }
@@ -50,7 +50,7 @@ pub(crate) fn is_full<T: FileTable, R: Wait + Abort>(
             file.discard();
         }
     }
-    assert_eq!(rt; table.numbers_left(pass), left);
+    assert!(rt; table.numbers_left(pass) == left);
 }
 
 // A file is put at a slot. The one that was there has this number, was never looked up, and comes out when it is retired.
@@ -74,7 +74,7 @@ fn put_over<T: FileTable, R: Wait + Abort>(
     let Some((node, mark)) = expected else {
         panic!(rt; "an empty slot")
     };
-    assert_eq!(rt; (retired.node, retired.takes), (node, 0));
+    assert!(rt; (retired.node, retired.takes) == (node, 0));
     let Some(file) = table.retire(rt, pass, retired) else {
         panic!(rt; "a file that comes out")
     };
@@ -99,7 +99,7 @@ fn take_out<T: FileTable, R: Wait + Abort>(
     let Ok(retired) = table.take(rt, pass, slot) else {
         panic!(rt; "a file at the slot")
     };
-    assert_eq!(rt; (retired.node, retired.takes), (node, 0));
+    assert!(rt; (retired.node, retired.takes) == (node, 0));
     let Some(file) = table.retire(rt, pass, retired) else {
         panic!(rt; "a file that comes out")
     };
@@ -117,7 +117,7 @@ fn is_at_1<T: FileTable, R: Wait + Abort>(rt: &R, table: &T, pass: &mut T::Pass,
     let Ok(hold) = table.look(rt, pass, 1) else {
         panic!(rt; "a file at slot 1")
     };
-    assert_eq!(rt; hold.node, node);
+    assert!(rt; hold.node == node);
     match table.release(rt, pass, hold) {
         None => {}
         Some(_file) => panic!(rt; "a file at a slot"),
@@ -135,7 +135,7 @@ fn fill_and_free<T: FileTable, R: Wait + Abort>(rt: &R, alloc: Global) -> Result
     put_at(rt, &table, &mut b, new_file(rt, &catalogue, 0, 1, 0), 0);
     put_at(rt, &table, &mut b, new_file(rt, &catalogue, 0, 1, 1), 1);
     is_full(rt, &table, &mut b, new_file(rt, &catalogue, 1, 1, 2));
-    assert_eq!(rt; table.numbers_left(&b), 62);
+    assert!(rt; table.numbers_left(&b) == 62);
     take_out(rt, &table, &mut a, 1, 257, Mark::Registered { k: 1, i: 1 });
     put_at(rt, &table, &mut b, new_file(rt, &catalogue, 1, 1, 3), 1);
     is_at_1(rt, &table, &mut b, 258);
@@ -268,12 +268,12 @@ fn one_number_each<T: FileTable, R: Wait + Abort>(
         2,
         new_file(rt, &catalogue, 1, 1, 1),
     );
-    assert_eq!(rt; table.numbers_left(&first), left);
-    assert_eq!(rt; table.numbers_left(&second), left);
+    assert!(rt; table.numbers_left(&first) == left);
+    assert!(rt; table.numbers_left(&second) == left);
     give_back(rt, &table, &mut passes, first);
     give_back(rt, &table, &mut passes, second);
     let plain = table.close(passes);
-    assert_eq!(rt; plain.full(), 2);
+    assert!(rt; plain.full() == 2);
     plain.abandon();
     Ok(())
 }

@@ -24,7 +24,7 @@ fn draw_all<T: FileTable, R: Abort>(rt: &R, table: &T, pass: &mut T::Pass) -> u3
             return count;
         };
         assert!(rt; last < chain && chain <= MAX_CHAINS);
-        assert_eq!(rt; table.numbers_left(pass), 64);
+        assert!(rt; table.numbers_left(pass) == 64);
         last = chain;
         count = count.wrapping_add(1);
     }
@@ -56,9 +56,9 @@ fn draw_most<T: FileTable, R: Abort>(rt: &R, alloc: Global) -> Result<(), Fail> 
     let mut drawn = Vec::with_capacity(alloc, 16)?;
     let plain = empty_table(rt, alloc, 256);
     let (table, mut passes) = open_table::<T, _>(rt, alloc, plain, MAX_CHAINS, MAX_PASSES);
-    assert_eq!(rt; passes.len(), 16);
+    assert!(rt; passes.len() == 16);
     assert!(rt; table.size() == 256 && table.range() == (0, 256));
-    assert_eq!(rt; draw_by_all(rt, &table, &mut passes, &mut drawn), 1023);
+    assert!(rt; draw_by_all(rt, &table, &mut passes, &mut drawn) == 1023);
     passes.destroy_empty();
     let plain = table.close(drawn);
     assert!(rt; plain.is_settled() && plain.size() == 256 && plain.full() == 0);

@@ -35,30 +35,30 @@ fn open_and_close<T: FileTable, R: Abort>(
         panic!(rt; "a list")
     };
     let (table, mut list) = open_table::<T, _>(rt, alloc, plain, chains, passes);
-    assert_eq!(rt; list.len(), passes as usize);
-    assert_eq!(rt; (table.size(), table.range()), (size, (0, size)));
-    assert_eq!(rt; draw_by_all(rt, &table, &mut list, &mut drawn), chains);
+    assert!(rt; list.len() == passes as usize);
+    assert!(rt; (table.size(), table.range()) == (size, (0, size)));
+    assert!(rt; draw_by_all(rt, &table, &mut list, &mut drawn) == chains);
     list.destroy_empty();
     let plain = table.close(drawn);
     assert!(rt; plain.is_settled());
-    assert_eq!(rt; (plain.size(), plain.full()), (size, full));
+    assert!(rt; (plain.size(), plain.full()) == (size, full));
     plain
 }
 
 // A file is at each slot, the i-th one of list 1 at slot i.
 fn expect_all_files<R: Abort>(rt: &R, alloc: Global, plain: PlainTable, slots: u32) {
     let left = left_in(rt, alloc, plain);
-    assert_eq!(rt; left.files().len(), slots as usize);
+    assert!(rt; left.files().len() == slots as usize);
     for (i, file) in left.files().iter().enumerate() {
         let mark = Mark::Registered { k: 1, i: i as u32 };
         let tag = tag_of(1, i as u32);
-        assert_eq!(rt;
-            *file,
-            Closed {
-                mark,
-                entry: 0,
-                tag
-            }
+        assert!(rt;
+            *file
+                == Closed {
+                    mark,
+                    entry: 0,
+                    tag
+                }
         );
     }
 }
@@ -108,7 +108,7 @@ fn numbers_prepared_at_each_size(rt: HostRuntime) -> Result<(), Fail> {
         if *numbers > 0 {
             assert!(rt; plain.size() <= *numbers);
             assert!(rt; plain.prepare(*numbers).is_ok(), "{numbers}");
-            assert_eq!(rt; plain.numbers(), *numbers);
+            assert!(rt; plain.numbers() == *numbers);
             assert!(rt; *numbers == 1 || plain.is_fresh(*numbers - 1));
         }
         plain.abandon();
@@ -124,7 +124,7 @@ fn lists_with_room_at_each_size(rt: HostRuntime) -> Result<(), Fail> {
         let Ok(list) = CloseList::with_room(alloc, *room) else {
             panic!(rt; "room for {room} files")
         };
-        assert_eq!(rt; (list.room(), list.files().len()), (*room, 0));
+        assert!(rt; (list.room(), list.files().len()) == (*room, 0));
     }
     Ok(())
 }

@@ -77,7 +77,7 @@ fn look_and_release<T: FileTable, R: Wait + Abort>(
         panic!(rt; "a file at the slot")
     };
     is_made(step, schedule.look);
-    assert_eq!(rt; hold.node == 0, schedule.looks_first());
+    assert!(rt; (hold.node == 0) == schedule.looks_first());
     wait_for(rt, step, schedule.release);
     let out = table.release(rt, pass, hold);
     is_made(step, schedule.release);
@@ -176,7 +176,7 @@ fn race_crew<T: FileTable, R: Threads + Wait + Abort + Sync>(
 {
     let step = AtomicU32::new(0);
     race_all(rt, table, catalogue, schedule, &step, racers.as_mut_slice());
-    assert_eq!(rt; step.load(Ordering::SeqCst), 4);
+    assert!(rt; step.load(Ordering::SeqCst) == 4);
 }
 
 // The pass of the racer that is the last of the list.

@@ -31,11 +31,11 @@ fn is_spent<T: FileTable, R: Wait + Abort>(rt: &R, table: &T, pass: &mut T::Pass
     requires { T.fits table.now pass.old }
     ensures { T.fits table.now pass.new }
 {
-    assert_eq!(rt; table.looks_left(pass), 0);
+    assert!(rt; table.looks_left(pass) == 0);
     assert!(rt; table.is_idle(pass));
     assert!(rt; 0 < table.size());
     match table.look(rt, pass, 0) {
-        Err(fault) => assert_eq!(rt; fault, LookFault::Spent),
+        Err(fault) => assert!(rt; fault == LookFault::Spent),
         Ok(_hold) => panic!(rt; "no look-up is left"),
     }
     assert!(rt; table.is_idle(pass));
@@ -54,7 +54,7 @@ fn spend_all<T: FileTable, R: Wait + Abort>(rt: &R, alloc: Global) -> Result<(),
     let mut pass = one_pass(rt, &table, &mut passes);
     assert!(rt; table.is_idle(&pass));
     assert!(rt; table.draw(&mut pass) == Some(1));
-    assert_eq!(rt; table.looks_left(&pass), 1_048_576);
+    assert!(rt; table.looks_left(&pass) == 1_048_576);
     look_all(rt, &table, &mut pass);
     is_spent(rt, &table, &mut pass, new_file(rt, &catalogue, 0, 1, 0));
     give_back(rt, &table, &mut passes, pass);

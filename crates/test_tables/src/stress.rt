@@ -326,12 +326,12 @@ fn work_on_table<T: FileTable, R: Threads + Wait + Abort + Sync>(
     let plain = empty_table(rt, alloc, size);
     let (table, mut passes) = open_table::<T, _>(rt, alloc, plain, MAX_CHAINS, PASSES);
     let mut workers = new_workers(rt, alloc, &table, &mut passes);
-    assert_eq!(rt; workers.len(), 4);
+    assert!(rt; workers.len() == 4);
     work_crew(rt, &table, catalogue, &mut workers);
     let mut tally = Tally::new(rt, alloc);
     add_workers(rt, &table, &mut workers, &mut passes, &mut tally);
     workers.destroy_empty();
-    assert_eq!(rt; passes.len(), 4);
+    assert!(rt; passes.len() == 4);
     tally.add_files(rt, left_in(rt, alloc, table.close(passes)));
     tally.expect_each_once(rt);
     tally.calls

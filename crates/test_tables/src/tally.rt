@@ -73,7 +73,7 @@ impl Tally {
                 let mark = Mark::Registered { k, i };
                 let entry = (k % 2) as u8;
                 let tag = tag_of(k, i);
-                assert_eq!(rt; files.next(), Some(&Closed { mark, entry, tag }));
+                assert!(rt; files.next() == Some(&Closed { mark, entry, tag }));
             }
         }
         assert!(rt; files.next().is_none());

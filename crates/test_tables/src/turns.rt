@@ -32,7 +32,7 @@ pub(crate) fn hold_of<T: FileTable, R: Wait + Abort>(
     let Ok(hold) = table.look(rt, pass, 0) else {
         panic!(rt; "a file at the slot")
     };
-    assert_eq!(rt; (hold.node, hold.entry), (node, entry));
+    assert!(rt; (hold.node, hold.entry) == (node, entry));
     hold
 }
 
@@ -49,16 +49,16 @@ pub(crate) fn replace_first<T: FileTable, R: Wait + Abort>(
     ensures removed { IsRetiredOf (T.view pass.new) result }
 {
     assert!(rt; table.is_idle(pass));
-    assert_eq!(rt; table.draw(pass), Some(1));
-    assert_eq!(rt; table.numbers_left(pass), 64);
+    assert!(rt; table.draw(pass) == Some(1));
+    assert!(rt; table.numbers_left(pass) == 64);
     assert!(rt; table.is_idle(pass));
     assert!(rt; 0 < table.size());
     let Some(retired) = table.put(rt, pass, 0, file) else {
         panic!(rt; "a file that is replaced")
     };
-    assert_eq!(rt; (retired.node, retired.entry), (0, 0));
-    assert_eq!(rt; retired.takes, takes);
-    assert_eq!(rt; table.numbers_left(pass), 63);
+    assert!(rt; (retired.node, retired.entry) == (0, 0));
+    assert!(rt; retired.takes == takes);
+    assert!(rt; table.numbers_left(pass) == 63);
     retired
 }
 

@@ -203,13 +203,13 @@ fn take_second<T: FileTable, R: Wait + Abort>(rt: &R, table: &T, pass: &mut T::P
     let Ok(retired) = table.take(rt, pass, 0) else {
         panic!(rt; "a file at the slot")
     };
-    assert_eq!(rt; (retired.node, retired.entry), (256, 1));
-    assert_eq!(rt; retired.takes, 0);
+    assert!(rt; (retired.node, retired.entry) == (256, 1));
+    assert!(rt; retired.takes == 0);
     let Some(file) = table.retire(rt, pass, retired) else {
         panic!(rt; "a file that comes out")
     };
-    assert_eq!(rt; file.mark(), Mark::Registered { k: 2, i: 0 });
-    assert_eq!(rt; file.tag(), tag_of(2, 0));
+    assert!(rt; file.mark() == Mark::Registered { k: 2, i: 0 });
+    assert!(rt; file.tag() == tag_of(2, 0));
     file.discard();
 }
 
