@@ -15,7 +15,7 @@ fn expect_read<R: Abort>(rt: &R, completion: &Completion, at: usize, chain: u32,
         chain,
         member,
     };
-    assert_eq!(rt; completion.place, place);
+    assert!(rt; completion.place == place);
     let bytes = &b"hello"[..length_at(at)];
     assert_eq!(rt;
         completion.res,
@@ -35,7 +35,7 @@ fn expect_reads<R: Threads + Wait + Abort + Sync>(
 ) -> Result<(), Fail> {
     let mut ring = full_ring(rt, alloc, &[0])?;
     let report = submit(rt, alloc, &mut ring, requests, players);
-    assert_eq!(rt; report.completions.len(), requests.len());
+    assert!(rt; report.completions.len() == requests.len());
     let (mut chain, mut member) = (1u32, 1u32);
     for (at, completion) in report.completions.iter().enumerate() {
         expect_read(rt, completion, at, chain, member);
@@ -95,12 +95,12 @@ fn expect_cut<R: Abort>(rt: &R, alloc: Global, requests: &[Request], members: u3
     let Ok(chains) = cut(alloc, requests) else {
         panic!(rt; "a list of {count} chains")
     };
-    assert_eq!(rt; count, total.div_ceil(members));
-    assert_eq!(rt; chains.len(), count as usize);
+    assert!(rt; count == total.div_ceil(members));
+    assert!(rt; chains.len() == count as usize);
     let mut first: u32 = 0;
     for chain in chains.as_slice() {
         let len = total.wrapping_sub(first).min(members);
-        assert_eq!(rt; *chain, Chain { first, len });
+        assert!(rt; *chain == Chain { first, len });
         first = first.wrapping_add(len);
     }
 }

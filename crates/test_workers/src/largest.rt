@@ -35,7 +35,7 @@ fn largest_ring<R: Abort>(rt: &R, alloc: Global) -> Result<Ring, Fail> {
     let mut list = [-1; 256];
     list[255] = 0;
     let mut ring = Ring::new(alloc, catalogue);
-    assert_eq!(rt; ring.register(alloc, &list), Ok(()));
+    assert!(rt; ring.register(alloc, &list) == Ok(()));
     Ok(ring)
 }
 
@@ -61,7 +61,7 @@ fn expect_answer<R: Abort>(rt: &R, completion: &Completion, chain: u32, member: 
         chain,
         member,
     };
-    assert_eq!(rt; completion.place, place);
+    assert!(rt; completion.place == place);
     let res = match member % 4 {
         1 => 0,
         3 => 1,
@@ -69,7 +69,7 @@ fn expect_answer<R: Abort>(rt: &R, completion: &Completion, chain: u32, member: 
     };
     assert_eq!(rt; completion.res, res, "the result of {place:?}");
     let count = if member % 2 == 0 { member as usize } else { 0 };
-    assert_eq!(rt; completion.got.len(), count);
+    assert!(rt; completion.got.len() == count);
     for (i, byte) in completion.got.iter().enumerate() {
         assert_eq!(rt; *byte, byte_at(chain + i as u32), "the bytes of {place:?}");
     }
@@ -98,7 +98,7 @@ fn largest_submission(alloc: Global) -> Result<Vec<Request>, AllocError> {
 
 // The answers to them, each once and in order of place.
 fn expect_answers<R: Abort>(rt: &R, completions: &[Completion]) {
-    assert_eq!(rt; completions.len(), 16_368);
+    assert!(rt; completions.len() == 16_368);
     let mut others = completions.iter();
     for chain in 1..CHAINS + 1 {
         for member in 1..MEMBERS + 1 {
@@ -177,14 +177,14 @@ fn expect_largest<R: Threads + Wait + Abort + Sync>(
     let mut tally = Tally::new(alloc)?;
     let mut ring = largest_ring(rt, alloc)?;
     let report = submit(rt, alloc, &mut ring, requests, players);
-    assert_eq!(rt; report.submission, 1);
+    assert!(rt; report.submission == 1);
     expect_answers(rt, report.completions.as_slice());
     tally.add(rt, report.closes.files());
     tally.add(rt, left_in(rt, alloc, ring).files());
     for chain in 1..CHAINS + 1 {
         for member in 1..MEMBERS + 1 {
             let number = number_of(chain, member, 0);
-            assert_eq!(rt; tally.counts.get(number), Some(&(member % 2)));
+            assert!(rt; tally.counts.get(number) == Some(&(member % 2)));
         }
     }
     Ok(())
@@ -228,7 +228,7 @@ fn update_at(alloc: Global, chain: u32, member: u32) -> Result<Request, AllocErr
 
 // The answers to such updates, each once and in order of place.
 fn expect_all_updated<R: Abort>(rt: &R, completions: &[Completion]) {
-    assert_eq!(rt; completions.len(), 16_368);
+    assert!(rt; completions.len() == 16_368);
     let mut others = completions.iter();
     for chain in 1..CHAINS + 1 {
         for member in 1..MEMBERS + 1 {
@@ -238,7 +238,7 @@ fn expect_all_updated<R: Abort>(rt: &R, completions: &[Completion]) {
                 member,
             };
             match others.next() {
-                Some(completion) => assert_eq!(rt; (completion.place, completion.res), (place, 16)),
+                Some(completion) => assert!(rt; (completion.place, completion.res) == (place, 16)),
                 None => panic!(rt; "a completion of each request"),
             }
         }
@@ -287,13 +287,13 @@ fn most_updates_of_most_slots(rt: HostRuntime) -> Result<(), Fail> {
 
 // Each file that the updates installed was closed or is left, once, and so is the one that was registered.
 fn expect_updated<R: Abort>(rt: &R, tally: &Tally) {
-    assert_eq!(rt; tally.counts.get(0), Some(&1));
+    assert!(rt; tally.counts.get(0) == Some(&1));
     for chain in 1..CHAINS + 1 {
         for member in 1..MEMBERS + 1 {
             for in_list in 0..16 {
                 let times = if entry_at(chain, in_list) == 1 { 1 } else { 0 };
                 let number = number_of(chain, member, in_list);
-                assert_eq!(rt; tally.counts.get(number), Some(&times));
+                assert!(rt; tally.counts.get(number) == Some(&times));
             }
         }
     }
@@ -301,7 +301,7 @@ fn expect_updated<R: Abort>(rt: &R, tally: &Tally) {
 
 // What one worker leaves, which plays the last chain last: the 64 files that this one installed.
 fn expect_last_chain<R: Abort>(rt: &R, left: &[Closed]) {
-    assert_eq!(rt; left.len(), 64);
+    assert!(rt; left.len() == 64);
     for file in left {
         match file.mark {
             Mark::Submitted {
@@ -309,7 +309,7 @@ fn expect_last_chain<R: Abort>(rt: &R, left: &[Closed]) {
                 chain,
                 member: _,
                 entry: _,
-            } => assert_eq!(rt; chain, CHAINS),
+            } => assert!(rt; chain == CHAINS),
             mark => panic!(rt; "{mark:?}"),
         }
     }

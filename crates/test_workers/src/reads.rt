@@ -32,7 +32,7 @@ fn ring_of_sizes<R: Abort>(rt: &R, alloc: Global, sizes: &[u32]) -> Result<Ring,
         list.push(entry as i32)?;
     }
     let mut ring = Ring::new(alloc, catalogue);
-    assert_eq!(rt; ring.register(alloc, list.as_slice()), Ok(()));
+    assert!(rt; ring.register(alloc, list.as_slice()) == Ok(()));
     Ok(ring)
 }
 
@@ -53,11 +53,11 @@ fn expect_whole<R: Abort>(rt: &R, completion: &Completion, len: u32, file: &[u8]
         chain: len / 16 + 1,
         member: len % 16 + 1,
     };
-    assert_eq!(rt; (completion.place, completion.res), (place, len as i32));
+    assert!(rt; (completion.place, completion.res) == (place, len as i32));
     let (off, len) = (off_of(len) as usize, len as usize);
     assert!(rt; off + len <= file.len());
     assert_eq!(rt; completion.got.as_slice(), &file[off..off + len], "{len}");
-    assert_eq!(rt; completion.got.capacity(), len);
+    assert!(rt; completion.got.capacity() == len);
 }
 
 #[test]
@@ -78,7 +78,7 @@ fn reads_of_each_length(rt: HostRuntime) -> Result<(), Fail> {
             let mut ring = ring_of_sizes(&rt, alloc, &[LONGEST_READ])?;
             let players = (table, workers);
             let report = submit(&rt, alloc, &mut ring, requests.as_slice(), players);
-            assert_eq!(rt; report.completions.len(), 4097);
+            assert!(rt; report.completions.len() == 4097);
             for (len, completion) in (0..LONGEST_READ + 1).zip(report.completions.as_slice()) {
                 expect_whole(&rt, completion, len, file.as_slice());
             }
@@ -91,7 +91,7 @@ fn reads_of_each_length(rt: HostRuntime) -> Result<(), Fail> {
 // The file of this size was read to its end.
 fn expect_file<R: Abort>(rt: &R, completion: &Completion, size: u32, file: &[u8]) {
     assert!(rt; size <= LONGEST_READ && size as usize <= file.len());
-    assert_eq!(rt; completion.res, size as i32);
+    assert!(rt; completion.res == size as i32);
     assert_eq!(rt; completion.got.as_slice(), &file[..size as usize], "{size}");
 }
 
@@ -107,7 +107,7 @@ fn files_of_each_length(rt: HostRuntime) -> Result<(), Fail> {
     for table in TABLES {
         let mut ring = ring_of_sizes(&rt, alloc, sizes.as_slice())?;
         let report = submit(&rt, alloc, &mut ring, requests.as_slice(), (table, 2));
-        assert_eq!(rt; report.completions.len(), sizes.len());
+        assert!(rt; report.completions.len() == sizes.len());
         for (completion, size) in report.completions.iter().zip(sizes.as_slice()) {
             expect_file(&rt, completion, *size, file.as_slice());
         }

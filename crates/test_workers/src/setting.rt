@@ -12,14 +12,14 @@ use test_setting::{Players, ring_of_two_files, try_submit};
 /// The ring of two files with a table of so many empty slots.
 pub(crate) fn sparse_ring<R: Abort>(rt: &R, alloc: Global, slots: u32) -> Result<Ring, Fail> {
     let mut ring = ring_of_two_files(alloc)?;
-    assert_eq!(rt; ring.register_sparse(alloc, slots), Ok(()));
+    assert!(rt; ring.register_sparse(alloc, slots) == Ok(()));
     Ok(ring)
 }
 
 /// The ring of two files with a table that has the files of this list.
 pub(crate) fn full_ring<R: Abort>(rt: &R, alloc: Global, list: &[i32]) -> Result<Ring, Fail> {
     let mut ring = ring_of_two_files(alloc)?;
-    assert_eq!(rt; ring.register(alloc, list), Ok(()));
+    assert!(rt; ring.register(alloc, list) == Ok(()));
     Ok(ring)
 }
 
@@ -56,8 +56,8 @@ pub(crate) fn expect_completed<R: Abort>(
     submission: u32,
     expected: &[(u32, u32, i32, &str)],
 ) {
-    assert_eq!(rt; report.submission, submission);
-    assert_eq!(rt; report.completions.len(), expected.len());
+    assert!(rt; report.submission == submission);
+    assert!(rt; report.completions.len() == expected.len());
     for (completion, said) in report.completions.iter().zip(expected) {
         let (chain, member, res, got) = *said;
         let place = Place {
@@ -65,7 +65,7 @@ pub(crate) fn expect_completed<R: Abort>(
             chain,
             member,
         };
-        assert_eq!(rt; completion.place, place);
+        assert!(rt; completion.place == place);
         assert_eq!(rt; completion.res, res, "the result of {place:?}");
         assert_eq!(rt;
             completion.got.as_slice(),
@@ -77,13 +77,13 @@ pub(crate) fn expect_completed<R: Abort>(
 
 /// The report has these closes.
 pub(crate) fn expect_closed<R: Abort>(rt: &R, report: &Report, files: &[Closed]) {
-    assert_eq!(rt; report.closes.files(), files);
+    assert!(rt; report.closes.files() == files);
 }
 
 /// Ends the ring, which has these files.
 pub(crate) fn expect_left<R: Abort>(rt: &R, alloc: Global, ring: Ring, files: &[Closed]) {
     match ring.tear_down(alloc) {
-        Ok(closes) => assert_eq!(rt; closes.files(), files),
+        Ok(closes) => assert!(rt; closes.files() == files),
         Err((ring, _refused)) => {
             ring.abandon();
             panic!(rt; "a list of closes")
