@@ -134,11 +134,11 @@ fn every_request_as_it_is_written(rt: HostRuntime) -> Result<(), Fail> {
             Op::Update { off: 5, list } if list.as_slice() == [0, -1, -2].as_slice()
         )
     );
-    assert_eq!(rt; at.flags.bits(), 4);
-    assert_eq!(rt; any.flags.bits(), 0);
-    assert_eq!(rt; read.flags.bits(), 5);
-    assert_eq!(rt; close.flags.bits(), 0);
-    assert_eq!(rt; update.flags.bits(), 0);
+    assert!(rt; at.flags.bits() == 4);
+    assert!(rt; any.flags.bits() == 0);
+    assert!(rt; read.flags.bits() == 5);
+    assert!(rt; close.flags.bits() == 0);
+    assert!(rt; update.flags.bits() == 0);
     Ok(())
 }
 

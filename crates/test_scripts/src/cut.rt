@@ -7,7 +7,7 @@ const OPEN_READ_CLOSE: &str =
 
 #[test]
 fn open_read_close_cut_behind_each_byte(rt: HostRuntime) -> Result<(), Fail> {
-    assert_eq!(rt; OPEN_READ_CLOSE.len(), 83);
+    assert!(rt; OPEN_READ_CLOSE.len() == 83);
     // From how many bytes on, up to how many, and the fault then: line 0 where there is none.
     let cuts = [
         (0, 1, 0, ""),
@@ -51,7 +51,7 @@ fn open_read_close_cut_behind_each_byte(rt: HostRuntime) -> Result<(), Fail> {
     let bytes = OPEN_READ_CLOSE.as_bytes();
     let mut next = 0;
     for (first, end, line, name) in cuts {
-        assert_eq!(rt; next, first);
+        assert!(rt; next == first);
         for count in first..end {
             let Some(part) = bytes.get(..count) else {
                 panic!(rt; "no cut behind {count} bytes");
@@ -64,6 +64,6 @@ fn open_read_close_cut_behind_each_byte(rt: HostRuntime) -> Result<(), Fail> {
         }
         next = end;
     }
-    assert_eq!(rt; next, 84);
+    assert!(rt; next == 84);
     Ok(())
 }

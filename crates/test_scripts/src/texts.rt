@@ -46,7 +46,7 @@ fn all_inside(catalogue: &Catalogue, files: &[Closed]) -> bool
 fn a_report(rt: HostRuntime) -> Result<(), Fail> {
     let alloc = rt.alloc();
     let catalogue = two_files(alloc)?;
-    assert_eq!(rt; catalogue.len(), 2);
+    assert!(rt; catalogue.len() == 2);
     let mut completions = Vec::new(alloc);
     completions.push(completion(alloc, 1, 1, 0, b"".as_slice())?)?;
     completions.push(completion(alloc, 1, 2, 5, b"\x00\x0f\xa0\xffj".as_slice())?)?;
@@ -72,7 +72,7 @@ fn a_report(rt: HostRuntime) -> Result<(), Fail> {
     let text = report_text(alloc, &report, &catalogue)?;
     let lines =
         "7.1.1 0\n7.1.2 5 000fa0ff6a\n7.12.16 -125\nclosed r3.255 b.txt\nclosed 7.12.1.15 a.txt\n";
-    assert_eq!(rt; text.as_str(), lines);
+    assert!(rt; text.as_str() == lines);
     Ok(())
 }
 
@@ -80,7 +80,7 @@ fn a_report(rt: HostRuntime) -> Result<(), Fail> {
 fn tags_stand_behind_the_closed_lines(rt: HostRuntime) -> Result<(), Fail> {
     let alloc = rt.alloc();
     let catalogue = two_files(alloc)?;
-    assert_eq!(rt; catalogue.len(), 2);
+    assert!(rt; catalogue.len() == 2);
     let mut closes = CloseList::with_room(alloc, 3)?;
     let largest = 18_446_744_073_709_551_615;
     closes.close(catalogue.open(0, Mark::Registered { k: 1, i: 0 }, largest));
@@ -95,7 +95,7 @@ fn tags_stand_behind_the_closed_lines(rt: HostRuntime) -> Result<(), Fail> {
     let text = report_text(alloc, &report, &catalogue)?;
     let lines = "closed r1.0 a.txt\nclosed r1.1 b.txt\nclosed r1.2 b.txt\n\
                  tag 18446744073709551615\ntag 7\n";
-    assert_eq!(rt; text.as_str(), lines);
+    assert!(rt; text.as_str() == lines);
     Ok(())
 }
 
@@ -110,7 +110,7 @@ fn an_empty_report(rt: HostRuntime) -> Result<(), Fail> {
     let catalogue = Catalogue::new(alloc);
     assert!(rt; all_inside(&catalogue, report.closes.files()));
     let text = report_text(alloc, &report, &catalogue)?;
-    assert_eq!(rt; text.as_str(), "");
+    assert!(rt; text.as_str() == "");
     Ok(())
 }
 
@@ -136,7 +136,7 @@ fn every_fault_of_a_play(rt: HostRuntime) -> Result<(), Fail> {
         (PlayFault::NoMemory, "out of memory"),
     ];
     for (fault, text) in faults {
-        assert_eq!(rt; fault.to_string(rt.alloc())?.as_str(), text);
+        assert!(rt; fault.to_string(rt.alloc())?.as_str() == text);
     }
     Ok(())
 }
