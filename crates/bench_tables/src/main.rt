@@ -10,6 +10,7 @@ mod one;
 mod report;
 mod shared;
 mod subject;
+mod trial;
 mod watch;
 mod work;
 
@@ -19,11 +20,15 @@ use report::report_all;
 use std::alloc::Global;
 use std::env;
 use std::process::ExitCode;
+use trial::try_tables;
 
-// How many rounds the program is called for: its one argument.
-fn rounds(rt: &HostRuntime) -> Option<u32> {
+// What the program's one argument asks for.
+fn task_of(rt: &HostRuntime) -> Option<Task> {
     let words: Vec<String> = env::args(rt).ok()?.collect(rt.alloc()).ok()?;
-    words.get(1)?.as_str().parse().ok()
+    match words.get(1)?.as_str() {
+        "calls" => Some(Task::Calls),
+        rounds => rounds.parse().ok().map(Task::All),
+    }
 }
 
 // A catalogue of one entry of 64 bytes.
@@ -37,16 +42,18 @@ fn one_entry(alloc: Global) -> Option<Catalogue> {
 
 // What the program is called for.
 enum Task {
+    // what the measured calls answer
+    Calls,
     // every row, so many rounds
     All(u32),
     // one row on so many threads
     One(String, u32),
 }
 
-// One row where the environment names it, and else all of them.
+// One row where the environment names it, and else what the argument asks for.
 fn read_task(rt: &HostRuntime) -> Option<Task> {
     match env::var(rt, "TABLE_BENCH_ROW") {
-        Err(_) => rounds(rt).map(Task::All),
+        Err(_) => task_of(rt),
         Ok(row) => {
             let threads: String = env::var(rt, "TABLE_BENCH_THREADS").ok()?;
             Some(Task::One(row, threads.as_str().parse().ok()?))
@@ -62,19 +69,19 @@ fn main(rt: HostRuntime) -> ExitCode {
         return ExitCode::FAILURE;
     }
     let done = match read_task(&rt) {
+        Some(Task::Calls) => try_tables(&rt, rt.alloc(), &catalogue),
         Some(Task::All(rounds)) => report_all(&rt, rt.alloc(), &catalogue, rounds),
         Some(Task::One(row, threads)) => {
             report_one(&rt, rt.alloc(), &catalogue, row.as_str(), threads)
         }
         None => println!(rt;
-            "bench_tables ROUNDS compares the times of the file tables, in so many rounds"
-        ).ok(),
+            "bench_tables ROUNDS compares the times of the file tables, in so many rounds, and\n\
+             bench_tables calls says what the calls answer that are timed"
+        )
+        .ok(),
     };
     match done {
         Some(()) => ExitCode::SUCCESS,
         None => ExitCode::FAILURE,
     }
 }
-
-#[cfg(test)]
-mod tests;

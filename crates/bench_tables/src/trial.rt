@@ -1,0 +1,119 @@
+//! What no clause says of the calls that are measured: that they do what their names say. Each table's answers are a line.
+ghost use Rattle.std.specs.Prelude.{◌≡◌, ◌<◌, ◌≤◌, length, vec_capacity};
+
+use crate::alone::Alone;
+use crate::locked::Locked;
+use crate::measure::{Shape, shaped};
+use crate::shared::Shared;
+use crate::subject::{READ_LEN, Subject};
+use fx_base::{Catalogue, Mark};
+use fx_baton::BatonTable;
+use fx_counted::CountedTable;
+use std::alloc::Global;
+use std::sync::Wait;
+
+const MARK: Mark = Mark::Registered { k: 0, i: 0 };
+
+// What was read at slot 2 when it was empty and when it had a file, in bytes, and where a file was put at any free slot:
+// in front, behind that file's removal, and when no slot was free.
+#[derive(Clone, Copy)]
+struct Answers {
+    empty: usize,
+    full: usize,
+    first: Option<u32>,
+    again: Option<u32>,
+    last: Option<u32>,
+}
+
+// Uses a table of four slots whose first two are full. It has three files after that.
+fn use_table<S: Subject, R: Wait>(
+    rt: &R,
+    subject: &S,
+    pass: &mut S::Pass,
+    catalogue: &Catalogue,
+    into: &mut Vec<u8>,
+) -> Answers
+    requires ready { S.ready subject.now pass.old }
+    requires entry { 0 < length catalogue.now }
+    requires room { READ_LEN ≤ vec_capacity into.old }
+    ensures { S.ready subject.now pass.new }
+{
+    subject.read(rt, pass, 2, catalogue, into);
+    let empty = into.len();
+    let first = subject.put_any(rt, pass, catalogue.open(0, MARK, 0));
+    subject.read(rt, pass, 2, catalogue, into);
+    let full = into.len();
+    subject.take(rt, pass, 2);
+    let again = subject.put_any(rt, pass, catalogue.open(0, MARK, 0));
+    subject.look(rt, pass, 2);
+    subject.put(rt, pass, 2, catalogue.open(0, MARK, 0));
+    subject.put(rt, pass, 3, catalogue.open(0, MARK, 0));
+    let last = subject.put_any(rt, pass, catalogue.open(0, MARK, 0));
+    subject.take(rt, pass, 3);
+    Answers {
+        empty,
+        full,
+        first,
+        again,
+        last,
+    }
+}
+
+// Opens a table, uses it, closes it, and prints what came of that.
+fn try_table<S: Subject, R: Wait + Print>(
+    rt: &R,
+    alloc: Global,
+    catalogue: &Catalogue,
+    name: &str,
+) -> Option<()>
+    requires { 0 < length catalogue.now }
+{
+    let mut into = Vec::with_capacity(alloc, READ_LEN as usize).ok()?;
+    let shape = Shape {
+        slots: 4,
+        full: 2,
+        range: 4,
+    };
+    let plain = shaped(alloc, catalogue, shape)?;
+    match S::open(alloc, plain, 1, 1) {
+        Err(plain) => {
+            plain.abandon();
+            None
+        }
+        Ok((subject, mut passes)) => {
+            let answers = if passes.is_empty() {
+                None
+            } else {
+                Some(use_table(rt, &subject, &mut passes[0], catalogue, &mut into))
+            };
+            let plain = subject.close(passes);
+            let files = plain.full();
+            plain.abandon();
+            let Answers {
+                empty,
+                full,
+                first,
+                again,
+                last,
+            } = answers?;
+            println!(rt;
+                "{name}: {empty} and {full} bytes, {first:?}, {again:?}, {last:?}, {files} files"
+            ).ok()
+        }
+    }
+}
+
+/// Tries the calls of each table that is measured, and prints what they answer, a line a table. `None` where memory or
+/// standard output is refused.
+pub(crate) fn try_tables<R: Wait + Print>(
+    rt: &R,
+    alloc: Global,
+    catalogue: &Catalogue,
+) -> Option<()>
+    requires { 0 < length catalogue.now }
+{
+    try_table::<Shared<CountedTable>, R>(rt, alloc, catalogue, "counted")?;
+    try_table::<Shared<BatonTable>, R>(rt, alloc, catalogue, "baton")?;
+    try_table::<Locked, R>(rt, alloc, catalogue, "mutex")?;
+    try_table::<Alone, R>(rt, alloc, catalogue, "alone")
+}
