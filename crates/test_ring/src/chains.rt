@@ -1,29 +1,29 @@
 //! Chains of linked requests: what severs them, and for which members the gate is called. The values were worked out by
 //! hand.
 use crate::setting::{
-    expect_closed, expect_completed, expect_left, full_ring, sparse_ring, submit, submit_with,
+    Case, PLAYERS, Slots, close, expect_closed, expect_completed, expect_left, expect_played,
+    linked, open_at, opened, read, registered, sparse_ring, submit, update, updated,
 };
 use std::test::Fail;
-use test_setting::{
-    Calls, PLAYERS, close, linked, open_at, opened, read, registered, update, updated,
-};
 
 #[test]
 fn every_member_of_a_whole_chain_is_started(rt: HostRuntime) -> Result<(), Fail> {
     let alloc = rt.alloc();
     let open = linked(open_at(alloc, "a.txt", 0)?);
     let requests = [open, linked(read(0, 0, 5)), close(0)];
-    for players in PLAYERS {
-        let calls = Calls::new(alloc, &[3])?;
-        let mut ring = sparse_ring(&rt, alloc, 2)?;
-        let report = submit_with(&rt, alloc, &mut ring, &requests, players, &calls);
-        let completed = [(1, 1, 0, ""), (1, 2, 5, "hello"), (1, 3, 0, "")];
-        expect_completed(&rt, &report, 1, &completed);
-        expect_closed(&rt, &report, &[opened(1, 1, 1, 0)]);
-        assert!(rt; calls.were_started(&[3]));
-        expect_left(&rt, alloc, ring, &[]);
-    }
-    Ok(())
+    expect_played(
+        &rt,
+        alloc,
+        &PLAYERS,
+        Case {
+            slots: Slots::Empty(2),
+            requests: &requests,
+            completed: &[(1, 1, 0, ""), (1, 2, 5, "hello"), (1, 3, 0, "")],
+            started: &[3],
+            closed: &[opened(1, 1, 1, 0)],
+            left: &[],
+        },
+    )
 }
 
 #[test]
@@ -31,17 +31,19 @@ fn short_read_severs(rt: HostRuntime) -> Result<(), Fail> {
     let alloc = rt.alloc();
     let open = linked(open_at(alloc, "a.txt", 0)?);
     let requests = [open, linked(read(0, 0, 6)), close(0)];
-    for players in PLAYERS {
-        let calls = Calls::new(alloc, &[3])?;
-        let mut ring = sparse_ring(&rt, alloc, 2)?;
-        let report = submit_with(&rt, alloc, &mut ring, &requests, players, &calls);
-        let completed = [(1, 1, 0, ""), (1, 2, 5, "hello"), (1, 3, -125, "")];
-        expect_completed(&rt, &report, 1, &completed);
-        expect_closed(&rt, &report, &[]);
-        assert!(rt; calls.were_started(&[2]));
-        expect_left(&rt, alloc, ring, &[opened(1, 1, 1, 0)]);
-    }
-    Ok(())
+    expect_played(
+        &rt,
+        alloc,
+        &PLAYERS,
+        Case {
+            slots: Slots::Empty(2),
+            requests: &requests,
+            completed: &[(1, 1, 0, ""), (1, 2, 5, "hello"), (1, 3, -125, "")],
+            started: &[2],
+            closed: &[],
+            left: &[opened(1, 1, 1, 0)],
+        },
+    )
 }
 
 #[test]
@@ -50,16 +52,19 @@ fn read_at_the_end_severs(rt: HostRuntime) -> Result<(), Fail> {
     for off in [5, 2_147_483_647] {
         let open = linked(open_at(alloc, "a.txt", 0)?);
         let requests = [open, linked(read(0, off, 1)), close(0)];
-        for players in PLAYERS {
-            let calls = Calls::new(alloc, &[3])?;
-            let mut ring = sparse_ring(&rt, alloc, 1)?;
-            let report = submit_with(&rt, alloc, &mut ring, &requests, players, &calls);
-            let completed = [(1, 1, 0, ""), (1, 2, 0, ""), (1, 3, -125, "")];
-            expect_completed(&rt, &report, 1, &completed);
-            expect_closed(&rt, &report, &[]);
-            assert!(rt; calls.were_started(&[2]));
-            expect_left(&rt, alloc, ring, &[opened(1, 1, 1, 0)]);
-        }
+        expect_played(
+            &rt,
+            alloc,
+            &PLAYERS,
+            Case {
+                slots: Slots::Empty(1),
+                requests: &requests,
+                completed: &[(1, 1, 0, ""), (1, 2, 0, ""), (1, 3, -125, "")],
+                started: &[2],
+                closed: &[],
+                left: &[opened(1, 1, 1, 0)],
+            },
+        )?;
     }
     Ok(())
 }
@@ -68,16 +73,19 @@ fn read_at_the_end_severs(rt: HostRuntime) -> Result<(), Fail> {
 fn read_of_no_bytes_severs_nothing(rt: HostRuntime) -> Result<(), Fail> {
     let alloc = rt.alloc();
     let requests = [linked(read(0, 2_147_483_647, 0)), close(0)];
-    for players in PLAYERS {
-        let calls = Calls::new(alloc, &[2])?;
-        let mut ring = full_ring(&rt, alloc, &[1])?;
-        let report = submit_with(&rt, alloc, &mut ring, &requests, players, &calls);
-        expect_completed(&rt, &report, 1, &[(1, 1, 0, ""), (1, 2, 0, "")]);
-        expect_closed(&rt, &report, &[registered(1, 0, 1)]);
-        assert!(rt; calls.were_started(&[2]));
-        expect_left(&rt, alloc, ring, &[]);
-    }
-    Ok(())
+    expect_played(
+        &rt,
+        alloc,
+        &PLAYERS,
+        Case {
+            slots: Slots::Full(&[1]),
+            requests: &requests,
+            completed: &[(1, 1, 0, ""), (1, 2, 0, "")],
+            started: &[2],
+            closed: &[registered(1, 0, 1)],
+            left: &[],
+        },
+    )
 }
 
 #[test]
@@ -97,16 +105,19 @@ fn close_of_an_empty_slot_severs(rt: HostRuntime) -> Result<(), Fail> {
         (1, 4, -125, ""),
         (1, 5, -125, ""),
     ];
-    for players in PLAYERS {
-        let calls = Calls::new(alloc, &[5])?;
-        let mut ring = sparse_ring(&rt, alloc, 1)?;
-        let report = submit_with(&rt, alloc, &mut ring, &requests, players, &calls);
-        expect_completed(&rt, &report, 1, &completed);
-        expect_closed(&rt, &report, &[opened(1, 1, 1, 0)]);
-        assert!(rt; calls.were_started(&[3]));
-        expect_left(&rt, alloc, ring, &[]);
-    }
-    Ok(())
+    expect_played(
+        &rt,
+        alloc,
+        &PLAYERS,
+        Case {
+            slots: Slots::Empty(1),
+            requests: &requests,
+            completed: &completed,
+            started: &[3],
+            closed: &[opened(1, 1, 1, 0)],
+            left: &[],
+        },
+    )
 }
 
 #[test]
@@ -134,21 +145,19 @@ fn other_chains_go_on(rt: HostRuntime) -> Result<(), Fail> {
         (3, 3, -125, ""),
         (4, 1, 1, "h"),
     ];
-    for players in PLAYERS {
-        let calls = Calls::new(alloc, &[2, 3, 3, 1])?;
-        let mut ring = full_ring(&rt, alloc, &[0, -1, -1, 0])?;
-        let report = submit_with(&rt, alloc, &mut ring, &requests, players, &calls);
-        expect_completed(&rt, &report, 1, &completed);
-        expect_closed(&rt, &report, &[opened(1, 2, 1, 1)]);
-        assert!(rt; calls.were_started(&[1, 3, 1, 1]));
-        expect_left(
-            &rt,
-            alloc,
-            ring,
-            &[registered(1, 0, 0), registered(1, 3, 0)],
-        );
-    }
-    Ok(())
+    expect_played(
+        &rt,
+        alloc,
+        &PLAYERS,
+        Case {
+            slots: Slots::Full(&[0, -1, -1, 0]),
+            requests: &requests,
+            completed: &completed,
+            started: &[1, 3, 1, 1],
+            closed: &[opened(1, 2, 1, 1)],
+            left: &[registered(1, 0, 0), registered(1, 3, 0)],
+        },
+    )
 }
 
 #[test]
@@ -193,12 +202,17 @@ fn files_are_replaced_in_a_chain(rt: HostRuntime) -> Result<(), Fail> {
         updated(1, 1, 1, 0, 1),
         opened(1, 1, 3, 0),
     ];
-    for players in PLAYERS {
-        let mut ring = full_ring(&rt, alloc, &[0])?;
-        let report = submit(&rt, alloc, &mut ring, &requests, players);
-        expect_completed(&rt, &report, 1, &completed);
-        expect_closed(&rt, &report, &closed);
-        expect_left(&rt, alloc, ring, &[opened(1, 1, 5, 1)]);
-    }
-    Ok(())
+    expect_played(
+        &rt,
+        alloc,
+        &PLAYERS,
+        Case {
+            slots: Slots::Full(&[0]),
+            requests: &requests,
+            completed: &completed,
+            started: &[6],
+            closed: &closed,
+            left: &[opened(1, 1, 5, 1)],
+        },
+    )
 }

@@ -1,7 +1,8 @@
 //! Links of both kinds: which member behind a failed one is started, of a submission and of a chain that is played by
 //! itself. The values were worked out by hand.
 use crate::setting::{
-    expect_closed, expect_completed, expect_left, full_ring, sparse_ring, submit_with,
+    Case, PLAYERS, Slots, close, expect_played, hard_linked, linked, open_at, opened, read,
+    registered, update,
 };
 use bitflags::Flags;
 use fx_base::{Catalogue, CloseList};
@@ -14,26 +15,25 @@ use std::alloc::Global;
 use std::process::Abort;
 use std::sync::Wait;
 use std::test::Fail;
-use test_setting::{
-    Calls, PLAYERS, close, hard_linked, linked, open_at, opened, read, registered, update,
-};
 
 #[test]
 fn short_read_by_a_hard_link_goes_on(rt: HostRuntime) -> Result<(), Fail> {
     let alloc = rt.alloc();
     let open = linked(open_at(alloc, "a.txt", 0)?);
     let requests = [open, hard_linked(read(0, 0, 6)), close(0)];
-    for players in PLAYERS {
-        let calls = Calls::new(alloc, &[3])?;
-        let mut ring = sparse_ring(&rt, alloc, 2)?;
-        let report = submit_with(&rt, alloc, &mut ring, &requests, players, &calls);
-        let completed = [(1, 1, 0, ""), (1, 2, 5, "hello"), (1, 3, 0, "")];
-        expect_completed(&rt, &report, 1, &completed);
-        expect_closed(&rt, &report, &[opened(1, 1, 1, 0)]);
-        assert!(rt; calls.were_started(&[3]));
-        expect_left(&rt, alloc, ring, &[]);
-    }
-    Ok(())
+    expect_played(
+        &rt,
+        alloc,
+        &PLAYERS,
+        Case {
+            slots: Slots::Empty(2),
+            requests: &requests,
+            completed: &[(1, 1, 0, ""), (1, 2, 5, "hello"), (1, 3, 0, "")],
+            started: &[3],
+            closed: &[opened(1, 1, 1, 0)],
+            left: &[],
+        },
+    )
 }
 
 #[test]
@@ -44,17 +44,19 @@ fn soft_link_behind_a_hard_one_severs(rt: HostRuntime) -> Result<(), Fail> {
         linked(read(0, 0, 1)),
         open_at(alloc, "a.txt", 0)?,
     ];
-    for players in PLAYERS {
-        let calls = Calls::new(alloc, &[3])?;
-        let mut ring = sparse_ring(&rt, alloc, 1)?;
-        let report = submit_with(&rt, alloc, &mut ring, &requests, players, &calls);
-        let completed = [(1, 1, -9, ""), (1, 2, -9, ""), (1, 3, -125, "")];
-        expect_completed(&rt, &report, 1, &completed);
-        expect_closed(&rt, &report, &[]);
-        assert!(rt; calls.were_started(&[2]));
-        expect_left(&rt, alloc, ring, &[]);
-    }
-    Ok(())
+    expect_played(
+        &rt,
+        alloc,
+        &PLAYERS,
+        Case {
+            slots: Slots::Empty(1),
+            requests: &requests,
+            completed: &[(1, 1, -9, ""), (1, 2, -9, ""), (1, 3, -125, "")],
+            started: &[2],
+            closed: &[],
+            left: &[],
+        },
+    )
 }
 
 #[test]
@@ -65,17 +67,19 @@ fn hard_link_does_not_begin_a_severed_chain_again(rt: HostRuntime) -> Result<(),
         hard_linked(close(0)),
         open_at(alloc, "a.txt", 0)?,
     ];
-    for players in PLAYERS {
-        let calls = Calls::new(alloc, &[3])?;
-        let mut ring = sparse_ring(&rt, alloc, 1)?;
-        let report = submit_with(&rt, alloc, &mut ring, &requests, players, &calls);
-        let completed = [(1, 1, -9, ""), (1, 2, -125, ""), (1, 3, -125, "")];
-        expect_completed(&rt, &report, 1, &completed);
-        expect_closed(&rt, &report, &[]);
-        assert!(rt; calls.were_started(&[1]));
-        expect_left(&rt, alloc, ring, &[]);
-    }
-    Ok(())
+    expect_played(
+        &rt,
+        alloc,
+        &PLAYERS,
+        Case {
+            slots: Slots::Empty(1),
+            requests: &requests,
+            completed: &[(1, 1, -9, ""), (1, 2, -125, ""), (1, 3, -125, "")],
+            started: &[1],
+            closed: &[],
+            left: &[],
+        },
+    )
 }
 
 #[test]
@@ -86,17 +90,19 @@ fn hard_links_begin_one_chain_and_end_with_the_submission(rt: HostRuntime) -> Re
         close(1),
         hard_linked(close(0)),
     ];
-    for players in PLAYERS {
-        let calls = Calls::new(alloc, &[2, 1])?;
-        let mut ring = full_ring(&rt, alloc, &[0, -1])?;
-        let report = submit_with(&rt, alloc, &mut ring, &requests, players, &calls);
-        let completed = [(1, 1, -9, ""), (1, 2, -9, ""), (2, 1, 0, "")];
-        expect_completed(&rt, &report, 1, &completed);
-        expect_closed(&rt, &report, &[registered(1, 0, 0)]);
-        assert!(rt; calls.were_started(&[2, 1]));
-        expect_left(&rt, alloc, ring, &[]);
-    }
-    Ok(())
+    expect_played(
+        &rt,
+        alloc,
+        &PLAYERS,
+        Case {
+            slots: Slots::Full(&[0, -1]),
+            requests: &requests,
+            completed: &[(1, 1, -9, ""), (1, 2, -9, ""), (2, 1, 0, "")],
+            started: &[2, 1],
+            closed: &[registered(1, 0, 0)],
+            left: &[],
+        },
+    )
 }
 
 // What two closes of an empty slot answer as one chain, the first of them by these flags.

@@ -1,5 +1,8 @@
 //! Submissions that are refused, each with its fault and its place, and the ring that is then as it was.
-use crate::setting::{expect_as_before, expect_left, full_ring, ring_before_refusal, submit};
+use crate::setting::{
+    Calls, Players, TABLES, Table, close, expect_as_before, expect_left, full_ring, linked,
+    open_at, read, registered, ring_before_refusal, submit, try_submit, update,
+};
 use fx_chain::{CutFault, CutKind, OpenGate, Request};
 use fx_ring::{Ring, SubmitFault};
 use std::alloc::{AllocError, Global};
@@ -7,9 +10,6 @@ use std::process::Abort;
 use std::sync::Wait;
 use std::test::Fail;
 use std::thread::Threads;
-use test_setting::{
-    Calls, Players, TABLES, Table, close, linked, open_at, read, registered, try_submit, update,
-};
 
 // The ring refuses the requests, and the gate is never called.
 fn expect_refused<R: Threads + Wait + Abort + Sync>(
@@ -20,7 +20,7 @@ fn expect_refused<R: Threads + Wait + Abort + Sync>(
     fault: SubmitFault,
 ) -> Result<(), Fail> {
     for table in TABLES {
-        let calls = Calls::new(alloc, &[])?;
+        let calls = Calls::new(alloc, 1, 0)?;
         let mut ring = ring_before_refusal(rt, alloc)?;
         match try_submit(rt, alloc, &mut ring, requests, (table, workers), &calls) {
             Ok(_report) => panic!(rt; "a refusal"),

@@ -6,7 +6,10 @@ ghost use Rattle.fx_table.specs.Closing.{ClosesTable};
 ghost use Rattle.fx_baton.specs.Passes.{view_of};
 ghost use Rattle.fx_baton.specs.Tables.{opening_of_table, IsPassOfTable};
 
-use crate::setting::{expect_as_before, expect_left, full_ring, ring_before_refusal};
+use crate::setting::{
+    Calls, Table, close, expect_as_before, expect_left, full_ring, length_at, open_any, read,
+    reads, registered, ring_before_refusal,
+};
 use fx_base::{NoMemory, OpenFile};
 use fx_baton::{BatonPass, BatonTable};
 use fx_chain::{OpenGate, Request};
@@ -18,7 +21,6 @@ use std::process::Abort;
 use std::sync::Wait;
 use std::test::Fail;
 use std::thread::Threads;
-use test_setting::{Calls, Table, close, length_at, open_any, read, reads, registered};
 
 // A table guarded by one word, but for `open`: it refuses memory, unless it is asked for so many passes.
 struct OnlyFor<const PASSES: u32> {
@@ -135,7 +137,7 @@ fn expect_no_memory<R: Threads + Wait + Abort + Sync>(
     requests: &[Request],
     workers: u32,
 ) -> Result<(), Fail> {
-    let calls = Calls::new(alloc, &[])?;
+    let calls = Calls::new(alloc, 1, 0)?;
     let mut ring = ring_before_refusal(rt, alloc)?;
     for _ in 0..2 {
         match ring.submit::<OnlyFor<0>, Calls>(rt, alloc, requests, workers, &calls) {

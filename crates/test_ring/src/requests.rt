@@ -1,31 +1,11 @@
 //! What each kind of request answers, by itself and on any number of workers; where that depends on the order of chains,
 //! on one worker, which plays them in their order. The values were worked out by hand.
 use crate::setting::{
-    expect_closed, expect_completed, expect_left, full_ring, sparse_ring, submit,
+    ALONE, Case, PLAYERS, Slots, TABLES, close, expect_closed, expect_completed, expect_left,
+    expect_played, full_ring, linked, open_any, open_at, opened, read, registered, sparse_ring,
+    submit, update, updated,
 };
 use std::test::Fail;
-use test_setting::{
-    PLAYERS, TABLES, close, linked, open_any, open_at, opened, read, registered, ring_of_two_files,
-    update, updated,
-};
-
-#[test]
-fn open_read_close(rt: HostRuntime) -> Result<(), Fail> {
-    let alloc = rt.alloc();
-    let open = linked(open_at(alloc, "a.txt", 0)?);
-    let requests = [open, linked(read(0, 0, 5)), close(0)];
-    for players in PLAYERS {
-        let mut ring = sparse_ring(&rt, alloc, 2)?;
-        let report = submit(&rt, alloc, &mut ring, &requests, players);
-        let completed = [(1, 1, 0, ""), (1, 2, 5, "hello"), (1, 3, 0, "")];
-        expect_completed(&rt, &report, 1, &completed);
-        expect_closed(&rt, &report, &[opened(1, 1, 1, 0)]);
-        assert!(rt; (ring.submissions(), ring.registrations()) == (1, 0));
-        assert!(rt; (ring.size(), ring.range()) == (2, (0, 2)));
-        expect_left(&rt, alloc, ring, &[]);
-    }
-    Ok(())
-}
 
 #[test]
 fn empty_submission_is_counted(rt: HostRuntime) -> Result<(), Fail> {
@@ -47,28 +27,38 @@ fn empty_submission_is_counted(rt: HostRuntime) -> Result<(), Fail> {
 fn open_at_a_slot_past_the_end(rt: HostRuntime) -> Result<(), Fail> {
     let alloc = rt.alloc();
     let requests = [open_at(alloc, "a.txt", 2)?, open_at(alloc, "a.txt", 1)?];
-    for players in PLAYERS {
-        let mut ring = sparse_ring(&rt, alloc, 2)?;
-        let report = submit(&rt, alloc, &mut ring, &requests, players);
-        expect_completed(&rt, &report, 1, &[(1, 1, -22, ""), (2, 1, 0, "")]);
-        expect_closed(&rt, &report, &[]);
-        expect_left(&rt, alloc, ring, &[opened(1, 2, 1, 0)]);
-    }
-    Ok(())
+    expect_played(
+        &rt,
+        alloc,
+        &PLAYERS,
+        Case {
+            slots: Slots::Empty(2),
+            requests: &requests,
+            completed: &[(1, 1, -22, ""), (2, 1, 0, "")],
+            started: &[1, 1],
+            closed: &[],
+            left: &[opened(1, 2, 1, 0)],
+        },
+    )
 }
 
 #[test]
 fn no_such_name_before_bad_slot(rt: HostRuntime) -> Result<(), Fail> {
     let alloc = rt.alloc();
     let requests = [open_at(alloc, "c.txt", 9)?, close(1)];
-    for players in PLAYERS {
-        let mut ring = sparse_ring(&rt, alloc, 1)?;
-        let report = submit(&rt, alloc, &mut ring, &requests, players);
-        expect_completed(&rt, &report, 1, &[(1, 1, -2, ""), (2, 1, -22, "")]);
-        expect_closed(&rt, &report, &[]);
-        expect_left(&rt, alloc, ring, &[]);
-    }
-    Ok(())
+    expect_played(
+        &rt,
+        alloc,
+        &PLAYERS,
+        Case {
+            slots: Slots::Empty(1),
+            requests: &requests,
+            completed: &[(1, 1, -2, ""), (2, 1, -22, "")],
+            started: &[1, 1],
+            closed: &[],
+            left: &[],
+        },
+    )
 }
 
 #[test]
@@ -88,15 +78,19 @@ fn without_a_table_each_request_answers_its_own_error(rt: HostRuntime) -> Result
         (4, 1, -6, ""),
         (5, 1, -6, ""),
     ];
-    for players in PLAYERS {
-        let mut ring = ring_of_two_files(alloc)?;
-        let report = submit(&rt, alloc, &mut ring, &requests, players);
-        expect_completed(&rt, &report, 1, &completed);
-        expect_closed(&rt, &report, &[]);
-        assert!(rt; (ring.size(), ring.range()) == (0, (0, 0)));
-        expect_left(&rt, alloc, ring, &[]);
-    }
-    Ok(())
+    expect_played(
+        &rt,
+        alloc,
+        &PLAYERS,
+        Case {
+            slots: Slots::None,
+            requests: &requests,
+            completed: &completed,
+            started: &[1, 1, 1, 1, 1],
+            closed: &[],
+            left: &[],
+        },
+    )
 }
 
 #[test]
@@ -145,14 +139,19 @@ fn read_of_an_empty_slot(rt: HostRuntime) -> Result<(), Fail> {
     let open = linked(open_at(alloc, "a.txt", 0)?);
     let requests = [read(0, 0, 0), open, linked(read(0, 0, 0)), close(0)];
     let completed = [(1, 1, -9, ""), (2, 1, 0, ""), (2, 2, 0, ""), (2, 3, 0, "")];
-    for table in TABLES {
-        let mut ring = sparse_ring(&rt, alloc, 1)?;
-        let report = submit(&rt, alloc, &mut ring, &requests, (table, 1));
-        expect_completed(&rt, &report, 1, &completed);
-        expect_closed(&rt, &report, &[opened(1, 2, 1, 0)]);
-        expect_left(&rt, alloc, ring, &[]);
-    }
-    Ok(())
+    expect_played(
+        &rt,
+        alloc,
+        &ALONE,
+        Case {
+            slots: Slots::Empty(1),
+            requests: &requests,
+            completed: &completed,
+            started: &[1, 3],
+            closed: &[opened(1, 2, 1, 0)],
+            left: &[],
+        },
+    )
 }
 
 #[test]
@@ -178,19 +177,19 @@ fn read_gives_what_is_there_from_its_offset(rt: HostRuntime) -> Result<(), Fail>
         (7, 1, 2, "hi"),
         (8, 1, -9, ""),
     ];
-    for players in PLAYERS {
-        let mut ring = full_ring(&rt, alloc, &[0, 1])?;
-        let report = submit(&rt, alloc, &mut ring, &requests, players);
-        expect_completed(&rt, &report, 1, &completed);
-        expect_closed(&rt, &report, &[]);
-        expect_left(
-            &rt,
-            alloc,
-            ring,
-            &[registered(1, 0, 0), registered(1, 1, 1)],
-        );
-    }
-    Ok(())
+    expect_played(
+        &rt,
+        alloc,
+        &PLAYERS,
+        Case {
+            slots: Slots::Full(&[0, 1]),
+            requests: &requests,
+            completed: &completed,
+            started: &[1, 1, 1, 1, 1, 1, 1, 1],
+            closed: &[],
+            left: &[registered(1, 0, 0), registered(1, 1, 1)],
+        },
+    )
 }
 
 #[test]
@@ -244,26 +243,36 @@ fn update_is_refused_whole(rt: HostRuntime) -> Result<(), Fail> {
         registered(1, 1, 0),
         registered(1, 2, 0),
     ];
-    for players in PLAYERS {
-        let mut ring = full_ring(&rt, alloc, &[0, 0, 0])?;
-        let report = submit(&rt, alloc, &mut ring, &requests, players);
-        expect_completed(&rt, &report, 1, &completed);
-        expect_closed(&rt, &report, &[]);
-        expect_left(&rt, alloc, ring, &left);
-    }
-    Ok(())
+    expect_played(
+        &rt,
+        alloc,
+        &PLAYERS,
+        Case {
+            slots: Slots::Full(&[0, 0, 0]),
+            requests: &requests,
+            completed: &completed,
+            started: &[1, 1, 1, 1, 1, 1],
+            closed: &[],
+            left: &left,
+        },
+    )
 }
 
 #[test]
 fn update_replaces_a_registered_file(rt: HostRuntime) -> Result<(), Fail> {
     let alloc = rt.alloc();
     let requests = [linked(update(alloc, 0, &[1])?), read(0, 0, 2)];
-    for players in PLAYERS {
-        let mut ring = full_ring(&rt, alloc, &[0])?;
-        let report = submit(&rt, alloc, &mut ring, &requests, players);
-        expect_completed(&rt, &report, 1, &[(1, 1, 1, ""), (1, 2, 2, "hi")]);
-        expect_closed(&rt, &report, &[registered(1, 0, 0)]);
-        expect_left(&rt, alloc, ring, &[updated(1, 1, 1, 0, 1)]);
-    }
-    Ok(())
+    expect_played(
+        &rt,
+        alloc,
+        &PLAYERS,
+        Case {
+            slots: Slots::Full(&[0]),
+            requests: &requests,
+            completed: &[(1, 1, 1, ""), (1, 2, 2, "hi")],
+            started: &[2],
+            closed: &[registered(1, 0, 0)],
+            left: &[updated(1, 1, 1, 0, 1)],
+        },
+    )
 }

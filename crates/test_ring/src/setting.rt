@@ -1,15 +1,24 @@
-//! What a report must say. Memory is ample: where a call is refused for want of it, the test fails.
+//! What the tests share: requests, rings, who plays them, a gate that notes its calls, and what a report must say. Memory
+//! is ample: where a call is refused for want of it, the test fails.
+mod calls;
+mod marks;
+mod requests;
+mod rings;
+mod sizes;
+
+pub(crate) use calls::Calls;
 use fx_base::Closed;
 use fx_chain::{Gate, OpenGate, Place, Request};
 use fx_ring::{Report, Ring};
+pub(crate) use marks::{opened, registered, tagged, updated};
+pub(crate) use requests::{close, hard_linked, linked, open_any, open_at, read, update};
+pub(crate) use rings::{ALONE, PLAYERS, Players, TABLES, Table, ring_of_two_files, try_submit};
+pub(crate) use sizes::{length_at, reads, sizes_to};
 use std::alloc::Global;
 use std::process::Abort;
 use std::sync::Wait;
 use std::test::Fail;
 use std::thread::Threads;
-use test_setting::{
-    Players, Table, open_any, opened, read, registered, ring_of_two_files, try_submit,
-};
 
 /// The ring of two files with a table of so many empty slots.
 pub(crate) fn sparse_ring<R: Abort>(rt: &R, alloc: Global, slots: u32) -> Result<Ring, Fail> {
@@ -25,27 +34,11 @@ pub(crate) fn full_ring<R: Abort>(rt: &R, alloc: Global, list: &[i32]) -> Result
     Ok(ring)
 }
 
-/// The same with tags.
-pub(crate) fn tagged_ring<R: Abort>(
-    rt: &R,
-    alloc: Global,
-    list: &[i32],
-    tags: &[u64],
-) -> Result<Ring, Fail> {
+// The same with tags.
+fn tagged_ring<R: Abort>(rt: &R, alloc: Global, list: &[i32], tags: &[u64]) -> Result<Ring, Fail> {
     let mut ring = ring_of_two_files(alloc)?;
     assert!(rt; ring.register_tagged(alloc, list, tags) == Ok(()));
     Ok(ring)
-}
-
-/// The report's closes give these tags, in their order.
-pub(crate) fn expect_tags<R: Abort>(rt: &R, alloc: Global, report: &Report, tags: &[u64]) {
-    let Ok(given) = report.closes.tags(alloc) else {
-        panic!(rt; "completions")
-    };
-    assert!(rt; given.len() == tags.len());
-    for (completion, tag) in given.iter().zip(tags) {
-        assert!(rt; completion.user_data == *tag);
-    }
 }
 
 /// Submits requests, which are accepted.
@@ -105,6 +98,22 @@ pub(crate) fn expect_closed<R: Abort>(rt: &R, report: &Report, files: &[Closed])
     assert!(rt; report.closes.files() == files);
 }
 
+// The report tells the tags of these files that have one, in their order.
+fn expect_tags<R: Abort>(rt: &R, alloc: Global, report: &Report, files: &[Closed]) {
+    let Ok(told) = report.closes.tags(alloc) else {
+        panic!(rt; "completions")
+    };
+    let mut count: usize = 0;
+    for file in files {
+        if file.tag != 0 {
+            let tag = file.tag;
+            assert!(rt; matches!(told.get(count), Some(completion) if completion.user_data == tag));
+            count = count.wrapping_add(1);
+        }
+    }
+    assert!(rt; told.len() == count);
+}
+
 /// Ends the ring, which has these files.
 pub(crate) fn expect_left<R: Abort>(rt: &R, alloc: Global, ring: Ring, files: &[Closed]) {
     match ring.tear_down(alloc) {
@@ -114,6 +123,67 @@ pub(crate) fn expect_left<R: Abort>(rt: &R, alloc: Global, ring: Ring, files: &[
             panic!(rt; "a list of closes")
         }
     }
+}
+
+/// What a table has at first.
+#[derive(Clone, Copy)]
+pub(crate) enum Slots<'a> {
+    /// There is no table.
+    None,
+    /// So many empty slots.
+    Empty(u32),
+    /// The files of a list.
+    Full(&'a [i32]),
+    /// The same with tags.
+    Tagged(&'a [i32], &'a [u64]),
+}
+
+/// The first submission to a ring of two files, and what comes of it.
+#[derive(Clone, Copy)]
+pub(crate) struct Case<'a> {
+    pub(crate) slots: Slots<'a>,
+    pub(crate) requests: &'a [Request],
+    /// Each completion's chain, member, result and bytes.
+    pub(crate) completed: &'a [(u32, u32, i32, &'a str)],
+    /// How many members of each chain are started.
+    pub(crate) started: &'a [u32],
+    /// The files that are closed, with the tags that are told.
+    pub(crate) closed: &'a [Closed],
+    /// The files that are left.
+    pub(crate) left: &'a [Closed],
+}
+
+// The ring of two files with such a table.
+fn ring_of<R: Abort>(rt: &R, alloc: Global, slots: Slots) -> Result<Ring, Fail> {
+    match slots {
+        Slots::None => Ok(ring_of_two_files(alloc)?),
+        Slots::Empty(size) => sparse_ring(rt, alloc, size),
+        Slots::Full(list) => full_ring(rt, alloc, list),
+        Slots::Tagged(list, tags) => tagged_ring(rt, alloc, list, tags),
+    }
+}
+
+/// Plays the submission by each of these, and wants what is to come of it: the table stays as large as it is, and its range.
+pub(crate) fn expect_played<R: Threads + Wait + Abort + Sync>(
+    rt: &R,
+    alloc: Global,
+    players: &[Players],
+    case: Case,
+) -> Result<(), Fail> {
+    for players in players {
+        let calls = Calls::new(alloc, 1, case.started.len())?;
+        let mut ring = ring_of(rt, alloc, case.slots)?;
+        let before = (ring.size(), ring.range(), ring.registrations());
+        let report = submit_with(rt, alloc, &mut ring, case.requests, *players, &calls);
+        expect_completed(rt, &report, 1, case.completed);
+        expect_closed(rt, &report, case.closed);
+        expect_tags(rt, alloc, &report, case.closed);
+        assert!(rt; calls.were_started(case.started));
+        assert!(rt; ring.submissions() == 1);
+        assert!(rt; (ring.size(), ring.range(), ring.registrations()) == before);
+        expect_left(rt, alloc, ring, case.left);
+    }
+    Ok(())
 }
 
 /// The ring of a submission that is to be refused: `a.txt` is at slot 0 of two, and slot 1 is the allocation range.

@@ -1,9 +1,9 @@
 //! Resource tags through submissions: each is told with the close of its file, and once. The values were worked out by hand.
 use crate::setting::{
-    expect_closed, expect_completed, expect_left, expect_tags, submit, tagged_ring,
+    Case, PLAYERS, Slots, close, expect_played, linked, open_at, opened, read, tagged, update,
+    updated,
 };
 use std::test::Fail;
-use test_setting::{PLAYERS, close, linked, open_at, opened, read, tagged, update, updated};
 
 #[test]
 fn tagged_files_leave_in_each_way(rt: HostRuntime) -> Result<(), Fail> {
@@ -21,20 +21,23 @@ fn tagged_files_leave_in_each_way(rt: HostRuntime) -> Result<(), Fail> {
         tagged(1, 2, 0, 20),
         tagged(1, 3, 0, 10),
     ];
-    for players in PLAYERS {
-        let mut ring = tagged_ring(&rt, alloc, &[0, 0, 0, 0, 0], &[40, 30, 20, 10, 5])?;
-        let report = submit(&rt, alloc, &mut ring, &requests, players);
-        expect_completed(&rt, &report, 1, &completed);
-        expect_closed(&rt, &report, &closed);
-        expect_tags(&rt, alloc, &report, &[40, 30, 20, 10]);
-        let left = [
-            tagged(1, 4, 0, 5),
-            opened(1, 1, 1, 1),
-            updated(1, 2, 1, 0, 1),
-        ];
-        expect_left(&rt, alloc, ring, &left);
-    }
-    Ok(())
+    expect_played(
+        &rt,
+        alloc,
+        &PLAYERS,
+        Case {
+            slots: Slots::Tagged(&[0, 0, 0, 0, 0], &[40, 30, 20, 10, 5]),
+            requests: &requests,
+            completed: &completed,
+            started: &[1, 1, 1, 1],
+            closed: &closed,
+            left: &[
+                tagged(1, 4, 0, 5),
+                opened(1, 1, 1, 1),
+                updated(1, 2, 1, 0, 1),
+            ],
+        },
+    )
 }
 
 #[test]
@@ -52,28 +55,36 @@ fn no_tag_without_a_close(rt: HostRuntime) -> Result<(), Fail> {
         (1, 3, -9, ""),
         (1, 4, -125, ""),
     ];
-    for players in PLAYERS {
-        let mut ring = tagged_ring(&rt, alloc, &[0, 0, 1], &[7, 0, 8])?;
-        let report = submit(&rt, alloc, &mut ring, &requests, players);
-        expect_completed(&rt, &report, 1, &completed);
-        expect_closed(&rt, &report, &[tagged(1, 1, 0, 0)]);
-        expect_tags(&rt, alloc, &report, &[]);
-        expect_left(&rt, alloc, ring, &[tagged(1, 0, 0, 7), tagged(1, 2, 1, 8)]);
-    }
-    Ok(())
+    expect_played(
+        &rt,
+        alloc,
+        &PLAYERS,
+        Case {
+            slots: Slots::Tagged(&[0, 0, 1], &[7, 0, 8]),
+            requests: &requests,
+            completed: &completed,
+            started: &[3],
+            closed: &[tagged(1, 1, 0, 0)],
+            left: &[tagged(1, 0, 0, 7), tagged(1, 2, 1, 8)],
+        },
+    )
 }
 
 #[test]
 fn one_tag_of_two_files_is_told_twice(rt: HostRuntime) -> Result<(), Fail> {
     let alloc = rt.alloc();
     let requests = [close(0), close(1)];
-    for players in PLAYERS {
-        let mut ring = tagged_ring(&rt, alloc, &[0, 1], &[9, 9])?;
-        let report = submit(&rt, alloc, &mut ring, &requests, players);
-        expect_completed(&rt, &report, 1, &[(1, 1, 0, ""), (2, 1, 0, "")]);
-        expect_closed(&rt, &report, &[tagged(1, 0, 0, 9), tagged(1, 1, 1, 9)]);
-        expect_tags(&rt, alloc, &report, &[9, 9]);
-        expect_left(&rt, alloc, ring, &[]);
-    }
-    Ok(())
+    expect_played(
+        &rt,
+        alloc,
+        &PLAYERS,
+        Case {
+            slots: Slots::Tagged(&[0, 1], &[9, 9]),
+            requests: &requests,
+            completed: &[(1, 1, 0, ""), (2, 1, 0, "")],
+            started: &[1, 1],
+            closed: &[tagged(1, 0, 0, 9), tagged(1, 1, 1, 9)],
+            left: &[],
+        },
+    )
 }

@@ -1,12 +1,11 @@
 //! Tables, lists and updates of every size, and as many files that are closed. No clause says that memory is left, and so
 //! a call that gives up at some sizes would be proved as well.
-use crate::setting::{expect_left, full_ring};
+use crate::setting::{expect_left, full_ring, registered, ring_of_two_files};
 use fx_base::{CloseList, Closed, Errno};
 use fx_ring::Ring;
 use std::alloc::{AllocError, Global};
 use std::process::Abort;
 use std::test::Fail;
-use test_setting::{registered, ring_of_two_files};
 
 fn list_of(alloc: Global, number: i32, count: u32) -> Result<Vec<i32>, AllocError> {
     let mut list = Vec::new(alloc);

@@ -1,6 +1,9 @@
 //! The gate stands where it says: in front of each request that starts, and behind its completion, for each member of
 //! each chain of each submission. What a request did to the table is seen from another chain while the gate holds it.
-use crate::setting::{expect_closed, expect_left, sparse_ring, submit_with};
+use crate::setting::{
+    Calls, Players, TABLES, expect_closed, expect_left, linked, open_at, opened, sparse_ring,
+    submit_with, update,
+};
 use fx_base::Closed;
 use fx_chain::{Completion, Gate, Place, Request};
 use fx_ring::Ring;
@@ -11,7 +14,6 @@ use std::sync::atomic::{AtomicBool, AtomicU32, Ordering};
 use std::test::Fail;
 use std::thread;
 use std::thread::Threads;
-use test_setting::{Calls, Players, TABLES, linked, open_at, opened, update};
 
 // A submission has 20 chains of 16 members, in pairs. The first chain of a pair opens files at slots of its own, and the
 // second one removes them, all but the last.
@@ -41,7 +43,7 @@ impl Watch {
     // A gate of this submission.
     fn new(alloc: Global, submission: u32) -> Result<Watch, AllocError> {
         Ok(Watch {
-            calls: Calls::of(alloc, submission, &[MEMBERS; 20])?,
+            calls: Calls::new(alloc, submission, 20)?,
             opened: AtomicU32::new(0),
             removed: AtomicU32::new(0),
             is_late: AtomicBool::new(false),
@@ -205,8 +207,8 @@ fn gate_is_called_for_each_member(rt: HostRuntime) -> Result<(), Fail> {
     let requests = pairs_of_chains(alloc)?;
     for table in TABLES {
         for workers in 1..17 {
-            let first = Calls::of(alloc, 1, &[MEMBERS; 20])?;
-            let second = Calls::of(alloc, 2, &[MEMBERS; 20])?;
+            let first = Calls::new(alloc, 1, 20)?;
+            let second = Calls::new(alloc, 2, 20)?;
             let mut ring = sparse_ring(&rt, alloc, PAIRS * MEMBERS)?;
             for calls in [&first, &second] {
                 let players = (table, workers);

@@ -1,12 +1,11 @@
 //! Reads of every length, of files of every length, and the memory that their bytes take.
-use crate::setting::{expect_left, submit};
+use crate::setting::{TABLES, expect_left, linked, read, registered, sizes_to, submit};
 use fx_base::Catalogue;
 use fx_chain::{Completion, LONGEST_READ, Place};
 use fx_ring::Ring;
 use std::alloc::{AllocError, Global};
 use std::process::Abort;
 use std::test::Fail;
-use test_setting::{TABLES, linked, read, registered, sizes_to};
 
 // The bytes of a file of so many.
 fn bytes_of(alloc: Global, size: u32) -> Result<Vec<u8>, AllocError> {

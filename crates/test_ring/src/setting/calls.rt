@@ -3,6 +3,9 @@ use fx_chain::{Gate, Place};
 use std::alloc::{AllocError, Global};
 use std::sync::atomic::{AtomicU32, Ordering};
 
+// How many members of a chain are noted: the most that one has.
+const MOST_MEMBERS: u32 = 16;
+
 // The gate's calls for a member of a chain: how often each was called, and as which call of the gate, from 1.
 #[derive(Drop)]
 struct Noted {
@@ -49,17 +52,12 @@ fn is_played(chain: &[Noted], count: u32) -> bool {
 }
 
 impl Calls {
-    /// A gate of the first submission, whose chains have so many members each.
-    pub fn new(alloc: Global, members: &[u32]) -> Result<Calls, AllocError> {
-        Calls::of(alloc, 1, members)
-    }
-
-    /// A gate of a submission, whose chains have so many members each.
-    pub fn of(alloc: Global, submission: u32, members: &[u32]) -> Result<Calls, AllocError> {
-        let mut chains = Vec::new(alloc);
-        for count in members {
+    /// A gate of a submission of so many chains.
+    pub fn new(alloc: Global, submission: u32, chains: usize) -> Result<Calls, AllocError> {
+        let mut list = Vec::new(alloc);
+        for _ in 0..chains {
             let mut chain = Vec::new(alloc);
-            for _ in 0..*count {
+            for _ in 0..MOST_MEMBERS {
                 chain.push(Noted {
                     before: AtomicU32::new(0),
                     before_at: AtomicU32::new(0),
@@ -67,11 +65,11 @@ impl Calls {
                     after_at: AtomicU32::new(0),
                 })?;
             }
-            chains.push(chain)?;
+            list.push(chain)?;
         }
         Ok(Calls {
             submission,
-            chains,
+            chains: list,
             made: AtomicU32::new(0),
             elsewhere: AtomicU32::new(0),
         })
@@ -85,8 +83,8 @@ impl Calls {
         chain.get((place.member as usize).checked_sub(1)?)
     }
 
-    /// Whether the first so many members of each chain were started: the gate was called once in front of each and once
-    /// behind it, in their order. For the others it was never called.
+    /// Whether the first so many members of each chain were started, and no others: the gate was called once in front of
+    /// each of them and once behind it, in their order.
     pub fn were_started(&self, started: &[u32]) -> bool {
         if self.elsewhere.load(Ordering::SeqCst) != 0 || self.chains.len() != started.len() {
             return false;

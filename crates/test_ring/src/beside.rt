@@ -1,7 +1,8 @@
 //! Threads that really run at the same time: a gate holds a chain until other chains have come as far. No clause says
 //! that two threads ran, so that a player of all chains on one thread would be proved as well.
 use crate::setting::{
-    expect_closed, expect_completed, expect_left, full_ring, sparse_ring, submit_with,
+    Players, TABLES, close, expect_closed, expect_completed, expect_left, full_ring, linked,
+    open_at, opened, read, registered, sparse_ring, submit_with,
 };
 use fx_chain::{Gate, Place, Request};
 use std::alloc::{AllocError, Global};
@@ -11,7 +12,6 @@ use std::sync::atomic::{AtomicBool, AtomicU32, Ordering};
 use std::test::Fail;
 use std::thread;
 use std::thread::Threads;
-use test_setting::{Players, TABLES, close, linked, open_at, opened, read, registered};
 
 // How many turns a chain waits for the others.
 const MOST_TURNS: u32 = 50_000_000;

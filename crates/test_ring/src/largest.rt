@@ -1,9 +1,9 @@
 //! The largest submissions, on any number of workers: what each request answers is the same in whichever order the
 //! chains are played, and every file that was installed is closed or left in the table, once.
 ghost use Rattle.std.specs.Prelude.{◌≡◌, ◌≤◌, ◌<◌};
-ghost use Rattle.test_workers.specs.declared.largest.TheConstants.{CHAINS, MEMBERS};
+ghost use Rattle.test_ring.specs.declared.largest.TheConstants.{CHAINS, MEMBERS};
 
-use crate::setting::submit;
+use crate::setting::{Players, TABLES, linked, open_at, read, submit, update};
 use fx_base::{Catalogue, CloseList, Closed, Mark};
 use fx_chain::{Completion, Place, Request};
 use fx_ring::Ring;
@@ -12,7 +12,6 @@ use std::process::Abort;
 use std::sync::Wait;
 use std::test::Fail;
 use std::thread::Threads;
-use test_setting::{Players, TABLES, linked, open_at, read, update};
 
 const CHAINS: u32 = 1023;
 

@@ -35,6 +35,9 @@ pub const PLAYERS: [Players; 8] = [
     (Table::Baton, 16),
 ];
 
+/// One worker over each table, which plays the chains in their order.
+pub const ALONE: [Players; 2] = [(Table::Words, 1), (Table::Baton, 1)];
+
 /// A ring without a table. Entry 0 of its catalogue is `a.txt`, with the bytes `hello`, and entry 1 is `b.txt`, with `hi`.
 pub fn ring_of_two_files(alloc: Global) -> Result<Ring, AllocError> {
     let mut catalogue = Catalogue::new(alloc);

@@ -1,12 +1,14 @@
 //! Submissions of every size, by every number of workers.
-use crate::setting::{expect_closed, expect_left, full_ring, submit};
+use crate::setting::{
+    Players, TABLES, expect_closed, expect_left, full_ring, length_at, reads, registered, sizes_to,
+    submit,
+};
 use fx_chain::{Chain, Completion, Place, Request, check, cut};
 use std::alloc::Global;
 use std::process::Abort;
 use std::sync::Wait;
 use std::test::Fail;
 use std::thread::Threads;
-use test_setting::{Players, TABLES, length_at, reads, registered, sizes_to};
 
 // The request at this place, which so many stand in front of, has read as many bytes of `hello` as it asked for.
 fn expect_read<R: Abort>(rt: &R, completion: &Completion, at: usize, chain: u32, member: u32) {

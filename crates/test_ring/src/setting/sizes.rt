@@ -1,7 +1,7 @@
 //! The sizes at which a call is tried, and submissions of every size.
 ghost use Rattle.std.specs.Prelude.{◌<◌};
 
-use crate::requests::{linked, read};
+use crate::setting::{linked, read};
 use fx_chain::Request;
 use std::alloc::{AllocError, Global};
 
