@@ -35,15 +35,9 @@ fn numbers_of_workers(rt: HostRuntime) -> Result<(), Fail> {
 #[test]
 fn names_of_tables(rt: HostRuntime) -> Result<(), Fail> {
     let alloc = rt.alloc();
-    assert_eq!(rt; settings_in(alloc, &["fixfiles"])?.table, Table::Words);
-    assert_eq!(rt;
-        settings_in(alloc, &["fixfiles", "--table", "words"])?.table,
-        Table::Words
-    );
-    assert_eq!(rt;
-        settings_in(alloc, &["fixfiles", "--table=baton"])?.table,
-        Table::Baton
-    );
+    assert!(rt; settings_in(alloc, &["fixfiles"])?.table == Table::Words);
+    assert!(rt; settings_in(alloc, &["fixfiles", "--table", "words"])?.table == Table::Words);
+    assert!(rt; settings_in(alloc, &["fixfiles", "--table=baton"])?.table == Table::Baton);
     Ok(())
 }
 

@@ -116,11 +116,8 @@ fn a_reader_that_fails_behind_a_bad_line(rt: HostRuntime) -> Result<(), Fail> {
         kind: ErrorKind::ConnectionReset,
     };
     let mut written = Vec::new(rt.alloc());
-    assert_eq!(rt;
-        ended(&rt, rt.alloc(), &mut reader, &mut written),
-        Err(PlayFault::Read)
-    );
-    assert_eq!(rt; written.len(), 0);
+    assert!(rt; ended(&rt, rt.alloc(), &mut reader, &mut written) == Err(PlayFault::Read));
+    assert!(rt; written.len() == 0);
     Ok(())
 }
 
@@ -133,9 +130,9 @@ fn ends_behind<R: Threads + Wait + Abort + Sync>(
 ) {
     let mut reader = EmptyLines(lines);
     let mut written = Vec::new(alloc);
-    assert_eq!(rt; ended(rt, alloc, &mut reader, &mut written), Err(fault));
-    assert_eq!(rt; reader.0, 0);
-    assert_eq!(rt; written.len(), 0);
+    assert!(rt; ended(rt, alloc, &mut reader, &mut written) == Err(fault));
+    assert!(rt; reader.0 == 0);
+    assert!(rt; written.len() == 0);
 }
 
 // The end is the last read that is made.

@@ -54,8 +54,8 @@ fn held<T: FileTable, R: Wait + Abort>(
     let Ok(hold) = table.look(rt, pass, 0) else {
         panic!(rt; "a file at the slot")
     };
-    assert_eq!(rt; hold.node, node);
-    assert_eq!(rt; hold.entry, entry);
+    assert!(rt; hold.node == node);
+    assert!(rt; hold.entry == entry);
     hold
 }
 
@@ -74,16 +74,16 @@ fn replaced<T: FileTable, R: Wait + Abort>(
     let Some(1) = table.draw(pass) else {
         panic!(rt; "chain 1")
     };
-    assert_eq!(rt; table.numbers_left(pass), 64);
+    assert!(rt; table.numbers_left(pass) == 64);
     assert!(rt; table.is_idle(pass));
     assert!(rt; 0 < table.size());
     let Some(retired) = table.put(rt, pass, 0, file) else {
         panic!(rt; "a file that is replaced")
     };
-    assert_eq!(rt; retired.node, 0);
-    assert_eq!(rt; retired.entry, 0);
-    assert_eq!(rt; retired.takes, 1);
-    assert_eq!(rt; table.numbers_left(pass), 63);
+    assert!(rt; retired.node == 0);
+    assert!(rt; retired.entry == 0);
+    assert!(rt; retired.takes == 1);
+    assert!(rt; table.numbers_left(pass) == 63);
     retired
 }
 
@@ -92,9 +92,9 @@ fn is_first<R: Abort>(rt: &R, out: Option<OpenFile>) {
     let Some(file) = out else {
         panic!(rt; "a file that comes out")
     };
-    assert_eq!(rt; file.mark(), Mark::Registered { k: 1, i: 0 });
-    assert_eq!(rt; file.tag(), tag(1, 0));
-    assert_eq!(rt; file.entry(), 0);
+    assert!(rt; file.mark() == Mark::Registered { k: 1, i: 0 });
+    assert!(rt; file.tag() == tag(1, 0));
+    assert!(rt; file.entry() == 0);
     file.discard();
 }
 
@@ -133,12 +133,12 @@ fn words_where_the_file_is_retired_first(rt: HostRuntime) -> Result<(), Fail> {
     let (table, mut passes) = shared::<CountedTable, _>(&rt, rt.alloc(), plain, 1, 2);
     let (mut b, mut a) = two_passes(&rt, &table, &mut passes);
     has_words(&rt, &table, 0x0000_0100_0000_0000, BORN, 0);
-    assert_eq!(rt; word(&rt, &table, DRAW), 0);
+    assert!(rt; word(&rt, &table, DRAW) == 0);
     let hold = held(&rt, &table, &mut a, 0, 0);
     has_words(&rt, &table, 0x0000_0100_0000_0001, BORN, 0);
     let retired = replaced(&rt, &table, &mut b, opened(&rt, &catalogue, 1, 2, 0));
     has_words(&rt, &table, SECOND, BORN, BORN);
-    assert_eq!(rt; word(&rt, &table, DRAW), 1);
+    assert!(rt; word(&rt, &table, DRAW) == 1);
     is_none(&rt, table.retire(&mut b, retired));
     has_words(&rt, &table, SECOND, 1, BORN);
     is_first(&rt, table.release(&mut a, hold));
@@ -231,17 +231,17 @@ fn control_word_counts_full_slots(rt: HostRuntime) -> Result<(), Fail> {
     assert!(rt; table.is_idle(&b));
     assert!(rt; table.draw(&mut b) == Some(1));
     put_at(&rt, &table, &mut b, 0, opened(&rt, &catalogue, 0, 1, 0));
-    assert_eq!(rt; word(&rt, &table, CONTROL), 65_537);
+    assert!(rt; word(&rt, &table, CONTROL) == 65_537);
     put_at(&rt, &table, &mut b, 1, opened(&rt, &catalogue, 0, 1, 1));
-    assert_eq!(rt; word(&rt, &table, CONTROL), 65_538);
+    assert!(rt; word(&rt, &table, CONTROL) == 65_538);
     put_at(&rt, &table, &mut b, 1, opened(&rt, &catalogue, 0, 1, 2));
-    assert_eq!(rt; word(&rt, &table, CONTROL), 65_538);
+    assert!(rt; word(&rt, &table, CONTROL) == 65_538);
     let full = allocated(&rt, &table, &mut b, opened(&rt, &catalogue, 0, 1, 3));
-    assert_eq!(rt; (full, word(&rt, &table, CONTROL)), (None, 65_538));
+    assert!(rt; (full, word(&rt, &table, CONTROL)) == (None, 65_538));
     take_from(&rt, &table, &mut b, 0);
-    assert_eq!(rt; word(&rt, &table, CONTROL), 65_537);
+    assert!(rt; word(&rt, &table, CONTROL) == 65_537);
     let freed = allocated(&rt, &table, &mut b, opened(&rt, &catalogue, 0, 1, 4));
-    assert_eq!(rt; (freed, word(&rt, &table, CONTROL)), (Some(0), 65_538));
+    assert!(rt; (freed, word(&rt, &table, CONTROL)) == (Some(0), 65_538));
     let plain = closed(&rt, table, passes, b, a);
     assert!(rt; plain.full() == 2);
     plain.abandon();
@@ -262,9 +262,9 @@ fn install<T: FileTable, R: Wait + Abort>(
 {
     assert!(rt; table.is_idle(pass));
     assert!(rt; table.draw(pass) == Some(chain));
-    assert_eq!(rt; table.numbers_left(pass), 1);
+    assert!(rt; table.numbers_left(pass) == 1);
     put_at(rt, table, pass, slot, file);
-    assert_eq!(rt; table.numbers_left(pass), 0);
+    assert!(rt; table.numbers_left(pass) == 0);
 }
 
 #[test]
@@ -273,14 +273,14 @@ fn chains_with_one_number_have_one_word(rt: HostRuntime) -> Result<(), Fail> {
     let plain = empty_table(&rt, rt.alloc(), 2);
     let (table, mut passes) = shared_for::<CountedTable, _>(&rt, rt.alloc(), plain, 2, 1, 2);
     let (mut b, mut a) = two_passes(&rt, &table, &mut passes);
-    assert_eq!(rt; table.table.word_count(), 34);
+    assert!(rt; table.table.word_count() == 34);
     install(&rt, &table, &mut a, 1, 0, opened(&rt, &catalogue, 1, 1, 0));
     install(&rt, &table, &mut b, 2, 1, opened(&rt, &catalogue, 1, 1, 1));
-    assert_eq!(rt; word(&rt, &table, slot_place(0)), 0x0001_0101_0000_0000);
-    assert_eq!(rt; word(&rt, &table, slot_place(1)), 0x0001_0201_0000_0000);
-    assert_eq!(rt; word(&rt, &table, node_place(2, 256)), BORN);
-    assert_eq!(rt; word(&rt, &table, node_place(2, 257)), BORN);
-    assert_eq!(rt; node_place(2, 257), 33);
+    assert!(rt; word(&rt, &table, slot_place(0)) == 0x0001_0101_0000_0000);
+    assert!(rt; word(&rt, &table, slot_place(1)) == 0x0001_0201_0000_0000);
+    assert!(rt; word(&rt, &table, node_place(2, 256)) == BORN);
+    assert!(rt; word(&rt, &table, node_place(2, 257)) == BORN);
+    assert!(rt; node_place(2, 257) == 33);
     let plain = closed(&rt, table, passes, b, a);
     assert!(rt; plain.full() == 2);
     plain.abandon();
