@@ -24,7 +24,7 @@ A script is what `fixfiles` plays, and a text what `fixfiles`, or a kernel, writ
 pub const STATES: u32 = 1_000_000;
 
 /// What is to be checked.
-#[derive(Clone, Copy, Debug, PartialEq, Eq)]
+#[derive(Clone, Copy)]
 pub struct Settings<'a> {
     /// How many states of a submission are looked at.
     pub states: u32,

@@ -6,7 +6,7 @@ use std::alloc::AllocError;
 use std::io;
 
 /// Why the program ends without a verdict (this project's own).
-#[derive(Debug, Drop)]
+#[derive(Drop)]
 pub enum Ending {
     /// Help was asked for, or the arguments are none that the program has.
     Arguments(Error),

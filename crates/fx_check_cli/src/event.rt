@@ -5,7 +5,7 @@ use std::alloc::AllocError;
 
 /// An event of a table (docs/MODEL.md, "Steps"): the slot comes first, then the file that is installed, then the file that
 /// was found there, or none.
-#[derive(Clone, Copy, Debug, PartialEq, Eq)]
+#[derive(Clone, Copy)]
 pub enum Event {
     /// A request finds what is at a slot, and holds it where that is a file.
     Look(u32, Option<Closed>),

@@ -12,7 +12,7 @@ use fx_script::Command;
 use std::alloc::{AllocError, Global};
 
 /// A history that is told command by command, in the order of the script: what is left of the text and of the orders.
-#[derive(Debug, Drop)]
+#[derive(Drop)]
 pub struct History<'a> {
     text: &'a [u8],
     orders: &'a [Order],

@@ -6,7 +6,7 @@ use std::alloc::{AllocError, Global};
 /// The files at the slots of a table, and the one file that a request holds or that was removed and isn't closed yet. There
 /// is one of each at most, since a history is written in which what was looked up is released at once, and what was
 /// removed is closed at once.
-#[derive(Debug, Drop)]
+#[derive(Drop)]
 pub struct State {
     // The file at each slot. A table has slots, and there are none where there is no table.
     at: Vec<Option<Closed>>,

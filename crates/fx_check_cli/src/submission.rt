@@ -7,14 +7,14 @@ use fx_order::Access;
 use std::alloc::Global;
 
 // The members of a chain that haven't answered yet: the requests from this one on, in front of that one.
-#[derive(Clone, Copy, Debug, PartialEq, Eq)]
+#[derive(Clone, Copy)]
 struct Waiting {
     from: usize,
     to: usize,
 }
 
 // A submission's requests with their answers, and how far each chain is.
-#[derive(Debug, Drop)]
+#[derive(Drop)]
 struct Submission<'a> {
     requests: &'a [Request],
     completions: &'a [Completion],

@@ -11,7 +11,7 @@ use std::alloc::{AllocError, Global};
 const COLUMN: usize = 44;
 
 /// What was told of a history and isn't printed yet, and the state that the history has led to.
-#[derive(Debug, Drop)]
+#[derive(Drop)]
 pub struct Telling<'a> {
     catalogue: &'a Catalogue,
     /// The state behind the last line.

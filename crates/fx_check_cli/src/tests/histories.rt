@@ -29,8 +29,8 @@ fn tells<R: Abort>(
         let line = lines.next().unwrap_or("");
         assert_eq!(rt; line, format!(in alloc; "{event:44} | {state}")?.as_str());
     }
-    assert_eq!(rt; lines.next(), Some(""));
-    assert_eq!(rt; lines.next(), None);
+    assert!(rt; lines.next() == Some(""));
+    assert!(rt; lines.next() == None);
     Ok(())
 }
 
