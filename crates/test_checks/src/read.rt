@@ -11,29 +11,26 @@ fn a_whole_report(rt: HostRuntime) -> Result<(), Fail> {
     let Some((lines, rest)) = read_report(rt.alloc(), text.as_slice(), 3)? else {
         panic!(rt; "no report was read");
     };
-    assert_eq!(rt; rest, b"sparse 0\n".as_slice());
-    assert_eq!(rt; lines.completions.len(), 3);
-    assert_eq!(rt; lines.closed.len(), 2);
-    assert_eq!(rt;
-        lines.tags.as_slice(),
-        [1, 18_446_744_073_709_551_615].as_slice()
-    );
+    assert!(rt; rest == b"sparse 0\n".as_slice());
+    assert!(rt; lines.completions.len() == 3);
+    assert!(rt; lines.closed.len() == 2);
+    assert!(rt; lines.tags.as_slice() == [1, 18_446_744_073_709_551_615].as_slice());
     let last = Place {
         submission: 7,
         chain: 12,
         member: 16,
     };
     if let [_, read, canceled] = lines.completions.as_slice() {
-        assert_eq!(rt; read.res, 5);
-        assert_eq!(rt; read.got.as_slice(), b"\x00\x0f\xa0\xffj".as_slice());
-        assert_eq!(rt; canceled.place, last);
-        assert_eq!(rt; canceled.res, -125);
-        assert_eq!(rt; canceled.got.len(), 0);
+        assert!(rt; read.res == 5);
+        assert!(rt; read.got.as_slice() == b"\x00\x0f\xa0\xffj".as_slice());
+        assert!(rt; canceled.place == last);
+        assert!(rt; canceled.res == -125);
+        assert!(rt; canceled.got.len() == 0);
     }
     if let [registered, submitted] = lines.closed.as_slice() {
-        assert_eq!(rt; registered.mark, Mark::Registered { k: 3, i: 255 });
-        assert_eq!(rt; registered.name.as_slice(), b"a.txt".as_slice());
-        assert_eq!(rt; submitted.mark, last.mark(1));
+        assert!(rt; registered.mark == Mark::Registered { k: 3, i: 255 });
+        assert!(rt; registered.name.as_slice() == b"a.txt".as_slice());
+        assert!(rt; submitted.mark == last.mark(1));
     }
     Ok(())
 }
@@ -46,13 +43,13 @@ fn the_largest_numbers(rt: HostRuntime) -> Result<(), Fail> {
     let Some((lines, rest)) = read_report(rt.alloc(), text.as_slice(), 2)? else {
         panic!(rt; "no report was read");
     };
-    assert_eq!(rt; rest.len(), 0);
-    assert_eq!(rt; lines.completions.len(), 2);
-    assert_eq!(rt; lines.closed.len(), 2);
+    assert!(rt; rest.len() == 0);
+    assert!(rt; lines.completions.len() == 2);
+    assert!(rt; lines.closed.len() == 2);
     if let [most, least] = lines.completions.as_slice() {
-        assert_eq!(rt; most.place.member, 4_294_967_295);
-        assert_eq!(rt; most.res, 2_147_483_647);
-        assert_eq!(rt; least.res, -2_147_483_648);
+        assert!(rt; most.place.member == 4_294_967_295);
+        assert!(rt; most.res == 2_147_483_647);
+        assert!(rt; least.res == -2_147_483_648);
     }
     Ok(())
 }

@@ -21,7 +21,7 @@ fn is_legal<R: Abort>(
     orders: usize,
 ) -> Result<(), Fail> {
     match judged(alloc, script, text)? {
-        Judgement::Legal(found) => assert_eq!(rt; found.len(), orders),
+        Judgement::Legal(found) => assert!(rt; found.len() == orders),
         other => panic!(rt; "{other:?}"),
     }
     Ok(())
@@ -38,8 +38,8 @@ fn breaks<R: Abort>(
 ) -> Result<Fault, Fail> {
     match judged(alloc, script, text)? {
         Judgement::NotLegal(broken) => {
-            assert_eq!(rt; broken.commands, commands);
-            assert_eq!(rt; broken.at, at);
+            assert!(rt; broken.commands == commands);
+            assert!(rt; broken.at == at);
             Ok(broken.fault)
         }
         other => panic!(rt; "{other:?}"),
@@ -72,12 +72,12 @@ fn texts_of_a_submission(rt: HostRuntime) -> Result<(), Fail> {
     is_legal(&rt, alloc, OPEN_READ_CLOSE, wanting, 1)?;
     let other_name = b"sparse 0\n1.1.1 0\n1.1.2 1 68\n1.1.3 0\nclosed 1.1.1.0 b\n";
     match breaks(&rt, alloc, OPEN_READ_CLOSE, other_name, 1, 9)? {
-        Fault::Line(lines, _) => assert_eq!(rt; lines, 3),
+        Fault::Line(lines, _) => assert!(rt; lines == 3),
         other => panic!(rt; "{other:?}"),
     }
     let twice = b"sparse 0\n1.1.1 0\n1.1.2 1 68\n1.1.3 0\nclosed 1.1.1.0 a\nclosed 1.1.1.0 a\n";
     match breaks(&rt, alloc, OPEN_READ_CLOSE, twice, 1, 9)? {
-        Fault::Line(lines, _) => assert_eq!(rt; lines, 4),
+        Fault::Line(lines, _) => assert!(rt; lines == 4),
         other => panic!(rt; "{other:?}"),
     }
     Ok(())
