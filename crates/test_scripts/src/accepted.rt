@@ -74,7 +74,7 @@ fn every_command_as_it_is_written(rt: HostRuntime) -> Result<(), Fail> {
         retagged,
     ] = script.commands()
     else {
-        panic!(rt; "other commands: {script:?}");
+        panic!(rt; "other commands");
     };
     assert!(rt; matches!(sparse, Command::Sparse(1)));
     assert!(rt;
@@ -106,10 +106,10 @@ fn every_request_as_it_is_written(rt: HostRuntime) -> Result<(), Fail> {
         panic!(rt; "refused");
     };
     let [Command::Submit(requests)] = script.commands() else {
-        panic!(rt; "other commands: {script:?}");
+        panic!(rt; "other commands");
     };
     let [at, any, read, close, update] = requests.as_slice() else {
-        panic!(rt; "other requests: {requests:?}");
+        panic!(rt; "other requests");
     };
     assert!(rt;
         matches!(&at.op, Op::Open { name, target: Target::Slot(3) } if name.as_str() == "a.txt")
@@ -161,10 +161,10 @@ fn last_word_sets_one_flag(rt: HostRuntime) {
                 panic!(rt; "refused: {text}");
             };
             let [Command::Submit(submitted)] = script.commands() else {
-                panic!(rt; "other commands: {script:?}");
+                panic!(rt; "other commands: {text}");
             };
             let [only] = submitted.as_slice() else {
-                panic!(rt; "other requests: {submitted:?}");
+                panic!(rt; "other requests: {text}");
             };
             assert_eq!(rt; only.flags.bits(), fixed + flag, "{text}");
         }
