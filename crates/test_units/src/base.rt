@@ -1,18 +1,10 @@
-//! Each public call once with ample memory, and each refusal once. The values were worked out by hand.
-
+//! Each public call of `fx_base` once with ample memory, and each refusal once. The values were worked out by hand.
+use crate::setting::two_files;
 use fx_base::{
     AddFault, Catalogue, CloseList, Closed, Errno, LONGEST_NAME, Mark, TagCompletion, is_name,
 };
 use std::alloc::Global;
 use std::test::Fail;
-
-// `a.txt`, which is `hello`, and `b.txt`, which is `hi`.
-fn two_files(alloc: Global) -> Result<Catalogue, Fail> {
-    let mut catalogue = Catalogue::new(alloc);
-    catalogue.add(String::from_str(alloc, "a.txt")?, b"hello".to_vec(alloc)?)?;
-    catalogue.add(String::from_str(alloc, "b.txt")?, b"hi".to_vec(alloc)?)?;
-    Ok(catalogue)
-}
 
 #[test]
 fn error_numbers_are_those_of_linux(rt: HostRuntime) {

@@ -24,7 +24,7 @@ pub(crate) const SECOND: Closed = Closed {
     tag: 0,
 };
 
-/// A catalogue of two entries.
+/// A catalogue of `a.txt`, which is `hello`, and `b.txt`, which is `hi`.
 pub(crate) fn two_files(alloc: Global) -> Result<Catalogue, Fail> {
     let mut catalogue = Catalogue::new(alloc);
     catalogue.add(String::from_str(alloc, "a.txt")?, b"hello".to_vec(alloc)?)?;

@@ -1,4 +1,5 @@
-//! Each public call once with ample memory, and each refusal once. The values were worked out by hand.
+//! Each public call of the table of one thread once with ample memory, and each refusal once. The values were worked out by
+//! hand.
 use crate::setting::{
     FIRST, SECOND, clear, dismiss, empty, look, prepare, put, put_any, release, retire, spent,
     take, told_at, two_files,
