@@ -1,5 +1,5 @@
 -- What a judgement says of a script and a text.
-use Rattle.std.specs.Prelude.{◌≡◌, ◌≤◌, ◌<◌, ◌+◌, ℕ, List, [], ◌∷◌, ◌++◌, length, take}
+use Rattle.std.specs.Prelude.{◌≡◌, ◌≤◌, ◌<◌, ◌+◌, ℕ, List, [], ◌∷◌, ◌++◌, length, take, drop}
 use Rattle.fx_ring.specs.Ring.{RingContents, RingState, new_ring, ring_of}
 use Rattle.fx_script.specs.Instruction.{Instruction}
 use Rattle.fx_script.specs.Play.{IsStart, IsText, Prints}
@@ -22,25 +22,28 @@ abbrev pub MayPrintFront : RingState → List Instruction → List ℕ → Type 
 MayPrintFront state commands text =
     (ring : RingContents) → ring_of ring ≡ state → PrintsFront ring commands text
 
--- the commands print a beginning of this, and behind it stands no further line of a closed file or
--- a tag, which would be one of theirs
-abbrev pub PrintsBeginning : RingContents → List Instruction → List ℕ → Type 0
-PrintsBeginning ring [] text = HasNoCloses text
-PrintsBeginning ring (command ∷ commands) text =
+-- the commands print a beginning of this text, and this is left behind it: no further line of a
+-- closed file or a tag stands there, which would be one of theirs
+abbrev pub PrintsBeginning : RingContents → List Instruction → List ℕ → List ℕ → Type 0
+PrintsBeginning ring [] text left = HasNoCloses text × (left ≡ text)
+PrintsBeginning ring (command ∷ commands) text left =
     (next : RingContents) × (line : List ℕ) × (others : List ℕ)
     × Prints ring command next line × (text ≡ line ++ others)
-    × PrintsBeginning next commands others
+    × PrintsBeginning next commands others left
 
--- the script doesn't print the text: its first commands may print the first bytes, but with the
--- next command they print no beginning of it
+-- the script doesn't print the text: its first commands may print the first bytes, and no other
+-- beginning of it, but with the next command they print none
 pub record IsBroken (script : Meaning) (text : List ℕ) (broken : Break) : Type 0 where
   pub none : ¬ (IsText script text)
   pub inside : broken.at ≤ length text
   pub front : MayPrintFront (new_ring script.catalogue) (take broken.commands script.commands)
       (take broken.at text)
+  pub place : (ring : RingContents) (left : List ℕ) → IsStart script ring
+      → PrintsBeginning ring (take broken.commands script.commands) text left
+      → left ≡ drop broken.at text
   pub next : broken.commands < length script.commands
-      → (ring : RingContents) → IsStart script ring
-      → ¬ (PrintsBeginning ring (take (broken.commands + 1) script.commands) text)
+      → (ring : RingContents) (left : List ℕ) → IsStart script ring
+      → ¬ (PrintsBeginning ring (take (broken.commands + 1) script.commands) text left)
 
 -- a text that is legal is one that the script may print, by a play whose submissions come of these
 -- orders, and one that isn't legal is none

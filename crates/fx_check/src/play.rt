@@ -116,8 +116,9 @@ fn play_end(
 /// each submission at most so many states of each part that has slots of its own are looked at.
 ///
 /// A text that is legal is one that the script may print, by one play in which each accepted submission comes of its order.
-/// One that isn't legal is none: the commands in front of the one that it breaks at may print what stands in front, and with
-/// that one they print no beginning of the text, unless a line of a closed file or a tag stands right behind it.
+/// One that isn't legal is none: the commands in front of the one that it breaks at may print what stands in front, and no
+/// other beginning of the text, and with that one they print none. Right behind a beginning stands no line of a closed file
+/// or a tag.
 ///
 /// # Errors
 /// `NoMemory` where memory is refused.

@@ -15,7 +15,7 @@ use Rattle.fx_check.specs.Ordered.{IsTextBy, MayPrintAllBy, MayPrintBy}
 use Rattle.fx_check.specs.Only.{IsOnlyAnswer, LeadsNowhere, LeadsTo}
 use Rattle.fx_check.specs.declared.answer.Answer.{Answer}
 use Rattle.fx_check.specs.declared.judgement.Order.{Order}
-use Rattle.fx_check.proofs.Beginnings.{CanBegin, GoesAlong, along_next, no_next}
+use Rattle.fx_check.proofs.Beginnings.{CanBegin, GoesAlong, along_next, left_behind, no_next}
 use Rattle.fx_check.proofs.Fronts.{one_back, printed_front}
 use Rattle.fx_check.proofs.OnePlay.{CanPrintAll, begins, ended, further, no_further}
 use Rattle.fx_check.proofs.Plays.{is_text, may_print, one_further, whole_text}
@@ -36,13 +36,13 @@ loop-done-init c = record {
       (instructions_of c.commands-commands.result.now)
       (sym (c.new_ring-ring.ensures.ring c.catalogue-catalogue.result.now ∙ ap new_ring c.catalogue-catalogue.ensures.value))
       (sym c.commands-commands.ensures) is;
-  along = λ more can.
+  along = λ more left can.
       let e : 0 + more ≡ more = omega arith in
-      subst (λ (s : RingState). CanBegin s (take more (instructions_of c.commands-commands.result.now)) c.args.text.now)
+      subst (λ (s : RingState). CanBegin s (take more (instructions_of c.commands-commands.result.now)) c.args.text.now left)
       (sym (c.new_ring-ring.ensures.ring c.catalogue-catalogue.result.now ∙ ap new_ring c.catalogue-catalogue.ensures.value))
-      (subst (λ (cs : List Instruction). CanBegin (new_ring c.args.script.now.catalogue) (take more cs) c.args.text.now)
+      (subst (λ (cs : List Instruction). CanBegin (new_ring c.args.script.now.catalogue) (take more cs) c.args.text.now left)
       (sym c.commands-commands.ensures)
-      (subst (λ (n : ℕ). CanBegin (new_ring c.args.script.now.catalogue) (take n c.args.script.now.commands) c.args.text.now) e can));
+      (subst (λ (n : ℕ). CanBegin (new_ring c.args.script.now.catalogue) (take n c.args.script.now.commands) c.args.text.now left) e can));
   back = λ cs t may. subst (λ (s : RingState). MayPrintFront s cs t)
       (c.new_ring-ring.ensures.ring c.catalogue-catalogue.result.now ∙ ap new_ring c.catalogue-catalogue.ensures.value) may;
 }
@@ -115,9 +115,13 @@ returns-in-Broken c =
       front = printed_front (new_ring c.args.script.now.catalogue) old
           (take c.loop-done.done (instructions_of commands)) (take c.loop-done.done c.args.script.now.commands)
           (take c.loop-done.at c.args.text.now) (ap (λ (cs : List Instruction). take c.loop-done.done cs) c.commands-commands.ensures) c.loop-done.invariant.back;
-      next = λ there ring starts prints.
+      place = λ ring left starts prints.
+          left_behind (new_ring c.args.script.now.catalogue) c.args.script.now.commands c.args.text.now c.loop-done.done old
+          (instructions_of (drop c.loop-done.done commands)) rest c.loop-done.invariant.along c.loop-done.done refl left
+          (record { ring = ring; same = starts; prints = prints });
+      next = λ there ring left starts prints.
           no_next commands c.loop-done.done command old rest c.loop-done-test.true c.index-commands-done.is
-          (new_ring c.args.script.now.catalogue) c.args.script.now.commands c.args.text.now c.loop-done.invariant.along nowhere
+          (new_ring c.args.script.now.catalogue) c.args.script.now.commands c.args.text.now c.loop-done.invariant.along nowhere left
           (record { ring = ring; same = starts; prints = prints });
     }
 
@@ -144,7 +148,15 @@ returns c = record {
       (take c.loop-done.at c.args.text.now)
       (ap (λ (n : ℕ). take n (instructions_of c.commands-commands.result.now)) all
       ∙ ap (λ (cs : List Instruction). take (length c.commands-commands.result.now) cs) c.commands-commands.ensures) c.loop-done.invariant.back;
-  next = λ there ring starts prints.
+  place = λ ring left starts prints.
+      let past = c.loop-done-test.false in
+      let below = c.loop-done.auto.done-end in
+      let all : c.loop-done.done ≡ length c.commands-commands.result.now = omega arith in
+      left_behind (new_ring c.args.script.now.catalogue) c.args.script.now.commands c.args.text.now c.loop-done.done
+      (ring_with_slots c.catalogue-catalogue.result.now c.loop-done.ring) (instructions_of (drop c.loop-done.done c.commands-commands.result.now))
+      (drop c.loop-done.at c.args.text.now) c.loop-done.invariant.along (length c.commands-commands.result.now) all left
+      (record { ring = ring; same = starts; prints = prints });
+  next = λ there ring left starts prints.
       let past = c.loop-done-test.false in
       let as_many : length (instructions_of c.commands-commands.result.now) ≡ length c.commands-commands.result.now =
       length-map c.commands-commands.result.now instruction_of in
