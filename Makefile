@@ -80,7 +80,7 @@ compare:
 texts:
 	@scripts/build-program
 	@scripts/build-program fx_check_cli fixcheck
-	@scripts/check-fixcheck bin/fixcheck bin/fixfiles
+	@scripts/check-fixcheck bin/fixcheck bin/fixfiles 2000
 
 pictures:
 	@scripts/build-program fx_check_cli fixcheck
