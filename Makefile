@@ -2,12 +2,15 @@
 
 # The path of a script goes to the commands by the environment alone, so that it may have any characters.
 SCRIPT ?= examples/open_read_close.script
-export SCRIPT
-TEXT ?= examples/open_read_close.text
-export TEXT
+export SCRIPT TEXT
+VARIABLES := SCRIPT TEXT CRATE CRATES
 
 ifeq ($(wildcard scripts/need-script),)
 $(error Call make in the folder of this Makefile: make -C '$(patsubst %/,%,$(dir $(abspath $(lastword $(MAKEFILE_LIST)))))')
+endif
+given := $(foreach it,$(.VARIABLES),$(if $(filter command,$(origin $(it))),$(it)))
+ifneq ($(filter-out $(VARIABLES),$(given)),)
+$(error There is no variable $(filter-out $(VARIABLES),$(given)). There are $(VARIABLES), as in: make run SCRIPT=path)
 endif
 
 .DEFAULT_GOAL := help
@@ -19,7 +22,7 @@ endif
 help:
 	@echo 'make run          builds the program at bin/fixfiles and plays examples/open_read_close.script'
 	@echo 'make run SCRIPT=path    plays another script'
-	@echo 'make check SCRIPT=path TEXT=path    says whether the rules allow the text for the script'
+	@echo 'make check SCRIPT=name.script    says whether the rules allow name.text for the script, or TEXT=path'
 	@echo 'make try          plays a script in about a minute, and proves nothing'
 	@echo 'make kernel       plays a script on the io_uring of this machine'
 	@echo 'make prove CRATE=name   checks one crate, and says in a few lines what of it is not proved'
@@ -77,7 +80,7 @@ compare:
 texts:
 	@scripts/build-program
 	@scripts/build-program fx_check_cli fixcheck
-	@scripts/check-fixcheck bin/fixcheck bin/fixfiles
+	@scripts/check-fixcheck bin/fixcheck bin/fixfiles 2000
 
 pictures:
 	@scripts/build-program fx_check_cli fixcheck

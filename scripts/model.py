@@ -5,7 +5,6 @@ It plays a script from standard input, as fixfiles does. scripts/check-model hol
 hand, scripts/compare holds the program against it, and scripts/agree the kernel. scripts/orders.py says of a text
 whether it is one that this model allows in another order of chains.
 """
-import copy
 import re
 import sys
 
@@ -238,8 +237,10 @@ class Player:
         self.wanted = None
 
     def copy(self):
-        other = copy.copy(self)
-        other.slots, other.closed = list(self.slots), list(self.closed)
+        # copy.copy takes five times as long, and the searches of scripts/orders.py copy a player for each step
+        other = object.__new__(type(self))
+        other.__dict__.update(self.__dict__)
+        other.slots, other.closed = self.slots[:], self.closed[:]
         return other
 
     def put(self, slot, file):

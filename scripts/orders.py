@@ -99,7 +99,8 @@ class Search:
         for nth in sorted(range(len(chains)), key=lambda nth: at[nth]):
             if at[nth] < len(chains[nth]):
                 place, request, res, got = chains[nth][at[nth]]
-                after = player.copy()
+                # a read leaves the player as it is
+                after = player if request[0] == "read" else player.copy()
                 after.wanted = res
                 if after.perform(place, request) == (res, got):
                     yield after, (*at[:nth], at[nth] + 1, *at[nth + 1 :])

@@ -7,6 +7,8 @@
  *   status    the status is another: 1 where it was 0, and else 0
  *   message   the last byte in front of the line end of the message on standard error is another
  *   end       it comes to no end
+ *   memory    it needs twice as much memory: it gets half of what is there, where that is limited
+ *   words     it is given none of its words
  *
  * Where there is no text, byte and line change the message, and where there is neither, an empty line is written.
  * scripts/check-checks says what it is for. It is linked statically, so that what is preloaded before the program isn't
@@ -15,6 +17,7 @@
 #include <stdio.h>
 #include <stdlib.h>
 #include <string.h>
+#include <sys/resource.h>
 #include <sys/wait.h>
 #include <unistd.h>
 
@@ -77,6 +80,18 @@ static void change(const char *how, struct text *text, struct text *message, int
     }
 }
 
+static void halve_memory(void)
+{
+    struct rlimit limit;
+    if (getrlimit(RLIMIT_AS, &limit) != 0)
+        give_up("spoil: limit");
+    if (limit.rlim_cur == RLIM_INFINITY)
+        return;
+    limit.rlim_cur /= 2;
+    if (setrlimit(RLIMIT_AS, &limit) != 0)
+        give_up("spoil: limit");
+}
+
 int main(int count, char **words)
 {
     const char *program = getenv("SPOILED"), *how = getenv("SPOIL");
@@ -90,6 +105,10 @@ int main(int count, char **words)
         dup2(fileno(out), STDOUT_FILENO);
         dup2(fileno(error), STDERR_FILENO);
         words[0] = (char *)program;
+        if (strcmp(how, "words") == 0)
+            words[1] = NULL;
+        if (strcmp(how, "memory") == 0)
+            halve_memory();
         execvp(program, words);
         give_up("spoil: exec");
     }

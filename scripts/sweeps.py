@@ -1,10 +1,16 @@
 """Scripts between the limits of the language and of the table: for each thing that has a size one script, or one for each size,
 with each power of two, one less and one more, up to the limit, and the limit. Each has the text that it must write, worked out
 by hand here as in scripts/limits.py. The order of chains changes no text. scripts/check-limits plays them."""
-from limits import BYTES, CHAINS, ENTRIES, FILES, MEMBERS, SCRIPT_BYTES, SLOTS, lines
+from limits import BYTES, CHAINS, ENTRIES, FILES, LARGEST_TAG, MEMBERS, SCRIPT_BYTES, SLOTS, lines
 
 A = "file a.txt 68656c6c6f"
 REQUESTS = CHAINS * MEMBERS
+# how many scripts there are of each kind: one for each power of two up to a limit, one less, one more and the limit, each once
+KINDS = {
+    **dict.fromkeys(("lists", "tagged_lists", "tables", "tagged_tables", "one_slot_free", "updates", "files", "reads"), 1),
+    **dict.fromkeys(("ends", "tagged_ends", "catalogues"), 22),
+    "chains": 27, "requests": 39, "waiting": 54, "fault_at": 61, "unsubmitted_from": 60,
+}
 
 
 def sizes(limit, least=1):
@@ -40,10 +46,50 @@ def lists():
     return lines(*script), lines(*text)
 
 
+def tags_from(first, places):
+    """A word of tags for places that have a file, or none, and the lines that tell those of the files."""
+    tags = [first + it if has_file else 0 for it, has_file in enumerate(places)]
+    return ",".join(map(str, tags)), [f"tag {it}" for it in tags if it]
+
+
+def tagged_lists():
+    """As `lists`, where each file of a list has a tag of its own: those that an update replaces, and those that are left."""
+    script, text, k = [A], [], 0
+    for count in sizes(SLOTS):
+        entries = ["-1" if it % 3 == 2 else "0" for it in range(count)]
+        (tags, told), (others, told_last) = tags_from(7, [it == "0" for it in entries]), tags_from(LARGEST_TAG - count, [True] * count)
+        script += [f"register {','.join(entries)} {tags}", f"regupdate 0 {','.join(['0'] * count)} {others}", "unregister"]
+        text += ["register 0", f"regupdate {count}", *(f"closed r{k + 1}.{it} a.txt" for it in range(count) if it % 3 != 2), *told]
+        text += ["unregister 0", *(f"closed r{k + 2}.{it} a.txt" for it in range(count)), *told_last]
+        k += 2
+    return lines(*script), lines(*text)
+
+
+def tagged_tables():
+    """A sparse table of each size is filled with tagged files by one update, a submission closes every second one of them, and
+    the table is unregistered."""
+    script, text, submission = [A], [], 0
+    for nth, count in enumerate(sizes(SLOTS), 1):
+        tags, told = tags_from(1, [True] * count)
+        submission += 1
+        script += [f"sparse {count}", f"regupdate 0 {','.join(['0'] * count)} {tags}", *(f"close {it}" for it in range(0, count, 2)), "submit", "unregister"]
+        text += ["sparse 0", f"regupdate {count}", *(f"{submission}.{it + 1}.1 0" for it in range((count + 1) // 2))]
+        text += [*(f"closed r{nth}.{it} a.txt" for it in range(0, count, 2)), *told[::2], "unregister 0"]
+        text += [*(f"closed r{nth}.{it} a.txt" for it in range(1, count, 2)), *told[1::2]]
+    return lines(*script), lines(*text)
+
+
 def ends(count):
     """A table of so many files is there at the end of the script."""
     text = ["register 0", "teardown", *(f"closed r1.{it} a.txt" for it in range(count))]
     return lines(A, f"register {','.join(['0'] * count)}"), lines(*text)
+
+
+def tagged_ends(count):
+    """So is one whose files have tags."""
+    tags, told = tags_from(1, [True] * count)
+    text = ["register 0", "teardown", *(f"closed r1.{it} a.txt" for it in range(count)), *told]
+    return lines(A, f"register {','.join(['0'] * count)} {tags}"), lines(*text)
 
 
 def tables():
@@ -149,9 +195,9 @@ def catalogues(count):
 
 def sweeps():
     """Each script: its name, the script, the text, and the line and the fault of a bad one."""
-    for whole in (lists, tables, one_slot_free, updates, files, reads):
+    for whole in (lists, tagged_lists, tables, tagged_tables, one_slot_free, updates, files, reads):
         yield whole.__name__, *whole(), ""
-    for made, counts in ((ends, sizes(SLOTS)), (catalogues, sizes(FILES)), (chains, sizes(CHAINS)), (requests, sizes(REQUESTS))):
+    for made, counts in ((ends, sizes(SLOTS)), (tagged_ends, sizes(SLOTS)), (catalogues, sizes(FILES)), (chains, sizes(CHAINS)), (requests, sizes(REQUESTS))):
         for count in counts:
             yield f"{made.__name__}_{count}", *made(count), ""
     for count in sizes(SCRIPT_BYTES // len("close 0\n") - 1):

@@ -1,0 +1,204 @@
+"""lanes.py CRATE NAME: proves the crates that a program stands on, builds it, and leaves it at bin/NAME. scripts/build-program
+calls it.
+
+Crates that don't stand on each other are proved beside each other, in two lanes where there are two processors and memory for
+both. The one with the longest way to the program comes first. The toolchain chooses how many jobs a crate has where no other is
+proved beside it, or one of the two where there are four processors; else a crate has one. On standard error it tells what is proved and how long
+the rest is expected to take: a terminal shows it as it goes, and else it is a line a minute. What the prover says goes to
+build/program.log."""
+import os
+import re
+import shutil
+import signal
+import subprocess
+import sys
+import time
+
+sys.dont_write_bytecode = True
+sys.path.insert(0, os.path.dirname(os.path.abspath(__file__)))
+from crate_times import KEPT, ROOT, UNMEASURED, behind, crates, expected, measured, needed, told
+
+LOG = "build/program.log"
+STARTED = "build/program.started"
+DONE_OF = re.compile(r"^(?:checked .*, |so far: )(\d+ of \d+)", re.MULTILINE)
+# two lanes want so many KiB of memory
+ROOM_FOR_TWO = 8 << 20
+PROCESSORS = len(os.sched_getaffinity(0))
+# what one job's processor seconds take of the clock, before a crate of this run has told it
+CLOCK = 0.7 if PROCESSORS >= 4 else 1.0
+
+
+class Interrupted(Exception):
+    """The user ends it."""
+
+
+def memory():
+    """The KiB that are available; enough where nobody says."""
+    try:
+        with open("/proc/meminfo", encoding="utf-8") as file:
+            return int(re.search(r"MemAvailable: *(\d+)", file.read())[1])
+    except (OSError, TypeError):
+        return ROOM_FOR_TWO
+
+
+def is_kept(name, below, kept):
+    """Whether what was proved of a crate is newer than its files, and so it is of those below."""
+    built = f"crates/{name}/out/rlib/{name}.rlib"
+    if not os.path.exists(built) or not all(it in kept for it in below[name]):
+        return False
+    files = (f"{at}/{it}" for part in ("src", "specs", "proofs") for at, _, those in os.walk(f"crates/{name}/{part}") for it in those)
+    return all(os.path.getmtime(it) <= os.path.getmtime(built) for it in files)
+
+
+class Job:
+    """A crate that is being proved, in a process group of its own. A wide one has as many jobs as the toolchain chooses."""
+
+    def __init__(self, name, words, is_wide):
+        self.name, self.path, self.begin, self.is_wide = name, f"build/{name}.log", time.monotonic(), is_wide
+        with open(self.path, "wb") as log:
+            how = {"stdin": subprocess.DEVNULL, "stdout": log, "stderr": log, "start_new_session": True}
+            self.process = subprocess.Popen(["rt", *words], cwd=f"crates/{name}", **how)
+
+    def seconds(self):
+        return time.monotonic() - self.begin
+
+    def said(self):
+        with open(self.path, encoding="utf-8", errors="replace") as log:
+            return log.read()
+
+    def now(self):
+        """How far it is, in words."""
+        done = DONE_OF.findall(self.said())
+        return f"{self.name} {done[-1]} functions" if done else self.name
+
+    def end(self):
+        """Ends it, and what it began."""
+        for number in (signal.SIGTERM, signal.SIGKILL):
+            try:
+                os.killpg(self.process.pid, number)
+                self.process.wait(2)
+            except (ProcessLookupError, subprocess.TimeoutExpired):
+                pass
+
+
+class Lanes:
+    def __init__(self, root, name):
+        self.root, self.name, self.below = root, name, crates()
+        self.those = needed(root, self.below)
+        self.lanes = 2 if PROCESSORS > 1 and memory() >= ROOM_FOR_TWO else 1
+        known, self.kept, self.seconds = measured(), set(), {}
+        for it in self.those:
+            if it != root and is_kept(it, self.below, self.kept):
+                self.kept.add(it)
+            self.seconds[it] = KEPT if it in self.kept else known.get(it, (UNMEASURED,))[0]
+        self.weight = behind(self.those, self.below, self.seconds)
+        self.left, self.jobs, self.done = list(self.those), [], 0
+        self.clock, self.of, self.shown, self.begin = 0, 0, 0, time.monotonic()
+
+    def tell(self, text, end="\n"):
+        clear = "\r\033[K" if sys.stderr.isatty() else ""
+        sys.stderr.write(f"{clear}{text}{end}")
+        sys.stderr.flush()
+
+    def scale(self):
+        """What a second of scripts/seconds.txt takes here, by the crates that were proved in this run."""
+        return self.clock / self.of if self.of else CLOCK
+
+    def expected(self):
+        """How long the rest takes."""
+        scale, running = self.scale(), {}
+        for it in self.jobs:
+            running[it.name] = max(self.seconds[it.name] * scale - it.seconds(), KEPT)
+        return expected({it: self.seconds[it] * scale for it in self.left}, running, self.below, self.lanes)
+
+    def words(self, name, is_wide):
+        """What rt is given: the program is built by a run on no script, which prints nothing, or for its help where it needs
+        arguments."""
+        jobs = [] if is_wide else ["--jobs", "1"]
+        if name != self.root:
+            return ["lib", *jobs]
+        return ["run", "--", "--help"] if os.path.exists(f"crates/{name}/args") else ["run"]
+
+    def start(self):
+        """Begins what stands on nothing that is left."""
+        proving = {it.name for it in self.jobs}
+        free = [it for it in self.left if not any(low in self.left or low in proving for low in self.below[it])]
+        for name in sorted(free, key=lambda it: -self.weight[it])[: self.lanes - len(self.jobs)]:
+            self.left.remove(name)
+            is_wide = not self.jobs or PROCESSORS >= 4 and not any(it.is_wide for it in self.jobs)
+            self.jobs.append(Job(name, self.words(name, is_wide), is_wide))
+
+    def take(self, job):
+        """A crate has ended. Whether it was proved."""
+        self.jobs.remove(job)
+        with open(LOG, "a", encoding="utf-8") as log:
+            log.write(f"== {job.name}\n{job.said()}")
+        if job.process.returncode:
+            self.tell("", "")
+            subprocess.run(["scripts/tell-refusals", job.path], check=False)
+            return False
+        os.remove(job.path)
+        self.done += 1
+        if job.name not in self.kept:
+            self.clock, self.of = self.clock + job.seconds(), self.of + self.seconds[job.name]
+        self.tell(f"  {job.name}, crate {self.done} of {len(self.those)}: {job.seconds():.0f} s")
+        return True
+
+    def show(self):
+        """A terminal's line each second, or a line a minute."""
+        if not self.jobs or time.monotonic() - self.begin < self.shown * (1 if sys.stderr.isatty() else 60):
+            return
+        now, minutes = ", ".join(it.now() for it in self.jobs), self.shown
+        self.shown += 1
+        if sys.stderr.isatty():
+            line = f"  {now}: {self.done} of {len(self.those)} crates proved, {told(self.expected())} left"
+            self.tell(line[: shutil.get_terminal_size().columns - 1], "")
+        elif minutes:
+            self.tell(f"  after {told(60 * minutes)}: {self.done} of {len(self.those)} crates proved, {told(self.expected())} left: {now}")
+
+    def prove(self):
+        """Whether all of them were proved."""
+        left = len(self.those) - len(self.kept)
+        self.tell(f"Proving and building the program, {left} of {len(self.those)} crates: that takes some {told(self.expected())} here.")
+        while self.left or self.jobs:
+            self.start()
+            time.sleep(0.2)
+            for job in [it for it in self.jobs if it.process.poll() is not None]:
+                if not self.take(job):
+                    return False
+            self.show()
+        return True
+
+    def end(self):
+        for job in self.jobs:
+            job.end()
+
+
+def interrupt(number, frame):
+    raise Interrupted
+
+
+def main(root, name):
+    for number in (signal.SIGINT, signal.SIGTERM, signal.SIGHUP):
+        signal.signal(number, interrupt)
+    lanes = Lanes(root, name)
+    for path in (LOG, STARTED):
+        with open(path, "w", encoding="utf-8"):
+            pass
+    try:
+        if not lanes.prove():
+            lanes.end()
+            lanes.tell(f"The program could not be built. All that the prover said is in {LOG}.")
+            return 1
+    except Interrupted:
+        for number in (signal.SIGINT, signal.SIGTERM, signal.SIGHUP):
+            signal.signal(number, signal.SIG_IGN)
+        lanes.end()
+        lanes.tell("\nInterrupted: no program was built. The same command begins again with the crates that are not proved yet.")
+        return 130
+    return subprocess.run(["scripts/keep-program", STARTED, root, name], check=False).returncode
+
+
+if __name__ == "__main__":
+    os.chdir(ROOT)
+    sys.exit(main(*sys.argv[1:]))
