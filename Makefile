@@ -30,7 +30,7 @@ help:
 	@echo 'make examples     plays every example and the samples of the pages on the built program'
 	@echo 'make limits       plays scripts at the limits of the language and the table, and measures the memory that they take'
 	@echo 'make compare      compares the built program with a second, unproved one, on random scripts and the largest submissions'
-	@echo 'make texts        asks fixcheck of the texts of examples and random scripts, and of spoiled ones'
+	@echo 'make texts        asks fixcheck of the texts of examples and random scripts, and of wrong ones, and compares what it prints'
 	@echo 'make pictures     draws the histories of docs/MODEL.md again'
 	@echo 'make agree        compares the io_uring of this machine with the model, on examples, random and contending scripts'
 	@echo 'make workers      counts the threads of the program for each number of workers, and tells its tables apart'
@@ -80,6 +80,7 @@ compare:
 texts:
 	@scripts/build-program
 	@scripts/build-program fx_check_cli fixcheck
+	@scripts/check-verdicts bin/fixcheck
 	@scripts/check-fixcheck bin/fixcheck bin/fixfiles 2000
 
 pictures:

@@ -50,32 +50,44 @@ pub fn words(rt: &HostRuntime) -> Result<Vec<String>, Ending> {
     }
 }
 
-fn command<'a>(alloc: Global) -> Result<Command<'a>, AllocError> {
-    let states = Arg::new(alloc, "states")
+fn states_argument<'a>(alloc: Global) -> Arg<'a> {
+    Arg::new(alloc, "states")
         .long("states")
         .value_name("N")
         .value_parser(value_parser!(u32))
         .default_value("1000000")
-        .help("How many states of a part of a submission are looked at before it is undecided");
-    let history = Arg::new(alloc, "history")
+        .help("How many states of a part of a submission are looked at before it is undecided")
+}
+
+fn history_argument<'a>(alloc: Global) -> Arg<'a> {
+    Arg::new(alloc, "history")
         .long("history")
         .action(ArgAction::SetTrue)
-        .help("Prints instead of the orders a whole legal history that gives the text");
-    let script = Arg::new(alloc, "script")
+        .help("Prints instead of the orders a whole legal history that gives the text")
+}
+
+fn script_argument<'a>(alloc: Global) -> Arg<'a> {
+    Arg::new(alloc, "script")
         .value_name("SCRIPT")
         .required(true)
-        .help("The script, or - for standard input");
-    let text = Arg::new(alloc, "text")
+        .help("The script, or - for standard input")
+}
+
+fn text_argument<'a>(alloc: Global) -> Arg<'a> {
+    Arg::new(alloc, "text")
         .value_name("TEXT")
         .required(true)
-        .help("The text, or - for standard input");
+        .help("The text, or - for standard input")
+}
+
+fn command<'a>(alloc: Global) -> Result<Command<'a>, AllocError> {
     Command::new(alloc, "fixcheck")
         .about(ABOUT)
         .after_help(STATUSES)
-        .arg(states)?
-        .arg(history)?
-        .arg(script)?
-        .arg(text)
+        .arg(states_argument(alloc))?
+        .arg(history_argument(alloc))?
+        .arg(script_argument(alloc))?
+        .arg(text_argument(alloc))
 }
 
 // The number of states, which has a default.

@@ -1,11 +1,16 @@
 //! The verdict, as it is printed.
+ghost use Rattle.std.specs.Prelude.{◌≡◌};
+ghost use Rattle.fx_check_cli.specs.Status.{status};
+
 use crate::lines::{first_difference, line_behind, line_number, line_of_command, shown_line};
 use fx_check::{Break, Fault, Judgement, Order};
 use fx_judge::{Doubt, Reason};
 use std::alloc::{AllocError, Global};
 
 /// The status of the program: 0 for a legal text, 1 for another one, 6 where it is undecided.
-pub fn status_of(judgement: &Judgement) -> u8 {
+pub fn status_of(judgement: &Judgement) -> u8
+    ensures { result ≡ status judgement.now }
+{
     match judgement {
         Judgement::Legal(_) => 0,
         Judgement::NotLegal(_) => 1,

@@ -1,4 +1,0 @@
-mod arguments;
-mod histories;
-mod lines;
-mod verdicts;
