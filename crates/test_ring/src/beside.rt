@@ -1,11 +1,8 @@
 //! Threads that really run at the same time: a gate holds a chain until other chains have come as far. No clause says
 //! that two threads ran, so that a player of all chains on one thread would be proved as well.
-use crate::setting::{
-    Players, TABLES, close, expect_closed, expect_completed, expect_left, full_ring, linked,
-    open_at, opened, read, registered, sparse_ring, submit_with,
-};
-use fx_chain::{Gate, Place, Request};
-use std::alloc::{AllocError, Global};
+use crate::setting::{Players, TABLES, played};
+use fx_chain::{Gate, Place};
+use std::alloc::Global;
 use std::process::Abort;
 use std::sync::Wait;
 use std::sync::atomic::{AtomicBool, AtomicU32, Ordering};
@@ -65,91 +62,56 @@ impl Gate for Meeting {
 }
 
 // Each chain opens a file at a slot of its own, reads it and closes it.
-fn two_chains(alloc: Global) -> Result<[Request; 6], AllocError> {
-    Ok([
-        linked(open_at(alloc, "a.txt", 0)?),
-        linked(read(0, 0, 5)),
-        close(0),
-        linked(open_at(alloc, "a.txt", 1)?),
-        linked(read(1, 0, 5)),
-        close(1),
-    ])
-}
+const TWO_CHAINS: &str = "file a.txt 68656c6c6f\nsparse 2\nopen a.txt at 0 link\nread 0 0 5 link\n\
+    close 0\nopen a.txt at 1 link\nread 1 0 5 link\nclose 1\nsubmit\n";
 
-// Whether the third members of the two chains met. The report is the same for all.
+const TWO_CHAINS_TEXT: &str = "sparse 0\n1.1.1 0\n1.1.2 5 68656c6c6f\n1.1.3 0\n1.2.1 0\n\
+    1.2.2 5 68656c6c6f\n1.2.3 0\nclosed 1.1.1.0 a.txt\nclosed 1.2.1.0 a.txt\n";
+
+// Whether the third members of the two chains met. The text is the same for all.
 fn third_members_meet<R: Threads + Wait + Abort + Sync>(
     rt: &R,
     alloc: Global,
-    requests: &[Request],
     players: Players,
-) -> Result<bool, Fail> {
+) -> bool {
     let meeting = Meeting::new(3, 2);
-    let mut ring = sparse_ring(rt, alloc, 2)?;
-    let report = submit_with(rt, alloc, &mut ring, requests, players, &meeting);
-    let completed = [
-        (1, 1, 0, ""),
-        (1, 2, 5, "hello"),
-        (1, 3, 0, ""),
-        (2, 1, 0, ""),
-        (2, 2, 5, "hello"),
-        (2, 3, 0, ""),
-    ];
-    expect_completed(rt, &report, 1, &completed);
-    expect_closed(rt, &report, &[opened(1, 1, 1, 0), opened(1, 2, 1, 0)]);
-    expect_left(rt, alloc, ring, &[]);
-    Ok(meeting.was_held())
+    let text = played(rt, alloc, TWO_CHAINS, players, &meeting);
+    assert!(rt;
+        text.as_slice() == TWO_CHAINS_TEXT.as_bytes(),
+        "{} workers",
+        players.1
+    );
+    meeting.was_held()
 }
 
 #[test]
-fn two_workers_play_beside_each_other(rt: HostRuntime) -> Result<(), Fail> {
-    let alloc = rt.alloc();
-    let requests = two_chains(alloc)?;
+fn two_workers_play_beside_each_other(rt: HostRuntime) {
     for table in TABLES {
         for workers in [2, 3, 16] {
-            assert!(rt; third_members_meet(&rt, alloc, &requests, (table, workers))?);
+            assert!(rt; third_members_meet(&rt, rt.alloc(), (table, workers)));
         }
     }
-    Ok(())
 }
 
 #[test]
-fn one_worker_waits_in_vain(rt: HostRuntime) -> Result<(), Fail> {
-    let alloc = rt.alloc();
-    let requests = two_chains(alloc)?;
+fn one_worker_waits_in_vain(rt: HostRuntime) {
     for table in TABLES {
-        assert!(rt; !third_members_meet(&rt, alloc, &requests, (table, 1))?);
+        assert!(rt; !third_members_meet(&rt, rt.alloc(), (table, 1)));
     }
-    Ok(())
 }
 
 // As many chains as there are workers meet in front of their only members.
-fn all_workers_meet<R: Threads + Wait + Abort + Sync>(
-    rt: &R,
-    alloc: Global,
-    players: Players,
-) -> Result<(), Fail> {
-    let (_table, workers) = players;
-    let mut requests = Vec::new(alloc);
-    let mut completed = Vec::new(alloc);
-    for chain in 0..workers {
-        requests.push(read(0, 0, 5))?;
-        completed.push((chain.wrapping_add(1), 1, 5, "hello"))?;
-    }
-    let meeting = Meeting::new(1, workers);
-    let mut ring = full_ring(rt, alloc, &[0])?;
-    let report = submit_with(rt, alloc, &mut ring, requests.as_slice(), players, &meeting);
-    expect_completed(rt, &report, 1, completed.as_slice());
-    expect_closed(rt, &report, &[]);
-    assert!(rt; meeting.was_held(), "{players:?}");
-    expect_left(rt, alloc, ring, &[registered(1, 0, 0)]);
-    Ok(())
-}
-
 #[test]
 fn each_number_of_workers_play_beside_each_other(rt: HostRuntime) -> Result<(), Fail> {
-    for table in TABLES {
-        for workers in 1..17 {
-            all_workers_meet(&rt, rt.alloc(), (table, workers))?;
+    let mut requests = String::new(rt.alloc());
+    for workers in 1..17 {
+        requests.push_str("close 0\n")?;
+        let script = format!(in rt.alloc(); "{requests}submit\n")?;
+        for table in TABLES {
+            let meeting = Meeting::new(1, workers);
+            let players = (table, workers);
+            played(&rt, rt.alloc(), script.as_str(), players, &meeting);
+            assert!(rt; meeting.was_held(), "{} workers", players.1);
         }
     }
     Ok(())

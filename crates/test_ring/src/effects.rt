@@ -1,11 +1,9 @@
 //! The gate stands where it says: in front of each request that starts, and behind its completion, for each member of
 //! each chain of each submission. What a request did to the table is seen from another chain while the gate holds it.
 use crate::setting::{
-    Calls, Players, TABLES, expect_closed, expect_left, linked, open_at, opened, sparse_ring,
-    submit_with, update,
+    Calls, Players, TABLES, end, in_chain, open_at, ring_of_one_file, submit, update,
 };
-use fx_base::Closed;
-use fx_chain::{Completion, Gate, Place, Request};
+use fx_chain::{Gate, Place, Request};
 use fx_ring::Ring;
 use std::alloc::{AllocError, Global};
 use std::process::Abort;
@@ -40,10 +38,9 @@ fn pairs_before(place: Place) -> u32 {
 }
 
 impl Watch {
-    // A gate of this submission.
-    fn new(alloc: Global, submission: u32) -> Result<Watch, AllocError> {
+    fn new(alloc: Global) -> Result<Watch, AllocError> {
         Ok(Watch {
-            calls: Calls::new(alloc, submission, 20)?,
+            calls: Calls::new(alloc, 1, 20)?,
             opened: AtomicU32::new(0),
             removed: AtomicU32::new(0),
             is_late: AtomicBool::new(false),
@@ -61,12 +58,6 @@ impl Watch {
             }
         }
         self.is_late.store(true, Ordering::SeqCst);
-    }
-
-    // Each member was started, and no chain waited in vain.
-    fn expect<R: Abort>(&self, rt: &R) {
-        assert!(rt; self.calls.were_started(&[MEMBERS; 20]));
-        assert!(rt; !self.is_late.load(Ordering::SeqCst));
     }
 }
 
@@ -98,124 +89,77 @@ impl Gate for Watch {
     }
 }
 
-// All but the last member of a chain are linked with the next one.
-fn in_chain(request: Request, member: u32) -> Request {
-    if member < MEMBERS {
-        linked(request)
-    } else {
-        request
-    }
-}
-
 // The pairs of chains. The last member of a second one leaves its slot as it is.
 fn pairs_of_chains(alloc: Global) -> Result<Vec<Request>, AllocError> {
     let mut requests = Vec::new(alloc);
     for pair in 0..PAIRS {
-        for member in 1..MEMBERS + 1 {
-            let slot = pair * MEMBERS + member - 1;
-            requests.push(in_chain(open_at(alloc, "a.txt", slot)?, member))?;
+        for at in 0..MEMBERS {
+            let request = open_at(alloc, "a.txt", pair * MEMBERS + at)?;
+            requests.push(in_chain(request, at, MEMBERS))?;
         }
-        for member in 1..MEMBERS + 1 {
-            let slot = pair * MEMBERS + member - 1;
-            let entry = if member < MEMBERS { -1 } else { -2 };
-            requests.push(in_chain(update(alloc, slot, &[entry])?, member))?;
+        for at in 0..MEMBERS {
+            let entry = if at < MEMBERS - 1 { -1 } else { -2 };
+            let request = update(alloc, pair * MEMBERS + at, &[entry])?;
+            requests.push(in_chain(request, at, MEMBERS))?;
         }
     }
     Ok(requests)
 }
 
-// Each open answers 0, and each update 1.
-fn expect_answers<R: Abort>(rt: &R, completions: &[Completion]) {
-    assert!(rt; completions.len() == 320);
-    for completion in completions {
-        let res = if completion.place.chain % 2 == 1 {
-            0
-        } else {
-            1
-        };
-        assert_eq!(rt; completion.res, res, "{:?}", completion.place);
-    }
+fn ring_of_pairs<R: Abort>(rt: &R, alloc: Global) -> Result<Ring, Fail> {
+    let mut ring = ring_of_one_file(alloc)?;
+    assert!(rt; ring.register_sparse(alloc, PAIRS * MEMBERS).is_ok());
+    Ok(ring)
 }
 
-// Files that the first chain of each pair opened, by these members.
-fn files_of(
-    alloc: Global,
-    submission: u32,
-    first: u32,
-    last: u32,
-) -> Result<Vec<Closed>, AllocError> {
-    let mut files = Vec::new(alloc);
-    for pair in 0..PAIRS {
-        for member in first..last.wrapping_add(1) {
-            files.push(opened(submission, 2 * pair + 1, member, 0))?;
-        }
-    }
-    Ok(files)
-}
-
-// A submission is played at a gate, and these files are closed.
-fn play_watched<R: Threads + Wait + Abort + Sync>(
-    rt: &R,
-    alloc: Global,
-    ring: &mut Ring,
-    requests: &[Request],
-    players: Players,
-    watch: Watch,
-    closed: &[Closed],
-) {
-    let report = submit_with(rt, alloc, ring, requests, players, &watch);
-    expect_answers(rt, report.completions.as_slice());
-    expect_closed(rt, &report, closed);
-    watch.expect(rt);
-}
-
-// Two submissions: the second one replaces what the first one left.
-fn expect_effects<R: Threads + Wait + Abort + Sync>(
-    rt: &R,
-    alloc: Global,
-    requests: &[Request],
-    players: Players,
-) -> Result<(), Fail> {
-    let (first, second) = (Watch::new(alloc, 1)?, Watch::new(alloc, 2)?);
-    let removed = files_of(alloc, 1, 1, MEMBERS - 1)?;
-    let mut replaced = files_of(alloc, 1, MEMBERS, MEMBERS)?;
-    replaced.append(&mut files_of(alloc, 2, 1, MEMBERS - 1)?)?;
-    let left = files_of(alloc, 2, MEMBERS, MEMBERS)?;
-    let mut ring = sparse_ring(rt, alloc, PAIRS * MEMBERS)?;
-    let files = removed.as_slice();
-    play_watched(rt, alloc, &mut ring, requests, players, first, files);
-    let files = replaced.as_slice();
-    play_watched(rt, alloc, &mut ring, requests, players, second, files);
-    expect_left(rt, alloc, ring, left.as_slice());
-    Ok(())
-}
-
+// Each removal finds the file of its open, so that the file is closed: all but the last of each pair.
 #[test]
 fn gate_stands_behind_each_effect(rt: HostRuntime) -> Result<(), Fail> {
     let alloc = rt.alloc();
     let requests = pairs_of_chains(alloc)?;
     for table in TABLES {
-        expect_effects(&rt, alloc, requests.as_slice(), (table, 2))?;
+        let watch = Watch::new(alloc)?;
+        let mut ring = ring_of_pairs(&rt, alloc)?;
+        let report = submit(
+            &rt,
+            alloc,
+            &mut ring,
+            requests.as_slice(),
+            (table, 2),
+            &watch,
+        );
+        assert!(rt; report.closes.files().len() == 150);
+        assert!(rt; watch.calls.were_started(&[MEMBERS; 20]));
+        assert!(rt; !watch.is_late.load(Ordering::SeqCst));
+        end(&rt, alloc, ring);
     }
     Ok(())
 }
 
 // A gate that holds nobody is called for each member of two submissions, once in front and once behind, in order.
+fn expect_called<R: Threads + Wait + Abort + Sync>(
+    rt: &R,
+    alloc: Global,
+    requests: &[Request],
+    players: Players,
+) -> Result<(), Fail> {
+    let (first, second) = (Calls::new(alloc, 1, 20)?, Calls::new(alloc, 2, 20)?);
+    let mut ring = ring_of_pairs(rt, alloc)?;
+    for calls in [&first, &second] {
+        submit(rt, alloc, &mut ring, requests, players, calls);
+        assert!(rt; calls.were_started(&[MEMBERS; 20]), "{} workers", players.1);
+    }
+    end(rt, alloc, ring);
+    Ok(())
+}
+
 #[test]
 fn gate_is_called_for_each_member(rt: HostRuntime) -> Result<(), Fail> {
     let alloc = rt.alloc();
     let requests = pairs_of_chains(alloc)?;
     for table in TABLES {
         for workers in 1..17 {
-            let first = Calls::new(alloc, 1, 20)?;
-            let second = Calls::new(alloc, 2, 20)?;
-            let mut ring = sparse_ring(&rt, alloc, PAIRS * MEMBERS)?;
-            for calls in [&first, &second] {
-                let players = (table, workers);
-                submit_with(&rt, alloc, &mut ring, requests.as_slice(), players, calls);
-                assert!(rt; calls.were_started(&[MEMBERS; 20]));
-            }
-            ring.abandon();
+            expect_called(&rt, alloc, requests.as_slice(), (table, workers))?;
         }
     }
     Ok(())

@@ -1,34 +1,25 @@
-//! A ring: its calls between submissions, and submissions to both tables that threads share, the same to each, of every size
-//! and by every number of workers. What a call answers is its contract; these tests show what it can't say: that a call
-//! succeeds where there is memory, that there is a report at all, that threads run at the same time, that the gate stands
-//! where it says, and that the clauses say what was meant.
+//! What no contract says: that there is memory for submissions, tables and lists of every size, that threads run at the same
+//! time, and where the gate stands; of the ring, and of the crates below the shared tables. Some worked values stand here
+//! too. What a call answers is its contract, and what a script prints stands in examples/.
 #![tactic(auto)]
 
 #[cfg(test)]
 mod beside;
 #[cfg(test)]
-mod chains;
-#[cfg(test)]
-mod counts;
+mod counted;
 #[cfg(test)]
 mod effects;
 #[cfg(test)]
-mod largest;
+mod gates;
 #[cfg(test)]
-mod links;
-#[cfg(test)]
-mod lists;
-#[cfg(test)]
-mod reads;
+mod memory;
 #[cfg(test)]
 mod refused;
 #[cfg(test)]
 mod refusing;
 #[cfg(test)]
-mod registrations;
-#[cfg(test)]
-mod requests;
-#[cfg(test)]
 mod setting;
 #[cfg(test)]
-mod tags;
+mod submissions;
+#[cfg(test)]
+mod values;

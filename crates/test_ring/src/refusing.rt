@@ -6,13 +6,10 @@ ghost use Rattle.fx_table.specs.Closing.{ClosesTable};
 ghost use Rattle.fx_baton.specs.Passes.{view_of};
 ghost use Rattle.fx_baton.specs.Tables.{opening_of_table, IsPassOfTable};
 
-use crate::setting::{
-    Calls, Table, close, expect_as_before, expect_left, full_ring, length_at, open_any, read,
-    reads, registered, ring_before_refusal,
-};
+use crate::setting::{Calls, Table, end, reads, registered_ring, submit};
 use fx_base::{NoMemory, OpenFile};
 use fx_baton::{BatonPass, BatonTable};
-use fx_chain::{OpenGate, Request};
+use fx_chain::OpenGate;
 use fx_plain::PlainTable;
 use fx_ring::SubmitFault;
 use fx_table::{Empty, FileTable, Hold, LookFault, Retired};
@@ -130,33 +127,31 @@ impl<const PASSES: u32> FileTable for OnlyFor<PASSES> {
     ghost fronts = { λ t p fits. fits.seated.front };
 }
 
-// The requests are refused for memory as often as they are submitted.
-fn expect_no_memory<R: Threads + Wait + Abort + Sync>(
-    rt: &R,
-    alloc: Global,
-    requests: &[Request],
-    workers: u32,
-) -> Result<(), Fail> {
-    let calls = Calls::new(alloc, 1, 0)?;
-    let mut ring = ring_before_refusal(rt, alloc)?;
-    for _ in 0..2 {
-        match ring.submit::<OnlyFor<0>, Calls>(rt, alloc, requests, workers, &calls) {
-            Ok(_report) => panic!(rt; "a refusal"),
-            Err(fault) => assert!(rt; fault == SubmitFault::NoMemory),
-        }
-    }
-    assert!(rt; calls.were_started(&[]));
-    expect_as_before(rt, alloc, ring, Table::Baton);
-    Ok(())
-}
-
+// The requests are refused for memory as often as they are submitted, and played on a table that opens.
 #[test]
 fn table_that_is_not_opened(rt: HostRuntime) -> Result<(), Fail> {
     let alloc = rt.alloc();
-    let requests = [close(0), read(0, 0, 1), open_any(alloc, "b.txt")?];
-    for workers in [1, 2, 16] {
-        expect_no_memory(&rt, alloc, &requests, workers)?;
-        expect_no_memory(&rt, alloc, &[], workers)?;
+    let requests = reads(alloc, 3, 1)?;
+    for (count, workers) in [(0, 1), (0, 16), (3, 1), (3, 2), (3, 16)] {
+        let requests = &requests.as_slice()[..count];
+        let calls = Calls::new(alloc, 1, 0)?;
+        let mut ring = registered_ring(&rt, alloc)?;
+        for _ in 0..2 {
+            match ring.submit::<OnlyFor<0>, Calls>(&rt, alloc, requests, workers, &calls) {
+                Ok(_report) => panic!(rt; "a refusal"),
+                Err(fault) => assert!(rt; fault == SubmitFault::NoMemory),
+            }
+        }
+        assert!(rt; calls.were_started(&[]));
+        submit(
+            &rt,
+            alloc,
+            &mut ring,
+            requests,
+            (Table::Baton, workers),
+            &OpenGate,
+        );
+        end(&rt, alloc, ring);
     }
     Ok(())
 }
@@ -165,65 +160,39 @@ fn table_that_is_not_opened(rt: HostRuntime) -> Result<(), Fail> {
 fn expect_opened<const PASSES: u32, R: Threads + Wait + Abort + Sync>(
     rt: &R,
     alloc: Global,
-    requests: &[Request],
+    chains: u32,
     workers: u32,
 ) -> Result<(), Fail> {
-    let mut ring = full_ring(rt, alloc, &[0])?;
+    let requests = reads(alloc, chains, 1)?;
+    let requests = requests.as_slice();
+    let mut ring = registered_ring(rt, alloc)?;
     match ring.submit::<OnlyFor<PASSES>, OpenGate>(rt, alloc, requests, workers, &OpenGate) {
         Ok(report) => {
-            assert!(rt; report.completions.len() == requests.len());
-            for (at, completion) in report.completions.iter().enumerate() {
-                assert!(rt; completion.res == length_at(at) as i32);
+            for completion in &report.completions {
+                assert!(rt; completion.res == 5);
             }
         }
-        Err(fault) => {
-            let chains = requests.len();
-            panic!(rt; "{PASSES} passes for {workers} workers and {chains} chains: {fault:?}")
-        }
+        Err(_fault) => panic!(rt; "{PASSES} passes for {workers} workers and {chains} chains"),
     }
-    expect_left(rt, alloc, ring, &[registered(1, 0, 0)]);
+    end(rt, alloc, ring);
     Ok(())
-}
-
-// The same, by the number of passes.
-fn expect_passes<R: Threads + Wait + Abort + Sync>(
-    rt: &R,
-    alloc: Global,
-    requests: &[Request],
-    workers: u32,
-    passes: u32,
-) -> Result<(), Fail> {
-    match passes {
-        1 => expect_opened::<1, R>(rt, alloc, requests, workers),
-        2 => expect_opened::<2, R>(rt, alloc, requests, workers),
-        3 => expect_opened::<3, R>(rt, alloc, requests, workers),
-        4 => expect_opened::<4, R>(rt, alloc, requests, workers),
-        5 => expect_opened::<5, R>(rt, alloc, requests, workers),
-        6 => expect_opened::<6, R>(rt, alloc, requests, workers),
-        7 => expect_opened::<7, R>(rt, alloc, requests, workers),
-        8 => expect_opened::<8, R>(rt, alloc, requests, workers),
-        9 => expect_opened::<9, R>(rt, alloc, requests, workers),
-        10 => expect_opened::<10, R>(rt, alloc, requests, workers),
-        11 => expect_opened::<11, R>(rt, alloc, requests, workers),
-        12 => expect_opened::<12, R>(rt, alloc, requests, workers),
-        13 => expect_opened::<13, R>(rt, alloc, requests, workers),
-        14 => expect_opened::<14, R>(rt, alloc, requests, workers),
-        15 => expect_opened::<15, R>(rt, alloc, requests, workers),
-        16 => expect_opened::<16, R>(rt, alloc, requests, workers),
-        _ => panic!(rt; "{passes} passes"),
-    }
 }
 
 // There is a pass for each worker, but no more than there are chains, and one where there are none.
 #[test]
 fn passes_are_as_many_as_workers_or_chains(rt: HostRuntime) -> Result<(), Fail> {
     let alloc = rt.alloc();
-    for chains in 0..33 {
-        let requests = reads(alloc, chains, 1)?;
-        for workers in 1..17u32 {
-            let passes = workers.min(chains.max(1));
-            expect_passes(&rt, alloc, requests.as_slice(), workers, passes)?;
-        }
+    for one in 1..17 {
+        expect_opened::<1, _>(&rt, alloc, 0, one)?;
+        expect_opened::<1, _>(&rt, alloc, 1, one)?;
+        expect_opened::<1, _>(&rt, alloc, one, 1)?;
+    }
+    for some in 7..17 {
+        expect_opened::<7, _>(&rt, alloc, 7, some)?;
+        expect_opened::<7, _>(&rt, alloc, some, 7)?;
+    }
+    for chains in 16..33 {
+        expect_opened::<16, _>(&rt, alloc, chains, 16)?;
     }
     Ok(())
 }

@@ -1,45 +1,25 @@
-//! Requests of each kind.
+//! Requests.
+ghost use Rattle.std.specs.Prelude.{◌<◌};
+
 use bitflags::Flags;
 use fx_chain::{Op, Request, SqeFlags, Target};
 use std::alloc::{AllocError, Global};
 
-fn no_flags() -> SqeFlags {
-    SqeFlags::from_bits_retain(0)
-}
-
-fn open(alloc: Global, name: &str, target: Target) -> Result<Request, AllocError> {
-    let name = String::from_str(alloc, name)?;
-    Ok(Request {
-        op: Op::Open { name, target },
-        flags: no_flags(),
-    })
-}
-
 /// An open at a slot.
 pub fn open_at(alloc: Global, name: &str, slot: u32) -> Result<Request, AllocError> {
-    open(alloc, name, Target::Slot(slot))
-}
-
-/// An open at any free slot.
-pub fn open_any(alloc: Global, name: &str) -> Result<Request, AllocError> {
-    open(alloc, name, Target::Any)
+    let name = String::from_str(alloc, name)?;
+    let target = Target::Slot(slot);
+    Ok(Request {
+        op: Op::Open { name, target },
+        flags: SqeFlags::empty(),
+    })
 }
 
 /// A read of so many bytes from this one on.
 pub fn read(slot: u32, off: u32, len: u32) -> Request {
-    let mut flags = no_flags();
-    flags.insert(SqeFlags::FIXED_FILE);
     Request {
         op: Op::Read { slot, off, len },
-        flags,
-    }
-}
-
-/// A close of a slot.
-pub fn close(slot: u32) -> Request {
-    Request {
-        op: Op::Close { slot },
-        flags: no_flags(),
+        flags: SqeFlags::FIXED_FILE,
     }
 }
 
@@ -48,20 +28,28 @@ pub fn update(alloc: Global, off: u32, list: &[i32]) -> Result<Request, AllocErr
     let list = list.to_vec(alloc)?;
     Ok(Request {
         op: Op::Update { off, list },
-        flags: no_flags(),
+        flags: SqeFlags::empty(),
     })
 }
 
-/// The request, linked with the next one by a soft link.
-pub fn linked(request: Request) -> Request {
-    let Request { op, mut flags } = request;
-    flags.insert(SqeFlags::IO_LINK);
-    Request { op, flags }
+/// The request at this place of a submission, from 0, in chains of so many members: all but the last of a chain are linked with
+/// the next one.
+pub fn in_chain(mut request: Request, at: u32, members: u32) -> Request
+    requires { 0 < members }
+{
+    if (at % members).wrapping_add(1) < members {
+        request.flags = request.flags.union(SqeFlags::IO_LINK);
+    }
+    request
 }
 
-/// The request, linked with the next one by a hard link.
-pub fn hard_linked(request: Request) -> Request {
-    let Request { op, mut flags } = request;
-    flags.insert(SqeFlags::IO_HARDLINK);
-    Request { op, flags }
+/// So many reads of the five bytes at slot 0, in chains of so many members.
+pub fn reads(alloc: Global, count: u32, members: u32) -> Result<Vec<Request>, AllocError>
+    requires { 0 < members }
+{
+    let mut requests = Vec::new(alloc);
+    for at in 0..count {
+        requests.push(in_chain(read(0, 0, 5), at, members))?;
+    }
+    Ok(requests)
 }

@@ -4,12 +4,14 @@ use fx_baton::BatonTable;
 use fx_chain::{Gate, Request};
 use fx_counted::CountedTable;
 use fx_ring::{Report, Ring, SubmitFault};
-use std::alloc::{AllocError, Global};
+use std::alloc::Global;
+use std::process::Abort;
 use std::sync::Wait;
+use std::test::Fail;
 use std::thread::Threads;
 
 /// Which table the workers share.
-#[derive(Clone, Copy, Debug)]
+#[derive(Clone, Copy)]
 pub enum Table {
     /// The one without a lock, of packed words.
     Words,
@@ -35,21 +37,18 @@ pub const PLAYERS: [Players; 8] = [
     (Table::Baton, 16),
 ];
 
-/// One worker over each table, which plays the chains in their order.
-pub const ALONE: [Players; 2] = [(Table::Words, 1), (Table::Baton, 1)];
-
-/// A ring without a table. Entry 0 of its catalogue is `a.txt`, with the bytes `hello`, and entry 1 is `b.txt`, with `hi`.
-pub fn ring_of_two_files(alloc: Global) -> Result<Ring, AllocError> {
+/// A ring without a table, whose catalogue has `a.txt` alone, a file of 4,096 bytes.
+pub fn ring_of_one_file(alloc: Global) -> Result<Ring, Fail> {
     let mut catalogue = Catalogue::new(alloc);
-    let (name, bytes) = (String::from_str(alloc, "a.txt")?, b"hello".to_vec(alloc)?);
-    let Ok(()) = catalogue.add(name, bytes) else {
-        return Err(AllocError);
-    };
-    let (name, bytes) = (String::from_str(alloc, "b.txt")?, b"hi".to_vec(alloc)?);
-    let Ok(()) = catalogue.add(name, bytes) else {
-        return Err(AllocError);
-    };
+    catalogue.add(String::from_str(alloc, "a.txt")?, vec![in alloc; 7; 4096]?)?;
     Ok(Ring::new(alloc, catalogue))
+}
+
+/// The same with a table that has this file at its only slot.
+pub fn registered_ring<R: Abort>(rt: &R, alloc: Global) -> Result<Ring, Fail> {
+    let mut ring = ring_of_one_file(alloc)?;
+    assert!(rt; ring.register(alloc, &[0]).is_ok());
+    Ok(ring)
 }
 
 /// Submits requests.
@@ -65,5 +64,31 @@ pub fn try_submit<R: Threads + Wait + Sync, G: Gate>(
     match table {
         Table::Words => ring.submit::<CountedTable, G>(rt, alloc, requests, workers, gate),
         Table::Baton => ring.submit::<BatonTable, G>(rt, alloc, requests, workers, gate),
+    }
+}
+
+/// Submits requests, which are accepted.
+pub fn submit<R: Threads + Wait + Abort + Sync, G: Gate>(
+    rt: &R,
+    alloc: Global,
+    ring: &mut Ring,
+    requests: &[Request],
+    players: Players,
+    gate: &G,
+) -> Report {
+    match try_submit(rt, alloc, ring, requests, players, gate) {
+        Ok(report) => report,
+        Err(_fault) => panic!(rt; "a report by {} workers", players.1),
+    }
+}
+
+/// Ends a ring, for whose list there is memory.
+pub fn end<R: Abort>(rt: &R, alloc: Global, ring: Ring) {
+    match ring.tear_down(alloc) {
+        Ok(closes) => assert!(rt; closes.tags(alloc).is_ok()),
+        Err((ring, _refused)) => {
+            ring.abandon();
+            panic!(rt; "a list of closes")
+        }
     }
 }
