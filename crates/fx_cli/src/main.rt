@@ -36,6 +36,3 @@ fn main(rt: HostRuntime) -> ExitCode {
         Err(fault) => ended(&rt, Ending::Run(fault)),
     }
 }
-
-#[cfg(test)]
-mod tests;

@@ -1,18 +1,15 @@
-//! Scripts and texts, by the calls of `fx_script`: what is read and what is refused, and by which fault of which line. What a
-//! call answers is its contract; these tests show that its clauses say what was meant, by values worked out by hand.
+//! Scripts, played by `fx_script::run` over both tables, and orders of a report: what their contracts can't say. A run comes
+//! to its end at all, it asks for as many workers as it is given, its gate stands where it says, and each read or write that
+//! fails ends it. What is printed is its contract, and the scripts of `examples/` show it on the built program.
 #![tactic(auto)]
 
 #[cfg(test)]
-mod accepted;
+mod gates;
 #[cfg(test)]
-mod cut;
+mod orders;
 #[cfg(test)]
-mod faults;
+mod playing;
 #[cfg(test)]
-mod limits;
+mod readers;
 #[cfg(test)]
-mod order;
-#[cfg(test)]
-mod reading;
-#[cfg(test)]
-mod texts;
+mod writers;

@@ -1,14 +1,21 @@
-// Scripts that are played by `run` over both tables.
-use crate::arguments::Table;
+// Scripts that are played by `run`.
 use fx_baton::BatonTable;
 use fx_chain::{Gate, OpenGate};
 use fx_counted::CountedTable;
 use fx_script::{PlayFault, run};
 use std::alloc::Global;
 use std::io::{Read, Write};
-use std::process::Abort;
 use std::sync::Wait;
 use std::thread::Threads;
+
+/// Which table the workers share.
+#[derive(Clone, Copy)]
+pub enum Table {
+    /// The one without a lock, of packed words.
+    Words,
+    /// The one guarded by one word.
+    Baton,
+}
 
 /// The script that the tests of readers and writers play, 83 bytes, and its text.
 pub const OPEN_READ_CLOSE: &str =
@@ -34,9 +41,9 @@ pub fn played_at<R: Threads + Wait + Sync, G: Gate>(
     table: Table,
     workers: u32,
     gate: &G,
-    script: &[u8],
+    script: &str,
 ) -> (Vec<u8>, Result<(), PlayFault>) {
-    let mut reader = script;
+    let mut reader = script.as_bytes();
     let mut written = Vec::new(alloc);
     let workers = match workers {
         1..=16 => workers,
@@ -48,30 +55,4 @@ pub fn played_at<R: Threads + Wait + Sync, G: Gate>(
         Table::Baton => run::<BatonTable, _, _, _>(rt, alloc, workers, gate, input, output),
     };
     (written, ended)
-}
-
-/// The script is played to its end over both tables on so many workers, and this text is what it writes.
-pub fn plays_on<R: Threads + Wait + Abort + Sync>(
-    rt: &R,
-    alloc: Global,
-    workers: u32,
-    script: &str,
-    text: &str,
-) {
-    for table in [Table::Words, Table::Baton] {
-        let (written, ended) = played_at(rt, alloc, table, workers, &OpenGate, script.as_bytes());
-        assert_eq!(rt; ended, Ok(()), "{table:?}, {workers}: {script}");
-        assert_eq!(rt;
-            std::str::from_utf8(written.as_slice()),
-            Ok(text),
-            "{table:?}, {workers}: {script}"
-        );
-    }
-}
-
-/// The same on 1, 2, 3 and 16 workers.
-pub fn plays<R: Threads + Wait + Abort + Sync>(rt: &R, alloc: Global, script: &str, text: &str) {
-    for workers in [1, 2, 3, 16] {
-        plays_on(rt, alloc, workers, script, text);
-    }
 }

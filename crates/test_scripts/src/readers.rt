@@ -4,9 +4,7 @@ use fx_script::{PlayFault, ScriptFault};
 use std::alloc::Global;
 use std::io;
 use std::io::{ErrorKind, Read};
-use std::process::Abort;
 use std::sync::Wait;
-use std::test::Fail;
 use std::thread::Threads;
 
 const TOO_LONG: PlayFault = PlayFault::Script {
@@ -54,34 +52,35 @@ impl Read for EmptyLines {
     }
 }
 
-// Lets a reader fail so, whichever of its reads it is: nothing is written, and no other read makes up for it.
-fn fails<R: Threads + Wait + Abort + Sync>(rt: &R, alloc: Global, kind: ErrorKind) {
-    // Its 83 bytes and the end are read in 13 turns.
-    for turns in 0..13 {
-        let mut reader = Failing {
-            left: OPEN_READ_CLOSE.as_bytes(),
-            step: 7,
-            turns,
-            kind,
-        };
-        let mut written = Vec::new(alloc);
-        assert_eq!(rt;
-            ended(rt, alloc, &mut reader, &mut written),
-            Err(PlayFault::Read),
-            "{turns}"
-        );
-        assert_eq!(rt; written.len(), 0, "{turns}");
-    }
+// Whether a run ends with this fault, and nothing was written.
+fn ends_with<R: Threads + Wait + Sync, I: Read>(
+    rt: &R,
+    alloc: Global,
+    reader: &mut I,
+    fault: PlayFault,
+) -> bool {
+    let mut written = Vec::new(alloc);
+    ended(rt, alloc, reader, &mut written) == Err(fault) && written.len() == 0
 }
 
+// Whichever of its reads fails, no other read makes up for it. The 83 bytes and the end are read in 13 turns, and a bad line
+// and the end in 2.
 #[test]
 fn a_reader_that_fails(rt: HostRuntime) {
-    fails(&rt, rt.alloc(), ErrorKind::ConnectionReset);
-}
-
-#[test]
-fn a_reader_that_is_interrupted(rt: HostRuntime) {
-    fails(&rt, rt.alloc(), ErrorKind::Interrupted);
+    for kind in [ErrorKind::ConnectionReset, ErrorKind::Interrupted] {
+        for (script, reads) in [(OPEN_READ_CLOSE, 13), ("bogus\n", 2)] {
+            for turns in 0..reads {
+                let mut reader = Failing {
+                    left: script.as_bytes(),
+                    step: 7,
+                    turns,
+                    kind,
+                };
+                let fails = ends_with(&rt, rt.alloc(), &mut reader, PlayFault::Read);
+                assert!(rt; fails, "read {turns} of {reads}");
+            }
+        }
+    }
 }
 
 #[test]
@@ -94,56 +93,32 @@ fn a_reader_of_few_bytes(rt: HostRuntime) {
             kind: ErrorKind::ConnectionReset,
         };
         let mut written = Vec::new(rt.alloc());
-        assert_eq!(rt;
-            ended(&rt, rt.alloc(), &mut reader, &mut written),
-            Ok(()),
-            "{step}"
-        );
-        assert_eq!(rt;
-            written.as_slice(),
-            OPEN_READ_CLOSE_TEXT.as_bytes(),
-            "{step}"
-        );
+        let is_played = ended(&rt, rt.alloc(), &mut reader, &mut written) == Ok(());
+        let is_written = written.as_slice() == OPEN_READ_CLOSE_TEXT.as_bytes();
+        assert!(rt; is_played && is_written, "{step} bytes at a read");
     }
 }
 
-#[test]
-fn a_reader_that_fails_behind_a_bad_line(rt: HostRuntime) -> Result<(), Fail> {
-    let mut reader = Failing {
-        left: b"bogus\n".as_slice(),
-        step: 7,
-        turns: 1,
-        kind: ErrorKind::ConnectionReset,
-    };
-    let mut written = Vec::new(rt.alloc());
-    assert!(rt; ended(&rt, rt.alloc(), &mut reader, &mut written) == Err(PlayFault::Read));
-    assert!(rt; written.len() == 0);
-    Ok(())
-}
-
-// A reader of so many empty lines is read to its last one, and the run ends with this fault.
-fn ends_behind<R: Threads + Wait + Abort + Sync>(
+// Whether a reader of so many empty lines is read to its last one, and the run ends with this fault.
+fn ends_behind<R: Threads + Wait + Sync>(
     rt: &R,
     alloc: Global,
     lines: u32,
     fault: PlayFault,
-) {
+) -> bool {
     let mut reader = EmptyLines(lines);
-    let mut written = Vec::new(alloc);
-    assert!(rt; ended(rt, alloc, &mut reader, &mut written) == Err(fault));
-    assert!(rt; reader.0 == 0);
-    assert!(rt; written.len() == 0);
+    ends_with(rt, alloc, &mut reader, fault) && reader.0 == 0
 }
 
 // The end is the last read that is made.
 #[test]
 fn a_reader_that_ends_with_the_last_read(rt: HostRuntime) {
-    ends_behind(&rt, rt.alloc(), 8_388_607, TOO_LONG);
+    assert!(rt; ends_behind(&rt, rt.alloc(), 8_388_607, TOO_LONG));
 }
 
 // The end would be the next read, and what was read is not looked at. It is a test of its own: each makes as many reads as
 // there can be, and so takes its time.
 #[test]
 fn a_reader_that_comes_to_no_end(rt: HostRuntime) {
-    ends_behind(&rt, rt.alloc(), 8_388_608, PlayFault::Read);
+    assert!(rt; ends_behind(&rt, rt.alloc(), 8_388_608, PlayFault::Read));
 }
