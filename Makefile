@@ -98,8 +98,9 @@ meetings:
 
 refused-growths:
 	@scripts/build-program
+	@scripts/build-program fx_check_cli fixcheck
 	@scripts/build-program test_refusals test_refusals
-	@scripts/check-refused-growths bin/fixfiles
+	@scripts/check-refused-growths bin/fixfiles bin/fixcheck
 	@scripts/check-refused-calls bin/test_refusals
 
 steps:

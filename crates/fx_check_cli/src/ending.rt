@@ -1,7 +1,7 @@
 use clap::Error;
 use clap::error::ErrorKind;
 use fx_base::NoMemory;
-use fx_script::{PlayFault, ScriptError};
+use fx_script::PlayFault;
 use std::alloc::AllocError;
 use std::io;
 
@@ -14,7 +14,11 @@ pub enum Ending {
     NoText,
     /// Both the script and the text would be standard input.
     TwoInputs,
-    /// A script or a text could not be read, the script is none, the verdict could not be written, or memory was refused.
+    /// A script or a text could not be read: which one, and why.
+    Unread(String, io::Error),
+    /// The script is none: which one, its first fault, and whether that line has a carriage return.
+    NoScript(String, PlayFault, bool),
+    /// The verdict could not be written, or memory was refused.
     Fault(PlayFault),
 }
 
@@ -39,12 +43,6 @@ impl From<NoMemory> for Ending {
     }
 }
 
-impl From<ScriptError> for Ending {
-    fn from(error: ScriptError) -> Ending {
-        Ending::Fault(PlayFault::from(error))
-    }
-}
-
 impl Ending {
     /// The status of the program: 0 behind help, 2 for wrong arguments, 3 for what is no script, 4 for a failed read or
     /// write, 5 where there was no memory.
@@ -53,6 +51,8 @@ impl Ending {
             Ending::Arguments(error) => { if error.use_stderr() { 2 } else { 0 } }
             Ending::NoText => 2,
             Ending::TwoInputs => 2,
+            Ending::NoScript(..) => 3,
+            Ending::Unread(..) => 4,
             Ending::Fault(PlayFault::Script { .. }) => 3,
             Ending::Fault(PlayFault::Read | PlayFault::Write) => 4,
             Ending::Fault(PlayFault::NoMemory) => 5,
@@ -69,6 +69,11 @@ impl Ending {
             Ending::NoText => eprintln!(rt; "fixcheck: an argument is no text"),
             Ending::TwoInputs => {
                 eprintln!(rt; "fixcheck: the script and the text can't both be standard input")
+            }
+            Ending::Unread(name, error) => eprintln!(rt; "fixcheck: {name} can't be read: {error}"),
+            Ending::NoScript(name, fault, false) => eprintln!(rt; "fixcheck: {name}: {fault}"),
+            Ending::NoScript(name, fault, true) => {
+                eprintln!(rt; "fixcheck: {name}: {fault}; the line has a carriage return")
             }
             Ending::Fault(fault) => eprintln!(rt; "fixcheck: {fault}"),
         }

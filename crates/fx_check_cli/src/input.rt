@@ -1,27 +1,26 @@
 //! What is read: the script and the text.
 use crate::ending::Ending;
-use fx_script::PlayFault;
-use std::alloc::Global;
+use crate::lines::{line_at, line_behind};
+use fx_script::{PlayFault, Script, ScriptError};
+use std::alloc::{AllocError, Global};
 use std::fs;
 use std::io::{Error, ErrorKind, Read};
 
-// Why something wasn't read.
-fn read_fault(error: Error) -> Ending {
-    match error.kind() {
-        ErrorKind::OutOfMemory => Ending::Fault(PlayFault::NoMemory),
-        _ => Ending::Fault(PlayFault::Read),
-    }
+// What a path is called in a message.
+fn name_of(alloc: Global, path: &str) -> Result<String, AllocError> {
+    let mut name = String::new(alloc);
+    name.push_str(if path == "-" { "standard input" } else { path })?;
+    Ok(name)
 }
 
-/// All that a reader has.
-///
-/// # Errors
-/// Where a read fails, or memory is refused.
-pub fn read_all<R: Read>(alloc: Global, reader: &mut R) -> Result<Vec<u8>, Ending> {
-    let mut bytes = Vec::new(alloc);
-    match reader.read_to_end(&mut bytes) {
-        Ok(_) => Ok(bytes),
-        Err(error) => Err(read_fault(error)),
+// Why something wasn't read.
+fn unread(alloc: Global, path: &str, error: Error) -> Ending {
+    if error.kind() == ErrorKind::OutOfMemory {
+        return Ending::Fault(PlayFault::NoMemory);
+    }
+    match name_of(alloc, path) {
+        Ok(name) => Ending::Unread(name, error),
+        Err(refused) => Ending::from(refused),
     }
 }
 
@@ -30,11 +29,37 @@ pub fn read_all<R: Read>(alloc: Global, reader: &mut R) -> Result<Vec<u8>, Endin
 /// # Errors
 /// Where a read fails, or memory is refused.
 pub fn read_path(rt: &HostRuntime, path: &str) -> Result<Vec<u8>, Ending> {
+    let alloc = rt.alloc();
     if path == "-" {
-        return read_all(rt.alloc(), &mut rt.reader());
+        let mut bytes = Vec::new(alloc);
+        return match rt.reader().read_to_end(&mut bytes) {
+            Ok(_) => Ok(bytes),
+            Err(error) => Err(unread(alloc, path, error)),
+        };
     }
     match fs::read(rt, path) {
         Ok(bytes) => Ok(bytes),
-        Err(error) => Err(read_fault(error)),
+        Err(error) => Err(unread(alloc, path, error)),
+    }
+}
+
+// Whether a line, from 1, has a carriage return.
+fn has_return(source: &[u8], line: u32) -> bool {
+    let at = line_behind(source, 0, line.saturating_sub(1) as usize);
+    line_at(source, at).contains(&b'\r')
+}
+
+/// The script that bytes are, which were read from a path.
+///
+/// # Errors
+/// Where they are none, or memory is refused.
+pub fn script_of(alloc: Global, path: &str, source: &[u8]) -> Result<Script, Ending> {
+    match Script::read(alloc, source) {
+        Ok(script) => Ok(script),
+        Err(ScriptError::Fault { line, kind }) => {
+            let fault = PlayFault::Script { line, kind };
+            Err(Ending::NoScript(name_of(alloc, path)?, fault, has_return(source, line)))
+        }
+        Err(ScriptError::NoMemory) => Err(Ending::Fault(PlayFault::NoMemory)),
     }
 }

@@ -18,7 +18,7 @@ use ending::Ending;
 use fx_check::{Judgement, Order, judge};
 use fx_script::{PlayFault, Script};
 use history::History;
-use input::read_path;
+use input::{read_path, script_of};
 use std::io::{self, Write};
 use std::process::ExitCode;
 use verdict::{status_of, verdict_text};
@@ -61,7 +61,7 @@ fn check(rt: &HostRuntime) -> Result<u8, Ending> {
     let words = words(rt)?;
     let settings = settings_in(alloc, words.as_slice())?;
     let source = read_path(rt, settings.script)?;
-    let script = Script::read(alloc, &source)?;
+    let script = script_of(alloc, settings.script, &source)?;
     let text = read_path(rt, settings.text)?;
     let judgement = judge(alloc, &script, &text, settings.states as usize)?;
     match &judgement {

@@ -1,0 +1,54 @@
+"""What fixcheck is asked of beside random scripts: texts of each size, and parts of a submission beside one with too many states.
+Statuses and lines are worked out by hand, by docs/CHECKING.md."""
+from limits import limits, lines
+from sweeps import KINDS, sweeps
+
+NOT_LEGAL, UNDECIDED = 1, 6
+# these take the search or the text too long: one closes 65,472 files, and one writes 134 million bytes
+TOO_LONG = ("heaviest_submission", "text_of_134_megabytes")
+# of limits two are bad scripts; of sweeps two kinds are
+LEGAL_SIZES = 14 - 2 - len(TOO_LONG) + sum(count for kind, count in KINDS.items() if kind not in ("fault_at", "unsubmitted_from"))
+# how many rows of parts there are
+PARTS = 3
+# so many states are too few for the part of two slots
+FEW_STATES = 16
+
+
+def sizes():
+    """Scripts at the limits and between them with their texts, all of them legal."""
+    for name, script, text, fault in [*limits(), *sweeps()]:
+        if not fault and name not in TOO_LONG:
+            yield name, script.encode(), text
+
+
+def contending(chains):
+    """The requests and completions of so many chains at slots 0 and 1, in each of which a file is put at slot 0 and then one at
+    slot 1, and a chain that reads at slot 1 what the first chain put there, and then at slot 0 what that one put there; and the
+    files that were closed, and those that are left."""
+    requests, answers, closed, left = [], [], [], []
+    for nth in range(1, chains + 1):
+        names = "ab"[nth % 2], "x" if nth == 1 else "ab"[(nth + 1) % 2]
+        requests += [f"open {names[0]} at 0 link", f"open {names[1]} at 1"]
+        answers += [f"1.{nth}.1 0", f"1.{nth}.2 0"]
+        (left if nth == chains else closed).extend([f"closed 1.{nth}.1.0 {names[0]}", f"closed 1.{nth}.2.0 {names[1]}"])
+    return [*requests, "read 1 0 1 link", "read 0 0 1"], [*answers, f"1.{chains + 1}.1 1 78", f"1.{chains + 1}.2 1 62"], closed, left
+
+
+def parts():
+    """A part with too many states beside others: its name, the script, the text, the status and what the verdict says."""
+    requests, answers, closed, left = contending(4)
+    head = ["file a 61", "file b 62", "file c 63", "file x 78", "register 2,2,2,2,2,2,2"]
+    rest = [f"closed r1.{it} c" for it in (2, 3, 4)]
+    both = [f"closed r1.{it} c" for it in (5, 6)]
+
+    def case(more, told, gone, stay, last):
+        text = ["register 0", *answers, *told, "closed r1.0 c", "closed r1.1 c", *gone, *closed, "teardown", *stay, *left, *last]
+        return lines(*head, *requests, *more, "submit").encode(), lines(*text)
+
+    yield "the part alone", *case([], [], [], [*rest, *both], []), UNDECIDED, "undecided: submission 1"
+    yield "a slot by itself", *case(["read 5 0 1"], ["1.6.1 1 61"], [], [*rest, *both], []), NOT_LEGAL, "slot 5 alone has no order"
+    # each of two chains puts a file, and then reads in the other one's slot what was there before that one put its file
+    crossed = ["open a at 5 link", "read 6 0 1", "open b at 6 link", "read 5 0 1"]
+    told = ["1.6.1 0", "1.6.2 1 63", "1.7.1 0", "1.7.2 1 63"]
+    opened = ["closed 1.6.1.0 a", "closed 1.7.1.0 b"]
+    yield "a later part", *case(crossed, told, both, rest, opened), NOT_LEGAL, "have no order"

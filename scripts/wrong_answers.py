@@ -1,0 +1,142 @@
+"""Shows that what looks at an answer complains of a wrong one: a history with a line left out or changed, an order with steps of a
+chain left out or exchanged, the outcome of a refused growth, the growths between two marks, and a verdict that is a lie. Each
+function tells how many wrong answers of its kind there were, and those that nothing complained of. scripts/check-checks wants the
+numbers."""
+import os
+import re
+import subprocess
+
+from loaded import module
+from model import Script, play
+from refused_growths import NO_MEMORY, Outcomes
+from replay import WrongOrder, replayed
+from told_history import complaint_of
+
+HERE = os.path.dirname(os.path.abspath(__file__))
+EXAMPLES = os.path.join(os.path.dirname(HERE), "examples")
+# examples whose histories have each event and each call, and tags
+TOLD = ("open_read_close", "tagged_files_leave_in_each_way", "replaced_between_two_members", "unregister_closes_every_file",
+        "allocation_fills_its_range", "ring_update_clears_skips_and_replaces", "tag_at_the_teardown")
+# how many lines their histories have, and how many pairs of steps of one chain stand beside each other in their orders; and how
+# many rows there are of outcomes, growths and verdicts
+LINES, PAIRS, OUTCOMES, GROWTHS, VERDICTS = 110, 3, 15, 6, 8
+
+
+def kinds(fixcheck):
+    """What each kind of wrong answer is called, how many there are, and what tells them."""
+    yield "lines of histories", LINES, lambda: histories(fixcheck)
+    yield "exchanged steps of orders", PAIRS, lambda: orders(fixcheck)
+    yield "outcomes of a refused growth", OUTCOMES, outcomes
+    yield "growths between marks", GROWTHS, growths
+    yield "verdicts", VERDICTS, verdicts
+
+
+def examples():
+    for name in TOLD:
+        with open(f"{EXAMPLES}/{name}.script", "rb") as script, open(f"{EXAMPLES}/{name}.text", encoding="utf-8") as text:
+            yield name, script.read(), text.read()
+
+
+def said(fixcheck, name, *options):
+    command = [fixcheck, *options, f"{EXAMPLES}/{name}.script", f"{EXAMPLES}/{name}.text"]
+    return subprocess.run(command, capture_output=True, text=True, check=True).stdout.splitlines()
+
+
+def changed_lines(lines, at):
+    """The lines with one of them left out, doubled, with another state, and with another answer or mark."""
+    line = lines[at]
+    told, bar, state = line.rpartition(" | ")
+    others = [[], [line, line], [f"{told}{bar}{state} held"]]
+    number = re.search(r"\d+(?=\D*$)", told)
+    if number:
+        others.append([f"{told[: number.start()]}{int(number[0]) + 1}{told[number.end() :]}{bar}{state}"])
+    for other in others:
+        yield [*lines[:at], *other, *lines[at + 1 :]]
+
+
+def histories(fixcheck):
+    """Each line of the histories changed."""
+    seen, missed = 0, []
+    for name, script, text in examples():
+        lines = said(fixcheck, name, "--history")
+        if complaint_of(script, text, lines) is not None:
+            missed.append(f"{name}: the history of fixcheck isn't taken")
+        for at in range(1, len(lines)):
+            seen += 1
+            missed += [f"{name}: {it}" for it in changed_lines(lines, at) if complaint_of(script, text, it) is None]
+    return seen, missed
+
+
+def is_taken(script, text, lines):
+    try:
+        return replayed(Script(script), text, lines) == text
+    except WrongOrder:
+        return False
+
+
+def orders(fixcheck):
+    """Each step of the orders left out or doubled, and two of a chain exchanged; and each order left out."""
+    seen, missed = 0, []
+    for name, script, text in examples():
+        lines = said(fixcheck, name)[1:]
+        if not is_taken(script, text, lines):
+            missed.append(f"{name}: the orders of fixcheck aren't taken")
+        for at, line in enumerate(lines):
+            word, steps = line.split(": ")[0], line.split(": ")[1].split(" ") if ": " in line else []
+            wrong = [steps[:nth] + steps[nth + 1 :] for nth in range(len(steps))]
+            wrong += [steps[: nth + 1] + steps[nth:] for nth in range(len(steps))]
+            for nth, (one, next_one) in enumerate(zip(steps, steps[1:])):
+                if one.split(".")[:2] == next_one.split(".")[:2]:
+                    seen += 1
+                    wrong.append([*steps[:nth], next_one, one, *steps[nth + 2 :]])
+            those = [[*lines[:at], " ".join([f"{word}:", *it]), *lines[at + 1 :]] for it in wrong] + [lines[:at] + lines[at + 1 :]]
+            missed += [f"{name}: {it}" for it in those if is_taken(script, text, it)]
+    return seen, missed
+
+
+def outcomes():
+    """What may not come out where a growth is refused: a part of a command's text, an answer -12 with a text that it doesn't
+    leave, and one of a call that needs no memory."""
+    with open(f"{EXAMPLES}/open_read_close.script", encoding="utf-8") as file:
+        those = Outcomes(file.read())
+    text = those.text
+    read = text.replace("1.1.2 5 68656c6c6f", "1.1.2 -12")
+    rows = [
+        (0, text, "", True), (0, "sparse -12\n1.1.1 -6\n1.1.2 -125\n1.1.3 -125\n", "", True), (5, "sparse 0\n", NO_MEMORY, True), (5, "", NO_MEMORY, True),
+        (0, read.replace("1.1.3 0\nclosed 1.1.1.0 a.txt\n", "1.1.3 -125\nteardown\nclosed 1.1.1.0 a.txt\n"), "", True),
+        (0, read, "", False), (0, text.replace("sparse 0", "sparse -12"), "", False), (0, text.replace("1.1.3 0", "1.1.3 -12"), "", False),
+        (0, text[:-1], "", False), (0, text, "more", False), (5, text[:20], NO_MEMORY, False), (5, "sparse 0\n", "", False), (4, text, "", False),
+        (0, text.replace("1.1.1 0", "1.1.1 -12"), "", False), (1, "", NO_MEMORY, False),
+    ]
+    return len(rows), [f"status {it[0]} with {it[1]!r} is {'not ' * it[3]}taken" for it in rows if (those.kind(*it[:3]) is not None) != it[3]]
+
+
+def growths():
+    """Growths between two marks: one too many, one too few, and where there may be any."""
+    marks = [["0", "a"], ["1", "b"], ["-", "c"], ["0", "d"], ["0", "e"]]
+    rows = [([9, 9, 8, 3, 3], 0), ([9, 8, 7, 3, 3], 1), ([9, 9, 9, 3, 3], 1), ([9, 9, 8, 8, 8], 0), ([9, 9, 8, 3, 2], 1), ([9, 8, 8, 3, 1], 3)]
+    wrong_of = module("check-growths").wrong_growths
+    return len(rows), [f"growths {before} aren't {wrong} wrong" for before, wrong in rows if len(wrong_of(marks, before)) != wrong]
+
+
+def verdicts():
+    """What scripts/agree makes of a text and a verdict of fixcheck: the model's text, another order of it, one with a difference of
+    Linux, and one that nothing gives."""
+    agree = module("agree")
+    names = agree.listed()[0]
+    with open(f"{EXAMPLES}/replaced_between_two_members.script", "rb") as file:
+        script = file.read()
+    same = play(script)[0]
+    other = same.replace("1.1.2 5 68656c6c6f", "1.1.2 2 6869")
+    refused, opened = b"file a.txt 61\nsparse 1\nopen a.txt at 1\nsubmit\n", "sparse 0\n1.1.1 -22\nclosed 1.1.1.0 a.txt\n"
+    rows = [
+        (script, same, agree.LEGAL, agree.SAME), (script, same, agree.NOT_LEGAL, None), (script, other, agree.LEGAL, agree.ORDER),
+        (script, other, agree.NOT_LEGAL, None), (script, other, agree.UNDECIDED, agree.ORDER), (script, other, None, agree.ORDER),
+        (refused, opened, agree.NOT_LEGAL, frozenset({"refused_open_opens_its_file"})), (script, same[:-2], agree.NOT_LEGAL, None),
+    ]
+    missed = []
+    for text, written, verdict, wanted in rows:
+        agree.ASKED.verdict = lambda *_, verdict=verdict: verdict
+        found = agree.verdict(text, written, shown=names)
+        missed += [f"agree makes {found} of {written!r} with verdict {verdict}"] * (found != wanted)
+    return len(rows), missed
