@@ -31,6 +31,9 @@
  * With the argument --async each request is started by a thread of the kernel (IOSQE_ASYNC), so that the chains of a submission
  * run beside each other. Without it a kernel does the first requests of all chains in their order.
  *
+ * With the argument --mistake the first tag that comes is taken for the next number: what is written then is another text, or
+ * tags aren't told from the completions.
+ *
  * What can't be seen: when within a command a file was closed, in which order, and by whom; who holds it meanwhile; that
  * an open was started and gave up before it had opened its file. A file that is opened and closed without having been in
  * the table has a closed line like any other, since the kernel did close it.
@@ -185,6 +188,8 @@ int main(int count, char **words)
 		play.tells_times |= !strcmp(words[at], "--times");
 		if (!strcmp(words[at], "--async"))
 			start_in_threads();
+		if (!strcmp(words[at], "--mistake"))
+			mistake_first_tag();
 	}
 	if (!read_script(&play.script)) {
 		fprintf(stderr, "play-on-kernel: line %ld: not in the language\n", play.script.bad_line);

@@ -7,6 +7,12 @@
 
 static unsigned long long *told;
 static size_t count, room;
+static int mistakes_next;
+
+void mistake_first_tag(void)
+{
+	mistakes_next = 1;
+}
 
 void keep_tag(const struct io_uring_cqe *cqe)
 {
@@ -18,7 +24,8 @@ void keep_tag(const struct io_uring_cqe *cqe)
 		if (!told)
 			die_of("out of memory");
 	}
-	told[count++] = cqe->user_data;
+	told[count++] = cqe->user_data + mistakes_next;
+	mistakes_next = 0;
 }
 
 void wait_for_tags(struct io_uring *ring, unsigned wanted)

@@ -7,6 +7,9 @@
 /* A completion that answers no request: a tag that the kernel has told. */
 void keep_tag(const struct io_uring_cqe *cqe);
 
+/* From now on the first tag that comes is taken for the next number, as if the kernel had told a wrong one. */
+void mistake_first_tag(void);
+
 /* Waits until so many tags were told that weren't written, or a second has passed; and looks for more that are there. */
 void wait_for_tags(struct io_uring *ring, unsigned count);
 
