@@ -1,3 +1,2 @@
 mod FewHolds
-mod NewPasses
 mod Vacant

@@ -1,7 +1,9 @@
 //! The table as a library: three things that a server does with it, each in a file of its own.
 #![tactic(auto)]
 
-ghost use Rattle.std.specs.Prelude.{◌<◌, length};
+ghost use Rattle.std.specs.Prelude.{◌≡◌, ◌<◌, All, IfOk, length};
+ghost use Rattle.fx_table.specs.Opening.{size_of};
+ghost use Rattle.fx_table.specs.Pass.{IsIdle};
 
 mod full;
 mod gone;
@@ -36,22 +38,38 @@ struct Served {
     closed: u32,
 }
 
-// Two threads share a table, and do the three things with it.
-fn serve<T: FileTable, R: Threads + Wait + Sync>(
+// A table of one file that two threads share, each by a pass.
+fn shared_table<T: FileTable>(
+    alloc: Global,
+    catalogue: &Catalogue,
+) -> Result<(T, Vec<T::Pass>), NoMemory>
+    requires entry { 0 < length catalogue.now }
+    ensures slots { IfOk result (λ (table, _). size_of (T.opening table) ≡ 4) }
+    ensures asked { IfOk result (λ (table, _). (T.opening table).passes ≡ 2) }
+    ensures count { IfOk result (λ (_, passes). length passes.items ≡ 2) }
+    ensures ready { IfOk result (λ (table, passes).
+        All (λ p. T.fits table p × IsIdle (T.view p)) passes.items) }
+{
+    let plain = one_file(alloc, catalogue, TAG)?;
+    match T::open(alloc, plain, CHAINS, 2) {
+        Ok(opened) => Ok(opened),
+        Err((plain, refused)) => {
+            plain.abandon();
+            Err(refused)
+        }
+    }
+}
+
+// The file is read while it is replaced, and then files are opened until the table is full.
+fn serve_by_name<T: FileTable, R: Threads + Wait + Sync>(
     rt: &R,
     alloc: Global,
     catalogue: &Catalogue,
-) -> Result<Served, NoMemory>
+) -> Result<(Option<Gone>, u32), NoMemory>
     requires { 1 < length catalogue.now }
 {
-    let plain = one_file(alloc, catalogue, TAG)?;
-    let (table, mut passes) = match T::open(alloc, plain, CHAINS, 2) {
-        Ok(opened) => opened,
-        Err((plain, refused)) => {
-            plain.abandon();
-            return Err(refused);
-        }
-    };
+    let (table, mut passes) = shared_table::<T>(alloc, catalogue)?;
+    // Passes that are used by name leave the list, and go back into it: the table is closed with all of them.
     let Some(mut reader) = passes.pop() else {
         unreachable!()
     };
@@ -62,13 +80,39 @@ fn serve<T: FileTable, R: Threads + Wait + Sync>(
     let opened = open_until_full(rt, catalogue, &table, &mut writer);
     passes.push_reserved(writer);
     passes.push_reserved(reader);
+    table.close(passes).abandon();
+    Ok((gone, opened))
+}
+
+// The file is replaced under load. How many files were closed.
+fn serve_under_load<T: FileTable, R: Threads + Wait + Sync>(
+    rt: &R,
+    alloc: Global,
+    catalogue: &Catalogue,
+) -> Result<u32, NoMemory>
+    requires { 1 < length catalogue.now }
+{
+    let (table, mut passes) = shared_table::<T>(alloc, catalogue)?;
     let closed = AtomicU32::new(0);
     replace_under_load(rt, catalogue, &table, passes.as_mut_slice(), &closed);
     table.close(passes).abandon();
+    Ok(closed.load(Ordering::SeqCst))
+}
+
+// Two threads share a table, and do the three things with it, the last one with a table of its own.
+fn serve<T: FileTable, R: Threads + Wait + Sync>(
+    rt: &R,
+    alloc: Global,
+    catalogue: &Catalogue,
+) -> Result<Served, NoMemory>
+    requires { 1 < length catalogue.now }
+{
+    let closed = serve_under_load::<T, R>(rt, alloc, catalogue)?;
+    let (gone, opened) = serve_by_name::<T, R>(rt, alloc, catalogue)?;
     Ok(Served {
         gone,
         opened,
-        closed: closed.load(Ordering::SeqCst),
+        closed,
     })
 }
 

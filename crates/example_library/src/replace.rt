@@ -15,12 +15,10 @@ pub fn replace<T: FileTable, R: Wait>(
     table: &T,
     pass: &mut T::Pass,
 ) -> Option<OpenFile>
-    requires fits { T.fits table.now pass.old }
-    requires idle { IsIdle (T.view pass.old) }
+    requires ready { T.fits table.now pass.old × IsIdle (T.view pass.old) }
     requires slot { 0 < size_of (T.opening table.now) }
     requires entry { 1 < length catalogue.now }
-    ensures fits { T.fits table.now pass.new }
-    ensures idle { IsIdle (T.view pass.new) }
+    ensures ready { T.fits table.now pass.new × IsIdle (T.view pass.new) }
 {
     if table.numbers_left(pass) == 0 {
         table.draw(pass)?;

@@ -2,7 +2,7 @@
 use Rattle.fx_baton.proofs.Words.{◌≡◌, ℕ, zero, suc, ◌+◌, ◌-◌, ◌≤◌, true, false, List, [], ◌∷◌, ◌++◌, map, sym, refl, ◌∙◌, ap, subst, arith, TableId}
 use Rattle.fx_baton.proofs.Words.{Seat, Contents, PassView, IsFront, new_pass, new_passes, new_passes_from, HasDrawnInTurn, Idle, Log, View, Start}
 use Rattle.fx_baton.proofs.Words.{BatonPass, Seated, opening_of, new_log, new_logs, rest_of, first_of, view_without_first, view_of_first, All}
-use Rattle.fx_baton.proofs.Words.{All-push, chains_of_pass, first_front, first_own, view_of, is_idle, IsPassOf, dealt, IsNewPass}
+use Rattle.fx_baton.proofs.Words.{All-push, chains_of_pass, first_front, first_own, view_of, is_idle, IsIdle, IsPassOf, dealt, IsNewPass}
 use mathlib.Core.List.{map-append}
 
 deal_more : (p n : ℕ) → p ≤ n → new_logs p ((n + 1) - p) ≡ new_log p ∷ new_logs (p + 1) ((n + 1) - (p + 1))
@@ -88,8 +88,12 @@ module _ (id : TableId) (k : Start) (p n : ℕ) (low : 1 ≤ p) (high : p ≤ k.
     };
   }
 
+  -- an idle pass of the table
+  abbrev IsReady : BatonPass → Type 0
+  IsReady q = IsPassOf id k q × IsIdle (view_of q)
+
   -- it is added to the passes that were dealt before
-  pub added : (old list : List BatonPass) → list ≡ old ++ x ∷ [] → All (IsPassOf id k) old → map view_of old ≡ new_passes (p - 1)
-      → All (IsPassOf id k) list × (map view_of list ≡ new_passes p)
-  added old list pushed fit were =
-      (subst (All (IsPassOf id k)) (sym pushed) (All-push (IsPassOf id k) old x fit is_pass), one_more_view old list x p low pushed were is_new)
+  pub added : (old list : List BatonPass) → list ≡ old ++ x ∷ [] → All IsReady old → map view_of old ≡ new_passes (p - 1)
+      → All IsReady list × (map view_of list ≡ new_passes p)
+  added old list pushed ready were =
+      (subst (All IsReady) (sym pushed) (All-push IsReady old x ready (is_pass, doing_is)), one_more_view old list x p low pushed were is_new)

@@ -12,6 +12,8 @@ pub use Rattle.fx_baton.specs.Rule.{begin_of, empty_view, file_held, file_in_han
 pub use Rattle.fx_baton.specs.Rule.{lent_view, log_behind, logs_of, new_log, new_logs, opening_of, removals_by, rest_of, view_behind, view_of_first}
 pub use Rattle.fx_baton.specs.Rule.{view_without_first}
 pub use Rattle.fx_baton.specs.declared.pass.BatonPass.{BatonPass}
+pub use Rattle.fx_baton.specs.Tables.{IsPassOfTable}
+pub use Rattle.fx_baton.specs.declared.table.BatonTable.{BatonTable}
 pub use Rattle.fx_baton.specs.declared.view.Call.{Call}
 pub use Rattle.fx_baton.specs.declared.view.Log.{Log}
 pub use Rattle.fx_baton.specs.declared.view.Start.{Start}
@@ -36,7 +38,7 @@ pub use Rattle.fx_table.specs.Closing.{ClosesTable, times_drawn}
 pub use Rattle.fx_table.specs.Files.{HasFile}
 pub use Rattle.fx_table.specs.Numbers.{chains_of_pass, number_behind, numbers_for, pass_of_chain, pass_of_number}
 pub use Rattle.fx_table.specs.Opening.{HasSameFiles, IsGivenBack, Opening, size_of, state_at}
-pub use Rattle.fx_table.specs.Pass.{IsFront, IsHoldOf, IsRetiredOf, PassView, hold_of, new_pass, new_passes, new_passes_from, retired_of}
+pub use Rattle.fx_table.specs.Pass.{IsFront, IsHoldOf, IsIdle, IsRetiredOf, PassView, hold_of, new_pass, new_passes, new_passes_from, retired_of}
 pub use Rattle.fx_table.specs.Turns.{HasDrawnInTurn}
 pub use Rattle.fx_table.specs.declared.values.Doing.{Doing}
 pub use Rattle.fx_table.specs.declared.values.Doing.TheVariants.{Holding, Idle, Retiring}
@@ -44,7 +46,7 @@ pub use Rattle.std.proofs.Common.{All, Bool, List, [], ap, arith, cond, eq-eqb, 
 pub use Rattle.std.proofs.Common.{ne_eqb, refl, reverse, set, subst, suc, sym, true, vec_capacity, zero, ℕ, ⊎_elim, ◌*◌, ◌++◌, ◌+◌, ◌-◌, ◌<◌, ◌^◌}
 pub use Rattle.std.proofs.Common.{◌∙◌, ◌∷◌, ◌≡◌, ◌≢◌, ◌≤◌, ◌⊎◌}
 pub use Rattle.std.proofs.lemmas.List.Elements.{All-contains, All-push, Contains-append_cases, Contains-append_left, Contains-append_right}
-pub use Rattle.std.proofs.lemmas.List.Elements.{Contains-push}
+pub use Rattle.std.proofs.lemmas.List.Elements.{All-weaker, Contains-push}
 pub use Rattle.std.proofs.lemmas.List.Sums.{sum_by-append, sum_by-cons}
 pub use Rattle.std.specs.Prelude.{Contains, IfSome, None, Option, Some, count_by, if◌then◌else◌, is_some, nat_lt, not, option_map, sum_by, ◌&&◌, ◌==◌}
 pub use lib.ListN.{get_elem?}

@@ -51,8 +51,7 @@ impl FileTable for BatonTable {
 
     fn close(self, passes: Vec<BatonPass>) -> PlainTable
         requires all { length passes.items ≡ (opening_of_table self).passes }
-        requires fits { All (IsPassOfTable self) passes.items }
-        requires idle { All (λ p. IsIdle (view_of p)) passes.items }
+        requires ready { All (λ p. IsPassOfTable self p × IsIdle (view_of p)) passes.items }
         ensures { ClosesTable (opening_of_table self) (map view_of passes.items) result }
     {
         self.close_all(passes)
@@ -98,7 +97,7 @@ impl FileTable for BatonTable {
         Some(next)
     }
 
-    fn look<R: Wait>(&self, rt: &R, pass: &mut BatonPass, slot: u32) -> Result<Hold, LookFault> {
+    fn look(&self, rt: &impl Wait, pass: &mut BatonPass, slot: u32) -> Result<Hold, LookFault> {
         if pass.looks_left == 0 {
             return Err(LookFault::Spent);
         }
@@ -112,7 +111,7 @@ impl FileTable for BatonTable {
         }
     }
 
-    fn release<R: Wait>(&self, rt: &R, pass: &mut BatonPass, hold: Hold) -> Option<OpenFile> {
+    fn release(&self, rt: &impl Wait, pass: &mut BatonPass, hold: Hold) -> Option<OpenFile> {
         let Hold { node, entry: _ } = hold;
         self.borrow(rt, pass);
         let plain = pass.seat.slot_mut(&self.table.shared, 0);
@@ -121,9 +120,9 @@ impl FileTable for BatonTable {
         closed
     }
 
-    fn put<R: Wait>(
+    fn put(
         &self,
-        rt: &R,
+        rt: &impl Wait,
         pass: &mut BatonPass,
         slot: u32,
         file: OpenFile,
@@ -138,9 +137,9 @@ impl FileTable for BatonTable {
         retired(replaced, entry)
     }
 
-    fn put_any<R: Wait>(
+    fn put_any(
         &self,
-        rt: &R,
+        rt: &impl Wait,
         pass: &mut BatonPass,
         file: OpenFile,
     ) -> Result<u32, OpenFile> {
@@ -160,7 +159,7 @@ impl FileTable for BatonTable {
         }
     }
 
-    fn clear<R: Wait>(&self, rt: &R, pass: &mut BatonPass, slot: u32) -> Option<Retired> {
+    fn clear(&self, rt: &impl Wait, pass: &mut BatonPass, slot: u32) -> Option<Retired> {
         self.borrow(rt, pass);
         let plain = pass.seat.slot_mut(&self.table.shared, 0);
         let entry = plain.entry_at(slot);
@@ -169,7 +168,7 @@ impl FileTable for BatonTable {
         retired(removed, entry)
     }
 
-    fn take<R: Wait>(&self, rt: &R, pass: &mut BatonPass, slot: u32) -> Result<Retired, Empty> {
+    fn take(&self, rt: &impl Wait, pass: &mut BatonPass, slot: u32) -> Result<Retired, Empty> {
         self.borrow(rt, pass);
         let plain = pass.seat.slot_mut(&self.table.shared, 0);
         let entry = plain.entry_at(slot);
@@ -181,7 +180,7 @@ impl FileTable for BatonTable {
         }
     }
 
-    fn retire<R: Wait>(&self, rt: &R, pass: &mut BatonPass, retired: Retired) -> Option<OpenFile> {
+    fn retire(&self, rt: &impl Wait, pass: &mut BatonPass, retired: Retired) -> Option<OpenFile> {
         let Retired {
             node,
             entry: _,

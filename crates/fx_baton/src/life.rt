@@ -85,7 +85,8 @@ impl BatonTable {
     pub(crate) fn deal(&self, mut seat: Seat<PlainTable, View>, list: &mut Vec<BatonPass>)
         requires seat { HasAllPasses self.now seat }
         requires list { (list.old.items ≡ []) × (self.now.passes ≤ vec_capacity list.old) }
-        ensures fits { All (IsPassOfTable self.now) list.new.items }
+        ensures ready { All (λ p. IsPassOfTable self.now p × IsIdle (view_of p)) list.new.items }
+        ensures count { length list.new.items ≡ self.now.passes }
         ensures new { map view_of list.new.items ≡ new_passes self.now.passes }
     {
         let mut number = 1;
@@ -139,8 +140,7 @@ impl BatonTable {
     // The table, when all passes have come back.
     pub(crate) fn close_all(self, mut passes: Vec<BatonPass>) -> PlainTable
         requires all { length passes.items ≡ (opening_of_table self).passes }
-        requires fits { All (IsPassOfTable self) passes.items }
-        requires idle { All (λ p. IsIdle (view_of p)) passes.items }
+        requires ready { All (λ p. IsPassOfTable self p × IsIdle (view_of p)) passes.items }
         ensures { ClosesTable (opening_of_table self) (map view_of passes.items) result }
     {
         let Some(first) = passes.pop() else {

@@ -24,8 +24,7 @@ impl CountedTable {
     // `open` gave, in any order. It takes no memory, and so can't fail for want of it.
     pub(crate) fn close(self, mut passes: Vec<CountedPass>) -> PlainTable
         requires all { length passes.items ≡ (opening_of_table self).passes }
-        requires fits { All (IsPassOfTable self) passes.items }
-        requires idle { All (λ p. IsIdle (view_of p)) passes.items }
+        requires ready { All (λ p. IsPassOfTable self p × IsIdle (view_of p)) passes.items }
         ensures { ClosesTable (opening_of_table self) (map view_of passes.items) result }
     {
         let Some(first) = passes.pop() else {

@@ -44,8 +44,7 @@ impl FileTable for CountedTable {
 
     fn close(self, passes: Vec<CountedPass>) -> PlainTable
         requires all { length passes.items ≡ (opening_of_table self).passes }
-        requires fits { All (IsPassOfTable self) passes.items }
-        requires idle { All (λ p. IsIdle (view_of p)) passes.items }
+        requires ready { All (λ p. IsPassOfTable self p × IsIdle (view_of p)) passes.items }
         ensures { ClosesTable (opening_of_table self) (map view_of passes.items) result }
     {
         self.close(passes)
@@ -75,17 +74,17 @@ impl FileTable for CountedTable {
         self.draw(pass)
     }
 
-    fn look<R: Wait>(&self, _rt: &R, pass: &mut CountedPass, slot: u32) -> Result<Hold, LookFault> {
+    fn look(&self, _rt: &impl Wait, pass: &mut CountedPass, slot: u32) -> Result<Hold, LookFault> {
         self.look(pass, slot)
     }
 
-    fn release<R: Wait>(&self, _rt: &R, pass: &mut CountedPass, hold: Hold) -> Option<OpenFile> {
+    fn release(&self, _rt: &impl Wait, pass: &mut CountedPass, hold: Hold) -> Option<OpenFile> {
         self.release(pass, hold)
     }
 
-    fn put<R: Wait>(
+    fn put(
         &self,
-        _rt: &R,
+        _rt: &impl Wait,
         pass: &mut CountedPass,
         slot: u32,
         file: OpenFile,
@@ -93,26 +92,26 @@ impl FileTable for CountedTable {
         self.put(pass, slot, file)
     }
 
-    fn put_any<R: Wait>(
+    fn put_any(
         &self,
-        rt: &R,
+        rt: &impl Wait,
         pass: &mut CountedPass,
         file: OpenFile,
     ) -> Result<u32, OpenFile> {
         self.put_any(rt, pass, file)
     }
 
-    fn clear<R: Wait>(&self, _rt: &R, pass: &mut CountedPass, slot: u32) -> Option<Retired> {
+    fn clear(&self, _rt: &impl Wait, pass: &mut CountedPass, slot: u32) -> Option<Retired> {
         self.clear(pass, slot)
     }
 
-    fn take<R: Wait>(&self, _rt: &R, pass: &mut CountedPass, slot: u32) -> Result<Retired, Empty> {
+    fn take(&self, _rt: &impl Wait, pass: &mut CountedPass, slot: u32) -> Result<Retired, Empty> {
         self.take(pass, slot)
     }
 
-    fn retire<R: Wait>(
+    fn retire(
         &self,
-        _rt: &R,
+        _rt: &impl Wait,
         pass: &mut CountedPass,
         retired: Retired,
     ) -> Option<OpenFile> {

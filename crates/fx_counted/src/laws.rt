@@ -104,12 +104,13 @@ pub fn words_are_bounded()
     ensures { WordsAreBounded }
 {}
 
-/// Each word and each open file has its place inside.
+/// Each word and each open file of a table of so many slots, whose chains have so many file numbers together, has its place
+/// inside.
 pub fn places_are_inside()
-    ensures { (size chains : ℕ) → size ≤ MOST_SLOTS → PlacesAreInside size chains }
+    ensures { (size numbers : ℕ) → size ≤ MOST_SLOTS → PlacesAreInside size numbers }
 {}
 
 /// Different words have different places, and so have the files of different numbers.
 pub fn places_are_apart()
-    ensures { (size chains : ℕ) → size ≤ MOST_SLOTS → PlacesAreApart size chains }
+    ensures { (size numbers : ℕ) → size ≤ MOST_SLOTS → PlacesAreApart size numbers }
 {}

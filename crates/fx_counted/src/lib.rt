@@ -17,8 +17,6 @@ mod queries;
 mod round;
 mod shell;
 mod table;
-#[cfg(test)]
-mod tests;
 mod view;
 
 pub use pass::CountedPass;

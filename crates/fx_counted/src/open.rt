@@ -1,10 +1,10 @@
 //! How a table is opened.
-ghost use Rattle.std.specs.Prelude.{◌≡◌, ◌+◌, ◌*◌, ◌<◌, ◌≤◌, [], map, slice_set, All, IfOk, IfErr, OnOk, OnErr, vec_len, vec_capacity};
+ghost use Rattle.std.specs.Prelude.{◌≡◌, ◌+◌, ◌*◌, ◌<◌, ◌≤◌, [], length, map, slice_set, All, IfOk, IfErr, OnOk, OnErr, vec_len, vec_capacity};
 ghost use Rattle.fx_plain.specs.State.{IsSettled};
 ghost use Rattle.fx_plain.specs.Contents.{state_of, IsPrepared};
 ghost use Rattle.fx_plain.specs.declared.table.TheConstants.{MOST_SLOTS};
 ghost use Rattle.fx_table.specs.Opening.{IsGivenBack, opening_of_chains, opening_with};
-ghost use Rattle.fx_table.specs.Pass.{new_passes};
+ghost use Rattle.fx_table.specs.Pass.{IsIdle, new_passes};
 ghost use Rattle.fx_words.specs.Words.{slot_word_of, born};
 ghost use Rattle.fx_counted.specs.Control.{full_in};
 ghost use Rattle.fx_counted.specs.Firsts.{first_at, AreFirstWords, AreFirstHomes};
@@ -43,7 +43,9 @@ impl CountedTable {
         requires passes { (1 ≤ passes) × (passes ≤ MAX_PASSES) }
         ensures opened { IfOk result (λ (t, _).
             opening_of_table t ≡ opening_with plain chains passes) }
-        ensures fits { IfOk result (λ (t, list). All (IsPassOfTable t) list.items) }
+        ensures ready { IfOk result (λ (t, list).
+            All (λ p. IsPassOfTable t p × IsIdle (view_of p)) list.items) }
+        ensures count { IfOk result (λ (_, list). length list.items ≡ passes) }
         ensures new { IfOk result (λ (_, list). map view_of list.items ≡ new_passes passes) }
         ensures refused { IfErr result (λ (back, _). IsGivenBack plain back) }
     {
@@ -66,7 +68,9 @@ impl CountedTable {
         requires passes { (1 ≤ passes) × (passes ≤ MAX_PASSES) }
         ensures opened { IfOk result (λ (t, _).
             opening_of_table t ≡ opening_of_chains plain chains numbers passes) }
-        ensures fits { IfOk result (λ (t, list). All (IsPassOfTable t) list.items) }
+        ensures ready { IfOk result (λ (t, list).
+            All (λ p. IsPassOfTable t p × IsIdle (view_of p)) list.items) }
+        ensures count { IfOk result (λ (_, list). length list.items ≡ passes) }
         ensures new { IfOk result (λ (_, list). map view_of list.items ≡ new_passes passes) }
         ensures refused { IfErr result (λ (back, _). IsGivenBack plain back) }
     {
@@ -141,7 +145,8 @@ impl CountedTable {
     fn deal(&self, mut seat: Seat<Option<OpenFile>, View>, list: &mut Vec<CountedPass>)
         requires seat { HasAllPasses self.now seat }
         requires list { (list.old.items ≡ []) × (self.now.passes ≤ vec_capacity list.old) }
-        ensures fits { All (IsPassOfTable self.now) list.new.items }
+        ensures ready { All (λ p. IsPassOfTable self.now p × IsIdle (view_of p)) list.new.items }
+        ensures count { length list.new.items ≡ self.now.passes }
         ensures new { map view_of list.new.items ≡ new_passes self.now.passes }
     {
         let mut number = 1;

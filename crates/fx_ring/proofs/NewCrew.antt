@@ -1,7 +1,7 @@
 -- What a crew is before it plays: new passes, with room for all.
 use Rattle.fx_ring.proofs.Words.{◌≡◌, ℕ, zero, suc, ◌+◌, ◌≤◌, List, [], ◌∷◌, ◌++◌, map, flat_map, reverse, length, All, sum_by, refl, sym, ap, subst}
 use Rattle.fx_ring.proofs.Words.{◌∙◌, arith, vec_capacity, length-map, reverse-append, map-append, map-map, length-flat_map, All-nil, All-cons}
-use Rattle.fx_ring.proofs.Words.{All-contains, All-weaker, sum_by-cons, sum_by-append, FileEntry, CloseListView, PassView, IsIdle, new_pass}
+use Rattle.fx_ring.proofs.Words.{All-contains, sum_by-cons, sum_by-append, FileEntry, CloseListView, PassView, new_pass}
 use Rattle.fx_ring.proofs.Words.{new_passes, new_passes_from, MOST_MEMBERS, IsAccepted, IsChain, members_of, Completed, all_completed, Asked, runs_of}
 use Rattle.fx_ring.proofs.Words.{all_weights, weight_of, Completion, Chain, HasRoomFor, HasWorked, HasRoom, worker_state, Outcome, Worker}
 use Rattle.std.specs.Prelude.{Contains}
@@ -51,9 +51,6 @@ module _ {P : Type 0} (V : P → PassView) (ps : List P) (n : ℕ) (new : map (�
   pub all_new : All (λ p. IsNew (V p)) ps
   all_new = each_all (λ p. IsNew (V p)) ps (λ p h.
       All-contains IsNew (map (λ p. V p) ps) (V p) (subst (All IsNew) (sym new) (new_from 1 n)) (contains_mapped V ps p h))
-
-  pub all_idle : All (λ p. IsIdle (V p)) ps
-  all_idle = All-weaker (λ p. IsNew (V p)) (λ p. IsIdle (V p)) (λ p is. ap (λ (v : PassView). v.doing) is.1) ps all_new
 
   pub numbers_are : (crew : List (Worker P)) → map (λ w. w.pass) crew ≡ reverse ps → map (λ w. (V w.pass).number) crew ≡ reverse (numbers_from 1 n)
   numbers_are crew gathered =

@@ -3,7 +3,7 @@ ghost use Rattle.std.specs.Prelude.{◌≡◌, ◌<◌, ◌≤◌, ◌+◌, ℕ,
 ghost use Rattle.fx_plain.specs.State.{IsSettled};
 ghost use Rattle.fx_plain.specs.Contents.{state_of};
 ghost use Rattle.fx_table.specs.Opening.{IsGivenBack};
-ghost use Rattle.fx_table.specs.Pass.{new_passes};
+ghost use Rattle.fx_table.specs.Pass.{IsIdle, new_passes};
 ghost use Rattle.fx_table.specs.declared.limits.TheConstants.{MAX_PASSES};
 ghost use Rattle.fx_chain.specs.Accepted.{IsAccepted, IsChain, members_of};
 ghost use Rattle.fx_chain.specs.Operation.{all_asked};
@@ -45,7 +45,7 @@ fn play_open<'a, T: FileTable, R: Threads + Wait + Sync, G: Gate>(
     requires numbers { InstallAtMost (all_asked submission.now.requests.now)
         (T.opening table).numbers chains.now }
     requires some { 1 ≤ (T.opening table).passes }
-    requires fits { All (T.fits table) passes.items }
+    requires ready { All (λ p. T.fits table p × IsIdle (T.view p)) passes.items }
     requires new { map (λ p. T.view p) passes.items ≡ new_passes (T.opening table).passes }
     requires room { HasRoomForCrew (all_asked submission.now.requests.now)
         (T.opening table).passes room }

@@ -38,8 +38,8 @@ pub trait FileTable: Sync {
 
     /// Shares a settled table (`PlainTable::is_settled`) between `passes` passes, 1 to [`crate::MAX_PASSES`], which play
     /// `chains` chains, at most [`crate::MAX_CHAINS`]. The file at slot `s` has number `s`, and chain `c`, from 1, the
-    /// numbers from `numbers_for(c - 1)` up to `numbers_for(c)` ([`crate::numbers_for`]). The passes are numbered from 1,
-    /// in the list's order.
+    /// numbers from `numbers_for(c - 1)` up to `numbers_for(c)` ([`crate::numbers_for`]). The passes are idle, and
+    /// numbered from 1 in the list's order.
     ///
     /// # Errors
     /// `NoMemory` where memory is refused. The table comes back settled, with its files, size and range.
@@ -53,7 +53,9 @@ pub trait FileTable: Sync {
         requires chains { chains ≤ MAX_CHAINS }
         requires passes { (1 ≤ passes) × (passes ≤ MAX_PASSES) }
         ensures opened { IfOk result (λ (t, _). opening t ≡ opening_with plain chains passes) }
-        ensures fits { IfOk result (λ (t, list). All (fits t) list.items) }
+        ensures ready { IfOk result (λ (t, list).
+            All (λ p. fits t p × IsIdle (view p)) list.items) }
+        ensures count { IfOk result (λ (_, list). length list.items ≡ passes) }
         ensures new { IfOk result (λ (_, list). map (λ p. view p) list.items ≡ new_passes passes) }
         ensures refused { IfErr result (λ (back, _). IsGivenBack plain back) };
 
@@ -76,7 +78,9 @@ pub trait FileTable: Sync {
         requires most { most ≤ CHAIN_NUMBERS }
         requires passes { (1 ≤ passes) × (passes ≤ MAX_PASSES) }
         ensures opened { IfOk result (λ (t, _). IsOpenedFor plain chains most passes (opening t)) }
-        ensures fits { IfOk result (λ (t, list). All (fits t) list.items) }
+        ensures ready { IfOk result (λ (t, list).
+            All (λ p. fits t p × IsIdle (view p)) list.items) }
+        ensures count { IfOk result (λ (_, list). length list.items ≡ passes) }
         ensures new { IfOk result (λ (_, list). map (λ p. view p) list.items ≡ new_passes passes) }
         ensures refused { IfErr result (λ (back, _). IsGivenBack plain back) }
     {
@@ -87,8 +91,7 @@ pub trait FileTable: Sync {
     /// `open` gave, in any order. It can't run out of memory.
     fn close(self, passes: Vec<Self::Pass>) -> PlainTable
         requires all { length passes.items ≡ (opening self).passes }
-        requires fits { All (fits self) passes.items }
-        requires idle { All (λ p. IsIdle (view p)) passes.items }
+        requires ready { All (λ p. fits self p × IsIdle (view p)) passes.items }
         ensures { ClosesTable (opening self) (map (λ p. view p) passes.items) result };
 
     /// How many slots there are, at most [`fx_plain::MOST_SLOTS`].
@@ -131,7 +134,7 @@ pub trait FileTable: Sync {
     /// # Errors
     /// `Spent` where the pass has no look-ups left (`looks_left`), and nothing is done. `Empty` where the slot has no
     /// file. Every look-up but one that answers `Spent` uses one of the pass's look-ups.
-    fn look<R: Wait>(&self, rt: &R, pass: &mut Self::Pass, slot: u32) -> Result<Hold, LookFault>
+    fn look(&self, rt: &impl Wait, pass: &mut Self::Pass, slot: u32) -> Result<Hold, LookFault>
         requires fits { fits self.now pass.old }
         requires idle { IsIdle (view pass.old) }
         requires slot { slot < size_of (opening self.now) }
@@ -140,7 +143,7 @@ pub trait FileTable: Sync {
 
     /// Gives up what the pass looked up, by the `Hold` that it got. The file comes out, to be closed, where it was retired
     /// and this was its last hold. Then the pass is idle.
-    fn release<R: Wait>(&self, rt: &R, pass: &mut Self::Pass, hold: Hold) -> Option<OpenFile>
+    fn release(&self, rt: &impl Wait, pass: &mut Self::Pass, hold: Hold) -> Option<OpenFile>
         requires fits { fits self.now pass.old }
         requires held { IsHoldOf (view pass.old) hold }
         ensures fits { fits self.now pass.new }
@@ -150,9 +153,9 @@ pub trait FileTable: Sync {
     /// Installs a file at a slot below `size`, under the next number of an idle pass (`is_idle`) that has one
     /// (`numbers_left`). The file that it replaced is to be retired (io_uring_prep_openat(3),
     /// `io_uring_prep_openat_direct`).
-    fn put<R: Wait>(
+    fn put(
         &self,
-        rt: &R,
+        rt: &impl Wait,
         pass: &mut Self::Pass,
         slot: u32,
         file: OpenFile,
@@ -170,9 +173,9 @@ pub trait FileTable: Sync {
     ///
     /// # Errors
     /// The file comes back where every slot of the range has a file (ENFILE). It costs no number.
-    fn put_any<R: Wait>(
+    fn put_any(
         &self,
-        rt: &R,
+        rt: &impl Wait,
         pass: &mut Self::Pass,
         file: OpenFile,
     ) -> Result<u32, OpenFile>
@@ -185,7 +188,7 @@ pub trait FileTable: Sync {
 
     /// Empties a slot below `size` for an update, by an idle pass (`is_idle`). The file that was there is to be retired
     /// (io_uring_register(2), "IORING_REGISTER_FILES_UPDATE", an entry of -1).
-    fn clear<R: Wait>(&self, rt: &R, pass: &mut Self::Pass, slot: u32) -> Option<Retired>
+    fn clear(&self, rt: &impl Wait, pass: &mut Self::Pass, slot: u32) -> Option<Retired>
         requires fits { fits self.now pass.old }
         requires idle { IsIdle (view pass.old) }
         requires slot { slot < size_of (opening self.now) }
@@ -197,7 +200,7 @@ pub trait FileTable: Sync {
     ///
     /// # Errors
     /// `Empty` where the slot has no file.
-    fn take<R: Wait>(&self, rt: &R, pass: &mut Self::Pass, slot: u32) -> Result<Retired, Empty>
+    fn take(&self, rt: &impl Wait, pass: &mut Self::Pass, slot: u32) -> Result<Retired, Empty>
         requires fits { fits self.now pass.old }
         requires idle { IsIdle (view pass.old) }
         requires slot { slot < size_of (opening self.now) }
@@ -206,7 +209,7 @@ pub trait FileTable: Sync {
 
     /// Retires the file that the pass removed, by the `Retired` that it got. The file comes out, to be closed, where nobody
     /// holds it now; else its last release hands it out. Then the pass is idle.
-    fn retire<R: Wait>(&self, rt: &R, pass: &mut Self::Pass, retired: Retired) -> Option<OpenFile>
+    fn retire(&self, rt: &impl Wait, pass: &mut Self::Pass, retired: Retired) -> Option<OpenFile>
         requires fits { fits self.now pass.old }
         requires removed { IsRetiredOf (view pass.old) retired }
         ensures fits { fits self.now pass.new }

@@ -53,8 +53,7 @@ impl<const PASSES: u32> FileTable for OnlyFor<PASSES> {
 
     fn close(self, passes: Vec<BatonPass>) -> PlainTable
         requires all { length passes.items ≡ (opening_of_table self.inner).passes }
-        requires fits { All (IsPassOfTable self.inner) passes.items }
-        requires idle { All (λ p. IsIdle (view_of p)) passes.items }
+        requires ready { All (λ p. IsPassOfTable self.inner p × IsIdle (view_of p)) passes.items }
         ensures { ClosesTable (opening_of_table self.entry.inner) (map view_of passes.items) result }
     {
         let OnlyFor { inner } = self;
@@ -85,17 +84,17 @@ impl<const PASSES: u32> FileTable for OnlyFor<PASSES> {
         self.inner.draw(pass)
     }
 
-    fn look<R: Wait>(&self, rt: &R, pass: &mut BatonPass, slot: u32) -> Result<Hold, LookFault> {
+    fn look(&self, rt: &impl Wait, pass: &mut BatonPass, slot: u32) -> Result<Hold, LookFault> {
         self.inner.look(rt, pass, slot)
     }
 
-    fn release<R: Wait>(&self, rt: &R, pass: &mut BatonPass, hold: Hold) -> Option<OpenFile> {
+    fn release(&self, rt: &impl Wait, pass: &mut BatonPass, hold: Hold) -> Option<OpenFile> {
         self.inner.release(rt, pass, hold)
     }
 
-    fn put<R: Wait>(
+    fn put(
         &self,
-        rt: &R,
+        rt: &impl Wait,
         pass: &mut BatonPass,
         slot: u32,
         file: OpenFile,
@@ -103,24 +102,24 @@ impl<const PASSES: u32> FileTable for OnlyFor<PASSES> {
         self.inner.put(rt, pass, slot, file)
     }
 
-    fn put_any<R: Wait>(
+    fn put_any(
         &self,
-        rt: &R,
+        rt: &impl Wait,
         pass: &mut BatonPass,
         file: OpenFile,
     ) -> Result<u32, OpenFile> {
         self.inner.put_any(rt, pass, file)
     }
 
-    fn clear<R: Wait>(&self, rt: &R, pass: &mut BatonPass, slot: u32) -> Option<Retired> {
+    fn clear(&self, rt: &impl Wait, pass: &mut BatonPass, slot: u32) -> Option<Retired> {
         self.inner.clear(rt, pass, slot)
     }
 
-    fn take<R: Wait>(&self, rt: &R, pass: &mut BatonPass, slot: u32) -> Result<Retired, Empty> {
+    fn take(&self, rt: &impl Wait, pass: &mut BatonPass, slot: u32) -> Result<Retired, Empty> {
         self.inner.take(rt, pass, slot)
     }
 
-    fn retire<R: Wait>(&self, rt: &R, pass: &mut BatonPass, retired: Retired) -> Option<OpenFile> {
+    fn retire(&self, rt: &impl Wait, pass: &mut BatonPass, retired: Retired) -> Option<OpenFile> {
         self.inner.retire(rt, pass, retired)
     }
 

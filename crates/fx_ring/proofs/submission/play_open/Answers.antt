@@ -1,7 +1,7 @@
 use Rattle.fx_ring.proofs.Words.{◌+◌, List, length, sym, ap, subst, ◌∙◌, arith, PassView, IsIdle, size_of, all_asked, runs_of, Completed}
 use Rattle.fx_ring.proofs.Words.{all_completed, HasRoomFor, ring_with, IsOneHistory, Reported, Worker, Completion, CloseListView, Closed, map}
 use Rattle.std.specs.List.Sorted.{IsPermutation}
-use Rattle.fx_ring.proofs.NewCrew.{IsNew, all_gathered, all_scattered, all_new, all_idle, as_many_passes, new_has_worked, new_has_room, runs_have_all}
+use Rattle.fx_ring.proofs.NewCrew.{IsNew, all_gathered, all_scattered, all_new, as_many_passes, new_has_worked, new_has_room, runs_have_all}
 use Rattle.fx_ring.proofs.NewCrew.{runs_weigh_all}
 use Rattle.fx_ring.proofs.WorkersTogether.{HavePlayed, one_of_each, closes_weigh, one_history}
 use Rattle.fx_ring.proofs.PlayedCrew.{states, crew_has_played, completions_joined, files_joined, as_many_completions, as_many_files}
@@ -21,25 +21,23 @@ gather-requires-clause-room g c =
 pub work_crew-requires-clause-ready : goal.work_crew-requires-clause-ready
 work_crew-requires-clause-ready g c κs within =
     let V : g.row.T-Pass.Denot → PassView = λ p. g.T.FileTable.view p in
-    let fits = all_gathered (g.T.FileTable.fits c.args.table) _ _ _ c.gather.ensures.passes c.requires.fits in
-    let idle = all_gathered (λ p. IsIdle (V p)) _ _ _ c.gather.ensures.passes (all_idle V c.args.passes.items _ c.requires.new) in
+    let ready = all_gathered (λ p. g.T.FileTable.fits c.args.table p × IsIdle (V p)) _ _ _ c.gather.ensures.passes c.requires.ready in
     let new = all_gathered (λ p. IsNew (V p)) _ _ _ c.gather.ensures.passes (all_new V c.args.passes.items _ c.requires.new) in
     let room = all_gathered (HasRoomFor (all_asked c.args.submission.now.requests.now)) _ _ _ c.gather.ensures.outcomes c.requires.room.outcomes in
     λ k d l. record {
       between = record {
-        fits = fits k d l;
-        idle = idle k d l;
+        fits = (ready k d l).0;
+        idle = (ready k d l).1;
         worked = new_has_worked c.args.submission.now.catalogue.now (size_of (g.T.FileTable.opening c.args.table)) (c.args.submission.now.earlier + 1)
             (runs_of (all_asked c.args.submission.now.requests.now)) _ _ _ (new k d l) (room k d l);
       };
       room = new_has_room _ _ (all_asked c.args.submission.now.requests.now) c.args.submission.now.accepted (new k d l) (room k d l);
     }
 
-pub close-left-requires-clause-fits : goal.close-left-requires-clause-fits
-close-left-requires-clause-fits g c = all_scattered (g.T.FileTable.fits c.args.table) _ _ _ c.scatter.ensures.passes (λ k d l. (c.work_crew.ensures.done k d l).between.fits)
-
-pub close-left-requires-clause-idle : goal.close-left-requires-clause-idle
-close-left-requires-clause-idle g c = all_scattered (λ p. IsIdle (g.T.FileTable.view p)) _ _ _ c.scatter.ensures.passes (λ k d l. (c.work_crew.ensures.done k d l).between.idle)
+pub close-left-requires-clause-ready : goal.close-left-requires-clause-ready
+close-left-requires-clause-ready g c =
+    all_scattered (λ p. g.T.FileTable.fits c.args.table p × IsIdle (g.T.FileTable.view p)) _ _ _ c.scatter.ensures.passes
+    (λ k d l. let is = (c.work_crew.ensures.done k d l).between in (is.fits, is.idle))
 
 pub joined-all-requires-clause-nothing_yet : goal.joined-all-requires-clause-nothing_yet
 joined-all-requires-clause-nothing_yet g c = (c.requires.room.all.no_completions, ap (λ (l : CloseListView). l.files) c.requires.room.all.closes)

@@ -27,13 +27,13 @@ loop-number-preserved c =
     let old : List BatonPass = c.loop-number.list.items in
     let pushed = c.push_reserved.ensures.items in
     let both = added t.table_id t.key p c.args.self.now.passes i.low high all c.split_seat-one.result c.new.result c.new.ensures (s.3 ∙ i.table)
-    (s.4 ∙ ap (λ (m : Seated). (view_of_first m.0, [])) i.me) old c.push_reserved.new.self.items pushed i.list i.new in
+    (s.4 ∙ ap (λ (m : Seated). (view_of_first m.0, [])) i.me) old c.push_reserved.new.self.items pushed i.ready i.new in
     record {
       low = omega arith;
       high = omega (arith, test);
       table = s.0 ∙ i.table;
       me = s.2 ∙ (ap (λ (m : Seated). (view_without_first m.0, m.1)) i.me ∙ ap (λ (v : View). (v, [])) (rest_is_dealt t.key p high));
-      list = both.0;
+      ready = both.0;
       new = both.1 ∙ ap new_passes (let e : p ≡ (p + 1) - 1 = omega arith in e);
       count = let e = i.count in let f = ap (length {A = BatonPass}) pushed in omega (arith, f, length-append old (c.new.result ∷ []));
       room = let a = i.room in let b = c.push_reserved.ensures.capacity in omega arith;
@@ -50,5 +50,10 @@ returns c =
     let last : p ≡ t.key.passes = omega (arith, past, most, all) in
     let both = added t.table_id t.key p c.args.self.now.passes i.low (omega (arith, last)) all c.loop-number.seat c.new-2.result c.new-2.ensures
     i.table (i.me ∙ ap (λ (v : View). (v, [])) (last_is_dealt t.key p last)) c.loop-number.list.items c.push_reserved-2.new.self.items
-    c.push_reserved-2.ensures.items i.list i.new in
-    record { fits = both.0; new = both.1 ∙ ap new_passes (last ∙ sym all) }
+    c.push_reserved-2.ensures.items i.ready i.new in
+    record {
+      ready = both.0;
+      count = let e = i.count in let f = ap (length {A = BatonPass}) c.push_reserved-2.ensures.items in
+          omega (arith, e, f, length-append c.loop-number.list.items (c.new-2.result ∷ []), last, all);
+      new = both.1 ∙ ap new_passes (last ∙ sym all);
+    }

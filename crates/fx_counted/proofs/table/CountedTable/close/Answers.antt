@@ -5,6 +5,10 @@ use Rattle.fx_counted.proofs.Gathered.{all_idle, closes}
 use Rattle.fx_counted.proofs.Going.{work_between}
 use Rattle.fx_counted.proofs.table.CountedTable.close.Goals as goal
 
+-- an idle pass of the table
+abbrev IsReady : CountedTable → CountedPass → Type 0
+IsReady t p = IsPassOfTable t p × IsIdle (view_of p)
+
 -- the seat of an idle pass
 idle_seat : (t : CountedTable) (p : CountedPass) → IsPassOfTable t p → IsIdle (view_of p) → IsIdleSeatOf t p.seat
 idle_seat t p fits idle = record {
@@ -23,8 +27,8 @@ gather-seat-requires-clause-passes c =
     each_all (λ (p : CountedPass). IsIdleSeatOf t p.seat) others (λ p h.
     let all : Contains ps p = subst (λ (l : List CountedPass). Contains l p) (sym c.in-Some.ensures.items)
     (Contains-append_left others (c.in-Some.first ∷ []) p h) in
-    idle_seat t p (All-contains (IsPassOfTable t) ps p c.requires.fits all)
-    (All-contains (λ (q : CountedPass). IsIdle (view_of q)) ps p c.requires.idle all))
+    let ready = All-contains (IsReady t) ps p c.requires.ready all in
+    idle_seat t p ready.0 ready.1)
 
 -- all passes, in the order in which they are gathered
 gathered : (ps others : List CountedPass) (first : CountedPass) (seat : Seat (Option Closed) View) (v : View) → ps ≡ others ++ first ∷ []
@@ -39,7 +43,7 @@ finish-requires-clause-idle c s r at =
     let ps : List CountedPass = c.args.passes.items in
     let joined = c.gather-seat.ensures.seat in
     let v = c.gather-seat.result.me.0 in
-    all_idle t.table_id t.key ps (λ p h. All-contains (IsPassOfTable c.args.self) ps p c.requires.fits h) c.requires.all s r
+    all_idle t.table_id t.key ps (λ p h. (All-contains (IsReady c.args.self) ps p c.requires.ready h).0) c.requires.all s r
     c.gather-seat.result.id v at
     (gathered ps c.pop.new.self.items c.in-Some.first c.into_seat.result v c.in-Some.ensures.items c.into_seat.ensures c.gather-seat.ensures.logs)
     joined.work joined.change
@@ -53,7 +57,7 @@ returns c =
     let f = c.finish.ensures in
     let all = c.args.self.key.1 in
     let some_passes = c.args.self.bounds.1 in
-    closes t.table_id t.key ps (λ p h. All-contains (IsPassOfTable c.args.self) ps p c.requires.fits h) c.requires.all f.last f.rule
+    closes t.table_id t.key ps (λ p h. (All-contains (IsReady c.args.self) ps p c.requires.ready h).0) c.requires.all f.last f.rule
     c.gather-seat.result.id v f.view
     (gathered ps c.pop.new.self.items c.in-Some.first c.into_seat.result v c.in-Some.ensures.items c.into_seat.ensures c.gather-seat.ensures.logs)
     joined.work joined.change (omega (arith, all, some_passes)) c.finish.result f.files f.settled

@@ -1,8 +1,12 @@
 use Rattle.fx_counted.proofs.Words.{◌≡◌, ◌+◌, ◌-◌, ◌≤◌, List, [], ◌∷◌, sym, ◌∙◌, ap, subst, arith, length, length-append, All, new_passes}
-use Rattle.fx_counted.proofs.Words.{without_first, first_alone, Sat, IsPassOf, CountedPass, View, All-push}
+use Rattle.fx_counted.proofs.Words.{without_first, first_alone, Sat, IsPassOf, IsIdle, CountedPass, PassView, Start, TableId, View, All-push, view_of}
 use Rattle.fx_counted.proofs.Dealing.{rest_is_dealt, last_is_dealt, is_pass, is_new, one_more_view}
 use Rattle.fx_counted.proofs.Seats.{splits_keep}
 use Rattle.fx_counted.proofs.table.CountedTable.deal.Goals as goal
+
+-- an idle pass of the table
+abbrev IsReady : TableId → Start → CountedPass → Type 0
+IsReady id k p = IsPassOf id k p × IsIdle (view_of p)
 
 pub split_seat-one-requires : goal.split_seat-one-requires
 split_seat-one-requires c =
@@ -35,7 +39,8 @@ loop-number-preserved c =
       high = omega (arith, test);
       table = s.0 ∙ i.table;
       me = s.2 ∙ (ap (λ (m : Sat). (without_first m.0, m.1)) i.me ∙ ap (λ (v : View). (v, [])) (rest_is_dealt t.key p high));
-      list = subst (All (IsPassOf t.table_id t.key)) (sym c.push_reserved.ensures.items) (All-push (IsPassOf t.table_id t.key) old new i.list pass);
+      ready = subst (All (IsReady t.table_id t.key)) (sym c.push_reserved.ensures.items)
+          (All-push (IsReady t.table_id t.key) old new i.ready (pass, ap (λ (v : PassView). v.doing) shown));
       new = one_more_view old c.push_reserved.new.self.items new p i.low c.push_reserved.ensures.items i.new shown
           ∙ ap new_passes (let e : p ≡ (p + 1) - 1 = omega arith in e);
       count = let e = i.count in let f = ap (length {A = CountedPass}) c.push_reserved.ensures.items in
@@ -57,6 +62,9 @@ returns c =
     let pass = is_pass t.table_id t.key p i.low (omega (arith, last)) c.loop-number.seat new c.new-2.ensures i.table me in
     let shown = is_new t.table_id t.key p i.low (omega (arith, last)) c.loop-number.seat new c.new-2.ensures i.table me in
     record {
-      fits = subst (All (IsPassOf t.table_id t.key)) (sym items) (All-push (IsPassOf t.table_id t.key) c.loop-number.list.items new i.list pass);
+      ready = subst (All (IsReady t.table_id t.key)) (sym items)
+          (All-push (IsReady t.table_id t.key) c.loop-number.list.items new i.ready (pass, ap (λ (v : PassView). v.doing) shown));
+      count = let e = i.count in let f = ap (length {A = CountedPass}) items in
+          omega (arith, e, f, length-append c.loop-number.list.items (new ∷ []), last, all);
       new = one_more_view c.loop-number.list.items c.push_reserved-2.new.self.items new p i.low items i.new shown ∙ ap new_passes (last ∙ sym all);
     }
