@@ -1,10 +1,11 @@
 -- Bytes in hexadecimal.
-use Rattle.std.proofs.Common.{◌≡◌, ℕ, ◌/◌, ◌%◌, List, [], ◌∷◌, ◌++◌, slice_index, refl, ap, arith}
+use Rattle.std.proofs.Common.{◌≡◌, ℕ, ◌/◌, ◌%◌, List, [], ◌∷◌, ◌++◌, slice_index, refl, ap, arith, Result, Ok, Err}
 use Rattle.std.proofs.lemmas.Str.{IsUtf8-from_ascii}
 use Rattle.std.proofs.lemmas.Str.Ascii.{IsAscii-from_reads}
 use Rattle.std.proofs.lemmas.List.Sums.{AllPass-from_list_all}
 use borrow.Author.Tests.{ltb-true}
 use Rattle.std.specs.Char.{is_ascii}
+use Rattle.std.specs.Result.{IsOk, OnOk}
 use Rattle.std.specs.Str.{IsAscii, IsUtf8}
 use Rattle.hex.specs.Hex.{encode_lower, encode_with, lower_digits}
 use Rattle.hex.proofs.HexLemmas.{IsAscii-encode_with}
@@ -27,3 +28,8 @@ encode_lower-is_text bytes = IsUtf8-from_ascii (encode_lower bytes) (IsAscii-enc
 pub nothing_left : encode_lower [] ≡ []
 unfolding encode_with
 nothing_left = refl
+
+-- what holds where there is a value holds of one that is there
+pub on_ok : {T E P : Type 0} (r : Result T E) → IsOk r → OnOk r P → P
+on_ok (Ok x) is holds = holds
+on_ok (Err e) is holds = cc

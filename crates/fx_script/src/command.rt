@@ -1,7 +1,7 @@
 use fx_chain::Request;
 
 /// A command of a script. Numbers other than tags are at most 2,147,483,647.
-#[derive(Debug, Drop)]
+#[derive(Drop)]
 pub enum Command {
     /// Registers a table of so many empty slots (io_uring_register_files(3), "io_uring_register_files_sparse").
     Sparse(u32),

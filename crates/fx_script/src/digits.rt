@@ -1,7 +1,7 @@
 //! Digits behind a text: those of a number, and those of bytes in lower case hexadecimal.
-ghost use Rattle.std.specs.Prelude.{◌≡◌, ◌*◌, ◌<◌, ◌++◌, OnOk, decimal, length, slice_index, string_bytes};
+ghost use Rattle.std.specs.Prelude.{◌≡◌, ◌++◌, OnOk, decimal, string_bytes};
 ghost use Rattle.std.specs.Fmt.{signed_decimal};
-ghost use Rattle.hex.specs.Hex.{encode_lower, lower_digits};
+ghost use Rattle.hex.specs.Hex.{encode_lower};
 
 use itoa::Buffer;
 use std::alloc::AllocError;
@@ -32,27 +32,6 @@ pub fn push_signed(text: &mut String, number: i64) -> Result<(), AllocError>
     push_number(text, number.unsigned_abs())
 }
 
-// The digit of a number below 16. It is worked out, and not looked up, so that many are written at a time.
-#[inline]
-fn hex_digit(n: u8) -> u8
-    requires { n < 16 }
-    ensures { result ≡ slice_index lower_digits n }
-{
-    if n < 10 { b'0' + n } else { b'a' + (n - 10) }
-}
-
-// Writes two digits for each byte.
-fn write_hex(bytes: &[u8], digits: &mut [u8])
-    requires { length digits.old ≡ 2 * length bytes.now }
-    ensures { digits.new ≡ encode_lower bytes.now }
-{
-    'bytes: for i in 0..bytes.len() {
-        let byte = bytes[i];
-        digits[2 * i] = hex_digit(byte / 16);
-        digits[2 * i + 1] = hex_digit(byte % 16);
-    }
-}
-
 // Puts bytes behind a text, in lower case hexadecimal.
 pub fn push_hex(text: &mut String, bytes: &[u8]) -> Result<(), AllocError>
     ensures { OnOk result
@@ -61,7 +40,7 @@ pub fn push_hex(text: &mut String, bytes: &[u8]) -> Result<(), AllocError>
     let mut room = [0u8; 2 * STRETCH];
     for stretch in bytes.chunks(STRETCH) {
         let digits = &mut room[..2 * stretch.len()];
-        write_hex(stretch, digits);
+        hex::encode_to_slice(stretch, digits).unwrap();
         let Ok(digits) = str::from_utf8(digits) else {
             unreachable!();
         };

@@ -26,7 +26,7 @@ pub enum ScriptFault {
     /// The command has another number of words.
     #[error("word-count")]
     WordCount,
-    /// The third word of an `open` is neither `at` nor `any`, or the last word of a request isn't `link`.
+    /// The third word of an `open` is neither `at` nor `any`, or the last word of a request neither `link` nor `hardlink`.
     #[error("bad-word")]
     BadWord,
     /// The bytes of a file are not an even number of hexadecimal digits, at least two, nor `-`.
@@ -73,7 +73,7 @@ pub enum ScriptError {
 }
 
 // Why a line was not taken.
-#[derive(Clone, Copy, Debug, PartialEq, Eq)]
+#[derive(Drop)]
 pub enum LineError {
     // It has a fault.
     Fault(ScriptFault),

@@ -11,7 +11,7 @@ use std::alloc::Global;
 use std::marker::Model;
 
 /// A script that was read: the files that its requests can open, and its commands in their order (this project's own).
-#[derive(Debug, Drop)]
+#[derive(Drop)]
 pub struct Script {
     catalogue: Catalogue,
     commands: Vec<Command>,

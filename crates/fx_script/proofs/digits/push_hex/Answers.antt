@@ -3,12 +3,17 @@ use Rattle.std.proofs.lemmas.List.{append-nil, nil_from_length}
 use Rattle.std.specs.Slice.Iter.{chunks_rest}
 use Rattle.std.specs.Str.{IsUtf8}
 use Rattle.hex.specs.Hex.{encode_lower}
-use Rattle.fx_script.proofs.Hexes.{encode_lower-append, encode_lower-is_text, nothing_left}
+use Rattle.fx_script.proofs.Hexes.{encode_lower-append, encode_lower-is_text, nothing_left, on_ok}
 use Rattle.fx_script.proofs.digits.push_hex.Goals as goal
+
+pub unwrap-requires : goal.unwrap-requires
+unwrap-requires c = c.encode_to_slice.ensures.fits.1 (search rules)
 
 pub unreachable-requires : goal.unreachable-requires
 unreachable-requires c =
-    c.in_default.ensures.cases.0 (subst IsUtf8 (sym c.write_hex.ensures) (encode_lower-is_text c.in-Some.stretch.now))
+    let fits = c.encode_to_slice.ensures.fits.1 (search rules) in
+    let written = on_ok c.encode_to_slice.result fits c.encode_to_slice.ensures.written in
+    c.in_default.ensures.cases.0 (subst IsUtf8 (sym written) (encode_lower-is_text c.in-Some.stretch.now))
 
 pub loop-stretch-preserved : goal.loop-stretch-preserved
 loop-stretch-preserved c =
@@ -17,7 +22,9 @@ loop-stretch-preserved c =
     let before : List ℕ = string_bytes c.loop-stretch.text in
     let stretch : List ℕ = c.in-Some.stretch.now in
     let left : List ℕ = chunks_rest c.next.new.self in
-    let digits = c.in-Ok.ensures.cases.0 ∙ c.write_hex.ensures in
+    let fits = c.encode_to_slice.ensures.fits.1 (search rules) in
+    let written = on_ok c.encode_to_slice.result fits c.encode_to_slice.ensures.written in
+    let digits = c.in-Ok.ensures.cases.0 ∙ written in
     record {
       goes_on = search rules;
       ends = tt;
