@@ -47,22 +47,6 @@ fn find<T: FileTable, R: Wait + Abort>(
     plain.abandon();
 }
 
-// The only free slot is each of 256 in turn.
-fn find_each<T: FileTable, R: Wait + Abort>(rt: &R, alloc: Global) -> Result<(), Fail> {
-    let catalogue = two_names(alloc)?;
-    for slot in 0..256 {
-        let plain = filled_table(rt, alloc, &catalogue, 256, |other| other != slot);
-        find::<T, R>(rt, alloc, &catalogue, plain, slot);
-    }
-    Ok(())
-}
-
-#[test]
-fn only_free_slot_is_found(rt: HostRuntime) -> Result<(), Fail> {
-    find_each::<BatonTable, _>(&rt, rt.alloc())?;
-    find_each::<CountedTable, _>(&rt, rt.alloc())
-}
-
 // The range begins at `start` and has so many slots. One of them is free, and all slots outside it are.
 fn find_in_range<T: FileTable, R: Wait + Abort>(
     rt: &R,
@@ -80,10 +64,13 @@ fn find_in_range<T: FileTable, R: Wait + Abort>(
     find::<T, R>(rt, alloc, catalogue, plain, slot);
 }
 
-// Ranges of 200 and more slots from each side of the table, and each of their last slots.
-fn find_in_large_ranges<T: FileTable, R: Wait + Abort>(rt: &R, alloc: Global) -> Result<(), Fail> {
+// Each slot of the whole table, and of ranges of 200 and more slots from each side of it the first and the last two.
+fn find_all<T: FileTable, R: Wait + Abort>(rt: &R, alloc: Global) -> Result<(), Fail> {
     let catalogue = two_names(alloc)?;
-    for len in 200..257 {
+    for slot in 0..256 {
+        find_in_range::<T, R>(rt, alloc, &catalogue, 0, 256, slot);
+    }
+    for len in 200..256 {
         let start = 256 - len;
         for slot in [0, 1, len - 2, len - 1] {
             find_in_range::<T, R>(rt, alloc, &catalogue, 0, len, slot);
@@ -94,54 +81,7 @@ fn find_in_large_ranges<T: FileTable, R: Wait + Abort>(rt: &R, alloc: Global) ->
 }
 
 #[test]
-fn free_slot_of_a_large_range_is_found(rt: HostRuntime) -> Result<(), Fail> {
-    find_in_large_ranges::<BatonTable, _>(&rt, rt.alloc())?;
-    find_in_large_ranges::<CountedTable, _>(&rt, rt.alloc())
-}
-
-// The odd slots are free, or the even ones: they are found, the lowest first, by chains of 64 files.
-fn find_every_second<T: FileTable, R: Wait + Abort>(
-    rt: &R,
-    alloc: Global,
-    first: u32,
-) -> Result<(), Fail> {
-    let catalogue = two_names(alloc)?;
-    let plain = filled_table(rt, alloc, &catalogue, 256, |slot| slot % 2 != first);
-    let (table, mut passes) = open_table::<T, _>(rt, alloc, plain, 2, 1);
-    let mut pass = one_pass(rt, &table, &mut passes);
-    draws(rt, &table, &mut pass, Some(1));
-    put_at_every_second(rt, &table, &mut pass, &catalogue, first);
-    draws(rt, &table, &mut pass, Some(2));
-    put_at_every_second(rt, &table, &mut pass, &catalogue, first.wrapping_add(128));
-    give_back(rt, &table, &mut passes, pass);
-    let plain = table.close(passes);
-    assert!(rt; plain.full() == 256);
-    plain.abandon();
-    Ok(())
-}
-
-// 64 files are put at any slot, and go to every second one from this one on.
-fn put_at_every_second<T: FileTable, R: Wait + Abort>(
-    rt: &R,
-    table: &T,
-    pass: &mut T::Pass,
-    catalogue: &Catalogue,
-    first: u32,
-)
-    requires { T.fits table.now pass.old }
-    ensures { T.fits table.now pass.new }
-{
-    for i in 0..64 {
-        let slot = first.wrapping_add(2 * i);
-        put_at(rt, table, pass, new_file(rt, catalogue, 1, 2, slot), slot);
-    }
-}
-
-#[test]
-fn every_second_slot_is_found(rt: HostRuntime) -> Result<(), Fail> {
-    for first in [0, 1] {
-        find_every_second::<BatonTable, _>(&rt, rt.alloc(), first)?;
-        find_every_second::<CountedTable, _>(&rt, rt.alloc(), first)?;
-    }
-    Ok(())
+fn only_free_slot_is_found(rt: HostRuntime) -> Result<(), Fail> {
+    find_all::<BatonTable, _>(&rt, rt.alloc())?;
+    find_all::<CountedTable, _>(&rt, rt.alloc())
 }

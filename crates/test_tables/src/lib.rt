@@ -1,14 +1,12 @@
-//! The rows that every table that threads share must play, over both: the table guarded by one word, and the one without a
-//! lock. What a call answers is the contract of `FileTable`; these tests show what it can't say: that the calls succeed,
-//! that threads make progress at the same time, and the takes that each table tells.
+//! What the contract of a shared table can't say, over both tables, the one guarded by one word and the one without a lock:
+//! that memory suffices, that an open at any slot comes to an end, and that threads which meet make progress. What a call
+//! answers is its contract, which holds for every input.
 #![tactic(auto)]
 
 #[cfg(test)]
 mod allocation;
 #[cfg(test)]
 mod free_slots;
-#[cfg(test)]
-mod limits;
 #[cfg(test)]
 mod openings;
 #[cfg(test)]
@@ -27,5 +25,3 @@ mod stress;
 mod tally;
 #[cfg(test)]
 mod turns;
-#[cfg(test)]
-mod turns_of_three;

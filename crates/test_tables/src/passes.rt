@@ -11,9 +11,9 @@ pub(crate) fn last_pass<T: FileTable, R: Abort>(
     table: &T,
     passes: &mut Vec<T::Pass>,
 ) -> T::Pass
-    requires { All (λ p. T.fits table.now p) passes.old.items }
-    ensures pass { T.fits table.now result }
-    ensures others { All (λ p. T.fits table.now p) passes.new.items }
+    requires { All (λ p. T.fits table.now p × IsIdle (T.view p)) passes.old.items }
+    ensures pass { T.fits table.now result × IsIdle (T.view result) }
+    ensures others { All (λ p. T.fits table.now p × IsIdle (T.view p)) passes.new.items }
 {
     let Some(pass) = passes.pop() else {
         panic!(rt; "a pass")
@@ -27,8 +27,8 @@ pub(crate) fn one_pass<T: FileTable, R: Abort>(
     table: &T,
     passes: &mut Vec<T::Pass>,
 ) -> T::Pass
-    requires { All (λ p. T.fits table.now p) passes.old.items }
-    ensures pass { T.fits table.now result }
+    requires { All (λ p. T.fits table.now p × IsIdle (T.view p)) passes.old.items }
+    ensures pass { T.fits table.now result × IsIdle (T.view result) }
     ensures list { passes.new.items ≡ [] }
 {
     let pass = last_pass(rt, table, passes);
@@ -42,31 +42,14 @@ pub(crate) fn two_passes<T: FileTable, R: Abort>(
     table: &T,
     passes: &mut Vec<T::Pass>,
 ) -> (T::Pass, T::Pass)
-    requires { All (λ p. T.fits table.now p) passes.old.items }
-    ensures first { T.fits table.now result.0 }
-    ensures second { T.fits table.now result.1 }
+    requires { All (λ p. T.fits table.now p × IsIdle (T.view p)) passes.old.items }
+    ensures first { T.fits table.now result.0 × IsIdle (T.view result.0) }
+    ensures second { T.fits table.now result.1 × IsIdle (T.view result.1) }
     ensures list { passes.new.items ≡ [] }
 {
     let second = last_pass(rt, table, passes);
     let first = one_pass(rt, table, passes);
     (first, second)
-}
-
-/// The three passes of a table, which leave the list empty.
-pub(crate) fn three_passes<T: FileTable, R: Abort>(
-    rt: &R,
-    table: &T,
-    passes: &mut Vec<T::Pass>,
-) -> (T::Pass, T::Pass, T::Pass)
-    requires { All (λ p. T.fits table.now p) passes.old.items }
-    ensures first { T.fits table.now result.0 }
-    ensures second { T.fits table.now result.1 }
-    ensures third { T.fits table.now result.2 }
-    ensures list { passes.new.items ≡ [] }
-{
-    let third = last_pass(rt, table, passes);
-    let (first, second) = two_passes(rt, table, passes);
-    (first, second, third)
 }
 
 /// Puts a pass back into the list. It is idle.

@@ -1,6 +1,7 @@
 //! Two threads at one slot, each order of their calls made by a handshake: one looks the slot up and releases, and the
 //! other replaces the file there and retires it. Whoever lets go of the first file last, hands it out.
 ghost use Rattle.std.specs.Prelude.{◌≡◌, ◌<◌, length, All};
+ghost use Rattle.fx_table.specs.Pass.{IsIdle};
 
 use crate::passes::{give_back, two_passes};
 use crate::setting::{
@@ -18,9 +19,10 @@ use std::test::Fail;
 use std::thread;
 use std::thread::Threads;
 
-// At which step each call is made, from 0.
+// The name of an order, and at which step each call is made in it, from 0.
 #[derive(Clone, Copy)]
 struct Schedule {
+    name: &'static str,
     look: u32,
     release: u32,
     put: u32,
@@ -82,9 +84,9 @@ fn look_and_release<T: FileTable, R: Wait + Abort>(
     let out = table.release(rt, pass, hold);
     is_made(step, schedule.release);
     if schedule.release_closes() {
-        is_first(rt, out);
+        is_first(rt, schedule.name, out);
     } else {
-        is_none(rt, out);
+        is_none(rt, schedule.name, out);
     }
 }
 
@@ -113,9 +115,9 @@ fn replace_and_retire<T: FileTable, R: Wait + Abort>(
     let out = table.retire(rt, pass, retired);
     is_made(step, schedule.retire);
     if schedule.release_closes() {
-        is_none(rt, out);
+        is_none(rt, schedule.name, out);
     } else {
-        is_first(rt, out);
+        is_first(rt, schedule.name, out);
     }
 }
 
@@ -200,7 +202,7 @@ fn race_of_two<T: FileTable, R: Threads + Wait + Abort + Sync>(
     catalogue: &Catalogue,
     schedule: Schedule,
 )
-    requires fits { All (λ p. T.fits table p) passes.items }
+    requires ready { All (λ p. T.fits table p × IsIdle (T.view p)) passes.items }
     requires two { (T.opening table).passes ≡ 2 }
 {
     let (remover, looker) = two_passes(rt, &table, &mut passes);
@@ -237,95 +239,57 @@ fn race_on<T: FileTable, R: Threads + Wait + Abort + Sync>(
     Ok(())
 }
 
-fn race_by<R: Threads + Wait + Abort + Sync>(
-    rt: &R,
-    alloc: Global,
-    schedule: Schedule,
-) -> Result<(), Fail> {
-    race_on::<BatonTable, R>(rt, alloc, schedule)?;
-    race_on::<CountedTable, R>(rt, alloc, schedule)
-}
+// Each order in which a look-up comes before its release, and a replacement before its retirement.
+const ORDERS: [Schedule; 6] = [
+    Schedule {
+        name: "released after the retirement",
+        look: 0,
+        put: 1,
+        retire: 2,
+        release: 3,
+    },
+    Schedule {
+        name: "released between the replacement and the retirement",
+        look: 0,
+        put: 1,
+        release: 2,
+        retire: 3,
+    },
+    Schedule {
+        name: "released before the replacement",
+        look: 0,
+        release: 1,
+        put: 2,
+        retire: 3,
+    },
+    Schedule {
+        name: "looked up and released between the replacement and the retirement",
+        put: 0,
+        look: 1,
+        release: 2,
+        retire: 3,
+    },
+    Schedule {
+        name: "looked up before the retirement and released behind it",
+        put: 0,
+        look: 1,
+        retire: 2,
+        release: 3,
+    },
+    Schedule {
+        name: "looked up after the retirement",
+        put: 0,
+        retire: 1,
+        look: 2,
+        release: 3,
+    },
+];
 
 #[test]
-fn release_after_retire(rt: HostRuntime) -> Result<(), Fail> {
-    race_by(
-        &rt,
-        rt.alloc(),
-        Schedule {
-            look: 0,
-            put: 1,
-            retire: 2,
-            release: 3,
-        },
-    )
-}
-
-#[test]
-fn release_between_put_and_retire(rt: HostRuntime) -> Result<(), Fail> {
-    race_by(
-        &rt,
-        rt.alloc(),
-        Schedule {
-            look: 0,
-            put: 1,
-            release: 2,
-            retire: 3,
-        },
-    )
-}
-
-#[test]
-fn release_before_put(rt: HostRuntime) -> Result<(), Fail> {
-    race_by(
-        &rt,
-        rt.alloc(),
-        Schedule {
-            look: 0,
-            release: 1,
-            put: 2,
-            retire: 3,
-        },
-    )
-}
-
-#[test]
-fn look_and_release_between_put_and_retire(rt: HostRuntime) -> Result<(), Fail> {
-    race_by(
-        &rt,
-        rt.alloc(),
-        Schedule {
-            put: 0,
-            look: 1,
-            release: 2,
-            retire: 3,
-        },
-    )
-}
-
-#[test]
-fn look_before_retire_and_release_behind_it(rt: HostRuntime) -> Result<(), Fail> {
-    race_by(
-        &rt,
-        rt.alloc(),
-        Schedule {
-            put: 0,
-            look: 1,
-            retire: 2,
-            release: 3,
-        },
-    )
-}
-
-#[test]
-fn look_after_retire(rt: HostRuntime) -> Result<(), Fail> {
-    race_by(
-        &rt,
-        rt.alloc(),
-        Schedule {
-            put: 0,
-            retire: 1,
-            look: 2,
-            release: 3,
-        },
-    )
+fn every_order_of_two_threads(rt: HostRuntime) -> Result<(), Fail> {
+    for schedule in ORDERS {
+        race_on::<BatonTable, _>(&rt, rt.alloc(), schedule)?;
+        race_on::<CountedTable, _>(&rt, rt.alloc(), schedule)?;
+    }
+    Ok(())
 }

@@ -3,6 +3,7 @@ ghost use Rattle.std.specs.Prelude.{◌≡◌, ◌≤◌, All};
 ghost use Rattle.fx_plain.specs.State.{IsSettled};
 ghost use Rattle.fx_plain.specs.Contents.{state_of};
 ghost use Rattle.fx_table.specs.Opening.{opening_with};
+ghost use Rattle.fx_table.specs.Pass.{IsIdle};
 ghost use Rattle.fx_table.specs.declared.limits.TheConstants.{MAX_CHAINS, MAX_PASSES};
 
 use fx_base::{Catalogue, CloseList, Mark, OpenFile};
@@ -102,7 +103,7 @@ pub(crate) fn open_table<T: FileTable, R: Abort>(
     requires chains { chains ≤ MAX_CHAINS }
     requires passes { (1 ≤ passes) × (passes ≤ MAX_PASSES) }
     ensures opened { T.opening result.0 ≡ opening_with plain chains passes }
-    ensures fits { All (λ p. T.fits result.0 p) result.1.items }
+    ensures ready { All (λ p. T.fits result.0 p × IsIdle (T.view p)) result.1.items }
 {
     match T::open(alloc, plain, chains, passes) {
         Ok(opened) => opened,
@@ -124,10 +125,10 @@ pub(crate) fn left_in<R: Abort>(rt: &R, alloc: Global, mut plain: PlainTable) ->
     closes
 }
 
-/// The first file of list 1 comes out.
-pub(crate) fn is_first<R: Abort>(rt: &R, out: Option<OpenFile>) {
+/// The first file of list 1 comes out, in the case of this name.
+pub(crate) fn is_first<R: Abort>(rt: &R, name: &str, out: Option<OpenFile>) {
     let Some(file) = out else {
-        panic!(rt; "a file that comes out")
+        panic!(rt; "{name}: no file comes out")
     };
     assert!(rt; file.mark() == Mark::Registered { k: 1, i: 0 });
     assert!(rt; file.tag() == tag_of(1, 0));
@@ -135,11 +136,11 @@ pub(crate) fn is_first<R: Abort>(rt: &R, out: Option<OpenFile>) {
     file.discard();
 }
 
-/// No file comes out.
-pub(crate) fn is_none<R: Abort>(rt: &R, out: Option<OpenFile>) {
+/// No file comes out, in the case of this name.
+pub(crate) fn is_none<R: Abort>(rt: &R, name: &str, out: Option<OpenFile>) {
     match out {
         None => {}
-        Some(_file) => panic!(rt; "no file"),
+        Some(_file) => panic!(rt; "{name}: a file comes out"),
     }
 }
 

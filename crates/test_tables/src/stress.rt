@@ -267,7 +267,7 @@ fn new_workers<T: FileTable, R: Abort>(
     table: &T,
     passes: &mut Vec<T::Pass>,
 ) -> Vec<Worker<T::Pass>>
-    requires { All (λ p. T.fits table.now p) passes.old.items }
+    requires { All (λ p. T.fits table.now p × IsIdle (T.view p)) passes.old.items }
     ensures fits { All (λ w. T.fits table.now w.pass) result.items }
     ensures passes { passes.new.items ≡ [] }
 {

@@ -1,5 +1,5 @@
-//! One slot, and passes that use it or replace the file there: the replaced file is closed by the last that has to do
-//! with it, in whichever order its users and its remover release it.
+//! One slot, a pass that uses it and one that replaces the file there: the replaced file is closed by the last that has to
+//! do with it, in whichever order its user and its remover let it go.
 ghost use Rattle.fx_table.specs.Pass.{IsHoldOf, IsRetiredOf};
 
 use crate::passes::{give_back, two_passes};
@@ -15,8 +15,8 @@ use std::process::Abort;
 use std::sync::Wait;
 use std::test::Fail;
 
-/// A hold of the file at slot 0, which has this number and entry.
-pub(crate) fn hold_of<T: FileTable, R: Wait + Abort>(
+// A hold of the file at slot 0, which has this number and entry.
+fn hold_of<T: FileTable, R: Wait + Abort>(
     rt: &R,
     table: &T,
     pass: &mut T::Pass,
@@ -36,8 +36,8 @@ pub(crate) fn hold_of<T: FileTable, R: Wait + Abort>(
     hold
 }
 
-/// The second file is put into slot 0, as node 256 of chain 1, and the first one comes out of it, with these takes.
-pub(crate) fn replace_first<T: FileTable, R: Wait + Abort>(
+// The second file is put into slot 0, as node 256 of chain 1, and the first one comes out of it, with these takes.
+fn replace_first<T: FileTable, R: Wait + Abort>(
     rt: &R,
     table: &T,
     pass: &mut T::Pass,
@@ -68,7 +68,7 @@ fn second_is_there<T: FileTable, R: Wait + Abort>(rt: &R, table: &T, pass: &mut 
     ensures { T.fits table.now pass.new }
 {
     let hold = hold_of(rt, table, pass, 256, 1);
-    is_none(rt, table.release(rt, pass, hold));
+    is_none(rt, "the second file", table.release(rt, pass, hold));
 }
 
 // When the one user of the first file releases it.
@@ -77,6 +77,17 @@ enum Release {
     BeforeReplacement,
     BeforeRetirement,
     AfterRetirement,
+}
+
+impl Release {
+    // The name of the case.
+    fn name(self) -> &'static str {
+        match self {
+            Release::BeforeReplacement => "released before the replacement",
+            Release::BeforeRetirement => "released before the retirement",
+            Release::AfterRetirement => "released after the retirement",
+        }
+    }
 }
 
 // B replaces the first file and retires it, and A uses it. At the end the second file is at the slot.
@@ -95,21 +106,22 @@ fn play_with_one_user<T: FileTable, R: Wait + Abort>(
     ensures a { T.fits table.now a.new }
 {
     let hold = hold_of(rt, table, a, 0, 0);
+    let name = release.name();
     match release {
         Release::BeforeReplacement => {
-            is_none(rt, table.release(rt, a, hold));
+            is_none(rt, name, table.release(rt, a, hold));
             let retired = replace_first(rt, table, b, second, takes);
-            is_first(rt, table.retire(rt, b, retired));
+            is_first(rt, name, table.retire(rt, b, retired));
         }
         Release::BeforeRetirement => {
             let retired = replace_first(rt, table, b, second, takes);
-            is_none(rt, table.release(rt, a, hold));
-            is_first(rt, table.retire(rt, b, retired));
+            is_none(rt, name, table.release(rt, a, hold));
+            is_first(rt, name, table.retire(rt, b, retired));
         }
         Release::AfterRetirement => {
             let retired = replace_first(rt, table, b, second, takes);
-            is_none(rt, table.retire(rt, b, retired));
-            is_first(rt, table.release(rt, a, hold));
+            is_none(rt, name, table.retire(rt, b, retired));
+            is_first(rt, name, table.release(rt, a, hold));
         }
     }
     second_is_there(rt, table, b);
@@ -134,22 +146,15 @@ fn play_on<T: FileTable, R: Wait + Abort>(
     Ok(())
 }
 
-fn play_on_both<R: Wait + Abort>(rt: &R, alloc: Global, release: Release) -> Result<(), Fail> {
-    play_on::<BatonTable, R>(rt, alloc, release, Takes::Zero)?;
-    play_on::<CountedTable, R>(rt, alloc, release, Takes::Counted)
-}
-
 #[test]
 fn retired_while_held(rt: HostRuntime) -> Result<(), Fail> {
-    play_on_both(&rt, rt.alloc(), Release::AfterRetirement)
-}
-
-#[test]
-fn released_before_retired(rt: HostRuntime) -> Result<(), Fail> {
-    play_on_both(&rt, rt.alloc(), Release::BeforeRetirement)
-}
-
-#[test]
-fn released_before_replaced(rt: HostRuntime) -> Result<(), Fail> {
-    play_on_both(&rt, rt.alloc(), Release::BeforeReplacement)
+    for release in [
+        Release::AfterRetirement,
+        Release::BeforeRetirement,
+        Release::BeforeReplacement,
+    ] {
+        play_on::<BatonTable, _>(&rt, rt.alloc(), release, Takes::Zero)?;
+        play_on::<CountedTable, _>(&rt, rt.alloc(), release, Takes::Counted)?;
+    }
+    Ok(())
 }

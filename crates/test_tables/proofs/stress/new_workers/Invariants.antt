@@ -1,9 +1,10 @@
 use Rattle.std.proofs.Common.{length, All}
+use Rattle.fx_table.specs.Pass.{IsIdle}
 use Rattle.test_tables.proofs.stress.new_workers.Given as goal
 
 abbrev pub invariant-loop-pass : goal.invariant-loop-pass
 invariant-loop-pass g l = record {
-  passes : All (λ p. g.T.FileTable.fits l.table p) l.passes.items;
+  passes : All (λ p. g.T.FileTable.fits l.table p × IsIdle (g.T.FileTable.view p)) l.passes.items;
   workers : All (λ w. g.T.FileTable.fits l.table w.pass) l.workers.items;
 }
 
