@@ -10,7 +10,6 @@ pub mod LineView
 pub mod ScriptView
 pub mod Laws
 pub mod Text
-pub mod Printed
 pub mod Play
 pub mod RunView
 pub mod Run
