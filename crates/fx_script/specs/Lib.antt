@@ -1,14 +1,3 @@
-pub mod Lines
-pub mod Words
-pub mod Instruction
-pub mod Line
-pub mod Script
-pub mod ScriptError
-pub mod Parts
-pub mod Cursor
-pub mod LineView
-pub mod ScriptView
-pub mod Laws
 pub mod Text
 pub mod Play
 pub mod RunView

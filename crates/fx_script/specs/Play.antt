@@ -16,8 +16,8 @@ use Rattle.fx_ring.specs.Ring.{HasClosed, RingContents, RingState, files_of, new
 use Rattle.fx_ring.specs.Submission.{IsOneHistory, Reported}
 use Rattle.fx_ring.specs.Tags.{tags_given}
 use Rattle.fx_ring.specs.declared.ring.TheConstants.{MOST_SUBMISSIONS}
-use Rattle.fx_script.specs.Instruction.{Instruction, MakesSparse, RegistersList, Unregisters, SetsRange, UpdatesRing, SubmitsAll}
-use Rattle.fx_script.specs.Script.{Meaning}
+use Rattle.fx_language.specs.Instruction.{Instruction, MakesSparse, RegistersList, Unregisters, SetsRange, UpdatesRing, SubmitsAll}
+use Rattle.fx_language.specs.Script.{Meaning}
 use Rattle.fx_script.specs.Text.{result_line, closes_text, refused_line, report_text, teardown_text, too_many_line}
 
 -- what a call answers that takes memory: its refusal, if there is one, and else that it was

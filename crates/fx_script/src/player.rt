@@ -3,16 +3,15 @@ ghost use Rattle.std.specs.Prelude.{◌≡◌, ◌≤◌, IfErr, OnOk};
 ghost use Rattle.std.specs.Io.KnownBytes.{Appends};
 ghost use Rattle.fx_table.specs.declared.limits.TheConstants.{MAX_PASSES};
 ghost use Rattle.fx_ring.specs.Ring.{ring_of};
-ghost use Rattle.fx_script.specs.Instruction.{instructions_of};
+ghost use Rattle.fx_language.specs.Instruction.{instructions_of};
 ghost use Rattle.fx_script.specs.Play.{IsText, IsTextOfFirst, PrintsAll, PrintsFirst};
 ghost use Rattle.fx_script.specs.Run.{IsPlayFault, Writes};
 ghost use Rattle.fx_script.specs.declared.play_fault.PlayFault.TheVariants.{Write};
 
-use crate::command::Command;
 use crate::play_fault::PlayFault;
 use crate::prints::{command_text, end_text};
-use crate::script::Script;
 use fx_chain::Gate;
+use fx_language::{Command, Script};
 use fx_ring::Ring;
 use fx_table::FileTable;
 use std::alloc::Global;

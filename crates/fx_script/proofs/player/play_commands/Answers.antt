@@ -1,7 +1,7 @@
 use Rattle.std.proofs.Common.{rules, subst, ◌≡◌, ◌+◌, List, drop, string_bytes}
 use Rattle.std.proofs.lemmas.Result.{err_from_is_err_and}
 use Rattle.std.specs.Io.KnownBytes.{Appends}
-use Rattle.fx_script.specs.Instruction.{Instruction, instruction_of, instructions_of}
+use Rattle.fx_language.specs.Instruction.{Instruction, instruction_of, instructions_of}
 use Rattle.fx_script.proofs.PlaySteps.{PlaysOn, one_more, ends, ends_early, front_command, no_command}
 use Rattle.fx_script.proofs.player.play_commands.Goals as goal
 
