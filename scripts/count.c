@@ -1,6 +1,7 @@
-/* Preloaded before a program. It counts the threads that the program makes and the bytes of memory that it asks for by malloc,
- * calloc, realloc and aligned_alloc, and keeps both in the file that the variable COUNTS names, which has 16 bytes: first the
- * threads, then the bytes. scripts/check-workers reads it. */
+/* Preloaded before a program. It counts the threads that the program makes, the bytes of memory that it asks for by malloc,
+ * calloc, realloc and aligned_alloc, and its writes to standard output. It keeps them in the file that the variable COUNTS
+ * names, as numbers of 8 bytes: the threads, the bytes, the writes, and what each of the first 64 writes was given.
+ * scripts/check-workers reads it. */
 #define _GNU_SOURCE
 #include <dlfcn.h>
 #include <fcntl.h>
@@ -10,7 +11,10 @@
 #include <stdint.h>
 #include <stdlib.h>
 #include <sys/mman.h>
+#include <sys/syscall.h>
 #include <unistd.h>
+
+enum { KEPT = 64 };
 
 typedef int Create(pthread_t *, const pthread_attr_t *, void *(*)(void *), void *);
 
@@ -21,7 +25,7 @@ extern void *__libc_realloc(void *, size_t);
 extern void *__libc_memalign(size_t, size_t);
 
 struct counts {
-    _Atomic uint64_t threads, bytes;
+    _Atomic uint64_t threads, bytes, writes, given[KEPT];
 };
 
 static struct counts none, *counts = &none;
@@ -63,6 +67,16 @@ void *aligned_alloc(size_t alignment, size_t size)
 {
     add_bytes(size);
     return __libc_memalign(alignment, size);
+}
+
+ssize_t write(int file, const void *bytes, size_t size)
+{
+    if (file == STDOUT_FILENO) {
+        uint64_t nth = atomic_fetch_add(&counts->writes, 1);
+        if (nth < KEPT)
+            atomic_store(&counts->given[nth], size);
+    }
+    return syscall(SYS_write, file, bytes, size);
 }
 
 int pthread_create(pthread_t *thread, const pthread_attr_t *how, void *(*start)(void *), void *with)

@@ -21,10 +21,10 @@ use Rattle.fx_order.specs.Requests.{AreChainsDone}
 use Rattle.fx_order.specs.declared.access.ChainAccess.{ChainAccess}
 use Rattle.fx_order.proofs.Histories.{each_order_is_a_history}
 use Rattle.fx_order.proofs.Shown.{ring_with_files, shows_ring}
-use Rattle.fx_script.specs.Instruction.{MakesSparse, SubmitsAll}
+use Rattle.fx_language.specs.Instruction.{MakesSparse, SubmitsAll}
 use Rattle.fx_script.specs.Play.{Answers, IsRefused, IsText, Prints, PrintsAll, PrintsReport}
 use Rattle.fx_script.specs.Run.{IsRun}
-use Rattle.fx_script.specs.Script.{Meaning, IsScript}
+use Rattle.fx_language.specs.Script.{Meaning, IsScript}
 use Rattle.fx_script.specs.Text.{report_text, result_line, teardown_text, refused_line, too_many_line}
 
 -- a list of one file at most, closed

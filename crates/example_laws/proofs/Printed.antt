@@ -18,10 +18,10 @@ use Rattle.fx_order.specs.Access.{accesses_of, removed_in, table_after}
 use Rattle.fx_order.specs.declared.access.Access.{Access}
 use Rattle.fx_order.specs.Order.{IsOneOrder, table_of}
 use Rattle.fx_order.proofs.Ordered.{each_history_is_an_order}
-use Rattle.fx_script.specs.Instruction.{MakesSparse, SubmitsAll}
+use Rattle.fx_language.specs.Instruction.{MakesSparse, SubmitsAll}
 use Rattle.fx_script.specs.Play.{Answers, IsRefused, IsText, PrintsAll, PrintsReport}
 use Rattle.fx_script.specs.Run.{IsRun}
-use Rattle.fx_script.specs.Script.{Meaning, LineFault, IsScript, reading_of}
+use Rattle.fx_language.specs.Script.{Meaning, LineFault, IsScript, reading_of}
 use Rattle.fx_script.specs.Text.{report_text, completion_lines, closes_text, result_line, teardown_text, refused_line, too_many_line}
 
 -- what a submission came to by one order, and what was printed of it and behind it

@@ -12,7 +12,7 @@ use Rattle.fx_order.specs.declared.access.Access.{Access}
 use Rattle.fx_order.specs.declared.access.ChainAccess.{ChainAccess}
 use Rattle.fx_script.specs.Play.{IsText}
 use Rattle.fx_script.specs.Run.{IsRun}
-use Rattle.fx_script.specs.Script.{Meaning, IsScript}
+use Rattle.fx_language.specs.Script.{Meaning, IsScript}
 use Rattle.example_laws.specs.OpenReadClose as whole
 use Rattle.example_laws.specs.ShortReadSevers as short
 use Rattle.example_laws.proofs.Allowed.{Plays, with_table_prints, without_table_prints, run_of_text}

@@ -4,9 +4,9 @@ use Rattle.std.specs.Fmt.{digits}
 use Rattle.hex.specs.Hex.{decode_pairs}
 use Rattle.fx_base.specs.declared.errno.Errno.TheVariants.{ENOMEM}
 use Rattle.fx_chain.specs.Completed.{negated}
-use Rattle.fx_script.specs.Instruction.{MakesSparse, SubmitsAll}
+use Rattle.fx_language.specs.Instruction.{MakesSparse, SubmitsAll}
 use Rattle.fx_script.specs.Play.{IsText}
-use Rattle.fx_script.specs.Script.{Meaning, IsScript}
+use Rattle.fx_language.specs.Script.{Meaning, IsScript}
 use Rattle.fx_script.specs.Text.{result_line}
 use Rattle.example_laws.specs.OpenReadClose as whole
 use Rattle.example_laws.specs.ShortReadSevers as short

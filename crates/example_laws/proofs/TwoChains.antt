@@ -18,9 +18,9 @@ use Rattle.fx_order.specs.declared.access.Access.TheVariants.{Puts, Takes}
 use Rattle.fx_order.specs.declared.access.Access.{Access}
 use Rattle.fx_order.specs.Order.{table_of}
 use Rattle.fx_order.specs.Requests.{AreChainsDone, IsChainDone}
-use Rattle.fx_script.specs.Instruction.{MakesSparse, SubmitsAll}
+use Rattle.fx_language.specs.Instruction.{MakesSparse, SubmitsAll}
 use Rattle.fx_script.specs.Play.{IsText}
-use Rattle.fx_script.specs.Script.{Meaning, IsScript}
+use Rattle.fx_language.specs.Script.{Meaning, IsScript}
 use Rattle.fx_script.specs.Text.{result_line}
 use Rattle.example_laws.specs.CloseBesideAnOpen.{script, open_first, close_first, without_table}
 use Rattle.example_laws.proofs.Members.{after_member, of_two_chains, of_no_chain}

@@ -1,5 +1,6 @@
 -- The files that can be opened (this project's own: a kernel opens files of a file system).
-use Rattle.std.specs.Prelude.{◌≡◌, ℕ, ◌≤◌, List, [], length, take, drop, slice_get, Option, Some, None, All, IsTrue, option_map}
+use Rattle.std.specs.Prelude.{◌≡◌, ℕ, ◌≤◌, List, [], length, take, drop, slice_get, Option, Some}
+use Rattle.std.specs.Prelude.{None, All, IsTrue, option_map}
 use Rattle.fx_base.specs.Name.{is_name}
 use Rattle.fx_base.specs.declared.catalogue.TheConstants.{MOST_ENTRIES, LONGEST_ENTRY}
 

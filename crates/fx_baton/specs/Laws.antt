@@ -10,7 +10,8 @@ use Rattle.fx_table.specs.declared.values.Doing.TheVariants.{Idle}
 use Rattle.fx_baton.specs.declared.view.Log.{Log}
 use Rattle.fx_baton.specs.declared.view.View.{View}
 use Rattle.fx_baton.specs.declared.view.Start.{Start}
-use Rattle.fx_baton.specs.Rule.{IsKept, view_without_first, view_of_first, joined_view, empty_view, Grabs, Gives, IsTurn}
+use Rattle.fx_baton.specs.Rule.{IsKept, view_without_first, view_of_first, joined_view, empty_view}
+use Rattle.fx_baton.specs.Rule.{Grabs, Gives, IsTurn}
 
 abbrev pub SplitsKeep : Type 0
 SplitsKeep =

@@ -1,6 +1,7 @@
 -- The runs of a submission: the requests that are linked with each other (io_uring_enter(2),
 -- "IOSQE_IO_LINK", "IOSQE_IO_HARDLINK").
-use Rattle.std.specs.Prelude.{◌≡◌, ◌<◌, Bool, true, false, not, List, [], ◌∷◌, ◌++◌, length, All, flat_map, if◌then◌else◌}
+use Rattle.std.specs.Prelude.{◌≡◌, ◌<◌, Bool, true, false, not, List, [], ◌∷◌, ◌++◌, length, All}
+use Rattle.std.specs.Prelude.{flat_map, if◌then◌else◌}
 use Rattle.std.specs.List.{list_all}
 use Rattle.fx_chain.specs.Operation.{Asked, is_link}
 

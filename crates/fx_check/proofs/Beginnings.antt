@@ -1,8 +1,8 @@
 -- A play of the first commands that prints a beginning of the text goes along with what is kept of the ring.
 use Rattle.std.proofs.Common.{◌≡◌, ℕ, suc, ◌+◌, ◌<◌, List, [], ◌∷◌, length, drop, take, sym, subst, slice_index_or, arith}
 use Rattle.fx_ring.specs.Ring.{RingContents, RingState, ring_of}
-use Rattle.fx_script.specs.Instruction.{Instruction, instruction_of, instructions_of}
-use Rattle.fx_script.specs.declared.command.Command.{Command}
+use Rattle.fx_language.specs.Instruction.{Instruction, instruction_of, instructions_of}
+use Rattle.fx_language.specs.declared.command.Command.{Command}
 use Rattle.fx_lines.specs.Lines.{HasNoCloses}
 use Rattle.fx_lines.proofs.PlaysBegin.{command_begins}
 use Rattle.fx_check.specs.Judged.{PrintsBeginning}

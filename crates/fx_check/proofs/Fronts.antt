@@ -1,8 +1,8 @@
 -- What the first commands may have printed.
 use Rattle.std.proofs.Common.{◌≡◌, ℕ, zero, suc, ◌+◌, ◌<◌, List, [], ◌∷◌, ◌++◌, length, take, drop, refl, sym, ap, subst, ◌∙◌, arith, append-nil, append_assoc, slice_index_or}
 use Rattle.fx_ring.specs.Ring.{RingState}
-use Rattle.fx_script.specs.Instruction.{Instruction, instruction_of, instructions_of}
-use Rattle.fx_script.specs.declared.command.Command.{Command}
+use Rattle.fx_language.specs.Instruction.{Instruction, instruction_of, instructions_of}
+use Rattle.fx_language.specs.declared.command.Command.{Command}
 use Rattle.fx_check.specs.Judged.{MayPrintFront}
 use Rattle.fx_check.specs.Met.{MayPrint}
 

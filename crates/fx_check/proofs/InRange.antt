@@ -23,7 +23,7 @@ use Rattle.fx_order.specs.declared.access.Access.TheVariants.{Looks, Puts, Clear
 use Rattle.fx_order.specs.declared.access.ChainAccess.{ChainAccess}
 use Rattle.fx_order.specs.Requests.{IsRefused, IsOpenDone, IsReadDone, IsCloseDone, IsUpdateDone, IsRequestDone, IsChainDone, AreChainsDone}
 use Rattle.fx_order.proofs.PlacedNew.{either_way}
-use Rattle.fx_script.specs.Script.{AreFiles}
+use Rattle.fx_language.specs.Script.{AreFiles}
 use Rattle.fx_lines.specs.Lines.{IsCompletionInRange, IsPlaceInRange}
 
 -- each allocation is at a slot of a table of this size

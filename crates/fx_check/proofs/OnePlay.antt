@@ -1,10 +1,10 @@
 -- A play of the script that prints the text goes along with what is kept of the ring.
 use Rattle.std.proofs.Common.{◌≡◌, ℕ, ◌+◌, ◌<◌, List, [], ◌∷◌, length, drop, subst, ◌∙◌, slice_index_or}
 use Rattle.fx_ring.specs.Ring.{RingContents, RingState, new_ring, ring_of}
-use Rattle.fx_script.specs.Instruction.{Instruction, instruction_of, instructions_of}
+use Rattle.fx_language.specs.Instruction.{Instruction, instruction_of, instructions_of}
 use Rattle.fx_script.specs.Play.{IsText, PrintsAll, PrintsEnd}
-use Rattle.fx_script.specs.Script.{Meaning}
-use Rattle.fx_script.specs.declared.command.Command.{Command}
+use Rattle.fx_language.specs.Script.{Meaning}
+use Rattle.fx_language.specs.declared.command.Command.{Command}
 use Rattle.fx_lines.proofs.PlaysBegin.{plays_begin}
 use Rattle.fx_check.specs.Only.{GoesOn, LeadsNowhere, LeadsTo}
 use Rattle.fx_check.proofs.Plays.{next_command}

@@ -8,7 +8,7 @@ use Rattle.fx_base.specs.declared.errno.Errno.{Errno}
 use Rattle.fx_base.specs.declared.errno.Errno.TheVariants.{ENOMEM}
 use Rattle.fx_chain.specs.Completed.{negated}
 use Rattle.fx_ring.specs.Ring.{RingContents, RingState, ring_of}
-use Rattle.fx_script.specs.Instruction.{Instruction}
+use Rattle.fx_language.specs.Instruction.{Instruction}
 use Rattle.fx_script.specs.Play.{Answers, IsRefused, Prints}
 use Rattle.fx_script.specs.Text.{result_line}
 use Rattle.fx_judge.specs.Verdict.{ring_with_slots}

@@ -16,7 +16,7 @@ use Rattle.fx_ring.specs.declared.ring.TheConstants.{MOST_SUBMISSIONS}
 use Rattle.fx_order.specs.Order.{IsOneOrder}
 use Rattle.fx_order.proofs.OneRing.{each_report_leads_to_one_ring}
 use Rattle.fx_order.proofs.Ordered.{each_history_is_an_order}
-use Rattle.fx_script.specs.Instruction.{SubmitsAll}
+use Rattle.fx_language.specs.Instruction.{SubmitsAll}
 use Rattle.fx_script.specs.Play.{PrintsReport}
 use Rattle.fx_script.specs.Text.{refused_line, report_text, too_many_line}
 use Rattle.fx_lines.specs.Lines.{IsReportBefore, Lines, ReadsReport, lines_of, lines_text}

@@ -10,7 +10,7 @@ use Rattle.fx_chain.specs.declared.fault.CutFault.{CutFault}
 use Rattle.fx_ring.specs.Ring.{RingState, ring_of}
 use Rattle.fx_ring.specs.declared.ring.TheConstants.{MOST_SUBMISSIONS}
 use Rattle.fx_script.specs.Play.{PrintsReport}
-use Rattle.fx_script.specs.Instruction.{SubmitsAll}
+use Rattle.fx_language.specs.Instruction.{SubmitsAll}
 use Rattle.fx_script.specs.Text.{refused_line, too_many_line}
 use Rattle.fx_judge.specs.declared.told.RingSlots.{RingSlots}
 use Rattle.fx_check.specs.Met.{IsMet}

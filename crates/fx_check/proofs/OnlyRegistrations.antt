@@ -14,7 +14,7 @@ use Rattle.fx_ring.specs.Registration.{files_after, range_refusal, register_refu
 use Rattle.fx_ring.specs.Registration.{sparse_refusal, unregister_refusal, update_refusal, updated}
 use Rattle.fx_ring.specs.Ring.{HasClosed, RingState, IsRing, files_of, ring_of, without_table}
 use Rattle.fx_ring.specs.Tags.{tags_given}
-use Rattle.fx_script.specs.Instruction.{Instruction, MakesSparse, RegistersList, SetsRange, Unregisters, UpdatesRing}
+use Rattle.fx_language.specs.Instruction.{Instruction, MakesSparse, RegistersList, SetsRange, Unregisters, UpdatesRing}
 use Rattle.fx_script.specs.Text.{closes_text, result_line}
 use Rattle.fx_lines.proofs.ResultLines.{one_result}
 use Rattle.fx_judge.specs.Verdict.{ring_with_slots}

@@ -5,10 +5,10 @@ use Rattle.std.proofs.lemmas.List.{take-append-drop, drop-drop}
 use Rattle.std.proofs.Math.Seq.{drop-cons}
 use Rattle.fx_ring.specs.Ring.{RingContents, RingState, new_ring}
 use Rattle.fx_order.proofs.Shown.{ring_with_files, shows_ring}
-use Rattle.fx_script.specs.Instruction.{Instruction, instruction_of, instructions_of}
+use Rattle.fx_language.specs.Instruction.{Instruction, instruction_of, instructions_of}
 use Rattle.fx_script.specs.Play.{IsText, PrintsAll}
-use Rattle.fx_script.specs.Script.{Meaning}
-use Rattle.fx_script.specs.declared.command.Command.{Command}
+use Rattle.fx_language.specs.Script.{Meaning}
+use Rattle.fx_language.specs.declared.command.Command.{Command}
 use Rattle.fx_check.specs.Met.{MayPrint}
 use Rattle.fx_check.specs.Ordered.{IsTextBy, MayPrintAllBy, MayPrintBy, PrintsAllBy}
 use Rattle.fx_check.specs.declared.judgement.Order.{Order}

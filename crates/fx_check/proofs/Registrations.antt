@@ -21,7 +21,7 @@ use Rattle.fx_ring.specs.Tags.{tags_given}
 use Rattle.fx_ring.specs.declared.ring.TheConstants.{MOST_REGISTRATIONS}
 use Rattle.fx_ring.proofs.Origins.{registered_rings, updated_rings}
 use Rattle.fx_ring.proofs.Rings.{none_rings}
-use Rattle.fx_script.specs.Instruction.{MakesSparse, RegistersList, SetsRange, Unregisters, UpdatesRing}
+use Rattle.fx_language.specs.Instruction.{MakesSparse, RegistersList, SetsRange, Unregisters, UpdatesRing}
 use Rattle.fx_script.specs.Text.{closes_text, result_line}
 use Rattle.fx_judge.specs.Verdict.{ring_with_slots}
 use Rattle.fx_judge.specs.declared.told.RingSlots.{RingSlots}

@@ -14,7 +14,7 @@ use Rattle.fx_ring.specs.Ring.{RingState}
 use Rattle.fx_ring.specs.Submission.{Reported}
 use Rattle.fx_order.specs.Access.{accesses_of}
 use Rattle.fx_order.specs.Order.{IsOneOrder, table_of}
-use Rattle.fx_script.specs.Script.{AreFiles}
+use Rattle.fx_language.specs.Script.{AreFiles}
 use Rattle.fx_script.specs.Text.{name_of}
 use Rattle.fx_lines.specs.Lines.{AreLinesInRange, IsCloseInRange, is_without, lines_of, named_close}
 use Rattle.fx_lines.proofs.Names.{name_without_end}

@@ -4,7 +4,7 @@ use Rattle.fx_base.specs.Catalogue.{FileEntry}
 use Rattle.fx_base.specs.declared.errno.Errno.{Errno}
 use Rattle.fx_base.specs.declared.errno.Errno.TheVariants.{ENOMEM}
 use Rattle.fx_ring.specs.Ring.{RingContents, ring_of}
-use Rattle.fx_script.specs.Instruction.{Instruction}
+use Rattle.fx_language.specs.Instruction.{Instruction}
 use Rattle.fx_script.specs.Play.{Answers, Prints}
 use Rattle.fx_judge.specs.Verdict.{ring_with_slots}
 use Rattle.fx_judge.specs.declared.told.RingSlots.{RingSlots}

@@ -21,7 +21,7 @@ use Rattle.fx_plain.specs.declared.table.TheConstants.{MOST_SLOTS}
 use Rattle.fx_ring.specs.Ring.{RingState, IsRing, ring_of}
 use Rattle.fx_ring.specs.Submission.{Reported}
 use Rattle.fx_ring.specs.declared.ring.TheConstants.{MOST_SUBMISSIONS}
-use Rattle.fx_script.specs.Instruction.{SubmitsAll}
+use Rattle.fx_language.specs.Instruction.{SubmitsAll}
 use Rattle.fx_script.specs.Play.{PrintsReport}
 use Rattle.fx_script.specs.Text.{closed_lines, completion_lines, name_of, refused_line, report_text, tag_lines, too_many_line}
 use Rattle.std.proofs.lemmas.Simd.{map-map}

@@ -1,7 +1,7 @@
 -- What a text says of the next command.
 use Rattle.std.specs.Prelude.{ℕ, ◌≤◌, List, length, take}
 use Rattle.fx_base.specs.Catalogue.{FileEntry}
-use Rattle.fx_script.specs.Instruction.{Instruction}
+use Rattle.fx_language.specs.Instruction.{Instruction}
 use Rattle.fx_judge.specs.Verdict.{ring_with_slots}
 use Rattle.fx_judge.specs.declared.told.RingSlots.{RingSlots}
 use Rattle.fx_check.specs.Ordered.{MayPrintBy}

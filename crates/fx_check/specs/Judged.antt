@@ -1,9 +1,9 @@
 -- What a judgement says of a script and a text.
 use Rattle.std.specs.Prelude.{◌≡◌, ◌≤◌, ◌<◌, ◌+◌, ℕ, List, [], ◌∷◌, ◌++◌, length, take, drop}
 use Rattle.fx_ring.specs.Ring.{RingContents, RingState, new_ring, ring_of}
-use Rattle.fx_script.specs.Instruction.{Instruction}
+use Rattle.fx_language.specs.Instruction.{Instruction}
 use Rattle.fx_script.specs.Play.{IsStart, IsText, Prints}
-use Rattle.fx_script.specs.Script.{Meaning}
+use Rattle.fx_language.specs.Script.{Meaning}
 use Rattle.fx_lines.specs.Lines.{HasNoCloses}
 use Rattle.fx_check.specs.Ordered.{IsTextBy}
 use Rattle.fx_check.specs.declared.judgement.Break.{Break}

@@ -8,7 +8,7 @@ use Rattle.fx_judge.specs.Verdict.{ring_with_slots}
 use Rattle.fx_judge.specs.declared.told.RingSlots.{RingSlots}
 use Rattle.fx_ring.specs.Ring.{IsRing}
 use Rattle.fx_ring.specs.declared.ring.TheConstants.{MOST_REGISTRATIONS, MOST_SUBMISSIONS}
-use Rattle.fx_script.specs.Script.{AreFiles}
+use Rattle.fx_language.specs.Script.{AreFiles}
 use Rattle.fx_lines.specs.Lines.{IsMarkInRange}
 
 -- the numbers of a file's mark, and its tag, are those that their types have

@@ -2,7 +2,7 @@
 use Rattle.std.specs.Prelude.{◌≡◌, ℕ, List, ◌++◌, drop}
 use Rattle.fx_base.specs.Catalogue.{FileEntry}
 use Rattle.fx_ring.specs.Ring.{RingContents, RingState, ring_of}
-use Rattle.fx_script.specs.Instruction.{Instruction}
+use Rattle.fx_language.specs.Instruction.{Instruction}
 use Rattle.fx_script.specs.Play.{Prints}
 use Rattle.fx_lines.specs.Lines.{HasNoCloses}
 use Rattle.fx_judge.specs.Verdict.{ring_with_slots}

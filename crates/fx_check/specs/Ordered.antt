@@ -6,9 +6,9 @@ use Rattle.fx_chain.specs.Runs.{runs_of}
 use Rattle.fx_order.specs.Order.{IsOrderOf, ring_left}
 use Rattle.fx_ring.specs.Ring.{RingContents, RingState, ring_of}
 use Rattle.fx_ring.specs.Submission.{IsOneHistory, Reported}
-use Rattle.fx_script.specs.Instruction.{Instruction, SubmitsAll}
+use Rattle.fx_language.specs.Instruction.{Instruction, SubmitsAll}
 use Rattle.fx_script.specs.Play.{IsStart, Prints, PrintsEnd}
-use Rattle.fx_script.specs.Script.{Meaning}
+use Rattle.fx_language.specs.Script.{Meaning}
 use Rattle.fx_script.specs.Text.{report_text}
 use Rattle.fx_check.specs.Places.{ArePlaces}
 use Rattle.fx_check.specs.declared.judgement.Order.{Order}

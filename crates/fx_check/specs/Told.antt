@@ -1,5 +1,6 @@
 -- What lines tell of a submission.
-use Rattle.std.specs.Prelude.{◌≡◌, ◌⊎◌, ◌<◌, ℕ, pos, List, ◌∷◌, length, All, Result, Ok, Err, slice_get, Some}
+use Rattle.std.specs.Prelude.{◌≡◌, ◌⊎◌, ◌<◌, ℕ, pos, List, ◌∷◌, length, All, Result, Ok, Err}
+use Rattle.std.specs.Prelude.{slice_get, Some}
 use Rattle.std.specs.Global.{Vec}
 use Rattle.fx_base.specs.Catalogue.{FileEntry, IsCatalogue}
 use Rattle.fx_base.specs.CloseList.{IsInOrderOfMark}

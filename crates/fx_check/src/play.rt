@@ -2,14 +2,14 @@
 ghost use Rattle.std.specs.Prelude.{◌≡◌, IfNone, IfOk, IfSome, List, OnOk};
 ghost use Rattle.fx_base.specs.Catalogue.{FileEntry};
 ghost use Rattle.fx_ring.specs.Ring.{new_ring};
-ghost use Rattle.fx_script.specs.Instruction.{instruction_of};
+ghost use Rattle.fx_language.specs.Instruction.{instruction_of};
 ghost use Rattle.fx_script.specs.Play.{PrintsEnd};
 ghost use Rattle.fx_judge.specs.Verdict.{ring_with_slots};
 ghost use Rattle.fx_check.specs.Answer.{IsAnswer};
 ghost use Rattle.fx_check.specs.Judged.{IsJudged};
 ghost use Rattle.fx_check.specs.Kept.{IsKept};
 ghost use Rattle.fx_check.specs.Only.{IsOnlyAnswer};
-ghost use Rattle.fx_script.specs.Script.{AreFiles};
+ghost use Rattle.fx_language.specs.Script.{AreFiles};
 
 use crate::answer::Answer;
 use crate::closes::{close_in_order, files_at};
@@ -21,8 +21,9 @@ use crate::registration::{
 use crate::submission::play_submission;
 use fx_base::{Catalogue, NoMemory};
 use fx_judge::RingSlots;
+use fx_language::{Command, Script};
 use fx_order::Slots;
-use fx_script::{Command, Script, teardown_text};
+use fx_script::teardown_text;
 use std::alloc::Global;
 
 // A ring without a table, with nothing counted.

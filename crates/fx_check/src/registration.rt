@@ -2,7 +2,7 @@
 ghost use Rattle.std.specs.Prelude.{◌≡◌, IfOk, OnOk, option_map};
 ghost use Rattle.fx_base.specs.declared.errno.Errno.TheVariants.{ENOMEM};
 ghost use Rattle.fx_chain.specs.Completed.{negated};
-ghost use Rattle.fx_script.specs.Instruction.{MakesSparse, RegistersList, SetsRange, Unregisters, UpdatesRing};
+ghost use Rattle.fx_language.specs.Instruction.{MakesSparse, RegistersList, SetsRange, Unregisters, UpdatesRing};
 ghost use Rattle.fx_script.specs.Text.{result_line};
 ghost use Rattle.fx_check.specs.Met.{IsMet, IsStep};
 ghost use Rattle.fx_check.specs.Only.{IsOnlyStep};

@@ -7,7 +7,7 @@ ghost use Rattle.fx_chain.specs.Completed.{all_completed};
 ghost use Rattle.fx_chain.specs.Operation.{all_asked};
 ghost use Rattle.fx_chain.specs.Runs.{runs_of};
 ghost use Rattle.fx_ring.specs.declared.ring.TheConstants.{MOST_SUBMISSIONS};
-ghost use Rattle.fx_script.specs.Instruction.{SubmitsAll};
+ghost use Rattle.fx_language.specs.Instruction.{SubmitsAll};
 ghost use Rattle.fx_check.specs.Answer.{IsAnswer};
 ghost use Rattle.fx_check.specs.Kept.{IsKept};
 ghost use Rattle.fx_check.specs.Only.{IsOnlyAnswer};

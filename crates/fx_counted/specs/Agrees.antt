@@ -1,6 +1,7 @@
 -- The rule of the table without a lock: words, places and views agree with the state that one legal
 -- history leads to.
-use Rattle.std.specs.Prelude.{◌≡◌, ℕ, ◌+◌, ◌*◌, ◌<◌, ◌≤◌, ◌⊎◌, true, List, [], length, slice_index, Option, Some, None, sum_by}
+use Rattle.std.specs.Prelude.{◌≡◌, ℕ, ◌+◌, ◌*◌, ◌<◌, ◌≤◌, ◌⊎◌, true, List, [], length, slice_index}
+use Rattle.std.specs.Prelude.{Option, Some, None, sum_by}
 use mathlib.Core.Option.{some, none}
 use mathlib.Core.Option as maybe
 use lib.ListN.{get_elem?}
@@ -11,16 +12,21 @@ use Rattle.fx_plain.specs.Table.{numbered}
 use Rattle.fx_plain.specs.declared.event.File.{File}
 use Rattle.fx_plain.specs.declared.event.Event.{Event}
 use Rattle.fx_plain.specs.declared.table.TheConstants.{MOST_SLOTS}
-use Rattle.fx_table.specs.declared.limits.TheConstants.{CHAIN_NUMBERS, MAX_CHAINS, MAX_PASSES, PASS_LOOKS}
+use Rattle.fx_table.specs.declared.limits.TheConstants.{CHAIN_NUMBERS, MAX_CHAINS, MAX_PASSES}
+use Rattle.fx_table.specs.declared.limits.TheConstants.{PASS_LOOKS}
 use Rattle.fx_table.specs.Opening.{start_of, range_of}
 use Rattle.fx_words.specs.Words.{name_in, entry_in, takes_in, born}
 use Rattle.fx_counted.specs.Control.{ControlCounts}
 use Rattle.fx_counted.specs.Counts.{looks, all_looks}
 use Rattle.fx_counted.specs.Draws.{DrawsCount}
-use Rattle.fx_counted.specs.Layout.{control_place, draw_place, slot_place, node_place, words_for, home_place, homes_for}
-use Rattle.fx_counted.specs.Passes.{Shared, opening_of, slots_of, chain_numbers, IsNumber, state_after_all, chain_in}
-use Rattle.fx_counted.specs.Passes.{end_in, next_in, held_in, placing, logs_of, looks_of, held_of, once}
-use Rattle.fx_counted.specs.Phases.{Phase, unborn, spare, placed, seated, leaving, retired, emptied, closed, file_in}
+use Rattle.fx_counted.specs.Layout.{control_place, draw_place, slot_place, node_place, words_for}
+use Rattle.fx_counted.specs.Layout.{home_place, homes_for}
+use Rattle.fx_counted.specs.Passes.{Shared, opening_of, slots_of, chain_numbers, IsNumber}
+use Rattle.fx_counted.specs.Passes.{state_after_all, chain_in}
+use Rattle.fx_counted.specs.Passes.{end_in, next_in, held_in, placing, logs_of, looks_of, held_of}
+use Rattle.fx_counted.specs.Passes.{once}
+use Rattle.fx_counted.specs.Phases.{Phase, unborn, spare, placed, seated, leaving, retired, emptied}
+use Rattle.fx_counted.specs.Phases.{closed, file_in}
 use Rattle.fx_counted.specs.declared.view.Change.TheVariants.{Outside}
 use Rattle.fx_counted.specs.declared.view.Log.{Log}
 use Rattle.fx_counted.specs.declared.view.Start.{Start}

@@ -1,5 +1,6 @@
 -- The words and places with which a shared table begins, from the table of one thread.
-use Rattle.std.specs.Prelude.{◌≡◌, ℕ, ◌+◌, ◌*◌, ◌<◌, ◌≤◌, List, Option, Some, None, length, slice_index}
+use Rattle.std.specs.Prelude.{◌≡◌, ℕ, ◌+◌, ◌*◌, ◌<◌, ◌≤◌, List, Option, Some, None, length}
+use Rattle.std.specs.Prelude.{slice_index}
 use mathlib.Core.Option.{some}
 use lib.ListN.{get_elem?}
 use Rattle.fx_base.specs.Identity.{Identity}
@@ -8,7 +9,8 @@ use Rattle.fx_plain.specs.Table.{identity_of}
 use Rattle.fx_plain.specs.declared.event.File.{File}
 use Rattle.fx_words.specs.Words.{control_word_of}
 use Rattle.fx_counted.specs.Control.{full_in}
-use Rattle.fx_counted.specs.Layout.{control_place, draw_place, slot_place, node_place, words_for, homes_for}
+use Rattle.fx_counted.specs.Layout.{control_place, draw_place, slot_place, node_place, words_for}
+use Rattle.fx_counted.specs.Layout.{homes_for}
 use Rattle.fx_counted.specs.Opens.{word_for, node_for}
 
 -- the file at a slot, under the slot's number

@@ -1,6 +1,7 @@
 -- The kinds of step keep the rule, whatever the table and the other passes are. A law takes the
 -- place of its word as a premise.
-use Rattle.std.specs.Prelude.{◌≡◌, ℕ, ◌+◌, ◌-◌, ◌%◌, ◌^◌, ◌<◌, ◌≤◌, ◌==◌, ◌⊎◌, false, [], ◌∷◌, Some, None}
+use Rattle.std.specs.Prelude.{◌≡◌, ℕ, ◌+◌, ◌-◌, ◌%◌, ◌^◌, ◌<◌, ◌≤◌, ◌==◌, ◌⊎◌, false, [], ◌∷◌, Some}
+use Rattle.std.specs.Prelude.{None}
 use mathlib.Core.Option.{none}
 use prog.Atomic.{either}
 use Rattle.atomic_table.specs.Table.{step, Splits, Joins, Allows}
@@ -14,7 +15,8 @@ use Rattle.fx_counted.specs.Control.{in_change, added, removed_by}
 use Rattle.fx_counted.specs.Cuts.{without_first, first_alone, together, spent}
 use Rattle.fx_counted.specs.Layout.{control_place, draw_place, slot_place, node_place, home_place}
 use Rattle.fx_counted.specs.Passes.{Sat, opening_of, slots_of, next_in}
-use Rattle.fx_counted.specs.Tells.{Births, Looks, Installs, Removes, Retires, Releases, Rests, GoesOn, Answers, Exchanges, DrawTells}
+use Rattle.fx_counted.specs.Tells.{Births, Looks, Installs, Removes, Retires, Releases, Rests}
+use Rattle.fx_counted.specs.Tells.{GoesOn, Answers, Exchanges, DrawTells}
 use Rattle.fx_counted.specs.declared.view.Change.{Change}
 use Rattle.fx_counted.specs.declared.view.Change.TheVariants.{Outside, Same}
 use Rattle.fx_counted.specs.declared.view.Log.{Log}

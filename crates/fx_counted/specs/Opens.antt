@@ -1,18 +1,21 @@
 -- The words and places with which a table without a lock begins.
-use Rattle.std.specs.Prelude.{◌≡◌, ℕ, ◌+◌, ◌<◌, ◌≤◌, List, [], length, slice_index, Option, Some, None}
+use Rattle.std.specs.Prelude.{◌≡◌, ℕ, ◌+◌, ◌<◌, ◌≤◌, List, [], length, slice_index, Option, Some}
+use Rattle.std.specs.Prelude.{None}
 use mathlib.Core.Option.{some}
 use lib.ListN.{get_elem?}
 use Rattle.atomic_table.specs.Table.{opening}
 use Rattle.fx_base.specs.Identity.{Identity}
 use Rattle.fx_plain.specs.declared.event.File.{File}
 use Rattle.fx_plain.specs.declared.table.TheConstants.{MOST_SLOTS}
-use Rattle.fx_table.specs.declared.limits.TheConstants.{CHAIN_NUMBERS, FIRST_CHAIN_NUMBER, MAX_CHAINS, MAX_PASSES}
+use Rattle.fx_table.specs.declared.limits.TheConstants.{CHAIN_NUMBERS, FIRST_CHAIN_NUMBER}
+use Rattle.fx_table.specs.declared.limits.TheConstants.{MAX_CHAINS, MAX_PASSES}
 use Rattle.fx_table.specs.Opening.{range_of}
 use Rattle.fx_words.specs.Words.{born, slot_word_of, control_word_of}
 use Rattle.fx_counted.specs.Agrees.{Agrees}
 use Rattle.fx_counted.specs.Control.{full_in}
 use Rattle.fx_counted.specs.Cuts.{first_view}
-use Rattle.fx_counted.specs.Layout.{control_place, draw_place, slot_place, node_place, words_for, home_place, homes_for}
+use Rattle.fx_counted.specs.Layout.{control_place, draw_place, slot_place, node_place, words_for}
+use Rattle.fx_counted.specs.Layout.{home_place, homes_for}
 use Rattle.fx_counted.specs.Passes.{opening_of, slots_of, chain_numbers, state_after_all}
 use Rattle.fx_counted.specs.declared.view.Start.{Start}
 

@@ -1,5 +1,6 @@
 -- What views say of passes.
-use Rattle.std.specs.Prelude.{ℕ, zero, suc, ◌-◌, ◌*◌, ◌==◌, nat_lt, false, List, [], ◌∷◌, Option, Some, None, sum_by, count_by, if◌then◌else◌}
+use Rattle.std.specs.Prelude.{ℕ, zero, suc, ◌-◌, ◌*◌, ◌==◌, nat_lt, false, List, [], ◌∷◌, Option}
+use Rattle.std.specs.Prelude.{Some, None, sum_by, count_by, if◌then◌else◌}
 use Rattle.atomic_table.specs.Table.{State as TableState, Me}
 use Rattle.fx_base.specs.Identity.{Identity}
 use Rattle.fx_plain.specs.History.{part_of_pass}

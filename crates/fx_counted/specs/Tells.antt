@@ -1,12 +1,14 @@
 -- What each kind of step tells the pass that makes it.
-use Rattle.std.specs.Prelude.{◌≡◌, ◌≢◌, ℕ, zero, suc, ◌+◌, ◌<◌, nat_lt, if◌then◌else◌, List, [], ◌∷◌, Option, Some, None}
+use Rattle.std.specs.Prelude.{◌≡◌, ◌≢◌, ℕ, zero, suc, ◌+◌, ◌<◌, nat_lt, if◌then◌else◌, List, []}
+use Rattle.std.specs.Prelude.{◌∷◌, Option, Some, None}
 use Rattle.atomic_table.specs.Table.{Step, rest}
 use Rattle.fx_base.specs.Identity.{Identity}
 use Rattle.fx_plain.specs.History.{◌▷◌}
 use Rattle.fx_plain.specs.Table.{numbered}
 use Rattle.fx_plain.specs.declared.event.File.{File}
 use Rattle.fx_plain.specs.declared.event.Action.{Action}
-use Rattle.fx_plain.specs.declared.event.Action.TheVariants.{Look, Release, Put, Allocate, Full, Close}
+use Rattle.fx_plain.specs.declared.event.Action.TheVariants.{Look, Release, Put, Allocate, Full}
+use Rattle.fx_plain.specs.declared.event.Action.TheVariants.{Close}
 use Rattle.fx_table.specs.Calls.{Use, no_use, one_look, one_number, Adds, Draws}
 use Rattle.fx_table.specs.Opening.{range_of}
 use Rattle.fx_table.specs.Pass.{next_number}
@@ -14,7 +16,8 @@ use Rattle.fx_words.specs.Words.{takes_in, full_word_of}
 use Rattle.fx_counted.specs.Agrees.{Names}
 use Rattle.fx_counted.specs.Control.{if_full}
 use Rattle.fx_counted.specs.Layout.{slot_of, home_place}
-use Rattle.fx_counted.specs.Passes.{Sat, opening_of, slots_of, IsNumber, state_after_all, pass_of, steps_of, doing_in}
+use Rattle.fx_counted.specs.Passes.{Sat, opening_of, slots_of, IsNumber, state_after_all, pass_of}
+use Rattle.fx_counted.specs.Passes.{steps_of, doing_in}
 use Rattle.fx_counted.specs.declared.view.Change.{Change}
 use Rattle.fx_counted.specs.declared.view.Change.TheVariants.{Outside, Same, More, Less}
 use Rattle.fx_counted.specs.declared.view.Log.{Log}

@@ -1,16 +1,19 @@
 -- What completions tell of the accesses that were made: claims, one for each access.
-use Rattle.std.specs.Prelude.{◌≡◌, ℕ, ◌+◌, ◌<◌, ◌≤◌, true, List, slice_get, slice_index_or, Option, Some, None, Result, Ok, Err, IsTrue, ◌↔◌, Contains}
+use Rattle.std.specs.Prelude.{◌≡◌, ℕ, ◌+◌, ◌<◌, ◌≤◌, true, List, slice_get, slice_index_or, Option}
+use Rattle.std.specs.Prelude.{Some, None, Result, Ok, Err, IsTrue, ◌↔◌, Contains}
 use Rattle.std.specs.Global.{Vec}
 use Rattle.std.specs.List.{AllZip, AllByRecursion}
 use Rattle.fx_base.specs.Identity.{Identity}
 use Rattle.fx_base.specs.declared.open_file.Closed.{Closed}
 use Rattle.fx_order.specs.Access.{removed_by, accesses_of_chain}
-use Rattle.fx_order.specs.declared.access.Access.TheVariants.{Looks, Puts, Clears, Takes, Allocates, FindsFull}
+use Rattle.fx_order.specs.declared.access.Access.TheVariants.{Looks, Puts, Clears, Takes, Allocates}
+use Rattle.fx_order.specs.declared.access.Access.TheVariants.{FindsFull}
 use Rattle.fx_order.specs.declared.access.Access.{Access}
 use Rattle.fx_order.specs.declared.access.ChainAccess.{ChainAccess}
 use Rattle.fx_judge.specs.declared.claim.Resident.{Resident}
 use Rattle.fx_judge.specs.declared.claim.Wants.{Wants}
-use Rattle.fx_judge.specs.declared.claim.Wants.TheVariants.{Anything, Nothing, NothingToTake, Something, Bytes}
+use Rattle.fx_judge.specs.declared.claim.Wants.TheVariants.{Anything, Nothing, NothingToTake}
+use Rattle.fx_judge.specs.declared.claim.Wants.TheVariants.{Something, Bytes}
 use Rattle.fx_judge.specs.declared.claim.Leaves.{Leaves}
 use Rattle.fx_judge.specs.declared.claim.Leaves.TheVariants.{Same, Empty, File}
 use Rattle.fx_judge.specs.declared.claim.Claim.{Claim}

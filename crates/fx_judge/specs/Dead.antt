@@ -1,5 +1,6 @@
 -- A claim that waits for a file that doesn't come.
-use Rattle.std.specs.Prelude.{◌≡◌, ◌⊎◌, ℕ, ◌≤◌, ◌==◌, ◌&&◌, ◌||◌, not, Bool, true, false, List, slice_get, slice_index, Option, Some, None}
+use Rattle.std.specs.Prelude.{◌≡◌, ◌⊎◌, ℕ, ◌≤◌, ◌==◌, ◌&&◌, ◌||◌, not, Bool, true, false, List}
+use Rattle.std.specs.Prelude.{slice_get, slice_index, Option, Some, None}
 use Rattle.fx_judge.specs.Machine.{Standing, cell_at, is_same, may_leave, suits}
 use Rattle.fx_judge.specs.declared.claim.Claim.{Claim}
 use Rattle.fx_judge.specs.declared.claim.Claim.TheVariants.{At, Full}

@@ -1,11 +1,14 @@
 -- The claims of chains as a machine: how many claims of each chain were made, and the files
 -- at slots.
-use Rattle.std.specs.Prelude.{◌≡◌, ◌⊎◌, ℕ, ◌+◌, ◌==◌, ◌&&◌, ◌||◌, not, Bool, true, false, List, [], ◌∷◌, map, slice_get, slice_index, slice_index_or, slice_set, Option, Some, None}
+use Rattle.std.specs.Prelude.{◌≡◌, ◌⊎◌, ℕ, ◌+◌, ◌==◌, ◌&&◌, ◌||◌, not, Bool, true, false, List, []}
+use Rattle.std.specs.Prelude.{◌∷◌, map, slice_get, slice_index, slice_index_or, slice_set, Option}
+use Rattle.std.specs.Prelude.{Some, None}
 use Rattle.std.specs.Prelude.{option_and_then, if◌then◌else◌, is_some, Contains}
 use Rattle.std.specs.List.{list_all}
 use Rattle.fx_judge.specs.declared.claim.Resident.{Resident}
 use Rattle.fx_judge.specs.declared.claim.Wants.{Wants}
-use Rattle.fx_judge.specs.declared.claim.Wants.TheVariants.{Anything, Nothing, NothingToTake, Something, Bytes}
+use Rattle.fx_judge.specs.declared.claim.Wants.TheVariants.{Anything, Nothing, NothingToTake}
+use Rattle.fx_judge.specs.declared.claim.Wants.TheVariants.{Something, Bytes}
 use Rattle.fx_judge.specs.declared.claim.Leaves.{Leaves}
 use Rattle.fx_judge.specs.declared.claim.Leaves.TheVariants.{Same, Empty, File}
 use Rattle.fx_judge.specs.declared.claim.Claim.{Claim}

@@ -1,9 +1,11 @@
 -- What an order does to a table, as the claims of chains and the closes tell it.
-use Rattle.std.specs.Prelude.{◌≡◌, ℕ, ◌<◌, ◌≤◌, List, length, Option, Some, None, Contains, All, IsTrue}
+use Rattle.std.specs.Prelude.{◌≡◌, ℕ, ◌<◌, ◌≤◌, List, length, Option, Some, None, Contains, All}
+use Rattle.std.specs.Prelude.{IsTrue}
 use Rattle.std.specs.Global.{Vec}
 use Rattle.fx_base.specs.Identity.{Identity}
 use Rattle.fx_base.specs.declared.open_file.Closed.{Closed}
-use Rattle.fx_order.specs.Access.{Table, IsInRange, PermitsAll, table_after, removed_in, accesses_of}
+use Rattle.fx_order.specs.Access.{Table, IsInRange, PermitsAll, table_after, removed_in}
+use Rattle.fx_order.specs.Access.{accesses_of}
 use Rattle.fx_order.specs.declared.access.ChainAccess.{ChainAccess}
 use Rattle.fx_judge.specs.Claims.{AreClaims, IsResident}
 use Rattle.fx_judge.specs.declared.cell.Cell.{Cell}

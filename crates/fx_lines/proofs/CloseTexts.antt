@@ -8,7 +8,7 @@ use Rattle.fx_lines.specs.Front.{IsCutPart, close_text, cut_text}
 use Rattle.fx_lines.specs.Lines.{IsCloseInRange, IsMarkInRange, NamedClose, is_without, line_of_tag, named_line}
 use Rattle.fx_lines.specs.Reads.{IsPrintedFrom}
 use Rattle.fx_lines.proofs.Cuts.{without_between, without_right}
-use Rattle.fx_script.proofs.Conditions.{and_right}
+use Rattle.fx_language.proofs.Conditions.{and_right}
 use Rattle.fx_lines.proofs.Decimals.{decimal_without}
 use Rattle.fx_lines.proofs.LinesInTurn.{IsOneLine}
 use Rattle.fx_lines.proofs.Marks.{mark_without}

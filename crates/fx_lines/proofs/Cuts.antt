@@ -6,7 +6,7 @@ use Rattle.std.proofs.lemmas.List.{append_cancel_left, drop_more}
 use Rattle.std.proofs.lemmas.Bool.Decides.{nat_tests}
 use Rattle.std.proofs.Common.{arith}
 use Rattle.std.proofs.lemmas.List.Folds.{list_all-append}
-use Rattle.fx_script.proofs.Conditions.{and_left, and_right, and_true}
+use Rattle.fx_language.proofs.Conditions.{and_left, and_right, and_true}
 use Rattle.fx_lines.specs.Front.{IsCutPart, cut_text}
 use Rattle.fx_lines.specs.Lines.{is_without}
 use Rattle.fx_lines.specs.Reads.{IsPrintedFrom, Reads}

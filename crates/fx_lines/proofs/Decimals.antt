@@ -6,8 +6,8 @@ use Rattle.std.specs.Str.Parse.{digits_value}
 use Rattle.std.proofs.lemmas.Bool.Decides.{nat_tests}
 use Rattle.std.proofs.lemmas.Fmt.{decimal_digit, decimal_nonempty, first_decimal, digits_decimal, digits_value-decimal, decimal-digits_value}
 use Rattle.std.proofs.lemmas.Str.Parse.{IsNumeralModel, IsDigitsTest, numerals_by_value}
-use Rattle.fx_script.proofs.Conditions.{and_left, and_right, and_true, le_of}
-use Rattle.fx_script.specs.Words.{is_digit, is_decimal, number_up_to}
+use Rattle.fx_language.proofs.Conditions.{and_left, and_right, and_true, le_of}
+use Rattle.fx_language.specs.Words.{is_digit, is_decimal, number_up_to}
 use Rattle.fx_lines.specs.Lines.{is_without}
 use Rattle.std.proofs.lemmas.Bool.{true≢false}
 use Rattle.fx_lines.specs.Reads.{Reads}

@@ -4,7 +4,7 @@ use Rattle.std.specs.Prelude.{codes, decimal}
 use Rattle.std.specs.Fmt.{digit_glyph, digits, digits_onto}
 use Rattle.std.proofs.lemmas.Bool.{true≢false}
 use Rattle.std.proofs.lemmas.Bool.Decides.{nat_tests}
-use Rattle.fx_script.specs.Words.{is_digit}
+use Rattle.fx_language.specs.Words.{is_digit}
 use Rattle.fx_lines.specs.Lines.{HasNoCloses}
 
 -- a text with another first byte

@@ -5,7 +5,7 @@ use Rattle.std.specs.List.{list_all}
 use Rattle.hex.specs.Hex.{IsBytes, decode_of, encode_lower, encode_with, lower_digits}
 use Rattle.hex.specs.declared.error.FromHexError.{FromHexError}
 use Rattle.hex.proofs.HexLemmas.{decode_of-encode_lower, decode_of-ok, length-encode_with}
-use Rattle.fx_script.proofs.Conditions.{and_left, and_right, and_true}
+use Rattle.fx_language.proofs.Conditions.{and_left, and_right, and_true}
 use Rattle.fx_script.specs.Text.{got_text}
 use Rattle.fx_lines.specs.Lines.{is_without}
 use Rattle.fx_lines.specs.Reads.{IsPrintedFrom, Reads}

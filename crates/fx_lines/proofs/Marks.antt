@@ -2,8 +2,8 @@
 use Rattle.std.proofs.Common.{◌≡◌, ℕ, ◌<◌, ◌^◌, List, [], ◌∷◌, ◌++◌, refl, sym, ap, ◌∙◌, arith, Option, Some, None, option_map}
 use Rattle.std.specs.Prelude.{decimal, not, true, false, ◌==◌}
 use Rattle.std.proofs.lemmas.List.{append_assoc}
-use Rattle.fx_script.proofs.Conditions.{and_true}
-use Rattle.fx_script.specs.Words.{is_digit}
+use Rattle.fx_language.proofs.Conditions.{and_true}
+use Rattle.fx_language.specs.Words.{is_digit}
 use Rattle.fx_base.specs.declared.mark.Mark.{Mark}
 use Rattle.fx_base.specs.declared.mark.Mark.TheVariants.{Registered, Submitted}
 use Rattle.fx_chain.specs.declared.completion.Place.{Place}

@@ -4,7 +4,7 @@ use Rattle.std.specs.List.{list_all}
 use Rattle.std.proofs.lemmas.Bool.{eqb-true, true≢false}
 use Rattle.fx_base.specs.Name.{is_name, name_byte}
 use Rattle.fx_base.specs.declared.name.TheConstants.{LONGEST_NAME}
-use Rattle.fx_script.proofs.Conditions.{and_left, and_right, and_true}
+use Rattle.fx_language.proofs.Conditions.{and_left, and_right, and_true}
 use Rattle.fx_lines.specs.Lines.{is_without}
 
 -- no byte of a name is a line end

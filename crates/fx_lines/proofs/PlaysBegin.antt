@@ -25,7 +25,7 @@ use Rattle.fx_ring.specs.Registration.{range_refusal, register_refusal, removed_
 use Rattle.fx_ring.specs.Tags.{tags_given}
 use Rattle.fx_ring.specs.Submission.{ExplainsParts, IsOneHistory, Reported}
 use Rattle.fx_ring.specs.declared.ring.TheConstants.{MOST_SUBMISSIONS}
-use Rattle.fx_script.specs.Instruction.{Instruction, MakesSparse, RegistersList, Unregisters, SetsRange, UpdatesRing, SubmitsAll}
+use Rattle.fx_language.specs.Instruction.{Instruction, MakesSparse, RegistersList, Unregisters, SetsRange, UpdatesRing, SubmitsAll}
 use Rattle.fx_script.specs.Play.{Answers, IsRefused, Prints, PrintsClosed, PrintsEnd, PrintsReport}
 use Rattle.fx_script.specs.Text.{closes_text, completion_lines, got_text, kind_name, refused_line, result_line, too_many_line}
 use Rattle.fx_lines.specs.Laws.{PlaysBeginWithNoClose}

@@ -2,8 +2,8 @@
 use Rattle.std.proofs.Common.{◌≡◌, ℕ, ◌-◌, ◌<◌, ◌^◌, suc, ◌==◌, not, true, false, List, [], ◌∷◌, ◌++◌, refl, sym, ap, ◌∙◌, arith, None}
 use Rattle.std.specs.Prelude.{ℤ, pos, negsuc, decimal}
 use Rattle.std.specs.Fmt.{signed_decimal}
-use Rattle.fx_script.proofs.Conditions.{and_true}
-use Rattle.fx_script.specs.Words.{is_digit}
+use Rattle.fx_language.proofs.Conditions.{and_true}
+use Rattle.fx_language.specs.Words.{is_digit}
 use Rattle.fx_lines.specs.Lines.{IsResultInRange, is_without}
 use Rattle.fx_lines.specs.Reads.{IsPrintedFrom, Reads}
 use Rattle.fx_lines.proofs.Cuts.{not_first}

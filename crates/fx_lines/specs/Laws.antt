@@ -3,7 +3,7 @@ use Rattle.std.specs.Prelude.{◌≡◌, ℕ, ℤ, List, ◌++◌, length, IsTru
 use Rattle.fx_chain.specs.Operation.{Asked}
 use Rattle.fx_ring.specs.Ring.{RingContents}
 use Rattle.fx_ring.specs.Submission.{IsOneHistory, Reported}
-use Rattle.fx_script.specs.Instruction.{Instruction}
+use Rattle.fx_language.specs.Instruction.{Instruction}
 use Rattle.fx_script.specs.Play.{PrintsAll}
 use Rattle.fx_script.specs.Text.{result_line}
 use Rattle.fx_base.specs.Name.{is_name}

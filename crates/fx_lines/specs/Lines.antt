@@ -1,5 +1,6 @@
 -- The lines of a submission's report (this project's own).
-use Rattle.std.specs.Prelude.{◌≡◌, ℕ, ◌<◌, ◌^◌, ◌==◌, Bool, not, ℤ, pos, negsuc, List, ◌++◌, length, map, codes, All, IsTrue, Option}
+use Rattle.std.specs.Prelude.{◌≡◌, ℕ, ◌<◌, ◌^◌, ◌==◌, Bool, not, ℤ, pos, negsuc, List, ◌++◌, length}
+use Rattle.std.specs.Prelude.{map, codes, All, IsTrue, Option}
 use Rattle.std.specs.Io.{StartsWith}
 use Rattle.std.specs.List.{flat_map, list_all}
 use Rattle.hex.specs.Hex.{IsBytes}

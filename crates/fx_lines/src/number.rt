@@ -6,7 +6,7 @@ ghost use Rattle.fx_lines.specs.Lines.{IsResultInRange};
 ghost use Rattle.fx_lines.specs.Reads.{Reads};
 
 use crate::cut::{cut, rest_behind};
-use fx_script::{LARGEST_TAG, number_up_to};
+use fx_language::{LARGEST_TAG, number_up_to};
 
 /// The largest number of 32 bits.
 const LARGEST_NUMBER: u64 = 4_294_967_295;

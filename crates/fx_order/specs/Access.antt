@@ -1,13 +1,15 @@
 -- What a request does to a table that is only its size, its allocation range and the file at each
 -- slot. A request that comes to the table does so once, and an update once for each entry of its
 -- list.
-use Rattle.std.specs.Prelude.{◌≡◌, ℕ, ◌+◌, ◌<◌, ◌≤◌, ◌==◌, List, [], ◌∷◌, ◌++◌, map, filter, Option, Some, None, IsSome}
+use Rattle.std.specs.Prelude.{◌≡◌, ℕ, ◌+◌, ◌<◌, ◌≤◌, ◌==◌, List, [], ◌∷◌, ◌++◌, map, filter, Option}
+use Rattle.std.specs.Prelude.{Some, None, IsSome}
 use Rattle.std.specs.Option.{option_to_list}
 use Rattle.fx_base.specs.Identity.{Identity}
 use Rattle.fx_base.specs.declared.open_file.Closed.{Closed}
 use Rattle.fx_plain.specs.Step.{changed_at}
 use Rattle.fx_order.specs.declared.access.Access.{Access}
-pub use Rattle.fx_order.specs.declared.access.Access.TheVariants.{Looks, Puts, Clears, Takes, Allocates, FindsFull}
+pub use Rattle.fx_order.specs.declared.access.Access.TheVariants.{Looks, Puts, Clears, Takes}
+pub use Rattle.fx_order.specs.declared.access.Access.TheVariants.{Allocates, FindsFull}
 use Rattle.fx_order.specs.declared.access.ChainAccess.{ChainAccess}
 
 pub record Table : Type 0 where

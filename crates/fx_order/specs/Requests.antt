@@ -1,10 +1,12 @@
 -- What a request may answer that is done at once, by its accesses of a table of some size: for each
 -- request its cases, of which the first one that applies counts. And what a chain may answer.
-use Rattle.std.specs.Prelude.{◌≡◌, ◌⊎◌, ℕ, zero, suc, ◌+◌, ◌<◌, ℤ, pos, negsuc, ◌==◌, ◌||◌, nat_le, nat_lt, List, [], ◌∷◌, ◌++◌, length, Option, Some, None}
+use Rattle.std.specs.Prelude.{◌≡◌, ◌⊎◌, ℕ, zero, suc, ◌+◌, ◌<◌, ℤ, pos, negsuc, ◌==◌, ◌||◌, nat_le}
+use Rattle.std.specs.Prelude.{nat_lt, List, [], ◌∷◌, ◌++◌, length, Option, Some, None}
 use Rattle.std.specs.Bool.{MatchBool}
 use Rattle.std.specs.List.{list_any}
 use Rattle.fx_base.specs.declared.errno.Errno.{Errno}
-use Rattle.fx_base.specs.declared.errno.Errno.TheVariants.{ENOENT, ENXIO, EBADF, ENOMEM, EINVAL, ENFILE}
+use Rattle.fx_base.specs.declared.errno.Errno.TheVariants.{ENOENT, ENXIO, EBADF, ENOMEM, EINVAL}
+use Rattle.fx_base.specs.declared.errno.Errno.TheVariants.{ENFILE}
 use Rattle.fx_base.specs.Identity.{Identity}
 use Rattle.fx_base.specs.Catalogue.{FileEntry, name_at, bytes_at}
 use Rattle.fx_base.specs.AddFault.{has_name}
@@ -15,7 +17,8 @@ use Rattle.fx_chain.specs.Operation.{Operation, Opens, Reads, Closes, Updates, A
 use Rattle.fx_chain.specs.declared.completion.Place.{Place}
 use Rattle.fx_chain.specs.declared.request.Target.{Target}
 use Rattle.fx_chain.specs.declared.request.Target.TheVariants.{Slot, Any}
-use Rattle.fx_order.specs.Access.{Looks, Puts, Clears, Takes, Allocates, FindsFull, accesses_of_chain}
+use Rattle.fx_order.specs.Access.{Looks, Puts, Clears, Takes, Allocates, FindsFull}
+use Rattle.fx_order.specs.Access.{accesses_of_chain}
 use Rattle.fx_order.specs.declared.access.Access.{Access}
 use Rattle.fx_order.specs.declared.access.ChainAccess.{ChainAccess}
 

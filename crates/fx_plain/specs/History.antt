@@ -1,6 +1,7 @@
 -- Histories of a file table. The newest event stands first, and `h ▷ e` is the history `h` and then
 -- the event `e`.
-use Rattle.std.specs.Prelude.{◌≡◌, ℕ, ◌==◌, if◌then◌else◌, List, [], ◌∷◌, ◌++◌, map, filter, Option, Some, None}
+use Rattle.std.specs.Prelude.{◌≡◌, ℕ, ◌==◌, if◌then◌else◌, List, [], ◌∷◌, ◌++◌, map, filter, Option}
+use Rattle.std.specs.Prelude.{Some, None}
 use Rattle.fx_base.specs.declared.open_file.Closed.{Closed}
 use Rattle.fx_plain.specs.State.{State}
 use Rattle.fx_plain.specs.Step.{Allows, after}

@@ -1,9 +1,11 @@
 -- Which action may be taken in which state, and what it leaves.
-use Rattle.std.specs.Prelude.{◌≡◌, ℕ, ◌+◌, ◌-◌, ◌<◌, ◌==◌, true, false, if◌then◌else◌, Option, Some, None, IsSome}
+use Rattle.std.specs.Prelude.{◌≡◌, ℕ, ◌+◌, ◌-◌, ◌<◌, ◌==◌, true, false, if◌then◌else◌, Option, Some}
+use Rattle.std.specs.Prelude.{None, IsSome}
 use Rattle.fx_plain.specs.State.{State, IsInRange}
 use Rattle.fx_plain.specs.declared.event.File.{File}
 use Rattle.fx_plain.specs.declared.event.Action.{Action}
-use Rattle.fx_plain.specs.declared.event.Action.TheVariants.{Look, Release, Put, Clear, Take, Allocate, Full, Close}
+use Rattle.fx_plain.specs.declared.event.Action.TheVariants.{Look, Release, Put, Clear, Take}
+use Rattle.fx_plain.specs.declared.event.Action.TheVariants.{Allocate, Full, Close}
 
 -- the function with another value at one place
 abbrev pub changed_at : {X : Type 0} → (ℕ → X) → ℕ → X → ℕ → X

@@ -1,6 +1,7 @@
 -- What the calls of a table answer.
 use Rattle.std.specs.Prelude.{◌≡◌, ℕ, zero, suc, ◌+◌, ◌<◌, ◌^◌, ◌==◌, not, ◌&&◌, Bool, true}
-use Rattle.std.specs.Prelude.{if◌then◌else◌, List, [], ◌∷◌, ◌++◌, Option, Some, None, option_map, IfSome}
+use Rattle.std.specs.Prelude.{if◌then◌else◌, List, [], ◌∷◌, ◌++◌, Option, Some, None, option_map}
+use Rattle.std.specs.Prelude.{IfSome}
 use Rattle.fx_base.specs.Identity.{Identity}
 use Rattle.fx_plain.specs.State.{State}
 use Rattle.fx_plain.specs.Step.{Steps, changed_at}

@@ -3,7 +3,8 @@ use Rattle.std.specs.Prelude.{◌≡◌, ◌⊎◌, ℕ, ◌≤◌, List, [], le
 use Rattle.fx_plain.specs.State.{State, opening}
 use Rattle.fx_plain.specs.Contents.{state_of}
 use Rattle.fx_plain.specs.History.{◌▷◌, ◌▷▷◌, part_of_pass}
-use Rattle.fx_plain.specs.Laws.{closes_of, releases_in, IsAtSlot, IsInstalled, IsStillThere, IsClosedOnce}
+use Rattle.fx_plain.specs.Laws.{closes_of, releases_in, IsAtSlot, IsInstalled, IsStillThere}
+use Rattle.fx_plain.specs.Laws.{IsClosedOnce}
 use Rattle.fx_plain.specs.declared.event.File.{File}
 use Rattle.fx_plain.specs.declared.event.Event.{Event}
 use Rattle.fx_plain.specs.declared.event.Action.TheVariants.{Look}

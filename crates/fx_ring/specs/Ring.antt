@@ -1,5 +1,6 @@
 -- A ring as contracts see it (io_uring_setup(2); the counts and the marks are this project's own).
-use Rattle.std.specs.Prelude.{◌≡◌, ℕ, zero, suc, ◌<◌, ◌≤◌, List, [], ◌++◌, length, All, Option, Some, None, IsPermutation}
+use Rattle.std.specs.Prelude.{◌≡◌, ℕ, zero, suc, ◌<◌, ◌≤◌, List, [], ◌++◌, length, All, Option}
+use Rattle.std.specs.Prelude.{Some, None, IsPermutation}
 use Rattle.std.specs.Option.{option_to_list}
 use Rattle.fx_base.specs.Catalogue.{FileEntry}
 use Rattle.fx_base.specs.CloseList.{IsInOrderOfMark}

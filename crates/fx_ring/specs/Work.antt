@@ -1,5 +1,6 @@
 -- What a worker of a submission has done.
-use Rattle.std.specs.Prelude.{◌≡◌, ℕ, ◌+◌, ◌-◌, ◌==◌, ◌≤◌, List, [], map, filter, length, drop, All, Contains, sum_by, slice_index_or}
+use Rattle.std.specs.Prelude.{◌≡◌, ℕ, ◌+◌, ◌-◌, ◌==◌, ◌≤◌, List, [], map, filter, length, drop, All}
+use Rattle.std.specs.Prelude.{Contains, sum_by, slice_index_or}
 use Rattle.fx_base.specs.Catalogue.{FileEntry}
 use Rattle.fx_base.specs.CloseListView.{CloseListView}
 use Rattle.fx_plain.specs.History.{action_of, closes_in, part_of_chain}

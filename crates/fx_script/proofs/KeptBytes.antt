@@ -6,12 +6,12 @@ use Rattle.std.proofs.lemmas.Bool.Decides.{nat_tests}
 use Rattle.std.proofs.lemmas.List.{length-take, take_all}
 use Rattle.fx_script.specs.Run.{IsInput, IsInputFault}
 use Rattle.fx_script.specs.RunView.{fault_told}
-use Rattle.fx_script.specs.Script.{Meaning, LineFault, IsScript, reading_of}
-use Rattle.fx_script.specs.ScriptError.{IsFaultOf}
-use Rattle.fx_script.specs.declared.fault.ScriptError.{ScriptError}
-use Rattle.fx_script.specs.declared.fault.ScriptError.TheVariants.{Fault, NoMemory}
-use Rattle.fx_script.specs.declared.fault.ScriptFault.TheVariants.{LongScript}
-use Rattle.fx_script.specs.declared.limits.TheConstants.{LONGEST_SCRIPT}
+use Rattle.fx_language.specs.Script.{Meaning, LineFault, IsScript, reading_of}
+use Rattle.fx_language.specs.ScriptError.{IsFaultOf}
+use Rattle.fx_language.specs.declared.fault.ScriptError.{ScriptError}
+use Rattle.fx_language.specs.declared.fault.ScriptError.TheVariants.{Fault, NoMemory}
+use Rattle.fx_language.specs.declared.fault.ScriptFault.TheVariants.{LongScript}
+use Rattle.fx_language.specs.declared.limits.TheConstants.{LONGEST_SCRIPT}
 
 abbrev too_long : LineFault
 too_long = record { line = 0; kind = LongScript }

@@ -1,12 +1,5 @@
-pub mod Conditions
-pub mod Cuts
-pub mod Numbers
-pub mod Printable
-pub mod LinesOf
-pub mod Decided
 pub mod Hexes
 pub mod Turns
 pub mod KeptBytes
 pub mod PlaySteps
-pub mod FilesOfScripts
 pub mod Chunks

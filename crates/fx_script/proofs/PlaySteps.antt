@@ -7,10 +7,10 @@ use Rattle.std.proofs.Math.Seq.{drop-cons, drop-length}
 use Rattle.std.specs.Io.KnownBytes.{Appends}
 use Rattle.std.specs.List.Sorted.{IsPermutation}
 use Rattle.fx_ring.specs.Ring.{RingContents, RingState, files_in_order, ring_of}
-use Rattle.fx_script.specs.Instruction.{Instruction, instruction_of}
+use Rattle.fx_language.specs.Instruction.{Instruction, instruction_of}
 use Rattle.fx_script.specs.Play.{Prints, PrintsAll, PrintsEnd, PrintsFirst}
 use Rattle.fx_script.specs.Run.{IsPlayFault, Writes}
-use Rattle.fx_script.specs.declared.command.Command.{Command}
+use Rattle.fx_language.specs.declared.command.Command.{Command}
 use Rattle.fx_script.specs.declared.play_fault.PlayFault.{PlayFault}
 use Rattle.fx_script.specs.declared.play_fault.PlayFault.TheVariants.{NoMemory}
 

@@ -1,16 +1,4 @@
-pub mod Lines
-pub mod Words
-pub mod Instruction
-pub mod Line
-pub mod Script
-pub mod ScriptError
-pub mod Parts
-pub mod Cursor
-pub mod LineView
-pub mod ScriptView
-pub mod Laws
 pub mod Text
-pub mod Printed
 pub mod Play
 pub mod RunView
 pub mod Run

@@ -1,6 +1,7 @@
 -- What a script may print: the answers of a ring to its commands, one after another (this project's
 -- own).
-use Rattle.std.specs.Prelude.{◌≡◌, ◌⊎◌, ℕ, pos, nat_le, List, [], ◌∷◌, ◌++◌, codes, length, Option, Some, None}
+use Rattle.std.specs.Prelude.{◌≡◌, ◌⊎◌, ℕ, pos, nat_le, List, [], ◌∷◌, ◌++◌, codes, length, Option}
+use Rattle.std.specs.Prelude.{Some, None}
 use Rattle.std.specs.Bool.{MatchBool}
 use Rattle.std.specs.Option.{MatchOption}
 use Rattle.fx_base.specs.CloseListView.{CloseListView}
@@ -10,15 +11,20 @@ use Rattle.fx_base.specs.declared.open_file.Closed.{Closed}
 use Rattle.fx_chain.specs.Completed.{negated}
 use Rattle.fx_chain.specs.Faults.{fault_of}
 use Rattle.fx_chain.specs.Operation.{Asked}
-use Rattle.fx_ring.specs.Registration.{range_refusal, register_refusal, registered, registered_sparse}
-use Rattle.fx_ring.specs.Registration.{removed_from, sparse_refusal, unregister_refusal, update_refusal, updated}
-use Rattle.fx_ring.specs.Ring.{HasClosed, RingContents, RingState, files_of, new_ring, ring_of, without_table}
+use Rattle.fx_ring.specs.Registration.{range_refusal, register_refusal, registered}
+use Rattle.fx_ring.specs.Registration.{registered_sparse}
+use Rattle.fx_ring.specs.Registration.{removed_from, sparse_refusal, unregister_refusal}
+use Rattle.fx_ring.specs.Registration.{update_refusal, updated}
+use Rattle.fx_ring.specs.Ring.{HasClosed, RingContents, RingState, files_of, new_ring, ring_of}
+use Rattle.fx_ring.specs.Ring.{without_table}
 use Rattle.fx_ring.specs.Submission.{IsOneHistory, Reported}
 use Rattle.fx_ring.specs.Tags.{tags_given}
 use Rattle.fx_ring.specs.declared.ring.TheConstants.{MOST_SUBMISSIONS}
-use Rattle.fx_script.specs.Instruction.{Instruction, MakesSparse, RegistersList, Unregisters, SetsRange, UpdatesRing, SubmitsAll}
-use Rattle.fx_script.specs.Script.{Meaning}
-use Rattle.fx_script.specs.Text.{result_line, closes_text, refused_line, report_text, teardown_text, too_many_line}
+use Rattle.fx_language.specs.Instruction.{Instruction, MakesSparse, RegistersList, Unregisters}
+use Rattle.fx_language.specs.Instruction.{SetsRange, UpdatesRing, SubmitsAll}
+use Rattle.fx_language.specs.Script.{Meaning}
+use Rattle.fx_script.specs.Text.{result_line, closes_text, refused_line, report_text, teardown_text}
+use Rattle.fx_script.specs.Text.{too_many_line}
 
 -- what a call answers that takes memory: its refusal, if there is one, and else that it was
 -- accepted or found no memory

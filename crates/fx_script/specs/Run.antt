@@ -2,7 +2,7 @@
 use Rattle.std.specs.Prelude.{◌≡◌, ◌⊎◌, ℕ, List, Option, IfSome}
 use Rattle.std.specs.Io.KnownBytes.{Appends}
 use Rattle.fx_script.specs.Play.{IsText, IsTextOfFirst}
-use Rattle.fx_script.specs.Script.{Meaning, IsScript, HasFault}
+use Rattle.fx_language.specs.Script.{Meaning, IsScript, HasFault}
 use Rattle.fx_script.specs.declared.play_fault.PlayFault.{PlayFault}
 use Rattle.fx_script.specs.declared.play_fault.PlayFault.TheVariants.{Read, Script, Write, NoMemory}
 

@@ -1,6 +1,6 @@
 -- How the reader's fault is told by the player.
-use Rattle.fx_script.specs.declared.fault.ScriptError.{ScriptError}
-use Rattle.fx_script.specs.declared.fault.ScriptError.TheVariants as error
+use Rattle.fx_language.specs.declared.fault.ScriptError.{ScriptError}
+use Rattle.fx_language.specs.declared.fault.ScriptError.TheVariants as error
 use Rattle.fx_script.specs.declared.play_fault.PlayFault.{PlayFault}
 use Rattle.fx_script.specs.declared.play_fault.PlayFault.TheVariants.{Script, NoMemory}
 

@@ -1,5 +1,6 @@
 -- The printed lines (this project's own).
-use Rattle.std.specs.Prelude.{ℕ, ℤ, List, [], ◌++◌, codes, decimal, length, ◌==◌, if◌then◌else◌, unwrap_or}
+use Rattle.std.specs.Prelude.{ℕ, ℤ, List, [], ◌++◌, codes, decimal, length, ◌==◌, if◌then◌else◌}
+use Rattle.std.specs.Prelude.{unwrap_or}
 use Rattle.std.specs.Fmt.{signed_decimal}
 use Rattle.std.specs.List.{flat_map}
 use Rattle.hex.specs.Hex.{encode_lower}
@@ -12,7 +13,9 @@ use Rattle.fx_base.specs.declared.tag_completion.TagCompletion.{TagCompletion}
 use Rattle.fx_chain.specs.declared.completion.Place.{Place}
 use Rattle.fx_chain.specs.declared.fault.CutFault.{CutFault}
 use Rattle.fx_chain.specs.declared.fault.CutKind.{CutKind}
-use Rattle.fx_chain.specs.declared.fault.CutKind.TheVariants.{BadFlags, LongRead, LongUpdate, ChainTooLong, TooManyFiles, TooManyChains}
+use Rattle.fx_chain.specs.declared.fault.CutKind.TheVariants.{BadFlags, LongRead, LongUpdate}
+use Rattle.fx_chain.specs.declared.fault.CutKind.TheVariants.{ChainTooLong, TooManyFiles}
+use Rattle.fx_chain.specs.declared.fault.CutKind.TheVariants.{TooManyChains}
 use Rattle.fx_chain.specs.Completed.{Completed}
 use Rattle.fx_ring.specs.Submission.{Reported}
 

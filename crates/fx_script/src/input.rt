@@ -1,10 +1,10 @@
 //! The input of a run, read to its end.
 ghost use Rattle.std.specs.Prelude.{◌≡◌, ◌+◌, IfOk, IfErr, IfSome, take};
 ghost use Rattle.fx_script.specs.Run.{IsInputFault};
-ghost use Rattle.fx_script.specs.declared.limits.TheConstants.{LONGEST_SCRIPT};
+ghost use Rattle.fx_language.specs.declared.limits.TheConstants.{LONGEST_SCRIPT};
 
-use crate::limits::LONGEST_SCRIPT;
 use crate::play_fault::PlayFault;
+use fx_language::LONGEST_SCRIPT;
 use std::alloc::Global;
 use std::io::Read;
 

@@ -1,27 +1,9 @@
-//! The limits of scripts, and laws of them, over bytes alone. Each is the contract of a function that does nothing (this
-//! project's own).
+//! A limit of runs, as the contract of a function that does nothing (this project's own).
 
-ghost use Rattle.std.specs.Prelude.{◌≡◌, ℕ, List};
-ghost use Rattle.fx_script.specs.Laws.{EachScriptHasFiles, IsScriptOrFaulty};
-ghost use Rattle.fx_script.specs.declared.limits.TheConstants.{LONGEST_SCRIPT, LONGEST_LINE, LARGEST_NUMBER, LARGEST_TAG};
+ghost use Rattle.std.specs.Prelude.{◌≡◌};
 ghost use Rattle.fx_script.specs.declared.input.TheConstants.{MOST_TURNS};
 
-/// A script has at most 4,194,304 bytes, each line at most 10,000, no number above 2,147,483,647, and no tag above
-/// 18,446,744,073,709,551,615. A reader is asked for more at most 8,388,608 times.
+/// A reader is asked for more at most 8,388,608 times.
 pub fn limits_are_numbers()
-    ensures longest_script { LONGEST_SCRIPT ≡ 4194304 }
-    ensures longest_line { LONGEST_LINE ≡ 10000 }
-    ensures largest_number { LARGEST_NUMBER ≡ 2147483647 }
-    ensures largest_tag { LARGEST_TAG ≡ 18446744073709551615 }
     ensures most_turns { MOST_TURNS ≡ 8388608 }
-{}
-
-/// Every byte string is a script, which says one thing, or has one fault on one line, and never both.
-pub fn every_byte_string_is_a_script_or_has_one_fault()
-    ensures { (bytes : List ℕ) → IsScriptOrFaulty bytes }
-{}
-
-/// The files of each script are a catalogue: no two have one name. And they are of bytes.
-pub fn each_script_has_files()
-    ensures { EachScriptHasFiles }
 {}

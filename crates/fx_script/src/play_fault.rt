@@ -2,8 +2,8 @@ ghost use Rattle.std.specs.Prelude.{◌≡◌};
 ghost use Rattle.fx_script.specs.RunView.{fault_told};
 ghost use Rattle.fx_script.specs.declared.play_fault.PlayFault.TheVariants.{NoMemory};
 
-use crate::fault::{ScriptError, ScriptFault};
 use fx_base::NoMemory;
+use fx_language::{ScriptError, ScriptFault};
 use std::alloc::{AllocError, AllocFailed};
 use thiserror::Error;
 

@@ -3,18 +3,15 @@ ghost use Rattle.std.specs.Prelude.{◌≡◌, ◌≤◌, IfErr, OnOk};
 ghost use Rattle.std.specs.Io.KnownBytes.{Appends};
 ghost use Rattle.fx_table.specs.declared.limits.TheConstants.{MAX_PASSES};
 ghost use Rattle.fx_ring.specs.Ring.{ring_of};
-ghost use Rattle.fx_script.specs.Instruction.{instructions_of};
+ghost use Rattle.fx_language.specs.Instruction.{instructions_of};
 ghost use Rattle.fx_script.specs.Play.{IsText, IsTextOfFirst, PrintsAll, PrintsFirst};
-ghost use Rattle.fx_script.specs.Printed.{printed_bytes};
 ghost use Rattle.fx_script.specs.Run.{IsPlayFault, Writes};
 ghost use Rattle.fx_script.specs.declared.play_fault.PlayFault.TheVariants.{Write};
 
-use crate::command::Command;
 use crate::play_fault::PlayFault;
-use crate::printed::Printed;
 use crate::prints::{command_text, end_text};
-use crate::script::Script;
 use fx_chain::Gate;
+use fx_language::{Command, Script};
 use fx_ring::Ring;
 use fx_table::FileTable;
 use std::alloc::Global;
@@ -22,6 +19,7 @@ use std::io::Write;
 use std::sync::Wait;
 use std::thread::Threads;
 
+// Writes what a command prints, by one call: a reader of the output that gets a write at a time gets a command at a time.
 fn write_text<W: Write>(writer: &mut W, text: &str) -> Result<(), PlayFault>
     ensures written { OnOk result
         (Appends (W.contents writer.old) (W.contents writer.new) text.now) }
@@ -30,19 +28,6 @@ fn write_text<W: Write>(writer: &mut W, text: &str) -> Result<(), PlayFault>
     writer
         .write_all(text.as_bytes())
         .map_err(|_| PlayFault::Write)
-}
-
-// Writes what a command prints, one text after another.
-fn write_printed<W: Write>(writer: &mut W, printed: &Printed) -> Result<(), PlayFault>
-    ensures written { OnOk result
-        (Appends (W.contents writer.old) (W.contents writer.new) (printed_bytes printed.now)) }
-    ensures fault { IfErr result (λ fault. fault ≡ Write) }
-{
-    write_text(writer, printed.first.as_str())?;
-    for text in printed.others.as_slice() {
-        write_text(writer, text.as_str())?;
-    }
-    Ok(())
 }
 
 // Plays the commands, writes what each prints, and closes the files that are left at the end.
@@ -65,7 +50,7 @@ fn play_commands<T: FileTable, G: Gate, W: Write>(
 {
     for command in commands {
         let printed = command_text::<T, G>(rt, alloc, ring, command, workers, gate)?;
-        write_printed(writer, &printed)?;
+        write_text(writer, printed.as_str())?;
     }
     let text = end_text(alloc, ring)?;
     write_text(writer, text.as_str())?;

@@ -1,8 +1,7 @@
-//! What a command prints, and how several threads make the text of a large report.
+//! The text of a large report, which several threads make.
 ghost use Rattle.std.specs.Prelude.{◌≡◌, ◌<◌, All, IfOk, Ok, flat_map, length, map, string_bytes};
 ghost use Rattle.fx_chain.specs.Completed.{all_completed};
 ghost use Rattle.fx_ring.specs.Submission.{reported};
-ghost use Rattle.fx_script.specs.Printed.{printed_bytes};
 ghost use Rattle.fx_script.specs.Text.{completion_lines, report_text};
 
 use crate::text::{completions_text, report_text, room_of, with_closes};
@@ -15,25 +14,6 @@ use std::thread::Threads;
 
 /// From how many bytes of lines on several threads make them. Fewer are made before a thread has started.
 const LARGE: usize = 262_144;
-
-/// What a command prints: a first text, and those that come behind it in their order.
-#[derive(Drop)]
-pub struct Printed {
-    pub first: String,
-    pub others: Vec<String>,
-}
-
-impl Printed {
-    /// One text alone. It takes no memory.
-    pub fn whole(alloc: Global, text: String) -> Printed
-        ensures { printed_bytes result ≡ string_bytes text }
-    {
-        Printed {
-            first: text,
-            others: Vec::new(alloc),
-        }
-    }
-}
 
 // All texts, where each was made.
 fn all_made(alloc: Global, made: Vec<Result<String, NoMemory>>) -> Result<Vec<String>, NoMemory>
@@ -70,28 +50,40 @@ fn texts_of(
     all_made(alloc, made)
 }
 
-/// The text of a submission, as [`report_text`] makes it. Where it is large, it is made by as many threads as the submission
-/// has workers.
+// The texts one after another, in one text that is reserved for them. Each is given up once it stands there.
+fn joined(alloc: Global, texts: Vec<String>) -> Result<String, NoMemory>
+    ensures { IfOk result (λ text. string_bytes text ≡ flat_map string_bytes texts.items) }
+{
+    let mut room = 0usize;
+    for part in texts.as_slice() {
+        room = room.saturating_add(part.len());
+    }
+    let mut all = String::with_capacity(alloc, room)?;
+    for text in texts {
+        all.push_str(text.as_str())?;
+    }
+    Ok(all)
+}
+
+/// The text of a submission, as [`report_text`] makes it. Where it is large, its lines are made by as many threads as the
+/// submission has workers, and joined.
 pub fn printed_report(
     rt: &(impl Threads + Sync),
     alloc: Global,
     report: &Report,
     catalogue: &Catalogue,
     workers: u32,
-) -> Result<Printed, NoMemory>
+) -> Result<String, NoMemory>
     requires { All (λ file. file.entry < length catalogue.now) report.now.closes.files }
-    ensures { IfOk result (λ printed.
-        printed_bytes printed ≡ report_text catalogue.now (reported report.now)) }
+    ensures { IfOk result (λ text.
+        string_bytes text ≡ report_text catalogue.now (reported report.now)) }
 {
     let completions = report.completions.as_slice();
     if workers < 2 || room_of(completions) < LARGE {
-        return Ok(Printed::whole(alloc, report_text(alloc, report, catalogue)?));
+        return report_text(alloc, report, catalogue);
     }
     let size = completions.len() / workers as usize + 1;
-    let mut others = texts_of(rt, alloc, completions, size)?;
-    others.push(with_closes(alloc, "", catalogue, &report.closes)?)?;
-    Ok(Printed {
-        first: String::new(alloc),
-        others,
-    })
+    let mut texts = texts_of(rt, alloc, completions, size)?;
+    texts.push(with_closes(alloc, "", catalogue, &report.closes)?)?;
+    joined(alloc, texts)
 }

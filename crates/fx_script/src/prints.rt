@@ -4,16 +4,15 @@ ghost use Rattle.fx_table.specs.declared.limits.TheConstants.{MAX_PASSES};
 ghost use Rattle.fx_chain.specs.Completed.{negated};
 ghost use Rattle.fx_chain.specs.Operation.{all_asked};
 ghost use Rattle.fx_ring.specs.Ring.{ring_of};
-ghost use Rattle.fx_script.specs.Instruction.{MakesSparse, RegistersList, Unregisters, SetsRange, UpdatesRing, SubmitsAll, instruction_of};
+ghost use Rattle.fx_language.specs.Instruction.{MakesSparse, RegistersList, Unregisters, SetsRange, UpdatesRing, SubmitsAll, instruction_of};
 ghost use Rattle.fx_script.specs.Play.{Prints, PrintsEnd};
-ghost use Rattle.fx_script.specs.Printed.{printed_bytes};
 ghost use Rattle.fx_script.specs.Text.{result_line};
 
-use crate::command::Command;
-use crate::printed::{Printed, printed_report};
+use crate::printed::printed_report;
 use crate::text::{refused_line, result_line, teardown_text, too_many_line, with_closes};
 use fx_base::{Errno, NoMemory};
 use fx_chain::{Gate, Request};
+use fx_language::Command;
 use fx_ring::{Ring, SubmitFault};
 use fx_table::FileTable;
 use std::alloc::Global;
@@ -122,15 +121,15 @@ fn submit<T: FileTable, G: Gate>(
     requests: &[Request],
     workers: u32,
     gate: &G,
-) -> Result<Printed, NoMemory>
+) -> Result<String, NoMemory>
     requires workers { (1 ≤ workers) × (workers ≤ MAX_PASSES) }
-    ensures { IfOk result (λ printed.
-        Prints ring.old (SubmitsAll (all_asked requests.now)) ring.new (printed_bytes printed)) }
+    ensures { IfOk result (λ text.
+        Prints ring.old (SubmitsAll (all_asked requests.now)) ring.new (string_bytes text)) }
 {
     match ring.submit::<T, G>(rt, alloc, requests, workers, gate) {
         Ok(report) => printed_report(rt, alloc, &report, ring.catalogue(), workers),
-        Err(SubmitFault::Cut(fault)) => Ok(Printed::whole(alloc, refused_line(alloc, fault)?)),
-        Err(SubmitFault::TooMany) => Ok(Printed::whole(alloc, too_many_line(alloc)?)),
+        Err(SubmitFault::Cut(fault)) => refused_line(alloc, fault),
+        Err(SubmitFault::TooMany) => too_many_line(alloc),
         Err(SubmitFault::NoMemory) => Err(NoMemory),
         Err(SubmitFault::Workers) => unreachable!(),
     }
@@ -145,28 +144,27 @@ pub fn command_text<T: FileTable, G: Gate>(
     command: &Command,
     workers: u32,
     gate: &G,
-) -> Result<Printed, NoMemory>
+) -> Result<String, NoMemory>
     requires workers { (1 ≤ workers) × (workers ≤ MAX_PASSES) }
-    ensures { IfOk result (λ printed.
-        Prints ring.old (instruction_of command.now) ring.new (printed_bytes printed)) }
+    ensures { IfOk result (λ text.
+        Prints ring.old (instruction_of command.now) ring.new (string_bytes text)) }
 {
-    let line = match command {
-        Command::Sparse(n) => sparse(alloc, ring, *n)?,
-        Command::Register(list, None) => register(alloc, ring, list.as_slice())?,
+    match command {
+        Command::Sparse(n) => sparse(alloc, ring, *n),
+        Command::Register(list, None) => register(alloc, ring, list.as_slice()),
         Command::Register(list, Some(tags)) => {
-            register_tagged(alloc, ring, list.as_slice(), tags.as_slice())?
+            register_tagged(alloc, ring, list.as_slice(), tags.as_slice())
         }
-        Command::Unregister => unregister(alloc, ring)?,
-        Command::Range(off, len) => range(alloc, ring, *off, *len)?,
-        Command::Update(off, list, None) => update(alloc, ring, *off, list.as_slice())?,
+        Command::Unregister => unregister(alloc, ring),
+        Command::Range(off, len) => range(alloc, ring, *off, *len),
+        Command::Update(off, list, None) => update(alloc, ring, *off, list.as_slice()),
         Command::Update(off, list, Some(tags)) => {
-            update_tagged(alloc, ring, *off, list.as_slice(), tags.as_slice())?
+            update_tagged(alloc, ring, *off, list.as_slice(), tags.as_slice())
         }
         Command::Submit(requests) => {
-            return submit::<T, G>(rt, alloc, ring, requests.as_slice(), workers, gate);
+            submit::<T, G>(rt, alloc, ring, requests.as_slice(), workers, gate)
         }
-    };
-    Ok(Printed::whole(alloc, line))
+    }
 }
 
 // Closes the files that are left at the end of a script, and gives what the end prints.

@@ -5,9 +5,9 @@ use Rattle.std.specs.Option.{option_to_list}
 use Rattle.std.proofs.lemmas.List.{drop-drop, length-map}
 use Rattle.std.proofs.Math.Seq.{take-length}
 use Rattle.fx_ring.specs.Ring.{RingState, new_ring}
-use Rattle.fx_script.specs.Instruction.{Instruction, instruction_of, instructions_of}
+use Rattle.fx_language.specs.Instruction.{Instruction, instruction_of, instructions_of}
 use Rattle.fx_script.specs.Play.{PrintsEnd}
-use Rattle.fx_script.specs.declared.command.Command.{Command}
+use Rattle.fx_language.specs.declared.command.Command.{Command}
 use Rattle.fx_judge.specs.Verdict.{ring_with_slots}
 use Rattle.fx_check.specs.Answer.{IsAnswer}
 use Rattle.fx_check.specs.Judged.{MayPrintFront}

@@ -1,7 +1,7 @@
 use Rattle.std.proofs.Common.{◌≤◌, ◌++◌, List, drop, length, take}
 use Rattle.fx_ring.specs.Ring.{new_ring}
 use Rattle.fx_judge.specs.Verdict.{ring_with_slots}
-use Rattle.fx_script.specs.Instruction.{instructions_of}
+use Rattle.fx_language.specs.Instruction.{instructions_of}
 use Rattle.fx_script.specs.Play.{IsText}
 use Rattle.fx_check.specs.Kept.{IsKept}
 use Rattle.fx_check.specs.Ordered.{IsTextBy, MayPrintAllBy}

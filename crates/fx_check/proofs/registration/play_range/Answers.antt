@@ -4,7 +4,7 @@ use Rattle.fx_check.proofs.OnlyRegistrations.{range_only, range_refused_only}
 use Rattle.fx_check.proofs.Entries.{if_ok_then}
 use Rattle.fx_check.specs.declared.met.Met.{Met}
 use Rattle.fx_check.specs.Only.{IsOnlyStep}
-use Rattle.fx_script.specs.Instruction.{SetsRange}
+use Rattle.fx_language.specs.Instruction.{SetsRange}
 use Rattle.std.proofs.Common.{subst}
 use Rattle.fx_check.proofs.registration.play_range.Goals as goal
 

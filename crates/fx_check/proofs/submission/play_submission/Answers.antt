@@ -2,7 +2,7 @@ use Rattle.std.proofs.Common.{List, ℕ, Err, length, refl, subst}
 use Rattle.fx_chain.specs.Faults.{fault_of}
 use Rattle.fx_chain.specs.Runs.{runs_of}
 use Rattle.fx_chain.specs.Operation.{all_asked}
-use Rattle.fx_script.specs.Instruction.{SubmitsAll}
+use Rattle.fx_language.specs.Instruction.{SubmitsAll}
 use Rattle.fx_check.specs.Met.{IsMet}
 use Rattle.fx_check.proofs.OnlyRefused.{fault_told, refused_only, too_many_only}
 use Rattle.fx_check.proofs.submission.play_submission.Goals as goal

@@ -1,5 +1,5 @@
 use Rattle.std.proofs.Common.{drop}
-use Rattle.fx_script.specs.Instruction.{instructions_of}
+use Rattle.fx_language.specs.Instruction.{instructions_of}
 use Rattle.fx_script.proofs.PlaySteps.{PlaysOn}
 use Rattle.fx_script.proofs.player.play_commands.Given as goal
 

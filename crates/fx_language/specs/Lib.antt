@@ -1,0 +1,11 @@
+pub mod Lines
+pub mod Words
+pub mod Instruction
+pub mod Line
+pub mod Script
+pub mod ScriptError
+pub mod Parts
+pub mod Cursor
+pub mod LineView
+pub mod ScriptView
+pub mod Laws

@@ -1,0 +1,15 @@
+-- What an iterator over the parts of a text has left.
+use Rattle.std.specs.Prelude.{ℕ, ◌==◌, List, [], Option}
+use Rattle.std.specs.Borrow.{Bor}
+use Rattle.std.specs.Iterator.{YieldsFirstRef}
+use Rattle.std.specs.List.{slice_split}
+use Rattle.std.specs.Option.{option_map_or}
+use Rattle.fx_language.specs.declared.parts.Parts.{Parts}
+
+-- the parts that the iterator has left
+abbrev pub parts_left : Parts → List (List ℕ)
+parts_left it = option_map_or (λ rest. slice_split (λ b. b == it.at) rest.now) it.rest []
+
+-- a call gave the first part that was left, or `None` where none was left, and then none is
+abbrev pub GivesFirstPart : Parts → Option (Bor (List ℕ)) → Parts → Type 0
+GivesFirstPart = YieldsFirstRef parts_left

@@ -1,0 +1,78 @@
+ghost use Rattle.std.specs.Prelude.{◌≡◌, true, option_map};
+ghost use Rattle.fx_language.specs.Cursor.{TakesWord, IsEnd, Gives};
+ghost use Rattle.fx_language.specs.Line.{number_in, name_in, last_of, link_in};
+ghost use Rattle.fx_language.specs.Lines.{is_printable};
+ghost use Rattle.fx_language.specs.Parts.{parts_left};
+
+use crate::fault::ScriptFault;
+use crate::number;
+use crate::parts::Parts;
+use bitflags::Flags;
+use fx_base::is_name;
+use fx_chain::SqeFlags;
+
+// The next word, where there is one.
+pub fn word<'a>(words: &mut Parts<'a>) -> Result<&'a [u8], ScriptFault>
+    ensures { TakesWord (parts_left words.old) result (parts_left words.new) }
+{
+    words.next().ok_or(ScriptFault::WordCount)
+}
+
+// The end of the words, where no word is left.
+pub fn end(words: &mut Parts<'_>) -> Result<(), ScriptFault>
+    ensures { IsEnd (parts_left words.old) result }
+{
+    match words.next() {
+        Some(_) => Err(ScriptFault::WordCount),
+        None => Ok(()),
+    }
+}
+
+// The last word behind those of a request, where there is one, and no more.
+pub fn last<'a>(words: &mut Parts<'a>) -> Result<Option<&'a [u8]>, ScriptFault>
+    ensures { Gives (option_map (λ word. word.now)) result (last_of (parts_left words.old)) }
+{
+    let Some(word) = words.next() else {
+        return Ok(None);
+    };
+    end(words)?;
+    Ok(Some(word))
+}
+
+// What links the next request to one, by its last word.
+pub fn link(last: Option<&[u8]>) -> Result<SqeFlags, ScriptFault>
+    ensures { result ≡ link_in (option_map (λ word. word.now) last.entry) }
+{
+    match last {
+        None => Ok(SqeFlags::empty()),
+        Some(word) if word == b"link".as_slice() => Ok(SqeFlags::IO_LINK),
+        Some(word) if word == b"hardlink".as_slice() => Ok(SqeFlags::IO_HARDLINK),
+        Some(_) => Err(ScriptFault::BadWord),
+    }
+}
+
+// The number that a word writes.
+pub fn number(word: &[u8]) -> Result<u32, ScriptFault>
+    ensures { result ≡ number_in word.now }
+{
+    number::number(word).ok_or(ScriptFault::BadNumber)
+}
+
+// The text of a word.
+pub fn text(word: &[u8]) -> &str
+    requires { is_printable word.now ≡ true }
+    ensures { result.now ≡ word.now }
+{
+    std::str::from_utf8(word).unwrap()
+}
+
+// The name that a text is.
+pub fn name(text: &str) -> Result<&str, ScriptFault>
+    ensures { Gives (λ name. name.now) result (name_in text.now) }
+{
+    if is_name(text.as_bytes()) {
+        Ok(text)
+    } else {
+        Err(ScriptFault::BadName)
+    }
+}

@@ -1,5 +1,0 @@
-use Rattle.fx_script.proofs.FilesOfScripts.{each_script_has_files}
-use Rattle.fx_script.proofs.laws.each_script_has_files.Goals as goal
-
-pub returns : goal.returns
-returns c = each_script_has_files

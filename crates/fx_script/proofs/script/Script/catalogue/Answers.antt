@@ -1,5 +1,0 @@
-use Rattle.fx_script.proofs.FilesOfScripts.{each_script_has_files}
-use Rattle.fx_script.proofs.script.Script.catalogue.Goals as goal
-
-pub returns-clause-files : goal.returns-clause-files
-returns-clause-files c = each_script_has_files c.self.invariant.0 _ c.self.invariant.1
