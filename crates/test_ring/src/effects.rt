@@ -95,12 +95,12 @@ fn pairs_of_chains(alloc: Global) -> Result<Vec<Request>, AllocError> {
     for pair in 0..PAIRS {
         for at in 0..MEMBERS {
             let request = open_at(alloc, "a.txt", pair * MEMBERS + at)?;
-            requests.push(in_chain(request, at, MEMBERS))?;
+            requests.push(in_chain(request, at))?;
         }
         for at in 0..MEMBERS {
             let entry = if at < MEMBERS - 1 { -1 } else { -2 };
             let request = update(alloc, pair * MEMBERS + at, &[entry])?;
-            requests.push(in_chain(request, at, MEMBERS))?;
+            requests.push(in_chain(request, at))?;
         }
     }
     Ok(requests)

@@ -130,9 +130,9 @@ impl<const PASSES: u32> FileTable for OnlyFor<PASSES> {
 #[test]
 fn table_that_is_not_opened(rt: HostRuntime) -> Result<(), Fail> {
     let alloc = rt.alloc();
-    let requests = reads(alloc, 3, 1)?;
     for (count, workers) in [(0, 1), (0, 16), (3, 1), (3, 2), (3, 16)] {
-        let requests = &requests.as_slice()[..count];
+        let requests = reads(alloc, count)?;
+        let requests = requests.as_slice();
         let calls = Calls::new(alloc, 1, 0)?;
         let mut ring = registered_ring(&rt, alloc)?;
         for _ in 0..2 {
@@ -162,7 +162,7 @@ fn expect_opened<const PASSES: u32, R: Threads + Wait + Abort + Sync>(
     chains: u32,
     workers: u32,
 ) -> Result<(), Fail> {
-    let requests = reads(alloc, chains, 1)?;
+    let requests = reads(alloc, chains)?;
     let requests = requests.as_slice();
     let mut ring = registered_ring(rt, alloc)?;
     match ring.submit::<OnlyFor<PASSES>, OpenGate>(rt, alloc, requests, workers, &OpenGate) {

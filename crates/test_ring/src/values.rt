@@ -70,22 +70,30 @@ fn words_of_the_table_without_a_lock(rt: HostRuntime) {
     assert!(rt; !says_full(8_590_000_130, 2));
 }
 
-// Two closes of an empty slot are one chain: the second one is started, since the first one has both flags.
-fn expect_both_started<T: FileTable, R: Wait + Abort>(rt: &R, alloc: Global) -> Result<(), Fail> {
+// What two closes of an empty slot answer as one chain, the first of them by these flags.
+fn two_closes<T: FileTable, R: Wait + Abort>(
+    rt: &R,
+    alloc: Global,
+    flags: SqeFlags,
+) -> Result<(i32, i32), Fail> {
     let catalogue = Catalogue::new(alloc);
     let requests = [
         Request {
             op: Op::Close { slot: 0 },
-            flags: SqeFlags::IO_LINK.union(SqeFlags::IO_HARDLINK),
+            flags,
         },
         Request {
             op: Op::Close { slot: 0 },
-            flags: SqeFlags::empty(),
+            flags: SqeFlags::from_bits_retain(0),
         },
     ];
     let mut out = Vec::with_capacity(alloc, 2)?;
-    let mut closes = CloseList::with_room(alloc, 2)?;
-    let plain = PlainTable::sparse(alloc, 1)?;
+    let Ok(mut closes) = CloseList::with_room(alloc, 2) else {
+        panic!(rt; "a list of closes")
+    };
+    let Ok(plain) = PlainTable::sparse(alloc, 1) else {
+        panic!(rt; "a table")
+    };
     assert!(rt; plain.is_settled());
     let (table, mut passes) = match T::open(alloc, plain, 1, 1) {
         Ok(opened) => opened,
@@ -110,13 +118,14 @@ fn expect_both_started<T: FileTable, R: Wait + Abort>(rt: &R, alloc: Global) -> 
         &mut closes,
     );
     table.close(passes).abandon();
-    for completion in &out {
-        assert!(rt; completion.res == -9);
-    }
-    Ok(())
+    assert!(rt; out.len() == 2);
+    Ok((out[0].res, out[1].res))
 }
 
+// The second one is started, since the first one has both flags.
 #[test]
 fn request_with_both_flags_is_a_hard_link(rt: HostRuntime) -> Result<(), Fail> {
-    expect_both_started::<BatonTable, _>(&rt, rt.alloc())
+    let both = SqeFlags::IO_LINK.union(SqeFlags::IO_HARDLINK);
+    assert!(rt; two_closes::<BatonTable, _>(&rt, rt.alloc(), both)? == (-9, -9));
+    Ok(())
 }

@@ -1,6 +1,4 @@
 //! Requests.
-ghost use Rattle.std.specs.Prelude.{◌<◌};
-
 use bitflags::Flags;
 use fx_chain::{Op, Request, SqeFlags, Target};
 use std::alloc::{AllocError, Global};
@@ -32,24 +30,28 @@ pub fn update(alloc: Global, off: u32, list: &[i32]) -> Result<Request, AllocErr
     })
 }
 
-/// The request at this place of a submission, from 0, in chains of so many members: all but the last of a chain are linked with
-/// the next one.
-pub fn in_chain(mut request: Request, at: u32, members: u32) -> Request
-    requires { 0 < members }
-{
-    if (at % members).wrapping_add(1) < members {
+/// The request at this place of a submission, from 0, in chains of 16: all but the last of a chain are linked with the next one.
+pub fn in_chain(mut request: Request, at: u32) -> Request {
+    if at % 16 < 15 {
         request.flags = request.flags.union(SqeFlags::IO_LINK);
     }
     request
 }
 
-/// So many reads of the five bytes at slot 0, in chains of so many members.
-pub fn reads(alloc: Global, count: u32, members: u32) -> Result<Vec<Request>, AllocError>
-    requires { 0 < members }
-{
+/// So many reads of five bytes of slot 0, each a chain of its own.
+pub fn reads(alloc: Global, count: u32) -> Result<Vec<Request>, AllocError> {
+    let mut requests = Vec::new(alloc);
+    for _ in 0..count {
+        requests.push(read(0, 0, 5))?;
+    }
+    Ok(requests)
+}
+
+/// The same in chains of 16.
+pub fn chained_reads(alloc: Global, count: u32) -> Result<Vec<Request>, AllocError> {
     let mut requests = Vec::new(alloc);
     for at in 0..count {
-        requests.push(in_chain(read(0, 0, 5), at, members))?;
+        requests.push(in_chain(read(0, 0, 5), at))?;
     }
     Ok(requests)
 }
