@@ -2,7 +2,7 @@
 use fx_base::{Catalogue, CloseList, Mark, TagCompletion};
 use fx_plain::PlainTable;
 use fx_ring::{Report, Ring};
-use fx_script::Script;
+use fx_script::{Command, Script};
 use fx_table::FileTable;
 use std::alloc::Global;
 use std::fmt::Debug;
@@ -138,8 +138,20 @@ pub(crate) fn shared<T: FileTable, R: Print>(rt: &R, table: &T, passes: &Vec<T::
 pub(crate) fn script<R: Print>(rt: &R, script: &Script) {
     catalogue(rt, script.catalogue(), "a.txt");
     for command in script.commands() {
-        let _ = println!(rt; "{command:?}");
+        tell_command(rt, command);
     }
+}
+
+// A command of a script.
+fn tell_command<R: Print>(rt: &R, command: &Command) {
+    let _ = match command {
+        Command::Sparse(slots) => println!(rt; "Sparse({slots})"),
+        Command::Register(list, tags) => println!(rt; "Register({list:?}, {tags:?})"),
+        Command::Unregister => println!(rt; "Unregister"),
+        Command::Range(off, len) => println!(rt; "Range({off}, {len})"),
+        Command::Update(off, list, tags) => println!(rt; "Update({off}, {list:?}, {tags:?})"),
+        Command::Submit(requests) => println!(rt; "Submit({requests:?})"),
+    };
 }
 
 /// The end, and whether memory is refused there.
