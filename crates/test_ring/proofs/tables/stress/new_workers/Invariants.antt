@@ -1,6 +1,6 @@
 use Rattle.std.proofs.Common.{length, All}
 use Rattle.fx_table.specs.Pass.{IsIdle}
-use Rattle.test_tables.proofs.stress.new_workers.Given as goal
+use Rattle.test_ring.proofs.tables.stress.new_workers.Given as goal
 
 abbrev pub invariant-loop-pass : goal.invariant-loop-pass
 invariant-loop-pass g l = record {

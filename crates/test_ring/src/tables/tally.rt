@@ -1,5 +1,5 @@
 //! What four workers do to a table comes to: as many calls as each was to make, and every file that they installed, once.
-use crate::setting::tag_of;
+use crate::tables::setting::tag_of;
 use fx_base::{CloseList, Closed, Mark};
 use std::alloc::Global;
 use std::process::Abort;

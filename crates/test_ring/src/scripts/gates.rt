@@ -1,5 +1,5 @@
 // Workers that hold each other at a gate.
-use super::playing::{Table, played_at};
+use crate::setting::{Table, played};
 use fx_chain::{Gate, Place};
 use std::alloc::Global;
 use std::process::Abort;
@@ -131,18 +131,17 @@ const UPDATE_BETWEEN: Played<'static> = Played {
 fn late<R: Threads + Wait + Abort + Sync>(
     rt: &R,
     alloc: Global,
-    played: Played<'_>,
+    case: Played<'_>,
     table: Table,
     workers: u32,
 ) -> u32 {
     let gate = Meeting {
-        stops: played.stops,
+        stops: case.stops,
         came: AtomicU32::new(0),
         late: AtomicU32::new(0),
     };
-    let (written, ended) = played_at(rt, alloc, table, workers, &gate, played.script);
-    assert!(rt; ended == Ok(()));
-    assert!(rt; written.as_slice() == played.text.as_bytes());
+    let written = played(rt, alloc, case.script, (table, workers), &gate);
+    assert!(rt; written.as_slice() == case.text.as_bytes());
     gate.late.load(Ordering::SeqCst)
 }
 
@@ -162,9 +161,9 @@ fn one_thread_plays_all(rt: HostRuntime) {
 // chain are of one pass.
 #[test]
 fn submit_shares_out_chains_itself(rt: HostRuntime) {
-    for played in [THIRD_ENDS, THIRD_BEGINS] {
-        assert!(rt; late(&rt, rt.alloc(), played, Table::Words, 2) == 0);
-        assert!(rt; late(&rt, rt.alloc(), played, Table::Baton, 2) == 1);
+    for case in [THIRD_ENDS, THIRD_BEGINS] {
+        assert!(rt; late(&rt, rt.alloc(), case, Table::Words, 2) == 0);
+        assert!(rt; late(&rt, rt.alloc(), case, Table::Baton, 2) == 1);
     }
 }
 

@@ -1,6 +1,6 @@
 use Rattle.std.proofs.Common.{length, All}
 use Rattle.fx_table.specs.Pass.{IsIdle}
-use Rattle.test_tables.proofs.stress.add_workers.Given as goal
+use Rattle.test_ring.proofs.tables.stress.add_workers.Given as goal
 
 abbrev pub invariant-loop-worker : goal.invariant-loop-worker
 invariant-loop-worker g l = record {

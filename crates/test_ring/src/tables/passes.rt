@@ -5,12 +5,8 @@ ghost use Rattle.fx_table.specs.Pass.{IsIdle};
 use fx_table::FileTable;
 use std::process::Abort;
 
-/// The pass that is the last of the list.
-pub(crate) fn last_pass<T: FileTable, R: Abort>(
-    rt: &R,
-    table: &T,
-    passes: &mut Vec<T::Pass>,
-) -> T::Pass
+// The pass that is the last of the list.
+fn last_pass<T: FileTable, R: Abort>(rt: &R, table: &T, passes: &mut Vec<T::Pass>) -> T::Pass
     requires { All (λ p. T.fits table.now p × IsIdle (T.view p)) passes.old.items }
     ensures pass { T.fits table.now result × IsIdle (T.view result) }
     ensures others { All (λ p. T.fits table.now p × IsIdle (T.view p)) passes.new.items }
@@ -18,21 +14,6 @@ pub(crate) fn last_pass<T: FileTable, R: Abort>(
     let Some(pass) = passes.pop() else {
         panic!(rt; "a pass")
     };
-    pass
-}
-
-/// The only pass of a table, which leaves the list empty.
-pub(crate) fn one_pass<T: FileTable, R: Abort>(
-    rt: &R,
-    table: &T,
-    passes: &mut Vec<T::Pass>,
-) -> T::Pass
-    requires { All (λ p. T.fits table.now p × IsIdle (T.view p)) passes.old.items }
-    ensures pass { T.fits table.now result × IsIdle (T.view result) }
-    ensures list { passes.new.items ≡ [] }
-{
-    let pass = last_pass(rt, table, passes);
-    assert!(rt; passes.is_empty());
     pass
 }
 
@@ -48,7 +29,8 @@ pub(crate) fn two_passes<T: FileTable, R: Abort>(
     ensures list { passes.new.items ≡ [] }
 {
     let second = last_pass(rt, table, passes);
-    let first = one_pass(rt, table, passes);
+    let first = last_pass(rt, table, passes);
+    assert!(rt; passes.is_empty());
     (first, second)
 }
 

@@ -6,9 +6,9 @@
 ghost use Rattle.std.specs.Prelude.{◌≡◌, ◌<◌, [], length, All};
 ghost use Rattle.fx_table.specs.Pass.{IsIdle, IsRetiredOf};
 
-use crate::passes::give_back;
-use crate::setting::{empty_table, left_in, new_file, open_table, two_names};
-use crate::tally::{CALLS, PASSES, Tally, room_for_all};
+use crate::tables::passes::give_back;
+use crate::tables::setting::{empty_table, left_in, new_file, open_table, two_names};
+use crate::tables::tally::{CALLS, PASSES, Tally, room_for_all};
 use fx_base::{Catalogue, CloseList, OpenFile};
 use fx_baton::BatonTable;
 use fx_counted::CountedTable;
