@@ -6,6 +6,7 @@ program share the processors, a job for each; the others have one job each, whic
 the folder of a crate and those of all crates below it while it proves, so only one is proved where it stands, and the others
 in copies (scripts/proved.py). On standard error it tells what is proved and how long the rest is expected to take: a terminal
 shows it as it goes, and else it is a line a minute. What the prover says goes to build/program.log."""
+import fcntl
 import os
 import re
 import shutil
@@ -53,12 +54,15 @@ def is_kept(name, below, kept):
 
 
 class Job:
-    """A crate that is being proved, in a process group of its own: where it stands, or in a copy with the crates `below`."""
+    """A crate that is being proved, in a process group of its own: where it stands, or in a copy with the crates `below`. Its folder
+    is locked as the toolchain does it, so that another run there waits."""
 
     def __init__(self, name, words, below=None):
         self.name, self.path, self.begin = name, f"build/{name}.log", time.monotonic()
         self.copy = tempfile.TemporaryDirectory(prefix=f"{name}-") if below else None
         if self.copy:
+            self.lock = os.open(f"crates/{name}", os.O_RDONLY)
+            fcntl.flock(self.lock, fcntl.LOCK_EX)
             copy_below(self.copy.name, name, below)
         with open(self.path, "wb") as log:
             how = {"stdin": subprocess.DEVNULL, "stdout": log, "stderr": log, "start_new_session": True}
@@ -68,6 +72,7 @@ class Job:
         """What was proved in a copy comes to the repository, and the copy goes."""
         if self.copy:
             take_back(self.copy.name, self.name)
+            os.close(self.lock)
             self.copy.cleanup()
             self.copy = None
 
