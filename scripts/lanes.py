@@ -55,10 +55,10 @@ def is_kept(name, below, kept):
 
 class Job:
     """A crate that is being proved, in a process group of its own: where it stands, or in a copy with the crates `below`. Its folder
-    is locked as the toolchain does it, so that another run there waits."""
+    is locked as the toolchain does it, so that another run there waits. It yields to others where its way to the program isn't far."""
 
-    def __init__(self, name, words, below=None):
-        self.name, self.path, self.begin = name, f"build/{name}.log", time.monotonic()
+    def __init__(self, name, words, is_far, below=None):
+        self.name, self.is_far, self.path, self.begin = name, is_far, f"build/{name}.log", time.monotonic()
         self.copy = tempfile.TemporaryDirectory(prefix=f"{name}-") if below else None
         if self.copy:
             self.lock = os.open(f"crates/{name}", os.O_RDONLY)
@@ -66,6 +66,7 @@ class Job:
             copy_below(self.copy.name, name, below)
         with open(self.path, "wb") as log:
             how = {"stdin": subprocess.DEVNULL, "stdout": log, "stderr": log, "start_new_session": True}
+            words = words if is_far else ["nice", "-n", "10", *words]
             self.process = subprocess.Popen(words, cwd=f"{self.copy.name if self.copy else '.'}/crates/{name}", **how)
 
     def take_back(self):
@@ -119,7 +120,7 @@ class Lanes:
         sys.stderr.flush()
 
     def scale(self):
-        """What a second of scripts/seconds.txt takes here, by the crates that were proved in this run."""
+        """What a second of scripts/seconds.txt takes here, by the crates that were proved in this run and yielded to no other."""
         return self.clock / self.of if self.of else CLOCK
 
     def expected(self):
@@ -146,9 +147,8 @@ class Lanes:
         for name in chosen:
             self.left.remove(name)
             jobs = max(min(PROCESSORS // len(far), MOST_JOBS), 1) if name in far else 1
-            words = [*([] if name in far else ["nice", "-n", "10"]), *self.words(name, jobs)]
             is_apart = any(not it.copy for it in self.jobs)
-            self.jobs.append(Job(name, words, self.below if is_apart else None))
+            self.jobs.append(Job(name, self.words(name, jobs), name in far, self.below if is_apart else None))
 
     def take(self, job):
         """A crate has ended. Whether it was proved."""
@@ -162,7 +162,7 @@ class Lanes:
             return False
         os.remove(job.path)
         self.done += 1
-        if job.name not in self.kept:
+        if job.is_far and job.name not in self.kept:
             self.clock, self.of = self.clock + job.seconds(), self.of + self.seconds[job.name]
         self.tell(f"  {job.name}, crate {self.done} of {len(self.those)}: {job.seconds():.0f} s")
         return True
