@@ -1,16 +1,19 @@
-"""Scripts between the limits of the language and of the table: for each thing that has a size one script, or one for each size,
-with each power of two, one less and one more, up to the limit, and the limit; lists and tables of every size. Each has the text that it must write, worked out
-by hand here as in scripts/limits.py. The order of chains changes no text. scripts/check-limits plays them."""
+"""Scripts between the limits of the language and of the table: for each thing that has a size one script, or one for each size.
+Of lists, of tables, and of the files that the end closes, that is every size up to the limit; of all else each power of two, one
+less and one more, up to the limit, and the limit. Each has the text that it must write, worked out by hand here as in
+scripts/limits.py. The order of chains changes no text. scripts/check-limits plays them."""
 from limits import BYTES, CHAINS, ENTRIES, FILES, LARGEST_TAG, MEMBERS, SCRIPT_BYTES, SLOTS, lines
 
 A = "file a.txt 68656c6c6f"
 REQUESTS = CHAINS * MEMBERS
+# every size of a list
+EACH_SIZE = range(1, SLOTS + 1)
 # how many files the requests of a submission may close at most
 WEIGHT = REQUESTS * ENTRIES
-# how many scripts there are of each kind: one for each power of two up to a limit, one less, one more and the limit, each once
+# how many scripts there are of each kind: one, one for each such size, or one for each that `sizes` gives
 KINDS = {
     **dict.fromkeys(("lists", "tagged_lists", "tables", "tagged_tables", "one_slot_free", "updates", "files", "reads", "openings"), 1),
-    **dict.fromkeys(("ends", "tagged_ends", "catalogues"), 22),
+    **dict.fromkeys(("ends", "tagged_ends"), SLOTS), "catalogues": 22,
     "chains": 27, "heavy_chains": 27, "requests": 39, "weights": 51, "waiting": 54, "fault_at": 61, "unsubmitted_from": 60,
 }
 # those of which each number of workers is tried: how many there are decides how a table is shared, and each has lists of its own
@@ -40,7 +43,7 @@ def chains_of(requests, members):
 def lists():
     """A list of each size is registered, updated between submissions, and unregistered. Each third entry is none."""
     script, text, k = [A], [], 0
-    for count in range(1, SLOTS + 1):
+    for count in EACH_SIZE:
         entries = ["-1" if it % 3 == 2 else "0" for it in range(count)]
         there = [it for it in range(count) if it % 3 != 2]
         script += [f"register {','.join(entries)}", f"regupdate 0 {','.join(['0'] * count)}", "unregister"]
@@ -59,7 +62,7 @@ def tags_from(first, places):
 def tagged_lists():
     """As `lists`, where each file of a list has a tag of its own: those that an update replaces, and those that are left."""
     script, text, k = [A], [], 0
-    for count in range(1, SLOTS + 1):
+    for count in EACH_SIZE:
         entries = ["-1" if it % 3 == 2 else "0" for it in range(count)]
         (tags, told), (others, told_last) = tags_from(7, [it == "0" for it in entries]), tags_from(LARGEST_TAG - count, [True] * count)
         script += [f"register {','.join(entries)} {tags}", f"regupdate 0 {','.join(['0'] * count)} {others}", "unregister"]
@@ -100,7 +103,7 @@ def tables():
     """A sparse table of each size is filled, an open at any slot finds none free, each file is read, and the table is
     unregistered."""
     script, text = [A], []
-    for nth, count in enumerate(range(1, SLOTS + 1)):
+    for nth, count in enumerate(EACH_SIZE):
         k = 2 * nth + 1
         fills = [f"open a.txt at {it}" for it in range(count)]
         script += [f"sparse {count}", *fills, "submit", "open a.txt any", *(f"read {it} 0 5" for it in range(count)), "submit", "unregister"]
@@ -236,7 +239,9 @@ def sweeps():
     """Each script: its name, the script, the text, and the line and the fault of a bad one."""
     for whole in (lists, tagged_lists, tables, tagged_tables, one_slot_free, updates, files, reads, openings):
         yield whole.__name__, *whole(), ""
-    for made, counts in ((ends, sizes(SLOTS)), (tagged_ends, sizes(SLOTS)), (catalogues, sizes(FILES)), (chains, sizes(CHAINS)), (heavy_chains, sizes(CHAINS)), (requests, sizes(REQUESTS)), (weights, sizes(WEIGHT))):
+    by_size = ((ends, EACH_SIZE), (tagged_ends, EACH_SIZE), (catalogues, sizes(FILES)), (chains, sizes(CHAINS)))
+    by_size += ((heavy_chains, sizes(CHAINS)), (requests, sizes(REQUESTS)), (weights, sizes(WEIGHT)))
+    for made, counts in by_size:
         for count in counts:
             yield f"{made.__name__}_{count}", *made(count), ""
     for count in sizes(SCRIPT_BYTES // len("close 0\n") - 1):
