@@ -4,6 +4,7 @@ pub mod Writing
 pub mod Telling
 pub mod Reaching
 pub mod Hopeless
+pub mod Unpacking
 pub mod RequestClaims
 pub mod CellSteps
 pub mod Projected
