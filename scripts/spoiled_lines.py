@@ -219,7 +219,7 @@ def spoiled(rng, source, text, kind):
         return None
     first = min(at[0], len(lines)) - 1
     is_lost_close = len(wrong) < len(lines) and lines[first].startswith("closed ")
-    words = (lines[first].split(" ", 1)[1],) if is_lost_close else ()
+    words = (lines[first].split(" ")[1] + " ",) if is_lost_close else ()
     return Spoiled(wrong, at, owners[first], len(script.commands), words)
 
 
