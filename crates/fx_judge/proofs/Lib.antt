@@ -5,6 +5,7 @@ pub mod Telling
 pub mod Reaching
 pub mod Hopeless
 pub mod Unpacking
+pub mod Unknown
 pub mod RequestClaims
 pub mod CellSteps
 pub mod Projected

@@ -7,3 +7,4 @@ pub mod Starts
 pub mod Packed
 pub mod Strands
 pub mod Played
+pub mod Known

@@ -10,6 +10,7 @@ mod component;
 mod dead;
 mod full;
 mod judge;
+mod known;
 mod node;
 mod packed;
 mod part;

@@ -8,6 +8,7 @@ use crate::certificate::{Web, shows_no_end};
 use crate::claim::{Claim, Leaves, Wants, resident_for};
 use crate::component::components;
 use crate::full::{is_range_empty, with_full};
+use crate::known::has_unknown;
 use crate::node::claim_of;
 use crate::search::{Found, explore};
 use crate::steps::Steps;
@@ -208,6 +209,9 @@ pub(crate) fn judge_table(
     ensures { IfOk result (IsOutcome (table_of_slots table.now.slots.now) table.now.closes.now
         table.now.chains.now) }
 {
+    if has_unknown(table) {
+        return Ok(Outcome::Refuted(Reason::Closes));
+    }
     let outcome = judge_slots(alloc, table, states)?;
     match outcome {
         Outcome::Refuted(reason) => Ok(Outcome::Refuted(reason)),
