@@ -82,6 +82,7 @@ texts:
 	@scripts/build-program fx_check_cli fixcheck
 	@scripts/check-verdicts bin/fixcheck
 	@scripts/check-fixcheck bin/fixcheck bin/fixfiles 2000
+	@scripts/check-outcomes bin/fixcheck bin/fixfiles
 
 pictures:
 	@scripts/build-program fx_check_cli fixcheck

@@ -106,12 +106,12 @@ def longest_script():
     return "sparse 0\n" * count + "\n" * (SCRIPT_BYTES % len("sparse 0\n")), "sparse -22\n" * count
 
 
-def all_submissions():
+def too_many_submissions():
     """65,535 empty submissions, and then one that the ring refuses."""
     return "submit\n" * 65_536, "submit refused too-many-submissions\n"
 
 
-def all_registrations():
+def too_many_registrations():
     """65,535 lists are registered, and then one that the ring refuses."""
     script = "file a.txt -\n" + "register 0\nunregister\n" * 65_535 + "register 0\n"
     return script, "".join(f"register 0\nunregister 0\nclosed r{k}.0 a.txt\n" for k in range(1, 65_536)) + "register -11\n"
@@ -132,8 +132,8 @@ def limits():
     yield "long_lists", *long_lists(), ""
     yield "bad_list_in_a_line_too_long", f"update 10 {','.join(['0'] * 4996)}\nsubmit\n", "", "line 1: long-line"
     yield "full_catalogue", *full_catalogue(), ""
-    yield "all_submissions", *all_submissions(), ""
-    yield "all_registrations", *all_registrations(), ""
+    yield "too_many_submissions", *too_many_submissions(), ""
+    yield "too_many_registrations", *too_many_registrations(), ""
     yield "all_updates", *all_updates(), ""
     yield "text_of_8_megabytes", *large_text(1), ""
     yield "text_of_134_megabytes", *large_text(MEMBERS), ""

@@ -372,6 +372,15 @@ class Player:
             return self.close(*words), b""
         return (self.open if kind == "open" else self.update)(place, *words), b""
 
+    def comes_to_the_table(self, request):
+        """Whether a request does, where it is done now: its numbers or its name may refuse it, and an update may leave every slot."""
+        kind, *words = request
+        if kind == "open":
+            return words[0] in self.names and bool(self.slots) and (words[1] is None or words[1] < len(self.slots))
+        if kind in ("read", "close"):
+            return words[0] < len(self.slots)
+        return not self.refusal_of_list(*words) and any(it != -2 for it in words[1])
+
     # commands, each with its lines
 
     def refusal_of_submission(self, requests):

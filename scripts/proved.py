@@ -5,6 +5,8 @@ import re
 import shutil
 import sys
 
+from crate_times import needed
+
 TOP = os.path.dirname(os.path.dirname(os.path.abspath(__file__)))
 PARTS = ("src", "specs", "proofs", "out")
 # how the gate ends
@@ -46,6 +48,22 @@ class Gate:
         return all(os.stat(it).st_mtime < self.began for it in sources)
 
 
+def link_or_copy(one, other):
+    """Gives a file a second name, or makes a copy of it where that can't be had. The toolchain makes files of out/ anew, and never
+    writes into one."""
+    try:
+        os.link(one, other)
+    except OSError:
+        shutil.copy2(one, other)
+
+
+def copy_part(room, name, part):
+    """Copies a folder of a crate, where it has one."""
+    how = link_or_copy if part.startswith("out") else shutil.copy2
+    if os.path.isdir(f"{TOP}/crates/{name}/{part}"):
+        shutil.copytree(f"{TOP}/crates/{name}/{part}", f"{room}/crates/{name}/{part}", symlinks=True, copy_function=how)
+
+
 def copy_crates(room, gate=None):
     """Copies the crates into a folder, with what earlier checks kept of them, or with the libraries that the gate has made so far."""
     for file in ("crates.txt", "HANDLES"):
@@ -53,10 +71,29 @@ def copy_crates(room, gate=None):
     for name in os.listdir(f"{TOP}/crates"):
         parts = PARTS if not gate else [*PARTS[:-1], "out/rlib"] if gate.has_proved(name) else PARTS[:-1]
         for part in parts:
-            if os.path.isdir(f"{TOP}/crates/{name}/{part}"):
-                shutil.copytree(f"{TOP}/crates/{name}/{part}", f"{room}/crates/{name}/{part}", symlinks=True)
+            copy_part(room, name, part)
     if gate and gate.is_newer():
         mark_libraries(room, gate)
+
+
+def copy_below(room, name, below):
+    """Copies a crate with what earlier checks kept of it, and the crates that it stands on with their libraries. No other crate is
+    listed there."""
+    those = needed(name, below)
+    shutil.copy(f"{TOP}/HANDLES", room)
+    lines = read(f"{TOP}/crates.txt").splitlines(keepends=True)
+    write(f"{room}/crates.txt", "".join(it for it in lines if re.match(r"\w*", it)[0] in those))
+    for it in those:
+        for part in (*PARTS[:-1], "out" if it == name else "out/rlib"):
+            copy_part(room, it, part)
+
+
+def take_back(room, name):
+    """Moves what was proved of a crate in such a copy to the repository."""
+    made, kept = f"{room}/crates/{name}/out", f"{TOP}/crates/{name}/out"
+    if os.path.isdir(made):
+        shutil.rmtree(kept, ignore_errors=True)
+        shutil.move(made, kept)
 
 
 def mark_libraries(room, gate):
@@ -69,6 +106,8 @@ def mark_libraries(room, gate):
         for crate in rtlib.crates_below(f"{room}/crates"):
             library = f"{crate.folder}/out/rlib"
             if os.path.isdir(library) and os.stat(library).st_mtime > gate.began:
+                if os.path.exists(f"{library}/stamp"):
+                    os.remove(f"{library}/stamp")
                 write(f"{library}/stamp", crate.stamp())
     except (ImportError, AttributeError) as fault:
         print(f"proved: the libraries are proved once more: {fault}", flush=True)

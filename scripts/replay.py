@@ -31,15 +31,6 @@ class Replayed(Player):
         super().__init__(files)
         self.orders, self.results = orders, results
 
-    def comes_to_the_table(self, request):
-        """Whether it does, where it is done now."""
-        kind, *words = request
-        if kind == "open":
-            return words[0] in self.names and bool(self.slots) and (words[1] is None or words[1] < len(self.slots))
-        if kind in ("read", "close"):
-            return words[0] < len(self.slots)
-        return not self.refusal_of_list(*words) and any(it != -2 for it in words[1])
-
     def step(self, place, request, entry):
         """Does a request, or one entry of an update. The result and the bytes."""
         kind, *words = request

@@ -1,16 +1,23 @@
-"""Scripts between the limits of the language and of the table: for each thing that has a size one script, or one for each size,
-with each power of two, one less and one more, up to the limit, and the limit. Each has the text that it must write, worked out
-by hand here as in scripts/limits.py. The order of chains changes no text. scripts/check-limits plays them."""
+"""Scripts between the limits of the language and of the table: for each thing that has a size one script, or one for each size.
+Of lists, of tables, and of the files that the end closes, that is every size up to the limit; of all else each power of two, one
+less and one more, up to the limit, and the limit. Each has the text that it must write, worked out by hand here as in
+scripts/limits.py. The order of chains changes no text. scripts/check-limits plays them."""
 from limits import BYTES, CHAINS, ENTRIES, FILES, LARGEST_TAG, MEMBERS, SCRIPT_BYTES, SLOTS, lines
 
 A = "file a.txt 68656c6c6f"
 REQUESTS = CHAINS * MEMBERS
-# how many scripts there are of each kind: one for each power of two up to a limit, one less, one more and the limit, each once
+# every size of a list
+EACH_SIZE = range(1, SLOTS + 1)
+# how many files the requests of a submission may close at most
+WEIGHT = REQUESTS * ENTRIES
+# how many scripts there are of each kind: one, one for each such size, or one for each that `sizes` gives
 KINDS = {
-    **dict.fromkeys(("lists", "tagged_lists", "tables", "tagged_tables", "one_slot_free", "updates", "files", "reads"), 1),
-    **dict.fromkeys(("ends", "tagged_ends", "catalogues"), 22),
-    "chains": 27, "requests": 39, "waiting": 54, "fault_at": 61, "unsubmitted_from": 60,
+    **dict.fromkeys(("lists", "tagged_lists", "tables", "tagged_tables", "one_slot_free", "updates", "files", "reads", "openings"), 1),
+    **dict.fromkeys(("ends", "tagged_ends"), SLOTS), "catalogues": 22,
+    "chains": 27, "heavy_chains": 27, "requests": 39, "weights": 51, "waiting": 54, "fault_at": 61, "unsubmitted_from": 60,
 }
+# those of which each number of workers is tried: how many there are decides how a table is shared, and each has lists of its own
+BY_WORKERS = ("openings", "chains", "heavy_chains", "requests")
 
 
 def sizes(limit, least=1):
@@ -36,7 +43,7 @@ def chains_of(requests, members):
 def lists():
     """A list of each size is registered, updated between submissions, and unregistered. Each third entry is none."""
     script, text, k = [A], [], 0
-    for count in sizes(SLOTS):
+    for count in EACH_SIZE:
         entries = ["-1" if it % 3 == 2 else "0" for it in range(count)]
         there = [it for it in range(count) if it % 3 != 2]
         script += [f"register {','.join(entries)}", f"regupdate 0 {','.join(['0'] * count)}", "unregister"]
@@ -55,7 +62,7 @@ def tags_from(first, places):
 def tagged_lists():
     """As `lists`, where each file of a list has a tag of its own: those that an update replaces, and those that are left."""
     script, text, k = [A], [], 0
-    for count in sizes(SLOTS):
+    for count in EACH_SIZE:
         entries = ["-1" if it % 3 == 2 else "0" for it in range(count)]
         (tags, told), (others, told_last) = tags_from(7, [it == "0" for it in entries]), tags_from(LARGEST_TAG - count, [True] * count)
         script += [f"register {','.join(entries)} {tags}", f"regupdate 0 {','.join(['0'] * count)} {others}", "unregister"]
@@ -96,7 +103,7 @@ def tables():
     """A sparse table of each size is filled, an open at any slot finds none free, each file is read, and the table is
     unregistered."""
     script, text = [A], []
-    for nth, count in enumerate(sizes(SLOTS)):
+    for nth, count in enumerate(EACH_SIZE):
         k = 2 * nth + 1
         fills = [f"open a.txt at {it}" for it in range(count)]
         script += [f"sparse {count}", *fills, "submit", "open a.txt any", *(f"read {it} 0 5" for it in range(count)), "submit", "unregister"]
@@ -107,11 +114,14 @@ def tables():
 
 
 def one_slot_free():
-    """Of 256 slots each alone is free, and the open at any slot finds it; so it does in a range of each size from each side."""
+    """Of 256 slots each alone is free, and the open at any slot finds it. So it does in a range of each size from each side, where
+    the last slot towards the middle is free, and in one of each of the sizes from 200 on, where one of the last two of either end is."""
     script = [A, "sparse 256", *(f"open a.txt at {it}" for it in range(SLOTS)), "submit"]
     text = ["sparse 0", *(f"1.{it + 1}.1 0" for it in range(SLOTS))]
     ranges = [(it, 0, SLOTS) for it in range(SLOTS)]
     ranges += [(size - 1, 0, size) for size in sizes(SLOTS)] + [(SLOTS - size, SLOTS - size, size) for size in sizes(SLOTS)]
+    for size in range(200, SLOTS):
+        ranges += [(off + at, off, size) for off in (0, SLOTS - size) for at in (0, 1, size - 2, size - 1)]
     holder = {slot: f"1.{slot + 1}.1.0" for slot in range(SLOTS)}
     for nth, (slot, off, size) in enumerate(ranges, 2):
         script += [f"range {off} {size}", f"close {slot} link", "open a.txt any", "submit"]
@@ -153,13 +163,37 @@ def reads():
     return lines(*script), lines(*text, "teardown", "closed r1.0 a.txt")
 
 
+def openings():
+    """A table of each size with a file at each slot is shared for no chain, one, 16 and 300."""
+    script, text, submission = [A], [], 0
+    for nth, count in enumerate(sizes(SLOTS), 1):
+        script += [f"register {','.join(['0'] * count)}"]
+        text += ["register 0"]
+        for played in (0, 1, 16, 300):
+            submission += 1
+            script += [*["read 0 0 5"] * played, "submit"]
+            text += [f"{submission}.{it + 1}.1 5 68656c6c6f" for it in range(played)]
+        script += ["unregister"]
+        text += ["unregister 0", *(f"closed r{nth}.{it} a.txt" for it in range(count))]
+    return lines(*script), lines(*text)
+
+
 def chains(count):
-    """So many chains of one open each, for which 256 file numbers are prepared and 64 for each chain. The first 256 fill the
-    table, and the others name no file."""
+    """So many chains of one open each. The first 256 fill the table, and the others name no file."""
     opens = [f"open a.txt at {it}" if it < SLOTS else "open no.txt any" for it in range(count)]
     text = [f"1.{it + 1}.1 {0 if it < SLOTS else -2}" for it in range(count)]
     closed = [f"closed 1.{it + 1}.1.0 a.txt" for it in range(min(count, SLOTS))]
     return lines(A, "sparse 256", *opens, "submit"), lines("sparse 0", *text, "teardown", *closed)
+
+
+def heavy_chains(count):
+    """So many chains, of which the first one installs 64 files: so many numbers are prepared for each of them."""
+    files = ",".join(["0"] * ENTRIES)
+    updates = [*(f"update {at} {files} link" for at in range(0, 3 * ENTRIES, ENTRIES)), f"update {3 * ENTRIES} {files}"]
+    script = [A, "sparse 64", *updates, *["read 64 0 0"] * (count - 1), "submit"]
+    text = [*(f"1.1.{it} 16" for it in range(1, 5)), *(f"1.{it}.1 -9" for it in range(2, count + 1))]
+    closed = [f"closed 1.1.{member}.{entry} a.txt" for member in range(1, 5) for entry in range(ENTRIES)]
+    return lines(*script), lines("sparse 0", *text, "teardown", *closed)
 
 
 def requests(count):
@@ -167,6 +201,14 @@ def requests(count):
     played = list(chains_of(["read 0 0 0"] * count, MEMBERS))
     script = [A, "register 0", *(it for _, it in played), "submit"]
     return lines(*script), lines("register 0", *(f"1.{it} 0" for it, _ in played), "teardown", "closed r1.0 a.txt")
+
+
+def weights(count):
+    """Updates that keep so many files, in full chains: a submission has room for as many closes."""
+    kept = [ENTRIES] * (count // ENTRIES) + [count % ENTRIES] * (count % ENTRIES > 0)
+    played = list(chains_of([f"update 0 {','.join(['-2'] * it)}" for it in kept], MEMBERS))
+    text = [f"1.{name} {it}" for (name, _), it in zip(played, kept)]
+    return lines("sparse 256", *(it for _, it in played), "submit"), lines("sparse 0", *text)
 
 
 def waiting(count):
@@ -195,9 +237,11 @@ def catalogues(count):
 
 def sweeps():
     """Each script: its name, the script, the text, and the line and the fault of a bad one."""
-    for whole in (lists, tagged_lists, tables, tagged_tables, one_slot_free, updates, files, reads):
+    for whole in (lists, tagged_lists, tables, tagged_tables, one_slot_free, updates, files, reads, openings):
         yield whole.__name__, *whole(), ""
-    for made, counts in ((ends, sizes(SLOTS)), (tagged_ends, sizes(SLOTS)), (catalogues, sizes(FILES)), (chains, sizes(CHAINS)), (requests, sizes(REQUESTS))):
+    by_size = ((ends, EACH_SIZE), (tagged_ends, EACH_SIZE), (catalogues, sizes(FILES)), (chains, sizes(CHAINS)))
+    by_size += ((heavy_chains, sizes(CHAINS)), (requests, sizes(REQUESTS)), (weights, sizes(WEIGHT)))
+    for made, counts in by_size:
         for count in counts:
             yield f"{made.__name__}_{count}", *made(count), ""
     for count in sizes(SCRIPT_BYTES // len("close 0\n") - 1):

@@ -1,6 +1,6 @@
 """Shows that what looks at an answer complains of a wrong one: a history with a line left out or changed, an order with steps of a
-chain left out or exchanged, the outcome of a refused growth, the growths between two marks, and a verdict that is a lie. Each
-function tells how many wrong answers of its kind there were, and those that nothing complained of. scripts/check-checks wants the
+chain left out or exchanged, the outcome of a refused growth, the growths between two marks, a verdict that is a lie, and one that names
+another command or line. Each function tells how many wrong answers of its kind there were, and those that nothing complained of. scripts/check-checks wants the
 numbers."""
 import os
 import re
@@ -10,6 +10,7 @@ from loaded import module
 from model import Script, play
 from refused_growths import NO_MEMORY, Outcomes
 from replay import WrongOrder, replayed
+from spoiled_lines import Spoiled
 from told_history import complaint_of
 
 HERE = os.path.dirname(os.path.abspath(__file__))
@@ -18,8 +19,8 @@ EXAMPLES = os.path.join(os.path.dirname(HERE), "examples")
 TOLD = ("open_read_close", "tagged_files_leave_in_each_way", "replaced_between_two_members", "unregister_closes_every_file",
         "allocation_fills_its_range", "ring_update_clears_skips_and_replaces", "tag_at_the_teardown")
 # how many lines their histories have, and how many pairs of steps of one chain stand beside each other in their orders; and how
-# many rows there are of outcomes, growths and verdicts
-LINES, PAIRS, OUTCOMES, GROWTHS, VERDICTS = 110, 3, 15, 6, 8
+# many rows there are of outcomes, growths, verdicts and what they name
+LINES, PAIRS, OUTCOMES, GROWTHS, VERDICTS, NAMES = 110, 3, 15, 6, 8, 9
 
 
 def kinds(fixcheck):
@@ -29,6 +30,7 @@ def kinds(fixcheck):
     yield "outcomes of a refused growth", OUTCOMES, outcomes
     yield "growths between marks", GROWTHS, growths
     yield "verdicts", VERDICTS, verdicts
+    yield "names in verdicts", NAMES, names_told
 
 
 def examples():
@@ -140,3 +142,17 @@ def verdicts():
         found = agree.verdict(text, written, shown=names)
         missed += [f"agree makes {found} of {written!r} with verdict {verdict}"] * (found != wanted)
     return len(rows), missed
+
+
+def names_told():
+    """Whether verdicts name the second of three commands, or its line 3 of the text, where a closed file is lost."""
+    wrong = Spoiled([], [3], 2, 3, ("1.1.1.0 a",))
+    at = "not legal: command {}, line {} of the script; "
+    rows = [
+        (at.format(2, 6) + "line 3 of the text: wanted x, found y", (True, True)), (at.format(2, 3) + "submission 1: no order", (True, False)),
+        (at.format(1, 3) + "line 4 of the text: wanted x, found y", (False, False)), (at.format(3, 3) + "line 2 of the text: x; line 3 is y", (True, True)),
+        (at.format(3, 9) + "lines 2, 3 and 13 of the text: x", (True, True)), (at.format(3, 9) + "lines 2, 13 and 30 of the text: x", (False, False)),
+        (at.format(2, 9) + "lines 1, 2, 3, 4 and 5 of the text: x", (True, False)), ("not legal: the end of the script; line 4 of the text: x", (False, False)),
+        ("not legal: the end of the script; line 4 of the text: wanted x, found y; 1.1.1.0 a is at slot 0", (True, True)),
+    ]
+    return len(rows), [f"{said!r} isn't taken to name {wanted}" for said, wanted in rows if wrong.is_named(said) != wanted]

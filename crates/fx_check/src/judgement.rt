@@ -1,4 +1,4 @@
-use fx_judge::{Doubt, Reason};
+use fx_judge::{Doubt, Reason, RingSlots};
 use fx_order::ChainAccess;
 
 /// Which request makes an access of an order.
@@ -44,6 +44,8 @@ pub struct Break {
     pub commands: usize,
     /// How many bytes of the text stand in front.
     pub at: usize,
+    /// What is kept of the ring that they lead to. It is advice for a person, as the fault is.
+    pub ring: RingSlots,
     /// Why it isn't.
     pub fault: Fault,
 }

@@ -147,6 +147,7 @@ pub fn judge(
                 return Ok(Judgement::NotLegal(Break {
                     commands: done,
                     at,
+                    ring,
                     fault,
                 }));
             }
@@ -160,6 +161,7 @@ pub fn judge(
         Some(wanted) => Ok(Judgement::NotLegal(Break {
             commands: commands.len(),
             at,
+            ring,
             fault: Fault::Text(wanted),
         })),
     }

@@ -1,5 +1,5 @@
 //! One whole legal history of a script that gives a text.
-use crate::lines::{line_at, without_end};
+use crate::lines::{behind, line_at, without_end};
 use crate::submission::tell_submission;
 use crate::telling::Telling;
 use crate::wording::push_command;
@@ -32,11 +32,6 @@ fn tag_at(tags: &Option<Vec<u64>>, place: usize) -> u64 {
 // A place in a list, or a slot. No list and no table has more.
 fn place_of(at: usize) -> u32 {
     u32::try_from(at).unwrap_or(u32::MAX)
-}
-
-// What stands behind a line.
-fn behind<'a>(text: &'a [u8], line: &[u8]) -> &'a [u8] {
-    text.get(line.len()..).unwrap_or(text)
 }
 
 // What a line of a call says behind its word.

@@ -37,6 +37,11 @@ pub fn line_at(text: &[u8], from: usize) -> &[u8] {
     &rest[..line_length(rest)]
 }
 
+/// What stands behind a text's first line.
+pub fn behind<'a>(text: &'a [u8], line: &[u8]) -> &'a [u8] {
+    text.get(line.len()..).unwrap_or(text)
+}
+
 /// A line without its end, and whether it has one.
 pub fn without_end(line: &[u8]) -> (&[u8], bool) {
     match line {
@@ -74,18 +79,23 @@ pub fn first_difference(text: &[u8], from: usize, wanted: &[u8]) -> (usize, usiz
     (at, there)
 }
 
-/// The line that begins at a place, for a person: at most so many bytes, and what isn't printable as `\xNN`.
+/// The line that begins at a place, for a person: at most so many bytes, and what isn't printable as `\xNN`. Where it is
+/// empty, or there is none, it is called so.
 ///
 /// # Errors
 /// Where memory is refused.
-pub fn shown_line(alloc: Global, text: &[u8], from: usize) -> Result<String, AllocError> {
+pub fn shown_line(
+    alloc: Global,
+    text: &[u8],
+    from: usize,
+    none: &str,
+) -> Result<String, AllocError> {
     let mut shown = String::new(alloc);
-    let line = line_at(text, from);
-    if line.is_empty() {
-        shown.push_str("the end")?;
+    let (bytes, has_end) = without_end(line_at(text, from));
+    if bytes.is_empty() {
+        shown.push_str(none)?;
         return Ok(shown);
     }
-    let (bytes, has_end) = without_end(line);
     for byte in bytes.iter().take(SHOWN) {
         match *byte {
             32..=126 => shown.push(char::from(*byte))?,

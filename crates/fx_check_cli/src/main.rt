@@ -1,17 +1,30 @@
 //! The program `fixcheck`: says whether the rules allow a text for a script.
 #![tactic(auto)]
 
+mod answers;
 mod arguments;
+mod at_slot;
+mod case;
+mod complaint;
+mod counts;
 mod ending;
 mod event;
+mod explain;
 mod history;
 mod input;
 mod lines;
+mod may_be;
+mod report;
 mod state;
 mod submission;
 mod telling;
+mod unexpected;
 mod verdict;
+mod why;
 mod wording;
+mod wrong_answer;
+mod wrong_close;
+mod wrong_place;
 
 use arguments::{settings_in, words};
 use ending::Ending;
@@ -69,7 +82,7 @@ fn check(rt: &HostRuntime) -> Result<u8, Ending> {
             print_history(rt, &script, &text, orders.as_slice())?;
         }
         _ => {
-            let told = verdict_text(alloc, &source, &text, settings.states, &judgement)?;
+            let told = verdict_text(alloc, &script, &source, &text, settings.states, &judgement)?;
             write(rt, told.as_str())?;
         }
     }

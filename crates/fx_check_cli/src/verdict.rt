@@ -2,9 +2,15 @@
 ghost use Rattle.std.specs.Prelude.{◌≡◌};
 ghost use Rattle.fx_check_cli.specs.Status.{status};
 
+use crate::case::Case;
+use crate::complaint::Complaint;
+use crate::explain::complaint_of;
 use crate::lines::{first_difference, line_behind, line_number, line_of_command, shown_line};
+use crate::unexpected::why_of;
+use fx_base::NoMemory;
 use fx_check::{Break, Fault, Judgement, Order};
 use fx_judge::{Doubt, Reason};
+use fx_script::{Command, Script};
 use std::alloc::{AllocError, Global};
 
 /// The status of the program: 0 for a legal text, 1 for another one, 6 where it is undecided.
@@ -41,11 +47,67 @@ fn push_found(
     wanted: &str,
 ) -> Result<(), AllocError> {
     let line = line_number(text, at);
-    let found = shown_line(alloc, text, at)?;
+    let found = shown_line(alloc, text, at, "nothing")?;
     write!(
         told,
-        "line {line} of the text: wanted {wanted}, found {found}\n"
+        "line {line} of the text: wanted {wanted}, found {found}"
     )
+}
+
+// Puts behind others why a line is wrong, where that is known, and ends the line.
+fn push_end(told: &mut String, why: &str) -> Result<(), AllocError> {
+    if !why.is_empty() {
+        told.push_str("; ")?;
+        told.push_str(why)?;
+    }
+    told.push('\n')
+}
+
+// Puts the numbers of some lines of the text behind others.
+fn push_numbers(told: &mut String, first: usize, lines: &[usize]) -> Result<(), AllocError> {
+    told.push_str(if lines.len() == 1 { "line" } else { "lines" })?;
+    for (i, at) in lines.iter().enumerate() {
+        let number = first.saturating_add(*at);
+        let sign = if i == 0 {
+            " "
+        } else if i.saturating_add(1) == lines.len() {
+            " and "
+        } else {
+            ", "
+        };
+        told.push_str(sign)?;
+        write!(told, "{number}")?;
+    }
+    told.push_str(" of the text")
+}
+
+// Puts what is wrong with a submission's lines behind others; the first one begins at a place.
+fn push_complaint(
+    alloc: Global,
+    told: &mut String,
+    text: &[u8],
+    from: usize,
+    complaint: &Complaint,
+) -> Result<(), AllocError> {
+    match complaint {
+        Complaint::Line(line, wanted, why) => {
+            push_found(alloc, told, text, line_behind(text, from, *line), wanted)?;
+            push_end(told, why)
+        }
+        Complaint::Lines(lines, why) => {
+            let first = line_number(text, from);
+            push_numbers(told, first, lines)?;
+            told.push_str(": ")?;
+            told.push_str(why)?;
+            told.push('\n')?;
+            for line in lines {
+                let number = first.saturating_add(*line);
+                let shown = shown_line(alloc, text, line_behind(text, from, *line), "nothing")?;
+                write!(told, "  {number}: {shown}\n")?;
+            }
+            Ok(())
+        }
+    }
 }
 
 // Puts what is wrong with a submission behind others.
@@ -75,26 +137,62 @@ fn push_place(told: &mut String, script: &[u8], broken: &Break) -> Result<(), Al
     write!(told, "command {command}, line {line} of the script; ")
 }
 
-// Puts behind others why it does.
+// What is wrong with the lines of the submission that a text breaks at, where it is one and that is found.
+fn complaint_in(
+    alloc: Global,
+    script: &Script,
+    text: &[u8],
+    broken: &Break,
+) -> Result<Option<Complaint>, NoMemory> {
+    let (Some(Command::Submit(requests)), Fault::Line(..) | Fault::Order(..)) = (
+        script.commands().get(broken.commands),
+        &broken.fault,
+    ) else {
+        return Ok(None);
+    };
+    let case = Case {
+        catalogue: script.catalogue(),
+        ring: &broken.ring,
+        requests,
+        text: text.get(broken.at..).unwrap_or(b""),
+        line: line_number(text, broken.at),
+    };
+    let reason = match &broken.fault {
+        Fault::Order(_, reason) => Some(*reason),
+        _ => None,
+    };
+    complaint_of(alloc, &case, reason)
+}
+
+// Puts behind others why a text breaks.
 fn push_break(
     alloc: Global,
     told: &mut String,
+    script: &Script,
     text: &[u8],
     broken: &Break,
-) -> Result<(), AllocError> {
+) -> Result<(), NoMemory> {
+    if let Some(complaint) = complaint_in(alloc, script, text, broken)? {
+        return Ok(push_complaint(alloc, told, text, broken.at, &complaint)?);
+    }
     match &broken.fault {
         Fault::Text(wanted) => {
             let wanted = wanted.as_bytes();
             let (at, there) = first_difference(text, broken.at, wanted);
-            let line = shown_line(alloc, wanted, there)?;
-            push_found(alloc, told, text, at, &line)
+            let line = shown_line(alloc, wanted, there, "the end")?;
+            push_found(alloc, told, text, at, &line)?;
+            let rest = wanted.get(there..).unwrap_or(b"");
+            let why = why_of(alloc, script, text, broken, at, rest)?;
+            push_end(told, &why)?;
         }
         Fault::Line(lines, wanted) => {
             let at = line_behind(text, broken.at, *lines);
-            push_found(alloc, told, text, at, wanted)
+            push_found(alloc, told, text, at, wanted)?;
+            told.push('\n')?;
         }
-        Fault::Order(submission, reason) => push_reason(told, *submission, *reason),
+        Fault::Order(submission, reason) => push_reason(told, *submission, *reason)?,
     }
+    Ok(())
 }
 
 /// The lines of a verdict.
@@ -103,11 +201,12 @@ fn push_break(
 /// Where memory is refused.
 pub fn verdict_text(
     alloc: Global,
-    script: &[u8],
+    script: &Script,
+    source: &[u8],
     text: &[u8],
     states: u32,
     judgement: &Judgement,
-) -> Result<String, AllocError> {
+) -> Result<String, NoMemory> {
     let mut told = String::new(alloc);
     match judgement {
         Judgement::Legal(orders) => {
@@ -118,8 +217,8 @@ pub fn verdict_text(
         }
         Judgement::NotLegal(broken) => {
             told.push_str("not legal: ")?;
-            push_place(&mut told, script, broken)?;
-            push_break(alloc, &mut told, text, broken)?;
+            push_place(&mut told, source, broken)?;
+            push_break(alloc, &mut told, script, text, broken)?;
         }
         Judgement::Undecided(submission, doubt) => {
             write!(told, "undecided: submission {submission} ")?;

@@ -4,6 +4,8 @@ pub mod Writing
 pub mod Telling
 pub mod Reaching
 pub mod Hopeless
+pub mod Unpacking
+pub mod Unknown
 pub mod RequestClaims
 pub mod CellSteps
 pub mod Projected

@@ -2,9 +2,8 @@
 use Rattle.fx_judge.proofs.Words.{◌≡◌, ◌≢◌, inl, inr, ℕ, zero, suc, ◌+◌, ◌<◌, Bool, true, false, List, [], ◌∷◌, length, map, Option, Some, None, refl, same_lists}
 use Rattle.fx_judge.proofs.Words.{sym, ap, subst, ◌∙◌, arith, Contains, All, slice_index, slice_index_or, slice_set, if◌then◌else◌, length-map}
 use Rattle.fx_judge.proofs.Words.{get_or-set_other, All-contains, All-map, slice_get, option_and_then, by_equality, starting, Cell, Claim, At}
-use Rattle.fx_judge.proofs.Words.{Empty, File, Node, Strand, Standing, allows, cells_after, next, made, claim_at, Ends, IsEnd, is_test, view}
-use Rattle.fx_judge.proofs.Words.{views}
-use Rattle.fx_judge.specs.Machine.{HasNoEnd, LeadsInside, IsExplored}
+use Rattle.fx_judge.proofs.Words.{Empty, File, Packing, Strand, Standing, Vec, all_unpacked, allows, cells_after, next, made, claim_at, Ends, is_test, unpacked}
+use Rattle.fx_judge.specs.Machine.{HasNoEnd, IsExplored, IsLookedThrough, LeadsInside}
 
 -- an answer of two steps has one of the first, to which the second was applied
 pub both_steps : {A B : Type 0} (f : A → Option B) (o : Option A) (y : B) → option_and_then f o ≡ Some y → (x : A) × (o ≡ Some x) × (f x ≡ Some y)
@@ -83,16 +82,15 @@ test_first strands c claim (d ∷ order) at is test ends =
     refl
 
 -- from a list that was looked through no order of this length leads to an end
-none_of_length : (strands : List Strand) (standings : List Standing) → All (IsExplored strands standings) standings
-    → All (λ at. IsEnd strands at → ⊥) standings → (n : ℕ) (order : List ℕ) (at : Standing) → length order ≡ n → Contains standings at
+none_of_length : (strands : List Strand) (standings : List Standing) → All (IsLookedThrough strands standings) standings → (n : ℕ) (order : List ℕ) (at : Standing) → length order ≡ n → Contains standings at
     → Ends strands at order → ⊥
 unfolding IsExplored LeadsInside HasNoEnd
-none_of_length strands standings explored lacks n [] at few inside ends = All-contains (λ x. IsEnd strands x → ⊥) standings at lacks inside ends
-none_of_length strands standings explored lacks zero (c ∷ order) at few inside ends = absurd (omega arith)
-none_of_length strands standings explored lacks (suc n) (c ∷ order) at few inside ends =
-    elim (All-contains (IsExplored strands standings) standings at explored inside) [
+none_of_length strands standings looked n [] at few inside ends = (All-contains (IsLookedThrough strands standings) standings at looked inside).no_end ends
+none_of_length strands standings looked zero (c ∷ order) at few inside ends = absurd (omega arith)
+none_of_length strands standings looked (suc n) (c ∷ order) at few inside ends =
+    elim (All-contains (IsLookedThrough strands standings) standings at looked inside).explored [
       | inl leads ↦ elim (leads c ends.0 ends.1) [
-        | inl there ↦ none_of_length strands standings explored lacks n order ends.0 (omega arith) there ends.2
+        | inl there ↦ none_of_length strands standings looked n order ends.0 (omega arith) there ends.2
         | inr dead ↦ dead order ends.2
       ]
       | inr test ↦
@@ -102,17 +100,17 @@ none_of_length strands standings explored lacks (suc n) (c ∷ order) at few ins
           let mid_is : test.1.mid ≡ skipped at test.0 =
           sym made_is.1 ∙ ap (λ (l : List Cell). standing (slice_set at.places test.0 (slice_index at.places test.0 + 1)) l) (test_keeps at.cells test.1.claim test.1.test) in
           let fewer = less.2 in
-          none_of_length strands standings explored lacks n less.0 (skipped at test.0) (omega arith)
+          none_of_length strands standings looked n less.0 (skipped at test.0) (omega arith)
           (subst (λ (x : Standing). Contains standings x) mid_is test.1.inside) less.1
     ]
 
-pub never_reached : (strands : List Strand) (start : Standing) (nodes : List Node)
-    → All (λ node. IsExplored strands (views nodes) (view node)) nodes → Contains (views nodes) start
-    → All (λ node. IsEnd strands (view node) → ⊥) nodes → HasNoEnd strands start
+pub never_reached : (strands : List Strand) (start : Standing) (packing : Packing) (rows : List (Vec ℕ))
+    → All (λ row. IsLookedThrough strands (all_unpacked packing rows) (unpacked packing row.items)) rows → Contains (all_unpacked packing rows) start
+    → HasNoEnd strands start
 unfolding HasNoEnd
-never_reached strands start nodes explored begins lacks = λ order ends.
-    none_of_length strands (views nodes) (All-map (IsExplored strands (views nodes)) view nodes explored)
-    (All-map (λ (at : Standing). IsEnd strands at → ⊥) view nodes lacks) (length order) order start refl begins ends
+never_reached strands start packing rows looked begins = λ order ends.
+    none_of_length strands (all_unpacked packing rows)
+    (All-map (IsLookedThrough strands (all_unpacked packing rows)) (λ (row : Vec ℕ). unpacked packing row.items) rows looked) (length order) order start refl begins ends
 
 -- no claim was made
 pub started : (strands : List Strand) (cells : List Cell) (at : Standing) → length at.places ≡ length strands → All (λ place. place ≡ 0) at.places

@@ -45,6 +45,9 @@ module _ (old : RingState) (requests : List Asked) (told : Told) where
             (All-permutation (Contains told.closes.items) told.closes.items (removed_in (accesses_of one.order))
             (IsPermutation-sym (removed_in (accesses_of one.order)) told.closes.items one.is.closed.same_files)
             (All-contains_itself told.closes.items)) has;
+        all = λ file has. All-contains (Contains (removed_in (accesses_of one.order))) told.closes.items file
+            (All-permutation (Contains (removed_in (accesses_of one.order))) (removed_in (accesses_of one.order)) told.closes.items
+            one.is.closed.same_files (All-contains_itself (removed_in (accesses_of one.order)))) has;
         stay = λ slot file at. no_file_that_stays_is_closed old requests (told_report old told room) left ring one slot file
             (ap (λ (r : RingState). r.at slot) one.after ∙ at);
       })

@@ -21,9 +21,10 @@ pub use Rattle.fx_chain.specs.declared.request.Target.TheVariants.{Any, Slot}
 pub use Rattle.fx_judge.specs.Chains.{AreDone, TellsChains, TellsMember}
 pub use Rattle.fx_judge.specs.Claims.{AreClaims, Fits, IsLeft, IsPossible, IsResident, Possibly, Tells, Wanted, found_by, left_by, touched}
 pub use Rattle.fx_judge.specs.Dead.{IsHopeless, NoneHelps, may_find, no_help}
-pub use Rattle.fx_judge.specs.Machine.{Ends, HasNoEnd, IsEnd, IsExplored, Standing, StepLeadsInside, allows, cell_at, cell_with, cells_after}
-pub use Rattle.fx_judge.specs.Machine.{claim_at, is_same, is_staying, is_taken, is_test, made, may_leave, may_stay, next, suits, view, views}
+pub use Rattle.fx_judge.specs.Machine.{Ends, HasNoEnd, IsEnd, IsExplored, IsLookedThrough, Standing, StepLeadsInside, allows, cell_at, cell_with, cells_after}
+pub use Rattle.fx_judge.specs.Machine.{claim_at, is_same, is_staying, is_taken, is_test, made, may_leave, may_stay, next, suits, view}
 pub use Rattle.fx_judge.specs.Machine.{with_cell}
+pub use Rattle.fx_judge.specs.Packed.{all_unpacked, file_at, numbered_cells, unpacked}
 pub use Rattle.fx_judge.specs.Played.{HasNoOrder, IsCell, IsOutcome, IsPlayed, ShowsFile}
 pub use Rattle.fx_judge.specs.Starts.{starting}
 pub use Rattle.fx_judge.specs.Strands.{AreStrands, has_slot, keeps, seen, slot_of, strand_for}
@@ -38,6 +39,7 @@ pub use Rattle.fx_judge.specs.declared.claim.Resident.{Resident}
 pub use Rattle.fx_judge.specs.declared.claim.Wants.{Wants}
 pub use Rattle.fx_judge.specs.declared.claim.Wants.TheVariants.{Anything, Bytes, Nothing, NothingToTake, Something}
 pub use Rattle.fx_judge.specs.declared.node.Node.{Node}
+pub use Rattle.fx_judge.specs.declared.packed.Packing.{Packing}
 pub use Rattle.fx_judge.specs.declared.part.Outcome.{Outcome}
 pub use Rattle.fx_judge.specs.declared.part.Outcome.TheVariants.{Order, Unsettled}
 pub use Rattle.fx_judge.specs.declared.stop.Stop.{Stop}

@@ -4,5 +4,7 @@ pub mod Chains
 pub mod Machine
 pub mod Dead
 pub mod Starts
+pub mod Packed
 pub mod Strands
 pub mod Played
+pub mod Known

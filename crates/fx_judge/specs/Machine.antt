@@ -79,9 +79,6 @@ pub record Standing : Type 0 where
 abbrev pub view : Node → Standing
 view node = record { places = node.places.items; cells = node.cells.items }
 
-abbrev pub views : List Node → List Standing
-views nodes = map view nodes
-
 -- the claim that a chain makes next
 abbrev pub claim_at : List Strand → List ℕ → ℕ → Option Claim
 claim_at strands places c =
@@ -148,3 +145,9 @@ pub record TestLeadsInside (strands : List Strand) (standings : List Standing) (
 unfoldable pub IsExplored : List Strand → List Standing → Standing → Type 0
 IsExplored strands standings at =
     LeadsInside strands standings at ⊎ ((c : ℕ) × TestLeadsInside strands standings at c)
+
+-- no end, and each step from it was looked at
+pub record IsLookedThrough (strands : List Strand) (standings : List Standing) (at : Standing)
+    : Type 0 where
+  pub no_end : IsEnd strands at → ⊥
+  pub explored : IsExplored strands standings at

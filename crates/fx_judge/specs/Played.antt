@@ -27,14 +27,16 @@ pub record IsCell (table : Table) (closes : List Closed) (cell : Cell) : Type 0 
   pub range : IsTrue cell.in_range → IsInRange table cell.slot
   pub shows : ShowsFile closes (table.at cell.slot) cell.file
 
--- so many chains make these accesses; what they take from slots the closes have, and not what they
--- leave there
+-- so many chains make these accesses; the closes have what they take from slots, and no more, and
+-- not what they leave there
 pub record IsPlayed (table : Table) (closes : List Closed) (chains : ℕ) (order : List ChainAccess)
     : Type 0 where
   pub permitted : PermitsAll table (accesses_of order)
   pub within : All (λ x. (1 ≤ x.chain) × (x.chain ≤ chains)) order
   pub removed : (file : Identity) → Contains (removed_in (accesses_of order)) file
       → Contains closes file
+  pub all : (file : Identity) → Contains closes file
+      → Contains (removed_in (accesses_of order)) file
   pub stay : (slot : ℕ) (file : Identity)
       → (table_after table (accesses_of order)).at slot ≡ Some file → Contains closes file → ⊥
 

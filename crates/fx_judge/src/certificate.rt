@@ -1,27 +1,45 @@
 //! What a search hands over, looked through.
 ghost use Rattle.std.specs.Prelude.{◌≡◌, ◌↔◌, IfOk, IfSome, IsTrue, All, Contains, Some};
-ghost use Rattle.fx_judge.specs.Machine.{HasNoEnd, IsEnd, IsExplored, LeadsInside, StepLeadsInside, TestLeadsInside, view, views};
+ghost use Rattle.fx_judge.specs.Machine.{HasNoEnd, IsExplored, IsLookedThrough, LeadsInside, StepLeadsInside, TestLeadsInside, view};
+ghost use Rattle.fx_judge.specs.Packed.{all_unpacked, unpacked};
 ghost use Rattle.fx_judge.specs.Starts.{starting};
 
 use crate::cell::Cell;
-use crate::dead::is_dead;
+use crate::dead::is_dead_by;
 use crate::node::{Node, are_same, claim_of, is_test};
-use crate::search::{Web, slot_of_step, test_of};
+use crate::search::Rows;
+use crate::steps::Steps;
 use crate::strand::Strand;
 use fx_base::NoMemory;
 use std::alloc::Global;
 
+/// The states that a search met, and the steps that it went by. What those tell of a state is taken as a hint.
+#[derive(Drop)]
+pub(crate) struct Web<'a> {
+    pub steps: Steps<'a>,
+    pub rows: Rows,
+}
+
 // Whether a state has this number among the states.
-fn is_at(nodes: &[Node], number: Option<usize>, node: &Node) -> bool
-    ensures { IsTrue result → Contains (views nodes.now) (view node.now) }
+fn is_at(alloc: Global, web: &Web<'_>, number: Option<usize>, node: &Node) -> Result<bool, NoMemory>
+    ensures { IfOk result (λ yes. IsTrue yes
+        → Contains (all_unpacked web.now.steps.packing web.now.rows.keys) (view node.now)) }
 {
     let Some(number) = number else {
-        return false;
+        return Ok(false);
     };
-    match nodes.get(number) {
-        Some(there) => there.is_same(node),
-        None => false,
-    }
+    let Some(row) = web.rows.get_index(number) else {
+        return Ok(false);
+    };
+    let there = web.steps.packing.unpack(alloc, row)?;
+    Ok(there.is_same(node))
+}
+
+/// A state, as it is and packed.
+#[derive(Clone, Copy)]
+struct Here<'a> {
+    node: &'a Node,
+    row: &'a [u16],
 }
 
 // Whether the next claim of a chain leads to one of the states if it may be made, or to one that can be seen to lead to no
@@ -29,30 +47,40 @@ fn is_at(nodes: &[Node], number: Option<usize>, node: &Node) -> bool
 fn step_leads_inside(
     alloc: Global,
     strands: &[Strand],
-    web: &Web,
-    node: &Node,
+    web: &Web<'_>,
+    here: &Here<'_>,
     chain: usize,
 ) -> Result<bool, NoMemory>
-    ensures { IfOk result (λ yes. IsTrue yes
-        → StepLeadsInside strands.now (views web.now.nodes.items) (view node.now) chain) }
+    ensures { IfOk result (λ yes. IsTrue yes → StepLeadsInside strands.now
+        (all_unpacked web.now.steps.packing web.now.rows.keys) (view here.now.node.now) chain) }
 {
-    let Some(next) = node.next(alloc, strands, chain)? else {
+    let Some(next) = here.node.next(alloc, strands, chain)? else {
         return Ok(true);
     };
-    if is_at(&web.nodes, web.find(&next), &next) {
+    let row = web.steps.row_after(alloc, here.row, chain)?;
+    if is_at(alloc, web, web.rows.get_index_of(&row), &next)? {
         return Ok(true);
     }
-    Ok(is_dead(strands, &next, slot_of_step(strands, node, chain)))
+    Ok(is_dead_by(
+        strands,
+        &next,
+        web.steps.hopeless_behind(here.row, &row, chain),
+    ))
 }
 
 // Whether each step from a state leads to one of the states.
 #[tactic(auto, unfolding(crate::specs::Machine::LeadsInside))]
-fn leads_inside(alloc: Global, strands: &[Strand], web: &Web, node: &Node) -> Result<bool, NoMemory>
-    ensures { IfOk result (λ yes. IsTrue yes
-        → LeadsInside strands.now (views web.now.nodes.items) (view node.now)) }
+fn leads_inside(
+    alloc: Global,
+    strands: &[Strand],
+    web: &Web<'_>,
+    here: &Here<'_>,
+) -> Result<bool, NoMemory>
+    ensures { IfOk result (λ yes. IsTrue yes → LeadsInside strands.now
+        (all_unpacked web.now.steps.packing web.now.rows.keys) (view here.now.node.now)) }
 {
     for chain in 0..strands.len() {
-        if !step_leads_inside(alloc, strands, web, node, chain)? {
+        if !step_leads_inside(alloc, strands, web, here, chain)? {
             return Ok(false);
         }
     }
@@ -63,23 +91,24 @@ fn leads_inside(alloc: Global, strands: &[Strand], web: &Web, node: &Node) -> Re
 fn test_leads_inside(
     alloc: Global,
     strands: &[Strand],
-    web: &Web,
-    node: &Node,
+    web: &Web<'_>,
+    here: &Here<'_>,
     chain: usize,
 ) -> Result<bool, NoMemory>
-    ensures { IfOk result (λ yes. IsTrue yes
-        → TestLeadsInside strands.now (views web.now.nodes.items) (view node.now) chain) }
+    ensures { IfOk result (λ yes. IsTrue yes → TestLeadsInside strands.now
+        (all_unpacked web.now.steps.packing web.now.rows.keys) (view here.now.node.now) chain) }
 {
-    let Some(claim) = claim_of(strands, &node.places, chain) else {
+    let Some(claim) = claim_of(strands, &here.node.places, chain) else {
         return Ok(false);
     };
     if !is_test(claim) {
         return Ok(false);
     }
-    let Some(next) = node.next(alloc, strands, chain)? else {
+    let Some(next) = here.node.next(alloc, strands, chain)? else {
         return Ok(false);
     };
-    if !is_at(&web.nodes, web.find(&next), &next) {
+    let row = web.steps.row_after(alloc, here.row, chain)?;
+    if !is_at(alloc, web, web.rows.get_index_of(&row), &next)? {
         return Ok(false);
     }
     Ok(true)
@@ -87,39 +116,51 @@ fn test_leads_inside(
 
 // Whether a state was looked at: by one step that only tests, where there is one, and else by all steps.
 #[tactic(auto, unfolding(crate::specs::Machine::IsExplored))]
-fn is_explored(alloc: Global, strands: &[Strand], web: &Web, node: &Node) -> Result<bool, NoMemory>
-    ensures { IfOk result (λ yes. IsTrue yes
-        → IsExplored strands.now (views web.now.nodes.items) (view node.now)) }
+fn is_explored(
+    alloc: Global,
+    strands: &[Strand],
+    web: &Web<'_>,
+    here: &Here<'_>,
+) -> Result<bool, NoMemory>
+    ensures { IfOk result (λ yes. IsTrue yes → IsExplored strands.now
+        (all_unpacked web.now.steps.packing web.now.rows.keys) (view here.now.node.now)) }
 {
-    match test_of(strands, node) {
-        Some(chain) => test_leads_inside(alloc, strands, web, node, chain),
-        None => leads_inside(alloc, strands, web, node),
+    match web.steps.test_of(here.row) {
+        Some(chain) => test_leads_inside(alloc, strands, web, here, chain),
+        None => leads_inside(alloc, strands, web, here),
     }
 }
 
-// Whether each state was looked at.
-fn is_closed(alloc: Global, strands: &[Strand], web: &Web) -> Result<bool, NoMemory>
-    ensures { IfOk result (λ yes. IsTrue yes → All (λ node.
-        IsExplored strands.now (views web.now.nodes.items) (view node)) web.now.nodes.items) }
+// Whether a state is no end, and was looked at.
+fn is_looked_through(
+    alloc: Global,
+    strands: &[Strand],
+    web: &Web<'_>,
+    row: &[u16],
+) -> Result<bool, NoMemory>
+    ensures { IfOk result (λ yes. IsTrue yes → IsLookedThrough strands.now
+        (all_unpacked web.now.steps.packing web.now.rows.keys) (unpacked web.now.steps.packing row.now)) }
 {
-    for i in 0..web.nodes.len() {
-        if !is_explored(alloc, strands, web, &web.nodes[i])? {
+    let node = web.steps.packing.unpack(alloc, row)?;
+    if node.is_end(strands) {
+        return Ok(false);
+    }
+    is_explored(alloc, strands, web, &Here { node: &node, row })
+}
+
+// Whether each state is no end, and was looked at.
+fn is_closed(alloc: Global, strands: &[Strand], web: &Web<'_>) -> Result<bool, NoMemory>
+    ensures { IfOk result (λ yes. IsTrue yes → All (λ row. IsLookedThrough strands.now
+        (all_unpacked web.now.steps.packing web.now.rows.keys) (unpacked web.now.steps.packing row.items))
+        web.now.rows.keys) }
+{
+    let rows = web.rows.as_slice();
+    for row in rows {
+        if !is_looked_through(alloc, strands, web, row)? {
             return Ok(false);
         }
     }
     Ok(true)
-}
-
-// Whether none of the states is an end.
-fn has_no_end(strands: &[Strand], nodes: &[Node]) -> bool
-    ensures { IsTrue result → All (λ node. IsEnd strands.now (view node) → ⊥) nodes.now }
-{
-    for i in 0..nodes.len() {
-        if nodes[i].is_end(strands) {
-            return false;
-        }
-    }
-    true
 }
 
 // Whether no claim was made.
@@ -152,15 +193,16 @@ pub(crate) fn shows_no_end(
     alloc: Global,
     strands: &[Strand],
     cells: &[Cell],
-    web: &Web,
+    web: &Web<'_>,
 ) -> Result<bool, NoMemory>
     ensures { IfOk result (λ yes. IsTrue yes
         → HasNoEnd strands.now (starting strands.now cells.now)) }
 {
-    let Some(first) = web.nodes.first() else {
+    let Some(first) = web.rows.get_index(0) else {
         return Ok(false);
     };
-    if !is_start(strands, cells, first) || !has_no_end(strands, &web.nodes) {
+    let node = web.steps.packing.unpack(alloc, first)?;
+    if !is_start(strands, cells, &node) {
         return Ok(false);
     }
     is_closed(alloc, strands, web)

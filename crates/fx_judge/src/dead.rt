@@ -2,7 +2,6 @@
 ghost use Rattle.std.specs.Prelude.{◌≡◌, ℕ, ◌≤◌, IsTrue, Some, true, slice_get};
 ghost use Rattle.fx_judge.specs.Dead.{IsHopeless, NoneHelps, may_find, no_help};
 ghost use Rattle.fx_judge.specs.Machine.{HasNoEnd, view};
-ghost use Rattle.fx_judge.specs.Strands.{slot_of};
 ghost use Rattle.fx_judge.specs.declared.claim.Claim.{Claim as OneClaim};
 
 use crate::cell::{cell_at, may_leave, suits};
@@ -10,8 +9,8 @@ use crate::claim::{Claim, Leaves, Resident};
 use crate::node::{Node, place_of};
 use crate::strand::Strand;
 
-// Whether a claim may be made where this is at its slot.
-fn may_find(claim: &Claim, found: Option<Resident>) -> bool
+/// Whether a claim may be made where this is at its slot.
+pub(crate) fn may_find(claim: &Claim, found: Option<Resident>) -> bool
     ensures { result ≡ may_find claim.now found }
 {
     match claim {
@@ -22,8 +21,8 @@ fn may_find(claim: &Claim, found: Option<Resident>) -> bool
     }
 }
 
-// Whether another claim changes nothing at a slot, or leaves there what the claim may not be made with.
-fn is_no_help(slot: u32, claim: &Claim, other: &Claim) -> bool
+/// Whether another claim changes nothing at a slot, or leaves there what the claim may not be made with.
+pub(crate) fn is_no_help(slot: u32, claim: &Claim, other: &Claim) -> bool
     ensures { result ≡ no_help slot claim.now other.now }
 {
     match other {
@@ -72,40 +71,24 @@ fn is_hopeless(strands: &[Strand], node: &Node, slot: u32, claim: &Claim) -> boo
     !may_leave(found) || none_helps(strands, &node.places, slot, claim)
 }
 
-// Whether a claim is of a slot.
-fn is_of(claim: &Claim, slot: u32) -> bool
-    ensures { IsTrue result → slot_of claim.now ≡ Some slot }
-{
-    match claim {
-        Claim::At(at, _, _) => *at == slot,
-        Claim::Full => false,
-    }
-}
-
-// Whether a chain has a claim of a slot, still to be made, that is hopeless.
-fn waits_in_vain(strands: &[Strand], node: &Node, slot: u32, chain: usize) -> bool
+/// Whether the claim of a chain at a place is still to be made, and waits for a file that doesn't come.
+pub(crate) fn is_dead_by(strands: &[Strand], node: &Node, at: Option<(usize, usize)>) -> bool
     ensures { IsTrue result → HasNoEnd strands.now (view node.now) }
 {
+    let Some((chain, k)) = at else {
+        return false;
+    };
     let Some(strand) = strands.get(chain) else {
         return false;
     };
-    for k in place_of(&node.places, chain)..strand.claims.len() {
-        let claim = &strand.claims[k];
-        if is_of(claim, slot) && is_hopeless(strands, node, slot, claim) {
-            return true;
-        }
+    let Some(claim) = strand.claims.get(k) else {
+        return false;
+    };
+    let Claim::At(slot, _, _) = claim else {
+        return false;
+    };
+    if k < place_of(&node.places, chain) {
+        return false;
     }
-    false
-}
-
-/// Whether a claim of a slot that is still to be made waits for a file that doesn't come.
-pub(crate) fn is_dead(strands: &[Strand], node: &Node, slot: u32) -> bool
-    ensures { IsTrue result → HasNoEnd strands.now (view node.now) }
-{
-    for chain in 0..strands.len() {
-        if waits_in_vain(strands, node, slot, chain) {
-            return true;
-        }
-    }
-    false
+    is_hopeless(strands, node, *slot, claim)
 }

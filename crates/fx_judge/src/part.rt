@@ -4,12 +4,14 @@ ghost use Rattle.fx_order.specs.Slots.{table_of_slots};
 ghost use Rattle.fx_judge.specs.Played.{IsCell, IsOutcome};
 
 use crate::cell::{Cell, apply, cell_at};
-use crate::certificate::shows_no_end;
+use crate::certificate::{Web, shows_no_end};
 use crate::claim::{Claim, Leaves, Wants, resident_for};
 use crate::component::components;
 use crate::full::{is_range_empty, with_full};
+use crate::known::has_unknown;
 use crate::node::claim_of;
 use crate::search::{Found, explore};
+use crate::steps::Steps;
 use crate::strand::{Strand, strands_of};
 use crate::verdict::{Doubt, Reason};
 use fx_base::{Closed, NoMemory};
@@ -114,13 +116,15 @@ fn judge_part(
         table.now.chains.now) }
 {
     let strands = strands_of(alloc, cells, table.chains)?;
-    let (web, found) = explore(alloc, &strands, cells, states)?;
+    let steps = Steps::new(alloc, &strands, cells)?;
+    let (rows, found) = explore(alloc, &steps, states)?;
     match found {
         Found::Order(order) => {
             let accesses = accesses_along(alloc, &strands, cells, &order)?;
             Ok(Outcome::Order(accesses))
         }
         Found::NoEnd => {
+            let web = Web { steps, rows };
             if !shows_no_end(alloc, &strands, cells, &web)? {
                 return Ok(Outcome::Unsettled(Doubt::NotShown));
             }
@@ -205,6 +209,9 @@ pub(crate) fn judge_table(
     ensures { IfOk result (IsOutcome (table_of_slots table.now.slots.now) table.now.closes.now
         table.now.chains.now) }
 {
+    if has_unknown(table) {
+        return Ok(Outcome::Refuted(Reason::Closes));
+    }
     let outcome = judge_slots(alloc, table, states)?;
     match outcome {
         Outcome::Refuted(reason) => Ok(Outcome::Refuted(reason)),

@@ -4,12 +4,10 @@ mod calls;
 mod requests;
 mod rings;
 mod scripts;
-mod sizes;
 
 pub(crate) use calls::Calls;
-pub(crate) use requests::{chained_reads, in_chain, open_at, read, reads, update};
+pub(crate) use requests::{in_chain, open_at, read, reads, update};
 pub(crate) use rings::{
     PLAYERS, Players, TABLES, Table, end, registered_ring, ring_of_one_file, submit, try_submit,
 };
 pub(crate) use scripts::played;
-pub(crate) use sizes::sizes_to;

@@ -1,17 +1,12 @@
 //! Values that were worked out by hand, of calls that no script shows.
+use crate::setting::{Table, end, ring_of_one_file, submit};
 use bitflags::Flags;
-use fx_base::{AddFault, Catalogue, CloseList};
-use fx_baton::BatonTable;
-use fx_chain::{Op, OpenGate, Request, SqeFlags, Target, run_chain, target};
-use fx_plain::PlainTable;
-use fx_table::FileTable;
+use fx_base::{AddFault, Catalogue};
+use fx_chain::{Op, OpenGate, Request, SqeFlags, Target, target};
 use fx_words::{
     begin_amount, control_word, end_amount, entry_of, node_of, retire_amount, says_full, slot_word,
     takes_of,
 };
-use std::alloc::Global;
-use std::process::Abort;
-use std::sync::Wait;
 use std::test::Fail;
 
 #[test]
@@ -70,62 +65,33 @@ fn words_of_the_table_without_a_lock(rt: HostRuntime) {
     assert!(rt; !says_full(8_590_000_130, 2));
 }
 
-// What two closes of an empty slot answer as one chain, the first of them by these flags.
-fn two_closes<T: FileTable, R: Wait + Abort>(
-    rt: &R,
-    alloc: Global,
-    flags: SqeFlags,
-) -> Result<(i32, i32), Fail> {
-    let catalogue = Catalogue::new(alloc);
+// Of two closes of an empty slot the second one is started, since the first one has both flags.
+#[test]
+fn request_with_both_flags_is_a_hard_link(rt: HostRuntime) -> Result<(), Fail> {
+    let alloc = rt.alloc();
+    let mut ring = ring_of_one_file(alloc)?;
+    assert!(rt; ring.register_sparse(alloc, 1).is_ok());
     let requests = [
         Request {
             op: Op::Close { slot: 0 },
-            flags,
+            flags: SqeFlags::IO_LINK.union(SqeFlags::IO_HARDLINK),
         },
         Request {
             op: Op::Close { slot: 0 },
             flags: SqeFlags::from_bits_retain(0),
         },
     ];
-    let mut out = Vec::with_capacity(alloc, 2)?;
-    let Ok(mut closes) = CloseList::with_room(alloc, 2) else {
-        panic!(rt; "a list of closes")
-    };
-    let Ok(plain) = PlainTable::sparse(alloc, 1) else {
-        panic!(rt; "a table")
-    };
-    assert!(rt; plain.is_settled());
-    let (table, mut passes) = match T::open(alloc, plain, 1, 1) {
-        Ok(opened) => opened,
-        Err((plain, _)) => {
-            plain.abandon();
-            panic!(rt; "memory for a shared table")
-        }
-    };
-    let pass = &mut passes[0];
-    assert!(rt; table.is_idle(pass) && table.looks_left(pass) >= 2);
-    run_chain(
-        rt,
+    let report = submit(
+        &rt,
         alloc,
-        &table,
-        pass,
-        &catalogue,
-        1,
-        1,
+        &mut ring,
         &requests,
+        (Table::Baton, 1),
         &OpenGate,
-        &mut out,
-        &mut closes,
     );
-    table.close(passes).abandon();
-    assert!(rt; out.len() == 2);
-    Ok((out[0].res, out[1].res))
-}
-
-// The second one is started, since the first one has both flags.
-#[test]
-fn request_with_both_flags_is_a_hard_link(rt: HostRuntime) -> Result<(), Fail> {
-    let both = SqeFlags::IO_LINK.union(SqeFlags::IO_HARDLINK);
-    assert!(rt; two_closes::<BatonTable, _>(&rt, rt.alloc(), both)? == (-9, -9));
+    for completion in &report.completions {
+        assert!(rt; completion.res == -9);
+    }
+    end(&rt, alloc, ring);
     Ok(())
 }

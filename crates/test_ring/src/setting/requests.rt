@@ -46,12 +46,3 @@ pub fn reads(alloc: Global, count: u32) -> Result<Vec<Request>, AllocError> {
     }
     Ok(requests)
 }
-
-/// The same in chains of 16.
-pub fn chained_reads(alloc: Global, count: u32) -> Result<Vec<Request>, AllocError> {
-    let mut requests = Vec::new(alloc);
-    for at in 0..count {
-        requests.push(in_chain(read(0, 0, 5), at))?;
-    }
-    Ok(requests)
-}

@@ -125,8 +125,8 @@ returns-in-Broken c =
           (record { ring = ring; same = starts; prints = prints });
     }
 
-pub returns : goal.returns
-returns c = record {
+pub returns-in-Some-2 : goal.returns-in-Some-2
+returns-in-Some-2 c = record {
   none = λ is.
       let rest = drop c.loop-done.at c.args.text.now in
       let size = length-drop c.loop-done.at c.args.text.now in

@@ -1,5 +1,6 @@
-use Rattle.fx_judge.proofs.Words.{All, take, view, views, IsExplored}
+use Rattle.fx_judge.proofs.Words.{◌<◌, ℕ, Vec, slice_index_or, all_unpacked, unpacked, IsLookedThrough}
 use Rattle.fx_judge.proofs.certificate.is_closed.Given as goal
 
-abbrev pub invariant-loop-i : goal.invariant-loop-i
-invariant-loop-i l = All (λ node. IsExplored l.strands (views l.web.nodes.items) (view node)) (take l.i l.web.nodes.items)
+abbrev pub invariant-loop-row : goal.invariant-loop-row
+invariant-loop-row l = (k : ℕ) (d : Vec ℕ) → k < l.row-index
+    → IsLookedThrough l.strands (all_unpacked l.web.steps.packing l.web.rows.keys) (unpacked l.web.steps.packing (slice_index_or l.rows k d).items)

@@ -1,0 +1,256 @@
+//! What a request may answer, whatever the others answer (docs/MODEL.md, "What a request answers").
+use crate::case::Case;
+use crate::may_be::MayBe;
+use fx_base::{Errno, NoMemory};
+use fx_chain::{Completion, Op, Request, Target, is_bad_entry};
+use std::alloc::{AllocError, Global};
+
+/// How many answers, and how many bytes of a file, are shown.
+const SHOWN: usize = 16;
+
+/// An answer that a request may give.
+#[derive(Clone, Copy)]
+pub enum Answer {
+    /// This result.
+    Result(i32),
+    /// One of so many slots from this one on.
+    Slots(u32, u32),
+    /// The part that a read asks for, of a file of this catalogue entry.
+    Bytes(u8),
+}
+
+// Why an open doesn't come to the table, or doesn't where that has no such slot.
+fn open_refusal(case: &Case<'_>, name: &str, target: Target) -> Option<Errno> {
+    if case.catalogue.find(name).is_none() {
+        return Some(Errno::ENOENT);
+    }
+    match target {
+        Target::Any if case.size() == 0 => Some(Errno::ENFILE),
+        Target::Any => None,
+        Target::Slot(slot) => close_refusal(case, slot),
+    }
+}
+
+// Why a close, or an open at a slot, doesn't come to the table.
+fn close_refusal(case: &Case<'_>, slot: u32) -> Option<Errno> {
+    if case.size() == 0 {
+        Some(Errno::ENXIO)
+    } else if slot as usize >= case.size() {
+        Some(Errno::EINVAL)
+    } else {
+        None
+    }
+}
+
+// Why an update is refused.
+fn update_refusal(case: &Case<'_>, off: u32, list: &[i32]) -> Option<Errno> {
+    let end = list.len().saturating_add(off as usize);
+    if case.size() == 0 {
+        Some(Errno::ENXIO)
+    } else if list.is_empty() || end > case.size() {
+        Some(Errno::EINVAL)
+    } else if list
+        .iter()
+        .any(|number| is_bad_entry(case.catalogue.len(), *number))
+    {
+        Some(Errno::EBADF)
+    } else {
+        None
+    }
+}
+
+/// Why a request doesn't come to the table, and answers this error whatever is at the slots.
+pub fn refusal_of(case: &Case<'_>, request: &Request) -> Option<Errno> {
+    match &request.op {
+        Op::Open { name, target } => open_refusal(case, name.as_str(), *target),
+        Op::Read { slot, .. } if *slot as usize >= case.size() => Some(Errno::EBADF),
+        Op::Read { .. } => None,
+        Op::Close { slot } => close_refusal(case, *slot),
+        Op::Update { off, list } => update_refusal(case, *off, list.as_slice()),
+    }
+}
+
+// Puts what a read or a close of a slot may answer behind others, but for the slot's being empty.
+fn push_found(answers: &mut Vec<Answer>, op: &Op, may: &MayBe) -> Result<(), AllocError> {
+    if let Op::Read { .. } = op {
+        for entry in &may.entries {
+            answers.push(Answer::Bytes(*entry))?;
+        }
+    } else if !may.entries.is_empty() {
+        answers.push(Answer::Result(0))?;
+    }
+    if may.empty {
+        answers.push(Answer::Result(-Errno::EBADF.code()))?;
+    }
+    Ok(())
+}
+
+/// What a request may answer that isn't canceled.
+///
+/// # Errors
+/// Where memory is refused.
+pub fn answers_of(
+    alloc: Global,
+    case: &Case<'_>,
+    slots: &[MayBe],
+    request: &Request,
+) -> Result<Vec<Answer>, NoMemory> {
+    let mut answers = Vec::new(alloc);
+    if let Some(errno) = refusal_of(case, request) {
+        answers.push(Answer::Result(-errno.code()))?;
+        return Ok(answers);
+    }
+    match &request.op {
+        Op::Open {
+            target: Target::Slot(_),
+            ..
+        } => answers.push(Answer::Result(0))?,
+        Op::Open {
+            target: Target::Any,
+            ..
+        } => {
+            let (first, count) = case.ring.slots.range;
+            answers.push(Answer::Slots(first, count))?;
+            answers.push(Answer::Result(-Errno::ENFILE.code()))?;
+        }
+        Op::Read { slot, .. } | Op::Close { slot } => {
+            if let Some(may) = slots.get(*slot as usize) {
+                push_found(&mut answers, &request.op, may)?;
+            }
+        }
+        Op::Update { list, .. } => {
+            answers.push(Answer::Result(i32::try_from(list.len()).unwrap_or(i32::MAX)))?;
+        }
+    }
+    if let Op::Read { len: 1.., .. } = &request.op {
+        answers.push(Answer::Result(-Errno::ENOMEM.code()))?;
+    }
+    Ok(answers)
+}
+
+/// The bytes that a request reads of an entry: none where it is no read.
+///
+/// # Errors
+/// Where memory is refused.
+pub fn bytes_of(
+    alloc: Global,
+    case: &Case<'_>,
+    request: &Request,
+    entry: u8,
+) -> Result<Vec<u8>, NoMemory> {
+    let mut bytes = Vec::new(alloc);
+    if let Op::Read { off, len, .. } = &request.op {
+        bytes.reserve_exact(*len as usize)?;
+        case.catalogue.read_into(entry, *off, *len, &mut bytes);
+    }
+    Ok(bytes)
+}
+
+/// Whether a completion is one of some answers.
+///
+/// # Errors
+/// Where memory is refused.
+pub fn is_among(
+    alloc: Global,
+    case: &Case<'_>,
+    request: &Request,
+    completion: &Completion,
+    answers: &[Answer],
+) -> Result<bool, NoMemory> {
+    let Completion { res, got, .. } = completion;
+    for answer in answers {
+        let fits = match *answer {
+            Answer::Result(wanted) => *res == wanted && got.is_empty(),
+            Answer::Slots(first, count) => match u32::try_from(*res) {
+                Ok(slot) => first <= slot && slot.saturating_sub(first) < count && got.is_empty(),
+                Err(_) => false,
+            },
+            Answer::Bytes(entry) => {
+                let bytes = bytes_of(alloc, case, request, entry)?;
+                usize::try_from(*res).ok() == Some(bytes.len())
+                    && bytes.as_slice() == got.as_slice()
+            }
+        };
+        if fits {
+            return Ok(true);
+        }
+    }
+    Ok(false)
+}
+
+/// Puts the number of a read's bytes behind others, and the first of them.
+///
+/// # Errors
+/// Where memory is refused.
+pub fn push_bytes(told: &mut String, bytes: &[u8]) -> Result<(), AllocError> {
+    let count = bytes.len();
+    write!(told, "{count}")?;
+    if count > 0 {
+        told.push(' ')?;
+    }
+    for byte in bytes.iter().take(SHOWN) {
+        write!(told, "{byte:02x}")?;
+    }
+    if count > SHOWN {
+        told.push_str("..")?;
+    }
+    Ok(())
+}
+
+// Puts an answer behind others.
+fn push_answer(
+    alloc: Global,
+    told: &mut String,
+    case: &Case<'_>,
+    request: &Request,
+    answer: Answer,
+) -> Result<(), NoMemory> {
+    match answer {
+        Answer::Result(number) => write!(told, "{number}")?,
+        Answer::Slots(first, count) => {
+            let last = first.saturating_add(count).saturating_sub(1);
+            if first < last {
+                write!(told, "{first} to {last}")?;
+            } else {
+                write!(told, "{first}")?;
+            }
+        }
+        Answer::Bytes(entry) => {
+            let bytes = bytes_of(alloc, case, request, entry)?;
+            push_bytes(told, &bytes)?;
+            if (entry as u32) < case.catalogue.len() {
+                told.push_str(" of ")?;
+                told.push_str(case.catalogue.name_of(entry))?;
+            }
+        }
+    }
+    Ok(())
+}
+
+/// Puts the first of some answers behind others.
+///
+/// # Errors
+/// Where memory is refused.
+pub fn push_answers(
+    alloc: Global,
+    told: &mut String,
+    case: &Case<'_>,
+    request: &Request,
+    answers: &[Answer],
+) -> Result<(), NoMemory> {
+    for (i, answer) in answers.iter().enumerate() {
+        if i == SHOWN {
+            told.push_str(" or others")?;
+            break;
+        }
+        if i > 0 {
+            told.push_str(if i.saturating_add(1) == answers.len() {
+                " or "
+            } else {
+                ", "
+            })?;
+        }
+        push_answer(alloc, told, case, request, *answer)?;
+    }
+    Ok(())
+}

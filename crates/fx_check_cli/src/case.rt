@@ -1,0 +1,91 @@
+//! A submission that a text breaks at.
+use crate::lines::{behind, line_at};
+use fx_base::{Catalogue, NoMemory};
+use fx_chain::{Completion, Place, Request};
+use fx_judge::RingSlots;
+use fx_lines::read_report;
+use std::alloc::{AllocError, Global};
+
+/// A submission of which no request has a fault, and a text that hasn't its report.
+#[derive(Clone, Copy)]
+pub struct Case<'a> {
+    pub catalogue: &'a Catalogue,
+    /// The ring before the submission.
+    pub ring: &'a RingSlots,
+    pub requests: &'a [Request],
+    /// The text, from the first line on that should be the submission's.
+    pub text: &'a [u8],
+    /// Which line of the whole text that is, from 1.
+    pub line: usize,
+}
+
+impl<'a> Case<'a> {
+    /// Which of the accepted submissions it is, from 1.
+    pub fn number(&self) -> u32 {
+        self.ring.submissions.saturating_add(1)
+    }
+
+    /// The place of its first request.
+    pub fn first_place(&self) -> Place {
+        Place {
+            submission: self.number(),
+            chain: 1,
+            member: 1,
+        }
+    }
+
+    /// Which line of the whole text, from 1, is this one of the submission, from 0.
+    pub fn line_of(&self, at: usize) -> usize {
+        self.line.saturating_add(at)
+    }
+
+    /// How many slots the table has.
+    pub fn size(&self) -> usize {
+        self.ring.slots.at.len()
+    }
+
+    /// The completions that its first lines tell, up to one that tells none.
+    ///
+    /// # Errors
+    /// Where memory is refused.
+    pub fn completions(&self, alloc: Global) -> Result<Vec<Completion>, NoMemory> {
+        let mut completions = Vec::new(alloc);
+        let mut rest = self.text;
+        for _ in 0..self.requests.len() {
+            let line = line_at(rest, 0);
+            let Some((mut lines, _)) = read_report(alloc, line, 1)? else {
+                break;
+            };
+            if let Some(completion) = lines.completions.pop() {
+                completions.push(completion)?;
+            }
+            rest = behind(rest, line);
+        }
+        Ok(completions)
+    }
+}
+
+/// The place of the request behind one.
+pub fn next_place(place: Place, request: &Request) -> Place {
+    if request.links() {
+        Place {
+            member: place.member.saturating_add(1),
+            ..place
+        }
+    } else {
+        Place {
+            chain: place.chain.saturating_add(1),
+            member: 1,
+            ..place
+        }
+    }
+}
+
+/// Puts a place behind others, as a text has it.
+///
+/// # Errors
+/// Where memory is refused.
+pub fn push_place(told: &mut String, place: Place) -> Result<(), AllocError> {
+    let (submission, chain, member) = (place.submission, place.chain, place.member);
+    write!(told, "{submission}.{chain}.{member}")
+}

@@ -1,0 +1,46 @@
+//! What is wrong with the lines of a submission that come of no order.
+use crate::at_slot::no_order;
+use crate::case::Case;
+use crate::complaint::Complaint;
+use crate::counts::wrong_count;
+use crate::report::Report;
+use crate::wrong_answer::wrong_answer;
+use crate::wrong_close::wrong_close;
+use crate::wrong_place::wrong_place;
+use fx_base::NoMemory;
+use fx_judge::Reason;
+use std::alloc::Global;
+
+/// The first lines of a submission's that can't stand there, if they are found. A search may have found where.
+///
+/// # Errors
+/// Where memory is refused.
+pub fn complaint_of(
+    alloc: Global,
+    case: &Case<'_>,
+    reason: Option<Reason>,
+) -> Result<Option<Complaint>, NoMemory> {
+    let complaint = wrong_place(alloc, case)?;
+    if complaint.is_some() {
+        return Ok(complaint);
+    }
+    let completions = case.completions(alloc)?;
+    let complaint = wrong_answer(alloc, case, &completions)?;
+    if complaint.is_some() {
+        return Ok(complaint);
+    }
+    let mut report = Report::new(alloc, case, completions)?;
+    let complaint = wrong_close(alloc, case, &mut report)?;
+    if complaint.is_some() {
+        return Ok(complaint);
+    }
+    let complaint = wrong_count(alloc, case, &report)?;
+    if complaint.is_some() {
+        return Ok(complaint);
+    }
+    match reason {
+        Some(Reason::Slot(slot)) => no_order(alloc, case, &report, Some(slot)),
+        Some(Reason::Chains) => no_order(alloc, case, &report, None),
+        _ => Ok(None),
+    }
+}

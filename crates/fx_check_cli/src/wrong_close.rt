@@ -1,0 +1,195 @@
+//! Lines of closed files and of tags that can't stand behind a submission's completions.
+use crate::case::Case;
+use crate::complaint::Complaint;
+use crate::event::push_mark;
+use crate::lines::{behind, line_at, line_behind};
+use crate::report::{Installed, Report};
+use fx_base::{Mark, NoMemory};
+use fx_lines::{ClosedLine, read_report};
+use std::alloc::{AllocError, Global};
+
+// A text made of two parts.
+fn joined(alloc: Global, front: &str, back: &str) -> Result<String, AllocError> {
+    let mut text = String::new(alloc);
+    text.push_str(front)?;
+    text.push_str(back)?;
+    Ok(text)
+}
+
+// That a line should be another, for a reason that needs no more words.
+fn another(alloc: Global, at: usize, wanted: &str, why: &str) -> Result<Complaint, AllocError> {
+    Ok(Complaint::Line(at, joined(alloc, wanted, "")?, joined(alloc, why, "")?))
+}
+
+// That two lines contradict each other.
+fn two_lines(alloc: Global, one: usize, other: usize, why: &str) -> Result<Complaint, AllocError> {
+    let mut lines = Vec::new(alloc);
+    lines.push(one)?;
+    lines.push(other)?;
+    Ok(Complaint::Lines(lines, joined(alloc, why, "")?))
+}
+
+// Which of the files, from 0, has a mark; those from one on are looked at first.
+fn file_marked(files: &[Installed], from: usize, mark: Mark) -> Option<usize> {
+    let later = files.get(from..).unwrap_or(files);
+    if let Some(at) = later.iter().position(|it| it.file.mark == mark) {
+        return Some(at.saturating_add(files.len().saturating_sub(later.len())));
+    }
+    files.iter().position(|it| it.file.mark == mark)
+}
+
+// That a file was closed which wasn't there.
+fn unknown(alloc: Global, case: &Case<'_>, at: usize, mark: Mark) -> Result<Complaint, AllocError> {
+    let mut why = String::new(alloc);
+    match mark {
+        Mark::Submitted {
+            submission,
+            chain,
+            member,
+            entry,
+        } if submission == case.number() => {
+            write!(why, "{submission}.{chain}.{member} installed no file")?;
+            if entry > 0 {
+                write!(why, " by entry {entry} of a list")?;
+            }
+        }
+        _ => {
+            why.push_str("no slot had ")?;
+            push_mark(&mut why, mark)?;
+            why.push_str(" before the submission")?;
+        }
+    }
+    let wanted = joined(
+        alloc,
+        "a file that was at a slot, or that a request installed",
+        "",
+    )?;
+    Ok(Complaint::Line(at, wanted, why))
+}
+
+// That a closed file has another name.
+fn misnamed(alloc: Global, at: usize, mark: Mark, name: &str) -> Result<Complaint, AllocError> {
+    let mut wanted = joined(alloc, "closed ", "")?;
+    push_mark(&mut wanted, mark)?;
+    wanted.push(' ')?;
+    wanted.push_str(name)?;
+    Ok(Complaint::Line(at, wanted, joined(alloc, "the file has that name", "")?))
+}
+
+// What is wrong with a line of a closed file; it is then told closed.
+fn complaint_of(
+    alloc: Global,
+    case: &Case<'_>,
+    report: &mut Report,
+    at: usize,
+    line: &ClosedLine,
+) -> Result<Option<Complaint>, AllocError> {
+    let last = report.closes.last().copied();
+    let from = last.unwrap_or(0);
+    let Some(i) = file_marked(&report.files, from, line.mark) else {
+        return Ok(Some(unknown(alloc, case, at, line.mark)?));
+    };
+    let before = last.and_then(|nth| report.files.get(nth).copied());
+    let Some(known) = report.files.get_mut(i) else {
+        return Ok(None);
+    };
+    if (known.file.entry as u32) < case.catalogue.len() {
+        let name = case.catalogue.name_of(known.file.entry);
+        if name.as_bytes() != line.name.as_slice() {
+            return Ok(Some(misnamed(alloc, at, line.mark, name)?));
+        }
+    }
+    if let Some(earlier) = known.closed {
+        return Ok(Some(two_lines(alloc, earlier, at, "a file is closed once")?));
+    }
+    if let Some(before) = before {
+        if before.file.mark > line.mark {
+            let why = "closed files stand in order of their marks";
+            return Ok(Some(two_lines(alloc, at.saturating_sub(1), at, why)?));
+        }
+    }
+    known.closed = Some(at);
+    report.closes.push(i)?;
+    Ok(None)
+}
+
+// The line of a closed file that a text begins with.
+fn closed_in(alloc: Global, line: &[u8]) -> Result<Option<ClosedLine>, NoMemory> {
+    match read_report(alloc, line, 0)? {
+        Some((mut lines, _)) => Ok(lines.closed.pop()),
+        None => Ok(None),
+    }
+}
+
+// What is wrong behind the last closed file: a completion too many, or another tag.
+fn complaint_behind(
+    alloc: Global,
+    case: &Case<'_>,
+    report: &Report,
+    rest: &[u8],
+) -> Result<Option<Complaint>, NoMemory> {
+    let count = case.requests.len();
+    let mut at = count.saturating_add(report.closes.len());
+    let number = case.number();
+    let place = format!(in alloc; "{number}.")?;
+    if line_at(rest, 0).starts_with(place.as_bytes()) {
+        let why = format!(in alloc; "the submission has {count} requests, and this is one more")?;
+        let wanted = joined(alloc, "a closed file, or the next command's line", "")?;
+        return Ok(Some(Complaint::Line(at, wanted, why)));
+    }
+    let mut rest = rest;
+    for i in &report.closes {
+        let Some(Installed { file, closed, .. }) = report.files.get(*i).copied() else {
+            continue;
+        };
+        if file.tag == 0 {
+            continue;
+        }
+        let tag = file.tag;
+        let wanted = format!(in alloc; "tag {tag}\n")?;
+        if !rest.starts_with(wanted.as_bytes()) {
+            let line = case.line_of(closed.unwrap_or(0));
+            let why = format!(in alloc; "it is the tag of the file of line {line}")?;
+            return Ok(Some(Complaint::Line(at, format!(in alloc; "tag {tag}")?, why)));
+        }
+        rest = behind(rest, line_at(rest, 0));
+        at = at.saturating_add(1);
+    }
+    if rest.starts_with(b"tag ") || rest.starts_with(b"closed ") {
+        let why = "the closed files stand in front, and have no further tag";
+        return Ok(Some(another(alloc, at, "the next command's line", why)?));
+    }
+    Ok(None)
+}
+
+/// The first line behind a submission's completions that is wrong by itself, or with the one in front of it.
+///
+/// # Errors
+/// Where memory is refused.
+pub fn wrong_close(
+    alloc: Global,
+    case: &Case<'_>,
+    report: &mut Report,
+) -> Result<Option<Complaint>, NoMemory> {
+    let mut at = case.requests.len();
+    let mut rest = case
+        .text
+        .get(line_behind(case.text, 0, at)..)
+        .unwrap_or(b"");
+    for _ in 0..case.text.len() {
+        if !rest.starts_with(b"closed ") {
+            break;
+        }
+        let line = line_at(rest, 0);
+        let complaint = match closed_in(alloc, line)? {
+            Some(closed) => complaint_of(alloc, case, report, at, &closed)?,
+            None => Some(another(alloc, at, "closed, a mark and a name", "")?),
+        };
+        if complaint.is_some() {
+            return Ok(complaint);
+        }
+        rest = behind(rest, line);
+        at = at.saturating_add(1);
+    }
+    complaint_behind(alloc, case, report, rest)
+}

@@ -1,4 +1,0 @@
-use Rattle.test_tables.proofs.spent.look_all.Given as goal
-
-abbrev pub invariant-loop : goal.invariant-loop
-invariant-loop g l = g.T.FileTable.fits l.table l.pass
