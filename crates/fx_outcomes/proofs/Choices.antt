@@ -1,0 +1,214 @@
+-- What a request may do next, case by case.
+use Rattle.fx_order.proofs.Words.{◌≡◌, inl, inr, ℕ, ◌+◌, ◌==◌, nat_le, true, false, List, [], ◌∷◌, ◌++◌, length, sym, ap, subst, ◌∙◌, arith}
+use Rattle.fx_order.proofs.Words.{Option, Some, None, FileEntry, Closed, Reads, Closes, Place, Table, Permits}
+use Rattle.fx_order.proofs.Cases.{either_way}
+use Rattle.fx_order.specs.declared.access.Access.{Access}
+use Rattle.fx_order.specs.declared.access.Access.TheVariants.{Allocates, FindsFull, Looks, Puts, Takes}
+use Rattle.std.specs.Prelude.{Contains}
+use Rattle.fx_table.proofs.Members.{contains_head}
+use Rattle.fx_order.proofs.Words.{Slot, Any, installed, ◌<◌, by_equality, Contains-append_right}
+use Rattle.std.proofs.lemmas.List.Elements.{Contains-append_left}
+use Rattle.fx_outcomes.specs.Choices.{HasEach, HasEachOpen, IsEntryChoice}
+use Rattle.fx_order.proofs.Words.{zero, suc, ◌-◌, ◌||◌, nat_lt, ℤ, pos, negsuc, int_le, list_any, is_bad_entry, nat_tests, option_to_list}
+use Rattle.std.proofs.lemmas.Bool.{le-leb}
+use Rattle.fx_order.proofs.Words.{AreEntriesDone, IsEntryDone, IsOpenDone, Opens, Updates, Target, IsCatalogue, has_name, name_at}
+use Rattle.fx_order.specs.declared.access.Access.TheVariants.{Clears}
+
+never_empty : (front behind : List Access) (a : Access) → front ++ a ∷ behind ≡ [] → ⊥
+never_empty [] behind a is = cc
+never_empty (x ∷ front) behind a is = cc
+
+only_one : (front behind : List Access) (a x : Access) → front ++ a ∷ behind ≡ x ∷ [] → a ≡ x
+only_one [] behind a x is = cc
+only_one (y ∷ front) behind a x is = absurd (never_empty front behind a (rest is))
+  where
+    rest : {l m : List Access} {u v : Access} → u ∷ l ≡ v ∷ m → l ≡ m
+    rest e = cc
+
+listed : (a x : Access) → a ≡ x → Contains (x ∷ []) a
+listed a x is = subst (λ (y : Access). Contains (x ∷ []) y) (sym is) (contains_head x [])
+
+module _ (catalogue : List FileEntry) (table : Table) (place : Place) (made : ℕ) where
+  pub reads_each : (slot off len : ℕ) → HasEach catalogue table place (Reads slot off len) made (Looks slot (table.at slot) ∷ [])
+  reads_each slot off len a (front, behind, c, long, done, may) =
+      either_way (nat_le table.size slot) _ _ (Contains (Looks slot (table.at slot) ∷ []) a)
+      (λ _ x. absurd (never_empty front behind a x.0))
+      (λ _ x. elim x [
+        | inl y ↦ absurd (never_empty front behind a y.1.0)
+        | inr y ↦ elim y [
+          | inl z ↦ looked None (only_one front behind a (Looks slot None) z.0)
+          | inr z ↦ looked (Some z.0) (only_one front behind a (Looks slot (Some z.0)) z.1.0)
+        ]
+      ]) done
+    where
+      looked : (found : Option Closed) → a ≡ Looks slot found → Contains (Looks slot (table.at slot) ∷ []) a
+      looked found is =
+          let at : found ≡ table.at slot = (subst (Permits table) is may).1 in
+          listed a (Looks slot (table.at slot)) (is ∙ ap (λ (f : Option Closed). Looks slot f) at)
+
+  pub closes_each : (slot : ℕ) → HasEach catalogue table place (Closes slot) made (Takes slot (table.at slot) ∷ [])
+  closes_each slot a (front, behind, c, long, done, may) =
+      either_way (table.size == 0) _ _ (Contains (Takes slot (table.at slot) ∷ []) a)
+      (λ _ x. absurd (never_empty front behind a x.0))
+      (λ _. either_way (nat_le table.size slot) _ _ (Contains (Takes slot (table.at slot) ∷ []) a)
+      (λ _ x. absurd (never_empty front behind a x.0))
+      (λ _ x. elim x [
+        | inl y ↦ took None (only_one front behind a (Takes slot None) y.0)
+        | inr y ↦ took (Some y.0) (only_one front behind a (Takes slot (Some y.0)) y.1.0)
+      ])) done
+    where
+      took : (found : Option Closed) → a ≡ Takes slot found → Contains (Takes slot (table.at slot) ∷ []) a
+      took found is =
+          let at : found ≡ table.at slot = (subst (Permits table) is may).1 in
+          listed a (Takes slot (table.at slot)) (is ∙ ap (λ (f : Option Closed). Takes slot f) at)
+
+module _ (table : Table) (place : Place) (entry : ℕ) where
+  pub open_at_each : (slot : ℕ) → HasEachOpen table place entry (Slot slot) (Puts slot (installed place 0 entry) (table.at slot) ∷ [])
+  open_at_each slot a front behind c done may =
+      either_way (table.size == 0) _ _ (Contains (Puts slot (installed place 0 entry) (table.at slot) ∷ []) a)
+      (λ _ x. absurd (never_empty front behind a x.0))
+      (λ _. either_way (nat_le table.size slot) _ _ (Contains (Puts slot (installed place 0 entry) (table.at slot) ∷ []) a)
+      (λ _ x. absurd (never_empty front behind a x.0))
+      (λ _ x.
+      let is : a ≡ Puts slot (installed place 0 entry) x.0 = only_one front behind a _ x.1.0 in
+      let at : x.0 ≡ table.at slot = (subst (Permits table) is may).1 in
+      listed a _ (is ∙ ap (λ (f : Option Closed). Puts slot (installed place 0 entry) f) at))) done
+
+  pub open_any_each : (choices : List Access) → Contains choices FindsFull
+      → ((slot : ℕ) → slot < table.size → Contains choices (Allocates slot (installed place 0 entry))) → HasEachOpen table place entry Any choices
+  open_any_each choices full each a front behind c done may =
+      either_way (table.size == 0) _ _ (Contains choices a)
+      (λ _ x. absurd (never_empty front behind a x.0))
+      (λ _ x. elim x [
+        | inl y ↦
+            let is : a ≡ Allocates y.0 (installed place 0 entry) = only_one front behind a _ y.1.0 in
+            let inside : y.0 < table.size = (subst (Permits table) is may).0.0 in
+            subst (λ (b : Access). Contains choices b) (sym is) (each y.0 inside)
+        | inr y ↦ subst (λ (b : Access). Contains choices b) (sym (only_one front behind a FindsFull y.0)) full
+      ]) done
+
+-- one more slot in the list
+pub one_slot_more : (choices : List Access) (n : ℕ) (file : Closed) → Contains choices FindsFull
+    → ((k : ℕ) → k < n → Contains choices (Allocates k file))
+    → Contains (choices ++ Allocates n file ∷ []) FindsFull × ((k : ℕ) → k < n + 1 → Contains (choices ++ Allocates n file ∷ []) (Allocates k file))
+one_slot_more choices n file full each = (
+  Contains-append_left choices (Allocates n file ∷ []) FindsFull full,
+  λ k low. by_equality k n (λ _. Contains (choices ++ Allocates n file ∷ []) (Allocates k file))
+      (λ same. Contains-append_right choices (Allocates n file ∷ []) (Allocates k file)
+      (subst (λ (m : ℕ). Contains (Allocates m file ∷ []) (Allocates k file)) same (contains_head (Allocates k file) [])))
+      (λ other. Contains-append_left choices (Allocates n file ∷ []) (Allocates k file) (each k (omega (arith, low, other)))),
+)
+
+-- an entry that isn't a skip makes one access
+one_made : (place : Place) (in_list slot : ℕ) (entry : ℤ) (own : List Access) → int_le (negsuc 0) entry ≡ true → IsEntryDone place in_list slot entry own
+    → (x : Access) × (own ≡ x ∷ [])
+one_made place in_list slot (pos entry) own is x = (Puts slot (installed place in_list entry) x.0, x.1)
+one_made place in_list slot (negsuc zero) own is x = (Clears slot x.0, x.1)
+one_made place in_list slot (negsuc (suc n)) own is x =
+    let skip : int_le (negsuc 0) (negsuc (suc n)) ≡ false = grind (arith, nat_tests) in
+    let bad : true ≡ false = sym is ∙ skip in absurd (cc)
+
+-- a skip makes none
+none_made : (place : Place) (in_list slot : ℕ) (entry : ℤ) (own : List Access) → int_le (negsuc 0) entry ≡ false → IsEntryDone place in_list slot entry own
+    → own ≡ []
+none_made place in_list slot (pos entry) own is x = absurd (cc)
+none_made place in_list slot (negsuc zero) own is x = absurd (cc)
+none_made place in_list slot (negsuc (suc n)) own is x = x
+
+pub entry_none : (table : Table) (place : Place) (in_list slot made : ℕ) (choice : Option Access) → IsEntryChoice table place in_list slot [] made choice
+entry_none table place in_list slot made choice a front behind few done may = absurd (never_empty front behind a done)
+
+module _ (table : Table) (place : Place) (in_list slot : ℕ) (entry : ℤ) (list : List ℤ) where
+  pub entry_skip : (made : ℕ) (choice : Option Access) → int_le (negsuc 0) entry ≡ false
+      → IsEntryChoice table place (in_list + 1) (slot + 1) list made choice → IsEntryChoice table place in_list slot (entry ∷ list) made choice
+  entry_skip made choice is rest a front behind few done may =
+      let none = none_made place in_list slot entry done.0 is done.3 in
+      let same : front ++ a ∷ behind ≡ done.1 = done.2 ∙ ap (λ (l : List Access). l ++ done.1) none in
+      rest a front behind few (subst (AreEntriesDone place (in_list + 1) (slot + 1) list) (sym same) done.4) may
+
+  pub entry_past : (made : ℕ) (choice : Option Access) → int_le (negsuc 0) entry ≡ true → 0 < made
+      → IsEntryChoice table place (in_list + 1) (slot + 1) list (made - 1) choice → IsEntryChoice table place in_list slot (entry ∷ list) made choice
+  entry_past made choice is some rest a [] behind few done may = absurd (omega (arith, few, some))
+  entry_past made choice is some rest a (x ∷ front) behind few done may =
+      let one = one_made place in_list slot entry done.0 is done.3 in
+      let whole : x ∷ (front ++ a ∷ behind) ≡ one.0 ∷ done.1 = done.2 ∙ ap (λ (l : List Access). l ++ done.1) one.1 in
+      let same : front ++ a ∷ behind ≡ done.1 = cc in
+      rest a front behind (omega (arith, few, some)) (subst (AreEntriesDone place (in_list + 1) (slot + 1) list) (sym same) done.4) may
+
+  pub entry_here : (made : ℕ) (choice : Access) → int_le (negsuc 0) entry ≡ true → (0 < made → ⊥)
+      → ((a : Access) → IsEntryDone place in_list slot entry (a ∷ []) → Permits table a → choice ≡ a)
+      → IsEntryChoice table place in_list slot (entry ∷ list) made (Some choice)
+  entry_here made choice is none each a (x ∷ front) behind few done may = absurd (none (omega (arith, few)))
+  entry_here made choice is none each a [] behind few done may =
+      let one = one_made place in_list slot entry done.0 is done.3 in
+      let whole : a ∷ behind ≡ one.0 ∷ done.1 = done.2 ∙ ap (λ (l : List Access). l ++ done.1) one.1 in
+      let same : one.0 ≡ a = cc in
+      ap (λ (x : Access). Some x) (each a (subst (IsEntryDone place in_list slot entry) (one.1 ∙ ap (λ (x : Access). x ∷ []) same) done.3) may)
+
+-- what an entry of a kind makes
+pub puts_one : (table : Table) (place : Place) (in_list slot entry : ℕ) (z : ℤ) → z ≡ pos entry
+    → (a : Access) → IsEntryDone place in_list slot z (a ∷ []) → Permits table a → Puts slot (installed place in_list entry) (table.at slot) ≡ a
+puts_one table place in_list slot entry z is a done may =
+    let x = subst (λ (y : ℤ). IsEntryDone place in_list slot y (a ∷ [])) is done in
+    let made : a ≡ Puts slot (installed place in_list entry) x.0 = only_one [] [] a _ x.1 in
+    let at : x.0 ≡ table.at slot = (subst (Permits table) made may).1 in
+    ap (λ (f : Option Closed). Puts slot (installed place in_list entry) f) (sym at) ∙ sym made
+
+pub clears_one : (table : Table) (place : Place) (in_list slot : ℕ) (z : ℤ) → int_le (pos 0) z ≡ false
+    → (a : Access) → IsEntryDone place in_list slot z (a ∷ []) → Permits table a → Clears slot (table.at slot) ≡ a
+clears_one table place in_list slot (pos n) is a done may =
+    let e : true ≡ false = sym (le-leb 0 n (omega arith)) ∙ is in absurd (cc)
+clears_one table place in_list slot (negsuc zero) is a done may =
+    let made : a ≡ Clears slot done.0 = only_one [] [] a _ done.1 in
+    let at : done.0 ≡ table.at slot = (subst (Permits table) made may).1 in
+    ap (λ (f : Option Closed). Clears slot f) (sym at) ∙ sym made
+clears_one table place in_list slot (negsuc (suc n)) is a done may = absurd (never_empty [] [] a done)
+
+module _ (catalogue : List FileEntry) (table : Table) (place : Place) (made off : ℕ) (list : List ℤ) where
+  -- an update that is refused makes no access
+  pub update_past : (length list == 0 || nat_lt table.size (off + length list)) ≡ true → (choices : List Access)
+      → HasEach catalogue table place (Updates off list) made choices
+  update_past past choices a (front, behind, c, long, done, may) =
+      either_way (table.size == 0) _ _ (Contains choices a)
+      (λ _ x. absurd (never_empty front behind a x.0))
+      (λ _. either_way (length list == 0 || nat_lt table.size (off + length list)) _ _ (Contains choices a)
+      (λ _ x. absurd (never_empty front behind a x.0))
+      (λ inside _. let bad : true ≡ false = sym past ∙ inside in absurd (cc))) done
+
+  pub update_bad : list_any (is_bad_entry (length catalogue)) list ≡ true → (choices : List Access)
+      → HasEach catalogue table place (Updates off list) made choices
+  update_bad wrong choices a (front, behind, c, long, done, may) =
+      either_way (table.size == 0) _ _ (Contains choices a)
+      (λ _ x. absurd (never_empty front behind a x.0))
+      (λ _. either_way (length list == 0 || nat_lt table.size (off + length list)) _ _ (Contains choices a)
+      (λ _ x. absurd (never_empty front behind a x.0))
+      (λ _. either_way (list_any (is_bad_entry (length catalogue)) list) _ _ (Contains choices a)
+      (λ _ x. absurd (never_empty front behind a x.0))
+      (λ good _. let bad : true ≡ false = sym wrong ∙ good in absurd (cc)))) done
+
+  pub update_each : (choice : Option Access) → IsEntryChoice table place 0 off list made choice → (choices : List Access) → choices ≡ option_to_list choice
+      → HasEach catalogue table place (Updates off list) made choices
+  update_each choice is choices are a (front, behind, c, long, done, may) =
+      either_way (table.size == 0) _ _ (Contains choices a)
+      (λ _ x. absurd (never_empty front behind a x.0))
+      (λ _. either_way (length list == 0 || nat_lt table.size (off + length list)) _ _ (Contains choices a)
+      (λ _ x. absurd (never_empty front behind a x.0))
+      (λ _. either_way (list_any (is_bad_entry (length catalogue)) list) _ _ (Contains choices a)
+      (λ _ x. absurd (never_empty front behind a x.0))
+      (λ _ x. subst (λ (l : List Access). Contains l a) (ap option_to_list (sym (is a front behind long x.0 may)) ∙ sym are) (contains_head a [])))) done
+
+module _ (catalogue : List FileEntry) (table : Table) (place : Place) (made : ℕ) (name : List ℕ) (target : Target) where
+  -- an open of a name that no entry has
+  pub open_none : has_name name catalogue ≡ false → (choices : List Access) → HasEach catalogue table place (Opens name target) made choices
+  open_none unknown choices a (front, behind, c, long, done, may) =
+      either_way (has_name name catalogue) _ _ (Contains choices a)
+      (λ known _. let bad : true ≡ false = sym known ∙ unknown in absurd (cc))
+      (λ _ x. absurd (never_empty front behind a x.0)) done
+
+  -- an open of the entry that has the name
+  pub open_each : IsCatalogue catalogue → (entry : ℕ) → name_at catalogue entry ≡ Some name → (choices : List Access)
+      → HasEachOpen table place entry target choices → HasEach catalogue table place (Opens name target) made choices
+  open_each catalogued entry named choices each a (front, behind, c, long, done, may) =
+      either_way (has_name name catalogue) _ _ (Contains choices a)
+      (λ _ x. each a front behind c (subst (λ (n : ℕ). IsOpenDone table.size place n target (front ++ a ∷ behind) c) (catalogued.distinct x.0 entry name x.1 named) x.2) may)
+      (λ _ x. absurd (never_empty front behind a x.0)) done

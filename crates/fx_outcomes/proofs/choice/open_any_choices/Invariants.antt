@@ -1,0 +1,10 @@
+use Rattle.std.proofs.Common.{ℕ, ◌<◌}
+use Rattle.std.specs.Prelude.{Contains}
+use Rattle.fx_order.specs.declared.access.Access.TheVariants.{Allocates, FindsFull}
+use Rattle.fx_outcomes.proofs.choice.open_any_choices.Given as goal
+
+abbrev pub invariant-loop-slot : goal.invariant-loop-slot
+invariant-loop-slot l = record {
+  full : Contains l.choices.items FindsFull;
+  each : (k : ℕ) → k < l.slot → Contains l.choices.items (Allocates k l.file);
+}

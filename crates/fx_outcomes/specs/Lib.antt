@@ -1,0 +1,4 @@
+pub mod Answering
+pub mod Rests
+pub mod Nodes
+pub mod Choices
