@@ -10,8 +10,8 @@ TOO_LONG = ("heaviest_submission", "text_of_134_megabytes")
 LEGAL_SIZES = 14 - 2 - len(TOO_LONG) + sum(count for kind, count in KINDS.items() if kind not in ("fault_at", "unsubmitted_from"))
 # how many rows of parts there are
 PARTS = 3
-# so many states are too few for the part of two slots
-FEW_STATES = 16
+# so many states are too few for the part of two slots: an order of its ten accesses goes through eleven
+FEW_STATES = 10
 
 
 def sizes():
