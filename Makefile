@@ -2,8 +2,8 @@
 
 # The path of a script goes to the commands by the environment alone, so that it may have any characters.
 SCRIPT ?= examples/open_read_close.script
-export SCRIPT TEXT
-VARIABLES := SCRIPT TEXT CRATE CRATES
+export SCRIPT TEXT N
+VARIABLES := SCRIPT TEXT N CRATE CRATES
 
 ifeq ($(wildcard scripts/need-script),)
 $(error Call make in the folder of this Makefile: make -C '$(patsubst %/,%,$(dir $(abspath $(lastword $(MAKEFILE_LIST)))))')
@@ -14,7 +14,7 @@ $(error There is no variable $(filter-out $(VARIABLES),$(given)). There are $(VA
 endif
 
 .DEFAULT_GOAL := help
-.PHONY: help run try check pictures texts kernel prove test examples limits compare agree workers meetings
+.PHONY: help run try check litmus pictures texts kernel prove test examples limits compare agree workers meetings
 .PHONY: refused-growths steps mistakes checks break
 .PHONY: must-spend growths wrong-bodies layout bench bench-rust gate clean
 .NOTPARALLEL:
@@ -23,6 +23,7 @@ help:
 	@echo 'make run          builds the program at bin/fixfiles and plays examples/open_read_close.script'
 	@echo 'make run SCRIPT=path    plays another script'
 	@echo 'make check SCRIPT=name.script    says whether the rules allow name.text for the script, or TEXT=path'
+	@echo 'make litmus SCRIPT=path   lists the texts that the rules allow, and how often the kernel and fixfiles gave each in 1,000 plays, or N=number'
 	@echo 'make try          plays a script in about a minute, and proves nothing'
 	@echo 'make kernel       plays a script on the io_uring of this machine'
 	@echo 'make prove CRATE=name   checks one crate, and says in a few lines what of it is not proved'
@@ -57,6 +58,9 @@ try:
 
 check:
 	@scripts/run-check
+
+litmus:
+	@scripts/litmus
 
 prove:
 	@scripts/prove "$$CRATE"
