@@ -36,7 +36,8 @@ class Gate:
             return ""
 
     def has_proved(self, crate):
-        return f"\nrt: {crate} proved\n" in f"\n{self.said()}"
+        """Whether it has, in this run or in an earlier one on this machine."""
+        return bool(re.search(rf"^rt: {crate} (?:proved$|is kept:)", self.said(), re.MULTILINE))
 
     def has_ended(self):
         return bool(VERDICT.search(self.said()))
