@@ -32,7 +32,7 @@ This is a script:
     submit";
 
 /// Which table the workers share.
-#[derive(Clone, Copy, Debug, PartialEq, Eq)]
+#[derive(Clone, Copy)]
 pub enum Table {
     /// The one without a lock, of packed words.
     Words,
@@ -41,7 +41,7 @@ pub enum Table {
 }
 
 /// There is no table of this name.
-#[derive(Clone, Copy, Debug, PartialEq, Eq)]
+#[derive(Clone, Copy)]
 pub struct NoTable;
 
 impl FromStr for Table {
@@ -57,7 +57,7 @@ impl FromStr for Table {
 }
 
 /// How a script is played.
-#[derive(Clone, Copy, Debug, PartialEq, Eq)]
+#[derive(Clone, Copy)]
 pub struct Settings {
     /// How many workers play a submission, 1 to 16.
     pub workers: u32,
@@ -76,25 +76,31 @@ fn words(rt: &HostRuntime) -> Result<Vec<String>, Ending> {
     }
 }
 
-fn command<'a>(alloc: Global) -> Result<Command<'a>, AllocError> {
-    let workers = Arg::new(alloc, "workers")
+fn workers_argument<'a>(alloc: Global) -> Arg<'a> {
+    Arg::new(alloc, "workers")
         .long("workers")
         .value_name("N")
         .value_parser(value_parser!(u32).range(1..=16))
         .default_value("1")
-        .help("How many threads play a submission, 1 to 16");
-    let table = Arg::new(alloc, "table")
+        .help("How many threads play a submission, 1 to 16")
+}
+
+fn table_argument<'a>(alloc: Global) -> Arg<'a> {
+    Arg::new(alloc, "table")
         .long("table")
         .value_name("NAME")
         .value_parser(TABLES)
         .default_value("words")
-        .help("Which table they share: `words` has no lock, `baton` is guarded by one word");
+        .help("Which table they share: `words` has no lock, `baton` is guarded by one word")
+}
+
+fn command<'a>(alloc: Global) -> Result<Command<'a>, AllocError> {
     Command::new(alloc, "fixfiles")
         .about(ABOUT)
         .after_help(SCRIPTS)
         .override_usage("fixfiles [OPTIONS] < SCRIPT")
-        .arg(workers)?
-        .arg(table)
+        .arg(workers_argument(alloc))?
+        .arg(table_argument(alloc))
 }
 
 // The number of workers, which has a default and was seen to be in its range.

@@ -5,7 +5,7 @@ use std::alloc::AllocError;
 use std::io;
 
 /// Why the program ends without having played a script to its end (this project's own).
-#[derive(Debug, Drop)]
+#[derive(Drop)]
 pub enum Ending {
     /// Help was asked for, or the arguments are none that the program has.
     Arguments(Error),
