@@ -1,11 +1,10 @@
 //! One whole legal history of a script that gives a text.
-use crate::lines::{behind, line_at, without_end};
 use crate::submission::tell_submission;
 use crate::telling::Telling;
-use crate::wording::push_command;
 use fx_base::{Catalogue, Closed, Mark, NoMemory};
 use fx_chain::Request;
 use fx_check::Order;
+use fx_complaint::{behind, line_at, push_command, without_end};
 use fx_lines::read_report;
 use fx_order::Access;
 use fx_script::Command;

@@ -1,30 +1,15 @@
 //! The program `fixcheck`: says whether the rules allow a text for a script.
 #![tactic(auto)]
 
-mod answers;
 mod arguments;
-mod at_slot;
-mod case;
-mod complaint;
-mod counts;
 mod ending;
-mod event;
-mod explain;
 mod history;
 mod input;
-mod lines;
-mod may_be;
-mod report;
 mod state;
 mod submission;
 mod telling;
 mod unexpected;
 mod verdict;
-mod why;
-mod wording;
-mod wrong_answer;
-mod wrong_close;
-mod wrong_place;
 
 use arguments::{settings_in, words};
 use ending::Ending;

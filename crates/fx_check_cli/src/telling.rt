@@ -1,9 +1,8 @@
 //! The lines of a history: an event or an answer each, with the state behind it.
-use crate::event::{Event, events_of, push_event};
 use crate::state::State;
-use crate::wording::push_request;
 use fx_base::Catalogue;
 use fx_chain::{Completion, Request};
+use fx_complaint::{Event, events_of, push_event, push_request};
 use fx_order::Access;
 use std::alloc::{AllocError, Global};
 

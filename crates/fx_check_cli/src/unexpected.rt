@@ -1,9 +1,8 @@
 //! Why a line is wrong that stands behind what the commands in front may have printed, or that a call should print.
-use crate::event::push_mark;
-use crate::lines::{behind, line_at};
 use fx_base::{Mark, NoMemory};
 use fx_chain::check;
 use fx_check::Break;
+use fx_complaint::{behind, line_at, push_mark};
 use fx_lines::read_report;
 use fx_script::{Command, Script};
 use std::alloc::{AllocError, Global};

@@ -2,13 +2,13 @@
 ghost use Rattle.std.specs.Prelude.{◌≡◌};
 ghost use Rattle.fx_check_cli.specs.Status.{status};
 
-use crate::case::Case;
-use crate::complaint::Complaint;
-use crate::explain::complaint_of;
-use crate::lines::{first_difference, line_behind, line_number, line_of_command, shown_line};
 use crate::unexpected::why_of;
 use fx_base::NoMemory;
 use fx_check::{Break, Fault, Judgement, Order};
+use fx_complaint::{
+    Case, Complaint, Unordered, complaint_of, first_difference, line_behind, line_number,
+    line_of_command, shown_line,
+};
 use fx_judge::{Doubt, Reason};
 use fx_script::{Command, Script};
 use std::alloc::{AllocError, Global};
@@ -152,16 +152,18 @@ fn complaint_in(
     };
     let case = Case {
         catalogue: script.catalogue(),
-        ring: &broken.ring,
+        slots: &broken.ring.slots,
+        submissions: broken.ring.submissions,
         requests,
         text: text.get(broken.at..).unwrap_or(b""),
         line: line_number(text, broken.at),
     };
-    let reason = match &broken.fault {
-        Fault::Order(_, reason) => Some(*reason),
+    let unordered = match &broken.fault {
+        Fault::Order(_, Reason::Slot(slot)) => Some(Unordered::Slot(*slot)),
+        Fault::Order(_, Reason::Chains) => Some(Unordered::Chains),
         _ => None,
     };
-    complaint_of(alloc, &case, reason)
+    complaint_of(alloc, &case, unordered)
 }
 
 // Puts behind others why a text breaks.

@@ -99,7 +99,7 @@ impl Report {
     ) -> Result<Report, NoMemory> {
         let mut files = Vec::new(alloc);
         let mut slot = 0u32;
-        for file in &case.ring.slots.at {
+        for file in &case.slots.at {
             if let Some(file) = file {
                 files.push(Installed {
                     file: *file,

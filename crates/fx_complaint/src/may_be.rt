@@ -40,7 +40,7 @@ fn add_open(
     match target {
         Target::Slot(slot) => add(slots, slot, entry),
         Target::Any => {
-            let (first, count) = case.ring.slots.range;
+            let (first, count) = case.slots.range;
             for slot in first..first.saturating_add(count) {
                 add(slots, slot, entry)?;
             }
@@ -69,7 +69,7 @@ fn add_list(slots: &mut [MayBe], off: u32, list: &[i32]) -> Result<(), AllocErro
 /// Where memory is refused.
 pub fn may_be_at(alloc: Global, case: &Case<'_>) -> Result<Vec<MayBe>, NoMemory> {
     let mut slots = Vec::new(alloc);
-    for file in &case.ring.slots.at {
+    for file in &case.slots.at {
         let mut entries = Vec::new(alloc);
         if let Some(file) = file {
             entries.push(file.entry)?;

@@ -109,7 +109,7 @@ pub fn answers_of(
             target: Target::Any,
             ..
         } => {
-            let (first, count) = case.ring.slots.range;
+            let (first, count) = case.slots.range;
             answers.push(Answer::Slots(first, count))?;
             answers.push(Answer::Result(-Errno::ENFILE.code()))?;
         }

@@ -1,7 +1,7 @@
 //! Requests and commands, in the words of a script.
 use bitflags::Flags;
 use fx_chain::{Op, Request, SqeFlags, Target};
-use fx_script::Command;
+use fx_language::Command;
 use std::alloc::AllocError;
 use std::fmt::Display;
 

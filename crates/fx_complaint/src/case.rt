@@ -2,16 +2,20 @@
 use crate::lines::{behind, line_at};
 use fx_base::{Catalogue, NoMemory};
 use fx_chain::{Completion, Place, Request};
-use fx_judge::RingSlots;
 use fx_lines::read_report;
+use fx_order::Slots;
 use std::alloc::{AllocError, Global};
 
 /// A submission of which no request has a fault, and a text that hasn't its report.
 #[derive(Clone, Copy)]
 pub struct Case<'a> {
+    /// The files that may be opened.
     pub catalogue: &'a Catalogue,
-    /// The ring before the submission.
-    pub ring: &'a RingSlots,
+    /// What stands at the slots before the submission.
+    pub slots: &'a Slots,
+    /// How many submissions were accepted before it.
+    pub submissions: u32,
+    /// Its requests.
     pub requests: &'a [Request],
     /// The text, from the first line on that should be the submission's.
     pub text: &'a [u8],
@@ -22,7 +26,7 @@ pub struct Case<'a> {
 impl<'a> Case<'a> {
     /// Which of the accepted submissions it is, from 1.
     pub fn number(&self) -> u32 {
-        self.ring.submissions.saturating_add(1)
+        self.submissions.saturating_add(1)
     }
 
     /// The place of its first request.
@@ -41,7 +45,7 @@ impl<'a> Case<'a> {
 
     /// How many slots the table has.
     pub fn size(&self) -> usize {
-        self.ring.slots.at.len()
+        self.slots.at.len()
     }
 
     /// The completions that its first lines tell, up to one that tells none.

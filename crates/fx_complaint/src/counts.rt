@@ -241,7 +241,7 @@ fn complaint_of(
         )?;
         return Ok(Some(Complaint::Lines(lines, why)));
     }
-    let before = case.ring.slots.at.get(slot).copied().flatten();
+    let before = case.slots.at.get(slot).copied().flatten();
     if before.is_some() {
         return never_empty(alloc, case, report, slot);
     }

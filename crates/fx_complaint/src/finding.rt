@@ -8,17 +8,25 @@ use crate::wrong_answer::wrong_answer;
 use crate::wrong_close::wrong_close;
 use crate::wrong_place::wrong_place;
 use fx_base::NoMemory;
-use fx_judge::Reason;
 use std::alloc::Global;
 
-/// The first lines of a submission's that can't stand there, if they are found. A search may have found where.
+/// What a search found to have no order.
+#[derive(Clone, Copy)]
+pub enum Unordered {
+    /// What was done at this slot.
+    Slot(u32),
+    /// What the chains did.
+    Chains,
+}
+
+/// The first lines of a submission's that can't stand there, if they are found. A search may have found what has no order.
 ///
 /// # Errors
 /// Where memory is refused.
 pub fn complaint_of(
     alloc: Global,
     case: &Case<'_>,
-    reason: Option<Reason>,
+    unordered: Option<Unordered>,
 ) -> Result<Option<Complaint>, NoMemory> {
     let complaint = wrong_place(alloc, case)?;
     if complaint.is_some() {
@@ -38,9 +46,9 @@ pub fn complaint_of(
     if complaint.is_some() {
         return Ok(complaint);
     }
-    match reason {
-        Some(Reason::Slot(slot)) => no_order(alloc, case, &report, Some(slot)),
-        Some(Reason::Chains) => no_order(alloc, case, &report, None),
-        _ => Ok(None),
+    match unordered {
+        Some(Unordered::Slot(slot)) => no_order(alloc, case, &report, Some(slot)),
+        Some(Unordered::Chains) => no_order(alloc, case, &report, None),
+        None => Ok(None),
     }
 }
