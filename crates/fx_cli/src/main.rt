@@ -1,29 +1,32 @@
 //! The program `fixfiles`: reads a script from standard input and plays it.
 #![tactic(auto)]
 
-mod arguments;
-mod ending;
-
-use arguments::{Settings, Table, asked_settings};
-use ending::Ending;
+use fx_arguments::{Settings, Table, asked_settings};
 use fx_baton::BatonTable;
 use fx_chain::OpenGate;
 use fx_counted::CountedTable;
-use fx_script::run;
+use fx_script::{PlayFault, run};
 use std::io;
 use std::process::ExitCode;
 
-// How the program ends that could not play a script to its end.
-fn ended(rt: &HostRuntime, ending: Ending) -> ExitCode {
-    // What can't be told changes nothing.
-    let _ = ending.tell(rt);
-    ExitCode::from(ending.status())
+// The status behind a run that did not come to its end: 3 for what is no script, 4 for a failed read or write, 5 where there was no
+// memory.
+fn status_of(fault: PlayFault) -> u8 {
+    match fault {
+        PlayFault::Script { .. } => 3,
+        PlayFault::Read | PlayFault::Write => 4,
+        PlayFault::NoMemory => 5,
+    }
 }
 
 fn main(rt: HostRuntime) -> ExitCode {
     let Settings { workers, table } = match asked_settings(&rt) {
         Ok(settings) => settings,
-        Err(ending) => return ended(&rt, ending),
+        Err(refusal) => {
+            // What can't be told changes nothing.
+            let _ = refusal.tell(&rt);
+            return ExitCode::from(refusal.status());
+        }
     };
     let (alloc, gate) = (rt.alloc(), &OpenGate);
     let (input, output) = (&mut rt.reader(), &mut io::writer(&rt));
@@ -33,6 +36,10 @@ fn main(rt: HostRuntime) -> ExitCode {
     };
     match played {
         Ok(()) => ExitCode::SUCCESS,
-        Err(fault) => ended(&rt, Ending::Run(fault)),
+        Err(fault) => {
+            // What can't be told changes nothing.
+            let _ = eprintln!(&rt; "fixfiles: {fault}");
+            ExitCode::from(status_of(fault))
+        }
     }
 }

@@ -1,10 +1,9 @@
-//! The arguments of the program.
+//! How the words of a command line ask for a script to be played.
 ghost use Rattle.std.specs.Prelude.{◌≤◌, IfOk};
 ghost use Rattle.fx_table.specs.declared.limits.TheConstants.{MAX_PASSES};
 
-use crate::ending::Ending;
+use crate::refusal::Refusal;
 use clap::{Arg, ArgMatches, Command, Error, value_parser};
-use fx_script::PlayFault;
 use std::alloc::{AllocError, Global};
 use std::convert::AsStr;
 use std::env;
@@ -66,13 +65,11 @@ pub struct Settings {
 }
 
 // The words of the command line, the program's name first.
-fn words(rt: &HostRuntime) -> Result<Vec<String>, Ending> {
+fn words(rt: &HostRuntime) -> Result<Vec<String>, Refusal> {
     match env::args(rt) {
         Ok(args) => Ok(args.collect(rt.alloc())?),
-        Err(error) if error.kind() == ErrorKind::OutOfMemory => {
-            Err(Ending::Run(PlayFault::NoMemory))
-        }
-        Err(_) => Err(Ending::NoText),
+        Err(error) if error.kind() == ErrorKind::OutOfMemory => Err(Refusal::NoMemory),
+        Err(_) => Err(Refusal::NoText),
     }
 }
 
@@ -131,7 +128,7 @@ pub fn settings_in<S: AsStr>(alloc: Global, words: &[S]) -> Result<Settings, Err
 ///
 /// # Errors
 /// Why no script is played, help included.
-pub fn asked_settings(rt: &HostRuntime) -> Result<Settings, Ending>
+pub fn asked_settings(rt: &HostRuntime) -> Result<Settings, Refusal>
     ensures { IfOk result (λ asked. (1 ≤ asked.workers) × (asked.workers ≤ MAX_PASSES)) }
 {
     let words = words(rt)?;
