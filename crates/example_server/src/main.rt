@@ -1,0 +1,72 @@
+//! A server over the lock-free table: requests come in through a bounded queue, and four threads serve them, each by a pass of its own.
+//! When a table has given out all its numbers for new files, it is closed and opened again.
+#![tactic(auto)]
+
+ghost use Rattle.std.specs.Prelude.{◌≡◌, IfOk, length};
+
+mod desk;
+mod fault;
+mod feed;
+mod rounds;
+mod serve;
+
+use crossbeam_channel::{Sender, bounded};
+use crossbeam_queue::ArrayQueue;
+use desk::{Desk, Job};
+use fault::Fault;
+use feed::feed;
+use fx_base::{AddFault, Catalogue, NoMemory};
+use fx_counted::CountedTable;
+use rounds::{PASSES, serve_all};
+use std::alloc::Global;
+use std::sync::Wait;
+use std::thread::{Threads, join_mut};
+
+// How many requests wait in the queue at most.
+const WAITING: usize = 64;
+
+// Two files that are opened in turn.
+fn two_files(alloc: Global) -> Result<Catalogue, AddFault>
+    ensures { IfOk result (λ catalogue. length catalogue ≡ 2) }
+{
+    let mut catalogue = Catalogue::new(alloc);
+    let first = String::from_str(alloc, "first.txt")?;
+    catalogue.add(first, b"hello".to_vec(alloc)?)?;
+    let second = String::from_str(alloc, "second.txt")?;
+    catalogue.add(second, b"world".to_vec(alloc)?)?;
+    Ok(catalogue)
+}
+
+// The clients ask, and the server answers beside them. How often the table was opened.
+fn serve_clients<R: Threads + Wait + Sync>(
+    rt: &R,
+    alloc: Global,
+    desk: &Desk<'_>,
+    clients: &mut Option<Sender<Job>>,
+) -> Result<u32, NoMemory> {
+    let ((), openings) = join_mut(
+        rt,
+        &mut || feed(rt, clients),
+        &mut || { serve_all::<CountedTable, _>(rt, alloc, desk) },
+    );
+    openings
+}
+
+fn main(rt: HostRuntime) -> Result<(), Fault> {
+    let alloc = rt.alloc();
+    let catalogue = two_files(alloc)?;
+    let (sender, receiver) = bounded(alloc, WAITING)?;
+    let put_aside = ArrayQueue::new(alloc, PASSES as usize)?;
+    let desk = Desk::new(&catalogue, receiver, put_aside);
+    let mut clients = Some(sender);
+    let openings = serve_clients(&rt, alloc, &desk, &mut clients)?;
+    // A line that can't be written changes nothing.
+    let _ = println!(&rt; "requests served: {}", desk.served());
+    let _ = println!(&rt; "openings of the table: {openings}");
+    let _ = println!(&rt;
+        "files closed: {}, and told by their tags: {}",
+        desk.closed(),
+        desk.told()
+    );
+    Ok(())
+}

@@ -1,0 +1,142 @@
+//! What a thread of the server does with its pass.
+ghost use Rattle.fx_table.specs.Pass.{IsIdle};
+
+use crate::desk::{Desk, Job};
+use fx_base::{CloseList, Mark, OpenFile};
+use fx_table::{FileTable, LookFault};
+use std::alloc::Global;
+use std::sync::Wait;
+
+// For how many closed files a thread has room before it tells their tags.
+const ROOM: u32 = 64;
+
+// How many bytes a client reads.
+const LENGTH: u32 = 5;
+
+/// What came of a request.
+enum Outcome {
+    /// It was answered, and this file is to be closed by whoever served it.
+    Answered(Option<OpenFile>),
+    /// The pass has no number for a new file any more, or no look-up.
+    WornOut,
+}
+
+// Reads the first bytes of the file at a slot. Its last user gets it to be closed.
+fn read<T: FileTable, R: Wait>(
+    rt: &R,
+    alloc: Global,
+    desk: &Desk<'_>,
+    table: &T,
+    pass: &mut T::Pass,
+    slot: u32,
+) -> Outcome
+    requires ready { T.fits table.now pass.old × IsIdle (T.view pass.old) }
+    ensures ready { T.fits table.now pass.new × IsIdle (T.view pass.new) }
+{
+    // Memory first: once the file is held, it has to be released on each path.
+    let Ok(mut bytes) = Vec::with_capacity(alloc, LENGTH as usize) else {
+        return Outcome::Answered(None);
+    };
+    if slot >= table.size() {
+        return Outcome::Answered(None);
+    }
+    match table.look(rt, pass, slot) {
+        Ok(hold) => {
+            desk.catalogue.read_into(hold.entry, 0, LENGTH, &mut bytes);
+            Outcome::Answered(table.release(rt, pass, hold))
+        }
+        Err(LookFault::Empty) => Outcome::Answered(None),
+        Err(LookFault::Spent) => Outcome::WornOut,
+    }
+}
+
+// Puts a file at a slot. The file that was there is to be closed here, if nobody reads it any more.
+fn replace<T: FileTable, R: Wait>(
+    rt: &R,
+    desk: &Desk<'_>,
+    table: &T,
+    pass: &mut T::Pass,
+    slot: u32,
+    entry: u8,
+    tag: u64,
+) -> Outcome
+    requires ready { T.fits table.now pass.old × IsIdle (T.view pass.old) }
+    ensures ready { T.fits table.now pass.new × IsIdle (T.view pass.new) }
+{
+    if slot >= table.size() || entry as u32 >= desk.catalogue.len() {
+        return Outcome::Answered(None);
+    }
+    if table.numbers_left(pass) == 0 && table.draw(pass).is_none() {
+        return Outcome::WornOut;
+    }
+    if table.numbers_left(pass) == 0 {
+        return Outcome::WornOut;
+    }
+    let file = desk
+        .catalogue
+        .open(entry, Mark::Registered { k: 1, i: slot }, tag);
+    match table.put(rt, pass, slot, file) {
+        Some(removed) => Outcome::Answered(table.retire(rt, pass, removed)),
+        None => Outcome::Answered(None),
+    }
+}
+
+// Does what a client asks for.
+fn answer<T: FileTable, R: Wait>(
+    rt: &R,
+    alloc: Global,
+    desk: &Desk<'_>,
+    table: &T,
+    pass: &mut T::Pass,
+    job: Job,
+) -> Outcome
+    requires ready { T.fits table.now pass.old × IsIdle (T.view pass.old) }
+    ensures ready { T.fits table.now pass.new × IsIdle (T.view pass.new) }
+{
+    match job {
+        Job::Read { slot } => read(rt, alloc, desk, table, pass, slot),
+        Job::Replace { slot, entry, tag } => replace(rt, desk, table, pass, slot, entry, tag),
+    }
+}
+
+/// Serves requests until there are none any more, or one finds the pass worn out: that one is put aside. The thread closes what its
+/// own requests hand out, into a list of its own.
+pub fn serve<T: FileTable, R: Wait>(
+    rt: &R,
+    alloc: Global,
+    desk: &Desk<'_>,
+    table: &T,
+    pass: &mut T::Pass,
+)
+    requires ready { T.fits table.now pass.old × IsIdle (T.view pass.old) }
+    ensures ready { T.fits table.now pass.new × IsIdle (T.view pass.new) }
+{
+    let Ok(mut closes) = CloseList::with_room(alloc, ROOM) else {
+        return;
+    };
+    for _ in rt.forever() {
+        if closes.room() == 0 {
+            desk.tell(&closes);
+            let Ok(empty) = CloseList::with_room(alloc, ROOM) else {
+                return;
+            };
+            closes = empty;
+        }
+        let Some(job) = desk.next(rt) else {
+            break;
+        };
+        match answer(rt, alloc, desk, table, pass, job) {
+            Outcome::Answered(file) => {
+                desk.count_served();
+                if let Some(file) = file {
+                    closes.close(file);
+                }
+            }
+            Outcome::WornOut => {
+                desk.put_aside(rt, job);
+                break;
+            }
+        }
+    }
+    desk.tell(&closes);
+}
