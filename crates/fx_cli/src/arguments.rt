@@ -17,7 +17,7 @@ const ABOUT: &str =
 
 const TABLES: &[&str] = &["words", "baton"];
 
-const SCRIPTS: &str = "\
+const SCRIPTS_AND_STATUSES: &str = "\
 A script has a command on each line. `file` lines name files and their bytes; `sparse` and
 `register` make a table; `open`, `read`, `close` and `update` are requests, and the next
 `submit` submits them. A request that ends in `link` must succeed before the next one starts;
@@ -29,7 +29,14 @@ This is a script:
     open a.txt at 0 link
     read 0 0 5 link
     close 0
-    submit";
+    submit
+
+Exit status:
+  0  the script was played and all its text written, or help was asked for
+  2  an argument is wrong
+  3  the script has a fault, whose line and name are told
+  4  the script couldn't be read, or the text couldn't be written
+  5  memory was refused";
 
 /// Which table the workers share.
 #[derive(Clone, Copy, Debug, PartialEq, Eq)]
@@ -91,7 +98,7 @@ fn command<'a>(alloc: Global) -> Result<Command<'a>, AllocError> {
         .help("Which table they share: `words` has no lock, `baton` is guarded by one word");
     Command::new(alloc, "fixfiles")
         .about(ABOUT)
-        .after_help(SCRIPTS)
+        .after_help(SCRIPTS_AND_STATUSES)
         .override_usage("fixfiles [OPTIONS] < SCRIPT")
         .arg(workers)?
         .arg(table)
