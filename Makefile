@@ -2,8 +2,9 @@
 
 # The path of a script goes to the commands by the environment alone, so that it may have any characters.
 SCRIPT ?= examples/open_read_close.script
-export SCRIPT TEXT N
-VARIABLES := SCRIPT TEXT N CRATE CRATES
+PREFIX ?= /usr/local
+export SCRIPT TEXT N PREFIX DESTDIR
+VARIABLES := SCRIPT TEXT N CRATE CRATES PREFIX DESTDIR
 
 ifeq ($(wildcard scripts/need-script),)
 $(error Call make in the folder of this Makefile: make -C '$(patsubst %/,%,$(dir $(abspath $(lastword $(MAKEFILE_LIST)))))')
@@ -14,8 +15,8 @@ $(error There is no variable $(filter-out $(VARIABLES),$(given)). There are $(VA
 endif
 
 .DEFAULT_GOAL := help
-.PHONY: help run try check litmus pictures texts kernel prove test examples limits compare agree workers meetings
-.PHONY: refused-growths steps mistakes checks break
+.PHONY: help run try check litmus pictures texts kernel conform prove test examples limits compare agree workers
+.PHONY: dist install uninstall meetings refused-growths steps mistakes checks break
 .PHONY: must-spend growths wrong-bodies layout bench bench-rust gate clean
 .NOTPARALLEL:
 
@@ -26,6 +27,10 @@ help:
 	@echo 'make litmus SCRIPT=path   lists the texts that the rules allow, and how often the kernel and fixfiles gave each in 1,000 plays, or N=number'
 	@echo 'make try          plays a script in about a minute, and proves nothing'
 	@echo 'make kernel       plays a script on the io_uring of this machine'
+	@echo 'make conform      says which rules of docs/MODEL.md the kernel of this machine keeps, in KTAP, on N random scripts, by default 500'
+	@echo 'make dist         makes the archive build/yachtbanyan-VERSION-x86_64.tar.gz, for who has no toolchain'
+	@echo 'make install      copies programs, manual pages, completions and examples to PREFIX, by default /usr/local, below DESTDIR'
+	@echo 'make uninstall    removes these from there'
 	@echo 'make prove CRATE=name   checks one crate, and says in a few lines what of it is not proved'
 	@echo 'make test         runs everything that must hold'
 	@echo 'make examples     plays every example and the samples of the pages on the built program'
@@ -153,6 +158,23 @@ clean:
 
 kernel:
 	@scripts/play-on-kernel
+
+conform:
+	@scripts/build-program fx_check_cli fixcheck
+	@scripts/conform --scripts "$${N:-500}"
+
+dist:
+	@scripts/build-program
+	@scripts/build-program fx_check_cli fixcheck
+	@scripts/dist bin/fixfiles bin/fixcheck
+
+install:
+	@scripts/build-program
+	@scripts/build-program fx_check_cli fixcheck
+	@scripts/install
+
+uninstall:
+	@scripts/install uninstall
 
 agree:
 	@scripts/build-program fx_check_cli fixcheck

@@ -23,6 +23,7 @@ from proved import copy_below, take_back
 
 LOG = "build/program.log"
 STARTED = "build/program.started"
+VERDICTS = "build/verdicts.log"
 DONE_OF = re.compile(r"^(?:checked .*, |so far: )(\d+ of \d+)", re.MULTILINE)
 # what is proved beside each other wants so many KiB of memory each
 ROOM_OF_ONE = 4 << 20
@@ -160,6 +161,9 @@ class Lanes:
             self.tell("", "")
             subprocess.run(["scripts/tell-refusals", job.path], check=False)
             return False
+        # scripts/dist gives the verdict away
+        with open(VERDICTS, "a", encoding="utf-8") as log:
+            log.write("\n".join([f"== {job.name}", *re.findall(r"^logic=.*", job.said(), re.MULTILINE)[-1:], ""]))
         os.remove(job.path)
         self.done += 1
         if job.is_far and job.name not in self.kept:

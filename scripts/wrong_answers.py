@@ -6,6 +6,8 @@ import os
 import re
 import subprocess
 
+import kernels
+from kernels import LEGAL, NOT_LEGAL, ORDER, SAME, UNDECIDED
 from loaded import module
 from model import Script, play
 from refused_growths import NO_MEMORY, Outcomes
@@ -124,22 +126,21 @@ def growths():
 def verdicts():
     """What scripts/agree makes of a text and a verdict of fixcheck: the model's text, another order of it, one with a difference of
     Linux, and one that nothing gives."""
-    agree = module("agree")
-    names = agree.listed()[0]
+    names = kernels.listed()[0]
     with open(f"{EXAMPLES}/replaced_between_two_members.script", "rb") as file:
         script = file.read()
     same = play(script)[0]
     other = same.replace("1.1.2 5 68656c6c6f", "1.1.2 2 6869")
     refused, opened = b"file a.txt 61\nsparse 1\nopen a.txt at 1\nsubmit\n", "sparse 0\n1.1.1 -22\nclosed 1.1.1.0 a.txt\n"
     rows = [
-        (script, same, agree.LEGAL, agree.SAME), (script, same, agree.NOT_LEGAL, None), (script, other, agree.LEGAL, agree.ORDER),
-        (script, other, agree.NOT_LEGAL, None), (script, other, agree.UNDECIDED, agree.ORDER), (script, other, None, agree.ORDER),
-        (refused, opened, agree.NOT_LEGAL, frozenset({"refused_open_opens_its_file"})), (script, same[:-2], agree.NOT_LEGAL, None),
+        (script, same, LEGAL, SAME), (script, same, NOT_LEGAL, None), (script, other, LEGAL, ORDER), (script, other, NOT_LEGAL, None),
+        (script, other, UNDECIDED, ORDER), (script, other, None, ORDER), (script, same[:-2], NOT_LEGAL, None),
+        (refused, opened, NOT_LEGAL, frozenset({"refused_open_opens_its_file"})),
     ]
-    missed = []
+    missed, fixcheck = [], kernels.Fixcheck()
     for text, written, verdict, wanted in rows:
-        agree.ASKED.verdict = lambda *_, verdict=verdict: verdict
-        found = agree.verdict(text, written, shown=names)
+        fixcheck.verdict = lambda *_, verdict=verdict: (verdict, "")
+        found = kernels.found(fixcheck, text, written, shown=names).standing
         missed += [f"agree makes {found} of {written!r} with verdict {verdict}"] * (found != wanted)
     return len(rows), missed
 

@@ -16,7 +16,7 @@ const ABOUT: &str =
 
 const TABLES: &[&str] = &["words", "baton"];
 
-const SCRIPTS: &str = "\
+const SCRIPTS_AND_STATUSES: &str = "\
 A script has a command on each line. `file` lines name files and their bytes; `sparse` and
 `register` make a table; `open`, `read`, `close` and `update` are requests, and the next
 `submit` submits them. A request that ends in `link` must succeed before the next one starts;
@@ -28,7 +28,14 @@ This is a script:
     open a.txt at 0 link
     read 0 0 5 link
     close 0
-    submit";
+    submit
+
+Exit status:
+  0  the script was played and all its text written, or help was asked for
+  2  an argument is wrong
+  3  the script has a fault, whose line and name are told
+  4  the script couldn't be read, or the text couldn't be written
+  5  memory was refused";
 
 /// Which table the workers share.
 #[derive(Clone, Copy)]
@@ -94,7 +101,7 @@ fn table_argument<'a>(alloc: Global) -> Arg<'a> {
 fn command<'a>(alloc: Global) -> Result<Command<'a>, AllocError> {
     Command::new(alloc, "fixfiles")
         .about(ABOUT)
-        .after_help(SCRIPTS)
+        .after_help(SCRIPTS_AND_STATUSES)
         .override_usage("fixfiles [OPTIONS] < SCRIPT")
         .arg(workers_argument(alloc))?
         .arg(table_argument(alloc))
