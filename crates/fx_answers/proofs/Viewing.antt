@@ -5,15 +5,19 @@ use Rattle.fx_order.specs.declared.access.Access.{Access}
 use Rattle.std.proofs.lemmas.List.{get_or-map, get_or-set_other, get_or-set_same}
 use Rattle.std.specs.Prelude.{Some, slice_get, slice_set}
 use Rattle.std.proofs.lemmas.Option.{get_or_from_slice_get, slice_get_within}
+use Rattle.fx_order.proofs.Words.{None, Option, Request, Completion, all_asked, all_completed, asked_of, completed_of, drop}
 use Rattle.fx_order.specs.declared.slots.Slots.{Slots}
 use Rattle.std.specs.List.{AllByRecursion}
 use Rattle.fx_outcomes.specs.Rests.{Rest, Rules, rules_of, settled_at, step}
-use Rattle.fx_outcomes.specs.Nodes.{AreAtStart, Leads, StateView}
-use Rattle.fx_answers.specs.Stands.{Steps, rest_in}
-use Rattle.fx_answers.specs.Views.{not_begun, run_at, view_of}
+use Rattle.fx_outcomes.specs.Nodes.{AreAtStart, IsOver, Leads, StateView}
+use Rattle.fx_answers.specs.Stands.{Settles, Steps, moved, rest_for, rest_in}
+use Rattle.fx_answers.specs.Views.{IsStepTo, not_begun, run_at, view_in, view_of}
+use Rattle.fx_answers.specs.Listed.{IsExploredBy, said_by, states_of}
+use Rattle.fx_answers.specs.declared.closed.Claimed.{Claimed}
 use Rattle.fx_answers.specs.declared.chain.Progress.{Progress}
 use Rattle.fx_answers.specs.declared.state.State.{State}
-use Rattle.fx_answers.proofs.Lists.{inside_at}
+use Rattle.fx_answers.proofs.Lists.{by_recursion, inside_at}
+use Rattle.fx_answers.proofs.Choosing.{is_done}
 
 less_one : (i : ℕ) → i + 1 - 1 ≡ i
 less_one i = omega arith
@@ -92,3 +96,39 @@ among submission runs states there state k is table chains =
     let within = slice_get_within states k there is in
     inside_at (view_of submission runs) states k there (view_of submission runs state) within
     (sym (get_or_from_slice_get states k there there is)) (same_view submission runs there state table chains)
+
+-- a chain that has members left isn't over
+pub not_over : (submission : ℕ) (runs : List (List Asked)) (state : State) (i : ℕ) (own : List Request) (progress : Progress)
+    → all_asked own ≡ slice_index_or runs i [] → slice_index_or state.chains.items i not_begun ≡ progress
+    → i < length runs → progress.done < length own → IsOver (length runs) (view_of submission runs state) → ⊥
+not_over submission runs state i own progress run is within few over =
+    let none = over (i + 1) (omega arith) (omega (arith, within)) in
+    let here = rest_of_chain submission runs state i (all_asked own) progress (sym run) is in
+    let done = is_done (first_member submission (i + 1)) (all_asked own) progress (ap (λ (r : Rest). r.requests) (sym here) ∙ none) in
+    let many = length-map own asked_of in
+    omega (arith, done, many, few)
+
+-- a chain that stands where its requests settle
+pub at_start_by : (rules : Rules) (P : Completed → Type 0) (place : Place) (run : List Asked) (before after : List Completion) (done : ℕ) (progress : Progress)
+    → Settles rules place run (all_completed before) (all_completed after) done → before ≡ [] → All (λ c. P (completed_of c)) after
+    → progress.done ≡ done → progress.made ≡ 0
+    → AllByRecursion P (settled_at rules place run).0 × (rest_in place run progress ≡ (settled_at rules place run).1)
+at_start_by rules P place run before after done progress settles none all at made =
+    let told : all_completed after ≡ (settled_at rules place run).0 =
+    settles.told ∙ ap (λ (l : List Completion). all_completed l ++ (settled_at rules place run).0) none in (
+      subst (AllByRecursion P) told (by_recursion P completed_of after all),
+      (λ i. rest_for (moved place (at i)) (drop (at i) run) (made i)) ∙ sym settles.rest,
+    )
+
+-- an access is explored that leads to a state of the list, with answers that are said
+pub explored : (claimed : Claimed) (state : State) (i : ℕ) (a : Access) (told : List Completion) (next : State)
+    → IsStepTo claimed.submission.now state i a (all_completed told) next
+    → All (λ c. said_by claimed (completed_of c)) told
+    → Contains (states_of claimed) (view_in claimed.submission.now next)
+    → IsExploredBy claimed state i a
+explored claimed state i a told next to said inside = record {
+  said = subst (AllByRecursion (said_by claimed)) to.told (by_recursion (said_by claimed) completed_of told said);
+  next = view_in claimed.submission.now next;
+  inside = inside;
+  leads = to.leads;
+}

@@ -1,6 +1,6 @@
 -- What is looked through of the states that a search met.
 use Rattle.std.specs.Prelude.{◌≡◌, ℕ, ◌+◌, ◌<◌, List, [], length, map, slice_index_or}
-use Rattle.std.specs.Prelude.{Contains, Option, Some}
+use Rattle.std.specs.Prelude.{All, Contains, Option, Some}
 use Rattle.std.specs.List.{AllByRecursion}
 use Rattle.fx_chain.specs.Completed.{Completed, all_completed}
 use Rattle.fx_chain.specs.Explains.{first_member}
@@ -71,12 +71,11 @@ AreAtStartBy claimed state =
     (i : ℕ) → i < length claimed.submission.now.chains.now → IsAtStartBy claimed state i
 
 -- the states are all of the submission at these slots, and what is answered at the place is said
-abbrev pub AreAllBy : Claimed → Slots → Type 0
-AreAllBy claimed slots = (submissions registrations : ℕ)
-    → claimed.submission.now.number ≡ submissions + 1
-    → AreAllStates (said_by claimed)
-    (ring_of_slots claimed.submission.now.setting.catalogue.now slots submissions registrations)
-    (all_asked claimed.submission.now.requests.now) (states_of claimed)
+pub record AreAllBy (claimed : Claimed) (slots : Slots) : Type 0 where
+  pub are : (submissions registrations : ℕ) → claimed.submission.now.number ≡ submissions + 1
+      → AreAllStates (said_by claimed)
+      (ring_of_slots claimed.submission.now.setting.catalogue.now slots submissions registrations)
+      (all_asked claimed.submission.now.requests.now) (states_of claimed)
 
 -- of a submission at these slots, whatever was registered before
 abbrev pub OfEach : Submission → Slots → (RingState → List Asked → Type 0) → Type 0
@@ -119,3 +118,8 @@ abbrev pub IsEndListed : Submission → List End → State → Type 0
 IsEndListed submission ends state =
     IsOver (length (runs_in submission)) (view_in submission state)
     → Contains (tables_behind ends) (table_of_slots state.slots)
+
+-- the states are all of the submission at these slots, and the ends are those of them
+pub record AreAllEndsBy (claimed : Claimed) (slots : Slots) (ends : List End) : Type 0 where
+  pub all : AreAllBy claimed slots
+  pub listed : All (IsEndListed claimed.submission.now ends) claimed.found.now.states.items

@@ -66,15 +66,20 @@ pub(crate) struct Claimed<'a> {
     pub(crate) answers: &'a [Answer],
 }
 
-// Whether an access leads to one of the states, and what is answered at the place on the way is among the answers.
+// Whether an access, if the table permits it, leads to one of the states, and what is answered at the place on the way is among
+// the answers.
 fn is_explored(
     claimed: &Claimed<'_>,
     state: &State,
     i: usize,
     access: &Access,
 ) -> Result<bool, NoMemory>
-    ensures { IfOk result (λ yes. IsTrue yes → IsExploredBy claimed.now state.now i access.now) }
+    ensures { IfOk result (λ yes. IsTrue yes → Permits (table_of_slots state.now.slots) access.now
+        → IsExploredBy claimed.now state.now i access.now) }
 {
+    if !state.slots.permits(access) {
+        return Ok(true);
+    }
     let mut told = Vec::new(claimed.submission.setting.alloc);
     let Some(next) = next_state(claimed.submission, state, i, access, &mut told)? else {
         return Ok(false);
@@ -97,7 +102,7 @@ fn are_explored(
         accesses.now) }
 {
     for access in accesses {
-        if state.slots.permits(access) && !is_explored(claimed, state, i, access)? {
+        if !is_explored(claimed, state, i, access)? {
             return Ok(false);
         }
     }
@@ -141,13 +146,11 @@ fn is_at_start(claimed: &Claimed<'_>, state: &State, i: usize) -> Result<bool, N
     ensures { IfOk result (λ yes. IsTrue yes → IsAtStartBy claimed.now state.now i) }
 {
     let submission = claimed.submission;
-    let Some(progress) = state.chains.get(i) else {
-        return Ok(false);
-    };
+    let here = state.progress(i);
     let mut told = Vec::new(submission.setting.alloc);
     let own = submission.members(i);
     let done = settle(&submission.setting, submission.first(i), own, &mut told)?;
-    if progress.done != done || progress.made != 0 {
+    if here.done != done || here.made != 0 {
         return Ok(false);
     }
     Ok(are_listed(claimed.place, claimed.answers, &told))
@@ -178,12 +181,15 @@ fn are_states_explored(claimed: &Claimed<'_>) -> Result<bool, NoMemory>
     Ok(true)
 }
 
-/// Whether the states that were found, the first one of which has these slots, are all of the submission, and what is
-/// answered at the place on the way is among the answers.
+/// Whether a search says that it reached its end, and the states that it found, the first one of which has these slots, are
+/// all of the submission, and what is answered at the place on the way is among the answers.
 pub(crate) fn are_all_states(claimed: &Claimed<'_>, slots: &Slots) -> Result<bool, NoMemory>
     ensures { IfOk result (λ yes. IsTrue yes → AreAllBy claimed.now slots.now) }
 {
-    let Some(first) = claimed.found.states.first() else {
+    if !claimed.found.is_whole {
+        return Ok(false);
+    }
+    let Some(first) = claimed.found.states.get(0) else {
         return Ok(false);
     };
     if slots.at.len() != claimed.submission.setting.size as usize

@@ -5,7 +5,7 @@ ghost use Rattle.fx_chain.specs.Accepted.{IsAccepted};
 ghost use Rattle.fx_chain.specs.Operation.{all_asked};
 ghost use Rattle.fx_order.specs.Slots.{ring_of_slots};
 ghost use Rattle.fx_plain.specs.declared.table.TheConstants.{MOST_SLOTS};
-ghost use Rattle.fx_answers.specs.Listed.{IsEndIn, IsEndListed};
+ghost use Rattle.fx_answers.specs.Listed.{AreAllEndsBy, IsEndIn, IsEndListed};
 ghost use Rattle.fx_answers.specs.Outcomes.{HasEachEnd, IsEnd};
 
 use crate::closed::{Claimed, are_all_states};
@@ -58,6 +58,27 @@ fn confirmed(
     }))
 }
 
+// The end that a state is, if no chain has an access left there and it is confirmed.
+fn end_at(
+    submission: &Submission<'_>,
+    slots: &Slots,
+    found: &Found,
+    i: usize,
+) -> Result<Option<End>, NoMemory>
+    ensures { IfOk result (λ end. IfSome end (IsEndIn submission.now slots.now)) }
+{
+    let Some(state) = found.states.get(i) else {
+        return Ok(None);
+    };
+    let Some(by) = found.from.get(i) else {
+        return Ok(None);
+    };
+    if !state.is_over(submission) {
+        return Ok(None);
+    }
+    confirmed(submission, slots, found, *by)
+}
+
 // The ends that a search met and that are confirmed, in the order of the states.
 fn all_confirmed(
     submission: &Submission<'_>,
@@ -67,11 +88,8 @@ fn all_confirmed(
     ensures { IfOk result (λ ends. All (IsEndIn submission.now slots.now) ends.items) }
 {
     let mut ends = Vec::new(submission.setting.alloc);
-    for (state, by) in found.states.iter().zip(&found.from) {
-        if !state.is_over(submission) {
-            continue;
-        }
-        if let Some(end) = confirmed(submission, slots, found, *by)? {
+    for i in 0..found.states.len() {
+        if let Some(end) = end_at(submission, slots, found, i)? {
             ends.push(end)?;
         }
     }
@@ -95,16 +113,24 @@ fn is_listed(submission: &Submission<'_>, state: &State, ends: &[End], number: u
 fn are_listed(submission: &Submission<'_>, states: &[State], ends: &[End]) -> bool
     ensures { IsTrue result → All (IsEndListed submission.now ends.now) states.now }
 {
-    let mut number = 0;
+    let mut number: usize = 0;
     for state in states {
         if !is_listed(submission, state, ends, number) {
             return false;
         }
-        if state.is_over(submission) {
-            number += 1;
-        }
+        number = number.saturating_add(usize::from(state.is_over(submission)));
     }
     true
+}
+
+// Whether the states that a search met are all of the submission, and the ends are those of them.
+fn are_all_ends(claimed: &Claimed<'_>, slots: &Slots, ends: &[End]) -> Result<bool, NoMemory>
+    ensures { IfOk result (λ yes. IsTrue yes → AreAllEndsBy claimed.now slots.now ends.now) }
+{
+    if !are_listed(claimed.submission, &claimed.found.states, ends) {
+        return Ok(false);
+    }
+    are_all_states(claimed, slots)
 }
 
 /// Which rings a submission may leave, at a ring with this catalogue and these slots and behind so many accepted submissions,
@@ -152,8 +178,6 @@ pub fn may_leave(
         place: None,
         answers: &[],
     };
-    let are_all = found.is_whole
-        && are_listed(&submission, &found.states, &ends)
-        && are_all_states(&claimed, slots)?;
+    let are_all = are_all_ends(&claimed, slots, &ends)?;
     Ok(Ends { ends, are_all })
 }

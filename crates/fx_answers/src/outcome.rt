@@ -1,8 +1,8 @@
 //! What a request of a submission may answer: all of it, each by an order.
-ghost use Rattle.std.specs.Prelude.{◌≡◌, ◌+◌, ◌<◌, ◌≤◌, ◌^◌, ℕ, All, IfOk, IfSome, IsTrue, length};
+ghost use Rattle.std.specs.Prelude.{◌≡◌, ◌+◌, ◌<◌, ◌≤◌, ◌^◌, ℕ, All, Contains, IfOk, IfSome, IsTrue, length};
 ghost use Rattle.fx_base.specs.Catalogue.{IsCatalogue};
 ghost use Rattle.fx_chain.specs.Accepted.{IsAccepted};
-ghost use Rattle.fx_chain.specs.Completed.{completed_of};
+ghost use Rattle.fx_chain.specs.Completed.{all_completed, completed_of};
 ghost use Rattle.fx_chain.specs.Operation.{all_asked};
 ghost use Rattle.fx_order.specs.Slots.{ring_of_slots};
 ghost use Rattle.fx_plain.specs.declared.table.TheConstants.{MOST_SLOTS};
@@ -63,6 +63,23 @@ fn copy_of(alloc: Global, c: &Completion) -> Result<Completion, NoMemory>
     })
 }
 
+// What is answered at a place, once more.
+fn answer_of(
+    alloc: Global,
+    completions: &[Completion],
+    place: Place,
+) -> Result<Option<Completion>, NoMemory>
+    ensures inside { IfOk result (λ c. IfSome c (λ c.
+        Contains (all_completed completions.now) (completed_of c))) }
+    ensures there { IfOk result (λ c. IfSome c (λ c. c.place ≡ place)) }
+{
+    let Some(c) = answer_at(completions, place) else {
+        return Ok(None);
+    };
+    let copy = copy_of(alloc, c)?;
+    Ok(Some(copy))
+}
+
 // What is answered at a place by an order that begins with the steps up to this one, if that is confirmed.
 fn confirmed(
     submission: &Submission<'_>,
@@ -78,10 +95,9 @@ fn confirmed(
     let Some(left) = confirm(submission, slots, &play)? else {
         return Ok(None);
     };
-    let Some(c) = answer_at(&play.completions, place) else {
+    let Some(completion) = answer_of(submission.setting.alloc, &play.completions, place)? else {
         return Ok(None);
     };
-    let completion = copy_of(submission.setting.alloc, c)?;
     Ok(Some(Answer {
         completion,
         order: play.order,
@@ -154,6 +170,6 @@ pub fn may_answer(
         place: Some(place),
         answers: &answers,
     };
-    let are_all = found.is_whole && are_all_states(&claimed, slots)?;
+    let are_all = are_all_states(&claimed, slots)?;
     Ok(Answers { answers, are_all })
 }

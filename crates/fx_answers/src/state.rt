@@ -1,16 +1,16 @@
 //! A state of a submission that is played by an order, and where an access leads from it.
-ghost use Rattle.std.specs.Prelude.{◌≡◌, ◌<◌, IfOk, IfSome, IsTrue, [], length, slice_set};
+ghost use Rattle.std.specs.Prelude.{◌≡◌, ◌<◌, IfOk, IfSome, IsTrue, [], length, slice_index_or, slice_set};
 ghost use Rattle.fx_chain.specs.Completed.{all_completed};
 ghost use Rattle.fx_chain.specs.Runs.{runs_of};
 ghost use Rattle.fx_chain.specs.Operation.{all_asked};
 ghost use Rattle.fx_order.specs.Access.{Permits, table_with};
 ghost use Rattle.fx_order.specs.Slots.{table_of_slots};
 ghost use Rattle.fx_outcomes.specs.Nodes.{IsOver};
-ghost use Rattle.fx_answers.specs.Views.{IsStepTo, view_in};
+ghost use Rattle.fx_answers.specs.Views.{IsStepTo, not_begun, view_in};
 
 use crate::chain::{Progress, step};
 use crate::submission::Submission;
-use fx_base::NoMemory;
+use fx_base::{Closed, NoMemory};
 use fx_chain::Completion;
 use fx_order::{Access, Slots};
 use std::alloc::Global;
@@ -24,6 +24,36 @@ pub struct State {
     pub chains: Vec<Progress>,
 }
 
+// Whether both lists have the same files at the same slots.
+fn are_same_files(files: &[Option<Closed>], others: &[Option<Closed>]) -> bool
+    ensures { IsTrue result → files.now ≡ others.now }
+{
+    if files.len() != others.len() {
+        return false;
+    }
+    for i in 0..files.len() {
+        if files[i] != others[i] {
+            return false;
+        }
+    }
+    true
+}
+
+// Whether both lists have each chain equally far.
+fn are_same_chains(chains: &[Progress], others: &[Progress]) -> bool
+    ensures { IsTrue result → chains.now ≡ others.now }
+{
+    if chains.len() != others.len() {
+        return false;
+    }
+    for i in 0..chains.len() {
+        if chains[i] != others[i] {
+            return false;
+        }
+    }
+    true
+}
+
 /// Whether both tables have the same slots with the same files.
 pub(crate) fn are_same(one: &Slots, other: &Slots) -> bool
     ensures { IsTrue result → table_of_slots one.now ≡ table_of_slots other.now }
@@ -31,7 +61,7 @@ pub(crate) fn are_same(one: &Slots, other: &Slots) -> bool
     if one.range.0 != other.range.0 || one.range.1 != other.range.1 {
         return false;
     }
-    one.at.as_slice() == other.at.as_slice()
+    are_same_files(&one.at, &other.at)
 }
 
 /// A table of its own with the same files.
@@ -55,7 +85,17 @@ impl State {
         if !are_same(&self.slots, &other.slots) {
             return false;
         }
-        self.chains.as_slice() == other.chains.as_slice()
+        are_same_chains(&self.chains, &other.chains)
+    }
+
+    /// How far a chain has come, by its number from 0.
+    pub(crate) fn progress(&self, i: usize) -> Progress
+        ensures { result ≡ slice_index_or self.now.chains.items i not_begun }
+    {
+        match self.chains.get(i) {
+            Some(progress) => *progress,
+            None => Progress { done: 0, made: 0 },
+        }
     }
 
     /// Whether no chain has an access left.
@@ -64,11 +104,7 @@ impl State {
             (view_in submission.now self.now) → IsTrue result }
     {
         for i in 0..submission.chains.len() {
-            let done = match self.chains.get(i) {
-                Some(progress) => progress.done,
-                None => 0,
-            };
-            if done < submission.members(i).len() {
+            if self.progress(i).done < submission.members(i).len() {
                 return false;
             }
         }

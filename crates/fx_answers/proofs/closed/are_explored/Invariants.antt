@@ -1,4 +1,5 @@
-use Rattle.fx_order.proofs.Words.{ℕ, ◌<◌, slice_index_or, Access, Permits, table_of_slots}
+use Rattle.fx_order.proofs.Words.{ℕ, ◌<◌, slice_index_or, Permits, table_of_slots}
+use Rattle.fx_order.specs.declared.access.Access.{Access}
 use Rattle.fx_answers.specs.Listed.{IsExploredBy}
 use Rattle.fx_answers.proofs.closed.are_explored.Given as goal
 
