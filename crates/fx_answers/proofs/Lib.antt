@@ -1,0 +1,6 @@
+pub mod Lists
+pub mod Settling
+pub mod Choosing
+pub mod Viewing
+pub mod AllOfThem
+pub mod Promised

@@ -1,0 +1,167 @@
+-- How a chain goes on, counted in members that are done.
+use Rattle.fx_order.proofs.Words.{◌≡◌, ℕ, zero, suc, ◌+◌, ◌≤◌, ◌==◌, Bool, true, false, List, [], ◌∷◌, ◌++◌, length, drop, refl, sym, ap, subst, ◌∙◌, arith}
+use Rattle.fx_order.proofs.Words.{Option, Some, None, if◌then◌else◌, append-nil, append_assoc, Completed, next_member, canceled, severs, Asked, Place}
+use Rattle.fx_order.specs.declared.access.Access.{Access}
+use Rattle.fx_order.proofs.Words.{by_equality, Completion, all_completed, completed_of, map-append}
+use Rattle.std.proofs.lemmas.List.{drop-drop, drop_all}
+use Rattle.fx_outcomes.specs.Rests.{Rest, Rules, behind, over, rest_at, settled_at, step}
+use Rattle.fx_answers.specs.Stands.{Settles, Steps, moved, rest_for, rest_in}
+use Rattle.fx_answers.specs.declared.chain.Progress.{Progress}
+
+-- what was told, and one answer behind it
+pub pushed : (before after : List Completion) (c : Completion) (d : Completed) → after ≡ before ++ c ∷ [] → completed_of c ≡ d
+    → all_completed after ≡ all_completed before ++ d ∷ []
+pushed before after c d is same =
+    ap all_completed is ∙ (map-append completed_of before (c ∷ []) ∙ ap (λ (x : Completed). all_completed before ++ x ∷ []) same)
+
+pub not_moved : (place : Place) → moved place 0 ≡ place
+not_moved place = let none : place.member + 0 ≡ place.member = omega arith in λ i. record place { member = none i }
+
+pub moved_on : (place : Place) (n : ℕ) → moved (next_member place) n ≡ moved place (1 + n)
+moved_on place n = let same : place.member + 1 + n ≡ place.member + (1 + n) = omega arith in λ i. record place { member = same i }
+
+pub next_moved : (place : Place) → moved place 1 ≡ next_member place
+next_moved place = refl
+
+module _ (rules : Rules) (place : Place) where
+  pub settled_none : (before : List Completed) → Settles rules place [] before before 0
+  settled_none before = record {
+    told = sym (append-nil before);
+    rest = refl;
+    within = omega arith;
+  }
+
+  -- the answer of a request that doesn't come to the table
+  abbrev now : Asked → List Asked → Bool → List Completed × Rest
+  now request requests cut =
+      if cut
+      then (rules.answer place request None ∷ canceled (next_member place) requests, over)
+      else (rules.answer place request None ∷ (settled_at rules (next_member place) requests).0, (settled_at rules (next_member place) requests).1)
+
+  abbrev from : Asked → List Asked → Bool → List Completed × Rest
+  from request requests none =
+      if none then now request requests (severs request (rules.answer place request None)) else ([], rest_at place (request ∷ requests) 0)
+
+  pub settled_here : (request : Asked) (requests : List Asked) (before : List Completed) → (rules.count request == 0) ≡ false
+      → Settles rules place (request ∷ requests) before before 0
+  settled_here request requests before some =
+      let is : settled_at rules place (request ∷ requests) ≡ ([], rest_at place (request ∷ requests) 0) = ap (from request requests) some in
+      record {
+        told = sym (append-nil before) ∙ ap (λ (x : List Completed × Rest). before ++ x.0) (sym is);
+        rest = ap (λ (x : List Completed × Rest). x.1) is ∙ (λ i. rest_at (sym (not_moved place) i) (request ∷ requests) 0);
+        within = omega arith;
+      }
+
+  settled_now : (request : Asked) (requests : List Asked) (cut : Bool) → (rules.count request == 0) ≡ true
+      → severs request (rules.answer place request None) ≡ cut → settled_at rules place (request ∷ requests) ≡ now request requests cut
+  settled_now request requests cut none is =
+      ap (λ (b : Bool). if b then now request requests (severs request (rules.answer place request None)) else ([], rest_at place (request ∷ requests) 0)) none
+      ∙ ap (now request requests) is
+
+  pub settled_cut : (request : Asked) (requests : List Asked) (before middle after : List Completed) → (rules.count request == 0) ≡ true
+      → severs request (rules.answer place request None) ≡ true
+      → middle ≡ before ++ rules.answer place request None ∷ [] → after ≡ middle ++ canceled (next_member place) requests
+      → (passed : ℕ) → passed ≡ length (request ∷ requests) → Settles rules place (request ∷ requests) before after passed
+  settled_cut request requests before middle after none cut first others passed all =
+      let is = settled_now request requests true none cut in
+      record {
+        told = others ∙ (ap (λ (l : List Completed). l ++ canceled (next_member place) requests) first
+            ∙ (append_assoc before (rules.answer place request None ∷ []) (canceled (next_member place) requests)
+            ∙ ap (λ (x : List Completed × Rest). before ++ x.0) (sym is)));
+        rest = ap (λ (x : List Completed × Rest). x.1) is
+            ∙ ap (λ (l : List Asked). rest_for (moved place passed) l 0) (sym (drop_all passed (request ∷ requests) (omega (arith, all))));
+        within = omega (arith, all);
+      }
+
+  pub settled_on : (request : Asked) (requests : List Asked) (before middle after : List Completed) (passed : ℕ) → (rules.count request == 0) ≡ true
+      → severs request (rules.answer place request None) ≡ false
+      → middle ≡ before ++ rules.answer place request None ∷ [] → Settles rules (next_member place) requests middle after passed
+      → Settles rules place (request ∷ requests) before after (1 + passed)
+  settled_on request requests before middle after passed none on first rest =
+      let is = settled_now request requests false none on in
+      let later = settled_at rules (next_member place) requests in
+      let more : 1 + passed ≡ suc passed = omega arith in
+      record {
+        told = rest.told ∙ (ap (λ (l : List Completed). l ++ later.0) first
+            ∙ (append_assoc before (rules.answer place request None ∷ []) later.0
+            ∙ ap (λ (x : List Completed × Rest). before ++ x.0) (sym is)));
+        rest = ap (λ (x : List Completed × Rest). x.1) is
+            ∙ (rest.rest
+            ∙ (ap (λ (p : Place). rest_for p (drop passed requests) 0) (moved_on place passed)
+            ∙ ap (λ (n : ℕ). rest_for (moved place (1 + passed)) (drop n (request ∷ requests)) 0) (sym more)));
+        within = let w = rest.within in omega (arith, w);
+      }
+
+pub tested : (n m : ℕ) → n ≡ m → (n == m) ≡ true
+tested n m same = by_equality n m (λ b. b ≡ true) (λ _. refl) (λ other. absurd (other same))
+
+pub untested : (n m : ℕ) → (n ≡ m → ⊥) → (n == m) ≡ false
+untested n m apart = by_equality n m (λ b. b ≡ false) (λ same. absurd (apart same)) (λ _. refl)
+
+module _ (rules : Rules) (place : Place) (run : List Asked) (progress : Progress) (a : Access) where
+  abbrev here : Place
+  here = moved place progress.done
+
+  step_from : (left : List Asked) → drop progress.done run ≡ left
+      → step rules (rest_in place run progress) a ≡ step rules (rest_for here left progress.made) a
+  step_from left is = ap (λ (l : List Asked). step rules (rest_for here l progress.made) a) is
+
+  -- where it is known what the step is
+  by_step : (before after : List Completed) (next : Progress) (to : List Completed × Rest) → step rules (rest_in place run progress) a ≡ to
+      → after ≡ before ++ to.0 → rest_in place run next ≡ to.1 → Steps rules place run progress a before after next
+  by_step before after next to is told rest = record {
+    told = told ∙ ap (λ (x : List Completed × Rest). before ++ x.0) (sym is);
+    rest = rest ∙ ap (λ (x : List Completed × Rest). x.1) (sym is);
+  }
+
+  pub steps_over : (before : List Completed) → drop progress.done run ≡ [] → Steps rules place run progress a before before progress
+  steps_over before none = by_step before before progress ([], over) (step_from [] none) (sym (append-nil before))
+      (ap (λ (l : List Asked). rest_for here l progress.made) none)
+
+  module _ (request : Asked) (requests : List Asked) (is : drop progress.done run ≡ request ∷ requests) where
+    pub steps_more : (before : List Completed) (next : Progress) → (rules.count request ≡ progress.made + 1 → ⊥)
+        → next.done ≡ progress.done → next.made ≡ progress.made + 1 → Steps rules place run progress a before before next
+    steps_more before next more done made = by_step before before next ([], rest_at here (request ∷ requests) (progress.made + 1))
+        (step_from (request ∷ requests) is
+        ∙ ap (λ (b : Bool). if b then behind rules here request requests (rules.answer here request (Some a)) else ([], rest_at here (request ∷ requests) (progress.made + 1)))
+        (untested (rules.count request) (progress.made + 1) more))
+        (sym (append-nil before))
+        (ap (λ (n : ℕ). rest_for (moved place n) (drop n run) next.made) done
+        ∙ (ap (λ (n : ℕ). rest_for here (drop progress.done run) n) made
+        ∙ ap (λ (l : List Asked). rest_for here l (progress.made + 1)) is))
+
+    step_last : rules.count request ≡ progress.made + 1
+        → step rules (rest_in place run progress) a ≡ behind rules here request requests (rules.answer here request (Some a))
+    step_last last =
+        step_from (request ∷ requests) is
+        ∙ ap (λ (b : Bool). if b then behind rules here request requests (rules.answer here request (Some a)) else ([], rest_at here (request ∷ requests) (progress.made + 1)))
+        (tested (rules.count request) (progress.made + 1) last)
+
+    pub steps_cut : (before middle after : List Completed) (next : Progress) (c : Completed) → rules.count request ≡ progress.made + 1
+        → c ≡ rules.answer here request (Some a) → severs request c ≡ true
+        → middle ≡ before ++ c ∷ [] → after ≡ middle ++ canceled (next_member here) requests
+        → next.done ≡ length run → next.made ≡ 0 → Steps rules place run progress a before after next
+    steps_cut before middle after next c last answers cut first others done made = by_step before after next (c ∷ canceled (next_member here) requests, over)
+        (step_last last
+        ∙ (ap (behind rules here request requests) (sym answers)
+        ∙ ap (λ (b : Bool). if b then (c ∷ canceled (next_member here) requests, over)
+        else (c ∷ (settled_at rules (next_member here) requests).0, (settled_at rules (next_member here) requests).1)) cut))
+        (others ∙ (ap (λ (l : List Completed). l ++ canceled (next_member here) requests) first ∙ append_assoc before (c ∷ []) (canceled (next_member here) requests)))
+        (ap (λ (l : List Asked). rest_for (moved place next.done) l next.made) (drop_all next.done run (omega (arith, done))))
+
+    pub steps_on : (before middle after : List Completed) (next : Progress) (c : Completed) (passed : ℕ) → rules.count request ≡ progress.made + 1
+        → c ≡ rules.answer here request (Some a) → severs request c ≡ false
+        → middle ≡ before ++ c ∷ [] → Settles rules (next_member here) requests middle after passed
+        → next.done ≡ progress.done + 1 + passed → next.made ≡ 0 → Steps rules place run progress a before after next
+    steps_on before middle after next c passed last answers on first settles done made =
+        let later = settled_at rules (next_member here) requests in
+        let place_is : place.member + next.done ≡ place.member + progress.done + 1 + passed = omega (arith, done) in
+        let sum : progress.done + suc passed ≡ next.done = omega (arith, done) in
+        let left : drop next.done run ≡ drop passed requests =
+        ap (λ (n : ℕ). drop n run) (sym sum) ∙ (sym (drop-drop (suc passed) progress.done run) ∙ ap (drop (suc passed)) is) in
+        by_step before after next (c ∷ later.0, later.1)
+        (step_last last
+        ∙ (ap (behind rules here request requests) (sym answers)
+        ∙ ap (λ (b : Bool). if b then (c ∷ canceled (next_member here) requests, over) else (c ∷ later.0, later.1)) on))
+        (settles.told ∙ (ap (λ (l : List Completed). l ++ later.0) first ∙ append_assoc before (c ∷ []) later.0))
+        ((λ i. rest_for (record place { member = place_is i }) (left i) (made i)) ∙ sym settles.rest)

@@ -1,0 +1,134 @@
+-- What the states of the program say, chain by chain.
+use Rattle.fx_order.proofs.Words.{◌≡◌, ◌≢◌, ℕ, zero, suc, ◌+◌, ◌-◌, ◌<◌, ◌≤◌, List, [], ◌∷◌, ◌++◌, length, map, refl, sym, ap, subst, ◌∙◌, arith, slice_index_or, All, length-map}
+use Rattle.fx_order.proofs.Words.{Contains, Chain, Completed, Asked, Place, IsChain, Permits, Table, table_of_slots, table_with, members_of, runs_of, first_member, ring_of_slots, FileEntry}
+use Rattle.fx_order.specs.declared.access.Access.{Access}
+use Rattle.std.proofs.lemmas.List.{get_or-map, get_or-set_other, get_or-set_same}
+use Rattle.std.specs.Prelude.{Some, slice_get, slice_set}
+use Rattle.std.proofs.lemmas.Option.{get_or_from_slice_get, slice_get_within}
+use Rattle.fx_order.proofs.Words.{None, Option, Request, Completion, all_asked, all_completed, asked_of, completed_of, drop}
+use Rattle.fx_order.specs.declared.slots.Slots.{Slots}
+use Rattle.std.specs.List.{AllByRecursion}
+use Rattle.fx_outcomes.specs.Rests.{Rest, Rules, rules_of, settled_at, step}
+use Rattle.fx_outcomes.specs.Nodes.{AreAtStart, IsOver, Leads, StateView}
+use Rattle.fx_answers.specs.Stands.{Settles, Steps, moved, rest_for, rest_in}
+use Rattle.fx_answers.specs.Views.{IsStepTo, not_begun, run_at, view_in, view_of}
+use Rattle.fx_answers.specs.Listed.{IsExploredBy, said_by, states_of}
+use Rattle.fx_answers.specs.declared.closed.Claimed.{Claimed}
+use Rattle.fx_answers.specs.declared.chain.Progress.{Progress}
+use Rattle.fx_answers.specs.declared.state.State.{State}
+use Rattle.fx_answers.proofs.Lists.{by_recursion, inside_at}
+use Rattle.fx_answers.proofs.Choosing.{is_done}
+
+less_one : (i : ℕ) → i + 1 - 1 ≡ i
+less_one i = omega arith
+
+-- the run of a chain
+pub run_of : (asked : List Asked) (chains : List Chain) (runs : List (List Asked)) (i : ℕ) (chain : Chain) → map (members_of asked) chains ≡ runs
+    → i < length chains → slice_index_or chains i chain ≡ chain → slice_index_or runs i [] ≡ members_of asked chain
+run_of asked chains runs i chain whole within is =
+    ap (λ (l : List (List Asked)). slice_index_or l i []) (sym whole)
+    ∙ (get_or-map (members_of asked) chains i chain [] within ∙ ap (members_of asked) is)
+
+module _ (submission : ℕ) (runs : List (List Asked)) (state : State) (i : ℕ) where
+  -- where the chain is
+  pub rest_of_chain : (own : List Asked) (progress : Progress) → slice_index_or runs i [] ≡ own → slice_index_or state.chains.items i not_begun ≡ progress
+      → (view_of submission runs state).rests (i + 1) ≡ rest_in (first_member submission (i + 1)) own progress
+  rest_of_chain own progress run is =
+      ap (λ (n : ℕ). rest_in (first_member submission (i + 1)) (slice_index_or runs n []) (slice_index_or state.chains.items n not_begun)) (less_one i)
+      ∙ (λ j. rest_in (first_member submission (i + 1)) (run j) (is j))
+
+  -- one chain has come further, and the table is the one behind the access
+  pub leads_on : (rules : Rules) (a : Access) (next : State) (own : List Asked) (progress after : Progress) (told : List Completed)
+      → slice_index_or runs i [] ≡ own → slice_index_or state.chains.items i not_begun ≡ progress → i < length state.chains.items
+      → Steps rules (first_member submission (i + 1)) own progress a [] told after
+      → next.chains.items ≡ slice_set state.chains.items i after
+      → table_of_slots next.slots ≡ table_with (table_of_slots state.slots) a
+      → (told ≡ (step rules ((view_of submission runs state).rests (i + 1)) a).0)
+      × Leads rules (view_of submission runs state) (i + 1) a (view_of submission runs next)
+  leads_on rules a next own progress after told run is within steps chains table =
+      let here = rest_of_chain own progress run is in (
+        steps.told ∙ ap (λ (r : Rest). (step rules r a).0) (sym here),
+        record {
+          table = table;
+          own = ap (λ (n : ℕ). rest_in (first_member submission (i + 1)) (slice_index_or runs n []) (slice_index_or next.chains.items n not_begun)) (less_one i)
+              ∙ ((λ j. rest_in (first_member submission (i + 1)) (run j) (slice_index_or (chains j) i not_begun))
+              ∙ (ap (rest_in (first_member submission (i + 1)) own) (get_or-set_same state.chains.items i after not_begun within)
+              ∙ (steps.rest ∙ ap (λ (r : Rest). (step rules r a).1) (sym here))));
+          others = λ other low apart.
+              let elsewhere : other - 1 ≢ i = λ same. apart (omega (arith, same, low)) in
+              ap (λ (l : List Progress). rest_in (first_member submission other) (run_at runs other) (slice_index_or l (other - 1) not_begun)) chains
+              ∙ ap (rest_in (first_member submission other) (run_at runs other)) (get_or-set_other state.chains.items i (other - 1) after not_begun elsewhere);
+        },
+      )
+
+-- a state that says the same is among the states
+pub same_view : (submission : ℕ) (runs : List (List Asked)) (one other : State) → table_of_slots one.slots ≡ table_of_slots other.slots
+    → one.chains.items ≡ other.chains.items → view_of submission runs one ≡ view_of submission runs other
+same_view submission runs one other table chains = λ i. record {
+  table = table i;
+  rests = λ chain. rest_in (first_member submission chain) (run_at runs chain) (slice_index_or (chains i) (chain - 1) not_begun);
+}
+
+-- each chain from one on, one after another
+pub at_start_all : (rules : Rules) (says : Completed → Type 0) (submission chain : ℕ) (runs : List (List Asked)) (view : StateView)
+    → ((k : ℕ) → k < length runs
+    → AllByRecursion says (settled_at rules (first_member submission (chain + k)) (slice_index_or runs k [])).0
+    × (view.rests (chain + k) ≡ (settled_at rules (first_member submission (chain + k)) (slice_index_or runs k [])).1))
+    → AreAtStart rules says submission chain runs view
+at_start_all rules says submission chain [] view each = tt
+at_start_all rules says submission chain (run ∷ runs) view each =
+    let none : chain + 0 ≡ chain = omega arith in
+    let first = subst (λ (n : ℕ). AllByRecursion says (settled_at rules (first_member submission n) run).0
+    × (view.rests n ≡ (settled_at rules (first_member submission n) run).1)) none (each 0 (omega arith)) in (
+      first.0,
+      first.1,
+      at_start_all rules says submission (chain + 1) runs view (λ k few.
+          let on : chain + suc k ≡ chain + 1 + k = omega arith in
+          subst (λ (n : ℕ). AllByRecursion says (settled_at rules (first_member submission n) (slice_index_or runs k [])).0
+          × (view.rests n ≡ (settled_at rules (first_member submission n) (slice_index_or runs k [])).1)) on (each (suc k) (omega (arith, few)))),
+    )
+
+-- a state that says the same as one of these is among them
+pub among : (submission : ℕ) (runs : List (List Asked)) (states : List State) (there state : State) (k : ℕ) → slice_get states k ≡ Some there
+    → table_of_slots there.slots ≡ table_of_slots state.slots → there.chains.items ≡ state.chains.items
+    → Contains (map (view_of submission runs) states) (view_of submission runs state)
+among submission runs states there state k is table chains =
+    let within = slice_get_within states k there is in
+    inside_at (view_of submission runs) states k there (view_of submission runs state) within
+    (sym (get_or_from_slice_get states k there there is)) (same_view submission runs there state table chains)
+
+-- a chain that has members left isn't over
+pub not_over : (submission : ℕ) (runs : List (List Asked)) (state : State) (i : ℕ) (own : List Request) (progress : Progress)
+    → all_asked own ≡ slice_index_or runs i [] → slice_index_or state.chains.items i not_begun ≡ progress
+    → i < length runs → progress.done < length own → IsOver (length runs) (view_of submission runs state) → ⊥
+not_over submission runs state i own progress run is within few over =
+    let none = over (i + 1) (omega arith) (omega (arith, within)) in
+    let here = rest_of_chain submission runs state i (all_asked own) progress (sym run) is in
+    let done = is_done (first_member submission (i + 1)) (all_asked own) progress (ap (λ (r : Rest). r.requests) (sym here) ∙ none) in
+    let many = length-map own asked_of in
+    omega (arith, done, many, few)
+
+-- a chain that stands where its requests settle
+pub at_start_by : (rules : Rules) (P : Completed → Type 0) (place : Place) (run : List Asked) (before after : List Completion) (done : ℕ) (progress : Progress)
+    → Settles rules place run (all_completed before) (all_completed after) done → before ≡ [] → All (λ c. P (completed_of c)) after
+    → progress.done ≡ done → progress.made ≡ 0
+    → AllByRecursion P (settled_at rules place run).0 × (rest_in place run progress ≡ (settled_at rules place run).1)
+at_start_by rules P place run before after done progress settles none all at made =
+    let told : all_completed after ≡ (settled_at rules place run).0 =
+    settles.told ∙ ap (λ (l : List Completion). all_completed l ++ (settled_at rules place run).0) none in (
+      subst (AllByRecursion P) told (by_recursion P completed_of after all),
+      (λ i. rest_for (moved place (at i)) (drop (at i) run) (made i)) ∙ sym settles.rest,
+    )
+
+-- an access is explored that leads to a state of the list, with answers that are said
+pub explored : (claimed : Claimed) (state : State) (i : ℕ) (a : Access) (told : List Completion) (next : State)
+    → IsStepTo claimed.submission.now state i a (all_completed told) next
+    → All (λ c. said_by claimed (completed_of c)) told
+    → Contains (states_of claimed) (view_in claimed.submission.now next)
+    → IsExploredBy claimed state i a
+explored claimed state i a told next to said inside = record {
+  said = subst (AllByRecursion (said_by claimed)) to.told (by_recursion (said_by claimed) completed_of told said);
+  next = view_in claimed.submission.now next;
+  inside = inside;
+  leads = to.leads;
+}

@@ -1,0 +1,16 @@
+use Rattle.fx_order.proofs.Words.{◌≡◌, ◌<◌, List, length, arith, subst, slice_index_or, all_asked, IfOk-weaker}
+use Rattle.fx_answers.specs.declared.state.State.{State}
+use Rattle.fx_answers.proofs.AllOfThem.{all_by, as_many}
+use Rattle.fx_answers.proofs.closed.are_all_states.Goals as goal
+
+pub returns : goal.returns
+returns c =
+    let sub = c.args.claimed.now.submission.now in
+    let first : State = c.in-Some.first.now in
+    let size : sub.setting.size ≡ length c.args.slots.now.at.items = omega (arith, c.args.slots.now.at.ok.0) in
+    IfOk-weaker c.are_states_explored.result _ _
+    (λ yes all it. all_by c.args.claimed.now c.args.slots.now first (as_many (all_asked sub.requests.now) sub.chains.now sub.runs)
+    (subst (λ (l : List State). 0 < length l) c.deref.ensures.value c.in-Some.ensures.lookup.3.0)
+    (subst (λ (l : List State). first ≡ slice_index_or l 0 first) c.deref.ensures.value c.in-Some.ensures.lookup.1)
+    (c.are_same.ensures c.if-not-are_same.false) size (c.in_ok-are_at_start.ensures c.if-not-branch.false) (all it))
+    c.are_states_explored.ensures

@@ -1,0 +1,6 @@
+use Rattle.fx_order.proofs.Words.{◌≡◌, ℕ, ◌<◌, slice_index_or}
+use Rattle.fx_answers.specs.declared.chain.Progress.{Progress}
+use Rattle.fx_answers.proofs.state.are_same_chains.Given as goal
+
+abbrev pub invariant-loop-i : goal.invariant-loop-i
+invariant-loop-i l = (k : ℕ) (d : Progress) → k < l.i → slice_index_or l.chains k d ≡ slice_index_or l.others k d

@@ -1,0 +1,4 @@
+pub mod Stands
+pub mod Views
+pub mod Outcomes
+pub mod Listed

@@ -1,0 +1,125 @@
+-- What is looked through of the states that a search met.
+use Rattle.std.specs.Prelude.{◌≡◌, ℕ, ◌+◌, ◌<◌, List, [], length, map, slice_index_or}
+use Rattle.std.specs.Prelude.{All, Contains, Option, Some}
+use Rattle.std.specs.List.{AllByRecursion}
+use Rattle.fx_chain.specs.Completed.{Completed, all_completed}
+use Rattle.fx_chain.specs.Explains.{first_member}
+use Rattle.fx_chain.specs.Operation.{Asked, all_asked}
+use Rattle.fx_chain.specs.declared.completion.Place.{Place}
+use Rattle.fx_order.specs.Access.{Table}
+use Rattle.fx_order.specs.Slots.{ring_of_slots, table_of_slots}
+use Rattle.fx_order.specs.declared.access.Access.{Access}
+use Rattle.fx_order.specs.declared.slots.Slots.{Slots}
+use Rattle.fx_outcomes.specs.Rests.{settled_at}
+use Rattle.fx_outcomes.specs.Nodes.{AreAllStates, IsChainExplored, IsExplored, IsOver, StateView}
+use Rattle.fx_answers.specs.Stands.{rest_in}
+use Rattle.fx_answers.specs.Views.{not_begun, rules_in, runs_in, view_in, views_in}
+use Rattle.fx_ring.specs.Ring.{RingContents, RingState, ring_of}
+use Rattle.fx_ring.specs.Submission.{Reported}
+use Rattle.fx_order.specs.declared.access.ChainAccess.{ChainAccess}
+use Rattle.fx_answers.specs.Outcomes.{IsAnswer, IsEnd, IsReportBy, MayReport, answered}
+use Rattle.fx_answers.specs.Outcomes.{ring_behind}
+use Rattle.fx_answers.specs.declared.closed.Claimed.{Claimed}
+use Rattle.fx_answers.specs.declared.end.End.{End}
+use Rattle.fx_answers.specs.declared.outcome.Answer.{Answer}
+use Rattle.fx_answers.specs.declared.player.Play.{Play}
+use Rattle.fx_answers.specs.declared.state.State.{State}
+use Rattle.fx_answers.specs.declared.submission.Submission.{Submission}
+
+-- what is answered at the place, if there is one, is one of these
+abbrev pub says : Option Place → List Answer → Completed → Type 0
+says place answers c = place ≡ Some c.place → Contains (answered answers) c
+
+abbrev pub said_by : Claimed → Completed → Type 0
+said_by claimed = says claimed.place claimed.answers.now
+
+abbrev pub states_of : Claimed → List StateView
+states_of claimed = views_in claimed.submission.now claimed.found.now.states.items
+
+abbrev pub IsExploredBy : Claimed → State → ℕ → Access → Type 0
+IsExploredBy claimed state i a =
+    IsExplored (rules_in claimed.submission.now) (said_by claimed) (states_of claimed)
+    (view_in claimed.submission.now state) (i + 1) a
+
+abbrev pub IsChainExploredBy : Claimed → State → ℕ → Type 0
+IsChainExploredBy claimed state i =
+    IsChainExplored claimed.submission.now.setting.catalogue.now claimed.submission.now.setting.size
+    (said_by claimed) (states_of claimed) (view_in claimed.submission.now state) (i + 1)
+
+-- each access that a chain may make next in the state is explored
+abbrev pub IsStateExploredBy : Claimed → State → Type 0
+IsStateExploredBy claimed state =
+    (i : ℕ) → i < length claimed.submission.now.chains.now → IsChainExploredBy claimed state i
+
+abbrev pub run_in : Claimed → ℕ → List Asked
+run_in claimed i = slice_index_or (runs_in claimed.submission.now) i []
+
+abbrev pub first_in : Claimed → ℕ → Place
+first_in claimed i = first_member claimed.submission.now.number (i + 1)
+
+-- a chain is at its first access, and what is answered before is said
+abbrev pub IsAtStartBy : Claimed → State → ℕ → Type 0
+IsAtStartBy claimed state i =
+    AllByRecursion (said_by claimed)
+    (settled_at (rules_in claimed.submission.now) (first_in claimed i) (run_in claimed i)).0
+    × (rest_in (first_in claimed i) (run_in claimed i)
+    (slice_index_or state.chains.items i not_begun)
+    ≡ (settled_at (rules_in claimed.submission.now) (first_in claimed i) (run_in claimed i)).1)
+
+abbrev pub AreAtStartBy : Claimed → State → Type 0
+AreAtStartBy claimed state =
+    (i : ℕ) → i < length claimed.submission.now.chains.now → IsAtStartBy claimed state i
+
+-- the states are all of the submission at these slots, and what is answered at the place is said
+pub record AreAllBy (claimed : Claimed) (slots : Slots) : Type 0 where
+  pub are : (submissions registrations : ℕ) → claimed.submission.now.number ≡ submissions + 1
+      → AreAllStates (said_by claimed)
+      (ring_of_slots claimed.submission.now.setting.catalogue.now slots submissions registrations)
+      (all_asked claimed.submission.now.requests.now) (states_of claimed)
+
+-- of a submission at these slots, whatever was registered before
+abbrev pub OfEach : Submission → Slots → (RingState → List Asked → Type 0) → Type 0
+OfEach submission slots P = (submissions registrations : ℕ)
+    → submission.number ≡ submissions + 1
+    → P (ring_of_slots submission.setting.catalogue.now slots submissions registrations)
+    (all_asked submission.requests.now)
+
+abbrev pub report_of : Submission → Play → Reported
+report_of submission play = record {
+  submission = submission.number;
+  completions = all_completed play.completions.items;
+  closes = record { files = play.closes.items; room = 0 };
+}
+
+-- the play's order comes to what it says and leaves these slots, and so may each ring
+pub record IsPlayOf (old : RingState) (requests : List Asked) (order : List ChainAccess)
+    (report : Reported) (left : Slots) : Type 0 where
+  pub by : IsReportBy old requests order report left
+  pub may : (ring : RingContents) → ring_of ring ≡ old
+      → (new : RingContents) × (ring_of new ≡ ring_behind old left)
+      × MayReport ring requests report new
+
+abbrev pub IsPlayIn : Submission → Slots → Play → Slots → Type 0
+IsPlayIn submission slots play left = OfEach submission slots (λ old requests.
+    IsPlayOf old requests play.order.items (report_of submission play) left)
+
+abbrev pub IsAnswerIn : Submission → Slots → Place → Answer → Type 0
+IsAnswerIn submission slots place answer = OfEach submission slots (λ old requests.
+    IsAnswer old requests place answer)
+
+abbrev pub IsEndIn : Submission → Slots → End → Type 0
+IsEndIn submission slots end = OfEach submission slots (λ old requests. IsEnd old requests end)
+
+abbrev pub tables_behind : List End → List Table
+tables_behind ends = map (λ end. table_of_slots end.slots) ends
+
+-- where no chain of the state has an access left, its table is that of one of the ends
+abbrev pub IsEndListed : Submission → List End → State → Type 0
+IsEndListed submission ends state =
+    IsOver (length (runs_in submission)) (view_in submission state)
+    → Contains (tables_behind ends) (table_of_slots state.slots)
+
+-- the states are all of the submission at these slots, and the ends are those of them
+pub record AreAllEndsBy (claimed : Claimed) (slots : Slots) (ends : List End) : Type 0 where
+  pub all : AreAllBy claimed slots
+  pub listed : All (IsEndListed claimed.submission.now ends) claimed.found.now.states.items

@@ -1,0 +1,204 @@
+//! Whether the states that a search met are all of them.
+ghost use Rattle.std.specs.Prelude.{◌≡◌, ◌<◌, IfOk, IsTrue, All, Contains, length};
+ghost use Rattle.fx_chain.specs.Completed.{all_completed, completed_of};
+ghost use Rattle.fx_order.specs.Access.{Permits};
+ghost use Rattle.fx_order.specs.Slots.{table_of_slots};
+ghost use Rattle.fx_answers.specs.Outcomes.{answered};
+ghost use Rattle.fx_answers.specs.Listed.{AreAllBy, AreAtStartBy, IsAtStartBy, says};
+ghost use Rattle.fx_answers.specs.Listed.{IsChainExploredBy, IsExploredBy, IsStateExploredBy};
+
+use crate::chain::{Progress, chain_accesses, settle};
+use crate::found::Found;
+use crate::outcome::Answer;
+use crate::state::{State, are_same, next_state};
+use crate::submission::Submission;
+use fx_base::NoMemory;
+use fx_chain::{Completion, Place};
+use fx_order::{Access, Slots};
+
+// Whether both say the same.
+fn is_same(one: &Completion, other: &Completion) -> bool
+    ensures { IsTrue result → completed_of one.now ≡ completed_of other.now }
+{
+    one.place == other.place && one.res == other.res && one.got.as_slice() == other.got.as_slice()
+}
+
+/// Whether a completion is among these.
+pub(crate) fn is_among(completions: &[Completion], c: &Completion) -> bool {
+    for other in completions {
+        if is_same(other, c) {
+            return true;
+        }
+    }
+    false
+}
+
+// Whether a completion is one of these answers.
+fn is_answered(answers: &[Answer], c: &Completion) -> bool
+    ensures { IsTrue result → Contains (answered answers.now) (completed_of c.now) }
+{
+    for answer in answers {
+        if is_same(&answer.completion, c) {
+            return true;
+        }
+    }
+    false
+}
+
+// Whether what was answered at the place is among the answers.
+fn are_listed(place: Option<Place>, answers: &[Answer], told: &[Completion]) -> bool
+    ensures { IsTrue result → All (λ c. says place answers.now (completed_of c)) told.now }
+{
+    for c in told {
+        if place == Some(c.place) && !is_answered(answers, c) {
+            return false;
+        }
+    }
+    true
+}
+
+/// What is looked through: states, the place that is asked for, if there is one, and what is answered there.
+#[derive(Drop)]
+pub(crate) struct Claimed<'a> {
+    pub(crate) submission: &'a Submission<'a>,
+    pub(crate) found: &'a Found,
+    pub(crate) place: Option<Place>,
+    pub(crate) answers: &'a [Answer],
+}
+
+// Whether an access, if the table permits it, leads to one of the states, and what is answered at the place on the way is among
+// the answers.
+fn is_explored(
+    claimed: &Claimed<'_>,
+    state: &State,
+    i: usize,
+    access: &Access,
+) -> Result<bool, NoMemory>
+    ensures { IfOk result (λ yes. IsTrue yes → Permits (table_of_slots state.now.slots) access.now
+        → IsExploredBy claimed.now state.now i access.now) }
+{
+    if !state.slots.permits(access) {
+        return Ok(true);
+    }
+    let mut told = Vec::new(claimed.submission.setting.alloc);
+    let Some(next) = next_state(claimed.submission, state, i, access, &mut told)? else {
+        return Ok(false);
+    };
+    if !are_listed(claimed.place, claimed.answers, &told) {
+        return Ok(false);
+    }
+    claimed.found.has(&next)
+}
+
+// Whether each of these accesses of a chain that the table permits is explored.
+fn are_explored(
+    claimed: &Claimed<'_>,
+    state: &State,
+    i: usize,
+    accesses: &[Access],
+) -> Result<bool, NoMemory>
+    ensures { IfOk result (λ yes. IsTrue yes → All (λ a.
+        Permits (table_of_slots state.now.slots) a → IsExploredBy claimed.now state.now i a)
+        accesses.now) }
+{
+    for access in accesses {
+        if !is_explored(claimed, state, i, access)? {
+            return Ok(false);
+        }
+    }
+    Ok(true)
+}
+
+// Whether each access that a chain may make next is explored.
+fn is_chain_explored(claimed: &Claimed<'_>, state: &State, i: usize) -> Result<bool, NoMemory>
+    requires { i < length claimed.now.submission.now.chains.now }
+    ensures { IfOk result (λ yes. IsTrue yes → IsChainExploredBy claimed.now state.now i) }
+{
+    let submission = claimed.submission;
+    let setting = &submission.setting;
+    if state.slots.at.len() != setting.size as usize {
+        return Ok(false);
+    }
+    let Some(progress) = state.chains.get(i) else {
+        return Ok(false);
+    };
+    let own = submission.members(i);
+    let first = submission.first(i);
+    let accesses = chain_accesses(setting, &state.slots, first, own, *progress)?;
+    are_explored(claimed, state, i, &accesses)
+}
+
+// Whether each access that may be made in a state is explored.
+fn is_state_explored(claimed: &Claimed<'_>, state: &State) -> Result<bool, NoMemory>
+    ensures { IfOk result (λ yes. IsTrue yes → IsStateExploredBy claimed.now state.now) }
+{
+    for i in 0..claimed.submission.chains.len() {
+        if !is_chain_explored(claimed, state, i)? {
+            return Ok(false);
+        }
+    }
+    Ok(true)
+}
+
+// Whether a chain of a state is at its first access, and what it answered before is listed.
+fn is_at_start(claimed: &Claimed<'_>, state: &State, i: usize) -> Result<bool, NoMemory>
+    requires { i < length claimed.now.submission.now.chains.now }
+    ensures { IfOk result (λ yes. IsTrue yes → IsAtStartBy claimed.now state.now i) }
+{
+    let submission = claimed.submission;
+    let here = state.progress(i);
+    let mut told = Vec::new(submission.setting.alloc);
+    let own = submission.members(i);
+    let done = settle(&submission.setting, submission.first(i), own, &mut told)?;
+    if here.done != done || here.made != 0 {
+        return Ok(false);
+    }
+    Ok(are_listed(claimed.place, claimed.answers, &told))
+}
+
+// Whether each chain of a state is at its first access.
+fn are_at_start(claimed: &Claimed<'_>, state: &State) -> Result<bool, NoMemory>
+    ensures { IfOk result (λ yes. IsTrue yes → AreAtStartBy claimed.now state.now) }
+{
+    for i in 0..claimed.submission.chains.len() {
+        if !is_at_start(claimed, state, i)? {
+            return Ok(false);
+        }
+    }
+    Ok(true)
+}
+
+// Whether all states are explored.
+fn are_states_explored(claimed: &Claimed<'_>) -> Result<bool, NoMemory>
+    ensures { IfOk result (λ yes. IsTrue yes
+        → All (IsStateExploredBy claimed.now) claimed.now.found.now.states.items) }
+{
+    for state in &claimed.found.states {
+        if !is_state_explored(claimed, state)? {
+            return Ok(false);
+        }
+    }
+    Ok(true)
+}
+
+/// Whether a search says that it reached its end, and the states that it found, the first one of which has these slots, are
+/// all of the submission, and what is answered at the place on the way is among the answers.
+pub(crate) fn are_all_states(claimed: &Claimed<'_>, slots: &Slots) -> Result<bool, NoMemory>
+    ensures { IfOk result (λ yes. IsTrue yes → AreAllBy claimed.now slots.now) }
+{
+    if !claimed.found.is_whole {
+        return Ok(false);
+    }
+    let Some(first) = claimed.found.states.get(0) else {
+        return Ok(false);
+    };
+    if slots.at.len() != claimed.submission.setting.size as usize
+        || !are_same(&first.slots, slots)
+    {
+        return Ok(false);
+    }
+    if !are_at_start(claimed, first)? {
+        return Ok(false);
+    }
+    are_states_explored(claimed)
+}

@@ -1,0 +1,183 @@
+//! Which rings a submission may leave: all of them, each by an order.
+ghost use Rattle.std.specs.Prelude.{◌≡◌, ◌+◌, ◌<◌, ◌≤◌, ◌^◌, ℕ, All, IfOk, IfSome, IsTrue, length};
+ghost use Rattle.fx_base.specs.Catalogue.{IsCatalogue};
+ghost use Rattle.fx_chain.specs.Accepted.{IsAccepted};
+ghost use Rattle.fx_chain.specs.Operation.{all_asked};
+ghost use Rattle.fx_order.specs.Slots.{ring_of_slots};
+ghost use Rattle.fx_plain.specs.declared.table.TheConstants.{MOST_SLOTS};
+ghost use Rattle.fx_answers.specs.Listed.{AreAllEndsBy, IsEndIn, IsEndListed};
+ghost use Rattle.fx_answers.specs.Outcomes.{HasEachEnd, IsEnd};
+
+use crate::closed::{Claimed, are_all_states};
+use crate::confirm::confirm;
+use crate::explore::explore;
+use crate::found::{Found, Step};
+use crate::player::play_to;
+use crate::setting::Setting;
+use crate::state::{State, are_same};
+use crate::submission::Submission;
+use fx_base::{Catalogue, NoMemory};
+use fx_chain::{Request, cut};
+use fx_order::{ChainAccess, Slots};
+use std::alloc::Global;
+
+/// One ring that a submission may leave: what then stands at the slots, and an order that leads there.
+#[derive(Debug, Drop)]
+pub struct End {
+    /// The slots.
+    pub slots: Slots,
+    /// The order.
+    pub order: Vec<ChainAccess>,
+}
+
+/// Which rings a submission may leave.
+#[derive(Debug, Drop)]
+pub struct Ends {
+    /// The ends.
+    pub ends: Vec<End>,
+    /// Whether these are all of them.
+    pub are_all: bool,
+}
+
+// The end of an order that begins with the steps up to this one, if it is confirmed.
+fn confirmed(
+    submission: &Submission<'_>,
+    slots: &Slots,
+    found: &Found,
+    by: Option<Step>,
+) -> Result<Option<End>, NoMemory>
+    ensures { IfOk result (λ end. IfSome end (IsEndIn submission.now slots.now)) }
+{
+    let play = play_to(submission, slots, found, by)?;
+    let Some(left) = confirm(submission, slots, &play)? else {
+        return Ok(None);
+    };
+    Ok(Some(End {
+        slots: left,
+        order: play.order,
+    }))
+}
+
+// The end that a state is, if no chain has an access left there and it is confirmed.
+fn end_at(
+    submission: &Submission<'_>,
+    slots: &Slots,
+    found: &Found,
+    i: usize,
+) -> Result<Option<End>, NoMemory>
+    ensures { IfOk result (λ end. IfSome end (IsEndIn submission.now slots.now)) }
+{
+    let Some(state) = found.states.get(i) else {
+        return Ok(None);
+    };
+    let Some(by) = found.from.get(i) else {
+        return Ok(None);
+    };
+    if !state.is_over(submission) {
+        return Ok(None);
+    }
+    confirmed(submission, slots, found, *by)
+}
+
+// The ends that a search met and that are confirmed, in the order of the states.
+fn all_confirmed(
+    submission: &Submission<'_>,
+    slots: &Slots,
+    found: &Found,
+) -> Result<Vec<End>, NoMemory>
+    ensures { IfOk result (λ ends. All (IsEndIn submission.now slots.now) ends.items) }
+{
+    let mut ends = Vec::new(submission.setting.alloc);
+    for i in 0..found.states.len() {
+        if let Some(end) = end_at(submission, slots, found, i)? {
+            ends.push(end)?;
+        }
+    }
+    Ok(ends)
+}
+
+// Whether the ring that a state leaves where no chain has an access left is that of the end with this number.
+fn is_listed(submission: &Submission<'_>, state: &State, ends: &[End], number: usize) -> bool
+    ensures { IsTrue result → IsEndListed submission.now ends.now state.now }
+{
+    if !state.is_over(submission) {
+        return true;
+    }
+    match ends.get(number) {
+        Some(end) => are_same(&end.slots, &state.slots),
+        None => false,
+    }
+}
+
+// Whether the ends are those of the states, in their order.
+fn are_listed(submission: &Submission<'_>, states: &[State], ends: &[End]) -> bool
+    ensures { IsTrue result → All (IsEndListed submission.now ends.now) states.now }
+{
+    let mut number: usize = 0;
+    for state in states {
+        if !is_listed(submission, state, ends, number) {
+            return false;
+        }
+        number = number.saturating_add(usize::from(state.is_over(submission)));
+    }
+    true
+}
+
+// Whether the states that a search met are all of the submission, and the ends are those of them.
+fn are_all_ends(claimed: &Claimed<'_>, slots: &Slots, ends: &[End]) -> Result<bool, NoMemory>
+    ensures { IfOk result (λ yes. IsTrue yes → AreAllEndsBy claimed.now slots.now ends.now) }
+{
+    if !are_listed(claimed.submission, &claimed.found.states, ends) {
+        return Ok(false);
+    }
+    are_all_states(claimed, slots)
+}
+
+/// Which rings a submission may leave, at a ring with this catalogue and these slots and behind so many accepted submissions,
+/// where no request lacks memory: each with an order of accesses that leads to it. Where `are_all` is true it leaves no
+/// other; else more states would have to be met than `states`, or than have room in a gibibyte. The caller has seen that no
+/// request has a fault ([`fx_chain::check`]).
+///
+/// # Errors
+/// `NoMemory` where there is no memory for the states, or for an end and its order.
+pub fn may_leave(
+    alloc: Global,
+    catalogue: &Catalogue,
+    slots: &Slots,
+    submissions: u32,
+    requests: &[Request],
+    states: usize,
+) -> Result<Ends, NoMemory>
+    requires catalogue { IsCatalogue catalogue.now }
+    requires accepted { IsAccepted (all_asked requests.now) }
+    requires few_slots { length slots.now.at.items ≤ MOST_SLOTS }
+    requires few { submissions + 1 < 2 ^ 32 }
+    ensures each { IfOk result (λ found. (registrations : ℕ) → All (IsEnd
+        (ring_of_slots catalogue.now slots.now submissions registrations)
+        (all_asked requests.now)) found.ends.items) }
+    ensures all { IfOk result (λ found. IsTrue found.are_all → (registrations : ℕ) → HasEachEnd
+        (ring_of_slots catalogue.now slots.now submissions registrations)
+        (all_asked requests.now) found.ends.items) }
+{
+    let chains = cut(alloc, requests)?;
+    let submission = Submission {
+        setting: Setting {
+            alloc,
+            catalogue,
+            size: slots.at.len() as u32,
+        },
+        number: submissions + 1,
+        requests,
+        chains: &chains,
+    };
+    let found = explore(&submission, slots, None, states)?;
+    let ends = all_confirmed(&submission, slots, &found)?;
+    let claimed = Claimed {
+        submission: &submission,
+        found: &found,
+        place: None,
+        answers: &[],
+    };
+    let are_all = are_all_ends(&claimed, slots, &ends)?;
+    Ok(Ends { ends, are_all })
+}

@@ -1,0 +1,181 @@
+//! A search for all states of a submission. Nothing is proved of what it meets: the states are looked through
+//! (`crate::closed`), and what was found is confirmed by an order (`crate::confirm`).
+
+use crate::chain::{Progress, chain_accesses, settle};
+use crate::closed::is_among;
+use crate::found::{Found, Step, key_of};
+use crate::state::{State, copy_of, next_state};
+use crate::submission::Submission;
+use fx_base::NoMemory;
+use fx_chain::{Completion, Place};
+use fx_order::{Access, Slots};
+use indexmap::IndexSet;
+use std::alloc::Global;
+
+/// The first state of a submission at these slots. What each chain answers there is added to its list.
+pub(crate) fn start(
+    submission: &Submission<'_>,
+    slots: &Slots,
+    told: &mut Vec<Completion>,
+) -> Result<State, NoMemory> {
+    let alloc = submission.setting.alloc;
+    let mut chains = Vec::new(alloc);
+    for i in 0..submission.chains.len() {
+        let own = submission.members(i);
+        let done = settle(&submission.setting, submission.first(i), own, told)?;
+        chains.push(Progress { done, made: 0 })?;
+    }
+    Ok(State {
+        slots: copy_of(alloc, slots)?,
+        chains,
+    })
+}
+
+/// The accesses that a chain may make next in a state, by the chain's number from 0.
+pub(crate) fn accesses_of(
+    submission: &Submission<'_>,
+    state: &State,
+    i: usize,
+) -> Result<Vec<Access>, NoMemory> {
+    let setting = &submission.setting;
+    if state.slots.at.len() > setting.size as usize || i >= submission.chains.len() {
+        return Ok(Vec::new(setting.alloc));
+    }
+    let Some(progress) = state.chains.get(i) else {
+        return Ok(Vec::new(setting.alloc));
+    };
+    let own = submission.members(i);
+    chain_accesses(setting, &state.slots, submission.first(i), own, *progress)
+}
+
+// How many bytes the states of a search may take.
+const MOST_BYTES: usize = 1 << 30;
+
+// How many states have room, if no more than so many are asked for. A slot of a state takes 40 bytes, and its numbers in the
+// key up to 48; a chain takes 16 and 16; and beside them a state has its lists, a step and a place in the hash table, whose
+// blocks may just have been doubled.
+fn room_for(submission: &Submission<'_>, most: usize) -> usize {
+    let slots = (submission.setting.size as usize).saturating_mul(88);
+    let chains = submission.chains.len().saturating_mul(32);
+    let weight = slots.saturating_add(chains).saturating_add(768);
+    most.min(MOST_BYTES.checked_div(weight).unwrap_or(0))
+}
+
+/// A search: what it found, the numbers of the states that it has still to look at, and how many states it may meet.
+#[derive(Debug, Drop)]
+struct Search {
+    found: Found,
+    open: Vec<usize>,
+    most: usize,
+}
+
+impl Search {
+    // Notes a state, unless it is known, and the step that led to it. Whether there was room.
+    fn add(&mut self, state: State, from: Option<Step>) -> Result<bool, NoMemory> {
+        let found = &mut self.found;
+        let key = key_of(found.alloc, &state)?;
+        if found.keys.contains(&key) {
+            return Ok(true);
+        }
+        if found.states.len() >= self.most {
+            return Ok(false);
+        }
+        self.open.push(found.states.len())?;
+        found.keys.insert(key)?;
+        found.states.push(state)?;
+        found.from.push(from)?;
+        Ok(true)
+    }
+
+    // Notes the answers at the place that aren't known, and the step that gave them.
+    fn note(
+        &mut self,
+        place: Option<Place>,
+        told: Vec<Completion>,
+        by: Option<Step>,
+    ) -> Result<(), NoMemory> {
+        let found = &mut self.found;
+        for c in told {
+            if place == Some(c.place) && !is_among(&found.answers, &c) {
+                found.answers.push(c)?;
+                found.by.push(by)?;
+            }
+        }
+        Ok(())
+    }
+
+    // Follows each access that a chain may make next in a state. Whether there was room for the states.
+    fn follow(
+        &mut self,
+        submission: &Submission<'_>,
+        place: Option<Place>,
+        state: usize,
+        chain: usize,
+    ) -> Result<bool, NoMemory> {
+        let Some(here) = self.found.states.get(state) else {
+            return Ok(true);
+        };
+        let accesses = accesses_of(submission, here, chain)?;
+        for access in accesses {
+            let Some(here) = self.found.states.get(state) else {
+                return Ok(true);
+            };
+            let mut told = Vec::new(submission.setting.alloc);
+            let Some(next) = next_state(submission, here, chain, &access, &mut told)? else {
+                continue;
+            };
+            let step = Step {
+                state,
+                chain,
+                access,
+            };
+            self.note(place, told, Some(step))?;
+            if !self.add(next, Some(step))? {
+                return Ok(false);
+            }
+        }
+        Ok(true)
+    }
+
+    // Looks at the states that were met last first, so that ends are met early. Whether there was room for all.
+    fn run(&mut self, submission: &Submission<'_>, place: Option<Place>) -> Result<bool, NoMemory> {
+        for _ in 0..self.most {
+            let Some(state) = self.open.pop() else {
+                return Ok(true);
+            };
+            for chain in 0..submission.chains.len() {
+                if !self.follow(submission, place, state, chain)? {
+                    return Ok(false);
+                }
+            }
+        }
+        Ok(self.open.is_empty())
+    }
+}
+
+/// Looks for all states of a submission at these slots, and for what is answered at the place on the way, if there is one. It
+/// meets at most so many states, and no more than have room in a gibibyte.
+pub(crate) fn explore(
+    submission: &Submission<'_>,
+    slots: &Slots,
+    place: Option<Place>,
+    most: usize,
+) -> Result<Found, NoMemory> {
+    let alloc = submission.setting.alloc;
+    let mut search = Search {
+        found: Found::new(alloc),
+        open: Vec::new(alloc),
+        most: room_for(submission, most),
+    };
+    let mut told = Vec::new(alloc);
+    let first = start(submission, slots, &mut told)?;
+    search.note(place, told, None)?;
+    let is_whole = search.add(first, None)? && search.run(submission, place)?;
+    let Search {
+        mut found,
+        open: _,
+        most: _,
+    } = search;
+    found.is_whole = is_whole;
+    Ok(found)
+}

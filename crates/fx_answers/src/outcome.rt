@@ -1,0 +1,175 @@
+//! What a request of a submission may answer: all of it, each by an order.
+ghost use Rattle.std.specs.Prelude.{◌≡◌, ◌+◌, ◌<◌, ◌≤◌, ◌^◌, ℕ, All, Contains, IfOk, IfSome, IsTrue, length};
+ghost use Rattle.fx_base.specs.Catalogue.{IsCatalogue};
+ghost use Rattle.fx_chain.specs.Accepted.{IsAccepted};
+ghost use Rattle.fx_chain.specs.Completed.{all_completed, completed_of};
+ghost use Rattle.fx_chain.specs.Operation.{all_asked};
+ghost use Rattle.fx_order.specs.Slots.{ring_of_slots};
+ghost use Rattle.fx_plain.specs.declared.table.TheConstants.{MOST_SLOTS};
+ghost use Rattle.fx_answers.specs.Listed.{IsAnswerIn};
+ghost use Rattle.fx_answers.specs.Outcomes.{HasEachAnswer, IsAnswer};
+
+use crate::closed::{Claimed, are_all_states};
+use crate::confirm::{answer_at, confirm};
+use crate::explore::explore;
+use crate::found::{Found, Step};
+use crate::player::play_to;
+use crate::setting::Setting;
+use crate::submission::Submission;
+use fx_base::{Catalogue, NoMemory};
+use fx_chain::{Completion, Place, Request, cut};
+use fx_order::{ChainAccess, Slots};
+use std::alloc::Global;
+
+/// What a request may answer, an order of the submission's accesses that comes to it, and the slots that this order leaves.
+#[derive(Debug, Drop)]
+pub struct Answer {
+    /// The answer.
+    pub completion: Completion,
+    /// The order.
+    pub order: Vec<ChainAccess>,
+    /// The slots behind the submission, where its accesses are made in this order.
+    pub slots: Slots,
+}
+
+/// What a request may answer.
+#[derive(Debug, Drop)]
+pub struct Answers {
+    /// The answers.
+    pub answers: Vec<Answer>,
+    /// Whether these are all of them.
+    pub are_all: bool,
+}
+
+/// What is asked of a submission.
+#[derive(Drop)]
+pub struct Question<'a> {
+    /// The submission's requests.
+    pub requests: &'a [Request],
+    /// The place of the request that is asked for.
+    pub place: Place,
+    /// How many states may be met, each of them the files at the slots and how far each chain has come.
+    pub states: usize,
+}
+
+// A completion once more.
+fn copy_of(alloc: Global, c: &Completion) -> Result<Completion, NoMemory>
+    ensures { IfOk result (λ copy. completed_of copy ≡ completed_of c.now) }
+{
+    Ok(Completion {
+        place: c.place,
+        res: c.res,
+        got: Vec::from_slice(alloc, &c.got)?,
+    })
+}
+
+// What is answered at a place, once more.
+fn answer_of(
+    alloc: Global,
+    completions: &[Completion],
+    place: Place,
+) -> Result<Option<Completion>, NoMemory>
+    ensures inside { IfOk result (λ c. IfSome c (λ c.
+        Contains (all_completed completions.now) (completed_of c))) }
+    ensures there { IfOk result (λ c. IfSome c (λ c. c.place ≡ place)) }
+{
+    let Some(c) = answer_at(completions, place) else {
+        return Ok(None);
+    };
+    let copy = copy_of(alloc, c)?;
+    Ok(Some(copy))
+}
+
+// What is answered at a place by an order that begins with the steps up to this one, if that is confirmed.
+fn confirmed(
+    submission: &Submission<'_>,
+    slots: &Slots,
+    found: &Found,
+    place: Place,
+    by: Option<Step>,
+) -> Result<Option<Answer>, NoMemory>
+    ensures { IfOk result (λ answer.
+        IfSome answer (IsAnswerIn submission.now slots.now place)) }
+{
+    let play = play_to(submission, slots, found, by)?;
+    let Some(left) = confirm(submission, slots, &play)? else {
+        return Ok(None);
+    };
+    let Some(completion) = answer_of(submission.setting.alloc, &play.completions, place)? else {
+        return Ok(None);
+    };
+    Ok(Some(Answer {
+        completion,
+        order: play.order,
+        slots: left,
+    }))
+}
+
+// The answers that a search met and that are confirmed.
+fn all_confirmed(
+    submission: &Submission<'_>,
+    slots: &Slots,
+    found: &Found,
+    place: Place,
+) -> Result<Vec<Answer>, NoMemory>
+    ensures { IfOk result (λ answers.
+        All (IsAnswerIn submission.now slots.now place) answers.items) }
+{
+    let mut answers = Vec::new(submission.setting.alloc);
+    for by in &found.by {
+        if let Some(answer) = confirmed(submission, slots, found, place, *by)? {
+            answers.push(answer)?;
+        }
+    }
+    Ok(answers)
+}
+
+/// What the request at a place of a submission may answer, at a ring with this catalogue and these slots and behind so many
+/// accepted submissions, where no request lacks memory: each answer with an order of accesses that comes to it. Where
+/// `are_all` is true it answers nothing else; else more states would have to be met than may be, or than have room in a
+/// gibibyte. A place where no request stands has no answer. The caller has seen that no request has a fault
+/// ([`fx_chain::check`]).
+///
+/// # Errors
+/// `NoMemory` where there is no memory for the states, or for an answer and its order.
+pub fn may_answer(
+    alloc: Global,
+    catalogue: &Catalogue,
+    slots: &Slots,
+    submissions: u32,
+    question: &Question<'_>,
+) -> Result<Answers, NoMemory>
+    requires catalogue { IsCatalogue catalogue.now }
+    requires accepted { IsAccepted (all_asked question.now.requests.now) }
+    requires few_slots { length slots.now.at.items ≤ MOST_SLOTS }
+    requires few { submissions + 1 < 2 ^ 32 }
+    ensures each { IfOk result (λ found. (registrations : ℕ) → All (IsAnswer
+        (ring_of_slots catalogue.now slots.now submissions registrations)
+        (all_asked question.now.requests.now) question.now.place) found.answers.items) }
+    ensures all { IfOk result (λ found. IsTrue found.are_all → (registrations : ℕ) → HasEachAnswer
+        (ring_of_slots catalogue.now slots.now submissions registrations)
+        (all_asked question.now.requests.now) question.now.place found.answers.items) }
+{
+    let chains = cut(alloc, question.requests)?;
+    let submission = Submission {
+        setting: Setting {
+            alloc,
+            catalogue,
+            size: slots.at.len() as u32,
+        },
+        number: submissions + 1,
+        requests: question.requests,
+        chains: &chains,
+    };
+    let place = question.place;
+    let found = explore(&submission, slots, Some(place), question.states)?;
+    let answers = all_confirmed(&submission, slots, &found, place)?;
+    let claimed = Claimed {
+        submission: &submission,
+        found: &found,
+        place: Some(place),
+        answers: &answers,
+    };
+    let are_all = are_all_states(&claimed, slots)?;
+    Ok(Answers { answers, are_all })
+}

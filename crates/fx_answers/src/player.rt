@@ -1,0 +1,156 @@
+//! A play of a submission, access by access. Nothing is proved of it: what it comes to is confirmed (`crate::confirm`).
+
+use crate::explore::{accesses_of, start};
+use crate::found::{Found, Step};
+use crate::state::{State, next_state};
+use crate::submission::Submission;
+use fx_base::{Closed, NoMemory};
+use fx_chain::Completion;
+use fx_order::{Access, ChainAccess, Slots};
+
+// More accesses than a submission may make.
+const MOST_ACCESSES: usize = 1 << 24;
+
+/// What an order of a submission comes to.
+#[derive(Debug, Drop)]
+pub(crate) struct Play {
+    /// The order.
+    pub(crate) order: Vec<ChainAccess>,
+    /// What the requests answer, in order of place.
+    pub(crate) completions: Vec<Completion>,
+    /// The files that are closed, in order of mark.
+    pub(crate) closes: Vec<Closed>,
+}
+
+// The steps that led to a state, and the last one.
+fn steps_to(submission: &Submission<'_>, found: &Found, last: Step) -> Result<Vec<Step>, NoMemory> {
+    let mut steps = Vec::new(submission.setting.alloc);
+    let mut step = last;
+    for _ in 0..found.states.len() {
+        steps.push(step)?;
+        match found.from.get(step.state) {
+            Some(Some(earlier)) => step = *earlier,
+            _ => break,
+        }
+    }
+    steps.reverse();
+    Ok(steps)
+}
+
+/// A play of a submission, access by access.
+#[derive(Debug, Drop)]
+struct Player {
+    state: State,
+    order: Vec<ChainAccess>,
+    told: Vec<Vec<Completion>>,
+    closes: Vec<Closed>,
+}
+
+// The file that an access takes from its slot.
+fn removed_by(access: &Access) -> Option<Closed> {
+    match access {
+        Access::Puts(_, _, removed) => *removed,
+        Access::Clears(_, removed) => *removed,
+        Access::Takes(_, removed) => *removed,
+        _ => None,
+    }
+}
+
+impl Player {
+    // Makes an access, if it may be made.
+    fn play(
+        &mut self,
+        submission: &Submission<'_>,
+        chain: usize,
+        access: Access,
+    ) -> Result<bool, NoMemory> {
+        let mut told = Vec::new(submission.setting.alloc);
+        let Some(next) = next_state(submission, &self.state, chain, &access, &mut told)? else {
+            return Ok(false);
+        };
+        self.state = next;
+        if let Some(own) = self.told.get_mut(chain) {
+            own.append(&mut told)?;
+        }
+        if let Some(file) = removed_by(&access) {
+            self.closes.push(file)?;
+        }
+        self.order.push(ChainAccess {
+            chain: (chain.min(u32::MAX as usize - 1) + 1) as u32,
+            access,
+        })?;
+        Ok(true)
+    }
+
+    // Makes the first access that may be made.
+    fn play_any(&mut self, submission: &Submission<'_>) -> Result<bool, NoMemory> {
+        for chain in 0..submission.chains.len() {
+            for access in accesses_of(submission, &self.state, chain)? {
+                if self.play(submission, chain, access)? {
+                    return Ok(true);
+                }
+            }
+        }
+        Ok(false)
+    }
+}
+
+// The play of a submission at its start.
+fn begin(submission: &Submission<'_>, slots: &Slots) -> Result<Player, NoMemory> {
+    let alloc = submission.setting.alloc;
+    let mut all = Vec::new(alloc);
+    let state = start(submission, slots, &mut all)?;
+    let mut told = Vec::new(alloc);
+    for _ in submission.chains {
+        told.push(Vec::new(alloc))?;
+    }
+    for c in all {
+        let chain = (c.place.chain as usize).max(1) - 1;
+        if let Some(own) = told.get_mut(chain) {
+            own.push(c)?;
+        }
+    }
+    Ok(Player {
+        state,
+        order: Vec::new(alloc),
+        told,
+        closes: Vec::new(alloc),
+    })
+}
+
+/// A play of a submission at these slots that begins with the steps up to this one, and goes on to the end.
+pub(crate) fn play_to(
+    submission: &Submission<'_>,
+    slots: &Slots,
+    found: &Found,
+    last: Option<Step>,
+) -> Result<Play, NoMemory> {
+    let alloc = submission.setting.alloc;
+    let mut player = begin(submission, slots)?;
+    if let Some(last) = last {
+        for step in steps_to(submission, found, last)? {
+            player.play(submission, step.chain, step.access)?;
+        }
+    }
+    for _ in 0..MOST_ACCESSES {
+        if !player.play_any(submission)? {
+            break;
+        }
+    }
+    let Player {
+        state: _,
+        order,
+        told,
+        mut closes,
+    } = player;
+    closes.sort_unstable_by_key(|file| file.mark);
+    let mut completions = Vec::new(alloc);
+    for mut own in told {
+        completions.append(&mut own)?;
+    }
+    Ok(Play {
+        order,
+        completions,
+        closes,
+    })
+}

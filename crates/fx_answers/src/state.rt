@@ -1,0 +1,173 @@
+//! A state of a submission that is played by an order, and where an access leads from it.
+ghost use Rattle.std.specs.Prelude.{◌≡◌, ◌<◌, IfOk, IfSome, IsTrue, [], length, slice_index_or, slice_set};
+ghost use Rattle.fx_chain.specs.Completed.{all_completed};
+ghost use Rattle.fx_chain.specs.Runs.{runs_of};
+ghost use Rattle.fx_chain.specs.Operation.{all_asked};
+ghost use Rattle.fx_order.specs.Access.{Permits, table_with};
+ghost use Rattle.fx_order.specs.Slots.{table_of_slots};
+ghost use Rattle.fx_outcomes.specs.Nodes.{IsOver};
+ghost use Rattle.fx_answers.specs.Views.{IsStepTo, not_begun, view_in};
+
+use crate::chain::{Progress, step};
+use crate::submission::Submission;
+use fx_base::{Closed, NoMemory};
+use fx_chain::Completion;
+use fx_order::{Access, Slots};
+use std::alloc::Global;
+
+/// The files at the slots, and how far each chain has come, the first one first.
+#[derive(Debug, Drop)]
+pub struct State {
+    /// The slots.
+    pub slots: Slots,
+    /// The chains.
+    pub chains: Vec<Progress>,
+}
+
+// Whether both lists have the same files at the same slots.
+fn are_same_files(files: &[Option<Closed>], others: &[Option<Closed>]) -> bool
+    ensures { IsTrue result → files.now ≡ others.now }
+{
+    if files.len() != others.len() {
+        return false;
+    }
+    for i in 0..files.len() {
+        if files[i] != others[i] {
+            return false;
+        }
+    }
+    true
+}
+
+// Whether both lists have each chain equally far.
+fn are_same_chains(chains: &[Progress], others: &[Progress]) -> bool
+    ensures { IsTrue result → chains.now ≡ others.now }
+{
+    if chains.len() != others.len() {
+        return false;
+    }
+    for i in 0..chains.len() {
+        if chains[i] != others[i] {
+            return false;
+        }
+    }
+    true
+}
+
+/// Whether both tables have the same slots with the same files.
+pub(crate) fn are_same(one: &Slots, other: &Slots) -> bool
+    ensures { IsTrue result → table_of_slots one.now ≡ table_of_slots other.now }
+{
+    if one.range.0 != other.range.0 || one.range.1 != other.range.1 {
+        return false;
+    }
+    are_same_files(&one.at, &other.at)
+}
+
+/// A table of its own with the same files.
+pub(crate) fn copy_of(alloc: Global, slots: &Slots) -> Result<Slots, NoMemory>
+    ensures { IfOk result (λ copy. table_of_slots copy ≡ table_of_slots slots.now) }
+{
+    let at = Vec::from_slice(alloc, &slots.at)?;
+    Ok(Slots {
+        range: slots.range,
+        at,
+    })
+}
+
+impl State {
+    /// Whether both are one.
+    pub(crate) fn is_same(&self, other: &State) -> bool
+        ensures table { IsTrue result
+            → table_of_slots self.now.slots ≡ table_of_slots other.now.slots }
+        ensures chains { IsTrue result → self.now.chains.items ≡ other.now.chains.items }
+    {
+        if !are_same(&self.slots, &other.slots) {
+            return false;
+        }
+        are_same_chains(&self.chains, &other.chains)
+    }
+
+    /// How far a chain has come, by its number from 0.
+    pub(crate) fn progress(&self, i: usize) -> Progress
+        ensures { result ≡ slice_index_or self.now.chains.items i not_begun }
+    {
+        match self.chains.get(i) {
+            Some(progress) => *progress,
+            None => Progress { done: 0, made: 0 },
+        }
+    }
+
+    /// Whether no chain has an access left.
+    pub(crate) fn is_over(&self, submission: &Submission<'_>) -> bool
+        ensures { IsOver (length (runs_of (all_asked submission.now.requests.now)))
+            (view_in submission.now self.now) → IsTrue result }
+    {
+        for i in 0..submission.chains.len() {
+            if self.progress(i).done < submission.members(i).len() {
+                return false;
+            }
+        }
+        true
+    }
+}
+
+// The table behind an access.
+fn slots_with(alloc: Global, slots: &Slots, access: &Access) -> Result<Slots, NoMemory>
+    requires { Permits (table_of_slots slots.now) access.now }
+    ensures { IfOk result (λ after.
+        table_of_slots after ≡ table_with (table_of_slots slots.now) access.now) }
+{
+    let mut after = copy_of(alloc, slots)?;
+    after.make(access);
+    Ok(after)
+}
+
+// How far the chains have come, where one of them has come further.
+fn chains_with(
+    alloc: Global,
+    chains: &[Progress],
+    i: usize,
+    after: Progress,
+) -> Result<Vec<Progress>, NoMemory>
+    requires { i < length chains.now }
+    ensures { IfOk result (λ all. all.items ≡ slice_set chains.now i after) }
+{
+    let mut all = Vec::from_slice(alloc, chains)?;
+    all[i] = after;
+    Ok(all)
+}
+
+/// Where an access of a chain leads, by the chain's number from 0, and what is answered on the way; `None` where the state
+/// isn't one of the submission, or its table doesn't permit the access.
+pub(crate) fn next_state(
+    submission: &Submission<'_>,
+    state: &State,
+    i: usize,
+    access: &Access,
+    told: &mut Vec<Completion>,
+) -> Result<Option<State>, NoMemory>
+    requires { told.old.items ≡ [] }
+    ensures { IfOk result (λ next. IfSome next (λ next. IsStepTo submission.now state.now i access.now
+        (all_completed told.new.items) next)) }
+{
+    let alloc = submission.setting.alloc;
+    if state.slots.at.len() != submission.setting.size as usize || !state.slots.permits(access) {
+        return Ok(None);
+    }
+    if i >= submission.chains.len() {
+        return Ok(None);
+    }
+    let Some(progress) = state.chains.get(i) else {
+        return Ok(None);
+    };
+    if progress.made > u32::MAX as usize {
+        return Ok(None);
+    }
+    let own = submission.members(i);
+    let place = submission.first(i);
+    let after = step(&submission.setting, place, own, *progress, *access, told)?;
+    let chains = chains_with(alloc, &state.chains, i, after)?;
+    let slots = slots_with(alloc, &state.slots, access)?;
+    Ok(Some(State { slots, chains }))
+}

@@ -1,0 +1,54 @@
+//! A submission that is played.
+ghost use Rattle.std.specs.Prelude.{◌≡◌, ◌+◌, ◌<◌, ◌≤◌, [], All, map, length, slice_index_or};
+ghost use Rattle.fx_base.specs.Catalogue.{IsCatalogue};
+ghost use Rattle.fx_chain.specs.Accepted.{IsAccepted, IsChain, IsWithinLimits, members_of};
+ghost use Rattle.fx_chain.specs.Explains.{first_member};
+ghost use Rattle.fx_chain.specs.Operation.{all_asked, asked_of};
+ghost use Rattle.fx_chain.specs.Runs.{runs_of};
+ghost use Rattle.fx_plain.specs.declared.table.TheConstants.{MOST_SLOTS};
+ghost use Rattle.fx_table.specs.declared.limits.TheConstants.{MAX_CHAINS};
+
+use crate::setting::Setting;
+use fx_chain::{Chain, MOST_MEMBERS, Place, Request};
+use fx_order::members;
+
+/// A submission that is played: its number, its requests, and the chains into which they were cut.
+#[derive(Drop)]
+pub(crate) struct Submission<'a> {
+    pub(crate) setting: Setting<'a>,
+    pub(crate) number: u32,
+    pub(crate) requests: &'a [Request],
+    pub(crate) chains: &'a [Chain],
+    pub ghost catalogued: { IsCatalogue setting.catalogue.now },
+    pub ghost accepted: { IsAccepted (all_asked requests.now) },
+    pub ghost runs: { map (members_of (all_asked requests.now)) chains.now
+        ≡ runs_of (all_asked requests.now) },
+    pub ghost within: { All (IsChain (all_asked requests.now)) chains.now },
+    pub ghost few_chains: { length chains.now ≤ MAX_CHAINS },
+    pub ghost few_slots: { setting.size ≤ MOST_SLOTS },
+}
+
+impl Submission<'_> {
+    /// The place of the first member of a chain, by the chain's number from 0.
+    pub(crate) fn first(&self, i: usize) -> Place
+        requires { i < length self.now.chains.now }
+        ensures { result ≡ first_member self.now.number (i + 1) }
+    {
+        Place {
+            submission: self.number,
+            chain: i as u32 + 1,
+            member: 1,
+        }
+    }
+
+    /// The members of a chain, by the chain's number from 0.
+    pub(crate) fn members(&self, i: usize) -> &[Request]
+        requires { i < length self.now.chains.now }
+        ensures run { all_asked result.now
+            ≡ slice_index_or (runs_of (all_asked self.now.requests.now)) i [] }
+        ensures limits { All (λ r. IsWithinLimits (asked_of r)) result.now }
+        ensures few { length result.now ≤ MOST_MEMBERS }
+    {
+        members(self.requests, self.chains[i])
+    }
+}

@@ -1,0 +1,100 @@
+//! What may come of a submission. That its search comes to an end, and how many states it may meet, no contract says.
+ghost use Rattle.std.specs.Prelude.{◌≤◌, IfOk, length};
+ghost use Rattle.fx_plain.specs.declared.table.TheConstants.{MOST_SLOTS};
+
+use fx_answers::{Question, may_answer, may_leave};
+use fx_base::{Catalogue, Closed, Mark};
+use fx_chain::{Op, Place, Request, SqeFlags, Target, check};
+use fx_order::Slots;
+use std::alloc::{AllocError, Global};
+use std::test::Fail;
+
+const FILE: Closed = Closed {
+    mark: Mark::Registered { k: 1, i: 0 },
+    entry: 0,
+    tag: 0,
+};
+
+// A read of slot 0, a close of it, and an open at any slot, each a chain.
+fn requests(alloc: Global) -> Result<Vec<Request>, AllocError> {
+    let name = String::from_str(alloc, "a.txt")?;
+    let operations = [
+        (
+            Op::Read {
+                slot: 0,
+                off: 0,
+                len: 5,
+            },
+            SqeFlags::FIXED_FILE,
+        ),
+        (Op::Close { slot: 0 }, SqeFlags::empty()),
+        (
+            Op::Open {
+                name,
+                target: Target::Any,
+            },
+            SqeFlags::empty(),
+        ),
+    ];
+    let mut requests = Vec::new(alloc);
+    for (op, flags) in operations {
+        requests.push(Request { op, flags })?;
+    }
+    Ok(requests)
+}
+
+// A table of two slots, the first one with a file.
+fn slots(alloc: Global) -> Result<Slots, AllocError>
+    ensures { IfOk result (λ slots. length slots.at.items ≤ MOST_SLOTS) }
+{
+    let mut at = Vec::new(alloc);
+    at.push(Some(FILE))?;
+    at.push(None)?;
+    Ok(Slots { range: (0, 2), at })
+}
+
+// The read gives the file's bytes or finds none; the close finds it; the open takes slot 1, or slot 0 behind the close.
+#[test]
+fn answers_and_ends(rt: HostRuntime) -> Result<(), Fail> {
+    let alloc = rt.alloc();
+    let mut catalogue = Catalogue::new(alloc);
+    catalogue.add(String::from_str(alloc, "a.txt")?, b"hello".to_vec(alloc)?)?;
+    let requests = requests(alloc)?;
+    let slots = slots(alloc)?;
+    for (chain, states, count) in [
+        (1, 100, 2),
+        (2, 100, 1),
+        (3, 100, 2),
+        (4, 100, 0),
+        (1, 1, 2),
+    ] {
+        let Ok(_) = check(&requests) else {
+            panic!(rt; "the requests aren't accepted");
+        };
+        let question = Question {
+            requests: &requests,
+            place: Place {
+                submission: 1,
+                chain,
+                member: 1,
+            },
+            states,
+        };
+        let found = may_answer(alloc, &catalogue, &slots, 0, &question)?;
+        assert!(rt;
+            found.answers.len() == count && found.are_all == are_all,
+            "chain {chain}"
+        );
+    }
+    for states in [100, 1] {
+        let Ok(_) = check(&requests) else {
+            panic!(rt; "the requests aren't accepted");
+        };
+        let found = may_leave(alloc, &catalogue, &slots, 0, &requests, states)?;
+        assert!(rt;
+            found.ends.len() == count && found.are_all == are_all,
+            "{states} states"
+        );
+    }
+    Ok(())
+}
