@@ -1,14 +1,14 @@
 -- States that were looked through are all of a submission.
-use Rattle.fx_order.proofs.Words.{◌≡◌, ℕ, ◌+◌, ◌-◌, ◌<◌, ◌≤◌, List, [], ◌∷◌, length, map, refl, sym, ap, subst, ◌∙◌, arith, slice_index_or, All, Contains}
-use Rattle.fx_order.proofs.Words.{length-map, All-map, Chain, Completed, Asked, Place, FileEntry, Table, members_of, runs_of, first_member, ring_of_slots, table_of_slots, all_asked}
+use Rattle.fx_order.proofs.Words.{◌≡◌, ℕ, ◌+◌, ◌-◌, ◌<◌, List, [], length, map, refl, sym, ap, subst, ◌∙◌, arith, slice_index_or, All}
+use Rattle.fx_order.proofs.Words.{length-map, All-map, Chain, Asked, members_of, runs_of, first_member, ring_of_slots, table_of_slots, all_asked}
 use Rattle.std.proofs.lemmas.List.Elements.{All-contains}
 use Rattle.fx_order.specs.declared.slots.Slots.{Slots}
 use Rattle.std.specs.List.{AllByRecursion}
-use Rattle.fx_outcomes.specs.Rests.{Rest, settled_at}
+use Rattle.fx_outcomes.specs.Rests.{settled_at}
 use Rattle.fx_outcomes.specs.Nodes.{AreAllStates, AreAtStart, AreClosed, IsChainExplored, StateView}
-use Rattle.fx_answers.specs.Listed.{AreAllBy, AreAtStartBy, IsStateExploredBy, first_in, run_in, said_by, states_of}
+use Rattle.fx_answers.specs.Listed.{AreAllBy, AreAtStartBy, IsStateExploredBy, said_by, states_of}
 use Rattle.fx_answers.specs.Stands.{rest_in}
-use Rattle.fx_answers.specs.Views.{not_begun, rules_in, run_at, runs_in, view_in}
+use Rattle.fx_answers.specs.Views.{not_begun, rules_in, runs_in, view_in}
 use Rattle.fx_answers.specs.declared.closed.Claimed.{Claimed}
 use Rattle.fx_answers.specs.declared.state.State.{State}
 use Rattle.fx_answers.proofs.Lists.{inside_at}

@@ -1,6 +1,6 @@
 -- The members of a chain that are left, and what the first of them may do next.
 use Rattle.fx_order.proofs.Words.{◌≡◌, ℕ, ◌-◌, ◌≤◌, List, [], ◌∷◌, length, take, drop, sym, ap, subst, ◌∙◌, arith, drop-map, length-map, all_asked, asked_of, Request}
-use Rattle.fx_order.proofs.Words.{Asked, Place, Table, Permits, FileEntry, take_all}
+use Rattle.fx_order.proofs.Words.{Asked, Place, Table, FileEntry, take_all}
 use Rattle.std.proofs.lemmas.List.{drop_all, length-drop}
 use Rattle.fx_order.specs.declared.access.Access.{Access}
 use Rattle.fx_outcomes.specs.Choices.{HasEach}

@@ -4,3 +4,5 @@ pub mod Choosing
 pub mod Viewing
 pub mod AllOfThem
 pub mod Promised
+pub mod Telling
+pub mod Reporting

@@ -12,11 +12,10 @@ use Rattle.fx_outcomes.specs.Rests.{HasMemory}
 use Rattle.fx_outcomes.specs.Nodes.{AreAllStates, HasEnd, IsOver, StateView, ring_at}
 use Rattle.fx_outcomes.proofs.First.{all_said}
 use Rattle.std.specs.List.{AllByRecursion}
-use Rattle.fx_answers.specs.Outcomes.{IsAnswer, MayAnswer, MayLeave, HasEachAnswer, HasEachEnd, IsEnd, IsReportBy, MayReport, ring_behind, rings_behind}
+use Rattle.fx_answers.specs.Outcomes.{IsAnswer, HasEachAnswer, HasEachEnd, IsEnd, IsReportBy, MayReport, ring_behind, rings_behind}
 use Rattle.fx_answers.specs.Listed.{AreAllBy, AreAllEndsBy, IsEndIn, IsEndListed, IsPlayOf, said_by, says, states_of, tables_behind}
 use Rattle.fx_answers.specs.Views.{view_in}
 use Rattle.fx_answers.specs.declared.closed.Claimed.{Claimed}
-use Rattle.fx_answers.specs.declared.state.State.{State}
 use Rattle.fx_answers.specs.declared.end.End.{End}
 use Rattle.fx_answers.specs.declared.outcome.Answer.{Answer}
 use Rattle.fx_answers.proofs.Lists.{each_by_recursion, each_of}

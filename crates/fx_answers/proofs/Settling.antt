@@ -1,6 +1,6 @@
 -- How a chain goes on, counted in members that are done.
-use Rattle.fx_order.proofs.Words.{◌≡◌, ℕ, zero, suc, ◌+◌, ◌≤◌, ◌==◌, Bool, true, false, List, [], ◌∷◌, ◌++◌, length, drop, refl, sym, ap, subst, ◌∙◌, arith}
-use Rattle.fx_order.proofs.Words.{Option, Some, None, if◌then◌else◌, append-nil, append_assoc, Completed, next_member, canceled, severs, Asked, Place}
+use Rattle.fx_order.proofs.Words.{◌≡◌, ℕ, suc, ◌+◌, ◌==◌, Bool, true, false, List, [], ◌∷◌, ◌++◌, length, drop, refl, sym, ap, ◌∙◌, arith}
+use Rattle.fx_order.proofs.Words.{Some, None, if◌then◌else◌, append-nil, append_assoc, Completed, next_member, canceled, severs, Asked, Place}
 use Rattle.fx_order.specs.declared.access.Access.{Access}
 use Rattle.fx_order.proofs.Words.{by_equality, Completion, all_completed, completed_of, map-append}
 use Rattle.std.proofs.lemmas.List.{drop-drop, drop_all}

@@ -1,14 +1,13 @@
 -- What the states of the program say, chain by chain.
-use Rattle.fx_order.proofs.Words.{◌≡◌, ◌≢◌, ℕ, zero, suc, ◌+◌, ◌-◌, ◌<◌, ◌≤◌, List, [], ◌∷◌, ◌++◌, length, map, refl, sym, ap, subst, ◌∙◌, arith, slice_index_or, All, length-map}
-use Rattle.fx_order.proofs.Words.{Contains, Chain, Completed, Asked, Place, IsChain, Permits, Table, table_of_slots, table_with, members_of, runs_of, first_member, ring_of_slots, FileEntry}
+use Rattle.fx_order.proofs.Words.{◌≡◌, ◌≢◌, ℕ, suc, ◌+◌, ◌-◌, ◌<◌, List, [], ◌∷◌, ◌++◌, length, map, sym, ap, subst, ◌∙◌, arith, slice_index_or, All, length-map}
+use Rattle.fx_order.proofs.Words.{Contains, Chain, Completed, Asked, Place, table_of_slots, table_with, members_of, first_member}
 use Rattle.fx_order.specs.declared.access.Access.{Access}
 use Rattle.std.proofs.lemmas.List.{get_or-map, get_or-set_other, get_or-set_same}
 use Rattle.std.specs.Prelude.{Some, slice_get, slice_set}
 use Rattle.std.proofs.lemmas.Option.{get_or_from_slice_get, slice_get_within}
-use Rattle.fx_order.proofs.Words.{None, Option, Request, Completion, all_asked, all_completed, asked_of, completed_of, drop}
-use Rattle.fx_order.specs.declared.slots.Slots.{Slots}
+use Rattle.fx_order.proofs.Words.{Request, Completion, all_asked, all_completed, asked_of, completed_of, drop}
 use Rattle.std.specs.List.{AllByRecursion}
-use Rattle.fx_outcomes.specs.Rests.{Rest, Rules, rules_of, settled_at, step}
+use Rattle.fx_outcomes.specs.Rests.{Rest, Rules, settled_at, step}
 use Rattle.fx_outcomes.specs.Nodes.{AreAtStart, IsOver, Leads, StateView}
 use Rattle.fx_answers.specs.Stands.{Settles, Steps, moved, rest_for, rest_in}
 use Rattle.fx_answers.specs.Views.{IsStepTo, not_begun, run_at, view_in, view_of}

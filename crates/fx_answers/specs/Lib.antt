@@ -2,3 +2,4 @@ pub mod Stands
 pub mod Views
 pub mod Outcomes
 pub mod Listed
+pub mod Reports

@@ -1,5 +1,5 @@
 -- What may come of a submission where each request finds memory.
-use Rattle.std.specs.Prelude.{◌≡◌, ℕ, ◌+◌, List, All, Contains, map}
+use Rattle.std.specs.Prelude.{◌≡◌, ◌+◌, List, All, Contains, map}
 use Rattle.fx_chain.specs.Completed.{Completed, completed_of}
 use Rattle.fx_chain.specs.Operation.{Asked}
 use Rattle.fx_chain.specs.declared.completion.Place.{Place}
@@ -13,21 +13,21 @@ use Rattle.fx_outcomes.specs.Rests.{HasMemory}
 use Rattle.fx_answers.specs.declared.end.End.{End}
 use Rattle.fx_answers.specs.declared.outcome.Answer.{Answer}
 
--- the submission may come to this report by one history of the ring's table, and leaves this ring
--- then
+-- one history of the ring's table comes to this report and leaves this ring, and each request finds
+-- memory
 pub record MayReport (ring : RingContents) (requests : List Asked) (report : Reported)
     (left : RingContents) : Type 0 where
   pub history : IsOneHistory ring requests report left
   pub memory : All HasMemory report.completions
 
--- it may give this answer, and leaves this ring then
+-- a request of the submission may answer so, where this ring is left
 pub record MayAnswer (ring : RingContents) (requests : List Asked) (c : Completed)
     (left : RingContents) : Type 0 where
   pub report : Reported
   pub may : MayReport ring requests report left
   pub inside : Contains report.completions c
 
--- it may leave this ring
+-- the submission may leave this ring
 pub record MayLeave (ring : RingContents) (requests : List Asked) (left : RingContents)
     : Type 0 where
   pub report : Reported
@@ -38,14 +38,15 @@ abbrev pub ring_behind : RingState → Slots → RingState
 ring_behind old slots =
     ring_of_slots old.catalogue slots (old.submissions + 1) old.registrations
 
--- the requests' accesses, in this order, come to this report and leave these slots
+-- the requests' accesses, in this order, come to this report and leave these slots, and each
+-- request finds memory
 pub record IsReportBy (old : RingState) (requests : List Asked) (order : List ChainAccess)
     (report : Reported) (slots : Slots) : Type 0 where
   pub is : IsOrderOf order old requests report
   pub memory : All HasMemory report.completions
   pub leaves : ring_behind old slots ≡ ring_left order old
 
--- an answer at the place that each ring with this state may give, by the order that stands with it
+-- an answer at the place that comes of each ring with this state, by the order that stands with it
 pub record IsAnswer (old : RingState) (requests : List Asked) (place : Place) (answer : Answer)
     : Type 0 where
   pub report : Reported
@@ -65,7 +66,7 @@ HasEachAnswer old requests place answers =
     (ring left : RingContents) (c : Completed) → ring_of ring ≡ old
     → MayAnswer ring requests c left → c.place ≡ place → Contains (answered answers) c
 
--- an end that each ring with this state may come to, by the order that stands with it
+-- an end that each ring with this state comes to, by the order that stands with it
 pub record IsEnd (old : RingState) (requests : List Asked) (end : End) : Type 0 where
   pub report : Reported
   pub by : IsReportBy old requests end.order.items report end.slots

@@ -1,5 +1,6 @@
 //! Where a chain is between two of its accesses, and where its next one leads it.
-ghost use Rattle.std.specs.Prelude.{◌≡◌, ℕ, ◌+◌, ◌-◌, ◌<◌, ◌≤◌, ◌^◌, ◌++◌, All, IfOk, Some, drop, length};
+ghost use Rattle.std.specs.Prelude.{◌≡◌, ℕ, ◌+◌, ◌-◌, ◌<◌, ◌≤◌, ◌^◌, ◌++◌};
+ghost use Rattle.std.specs.Prelude.{All, IfOk, Some, drop, length};
 ghost use Rattle.fx_base.specs.Catalogue.{IsCatalogue};
 ghost use Rattle.fx_base.specs.declared.open_file.Closed.{Closed as File};
 ghost use Rattle.fx_chain.specs.Accepted.{IsWithinLimits};
@@ -164,8 +165,8 @@ pub(crate) fn chain_accesses(
     requires slots { length slots.now.at.items < 2 ^ 32 }
     requires limits { All (λ r. IsWithinLimits (asked_of r)) members.now }
     requires members { place.member + length members.now < 2 ^ 32 }
-    ensures { IfOk result (λ choices. HasEachNext setting.now.catalogue.now (table_of_slots slots.now)
-        (rest_in place (all_asked members.now) progress) choices.items) }
+    ensures { IfOk result (λ choices. HasEachNext setting.now.catalogue.now
+        (table_of_slots slots.now) (rest_in place (all_asked members.now) progress) choices.items) }
 {
     let Some(request) = left(members, progress.done).first() else {
         return Ok(Vec::new(setting.alloc));

@@ -8,6 +8,7 @@ mod confirm;
 mod end;
 mod explore;
 mod found;
+pub mod laws;
 mod outcome;
 mod player;
 mod setting;

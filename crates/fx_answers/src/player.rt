@@ -8,8 +8,8 @@ use fx_base::{Closed, NoMemory};
 use fx_chain::Completion;
 use fx_order::{Access, ChainAccess, Slots};
 
-// More accesses than a submission may make.
-const MOST_ACCESSES: usize = 1 << 24;
+// More accesses than a chain may make.
+const MOST_ACCESSES: usize = 1 << 16;
 
 /// What an order of a submission comes to.
 #[derive(Debug, Drop)]
@@ -82,13 +82,11 @@ impl Player {
         Ok(true)
     }
 
-    // Makes the first access that may be made.
-    fn play_any(&mut self, submission: &Submission<'_>) -> Result<bool, NoMemory> {
-        for chain in 0..submission.chains.len() {
-            for access in accesses_of(submission, &self.state, chain)? {
-                if self.play(submission, chain, access)? {
-                    return Ok(true);
-                }
+    // Makes the first access that a chain may make next.
+    fn play_first(&mut self, submission: &Submission<'_>, chain: usize) -> Result<bool, NoMemory> {
+        for access in accesses_of(submission, &self.state, chain)? {
+            if self.play(submission, chain, access)? {
+                return Ok(true);
             }
         }
         Ok(false)
@@ -118,7 +116,8 @@ fn begin(submission: &Submission<'_>, slots: &Slots) -> Result<Player, NoMemory>
     })
 }
 
-/// A play of a submission at these slots that begins with the steps up to this one, and goes on to the end.
+/// A play of a submission at these slots that begins with the steps up to this one, and goes on to the end of each chain, one
+/// chain after another.
 pub(crate) fn play_to(
     submission: &Submission<'_>,
     slots: &Slots,
@@ -132,9 +131,11 @@ pub(crate) fn play_to(
             player.play(submission, step.chain, step.access)?;
         }
     }
-    for _ in 0..MOST_ACCESSES {
-        if !player.play_any(submission)? {
-            break;
+    for chain in 0..submission.chains.len() {
+        for _ in 0..MOST_ACCESSES {
+            if !player.play_first(submission, chain)? {
+                break;
+            }
         }
     }
     let Player {

@@ -1,5 +1,6 @@
 //! A state of a submission that is played by an order, and where an access leads from it.
-ghost use Rattle.std.specs.Prelude.{◌≡◌, ◌<◌, IfOk, IfSome, IsTrue, [], length, slice_index_or, slice_set};
+ghost use Rattle.std.specs.Prelude.{◌≡◌, ◌<◌, []};
+ghost use Rattle.std.specs.Prelude.{IfOk, IfSome, IsTrue, length, slice_index_or, slice_set};
 ghost use Rattle.fx_chain.specs.Completed.{all_completed};
 ghost use Rattle.fx_chain.specs.Runs.{runs_of};
 ghost use Rattle.fx_chain.specs.Operation.{all_asked};
@@ -148,8 +149,8 @@ pub(crate) fn next_state(
     told: &mut Vec<Completion>,
 ) -> Result<Option<State>, NoMemory>
     requires { told.old.items ≡ [] }
-    ensures { IfOk result (λ next. IfSome next (λ next. IsStepTo submission.now state.now i access.now
-        (all_completed told.new.items) next)) }
+    ensures { IfOk result (λ next. IfSome next (IsStepTo submission.now state.now i access.now
+        (all_completed told.new.items))) }
 {
     let alloc = submission.setting.alloc;
     if state.slots.at.len() != submission.setting.size as usize || !state.slots.permits(access) {

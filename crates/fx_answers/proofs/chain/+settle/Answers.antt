@@ -1,4 +1,4 @@
-use Rattle.fx_order.proofs.Words.{◌≡◌, ◌+◌, ◌-◌, ◌∙◌, List, length, take, drop, false, true, None, sym, ap, subst, all_asked, all_completed, asked_of, completed_of, severs, Request, Place}
+use Rattle.fx_order.proofs.Words.{◌+◌, ◌-◌, ◌∙◌, List, length, take, drop, sym, ap, subst, all_asked, all_completed, asked_of, severs, Request, Place}
 use Rattle.fx_order.proofs.FirstAndRest.{first_is}
 use Rattle.fx_outcomes.specs.Rests.{Rules, rules_of}
 use Rattle.fx_answers.specs.Stands.{Settles}

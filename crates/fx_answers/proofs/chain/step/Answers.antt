@@ -1,10 +1,9 @@
-use Rattle.fx_order.proofs.Words.{◌≡◌, ◌+◌, ◌-◌, ◌∙◌, List, take, [], ◌∷◌, false, true, Some, drop, length, sym, ap, subst, refl, all_asked, all_completed, asked_of, completed_of}
-use Rattle.fx_order.proofs.Words.{severs, Request, Place, Asked, arith, length-map}
+use Rattle.fx_order.proofs.Words.{◌≡◌, ◌+◌, ◌-◌, ◌∙◌, List, take, [], ◌∷◌, Some, drop, length, sym, ap, subst, refl, all_asked, all_completed, asked_of, completed_of}
+use Rattle.fx_order.proofs.Words.{Request, Place, arith}
 use Rattle.fx_order.proofs.FirstAndRest.{first_is}
 use Rattle.fx_outcomes.specs.Rests.{Rules, rules_of}
 use Rattle.fx_answers.specs.Stands.{Settles, moved}
-use Rattle.fx_answers.specs.declared.chain.Progress.{Progress}
-use Rattle.fx_answers.proofs.Settling.{pushed, steps_cut, steps_more, steps_on, steps_over}
+use Rattle.fx_answers.proofs.Settling.{pushed, steps_more, steps_on, steps_over}
 use Rattle.fx_answers.proofs.chain.step.Goals as goal
 
 nothing : (members : List Request) → length members ≡ 0 → all_asked members ≡ []

@@ -1,4 +1,4 @@
-use Rattle.fx_order.proofs.Words.{◌≡◌, All, subst, all_completed, completed_of, Completion, IfOk-weaker}
+use Rattle.fx_order.proofs.Words.{All, subst, all_completed, completed_of, Completion, IfOk-weaker}
 use Rattle.fx_answers.specs.Listed.{said_by}
 use Rattle.fx_answers.specs.Views.{IsStepTo, runs_in}
 use Rattle.fx_answers.proofs.Viewing.{explored}

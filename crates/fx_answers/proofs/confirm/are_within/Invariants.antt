@@ -1,4 +1,4 @@
-use Rattle.fx_order.proofs.Words.{◌≡◌, ℕ, ◌<◌, ◌≤◌, slice_index_or}
+use Rattle.fx_order.proofs.Words.{ℕ, ◌<◌, ◌≤◌, slice_index_or}
 use Rattle.fx_order.specs.declared.access.ChainAccess.{ChainAccess}
 use Rattle.fx_answers.proofs.confirm.are_within.Given as goal
 

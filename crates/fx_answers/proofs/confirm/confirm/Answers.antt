@@ -1,5 +1,5 @@
-use Rattle.fx_order.proofs.Words.{◌≡◌, ◌∙◌, ◌≤◌, ℕ, List, All, All-map, IsPermutation, ap, arith, length, subst, sym, Table, Completion, RingState}
-use Rattle.fx_order.proofs.Words.{all_asked, completed_of, ring_of_slots, runs_of, table_after, table_of_slots, accesses_of, removed_in, PermitsAll, IsInOrderOfMark}
+use Rattle.fx_order.proofs.Words.{◌≡◌, ◌∙◌, ◌≤◌, ℕ, List, All, All-map, IsPermutation, arith, length, subst, sym, Table, Completion, RingState}
+use Rattle.fx_order.proofs.Words.{all_asked, completed_of, ring_of_slots, table_after, table_of_slots, accesses_of, removed_in, PermitsAll, IsInOrderOfMark}
 use Rattle.fx_order.specs.declared.access.ChainAccess.{ChainAccess}
 use Rattle.fx_order.specs.declared.slots.Slots.{Slots}
 use Rattle.fx_order.proofs.OrderOf.{ring_left_is}

@@ -1,4 +1,4 @@
-use Rattle.fx_order.proofs.Words.{List, refl, subst, all_asked, ring_of_slots}
+use Rattle.fx_order.proofs.Words.{refl}
 use Rattle.fx_answers.proofs.Promised.{answers_by}
 use Rattle.fx_answers.proofs.outcome.may_answer.Goals as goal
 

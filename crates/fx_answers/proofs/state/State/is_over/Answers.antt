@@ -1,4 +1,4 @@
-use Rattle.fx_order.proofs.Words.{◌≡◌, ◌+◌, ℕ, sym, arith, length, runs_of, all_asked}
+use Rattle.fx_order.proofs.Words.{sym, arith, all_asked}
 use Rattle.fx_answers.specs.Views.{runs_in}
 use Rattle.fx_answers.proofs.Viewing.{not_over}
 use Rattle.fx_answers.proofs.AllOfThem.{as_many}

@@ -1,0 +1,121 @@
+-- An order goes through the states of a closed list with what is told, up to one where no chain has an access left.
+use Rattle.fx_order.proofs.Words.{◌≡◌, inl, inr, ℕ, ◌≤◌, List, [], ◌∷◌, ◌++◌, refl, sym, ap, subst, ◌∙◌, append_assoc, FileEntry, append-nil, by_equality}
+use Rattle.fx_order.proofs.Words.{All, All-head, All-tail, Completed, Table, PermitsAll, table_after, removed_in, removed_by, Closed, accesses_of, accesses_of_chain}
+use Rattle.fx_order.proofs.Words.{IsPermutation, IsPermutation-trans, IsPermutation-sym}
+use Rattle.std.proofs.lemmas.List.Sorted.{IsPermutation-append_left}
+use Rattle.fx_order.specs.declared.access.Access.{Access}
+use Rattle.fx_order.specs.declared.access.ChainAccess.{ChainAccess}
+use Rattle.std.specs.Prelude.{Contains}
+use Rattle.std.specs.List.{AllByRecursion}
+use Rattle.std.specs.Option.{option_to_list}
+use Rattle.fx_outcomes.specs.Rests.{HasMemory, IsNext, Rest, rules_of, step}
+use Rattle.fx_outcomes.specs.Nodes.{IsOver}
+use Rattle.fx_outcomes.proofs.Requests.{are_right}
+use Rattle.fx_outcomes.proofs.Chain.{IsRest, IsReady, ends, steps}
+use Rattle.fx_outcomes.proofs.Playing.{of_chain}
+use Rattle.fx_answers.specs.Reports.{AreToldClosed, LeadsOn, ToldState}
+
+module _ (catalogue : List FileEntry) (size chains : ℕ) (finals : ℕ → List Completed) (files : List Closed) where
+  -- a chain goes on from its place, where it was told this, by these accesses, to what it tells in the end
+  pub record OfChain (rest : Rest) (told final : List Completed) (accesses : List Access) : Type 0 where
+    pub later : List Completed
+    pub whole : final ≡ told ++ later
+    pub memory : AllByRecursion HasMemory later
+    pub ready : IsReady catalogue size (rules_of catalogue size) (are_right catalogue size) rest.place rest.requests rest.made
+    pub rest_is : IsRest catalogue size (rules_of catalogue size) (are_right catalogue size) rest accesses later
+
+  -- an order goes on from a state
+  pub record Comes (here : ToldState) (order : List ChainAccess) : Type 0 where
+    pub permitted : PermitsAll here.state.table (accesses_of order)
+    pub within : All (λ x. (1 ≤ x.chain) × (x.chain ≤ chains)) order
+    pub each : (chain : ℕ) → 1 ≤ chain → chain ≤ chains → OfChain (here.state.rests chain) (here.told chain) (finals chain) (accesses_of_chain chain order)
+    pub closed : IsPermutation (here.removed ++ removed_in (accesses_of order)) files
+
+  -- its first access is one that its chain may make next
+  next_one : (here : ToldState) (x : ChainAccess) (order : List ChainAccess) → Comes here (x ∷ order)
+      → IsNext catalogue size (here.state.rests x.chain) x.access
+      × OfChain (step (rules_of catalogue size) (here.state.rests x.chain) x.access).1
+      (here.told x.chain ++ (step (rules_of catalogue size) (here.state.rests x.chain) x.access).0) (finals x.chain) (accesses_of_chain x.chain order)
+  next_one here x order comes =
+      let own = All-head (λ (y : ChainAccess). (1 ≤ y.chain) × (y.chain ≤ chains)) x order comes.within in
+      let of = comes.each x.chain own.0 own.1 in
+      let mine : accesses_of_chain x.chain (x ∷ order) ≡ x.access ∷ accesses_of_chain x.chain order = elim (of_chain x order x.chain) [
+        | inl same ↦ same.1
+        | inr other ↦ absurd (other.0 refl)
+      ] in
+      let rest = here.state.rests x.chain in
+      let now = step (rules_of catalogue size) rest x.access in
+      let stepped = steps catalogue size (rules_of catalogue size) (are_right catalogue size) rest.place rest.requests rest.made x.access (accesses_of_chain x.chain order)
+      of.later of.memory of.ready (subst (λ (l : List Access). IsRest catalogue size (rules_of catalogue size) (are_right catalogue size) rest l of.later) mine of.rest_is) in
+      let g = stepped.1 in (
+        stepped.0,
+        record {
+          later = g.later;
+          whole = of.whole ∙ (ap (λ (l : List Completed). here.told x.chain ++ l) g.whole ∙ sym (append_assoc (here.told x.chain) now.0 g.later));
+          memory = g.memory;
+          ready = g.ready;
+          rest_is = g.rest;
+        },
+      )
+
+  -- and the others go on from where it leads
+  goes_on : (here next : ToldState) (x : ChainAccess) (order : List ChainAccess) → Comes here (x ∷ order)
+      → LeadsOn (rules_of catalogue size) here x.chain x.access next → Comes next order
+  goes_on here next x order comes to =
+      let one = next_one here x order comes in
+      let taken : List Closed = option_to_list (removed_by x.access) in
+      let others : List Closed = removed_in (accesses_of order) in
+      record {
+        permitted = subst (λ (t : Table). PermitsAll t (accesses_of order)) (sym to.leads.table) comes.permitted.1;
+        within = All-tail (λ (y : ChainAccess). (1 ≤ y.chain) × (y.chain ≤ chains)) x order comes.within;
+        each = λ chain low high. by_equality chain x.chain
+            (λ _. OfChain (next.state.rests chain) (next.told chain) (finals chain) (accesses_of_chain chain order))
+            (λ same.
+            subst (λ (n : ℕ). OfChain (next.state.rests n) (next.told n) (finals n) (accesses_of_chain n order)) (sym same)
+            (subst (λ (r : Rest). OfChain r (next.told x.chain) (finals x.chain) (accesses_of_chain x.chain order)) (sym to.leads.own)
+            (subst (λ (l : List Completed). OfChain (step (rules_of catalogue size) (here.state.rests x.chain) x.access).1 l (finals x.chain) (accesses_of_chain x.chain order))
+            (sym to.own) one.1)))
+            (λ apart.
+            let unlike : accesses_of_chain chain (x ∷ order) ≡ accesses_of_chain chain order = elim (of_chain x order chain) [
+              | inl same ↦ absurd (apart (sym same.0))
+              | inr other ↦ other.1
+            ] in
+            subst (λ (r : Rest). OfChain r (next.told chain) (finals chain) (accesses_of_chain chain order)) (sym (to.leads.others chain low apart))
+            (subst (λ (l : List Completed). OfChain (here.state.rests chain) l (finals chain) (accesses_of_chain chain order)) (sym (to.others chain low apart))
+            (subst (OfChain (here.state.rests chain) (here.told chain) (finals chain)) unlike (comes.each chain low high))));
+        closed = IsPermutation-trans _ _ _
+            (IsPermutation-sym _ _ (IsPermutation-append_left others (here.removed ++ taken) next.removed to.removed))
+            (subst (λ (l : List Closed). IsPermutation l files) (sym (append_assoc here.removed taken others)) comes.closed);
+      }
+
+  -- where the order is over
+  pub record Ended (table : Table) (here : ToldState) : Type 0 where
+    pub over : IsOver chains here.state
+    pub told : (chain : ℕ) → 1 ≤ chain → chain ≤ chains → finals chain ≡ here.told chain
+    pub closed : IsPermutation here.removed files
+    pub table_is : here.state.table ≡ table
+
+  pub runs_on : (states : List ToldState) → AreToldClosed catalogue size chains states → (order : List ChainAccess) (here : ToldState) → Contains states here
+      → Comes here order → (end : ToldState) × Contains states end × Ended (table_after here.state.table (accesses_of order)) end
+  runs_on states closed [] here there comes = (
+    here,
+    there,
+    record {
+      over = λ chain low high. (let of = comes.each chain low high in (ends catalogue size (rules_of catalogue size) (are_right catalogue size) (here.state.rests chain) of.later of.memory of.ready of.rest_is).0);
+      told = λ chain low high.
+          let of = comes.each chain low high in
+          let none = ends catalogue size (rules_of catalogue size) (are_right catalogue size) (here.state.rests chain) of.later of.memory of.ready of.rest_is in
+          of.whole ∙ (ap (λ (l : List Completed). here.told chain ++ l) none.1 ∙ append-nil (here.told chain));
+      closed = subst (λ (l : List Closed). IsPermutation l files) (append-nil here.removed) comes.closed;
+      table_is = refl;
+    },
+  )
+  runs_on states closed (x ∷ order) here there comes =
+      let own = All-head (λ (y : ChainAccess). (1 ≤ y.chain) × (y.chain ≤ chains)) x order comes.within in
+      let one = next_one here x order comes in
+      let to = closed here there x.chain own.0 own.1 x.access one.0 comes.permitted.0 in
+      let rest = runs_on states closed order to.0 to.1 (goes_on here to.0 x order comes to.2) in (
+        rest.0,
+        rest.1,
+        subst (λ (t : Table). Ended (table_after t (accesses_of order)) rest.0) to.2.leads.table rest.2,
+      )
