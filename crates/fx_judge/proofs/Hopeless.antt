@@ -8,7 +8,7 @@ use Rattle.fx_judge.specs.Machine.{HasNoEnd}
 use Rattle.fx_judge.proofs.Reaching.{both_steps, chosen}
 
 -- what is at a slot once one was written: what was there, or what was written
-written : (cells : List Cell) (s : ℕ) (x : Option Resident) (slot : ℕ)
+pub written : (cells : List Cell) (s : ℕ) (x : Option Resident) (slot : ℕ)
     → (cell_at (with_cell cells s x) slot ≡ cell_at cells slot) ⊎ ((s ≡ slot) × (cell_at (with_cell cells s x) slot ≡ x))
 written [] s x slot = inl refl
 written (cell ∷ cells) s x slot =

@@ -4,6 +4,7 @@ pub mod Writing
 pub mod Telling
 pub mod Reaching
 pub mod Hopeless
+pub mod Uneven
 pub mod Unpacking
 pub mod Unknown
 pub mod RequestClaims

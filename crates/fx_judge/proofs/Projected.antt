@@ -58,7 +58,7 @@ slots_stay (cell ∷ cells) slot file (Some k) =
     (λ _. ap (λ (b : Bool). (cell.slot == k) || b) (slots_stay cells slot file (Some k)))
     (λ _. ap (λ (b : Bool). (cell.slot == k) || b) (slots_stay cells slot file (Some k)))
 
-slots_after : (cells : List Cell) (claim : Claim) (o : Option ℕ) → has_slot (cells_after cells claim) o ≡ has_slot cells o
+pub slots_after : (cells : List Cell) (claim : Claim) (o : Option ℕ) → has_slot (cells_after cells claim) o ≡ has_slot cells o
 slots_after cells (At slot wants Empty) o = slots_stay cells slot None o
 slots_after cells (At slot wants (File resident)) o = slots_stay cells slot (Some resident) o
 slots_after cells claim o = refl

@@ -1,7 +1,7 @@
 -- A list of states that leaves none of their steps out, and has no end, shows that no order leads to one.
-use Rattle.fx_judge.proofs.Words.{◌≡◌, ◌≢◌, inl, inr, ℕ, zero, suc, ◌+◌, ◌<◌, Bool, true, false, List, [], ◌∷◌, length, map, Option, Some, None, refl, same_lists}
-use Rattle.fx_judge.proofs.Words.{sym, ap, subst, ◌∙◌, arith, Contains, All, slice_index, slice_index_or, slice_set, if◌then◌else◌, length-map}
-use Rattle.fx_judge.proofs.Words.{get_or-set_other, All-contains, All-map, slice_get, option_and_then, by_equality, starting, Cell, Claim, At}
+use Rattle.fx_judge.proofs.Words.{◌≡◌, ◌≢◌, inl, inr, ℕ, zero, suc, ◌+◌, Bool, true, false, List, [], ◌∷◌, length, Option, Some, None, refl}
+use Rattle.fx_judge.proofs.Words.{sym, ap, subst, ◌∙◌, arith, Contains, All, slice_index, slice_set, if◌then◌else◌}
+use Rattle.fx_judge.proofs.Words.{get_or-set_other, All-contains, All-map, slice_get, option_and_then, by_equality, Cell, Claim, At}
 use Rattle.fx_judge.proofs.Words.{Empty, File, Packing, Strand, Standing, Vec, all_unpacked, allows, cells_after, next, made, claim_at, Ends, is_test, unpacked}
 use Rattle.fx_judge.specs.Machine.{HasNoEnd, IsExplored, IsLookedThrough, LeadsInside}
 
@@ -111,17 +111,3 @@ unfolding HasNoEnd
 never_reached strands start packing rows looked begins = λ order ends.
     none_of_length strands (all_unpacked packing rows)
     (All-map (IsLookedThrough strands (all_unpacked packing rows)) (λ (row : Vec ℕ). unpacked packing row.items) rows looked) (length order) order start refl begins ends
-
--- no claim was made
-pub started : (strands : List Strand) (cells : List Cell) (at : Standing) → length at.places ≡ length strands → All (λ place. place ≡ 0) at.places
-    → at.cells ≡ cells → at ≡ starting strands cells
-started strands cells at long zeros same =
-    let places : at.places ≡ map (λ strand. 0) strands =
-    same_lists at.places (map (λ (strand : Strand). 0) strands) (long ∙ sym (length-map strands (λ (strand : Strand). 0)))
-    (λ k d lt. zeros k d lt ∙ sym (all_zero strands k d (omega arith))) in
-    λ i. standing (places i) (same i)
-  where
-    all_zero : (l : List Strand) (k d : ℕ) → k < length l → slice_index_or (map (λ (strand : Strand). 0) l) k d ≡ 0
-    all_zero [] k d lt = absurd (omega arith)
-    all_zero (x ∷ l) zero d lt = refl
-    all_zero (x ∷ l) (suc k) d lt = all_zero l k d (omega arith)

@@ -8,3 +8,4 @@ pub mod Packed
 pub mod Strands
 pub mod Played
 pub mod Known
+pub mod Counted

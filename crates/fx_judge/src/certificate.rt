@@ -5,8 +5,10 @@ ghost use Rattle.fx_judge.specs.Packed.{all_unpacked, unpacked};
 ghost use Rattle.fx_judge.specs.Starts.{starting};
 
 use crate::cell::Cell;
+use crate::claim::Claim;
+use crate::counted::is_uneven;
 use crate::dead::is_dead_by;
-use crate::node::{Node, are_same, claim_of, is_test};
+use crate::node::{Node, claim_of, is_test, start_of};
 use crate::search::Rows;
 use crate::steps::Steps;
 use crate::strand::Strand;
@@ -42,6 +44,16 @@ struct Here<'a> {
     row: &'a [u16],
 }
 
+// Whether the files of the slot of a chain's next claim don't come out even at a state behind it.
+fn is_uneven_behind(strands: &[Strand], node: &Node, next: &Node, chain: usize) -> bool
+    ensures { IsTrue result → HasNoEnd strands.now (view next.now) }
+{
+    match claim_of(strands, &node.places, chain) {
+        Some(Claim::At(slot, _, _)) => is_uneven(strands, next, *slot),
+        _ => false,
+    }
+}
+
 // Whether the next claim of a chain leads to one of the states if it may be made, or to one that can be seen to lead to no
 // end.
 fn step_leads_inside(
@@ -61,11 +73,14 @@ fn step_leads_inside(
     if is_at(alloc, web, web.rows.get_index_of(&row), &next)? {
         return Ok(true);
     }
-    Ok(is_dead_by(
+    if is_dead_by(
         strands,
         &next,
         web.steps.hopeless_behind(here.row, &row, chain),
-    ))
+    ) {
+        return Ok(true);
+    }
+    Ok(is_uneven_behind(strands, here.node, &next, chain))
 }
 
 // Whether each step from a state leads to one of the states.
@@ -125,7 +140,7 @@ fn is_explored(
     ensures { IfOk result (λ yes. IsTrue yes → IsExplored strands.now
         (all_unpacked web.now.steps.packing web.now.rows.keys) (view here.now.node.now)) }
 {
-    match web.steps.test_of(here.row) {
+    match web.steps.test_of(here.row, web.steps.empty(here.row)) {
         Some(chain) => test_leads_inside(alloc, strands, web, here, chain),
         None => leads_inside(alloc, strands, web, here),
     }
@@ -163,31 +178,6 @@ fn is_closed(alloc: Global, strands: &[Strand], web: &Web<'_>) -> Result<bool, N
     Ok(true)
 }
 
-// Whether no claim was made.
-fn are_zero(places: &[usize]) -> bool
-    ensures { IsTrue result → All (λ place. place ≡ 0) places.now }
-{
-    for place in places {
-        if *place != 0 {
-            return false;
-        }
-    }
-    true
-}
-
-// Whether a state is the one where no claim was made.
-fn is_start(strands: &[Strand], cells: &[Cell], node: &Node) -> bool
-    ensures { IsTrue result → view node.now ≡ starting strands.now cells.now }
-{
-    if node.places.len() != strands.len() {
-        return false;
-    }
-    if !are_zero(&node.places) {
-        return false;
-    }
-    are_same(&node.cells, cells)
-}
-
 /// Whether the states that a search met show that no order leads to an end.
 pub(crate) fn shows_no_end(
     alloc: Global,
@@ -202,7 +192,8 @@ pub(crate) fn shows_no_end(
         return Ok(false);
     };
     let node = web.steps.packing.unpack(alloc, first)?;
-    if !is_start(strands, cells, &node) {
+    let start = start_of(alloc, strands, cells)?;
+    if !node.is_same(&start) {
         return Ok(false);
     }
     is_closed(alloc, strands, web)

@@ -56,10 +56,26 @@ pub(crate) fn resident_for(closes: &[Closed], file: Closed) -> Resident
     }
 }
 
-// Whether a list has a file.
+// Whether a file is where it belongs in a list that is in order of mark.
+fn is_in_order_there(files: &[Closed], file: Closed) -> bool
+    ensures { IsTrue result → Contains files.now file }
+{
+    match files.binary_search_by_key(&file.mark, |other| other.mark) {
+        Ok(i) => match files.get(i) {
+            Some(other) => *other == file,
+            None => false,
+        },
+        Err(_) => false,
+    }
+}
+
+// Whether a list has a file. It is looked for first where it belongs, if the list is in order of mark, as closes are.
 fn has(files: &[Closed], file: Closed) -> bool
     ensures { IsTrue result ↔ Contains files.now file }
 {
+    if is_in_order_there(files, file) {
+        return true;
+    }
     for other in files {
         if *other == file {
             return true;

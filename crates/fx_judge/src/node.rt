@@ -1,6 +1,7 @@
 //! A state of a search.
 ghost use Rattle.std.specs.Prelude.{◌≡◌, ◌↔◌, ℕ, None, IfOk, IsTrue, option_map, option_copied, slice_index};
 ghost use Rattle.fx_judge.specs.Machine.{IsEnd, claim_at, is_test, next, view};
+ghost use Rattle.fx_judge.specs.Starts.{starting};
 
 use crate::cell::{Cell, apply, are_staying, is_allowed};
 use crate::claim::{Claim, Leaves, Resident};
@@ -37,6 +38,16 @@ pub(crate) fn claim_of<'a>(
         Some(strand) => strand.claims.get(place_of(places, chain)),
         None => None,
     }
+}
+
+/// The state where no claim was made, and these files are at the slots.
+pub(crate) fn start_of(alloc: Global, strands: &[Strand], cells: &[Cell]) -> Result<Node, NoMemory>
+    ensures { IfOk result (λ node. view node ≡ starting strands.now cells.now) }
+{
+    Ok(Node {
+        places: strands.iter().map(|_| 0usize).collect(alloc)?,
+        cells: Vec::from_slice(alloc, cells)?,
+    })
 }
 
 /// Whether a claim changes nothing.

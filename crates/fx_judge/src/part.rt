@@ -11,6 +11,7 @@ use crate::full::{is_range_empty, with_full};
 use crate::known::has_unknown;
 use crate::limits::Limits;
 use crate::node::claim_of;
+use crate::refuted::judge_counts;
 use crate::search::{Found, explore};
 use crate::steps::Steps;
 use crate::strand::{Strand, strands_of};
@@ -38,8 +39,8 @@ pub(crate) struct TableTold<'a> {
     pub chains: &'a [Vec<Claim>],
 }
 
-// A slot as it is before the submission.
-fn cell_of(table: &TableTold<'_>, slot: usize) -> Cell
+/// A slot as it is before the submission.
+pub(crate) fn cell_of(table: &TableTold<'_>, slot: usize) -> Cell
     requires inside { slot < length table.now.slots.now.at.items }
     requires small { length table.now.slots.now.at.items < 2 ^ 32 }
     ensures { IsCell (table_of_slots table.now.slots.now) table.now.closes.now result }
@@ -135,25 +136,42 @@ fn judge_part(
     }
 }
 
-// The first slot where what was told of it alone comes of no order.
-fn judge_slots(alloc: Global, table: &TableTold<'_>, limits: Limits) -> Result<Outcome, NoMemory>
+// The first slot where what was told of it alone comes of no order. A slot that is a part by itself is left out.
+fn judge_slots(
+    alloc: Global,
+    table: &TableTold<'_>,
+    parts: &[Vec<usize>],
+    limits: Limits,
+) -> Result<Outcome, NoMemory>
     requires small { length table.now.slots.now.at.items < 2 ^ 32 }
     requires few { length table.now.chains.now + 1 < 2 ^ 32 }
     ensures { IfOk result (IsOutcome (table_of_slots table.now.slots.now) table.now.closes.now
         table.now.chains.now) }
 {
-    for slot in 0..table.slots.at.len() {
-        let cells = [cell_of(table, slot)];
-        let outcome = judge_part(alloc, table, &cells, limits, Reason::Slot(slot as u32))?;
-        if let Outcome::Refuted(reason) = outcome {
-            return Ok(Outcome::Refuted(reason));
+    for i in 0..parts.len() {
+        if parts[i].len() < 2 {
+            continue;
+        }
+        for slot in &parts[i] {
+            if *slot >= table.slots.at.len() {
+                continue;
+            }
+            let cells = [cell_of(table, *slot)];
+            let outcome = judge_part(alloc, table, &cells, limits, Reason::Slot(*slot as u32))?;
+            if let Outcome::Refuted(reason) = outcome {
+                return Ok(Outcome::Refuted(reason));
+            }
         }
     }
     Ok(Outcome::Unsettled(Doubt::NotShown))
 }
 
-// The slots of a part as they are before the submission.
-fn cells_of(alloc: Global, table: &TableTold<'_>, slots: &[usize]) -> Result<Vec<Cell>, NoMemory>
+/// The slots of a part as they are before the submission.
+pub(crate) fn cells_of(
+    alloc: Global,
+    table: &TableTold<'_>,
+    slots: &[usize],
+) -> Result<Vec<Cell>, NoMemory>
     requires small { length table.now.slots.now.at.items < 2 ^ 32 }
     ensures { IfOk result (λ cells. All (IsCell (table_of_slots table.now.slots.now)
         table.now.closes.now) cells.items) }
@@ -167,10 +185,19 @@ fn cells_of(alloc: Global, table: &TableTold<'_>, slots: &[usize]) -> Result<Vec
     Ok(cells)
 }
 
+// Where a part's slots are one, it is that slot that has no order, and else its chains.
+fn reason_of(slots: &[usize]) -> Reason {
+    match slots {
+        [slot] => Reason::Slot(u32::try_from(*slot).unwrap_or(u32::MAX)),
+        _ => Reason::Chains,
+    }
+}
+
 // What was told, judged by parts of the table that no chain joins.
 fn judge_components(
     alloc: Global,
     table: &TableTold<'_>,
+    parts: &[Vec<usize>],
     limits: Limits,
 ) -> Result<Outcome, NoMemory>
     requires small { length table.now.slots.now.at.items < 2 ^ 32 }
@@ -180,10 +207,9 @@ fn judge_components(
 {
     let mut order = Vec::new(alloc);
     let mut doubt: Option<Doubt> = None;
-    let parts = components(alloc, table.slots.at.len(), table.slots.range, table.chains)?;
-    for slots in &parts {
-        let cells = cells_of(alloc, table, slots)?;
-        let outcome = judge_part(alloc, table, &cells, limits, Reason::Chains)?;
+    for i in 0..parts.len() {
+        let cells = cells_of(alloc, table, &parts[i])?;
+        let outcome = judge_part(alloc, table, &cells, limits, reason_of(&parts[i]))?;
         match outcome {
             Outcome::Order(mut own) => order.append(&mut own)?,
             Outcome::Refuted(reason) => return Ok(Outcome::Refuted(reason)),
@@ -197,6 +223,42 @@ fn judge_components(
         order = with_full(alloc, table.chains, &order)?;
     }
     Ok(Outcome::Order(order))
+}
+
+// How many more states than claims are looked at before slots are judged by themselves.
+const FEW_STATES: usize = 1_000;
+
+// Limits for a first search: the text of one worker is found within a state for each claim.
+fn first_limits(table: &TableTold<'_>, limits: Limits) -> Limits {
+    let mut states = FEW_STATES;
+    for claims in table.chains {
+        states = states.saturating_add(claims.len());
+    }
+    Limits {
+        states: states.min(limits.states),
+        ..limits
+    }
+}
+
+// What was told, judged by searches: of the parts through few states, then of the slots by themselves, and then of the parts.
+fn judge_searched(alloc: Global, table: &TableTold<'_>, limits: Limits) -> Result<Outcome, NoMemory>
+    requires small { length table.now.slots.now.at.items < 2 ^ 32 }
+    requires few { length table.now.chains.now + 1 < 2 ^ 32 }
+    ensures { IfOk result (IsOutcome (table_of_slots table.now.slots.now) table.now.closes.now
+        table.now.chains.now) }
+{
+    let parts = components(alloc, table.slots.at.len(), table.slots.range, table.chains)?;
+    let first = judge_components(alloc, table, &parts, first_limits(table, limits))?;
+    if let Outcome::Order(order) = first {
+        return Ok(Outcome::Order(order));
+    }
+    if let Outcome::Refuted(reason) = judge_slots(alloc, table, &parts, limits)? {
+        return Ok(Outcome::Refuted(reason));
+    }
+    match first {
+        Outcome::Refuted(reason) => Ok(Outcome::Refuted(reason)),
+        _ => judge_components(alloc, table, &parts, limits),
+    }
 }
 
 /// Whether what was told of a table comes of an order.
@@ -213,9 +275,9 @@ pub(crate) fn judge_table(
     if has_unknown(table) {
         return Ok(Outcome::Refuted(Reason::Closes));
     }
-    let outcome = judge_slots(alloc, table, limits)?;
+    let outcome = judge_counts(alloc, table)?;
     match outcome {
         Outcome::Refuted(reason) => Ok(Outcome::Refuted(reason)),
-        _ => judge_components(alloc, table, limits),
+        _ => judge_searched(alloc, table, limits),
     }
 }

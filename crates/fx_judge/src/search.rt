@@ -2,7 +2,8 @@
 
 use crate::limits::Limits;
 use crate::node::is_test;
-use crate::steps::{Step, Steps};
+use crate::steps::{Step, Steps, number_at};
+use crate::tally::Tally;
 use crate::verdict::Doubt;
 use fx_base::NoMemory;
 use indexmap::IndexSet;
@@ -35,13 +36,33 @@ struct Stage {
 // All steps were tried.
 const ALL: usize = usize::MAX;
 
+// Draws a number of 64 bits for a number at a place of a state.
+fn drawn(place: usize, number: u16) -> u64 {
+    let mut x = (place as u64)
+        .wrapping_mul(65_536)
+        .wrapping_add(u64::from(number))
+        .wrapping_mul(0x9E37_79B9_7F4A_7C15);
+    x = (x ^ (x >> 30)).wrapping_mul(0xBF58_476D_1CE4_E5B9);
+    x = (x ^ (x >> 27)).wrapping_mul(0x94D0_49BB_1331_11EB);
+    x ^ (x >> 31)
+}
+
 // A search: where it is, and the way there.
 #[derive(Drop)]
 struct Walk<'a> {
     alloc: Global,
     steps: &'a Steps<'a>,
     rows: Rows,
+    // The states that were met, by what was drawn for their numbers. Where two have one sum the second isn't looked at, and an
+    // answer without it isn't confirmed.
+    met: IndexSet<u64>,
     here: Vec<u16>,
+    // What was drawn for the numbers of this state.
+    sum: u64,
+    // For each slot the claims that are still to be made.
+    tallies: Vec<Tally<'a>>,
+    // How many slots of the allocation range are empty.
+    empty: usize,
     way: Vec<Stage>,
     room: Room,
 }
@@ -54,7 +75,7 @@ impl Walk<'_> {
             return None;
         }
         if stage.tried == 0 {
-            if let Some(chain) = self.steps.test_of(&self.here) {
+            if let Some(chain) = self.steps.test_of(&self.here, self.empty) {
                 return Some((chain, ALL));
             }
             if self.may_make(stage.last) {
@@ -72,16 +93,83 @@ impl Walk<'_> {
 
     fn may_make(&self, chain: usize) -> bool {
         match self.steps.next_of(&self.here, chain) {
-            Some(step) => self.steps.allows(&self.here, &step),
+            Some(step) => self.steps.allows(&self.here, &step, self.empty),
             None => false,
         }
     }
 
-    // Whether a step led to a state where a claim of its slot waits for a file that doesn't come.
+    // Whether a step led to a state where a claim of its slot waits for a file that doesn't come, or the slot's files don't
+    // come out even.
     fn is_dead(&self, step: &Step<'_>) -> bool {
         match (step.cell, step.left) {
-            (Some(cell), Some(_)) => self.steps.hopeless(&self.here, cell).is_some(),
+            (Some(cell), Some(_)) if cell < self.tallies.len() => {
+                let (tally, found) = (&self.tallies[cell], self.steps.file(&self.here, cell));
+                tally.is_hopeless(found) || tally.is_uneven(found)
+            }
             _ => false,
+        }
+    }
+
+    // Counts a slot of the allocation range by what is there: one more that is empty, or one less.
+    fn count_empty(&mut self, cell: usize, is_more: bool) {
+        if self.steps.is_in_range(cell) && self.steps.file_number(&self.here, cell) == 0 {
+            self.empty = if is_more {
+                self.empty.saturating_add(1)
+            } else {
+                self.empty.saturating_sub(1)
+            };
+        }
+    }
+
+    // Adds what is drawn for the number at a place, or takes it away.
+    fn draw(&mut self, place: usize) {
+        self.sum ^= drawn(place, number_at(&self.here, place));
+    }
+
+    // The same for a chain and a slot.
+    fn draw_both(&mut self, chain: usize, cell: usize) {
+        self.draw(chain);
+        self.draw(self.steps.chains().saturating_add(cell));
+    }
+
+    // Makes the next step of a chain, and answers what was at its slot.
+    fn make(&mut self, chain: usize, step: &Step<'_>) -> u16 {
+        let Some(cell) = step.cell else {
+            self.draw(chain);
+            let before = self.steps.make(&mut self.here, chain, step);
+            self.draw(chain);
+            return before;
+        };
+        self.draw_both(chain, cell);
+        self.count_empty(cell, false);
+        let before = self.steps.make(&mut self.here, chain, step);
+        self.count_empty(cell, true);
+        self.draw_both(chain, cell);
+        if cell < self.tallies.len() {
+            self.tallies[cell].count_claim(step.class, step.claim, false);
+        }
+        before
+    }
+
+    // Takes back the step that a chain made last, at whose slot this was.
+    fn take_back(&mut self, chain: usize, before: u16) {
+        self.draw(chain);
+        let made = self.steps.take_back(&mut self.here, chain);
+        self.draw(chain);
+        let Some(step) = made else {
+            return;
+        };
+        let Some(cell) = step.cell else {
+            return;
+        };
+        let place = self.steps.chains().saturating_add(cell);
+        self.draw(place);
+        self.count_empty(cell, false);
+        self.steps.put_back(&mut self.here, &step, before);
+        self.count_empty(cell, true);
+        self.draw(place);
+        if cell < self.tallies.len() {
+            self.tallies[cell].count_claim(step.class, step.claim, true);
         }
     }
 
@@ -91,15 +179,16 @@ impl Walk<'_> {
         let Some(step) = self.steps.next_of(&self.here, chain) else {
             return Ok(true);
         };
-        let before = self.steps.make(&mut self.here, chain, &step);
-        if self.is_dead(&step) || self.rows.contains(&self.here) {
-            self.steps.take_back(&mut self.here, chain, before);
+        let before = self.make(chain, &step);
+        if self.is_dead(&step) || self.met.contains(&self.sum) {
+            self.take_back(chain, before);
             return Ok(true);
         }
         if self.rows.len() >= self.room.states {
             return Ok(false);
         }
         self.rows.insert(Vec::from_slice(self.alloc, &self.here)?)?;
+        self.met.insert(self.sum)?;
         let last = if is_test(step.claim) { last } else { chain };
         self.way.push(Stage {
             by: chain,
@@ -113,7 +202,7 @@ impl Walk<'_> {
     // Goes back by one step.
     fn back(&mut self) {
         if let Some(stage) = self.way.pop() {
-            self.steps.take_back(&mut self.here, stage.by, stage.before);
+            self.take_back(stage.by, stage.before);
         }
     }
 
@@ -192,14 +281,20 @@ pub(crate) fn explore(
         alloc,
         steps,
         rows: IndexSet::new(alloc),
+        met: IndexSet::new(alloc),
+        tallies: steps.tallies(alloc)?,
+        empty: steps.empty(&here),
         here,
+        sum: 0,
         way: Vec::new(alloc),
         room,
     };
     if room.states == 0 {
         return Ok((walk.rows, Found::Stopped(room.doubt)));
     }
+    let sum = walk.sum;
     walk.rows.insert(first)?;
+    walk.met.insert(sum)?;
     walk.way.push(Stage {
         by: 0,
         before: 0,

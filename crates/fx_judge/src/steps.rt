@@ -6,15 +6,18 @@ use crate::dead::{is_no_help, may_find};
 use crate::node::is_test;
 use crate::packed::Packing;
 use crate::strand::Strand;
+use crate::tally::Tally;
 use fx_base::NoMemory;
 use std::alloc::Global;
 
-/// A claim, the place of its slot among those of the part, and the number of the file that it leaves there.
+/// A claim, the place of its slot among those of the part, the number of the file that it leaves there, and the class that it
+/// is counted in.
 #[derive(Clone, Copy)]
 pub(crate) struct Step<'a> {
     pub claim: &'a Claim,
     pub cell: Option<usize>,
     pub left: Option<u16>,
+    pub class: usize,
 }
 
 /// The claims of chains at some slots.
@@ -25,6 +28,8 @@ pub(crate) struct Steps<'a> {
     chains: Vec<Vec<Step<'a>>>,
     // For each slot its claims: the chain, and the place among the chain's.
     at: Vec<Vec<(usize, usize)>>,
+    // For each slot the classes of its claims.
+    classes: Vec<Tally<'a>>,
     // How many claims there are.
     count: usize,
 }
@@ -79,6 +84,7 @@ impl<'a> Steps<'a> {
     ) -> Result<Steps<'a>, NoMemory> {
         let mut files = Vec::new(alloc);
         let mut at = Vec::new(alloc);
+        let mut classes = Vec::new(alloc);
         for cell in cells {
             let mut own: Vec<Option<Resident>> = Vec::new(alloc);
             own.push(None)?;
@@ -87,6 +93,7 @@ impl<'a> Steps<'a> {
             }
             files.push(own)?;
             at.push(Vec::new(alloc))?;
+            classes.push(Tally::new(alloc))?;
         }
         let packing = Packing {
             chains: strands.len(),
@@ -97,6 +104,7 @@ impl<'a> Steps<'a> {
             packing,
             chains: Vec::new(alloc),
             at,
+            classes,
             count: 0,
         };
         for strand in strands {
@@ -128,6 +136,7 @@ impl<'a> Steps<'a> {
                 claim,
                 cell: None,
                 left: None,
+                class: 0,
             });
         };
         let cell = cell_of(&self.packing.cells, *slot);
@@ -140,7 +149,16 @@ impl<'a> Steps<'a> {
             )?),
             _ => None,
         };
-        Ok(Step { claim, cell, left })
+        let class = match cell {
+            Some(cell) if cell < self.classes.len() => self.classes[cell].class_of(claim)?,
+            _ => 0,
+        };
+        Ok(Step {
+            claim,
+            cell,
+            left,
+            class,
+        })
     }
 
     /// The state where no claim was made.
@@ -186,26 +204,52 @@ impl<'a> Steps<'a> {
         number_at(row, self.chains.len().saturating_add(cell))
     }
 
-    fn file(&self, row: &[u16], cell: usize) -> Option<Resident> {
+    /// The file at a slot.
+    pub(crate) fn file(&self, row: &[u16], cell: usize) -> Option<Resident> {
         self.packing
             .file_at(cell, self.file_number(row, cell) as usize)
     }
 
-    /// Whether a claim may be made.
-    pub(crate) fn allows(&self, row: &[u16], step: &Step<'_>) -> bool {
+    /// Whether a claim may be made, where this many slots of the allocation range are empty.
+    pub(crate) fn allows(&self, row: &[u16], step: &Step<'_>, empty: usize) -> bool {
         match step.cell {
             Some(cell) => may_find(step.claim, self.file(row, cell)),
-            None => self.is_full(row),
+            None => empty == 0,
         }
     }
 
-    fn is_full(&self, row: &[u16]) -> bool {
+    /// Whether a slot is of the allocation range.
+    pub(crate) fn is_in_range(&self, cell: usize) -> bool {
+        matches!(self.packing.cells.get(cell), Some(cell) if cell.in_range)
+    }
+
+    /// How many slots of the allocation range are empty.
+    pub(crate) fn empty(&self, row: &[u16]) -> usize {
+        let mut empty = 0usize;
         for i in 0..self.packing.cells.len() {
             if self.packing.cells[i].in_range && self.file_number(row, i) == 0 {
-                return false;
+                empty = empty.saturating_add(1);
             }
         }
-        true
+        empty
+    }
+
+    /// The claims of each slot, all of them still to be made.
+    pub(crate) fn tallies(&self, alloc: Global) -> Result<Vec<Tally<'a>>, NoMemory> {
+        let mut tallies = Vec::with_capacity(alloc, self.classes.len())?;
+        for classes in &self.classes {
+            tallies.push(classes.copy(alloc)?)?;
+        }
+        for steps in &self.chains {
+            for step in steps {
+                if let Some(cell) = step.cell {
+                    if cell < tallies.len() {
+                        tallies[cell].count_claim(step.class, step.claim, true);
+                    }
+                }
+            }
+        }
+        Ok(tallies)
     }
 
     /// Whether no slot has a file that the closes have.
@@ -218,11 +262,11 @@ impl<'a> Steps<'a> {
         true
     }
 
-    /// A chain whose next claim only tests and may be made.
-    pub(crate) fn test_of(&self, row: &[u16]) -> Option<usize> {
+    /// A chain whose next claim only tests and may be made, where this many slots of the allocation range are empty.
+    pub(crate) fn test_of(&self, row: &[u16], empty: usize) -> Option<usize> {
         for chain in 0..self.chains.len() {
             if let Some(step) = self.next_of(row, chain) {
-                if is_test(step.claim) && self.allows(row, &step) {
+                if is_test(step.claim) && self.allows(row, &step, empty) {
                     return Some(chain);
                 }
             }
@@ -244,14 +288,17 @@ impl<'a> Steps<'a> {
         before
     }
 
-    /// Takes back the claim that a chain made last, at whose slot this was.
-    pub(crate) fn take_back(&self, row: &mut [u16], chain: usize, before: u16) {
+    /// Goes back by the step that a chain made last, which it answers; what is at its slot stays.
+    pub(crate) fn take_back(&self, row: &mut [u16], chain: usize) -> Option<Step<'a>> {
         let place = number_at(row, chain).saturating_sub(1);
         set_number(row, chain, place);
-        if let Some(step) = self.next_of(row, chain) {
-            if let (Some(cell), Some(_)) = (step.cell, step.left) {
-                set_number(row, self.chains.len().saturating_add(cell), before);
-            }
+        self.next_of(row, chain)
+    }
+
+    /// Puts back what was at the slot of a step.
+    pub(crate) fn put_back(&self, row: &mut [u16], step: &Step<'_>, before: u16) {
+        if let (Some(cell), Some(_)) = (step.cell, step.left) {
+            set_number(row, self.chains.len().saturating_add(cell), before);
         }
     }
 

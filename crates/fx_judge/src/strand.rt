@@ -19,7 +19,7 @@ pub struct Strand {
 }
 
 // Whether one of these slots is this one.
-fn has_slot(cells: &[Cell], slot: u32) -> bool
+pub(crate) fn has_slot(cells: &[Cell], slot: u32) -> bool
     ensures { result ≡ list_any (λ cell. cell.slot == slot) cells.now }
 {
     for cell in cells {

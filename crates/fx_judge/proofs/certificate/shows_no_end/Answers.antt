@@ -10,7 +10,7 @@ returns c =
     let packing : Packing = c.args.web.now.steps.packing in
     let rows : List (Vec ℕ) = c.args.web.now.rows.keys in
     let is : unpacked packing c.in-Some.first.now.items ≡ start =
-    sym (c.in_ok-node.ensures ∙ ap (unpacked packing) c.deref.ensures.value) ∙ c.if-not-is_start.ensures refl in
+    sym (c.in_ok-node.ensures ∙ ap (unpacked packing) c.deref.ensures.value) ∙ (c.if-not-is_same.ensures refl ∙ c.in_ok-start.ensures) in
     let begins : Contains (all_unpacked packing rows) start = subst (Contains (all_unpacked packing rows)) is
     (at_inside (λ (row : Vec ℕ). unpacked packing row.items) rows 0 c.in-Some.first.now (sym c.get_index.ensures.key ∙ ap option_copied c.in-Some.is)) in
     IfOk-weaker c.is_closed.result (λ yes. IsTrue yes → All (λ row. IsLookedThrough c.args.strands.now (all_unpacked packing rows) (unpacked packing row.items)) rows)
