@@ -20,7 +20,7 @@ use crate::registration::{
 };
 use crate::submission::play_submission;
 use fx_base::{Catalogue, NoMemory};
-use fx_judge::RingSlots;
+use fx_judge::{Limits, RingSlots};
 use fx_language::{Command, Script};
 use fx_order::Slots;
 use fx_script::teardown_text;
@@ -49,7 +49,7 @@ fn play_command(
     ring: &mut RingSlots,
     command: &Command,
     text: &[u8],
-    states: usize,
+    limits: Limits,
 ) -> Result<Answer, NoMemory>
     requires { IsKept catalogue.now ring.old }
     ensures answer { IfOk result (λ answer. IsAnswer catalogue.now ring.old
@@ -84,7 +84,7 @@ fn play_command(
             play_update(alloc, catalogue, ring, *off, &Tagged { list, tags }, text)?
         }
         Command::Submit(requests) => {
-            return play_submission(alloc, catalogue, ring, requests, text, states);
+            return play_submission(alloc, catalogue, ring, requests, text, limits);
         }
     };
     Ok(Answer::of(met))
@@ -114,7 +114,7 @@ fn play_end(
 }
 
 /// Whether a script may print a text. The commands are played against it, one after another, on what is kept of a ring; of
-/// each submission at most so many states of each part that has slots of its own are looked at.
+/// each submission no more states of each part that has slots of its own are looked at, or kept, than the limits say.
 ///
 /// A text that is legal is one that the script may print, by one play in which each accepted submission comes of its order.
 /// One that isn't legal is none: the commands in front of the one that it breaks at may print what stands in front, and no
@@ -127,7 +127,7 @@ pub fn judge(
     alloc: Global,
     script: &Script,
     text: &[u8],
-    states: usize,
+    limits: Limits,
 ) -> Result<Judgement, NoMemory>
     ensures { IfOk result (IsJudged script.now text.now) }
 {
@@ -136,7 +136,7 @@ pub fn judge(
     let mut orders = Vec::new(alloc);
     let mut at = 0usize;
     for (done, command) in commands.iter().enumerate() {
-        match play_command(alloc, catalogue, &mut ring, command, &text[at..], states)? {
+        match play_command(alloc, catalogue, &mut ring, command, &text[at..], limits)? {
             Answer::Printed(count, order) => {
                 at += count;
                 if let Some(order) = order {

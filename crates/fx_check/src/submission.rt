@@ -25,7 +25,7 @@ use crate::places::{Answered, places_of};
 use crate::told::{files_told, tags_told, wrong_order, wrong_tag};
 use fx_base::{Catalogue, NoMemory};
 use fx_chain::{Request, check, cut};
-use fx_judge::{RingSlots, Told, Verdict, judge_submission};
+use fx_judge::{Limits, RingSlots, Told, Verdict, judge_submission};
 use fx_lines::{ReportLines, read_report};
 use fx_order::ChainAccess;
 use fx_ring::MOST_SUBMISSIONS;
@@ -141,7 +141,7 @@ fn play_accepted(
     ring: &mut RingSlots,
     requests: &[Request],
     text: &[u8],
-    states: usize,
+    limits: Limits,
 ) -> Result<Answer, NoMemory>
     requires accepted { IsAccepted (all_asked requests.now) }
     requires few { ring.old.submissions < MOST_SUBMISSIONS }
@@ -162,7 +162,7 @@ fn play_accepted(
         Ok(told) => told,
         Err(fault) => return Ok(Answer::Broken(fault)),
     };
-    match judge_submission(alloc, catalogue, ring, requests, &told, states)? {
+    match judge_submission(alloc, catalogue, ring, requests, &told, limits)? {
         Verdict::Legal(accesses) => {
             let order = order_of(alloc, ring, requests, &told, accesses)?;
             Ok(Answer::Printed(text.len() - rest.len(), Some(order)))
@@ -172,7 +172,7 @@ fn play_accepted(
     }
 }
 
-/// Requests are submitted. At most so many states are looked at.
+/// Requests are submitted. No more states are looked at, or kept, than the limits say.
 ///
 /// # Errors
 /// `NoMemory` where the memory of a report, an order, a state or a line is refused.
@@ -182,7 +182,7 @@ pub(crate) fn play_submission(
     ring: &mut RingSlots,
     requests: &[Request],
     text: &[u8],
-    states: usize,
+    limits: Limits,
 ) -> Result<Answer, NoMemory>
     requires { IsKept catalogue.now ring.old }
     ensures answer { IfOk result (λ answer. IsAnswer catalogue.now ring.old
@@ -197,5 +197,5 @@ pub(crate) fn play_submission(
     if ring.submissions >= MOST_SUBMISSIONS {
         return Ok(Answer::of(meet(text, too_many_line(alloc)?)));
     }
-    play_accepted(alloc, catalogue, ring, requests, text, states)
+    play_accepted(alloc, catalogue, ring, requests, text, limits)
 }

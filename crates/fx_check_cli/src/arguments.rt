@@ -14,8 +14,8 @@ const ABOUT: &str =
 const STATUSES: &str = "\
 It prints `legal`, and for each accepted submission an order of its requests that gives the
 text; or `not legal`, with the command that the text breaks at; or `undecided`, where a part
-of a submission has more states than it may look at, or what was found isn't confirmed. The
-status is then 0, 1 or 6.
+of a submission has more states than it may look at or keep, or what was found isn't
+confirmed. The status is then 0, 1 or 6.
 With --history it prints for a legal text every event of the table, a line each: whose it is,
 what happens, and the files then at the slots. scripts/draw-history draws that.
 A script is what `fixfiles` plays, and a text what `fixfiles`, or a kernel, writes.";
@@ -23,11 +23,19 @@ A script is what `fixfiles` plays, and a text what `fixfiles`, or a kernel, writ
 /// How many states of a submission are looked at where no number is given.
 pub const STATES: u32 = 1_000_000;
 
+/// How many MiB the states of a part of a submission may take where no number is given.
+pub const MEMORY: u32 = 1_024;
+
+/// How many MiB they may take at most: a TiB.
+const MOST_MEMORY: i64 = 1_048_576;
+
 /// What is to be checked.
 #[derive(Clone, Copy)]
 pub struct Settings<'a> {
     /// How many states of a submission are looked at.
     pub states: u32,
+    /// How many MiB the states of a part of a submission may take.
+    pub memory: u32,
     /// Whether a whole history is wanted in place of the orders.
     pub history: bool,
     /// Where the script is: a path, or `-` for standard input.
@@ -59,6 +67,15 @@ fn states_argument<'a>(alloc: Global) -> Arg<'a> {
         .help("How many states of a part of a submission are looked at before it is undecided")
 }
 
+fn memory_argument<'a>(alloc: Global) -> Arg<'a> {
+    Arg::new(alloc, "memory")
+        .long("memory")
+        .value_name("MIB")
+        .value_parser(value_parser!(u32).range(1..=MOST_MEMORY))
+        .default_value("1024")
+        .help("How many MiB the states of a part of a submission may take before it is undecided")
+}
+
 fn history_argument<'a>(alloc: Global) -> Arg<'a> {
     Arg::new(alloc, "history")
         .long("history")
@@ -85,6 +102,7 @@ fn command<'a>(alloc: Global) -> Result<Command<'a>, AllocError> {
         .about(ABOUT)
         .after_help(STATUSES)
         .arg(states_argument(alloc))?
+        .arg(memory_argument(alloc))?
         .arg(history_argument(alloc))?
         .arg(script_argument(alloc))?
         .arg(text_argument(alloc))
@@ -93,6 +111,11 @@ fn command<'a>(alloc: Global) -> Result<Command<'a>, AllocError> {
 // The number of states, which has a default.
 fn states_of(matches: &ArgMatches<'_>) -> u32 {
     matches.get_one::<u32>("states").unwrap_or(STATES)
+}
+
+// The number of MiB, which has a default.
+fn memory_of(matches: &ArgMatches<'_>) -> u32 {
+    matches.get_one::<u32>("memory").unwrap_or(MEMORY)
 }
 
 /// What the words of a command line ask to be checked.
@@ -109,6 +132,7 @@ pub fn settings_in<'a, S: AsStr>(alloc: Global, words: &'a [S]) -> Result<Settin
     }
     Ok(Settings {
         states: states_of(&matches),
+        memory: memory_of(&matches),
         history: matches.get_flag("history"),
         script,
         text,

@@ -29,6 +29,7 @@ mod wrong_place;
 use arguments::{settings_in, words};
 use ending::Ending;
 use fx_check::{Judgement, Order, judge};
+use fx_judge::Limits;
 use fx_script::{PlayFault, Script};
 use history::History;
 use input::{read_path, script_of};
@@ -38,6 +39,9 @@ use verdict::{status_of, verdict_text};
 
 /// How many bytes of a history are kept before they are written.
 const KEPT: usize = 65_536;
+
+/// How many bytes a MiB has.
+const MIB: usize = 1_048_576;
 
 // Writes a text to standard output.
 fn write(rt: &HostRuntime, text: &str) -> Result<(), Ending> {
@@ -76,13 +80,17 @@ fn check(rt: &HostRuntime) -> Result<u8, Ending> {
     let source = read_path(rt, settings.script)?;
     let script = script_of(alloc, settings.script, &source)?;
     let text = read_path(rt, settings.text)?;
-    let judgement = judge(alloc, &script, &text, settings.states as usize)?;
+    let limits = Limits {
+        states: settings.states as usize,
+        bytes: (settings.memory as usize).saturating_mul(MIB),
+    };
+    let judgement = judge(alloc, &script, &text, limits)?;
     match &judgement {
         Judgement::Legal(orders) if settings.history => {
             print_history(rt, &script, &text, orders.as_slice())?;
         }
         _ => {
-            let told = verdict_text(alloc, &script, &source, &text, settings.states, &judgement)?;
+            let told = verdict_text(alloc, &script, &source, &text, &settings, &judgement)?;
             write(rt, told.as_str())?;
         }
     }

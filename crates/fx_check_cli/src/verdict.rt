@@ -2,6 +2,7 @@
 ghost use Rattle.std.specs.Prelude.{◌≡◌};
 ghost use Rattle.fx_check_cli.specs.Status.{status};
 
+use crate::arguments::Settings;
 use crate::case::Case;
 use crate::complaint::Complaint;
 use crate::explain::complaint_of;
@@ -204,7 +205,7 @@ pub fn verdict_text(
     script: &Script,
     source: &[u8],
     text: &[u8],
-    states: u32,
+    settings: &Settings<'_>,
     judgement: &Judgement,
 ) -> Result<String, NoMemory> {
     let mut told = String::new(alloc);
@@ -223,7 +224,14 @@ pub fn verdict_text(
         Judgement::Undecided(submission, doubt) => {
             write!(told, "undecided: submission {submission} ")?;
             match doubt {
-                Doubt::TooManyStates => write!(told, "has more than {states} states\n")?,
+                Doubt::TooManyStates => {
+                    let states = settings.states;
+                    write!(told, "has more than {states} states\n")?;
+                }
+                Doubt::TooMuchMemory => {
+                    let memory = settings.memory;
+                    write!(told, "has more states than {memory} MiB hold\n")?;
+                }
                 Doubt::NotShown => told.push_str(
                     "wasn't shown to have an order, or to have none\n",
                 )?,

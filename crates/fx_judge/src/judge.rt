@@ -9,6 +9,7 @@ ghost use Rattle.fx_order.specs.Slots.{table_of_slots};
 ghost use Rattle.fx_judge.specs.Verdict.{CameBy, IsToldOutcome, IsVerdict, ring_with_slots};
 
 use crate::chain::{Parts, claims_of_chains};
+use crate::limits::Limits;
 use crate::part::{Outcome, TableTold, judge_table};
 use crate::request::Setting;
 use crate::stop::Stop;
@@ -101,7 +102,7 @@ fn confirm(case: &Case<'_>, ring: &mut RingSlots, order: &[ChainAccess]) -> Resu
 
 // What was told, as a search has it: no order of the accesses that the completions tell of is known to be missing, or one
 // is known to be that has to be made.
-fn judge_told(case: &Case<'_>, ring: &RingSlots, states: usize) -> Result<Outcome, NoMemory>
+fn judge_told(case: &Case<'_>, ring: &RingSlots, limits: Limits) -> Result<Outcome, NoMemory>
     requires ring { IsRing (ring_with_slots case.now.catalogue.now ring.now) }
     requires few_slots { length ring.now.slots.at.items ≤ MOST_SLOTS }
     requires few { ring.now.submissions + 1 < 2 ^ 32 }
@@ -132,13 +133,14 @@ fn judge_told(case: &Case<'_>, ring: &RingSlots, states: usize) -> Result<Outcom
         closes: &case.told.closes,
         chains: &claims,
     };
-    judge_table(case.alloc, &table, states)
+    judge_table(case.alloc, &table, limits)
 }
 
 /// Whether what was told of a submission's requests comes of an order of them, done one at a time, at a ring with this
-/// catalogue. Where it does, the ring is afterwards the one behind the submission, and else it stays. At most so many states
-/// of the table are looked at for each part of the submission that has slots of its own; where they don't suffice, the
-/// verdict is `Undecided` by `TooManyStates`. The caller has seen that no request has a fault ([`fx_chain::check`]).
+/// catalogue. Where it does, the ring is afterwards the one behind the submission, and else it stays. For each
+/// part of the submission that has slots of its own no more states of the table are looked at, or kept, than the limits say;
+/// where they don't suffice, the verdict is `Undecided` by `TooManyStates` or `TooMuchMemory`. The caller has seen that no
+/// request has a fault ([`fx_chain::check`]).
 ///
 /// # Errors
 /// `NoMemory` where there is no memory for lists as long as the submission and for as many states as are looked at. The ring
@@ -149,7 +151,7 @@ pub fn judge_submission(
     ring: &mut RingSlots,
     requests: &[Request],
     told: &Told,
-    states: usize,
+    limits: Limits,
 ) -> Result<Verdict, NoMemory>
     requires accepted { IsAccepted (all_asked requests.now) }
     requires ring { IsRing (ring_with_slots catalogue.now ring.old) }
@@ -168,7 +170,7 @@ pub fn judge_submission(
         requests,
         told,
     };
-    let outcome = judge_told(&case, ring, states)?;
+    let outcome = judge_told(&case, ring, limits)?;
     match outcome {
         Outcome::Order(order) => {
             if confirm(&case, ring, &order)? {

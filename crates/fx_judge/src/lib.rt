@@ -11,6 +11,7 @@ mod dead;
 mod full;
 mod judge;
 mod known;
+mod limits;
 mod node;
 mod packed;
 mod part;
@@ -24,5 +25,6 @@ mod update;
 mod verdict;
 
 pub use judge::judge_submission;
+pub use limits::Limits;
 pub use told::{RingSlots, Told};
 pub use verdict::{Doubt, Reason, Verdict};

@@ -9,6 +9,7 @@ use crate::claim::{Claim, Leaves, Wants, resident_for};
 use crate::component::components;
 use crate::full::{is_range_empty, with_full};
 use crate::known::has_unknown;
+use crate::limits::Limits;
 use crate::node::claim_of;
 use crate::search::{Found, explore};
 use crate::steps::Steps;
@@ -106,7 +107,7 @@ fn judge_part(
     alloc: Global,
     table: &TableTold<'_>,
     cells: &[Cell],
-    states: usize,
+    limits: Limits,
     reason: Reason,
 ) -> Result<Outcome, NoMemory>
     requires cells { All (IsCell (table_of_slots table.now.slots.now) table.now.closes.now)
@@ -117,7 +118,7 @@ fn judge_part(
 {
     let strands = strands_of(alloc, cells, table.chains)?;
     let steps = Steps::new(alloc, &strands, cells)?;
-    let (rows, found) = explore(alloc, &steps, states)?;
+    let (rows, found) = explore(alloc, &steps, limits)?;
     match found {
         Found::Order(order) => {
             let accesses = accesses_along(alloc, &strands, cells, &order)?;
@@ -130,12 +131,12 @@ fn judge_part(
             }
             Ok(Outcome::Refuted(reason))
         }
-        Found::TooMany => Ok(Outcome::Unsettled(Doubt::TooManyStates)),
+        Found::Stopped(doubt) => Ok(Outcome::Unsettled(doubt)),
     }
 }
 
 // The first slot where what was told of it alone comes of no order.
-fn judge_slots(alloc: Global, table: &TableTold<'_>, states: usize) -> Result<Outcome, NoMemory>
+fn judge_slots(alloc: Global, table: &TableTold<'_>, limits: Limits) -> Result<Outcome, NoMemory>
     requires small { length table.now.slots.now.at.items < 2 ^ 32 }
     requires few { length table.now.chains.now + 1 < 2 ^ 32 }
     ensures { IfOk result (IsOutcome (table_of_slots table.now.slots.now) table.now.closes.now
@@ -143,7 +144,7 @@ fn judge_slots(alloc: Global, table: &TableTold<'_>, states: usize) -> Result<Ou
 {
     for slot in 0..table.slots.at.len() {
         let cells = [cell_of(table, slot)];
-        let outcome = judge_part(alloc, table, &cells, states, Reason::Slot(slot as u32))?;
+        let outcome = judge_part(alloc, table, &cells, limits, Reason::Slot(slot as u32))?;
         if let Outcome::Refuted(reason) = outcome {
             return Ok(Outcome::Refuted(reason));
         }
@@ -170,7 +171,7 @@ fn cells_of(alloc: Global, table: &TableTold<'_>, slots: &[usize]) -> Result<Vec
 fn judge_components(
     alloc: Global,
     table: &TableTold<'_>,
-    states: usize,
+    limits: Limits,
 ) -> Result<Outcome, NoMemory>
     requires small { length table.now.slots.now.at.items < 2 ^ 32 }
     requires few { length table.now.chains.now + 1 < 2 ^ 32 }
@@ -182,7 +183,7 @@ fn judge_components(
     let parts = components(alloc, table.slots.at.len(), table.slots.range, table.chains)?;
     for slots in &parts {
         let cells = cells_of(alloc, table, slots)?;
-        let outcome = judge_part(alloc, table, &cells, states, Reason::Chains)?;
+        let outcome = judge_part(alloc, table, &cells, limits, Reason::Chains)?;
         match outcome {
             Outcome::Order(mut own) => order.append(&mut own)?,
             Outcome::Refuted(reason) => return Ok(Outcome::Refuted(reason)),
@@ -202,7 +203,7 @@ fn judge_components(
 pub(crate) fn judge_table(
     alloc: Global,
     table: &TableTold<'_>,
-    states: usize,
+    limits: Limits,
 ) -> Result<Outcome, NoMemory>
     requires small { length table.now.slots.now.at.items < 2 ^ 32 }
     requires few { length table.now.chains.now + 1 < 2 ^ 32 }
@@ -212,9 +213,9 @@ pub(crate) fn judge_table(
     if has_unknown(table) {
         return Ok(Outcome::Refuted(Reason::Closes));
     }
-    let outcome = judge_slots(alloc, table, states)?;
+    let outcome = judge_slots(alloc, table, limits)?;
     match outcome {
         Outcome::Refuted(reason) => Ok(Outcome::Refuted(reason)),
-        _ => judge_components(alloc, table, states),
+        _ => judge_components(alloc, table, limits),
     }
 }

@@ -1,7 +1,9 @@
 //! A search for an order. Nothing is proved of what it finds: what it hands over is looked through (`crate::certificate`).
 
+use crate::limits::Limits;
 use crate::node::is_test;
 use crate::steps::{Step, Steps};
+use crate::verdict::Doubt;
 use fx_base::NoMemory;
 use indexmap::IndexSet;
 use std::alloc::Global;
@@ -13,8 +15,8 @@ pub(crate) enum Found {
     Order(Vec<usize>),
     /// All states that can be reached were met, and none is an end.
     NoEnd,
-    /// There are more states than may be kept.
-    TooMany,
+    /// There are more states than the limits let be kept.
+    Stopped(Doubt),
 }
 
 /// The states that a search met, packed, in the order in which it met them.
@@ -41,7 +43,7 @@ struct Walk<'a> {
     rows: Rows,
     here: Vec<u16>,
     way: Vec<Stage>,
-    most: usize,
+    room: Room,
 }
 
 impl Walk<'_> {
@@ -94,7 +96,7 @@ impl Walk<'_> {
             self.steps.take_back(&mut self.here, chain, before);
             return Ok(true);
         }
-        if self.rows.len() >= self.most {
+        if self.rows.len() >= self.room.states {
             return Ok(false);
         }
         self.rows.insert(Vec::from_slice(self.alloc, &self.here)?)?;
@@ -147,29 +149,44 @@ impl Walk<'_> {
         if self.go(chain, stage.last)? {
             Ok(None)
         } else {
-            Ok(Some(Found::TooMany))
+            Ok(Some(Found::Stopped(self.room.doubt)))
         }
     }
 }
 
-// How many bytes the states of a search may take.
-const MOST_BYTES: usize = 1 << 30;
+// How many bytes a state takes beside its numbers: a list with a block of memory, a place in the set and in its hash table,
+// and a place on the way. Each of these lists may just be moved to one of twice the length.
+const BESIDE: usize = 256;
 
-// How many states have room, if no more than so many are asked for. Beside its numbers of two bytes each a state has a list,
-// a block of memory and a place in the hash table, which may just have been doubled.
-fn room_for(row: &[u16], most: usize) -> usize {
-    let weight = row.len().saturating_mul(2).saturating_add(128);
-    most.min(MOST_BYTES.checked_div(weight).unwrap_or(0))
+// How many states are kept, and what is said where these don't suffice.
+#[derive(Clone, Copy)]
+struct Room {
+    states: usize,
+    doubt: Doubt,
 }
 
-/// Looks for an end, through at most so many states, and no more than have room in a gibibyte.
+// The room for states like this one, whose numbers have two bytes each.
+fn room_for(row: &[u16], limits: Limits) -> Room {
+    let weight = row.len().saturating_mul(2).saturating_add(BESIDE);
+    let states = limits.bytes.checked_div(weight).unwrap_or(0);
+    if states < limits.states {
+        let doubt = Doubt::TooMuchMemory;
+        return Room { states, doubt };
+    }
+    Room {
+        states: limits.states,
+        doubt: Doubt::TooManyStates,
+    }
+}
+
+/// Looks for an end, through no more states than the limits let be looked at and kept.
 pub(crate) fn explore(
     alloc: Global,
     steps: &Steps<'_>,
-    most: usize,
+    limits: Limits,
 ) -> Result<(Rows, Found), NoMemory> {
     let here = steps.start(alloc)?;
-    let most = room_for(&here, most);
+    let room = room_for(&here, limits);
     let first = Vec::from_slice(alloc, &here)?;
     let mut walk = Walk {
         alloc,
@@ -177,10 +194,10 @@ pub(crate) fn explore(
         rows: IndexSet::new(alloc),
         here,
         way: Vec::new(alloc),
-        most,
+        room,
     };
-    if most == 0 {
-        return Ok((walk.rows, Found::TooMany));
+    if room.states == 0 {
+        return Ok((walk.rows, Found::Stopped(room.doubt)));
     }
     walk.rows.insert(first)?;
     walk.way.push(Stage {
@@ -194,5 +211,5 @@ pub(crate) fn explore(
             return Ok((walk.rows, found));
         }
     }
-    Ok((walk.rows, Found::TooMany))
+    Ok((walk.rows, Found::Stopped(room.doubt)))
 }

@@ -70,7 +70,7 @@ fn removed_in(alloc: Global, order: &[ChainAccess]) -> Result<Vec<Closed>, NoMem
 }
 
 // The first place of a file in a list.
-fn place_of(files: &[Closed], file: Closed) -> Option<usize>
+fn first_place_of(files: &[Closed], file: Closed) -> Option<usize>
     ensures some { IfSome result (λ i. (i < length files.now)
         × (slice_index_or files.now i file ≡ file)) }
     ensures none { IfNone result ((i : ℕ) (d : File) → i < length files.now
@@ -84,11 +84,35 @@ fn place_of(files: &[Closed], file: Closed) -> Option<usize>
     None
 }
 
-// Whether both lists have the same files, each as many times.
+// A place of a file in a list: the last one, if the file is there.
+fn place_of(files: &[Closed], file: Closed) -> Option<usize>
+    ensures some { IfSome result (λ i. (i < length files.now)
+        × (slice_index_or files.now i file ≡ file)) }
+    ensures none { IfNone result ((i : ℕ) (d : File) → i < length files.now
+        → slice_index_or files.now i d ≢ file) }
+{
+    let last = files.len().saturating_sub(1);
+    if last < files.len() && files[last] == file {
+        return Some(last);
+    }
+    first_place_of(files, file)
+}
+
+// The same files, the one of the last mark first.
+fn last_first(alloc: Global, files: &[Closed]) -> Result<Vec<Closed>, NoMemory>
+    ensures { IfOk result (λ left. IsPermutation files.now left.items) }
+{
+    let mut left = Vec::from_slice(alloc, files)?;
+    left.sort_unstable_by(|one, other| other.mark.cmp(&one.mark));
+    Ok(left)
+}
+
+// Whether both lists have the same files, each as many times. Where the others are in order of mark, each is the last one of
+// those that are left.
 fn has_same_files(alloc: Global, files: &[Closed], others: &[Closed]) -> Result<bool, NoMemory>
     ensures { IfOk result (λ yes. IsTrue yes ↔ IsPermutation files.now others.now) }
 {
-    let mut left = Vec::from_slice(alloc, files)?;
+    let mut left = last_first(alloc, files)?;
     for file in others {
         let Some(i) = place_of(&left, *file) else {
             return Ok(false);
@@ -110,8 +134,7 @@ fn is_in_order(files: &[Closed]) -> bool
     true
 }
 
-/// Whether these closes are the files that the accesses took from their slots, in order of mark. Each file is looked for in
-/// a list of the others, so the time grows with the square of their number.
+/// Whether these closes are the files that the accesses took from their slots, in order of mark.
 ///
 /// # Errors
 /// `NoMemory` where there is no memory for a list of the files.

@@ -1,0 +1,8 @@
+/// How far what was told of a part of a submission, which has slots of its own, is looked into (this project's own).
+#[derive(Clone, Copy, Debug, PartialEq, Eq)]
+pub struct Limits {
+    /// How many states of the table are looked at.
+    pub states: usize,
+    /// How many bytes the states take that are kept.
+    pub bytes: usize,
+}
