@@ -1,11 +1,8 @@
 -- The members of a chain that are left, and what the first of them may do next.
-use Rattle.fx_order.proofs.Words.{◌≡◌, ℕ, ◌-◌, ◌≤◌, List, [], ◌∷◌, length, take, drop, sym, ap, subst, ◌∙◌, arith, drop-map, length-map, all_asked, asked_of, Request}
-use Rattle.fx_order.proofs.Words.{Asked, Place, Table, FileEntry, take_all}
-use Rattle.std.proofs.lemmas.List.{drop_all, length-drop}
-use Rattle.fx_order.specs.declared.access.Access.{Access}
-use Rattle.fx_outcomes.specs.Choices.{HasEach}
-use Rattle.fx_outcomes.specs.Rests.{IsNext}
-use Rattle.fx_answers.specs.Stands.{HasEachNext, moved, rest_for, rest_in}
+use Rattle.fx_order.proofs.Words.{◌≡◌, ℕ, ◌-◌, ◌≤◌, List, [], ◌∷◌, length, take, drop, sym, ap, ◌∙◌, arith, drop-map, all_asked, asked_of, Request}
+use Rattle.fx_order.proofs.Words.{Asked, Place, take_all}
+use Rattle.std.proofs.lemmas.List.{length-drop}
+use Rattle.fx_answers.specs.Stands.{moved, rest_for, rest_in}
 use Rattle.fx_answers.specs.declared.chain.Progress.{Progress}
 
 -- the members behind so many
@@ -13,28 +10,6 @@ pub left_is : (members : List Request) (done : ℕ) → all_asked (take (length 
 left_is members done =
     let many = length-drop done members in
     ap all_asked (take_all (length members - done) (drop done members) (omega (arith, many))) ∙ sym (drop-map asked_of done members)
-
--- none is behind all
-pub none_left : (members : List Request) (n done : ℕ) → length members ≤ done → length members ≤ n
-    → all_asked (take (length members - n) (drop n members)) ≡ drop done (all_asked members)
-none_left members n done all over =
-    let many = length-map members asked_of in
-    left_is members n ∙ (drop_all n (all_asked members) (omega (arith, many, over)) ∙ sym (drop_all done (all_asked members) (omega (arith, many, all))))
-
--- what the next member may do, the chain may do next
-pub next_of : (catalogue : List FileEntry) (table : Table) (place : Place) (run : List Asked) (progress : Progress) (request : Asked) (requests : List Asked)
-    (choices : List Access) → drop progress.done run ≡ request ∷ requests
-    → HasEach catalogue table (moved place progress.done) request.operation progress.made choices
-    → HasEachNext catalogue table (rest_in place run progress) choices
-next_of catalogue table place run progress request requests choices is each a next permits =
-    let n = subst (λ (l : List Asked). IsNext catalogue table.size (rest_for (moved place progress.done) l progress.made) a) is next in
-    each a (n.0, n.1, n.2, n.3, n.4, permits)
-
--- and none does anything where none is left
-pub none_next : (catalogue : List FileEntry) (table : Table) (place : Place) (run : List Asked) (progress : Progress) (choices : List Access)
-    → drop progress.done run ≡ [] → HasEachNext catalogue table (rest_in place run progress) choices
-none_next catalogue table place run progress choices is a next permits =
-    absurd (subst (λ (l : List Asked). IsNext catalogue table.size (rest_for (moved place progress.done) l progress.made) a) is next)
 
 rest_requests : (place : Place) (left : List Asked) (made : ℕ) → (rest_for place left made).requests ≡ left
 rest_requests place [] made = λ _. []

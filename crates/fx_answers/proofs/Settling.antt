@@ -1,9 +1,9 @@
 -- How a chain goes on, counted in members that are done.
-use Rattle.fx_order.proofs.Words.{◌≡◌, ℕ, suc, ◌+◌, ◌==◌, Bool, true, false, List, [], ◌∷◌, ◌++◌, length, drop, refl, sym, ap, ◌∙◌, arith}
+use Rattle.fx_order.proofs.Words.{◌≡◌, ℕ, suc, ◌+◌, ◌==◌, Bool, true, false, List, [], ◌∷◌, ◌++◌, drop, refl, sym, ap, ◌∙◌, arith}
 use Rattle.fx_order.proofs.Words.{Some, None, if◌then◌else◌, append-nil, append_assoc, Completed, next_member, canceled, severs, Asked, Place}
 use Rattle.fx_order.specs.declared.access.Access.{Access}
 use Rattle.fx_order.proofs.Words.{by_equality, Completion, all_completed, completed_of, map-append}
-use Rattle.std.proofs.lemmas.List.{drop-drop, drop_all}
+use Rattle.std.proofs.lemmas.List.{drop-drop}
 use Rattle.fx_outcomes.specs.Rests.{Rest, Rules, behind, over, rest_at, settled_at, step}
 use Rattle.fx_answers.specs.Stands.{Settles, Steps, moved, rest_for, rest_in}
 use Rattle.fx_answers.specs.declared.chain.Progress.{Progress}
@@ -14,23 +14,10 @@ pub pushed : (before after : List Completion) (c : Completion) (d : Completed) �
 pushed before after c d is same =
     ap all_completed is ∙ (map-append completed_of before (c ∷ []) ∙ ap (λ (x : Completed). all_completed before ++ x ∷ []) same)
 
-pub not_moved : (place : Place) → moved place 0 ≡ place
-not_moved place = let none : place.member + 0 ≡ place.member = omega arith in λ i. record place { member = none i }
-
 pub moved_on : (place : Place) (n : ℕ) → moved (next_member place) n ≡ moved place (1 + n)
 moved_on place n = let same : place.member + 1 + n ≡ place.member + (1 + n) = omega arith in λ i. record place { member = same i }
 
-pub next_moved : (place : Place) → moved place 1 ≡ next_member place
-next_moved place = refl
-
 module _ (rules : Rules) (place : Place) where
-  pub settled_none : (before : List Completed) → Settles rules place [] before before 0
-  settled_none before = record {
-    told = sym (append-nil before);
-    rest = refl;
-    within = omega arith;
-  }
-
   -- the answer of a request that doesn't come to the table
   abbrev now : Asked → List Asked → Bool → List Completed × Rest
   now request requests cut =
@@ -38,40 +25,11 @@ module _ (rules : Rules) (place : Place) where
       then (rules.answer place request None ∷ canceled (next_member place) requests, over)
       else (rules.answer place request None ∷ (settled_at rules (next_member place) requests).0, (settled_at rules (next_member place) requests).1)
 
-  abbrev from : Asked → List Asked → Bool → List Completed × Rest
-  from request requests none =
-      if none then now request requests (severs request (rules.answer place request None)) else ([], rest_at place (request ∷ requests) 0)
-
-  pub settled_here : (request : Asked) (requests : List Asked) (before : List Completed) → (rules.count request == 0) ≡ false
-      → Settles rules place (request ∷ requests) before before 0
-  settled_here request requests before some =
-      let is : settled_at rules place (request ∷ requests) ≡ ([], rest_at place (request ∷ requests) 0) = ap (from request requests) some in
-      record {
-        told = sym (append-nil before) ∙ ap (λ (x : List Completed × Rest). before ++ x.0) (sym is);
-        rest = ap (λ (x : List Completed × Rest). x.1) is ∙ (λ i. rest_at (sym (not_moved place) i) (request ∷ requests) 0);
-        within = omega arith;
-      }
-
   settled_now : (request : Asked) (requests : List Asked) (cut : Bool) → (rules.count request == 0) ≡ true
       → severs request (rules.answer place request None) ≡ cut → settled_at rules place (request ∷ requests) ≡ now request requests cut
   settled_now request requests cut none is =
       ap (λ (b : Bool). if b then now request requests (severs request (rules.answer place request None)) else ([], rest_at place (request ∷ requests) 0)) none
       ∙ ap (now request requests) is
-
-  pub settled_cut : (request : Asked) (requests : List Asked) (before middle after : List Completed) → (rules.count request == 0) ≡ true
-      → severs request (rules.answer place request None) ≡ true
-      → middle ≡ before ++ rules.answer place request None ∷ [] → after ≡ middle ++ canceled (next_member place) requests
-      → (passed : ℕ) → passed ≡ length (request ∷ requests) → Settles rules place (request ∷ requests) before after passed
-  settled_cut request requests before middle after none cut first others passed all =
-      let is = settled_now request requests true none cut in
-      record {
-        told = others ∙ (ap (λ (l : List Completed). l ++ canceled (next_member place) requests) first
-            ∙ (append_assoc before (rules.answer place request None ∷ []) (canceled (next_member place) requests)
-            ∙ ap (λ (x : List Completed × Rest). before ++ x.0) (sym is)));
-        rest = ap (λ (x : List Completed × Rest). x.1) is
-            ∙ ap (λ (l : List Asked). rest_for (moved place passed) l 0) (sym (drop_all passed (request ∷ requests) (omega (arith, all))));
-        within = omega (arith, all);
-      }
 
   pub settled_on : (request : Asked) (requests : List Asked) (before middle after : List Completed) (passed : ℕ) → (rules.count request == 0) ≡ true
       → severs request (rules.answer place request None) ≡ false
@@ -136,18 +94,6 @@ module _ (rules : Rules) (place : Place) (run : List Asked) (progress : Progress
         step_from (request ∷ requests) is
         ∙ ap (λ (b : Bool). if b then behind rules here request requests (rules.answer here request (Some a)) else ([], rest_at here (request ∷ requests) (progress.made + 1)))
         (tested (rules.count request) (progress.made + 1) last)
-
-    pub steps_cut : (before middle after : List Completed) (next : Progress) (c : Completed) → rules.count request ≡ progress.made + 1
-        → c ≡ rules.answer here request (Some a) → severs request c ≡ true
-        → middle ≡ before ++ c ∷ [] → after ≡ middle ++ canceled (next_member here) requests
-        → next.done ≡ length run → next.made ≡ 0 → Steps rules place run progress a before after next
-    steps_cut before middle after next c last answers cut first others done made = by_step before after next (c ∷ canceled (next_member here) requests, over)
-        (step_last last
-        ∙ (ap (behind rules here request requests) (sym answers)
-        ∙ ap (λ (b : Bool). if b then (c ∷ canceled (next_member here) requests, over)
-        else (c ∷ (settled_at rules (next_member here) requests).0, (settled_at rules (next_member here) requests).1)) cut))
-        (others ∙ (ap (λ (l : List Completed). l ++ canceled (next_member here) requests) first ∙ append_assoc before (c ∷ []) (canceled (next_member here) requests)))
-        (ap (λ (l : List Asked). rest_for (moved place next.done) l next.made) (drop_all next.done run (omega (arith, done))))
 
     pub steps_on : (before middle after : List Completed) (next : Progress) (c : Completed) (passed : ℕ) → rules.count request ≡ progress.made + 1
         → c ≡ rules.answer here request (Some a) → severs request c ≡ false

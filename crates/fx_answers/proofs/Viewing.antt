@@ -1,15 +1,14 @@
 -- What the states of the program say, chain by chain.
-use Rattle.fx_order.proofs.Words.{◌≡◌, ◌≢◌, ℕ, suc, ◌+◌, ◌-◌, ◌<◌, List, [], ◌∷◌, ◌++◌, length, map, sym, ap, subst, ◌∙◌, arith, slice_index_or, All, length-map}
-use Rattle.fx_order.proofs.Words.{Contains, Chain, Completed, Asked, Place, table_of_slots, table_with, members_of, first_member}
+use Rattle.fx_order.proofs.Words.{◌≡◌, ℕ, suc, ◌+◌, ◌-◌, ◌<◌, List, [], ◌∷◌, ◌++◌, length, map, sym, ap, subst, ◌∙◌, arith, slice_index_or, All, length-map}
+use Rattle.fx_order.proofs.Words.{Contains, Completed, Asked, Place, table_of_slots, first_member}
 use Rattle.fx_order.specs.declared.access.Access.{Access}
-use Rattle.std.proofs.lemmas.List.{get_or-map, get_or-set_other, get_or-set_same}
-use Rattle.std.specs.Prelude.{Some, slice_get, slice_set}
+use Rattle.std.specs.Prelude.{Some, slice_get}
 use Rattle.std.proofs.lemmas.Option.{get_or_from_slice_get, slice_get_within}
 use Rattle.fx_order.proofs.Words.{Request, Completion, all_asked, all_completed, asked_of, completed_of, drop}
 use Rattle.std.specs.List.{AllByRecursion}
-use Rattle.fx_outcomes.specs.Rests.{Rest, Rules, settled_at, step}
-use Rattle.fx_outcomes.specs.Nodes.{AreAtStart, IsOver, Leads, StateView}
-use Rattle.fx_answers.specs.Stands.{Settles, Steps, moved, rest_for, rest_in}
+use Rattle.fx_outcomes.specs.Rests.{Rest, Rules, settled_at}
+use Rattle.fx_outcomes.specs.Nodes.{AreAtStart, IsOver, StateView}
+use Rattle.fx_answers.specs.Stands.{Settles, moved, rest_for, rest_in}
 use Rattle.fx_answers.specs.Views.{IsStepTo, not_begun, run_at, view_in, view_of}
 use Rattle.fx_answers.specs.Listed.{IsExploredBy, said_by, states_of}
 use Rattle.fx_answers.specs.declared.closed.Claimed.{Claimed}
@@ -21,13 +20,6 @@ use Rattle.fx_answers.proofs.Choosing.{is_done}
 less_one : (i : ℕ) → i + 1 - 1 ≡ i
 less_one i = omega arith
 
--- the run of a chain
-pub run_of : (asked : List Asked) (chains : List Chain) (runs : List (List Asked)) (i : ℕ) (chain : Chain) → map (members_of asked) chains ≡ runs
-    → i < length chains → slice_index_or chains i chain ≡ chain → slice_index_or runs i [] ≡ members_of asked chain
-run_of asked chains runs i chain whole within is =
-    ap (λ (l : List (List Asked)). slice_index_or l i []) (sym whole)
-    ∙ (get_or-map (members_of asked) chains i chain [] within ∙ ap (members_of asked) is)
-
 module _ (submission : ℕ) (runs : List (List Asked)) (state : State) (i : ℕ) where
   -- where the chain is
   pub rest_of_chain : (own : List Asked) (progress : Progress) → slice_index_or runs i [] ≡ own → slice_index_or state.chains.items i not_begun ≡ progress
@@ -35,30 +27,6 @@ module _ (submission : ℕ) (runs : List (List Asked)) (state : State) (i : ℕ)
   rest_of_chain own progress run is =
       ap (λ (n : ℕ). rest_in (first_member submission (i + 1)) (slice_index_or runs n []) (slice_index_or state.chains.items n not_begun)) (less_one i)
       ∙ (λ j. rest_in (first_member submission (i + 1)) (run j) (is j))
-
-  -- one chain has come further, and the table is the one behind the access
-  pub leads_on : (rules : Rules) (a : Access) (next : State) (own : List Asked) (progress after : Progress) (told : List Completed)
-      → slice_index_or runs i [] ≡ own → slice_index_or state.chains.items i not_begun ≡ progress → i < length state.chains.items
-      → Steps rules (first_member submission (i + 1)) own progress a [] told after
-      → next.chains.items ≡ slice_set state.chains.items i after
-      → table_of_slots next.slots ≡ table_with (table_of_slots state.slots) a
-      → (told ≡ (step rules ((view_of submission runs state).rests (i + 1)) a).0)
-      × Leads rules (view_of submission runs state) (i + 1) a (view_of submission runs next)
-  leads_on rules a next own progress after told run is within steps chains table =
-      let here = rest_of_chain own progress run is in (
-        steps.told ∙ ap (λ (r : Rest). (step rules r a).0) (sym here),
-        record {
-          table = table;
-          own = ap (λ (n : ℕ). rest_in (first_member submission (i + 1)) (slice_index_or runs n []) (slice_index_or next.chains.items n not_begun)) (less_one i)
-              ∙ ((λ j. rest_in (first_member submission (i + 1)) (run j) (slice_index_or (chains j) i not_begun))
-              ∙ (ap (rest_in (first_member submission (i + 1)) own) (get_or-set_same state.chains.items i after not_begun within)
-              ∙ (steps.rest ∙ ap (λ (r : Rest). (step rules r a).1) (sym here))));
-          others = λ other low apart.
-              let elsewhere : other - 1 ≢ i = λ same. apart (omega (arith, same, low)) in
-              ap (λ (l : List Progress). rest_in (first_member submission other) (run_at runs other) (slice_index_or l (other - 1) not_begun)) chains
-              ∙ ap (rest_in (first_member submission other) (run_at runs other)) (get_or-set_other state.chains.items i (other - 1) after not_begun elsewhere);
-        },
-      )
 
 -- a state that says the same is among the states
 pub same_view : (submission : ℕ) (runs : List (List Asked)) (one other : State) → table_of_slots one.slots ≡ table_of_slots other.slots
