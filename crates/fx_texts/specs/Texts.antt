@@ -1,15 +1,14 @@
 -- The texts of a script in which memory was found, and what its requests may answer in them (this
 -- project's own).
 use Rattle.std.specs.Prelude.{◌≡◌, ℕ, List, [], ◌∷◌, ◌++◌, codes, Option, Some, None, Contains}
-use Rattle.std.specs.List.{AllByRecursion}
 use Rattle.std.specs.Option.{option_to_list}
 use Rattle.fx_base.specs.declared.errno.Errno.TheVariants.{ENOMEM}
 use Rattle.fx_chain.specs.Completed.{Completed, negated}
 use Rattle.fx_chain.specs.Operation.{Asked}
 use Rattle.fx_chain.specs.declared.completion.Place.{Place}
 use Rattle.fx_ring.specs.Ring.{RingContents, ring_of}
-use Rattle.fx_ring.specs.Submission.{IsOneHistory, Reported}
-use Rattle.fx_outcomes.specs.Rests.{HasMemory}
+use Rattle.fx_ring.specs.Submission.{Reported}
+use Rattle.fx_answers.specs.Outcomes.{MayReport}
 use Rattle.fx_language.specs.Instruction.{Instruction, MakesSparse, RegistersList, Unregisters}
 use Rattle.fx_language.specs.Instruction.{SetsRange, UpdatesRing, SubmitsAll}
 use Rattle.fx_language.specs.Script.{Meaning}
@@ -23,8 +22,7 @@ HasFound word line = line ≡ result_line word (negated ENOMEM) → ⊥
 -- an accepted submission printed this report, and no completion of it is -12
 pub record IsReportFound (old : RingContents) (asked : List Asked) (new : RingContents)
     (line : List ℕ) (report : Reported) : Type 0 where
-  pub history : IsOneHistory old asked report new
-  pub memory : AllByRecursion HasMemory report.completions
+  pub may : MayReport old asked report new
   pub printed : line ≡ report_text old.catalogue report
 
 -- the command that led from one ring to the other and printed this found memory; there is a report
