@@ -53,7 +53,7 @@ same_cmp (Submitted s c m e) (Submitted t d n f) =
 abbrev pub is_below : Closed → Closed → Bool
 is_below x y = below (numbers x.mark) (numbers y.mark)
 
-is_order : IsStrictWeakOrder is_below
+pub is_order : IsStrictWeakOrder is_below
 is_order = ranks_by nat_list_cmp_total (λ (file : Closed). numbers file.mark)
 
 -- two lists of numbers of which neither is below the other are one

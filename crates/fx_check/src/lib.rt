@@ -16,4 +16,8 @@ mod submission;
 mod told;
 
 pub use judgement::{AccessPlace, Break, Fault, Judgement, Order};
+pub use list::{apply_list, empty_slots};
 pub use play::judge;
+pub use refusal::{
+    range_refusal, register_refusal, sparse_refusal, unregister_refusal, update_refusal,
+};

@@ -18,7 +18,7 @@ use std::alloc::Global;
 ///
 /// # Errors
 /// `NoMemory` where their memory is refused.
-pub(crate) fn empty_slots(alloc: Global, n: u32) -> Result<Slots, NoMemory>
+pub fn empty_slots(alloc: Global, n: u32) -> Result<Slots, NoMemory>
     ensures { IfOk result (λ slots. table_of_slots slots
         ≡ record { size = n; range = (0, n); at = λ _. None }) }
 {
@@ -68,7 +68,7 @@ fn apply_number(slots: &mut Slots, mark: Mark, tag: u64, slot: u32, number: i32)
 ///
 /// # Errors
 /// `NoMemory` where the memory of the list of files is refused.
-pub(crate) fn apply_list(
+pub fn apply_list(
     alloc: Global,
     slots: &mut Slots,
     k: u32,

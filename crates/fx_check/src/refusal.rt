@@ -15,7 +15,7 @@ use fx_plain::MOST_SLOTS;
 use fx_ring::{MOST_REGISTRATIONS, are_bad_tags, has_bad_entry, has_bad_file};
 
 /// Why a table of so many empty slots can't be registered, except when out of memory.
-pub(crate) fn sparse_refusal(catalogue: &Catalogue, ring: &RingSlots, n: u32) -> Option<Errno>
+pub fn sparse_refusal(catalogue: &Catalogue, ring: &RingSlots, n: u32) -> Option<Errno>
     ensures value { result ≡ sparse_refusal (ring_with_slots catalogue.now ring.now) n }
     ensures few { IfNone result (n ≤ MOST_SLOTS) }
 {
@@ -32,7 +32,7 @@ pub(crate) fn sparse_refusal(catalogue: &Catalogue, ring: &RingSlots, n: u32) ->
 }
 
 /// Why a list can't be registered with its tags, if any are given, except when out of memory.
-pub(crate) fn register_refusal(
+pub fn register_refusal(
     catalogue: &Catalogue,
     ring: &RingSlots,
     list: &[i32],
@@ -65,7 +65,7 @@ pub(crate) fn register_refusal(
 }
 
 /// Why there is no table that could be unregistered, except when out of memory.
-pub(crate) fn unregister_refusal(catalogue: &Catalogue, ring: &RingSlots) -> Option<Errno>
+pub fn unregister_refusal(catalogue: &Catalogue, ring: &RingSlots) -> Option<Errno>
     ensures { result ≡ unregister_refusal (ring_with_slots catalogue.now ring.now) }
 {
     if ring.slots.at.is_empty() {
@@ -75,7 +75,7 @@ pub(crate) fn unregister_refusal(catalogue: &Catalogue, ring: &RingSlots) -> Opt
 }
 
 /// Why an allocation range can't be set.
-pub(crate) fn range_refusal(
+pub fn range_refusal(
     catalogue: &Catalogue,
     ring: &RingSlots,
     off: u32,
@@ -91,7 +91,7 @@ pub(crate) fn range_refusal(
 }
 
 /// Why the slots from `off` on can't be updated by a list with its tags, if any are given, except when out of memory.
-pub(crate) fn update_refusal(
+pub fn update_refusal(
     catalogue: &Catalogue,
     ring: &RingSlots,
     off: u32,

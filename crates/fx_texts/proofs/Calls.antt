@@ -1,0 +1,267 @@
+-- The calls between submissions, and refused submissions: where memory is found they leave one ring.
+use Rattle.std.proofs.Common.{◌≡◌, ◌⊎◌, ℕ, suc, ◌+◌, ◌<◌, ◌≤◌, ℤ, pos, negsuc, Bool, true, false, ◌==◌, ◌||◌, nat_le, nat_lt, if◌then◌else◌, List, [], ◌∷◌, ◌++◌, codes, length, refl, sym, ap, subst, ◌∙◌, arith, inl, inr, ⊎_elim, Option, Some, None}
+use Rattle.std.specs.Bool.{MatchBool}
+use Rattle.std.specs.List.{list_any}
+use Rattle.std.specs.Option.{MatchOption}
+use Rattle.std.proofs.lemmas.Bool.{ltb-false}
+use Rattle.std.proofs.lemmas.List.{append-nil}
+use Rattle.fx_base.specs.Catalogue.{FileEntry}
+use Rattle.fx_base.specs.declared.errno.Errno.{Errno}
+use Rattle.fx_base.specs.declared.errno.Errno.TheVariants.{ENOENT, ENXIO, EBADF, EAGAIN, ENOMEM, EBUSY, EINVAL, ENFILE, EMFILE, ECANCELED}
+use Rattle.fx_chain.specs.Completed.{negated}
+use Rattle.fx_chain.specs.Faults.{fault_of}
+use Rattle.fx_chain.specs.Operation.{Asked}
+use Rattle.fx_chain.specs.declared.fault.CutFault.{CutFault}
+use Rattle.fx_plain.specs.declared.table.TheConstants.{MOST_SLOTS}
+use Rattle.fx_ring.specs.Registration.{range_refusal, register_refusal, registered, registered_sparse, removed_from, sparse_refusal}
+use Rattle.fx_ring.specs.Registration.{is_bad_file, unregister_refusal, update_refusal, updated}
+use Rattle.fx_chain.specs.Answers.{is_bad_entry}
+use Rattle.fx_ring.specs.Ring.{RingContents, RingState, files_of, ring_of, without_table}
+use Rattle.fx_ring.specs.Tags.{are_bad_tags, tags_given}
+use Rattle.fx_ring.specs.Submission.{Reported}
+use Rattle.fx_ring.specs.declared.ring.TheConstants.{MOST_REGISTRATIONS, MOST_SUBMISSIONS}
+use Rattle.fx_judge.specs.Verdict.{ring_with_slots}
+use Rattle.fx_judge.specs.declared.told.RingSlots.{RingSlots}
+use Rattle.fx_language.specs.Instruction.{Instruction, MakesSparse, RegistersList, SetsRange, SubmitsAll, Unregisters, UpdatesRing}
+use Rattle.fx_script.specs.Play.{Answers, IsRefused, Prints, PrintsClosed, PrintsReport}
+use Rattle.fx_script.specs.Text.{closes_text, refused_line, result_line, too_many_line}
+use Rattle.fx_lines.specs.Lines.{IsResultInRange}
+use Rattle.fx_lines.proofs.ResultLines.{one_result}
+use Rattle.fx_check.proofs.Shown.{shown}
+use Rattle.fx_texts.specs.Rings.{IsCall, Leads, MayLeadTo, after_call, count_after, count_behind, unless_refused}
+use Rattle.fx_texts.specs.Texts.{FoundMemory, HasFound}
+use Rattle.fx_texts.proofs.Sorted.{closes_for, has_closed}
+
+-- what a call leaves that found memory
+
+called : (x : Option Errno) (accepted : Type 0) (old new done : RingState) (word line : List ℕ) → HasFound word line → (accepted → new ≡ done)
+    → Answers x accepted (IsRefused old new word line) → new ≡ unless_refused x old done
+called (Some errno) accepted old new done word line found goes answers = answers.0
+called None accepted old new done word line found goes answers = ⊎_elim goes (λ refused. absurd (found refused.1)) answers
+
+set_so : (x : Option Errno) (accepted : Type 0) (old new done : RingState) (word line : List ℕ) → (accepted → new ≡ done)
+    → MatchOption x accepted (IsRefused old new word line) → new ≡ unless_refused x old done
+set_so (Some errno) accepted old new done word line goes answers = answers.0
+set_so None accepted old new done word line goes answers = goes answers
+
+uncounted : (b : Bool) (count : ℕ) → (if b then count else count + 1) ≡ count → b ≡ true
+uncounted true count is = refl
+uncounted false count is = absurd (omega arith)
+
+-- a submission that isn't counted leaves its ring
+refused_same : (x : Option CutFault) (count : ℕ) (same reports : Type 0) (line many : List ℕ) (text : CutFault → List ℕ) → count_behind count x ≡ count
+    → MatchOption x (MatchBool (nat_le MOST_SUBMISSIONS count) (same × (line ≡ many)) reports) (λ fault. same × (line ≡ text fault)) → same
+refused_same (Some fault) count same reports line many text is prints = prints.0
+refused_same None count same reports line many text is prints =
+    let full = uncounted (nat_le MOST_SUBMISSIONS count) count is in
+    let here : MatchBool true (same × (line ≡ many)) reports = subst (λ (b : Bool). MatchBool b (same × (line ≡ many)) reports) full prints in
+    here.0
+
+pub call_leaves : (old next : RingContents) (command : Instruction) (line : List ℕ) (own : Option Reported) → IsCall old.submissions command
+    → Prints old command next line → FoundMemory old command next line own → ring_of next ≡ after_call (ring_of old) command
+call_leaves old next (MakesSparse n) line own call prints found =
+    called _ _ (ring_of old) (ring_of next) (registered_sparse (ring_of old) n) (codes "sparse") line found.1 (λ a. a.0) prints
+call_leaves old next (RegistersList list tags) line own call prints found =
+    called _ _ (ring_of old) (ring_of next) (registered (ring_of old) list (tags_given list tags)) (codes "register") line found.1 (λ a. a.0) prints
+call_leaves old next Unregisters line own call prints found =
+    called _ _ (ring_of old) (ring_of next) (without_table (ring_of old)) (codes "unregister") line found.1 (λ a. a.0) prints
+call_leaves old next (SetsRange off len) line own call prints found =
+    set_so _ _ (ring_of old) (ring_of next) (record (ring_of old) { range = (off, len) }) (codes "range") line (λ a. a.0) prints
+call_leaves old next (UpdatesRing off list tags) line own call prints found =
+    called _ _ (ring_of old) (ring_of next) (updated (ring_of old) off list (tags_given list tags)) (codes "regupdate") line found.1 (λ a. a.0) prints
+call_leaves old next (SubmitsAll asked) line own call prints found =
+    refused_same (fault_of asked) old.submissions (ring_of next ≡ ring_of old) (PrintsReport old asked next line) line too_many_line refused_line call prints
+
+-- no refusal is for want of memory
+
+abbrev IsOther : Option Errno → Type 0
+IsOther None = Unit {0}
+IsOther (Some errno) = negated errno ≡ negated ENOMEM → ⊥
+
+abbrev below_0 : ℤ → ℕ
+below_0 (pos n) = 0
+below_0 (negsuc n) = suc n
+
+busy : IsOther (Some EBUSY)
+busy same = let e : ◌≡◌ {A = ℕ} 16 12 = ap below_0 same in absurd (omega arith)
+
+invalid : IsOther (Some EINVAL)
+invalid same = let e : ◌≡◌ {A = ℕ} 22 12 = ap below_0 same in absurd (omega arith)
+
+many_files : IsOther (Some EMFILE)
+many_files same = let e : ◌≡◌ {A = ℕ} 24 12 = ap below_0 same in absurd (omega arith)
+
+bad_file : IsOther (Some EBADF)
+bad_file same = let e : ◌≡◌ {A = ℕ} 9 12 = ap below_0 same in absurd (omega arith)
+
+again : IsOther (Some EAGAIN)
+again same = let e : ◌≡◌ {A = ℕ} 11 12 = ap below_0 same in absurd (omega arith)
+
+no_table : IsOther (Some ENXIO)
+no_table same = let e : ◌≡◌ {A = ℕ} 6 12 = ap below_0 same in absurd (omega arith)
+
+either_other : (b : Bool) (x y : Option Errno) → IsOther x → IsOther y → IsOther (if b then x else y)
+either_other true x y one other = one
+either_other false x y one other = other
+
+sparse_other : (ring : RingState) (n : ℕ) → IsOther (sparse_refusal ring n)
+sparse_other ring n =
+    either_other (nat_lt 0 ring.size) (Some EBUSY) (if n == 0 then Some EINVAL else if nat_lt MOST_SLOTS n then Some EMFILE else None) busy
+    (either_other (n == 0) (Some EINVAL) (if nat_lt MOST_SLOTS n then Some EMFILE else None) invalid
+    (either_other (nat_lt MOST_SLOTS n) (Some EMFILE) None many_files tt))
+
+register_other : (ring : RingState) (list : List ℤ) (tags : List ℕ) → IsOther (register_refusal ring list tags)
+register_other ring list tags =
+    let b0 : Bool = nat_lt 0 ring.size in
+    let b1 : Bool = length list == 0 || are_bad_tags list tags in
+    let b2 : Bool = nat_lt MOST_SLOTS (length list) in
+    let b3 : Bool = list_any (is_bad_file (length ring.catalogue)) list in
+    let b4 : Bool = nat_le MOST_REGISTRATIONS ring.registrations in
+    either_other b0 (Some EBUSY)
+    (if b1 then Some EINVAL else if b2 then Some EMFILE else if b3 then Some EBADF else if b4 then Some EAGAIN else None) busy
+    (either_other b1 (Some EINVAL) (if b2 then Some EMFILE else if b3 then Some EBADF else if b4 then Some EAGAIN else None) invalid
+    (either_other b2 (Some EMFILE) (if b3 then Some EBADF else if b4 then Some EAGAIN else None) many_files
+    (either_other b3 (Some EBADF) (if b4 then Some EAGAIN else None) bad_file (either_other b4 (Some EAGAIN) None again tt))))
+
+unregister_other : (ring : RingState) → IsOther (unregister_refusal ring)
+unregister_other ring = either_other (ring.size == 0) (Some ENXIO) None no_table tt
+
+update_other : (ring : RingState) (off : ℕ) (list : List ℤ) (tags : List ℕ) → IsOther (update_refusal ring off list tags)
+update_other ring off list tags =
+    let b0 : Bool = ring.size == 0 in
+    let b1 : Bool = length list == 0 || (nat_lt ring.size (off + length list) || are_bad_tags list tags) in
+    let b2 : Bool = list_any (is_bad_entry (length ring.catalogue)) list in
+    let b3 : Bool = nat_le MOST_REGISTRATIONS ring.registrations in
+    either_other b0 (Some ENXIO) (if b1 then Some EINVAL else if b2 then Some EBADF else if b3 then Some EAGAIN else None) no_table
+    (either_other b1 (Some EINVAL) (if b2 then Some EBADF else if b3 then Some EAGAIN else None) invalid
+    (either_other b2 (Some EBADF) (if b3 then Some EAGAIN else None) bad_file (either_other b3 (Some EAGAIN) None again tt)))
+
+-- a line that isn't that of -12
+
+fits : (errno : Errno) → IsResultInRange (negated errno)
+fits ENOENT = omega arith
+fits ENXIO = omega arith
+fits EBADF = omega arith
+fits EAGAIN = omega arith
+fits ENOMEM = omega arith
+fits EBUSY = omega arith
+fits EINVAL = omega arith
+fits ENFILE = omega arith
+fits EMFILE = omega arith
+fits ECANCELED = omega arith
+
+pub line_found : (word : List ℕ) (res : ℤ) (tail : List ℕ) → IsResultInRange res → (res ≡ negated ENOMEM → ⊥) → HasFound word (result_line word res ++ tail)
+line_found word res tail small other same =
+    other (one_result word res (negated ENOMEM) tail [] small (omega arith) (same ∙ sym (append-nil (result_line word (negated ENOMEM))))).0
+
+alone_found : (word : List ℕ) (res : ℤ) → IsResultInRange res → (res ≡ negated ENOMEM → ⊥) → HasFound word (result_line word res)
+alone_found word res small other same = line_found word res [] small other (append-nil (result_line word res) ∙ same)
+
+counted : (n : ℕ) → pos n ≡ negated ENOMEM → ⊥
+counted n same = let e : ◌≡◌ {A = ℕ} 0 12 = ap below_0 same in absurd (omega arith)
+
+-- what a call leaves, it may leave and find memory
+
+call_made : (x : Option Errno) (old new done : RingState) (word good : List ℕ) (prints : List ℕ → Type 0) → IsOther x → new ≡ unless_refused x old done
+    → (x ≡ None → HasFound word good × prints good)
+    → (line : List ℕ) × Answers x ((new ≡ done) × prints line) (IsRefused old new word line) × HasFound word line
+call_made (Some errno) old new done word good prints other is goes =
+    (result_line word (negated errno), (is, refl), alone_found word (negated errno) (fits errno) other)
+call_made None old new done word good prints other is goes = let g = goes refl in (good, inl (is, g.1), g.0)
+
+set_made : (x : Option Errno) (old new done : RingState) (word good : List ℕ) → new ≡ unless_refused x old done
+    → (line : List ℕ) × MatchOption x ((new ≡ done) × (line ≡ good)) (IsRefused old new word line)
+set_made (Some errno) old new done word good is = (result_line word (negated errno), (is, refl))
+set_made None old new done word good is = (good, (is, refl))
+
+refused_made : (x : Option CutFault) (count : ℕ) (same : Type 0) (reports : List ℕ → Type 0) (many : List ℕ) (text : CutFault → List ℕ) → same
+    → count_behind count x ≡ count
+    → (line : List ℕ) × MatchOption x (MatchBool (nat_le MOST_SUBMISSIONS count) (same × (line ≡ many)) (reports line)) (λ fault. same × (line ≡ text fault))
+refused_made (Some fault) count same reports many text so is = (text fault, (so, refl))
+refused_made None count same reports many text so is = (
+  many,
+  subst (λ (b : Bool). MatchBool b (same × (many ≡ many)) (reports many)) (sym (uncounted (nat_le MOST_SUBMISSIONS count) count is)) (so, refl),
+)
+
+-- an update that isn't refused stays inside the table
+inside : (b0 b1 b2 b3 b4 b5 : Bool)
+    → (if b0 then Some ENXIO else if b1 || (b2 || b3) then Some EINVAL else if b4 then Some EBADF else if b5 then Some EAGAIN else None) ≡ None
+    → b2 ≡ false
+inside true b1 b2 b3 b4 b5 is = let e : Some ENXIO ≡ None = is in cc
+inside false true b2 b3 b4 b5 is = let e : Some EINVAL ≡ None = is in cc
+inside false false true b3 b4 b5 is = let e : Some EINVAL ≡ None = is in cc
+inside false false false b3 b4 b5 is = refl
+
+pub call_leads : (old next : RingContents) (command : Instruction) → (ring_of old).size ≤ MOST_SLOTS → IsCall old.submissions command
+    → ring_of next ≡ after_call (ring_of old) command → Leads old command next
+call_leads old next (MakesSparse n) few call is =
+    let good = result_line (codes "sparse") (pos 0) in
+    let m = call_made (sparse_refusal (ring_of old) n) (ring_of old) (ring_of next) (registered_sparse (ring_of old) n) (codes "sparse") good
+    (λ line. line ≡ good) (sparse_other (ring_of old) n) is (λ _. (alone_found (codes "sparse") (pos 0) (omega arith) (counted 0), refl)) in
+    (m.0, None, m.1, (refl, m.2))
+call_leads old next (RegistersList list tags) few call is =
+    let good = result_line (codes "register") (pos 0) in
+    let m = call_made (register_refusal (ring_of old) list (tags_given list tags)) (ring_of old) (ring_of next)
+    (registered (ring_of old) list (tags_given list tags)) (codes "register") good (λ line. line ≡ good)
+    (register_other (ring_of old) list (tags_given list tags)) is
+    (λ _. (alone_found (codes "register") (pos 0) (omega arith) (counted 0), refl)) in
+    (m.0, None, m.1, (refl, m.2))
+call_leads old next Unregisters few call is =
+    let closes = closes_for (files_of (ring_of old)) in
+    let word = result_line (codes "unregister") (pos 0) in
+    let tail = closes_text (ring_of old).catalogue closes.files in
+    let m = call_made (unregister_refusal (ring_of old)) (ring_of old) (ring_of next) (without_table (ring_of old)) (codes "unregister") (word ++ tail)
+    (λ line. PrintsClosed (ring_of old) (files_of (ring_of old)) word line) (unregister_other (ring_of old)) is
+    (λ _. (line_found (codes "unregister") (pos 0) tail (omega arith) (counted 0), (closes, has_closed (files_of (ring_of old)), refl))) in
+    (m.0, None, m.1, (refl, m.2))
+call_leads old next (SetsRange off len) few call is =
+    let m = set_made (range_refusal (ring_of old) off len) (ring_of old) (ring_of next) (record (ring_of old) { range = (off, len) }) (codes "range")
+    (result_line (codes "range") (pos 0)) is in
+    (m.0, None, m.1, refl)
+call_leads old next (UpdatesRing off list tags) few call is =
+    let files = removed_from (ring_of old).at off list in
+    let closes = closes_for files in
+    let word = result_line (codes "regupdate") (pos (length list)) in
+    let tail = closes_text (ring_of old).catalogue closes.files in
+    let m = call_made (update_refusal (ring_of old) off list (tags_given list tags)) (ring_of old) (ring_of next)
+    (updated (ring_of old) off list (tags_given list tags)) (codes "regupdate") (word ++ tail)
+    (λ line. PrintsClosed (ring_of old) files word line) (update_other (ring_of old) off list (tags_given list tags)) is
+    (λ none.
+    let within : off + length list ≤ (ring_of old).size = ltb-false (ring_of old).size (off + length list)
+    (inside ((ring_of old).size == 0) (length list == 0) (nat_lt (ring_of old).size (off + length list)) (are_bad_tags list (tags_given list tags))
+    (list_any (is_bad_entry (length (ring_of old).catalogue)) list) (nat_le MOST_REGISTRATIONS (ring_of old).registrations) none) in
+    (line_found (codes "regupdate") (pos (length list)) tail (omega (arith, within, few)) (counted (length list)), (closes, has_closed files, refl))) in
+    (m.0, None, m.1, (refl, m.2))
+call_leads old next (SubmitsAll asked) few call is =
+    let m = refused_made (fault_of asked) old.submissions (ring_of next ≡ ring_of old) (PrintsReport old asked next) too_many_line refused_line is call in
+    (m.0, None, m.1, ap (λ (r : RingState). r.submissions) is)
+
+-- the same of a ring that is kept as slots
+pub call_may_lead : (catalogue : List FileEntry) (old new : RingSlots) (command : Instruction) → length old.slots.at.items ≤ MOST_SLOTS
+    → IsCall old.submissions command
+    → ring_with_slots catalogue new ≡ after_call (ring_with_slots catalogue old) command
+    → MayLeadTo (ring_with_slots catalogue old) command (ring_with_slots catalogue new)
+call_may_lead catalogue old new command few call is = λ ring same.
+    let next = shown catalogue new in (
+      next.0,
+      call_leads ring next.0 command (subst (λ (r : RingState). r.size ≤ MOST_SLOTS) (sym same) few)
+          (subst (λ (r : RingState). IsCall r.submissions command) (sym same) call)
+          (next.1 ∙ is ∙ sym (ap (λ (r : RingState). after_call r command) same)),
+      next.1,
+    )
+
+pub call_only : (catalogue : List FileEntry) (old : RingSlots) (new : RingState) (command : Instruction) → IsCall old.submissions command
+    → new ≡ after_call (ring_with_slots catalogue old) command
+    → (ring next : RingContents) → ring_of ring ≡ ring_with_slots catalogue old → Leads ring command next → ring_of next ≡ new
+call_only catalogue old new command call is ring next same leads =
+    call_leaves ring next command leads.0 leads.1 (subst (λ (r : RingState). IsCall r.submissions command) (sym same) call) leads.2 leads.3
+    ∙ ap (λ (r : RingState). after_call r command) same ∙ sym is
+
+-- a call counts no submission
+pub call_uncounted : (count : ℕ) (command : Instruction) → IsCall count command → count_after count command ≡ count
+call_uncounted count (MakesSparse n) call = refl
+call_uncounted count (RegistersList list tags) call = refl
+call_uncounted count Unregisters call = refl
+call_uncounted count (SetsRange off len) call = refl
+call_uncounted count (UpdatesRing off list tags) call = refl
+call_uncounted count (SubmitsAll asked) call = call

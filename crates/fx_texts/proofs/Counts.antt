@@ -1,0 +1,126 @@
+-- How many submissions a ring has counted behind commands.
+use Rattle.std.proofs.Common.{◌≡◌, ℕ, suc, ◌+◌, ◌<◌, ◌≤◌, Bool, true, false, nat_le, if◌then◌else◌, List, [], ◌∷◌, ◌++◌, refl, sym, ap, subst, ◌∙◌, arith, Option, Some, None}
+use Rattle.std.specs.Bool.{MatchBool}
+use Rattle.std.specs.Option.{MatchOption}
+use Rattle.std.proofs.lemmas.Bool.{le-leb}
+use Rattle.fx_base.specs.declared.errno.Errno.{Errno}
+use Rattle.fx_chain.specs.Faults.{fault_of}
+use Rattle.fx_chain.specs.Operation.{Asked}
+use Rattle.fx_chain.specs.declared.fault.CutFault.{CutFault}
+use Rattle.fx_ring.specs.Registration.{range_refusal, register_refusal, registered, registered_sparse, sparse_refusal}
+use Rattle.fx_ring.specs.Registration.{unregister_refusal, update_refusal, updated}
+use Rattle.fx_ring.specs.Ring.{RingContents, RingState, ring_of, without_table}
+use Rattle.fx_ring.specs.Submission.{IsOneHistory, Reported}
+use Rattle.fx_ring.specs.Tags.{tags_given}
+use Rattle.fx_ring.specs.declared.ring.TheConstants.{MOST_SUBMISSIONS}
+use Rattle.fx_language.specs.Instruction.{Instruction, MakesSparse, RegistersList, SetsRange, SubmitsAll, Unregisters, UpdatesRing}
+use Rattle.fx_script.specs.Play.{Prints, PrintsReport}
+use Rattle.fx_script.specs.Text.{refused_line, too_many_line}
+use Rattle.fx_texts.specs.Rings.{IsCall, Leads, LeadsAll, after_call, count_after, count_after_all, count_behind, unless_refused}
+use Rattle.fx_texts.specs.Texts.{FoundMemory, IsReportFound}
+use Rattle.fx_texts.proofs.Calls.{call_leaves}
+
+abbrev submissions_in : RingState → ℕ
+submissions_in ring = ring.submissions
+
+-- a history counts its submission
+pub history_counts : (old next : RingContents) (asked : List Asked) (report : Reported) → IsOneHistory old asked report next
+    → next.submissions ≡ old.submissions + 1
+history_counts old next asked report history = ap submissions_in history.after
+
+pub report_number : (old next : RingContents) (asked : List Asked) (report : Reported) → IsOneHistory old asked report next
+    → report.submission ≡ old.submissions + 1
+report_number old next asked report history = history.submission
+
+submitted_bool : (b : Bool) (count next : ℕ) (same reports : Type 0) (line many : List ℕ) → (same → next ≡ count) → (reports → next ≡ count + 1)
+    → MatchBool b (same × (line ≡ many)) reports → next ≡ (if b then count else count + 1)
+submitted_bool true count next same reports line many stays goes prints = stays prints.0
+submitted_bool false count next same reports line many stays goes prints = goes prints
+
+submitted : (x : Option CutFault) (count next : ℕ) (same reports : Type 0) (line many : List ℕ) (text : CutFault → List ℕ) → (same → next ≡ count)
+    → (reports → next ≡ count + 1)
+    → MatchOption x (MatchBool (nat_le MOST_SUBMISSIONS count) (same × (line ≡ many)) reports) (λ fault. same × (line ≡ text fault))
+    → next ≡ count_behind count x
+submitted (Some fault) count next same reports line many text stays goes prints = stays prints.0
+submitted None count next same reports line many text stays goes prints =
+    submitted_bool (nat_le MOST_SUBMISSIONS count) count next same reports line many stays goes prints
+
+pub submission_counts : (old next : RingContents) (asked : List Asked) (line : List ℕ) → Prints old (SubmitsAll asked) next line
+    → next.submissions ≡ count_behind old.submissions (fault_of asked)
+submission_counts old next asked line prints =
+    submitted (fault_of asked) old.submissions next.submissions (ring_of next ≡ ring_of old) (PrintsReport old asked next line) line too_many_line refused_line
+    (λ same. ap submissions_in same) (λ p. history_counts old next asked p.0 p.1) prints
+
+kept_count : (x : Option Errno) (old done : RingState) → done.submissions ≡ old.submissions → (unless_refused x old done).submissions ≡ old.submissions
+kept_count (Some errno) old done is = refl
+kept_count None old done is = is
+
+call_count : (ring : RingState) (command : Instruction) → (after_call ring command).submissions ≡ ring.submissions
+call_count ring (MakesSparse n) = kept_count (sparse_refusal ring n) ring (registered_sparse ring n) refl
+call_count ring (RegistersList list tags) =
+    kept_count (register_refusal ring list (tags_given list tags)) ring (registered ring list (tags_given list tags)) refl
+call_count ring Unregisters = kept_count (unregister_refusal ring) ring (without_table ring) refl
+call_count ring (SetsRange off len) = kept_count (range_refusal ring off len) ring (record ring { range = (off, len) }) refl
+call_count ring (UpdatesRing off list tags) =
+    kept_count (update_refusal ring off list (tags_given list tags)) ring (updated ring off list (tags_given list tags)) refl
+call_count ring (SubmitsAll asked) = refl
+
+by_call : (old next : RingContents) (command : Instruction) → ring_of next ≡ after_call (ring_of old) command → next.submissions ≡ old.submissions
+by_call old next command is = ap submissions_in is ∙ call_count (ring_of old) command
+
+pub leads_counts : (old next : RingContents) (command : Instruction) (line : List ℕ) (own : Option Reported) → Prints old command next line
+    → FoundMemory old command next line own → next.submissions ≡ count_after old.submissions command
+leads_counts old next (MakesSparse n) line own prints found = by_call old next (MakesSparse n) (call_leaves old next (MakesSparse n) line own tt prints found)
+leads_counts old next (RegistersList list tags) line own prints found =
+    by_call old next (RegistersList list tags) (call_leaves old next (RegistersList list tags) line own tt prints found)
+leads_counts old next Unregisters line own prints found = by_call old next Unregisters (call_leaves old next Unregisters line own tt prints found)
+leads_counts old next (SetsRange off len) line own prints found =
+    by_call old next (SetsRange off len) (call_leaves old next (SetsRange off len) line own tt prints found)
+leads_counts old next (UpdatesRing off list tags) line own prints found =
+    by_call old next (UpdatesRing off list tags) (call_leaves old next (UpdatesRing off list tags) line own tt prints found)
+leads_counts old next (SubmitsAll asked) line own prints found = submission_counts old next asked line prints
+
+pub all_counts : (ring last : RingContents) (commands : List Instruction) → LeadsAll ring commands last
+    → last.submissions ≡ count_after_all ring.submissions commands
+all_counts ring last [] leads = ap (λ (r : RingContents). r.submissions) (sym leads)
+all_counts ring last (command ∷ commands) (next, leads, rest) =
+    all_counts next last commands rest
+    ∙ ap (λ (n : ℕ). count_after_all n commands) (leads_counts ring next command leads.0 leads.1 leads.2 leads.3)
+
+-- counts only grow
+
+counted_bool : (b : Bool) (count : ℕ) → count ≤ (if b then count else count + 1)
+counted_bool true count = omega arith
+counted_bool false count = omega arith
+
+behind_grows : (x : Option CutFault) (count : ℕ) → count ≤ count_behind count x
+behind_grows (Some fault) count = omega arith
+behind_grows None count = counted_bool (nat_le MOST_SUBMISSIONS count) count
+
+pub after_grows : (command : Instruction) (count : ℕ) → count ≤ count_after count command
+after_grows (MakesSparse n) count = omega arith
+after_grows (RegistersList list tags) count = omega arith
+after_grows Unregisters count = omega arith
+after_grows (SetsRange off len) count = omega arith
+after_grows (UpdatesRing off list tags) count = omega arith
+after_grows (SubmitsAll asked) count = behind_grows (fault_of asked) count
+
+pub all_grows : (commands : List Instruction) (count : ℕ) → count ≤ count_after_all count commands
+all_grows [] count = omega arith
+all_grows (command ∷ commands) count =
+    let one = after_grows command count in let rest = all_grows commands (count_after count command) in omega (arith, one, rest)
+
+-- the report of a command is that of the next submission
+pub own_report : (old next : RingContents) (command : Instruction) (line : List ℕ) (report : Reported) → FoundMemory old command next line (Some report)
+    → (asked : List Asked) × (command ≡ SubmitsAll asked) × IsReportFound old asked next line report
+own_report old next (MakesSparse n) line report found = absurd (let e : Some report ≡ None = found.0 in cc)
+own_report old next (RegistersList list tags) line report found = absurd (let e : Some report ≡ None = found.0 in cc)
+own_report old next Unregisters line report found = absurd (let e : Some report ≡ None = found.0 in cc)
+own_report old next (SetsRange off len) line report found = absurd (let e : Some report ≡ None = found in cc)
+own_report old next (UpdatesRing off list tags) line report found = absurd (let e : Some report ≡ None = found.0 in cc)
+own_report old next (SubmitsAll asked) line report found = (asked, refl, found)
+
+-- a submission that is refused isn't counted
+pub refused_count : (x : Option CutFault) (count : ℕ) → (x ≡ None → MOST_SUBMISSIONS ≤ count) → count_behind count x ≡ count
+refused_count (Some fault) count full = refl
+refused_count None count full = ap (λ (b : Bool). if b then count else count + 1) (le-leb MOST_SUBMISSIONS count (full refl))

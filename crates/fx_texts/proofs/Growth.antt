@@ -1,0 +1,98 @@
+-- Lists that others are put behind.
+use Rattle.std.proofs.Common.{◌≡◌, ◌⊎◌, ℕ, zero, suc, ◌+◌, ◌<◌, ◌≤◌, List, [], ◌∷◌, ◌++◌, length, map, refl, sym, ap, subst, ◌∙◌, arith, inl, inr, ⊎_elim, slice_index_or, Option, Some, None}
+use Rattle.std.specs.Prelude.{All, Contains, IfSome}
+use Rattle.std.specs.Option.{option_to_list}
+use Rattle.std.proofs.lemmas.List.{get_or_default, map-append}
+use Rattle.fx_order.proofs.Words.{cases_lt}
+use Rattle.std.proofs.lemmas.List.Elements.{Contains-append_left, Contains-push, Contains-push_cases}
+use Rattle.fx_texts.specs.Rings.{Grows}
+
+pub stays : {X : Type 0} (P : X → Type 0) (xs : List X) → Grows P xs xs
+stays P xs = record { kept = λ x inside. inside; from = λ x inside. inl inside }
+
+pub grows_on : {X : Type 0} (P : X → Type 0) (xs ys zs : List X) → Grows P xs ys → Grows P ys zs → Grows P xs zs
+grows_on P xs ys zs one more = record {
+  kept = λ x inside. more.kept x (one.kept x inside);
+  from = λ x inside. ⊎_elim (λ there. one.from x there) inr (more.from x inside);
+}
+
+pub grows_by : {X : Type 0} (P Q : X → Type 0) (xs ys : List X) → ((x : X) → P x → Q x) → Grows P xs ys → Grows Q xs ys
+grows_by P Q xs ys weaker grows = record {
+  kept = grows.kept;
+  from = λ x inside. ⊎_elim inl (λ is. inr (weaker x is)) (grows.from x inside);
+}
+
+-- one more behind them
+module _ {X Y : Type 0} (f : Y → X) (xs ys : List Y) (y : Y) (are : ys ≡ xs ++ y ∷ []) where
+  grown : map f ys ≡ map f xs ++ f y ∷ []
+  grown = ap (map f) are ∙ map-append f xs (y ∷ [])
+
+  pub pushed : (P : X → Type 0) → P (f y) → Grows P (map f xs) (map f ys)
+  pushed P is = record {
+    kept = λ x inside. subst (λ (l : List X). Contains l x) (sym grown) (Contains-append_left (map f xs) (f y ∷ []) x inside);
+    from = λ x inside. ⊎_elim inl (λ same. inr (subst P same is))
+        (Contains-push_cases (map f xs) (f y) x (subst (λ (l : List X). Contains l x) grown inside));
+  }
+
+  pub has_pushed : Contains (map f ys) (f y)
+  has_pushed = subst (λ (l : List X). Contains l (f y)) (sym grown) (Contains-push (map f xs) (f y))
+
+-- what is in the values has an element
+pub element : {X Y : Type 0} (f : Y → X) (ys : List Y) (x : X) → Contains (map f ys) x → (y : Y) × Contains ys y × (f y ≡ x)
+element f [] x (k, inside, is) = absurd (omega (arith, inside))
+element f (y ∷ ys) x (zero, inside, is) = (y, (0, omega arith, refl), is)
+element f (y ∷ ys) x (suc k, inside, is) =
+    let e = element f ys x (k, omega (arith, inside), is) in
+    (e.0, (suc e.1.0, let low = e.1.1 in omega (arith, low), e.1.2), e.2)
+
+pub at_value : {X Y : Type 0} (f : Y → X) (ys : List Y) (k : ℕ) (y : Y) → k < length ys → y ≡ slice_index_or ys k y → Contains (map f ys) (f y)
+at_value f [] k y inside is = absurd (omega (arith, inside))
+at_value f (x ∷ ys) zero y inside is = (0, omega arith, ap f (sym is))
+at_value f (x ∷ ys) (suc k) y inside is =
+    let e = at_value f ys k y (omega (arith, inside)) is in
+    (suc e.0, let low = e.1 in omega (arith, low), e.2)
+
+by_order : {P : Type 0} (i k : ℕ) → (i < k → P) → (i ≡ k → P) → i < k + 1 → P
+by_order i k less same low = ⊎_elim less (λ le. same (omega (arith, le, low))) (cases_lt i k)
+
+-- what holds of the values of the first elements, one element further
+
+module _ {X Y : Type 0} (f : Y → X) (ys : List Y) (Q : X → Type 0) where
+  abbrev pub HoldsBefore : ℕ → Type 0
+  HoldsBefore n = (i : ℕ) (d : Y) → i < n → Q (f (slice_index_or ys i d))
+
+  pub holds_more : (k : ℕ) (y : Y) → k < length ys → y ≡ slice_index_or ys k y → HoldsBefore k → Q (f y) → HoldsBefore (k + 1)
+  holds_more k y inside is before here i d low =
+      by_order i k
+      (λ lt. before i d lt)
+      (λ same.
+      let at : slice_index_or ys i d ≡ y =
+      ap (λ (n : ℕ). slice_index_or ys n d) same ∙ get_or_default ys k d y inside ∙ sym is in
+      subst (λ (e : Y). Q (f e)) (sym at) here)
+      low
+
+  pub holds_of_all : (n : ℕ) → length ys ≤ n → HoldsBefore n → (x : X) → Contains (map f ys) x → Q x
+  holds_of_all n long all x inside =
+      let (y, (k, low, at), is) = element f ys x inside in
+      subst Q (ap f at ∙ is) (all k y (omega (arith, low, long)))
+
+-- an element that is read has what all have
+pub read_at : {X : Type 0} (P : X → Type 0) (xs items : List X) (k : ℕ) (x : X) → items ≡ xs → k < length items → x ≡ slice_index_or items k x
+    → All P xs → P x
+read_at P xs items k x same inside is all =
+    let each : All P items = subst (All P) (sym same) all in
+    subst P (sym is) (each k x inside)
+
+pub nothing : {X Y : Type 0} (f : Y → X) (ys : List Y) (x : X) → ys ≡ [] → Contains (map f ys) x → ⊥
+nothing f [] x none (k, inside, is) = absurd (omega (arith, inside))
+nothing f (y ∷ ys) x none inside = let e : y ∷ ys ≡ [] = none in cc
+
+-- the one that is taken off the end
+pub popped : {X Y : Type 0} (f : Y → X) (xs ys : List Y) (last : Option Y) (P : X → Type 0) → xs ≡ ys ++ option_to_list last
+    → ((x : X) → Contains (map f xs) x → P x) → IfSome last (λ y. P (f y))
+popped f xs ys None P are all = tt
+popped f xs ys (Some y) P are all = all (f y) (has_pushed f ys xs y are)
+
+pub all_of_values : {X Y : Type 0} (f : Y → X) (ys : List Y) (P : X → Type 0) → ((x : X) → Contains (map f ys) x → P x) → All (λ y. P (f y)) ys
+all_of_values f ys P each = λ k d inside.
+    each (f (slice_index_or ys k d)) (at_value f ys k (slice_index_or ys k d) inside (get_or_default ys k d (slice_index_or ys k d) inside))

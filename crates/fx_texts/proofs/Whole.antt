@@ -1,0 +1,95 @@
+-- What a request may answer in a whole play.
+use Rattle.std.proofs.Common.{◌≡◌, ◌⊎◌, ℕ, ◌+◌, ◌<◌, ◌≤◌, List, [], ◌∷◌, ◌++◌, length, map, refl, sym, ap, subst, ◌∙◌, arith, ⊎_elim, Some}
+use Rattle.std.specs.Prelude.{Contains}
+use Rattle.std.specs.Option.{option_to_list}
+use Rattle.fx_base.specs.Catalogue.{FileEntry}
+use Rattle.fx_chain.specs.Completed.{Completed}
+use Rattle.fx_chain.specs.Faults.{fault_of}
+use Rattle.fx_chain.specs.Operation.{Asked}
+use Rattle.fx_chain.specs.declared.completion.Place.{Place}
+use Rattle.fx_order.proofs.Shown.{ring_with_files, shows_ring}
+use Rattle.fx_ring.specs.Ring.{RingContents, RingState, files_of, new_ring, ring_of}
+use Rattle.fx_ring.specs.Submission.{Reported}
+use Rattle.fx_language.specs.Instruction.{Instruction, SubmitsAll}
+use Rattle.fx_language.specs.Script.{Meaning}
+use Rattle.fx_script.specs.Text.{teardown_text}
+use Rattle.fx_texts.specs.Rings.{HasEachLast, HasEachSaidFrom, LeadsAll, MayEnd, MayLeadAllTo, MayLeadTo, MaySay, count_after_all, count_behind}
+use Rattle.fx_texts.specs.Texts.{MayAnswerIn, PrintsAllFound}
+use Rattle.fx_texts.proofs.Counts.{all_counts, report_number}
+use Rattle.fx_texts.proofs.Plays.{numbers_behind, play_behind, report_at}
+use Rattle.fx_texts.proofs.Sorted.{closes_for, has_closed}
+
+-- the end of the script can be printed
+pub may_end : (state : RingState) → MayEnd state []
+may_end state = λ ring same. (
+  teardown_text (ring_of ring).catalogue (closes_for (files_of (ring_of ring))).files,
+  [],
+  ((closes_for (files_of (ring_of ring)), has_closed (files_of (ring_of ring)), refl), refl),
+)
+
+pub may_end_behind : (old new : RingState) (command : Instruction) (commands : List Instruction) → MayLeadTo old command new → MayEnd new commands
+    → MayEnd old (command ∷ commands)
+may_end_behind old new command commands leads ends = λ ring same.
+    let (next, one, is) = leads ring same in
+    let (text, reports, rest) = ends next is in
+    (one.0 ++ text, option_to_list one.1 ++ reports, (next, one.0, text, one.1, reports, one.2, one.3, refl, refl, rest))
+
+count_at_start : (script : Meaning) (ring : RingContents) → ring_of ring ≡ new_ring script.catalogue → ring.submissions ≡ 0
+count_at_start script ring starts = ap (λ (r : RingState). r.submissions) starts
+
+module _ (script : Meaning) (place : Place) (front : List Instruction) (asked : List Asked) (behind : List Instruction)
+    (split : script.commands ≡ front ++ SubmitsAll asked ∷ behind) (number : place.submission ≡ count_after_all 0 front + 1) where
+  -- what is said behind the first commands is an answer of a play
+  pub said_is_answered : (o : RingState) (c : Completed) → MayLeadAllTo (new_ring script.catalogue) front o → MaySay o asked behind place c
+      → MayAnswerIn script place c
+  said_is_answered o c leads says =
+      let start = ring_with_files (new_ring script.catalogue) in
+      let starts : ring_of start ≡ new_ring script.catalogue = shows_ring (new_ring script.catalogue) (λ slot past. refl) in
+      let (mid, all, mid_is) = leads start starts in
+      let (next, line, report, prints, found, inside, whole) = says.says mid mid_is in
+      let text = whole.0 in
+      let reports = whole.1 in
+      let here : PrintsAllFound mid (SubmitsAll asked ∷ behind) (line ++ text) (report ∷ reports) =
+      (next, line, text, Some report, reports, prints, found, refl, refl, whole.2) in
+      let play = play_behind start mid front (SubmitsAll asked ∷ behind) (line ++ text) (report ∷ reports) all here in
+      let count : mid.submissions ≡ count_after_all 0 front =
+      all_counts start mid front all ∙ ap (λ (n : ℕ). count_after_all n front) (count_at_start script start starts) in
+      record {
+        text = play.text;
+        reports = play.all;
+        play = (start, starts, subst (λ (l : List Instruction). PrintsAllFound start l play.text play.all) (sym split) play.prints);
+        report = report;
+        among = play.keeps report (0, omega arith, refl);
+        submission = report_number mid next asked report found.may.history ∙ ap (λ (n : ℕ). n + 1) count ∙ sym number;
+        inside = inside;
+        there = says.there;
+      }
+
+  -- an answer of a play is said behind the first commands
+  pub answer_is_said : (states : List RingState) (said : List Completed) (c : Completed)
+      → count_behind (count_after_all 0 front) (fault_of asked) ≡ place.submission
+      → HasEachLast (new_ring script.catalogue) front states → HasEachSaidFrom states asked place said → MayAnswerIn script place c → Contains said c
+  answer_is_said states said c counted last each may =
+      let ring = may.play.0 in
+      let starts : ring_of ring ≡ new_ring script.catalogue = may.play.1 in
+      let none = count_at_start script ring starts in
+      let from_start : count_after_all ring.submissions front ≡ count_after_all 0 front = ap (λ (n : ℕ). count_after_all n front) none in
+      let at = report_at ring front asked behind may.text may.reports may.report
+      (subst (λ (l : List Instruction). PrintsAllFound ring l may.text may.reports) split may.play.2) may.among
+      (may.submission ∙ number ∙ ap (λ (n : ℕ). n + 1) (sym from_start))
+      (ap (λ (n : ℕ). count_behind n (fault_of asked)) from_start ∙ counted ∙ number ∙ ap (λ (n : ℕ). n + 1) (sym from_start)) in
+      each (ring_of at.mid) (last ring at.mid starts at.leads) at.mid at.next at.line may.report c refl at.prints at.found may.inside may.there
+
+-- no request answers in a submission that isn't there
+pub none_answered : (script : Meaning) (place : Place) (c : Completed)
+    → (place.submission ≡ 0) ⊎ (count_after_all 0 script.commands < place.submission) → MayAnswerIn script place c → ⊥
+none_answered script place c none may =
+    let ring = may.play.0 in
+    let empty = count_at_start script ring may.play.1 in
+    let from_start : count_after_all ring.submissions script.commands ≡ count_after_all 0 script.commands =
+    ap (λ (n : ℕ). count_after_all n script.commands) empty in
+    let n = numbers_behind ring script.commands may.text may.reports may.report may.play.2 may.among in
+    let low = n.0 in
+    let high = n.1 in
+    let is = may.submission in
+    ⊎_elim (λ zero_is. omega (arith, low, is, zero_is)) (λ past. omega (arith, high, is, past, from_start)) none

@@ -1,0 +1,12 @@
+use Rattle.std.proofs.Common.{sym, subst}
+use Rattle.fx_check.proofs.Entries.{if_ok_then}
+use Rattle.fx_language.specs.Instruction.{Instruction}
+use Rattle.fx_texts.specs.Rings.{HasEachNext, state_of, states_of}
+use Rattle.fx_texts.proofs.next.push_next.Goals as goal
+
+pub returns-in-Some-clause-all : goal.returns-in-Some-clause-all
+returns-in-Some-clause-all c =
+    let cat = c.args.setting.now.catalogue.now in
+    if_ok_then c.push_ends.result
+    (λ all each is. subst (λ (i : Instruction). HasEachNext (state_of cat c.args.from.now) i (states_of cat c.push_ends.new.rings.items))
+    (sym c.in-Some.ensures.requests) (each is)) c.push_ends.ensures.all

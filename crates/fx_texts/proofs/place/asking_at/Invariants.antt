@@ -1,0 +1,10 @@
+use Rattle.std.proofs.Common.{◌≡◌, ◌<◌, take}
+use Rattle.fx_language.specs.Instruction.{instructions_of}
+use Rattle.fx_texts.specs.Rings.{count_after_all}
+use Rattle.fx_texts.proofs.place.asking_at.Given as goal
+
+abbrev pub invariant-loop-i : goal.invariant-loop-i
+invariant-loop-i l = record {
+  count : l.count ≡ count_after_all 0 (instructions_of (take l.i l.commands));
+  few : l.count < l.place.submission;
+}

@@ -1,0 +1,24 @@
+use Rattle.std.proofs.Common.{◌≡◌, ◌+◌, subst, ◌∙◌}
+use Rattle.fx_chain.specs.Completed.{Completed, completed_of}
+use Rattle.fx_language.specs.Instruction.{instructions_of}
+use Rattle.fx_order.specs.Slots.{ring_of_slots}
+use Rattle.fx_ring.specs.Ring.{RingState}
+use Rattle.fx_texts.specs.Rings.{MayEnd}
+use Rattle.fx_texts.specs.declared.saying.Said.{Said}
+use Rattle.fx_texts.proofs.Growth.{pushed}
+use Rattle.fx_texts.proofs.Submitted.{copied_ring}
+use Rattle.fx_texts.proofs.saying.push_answer.Goals as goal
+
+pub returns-clause-grows : goal.returns-clause-grows
+returns-clause-grows c =
+    let cat = c.args.setting.now.catalogue.now in
+    let n = c.args.from.now.ring.submissions + 1 in
+    let k = c.args.from.now.ring.registrations in
+    let behind = instructions_of c.args.behind.now in
+    let slots = c.args.answer.now.slots in
+    let ends : MayEnd (ring_of_slots cat slots n k) behind = subst (λ (s : RingState). MayEnd s behind)
+    (copied_ring cat slots c.in_ok-at.at n k (c.in_ok-at.ensures.items ∙ c.deref-2.ensures.value)) (c.in_ok-goes_on.ensures c.if-not-branch.false) in
+    pushed (λ (s : Said). completed_of s.completion) c.args.answers.now.items c.push-2.new.self.items
+    (record { completion = c.in_ok-completion.completion; past = c.len-past.result }) c.in_ok-push-2.ensures.items
+    (λ (it : Completed). (it ≡ completed_of c.args.answer.now.completion) × MayEnd (ring_of_slots cat slots n k) behind)
+    (c.in_ok-completion.ensures, ends)

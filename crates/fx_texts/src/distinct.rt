@@ -1,0 +1,89 @@
+//! Lists of rings, each of which stands there once.
+ghost use Rattle.std.specs.Prelude.{◌≡◌, IfOk, IsTrue, List, OnOk, Contains, length};
+ghost use Rattle.fx_base.specs.Catalogue.{FileEntry};
+ghost use Rattle.fx_judge.specs.Verdict.{ring_with_slots};
+ghost use Rattle.fx_texts.specs.Rings.{Grows, state_of, states_of};
+
+use crate::reached::Reached;
+use fx_base::{Closed, NoMemory};
+use fx_judge::RingSlots;
+use fx_order::Slots;
+use std::alloc::Global;
+
+/// The same ring once more.
+pub(crate) fn copy_of(alloc: Global, ring: &RingSlots) -> Result<RingSlots, NoMemory>
+    ensures same { IfOk result (λ copy. (catalogue : List FileEntry)
+        → ring_with_slots catalogue copy ≡ ring_with_slots catalogue ring.now) }
+    ensures size { IfOk result (λ copy.
+        length copy.slots.at.items ≡ length ring.now.slots.at.items) }
+{
+    let at = Vec::from_slice(alloc, &ring.slots.at)?;
+    Ok(RingSlots {
+        slots: Slots {
+            range: ring.slots.range,
+            at,
+        },
+        submissions: ring.submissions,
+        registrations: ring.registrations,
+    })
+}
+
+// Whether both lists have the same files at the same slots.
+fn are_same_files(files: &[Option<Closed>], others: &[Option<Closed>]) -> bool
+    ensures { IsTrue result → files.now ≡ others.now }
+{
+    if files.len() != others.len() {
+        return false;
+    }
+    for i in 0..files.len() {
+        if files[i] != others[i] {
+            return false;
+        }
+    }
+    true
+}
+
+// Whether both rings have the same slots, the same allocation range and the same counts.
+fn are_same(one: &RingSlots, other: &RingSlots) -> bool
+    ensures { IsTrue result → (catalogue : List FileEntry)
+        → ring_with_slots catalogue one.now ≡ ring_with_slots catalogue other.now }
+{
+    if one.slots.range.0 != other.slots.range.0 || one.slots.range.1 != other.slots.range.1 {
+        return false;
+    }
+    if one.submissions != other.submissions || one.registrations != other.registrations {
+        return false;
+    }
+    are_same_files(&one.slots.at, &other.slots.at)
+}
+
+// Whether a ring is in a list.
+fn has_ring(rings: &[Reached], ring: &RingSlots) -> bool
+    ensures { IsTrue result → (catalogue : List FileEntry)
+        → Contains (states_of catalogue rings.now) (ring_with_slots catalogue ring.now) }
+{
+    for reached in rings {
+        if are_same(&reached.ring, ring) {
+            return true;
+        }
+    }
+    false
+}
+
+/// Puts a ring behind others that haven't got it.
+///
+/// # Errors
+/// `NoMemory` where the memory of the list is refused.
+pub(crate) fn push_new(rings: &mut Vec<Reached>, reached: Reached) -> Result<(), NoMemory>
+    ensures grows { OnOk result ((catalogue : List FileEntry)
+        → Grows (λ s. s ≡ state_of catalogue reached) (states_of catalogue rings.old.items)
+        (states_of catalogue rings.new.items)) }
+    ensures there { OnOk result ((catalogue : List FileEntry)
+        → Contains (states_of catalogue rings.new.items) (state_of catalogue reached)) }
+{
+    if has_ring(rings, &reached.ring) {
+        return Ok(());
+    }
+    rings.push(reached)?;
+    Ok(())
+}

@@ -1,0 +1,20 @@
+//! What a request of a script may answer: all of it and nothing else, each answer in a text of the script.
+#![tactic(auto)]
+
+mod asking;
+mod call;
+mod distinct;
+mod going_on;
+mod laws;
+mod next;
+mod place;
+mod reached;
+mod request;
+mod rings;
+mod saying;
+mod setting;
+
+pub use laws::each_found_text_is_a_text;
+pub use reached::Past;
+pub use request::{RequestAnswers, may};
+pub use saying::Said;

@@ -1,0 +1,183 @@
+//! What a request may answer at some rings, each answer in front of a whole text.
+ghost use Rattle.std.specs.Prelude.{◌≡◌, ◌+◌, ◌<◌, ◌≤◌, IfOk, IsTrue, Contains, length};
+ghost use Rattle.fx_chain.specs.Completed.{completed_of};
+ghost use Rattle.fx_chain.specs.Operation.{all_asked};
+ghost use Rattle.fx_language.specs.Instruction.{instructions_of};
+ghost use Rattle.fx_order.specs.Slots.{ring_of_slots};
+ghost use Rattle.fx_plain.specs.declared.table.TheConstants.{MOST_SLOTS};
+ghost use Rattle.fx_ring.specs.declared.ring.TheConstants.{MOST_SUBMISSIONS};
+ghost use Rattle.fx_texts.specs.Rings.{AreSaidFrom, Grows, HasEachSaid, HasEachSaidFrom};
+ghost use Rattle.fx_texts.specs.Rings.{MayEnd, MaySay, said_in, state_of, states_of};
+
+use crate::asking::Asking;
+use crate::going_on::goes_on;
+use crate::next::{both, is_accepted};
+use crate::reached::{Past, Reached};
+use crate::setting::Setting;
+use fx_answers::{Answer, Question, may_answer};
+use fx_base::NoMemory;
+use fx_chain::Completion;
+use fx_judge::RingSlots;
+use fx_language::Command;
+use fx_order::Slots;
+use std::alloc::Global;
+
+/// What a request may answer.
+#[derive(Debug, Drop)]
+pub struct Said {
+    /// The answer.
+    pub completion: Completion,
+    /// Which of the orders is that of its submission.
+    pub past: usize,
+}
+
+/// What a request may answer.
+#[derive(Debug, Drop)]
+pub(crate) struct Sayings {
+    pub(crate) answers: Vec<Said>,
+    /// Whether these are all.
+    pub(crate) are_all: bool,
+}
+
+// A completion once more.
+fn copy_of(alloc: Global, c: &Completion) -> Result<Completion, NoMemory>
+    ensures { IfOk result (λ copy. completed_of copy ≡ completed_of c.now) }
+{
+    let got = Vec::from_slice(alloc, &c.got)?;
+    Ok(Completion {
+        place: c.place,
+        res: c.res,
+        got,
+    })
+}
+
+// Whether both completions are one.
+fn is_same(one: &Completion, other: &Completion) -> bool
+    ensures { IsTrue result → completed_of one.now ≡ completed_of other.now }
+{
+    one.place == other.place && one.res == other.res && one.got.as_slice() == other.got.as_slice()
+}
+
+// Whether an answer is in a list.
+fn has_answer(answers: &[Said], c: &Completion) -> bool
+    ensures { IsTrue result → Contains (said_in answers.now) (completed_of c.now) }
+{
+    for said in answers {
+        if is_same(&said.completion, c) {
+            return true;
+        }
+    }
+    false
+}
+
+// Puts an answer that a ring may give behind others that haven't got it, if it was seen that the script goes on from there
+// to its end; and says whether it then is among them.
+fn push_answer(
+    setting: &Setting<'_>,
+    pasts: &mut Vec<Past>,
+    answers: &mut Vec<Said>,
+    from: &Reached,
+    answer: &Answer,
+    behind: &[Command],
+) -> Result<bool, NoMemory>
+    requires few { from.now.ring.submissions < MOST_SUBMISSIONS }
+    requires room { length answer.now.slots.at.items ≤ MOST_SLOTS }
+    ensures grows { IfOk result (λ _. Grows (λ c. (c ≡ completed_of answer.now.completion) × MayEnd
+        (ring_of_slots setting.now.catalogue.now answer.now.slots
+        (from.now.ring.submissions + 1) from.now.ring.registrations) (instructions_of behind.now))
+        (said_in answers.old.items) (said_in answers.new.items)) }
+    ensures there { IfOk result (λ yes. IsTrue yes
+        → Contains (said_in answers.new.items) (completed_of answer.now.completion)) }
+{
+    if has_answer(answers, &answer.completion) {
+        return Ok(true);
+    }
+    let at = Vec::from_slice(setting.alloc, &answer.slots.at)?;
+    let range = answer.slots.range;
+    let ring = RingSlots {
+        slots: Slots { range, at },
+        submissions: from.ring.submissions + 1,
+        registrations: from.ring.registrations,
+    };
+    if !goes_on(setting, Reached { ring, past: None }, behind)? {
+        return Ok(false);
+    }
+    let order = Vec::from_slice(setting.alloc, &answer.order)?;
+    let completion = copy_of(setting.alloc, &answer.completion)?;
+    let past = pasts.len();
+    pasts.push(Past {
+        submission: from.ring.submissions + 1,
+        size: from.ring.slots.at.len(),
+        order,
+        before: from.past,
+    })?;
+    answers.push(Said { completion, past })?;
+    Ok(true)
+}
+
+// Puts what a ring may answer behind other answers, and says whether all of it is then among them.
+fn push_answers(
+    setting: &Setting<'_>,
+    pasts: &mut Vec<Past>,
+    answers: &mut Vec<Said>,
+    from: &Reached,
+    asking: &Asking<'_>,
+) -> Result<bool, NoMemory>
+    requires { from.now.ring.submissions < MOST_SUBMISSIONS }
+    ensures grows { IfOk result (λ _. Grows
+        (MaySay (state_of setting.now.catalogue.now from.now) (all_asked asking.now.requests.now)
+        (instructions_of asking.now.behind.now) asking.now.place)
+        (said_in answers.old.items) (said_in answers.new.items)) }
+    ensures all { IfOk result (λ all. IsTrue all → HasEachSaid
+        (state_of setting.now.catalogue.now from.now) (all_asked asking.now.requests.now)
+        asking.now.place (said_in answers.new.items)) }
+{
+    let question = Question {
+        requests: asking.requests,
+        place: asking.place,
+        states: setting.states,
+    };
+    let found = may_answer(
+        setting.alloc,
+        setting.catalogue,
+        &from.ring.slots,
+        from.ring.submissions,
+        &question,
+    )?;
+    let mut are_there = true;
+    for answer in &found.answers {
+        let is_there = push_answer(setting, pasts, answers, from, answer, asking.behind)?;
+        are_there = both(are_there, is_there);
+    }
+    let all = both(found.are_all, are_there);
+    Ok(all)
+}
+
+/// What the request may answer at some rings.
+///
+/// # Errors
+/// `NoMemory` where memory is refused.
+pub(crate) fn answers_at(
+    setting: &Setting<'_>,
+    pasts: &mut Vec<Past>,
+    rings: &[Reached],
+    asking: &Asking<'_>,
+) -> Result<Sayings, NoMemory>
+    ensures each { IfOk result (λ found. AreSaidFrom (states_of setting.now.catalogue.now rings.now)
+        (all_asked asking.now.requests.now) (instructions_of asking.now.behind.now)
+        asking.now.place (said_in found.answers.items)) }
+    ensures all { IfOk result (λ found. IsTrue found.are_all → HasEachSaidFrom
+        (states_of setting.now.catalogue.now rings.now) (all_asked asking.now.requests.now)
+        asking.now.place (said_in found.answers.items)) }
+{
+    let mut answers = Vec::new(setting.alloc);
+    let mut are_all = true;
+    for from in rings {
+        if !is_accepted(asking.requests, from.ring.submissions) {
+            continue;
+        }
+        let all = push_answers(setting, pasts, &mut answers, from, asking)?;
+        are_all = both(are_all, all);
+    }
+    Ok(Sayings { answers, are_all })
+}
