@@ -1,5 +1,6 @@
 -- Files that come to a slot and leave it, counted.
-use Rattle.std.specs.Prelude.{◌≡◌, ◌⊎◌, ℕ, ◌+◌, ◌<◌, ◌≤◌, ◌==◌, ◌&&◌, not, Bool, true, false, List, [], ◌∷◌, length, drop}
+use Rattle.std.specs.Prelude.{◌≡◌, ◌⊎◌, ℕ, ◌+◌, ◌<◌, ◌≤◌, ◌==◌, ◌&&◌, not, Bool, true, false}
+use Rattle.std.specs.Prelude.{List, [], ◌∷◌, length, drop}
 use Rattle.std.specs.Prelude.{count_by, cond, slice_index, Option, None, Some}
 use Rattle.fx_judge.specs.Machine.{Standing, cell_at}
 use Rattle.fx_judge.specs.Strands.{has_slot}
