@@ -4,10 +4,8 @@ from limits import limits, lines
 from sweeps import KINDS, sweeps
 
 NOT_LEGAL, UNDECIDED = 1, 6
-# this one takes some 50 seconds: it closes 65,472 files
-TOO_LONG = ("heaviest_submission",)
 # of limits two are bad scripts; of sweeps two kinds are
-LEGAL_SIZES = 14 - 2 - len(TOO_LONG) + sum(count for kind, count in KINDS.items() if kind not in ("fault_at", "unsubmitted_from"))
+LEGAL_SIZES = 14 - 2 + sum(count for kind, count in KINDS.items() if kind not in ("fault_at", "unsubmitted_from"))
 # how many rows of parts there are
 PARTS = 3
 # so many states are too few for the part of two slots: an order of its ten accesses goes through eleven
@@ -17,7 +15,7 @@ FEW_STATES = 10
 def sizes():
     """Scripts at the limits and between them with their texts, all of them legal."""
     for name, script, text, fault in [*limits(), *sweeps()]:
-        if not fault and name not in TOO_LONG:
+        if not fault:
             yield name, script.encode(), text
 
 
