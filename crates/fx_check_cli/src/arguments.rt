@@ -11,6 +11,9 @@ const ABOUT: &str =
     "Says whether the rules of io_uring's fixed file table allow a text for a script, \
                      for instance what a kernel answered to it";
 
+/// The version, as the file VERSION has it.
+const VERSION: &str = "1.0.0";
+
 const STATUSES: &str = "\
 It prints `legal`, and for each accepted submission an order of its requests that gives the
 text; or `not legal`, with the command that the text breaks at; or `undecided`, where a part
@@ -18,7 +21,20 @@ of a submission has more states than it may look at or keep, or what was found i
 confirmed. The status is then 0, 1 or 6.
 With --history it prints for a legal text every event of the table, a line each: whose it is,
 what happens, and the files then at the slots. scripts/draw-history draws that.
-A script is what `fixfiles` plays, and a text what `fixfiles`, or a kernel, writes.";
+A script is what `fixfiles` plays, and a text what `fixfiles`, or a kernel, writes.
+
+An order is a line `order S: 1.1.1 1.2.1.0 1.1.2`: the requests of submission S, done one at a
+time in this order, give the text. Each is named by its submission, its chain and its member,
+from 1, and an update's by the entry of its list too, from 0.
+
+Exit status:
+  0  the text is legal, or help or the version was asked for
+  1  it is not legal
+  2  an argument is wrong
+  3  the script has a fault, whose line and name are told
+  4  the script or the text couldn't be read, or the verdict couldn't be written
+  5  memory was refused
+  6  the text is undecided";
 
 /// How many states of a submission are looked at where no number is given.
 pub const STATES: u32 = 1_000_000;
@@ -99,6 +115,7 @@ fn text_argument<'a>(alloc: Global) -> Arg<'a> {
 
 fn command<'a>(alloc: Global) -> Result<Command<'a>, AllocError> {
     Command::new(alloc, "fixcheck")
+        .version(VERSION)
         .about(ABOUT)
         .after_help(STATUSES)
         .arg(states_argument(alloc))?

@@ -8,7 +8,7 @@ use std::io;
 /// Why the program ends without a verdict (this project's own).
 #[derive(Drop)]
 pub enum Ending {
-    /// Help was asked for, or the arguments are none that the program has.
+    /// Help or the version was asked for, or the arguments are none that the program has.
     Arguments(Error),
     /// An argument is no text.
     NoText,
@@ -44,8 +44,8 @@ impl From<NoMemory> for Ending {
 }
 
 impl Ending {
-    /// The status of the program: 0 behind help, 2 for wrong arguments, 3 for what is no script, 4 for a failed read or
-    /// write, 5 where there was no memory.
+    /// The status of the program: 0 behind help or the version, 2 for wrong arguments, 3 for what is no script, 4 for a
+    /// failed read or write, 5 where there was no memory.
     pub fn status(&self) -> u8 {
         match self {
             Ending::Arguments(error) => { if error.use_stderr() { 2 } else { 0 } }
@@ -59,7 +59,7 @@ impl Ending {
         }
     }
 
-    /// Tells it: help on standard output, and the others on standard error.
+    /// Tells it: help and the version on standard output, and the others on standard error.
     ///
     /// # Errors
     /// Where that can't be written.
