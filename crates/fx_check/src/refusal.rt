@@ -75,12 +75,7 @@ pub fn unregister_refusal(catalogue: &Catalogue, ring: &RingSlots) -> Option<Err
 }
 
 /// Why an allocation range can't be set.
-pub fn range_refusal(
-    catalogue: &Catalogue,
-    ring: &RingSlots,
-    off: u32,
-    len: u32,
-) -> Option<Errno>
+pub fn range_refusal(catalogue: &Catalogue, ring: &RingSlots, off: u32, len: u32) -> Option<Errno>
     requires { length ring.now.slots.at.items ≤ MOST_SLOTS }
     ensures { result ≡ range_refusal (ring_with_slots catalogue.now ring.now) off len }
 {

@@ -1,10 +1,15 @@
--- The status that the program ends with behind a verdict.
-use Rattle.std.specs.Prelude.{ℕ}
+-- The status that the program ends with behind a verdict, or a list of answers.
+use Rattle.std.specs.Prelude.{ℕ, if◌then◌else◌}
 use Rattle.fx_check.specs.declared.judgement.Judgement.{Judgement}
 use Rattle.fx_check.specs.declared.judgement.Judgement.TheVariants.{Legal, NotLegal, Undecided}
+use Rattle.fx_texts.specs.declared.request.RequestAnswers.{RequestAnswers}
 
 -- 0 where the script may print the text, 1 where it may not, 6 where neither was shown
 abbrev pub status : Judgement → ℕ
 status (Legal orders) = 0
 status (NotLegal broken) = 1
 status (Undecided submission doubt) = 6
+
+-- 0 where these are all answers of a request, 6 where there may be more
+abbrev pub may_status : RequestAnswers → ℕ
+may_status may = if may.are_all then 0 else 6

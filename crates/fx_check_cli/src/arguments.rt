@@ -21,6 +21,8 @@ of a submission has more states than it may look at or keep, or what was found i
 confirmed. The status is then 0, 1 or 6.
 With --history it prints for a legal text every event of the table, a line each: whose it is,
 what happens, and the files then at the slots. scripts/draw-history draws that.
+With --may it lists what the request at a place, as 1.1.2, may answer where memory is found,
+each answer with orders that give it.
 A script is what `fixfiles` plays, and a text what `fixfiles`, or a kernel, writes.
 
 An order is a line `order S: 1.1.1 1.2.1.0 1.1.2`: the requests of submission S, done one at a
@@ -28,13 +30,13 @@ time in this order, give the text. Each is named by its submission, its chain an
 from 1, and an update's by the entry of its list too, from 0.
 
 Exit status:
-  0  the text is legal, or help or the version was asked for
+  0  the text is legal, or all answers are listed, or help or the version was asked for
   1  it is not legal
   2  an argument is wrong
   3  the script has a fault, whose line and name are told
   4  the script or the text couldn't be read, or the verdict couldn't be written
   5  memory was refused
-  6  the text is undecided";
+  6  the text is undecided, or there may be more answers";
 
 /// How many states of a submission are looked at where no number is given.
 pub const STATES: u32 = 1_000_000;
@@ -54,9 +56,11 @@ pub struct Settings<'a> {
     pub memory: u32,
     /// Whether a whole history is wanted in place of the orders.
     pub history: bool,
+    /// Whether it is asked what a request may answer.
+    pub may: bool,
     /// Where the script is: a path, or `-` for standard input.
     pub script: &'a str,
-    /// Where the text is: a path, or `-` for standard input.
+    /// Where the text is: a path, or `-` for standard input. Where it is asked what a request may answer, the request's place.
     pub text: &'a str,
 }
 
@@ -99,6 +103,13 @@ fn history_argument<'a>(alloc: Global) -> Arg<'a> {
         .help("Prints instead of the orders a whole legal history that gives the text")
 }
 
+fn may_argument<'a>(alloc: Global) -> Arg<'a> {
+    Arg::new(alloc, "may")
+        .long("may")
+        .action(ArgAction::SetTrue)
+        .help("Lists what the request may answer whose place, as 1.1.2, stands in place of TEXT")
+}
+
 fn script_argument<'a>(alloc: Global) -> Arg<'a> {
     Arg::new(alloc, "script")
         .value_name("SCRIPT")
@@ -110,7 +121,7 @@ fn text_argument<'a>(alloc: Global) -> Arg<'a> {
     Arg::new(alloc, "text")
         .value_name("TEXT")
         .required(true)
-        .help("The text, or - for standard input")
+        .help("The text, or - for standard input; with --may the place of a request")
 }
 
 fn command<'a>(alloc: Global) -> Result<Command<'a>, AllocError> {
@@ -121,6 +132,7 @@ fn command<'a>(alloc: Global) -> Result<Command<'a>, AllocError> {
         .arg(states_argument(alloc))?
         .arg(memory_argument(alloc))?
         .arg(history_argument(alloc))?
+        .arg(may_argument(alloc))?
         .arg(script_argument(alloc))?
         .arg(text_argument(alloc))
 }
@@ -151,6 +163,7 @@ pub fn settings_in<'a, S: AsStr>(alloc: Global, words: &'a [S]) -> Result<Settin
         states: states_of(&matches),
         memory: memory_of(&matches),
         history: matches.get_flag("history"),
+        may: matches.get_flag("may"),
         script,
         text,
     })

@@ -14,6 +14,10 @@ pub enum Ending {
     NoText,
     /// Both the script and the text would be standard input.
     TwoInputs,
+    /// A word is no place of a request.
+    NoPlace(String),
+    /// No accepted submission of the script has a request at the place.
+    NoRequest(String),
     /// A script or a text could not be read: which one, and why.
     Unread(String, io::Error),
     /// The script is none: which one, its first fault, and whether that line has a carriage return.
@@ -51,6 +55,8 @@ impl Ending {
             Ending::Arguments(error) => { if error.use_stderr() { 2 } else { 0 } }
             Ending::NoText => 2,
             Ending::TwoInputs => 2,
+            Ending::NoPlace(_) => 2,
+            Ending::NoRequest(_) => 2,
             Ending::NoScript(..) => 3,
             Ending::Unread(..) => 4,
             Ending::Fault(PlayFault::Script { .. }) => 3,
@@ -69,6 +75,12 @@ impl Ending {
             Ending::NoText => eprintln!(rt; "fixcheck: an argument is no text"),
             Ending::TwoInputs => {
                 eprintln!(rt; "fixcheck: the script and the text can't both be standard input")
+            }
+            Ending::NoPlace(word) => {
+                eprintln!(rt; "fixcheck: {word} is no place of a request, as 1.1.2 is")
+            }
+            Ending::NoRequest(word) => {
+                eprintln!(rt; "fixcheck: no accepted submission of the script has a request {word}")
             }
             Ending::Unread(name, error) => eprintln!(rt; "fixcheck: {name} can't be read: {error}"),
             Ending::NoScript(name, fault, false) => eprintln!(rt; "fixcheck: {name}: {fault}"),

@@ -5,19 +5,22 @@ mod arguments;
 mod ending;
 mod history;
 mod input;
+mod listing;
 mod state;
 mod submission;
 mod telling;
 mod unexpected;
 mod verdict;
 
-use arguments::{settings_in, words};
+use arguments::{Settings, settings_in, words};
 use ending::Ending;
 use fx_check::{Judgement, Order, judge};
 use fx_judge::Limits;
 use fx_script::{PlayFault, Script};
+use fx_texts::may;
 use history::History;
 use input::{read_path, script_of};
+use listing::{listing, place_of, status_of_answers};
 use std::io::{self, Write};
 use std::process::ExitCode;
 use verdict::{status_of, verdict_text};
@@ -57,6 +60,21 @@ fn print_history(
     write(rt, history.lines())
 }
 
+// Prints what the request that the arguments name may answer. It gives the status.
+fn list_answers(rt: &HostRuntime, settings: Settings<'_>, script: &Script) -> Result<u8, Ending> {
+    let alloc = rt.alloc();
+    let Some(place) = place_of(settings.text) else {
+        return Err(Ending::NoPlace(format!(in alloc; "{}", settings.text)?));
+    };
+    let answers = may(alloc, script, place, settings.states as usize)?;
+    if answers.answers.is_empty() && answers.are_all {
+        return Err(Ending::NoRequest(format!(in alloc; "{}", settings.text)?));
+    }
+    let told = listing(alloc, script, settings.states, &answers)?;
+    write(rt, told.as_str())?;
+    Ok(status_of_answers(&answers))
+}
+
 // Judges what the arguments name, and prints the verdict. It gives the status.
 fn check(rt: &HostRuntime) -> Result<u8, Ending> {
     let alloc = rt.alloc();
@@ -64,6 +82,9 @@ fn check(rt: &HostRuntime) -> Result<u8, Ending> {
     let settings = settings_in(alloc, words.as_slice())?;
     let source = read_path(rt, settings.script)?;
     let script = script_of(alloc, settings.script, &source)?;
+    if settings.may {
+        return list_answers(rt, settings, &script);
+    }
     let text = read_path(rt, settings.text)?;
     let limits = Limits {
         states: settings.states as usize,

@@ -1,7 +1,6 @@
 -- The rings that commands may come to where memory is found.
-use Rattle.std.specs.Prelude.{◌≡◌, ◌⊎◌, ℕ, ◌+◌, List, [], ◌∷◌, ◌++◌, map, Option, Some, None, Contains}
-use Rattle.std.specs.Prelude.{nat_le, if◌then◌else◌, Bool, true}
-use Rattle.std.specs.Bool.{MatchBool}
+use Rattle.std.specs.Prelude.{◌≡◌, ◌⊎◌, ℕ, ◌+◌, List, [], ◌∷◌, ◌++◌, map, Option, Some, None}
+use Rattle.std.specs.Prelude.{Contains, nat_le, if◌then◌else◌}
 use Rattle.fx_base.specs.Catalogue.{FileEntry}
 use Rattle.fx_base.specs.declared.errno.Errno.{Errno}
 use Rattle.fx_chain.specs.Completed.{Completed, completed_of}

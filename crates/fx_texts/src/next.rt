@@ -1,6 +1,6 @@
 //! The rings that one command may lead to.
-ghost use Rattle.std.specs.Prelude.{◌≡◌, ◌+◌, ◌<◌, ◌≤◌, IfNone, IfOk, IfSome, IsTrue, List, None, OnOk, false, length};
-ghost use Rattle.std.specs.Prelude.{Contains};
+ghost use Rattle.std.specs.Prelude.{◌≡◌, ◌+◌, ◌<◌, ◌≤◌, IfNone, IfOk, IfSome, IsTrue};
+ghost use Rattle.std.specs.Prelude.{Contains, List, None, OnOk, false, length};
 ghost use Rattle.fx_base.specs.Catalogue.{FileEntry};
 ghost use Rattle.fx_chain.specs.Accepted.{IsAccepted};
 ghost use Rattle.fx_chain.specs.Faults.{fault_of};
@@ -123,7 +123,8 @@ fn push_ends(
     requires faultless { fault_of (all_asked requests.now) ≡ None }
     requires few { from.now.ring.submissions < MOST_SUBMISSIONS }
     ensures grows { IfOk result (λ _. Grows
-        (MayLeadTo (state_of setting.now.catalogue.now from.now) (SubmitsAll (all_asked requests.now)))
+        (MayLeadTo (state_of setting.now.catalogue.now from.now)
+        (SubmitsAll (all_asked requests.now)))
         (states_of setting.now.catalogue.now rings.old.items)
         (states_of setting.now.catalogue.now rings.new.items)) }
     ensures all { IfOk result (λ all. IsTrue all → HasEachNext
