@@ -204,7 +204,7 @@ pub fn listing(
     } else {
         write!(
             told,
-            "at least these, where memory is found: more than {states} states\n"
+            "at least these, where memory is found: more than {states} states, or than a gibibyte holds\n"
         )?;
     }
     Ok(told)
