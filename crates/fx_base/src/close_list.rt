@@ -17,14 +17,16 @@ pub struct CloseList {
 }
 
 impl Model for CloseList {
-    ghost use Rattle.std.specs.Prelude.{◌+◌, ◌≤◌, vec_len, vec_capacity};
+    ghost use Rattle.std.specs.Prelude.{◌+◌, ◌<◌, ◌≤◌, vec_len, vec_capacity};
     ghost use Rattle.fx_base.specs.CloseListView.{CloseListView};
 
     ghost Value = { CloseListView };
 
     ghost view = { λ list. record { files = list.files.items; room = list.room } };
 
-    ghost invariant = { λ list. vec_len list.files + list.room ≤ vec_capacity list.files };
+    ghost invariant = { λ list.
+        (vec_len list.files + list.room ≤ vec_capacity list.files)
+        × (vec_len list.files + list.room < 4294967296) };
 }
 
 impl CloseList {
@@ -44,6 +46,13 @@ impl CloseList {
         ensures { result ≡ self.now.room }
     {
         self.room
+    }
+
+    /// The number of the files: the files that the list was made for, less those that still fit.
+    pub fn len(&self) -> u32
+        ensures { result ≡ length self.now.files }
+    {
+        self.files.len() as u32
     }
 
     /// The files, in the order in which they were closed, or in that of the last [`CloseList::sort`].
