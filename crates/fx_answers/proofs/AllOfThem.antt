@@ -1,12 +1,16 @@
 -- States that were looked through are all of a submission.
-use Rattle.fx_order.proofs.Words.{◌≡◌, ℕ, ◌+◌, ◌-◌, ◌<◌, List, [], length, map, refl, sym, ap, subst, ◌∙◌, arith, slice_index_or, All}
-use Rattle.fx_order.proofs.Words.{length-map, All-map, Chain, Asked, members_of, runs_of, first_member, ring_of_slots, table_of_slots, all_asked}
+use Rattle.fx_order.proofs.Words.{◌≡◌, ℕ, ◌+◌, ◌-◌, ◌<◌, List, [], length, ◌∷◌, map, refl, sym, ap, subst, ◌∙◌, arith, slice_index_or, All}
+use Rattle.fx_order.proofs.Words.{suc, Contains, IsTrue, Permits, Completed, length-map, Chain, Asked, members_of, runs_of, first_member, ring_of_slots, table_of_slots, all_asked}
 use Rattle.std.proofs.lemmas.List.Elements.{All-contains}
 use Rattle.fx_order.specs.declared.slots.Slots.{Slots}
 use Rattle.std.specs.List.{AllByRecursion}
-use Rattle.fx_outcomes.specs.Rests.{settled_at}
+use Rattle.fx_table.proofs.Members.{contains_map}
+use Rattle.fx_order.specs.declared.access.Access.{Access}
+use Rattle.fx_outcomes.specs.Rests.{IsNext, Rest, Rules, settled_at}
 use Rattle.fx_outcomes.specs.Nodes.{AreAllStates, AreAtStart, AreClosed, IsChainExplored, StateView}
-use Rattle.fx_answers.specs.Listed.{AreAllBy, AreAtStartBy, IsStateExploredBy, said_by, states_of}
+use Rattle.fx_answers.specs.Listed.{AreAllBy, AreAtStartBy, IsAtStartBy, IsStateExploredBy, said_by, states_of, told_by, told_states}
+use Rattle.fx_answers.specs.Reports.{AreAllTold, AreToldAtStart, AreToldClosed, LeadsOn, ToldState}
+use Rattle.fx_answers.specs.Tellings.{answers_of}
 use Rattle.fx_answers.specs.Stands.{rest_in}
 use Rattle.fx_answers.specs.Views.{not_begun, rules_in, runs_in, view_in}
 use Rattle.fx_answers.specs.declared.closed.Claimed.{Claimed}
@@ -17,51 +21,114 @@ use Rattle.fx_answers.proofs.Viewing.{at_start_all}
 pub as_many : (asked : List Asked) (chains : List Chain) → map (members_of asked) chains ≡ runs_of asked → length (runs_of asked) ≡ length chains
 as_many asked chains whole = ap length (sym whole) ∙ length-map chains (members_of asked)
 
+-- what is told aside
+plain : (claimed : Claimed) (s : State) → IsStateExploredBy claimed s → (i : ℕ) → i < length claimed.submission.now.chains.now
+    → IsChainExplored claimed.submission.now.setting.catalogue.now claimed.submission.now.setting.size (said_by claimed) (states_of claimed)
+    (view_in claimed.submission.now s) (i + 1)
+plain claimed s each i few a next may = (each i few a next may).is
+
 -- each state of the list is explored, so the list is closed
 closed_all : (claimed : Claimed) → length (runs_in claimed.submission.now) ≡ length claimed.submission.now.chains.now
     → All (IsStateExploredBy claimed) claimed.found.now.states.items
     → AreClosed claimed.submission.now.setting.catalogue.now claimed.submission.now.setting.size (said_by claimed) (length (runs_in claimed.submission.now)) (states_of claimed)
 closed_all claimed many each state there chain low high =
-    let explored = All-contains
-    (λ (v : StateView). (i : ℕ) → i < length claimed.submission.now.chains.now
-    → IsChainExplored claimed.submission.now.setting.catalogue.now claimed.submission.now.setting.size (said_by claimed) (states_of claimed) v (i + 1))
-    (states_of claimed) state
-    (All-map (λ (v : StateView). (i : ℕ) → i < length claimed.submission.now.chains.now
-    → IsChainExplored claimed.submission.now.setting.catalogue.now claimed.submission.now.setting.size (said_by claimed) (states_of claimed) v (i + 1))
-    (view_in claimed.submission.now) claimed.found.now.states.items each)
-    there in
+    let its = contains_map (view_in claimed.submission.now) claimed.found.now.states.items state there in
+    let explored = plain claimed its.0 (All-contains (IsStateExploredBy claimed) claimed.found.now.states.items its.0 each its.1) in
     let number : chain - 1 + 1 ≡ chain = omega (arith, low) in
-    subst (IsChainExplored claimed.submission.now.setting.catalogue.now claimed.submission.now.setting.size (said_by claimed) (states_of claimed) state) number
-    (explored (chain - 1) (omega (arith, low, high, many)))
+    subst (λ (v : StateView). IsChainExplored claimed.submission.now.setting.catalogue.now claimed.submission.now.setting.size (said_by claimed) (states_of claimed) v chain) (sym its.2)
+    (subst (IsChainExplored claimed.submission.now.setting.catalogue.now claimed.submission.now.setting.size (said_by claimed) (states_of claimed) (view_in claimed.submission.now its.0)) number
+    (explored (chain - 1) (omega (arith, low, high, many))))
+
+-- an access that a chain may make next leads on, and so does what is told
+abbrev GoesOn : Claimed → ToldState → ℕ → Access → Type 0
+GoesOn claimed here chain a =
+    IsNext claimed.submission.now.setting.catalogue.now claimed.submission.now.setting.size (here.state.rests chain) a → Permits here.state.table a
+    → (next : ToldState) × Contains (told_states claimed) next × LeadsOn (rules_in claimed.submission.now) here chain a next
+
+told_closed : (claimed : Claimed) → IsTrue claimed.submission.now.tells → length (runs_in claimed.submission.now) ≡ length claimed.submission.now.chains.now
+    → All (IsStateExploredBy claimed) claimed.found.now.states.items
+    → AreToldClosed claimed.submission.now.setting.catalogue.now claimed.submission.now.setting.size (length (runs_in claimed.submission.now)) (told_states claimed)
+told_closed claimed tells many each here there chain low high a =
+    let its = contains_map (told_by claimed) claimed.found.now.states.items here there in
+    let explored = All-contains (IsStateExploredBy claimed) claimed.found.now.states.items its.0 each its.1 in
+    let number : chain - 1 + 1 ≡ chain = omega (arith, low) in
+    let few : chain - 1 < length claimed.submission.now.chains.now = omega (arith, low, high, many) in
+    let goes : GoesOn claimed (told_by claimed its.0) (chain - 1 + 1) a = λ next may. (explored (chain - 1) few a next may).told tells in
+    subst (λ (h : ToldState). GoesOn claimed h chain a) (sym its.2) (subst (λ (n : ℕ). GoesOn claimed (told_by claimed its.0) n a) number goes)
+
+-- each chain from one on was told what it answers before its first access
+told_at_start_all : (rules : Rules) (submission chain : ℕ) (runs : List (List Asked)) (here : ToldState)
+    → ((k : ℕ) → k < length runs
+    → (here.told (chain + k) ≡ (settled_at rules (first_member submission (chain + k)) (slice_index_or runs k [])).0)
+    × (here.state.rests (chain + k) ≡ (settled_at rules (first_member submission (chain + k)) (slice_index_or runs k [])).1))
+    → AreToldAtStart rules submission chain runs here
+told_at_start_all rules submission chain [] here each = tt
+told_at_start_all rules submission chain (run ∷ runs) here each =
+    let none : chain + 0 ≡ chain = omega arith in
+    let first = subst (λ (n : ℕ). (here.told n ≡ (settled_at rules (first_member submission n) run).0)
+    × (here.state.rests n ≡ (settled_at rules (first_member submission n) run).1)) none (each 0 (omega arith)) in (
+      first.0,
+      first.1,
+      told_at_start_all rules submission (chain + 1) runs here (λ k few.
+          let on : chain + suc k ≡ chain + 1 + k = omega arith in
+          subst (λ (n : ℕ). (here.told n ≡ (settled_at rules (first_member submission n) (slice_index_or runs k [])).0)
+          × (here.state.rests n ≡ (settled_at rules (first_member submission n) (slice_index_or runs k [])).1)) on (each (suc k) (omega (arith, few)))),
+    )
+
+-- what a chain answers in front of its first access, by its number from 1 and that of its run
+abbrev settled_in_by : Claimed → ℕ → ℕ → List Completed × Rest
+settled_in_by claimed chain k = settled_at (rules_in claimed.submission.now) (first_member claimed.submission.now.number chain) (slice_index_or (runs_in claimed.submission.now) k [])
+
+-- where a chain of the first state is, by its number from 1
+chains_begin : (claimed : Claimed) (first : State) (k : ℕ) → IsAtStartBy claimed first k
+    → AllByRecursion (said_by claimed) (settled_in_by claimed (1 + k) k).0
+    × ((view_in claimed.submission.now first).rests (1 + k) ≡ (settled_in_by claimed (1 + k) k).1)
+    × (IsTrue claimed.submission.now.tells → (told_by claimed first).told (1 + k) ≡ (settled_in_by claimed (1 + k) k).0)
+chains_begin claimed first k at =
+    let sub = claimed.submission.now in
+    let order : k + 1 ≡ 1 + k = omega arith in
+    let back : 1 + k - 1 ≡ k = omega arith in
+    subst (λ (n : ℕ). AllByRecursion (said_by claimed) (settled_in_by claimed n k).0
+    × ((view_in sub first).rests (1 + k) ≡ (settled_in_by claimed n k).1)
+    × (IsTrue sub.tells → (told_by claimed first).told (1 + k) ≡ (settled_in_by claimed n k).0)) order (
+      at.said,
+      (λ j. rest_in (first_member sub.number (sym order j)) (slice_index_or (runs_in sub) (back j) []) (slice_index_or first.chains.items (back j) not_begun)) ∙ at.rest,
+      λ tells. ap (λ (n : ℕ). slice_index_or (answers_of first.telling.answers.items) n []) back ∙ at.told tells,
+    )
 
 pub all_by : (claimed : Claimed) (slots : Slots) (first : State) → length (runs_in claimed.submission.now) ≡ length claimed.submission.now.chains.now
     → 0 < length claimed.found.now.states.items → first ≡ slice_index_or claimed.found.now.states.items 0 first
     → table_of_slots first.slots ≡ table_of_slots slots → claimed.submission.now.setting.size ≡ length slots.at.items
+    → (IsTrue claimed.submission.now.tells → first.telling.removed.items ≡ [])
     → AreAtStartBy claimed first → All (IsStateExploredBy claimed) claimed.found.now.states.items
     → AreAllBy claimed slots
-all_by claimed slots first many some is table size start each = record {
-  are = λ submissions registrations number.
-      let sub = claimed.submission.now in
-      let chains : (k : ℕ) → k < length (runs_in sub)
-      → AllByRecursion (said_by claimed) (settled_at (rules_in sub) (first_member sub.number (1 + k)) (slice_index_or (runs_in sub) k [])).0
-      × ((view_in sub first).rests (1 + k) ≡ (settled_at (rules_in sub) (first_member sub.number (1 + k)) (slice_index_or (runs_in sub) k [])).1) =
-      λ k few.
-      let at = start k (omega (arith, few, many)) in
-      let order : k + 1 ≡ 1 + k = omega arith in
-      let back : 1 + k - 1 ≡ k = omega arith in
-      subst (λ (n : ℕ). AllByRecursion (said_by claimed) (settled_at (rules_in sub) (first_member sub.number n) (slice_index_or (runs_in sub) k [])).0
-      × ((view_in sub first).rests (1 + k) ≡ (settled_at (rules_in sub) (first_member sub.number n) (slice_index_or (runs_in sub) k [])).1)) order (
-        at.0,
-        (λ j. rest_in (first_member sub.number (sym order j)) (slice_index_or (runs_in sub) (back j) []) (slice_index_or first.chains.items (back j) not_begun)) ∙ at.1,
-      ) in
-      subst (λ (n : ℕ). AreAllStates (said_by claimed) (record (ring_of_slots sub.setting.catalogue.now slots submissions registrations) { size = n }) (all_asked sub.requests.now) (states_of claimed)) size
-      (record {
-        first = view_in sub first;
-        begins = record {
-          table = table ∙ (λ j. record (table_of_slots slots) { size = sym size j });
-          chains = subst (λ (n : ℕ). AreAtStart (rules_in sub) (said_by claimed) n 1 (runs_in sub) (view_in sub first)) number (at_start_all (rules_in sub) (said_by claimed) sub.number 1 (runs_in sub) (view_in sub first) chains);
-        };
-        inside = inside_at (view_in sub) claimed.found.now.states.items 0 first (view_in sub first) some is refl;
-        closed = closed_all claimed many each;
-      });
-}
+all_by claimed slots first many some is table size none start each =
+    let sub = claimed.submission.now in
+    let begin = λ (k : ℕ) (few : k < length (runs_in sub)). chains_begin claimed first k (start k (omega (arith, few, many))) in
+    record {
+      are = λ submissions registrations number.
+          subst (λ (n : ℕ). AreAllStates (said_by claimed) (record (ring_of_slots sub.setting.catalogue.now slots submissions registrations) { size = n }) (all_asked sub.requests.now) (states_of claimed)) size
+          (record {
+            first = view_in sub first;
+            begins = record {
+              table = table ∙ (λ j. record (table_of_slots slots) { size = sym size j });
+              chains = subst (λ (n : ℕ). AreAtStart (rules_in sub) (said_by claimed) n 1 (runs_in sub) (view_in sub first)) number
+                  (at_start_all (rules_in sub) (said_by claimed) sub.number 1 (runs_in sub) (view_in sub first) (λ k few. ((begin k few).0, (begin k few).1)));
+            };
+            inside = inside_at (view_in sub) claimed.found.now.states.items 0 first (view_in sub first) some is refl;
+            closed = closed_all claimed many each;
+          });
+      told = λ tells submissions registrations number.
+          subst (λ (n : ℕ). AreAllTold (record (ring_of_slots sub.setting.catalogue.now slots submissions registrations) { size = n }) (all_asked sub.requests.now) (told_states claimed)) size
+          (record {
+            first = told_by claimed first;
+            begins = record {
+              table = table ∙ (λ j. record (table_of_slots slots) { size = sym size j });
+              removed = none tells;
+              chains = subst (λ (n : ℕ). AreToldAtStart (rules_in sub) n 1 (runs_in sub) (told_by claimed first)) number
+                  (told_at_start_all (rules_in sub) sub.number 1 (runs_in sub) (told_by claimed first) (λ k few. ((begin k few).2 tells, (begin k few).1)));
+            };
+            inside = inside_at (told_by claimed) claimed.found.now.states.items 0 first (told_by claimed first) some is refl;
+            closed = told_closed claimed tells many each;
+          });
+    }

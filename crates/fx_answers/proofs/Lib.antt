@@ -1,8 +1,10 @@
 pub mod Lists
 pub mod Settling
 pub mod Choosing
+pub mod SameAnswers
 pub mod Viewing
 pub mod AllOfThem
 pub mod Promised
-pub mod Telling
+pub mod ToldStates
 pub mod Reporting
+pub mod EachReport

@@ -3,6 +3,7 @@ use Rattle.fx_order.proofs.Words.{◌≡◌, ℕ, ◌<◌, List, [], ◌∷◌, 
 use Rattle.fx_order.proofs.Words.{Contains, contains_none, contains_cases, get_or-map, length-map, inl, inr, subst, by_equality, ◌+◌}
 use Rattle.std.proofs.lemmas.Option.{get_or_from_slice_get, slice_get-get_or}
 use Rattle.std.specs.List.{AllByRecursion}
+use Rattle.std.specs.Prelude.{IfOk, Result, Ok, Err}
 
 pub by_recursion : {X Y : Type 0} (P : Y → Type 0) (f : X → Y) (xs : List X) → All (λ x. P (f x)) xs → AllByRecursion P (map f xs)
 by_recursion P f [] all = tt
@@ -35,3 +36,14 @@ pub one_more_of : {X : Type 0} (P : X → Type 0) (xs : List X) (n : ℕ) (x : X
 one_more_of P xs n x all within is last k d few = by_equality k n (λ _. P (slice_index_or xs k d))
     (λ same. subst P (is ∙ (sym (get_or_from_slice_get xs n (slice_index_or xs n x) d (slice_get-get_or xs n x within)) ∙ ap (λ (j : ℕ). slice_index_or xs j d) (sym same))) last)
     (λ other. all k d (omega (arith, few, other)))
+
+-- two things that hold of what was found, where it was
+pub ok_two : {X E : Type 0} (r : Result X E) (P Q R : X → Type 0) → ((x : X) → P x → Q x → R x) → IfOk r P → IfOk r Q → IfOk r R
+ok_two (Ok x) P Q R f p q = f x p q
+ok_two (Err e) P Q R f p q = tt
+
+pub one_more_at : {X : Type 0} (P : X → Type 0) (xs : List X) (n : ℕ) (e : X) → ((k : ℕ) (d : X) → k < n → P (slice_index_or xs k d)) → n < length xs
+    → P (slice_index_or xs n e) → (k : ℕ) (d : X) → k < n + 1 → P (slice_index_or xs k d)
+one_more_at P xs n e all within last =
+    one_more_of P xs n (slice_index_or xs n e) all within
+    (sym (get_or_from_slice_get xs n (slice_index_or xs n e) (slice_index_or xs n e) (slice_get-get_or xs n e within))) last

@@ -45,7 +45,7 @@ each_answer old asked place answers states all ring left c same may there =
     each_of (says (Some place) answers) may.report.completions c (shown (says (Some place) answers) old asked states all ring left may.report same may.may).0
     may.inside (ap Some (sym there))
 
-ring_same : (old : RingState) (slots : Slots) (order : List ChainAccess) (state : StateView) → ring_behind old slots ≡ ring_left order old
+pub ring_same : (old : RingState) (slots : Slots) (order : List ChainAccess) (state : StateView) → ring_behind old slots ≡ ring_left order old
     → state.table ≡ table_of_slots slots → ring_at old state ≡ ring_behind old slots
 ring_same old slots order state leaves is =
     let size : (ring_behind old slots).size ≡ old.size = ap (λ (r : RingState). r.size) leaves in

@@ -9,7 +9,7 @@ use Rattle.fx_outcomes.proofs.Requests.{are_right}
 use Rattle.fx_outcomes.proofs.Chain.{settles}
 use Rattle.fx_answers.specs.Reports.{AreToldAtStart, EachReportIsListed, ToldState, told_from}
 use Rattle.fx_answers.proofs.Lists.{each_by_recursion}
-use Rattle.fx_answers.proofs.Telling.{Comes, OfChain, runs_on}
+use Rattle.fx_answers.proofs.ToldStates.{Comes, OfChain, runs_on}
 
 both_parts : {X : Type 0} (P : X → Type 0) (xs ys : List X) → AllByRecursion P (xs ++ ys) → AllByRecursion P xs × AllByRecursion P ys
 both_parts P [] ys all = (tt, all)

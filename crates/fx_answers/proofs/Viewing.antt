@@ -1,6 +1,6 @@
 -- What the states of the program say, chain by chain.
 use Rattle.fx_order.proofs.Words.{◌≡◌, ℕ, suc, ◌+◌, ◌-◌, ◌<◌, List, [], ◌∷◌, ◌++◌, length, map, sym, ap, subst, ◌∙◌, arith, slice_index_or, All, length-map}
-use Rattle.fx_order.proofs.Words.{Contains, Completed, Asked, Place, table_of_slots, first_member}
+use Rattle.fx_order.proofs.Words.{Contains, IsTrue, Vec, Completed, Asked, Place, table_of_slots, first_member}
 use Rattle.fx_order.specs.declared.access.Access.{Access}
 use Rattle.std.specs.Prelude.{Some, slice_get}
 use Rattle.std.proofs.lemmas.Option.{get_or_from_slice_get, slice_get_within}
@@ -9,8 +9,12 @@ use Rattle.std.specs.List.{AllByRecursion}
 use Rattle.fx_outcomes.specs.Rests.{Rest, Rules, settled_at}
 use Rattle.fx_outcomes.specs.Nodes.{AreAtStart, IsOver, StateView}
 use Rattle.fx_answers.specs.Stands.{Settles, moved, rest_for, rest_in}
-use Rattle.fx_answers.specs.Views.{IsStepTo, not_begun, run_at, view_in, view_of}
-use Rattle.fx_answers.specs.Listed.{IsExploredBy, said_by, states_of}
+use Rattle.fx_answers.specs.Reports.{LeadsOn}
+use Rattle.fx_answers.specs.Tellings.{IsToldOn, answers_of}
+use Rattle.fx_answers.specs.Views.{IsStepTo, not_begun, rules_in, run_at, runs_in, told_of, view_in, view_of}
+use Rattle.fx_answers.specs.Listed.{IsExploredBy, said_by, states_of, told_by, told_states}
+use Rattle.fx_answers.specs.declared.submission.Submission.{Submission}
+use Rattle.std.proofs.lemmas.List.{get_or-set_other, get_or-set_same}
 use Rattle.fx_answers.specs.declared.closed.Claimed.{Claimed}
 use Rattle.fx_answers.specs.declared.chain.Progress.{Progress}
 use Rattle.fx_answers.specs.declared.state.State.{State}
@@ -34,6 +38,16 @@ pub same_view : (submission : ℕ) (runs : List (List Asked)) (one other : State
 same_view submission runs one other table chains = λ i. record {
   table = table i;
   rests = λ chain. rest_in (first_member submission chain) (run_at runs chain) (slice_index_or (chains i) (chain - 1) not_begun);
+}
+
+-- so is what was told on the way
+pub same_telling : (submission : ℕ) (runs : List (List Asked)) (one other : State) → table_of_slots one.slots ≡ table_of_slots other.slots
+    → one.chains.items ≡ other.chains.items → answers_of one.telling.answers.items ≡ answers_of other.telling.answers.items
+    → one.telling.removed.items ≡ other.telling.removed.items → told_of submission runs one ≡ told_of submission runs other
+same_telling submission runs one other table chains answers removed = λ i. record {
+  state = same_view submission runs one other table chains i;
+  told = λ chain. slice_index_or (answers i) (chain - 1) [];
+  removed = removed i;
 }
 
 -- each chain from one on, one after another
@@ -64,6 +78,15 @@ among submission runs states there state k is table chains =
     inside_at (view_of submission runs) states k there (view_of submission runs state) within
     (sym (get_or_from_slice_get states k there there is)) (same_view submission runs there state table chains)
 
+pub among_told : (submission : ℕ) (runs : List (List Asked)) (states : List State) (there state : State) (k : ℕ) → slice_get states k ≡ Some there
+    → table_of_slots there.slots ≡ table_of_slots state.slots → there.chains.items ≡ state.chains.items
+    → answers_of there.telling.answers.items ≡ answers_of state.telling.answers.items → there.telling.removed.items ≡ state.telling.removed.items
+    → Contains (map (told_of submission runs) states) (told_of submission runs state)
+among_told submission runs states there state k is table chains answers removed =
+    let within = slice_get_within states k there is in
+    inside_at (told_of submission runs) states k there (told_of submission runs state) within
+    (sym (get_or_from_slice_get states k there there is)) (same_telling submission runs there state table chains answers removed)
+
 -- a chain that has members left isn't over
 pub not_over : (submission : ℕ) (runs : List (List Asked)) (state : State) (i : ℕ) (own : List Request) (progress : Progress)
     → all_asked own ≡ slice_index_or runs i [] → slice_index_or state.chains.items i not_begun ≡ progress
@@ -87,15 +110,41 @@ at_start_by rules P place run before after done progress settles none all at mad
       (λ i. rest_for (moved place (at i)) (drop (at i) run) (made i)) ∙ sym settles.rest,
     )
 
+-- what a chain answers comes behind what it was told, and what the others were told stays
+leads_on : (submission : Submission) (state : State) (i : ℕ) (a : Access) (own : List Completed) (next : State)
+    → IsStepTo submission state i a own next → IsToldOn state.telling i a own next.telling
+    → LeadsOn (rules_in submission) (told_of submission.number (runs_in submission) state) (i + 1) a (told_of submission.number (runs_in submission) next)
+leads_on submission state i a own next to on =
+    let before : List (List Completed) = answers_of state.telling.answers.items in
+    let after : List (List Completed) = answers_of next.telling.answers.items in
+    let many = length-map state.telling.answers.items (λ (v : Vec Completion). all_completed v.items) in
+    let there : i < length state.telling.answers.items = on.there in
+    let own_is : slice_index_or after i [] ≡ slice_index_or before i [] ++ own =
+    ap (λ (l : List (List Completed)). slice_index_or l i []) on.answers ∙ get_or-set_same before i (slice_index_or before i [] ++ own) [] (omega (arith, many, there)) in
+    record {
+      leads = to.leads;
+      own = ap (λ (n : ℕ). slice_index_or after n []) (less_one i)
+          ∙ (own_is ∙ ((λ j. slice_index_or before (sym (less_one i) j) [] ++ to.told j)));
+      others = λ other low apart.
+          ap (λ (l : List (List Completed)). slice_index_or l (other - 1) []) on.answers
+          ∙ get_or-set_other before i (other - 1) (slice_index_or before i [] ++ own) [] (λ same. apart (omega (arith, same, low)));
+      removed = on.removed;
+    }
+
 -- an access is explored that leads to a state of the list, with answers that are said
 pub explored : (claimed : Claimed) (state : State) (i : ℕ) (a : Access) (told : List Completion) (next : State)
     → IsStepTo claimed.submission.now state i a (all_completed told) next
     → All (λ c. said_by claimed (completed_of c)) told
     → Contains (states_of claimed) (view_in claimed.submission.now next)
+    → (IsTrue claimed.submission.now.tells → IsToldOn state.telling i a (all_completed told) next.telling)
+    → Contains (told_states claimed) (told_by claimed next)
     → IsExploredBy claimed state i a
-explored claimed state i a told next to said inside = record {
-  said = subst (AllByRecursion (said_by claimed)) to.told (by_recursion (said_by claimed) completed_of told said);
-  next = view_in claimed.submission.now next;
-  inside = inside;
-  leads = to.leads;
+explored claimed state i a told next to said inside on among = record {
+  is = record {
+    said = subst (AllByRecursion (said_by claimed)) to.told (by_recursion (said_by claimed) completed_of told said);
+    next = view_in claimed.submission.now next;
+    inside = inside;
+    leads = to.leads;
+  };
+  told = λ tells. (told_by claimed next, among, leads_on claimed.submission.now state i a (all_completed told) next to (on tells));
 }

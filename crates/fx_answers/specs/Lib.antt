@@ -1,4 +1,5 @@
 pub mod Stands
+pub mod Tellings
 pub mod Views
 pub mod Outcomes
 pub mod Listed

@@ -1,6 +1,6 @@
 -- What is looked through of the states that a search met.
 use Rattle.std.specs.Prelude.{◌≡◌, ℕ, ◌+◌, ◌<◌, List, [], length, map, slice_index_or}
-use Rattle.std.specs.Prelude.{All, Contains, Option, Some}
+use Rattle.std.specs.Prelude.{All, Contains, IsTrue, Option, Some}
 use Rattle.std.specs.List.{AllByRecursion}
 use Rattle.fx_chain.specs.Completed.{Completed, all_completed}
 use Rattle.fx_chain.specs.Explains.{first_member}
@@ -10,19 +10,23 @@ use Rattle.fx_order.specs.Access.{Table}
 use Rattle.fx_order.specs.Slots.{ring_of_slots, table_of_slots}
 use Rattle.fx_order.specs.declared.access.Access.{Access}
 use Rattle.fx_order.specs.declared.slots.Slots.{Slots}
-use Rattle.fx_outcomes.specs.Rests.{settled_at}
-use Rattle.fx_outcomes.specs.Nodes.{AreAllStates, IsChainExplored, IsExplored, IsOver, StateView}
+use Rattle.fx_order.specs.Access.{Permits}
+use Rattle.fx_outcomes.specs.Rests.{IsNext, Rest, settled_at}
+use Rattle.fx_outcomes.specs.Nodes.{AreAllStates, IsExplored, IsOver, StateView}
+use Rattle.fx_answers.specs.Reports.{AreAllTold, LeadsOn, ToldState}
 use Rattle.fx_answers.specs.Stands.{rest_in}
-use Rattle.fx_answers.specs.Views.{not_begun, rules_in, runs_in, view_in, views_in}
+use Rattle.fx_answers.specs.Tellings.{all_told, answers_of}
+use Rattle.fx_answers.specs.Views.{not_begun, rules_in, runs_in, told_of, view_in, views_in}
 use Rattle.fx_ring.specs.Ring.{RingContents, RingState, ring_of}
 use Rattle.fx_ring.specs.Submission.{Reported}
 use Rattle.fx_order.specs.declared.access.ChainAccess.{ChainAccess}
-use Rattle.fx_answers.specs.Outcomes.{IsAnswer, IsEnd, IsReportBy, MayReport, answered}
+use Rattle.fx_answers.specs.Outcomes.{IsAnswer, IsEnd, IsPossible, IsReportBy, MayReport, answered}
 use Rattle.fx_answers.specs.Outcomes.{ring_behind}
 use Rattle.fx_answers.specs.declared.closed.Claimed.{Claimed}
 use Rattle.fx_answers.specs.declared.end.End.{End}
 use Rattle.fx_answers.specs.declared.outcome.Answer.{Answer}
 use Rattle.fx_answers.specs.declared.player.Play.{Play}
+use Rattle.fx_answers.specs.declared.report.PossibleReport.{PossibleReport}
 use Rattle.fx_answers.specs.declared.state.State.{State}
 use Rattle.fx_answers.specs.declared.submission.Submission.{Submission}
 
@@ -36,15 +40,34 @@ said_by claimed = says claimed.place claimed.answers.now
 abbrev pub states_of : Claimed → List StateView
 states_of claimed = views_in claimed.submission.now claimed.found.now.states.items
 
-abbrev pub IsExploredBy : Claimed → State → ℕ → Access → Type 0
-IsExploredBy claimed state i a =
-    IsExplored (rules_in claimed.submission.now) (said_by claimed) (states_of claimed)
-    (view_in claimed.submission.now state) (i + 1) a
+abbrev pub told_by : Claimed → State → ToldState
+told_by claimed state =
+    told_of claimed.submission.now.number (runs_in claimed.submission.now) state
+
+abbrev pub told_states : Claimed → List ToldState
+told_states claimed = map (told_by claimed) claimed.found.now.states.items
+
+-- an access leads to one of the states, and so does what is told on the way
+abbrev pub IsToldBy : Claimed → State → ℕ → Access → Type 0
+IsToldBy claimed state i a =
+    (next : ToldState) × Contains (told_states claimed) next
+    × LeadsOn (rules_in claimed.submission.now) (told_by claimed state) (i + 1) a next
+
+-- an access is explored, and so is what is told on the way, where the submission keeps it
+pub record IsExploredBy (claimed : Claimed) (state : State) (i : ℕ) (a : Access) : Type 0 where
+  pub is : IsExplored (rules_in claimed.submission.now) (said_by claimed) (states_of claimed)
+      (view_in claimed.submission.now state) (i + 1) a
+  pub told : IsTrue claimed.submission.now.tells → IsToldBy claimed state i a
+
+abbrev pub IsNextIn : Claimed → State → ℕ → Access → Type 0
+IsNextIn claimed state i a =
+    IsNext claimed.submission.now.setting.catalogue.now claimed.submission.now.setting.size
+    ((view_in claimed.submission.now state).rests (i + 1)) a
 
 abbrev pub IsChainExploredBy : Claimed → State → ℕ → Type 0
 IsChainExploredBy claimed state i =
-    IsChainExplored claimed.submission.now.setting.catalogue.now claimed.submission.now.setting.size
-    (said_by claimed) (states_of claimed) (view_in claimed.submission.now state) (i + 1)
+    (a : Access) → IsNextIn claimed state i a → Permits (table_of_slots state.slots) a
+    → IsExploredBy claimed state i a
 
 -- each access that a chain may make next in the state is explored
 abbrev pub IsStateExploredBy : Claimed → State → Type 0
@@ -57,14 +80,19 @@ run_in claimed i = slice_index_or (runs_in claimed.submission.now) i []
 abbrev pub first_in : Claimed → ℕ → Place
 first_in claimed i = first_member claimed.submission.now.number (i + 1)
 
--- a chain is at its first access, and what is answered before is said
-abbrev pub IsAtStartBy : Claimed → State → ℕ → Type 0
-IsAtStartBy claimed state i =
-    AllByRecursion (said_by claimed)
-    (settled_at (rules_in claimed.submission.now) (first_in claimed i) (run_in claimed i)).0
-    × (rest_in (first_in claimed i) (run_in claimed i)
-    (slice_index_or state.chains.items i not_begun)
-    ≡ (settled_at (rules_in claimed.submission.now) (first_in claimed i) (run_in claimed i)).1)
+-- what is answered in front of a chain's first access, and where the chain is then
+abbrev pub settled_in : Claimed → ℕ → List Completed × Rest
+settled_in claimed i =
+    settled_at (rules_in claimed.submission.now) (first_in claimed i) (run_in claimed i)
+
+-- a chain is at its first access, and what is answered before is said, and told where the
+-- submission keeps it
+pub record IsAtStartBy (claimed : Claimed) (state : State) (i : ℕ) : Type 0 where
+  pub said : AllByRecursion (said_by claimed) (settled_in claimed i).0
+  pub rest : rest_in (first_in claimed i) (run_in claimed i)
+      (slice_index_or state.chains.items i not_begun) ≡ (settled_in claimed i).1
+  pub told : IsTrue claimed.submission.now.tells
+      → slice_index_or (answers_of state.telling.answers.items) i [] ≡ (settled_in claimed i).0
 
 abbrev pub AreAtStartBy : Claimed → State → Type 0
 AreAtStartBy claimed state =
@@ -76,6 +104,10 @@ pub record AreAllBy (claimed : Claimed) (slots : Slots) : Type 0 where
       → AreAllStates (said_by claimed)
       (ring_of_slots claimed.submission.now.setting.catalogue.now slots submissions registrations)
       (all_asked claimed.submission.now.requests.now) (states_of claimed)
+  pub told : IsTrue claimed.submission.now.tells → (submissions registrations : ℕ)
+      → claimed.submission.now.number ≡ submissions + 1 → AreAllTold
+      (ring_of_slots claimed.submission.now.setting.catalogue.now slots submissions registrations)
+      (all_asked claimed.submission.now.requests.now) (told_states claimed)
 
 -- of a submission at these slots, whatever was registered before
 abbrev pub OfEach : Submission → Slots → (RingState → List Asked → Type 0) → Type 0
@@ -123,3 +155,30 @@ IsEndListed submission ends state =
 pub record AreAllEndsBy (claimed : Claimed) (slots : Slots) (ends : List End) : Type 0 where
   pub all : AreAllBy claimed slots
   pub listed : All (IsEndListed claimed.submission.now ends) claimed.found.now.states.items
+
+-- a report that comes of the submission at these slots
+abbrev pub IsPossibleIn : Submission → Slots → PossibleReport → Type 0
+IsPossibleIn submission slots possible = OfEach submission slots (λ old requests.
+    IsPossible old requests possible)
+
+-- a report tells of what was told on the way to a state, and leaves its table
+pub record IsToldOf (submission : Submission) (state : State) (possible : PossibleReport)
+    : Type 0 where
+  pub submission_is : possible.report.submission ≡ submission.number
+  pub completions : all_completed possible.report.completions.items
+      ≡ all_told (answers_of state.telling.answers.items)
+  pub chains : length state.telling.answers.items ≡ length submission.chains.now
+  pub closes : possible.report.closes.files ≡ state.telling.removed.items
+  pub table : table_of_slots possible.slots ≡ table_of_slots state.slots
+
+-- where no chain of the state has an access left, one of the reports tells of it
+abbrev pub IsToldAt : Submission → List PossibleReport → State → Type 0
+IsToldAt submission reports state =
+    IsOver (length (runs_in submission)) (view_in submission state)
+    → (possible : PossibleReport) × Contains reports possible × IsToldOf submission state possible
+
+-- the states are all of the submission at these slots, and the reports are those of them
+pub record AreAllReportsBy (claimed : Claimed) (slots : Slots) (reports : List PossibleReport)
+    : Type 0 where
+  pub all : AreAllBy claimed slots
+  pub told : All (IsToldAt claimed.submission.now reports) claimed.found.now.states.items

@@ -1,6 +1,6 @@
 -- What may come of a submission where each request finds memory.
-use Rattle.std.specs.Prelude.{◌≡◌, ◌+◌, List, All, Contains, map}
-use Rattle.fx_chain.specs.Completed.{Completed, completed_of}
+use Rattle.std.specs.Prelude.{◌≡◌, ◌+◌, ◌<◌, List, All, Contains, length, map, IsPermutation}
+use Rattle.fx_chain.specs.Completed.{Completed, all_completed, completed_of}
 use Rattle.fx_chain.specs.Operation.{Asked}
 use Rattle.fx_chain.specs.declared.completion.Place.{Place}
 use Rattle.fx_order.specs.Order.{IsOrderOf, ring_left}
@@ -8,10 +8,11 @@ use Rattle.fx_order.specs.Slots.{ring_of_slots}
 use Rattle.fx_order.specs.declared.access.ChainAccess.{ChainAccess}
 use Rattle.fx_order.specs.declared.slots.Slots.{Slots}
 use Rattle.fx_ring.specs.Ring.{RingContents, RingState, ring_of}
-use Rattle.fx_ring.specs.Submission.{IsOneHistory, Reported}
+use Rattle.fx_ring.specs.Submission.{IsOneHistory, Reported, reported}
 use Rattle.fx_outcomes.specs.Rests.{HasMemory}
 use Rattle.fx_answers.specs.declared.end.End.{End}
 use Rattle.fx_answers.specs.declared.outcome.Answer.{Answer}
+use Rattle.fx_answers.specs.declared.report.PossibleReport.{PossibleReport}
 
 -- one history of the ring's table comes to this report and leaves this ring, and each request finds
 -- memory
@@ -83,3 +84,28 @@ abbrev pub HasEachEnd : RingState → List Asked → List End → Type 0
 HasEachEnd old requests ends =
     (ring left : RingContents) → ring_of ring ≡ old → MayLeave ring requests left
     → Contains (rings_behind old ends) (ring_of left)
+
+-- a report that comes of each ring with this state, by the order that stands with it
+pub record IsPossible (old : RingState) (requests : List Asked) (possible : PossibleReport)
+    : Type 0 where
+  pub by : IsReportBy old requests possible.order.items (reported possible.report) possible.slots
+  pub may : (ring : RingContents) → ring_of ring ≡ old
+      → (left : RingContents) × (ring_of left ≡ ring_behind old possible.slots)
+      × MayReport ring requests (reported possible.report) left
+  pub entries : All (λ file. file.entry < length old.catalogue) possible.report.closes.files
+
+-- it tells of this report, whose files are in order of mark too, and leaves this ring
+pub record TellsOf (old : RingState) (report : Reported) (left : RingState)
+    (possible : PossibleReport) : Type 0 where
+  pub submission : report.submission ≡ possible.report.submission
+  pub completions : report.completions ≡ all_completed possible.report.completions.items
+  pub closes : IsPermutation possible.report.closes.files report.closes.files
+  pub leaves : left ≡ ring_behind old possible.slots
+
+-- whatever report the submission may come to, one of these tells of it
+abbrev pub HasEachReport : RingState → List Asked → List PossibleReport → Type 0
+HasEachReport old requests reports =
+    (ring left : RingContents) (report : Reported) → ring_of ring ≡ old
+    → MayReport ring requests report left
+    → (possible : PossibleReport) × Contains reports possible
+    × TellsOf old report (ring_of left) possible

@@ -8,7 +8,9 @@ use Rattle.fx_order.specs.Slots.{table_of_slots}
 use Rattle.fx_order.specs.declared.access.Access.{Access}
 use Rattle.fx_outcomes.specs.Rests.{Rules, rules_of, step}
 use Rattle.fx_outcomes.specs.Nodes.{StateView, Leads}
+use Rattle.fx_answers.specs.Reports.{ToldState}
 use Rattle.fx_answers.specs.Stands.{rest_in}
+use Rattle.fx_answers.specs.Tellings.{answers_of}
 use Rattle.fx_answers.specs.declared.chain.Progress.{Progress}
 use Rattle.fx_answers.specs.declared.state.State.{State}
 use Rattle.fx_answers.specs.declared.submission.Submission.{Submission}
@@ -25,6 +27,14 @@ view_of submission runs state = record {
   table = table_of_slots state.slots;
   rests = λ chain. rest_in (first_member submission chain) (run_at runs chain)
       (slice_index_or state.chains.items (chain - 1) not_begun);
+}
+
+-- with what was told on the way
+abbrev pub told_of : ℕ → List (List Asked) → State → ToldState
+told_of submission runs state = record {
+  state = view_of submission runs state;
+  told = λ chain. slice_index_or (answers_of state.telling.answers.items) (chain - 1) [];
+  removed = state.telling.removed.items;
 }
 
 abbrev pub runs_in : Submission → List (List Asked)

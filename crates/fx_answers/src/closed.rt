@@ -1,27 +1,23 @@
 //! Whether the states that a search met are all of them.
-ghost use Rattle.std.specs.Prelude.{◌≡◌, ◌<◌, IfOk, IsTrue, All, Contains, length};
+ghost use Rattle.std.specs.Prelude.{◌≡◌, ◌<◌, [], IfOk, IsTrue, All, Contains, length};
+ghost use Rattle.std.specs.Prelude.{slice_index_or};
 ghost use Rattle.fx_chain.specs.Completed.{all_completed, completed_of};
 ghost use Rattle.fx_order.specs.Access.{Permits};
 ghost use Rattle.fx_order.specs.Slots.{table_of_slots};
 ghost use Rattle.fx_answers.specs.Outcomes.{answered};
 ghost use Rattle.fx_answers.specs.Listed.{AreAllBy, AreAtStartBy, IsAtStartBy, says};
 ghost use Rattle.fx_answers.specs.Listed.{IsChainExploredBy, IsExploredBy, IsStateExploredBy};
+ghost use Rattle.fx_answers.specs.Tellings.{answers_of};
 
 use crate::chain::{Progress, chain_accesses, settle};
 use crate::found::Found;
 use crate::outcome::Answer;
 use crate::state::{State, are_same, next_state};
 use crate::submission::Submission;
+use crate::telling::{are_same as are_same_answers, is_same};
 use fx_base::NoMemory;
 use fx_chain::{Completion, Place};
 use fx_order::{Access, Slots};
-
-// Whether both say the same.
-fn is_same(one: &Completion, other: &Completion) -> bool
-    ensures { IsTrue result → completed_of one.now ≡ completed_of other.now }
-{
-    one.place == other.place && one.res == other.res && one.got.as_slice() == other.got.as_slice()
-}
 
 /// Whether a completion is among these.
 pub(crate) fn is_among(completions: &[Completion], c: &Completion) -> bool {
@@ -140,6 +136,28 @@ fn is_state_explored(claimed: &Claimed<'_>, state: &State) -> Result<bool, NoMem
     Ok(true)
 }
 
+// Whether this is what a chain was told on the way to a state, where the submission keeps it.
+fn has_told(submission: &Submission<'_>, state: &State, i: usize, told: &[Completion]) -> bool
+    ensures { IsTrue result → IsTrue submission.now.tells
+        → slice_index_or (answers_of state.now.telling.answers.items) i []
+        ≡ all_completed told.now }
+{
+    if !submission.tells {
+        return true;
+    }
+    match state.telling.answers.get(i) {
+        Some(own) => are_same_answers(own, told),
+        None => false,
+    }
+}
+
+// Whether no file was removed on the way to a state, where the submission keeps it.
+fn has_removed_none(submission: &Submission<'_>, state: &State) -> bool
+    ensures { IsTrue result → IsTrue submission.now.tells → state.now.telling.removed.items ≡ [] }
+{
+    !submission.tells || state.telling.removed.is_empty()
+}
+
 // Whether a chain of a state is at its first access, and what it answered before is listed.
 fn is_at_start(claimed: &Claimed<'_>, state: &State, i: usize) -> Result<bool, NoMemory>
     requires { i < length claimed.now.submission.now.chains.now }
@@ -151,6 +169,9 @@ fn is_at_start(claimed: &Claimed<'_>, state: &State, i: usize) -> Result<bool, N
     let own = submission.members(i);
     let done = settle(&submission.setting, submission.first(i), own, &mut told)?;
     if here.done != done || here.made != 0 {
+        return Ok(false);
+    }
+    if !has_told(submission, state, i, &told) {
         return Ok(false);
     }
     Ok(are_listed(claimed.place, claimed.answers, &told))
@@ -195,6 +216,9 @@ pub(crate) fn are_all_states(claimed: &Claimed<'_>, slots: &Slots) -> Result<boo
     if slots.at.len() != claimed.submission.setting.size as usize
         || !are_same(&first.slots, slots)
     {
+        return Ok(false);
+    }
+    if !has_removed_none(claimed.submission, first) {
         return Ok(false);
     }
     if !are_at_start(claimed, first)? {

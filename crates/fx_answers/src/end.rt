@@ -169,6 +169,7 @@ pub fn may_leave(
         number: submissions + 1,
         requests,
         chains: &chains,
+        tells: false,
     };
     let found = explore(&submission, slots, None, states)?;
     let ends = all_confirmed(&submission, slots, &found)?;

@@ -6,8 +6,9 @@ use crate::closed::is_among;
 use crate::found::{Found, Step, key_of};
 use crate::state::{State, copy_of, next_state};
 use crate::submission::Submission;
+use crate::telling::{Telling, push_copies};
 use fx_base::NoMemory;
-use fx_chain::{Completion, Place};
+use fx_chain::{Completion, Op, Place, Request};
 use fx_order::{Access, Slots};
 use indexmap::IndexSet;
 use std::alloc::Global;
@@ -20,14 +21,21 @@ pub(crate) fn start(
 ) -> Result<State, NoMemory> {
     let alloc = submission.setting.alloc;
     let mut chains = Vec::new(alloc);
+    let mut telling = Telling::none(alloc);
     for i in 0..submission.chains.len() {
         let own = submission.members(i);
-        let done = settle(&submission.setting, submission.first(i), own, told)?;
+        let mut answers = Vec::new(alloc);
+        let done = settle(&submission.setting, submission.first(i), own, &mut answers)?;
         chains.push(Progress { done, made: 0 })?;
+        push_copies(alloc, told, &answers)?;
+        if submission.tells {
+            telling.answers.push(answers)?;
+        }
     }
     Ok(State {
         slots: copy_of(alloc, slots)?,
         chains,
+        telling,
     })
 }
 
@@ -51,6 +59,35 @@ pub(crate) fn accesses_of(
 // How many bytes the states of a search may take.
 const MOST_BYTES: usize = 1 << 30;
 
+// What a state keeps of a request: its answer, the bytes of a read, and the files that it removed, each with its numbers in the
+// key.
+fn weight_of(request: &Request) -> usize {
+    let removed: usize = match &request.op {
+        Op::Update { list, .. } => list.len(),
+        _ => 1,
+    };
+    let got = match &request.op {
+        Op::Read { len, .. } => *len as usize,
+        _ => 0,
+    };
+    removed
+        .saturating_mul(56)
+        .saturating_add(got)
+        .saturating_add(48)
+}
+
+// What a state keeps of what was told on the way to it.
+fn weight_told(submission: &Submission<'_>) -> usize {
+    let mut weight: usize = 0;
+    if !submission.tells {
+        return weight;
+    }
+    for request in submission.requests {
+        weight = weight.saturating_add(weight_of(request));
+    }
+    weight.saturating_add(submission.chains.len().saturating_mul(32))
+}
+
 // How many states have room, if no more than so many are asked for. A slot of a state takes 40 bytes, and its numbers in the
 // key up to 48; a chain takes 16 and 16; and beside them a state has its lists, a step and a place in the hash table, whose
 // blocks may just have been doubled.
@@ -58,6 +95,7 @@ fn room_for(submission: &Submission<'_>, most: usize) -> usize {
     let slots = (submission.setting.size as usize).saturating_mul(88);
     let chains = submission.chains.len().saturating_mul(32);
     let weight = slots.saturating_add(chains).saturating_add(768);
+    let weight = weight.saturating_add(weight_told(submission));
     most.min(MOST_BYTES.checked_div(weight).unwrap_or(0))
 }
 

@@ -1,9 +1,10 @@
 //! The states that a search met.
 ghost use Rattle.std.specs.Prelude.{ℕ, IfOk, IsTrue, Contains, List, map};
 ghost use Rattle.fx_chain.specs.Operation.{Asked};
-ghost use Rattle.fx_answers.specs.Views.{view_of};
+ghost use Rattle.fx_answers.specs.Views.{told_of, view_of};
 
 use crate::state::State;
+use crate::telling::Telling;
 use fx_base::{Closed, Mark, NoMemory};
 use fx_chain::Completion;
 use fx_order::Access;
@@ -74,6 +75,40 @@ fn number_of(n: usize) -> u32 {
     n.min(u32::MAX as usize) as u32
 }
 
+// A number and one more as one number. Which number it is is the FNV-1a hash's choice.
+fn mixed(hash: u64, n: u64) -> u64 {
+    (hash ^ n).wrapping_mul(0x100_0000_01b3)
+}
+
+// Some answers as one number.
+fn hash_of(hash: u64, answers: &[Completion]) -> u64 {
+    let mut hash = mixed(hash, answers.len() as u64);
+    for c in answers {
+        hash = mixed(hash, u64::from(c.res < 0));
+        hash = mixed(hash, u64::from(c.res.unsigned_abs()));
+        hash = mixed(hash, c.got.len() as u64);
+        for byte in &c.got {
+            hash = mixed(hash, *byte as u64);
+        }
+    }
+    hash
+}
+
+// Adds what was told at the end, the answers as two numbers: states that only their answers tell apart are taken for one where
+// these agree by chance, and then it is seen that the list isn't whole.
+fn push_telling(key: &mut Vec<u32>, telling: &Telling) -> Result<(), NoMemory> {
+    let mut hash = 0xcbf2_9ce4_8422_2325;
+    for own in &telling.answers {
+        hash = hash_of(hash, own);
+    }
+    key.push((hash >> 32) as u32)?;
+    key.push((hash % (1 << 32)) as u32)?;
+    for file in &telling.removed {
+        push_file(key, &Some(*file))?;
+    }
+    Ok(())
+}
+
 /// A state in numbers.
 pub(crate) fn key_of(alloc: Global, state: &State) -> Result<Vec<u32>, NoMemory> {
     let mut key = Vec::new(alloc);
@@ -84,6 +119,7 @@ pub(crate) fn key_of(alloc: Global, state: &State) -> Result<Vec<u32>, NoMemory>
     for file in &state.slots.at {
         push_file(&mut key, file)?;
     }
+    push_telling(&mut key, &state.telling)?;
     Ok(key)
 }
 
@@ -103,9 +139,12 @@ impl Found {
 
     /// Whether a state is among those that were met.
     pub(crate) fn has(&self, state: &State) -> Result<bool, NoMemory>
-        ensures { IfOk result (λ yes. IsTrue yes → (submission : ℕ) (runs : List (List Asked))
+        ensures view { IfOk result (λ yes. IsTrue yes → (submission : ℕ) (runs : List (List Asked))
             → Contains (map (view_of submission runs) self.now.states.items)
             (view_of submission runs state.now)) }
+        ensures told { IfOk result (λ yes. IsTrue yes → (submission : ℕ) (runs : List (List Asked))
+            → Contains (map (told_of submission runs) self.now.states.items)
+            (told_of submission runs state.now)) }
     {
         let key = key_of(self.alloc, state)?;
         let Some(number) = self.keys.get_index_of(&key) else {

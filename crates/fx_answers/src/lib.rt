@@ -11,9 +11,12 @@ mod found;
 pub mod laws;
 mod outcome;
 mod player;
+mod report;
 mod setting;
 mod state;
 mod submission;
+mod telling;
 
 pub use end::{End, Ends, may_leave};
 pub use outcome::{Answer, Answers, Question, may_answer};
+pub use report::{PossibleReport, PossibleReports, may_report};

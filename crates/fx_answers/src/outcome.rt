@@ -17,6 +17,7 @@ use crate::found::{Found, Step};
 use crate::player::play_to;
 use crate::setting::Setting;
 use crate::submission::Submission;
+use crate::telling::copy_of;
 use fx_base::{Catalogue, NoMemory};
 use fx_chain::{Completion, Place, Request, cut};
 use fx_order::{ChainAccess, Slots};
@@ -51,17 +52,6 @@ pub struct Question<'a> {
     pub place: Place,
     /// How many states may be met, each of them the files at the slots and how far each chain has come.
     pub states: usize,
-}
-
-// A completion once more.
-fn copy_of(alloc: Global, c: &Completion) -> Result<Completion, NoMemory>
-    ensures { IfOk result (λ copy. completed_of copy ≡ completed_of c.now) }
-{
-    Ok(Completion {
-        place: c.place,
-        res: c.res,
-        got: Vec::from_slice(alloc, &c.got)?,
-    })
 }
 
 // What is answered at a place, once more.
@@ -161,6 +151,7 @@ pub fn may_answer(
         number: submissions + 1,
         requests: question.requests,
         chains: &chains,
+        tells: false,
     };
     let place = question.place;
     let found = explore(&submission, slots, Some(place), question.states)?;

@@ -4,6 +4,7 @@ use crate::explore::{accesses_of, start};
 use crate::found::{Found, Step};
 use crate::state::{State, next_state};
 use crate::submission::Submission;
+use crate::telling::removed_by;
 use fx_base::{Closed, NoMemory};
 use fx_chain::Completion;
 use fx_order::{Access, ChainAccess, Slots};
@@ -44,16 +45,6 @@ struct Player {
     order: Vec<ChainAccess>,
     told: Vec<Vec<Completion>>,
     closes: Vec<Closed>,
-}
-
-// The file that an access takes from its slot.
-fn removed_by(access: &Access) -> Option<Closed> {
-    match access {
-        Access::Puts(_, _, removed) => *removed,
-        Access::Clears(_, removed) => *removed,
-        Access::Takes(_, removed) => *removed,
-        _ => None,
-    }
 }
 
 impl Player {

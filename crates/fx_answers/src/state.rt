@@ -7,10 +7,12 @@ ghost use Rattle.fx_chain.specs.Operation.{all_asked};
 ghost use Rattle.fx_order.specs.Access.{Permits, table_with};
 ghost use Rattle.fx_order.specs.Slots.{table_of_slots};
 ghost use Rattle.fx_outcomes.specs.Nodes.{IsOver};
+ghost use Rattle.fx_answers.specs.Tellings.{IsToldOn, answers_of};
 ghost use Rattle.fx_answers.specs.Views.{IsStepTo, not_begun, view_in};
 
 use crate::chain::{Progress, step};
 use crate::submission::Submission;
+use crate::telling::{Telling, are_all_same, are_same_closes};
 use fx_base::{Closed, NoMemory};
 use fx_chain::Completion;
 use fx_order::{Access, Slots};
@@ -23,6 +25,8 @@ pub struct State {
     pub slots: Slots,
     /// The chains.
     pub chains: Vec<Progress>,
+    /// What was told on the way, where the submission keeps it.
+    pub telling: Telling,
 }
 
 // Whether both lists have the same files at the same slots.
@@ -82,11 +86,16 @@ impl State {
         ensures table { IsTrue result
             → table_of_slots self.now.slots ≡ table_of_slots other.now.slots }
         ensures chains { IsTrue result → self.now.chains.items ≡ other.now.chains.items }
+        ensures answers { IsTrue result → answers_of self.now.telling.answers.items
+            ≡ answers_of other.now.telling.answers.items }
+        ensures removed { IsTrue result
+            → self.now.telling.removed.items ≡ other.now.telling.removed.items }
     {
-        if !are_same(&self.slots, &other.slots) {
+        if !are_same(&self.slots, &other.slots) || !are_same_chains(&self.chains, &other.chains) {
             return false;
         }
-        are_same_chains(&self.chains, &other.chains)
+        are_all_same(&self.telling.answers, &other.telling.answers)
+            && are_same_closes(&self.telling.removed, &other.telling.removed)
     }
 
     /// How far a chain has come, by its number from 0.
@@ -139,6 +148,29 @@ fn chains_with(
     Ok(all)
 }
 
+// What was told behind an access of a chain, by the chain's number from 0, that answers this: nothing, where the submission
+// doesn't keep it.
+fn telling_after(
+    submission: &Submission<'_>,
+    telling: &Telling,
+    i: usize,
+    own: &[Completion],
+    access: &Access,
+) -> Result<Option<Telling>, NoMemory>
+    ensures { IfOk result (λ after. IfSome after (λ after. IsTrue submission.now.tells
+        → IsToldOn telling.now i access.now (all_completed own.now) after)) }
+{
+    let alloc = submission.setting.alloc;
+    if !submission.tells {
+        return Ok(Some(Telling::none(alloc)));
+    }
+    if i >= telling.answers.len() {
+        return Ok(None);
+    }
+    let after = telling.after(alloc, i, own, access)?;
+    Ok(Some(after))
+}
+
 /// Where an access of a chain leads, by the chain's number from 0, and what is answered on the way; `None` where the state
 /// isn't one of the submission, or its table doesn't permit the access.
 pub(crate) fn next_state(
@@ -149,8 +181,10 @@ pub(crate) fn next_state(
     told: &mut Vec<Completion>,
 ) -> Result<Option<State>, NoMemory>
     requires { told.old.items ≡ [] }
-    ensures { IfOk result (λ next. IfSome next (IsStepTo submission.now state.now i access.now
+    ensures step { IfOk result (λ next. IfSome next (IsStepTo submission.now state.now i access.now
         (all_completed told.new.items))) }
+    ensures told { IfOk result (λ next. IfSome next (λ next. IsTrue submission.now.tells
+        → IsToldOn state.now.telling i access.now (all_completed told.new.items) next.telling)) }
 {
     let alloc = submission.setting.alloc;
     if state.slots.at.len() != submission.setting.size as usize || !state.slots.permits(access) {
@@ -170,5 +204,12 @@ pub(crate) fn next_state(
     let after = step(&submission.setting, place, own, *progress, *access, told)?;
     let chains = chains_with(alloc, &state.chains, i, after)?;
     let slots = slots_with(alloc, &state.slots, access)?;
-    Ok(Some(State { slots, chains }))
+    let Some(telling) = telling_after(submission, &state.telling, i, told, access)? else {
+        return Ok(None);
+    };
+    Ok(Some(State {
+        slots,
+        chains,
+        telling,
+    }))
 }

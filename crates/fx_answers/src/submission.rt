@@ -12,13 +12,15 @@ use crate::setting::Setting;
 use fx_chain::{Chain, MOST_MEMBERS, Place, Request};
 use fx_order::members;
 
-/// A submission that is played: its number, its requests, and the chains into which they were cut.
+/// A submission that is played: its number, its requests, the chains into which they were cut, and whether its states keep what
+/// was told on the way to them.
 #[derive(Drop)]
 pub(crate) struct Submission<'a> {
     pub(crate) setting: Setting<'a>,
     pub(crate) number: u32,
     pub(crate) requests: &'a [Request],
     pub(crate) chains: &'a [Chain],
+    pub(crate) tells: bool,
     pub ghost catalogued: { IsCatalogue setting.catalogue.now },
     pub ghost accepted: { IsAccepted (all_asked requests.now) },
     pub ghost runs: { map (members_of (all_asked requests.now)) chains.now

@@ -1,0 +1,265 @@
+//! Which reports a submission may come to: all of them, each by an order.
+ghost use Rattle.std.specs.Prelude.{◌≡◌, ◌+◌, ◌<◌, ◌≤◌, ◌^◌, ℕ};
+ghost use Rattle.std.specs.Prelude.{All, IfOk, IfSome, IsTrue, length};
+ghost use Rattle.fx_base.specs.Catalogue.{IsCatalogue};
+ghost use Rattle.fx_chain.specs.Accepted.{IsAccepted};
+ghost use Rattle.fx_chain.specs.Completed.{all_completed};
+ghost use Rattle.fx_chain.specs.Operation.{all_asked};
+ghost use Rattle.fx_order.specs.Slots.{ring_of_slots};
+ghost use Rattle.fx_plain.specs.declared.table.TheConstants.{MOST_SLOTS};
+ghost use Rattle.fx_answers.specs.Listed.{AreAllReportsBy, IsPossibleIn, IsToldAt, IsToldOf};
+ghost use Rattle.fx_answers.specs.Outcomes.{HasEachReport, IsPossible};
+ghost use Rattle.fx_answers.specs.Tellings.{all_told, answers_of};
+
+use crate::closed::{Claimed, are_all_states};
+use crate::confirm::confirm;
+use crate::explore::explore;
+use crate::found::{Found, Step};
+use crate::player::play_to;
+use crate::setting::Setting;
+use crate::state::{State, are_same};
+use crate::submission::Submission;
+use crate::telling::{are_same as are_same_answers, are_same_closes};
+use fx_base::{Catalogue, CloseList, Closed, NoMemory};
+use fx_chain::{Completion, Request, cut};
+use fx_order::{ChainAccess, Slots};
+use fx_ring::Report;
+use std::alloc::Global;
+
+/// A report that a submission may come to, an order of its accesses that comes to it, and the slots that this order leaves.
+#[derive(Debug, Drop)]
+pub struct PossibleReport {
+    /// The report.
+    pub report: Report,
+    /// The order.
+    pub order: Vec<ChainAccess>,
+    /// The slots behind the submission, where its accesses are made in this order.
+    pub slots: Slots,
+}
+
+/// Which reports a submission may come to.
+#[derive(Debug, Drop)]
+pub struct PossibleReports {
+    /// The reports.
+    pub reports: Vec<PossibleReport>,
+    /// Whether these are all of them.
+    pub are_all: bool,
+}
+
+// A list of these closes, if each file is in the catalogue.
+fn closes_of(
+    alloc: Global,
+    catalogue: &Catalogue,
+    files: &[Closed],
+) -> Result<Option<CloseList>, NoMemory>
+    ensures files { IfOk result (λ list. IfSome list (λ list. list.files ≡ files.now)) }
+    ensures room { IfOk result (λ list. IfSome list (λ list. list.room ≡ 0)) }
+    ensures entries { IfOk result (λ list. IfSome list (λ list.
+        All (λ file. file.entry < length catalogue.now) list.files)) }
+{
+    if files.len() > u32::MAX as usize {
+        return Ok(None);
+    }
+    let mut list = CloseList::with_room(alloc, files.len() as u32)?;
+    for file in files {
+        if u32::from(file.entry) >= catalogue.len() {
+            return Ok(None);
+        }
+        list.close(catalogue.open(file.entry, file.mark, file.tag));
+    }
+    Ok(Some(list))
+}
+
+// The report of an order that begins with the steps up to this one, if it is confirmed.
+fn confirmed(
+    submission: &Submission<'_>,
+    slots: &Slots,
+    found: &Found,
+    by: Option<Step>,
+) -> Result<Option<PossibleReport>, NoMemory>
+    ensures { IfOk result (λ possible. IfSome possible (IsPossibleIn submission.now slots.now)) }
+{
+    let setting = &submission.setting;
+    let play = play_to(submission, slots, found, by)?;
+    let Some(left) = confirm(submission, slots, &play)? else {
+        return Ok(None);
+    };
+    let Some(closes) = closes_of(setting.alloc, setting.catalogue, &play.closes)? else {
+        return Ok(None);
+    };
+    Ok(Some(PossibleReport {
+        report: Report {
+            submission: submission.number,
+            completions: play.completions,
+            closes,
+        },
+        order: play.order,
+        slots: left,
+    }))
+}
+
+// The report that a state is, if no chain has an access left there and it is confirmed.
+fn report_at(
+    submission: &Submission<'_>,
+    slots: &Slots,
+    found: &Found,
+    i: usize,
+) -> Result<Option<PossibleReport>, NoMemory>
+    ensures { IfOk result (λ possible. IfSome possible (IsPossibleIn submission.now slots.now)) }
+{
+    let Some(state) = found.states.get(i) else {
+        return Ok(None);
+    };
+    let Some(by) = found.from.get(i) else {
+        return Ok(None);
+    };
+    if !state.is_over(submission) {
+        return Ok(None);
+    }
+    confirmed(submission, slots, found, *by)
+}
+
+// The reports that a search met and that are confirmed, in the order of the states.
+fn all_confirmed(
+    submission: &Submission<'_>,
+    slots: &Slots,
+    found: &Found,
+) -> Result<Vec<PossibleReport>, NoMemory>
+    ensures { IfOk result (λ reports. All (IsPossibleIn submission.now slots.now) reports.items) }
+{
+    let mut reports = Vec::new(submission.setting.alloc);
+    for i in 0..found.states.len() {
+        if let Some(report) = report_at(submission, slots, found, i)? {
+            reports.push(report)?;
+        }
+    }
+    Ok(reports)
+}
+
+// Whether these are the answers of the chains, one chain behind another.
+fn are_told(completions: &[Completion], answers: &[Vec<Completion>]) -> bool
+    ensures { IsTrue result → all_completed completions.now ≡ all_told (answers_of answers.now) }
+{
+    let [own, others @ ..] = answers else {
+        return completions.is_empty();
+    };
+    if completions.len() < own.len() {
+        return false;
+    }
+    are_same_answers(&completions[..own.len()], own) && are_told(&completions[own.len()..], others)
+}
+
+// Whether a report tells of what was told on the way to a state, and leaves its ring.
+fn tells_of(submission: &Submission<'_>, state: &State, possible: &PossibleReport) -> bool
+    ensures { IsTrue result → IsToldOf submission.now state.now possible.now }
+{
+    let telling = &state.telling;
+    let report = &possible.report;
+    if report.submission != submission.number {
+        return false;
+    }
+    if telling.answers.len() != submission.chains.len()
+        || !are_same(&possible.slots, &state.slots)
+    {
+        return false;
+    }
+    are_told(&report.completions, &telling.answers)
+        && are_same_closes(report.closes.files(), &telling.removed)
+}
+
+// Whether the report with this number tells of a state, if no chain has an access left there.
+fn is_told(
+    submission: &Submission<'_>,
+    state: &State,
+    reports: &[PossibleReport],
+    number: usize,
+) -> bool
+    ensures { IsTrue result → IsToldAt submission.now reports.now state.now }
+{
+    if !state.is_over(submission) {
+        return true;
+    }
+    match reports.get(number) {
+        Some(possible) => tells_of(submission, state, possible),
+        None => false,
+    }
+}
+
+// Whether the reports are those of the states, in their order.
+fn are_all_told(submission: &Submission<'_>, states: &[State], reports: &[PossibleReport]) -> bool
+    ensures { IsTrue result → All (IsToldAt submission.now reports.now) states.now }
+{
+    let mut number: usize = 0;
+    for state in states {
+        if !is_told(submission, state, reports, number) {
+            return false;
+        }
+        number = number.saturating_add(usize::from(state.is_over(submission)));
+    }
+    true
+}
+
+// Whether the states that a search met are all of the submission, and the reports are those of them.
+fn are_all_reports(
+    claimed: &Claimed<'_>,
+    slots: &Slots,
+    reports: &[PossibleReport],
+) -> Result<bool, NoMemory>
+    ensures { IfOk result (λ yes. IsTrue yes
+        → AreAllReportsBy claimed.now slots.now reports.now) }
+{
+    if !are_all_told(claimed.submission, &claimed.found.states, reports) {
+        return Ok(false);
+    }
+    are_all_states(claimed, slots)
+}
+
+/// Which reports a submission may come to, at a ring with this catalogue and these slots and behind so many accepted
+/// submissions, where no request lacks memory: each with an order of accesses that comes to it. Where `are_all` is true it
+/// comes to no other; else more states would have to be met than `states`, or than have room in a gibibyte. The caller has
+/// seen that no request has a fault ([`fx_chain::check`]).
+///
+/// # Errors
+/// `NoMemory` where there is no memory for the states, or for a report and its order.
+pub fn may_report(
+    alloc: Global,
+    catalogue: &Catalogue,
+    slots: &Slots,
+    submissions: u32,
+    requests: &[Request],
+    states: usize,
+) -> Result<PossibleReports, NoMemory>
+    requires catalogue { IsCatalogue catalogue.now }
+    requires accepted { IsAccepted (all_asked requests.now) }
+    requires few_slots { length slots.now.at.items ≤ MOST_SLOTS }
+    requires few { submissions + 1 < 2 ^ 32 }
+    ensures each { IfOk result (λ found. (registrations : ℕ) → All (IsPossible
+        (ring_of_slots catalogue.now slots.now submissions registrations)
+        (all_asked requests.now)) found.reports.items) }
+    ensures all { IfOk result (λ found. IsTrue found.are_all → (registrations : ℕ) → HasEachReport
+        (ring_of_slots catalogue.now slots.now submissions registrations)
+        (all_asked requests.now) found.reports.items) }
+{
+    let chains = cut(alloc, requests)?;
+    let submission = Submission {
+        setting: Setting {
+            alloc,
+            catalogue,
+            size: slots.at.len() as u32,
+        },
+        number: submissions + 1,
+        requests,
+        chains: &chains,
+        tells: true,
+    };
+    let found = explore(&submission, slots, None, states)?;
+    let reports = all_confirmed(&submission, slots, &found)?;
+    let claimed = Claimed {
+        submission: &submission,
+        found: &found,
+        place: None,
+        answers: &[],
+    };
+    let are_all = are_all_reports(&claimed, slots, &reports)?;
+    Ok(PossibleReports { reports, are_all })
+}
