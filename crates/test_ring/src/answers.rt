@@ -3,7 +3,7 @@ ghost use Rattle.std.specs.Prelude.{◌≤◌, IfOk, length};
 ghost use Rattle.fx_plain.specs.declared.table.TheConstants.{MOST_SLOTS};
 
 use bitflags::Flags;
-use fx_answers::{Question, may_answer, may_leave};
+use fx_answers::{Question, may_answer, may_leave, may_report};
 use fx_base::{Catalogue, Closed, Mark};
 use fx_chain::{Op, Place, Request, SqeFlags, Target, check};
 use fx_order::Slots;
@@ -98,6 +98,34 @@ fn answers_and_ends(rt: HostRuntime) -> Result<(), Fail> {
             is_whole == (states == 100) && found.are_all == is_whole,
             "{states} states"
         );
+    }
+    Ok(())
+}
+
+// The read's two answers and the open's two come in each of the four ways: with slot 0 opened again, the read gives its bytes
+// in front of the close, and none between the close and the open.
+#[test]
+fn reports(rt: HostRuntime) -> Result<(), Fail> {
+    let alloc = rt.alloc();
+    let mut catalogue = Catalogue::new(alloc);
+    catalogue.add(String::from_str(alloc, "a.txt")?, b"hello".to_vec(alloc)?)?;
+    let requests = requests(alloc)?;
+    let slots = slots(alloc)?;
+    for states in [100, 1] {
+        let Ok(_) = check(&requests) else {
+            panic!(rt; "the requests aren't accepted");
+        };
+        let found = may_report(alloc, &catalogue, &slots, 0, &requests, states)?;
+        let is_whole = found.are_all && found.reports.len() == 4;
+        assert!(rt;
+            is_whole == (states == 100) && found.are_all == is_whole,
+            "{states} states"
+        );
+        for possible in &found.reports {
+            assert!(rt;
+                possible.report.completions.len() == 3 && possible.report.closes.len() == 1
+            );
+        }
     }
     Ok(())
 }
