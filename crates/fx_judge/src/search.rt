@@ -36,6 +36,21 @@ struct Stage {
 // All steps were tried.
 const ALL: usize = usize::MAX;
 
+// Which chains a search lets go on, and in what order.
+#[derive(Clone, Copy)]
+struct Plan {
+    // The first so many chains that aren't done may go on: workers begin chains in turn, and have one open each.
+    open: usize,
+    // By what the first of these is drawn; 0 for the chain that went on last.
+    seed: usize,
+}
+
+// All chains may go on, so where such a search finds no end there is none.
+const EACH: Plan = Plan {
+    open: usize::MAX,
+    seed: 0,
+};
+
 // Draws a number of 64 bits for a number at a place of a state.
 fn drawn(place: usize, number: u16) -> u64 {
     let mut x = (place as u64)
@@ -64,6 +79,7 @@ struct Walk<'a> {
     // How many slots of the allocation range are empty.
     empty: usize,
     way: Vec<Stage>,
+    plan: Plan,
     room: Room,
 }
 
@@ -78,17 +94,55 @@ impl Walk<'_> {
             if let Some(chain) = self.steps.test_of(&self.here, self.empty) {
                 return Some((chain, ALL));
             }
-            if self.may_make(stage.last) {
-                return Some((stage.last, 1));
-            }
         }
-        for tried in stage.tried.max(1)..=self.steps.chains() {
+        let (low, high) = self.window();
+        if self.plan.seed > 0 {
+            return self.choice_drawn(stage, low, high);
+        }
+        if stage.tried == 0 && stage.last < high && self.may_make(stage.last) {
+            return Some((stage.last, 1));
+        }
+        for tried in stage.tried.max(1)..=high {
             let chain = tried.saturating_sub(1);
             if chain != stage.last && self.may_make(chain) {
                 return Some((chain, tried.saturating_add(1)));
             }
         }
         None
+    }
+
+    // The same where the first of the chains that may go on is drawn, and the others come behind it, going round.
+    fn choice_drawn(&self, stage: &Stage, low: usize, high: usize) -> Option<(usize, usize)> {
+        let count = high.saturating_sub(low);
+        let first = drawn(self.plan.seed.saturating_add(self.way.len()), 0) >> 33;
+        let first = usize::try_from(first).unwrap_or(0);
+        for tried in stage.tried.max(1)..=count {
+            let behind = first.saturating_add(tried).checked_rem(count).unwrap_or(0);
+            let chain = low.saturating_add(behind);
+            if self.may_make(chain) {
+                return Some((chain, tried.saturating_add(1)));
+            }
+        }
+        None
+    }
+
+    // The first chain that isn't done, and the one behind the last that may go on.
+    fn window(&self) -> (usize, usize) {
+        let chains = self.steps.chains();
+        if self.plan.open >= chains {
+            return (0, chains);
+        }
+        let (mut low, mut open) = (chains, 0usize);
+        for chain in 0..chains {
+            if self.steps.next_of(&self.here, chain).is_some() {
+                low = low.min(chain);
+                open = open.saturating_add(1);
+                if open >= self.plan.open {
+                    return (low, chain.saturating_add(1));
+                }
+            }
+        }
+        (low, chains)
     }
 
     fn may_make(&self, chain: usize) -> bool {
@@ -184,10 +238,12 @@ impl Walk<'_> {
             self.take_back(chain, before);
             return Ok(true);
         }
-        if self.rows.len() >= self.room.states {
+        if self.met.len() >= self.room.states {
             return Ok(false);
         }
-        self.rows.insert(Vec::from_slice(self.alloc, &self.here)?)?;
+        if self.room.keeps {
+            self.rows.insert(Vec::from_slice(self.alloc, &self.here)?)?;
+        }
         self.met.insert(self.sum)?;
         let last = if is_test(step.claim) { last } else { chain };
         self.way.push(Stage {
@@ -247,10 +303,11 @@ impl Walk<'_> {
 // and a place on the way. Each of these lists may just be moved to one of twice the length.
 const BESIDE: usize = 256;
 
-// How many states are kept, and what is said where these don't suffice.
+// How many states are met, whether they are kept, and what is said where these don't suffice.
 #[derive(Clone, Copy)]
 struct Room {
     states: usize,
+    keeps: bool,
     doubt: Doubt,
 }
 
@@ -258,24 +315,30 @@ struct Room {
 fn room_for(row: &[u16], limits: Limits) -> Room {
     let weight = row.len().saturating_mul(2).saturating_add(BESIDE);
     let states = limits.bytes.checked_div(weight).unwrap_or(0);
+    let keeps = true;
     if states < limits.states {
         let doubt = Doubt::TooMuchMemory;
-        return Room { states, doubt };
+        return Room {
+            states,
+            keeps,
+            doubt,
+        };
     }
     Room {
         states: limits.states,
+        keeps,
         doubt: Doubt::TooManyStates,
     }
 }
 
-/// Looks for an end, through no more states than the limits let be looked at and kept.
-pub(crate) fn explore(
+// Looks for an end by a plan.
+fn search(
     alloc: Global,
     steps: &Steps<'_>,
-    limits: Limits,
+    plan: Plan,
+    room: Room,
 ) -> Result<(Rows, Found), NoMemory> {
     let here = steps.start(alloc)?;
-    let room = room_for(&here, limits);
     let first = Vec::from_slice(alloc, &here)?;
     let mut walk = Walk {
         alloc,
@@ -287,6 +350,7 @@ pub(crate) fn explore(
         here,
         sum: 0,
         way: Vec::new(alloc),
+        plan,
         room,
     };
     if room.states == 0 {
@@ -307,4 +371,77 @@ pub(crate) fn explore(
         }
     }
     Ok((walk.rows, Found::Stopped(room.doubt)))
+}
+
+// How many chains go on beside each other in the searches for a played order, the fewest first.
+const OPEN: [usize; 5] = [2, 3, 4, 8, 16];
+
+// By what these draw, and how many states each meets beside one for each claim. Draws for the places of a way don't come again by
+// another seed.
+const PLANS: [(usize, usize); 7] = [
+    (0, 20_000),
+    (1_000_000, 5_000),
+    (2_000_000, 5_000),
+    (3_000_000, 20_000),
+    (4_000_000, 20_000),
+    (0, 80_000),
+    (5_000_000, 80_000),
+];
+
+// How many states are met with all chains before others are left out, and beside one for each claim.
+const FIRST_STATES: usize = 10_000;
+
+const FEW_STATES: usize = 1_000;
+
+// Looks for an end by plans that leave chains out, through no more states than there is room for in all.
+fn played(alloc: Global, steps: &Steps<'_>, room: Room) -> Result<Option<Vec<usize>>, NoMemory> {
+    let mut left = room.states;
+    for (seed, states) in PLANS {
+        for open in OPEN {
+            let states = steps.count().saturating_add(states);
+            if states > left {
+                return Ok(None);
+            }
+            left = left.saturating_sub(states);
+            let room = Room {
+                states,
+                keeps: false,
+                ..room
+            };
+            let (_, found) = search(alloc, steps, Plan { open, seed }, room)?;
+            if let Found::Order(order) = found {
+                return Ok(Some(order));
+            }
+        }
+    }
+    Ok(None)
+}
+
+/// Looks for an end, through no more states than the limits let be looked at and kept: where few states don't suffice, first by
+/// plans that find what some workers played.
+pub(crate) fn explore(
+    alloc: Global,
+    steps: &Steps<'_>,
+    limits: Limits,
+) -> Result<(Rows, Found), NoMemory> {
+    let room = room_for(&steps.start(alloc)?, limits);
+    let first = FIRST_STATES.max(steps.count().saturating_add(FEW_STATES));
+    if room.states > first {
+        let few = Room {
+            states: first,
+            ..room
+        };
+        let (rows, found) = search(alloc, steps, EACH, few)?;
+        if !matches!(found, Found::Stopped(_)) {
+            return Ok((rows, found));
+        }
+        let rest = Room {
+            states: room.states.saturating_sub(first),
+            ..room
+        };
+        if let Some(order) = played(alloc, steps, rest)? {
+            return Ok((rows, Found::Order(order)));
+        }
+    }
+    search(alloc, steps, EACH, room)
 }
