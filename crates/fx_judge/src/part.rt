@@ -12,7 +12,7 @@ use crate::known::has_unknown;
 use crate::limits::Limits;
 use crate::node::claim_of;
 use crate::refuted::judge_counts;
-use crate::search::{Found, explore};
+use crate::search::{FEW_STATES, Found, explore};
 use crate::steps::Steps;
 use crate::strand::{Strand, strands_of};
 use crate::verdict::{Doubt, Reason};
@@ -225,10 +225,7 @@ fn judge_components(
     Ok(Outcome::Order(order))
 }
 
-// How many more states than claims are looked at before slots are judged by themselves.
-const FEW_STATES: usize = 1_000;
-
-// Limits for a first search: the text of one worker is found within a state for each claim.
+// Limits for a first search, before slots are judged by themselves.
 fn first_limits(table: &TableTold<'_>, limits: Limits) -> Limits {
     let mut states = FEW_STATES;
     for claims in table.chains {

@@ -315,19 +315,15 @@ struct Room {
 fn room_for(row: &[u16], limits: Limits) -> Room {
     let weight = row.len().saturating_mul(2).saturating_add(BESIDE);
     let states = limits.bytes.checked_div(weight).unwrap_or(0);
-    let keeps = true;
-    if states < limits.states {
-        let doubt = Doubt::TooMuchMemory;
-        return Room {
-            states,
-            keeps,
-            doubt,
-        };
-    }
+    let doubt = if states < limits.states {
+        Doubt::TooMuchMemory
+    } else {
+        Doubt::TooManyStates
+    };
     Room {
-        states: limits.states,
-        keeps,
-        doubt: Doubt::TooManyStates,
+        states: states.min(limits.states),
+        keeps: true,
+        doubt,
     }
 }
 
@@ -388,10 +384,11 @@ const PLANS: [(usize, usize); 7] = [
     (5_000_000, 80_000),
 ];
 
-// How many states are met with all chains before others are left out, and beside one for each claim.
+// How many states are met with all chains before some are left out.
 const FIRST_STATES: usize = 10_000;
 
-const FEW_STATES: usize = 1_000;
+/// How many more states than claims a first search meets: the text of one worker is found within a state for each claim.
+pub(crate) const FEW_STATES: usize = 1_000;
 
 // Looks for an end by plans that leave chains out, through no more states than there is room for in all.
 fn played(alloc: Global, steps: &Steps<'_>, room: Room) -> Result<Option<Vec<usize>>, NoMemory> {
