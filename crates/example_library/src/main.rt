@@ -141,7 +141,7 @@ fn main(rt: HostRuntime) -> Result<(), Fault> {
     if let Some(file) = retired {
         by_writer.close(file);
     }
-    let (writer, reader) = (by_writer.files().len(), by_reader.files().len());
+    let (writer, reader) = (by_writer.len(), by_reader.len());
     // A line that can't be written changes nothing.
     let _ = println!(rt;
         "the reader read {} bytes of the file that it holds",
