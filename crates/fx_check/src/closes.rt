@@ -11,7 +11,7 @@ use std::alloc::Global;
 ///
 /// # Errors
 /// `NoMemory` where the memory of the list is refused.
-pub(crate) fn files_at(alloc: Global, slots: &Slots) -> Result<Vec<Closed>, NoMemory>
+pub fn files_at(alloc: Global, slots: &Slots) -> Result<Vec<Closed>, NoMemory>
     ensures { IfOk result (λ files. files.items
         ≡ files_in_order (table_of_slots slots.now).at (length slots.now.at.items)) }
 {
@@ -48,7 +48,7 @@ pub(crate) fn close_all(
 ///
 /// # Errors
 /// `NoMemory` where the memory of the list is refused.
-pub(crate) fn close_in_order(
+pub fn close_in_order(
     alloc: Global,
     catalogue: &Catalogue,
     files: &[Closed],

@@ -15,6 +15,7 @@ mod registration;
 mod submission;
 mod told;
 
+pub use closes::{close_in_order, files_at};
 pub use judgement::{AccessPlace, Break, Fault, Judgement, Order};
 pub use list::{apply_list, empty_slots};
 pub use play::judge;

@@ -22,7 +22,8 @@ confirmed. The status is then 0, 1 or 6.
 With --history it prints for a legal text every event of the table, a line each: whose it is,
 what happens, and the files then at the slots. scripts/draw-history draws that.
 With --may it lists what the request at a place, as 1.1.2, may answer where memory is found,
-each answer with orders that give it.
+each answer with orders that give it. With --all it lists every text that the rules allow
+where memory is found, each with orders that give it: N of them, and how many there are.
 A script is what `fixfiles` plays, and a text what `fixfiles`, or a kernel, writes.
 
 An order is a line `order S: 1.1.1 1.2.1.0 1.1.2`: the requests of submission S, done one at a
@@ -30,13 +31,13 @@ time in this order, give the text. Each is named by its submission, its chain an
 from 1, and an update's by the entry of its list too, from 0.
 
 Exit status:
-  0  the text is legal, or all answers are listed, or help or the version was asked for
+  0  the text is legal, or all answers or texts are told, or help or the version was asked for
   1  it is not legal
   2  an argument is wrong
   3  the script has a fault, whose line and name are told
   4  the script or the text couldn't be read, or the verdict couldn't be written
   5  memory was refused
-  6  the text is undecided, or there may be more answers";
+  6  the text is undecided, or there may be more answers or texts";
 
 /// How many states of a submission are looked at where no number is given.
 pub const STATES: u32 = 1_000_000;
@@ -58,9 +59,12 @@ pub struct Settings<'a> {
     pub history: bool,
     /// Whether it is asked what a request may answer.
     pub may: bool,
+    /// How many texts of the script are wanted, where they are asked for.
+    pub all: Option<u32>,
     /// Where the script is: a path, or `-` for standard input.
     pub script: &'a str,
-    /// Where the text is: a path, or `-` for standard input. Where it is asked what a request may answer, the request's place.
+    /// Where the text is: a path, or `-` for standard input. Where it is asked what a request may answer, the request's place;
+    /// where every text is asked for, there is none.
     pub text: &'a str,
 }
 
@@ -110,6 +114,18 @@ fn may_argument<'a>(alloc: Global) -> Arg<'a> {
         .help("Lists what the request may answer whose place, as 1.1.2, stands in place of TEXT")
 }
 
+fn all_argument<'a>(alloc: Global) -> Result<Arg<'a>, AllocError> {
+    Arg::new(alloc, "all")
+        .long("all")
+        .value_name("N")
+        .value_parser(value_parser!(u32))
+        .num_args(0..=1)
+        .require_equals(true)
+        .default_missing_value("100")
+        .help("Lists every text of the script, the first N of them, 100 where no number is given")
+        .conflicts_with_all(&["may", "history", "text"])
+}
+
 fn script_argument<'a>(alloc: Global) -> Arg<'a> {
     Arg::new(alloc, "script")
         .value_name("SCRIPT")
@@ -117,11 +133,11 @@ fn script_argument<'a>(alloc: Global) -> Arg<'a> {
         .help("The script, or - for standard input")
 }
 
-fn text_argument<'a>(alloc: Global) -> Arg<'a> {
+fn text_argument<'a>(alloc: Global) -> Result<Arg<'a>, AllocError> {
     Arg::new(alloc, "text")
         .value_name("TEXT")
-        .required(true)
         .help("The text, or - for standard input; with --may the place of a request")
+        .required_unless_present("all")
 }
 
 fn command<'a>(alloc: Global) -> Result<Command<'a>, AllocError> {
@@ -133,8 +149,9 @@ fn command<'a>(alloc: Global) -> Result<Command<'a>, AllocError> {
         .arg(memory_argument(alloc))?
         .arg(history_argument(alloc))?
         .arg(may_argument(alloc))?
+        .arg(all_argument(alloc)?)?
         .arg(script_argument(alloc))?
-        .arg(text_argument(alloc))
+        .arg(text_argument(alloc)?)
 }
 
 // The number of states, which has a default.
@@ -155,7 +172,7 @@ fn memory_of(matches: &ArgMatches<'_>) -> u32 {
 pub fn settings_in<'a, S: AsStr>(alloc: Global, words: &'a [S]) -> Result<Settings<'a>, Ending> {
     let matches = command(alloc)?.try_get_matches_from(words)?;
     let script = matches.get_str("script").unwrap_or("-");
-    let text = matches.get_str("text").unwrap_or("-");
+    let text = matches.get_str("text").unwrap_or("");
     if script == "-" && text == "-" {
         return Err(Ending::TwoInputs);
     }
@@ -164,6 +181,7 @@ pub fn settings_in<'a, S: AsStr>(alloc: Global, words: &'a [S]) -> Result<Settin
         memory: memory_of(&matches),
         history: matches.get_flag("history"),
         may: matches.get_flag("may"),
+        all: matches.get_one::<u32>("all"),
         script,
         text,
     })

@@ -142,7 +142,7 @@ fn push_past(
     past: &Past,
 ) -> Result<(), NoMemory> {
     let submission = past.submission;
-    write!(told, "  order {submission}:")?;
+    write!(told, "order {submission}:")?;
     let requests = requests_of(script, submission);
     if check(requests).is_err() {
         return Ok(told.push('\n')?);
@@ -180,6 +180,27 @@ fn orders_to(alloc: Global, orders: &[Past], last: usize) -> Result<Vec<usize>, 
     Ok(way)
 }
 
+/// Puts the lines of the orders that lead to one, and of that one, behind others, each behind these signs.
+///
+/// # Errors
+/// Where memory is refused.
+pub fn push_orders(
+    alloc: Global,
+    told: &mut String,
+    script: &Script,
+    orders: &[Past],
+    last: usize,
+    front: &str,
+) -> Result<(), NoMemory> {
+    for i in orders_to(alloc, orders, last)? {
+        if let Some(past) = orders.get(i) {
+            told.push_str(front)?;
+            push_past(alloc, told, script, past)?;
+        }
+    }
+    Ok(())
+}
+
 /// The lines of what a request may answer: each answer, and behind it the orders that come to it; and whether these are all.
 ///
 /// # Errors
@@ -193,11 +214,7 @@ pub fn listing(
     let mut told = String::new(alloc);
     for said in &may.answers {
         push_answer(&mut told, &said.completion)?;
-        for i in orders_to(alloc, &may.orders, said.past)? {
-            if let Some(past) = may.orders.get(i) {
-                push_past(alloc, &mut told, script, past)?;
-            }
-        }
+        push_orders(alloc, &mut told, script, &may.orders, said.past, "  ")?;
     }
     if may.are_all {
         told.push_str("these are all, where memory is found\n")?;

@@ -9,6 +9,7 @@ mod listing;
 mod state;
 mod submission;
 mod telling;
+mod texts;
 mod unexpected;
 mod verdict;
 
@@ -17,12 +18,13 @@ use ending::Ending;
 use fx_check::{Judgement, Order, judge};
 use fx_judge::Limits;
 use fx_script::{PlayFault, Script};
-use fx_texts::may;
+use fx_texts::{may, texts_of};
 use history::History;
 use input::{read_path, script_of};
 use listing::{listing, place_of, status_of_answers};
 use std::io::{self, Write};
 use std::process::ExitCode;
+use texts::{listing_of_texts, status_of_texts};
 use verdict::{status_of, verdict_text};
 
 /// How many bytes of a history are kept before they are written.
@@ -75,6 +77,20 @@ fn list_answers(rt: &HostRuntime, settings: Settings<'_>, script: &Script) -> Re
     Ok(status_of_answers(&answers))
 }
 
+// Prints the texts of a script, so many of them. It gives the status.
+fn list_texts(
+    rt: &HostRuntime,
+    settings: Settings<'_>,
+    most: u32,
+    script: &Script,
+) -> Result<u8, Ending> {
+    let alloc = rt.alloc();
+    let all = texts_of(alloc, script, settings.states as usize)?;
+    let told = listing_of_texts(alloc, script, settings.states, most, &all)?;
+    write(rt, told.as_str())?;
+    Ok(status_of_texts(&all))
+}
+
 // Judges what the arguments name, and prints the verdict. It gives the status.
 fn check(rt: &HostRuntime) -> Result<u8, Ending> {
     let alloc = rt.alloc();
@@ -82,6 +98,9 @@ fn check(rt: &HostRuntime) -> Result<u8, Ending> {
     let settings = settings_in(alloc, words.as_slice())?;
     let source = read_path(rt, settings.script)?;
     let script = script_of(alloc, settings.script, &source)?;
+    if let Some(most) = settings.all {
+        return list_texts(rt, settings, most, &script);
+    }
     if settings.may {
         return list_answers(rt, settings, &script);
     }

@@ -1,22 +1,23 @@
--- The calls between submissions, and refused submissions: where memory is found they leave one ring.
-use Rattle.std.proofs.Common.{◌≡◌, ◌⊎◌, ℕ, suc, ◌+◌, ◌<◌, ◌≤◌, ℤ, pos, negsuc, Bool, true, false, ◌==◌, ◌||◌, nat_le, nat_lt, if◌then◌else◌, List, [], ◌∷◌, ◌++◌, codes, length, refl, sym, ap, subst, ◌∙◌, arith, inl, inr, ⊎_elim, Option, Some, None}
+-- The calls between submissions, and refused submissions: where memory is found they leave one ring, and print one line.
+use Rattle.std.proofs.Common.{◌≡◌, ℕ, suc, ◌+◌, ◌≤◌, ℤ, pos, negsuc, Bool, true, false, ◌==◌, ◌||◌, nat_le, nat_lt, if◌then◌else◌, List, [], ◌++◌, codes, length, refl, sym, ap, subst, ◌∙◌, arith, inl, ⊎_elim, Option, Some, None}
 use Rattle.std.specs.Bool.{MatchBool}
 use Rattle.std.specs.List.{list_any}
 use Rattle.std.specs.Option.{MatchOption}
 use Rattle.std.proofs.lemmas.Bool.{ltb-false}
 use Rattle.std.proofs.lemmas.List.{append-nil}
+use Rattle.std.specs.Prelude.{All}
 use Rattle.fx_base.specs.Catalogue.{FileEntry}
+use Rattle.fx_base.specs.declared.open_file.Closed.{Closed}
 use Rattle.fx_base.specs.declared.errno.Errno.{Errno}
 use Rattle.fx_base.specs.declared.errno.Errno.TheVariants.{ENOENT, ENXIO, EBADF, EAGAIN, ENOMEM, EBUSY, EINVAL, ENFILE, EMFILE, ECANCELED}
 use Rattle.fx_chain.specs.Completed.{negated}
 use Rattle.fx_chain.specs.Faults.{fault_of}
-use Rattle.fx_chain.specs.Operation.{Asked}
 use Rattle.fx_chain.specs.declared.fault.CutFault.{CutFault}
 use Rattle.fx_plain.specs.declared.table.TheConstants.{MOST_SLOTS}
 use Rattle.fx_ring.specs.Registration.{range_refusal, register_refusal, registered, registered_sparse, removed_from, sparse_refusal}
 use Rattle.fx_ring.specs.Registration.{is_bad_file, unregister_refusal, update_refusal, updated}
 use Rattle.fx_chain.specs.Answers.{is_bad_entry}
-use Rattle.fx_ring.specs.Ring.{RingContents, RingState, files_of, ring_of, without_table}
+use Rattle.fx_ring.specs.Ring.{IsRing, RingContents, RingState, files_of, ring_of, without_table}
 use Rattle.fx_ring.specs.Tags.{are_bad_tags, tags_given}
 use Rattle.fx_ring.specs.Submission.{Reported}
 use Rattle.fx_ring.specs.declared.ring.TheConstants.{MOST_REGISTRATIONS, MOST_SUBMISSIONS}
@@ -27,10 +28,10 @@ use Rattle.fx_script.specs.Play.{Answers, IsRefused, Prints, PrintsClosed, Print
 use Rattle.fx_script.specs.Text.{closes_text, refused_line, result_line, too_many_line}
 use Rattle.fx_lines.specs.Lines.{IsResultInRange}
 use Rattle.fx_lines.proofs.ResultLines.{one_result}
+use Rattle.fx_check.proofs.FilesThere.{IsAtOne, all_in_order, all_removed, closes_printed}
 use Rattle.fx_check.proofs.Shown.{shown}
-use Rattle.fx_texts.specs.Rings.{IsCall, Leads, MayLeadTo, after_call, count_after, count_behind, unless_refused}
+use Rattle.fx_texts.specs.Rings.{AnswersFound, IsCall, IsLineOf, Leads, MayLeadTo, Stage, after_call, count_after, count_behind, kept, stage, unless_refused}
 use Rattle.fx_texts.specs.Texts.{FoundMemory, HasFound}
-use Rattle.fx_texts.proofs.Sorted.{closes_for, has_closed}
 
 -- what a call leaves that found memory
 
@@ -71,6 +72,84 @@ call_leaves old next (UpdatesRing off list tags) line own call prints found =
     called _ _ (ring_of old) (ring_of next) (updated (ring_of old) off list (tags_given list tags)) (codes "regupdate") line found.1 (λ a. a.0) prints
 call_leaves old next (SubmitsAll asked) line own call prints found =
     refused_same (fault_of asked) old.submissions (ring_of next ≡ ring_of old) (PrintsReport old asked next line) line too_many_line refused_line call prints
+
+-- and prints one line
+
+called_line : (x : Option Errno) (accepted : Type 0) (old new : RingState) (word line : List ℕ) (prints : List ℕ → Type 0) → HasFound word line
+    → (accepted → prints line) → Answers x accepted (IsRefused old new word line) → AnswersFound x word prints line
+called_line (Some errno) accepted old new word line prints found goes answers = answers.1
+called_line None accepted old new word line prints found goes answers = ⊎_elim goes (λ refused. absurd (found refused.1)) answers
+
+set_line : (x : Option Errno) (accepted : Type 0) (old new : RingState) (word line : List ℕ) (prints : List ℕ → Type 0) → (accepted → prints line)
+    → MatchOption x accepted (IsRefused old new word line) → AnswersFound x word prints line
+set_line (Some errno) accepted old new word line prints goes answers = answers.1
+set_line None accepted old new word line prints goes answers = goes answers
+
+refused_so : (x : Option CutFault) (count : ℕ) (same reports : Type 0) (line many : List ℕ) (text : CutFault → List ℕ) → count_behind count x ≡ count
+    → MatchOption x (MatchBool (nat_le MOST_SUBMISSIONS count) (same × (line ≡ many)) reports) (λ fault. same × (line ≡ text fault))
+    → MatchOption x (line ≡ many) (λ fault. line ≡ text fault)
+refused_so (Some fault) count same reports line many text is prints = prints.1
+refused_so None count same reports line many text is prints =
+    let full = uncounted (nat_le MOST_SUBMISSIONS count) count is in
+    let here : MatchBool true (same × (line ≡ many)) reports = subst (λ (b : Bool). MatchBool b (same × (line ≡ many)) reports) full prints in
+    here.1
+
+pub call_prints : (old next : RingContents) (command : Instruction) (line : List ℕ) (own : Option Reported) → IsCall old.submissions command
+    → Prints old command next line → FoundMemory old command next line own → IsLineOf (ring_of old) command line
+call_prints old next (MakesSparse n) line own call prints found =
+    called_line _ _ (ring_of old) (ring_of next) (codes "sparse") line _ found.1 (λ a. a.1) prints
+call_prints old next (RegistersList list tags) line own call prints found =
+    called_line _ _ (ring_of old) (ring_of next) (codes "register") line _ found.1 (λ a. a.1) prints
+call_prints old next Unregisters line own call prints found =
+    called_line _ _ (ring_of old) (ring_of next) (codes "unregister") line _ found.1 (λ a. a.1) prints
+call_prints old next (SetsRange off len) line own call prints found =
+    set_line (range_refusal (ring_of old) off len)
+    ((ring_of next ≡ record (ring_of old) { range = (off, len) }) × (line ≡ result_line (codes "range") (pos 0))) (ring_of old) (ring_of next) (codes "range")
+    line (λ l. l ≡ result_line (codes "range") (pos 0)) (λ a. a.1) prints
+call_prints old next (UpdatesRing off list tags) line own call prints found =
+    called_line _ _ (ring_of old) (ring_of next) (codes "regupdate") line _ found.1 (λ a. a.1) prints
+call_prints old next (SubmitsAll asked) line own call prints found =
+    refused_so (fault_of asked) old.submissions (ring_of next ≡ ring_of old) (PrintsReport old asked next line) line too_many_line refused_line call prints
+
+-- no two lines are that of a call
+
+either_line : (x : Option Errno) (word : List ℕ) (prints : List ℕ → Type 0) (a b : List ℕ) → (prints a → prints b → a ≡ b)
+    → AnswersFound x word prints a → AnswersFound x word prints b → a ≡ b
+either_line (Some errno) word prints a b one first second = first ∙ sym second
+either_line None word prints a b one first second = one first second
+
+either_refusal : (x : Option CutFault) (many : List ℕ) (text : CutFault → List ℕ) (a b : List ℕ) → MatchOption x (a ≡ many) (λ fault. a ≡ text fault)
+    → MatchOption x (b ≡ many) (λ fault. b ≡ text fault) → a ≡ b
+either_refusal (Some fault) many text a b first second = first ∙ sym second
+either_refusal None many text a b first second = first ∙ sym second
+
+one_text : (ring : RingState) (files : List Closed) (line a b : List ℕ) → IsRing ring → All (IsAtOne ring.at) files → PrintsClosed ring files line a
+    → PrintsClosed ring files line b → a ≡ b
+one_text ring files line a b is_ring all (closes, has, is) second =
+    is ∙ sym (closes_printed ring ring files files closes line b is_ring refl all refl has second)
+
+same_words : (word a b : List ℕ) → a ≡ word → b ≡ word → a ≡ b
+same_words word a b first second = first ∙ sym second
+
+pub one_line : (ring : RingState) (command : Instruction) (a b : List ℕ) → IsRing ring → IsLineOf ring command a → IsLineOf ring command b → a ≡ b
+one_line ring (MakesSparse n) a b is_ring first second =
+    let word = result_line (codes "sparse") (pos 0) in
+    either_line (sparse_refusal ring n) (codes "sparse") (λ l. l ≡ word) a b (same_words word a b) first second
+one_line ring (RegistersList list tags) a b is_ring first second =
+    let word = result_line (codes "register") (pos 0) in
+    either_line (register_refusal ring list (tags_given list tags)) (codes "register") (λ l. l ≡ word) a b (same_words word a b) first second
+one_line ring Unregisters a b is_ring first second =
+    let word = result_line (codes "unregister") (pos 0) in
+    either_line (unregister_refusal ring) (codes "unregister") (PrintsClosed ring (files_of ring) word) a b
+    (one_text ring (files_of ring) word a b is_ring (all_in_order ring.at ring.size)) first second
+one_line ring (SetsRange off len) a b is_ring first second =
+    let word = result_line (codes "range") (pos 0) in
+    either_line (range_refusal ring off len) (codes "range") (λ l. l ≡ word) a b (same_words word a b) first second
+one_line ring (UpdatesRing off list tags) a b is_ring first second =
+    let word = result_line (codes "regupdate") (pos (length list)) in
+    either_line (update_refusal ring off list (tags_given list tags)) (codes "regupdate") (PrintsClosed ring (removed_from ring.at off list) word) a b
+    (one_text ring (removed_from ring.at off list) word a b is_ring (all_removed ring.at off list)) first second
+one_line ring (SubmitsAll asked) a b is_ring first second = either_refusal (fault_of asked) too_many_line refused_line a b first second
 
 -- no refusal is for want of memory
 
@@ -160,28 +239,26 @@ alone_found word res small other same = line_found word res [] small other (appe
 counted : (n : ℕ) → pos n ≡ negated ENOMEM → ⊥
 counted n same = let e : ◌≡◌ {A = ℕ} 0 12 = ap below_0 same in absurd (omega arith)
 
--- what a call leaves, it may leave and find memory
+-- what a call leaves and prints, it may leave and print, and find memory
 
-call_made : (x : Option Errno) (old new done : RingState) (word good : List ℕ) (prints : List ℕ → Type 0) → IsOther x → new ≡ unless_refused x old done
-    → (x ≡ None → HasFound word good × prints good)
-    → (line : List ℕ) × Answers x ((new ≡ done) × prints line) (IsRefused old new word line) × HasFound word line
-call_made (Some errno) old new done word good prints other is goes =
-    (result_line word (negated errno), (is, refl), alone_found word (negated errno) (fits errno) other)
-call_made None old new done word good prints other is goes = let g = goes refl in (good, inl (is, g.1), g.0)
+call_made : (x : Option Errno) (old new done : RingState) (word line : List ℕ) (prints : List ℕ → Type 0) → IsOther x → new ≡ unless_refused x old done
+    → (x ≡ None → prints line → HasFound word line) → AnswersFound x word prints line
+    → Answers x ((new ≡ done) × prints line) (IsRefused old new word line) × HasFound word line
+call_made (Some errno) old new done word line prints other is found printed =
+    ((is, printed), subst (HasFound word) (sym printed) (alone_found word (negated errno) (fits errno) other))
+call_made None old new done word line prints other is found printed = (inl (is, printed), found refl printed)
 
-set_made : (x : Option Errno) (old new done : RingState) (word good : List ℕ) → new ≡ unless_refused x old done
-    → (line : List ℕ) × MatchOption x ((new ≡ done) × (line ≡ good)) (IsRefused old new word line)
-set_made (Some errno) old new done word good is = (result_line word (negated errno), (is, refl))
-set_made None old new done word good is = (good, (is, refl))
+set_made : (x : Option Errno) (old new done : RingState) (word line : List ℕ) (prints : List ℕ → Type 0) → new ≡ unless_refused x old done
+    → AnswersFound x word prints line → MatchOption x ((new ≡ done) × prints line) (IsRefused old new word line)
+set_made (Some errno) old new done word line prints is printed = (is, printed)
+set_made None old new done word line prints is printed = (is, printed)
 
-refused_made : (x : Option CutFault) (count : ℕ) (same : Type 0) (reports : List ℕ → Type 0) (many : List ℕ) (text : CutFault → List ℕ) → same
-    → count_behind count x ≡ count
-    → (line : List ℕ) × MatchOption x (MatchBool (nat_le MOST_SUBMISSIONS count) (same × (line ≡ many)) (reports line)) (λ fault. same × (line ≡ text fault))
-refused_made (Some fault) count same reports many text so is = (text fault, (so, refl))
-refused_made None count same reports many text so is = (
-  many,
-  subst (λ (b : Bool). MatchBool b (same × (many ≡ many)) (reports many)) (sym (uncounted (nat_le MOST_SUBMISSIONS count) count is)) (so, refl),
-)
+refused_made : (x : Option CutFault) (count : ℕ) (same reports : Type 0) (line many : List ℕ) (text : CutFault → List ℕ) → same → count_behind count x ≡ count
+    → MatchOption x (line ≡ many) (λ fault. line ≡ text fault)
+    → MatchOption x (MatchBool (nat_le MOST_SUBMISSIONS count) (same × (line ≡ many)) reports) (λ fault. same × (line ≡ text fault))
+refused_made (Some fault) count same reports line many text so is printed = (so, printed)
+refused_made None count same reports line many text so is printed =
+    subst (λ (b : Bool). MatchBool b (same × (line ≡ many)) reports) (sym (uncounted (nat_le MOST_SUBMISSIONS count) count is)) (so, printed)
 
 -- an update that isn't refused stays inside the table
 inside : (b0 b1 b2 b3 b4 b5 : Bool)
@@ -192,70 +269,83 @@ inside false true b2 b3 b4 b5 is = let e : Some EINVAL ≡ None = is in cc
 inside false false true b3 b4 b5 is = let e : Some EINVAL ≡ None = is in cc
 inside false false false b3 b4 b5 is = refl
 
-pub call_leads : (old next : RingContents) (command : Instruction) → (ring_of old).size ≤ MOST_SLOTS → IsCall old.submissions command
-    → ring_of next ≡ after_call (ring_of old) command → Leads old command next
-call_leads old next (MakesSparse n) few call is =
-    let good = result_line (codes "sparse") (pos 0) in
-    let m = call_made (sparse_refusal (ring_of old) n) (ring_of old) (ring_of next) (registered_sparse (ring_of old) n) (codes "sparse") good
-    (λ line. line ≡ good) (sparse_other (ring_of old) n) is (λ _. (alone_found (codes "sparse") (pos 0) (omega arith) (counted 0), refl)) in
-    (m.0, None, m.1, (refl, m.2))
-call_leads old next (RegistersList list tags) few call is =
-    let good = result_line (codes "register") (pos 0) in
+-- the line of a call that is answered by a number
+number_found : (word line : List ℕ) (n : ℕ) → IsResultInRange (pos n) → line ≡ result_line word (pos n) → HasFound word line
+number_found word line n small is = subst (HasFound word) (sym is) (alone_found word (pos n) small (counted n))
+
+closed_found : (ring : RingState) (files : List Closed) (word line : List ℕ) (n : ℕ) → IsResultInRange (pos n)
+    → PrintsClosed ring files (result_line word (pos n)) line → HasFound word line
+closed_found ring files word line n small (closes, has, is) =
+    subst (HasFound word) (sym is) (line_found word (pos n) (closes_text ring.catalogue closes.files) small (counted n))
+
+pub call_leads : (old next : RingContents) (command : Instruction) (line : List ℕ) → (ring_of old).size ≤ MOST_SLOTS → IsCall old.submissions command
+    → ring_of next ≡ after_call (ring_of old) command → IsLineOf (ring_of old) command line → Leads old command next line
+call_leads old next (MakesSparse n) line few call is printed =
+    let m = call_made (sparse_refusal (ring_of old) n) (ring_of old) (ring_of next) (registered_sparse (ring_of old) n) (codes "sparse") line
+    (λ l. l ≡ result_line (codes "sparse") (pos 0)) (sparse_other (ring_of old) n) is (λ _ so. number_found (codes "sparse") line 0 (omega arith) so) printed in
+    (None, m.0, (refl, m.1))
+call_leads old next (RegistersList list tags) line few call is printed =
     let m = call_made (register_refusal (ring_of old) list (tags_given list tags)) (ring_of old) (ring_of next)
-    (registered (ring_of old) list (tags_given list tags)) (codes "register") good (λ line. line ≡ good)
-    (register_other (ring_of old) list (tags_given list tags)) is
-    (λ _. (alone_found (codes "register") (pos 0) (omega arith) (counted 0), refl)) in
-    (m.0, None, m.1, (refl, m.2))
-call_leads old next Unregisters few call is =
-    let closes = closes_for (files_of (ring_of old)) in
-    let word = result_line (codes "unregister") (pos 0) in
-    let tail = closes_text (ring_of old).catalogue closes.files in
-    let m = call_made (unregister_refusal (ring_of old)) (ring_of old) (ring_of next) (without_table (ring_of old)) (codes "unregister") (word ++ tail)
-    (λ line. PrintsClosed (ring_of old) (files_of (ring_of old)) word line) (unregister_other (ring_of old)) is
-    (λ _. (line_found (codes "unregister") (pos 0) tail (omega arith) (counted 0), (closes, has_closed (files_of (ring_of old)), refl))) in
-    (m.0, None, m.1, (refl, m.2))
-call_leads old next (SetsRange off len) few call is =
-    let m = set_made (range_refusal (ring_of old) off len) (ring_of old) (ring_of next) (record (ring_of old) { range = (off, len) }) (codes "range")
-    (result_line (codes "range") (pos 0)) is in
-    (m.0, None, m.1, refl)
-call_leads old next (UpdatesRing off list tags) few call is =
+    (registered (ring_of old) list (tags_given list tags)) (codes "register") line (λ l. l ≡ result_line (codes "register") (pos 0))
+    (register_other (ring_of old) list (tags_given list tags)) is (λ _ so. number_found (codes "register") line 0 (omega arith) so) printed in
+    (None, m.0, (refl, m.1))
+call_leads old next Unregisters line few call is printed =
+    let m = call_made (unregister_refusal (ring_of old)) (ring_of old) (ring_of next) (without_table (ring_of old)) (codes "unregister") line
+    (PrintsClosed (ring_of old) (files_of (ring_of old)) (result_line (codes "unregister") (pos 0))) (unregister_other (ring_of old)) is
+    (λ _ so. closed_found (ring_of old) (files_of (ring_of old)) (codes "unregister") line 0 (omega arith) so) printed in
+    (None, m.0, (refl, m.1))
+call_leads old next (SetsRange off len) line few call is printed =
+    let m = set_made (range_refusal (ring_of old) off len) (ring_of old) (ring_of next) (record (ring_of old) { range = (off, len) }) (codes "range") line
+    (λ l. l ≡ result_line (codes "range") (pos 0)) is printed in
+    (None, m, refl)
+call_leads old next (UpdatesRing off list tags) line few call is printed =
     let files = removed_from (ring_of old).at off list in
-    let closes = closes_for files in
-    let word = result_line (codes "regupdate") (pos (length list)) in
-    let tail = closes_text (ring_of old).catalogue closes.files in
     let m = call_made (update_refusal (ring_of old) off list (tags_given list tags)) (ring_of old) (ring_of next)
-    (updated (ring_of old) off list (tags_given list tags)) (codes "regupdate") (word ++ tail)
-    (λ line. PrintsClosed (ring_of old) files word line) (update_other (ring_of old) off list (tags_given list tags)) is
-    (λ none.
+    (updated (ring_of old) off list (tags_given list tags)) (codes "regupdate") line
+    (PrintsClosed (ring_of old) files (result_line (codes "regupdate") (pos (length list))))
+    (update_other (ring_of old) off list (tags_given list tags)) is
+    (λ none so.
     let within : off + length list ≤ (ring_of old).size = ltb-false (ring_of old).size (off + length list)
     (inside ((ring_of old).size == 0) (length list == 0) (nat_lt (ring_of old).size (off + length list)) (are_bad_tags list (tags_given list tags))
     (list_any (is_bad_entry (length (ring_of old).catalogue)) list) (nat_le MOST_REGISTRATIONS (ring_of old).registrations) none) in
-    (line_found (codes "regupdate") (pos (length list)) tail (omega (arith, within, few)) (counted (length list)), (closes, has_closed files, refl))) in
-    (m.0, None, m.1, (refl, m.2))
-call_leads old next (SubmitsAll asked) few call is =
-    let m = refused_made (fault_of asked) old.submissions (ring_of next ≡ ring_of old) (PrintsReport old asked next) too_many_line refused_line is call in
-    (m.0, None, m.1, ap (λ (r : RingState). r.submissions) is)
+    closed_found (ring_of old) files (codes "regupdate") line (length list) (omega (arith, within, few)) so) printed in
+    (None, m.0, (refl, m.1))
+call_leads old next (SubmitsAll asked) line few call is printed =
+    let m = refused_made (fault_of asked) old.submissions (ring_of next ≡ ring_of old) (PrintsReport old asked next line) line too_many_line refused_line is call
+    printed in
+    (None, m, ap (λ (r : RingState). r.submissions) is)
 
--- the same of a ring that is kept as slots
-pub call_may_lead : (catalogue : List FileEntry) (old new : RingSlots) (command : Instruction) → length old.slots.at.items ≤ MOST_SLOTS
-    → IsCall old.submissions command
-    → ring_with_slots catalogue new ≡ after_call (ring_with_slots catalogue old) command
-    → MayLeadTo (ring_with_slots catalogue old) command (ring_with_slots catalogue new)
-call_may_lead catalogue old new command few call is = λ ring same.
-    let next = shown catalogue new in (
-      next.0,
-      call_leads ring next.0 command (subst (λ (r : RingState). r.size ≤ MOST_SLOTS) (sym same) few)
-          (subst (λ (r : RingState). IsCall r.submissions command) (sym same) call)
-          (next.1 ∙ is ∙ sym (ap (λ (r : RingState). after_call r command) same)),
-      next.1,
-    )
+module _ (keeps : Bool) (catalogue : List FileEntry) (old new : RingSlots) (command : Instruction) (before line : List ℕ)
+    (call : IsCall old.submissions command) (is : ring_with_slots catalogue new ≡ after_call (ring_with_slots catalogue old) command)
+    (printed : IsLineOf (ring_with_slots catalogue old) command line) where
+  abbrev from : Stage
+  from = record { ring = ring_with_slots catalogue old; printed = before }
 
-pub call_only : (catalogue : List FileEntry) (old : RingSlots) (new : RingState) (command : Instruction) → IsCall old.submissions command
-    → new ≡ after_call (ring_with_slots catalogue old) command
-    → (ring next : RingContents) → ring_of ring ≡ ring_with_slots catalogue old → Leads ring command next → ring_of next ≡ new
-call_only catalogue old new command call is ring next same leads =
-    call_leaves ring next command leads.0 leads.1 (subst (λ (r : RingState). IsCall r.submissions command) (sym same) call) leads.2 leads.3
-    ∙ ap (λ (r : RingState). after_call r command) same ∙ sym is
+  abbrev pub behind : Stage
+  behind = record { ring = ring_with_slots catalogue new; printed = kept keeps (before ++ line) }
+
+  -- the same of a ring that is kept as slots
+  pub call_may_lead : length old.slots.at.items ≤ MOST_SLOTS → MayLeadTo keeps from command behind
+  call_may_lead few = λ ring same.
+      let next = shown catalogue new in (
+        next.0,
+        line,
+        call_leads ring next.0 command line (subst (λ (r : RingState). r.size ≤ MOST_SLOTS) (sym same) few)
+            (subst (λ (r : RingState). IsCall r.submissions command) (sym same) call)
+            (next.1 ∙ is ∙ sym (ap (λ (r : RingState). after_call r command) same))
+            (subst (λ (r : RingState). IsLineOf r command line) (sym same) printed),
+        (λ i. record { ring = next.1 i; printed = kept keeps (before ++ line) }),
+      )
+
+  pub call_only : IsRing (ring_with_slots catalogue old) → (ring next : RingContents) (other : List ℕ) → ring_of ring ≡ ring_with_slots catalogue old
+      → Leads ring command next other → stage keeps next (before ++ other) ≡ behind
+  call_only is_ring ring next other same (own, prints, found) =
+      let counts : IsCall ring.submissions command = subst (λ (r : RingState). IsCall r.submissions command) (sym same) call in
+      let there : ring_of next ≡ ring_with_slots catalogue new =
+      call_leaves ring next command other own counts prints found ∙ ap (λ (r : RingState). after_call r command) same ∙ sym is in
+      let lines : other ≡ line = one_line (ring_with_slots catalogue old) command other line is_ring
+      (subst (λ (r : RingState). IsLineOf r command other) same (call_prints ring next command other own counts prints found)) printed in
+      λ i. record { ring = there i; printed = kept keeps (before ++ lines i) }
 
 -- a call counts no submission
 pub call_uncounted : (count : ℕ) (command : Instruction) → IsCall count command → count_after count command ≡ count

@@ -1,5 +1,5 @@
 -- How many submissions a ring has counted behind commands.
-use Rattle.std.proofs.Common.{◌≡◌, ℕ, suc, ◌+◌, ◌<◌, ◌≤◌, Bool, true, false, nat_le, if◌then◌else◌, List, [], ◌∷◌, ◌++◌, refl, sym, ap, subst, ◌∙◌, arith, Option, Some, None}
+use Rattle.std.proofs.Common.{◌≡◌, ℕ, ◌+◌, ◌≤◌, Bool, true, false, nat_le, if◌then◌else◌, List, [], ◌∷◌, refl, sym, ap, ◌∙◌, arith, Option, Some, None}
 use Rattle.std.specs.Bool.{MatchBool}
 use Rattle.std.specs.Option.{MatchOption}
 use Rattle.std.proofs.lemmas.Bool.{le-leb}
@@ -16,7 +16,7 @@ use Rattle.fx_ring.specs.declared.ring.TheConstants.{MOST_SUBMISSIONS}
 use Rattle.fx_language.specs.Instruction.{Instruction, MakesSparse, RegistersList, SetsRange, SubmitsAll, Unregisters, UpdatesRing}
 use Rattle.fx_script.specs.Play.{Prints, PrintsReport}
 use Rattle.fx_script.specs.Text.{refused_line, too_many_line}
-use Rattle.fx_texts.specs.Rings.{IsCall, Leads, LeadsAll, after_call, count_after, count_after_all, count_behind, unless_refused}
+use Rattle.fx_texts.specs.Rings.{LeadsAll, after_call, count_after, count_after_all, count_behind, unless_refused}
 use Rattle.fx_texts.specs.Texts.{FoundMemory, IsReportFound}
 use Rattle.fx_texts.proofs.Calls.{call_leaves}
 
@@ -80,12 +80,12 @@ leads_counts old next (UpdatesRing off list tags) line own prints found =
     by_call old next (UpdatesRing off list tags) (call_leaves old next (UpdatesRing off list tags) line own tt prints found)
 leads_counts old next (SubmitsAll asked) line own prints found = submission_counts old next asked line prints
 
-pub all_counts : (ring last : RingContents) (commands : List Instruction) → LeadsAll ring commands last
+pub all_counts : (ring last : RingContents) (commands : List Instruction) (text : List ℕ) → LeadsAll ring commands last text
     → last.submissions ≡ count_after_all ring.submissions commands
-all_counts ring last [] leads = ap (λ (r : RingContents). r.submissions) (sym leads)
-all_counts ring last (command ∷ commands) (next, leads, rest) =
-    all_counts next last commands rest
-    ∙ ap (λ (n : ℕ). count_after_all n commands) (leads_counts ring next command leads.0 leads.1 leads.2 leads.3)
+all_counts ring last [] text leads = ap (λ (r : RingContents). r.submissions) (sym leads.0)
+all_counts ring last (command ∷ commands) text (next, line, others, leads, split, rest) =
+    all_counts next last commands others rest
+    ∙ ap (λ (n : ℕ). count_after_all n commands) (leads_counts ring next command line leads.0 leads.1 leads.2)
 
 -- counts only grow
 

@@ -1,5 +1,5 @@
 -- Lists that others are put behind.
-use Rattle.std.proofs.Common.{◌≡◌, ◌⊎◌, ℕ, zero, suc, ◌+◌, ◌<◌, ◌≤◌, List, [], ◌∷◌, ◌++◌, length, map, refl, sym, ap, subst, ◌∙◌, arith, inl, inr, ⊎_elim, slice_index_or, Option, Some, None}
+use Rattle.std.proofs.Common.{◌≡◌, ℕ, zero, suc, ◌+◌, ◌<◌, ◌≤◌, List, [], ◌∷◌, ◌++◌, length, map, refl, sym, ap, subst, ◌∙◌, arith, inl, inr, ⊎_elim, slice_index_or, slice_get, Option, Some, None}
 use Rattle.std.specs.Prelude.{All, Contains, IfSome}
 use Rattle.std.specs.Option.{option_to_list}
 use Rattle.std.proofs.lemmas.List.{get_or_default, map-append}
@@ -96,3 +96,21 @@ popped f xs ys (Some y) P are all = all (f y) (has_pushed f ys xs y are)
 pub all_of_values : {X Y : Type 0} (f : Y → X) (ys : List Y) (P : X → Type 0) → ((x : X) → Contains (map f ys) x → P x) → All (λ y. P (f y)) ys
 all_of_values f ys P each = λ k d inside.
     each (f (slice_index_or ys k d)) (at_value f ys k (slice_index_or ys k d) inside (get_or_default ys k d (slice_index_or ys k d) inside))
+
+-- an element that is in a list stands at a place of it
+pub get_at : {X : Type 0} (xs : List X) (k : ℕ) (x : X) → k < length xs → slice_index_or xs k x ≡ x → slice_get xs k ≡ Some x
+get_at [] k x inside is = absurd (omega (arith, inside))
+get_at (y ∷ xs) zero x inside is = ap Some is
+get_at (y ∷ xs) (suc k) x inside is = get_at xs k x (omega (arith, inside)) is
+
+pub all_contained : {X : Type 0} (xs : List X) → All (Contains xs) xs
+all_contained xs = λ k d inside.
+    (k, inside, get_or_default xs k (slice_index_or xs k d) d inside)
+
+-- what all have, one that is among them has
+pub at_one : {X : Type 0} (P : X → Type 0) (xs : List X) (x : X) → All P xs → Contains xs x → P x
+at_one P xs x all (k, inside, is) = subst P is (all k x inside)
+
+pub holds_of_each : {X Y : Type 0} (f : Y → X) (ys : List Y) (Q : X → Type 0) (n : ℕ) → length ys ≤ n → HoldsBefore f ys Q n
+    → (y : Y) → Contains ys y → Q (f y)
+holds_of_each {Y = Y} f ys Q n long all y (k, low, is) = subst (λ (e : Y). Q (f e)) is (all k y (omega (arith, low, long)))

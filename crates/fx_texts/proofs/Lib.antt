@@ -1,8 +1,10 @@
 pub mod Sorted
 pub mod Calls
 pub mod Counts
+pub mod Growth
+pub mod Inserted
 pub mod Submitted
 pub mod Plays
 pub mod Walks
-pub mod Growth
+pub mod LedRings
 pub mod Whole

@@ -1,5 +1,5 @@
 -- Plays in which memory is found, cut at a submission and put together again.
-use Rattle.std.proofs.Common.{◌≡◌, ◌⊎◌, ℕ, zero, suc, ◌+◌, ◌<◌, ◌≤◌, List, [], ◌∷◌, ◌++◌, length, refl, sym, ap, subst, ◌∙◌, arith, inl, inr, ⊎_elim, Option, Some, None}
+use Rattle.std.proofs.Common.{◌≡◌, ◌⊎◌, ℕ, zero, suc, ◌+◌, ◌≤◌, List, [], ◌∷◌, ◌++◌, length, refl, sym, ap, subst, ◌∙◌, arith, inl, inr, ⊎_elim, Option, Some, None}
 use Rattle.std.specs.Prelude.{Contains}
 use Rattle.std.specs.Option.{option_to_list}
 use Rattle.std.proofs.lemmas.List.{append_assoc}
@@ -10,8 +10,8 @@ use Rattle.fx_ring.specs.Ring.{RingContents, ring_of}
 use Rattle.fx_ring.specs.Submission.{Reported}
 use Rattle.fx_language.specs.Instruction.{Instruction, SubmitsAll}
 use Rattle.fx_language.specs.Script.{Meaning}
-use Rattle.fx_script.specs.Play.{IsText, Prints, PrintsAll}
-use Rattle.fx_texts.specs.Rings.{Leads, LeadsAll, count_after, count_after_all, count_behind}
+use Rattle.fx_script.specs.Play.{IsText, Prints, PrintsAll, PrintsEnd}
+use Rattle.fx_texts.specs.Rings.{LeadsAll, count_after_all, count_behind}
 use Rattle.fx_texts.specs.Texts.{FoundMemory, IsReportFound, IsTextFound, PrintsAllFound}
 use Rattle.fx_texts.proofs.Counts.{after_grows, all_grows, history_counts, leads_counts, own_report, report_number}
 
@@ -67,37 +67,75 @@ numbers_behind ring (command ∷ commands) text reports report (next, line, othe
     (either_report own later reports report parts inside)
 
 -- a play that goes on behind others
-pub record PlayBehind (ring : RingContents) (commands : List Instruction) (reports : List Reported) : Type 0 where
-  pub text : List ℕ
+pub record PlayBehind (ring : RingContents) (commands : List Instruction) (text : List ℕ) (reports : List Reported) : Type 0 where
   pub all : List Reported
   pub prints : PrintsAllFound ring commands text all
   pub keeps : (report : Reported) → Contains reports report → Contains all report
 
-pub play_behind : (ring mid : RingContents) (front rest : List Instruction) (text : List ℕ) (reports : List Reported) → LeadsAll ring front mid
-    → PrintsAllFound mid rest text reports → PlayBehind ring (front ++ rest) reports
-play_behind ring mid [] rest text reports here prints = record {
-  text = text;
+pub play_behind : (ring mid : RingContents) (front rest : List Instruction) (before text : List ℕ) (reports : List Reported)
+    → LeadsAll ring front mid before → PrintsAllFound mid rest text reports → PlayBehind ring (front ++ rest) (before ++ text) reports
+play_behind ring mid [] rest before text reports (here, none) prints = record {
   all = reports;
-  prints = subst (λ (r : RingContents). PrintsAllFound r rest text reports) (sym here) prints;
+  prints = subst (λ (t : List ℕ). PrintsAllFound ring rest t reports) (ap (λ (b : List ℕ). b ++ text) (sym none))
+      (subst (λ (r : RingContents). PrintsAllFound r rest text reports) (sym here) prints);
   keeps = λ report inside. inside;
 }
-play_behind ring mid (command ∷ front) rest text reports (next, one, later) prints =
-    let line = one.0 in
-    let own = one.1 in
-    let p = play_behind next mid front rest text reports later prints in
+play_behind ring mid (command ∷ front) rest before text reports (next, line, others, (own, one, memory), split, later) prints =
+    let p = play_behind next mid front rest others text reports later prints in
     record {
-      text = line ++ p.text;
       all = option_to_list own ++ p.all;
-      prints = (next, line, p.text, own, p.all, one.2, one.3, refl, refl, p.prints);
+      prints = (
+        next,
+        line,
+        others ++ text,
+        own,
+        p.all,
+        one,
+        memory,
+        ap (λ (b : List ℕ). b ++ text) split ∙ append_assoc line others text,
+        refl,
+        p.prints,
+      );
       keeps = λ report inside. Contains-append_right (option_to_list own) p.all report (p.keeps report inside);
+    }
+
+-- how a whole play is led to its end
+pub record LedToEnd (ring : RingContents) (commands : List Instruction) (text : List ℕ) : Type 0 where
+  pub last : RingContents
+  pub before : List ℕ
+  pub end : List ℕ
+  pub leads : LeadsAll ring commands last before
+  pub prints : PrintsEnd (ring_of last) end
+  pub split : text ≡ before ++ end
+
+pub led_to_end : (ring : RingContents) (commands : List Instruction) (text : List ℕ) (reports : List Reported) → PrintsAllFound ring commands text reports
+    → LedToEnd ring commands text
+led_to_end ring [] text reports (end, none) = record {
+  last = ring;
+  before = [];
+  end = text;
+  leads = (refl, refl);
+  prints = end;
+  split = refl;
+}
+led_to_end ring (command ∷ commands) text reports (next, line, others, own, later, prints, memory, split, parts, rest) =
+    let l = led_to_end next commands others later rest in
+    record {
+      last = l.last;
+      before = line ++ l.before;
+      end = l.end;
+      leads = (next, line, l.before, (own, prints, memory), refl, l.leads);
+      prints = l.prints;
+      split = split ∙ ap (λ (t : List ℕ). line ++ t) l.split ∙ sym (append_assoc line l.before l.end);
     }
 
 -- where a submission's report comes from
 pub record ReportAt (ring : RingContents) (front : List Instruction) (asked : List Asked) (report : Reported) : Type 0 where
   pub mid : RingContents
   pub next : RingContents
+  pub before : List ℕ
   pub line : List ℕ
-  pub leads : LeadsAll ring front mid
+  pub leads : LeadsAll ring front mid before
   pub prints : Prints mid (SubmitsAll asked) next line
   pub found : IsReportFound mid asked next line report
 
@@ -112,8 +150,9 @@ report_at ring [] asked behind text reports report (next, line, others, own, lat
     (λ own_is. record {
       mid = ring;
       next = next;
+      before = [];
       line = line;
-      leads = refl;
+      leads = (refl, refl);
       prints = prints;
       found = subst (λ (o : Option Reported). FoundMemory ring (SubmitsAll asked) next line o) own_is memory;
     })
@@ -133,8 +172,9 @@ report_at ring (command ∷ front) asked behind text reports report (next, line,
     record {
       mid = at.mid;
       next = at.next;
+      before = line ++ at.before;
       line = at.line;
-      leads = (next, (line, own, prints, memory), at.leads);
+      leads = (next, line, at.before, (own, prints, memory), refl, at.leads);
       prints = at.prints;
       found = at.found;
     })

@@ -1,6 +1,6 @@
 -- What an accepted submission may come to at a ring that is kept as slots.
-use Rattle.std.proofs.Common.{◌≡◌, ℕ, ◌+◌, ◌<◌, ◌≤◌, Bool, true, false, nat_le, if◌then◌else◌, List, [], ◌∷◌, ◌++◌, length, map, refl, sym, ap, subst, ◌∙◌, arith, Option, Some, None, slice_index_or}
-use Rattle.std.specs.Prelude.{Contains}
+use Rattle.std.proofs.Common.{slice_get, ◌≡◌, ℕ, ◌+◌, ◌<◌, Bool, true, false, nat_le, if◌then◌else◌, List, [], ◌++◌, length, refl, sym, ap, subst, ◌∙◌, arith, Option, Some, None, slice_index_or}
+use Rattle.std.specs.Prelude.{All, Contains}
 use Rattle.std.specs.Global.{Vec}
 use Rattle.fx_base.specs.Catalogue.{FileEntry}
 use Rattle.fx_base.specs.declared.open_file.Closed.{Closed}
@@ -8,24 +8,33 @@ use Rattle.fx_order.specs.Slots.{ring_of_slots}
 use Rattle.std.specs.Bool.{MatchBool}
 use Rattle.std.specs.Option.{MatchOption}
 use Rattle.std.proofs.lemmas.Bool.{lt-leb}
-use Rattle.fx_chain.specs.Completed.{Completed, completed_of}
+use Rattle.fx_chain.specs.Completed.{completed_of}
 use Rattle.fx_chain.specs.Faults.{fault_of}
 use Rattle.fx_chain.specs.Operation.{Asked}
 use Rattle.fx_chain.specs.declared.completion.Place.{Place}
 use Rattle.fx_chain.specs.declared.fault.CutFault.{CutFault}
 use Rattle.fx_order.specs.declared.access.ChainAccess.{ChainAccess}
 use Rattle.fx_order.specs.declared.slots.Slots.{Slots}
-use Rattle.fx_answers.specs.Outcomes.{HasEachEnd, IsAnswer, IsEnd, IsReportBy, MayReport, ring_behind, rings_behind}
+use Rattle.fx_answers.specs.Outcomes.{HasEachEnd, HasEachReport, IsAnswer, IsEnd, IsPossible, IsReportBy, MayReport, TellsOf, ring_behind}
 use Rattle.fx_answers.specs.declared.end.End.{End}
 use Rattle.fx_answers.specs.declared.outcome.Answer.{Answer}
-use Rattle.fx_ring.specs.Ring.{RingContents, RingState, ring_of}
-use Rattle.fx_ring.specs.Submission.{Reported}
+use Rattle.fx_answers.specs.declared.report.PossibleReport.{PossibleReport}
+use Rattle.fx_ring.specs.Ring.{IsRing, RingContents, RingState, ring_of}
+use Rattle.fx_ring.specs.Submission.{Reported, reported}
 use Rattle.fx_ring.specs.declared.ring.TheConstants.{MOST_SUBMISSIONS}
 use Rattle.fx_language.specs.Instruction.{Instruction, SubmitsAll}
 use Rattle.fx_script.specs.Play.{Prints, PrintsReport}
-use Rattle.fx_script.specs.Text.{refused_line, report_text, too_many_line}
-use Rattle.fx_texts.specs.Rings.{HasEachNext, Leads, MayEnd, MayLeadTo, MaySay, count_behind}
-use Rattle.fx_texts.specs.Texts.{FoundMemory, IsReportFound}
+use Rattle.fx_script.specs.Text.{closes_text, completion_lines, refused_line, report_text, too_many_line}
+use Rattle.fx_chain.specs.Accepted.{IsAccepted}
+use Rattle.fx_check.proofs.ClosesInOrder.{one_close_list}
+use Rattle.fx_order.proofs.OneRing.{each_closed_file_is_known}
+use Rattle.fx_order.specs.Laws.{AreKnown}
+use Rattle.fx_order.specs.Order.{ring_left}
+use Rattle.std.proofs.lemmas.Bool.{true≢false}
+use Rattle.std.proofs.lemmas.List.Sorted.{IsPermutation-refl}
+use Rattle.fx_texts.specs.Rings.{HasEachNext, Leads, MayEnd, MayLeadTo, MaySay, Stage, count_behind, kept, stage_left, stage_reported}
+use Rattle.fx_texts.proofs.Growth.{all_contained, at_one, element, get_at}
+use Rattle.fx_texts.specs.Texts.{IsReportFound}
 use Rattle.fx_texts.proofs.Counts.{history_counts, submission_counts}
 
 -- a report that memory is found for is printed
@@ -40,22 +49,42 @@ prints_report ring next asked line accepted few reports =
 
 -- where a history leads and finds memory, the submission leads
 pub report_leads : (ring next : RingContents) (asked : List Asked) (report : Reported) → fault_of asked ≡ None → ring.submissions < MOST_SUBMISSIONS
-    → MayReport ring asked report next → Leads ring (SubmitsAll asked) next
+    → MayReport ring asked report next → Leads ring (SubmitsAll asked) next (report_text ring.catalogue report)
 report_leads ring next asked report accepted few may = (
-  report_text ring.catalogue report,
   Some report,
   prints_report ring next asked (report_text ring.catalogue report) accepted few (report, may.history, refl),
   record { may = may; printed = refl },
 )
 
+kept_none : (keeps : Bool) (a b : List ℕ) → keeps ≡ false → kept keeps a ≡ kept keeps b
+kept_none true a b silent = absurd (true≢false silent)
+kept_none false a b silent = refl
+
+module _ (keeps : Bool) (old : Stage) (asked : List Asked) (faultless : fault_of asked ≡ None) (few : old.ring.submissions < MOST_SUBMISSIONS) where
+  few_there : (ring : RingContents) → ring_of ring ≡ old.ring → ring.submissions < MOST_SUBMISSIONS
+  few_there ring same = subst (λ (r : RingState). r.submissions < MOST_SUBMISSIONS) (sym same) few
+
+  pub end_may_lead : (end : End) → keeps ≡ false → IsEnd old.ring asked end → MayLeadTo keeps old (SubmitsAll asked) (stage_left keeps old end.slots [])
+  end_may_lead end silent is = λ ring same.
+      let (left, behind, may) = is.may ring same in
+      let line = report_text ring.catalogue may.report in
+      let texts = kept_none keeps (old.printed ++ line) (old.printed ++ []) silent in
+      (left, line, report_leads ring left asked may.report faultless (few_there ring same) may.may, λ i. record { ring = behind i; printed = texts i })
+
+  pub possible_may_lead : (possible : PossibleReport) → IsPossible old.ring asked possible
+      → MayLeadTo keeps old (SubmitsAll asked) (stage_reported keeps old possible)
+  possible_may_lead possible is = λ ring same.
+      let (left, behind, may) = is.may ring same in
+      let report = reported possible.report in (
+        left,
+        report_text ring.catalogue report,
+        report_leads ring left asked report faultless (few_there ring same) may,
+        λ i. record { ring = behind i; printed = kept keeps (old.printed ++ report_text (same i).catalogue report) },
+      )
+
 module _ (old : RingState) (asked : List Asked) (faultless : fault_of asked ≡ None) (few : old.submissions < MOST_SUBMISSIONS) where
   few_at : (ring : RingContents) → ring_of ring ≡ old → ring.submissions < MOST_SUBMISSIONS
   few_at ring same = subst (λ (r : RingState). r.submissions < MOST_SUBMISSIONS) (sym same) few
-
-  pub end_may_lead : (end : End) → IsEnd old asked end → MayLeadTo old (SubmitsAll asked) (ring_behind old end.slots)
-  end_may_lead end is = λ ring same.
-      let (left, behind, may) = is.may ring same in
-      (left, report_leads ring left asked may.report faultless (few_at ring same) may.may, behind)
 
   pub answer_may_say : (place : Place) (answer : Answer) (commands : List Instruction) → IsAnswer old asked place answer
       → MayEnd (ring_behind old answer.slots) commands → MaySay old asked commands place (completed_of answer.completion)
@@ -79,19 +108,71 @@ pub as_many : (old : RingState) (asked : List Asked) (order : List ChainAccess) 
     → length slots.at.items ≡ old.size
 as_many old asked order report slots by = ap (λ (r : RingState). r.size) by.leaves
 
--- each ring that the submission leads to is that of an end
-pub ends_are_all : (old : RingState) (asked : List Asked) (ends : List End) (states : List RingState)
-    → ((s : RingState) → Contains (rings_behind old ends) s → Contains states s)
-    → count_behind old.submissions (fault_of asked) ≡ old.submissions + 1 → HasEachEnd old asked ends
-    → HasEachNext old (SubmitsAll asked) states
-ends_are_all old asked ends states inside counted all ring next same (line, None, prints, stays) =
+-- a submission that is counted has a report
+reports_once : (old : RingState) (ring next : RingContents) (asked : List Asked) (line : List ℕ) → ring_of ring ≡ old
+    → count_behind old.submissions (fault_of asked) ≡ old.submissions + 1 → Prints ring (SubmitsAll asked) next line
+    → next.submissions ≡ ring.submissions → ⊥
+reports_once old ring next asked line same counted prints stays =
     let one = submission_counts ring next asked line prints in
     let here : ring.submissions ≡ old.submissions = ap (λ (r : RingState). r.submissions) same in
     let same_count : count_behind ring.submissions (fault_of asked) ≡ count_behind old.submissions (fault_of asked) =
     ap (λ (n : ℕ). count_behind n (fault_of asked)) here in
     absurd (omega (arith, one, here, same_count, counted, stays))
-ends_are_all old asked ends states inside counted all ring next same (line, Some report, prints, found) =
-    inside (ring_of next) (all ring next same (record { report = report; may = found.may }))
+
+-- where it isn't kept what is printed, each stage that the submission leads to is that of an end
+pub ends_are_all : (keeps : Bool) (old : Stage) (asked : List Asked) (ends : List End) (stages : List Stage) → keeps ≡ false
+    → ((end : End) → Contains ends end → Contains stages (stage_left keeps old end.slots []))
+    → count_behind old.ring.submissions (fault_of asked) ≡ old.ring.submissions + 1 → HasEachEnd old.ring asked ends
+    → HasEachNext keeps old (SubmitsAll asked) stages
+ends_are_all keeps old asked ends stages silent inside counted all ring next line same (None, prints, stays) =
+    absurd (reports_once old.ring ring next asked line same counted prints stays)
+ends_are_all keeps old asked ends stages silent inside counted all ring next line same (Some report, prints, found) =
+    let (end, there, is) = element (λ (e : End). ring_behind old.ring e.slots) ends (ring_of next)
+    (all ring next same (record { report = report; may = found.may })) in
+    let texts = kept_none keeps (old.printed ++ []) (old.printed ++ line) silent in
+    subst (λ (s : Stage). Contains stages s) (λ i. record { ring = is i; printed = texts i }) (inside end there)
+
+-- where a report tells of another one, both print the same
+module _ (old : RingState) (asked : List Asked) (is_ring : IsRing old) (accepted : IsAccepted asked) (ring next : RingContents) (same : ring_of ring ≡ old)
+    (report : Reported) (may : MayReport ring asked report next) (possible : PossibleReport) (is : IsPossible old asked possible)
+    (tells : TellsOf old report (ring_of next) possible) where
+  abbrev told : Reported
+  told = reported possible.report
+
+  known : AreKnown old asked told.closes.files
+  known = each_closed_file_is_known old asked told (ring_left possible.order.items old) is_ring accepted
+      (record { order = possible.order.items; is = is.by.is; after = refl })
+
+  one_file : (x y : Closed) → Contains told.closes.files x → Contains told.closes.files y → x.mark ≡ y.mark → x ≡ y
+  one_file x y (i, low, at) (j, high, there) marks =
+      let places : i ≡ j = known.distinct i j x y (get_at told.closes.files i x low at) (get_at told.closes.files j y high there) marks in
+      let found : Some x ≡ Some y =
+      sym (get_at told.closes.files i x low at) ∙ ap (slice_get told.closes.files) places ∙ get_at told.closes.files j y high there in
+      cc
+
+  closes_same : told.closes.files ≡ report.closes.files
+  closes_same = one_close_list (Contains told.closes.files) one_file told.closes.files told.closes report.closes (all_contained told.closes.files)
+      (record { same_files = IsPermutation-refl told.closes.files; in_order = is.by.is.closed.in_order })
+      (record { same_files = tells.closes; in_order = may.history.closed.in_order })
+
+  pub texts_same : report_text ring.catalogue report ≡ report_text old.catalogue told
+  texts_same = λ i. completion_lines (tells.completions i) ++ closes_text (same i).catalogue (sym closes_same i)
+
+-- where it is kept, each stage that the submission leads to is that of a report
+pub reports_are_all : (keeps : Bool) (old : Stage) (asked : List Asked) (reports : List PossibleReport) (stages : List Stage) → IsRing old.ring
+    → IsAccepted asked → All (IsPossible old.ring asked) reports
+    → ((possible : PossibleReport) → Contains reports possible → Contains stages (stage_reported keeps old possible))
+    → count_behind old.ring.submissions (fault_of asked) ≡ old.ring.submissions + 1 → HasEachReport old.ring asked reports
+    → HasEachNext keeps old (SubmitsAll asked) stages
+reports_are_all keeps old asked reports stages is_ring accepted each inside counted all ring next line same (None, prints, stays) =
+    absurd (reports_once old.ring ring next asked line same counted prints stays)
+reports_are_all keeps old asked reports stages is_ring accepted each inside counted all ring next line same (Some report, prints, found) =
+    let (possible, there, tells) = all ring next report same found.may in
+    let is : IsPossible old.ring asked possible = at_one (IsPossible old.ring asked) reports possible each there in
+    let texts : line ≡ report_text old.ring.catalogue (reported possible.report) =
+    found.printed ∙ texts_same old.ring asked is_ring accepted ring next same report found.may possible is tells in
+    subst (λ (s : Stage). Contains stages s)
+    (λ i. record { ring = sym tells.leaves i; printed = kept keeps (old.printed ++ sym texts i) }) (inside possible there)
 
 pub counted_one : (requests : List Asked) (count : ℕ) → fault_of requests ≡ None → count < MOST_SUBMISSIONS
     → count_behind count (fault_of requests) ≡ count + 1

@@ -1,51 +1,95 @@
 -- Commands that lead on, one behind others.
-use Rattle.std.proofs.Common.{◌≡◌, ℕ, zero, suc, ◌+◌, ◌<◌, List, [], ◌∷◌, ◌++◌, length, take, drop, refl, sym, ap, subst, ◌∙◌, arith, slice_index_or}
+use Rattle.std.proofs.Common.{◌≡◌, ℕ, Bool, true, false, zero, suc, ◌+◌, ◌<◌, List, [], ◌∷◌, ◌++◌, length, take, drop, refl, sym, ap, subst, ◌∙◌, arith, slice_index_or}
 use Rattle.std.specs.Prelude.{Contains}
-use Rattle.std.proofs.lemmas.List.{drop_more, map-append, take-append-drop}
+use Rattle.std.proofs.lemmas.List.{append-nil, append_assoc, drop_more, map-append, take-append-drop}
 use Rattle.fx_ring.specs.Ring.{RingContents, RingState, ring_of}
 use Rattle.fx_language.specs.Instruction.{Instruction, instruction_of, instructions_of}
 use Rattle.fx_language.specs.declared.command.Command.{Command}
-use Rattle.fx_texts.specs.Rings.{AreFrom, HasEachFrom, HasEachLast, Leads, LeadsAll, MayLeadAllTo, MayLeadTo, count_after, count_after_all}
+use Rattle.fx_texts.specs.Rings.{AreFrom, HasEachFrom, HasEachLast, Leads, LeadsAll, MayLeadAllTo, Stage, count_after, count_after_all, kept, stage}
 
-leads_behind : (ring mid last : RingContents) (front : List Instruction) (command : Instruction) → LeadsAll ring front mid → Leads mid command last
-    → LeadsAll ring (front ++ command ∷ []) last
-leads_behind ring mid last [] command here leads = (last, subst (λ (r : RingContents). Leads r command last) (sym here) leads, refl)
-leads_behind ring mid last (first ∷ front) command (next, one, rest) leads = (next, one, leads_behind next mid last front command rest leads)
+leads_behind : (ring mid last : RingContents) (front : List Instruction) (command : Instruction) (before line : List ℕ) → LeadsAll ring front mid before
+    → Leads mid command last line → LeadsAll ring (front ++ command ∷ []) last (before ++ line)
+leads_behind ring mid last [] command before line (here, none) leads = (
+  last,
+  line,
+  [],
+  subst (λ (r : RingContents). Leads r command last line) (sym here) leads,
+  ap (λ (b : List ℕ). b ++ line) none ∙ sym (append-nil line),
+  (refl, refl),
+)
+leads_behind ring mid last (first ∷ front) command before line (next, printed, others, one, split, rest) leads = (
+  next,
+  printed,
+  others ++ line,
+  one,
+  ap (λ (b : List ℕ). b ++ line) split ∙ append_assoc printed others line,
+  leads_behind next mid last front command others line rest leads,
+)
 
 -- rings before the last one of some commands
-record BeforeLast (ring last : RingContents) (front : List Instruction) (command : Instruction) : Type 0 where
+record BeforeLast (ring last : RingContents) (front : List Instruction) (command : Instruction) (text : List ℕ) : Type 0 where
   mid : RingContents
-  all : LeadsAll ring front mid
-  one : Leads mid command last
+  before : List ℕ
+  line : List ℕ
+  all : LeadsAll ring front mid before
+  one : Leads mid command last line
+  split : text ≡ before ++ line
 
-before_last : (ring last : RingContents) (front : List Instruction) (command : Instruction) → LeadsAll ring (front ++ command ∷ []) last
-    → BeforeLast ring last front command
-before_last ring last [] command (next, one, rest) = record {
+before_last : (ring last : RingContents) (front : List Instruction) (command : Instruction) (text : List ℕ)
+    → LeadsAll ring (front ++ command ∷ []) last text → BeforeLast ring last front command text
+before_last ring last [] command text (next, line, others, one, split, (here, none)) = record {
   mid = ring;
-  all = refl;
-  one = subst (λ (r : RingContents). Leads ring command r) rest one;
+  before = [];
+  line = line;
+  all = (refl, refl);
+  one = subst (λ (r : RingContents). Leads ring command r line) here one;
+  split = split ∙ ap (λ (o : List ℕ). line ++ o) none ∙ append-nil line;
 }
-before_last ring last (first ∷ front) command (next, one, rest) =
-    let b = before_last next last front command rest in
-    record { mid = b.mid; all = (next, one, b.all); one = b.one }
+before_last ring last (first ∷ front) command text (next, line, others, one, split, rest) =
+    let b = before_last next last front command others rest in
+    record {
+      mid = b.mid;
+      before = line ++ b.before;
+      line = b.line;
+      all = (next, line, b.before, one, refl, b.all);
+      one = b.one;
+      split = split ∙ ap (λ (o : List ℕ). line ++ o) b.split ∙ sym (append_assoc line b.before b.line);
+    }
+
+-- what is kept of a text and a line is what is kept of what was kept and the line
+kept_on : (keeps : Bool) (before line : List ℕ) → kept keeps (before ++ line) ≡ kept keeps (kept keeps before ++ line)
+kept_on true before line = refl
+kept_on false before line = refl
+
+stage_on : (keeps : Bool) (ring : RingContents) (before line printed : List ℕ) → kept keeps before ≡ printed
+    → stage keeps ring (before ++ line) ≡ stage keeps ring (printed ++ line)
+stage_on keeps ring before line printed is =
+    let texts = kept_on keeps before line ∙ ap (λ (p : List ℕ). kept keeps (p ++ line)) is in
+    λ i. record { ring = ring_of ring; printed = texts i }
 
 -- one more command
 
-pub each_more : (first : RingState) (front : List Instruction) (command : Instruction) (old new : List RingState)
-    → ((s : RingState) → Contains old s → MayLeadAllTo first front s) → AreFrom old command new
-    → (s : RingState) → Contains new s → MayLeadAllTo first (front ++ command ∷ []) s
-each_more first front command old new each from s inside =
+pub each_more : (keeps : Bool) (first : RingState) (front : List Instruction) (command : Instruction) (old new : List Stage)
+    → ((s : Stage) → Contains old s → MayLeadAllTo keeps first front s) → AreFrom keeps old command new
+    → (s : Stage) → Contains new s → MayLeadAllTo keeps first (front ++ command ∷ []) s
+each_more keeps first front command old new each from s inside =
     let (o, there, leads) = from s inside in
     λ ring same.
-    let (mid, all, mid_is) = each o there ring same in
-    let (last, one, last_is) = leads mid mid_is in
-    (last, leads_behind ring mid last front command all one, last_is)
+    let (mid, before, all, mid_is) = each o there ring same in
+    let (last, line, one, last_is) = leads mid (ap (λ (t : Stage). t.ring) mid_is) in (
+      last,
+      before ++ line,
+      leads_behind ring mid last front command before line all one,
+      stage_on keeps last before line o.printed (ap (λ (t : Stage). t.printed) mid_is) ∙ last_is,
+    )
 
-pub all_more : (first : RingState) (front : List Instruction) (command : Instruction) (old new : List RingState)
-    → HasEachLast first front old → HasEachFrom old command new → HasEachLast first (front ++ command ∷ []) new
-all_more first front command old new all next ring last same leads =
-    let b = before_last ring last front command leads in
-    next (ring_of b.mid) (all ring b.mid same b.all) b.mid last refl b.one
+pub all_more : (keeps : Bool) (first : RingState) (front : List Instruction) (command : Instruction) (old new : List Stage)
+    → HasEachLast keeps first front old → HasEachFrom keeps old command new → HasEachLast keeps first (front ++ command ∷ []) new
+all_more keeps first front command old new all next ring last text same leads =
+    let b = before_last ring last front command text leads in
+    subst (λ (s : Stage). Contains new s)
+    (sym (stage_on keeps last b.before b.line (kept keeps b.before) refl) ∙ ap (λ (t : List ℕ). stage keeps last t) (sym b.split))
+    (next (stage keeps b.mid b.before) (all ring b.mid b.before same b.all) b.mid last b.line refl b.one)
 
 pub taken_more : (commands : List Command) (done : ℕ) (command : Command) → done < length commands
     → command ≡ slice_index_or commands done command

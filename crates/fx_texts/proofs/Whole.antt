@@ -1,22 +1,22 @@
--- What a request may answer in a whole play.
-use Rattle.std.proofs.Common.{◌≡◌, ◌⊎◌, ℕ, ◌+◌, ◌<◌, ◌≤◌, List, [], ◌∷◌, ◌++◌, length, map, refl, sym, ap, subst, ◌∙◌, arith, ⊎_elim, Some}
+-- What a whole play prints, and what a request may answer in it.
+use Rattle.std.proofs.Common.{Bool, true, ◌≡◌, ◌⊎◌, ℕ, ◌+◌, ◌<◌, List, [], ◌∷◌, ◌++◌, refl, sym, ap, subst, ◌∙◌, arith, ⊎_elim, Some}
 use Rattle.std.specs.Prelude.{Contains}
 use Rattle.std.specs.Option.{option_to_list}
-use Rattle.fx_base.specs.Catalogue.{FileEntry}
 use Rattle.fx_chain.specs.Completed.{Completed}
 use Rattle.fx_chain.specs.Faults.{fault_of}
 use Rattle.fx_chain.specs.Operation.{Asked}
 use Rattle.fx_chain.specs.declared.completion.Place.{Place}
 use Rattle.fx_order.proofs.Shown.{ring_with_files, shows_ring}
 use Rattle.fx_ring.specs.Ring.{RingContents, RingState, files_of, new_ring, ring_of}
-use Rattle.fx_ring.specs.Submission.{Reported}
 use Rattle.fx_language.specs.Instruction.{Instruction, SubmitsAll}
 use Rattle.fx_language.specs.Script.{Meaning}
+use Rattle.fx_script.specs.Play.{PrintsEnd}
 use Rattle.fx_script.specs.Text.{teardown_text}
-use Rattle.fx_texts.specs.Rings.{HasEachLast, HasEachSaidFrom, LeadsAll, MayEnd, MayLeadAllTo, MayLeadTo, MaySay, count_after_all, count_behind}
-use Rattle.fx_texts.specs.Texts.{MayAnswerIn, PrintsAllFound}
+use Rattle.std.proofs.lemmas.List.{append-nil}
+use Rattle.fx_texts.specs.Rings.{HasEachLast, HasEachSaidFrom, MayEnd, MayLeadAllTo, MayLeadTo, MaySay, EndsAs, IsTextAt, Stage, count_after_all, count_behind, stage}
+use Rattle.fx_texts.specs.Texts.{IsTextFound, MayAnswerIn, PrintsAllFound}
 use Rattle.fx_texts.proofs.Counts.{all_counts, report_number}
-use Rattle.fx_texts.proofs.Plays.{numbers_behind, play_behind, report_at}
+use Rattle.fx_texts.proofs.Plays.{led_to_end, numbers_behind, play_behind, report_at}
 use Rattle.fx_texts.proofs.Sorted.{closes_for, has_closed}
 
 -- the end of the script can be printed
@@ -27,12 +27,12 @@ may_end state = λ ring same. (
   ((closes_for (files_of (ring_of ring)), has_closed (files_of (ring_of ring)), refl), refl),
 )
 
-pub may_end_behind : (old new : RingState) (command : Instruction) (commands : List Instruction) → MayLeadTo old command new → MayEnd new commands
-    → MayEnd old (command ∷ commands)
-may_end_behind old new command commands leads ends = λ ring same.
-    let (next, one, is) = leads ring same in
-    let (text, reports, rest) = ends next is in
-    (one.0 ++ text, option_to_list one.1 ++ reports, (next, one.0, text, one.1, reports, one.2, one.3, refl, refl, rest))
+pub may_end_behind : (keeps : Bool) (old new : Stage) (command : Instruction) (commands : List Instruction) → MayLeadTo keeps old command new
+    → MayEnd new.ring commands → MayEnd old.ring (command ∷ commands)
+may_end_behind keeps old new command commands leads ends = λ ring same.
+    let (next, line, (own, prints, found), is) = leads ring same in
+    let (text, reports, rest) = ends next (ap (λ (s : Stage). s.ring) is) in
+    (line ++ text, option_to_list own ++ reports, (next, line, text, own, reports, prints, found, refl, refl, rest))
 
 count_at_start : (script : Meaning) (ring : RingContents) → ring_of ring ≡ new_ring script.catalogue → ring.submissions ≡ 0
 count_at_start script ring starts = ap (λ (r : RingState). r.submissions) starts
@@ -40,24 +40,25 @@ count_at_start script ring starts = ap (λ (r : RingState). r.submissions) start
 module _ (script : Meaning) (place : Place) (front : List Instruction) (asked : List Asked) (behind : List Instruction)
     (split : script.commands ≡ front ++ SubmitsAll asked ∷ behind) (number : place.submission ≡ count_after_all 0 front + 1) where
   -- what is said behind the first commands is an answer of a play
-  pub said_is_answered : (o : RingState) (c : Completed) → MayLeadAllTo (new_ring script.catalogue) front o → MaySay o asked behind place c
-      → MayAnswerIn script place c
-  said_is_answered o c leads says =
+  pub said_is_answered : (keeps : Bool) (o : Stage) (c : Completed) → MayLeadAllTo keeps (new_ring script.catalogue) front o
+      → MaySay o.ring asked behind place c → MayAnswerIn script place c
+  said_is_answered keeps o c leads says =
       let start = ring_with_files (new_ring script.catalogue) in
       let starts : ring_of start ≡ new_ring script.catalogue = shows_ring (new_ring script.catalogue) (λ slot past. refl) in
-      let (mid, all, mid_is) = leads start starts in
-      let (next, line, report, prints, found, inside, whole) = says.says mid mid_is in
+      let (mid, before, all, mid_is) = leads start starts in
+      let (next, line, report, prints, found, inside, whole) = says.says mid (ap (λ (s : Stage). s.ring) mid_is) in
       let text = whole.0 in
       let reports = whole.1 in
       let here : PrintsAllFound mid (SubmitsAll asked ∷ behind) (line ++ text) (report ∷ reports) =
       (next, line, text, Some report, reports, prints, found, refl, refl, whole.2) in
-      let play = play_behind start mid front (SubmitsAll asked ∷ behind) (line ++ text) (report ∷ reports) all here in
+      let printed = before ++ (line ++ text) in
+      let play = play_behind start mid front (SubmitsAll asked ∷ behind) before (line ++ text) (report ∷ reports) all here in
       let count : mid.submissions ≡ count_after_all 0 front =
-      all_counts start mid front all ∙ ap (λ (n : ℕ). count_after_all n front) (count_at_start script start starts) in
+      all_counts start mid front before all ∙ ap (λ (n : ℕ). count_after_all n front) (count_at_start script start starts) in
       record {
-        text = play.text;
+        text = printed;
         reports = play.all;
-        play = (start, starts, subst (λ (l : List Instruction). PrintsAllFound start l play.text play.all) (sym split) play.prints);
+        play = (start, starts, subst (λ (l : List Instruction). PrintsAllFound start l printed play.all) (sym split) play.prints);
         report = report;
         among = play.keeps report (0, omega arith, refl);
         submission = report_number mid next asked report found.may.history ∙ ap (λ (n : ℕ). n + 1) count ∙ sym number;
@@ -66,10 +67,11 @@ module _ (script : Meaning) (place : Place) (front : List Instruction) (asked : 
       }
 
   -- an answer of a play is said behind the first commands
-  pub answer_is_said : (states : List RingState) (said : List Completed) (c : Completed)
+  pub answer_is_said : (keeps : Bool) (stages : List Stage) (said : List Completed) (c : Completed)
       → count_behind (count_after_all 0 front) (fault_of asked) ≡ place.submission
-      → HasEachLast (new_ring script.catalogue) front states → HasEachSaidFrom states asked place said → MayAnswerIn script place c → Contains said c
-  answer_is_said states said c counted last each may =
+      → HasEachLast keeps (new_ring script.catalogue) front stages → HasEachSaidFrom stages asked place said → MayAnswerIn script place c
+      → Contains said c
+  answer_is_said keeps stages said c counted last each may =
       let ring = may.play.0 in
       let starts : ring_of ring ≡ new_ring script.catalogue = may.play.1 in
       let none = count_at_start script ring starts in
@@ -78,7 +80,7 @@ module _ (script : Meaning) (place : Place) (front : List Instruction) (asked : 
       (subst (λ (l : List Instruction). PrintsAllFound ring l may.text may.reports) split may.play.2) may.among
       (may.submission ∙ number ∙ ap (λ (n : ℕ). n + 1) (sym from_start))
       (ap (λ (n : ℕ). count_behind n (fault_of asked)) from_start ∙ counted ∙ number ∙ ap (λ (n : ℕ). n + 1) (sym from_start)) in
-      each (ring_of at.mid) (last ring at.mid starts at.leads) at.mid at.next at.line may.report c refl at.prints at.found may.inside may.there
+      each (stage keeps at.mid at.before) (last ring at.mid at.before starts at.leads) at.mid at.next at.line may.report c refl at.prints at.found may.inside may.there
 
 -- no request answers in a submission that isn't there
 pub none_answered : (script : Meaning) (place : Place) (c : Completed)
@@ -93,3 +95,30 @@ none_answered script place c none may =
     let high = n.1 in
     let is = may.submission in
     ⊎_elim (λ zero_is. omega (arith, low, is, zero_is)) (λ past. omega (arith, high, is, past, from_start)) none
+
+-- the texts of a script are those of the stages that it may come to
+
+pub stage_texts : (script : Meaning) (text : List ℕ) (stages : List Stage)
+    → ((s : Stage) → Contains stages s → MayLeadAllTo true (new_ring script.catalogue) script.commands s) → IsTextAt stages text
+    → IsTextFound script text
+stage_texts script text stages each (s, inside, (end, prints, split)) =
+    let start = ring_with_files (new_ring script.catalogue) in
+    let starts : ring_of start ≡ new_ring script.catalogue = shows_ring (new_ring script.catalogue) (λ slot past. refl) in
+    let (last, before, all, is) = each s inside start starts in
+    let ends : PrintsEnd (ring_of last) end = subst (λ (r : RingState). PrintsEnd r end) (sym (ap (λ (t : Stage). t.ring) is)) prints in
+    let play = play_behind start last script.commands [] before end [] all (ends, refl) in
+    let printed : before ++ end ≡ text = ap (λ (p : List ℕ). p ++ end) (ap (λ (t : Stage). t.printed) is) ∙ sym split in (
+      play.all,
+      (
+        start,
+        starts,
+        subst (λ (t : List ℕ). PrintsAllFound start script.commands t play.all) printed
+            (subst (λ (l : List Instruction). PrintsAllFound start l (before ++ end) play.all) (append-nil script.commands) play.prints),
+      ),
+    )
+
+pub text_at_stage : (script : Meaning) (text : List ℕ) (stages : List Stage) → HasEachLast true (new_ring script.catalogue) script.commands stages
+    → IsTextFound script text → (s : Stage) × Contains stages s × EndsAs s text
+text_at_stage script text stages all (reports, (ring, starts, prints)) =
+    let l = led_to_end ring script.commands text reports prints in
+    (stage true l.last l.before, all ring l.last l.before starts l.leads, (l.end, l.prints, l.split))

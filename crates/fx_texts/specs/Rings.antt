@@ -1,24 +1,30 @@
 -- The rings that commands may come to where memory is found.
-use Rattle.std.specs.Prelude.{◌≡◌, ◌⊎◌, ℕ, ◌+◌, List, [], ◌∷◌, ◌++◌, map, Option, Some, None}
-use Rattle.std.specs.Prelude.{Contains, nat_le, if◌then◌else◌}
+use Rattle.std.specs.Prelude.{◌≡◌, ◌⊎◌, ℕ, ◌+◌, pos, List, [], ◌∷◌, ◌++◌, codes, length, map}
+use Rattle.std.specs.Prelude.{Bool, true, false, Option, Some, None, Contains, nat_le}
+use Rattle.std.specs.Prelude.{if◌then◌else◌, string_bytes}
+use Rattle.std.specs.Option.{MatchOption}
 use Rattle.fx_base.specs.Catalogue.{FileEntry}
 use Rattle.fx_base.specs.declared.errno.Errno.{Errno}
-use Rattle.fx_chain.specs.Completed.{Completed, completed_of}
+use Rattle.fx_chain.specs.Completed.{Completed, completed_of, negated}
 use Rattle.fx_chain.specs.Faults.{fault_of}
 use Rattle.fx_chain.specs.Operation.{Asked, all_asked}
 use Rattle.fx_chain.specs.declared.completion.Place.{Place}
 use Rattle.fx_chain.specs.declared.fault.CutFault.{CutFault}
 use Rattle.fx_judge.specs.Verdict.{ring_with_slots}
-use Rattle.fx_ring.specs.Registration.{range_refusal, register_refusal, registered}
+use Rattle.fx_order.specs.declared.slots.Slots.{Slots}
+use Rattle.fx_answers.specs.Outcomes.{ring_behind}
+use Rattle.fx_answers.specs.declared.report.PossibleReport.{PossibleReport}
+use Rattle.fx_ring.specs.Registration.{range_refusal, register_refusal, registered, removed_from}
 use Rattle.fx_ring.specs.Registration.{registered_sparse, sparse_refusal, unregister_refusal}
 use Rattle.fx_ring.specs.Registration.{update_refusal, updated}
-use Rattle.fx_ring.specs.Ring.{RingContents, RingState, ring_of, without_table}
-use Rattle.fx_ring.specs.Submission.{Reported}
+use Rattle.fx_ring.specs.Ring.{IsRing, RingContents, RingState, files_of, ring_of, without_table}
+use Rattle.fx_ring.specs.Submission.{Reported, reported}
 use Rattle.fx_ring.specs.Tags.{tags_given}
 use Rattle.fx_ring.specs.declared.ring.TheConstants.{MOST_SUBMISSIONS}
 use Rattle.fx_language.specs.Instruction.{Instruction, MakesSparse, RegistersList, Unregisters}
 use Rattle.fx_language.specs.Instruction.{SetsRange, UpdatesRing, SubmitsAll, instructions_of}
-use Rattle.fx_script.specs.Play.{Prints}
+use Rattle.fx_script.specs.Play.{Prints, PrintsClosed, PrintsEnd}
+use Rattle.fx_script.specs.Text.{refused_line, report_text, result_line, too_many_line}
 use Rattle.fx_texts.specs.Texts.{FoundMemory, IsReportFound, PrintsAllFound}
 use Rattle.fx_texts.specs.declared.asking.Asking.{Asking}
 use Rattle.fx_texts.specs.declared.saying.Said.{Said}
@@ -64,50 +70,98 @@ abbrev pub IsCall : ℕ → Instruction → Type 0
 IsCall count (SubmitsAll asked) = count_behind count (fault_of asked) ≡ count
 IsCall count _ = Unit {0}
 
--- a command leads from one ring to the other and finds memory
-abbrev pub Leads : RingContents → Instruction → RingContents → Type 0
-Leads old command new =
-    (line : List ℕ) × (own : Option Reported)
-    × Prints old command new line × FoundMemory old command new line own
+-- what a call answers that finds memory: its refusal, if there is one, and else what it may print
+abbrev pub AnswersFound : Option Errno → List ℕ → (List ℕ → Type 0) → List ℕ → Type 0
+AnswersFound (Some errno) word accepted line = line ≡ result_line word (negated errno)
+AnswersFound None word accepted line = accepted line
+
+-- the line of a call between submissions, or of a refused one, where it finds memory; for the files
+-- that it closes there are as many lines
+abbrev pub IsLineOf : RingState → Instruction → List ℕ → Type 0
+IsLineOf ring (MakesSparse n) line =
+    AnswersFound (sparse_refusal ring n) (codes "sparse")
+    (λ line. line ≡ result_line (codes "sparse") (pos 0)) line
+IsLineOf ring (RegistersList list tags) line =
+    AnswersFound (register_refusal ring list (tags_given list tags)) (codes "register")
+    (λ line. line ≡ result_line (codes "register") (pos 0)) line
+IsLineOf ring Unregisters line =
+    AnswersFound (unregister_refusal ring) (codes "unregister")
+    (PrintsClosed ring (files_of ring) (result_line (codes "unregister") (pos 0))) line
+IsLineOf ring (SetsRange off len) line =
+    AnswersFound (range_refusal ring off len) (codes "range")
+    (λ line. line ≡ result_line (codes "range") (pos 0)) line
+IsLineOf ring (UpdatesRing off list tags) line =
+    AnswersFound (update_refusal ring off list (tags_given list tags)) (codes "regupdate")
+    (PrintsClosed ring (removed_from ring.at off list)
+    (result_line (codes "regupdate") (pos (length list)))) line
+IsLineOf ring (SubmitsAll asked) line =
+    MatchOption (fault_of asked) (line ≡ too_many_line) (λ fault. line ≡ refused_line fault)
+
+-- a command leads from one ring to the other, prints this and finds memory
+abbrev pub Leads : RingContents → Instruction → RingContents → List ℕ → Type 0
+Leads old command new line =
+    (own : Option Reported) × Prints old command new line × FoundMemory old command new line own
 
 -- the commands do, one after another
-abbrev pub LeadsAll : RingContents → List Instruction → RingContents → Type 0
-LeadsAll ring [] last = ring ≡ last
-LeadsAll ring (command ∷ commands) last =
-    (next : RingContents) × Leads ring command next × LeadsAll next commands last
+abbrev pub LeadsAll : RingContents → List Instruction → RingContents → List ℕ → Type 0
+LeadsAll ring [] last text = (ring ≡ last) × (text ≡ [])
+LeadsAll ring (command ∷ commands) last text =
+    (next : RingContents) × (line : List ℕ) × (others : List ℕ)
+    × Leads ring command next line × (text ≡ line ++ others) × LeadsAll next commands last others
 
--- each ring of the one state may be led to one of the other by the command
-abbrev pub MayLeadTo : RingState → Instruction → RingState → Type 0
-MayLeadTo old command new =
+-- how far a play has come: its ring, and what was printed, where that is kept
+pub record Stage : Type 0 where
+  pub ring : RingState
+  pub printed : List ℕ
+
+-- what is kept of a text
+abbrev pub kept : Bool → List ℕ → List ℕ
+kept true text = text
+kept false text = []
+
+-- the stage with this ring, behind this text
+abbrev pub stage : Bool → RingContents → List ℕ → Stage
+stage keeps ring text = record { ring = ring_of ring; printed = kept keeps text }
+
+-- each ring of the one stage may be led to the other stage by the command
+abbrev pub MayLeadTo : Bool → Stage → Instruction → Stage → Type 0
+MayLeadTo keeps old command new =
+    (ring : RingContents) → ring_of ring ≡ old.ring
+    → (next : RingContents) × (line : List ℕ) × Leads ring command next line
+    × (stage keeps next (old.printed ++ line) ≡ new)
+
+-- each ring of this state may be led there by the commands
+abbrev pub MayLeadAllTo : Bool → RingState → List Instruction → Stage → Type 0
+MayLeadAllTo keeps old commands new =
     (ring : RingContents) → ring_of ring ≡ old
-    → (next : RingContents) × Leads ring command next × (ring_of next ≡ new)
+    → (last : RingContents) × (text : List ℕ) × LeadsAll ring commands last text
+    × (stage keeps last text ≡ new)
 
--- the same by the commands
-abbrev pub MayLeadAllTo : RingState → List Instruction → RingState → Type 0
-MayLeadAllTo old commands new =
-    (ring : RingContents) → ring_of ring ≡ old
-    → (last : RingContents) × LeadsAll ring commands last × (ring_of last ≡ new)
+-- wherever a ring of this stage is led by the command, that is in the list
+abbrev pub HasEachNext : Bool → Stage → Instruction → List Stage → Type 0
+HasEachNext keeps old command stages =
+    (ring next : RingContents) (line : List ℕ) → ring_of ring ≡ old.ring
+    → Leads ring command next line → Contains stages (stage keeps next (old.printed ++ line))
 
--- whatever a ring of this state is led to by the command is in the list
-abbrev pub HasEachNext : RingState → Instruction → List RingState → Type 0
-HasEachNext old command states =
-    (ring next : RingContents) → ring_of ring ≡ old → Leads ring command next
-    → Contains states (ring_of next)
+-- each of the one list is where the command may lead to from one of the other
+abbrev pub AreFrom : Bool → List Stage → Instruction → List Stage → Type 0
+AreFrom keeps old command new = (s : Stage) → Contains new s
+    → (o : Stage) × Contains old o × MayLeadTo keeps o command s
 
--- each of the one list is what the command may lead to from one of the other
-abbrev pub AreFrom : List RingState → Instruction → List RingState → Type 0
-AreFrom old command new = (s : RingState) → Contains new s
-    → (o : RingState) × Contains old o × MayLeadTo o command s
+-- wherever a ring of a stage of the one list is led, that is in the other
+abbrev pub HasEachFrom : Bool → List Stage → Instruction → List Stage → Type 0
+HasEachFrom keeps old command new =
+    (o : Stage) → Contains old o → HasEachNext keeps o command new
 
--- whatever a ring of a state of the one list is led to is in the other
-abbrev pub HasEachFrom : List RingState → Instruction → List RingState → Type 0
-HasEachFrom old command new = (o : RingState) → Contains old o → HasEachNext o command new
+-- wherever the commands lead a ring of this state, that is in the list
+abbrev pub HasEachLast : Bool → RingState → List Instruction → List Stage → Type 0
+HasEachLast keeps old commands stages =
+    (ring last : RingContents) (text : List ℕ) → ring_of ring ≡ old
+    → LeadsAll ring commands last text → Contains stages (stage keeps last text)
 
--- whatever the commands lead a ring of this state to is in the list
-abbrev pub HasEachLast : RingState → List Instruction → List RingState → Type 0
-HasEachLast old commands states =
-    (ring last : RingContents) → ring_of ring ≡ old → LeadsAll ring commands last
-    → Contains states (ring_of last)
+-- the stages have what every ring is
+abbrev pub AreRings : List Stage → Type 0
+AreRings stages = (s : Stage) → Contains stages s → IsRing s.ring
 
 -- each ring of this state may print something by these commands and the end of the script
 abbrev pub MayEnd : RingState → List Instruction → Type 0
@@ -120,11 +174,41 @@ pub record Grows {X : Type 0} (Adds : X → Type 0) (old new : List X) : Type 0 
   pub kept : (x : X) → Contains old x → Contains new x
   pub from : (x : X) → Contains new x → Contains old x ⊎ Adds x
 
-abbrev pub state_of : List FileEntry → Reached → RingState
-state_of catalogue reached = ring_with_slots catalogue reached.ring
+abbrev pub stage_of : List FileEntry → Reached → Stage
+stage_of catalogue reached = record {
+  ring = ring_with_slots catalogue reached.ring;
+  printed = string_bytes reached.printed;
+}
 
-abbrev pub states_of : List FileEntry → List Reached → List RingState
-states_of catalogue rings = map (state_of catalogue) rings
+abbrev pub stages_of : List FileEntry → List Reached → List Stage
+stages_of catalogue rings = map (stage_of catalogue) rings
+
+-- where an order leads that leaves these slots, and whose submission prints this
+abbrev pub stage_left : Bool → Stage → Slots → List ℕ → Stage
+stage_left keeps old slots line = record {
+  ring = ring_behind old.ring slots;
+  printed = kept keeps (old.printed ++ line);
+}
+
+-- where a report leads
+abbrev pub stage_reported : Bool → Stage → PossibleReport → Stage
+stage_reported keeps old possible =
+    stage_left keeps old possible.slots
+    (report_text old.ring.catalogue (reported possible.report))
+
+-- a play that has come so far, to the end of its script, has this text
+abbrev pub EndsAs : Stage → List ℕ → Type 0
+EndsAs last text =
+    (end : List ℕ) × PrintsEnd last.ring end × (text ≡ last.printed ++ end)
+
+-- it is the text of a play that has come to one of these
+abbrev pub IsTextAt : List Stage → List ℕ → Type 0
+IsTextAt stages text = (s : Stage) × Contains stages s × EndsAs s text
+
+-- whatever text a play has that has come to one of these is in the list
+abbrev pub HasEachText : List Stage → List (List ℕ) → Type 0
+HasEachText stages texts =
+    (s : Stage) (text : List ℕ) → Contains stages s → EndsAs s text → Contains texts text
 
 -- a ring of this state may answer so at the place, in front of these commands
 pub record MaySay (old : RingState) (asked : List Asked) (behind : List Instruction) (place : Place)
@@ -144,16 +228,16 @@ HasEachSaid old asked place said =
     → IsReportFound ring asked next line report
     → Contains report.completions c → c.place ≡ place → Contains said c
 
--- each of the answers is what a ring of one of the states may answer
+-- each of the answers is what a ring of one of the stages may answer
 abbrev pub AreSaidFrom :
-    List RingState → List Asked → List Instruction → Place → List Completed → Type 0
+    List Stage → List Asked → List Instruction → Place → List Completed → Type 0
 AreSaidFrom old asked behind place said = (c : Completed) → Contains said c
-    → (o : RingState) × Contains old o × MaySay o asked behind place c
+    → (o : Stage) × Contains old o × MaySay o.ring asked behind place c
 
--- whatever a ring of one of the states may answer is in the list
-abbrev pub HasEachSaidFrom : List RingState → List Asked → Place → List Completed → Type 0
+-- whatever a ring of one of the stages may answer is in the list
+abbrev pub HasEachSaidFrom : List Stage → List Asked → Place → List Completed → Type 0
 HasEachSaidFrom old asked place said =
-    (o : RingState) → Contains old o → HasEachSaid o asked place said
+    (o : Stage) → Contains old o → HasEachSaid o.ring asked place said
 
 -- the commands are those before the asked submission, it, and those behind it; and it is the one of
 -- the place

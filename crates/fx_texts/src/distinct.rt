@@ -2,9 +2,10 @@
 ghost use Rattle.std.specs.Prelude.{◌≡◌, IfOk, IsTrue, List, OnOk, Contains, length};
 ghost use Rattle.fx_base.specs.Catalogue.{FileEntry};
 ghost use Rattle.fx_judge.specs.Verdict.{ring_with_slots};
-ghost use Rattle.fx_texts.specs.Rings.{Grows, state_of, states_of};
+ghost use Rattle.fx_texts.specs.Rings.{Grows, stage_of, stages_of};
 
 use crate::reached::Reached;
+use crate::setting::Setting;
 use fx_base::{Closed, NoMemory};
 use fx_judge::RingSlots;
 use fx_order::Slots;
@@ -57,31 +58,47 @@ fn are_same(one: &RingSlots, other: &RingSlots) -> bool
     are_same_files(&one.slots.at, &other.slots.at)
 }
 
-// Whether a ring is in a list.
-fn has_ring(rings: &[Reached], ring: &RingSlots) -> bool
+// Whether both are the same ring, behind the same text.
+fn are_alike(one: &Reached, other: &Reached) -> bool
     ensures { IsTrue result → (catalogue : List FileEntry)
-        → Contains (states_of catalogue rings.now) (ring_with_slots catalogue ring.now) }
+        → stage_of catalogue one.now ≡ stage_of catalogue other.now }
+{
+    if one.printed.as_bytes() == other.printed.as_bytes() {
+        return are_same(&one.ring, &other.ring);
+    }
+    false
+}
+
+// Whether a ring is in a list, behind the same text.
+fn has_ring(rings: &[Reached], one: &Reached) -> bool
+    ensures { IsTrue result → (catalogue : List FileEntry)
+        → Contains (stages_of catalogue rings.now) (stage_of catalogue one.now) }
 {
     for reached in rings {
-        if are_same(&reached.ring, ring) {
+        if are_alike(reached, one) {
             return true;
         }
     }
     false
 }
 
-/// Puts a ring behind others that haven't got it.
+/// Puts a ring behind others that haven't got it. Where it is kept what was printed it isn't looked for: two ways that
+/// printed the same have come to one ring.
 ///
 /// # Errors
 /// `NoMemory` where the memory of the list is refused.
-pub(crate) fn push_new(rings: &mut Vec<Reached>, reached: Reached) -> Result<(), NoMemory>
+pub(crate) fn push_new(
+    setting: &Setting<'_>,
+    rings: &mut Vec<Reached>,
+    reached: Reached,
+) -> Result<(), NoMemory>
     ensures grows { OnOk result ((catalogue : List FileEntry)
-        → Grows (λ s. s ≡ state_of catalogue reached) (states_of catalogue rings.old.items)
-        (states_of catalogue rings.new.items)) }
+        → Grows (λ s. s ≡ stage_of catalogue reached) (stages_of catalogue rings.old.items)
+        (stages_of catalogue rings.new.items)) }
     ensures there { OnOk result ((catalogue : List FileEntry)
-        → Contains (states_of catalogue rings.new.items) (state_of catalogue reached)) }
+        → Contains (stages_of catalogue rings.new.items) (stage_of catalogue reached)) }
 {
-    if has_ring(rings, &reached.ring) {
+    if !setting.keeps && has_ring(rings, &reached) {
         return Ok(());
     }
     rings.push(reached)?;

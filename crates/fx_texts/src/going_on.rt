@@ -1,7 +1,9 @@
 //! That a ring can go on to the end of the script.
 ghost use Rattle.std.specs.Prelude.{IfOk, IfSome, IsTrue};
 ghost use Rattle.fx_language.specs.Instruction.{instruction_of, instructions_of};
-ghost use Rattle.fx_texts.specs.Rings.{MayEnd, MayLeadTo, state_of};
+ghost use Rattle.fx_judge.specs.Verdict.{ring_with_slots};
+ghost use Rattle.fx_ring.specs.Ring.{IsRing};
+ghost use Rattle.fx_texts.specs.Rings.{MayEnd, MayLeadTo, stage_of};
 
 use crate::next::push_next;
 use crate::reached::Reached;
@@ -15,9 +17,10 @@ fn one_next(
     from: &Reached,
     command: &Command,
 ) -> Result<Option<Reached>, NoMemory>
-    ensures { IfOk result (λ next. IfSome next (λ reached. MayLeadTo
-        (state_of setting.now.catalogue.now from.now) (instruction_of command.now)
-        (state_of setting.now.catalogue.now reached))) }
+    requires { IsRing (ring_with_slots setting.now.catalogue.now from.now.ring) }
+    ensures { IfOk result (λ next. IfSome next (λ reached. MayLeadTo setting.now.keeps
+        (stage_of setting.now.catalogue.now from.now) (instruction_of command.now)
+        (stage_of setting.now.catalogue.now reached))) }
 {
     let mut pasts = Vec::new(setting.alloc);
     let mut rings = Vec::new(setting.alloc);
@@ -34,8 +37,9 @@ pub(crate) fn goes_on(
     from: Reached,
     commands: &[Command],
 ) -> Result<bool, NoMemory>
-    ensures { IfOk result (λ yes. IsTrue yes
-        → MayEnd (state_of setting.now.catalogue.now from) (instructions_of commands.now)) }
+    requires { IsRing (ring_with_slots setting.now.catalogue.now from.ring) }
+    ensures { IfOk result (λ yes. IsTrue yes → MayEnd
+        (ring_with_slots setting.now.catalogue.now from.ring) (instructions_of commands.now)) }
 {
     let mut reached = from;
     for command in commands {

@@ -1,4 +1,4 @@
-//! What a request of a script may answer: all of it and nothing else, each answer in a text of the script.
+//! Every text of a script, and what a request of it may answer: all of it and nothing else.
 #![tactic(auto)]
 
 mod asking;
@@ -13,8 +13,10 @@ mod request;
 mod rings;
 mod saying;
 mod setting;
+mod texts;
 
 pub use laws::each_found_text_is_a_text;
 pub use reached::Past;
 pub use request::{RequestAnswers, may};
 pub use saying::Said;
+pub use texts::{AllTexts, texts_of};

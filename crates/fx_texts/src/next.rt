@@ -1,28 +1,37 @@
 //! The rings that one command may lead to.
-ghost use Rattle.std.specs.Prelude.{◌≡◌, ◌+◌, ◌<◌, ◌≤◌, IfNone, IfOk, IfSome, IsTrue};
-ghost use Rattle.std.specs.Prelude.{Contains, List, None, OnOk, false, length};
+ghost use Rattle.std.specs.Prelude.{◌≡◌, ◌++◌, ◌<◌, ◌≤◌, All, IfNone, IfOk, IfSome, IsTrue};
+ghost use Rattle.std.specs.Prelude.{Contains, List, None, OnOk, false, length, string_bytes};
 ghost use Rattle.fx_base.specs.Catalogue.{FileEntry};
 ghost use Rattle.fx_chain.specs.Accepted.{IsAccepted};
 ghost use Rattle.fx_chain.specs.Faults.{fault_of};
 ghost use Rattle.fx_chain.specs.Operation.{all_asked};
+ghost use Rattle.fx_judge.specs.Verdict.{ring_with_slots};
 ghost use Rattle.fx_language.specs.Instruction.{SubmitsAll, instruction_of};
-ghost use Rattle.fx_order.specs.Slots.{ring_of_slots};
 ghost use Rattle.fx_plain.specs.declared.table.TheConstants.{MOST_SLOTS};
+ghost use Rattle.fx_ring.specs.Ring.{IsRing};
 ghost use Rattle.fx_ring.specs.declared.ring.TheConstants.{MOST_SUBMISSIONS};
-ghost use Rattle.fx_texts.specs.Rings.{Grows, HasEachNext, IsCall, MayLeadTo, count_behind};
-ghost use Rattle.fx_texts.specs.Rings.{state_of, states_of};
+ghost use Rattle.fx_texts.specs.Rings.{Grows, HasEachNext, IsCall, MayLeadTo, count_behind, kept};
+ghost use Rattle.fx_texts.specs.Rings.{stage_left, stage_of, stage_reported, stages_of};
 
 use crate::call::call;
 use crate::distinct::{copy_of, push_new};
 use crate::reached::{Past, Reached};
 use crate::setting::Setting;
-use fx_answers::{End, may_leave};
+use fx_answers::{PossibleReport, may_leave, may_report};
 use fx_base::NoMemory;
 use fx_chain::{Request, check};
 use fx_judge::RingSlots;
 use fx_language::Command;
-use fx_order::Slots;
+use fx_order::{ChainAccess, Slots};
 use fx_ring::MOST_SUBMISSIONS;
+use fx_script::report_text;
+
+// What the rings that are kept may take together, and each one beside its text: a slot, and all else.
+const MOST_BYTES: usize = 1 << 30;
+
+const SLOT_BYTES: usize = 40;
+
+const RING_BYTES: usize = 120;
 
 /// Whether requests are accepted behind so many submissions: none of them has a fault, and there is a number for one more.
 pub(crate) fn is_accepted(requests: &[Request], submissions: u32) -> bool
@@ -67,27 +76,59 @@ pub(crate) fn both(one: bool, other: bool) -> bool
     one && other
 }
 
-// Puts the ring that an end leaves behind others that haven't got it.
-fn push_end(
+/// A text and what is printed behind it, where that is kept; else nothing.
+///
+/// # Errors
+/// `NoMemory` where the memory of the text is refused.
+pub(crate) fn printed_behind(
+    setting: &Setting<'_>,
+    before: &str,
+    line: &str,
+) -> Result<String, NoMemory>
+    ensures { IfOk result (λ text.
+        string_bytes text ≡ kept setting.now.keeps (before.now ++ line.now)) }
+{
+    if !setting.keeps {
+        return Ok(String::new(setting.alloc));
+    }
+    let room = before.len().saturating_add(line.len());
+    let mut text = String::with_capacity(setting.alloc, room)?;
+    text.push_str(before)?;
+    text.push_str(line)?;
+    Ok(text)
+}
+
+// Where an order of a submission has come to.
+#[derive(Clone, Copy)]
+struct Left<'a> {
+    order: &'a [ChainAccess],
+    slots: &'a Slots,
+    // What the submission prints.
+    line: &'a str,
+}
+
+// Puts the ring that an order leaves behind others.
+fn push_left(
     setting: &Setting<'_>,
     pasts: &mut Vec<Past>,
     rings: &mut Vec<Reached>,
     from: &Reached,
-    end: &End,
+    left: Left<'_>,
 ) -> Result<(), NoMemory>
     requires few { from.now.ring.submissions < MOST_SUBMISSIONS }
-    requires room { length end.now.slots.at.items ≤ MOST_SLOTS }
+    requires room { length left.slots.now.at.items ≤ MOST_SLOTS }
     ensures grows { OnOk result ((catalogue : List FileEntry)
-        → Grows (λ s. s ≡ ring_of_slots catalogue end.now.slots (from.now.ring.submissions + 1)
-        from.now.ring.registrations) (states_of catalogue rings.old.items)
-        (states_of catalogue rings.new.items)) }
+        → Grows (λ s. s ≡ stage_left setting.now.keeps (stage_of catalogue from.now)
+        left.entry.slots.now left.entry.line.now) (stages_of catalogue rings.old.items)
+        (stages_of catalogue rings.new.items)) }
     ensures there { OnOk result ((catalogue : List FileEntry)
-        → Contains (states_of catalogue rings.new.items)
-        (ring_of_slots catalogue end.now.slots (from.now.ring.submissions + 1)
-        from.now.ring.registrations)) }
+        → Contains (stages_of catalogue rings.new.items)
+        (stage_left setting.now.keeps (stage_of catalogue from.now) left.entry.slots.now
+        left.entry.line.now)) }
 {
-    let order = Vec::from_slice(setting.alloc, &end.order)?;
-    let at = Vec::from_slice(setting.alloc, &end.slots.at)?;
+    let printed = printed_behind(setting, from.printed.as_str(), left.line)?;
+    let order = Vec::from_slice(setting.alloc, left.order)?;
+    let at = Vec::from_slice(setting.alloc, &left.slots.at)?;
     let past = pasts.len();
     pasts.push(Past {
         submission: from.ring.submissions + 1,
@@ -95,23 +136,26 @@ fn push_end(
         order,
         before: from.past,
     })?;
-    let range = end.slots.range;
+    let range = left.slots.range;
     let ring = RingSlots {
         slots: Slots { range, at },
         submissions: from.ring.submissions + 1,
         registrations: from.ring.registrations,
     };
     push_new(
+        setting,
         rings,
         Reached {
             ring,
+            printed,
             past: Some(past),
         },
     )?;
     Ok(())
 }
 
-// Puts the rings that an accepted submission may leave of one behind others, and says whether these are all of them.
+// Puts the rings that an accepted submission may leave of one behind others, where it isn't kept what is printed, and says
+// whether these are all of them.
 fn push_ends(
     setting: &Setting<'_>,
     pasts: &mut Vec<Past>,
@@ -122,14 +166,15 @@ fn push_ends(
     requires accepted { IsAccepted (all_asked requests.now) }
     requires faultless { fault_of (all_asked requests.now) ≡ None }
     requires few { from.now.ring.submissions < MOST_SUBMISSIONS }
+    requires silent { setting.now.keeps ≡ false }
     ensures grows { IfOk result (λ _. Grows
-        (MayLeadTo (state_of setting.now.catalogue.now from.now)
+        (MayLeadTo setting.now.keeps (stage_of setting.now.catalogue.now from.now)
         (SubmitsAll (all_asked requests.now)))
-        (states_of setting.now.catalogue.now rings.old.items)
-        (states_of setting.now.catalogue.now rings.new.items)) }
-    ensures all { IfOk result (λ all. IsTrue all → HasEachNext
-        (state_of setting.now.catalogue.now from.now) (SubmitsAll (all_asked requests.now))
-        (states_of setting.now.catalogue.now rings.new.items)) }
+        (stages_of setting.now.catalogue.now rings.old.items)
+        (stages_of setting.now.catalogue.now rings.new.items)) }
+    ensures all { IfOk result (λ all. IsTrue all → HasEachNext setting.now.keeps
+        (stage_of setting.now.catalogue.now from.now) (SubmitsAll (all_asked requests.now))
+        (stages_of setting.now.catalogue.now rings.new.items)) }
 {
     let found = may_leave(
         setting.alloc,
@@ -140,7 +185,77 @@ fn push_ends(
         setting.states,
     )?;
     for end in &found.ends {
-        push_end(setting, pasts, rings, from, end)?;
+        let left = Left {
+            order: &end.order,
+            slots: &end.slots,
+            line: "",
+        };
+        push_left(setting, pasts, rings, from, left)?;
+    }
+    Ok(found.are_all)
+}
+
+// Puts the ring that a report leaves behind others, with its lines.
+fn push_report(
+    setting: &Setting<'_>,
+    pasts: &mut Vec<Past>,
+    rings: &mut Vec<Reached>,
+    from: &Reached,
+    possible: &PossibleReport,
+) -> Result<(), NoMemory>
+    requires few { from.now.ring.submissions < MOST_SUBMISSIONS }
+    requires room { length possible.now.slots.at.items ≤ MOST_SLOTS }
+    requires entries { All (λ file. file.entry < length setting.now.catalogue.now)
+        possible.now.report.closes.files }
+    ensures grows { OnOk result (Grows
+        (λ s. s ≡ stage_reported setting.now.keeps (stage_of setting.now.catalogue.now from.now)
+        possible.now) (stages_of setting.now.catalogue.now rings.old.items)
+        (stages_of setting.now.catalogue.now rings.new.items)) }
+    ensures there { OnOk result (Contains (stages_of setting.now.catalogue.now rings.new.items)
+        (stage_reported setting.now.keeps (stage_of setting.now.catalogue.now from.now)
+        possible.now)) }
+{
+    let line = report_text(setting.alloc, &possible.report, setting.catalogue)?;
+    let left = Left {
+        order: &possible.order,
+        slots: &possible.slots,
+        line: line.as_str(),
+    };
+    push_left(setting, pasts, rings, from, left)?;
+    Ok(())
+}
+
+// The same of the reports of the submission.
+fn push_reports(
+    setting: &Setting<'_>,
+    pasts: &mut Vec<Past>,
+    rings: &mut Vec<Reached>,
+    from: &Reached,
+    requests: &[Request],
+) -> Result<bool, NoMemory>
+    requires accepted { IsAccepted (all_asked requests.now) }
+    requires faultless { fault_of (all_asked requests.now) ≡ None }
+    requires few { from.now.ring.submissions < MOST_SUBMISSIONS }
+    requires ring { IsRing (ring_with_slots setting.now.catalogue.now from.now.ring) }
+    ensures grows { IfOk result (λ _. Grows
+        (MayLeadTo setting.now.keeps (stage_of setting.now.catalogue.now from.now)
+        (SubmitsAll (all_asked requests.now)))
+        (stages_of setting.now.catalogue.now rings.old.items)
+        (stages_of setting.now.catalogue.now rings.new.items)) }
+    ensures all { IfOk result (λ all. IsTrue all → HasEachNext setting.now.keeps
+        (stage_of setting.now.catalogue.now from.now) (SubmitsAll (all_asked requests.now))
+        (stages_of setting.now.catalogue.now rings.new.items)) }
+{
+    let found = may_report(
+        setting.alloc,
+        setting.catalogue,
+        &from.ring.slots,
+        from.ring.submissions,
+        requests,
+        setting.states,
+    )?;
+    for possible in &found.reports {
+        push_report(setting, pasts, rings, from, possible)?;
     }
     Ok(found.are_all)
 }
@@ -152,25 +267,40 @@ fn push_call(
     from: &Reached,
     command: &Command,
 ) -> Result<(), NoMemory>
-    requires { IsCall from.now.ring.submissions (instruction_of command.now) }
+    requires call { IsCall from.now.ring.submissions (instruction_of command.now) }
+    requires ring { IsRing (ring_with_slots setting.now.catalogue.now from.now.ring) }
     ensures grows { OnOk result (Grows
-        (MayLeadTo (state_of setting.now.catalogue.now from.now) (instruction_of command.now))
-        (states_of setting.now.catalogue.now rings.old.items)
-        (states_of setting.now.catalogue.now rings.new.items)) }
-    ensures all { OnOk result (HasEachNext
-        (state_of setting.now.catalogue.now from.now) (instruction_of command.now)
-        (states_of setting.now.catalogue.now rings.new.items)) }
+        (MayLeadTo setting.now.keeps (stage_of setting.now.catalogue.now from.now)
+        (instruction_of command.now)) (stages_of setting.now.catalogue.now rings.old.items)
+        (stages_of setting.now.catalogue.now rings.new.items)) }
+    ensures all { OnOk result (HasEachNext setting.now.keeps
+        (stage_of setting.now.catalogue.now from.now) (instruction_of command.now)
+        (stages_of setting.now.catalogue.now rings.new.items)) }
 {
     let copy = copy_of(setting.alloc, &from.ring)?;
-    let ring = call(setting, copy, command)?;
+    let called = call(setting, copy, command)?;
+    let printed = printed_behind(setting, from.printed.as_str(), called.line.as_str())?;
     push_new(
+        setting,
         rings,
         Reached {
-            ring,
+            ring: called.ring,
+            printed,
             past: from.past,
         },
     )?;
     Ok(())
+}
+
+// Whether there is room for more rings: fewer than states may be met, and less than a gibibyte in what they printed and
+// their slots.
+fn has_room(setting: &Setting<'_>, count: usize, from: &Reached) -> bool {
+    let each = from
+        .printed
+        .len()
+        .saturating_add(from.ring.slots.at.len().saturating_mul(SLOT_BYTES))
+        .saturating_add(RING_BYTES);
+    count < setting.states && count.saturating_mul(each) < MOST_BYTES
 }
 
 /// Puts the rings that a command may lead to from one behind others, and says whether these are all of them. No more are put
@@ -185,18 +315,22 @@ pub(crate) fn push_next(
     from: &Reached,
     command: &Command,
 ) -> Result<bool, NoMemory>
+    requires { IsRing (ring_with_slots setting.now.catalogue.now from.now.ring) }
     ensures grows { IfOk result (λ _. Grows
-        (MayLeadTo (state_of setting.now.catalogue.now from.now) (instruction_of command.now))
-        (states_of setting.now.catalogue.now rings.old.items)
-        (states_of setting.now.catalogue.now rings.new.items)) }
-    ensures all { IfOk result (λ all. IsTrue all → HasEachNext
-        (state_of setting.now.catalogue.now from.now) (instruction_of command.now)
-        (states_of setting.now.catalogue.now rings.new.items)) }
+        (MayLeadTo setting.now.keeps (stage_of setting.now.catalogue.now from.now)
+        (instruction_of command.now)) (stages_of setting.now.catalogue.now rings.old.items)
+        (stages_of setting.now.catalogue.now rings.new.items)) }
+    ensures all { IfOk result (λ all. IsTrue all → HasEachNext setting.now.keeps
+        (stage_of setting.now.catalogue.now from.now) (instruction_of command.now)
+        (stages_of setting.now.catalogue.now rings.new.items)) }
 {
-    if rings.len() >= setting.states {
+    if !has_room(setting, rings.len(), from) {
         return Ok(false);
     }
     if let Some(requests) = accepted_in(command, from.ring.submissions) {
+        if setting.keeps {
+            return push_reports(setting, pasts, rings, from, requests);
+        }
         return push_ends(setting, pasts, rings, from, requests);
     }
     push_call(setting, rings, from, command)?;

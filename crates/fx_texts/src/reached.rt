@@ -1,4 +1,4 @@
-//! A ring that commands may come to, and the orders that led there.
+//! A ring that commands may come to, what was printed on the way, and the orders that led there.
 ghost use Rattle.std.specs.Prelude.{◌≤◌, length};
 ghost use Rattle.fx_plain.specs.declared.table.TheConstants.{MOST_SLOTS};
 
@@ -22,6 +22,8 @@ pub struct Past {
 #[derive(Debug, Drop)]
 pub(crate) struct Reached {
     pub(crate) ring: RingSlots,
+    /// What was printed on the way, where that is kept; else nothing.
+    pub(crate) printed: String,
     /// Which of the orders that are kept is that of the last submission that led there.
     pub(crate) past: Option<usize>,
     pub ghost few_slots: { length ring.slots.at.items ≤ MOST_SLOTS },

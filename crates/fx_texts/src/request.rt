@@ -48,6 +48,7 @@ pub fn may(
         alloc,
         catalogue: script.catalogue(),
         states,
+        keeps: false,
     };
     let mut orders = Vec::new(alloc);
     let Some(asking) = asking_at(script.commands(), place) else {

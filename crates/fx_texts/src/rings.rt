@@ -2,8 +2,9 @@
 ghost use Rattle.std.specs.Prelude.{◌≡◌, [], ◌∷◌, IfOk, IsTrue, Contains, List};
 ghost use Rattle.fx_base.specs.Catalogue.{FileEntry};
 ghost use Rattle.fx_language.specs.Instruction.{instruction_of, instructions_of};
-ghost use Rattle.fx_ring.specs.Ring.{RingState, new_ring};
-ghost use Rattle.fx_texts.specs.Rings.{AreFrom, HasEachFrom, HasEachLast, MayLeadAllTo, states_of};
+ghost use Rattle.fx_ring.specs.Ring.{new_ring};
+ghost use Rattle.fx_texts.specs.Rings.{AreFrom, AreRings, HasEachFrom, HasEachLast, MayLeadAllTo};
+ghost use Rattle.fx_texts.specs.Rings.{Stage, stages_of};
 
 use crate::next::{both, push_next};
 use crate::reached::{Past, Reached};
@@ -25,7 +26,8 @@ pub(crate) struct Rings {
 // A ring without a table, with nothing counted, alone.
 fn start(alloc: Global) -> Result<Vec<Reached>, NoMemory>
     ensures { IfOk result (λ rings. (catalogue : List FileEntry)
-        → states_of catalogue rings.items ≡ new_ring catalogue ∷ []) }
+        → stages_of catalogue rings.items
+        ≡ record { ring = new_ring catalogue; printed = [] } ∷ []) }
 {
     let mut rings = Vec::new(alloc);
     rings.push(Reached {
@@ -37,6 +39,7 @@ fn start(alloc: Global) -> Result<Vec<Reached>, NoMemory>
             submissions: 0,
             registrations: 0,
         },
+        printed: String::new(alloc),
         past: None,
     })?;
     Ok(rings)
@@ -52,11 +55,13 @@ pub(crate) fn after(
     rings: &[Reached],
     command: &Command,
 ) -> Result<Rings, NoMemory>
-    ensures each { IfOk result (λ next. AreFrom (states_of setting.now.catalogue.now rings.now)
-        (instruction_of command.now) (states_of setting.now.catalogue.now next.rings.items)) }
-    ensures all { IfOk result (λ next. IsTrue next.are_all → HasEachFrom
-        (states_of setting.now.catalogue.now rings.now) (instruction_of command.now)
-        (states_of setting.now.catalogue.now next.rings.items)) }
+    requires { AreRings (stages_of setting.now.catalogue.now rings.now) }
+    ensures each { IfOk result (λ next. AreFrom setting.now.keeps
+        (stages_of setting.now.catalogue.now rings.now) (instruction_of command.now)
+        (stages_of setting.now.catalogue.now next.rings.items)) }
+    ensures all { IfOk result (λ next. IsTrue next.are_all → HasEachFrom setting.now.keeps
+        (stages_of setting.now.catalogue.now rings.now) (instruction_of command.now)
+        (stages_of setting.now.catalogue.now next.rings.items)) }
 {
     let mut next = Vec::new(setting.alloc);
     let mut are_all = true;
@@ -79,12 +84,15 @@ pub(crate) fn after_all(
     pasts: &mut Vec<Past>,
     commands: &[Command],
 ) -> Result<Rings, NoMemory>
-    ensures each { IfOk result (λ last. (s : RingState)
-        → Contains (states_of setting.now.catalogue.now last.rings.items) s
-        → MayLeadAllTo (new_ring setting.now.catalogue.now) (instructions_of commands.now) s) }
-    ensures all { IfOk result (λ last. IsTrue last.are_all → HasEachLast
+    ensures each { IfOk result (λ last. (s : Stage)
+        → Contains (stages_of setting.now.catalogue.now last.rings.items) s
+        → MayLeadAllTo setting.now.keeps (new_ring setting.now.catalogue.now)
+        (instructions_of commands.now) s) }
+    ensures rings { IfOk result (λ last.
+        AreRings (stages_of setting.now.catalogue.now last.rings.items)) }
+    ensures all { IfOk result (λ last. IsTrue last.are_all → HasEachLast setting.now.keeps
         (new_ring setting.now.catalogue.now) (instructions_of commands.now)
-        (states_of setting.now.catalogue.now last.rings.items)) }
+        (stages_of setting.now.catalogue.now last.rings.items)) }
 {
     let mut rings = start(setting.alloc)?;
     let mut are_all = true;

@@ -6,8 +6,10 @@ ghost use Rattle.fx_language.specs.Instruction.{instructions_of};
 ghost use Rattle.fx_order.specs.Slots.{ring_of_slots};
 ghost use Rattle.fx_plain.specs.declared.table.TheConstants.{MOST_SLOTS};
 ghost use Rattle.fx_ring.specs.declared.ring.TheConstants.{MOST_SUBMISSIONS};
-ghost use Rattle.fx_texts.specs.Rings.{AreSaidFrom, Grows, HasEachSaid, HasEachSaidFrom};
-ghost use Rattle.fx_texts.specs.Rings.{MayEnd, MaySay, said_in, state_of, states_of};
+ghost use Rattle.fx_judge.specs.Verdict.{ring_with_slots};
+ghost use Rattle.fx_ring.specs.Ring.{IsRing};
+ghost use Rattle.fx_texts.specs.Rings.{AreRings, AreSaidFrom, Grows, HasEachSaid, HasEachSaidFrom};
+ghost use Rattle.fx_texts.specs.Rings.{MayEnd, MaySay, said_in, stages_of};
 
 use crate::asking::Asking;
 use crate::going_on::goes_on;
@@ -82,6 +84,8 @@ fn push_answer(
 ) -> Result<bool, NoMemory>
     requires few { from.now.ring.submissions < MOST_SUBMISSIONS }
     requires room { length answer.now.slots.at.items ≤ MOST_SLOTS }
+    requires ring { IsRing (ring_of_slots setting.now.catalogue.now answer.now.slots
+        (from.now.ring.submissions + 1) from.now.ring.registrations) }
     ensures grows { IfOk result (λ _. Grows (λ c. (c ≡ completed_of answer.now.completion) × MayEnd
         (ring_of_slots setting.now.catalogue.now answer.now.slots
         (from.now.ring.submissions + 1) from.now.ring.registrations) (instructions_of behind.now))
@@ -99,7 +103,12 @@ fn push_answer(
         submissions: from.ring.submissions + 1,
         registrations: from.ring.registrations,
     };
-    if !goes_on(setting, Reached { ring, past: None }, behind)? {
+    let reached = Reached {
+        ring,
+        printed: String::new(setting.alloc),
+        past: None,
+    };
+    if !goes_on(setting, reached, behind)? {
         return Ok(false);
     }
     let order = Vec::from_slice(setting.alloc, &answer.order)?;
@@ -123,14 +132,15 @@ fn push_answers(
     from: &Reached,
     asking: &Asking<'_>,
 ) -> Result<bool, NoMemory>
-    requires { from.now.ring.submissions < MOST_SUBMISSIONS }
+    requires few { from.now.ring.submissions < MOST_SUBMISSIONS }
+    requires ring { IsRing (ring_with_slots setting.now.catalogue.now from.now.ring) }
     ensures grows { IfOk result (λ _. Grows
-        (MaySay (state_of setting.now.catalogue.now from.now) (all_asked asking.now.requests.now)
-        (instructions_of asking.now.behind.now) asking.now.place)
-        (said_in answers.old.items) (said_in answers.new.items)) }
+        (MaySay (ring_with_slots setting.now.catalogue.now from.now.ring)
+        (all_asked asking.now.requests.now) (instructions_of asking.now.behind.now)
+        asking.now.place) (said_in answers.old.items) (said_in answers.new.items)) }
     ensures all { IfOk result (λ all. IsTrue all → HasEachSaid
-        (state_of setting.now.catalogue.now from.now) (all_asked asking.now.requests.now)
-        asking.now.place (said_in answers.new.items)) }
+        (ring_with_slots setting.now.catalogue.now from.now.ring)
+        (all_asked asking.now.requests.now) asking.now.place (said_in answers.new.items)) }
 {
     let question = Question {
         requests: asking.requests,
@@ -163,11 +173,12 @@ pub(crate) fn answers_at(
     rings: &[Reached],
     asking: &Asking<'_>,
 ) -> Result<Sayings, NoMemory>
-    ensures each { IfOk result (λ found. AreSaidFrom (states_of setting.now.catalogue.now rings.now)
+    requires { AreRings (stages_of setting.now.catalogue.now rings.now) }
+    ensures each { IfOk result (λ found. AreSaidFrom (stages_of setting.now.catalogue.now rings.now)
         (all_asked asking.now.requests.now) (instructions_of asking.now.behind.now)
         asking.now.place (said_in found.answers.items)) }
     ensures all { IfOk result (λ found. IsTrue found.are_all → HasEachSaidFrom
-        (states_of setting.now.catalogue.now rings.now) (all_asked asking.now.requests.now)
+        (stages_of setting.now.catalogue.now rings.now) (all_asked asking.now.requests.now)
         asking.now.place (said_in found.answers.items)) }
 {
     let mut answers = Vec::new(setting.alloc);

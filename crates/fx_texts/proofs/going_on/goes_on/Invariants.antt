@@ -1,9 +1,14 @@
 use Rattle.std.proofs.Common.{drop}
+use Rattle.fx_judge.specs.Verdict.{ring_with_slots}
 use Rattle.fx_language.specs.Instruction.{instructions_of}
-use Rattle.fx_texts.specs.Rings.{MayEnd, state_of}
+use Rattle.fx_ring.specs.Ring.{IsRing}
+use Rattle.fx_texts.specs.Rings.{MayEnd}
 use Rattle.fx_texts.proofs.going_on.goes_on.Given as goal
 
 -- an end of the ring that is reached is one of the first ring
 abbrev pub invariant-loop-command : goal.invariant-loop-command
-invariant-loop-command l = MayEnd (state_of l.setting.catalogue.now l.reached) (instructions_of (drop l.command-index l.commands))
-    → MayEnd (state_of l.setting.catalogue.now l.fn.from) (instructions_of l.commands)
+invariant-loop-command l = record {
+  ring : IsRing (ring_with_slots l.setting.catalogue.now l.reached.ring);
+  ends : MayEnd (ring_with_slots l.setting.catalogue.now l.reached.ring) (instructions_of (drop l.command-index l.commands))
+      → MayEnd (ring_with_slots l.setting.catalogue.now l.fn.from.ring) (instructions_of l.commands);
+}

@@ -1,13 +1,13 @@
 use Rattle.std.proofs.Common.{⊎_elim}
 use Rattle.fx_language.specs.Instruction.{instruction_of}
-use Rattle.fx_texts.specs.Rings.{MayLeadTo, state_of}
+use Rattle.fx_texts.specs.Rings.{MayLeadTo, stage_of}
 use Rattle.fx_texts.proofs.Growth.{nothing, popped}
 use Rattle.fx_texts.proofs.going_on.one_next.Goals as goal
 
 pub returns : goal.returns
 returns c =
     let cat = c.args.setting.now.catalogue.now in
-    popped (state_of cat) c.push_next.new.rings.items c.pop.new.self.items c.pop.result
-    (MayLeadTo (state_of cat c.args.from.now) (instruction_of c.args.command.now)) c.pop.ensures.items
-    (λ s inside. ⊎_elim (λ none. absurd (nothing (state_of cat) c.new-rings.result.items s c.new-rings.ensures.items none)) (λ leads. leads)
+    popped (stage_of cat) c.push_next.new.rings.items c.pop.new.self.items c.pop.result
+    (MayLeadTo c.args.setting.now.keeps (stage_of cat c.args.from.now) (instruction_of c.args.command.now)) c.pop.ensures.items
+    (λ s inside. ⊎_elim (λ none. absurd (nothing (stage_of cat) c.new-rings.result.items s c.new-rings.ensures.items none)) (λ leads. leads)
     (c.in_ok-_all.ensures.grows.from s inside))

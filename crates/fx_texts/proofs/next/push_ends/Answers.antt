@@ -1,18 +1,17 @@
-use Rattle.std.proofs.Common.{◌≡◌, ◌+◌, ◌≤◌, List, length, arith, sym, subst, slice_index_or}
+use Rattle.std.proofs.Common.{◌≡◌, List, [], length, arith, sym, subst, slice_index_or}
 use Rattle.std.specs.Prelude.{Contains}
-use Rattle.fx_answers.specs.Outcomes.{HasEachEnd, IsEnd, ring_behind}
+use Rattle.fx_answers.specs.Outcomes.{HasEachEnd, IsEnd}
 use Rattle.fx_answers.specs.declared.end.End.{End}
 use Rattle.fx_chain.specs.Operation.{all_asked}
 use Rattle.fx_language.specs.Instruction.{SubmitsAll}
-use Rattle.fx_ring.specs.Ring.{RingState}
-use Rattle.fx_texts.specs.Rings.{MayLeadTo, state_of, states_of}
-use Rattle.fx_texts.proofs.Growth.{grows_by, grows_on, holds_more, holds_of_all, read_at}
+use Rattle.fx_texts.specs.Rings.{MayLeadTo, Stage, stage_left, stage_of, stages_of}
+use Rattle.fx_texts.proofs.Growth.{grows_by, grows_on, holds_more, holds_of_each, read_at}
 use Rattle.fx_texts.proofs.Submitted.{as_many, counted_one, end_may_lead, ends_are_all}
 use Rattle.fx_texts.proofs.next.push_ends.Goals as goal
 
-pub push_end-requires-clause-room : goal.push_end-requires-clause-room
-push_end-requires-clause-room c =
-    let old = state_of c.args.setting.now.catalogue.now c.args.from.now in
+pub push_left-requires-clause-room : goal.push_left-requires-clause-room
+push_left-requires-clause-room c =
+    let old = (stage_of c.args.setting.now.catalogue.now c.args.from.now).ring in
     let asked = all_asked c.args.requests.now in
     let end = c.end-item.result in
     let is : IsEnd old asked end = read_at (IsEnd old asked) c.in_ok-found.found.ends.items c.deref-end-items.result.now c.loop-end.end-index end
@@ -24,33 +23,37 @@ push_end-requires-clause-room c =
 pub loop-end-preserved : goal.loop-end-preserved
 loop-end-preserved c =
     let cat = c.args.setting.now.catalogue.now in
-    let old = state_of cat c.args.from.now in
+    let keeps = c.args.setting.now.keeps in
+    let old = stage_of cat c.args.from.now in
     let asked = all_asked c.args.requests.now in
     let end = c.end-item.result in
-    let leads = MayLeadTo old (SubmitsAll asked) in
-    let before = states_of cat c.loop-end.rings.items in
-    let now = states_of cat c.push_end.new.rings.items in
-    let is : IsEnd old asked end = read_at (IsEnd old asked) c.in_ok-found.found.ends.items c.deref-end-items.result.now c.loop-end.end-index end
+    let leads = MayLeadTo keeps old (SubmitsAll asked) in
+    let before = stages_of cat c.loop-end.rings.items in
+    let now = stages_of cat c.push_left.new.rings.items in
+    let is : IsEnd old.ring asked end = read_at (IsEnd old.ring asked) c.in_ok-found.found.ends.items c.deref-end-items.result.now c.loop-end.end-index end
     c.deref-end-items.ensures.value c.loop-end-test.true c.end-item.is (c.in_ok-found.ensures.each c.args.from.now.ring.registrations) in
-    let one = c.in_ok-push_end.ensures.grows cat in
+    let one = c.in_ok-push_left.ensures.grows cat in
     record {
-      grows = grows_on leads (states_of cat c.args.rings.now.items) before now c.loop-end.invariant.grows
-          (grows_by (λ (s : RingState). s ≡ ring_behind old end.slots) leads before now
-          (λ s same. subst leads (sym same) (end_may_lead old asked c.requires.faultless c.requires.few end is)) one);
-      there = holds_more (λ (e : End). ring_behind old e.slots) c.deref-end-items.result.now (Contains now) c.loop-end.end-index end c.loop-end-test.true
-          c.end-item.is (λ i d low. one.kept (ring_behind old (slice_index_or c.deref-end-items.result.now i d).slots) (c.loop-end.invariant.there i d low)) (c.in_ok-push_end.ensures.there cat);
+      grows = grows_on leads (stages_of cat c.args.rings.now.items) before now c.loop-end.invariant.grows
+          (grows_by (λ (s : Stage). s ≡ stage_left keeps old end.slots []) leads before now
+          (λ s same. subst leads (sym same) (end_may_lead keeps old asked c.requires.faultless c.requires.few end c.requires.silent is)) one);
+      there = holds_more (λ (e : End). stage_left keeps old e.slots []) c.deref-end-items.result.now (Contains now) c.loop-end.end-index end
+          c.loop-end-test.true c.end-item.is
+          (λ i d low. one.kept (stage_left keeps old (slice_index_or c.deref-end-items.result.now i d).slots []) (c.loop-end.invariant.there i d low))
+          (c.in_ok-push_left.ensures.there cat);
     }
 
 pub returns-clause-all : goal.returns-clause-all
 returns-clause-all c = λ all.
     let cat = c.args.setting.now.catalogue.now in
-    let old = state_of cat c.args.from.now in
+    let keeps = c.args.setting.now.keeps in
+    let old = stage_of cat c.args.from.now in
     let asked = all_asked c.args.requests.now in
-    let now = states_of cat c.loop-end.rings.items in
+    let now = stages_of cat c.loop-end.rings.items in
     let items = c.deref-end-items.result.now in
-    let each : HasEachEnd old asked items = subst (λ (l : List End). HasEachEnd old asked l) (sym c.deref-end-items.ensures.value)
+    let each : HasEachEnd old.ring asked items = subst (λ (l : List End). HasEachEnd old.ring asked l) (sym c.deref-end-items.ensures.value)
     (c.in_ok-found.ensures.all all c.args.from.now.ring.registrations) in
-    ends_are_all old asked items now
-    (λ s inside. holds_of_all (λ (e : End). ring_behind old e.slots) items (Contains now) c.loop-end.end-index c.loop-end-test.false
-    c.loop-end.invariant.there s inside)
+    ends_are_all keeps old asked items now c.requires.silent
+    (λ end inside. holds_of_each (λ (e : End). stage_left keeps old e.slots []) items (Contains now) c.loop-end.end-index c.loop-end-test.false
+    c.loop-end.invariant.there end inside)
     (counted_one asked c.args.from.now.ring.submissions c.requires.faultless c.requires.few) each

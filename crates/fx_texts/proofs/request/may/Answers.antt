@@ -1,18 +1,22 @@
-use Rattle.std.proofs.Common.{◌≡◌, ◌⊎◌, ◌<◌, List, sym, subst, ◌∙◌}
+use Rattle.std.proofs.Common.{false, ◌≡◌, ◌⊎◌, ◌<◌, List, sym, subst, ◌∙◌}
 use Rattle.std.specs.Prelude.{Contains}
 use Rattle.fx_base.specs.Catalogue.{FileEntry}
 use Rattle.fx_chain.specs.Completed.{completed_of}
 use Rattle.fx_chain.specs.Operation.{all_asked}
 use Rattle.fx_chain.specs.declared.completion.Place.{Place}
-use Rattle.fx_language.specs.Instruction.{Instruction, SubmitsAll, instructions_of}
+use Rattle.fx_language.specs.Instruction.{Instruction, instructions_of}
 use Rattle.fx_ring.specs.Ring.{new_ring}
-use Rattle.fx_texts.specs.Rings.{HasEachLast, HasEachSaidFrom, IsAskedIn, MayLeadAllTo, MaySay, count_after_all, said_in, states_of}
+use Rattle.fx_texts.specs.Rings.{AreRings, HasEachLast, HasEachSaidFrom, IsAskedIn, MayLeadAllTo, MaySay, count_after_all, said_in, stages_of}
 use Rattle.fx_texts.specs.Texts.{MayAnswerIn}
 use Rattle.fx_texts.specs.declared.reached.Reached.{Reached}
 use Rattle.fx_texts.specs.declared.saying.Said.{Said}
 use Rattle.fx_texts.proofs.Growth.{all_of_values}
 use Rattle.fx_texts.proofs.Whole.{answer_is_said, none_answered, said_is_answered}
 use Rattle.fx_texts.proofs.request.may.Goals as goal
+
+pub answers_at-requires : goal.answers_at-requires
+answers_at-requires c =
+    subst (λ (l : List Reached). AreRings (stages_of c.catalogue.result.now l)) (sym c.deref.ensures.value) c.in_ok-rings.ensures.rings
 
 pub returns-in_default-clause-all : goal.returns-in_default-clause-all
 returns-in_default-clause-all c = λ _ it may.
@@ -32,10 +36,10 @@ returns-clause-each c =
     all_of_values (λ (said : Said). completed_of said.completion) c.in_ok-found.found.answers.items (MayAnswerIn script place)
     (λ it inside.
     let (o, there, says) = c.in_ok-found.ensures.each it inside in
-    said_is_answered script place front asked behind (sym c.commands.ensures ∙ a.split) a.number o it
-    (subst (λ (cat : List FileEntry). MayLeadAllTo (new_ring cat) front o) c.catalogue.ensures.value (c.in_ok-rings.ensures.each o
-    (subst (λ (l : List Reached). Contains (states_of c.catalogue.result.now l) o) c.deref.ensures.value there)))
-    (subst (λ (p : Place). MaySay o asked behind p it) a.place_same says))
+    said_is_answered script place front asked behind (sym c.commands.ensures ∙ a.split) a.number false o it
+    (subst (λ (cat : List FileEntry). MayLeadAllTo false (new_ring cat) front o) c.catalogue.ensures.value (c.in_ok-rings.ensures.each o
+    (subst (λ (l : List Reached). Contains (stages_of c.catalogue.result.now l) o) c.deref.ensures.value there)))
+    (subst (λ (p : Place). MaySay o.ring asked behind p it) a.place_same says))
 
 pub returns-clause-all : goal.returns-clause-all
 returns-clause-all c = λ yes it may.
@@ -46,11 +50,11 @@ returns-clause-all c = λ yes it may.
     let front = instructions_of asking.front.now in
     let asked = all_asked asking.requests.now in
     let behind = instructions_of asking.behind.now in
-    let states = states_of c.catalogue.result.now c.deref.result.now in
+    let states = stages_of c.catalogue.result.now c.deref.result.now in
     let said = said_in c.in_ok-found.found.answers.items in
     let two = c.both.ensures yes in
-    answer_is_said script place front asked behind (sym c.commands.ensures ∙ a.split) a.number states said it a.counted
-    (subst (λ (cat : List FileEntry). HasEachLast (new_ring cat) front states) c.catalogue.ensures.value
-    (subst (λ (l : List Reached). HasEachLast (new_ring c.catalogue.result.now) front (states_of c.catalogue.result.now l)) (sym c.deref.ensures.value)
+    answer_is_said script place front asked behind (sym c.commands.ensures ∙ a.split) a.number false states said it a.counted
+    (subst (λ (cat : List FileEntry). HasEachLast false (new_ring cat) front states) c.catalogue.ensures.value
+    (subst (λ (l : List Reached). HasEachLast false (new_ring c.catalogue.result.now) front (stages_of c.catalogue.result.now l)) (sym c.deref.ensures.value)
     (c.in_ok-rings.ensures.all two.0)))
     (subst (λ (p : Place). HasEachSaidFrom states asked p said) a.place_same (c.in_ok-found.ensures.all two.1)) may

@@ -2,10 +2,16 @@ use Rattle.std.proofs.Common.{◌≡◌, sym, subst, ⊎_elim}
 use Rattle.fx_chain.specs.Faults.{fault_of}
 use Rattle.fx_chain.specs.Operation.{all_asked}
 use Rattle.fx_ring.specs.Ring.{RingState}
-use Rattle.fx_texts.specs.Rings.{HasEachSaid, count_behind, said_in, state_of}
+use Rattle.fx_texts.specs.Rings.{HasEachSaid, Stage, count_behind, said_in, stage_of}
 use Rattle.fx_texts.proofs.Growth.{at_value, holds_more, holds_of_all}
 use Rattle.fx_texts.proofs.Submitted.{no_report}
 use Rattle.fx_texts.proofs.saying.answers_at.Goals as goal
+
+pub push_answers-requires-clause-ring : goal.push_answers-requires-clause-ring
+push_answers-requires-clause-ring c =
+    let cat = c.args.setting.now.catalogue.now in
+    c.requires (stage_of cat c.from-item.result)
+    (at_value (stage_of cat) c.args.rings.now c.loop-from.from-index c.from-item.result c.loop-from-test.true c.from-item.is)
 
 pub loop-from-preserved-then-not-is_accepted : goal.loop-from-preserved-then-not-is_accepted
 loop-from-preserved-then-not-is_accepted c =
@@ -13,8 +19,8 @@ loop-from-preserved-then-not-is_accepted c =
     let asked = all_asked c.args.asking.now.requests.now in
     record {
       each = c.loop-from.invariant.each;
-      all = λ yes. holds_more (state_of cat) c.args.rings.now
-          (λ (o : RingState). HasEachSaid o asked c.args.asking.now.place (said_in c.loop-from.answers.items)) c.loop-from.from-index c.from-item.result
+      all = λ yes. holds_more (stage_of cat) c.args.rings.now
+          (λ (o : Stage). HasEachSaid o.ring asked c.args.asking.now.place (said_in c.loop-from.answers.items)) c.loop-from.from-index c.from-item.result
           c.loop-from-test.true c.from-item.is (c.loop-from.invariant.all yes)
           (λ ring next line report it same prints found inside there. absurd (no_report ring next asked line report
           (subst (λ (r : RingState). count_behind r.submissions (fault_of asked) ≡ r.submissions) (sym same)
@@ -30,13 +36,13 @@ loop-from-preserved c =
     record {
       each = λ it inside. ⊎_elim (λ there. c.loop-from.invariant.each it there)
           (λ says. (
-            state_of cat c.from-item.result,
-            at_value (state_of cat) c.args.rings.now c.loop-from.from-index c.from-item.result c.loop-from-test.true c.from-item.is,
+            stage_of cat c.from-item.result,
+            at_value (stage_of cat) c.args.rings.now c.loop-from.from-index c.from-item.result c.loop-from-test.true c.from-item.is,
             says,
           )) (grows.from it inside);
       all = λ yes.
           let two = c.both-are_all.ensures yes in
-          holds_more (state_of cat) c.args.rings.now (λ (o : RingState). HasEachSaid o asked c.args.asking.now.place now) c.loop-from.from-index
+          holds_more (stage_of cat) c.args.rings.now (λ (o : Stage). HasEachSaid o.ring asked c.args.asking.now.place now) c.loop-from.from-index
           c.from-item.result c.loop-from-test.true c.from-item.is
           (λ i d low ring next line report it same prints found inside there.
           grows.kept it (c.loop-from.invariant.all two.0 i d low ring next line report it same prints found inside there))
@@ -46,6 +52,6 @@ loop-from-preserved c =
 pub returns-clause-all : goal.returns-clause-all
 returns-clause-all c = λ yes.
     let cat = c.args.setting.now.catalogue.now in
-    holds_of_all (state_of cat) c.args.rings.now
-    (λ (o : RingState). HasEachSaid o (all_asked c.args.asking.now.requests.now) c.args.asking.now.place (said_in c.loop-from.answers.items))
+    holds_of_all (stage_of cat) c.args.rings.now
+    (λ (o : Stage). HasEachSaid o.ring (all_asked c.args.asking.now.requests.now) c.args.asking.now.place (said_in c.loop-from.answers.items))
     c.loop-from.from-index c.loop-from-test.false (c.loop-from.invariant.all yes)

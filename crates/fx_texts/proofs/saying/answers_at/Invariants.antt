@@ -1,14 +1,14 @@
 use Rattle.std.specs.Prelude.{IsTrue}
 use Rattle.fx_chain.specs.Operation.{all_asked}
 use Rattle.fx_language.specs.Instruction.{instructions_of}
-use Rattle.fx_texts.specs.Rings.{AreSaidFrom, HasEachSaid, said_in, state_of, states_of}
+use Rattle.fx_texts.specs.Rings.{AreSaidFrom, HasEachSaid, said_in, stage_of, stages_of}
 use Rattle.fx_texts.proofs.Growth.{HoldsBefore}
 use Rattle.fx_texts.proofs.saying.answers_at.Given as goal
 
 abbrev pub invariant-loop-from : goal.invariant-loop-from
 invariant-loop-from l = record {
-  each : AreSaidFrom (states_of l.setting.catalogue.now l.rings) (all_asked l.asking.requests.now) (instructions_of l.asking.behind.now) l.asking.place
+  each : AreSaidFrom (stages_of l.setting.catalogue.now l.rings) (all_asked l.asking.requests.now) (instructions_of l.asking.behind.now) l.asking.place
       (said_in l.answers.items);
-  all : IsTrue l.are_all → HoldsBefore (state_of l.setting.catalogue.now) l.rings
-      (λ o. HasEachSaid o (all_asked l.asking.requests.now) l.asking.place (said_in l.answers.items)) l.from-index;
+  all : IsTrue l.are_all → HoldsBefore (stage_of l.setting.catalogue.now) l.rings
+      (λ o. HasEachSaid o.ring (all_asked l.asking.requests.now) l.asking.place (said_in l.answers.items)) l.from-index;
 }

@@ -1,13 +1,20 @@
-use Rattle.std.proofs.Common.{◌≡◌, ◌+◌, subst, ◌∙◌}
+use Rattle.std.proofs.Common.{◌≡◌, ◌+◌, sym, subst, ◌∙◌}
 use Rattle.fx_chain.specs.Completed.{Completed, completed_of}
 use Rattle.fx_language.specs.Instruction.{instructions_of}
 use Rattle.fx_order.specs.Slots.{ring_of_slots}
-use Rattle.fx_ring.specs.Ring.{RingState}
+use Rattle.fx_ring.specs.Ring.{IsRing, RingState}
 use Rattle.fx_texts.specs.Rings.{MayEnd}
 use Rattle.fx_texts.specs.declared.saying.Said.{Said}
 use Rattle.fx_texts.proofs.Growth.{pushed}
 use Rattle.fx_texts.proofs.Submitted.{copied_ring}
 use Rattle.fx_texts.proofs.saying.push_answer.Goals as goal
+
+pub goes_on-requires : goal.goes_on-requires
+goes_on-requires c =
+    let cat = c.args.setting.now.catalogue.now in
+    let n = c.args.from.now.ring.submissions + 1 in
+    let k = c.args.from.now.ring.registrations in
+    subst IsRing (sym (copied_ring cat c.args.answer.now.slots c.in_ok-at.at n k (c.in_ok-at.ensures.items ∙ c.deref-2.ensures.value))) c.requires.ring
 
 pub returns-clause-grows : goal.returns-clause-grows
 returns-clause-grows c =

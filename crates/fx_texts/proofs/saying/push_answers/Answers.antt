@@ -1,18 +1,19 @@
-use Rattle.std.proofs.Common.{◌≡◌, ◌+◌, ◌≤◌, List, length, arith, refl, sym, subst, slice_index_or}
+use Rattle.std.proofs.Common.{◌≡◌, List, length, arith, sym, subst, slice_index_or}
 use Rattle.std.specs.Prelude.{Contains}
 use Rattle.fx_answers.specs.Outcomes.{HasEachAnswer, IsAnswer, ring_behind}
 use Rattle.fx_answers.specs.declared.outcome.Answer.{Answer}
 use Rattle.fx_chain.specs.Completed.{Completed, completed_of}
 use Rattle.fx_chain.specs.Operation.{all_asked}
 use Rattle.fx_language.specs.Instruction.{instructions_of}
-use Rattle.fx_texts.specs.Rings.{MayEnd, MaySay, said_in, state_of}
+use Rattle.fx_texts.specs.Rings.{MayEnd, MaySay, said_in, stage_of}
 use Rattle.fx_texts.proofs.Growth.{grows_by, grows_on, holds_more, holds_of_all, read_at}
+use Rattle.fx_texts.proofs.LedRings.{answer_ring}
 use Rattle.fx_texts.proofs.Submitted.{answer_may_say, as_many}
 use Rattle.fx_texts.proofs.saying.push_answers.Goals as goal
 
 pub push_answer-requires-clause-room : goal.push_answer-requires-clause-room
 push_answer-requires-clause-room c =
-    let old = state_of c.args.setting.now.catalogue.now c.args.from.now in
+    let old = (stage_of c.args.setting.now.catalogue.now c.args.from.now).ring in
     let asked = all_asked c.args.asking.now.requests.now in
     let place = c.args.asking.now.place in
     let answer = c.answer-item.result in
@@ -23,10 +24,22 @@ push_answer-requires-clause-room c =
     let few = c.args.from.now.few_slots in
     omega (arith, same, few)
 
+pub push_answer-requires-clause-ring : goal.push_answer-requires-clause-ring
+push_answer-requires-clause-ring c =
+    let cat = c.args.setting.now.catalogue.now in
+    let old = (stage_of cat c.args.from.now).ring in
+    let asked = all_asked c.args.asking.now.requests.now in
+    let place = c.args.asking.now.place in
+    let answer = c.answer-item.result in
+    let is : IsAnswer old asked place answer = read_at (IsAnswer old asked place) c.in_ok-found.found.answers.items c.deref-answer-items.result.now
+    c.loop-answer.answer-index answer c.deref-answer-items.ensures.value c.loop-answer-test.true c.answer-item.is
+    (c.in_ok-found.ensures.each c.args.from.now.ring.registrations) in
+    answer_ring cat c.args.from.now asked place answer c.requires.ring is
+
 pub loop-answer-preserved : goal.loop-answer-preserved
 loop-answer-preserved c =
     let cat = c.args.setting.now.catalogue.now in
-    let old = state_of cat c.args.from.now in
+    let old = (stage_of cat c.args.from.now).ring in
     let asked = all_asked c.args.asking.now.requests.now in
     let behind = instructions_of c.args.asking.now.behind.now in
     let place = c.args.asking.now.place in
@@ -41,7 +54,7 @@ loop-answer-preserved c =
     record {
       grows = grows_on says (said_in c.args.answers.now.items) before now c.loop-answer.invariant.grows
           (grows_by (λ (it : Completed). (it ≡ completed_of answer.completion) × MayEnd (ring_behind old answer.slots) behind) says before now
-          (λ it given. subst says (sym given.0) (answer_may_say old asked c.args.asking.now.faultless c.requires place answer behind is given.1)) one);
+          (λ it given. subst says (sym given.0) (answer_may_say old asked c.args.asking.now.faultless c.requires.few place answer behind is given.1)) one);
       there = λ yes.
           let two = c.both-are_there.ensures yes in
           holds_more (λ (a : Answer). completed_of a.completion) c.deref-answer-items.result.now (Contains now) c.loop-answer.answer-index answer
@@ -53,7 +66,7 @@ loop-answer-preserved c =
 pub returns-clause-all : goal.returns-clause-all
 returns-clause-all c = λ yes.
     let cat = c.args.setting.now.catalogue.now in
-    let old = state_of cat c.args.from.now in
+    let old = (stage_of cat c.args.from.now).ring in
     let asked = all_asked c.args.asking.now.requests.now in
     let place = c.args.asking.now.place in
     let items = c.deref-answer-items.result.now in

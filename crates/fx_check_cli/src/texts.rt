@@ -1,0 +1,75 @@
+//! Every text of a script, as it is printed.
+ghost use Rattle.std.specs.Prelude.{◌≡◌};
+ghost use Rattle.fx_check_cli.specs.Status.{all_status};
+
+use crate::listing::push_orders;
+use fx_base::NoMemory;
+use fx_script::Script;
+use fx_texts::AllTexts;
+use std::alloc::{AllocError, Global};
+
+/// The status of the program: 0 where the texts are all that there are, 6 where there may be more.
+pub fn status_of_texts(all: &AllTexts) -> u8
+    ensures { result ≡ all_status all.now }
+{
+    if all.are_all { 0 } else { 6 }
+}
+
+// Puts the line of how many texts there are behind others: what that rests on, and how many are listed, where not all are.
+fn push_count(
+    told: &mut String,
+    states: u32,
+    most: u32,
+    all: &AllTexts,
+) -> Result<(), AllocError> {
+    let count = all.texts.len();
+    if !all.are_all {
+        told.push_str("at least ")?;
+    }
+    let noun = if count == 1 { "text" } else { "texts" };
+    write!(told, "{count} {noun}, where memory is found")?;
+    if !all.are_all {
+        write!(told, ": more than {states} states, or than a gibibyte holds")?;
+    }
+    if count > most as usize {
+        write!(told, "; the first {most}:")?;
+    }
+    told.push('\n')
+}
+
+// Puts the lines of a text behind others, each behind four spaces.
+fn push_lines(told: &mut String, text: &str) -> Result<(), AllocError> {
+    for line in text.lines() {
+        told.push_str("    ")?;
+        told.push_str(line)?;
+        told.push('\n')?;
+    }
+    Ok(())
+}
+
+/// The lines of the texts of a script: how many there are, and of as many as are wanted the number of each, its lines, and
+/// the orders that come to it.
+///
+/// # Errors
+/// Where memory is refused.
+pub fn listing_of_texts(
+    alloc: Global,
+    script: &Script,
+    states: u32,
+    most: u32,
+    all: &AllTexts,
+) -> Result<String, NoMemory> {
+    let mut told = String::new(alloc);
+    push_count(&mut told, states, most, all)?;
+    let mut number = 0usize;
+    for text in all.texts.iter().take(most as usize) {
+        let by = all.by.get(number).copied().flatten();
+        number = number.saturating_add(1);
+        write!(told, "\ntext {number}\n")?;
+        push_lines(&mut told, text.as_str())?;
+        if let Some(last) = by {
+            push_orders(alloc, &mut told, script, &all.orders, last, "")?;
+        }
+    }
+    Ok(told)
+}

@@ -1,0 +1,37 @@
+-- A text that is inserted into a set is there, and nothing else is new.
+use Rattle.std.proofs.Common.{Global, String, ◌≡◌, suc, Bool, true, false, ◌||◌, if◌then◌else◌, List, [], ◌∷◌, ◌++◌, map, refl, sym, subst, arith, string_bytes}
+use Rattle.std.specs.Prelude.{Contains, string_eq}
+use Rattle.std.specs.Cmp.Lexicographic.{bytes_decides}
+use Rattle.std.specs.List.{list_any}
+use Rattle.std.proofs.lemmas.Bool.{true≢false}
+use Rattle.indexmap.specs.IndexSet.{insert_key}
+use Rattle.fx_texts.specs.Rings.{Grows}
+use Rattle.fx_texts.proofs.Growth.{has_pushed, pushed, stays}
+
+-- what a text is equal to is there
+found : (b : Bool) (k x : String Global) (keys : List (String Global)) → string_eq k x ≡ b → b || list_any (string_eq k) keys ≡ true
+    → (list_any (string_eq k) keys ≡ true → Contains (map string_bytes keys) (string_bytes k)) → Contains (map string_bytes (x ∷ keys)) (string_bytes k)
+found true k x keys is some rest = (0, omega arith, sym ((bytes_decides (string_bytes k) (string_bytes x)).0 is))
+found false k x keys is some rest =
+    let later = rest some in
+    (suc later.0, let low = later.1 in omega (arith, low), later.2)
+
+there : (k : String Global) (keys : List (String Global)) → list_any (string_eq k) keys ≡ true → Contains (map string_bytes keys) (string_bytes k)
+there k [] some = absurd (true≢false (sym some))
+there k (x ∷ keys) some = found (string_eq k x) k x keys refl some (λ rest. there k keys rest)
+
+module _ (keys new : List (String Global)) (k : String Global) where
+  by : (b : Bool) → list_any (string_eq k) keys ≡ b → new ≡ (if b then keys else keys ++ k ∷ [])
+      → Grows (λ t. t ≡ string_bytes k) (map string_bytes keys) (map string_bytes new) × Contains (map string_bytes new) (string_bytes k)
+  by true is are = (
+    subst (λ (l : List (String Global)). Grows (λ t. t ≡ string_bytes k) (map string_bytes keys) (map string_bytes l)) (sym are)
+        (stays (λ t. t ≡ string_bytes k) (map string_bytes keys)),
+    subst (λ (l : List (String Global)). Contains (map string_bytes l) (string_bytes k)) (sym are) (there k keys is),
+  )
+  by false is are = (pushed string_bytes keys new k are (λ t. t ≡ string_bytes k) refl, has_pushed string_bytes keys new k are)
+
+  pub inserted : new ≡ insert_key string_eq keys k → Grows (λ t. t ≡ string_bytes k) (map string_bytes keys) (map string_bytes new)
+  inserted are = (by (list_any (string_eq k) keys) refl are).0
+
+  pub has_inserted : new ≡ insert_key string_eq keys k → Contains (map string_bytes new) (string_bytes k)
+  has_inserted are = (by (list_any (string_eq k) keys) refl are).1

@@ -1,0 +1,17 @@
+use Rattle.std.proofs.Common.{◌∙◌}
+use Rattle.fx_check.proofs.Entries.{all_closed, all_of_ring, few_of_ring}
+use Rattle.fx_texts.proofs.call.unregister.Goals as goal
+
+pub close_in_order-requires-clause-entries : goal.close_in_order-requires-clause-entries
+close_in_order-requires-clause-entries c =
+    all_of_ring c.args.setting.now.catalogue.now c.args.ring c.deref.result.now (c.deref.ensures.value ∙ c.in_ok-files.ensures) c.requires.ring
+
+pub close_in_order-requires-clause-few : goal.close_in_order-requires-clause-few
+close_in_order-requires-clause-few c =
+    few_of_ring c.args.ring c.deref.result.now (c.deref.ensures.value ∙ c.in_ok-files.ensures) c.requires.few
+
+pub with_closes-requires : goal.with_closes-requires
+with_closes-requires c =
+    all_closed c.args.setting.now.catalogue.now c.deref.result.now c.in_ok-closes.closes
+    (all_of_ring c.args.setting.now.catalogue.now c.args.ring c.deref.result.now (c.deref.ensures.value ∙ c.in_ok-files.ensures) c.requires.ring)
+    c.in_ok-closes.ensures

@@ -1,0 +1,37 @@
+use Rattle.std.proofs.Common.{true, List, sym, subst, string_bytes}
+use Rattle.std.specs.Prelude.{Contains}
+use Rattle.fx_base.specs.Catalogue.{FileEntry}
+use Rattle.fx_language.specs.Instruction.{Instruction, instructions_of}
+use Rattle.fx_ring.specs.Ring.{new_ring}
+use Rattle.fx_texts.specs.Rings.{AreRings, HasEachLast, MayLeadAllTo, stages_of}
+use Rattle.fx_texts.specs.Texts.{IsTextFound}
+use Rattle.fx_texts.specs.declared.reached.Reached.{Reached}
+use Rattle.fx_texts.proofs.Growth.{all_of_values}
+use Rattle.fx_texts.proofs.Whole.{stage_texts, text_at_stage}
+use Rattle.fx_texts.proofs.texts.texts_of.Goals as goal
+
+pub all_at_end-requires-clause-rings : goal.all_at_end-requires-clause-rings
+all_at_end-requires-clause-rings c =
+    subst (λ (l : List Reached). AreRings (stages_of c.catalogue.result.now l)) (sym c.deref.ensures.value) c.in_ok-rings.ensures.rings
+
+pub returns-clause-each : goal.returns-clause-each
+returns-clause-each c =
+    let script = c.args.script.now in
+    let stages = stages_of c.catalogue.result.now c.deref.result.now in
+    all_of_values string_bytes c.in_ok-found.found.texts.keys (IsTextFound script)
+    (λ text inside. stage_texts script text stages
+    (λ s there. subst (λ (cs : List Instruction). MayLeadAllTo true (new_ring script.catalogue) cs s) c.commands.ensures
+    (subst (λ (cat : List FileEntry). MayLeadAllTo true (new_ring cat) (instructions_of c.commands.result.now) s) c.catalogue.ensures.value
+    (c.in_ok-rings.ensures.each s (subst (λ (l : List Reached). Contains (stages_of c.catalogue.result.now l) s) c.deref.ensures.value there))))
+    (c.in_ok-found.ensures.each text inside))
+
+pub returns-clause-all : goal.returns-clause-all
+returns-clause-all c = λ yes text found.
+    let script = c.args.script.now in
+    let stages = stages_of c.catalogue.result.now c.deref.result.now in
+    let (s, inside, ends) = text_at_stage script text stages
+    (subst (λ (cs : List Instruction). HasEachLast true (new_ring script.catalogue) cs stages) c.commands.ensures
+    (subst (λ (cat : List FileEntry). HasEachLast true (new_ring cat) (instructions_of c.commands.result.now) stages) c.catalogue.ensures.value
+    (subst (λ (l : List Reached). HasEachLast true (new_ring c.catalogue.result.now) (instructions_of c.commands.result.now)
+    (stages_of c.catalogue.result.now l)) (sym c.deref.ensures.value) (c.in_ok-rings.ensures.all yes)))) found in
+    c.in_ok-found.ensures.all s text inside ends

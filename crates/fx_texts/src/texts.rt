@@ -1,0 +1,122 @@
+//! Every text of a script.
+ghost use Rattle.std.specs.Prelude.{◌≡◌, All, Contains, IfOk, IsTrue, List, OnOk, map};
+ghost use Rattle.std.specs.Prelude.{string_bytes, string_eq, true, ℕ};
+ghost use Rattle.indexmap.specs.IndexSet.{IsUnique};
+ghost use Rattle.fx_judge.specs.Verdict.{ring_with_slots};
+ghost use Rattle.fx_ring.specs.Ring.{IsRing};
+ghost use Rattle.fx_texts.specs.Rings.{AreRings, EndsAs, Grows, HasEachText, IsTextAt};
+ghost use Rattle.fx_texts.specs.Rings.{stage_of, stages_of};
+ghost use Rattle.fx_texts.specs.Texts.{IsTextFound};
+
+use crate::next::printed_behind;
+use crate::reached::{Past, Reached};
+use crate::rings::after_all;
+use crate::setting::Setting;
+use fx_base::NoMemory;
+use fx_check::{close_in_order, files_at};
+use fx_language::Script;
+use fx_script::teardown_text;
+use indexmap::IndexSet;
+use std::alloc::Global;
+
+/// The texts of a script, and orders that come to them.
+#[derive(Debug, Drop)]
+pub struct AllTexts {
+    /// The texts, each once.
+    pub texts: IndexSet<String>,
+    /// Of each text, by its number, which of the orders is that of its last submission, if one was accepted.
+    pub by: Vec<Option<usize>>,
+    /// The orders of the submissions that came to the texts.
+    pub orders: Vec<Past>,
+    /// Whether these are all of the texts.
+    pub are_all: bool,
+}
+
+// The texts of plays that have come to the end of a script, each once.
+#[derive(Drop)]
+struct EachText {
+    texts: IndexSet<String>,
+    by: Vec<Option<usize>>,
+}
+
+// The text of a play that has come to the end of the script.
+fn text_at_end(setting: &Setting<'_>, reached: &Reached) -> Result<String, NoMemory>
+    requires ring { IsRing (ring_with_slots setting.now.catalogue.now reached.now.ring) }
+    requires told { setting.now.keeps ≡ true }
+    ensures is { IfOk result (λ text.
+        EndsAs (stage_of setting.now.catalogue.now reached.now) (string_bytes text)) }
+    ensures only { IfOk result (λ text. (other : List ℕ)
+        → EndsAs (stage_of setting.now.catalogue.now reached.now) other
+        → other ≡ string_bytes text) }
+{
+    let files = files_at(setting.alloc, &reached.ring.slots)?;
+    let closes = close_in_order(setting.alloc, setting.catalogue, &files)?;
+    let last = teardown_text(setting.alloc, setting.catalogue, &closes)?;
+    let text = printed_behind(setting, reached.printed.as_str(), last.as_str())?;
+    Ok(text)
+}
+
+// Puts a text behind others that haven't got it.
+fn push_text(all: &mut EachText, text: String, past: Option<usize>) -> Result<(), NoMemory>
+    ensures grows { OnOk result (Grows (λ t. t ≡ string_bytes text)
+        (map string_bytes all.old.texts.keys) (map string_bytes all.new.texts.keys)) }
+    ensures there { OnOk result
+        (Contains (map string_bytes all.new.texts.keys) (string_bytes text)) }
+{
+    if all.texts.insert(text)? {
+        all.by.push(past)?;
+    }
+    Ok(())
+}
+
+// The texts of plays that have come to the end of the script.
+fn all_at_end(setting: &Setting<'_>, rings: &[Reached]) -> Result<EachText, NoMemory>
+    requires rings { AreRings (stages_of setting.now.catalogue.now rings.now) }
+    requires told { setting.now.keeps ≡ true }
+    ensures each { IfOk result (λ all. (text : List ℕ)
+        → Contains (map string_bytes all.texts.keys) text
+        → IsTextAt (stages_of setting.now.catalogue.now rings.now) text) }
+    ensures all { IfOk result (λ all. HasEachText
+        (stages_of setting.now.catalogue.now rings.now) (map string_bytes all.texts.keys)) }
+{
+    let mut all = EachText {
+        texts: IndexSet::new(setting.alloc),
+        by: Vec::new(setting.alloc),
+    };
+    for reached in rings {
+        let text = text_at_end(setting, reached)?;
+        push_text(&mut all, text, reached.past)?;
+    }
+    Ok(all)
+}
+
+/// The texts of a script in which memory is found, each once: each is one that some play of the script prints. Where
+/// `are_all` is true there is no other; else more states of a submission would have to be met than `states`, or more rings
+/// looked at than that or than have room in a gibibyte. The orders are those by which the texts were found, and no contract
+/// speaks of them.
+///
+/// # Errors
+/// `NoMemory` where there is no memory for the rings, the states or the texts.
+pub fn texts_of(alloc: Global, script: &Script, states: usize) -> Result<AllTexts, NoMemory>
+    ensures each { IfOk result (λ all.
+        All (λ text. IsTextFound script.now (string_bytes text)) all.texts.keys) }
+    ensures once { IfOk result (λ all. IsUnique string_eq all.texts) }
+    ensures all { IfOk result (λ all. IsTrue all.are_all → (text : List ℕ)
+        → IsTextFound script.now text → Contains (map string_bytes all.texts.keys) text) }
+{
+    let setting = Setting {
+        alloc,
+        catalogue: script.catalogue(),
+        states,
+        keeps: true,
+    };
+    let mut orders = Vec::new(alloc);
+    let rings = after_all(&setting, &mut orders, script.commands())?;
+    let found = all_at_end(&setting, &rings.rings)?;
+    Ok(AllTexts {
+        texts: found.texts,
+        by: found.by,
+        orders,
+        are_all: rings.are_all,
+    })
+}
