@@ -123,7 +123,9 @@ fn all_argument<'a>(alloc: Global) -> Result<Arg<'a>, AllocError> {
         .require_equals(true)
         .default_missing_value("100")
         .help("Lists every text of the script, the first N of them, 100 where no number is given")
-        .conflicts_with_all(&["may", "history", "text"])
+        .conflicts_with("may")?
+        .conflicts_with("history")?
+        .conflicts_with("text")
 }
 
 fn script_argument<'a>(alloc: Global) -> Arg<'a> {

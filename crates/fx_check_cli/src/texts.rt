@@ -16,12 +16,7 @@ pub fn status_of_texts(all: &AllTexts) -> u8
 }
 
 // Puts the line of how many texts there are behind others: what that rests on, and how many are listed, where not all are.
-fn push_count(
-    told: &mut String,
-    states: u32,
-    most: u32,
-    all: &AllTexts,
-) -> Result<(), AllocError> {
+fn push_count(told: &mut String, states: u32, most: u32, all: &AllTexts) -> Result<(), AllocError> {
     let count = all.texts.len();
     if !all.are_all {
         told.push_str("at least ")?;
@@ -29,7 +24,10 @@ fn push_count(
     let noun = if count == 1 { "text" } else { "texts" };
     write!(told, "{count} {noun}, where memory is found")?;
     if !all.are_all {
-        write!(told, ": more than {states} states, or than a gibibyte holds")?;
+        write!(
+            told,
+            ": more than {states} states, or than a gibibyte holds"
+        )?;
     }
     if count > most as usize {
         write!(told, "; the first {most}:")?;

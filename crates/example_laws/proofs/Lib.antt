@@ -1,9 +1,0 @@
-pub mod Printed
-pub mod Members
-pub mod ReadRows
-pub mod Rows
-pub mod ReadTexts
-pub mod TwoChains
-pub mod Allowed
-pub mod TwoChainsPlays
-pub mod ReadPlays

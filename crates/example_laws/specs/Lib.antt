@@ -1,3 +1,0 @@
-pub mod OpenReadClose
-pub mod ShortReadSevers
-pub mod CloseBesideAnOpen
