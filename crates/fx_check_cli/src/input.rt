@@ -1,5 +1,5 @@
 //! What is read: the script and the text.
-use crate::ending::Ending;
+use fx_check_arguments::Ending;
 use fx_complaint::{line_at, line_behind};
 use fx_script::{PlayFault, Script, ScriptError};
 use std::alloc::{AllocError, Global};

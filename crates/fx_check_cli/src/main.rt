@@ -1,8 +1,6 @@
 //! The program `fixcheck`: says whether the rules allow a text for a script.
 #![tactic(auto)]
 
-mod arguments;
-mod ending;
 mod history;
 mod input;
 mod listing;
@@ -13,9 +11,8 @@ mod texts;
 mod unexpected;
 mod verdict;
 
-use arguments::{Settings, settings_in, words};
-use ending::Ending;
 use fx_check::{Judgement, Order, judge};
+use fx_check_arguments::{Ending, Settings, settings_in, words};
 use fx_judge::Limits;
 use fx_script::{PlayFault, Script};
 use fx_texts::{may, texts_of};

@@ -2,10 +2,10 @@
 ghost use Rattle.std.specs.Prelude.{◌≡◌};
 ghost use Rattle.fx_check_cli.specs.Status.{status};
 
-use crate::arguments::Settings;
 use crate::unexpected::why_of;
 use fx_base::NoMemory;
 use fx_check::{Break, Fault, Judgement, Order};
+use fx_check_arguments::Settings;
 use fx_complaint::{
     Case, Complaint, Unordered, complaint_of, first_difference, line_behind, line_number,
     line_of_command, shown_line,

@@ -1,4 +1,4 @@
-//! The arguments of the program.
+//! What the words of a command line ask to be checked.
 use crate::ending::Ending;
 use clap::{Arg, ArgAction, ArgMatches, Command, Error, value_parser};
 use fx_script::PlayFault;
@@ -39,11 +39,11 @@ Exit status:
   5  memory was refused
   6  the text is undecided, or there may be more answers or texts";
 
-/// How many states of a submission are looked at where no number is given.
-pub const STATES: u32 = 1_000_000;
+// How many states of a submission are looked at where no number is given.
+const STATES: u32 = 1_000_000;
 
-/// How many MiB the states of a part of a submission may take where no number is given.
-pub const MEMORY: u32 = 1_024;
+// How many MiB the states of a part of a submission may take where no number is given.
+const MEMORY: u32 = 1_024;
 
 /// How many MiB they may take at most: a TiB.
 const MOST_MEMORY: i64 = 1_048_576;

@@ -1,3 +1,4 @@
+//! How the program ends without a verdict.
 use clap::Error;
 use clap::error::ErrorKind;
 use fx_base::NoMemory;

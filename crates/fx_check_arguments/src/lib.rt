@@ -1,0 +1,8 @@
+//! The command line of the program `fixcheck`, and how the program ends without a verdict.
+#![tactic(auto)]
+
+mod ending;
+mod settings;
+
+pub use ending::Ending;
+pub use settings::{Settings, settings_in, words};
