@@ -30,7 +30,7 @@ use Rattle.fx_lines.specs.Lines.{IsResultInRange}
 use Rattle.fx_lines.proofs.ResultLines.{one_result}
 use Rattle.fx_check.proofs.FilesThere.{IsAtOne, all_in_order, all_removed, closes_printed}
 use Rattle.fx_check.proofs.Shown.{shown}
-use Rattle.fx_texts.specs.Rings.{AnswersFound, IsCall, IsLineOf, Leads, MayLeadTo, Stage, after_call, count_after, count_behind, kept, stage, unless_refused}
+use Rattle.fx_texts.specs.Rings.{AnswersFound, IsCall, IsLineOf, Leads, MayLeadTo, Stage, after_call, count_after, count_behind, kept_text, stage, unless_refused}
 use Rattle.fx_texts.specs.Texts.{FoundMemory, HasFound}
 
 -- what a call leaves that found memory
@@ -322,7 +322,7 @@ module _ (keeps : Bool) (catalogue : List FileEntry) (old new : RingSlots) (comm
   from = record { ring = ring_with_slots catalogue old; printed = before }
 
   abbrev pub behind : Stage
-  behind = record { ring = ring_with_slots catalogue new; printed = kept keeps (before ++ line) }
+  behind = record { ring = ring_with_slots catalogue new; printed = kept_text keeps (before ++ line) }
 
   -- the same of a ring that is kept as slots
   pub call_may_lead : length old.slots.at.items ≤ MOST_SLOTS → MayLeadTo keeps from command behind
@@ -334,7 +334,7 @@ module _ (keeps : Bool) (catalogue : List FileEntry) (old new : RingSlots) (comm
             (subst (λ (r : RingState). IsCall r.submissions command) (sym same) call)
             (next.1 ∙ is ∙ sym (ap (λ (r : RingState). after_call r command) same))
             (subst (λ (r : RingState). IsLineOf r command line) (sym same) printed),
-        (λ i. record { ring = next.1 i; printed = kept keeps (before ++ line) }),
+        (λ i. record { ring = next.1 i; printed = kept_text keeps (before ++ line) }),
       )
 
   pub call_only : IsRing (ring_with_slots catalogue old) → (ring next : RingContents) (other : List ℕ) → ring_of ring ≡ ring_with_slots catalogue old
@@ -345,7 +345,7 @@ module _ (keeps : Bool) (catalogue : List FileEntry) (old new : RingSlots) (comm
       call_leaves ring next command other own counts prints found ∙ ap (λ (r : RingState). after_call r command) same ∙ sym is in
       let lines : other ≡ line = one_line (ring_with_slots catalogue old) command other line is_ring
       (subst (λ (r : RingState). IsLineOf r command other) same (call_prints ring next command other own counts prints found)) printed in
-      λ i. record { ring = there i; printed = kept keeps (before ++ lines i) }
+      λ i. record { ring = there i; printed = kept_text keeps (before ++ lines i) }
 
 -- a call counts no submission
 pub call_uncounted : (count : ℕ) (command : Instruction) → IsCall count command → count_after count command ≡ count

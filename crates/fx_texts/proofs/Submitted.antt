@@ -32,7 +32,7 @@ use Rattle.fx_order.specs.Laws.{AreKnown}
 use Rattle.fx_order.specs.Order.{ring_left}
 use Rattle.std.proofs.lemmas.Bool.{true≢false}
 use Rattle.std.proofs.lemmas.List.Sorted.{IsPermutation-refl}
-use Rattle.fx_texts.specs.Rings.{HasEachNext, Leads, MayEnd, MayLeadTo, MaySay, Stage, count_behind, kept, stage_left, stage_reported}
+use Rattle.fx_texts.specs.Rings.{HasEachNext, Leads, MayEnd, MayLeadTo, MaySay, Stage, count_behind, kept_text, stage_left, stage_reported}
 use Rattle.fx_texts.proofs.Growth.{all_contained, at_one, element, get_at}
 use Rattle.fx_texts.specs.Texts.{IsReportFound}
 use Rattle.fx_texts.proofs.Counts.{history_counts, submission_counts}
@@ -56,7 +56,7 @@ report_leads ring next asked report accepted few may = (
   record { may = may; printed = refl },
 )
 
-kept_none : (keeps : Bool) (a b : List ℕ) → keeps ≡ false → kept keeps a ≡ kept keeps b
+kept_none : (keeps : Bool) (a b : List ℕ) → keeps ≡ false → kept_text keeps a ≡ kept_text keeps b
 kept_none true a b silent = absurd (true≢false silent)
 kept_none false a b silent = refl
 
@@ -79,7 +79,7 @@ module _ (keeps : Bool) (old : Stage) (asked : List Asked) (faultless : fault_of
         left,
         report_text ring.catalogue report,
         report_leads ring left asked report faultless (few_there ring same) may,
-        λ i. record { ring = behind i; printed = kept keeps (old.printed ++ report_text (same i).catalogue report) },
+        λ i. record { ring = behind i; printed = kept_text keeps (old.printed ++ report_text (same i).catalogue report) },
       )
 
 module _ (old : RingState) (asked : List Asked) (faultless : fault_of asked ≡ None) (few : old.submissions < MOST_SUBMISSIONS) where
@@ -172,7 +172,7 @@ reports_are_all keeps old asked reports stages is_ring accepted each inside coun
     let texts : line ≡ report_text old.ring.catalogue (reported possible.report) =
     found.printed ∙ texts_same old.ring asked is_ring accepted ring next same report found.may possible is tells in
     subst (λ (s : Stage). Contains stages s)
-    (λ i. record { ring = sym tells.leaves i; printed = kept keeps (old.printed ++ sym texts i) }) (inside possible there)
+    (λ i. record { ring = sym tells.leaves i; printed = kept_text keeps (old.printed ++ sym texts i) }) (inside possible there)
 
 pub counted_one : (requests : List Asked) (count : ℕ) → fault_of requests ≡ None → count < MOST_SUBMISSIONS
     → count_behind count (fault_of requests) ≡ count + 1

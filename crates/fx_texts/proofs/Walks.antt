@@ -5,7 +5,7 @@ use Rattle.std.proofs.lemmas.List.{append-nil, append_assoc, drop_more, map-appe
 use Rattle.fx_ring.specs.Ring.{RingContents, RingState, ring_of}
 use Rattle.fx_language.specs.Instruction.{Instruction, instruction_of, instructions_of}
 use Rattle.fx_language.specs.declared.command.Command.{Command}
-use Rattle.fx_texts.specs.Rings.{AreFrom, HasEachFrom, HasEachLast, Leads, LeadsAll, MayLeadAllTo, Stage, count_after, count_after_all, kept, stage}
+use Rattle.fx_texts.specs.Rings.{AreFrom, HasEachFrom, HasEachLast, Leads, LeadsAll, MayLeadAllTo, Stage, count_after, count_after_all, kept_text, stage}
 
 leads_behind : (ring mid last : RingContents) (front : List Instruction) (command : Instruction) (before line : List ℕ) → LeadsAll ring front mid before
     → Leads mid command last line → LeadsAll ring (front ++ command ∷ []) last (before ++ line)
@@ -57,14 +57,14 @@ before_last ring last (first ∷ front) command text (next, line, others, one, s
     }
 
 -- what is kept of a text and a line is what is kept of what was kept and the line
-kept_on : (keeps : Bool) (before line : List ℕ) → kept keeps (before ++ line) ≡ kept keeps (kept keeps before ++ line)
+kept_on : (keeps : Bool) (before line : List ℕ) → kept_text keeps (before ++ line) ≡ kept_text keeps (kept_text keeps before ++ line)
 kept_on true before line = refl
 kept_on false before line = refl
 
-stage_on : (keeps : Bool) (ring : RingContents) (before line printed : List ℕ) → kept keeps before ≡ printed
+stage_on : (keeps : Bool) (ring : RingContents) (before line printed : List ℕ) → kept_text keeps before ≡ printed
     → stage keeps ring (before ++ line) ≡ stage keeps ring (printed ++ line)
 stage_on keeps ring before line printed is =
-    let texts = kept_on keeps before line ∙ ap (λ (p : List ℕ). kept keeps (p ++ line)) is in
+    let texts = kept_on keeps before line ∙ ap (λ (p : List ℕ). kept_text keeps (p ++ line)) is in
     λ i. record { ring = ring_of ring; printed = texts i }
 
 -- one more command
@@ -88,7 +88,7 @@ pub all_more : (keeps : Bool) (first : RingState) (front : List Instruction) (co
 all_more keeps first front command old new all next ring last text same leads =
     let b = before_last ring last front command text leads in
     subst (λ (s : Stage). Contains new s)
-    (sym (stage_on keeps last b.before b.line (kept keeps b.before) refl) ∙ ap (λ (t : List ℕ). stage keeps last t) (sym b.split))
+    (sym (stage_on keeps last b.before b.line (kept_text keeps b.before) refl) ∙ ap (λ (t : List ℕ). stage keeps last t) (sym b.split))
     (next (stage keeps b.mid b.before) (all ring b.mid b.before same b.all) b.mid last b.line refl b.one)
 
 pub taken_more : (commands : List Command) (done : ℕ) (command : Command) → done < length commands

@@ -115,13 +115,13 @@ pub record Stage : Type 0 where
   pub printed : List ℕ
 
 -- what is kept of a text
-abbrev pub kept : Bool → List ℕ → List ℕ
-kept true text = text
-kept false text = []
+abbrev pub kept_text : Bool → List ℕ → List ℕ
+kept_text true text = text
+kept_text false text = []
 
 -- the stage with this ring, behind this text
 abbrev pub stage : Bool → RingContents → List ℕ → Stage
-stage keeps ring text = record { ring = ring_of ring; printed = kept keeps text }
+stage keeps ring text = record { ring = ring_of ring; printed = kept_text keeps text }
 
 -- each ring of the one stage may be led to the other stage by the command
 abbrev pub MayLeadTo : Bool → Stage → Instruction → Stage → Type 0
@@ -187,7 +187,7 @@ stages_of catalogue rings = map (stage_of catalogue) rings
 abbrev pub stage_left : Bool → Stage → Slots → List ℕ → Stage
 stage_left keeps old slots line = record {
   ring = ring_behind old.ring slots;
-  printed = kept keeps (old.printed ++ line);
+  printed = kept_text keeps (old.printed ++ line);
 }
 
 -- where a report leads

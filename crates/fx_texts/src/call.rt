@@ -28,7 +28,7 @@ use fx_script::{refused_line, result_line, too_many_line, with_closes};
 
 /// What a call leaves, and what it prints.
 #[derive(Drop)]
-pub(crate) struct Called {
+pub(crate) struct CallAnswer {
     pub(crate) ring: RingSlots,
     pub(crate) line: String,
 }
@@ -39,17 +39,17 @@ fn refused(
     ring: RingSlots,
     word: &str,
     errno: Errno,
-) -> Result<Called, NoMemory>
+) -> Result<CallAnswer, NoMemory>
     ensures same { IfOk result (λ called. called.ring ≡ ring) }
     ensures line { IfOk result (λ called.
         string_bytes called.line ≡ result_line word.now (negated errno)) }
 {
     let line = result_line(setting.alloc, word, -i64::from(errno.code()))?;
-    Ok(Called { ring, line })
+    Ok(CallAnswer { ring, line })
 }
 
 // A table of so many empty slots is registered.
-fn sparse(setting: &Setting<'_>, ring: RingSlots, n: u32) -> Result<Called, NoMemory>
+fn sparse(setting: &Setting<'_>, ring: RingSlots, n: u32) -> Result<CallAnswer, NoMemory>
     requires { length ring.slots.at.items ≤ MOST_SLOTS }
     ensures value { IfOk result (λ called. ring_with_slots setting.now.catalogue.now called.ring
         ≡ after_call (ring_with_slots setting.now.catalogue.now ring) (MakesSparse n)) }
@@ -68,7 +68,7 @@ fn sparse(setting: &Setting<'_>, ring: RingSlots, n: u32) -> Result<Called, NoMe
         submissions: ring.submissions,
         registrations: ring.registrations,
     };
-    Ok(Called { ring, line })
+    Ok(CallAnswer { ring, line })
 }
 
 // A table of the files of a list is registered, with tags where some are given.
@@ -77,7 +77,7 @@ fn register(
     ring: RingSlots,
     list: &[i32],
     tags: Option<&[u64]>,
-) -> Result<Called, NoMemory>
+) -> Result<CallAnswer, NoMemory>
     requires { length ring.slots.at.items ≤ MOST_SLOTS }
     ensures value { IfOk result (λ called. ring_with_slots setting.now.catalogue.now called.ring
         ≡ after_call (ring_with_slots setting.now.catalogue.now ring)
@@ -100,11 +100,11 @@ fn register(
         submissions: ring.submissions,
         registrations: k,
     };
-    Ok(Called { ring, line })
+    Ok(CallAnswer { ring, line })
 }
 
 // The table is taken away, and its files are closed.
-fn unregister(setting: &Setting<'_>, ring: RingSlots) -> Result<Called, NoMemory>
+fn unregister(setting: &Setting<'_>, ring: RingSlots) -> Result<CallAnswer, NoMemory>
     requires few { length ring.slots.at.items ≤ MOST_SLOTS }
     requires ring { IsRing (ring_with_slots setting.now.catalogue.now ring) }
     ensures value { IfOk result (λ called. ring_with_slots setting.now.catalogue.now called.ring
@@ -129,11 +129,16 @@ fn unregister(setting: &Setting<'_>, ring: RingSlots) -> Result<Called, NoMemory
         submissions: ring.submissions,
         registrations: ring.registrations,
     };
-    Ok(Called { ring, line })
+    Ok(CallAnswer { ring, line })
 }
 
 // The allocation range is set.
-fn set_range(setting: &Setting<'_>, ring: RingSlots, off: u32, len: u32) -> Result<Called, NoMemory>
+fn set_range(
+    setting: &Setting<'_>,
+    ring: RingSlots,
+    off: u32,
+    len: u32,
+) -> Result<CallAnswer, NoMemory>
     requires { length ring.slots.at.items ≤ MOST_SLOTS }
     ensures value { IfOk result (λ called. ring_with_slots setting.now.catalogue.now called.ring
         ≡ after_call (ring_with_slots setting.now.catalogue.now ring) (SetsRange off len)) }
@@ -154,7 +159,7 @@ fn set_range(setting: &Setting<'_>, ring: RingSlots, off: u32, len: u32) -> Resu
         submissions: ring.submissions,
         registrations: ring.registrations,
     };
-    Ok(Called { ring, line })
+    Ok(CallAnswer { ring, line })
 }
 
 // The line of an update by so many numbers, and those of the files that it closes.
@@ -177,7 +182,7 @@ fn update(
     off: u32,
     list: &[i32],
     tags: Option<&[u64]>,
-) -> Result<Called, NoMemory>
+) -> Result<CallAnswer, NoMemory>
     requires few { length ring.slots.at.items ≤ MOST_SLOTS }
     requires ring { IsRing (ring_with_slots setting.now.catalogue.now ring) }
     ensures value { IfOk result (λ called. ring_with_slots setting.now.catalogue.now called.ring
@@ -201,7 +206,7 @@ fn update(
         submissions: ring.submissions,
         registrations: k,
     };
-    Ok(Called { ring, line })
+    Ok(CallAnswer { ring, line })
 }
 
 // The line of a refused submission: that of its first fault, or else that there were too many.
@@ -224,7 +229,7 @@ pub(crate) fn call(
     setting: &Setting<'_>,
     ring: RingSlots,
     command: &Command,
-) -> Result<Called, NoMemory>
+) -> Result<CallAnswer, NoMemory>
     requires few { length ring.slots.at.items ≤ MOST_SLOTS }
     requires ring { IsRing (ring_with_slots setting.now.catalogue.now ring) }
     ensures value { IfOk result (λ called. ring_with_slots setting.now.catalogue.now called.ring
@@ -247,7 +252,7 @@ pub(crate) fn call(
         }
         Command::Submit(requests) => {
             let line = refused_submission(setting, requests)?;
-            Ok(Called { ring, line })
+            Ok(CallAnswer { ring, line })
         }
     }
 }

@@ -10,7 +10,7 @@ ghost use Rattle.fx_language.specs.Instruction.{SubmitsAll, instruction_of};
 ghost use Rattle.fx_plain.specs.declared.table.TheConstants.{MOST_SLOTS};
 ghost use Rattle.fx_ring.specs.Ring.{IsRing};
 ghost use Rattle.fx_ring.specs.declared.ring.TheConstants.{MOST_SUBMISSIONS};
-ghost use Rattle.fx_texts.specs.Rings.{Grows, HasEachNext, IsCall, MayLeadTo, count_behind, kept};
+ghost use Rattle.fx_texts.specs.Rings.{Grows, HasEachNext, IsCall, MayLeadTo, count_behind, kept_text};
 ghost use Rattle.fx_texts.specs.Rings.{stage_left, stage_of, stage_reported, stages_of};
 
 use crate::call::call;
@@ -86,7 +86,7 @@ pub(crate) fn printed_behind(
     line: &str,
 ) -> Result<String, NoMemory>
     ensures { IfOk result (λ text.
-        string_bytes text ≡ kept setting.now.keeps (before.now ++ line.now)) }
+        string_bytes text ≡ kept_text setting.now.keeps (before.now ++ line.now)) }
 {
     if !setting.keeps {
         return Ok(String::new(setting.alloc));
@@ -100,7 +100,7 @@ pub(crate) fn printed_behind(
 
 // Where an order of a submission has come to.
 #[derive(Clone, Copy)]
-struct Left<'a> {
+struct OrderEnd<'a> {
     order: &'a [ChainAccess],
     slots: &'a Slots,
     // What the submission prints.
@@ -108,27 +108,27 @@ struct Left<'a> {
 }
 
 // Puts the ring that an order leaves behind others.
-fn push_left(
+fn push_end(
     setting: &Setting<'_>,
     pasts: &mut Vec<Past>,
     rings: &mut Vec<Reached>,
     from: &Reached,
-    left: Left<'_>,
+    end: OrderEnd<'_>,
 ) -> Result<(), NoMemory>
     requires few { from.now.ring.submissions < MOST_SUBMISSIONS }
-    requires room { length left.slots.now.at.items ≤ MOST_SLOTS }
+    requires room { length end.slots.now.at.items ≤ MOST_SLOTS }
     ensures grows { OnOk result ((catalogue : List FileEntry)
         → Grows (λ s. s ≡ stage_left setting.now.keeps (stage_of catalogue from.now)
-        left.entry.slots.now left.entry.line.now) (stages_of catalogue rings.old.items)
+        end.entry.slots.now end.entry.line.now) (stages_of catalogue rings.old.items)
         (stages_of catalogue rings.new.items)) }
     ensures there { OnOk result ((catalogue : List FileEntry)
         → Contains (stages_of catalogue rings.new.items)
-        (stage_left setting.now.keeps (stage_of catalogue from.now) left.entry.slots.now
-        left.entry.line.now)) }
+        (stage_left setting.now.keeps (stage_of catalogue from.now) end.entry.slots.now
+        end.entry.line.now)) }
 {
-    let printed = printed_behind(setting, from.printed.as_str(), left.line)?;
-    let order = Vec::from_slice(setting.alloc, left.order)?;
-    let at = Vec::from_slice(setting.alloc, &left.slots.at)?;
+    let printed = printed_behind(setting, from.printed.as_str(), end.line)?;
+    let order = Vec::from_slice(setting.alloc, end.order)?;
+    let at = Vec::from_slice(setting.alloc, &end.slots.at)?;
     let past = pasts.len();
     pasts.push(Past {
         submission: from.ring.submissions + 1,
@@ -136,7 +136,7 @@ fn push_left(
         order,
         before: from.past,
     })?;
-    let range = left.slots.range;
+    let range = end.slots.range;
     let ring = RingSlots {
         slots: Slots { range, at },
         submissions: from.ring.submissions + 1,
@@ -185,12 +185,12 @@ fn push_ends(
         setting.states,
     )?;
     for end in &found.ends {
-        let left = Left {
+        let silent = OrderEnd {
             order: &end.order,
             slots: &end.slots,
             line: "",
         };
-        push_left(setting, pasts, rings, from, left)?;
+        push_end(setting, pasts, rings, from, silent)?;
     }
     Ok(found.are_all)
 }
@@ -216,12 +216,12 @@ fn push_report(
         possible.now)) }
 {
     let line = report_text(setting.alloc, &possible.report, setting.catalogue)?;
-    let left = Left {
+    let end = OrderEnd {
         order: &possible.order,
         slots: &possible.slots,
         line: line.as_str(),
     };
-    push_left(setting, pasts, rings, from, left)?;
+    push_end(setting, pasts, rings, from, end)?;
     Ok(())
 }
 

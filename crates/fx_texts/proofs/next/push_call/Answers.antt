@@ -3,7 +3,7 @@ use Rattle.std.specs.Prelude.{Contains}
 use Rattle.fx_ring.specs.Ring.{IsRing, RingState}
 use Rattle.fx_judge.specs.Verdict.{ring_with_slots}
 use Rattle.fx_language.specs.Instruction.{instruction_of}
-use Rattle.fx_texts.specs.Rings.{IsLineOf, MayLeadTo, Stage, after_call, kept, stages_of}
+use Rattle.fx_texts.specs.Rings.{IsLineOf, MayLeadTo, Stage, after_call, kept_text, stages_of}
 use Rattle.fx_texts.proofs.Calls.{behind, call_may_lead, call_only}
 use Rattle.fx_texts.proofs.Growth.{grows_by}
 use Rattle.fx_texts.proofs.next.push_call.Goals as goal
@@ -22,7 +22,7 @@ returns-clause-grows c =
     c.in_ok-called.ensures.value ∙ ap (λ (r : RingState). after_call r command) copied in
     let printed : IsLineOf (ring_with_slots cat ring) command line = subst (λ (r : RingState). IsLineOf r command line) copied c.in_ok-called.ensures.line in
     let there : Stage = behind keeps cat ring new command before line c.requires.call is printed in
-    let text = c.in_ok-printed.ensures ∙ (λ i. kept keeps (c.as_str.ensures.value i ++ c.as_str-2.ensures.value i)) in
+    let text = c.in_ok-printed.ensures ∙ (λ i. kept_text keeps (c.as_str.ensures.value i ++ c.as_str-2.ensures.value i)) in
     grows_by (λ (s : Stage). s ≡ record { ring = ring_with_slots cat new; printed = string_bytes c.in_ok-printed.printed })
     (MayLeadTo keeps (record { ring = ring_with_slots cat ring; printed = before }) command) (stages_of cat c.args.rings.now.items)
     (stages_of cat c.push_new.new.rings.items)
@@ -44,7 +44,7 @@ returns-clause-all c = λ ring next other same leads.
     let is : ring_with_slots cat new ≡ after_call (ring_with_slots cat old) command =
     c.in_ok-called.ensures.value ∙ ap (λ (r : RingState). after_call r command) copied in
     let printed : IsLineOf (ring_with_slots cat old) command line = subst (λ (r : RingState). IsLineOf r command line) copied c.in_ok-called.ensures.line in
-    let text = c.in_ok-printed.ensures ∙ (λ i. kept keeps (c.as_str.ensures.value i ++ c.as_str-2.ensures.value i)) in
+    let text = c.in_ok-printed.ensures ∙ (λ i. kept_text keeps (c.as_str.ensures.value i ++ c.as_str-2.ensures.value i)) in
     subst (λ (s : Stage). Contains (stages_of cat c.push_new.new.rings.items) s)
     ((λ i. record { ring = ring_with_slots cat new; printed = text i })
     ∙ sym (call_only keeps cat old new command before line c.requires.call is printed c.requires.ring ring next other same leads))

@@ -9,8 +9,8 @@ use Rattle.fx_texts.proofs.Growth.{grows_by, grows_on, holds_more, holds_of_each
 use Rattle.fx_texts.proofs.Submitted.{as_many, counted_one, end_may_lead, ends_are_all}
 use Rattle.fx_texts.proofs.next.push_ends.Goals as goal
 
-pub push_left-requires-clause-room : goal.push_left-requires-clause-room
-push_left-requires-clause-room c =
+pub push_end-requires-clause-room : goal.push_end-requires-clause-room
+push_end-requires-clause-room c =
     let old = (stage_of c.args.setting.now.catalogue.now c.args.from.now).ring in
     let asked = all_asked c.args.requests.now in
     let end = c.end-item.result in
@@ -29,10 +29,10 @@ loop-end-preserved c =
     let end = c.end-item.result in
     let leads = MayLeadTo keeps old (SubmitsAll asked) in
     let before = stages_of cat c.loop-end.rings.items in
-    let now = stages_of cat c.push_left.new.rings.items in
+    let now = stages_of cat c.push_end.new.rings.items in
     let is : IsEnd old.ring asked end = read_at (IsEnd old.ring asked) c.in_ok-found.found.ends.items c.deref-end-items.result.now c.loop-end.end-index end
     c.deref-end-items.ensures.value c.loop-end-test.true c.end-item.is (c.in_ok-found.ensures.each c.args.from.now.ring.registrations) in
-    let one = c.in_ok-push_left.ensures.grows cat in
+    let one = c.in_ok-push_end.ensures.grows cat in
     record {
       grows = grows_on leads (stages_of cat c.args.rings.now.items) before now c.loop-end.invariant.grows
           (grows_by (λ (s : Stage). s ≡ stage_left keeps old end.slots []) leads before now
@@ -40,7 +40,7 @@ loop-end-preserved c =
       there = holds_more (λ (e : End). stage_left keeps old e.slots []) c.deref-end-items.result.now (Contains now) c.loop-end.end-index end
           c.loop-end-test.true c.end-item.is
           (λ i d low. one.kept (stage_left keeps old (slice_index_or c.deref-end-items.result.now i d).slots []) (c.loop-end.invariant.there i d low))
-          (c.in_ok-push_left.ensures.there cat);
+          (c.in_ok-push_end.ensures.there cat);
     }
 
 pub returns-clause-all : goal.returns-clause-all

@@ -2,7 +2,7 @@ use Rattle.std.proofs.Common.{◌≡◌, ◌++◌, List, ℕ, sym, ap, string_by
 use Rattle.fx_check.proofs.Entries.{all_closed, all_of_ring, few_of_ring}
 use Rattle.fx_check.proofs.FilesThere.{end_printed}
 use Rattle.fx_judge.specs.Verdict.{ring_with_slots}
-use Rattle.fx_texts.specs.Rings.{kept}
+use Rattle.fx_texts.specs.Rings.{kept_text}
 use Rattle.fx_texts.proofs.texts.text_at_end.Goals as goal
 
 pub close_in_order-requires-clause-entries : goal.close_in_order-requires-clause-entries
@@ -28,5 +28,5 @@ returns-clause-only c = λ other (end, prints, split).
     end_printed state c.deref.result.now c.in_ok-closes.closes end c.requires.ring (c.deref.ensures.value ∙ c.in_ok-files.ensures) c.in_ok-closes.ensures prints
     ∙ sym c.in_ok-last.ensures in
     let told : string_bytes c.in_ok-text.text ≡ before ++ last =
-    c.in_ok-text.ensures ∙ (λ i. kept (c.requires.told i) (c.as_str.ensures.value i ++ c.as_str-2.ensures.value i)) in
+    c.in_ok-text.ensures ∙ (λ i. kept_text (c.requires.told i) (c.as_str.ensures.value i ++ c.as_str-2.ensures.value i)) in
     split ∙ ap (λ (e : List ℕ). before ++ e) same ∙ sym told
