@@ -10,6 +10,7 @@ use Rattle.fx_outcomes.specs.Rests.{HasMemory, Rest, rules_of, settled_at}
 use Rattle.fx_outcomes.specs.Nodes.{AreAllStates, AreAtStart, HasEnd, IsListed, StateView, EachOutcomeIsListed}
 use Rattle.fx_outcomes.proofs.Requests.{are_right}
 use Rattle.fx_outcomes.proofs.Chain.{settles}
+use Rattle.fx_outcomes.proofs.PartByPart.{order_by_part}
 use Rattle.fx_outcomes.proofs.Playing.{OfChain, Comes, both_said, runs_on}
 
 both_parts : {X : Type 0} (P : X → Type 0) (xs ys : List X) → AllByRecursion P (xs ++ ys) → AllByRecursion P xs × AllByRecursion P ys
@@ -89,8 +90,9 @@ module _ (catalogue : List FileEntry) (size submission : ℕ) (says : Completed 
 pub all_said : (says : Completed → Type 0) (old : RingState) (requests : List Asked) (states : List StateView) → AreAllStates says old requests states
     → (report : Reported) (left : RingState) → AllByRecursion HasMemory report.completions → IsOneOrder old requests report left
     → AllByRecursion says report.completions × HasEnd old requests states left
-all_said says old requests states all report left memory one =
+all_said says old requests states all report left memory any =
     let runs = runs_of requests in
+    let one = order_by_part all.parts old requests report left all.apart any in
     let done = subst (λ (n : ℕ). AreChainsDone old.catalogue old.size n 1 runs one.order report.completions) one.is.submission one.is.done in
     let f = find old.catalogue old.size (old.submissions + 1) says one.order all.first (length runs) 1 runs report.completions memory done all.begins.chains in
     let comes : Comes old.catalogue old.size says (length runs) f.finals all.first one.order = record {
@@ -100,7 +102,7 @@ all_said says old requests states all report left memory one =
           let e = f.each q low (omega (arith, high)) in
           subst (λ (l : List Completed). OfChain old.catalogue old.size says (all.first.rests q) l (accesses_of_chain q one.order)) e.1 e.2;
     } in
-    let run = runs_on old.catalogue old.size says (length runs) f.finals states all.closed one.order all.first all.inside comes in (
+    let run = runs_on old.catalogue old.size says (length runs) f.finals states all.parts all.closed one.order one.by all.first all.inside comes in (
       subst (AllByRecursion says) (sym f.whole) (all_told says f.finals 1 runs (λ q low high. run.2.said q low (omega (arith, high)))),
       record {
         state = run.0;

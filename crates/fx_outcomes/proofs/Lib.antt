@@ -2,5 +2,10 @@ pub mod Right
 pub mod Chain
 pub mod Requests
 pub mod Playing
+pub mod Commuting
+pub mod ByPart
+pub mod Turns
+pub mod Staying
+pub mod PartByPart
 pub mod First
 pub mod Choices

@@ -8,7 +8,10 @@ use Rattle.fx_order.specs.declared.access.ChainAccess.{ChainAccess}
 use Rattle.std.specs.Prelude.{Contains}
 use Rattle.std.specs.List.{AllByRecursion}
 use Rattle.fx_outcomes.specs.Rests.{HasMemory, IsNext, Rest, rules_of, step}
+use Rattle.fx_outcomes.specs.Parts.{Parts}
 use Rattle.fx_outcomes.specs.Nodes.{AreClosed, IsOver, Leads, StateView}
+use Rattle.fx_outcomes.proofs.ByPart.{IsByPart}
+use Rattle.fx_outcomes.proofs.Turns.{has_turn}
 use Rattle.fx_outcomes.proofs.Requests.{are_right}
 use Rattle.fx_outcomes.proofs.Chain.{IsRest, IsReady, Goes, ends, steps}
 
@@ -102,9 +105,17 @@ module _ (catalogue : List FileEntry) (size : ℕ) (says : Completed → Type 0)
     pub said : (chain : ℕ) → 1 ≤ chain → chain ≤ chains → AllByRecursion says (finals chain)
     pub table_is : state.table ≡ table
 
-  pub runs_on : (states : List StateView) → AreClosed catalogue size says chains states → (order : List ChainAccess) (state : StateView) → Contains states state → Comes state order
+  -- a chain without an access that is left is over
+  over_at : (state : StateView) (order : List ChainAccess) → Comes state order → (chain : ℕ) → 1 ≤ chain → chain ≤ chains → accesses_of_chain chain order ≡ []
+      → (state.rests chain).requests ≡ []
+  over_at state order comes chain low high none =
+      let of = subst (OfChain catalogue size says (state.rests chain) (finals chain)) none (comes.each chain low high) in
+      (ends catalogue size (rules_of catalogue size) (are_right catalogue size) (state.rests chain) of.later of.memory of.ready of.rest_is).0
+
+  pub runs_on : (states : List StateView) (parts : Parts) → AreClosed catalogue size parts says chains states → (order : List ChainAccess) → IsByPart parts.of_chain order
+      → (state : StateView) → Contains states state → Comes state order
       → (end : StateView) × Contains states end × Ended (table_after state.table (accesses_of order)) end
-  runs_on states closed [] state there comes = (
+  runs_on states parts closed [] by state there comes = (
     state,
     there,
     record {
@@ -116,11 +127,11 @@ module _ (catalogue : List FileEntry) (size : ℕ) (says : Completed → Type 0)
       table_is = refl;
     },
   )
-  runs_on states closed (x ∷ order) state there comes =
+  runs_on states parts closed (x ∷ order) by state there comes =
       let own = All-head (λ (y : ChainAccess). (1 ≤ y.chain) × (y.chain ≤ chains)) x order comes.within in
       let one = next_one state x order comes in
-      let to = closed state there x.chain own.0 own.1 x.access one.1 comes.permitted.0 in
-      let rest = runs_on states closed order to.next to.inside (goes_on state to.next x order comes to.said to.leads) in (
+      let to = closed state there x.chain own.0 own.1 (has_turn parts state.rests chains x order (over_at state (x ∷ order) comes) by) x.access one.1 comes.permitted.0 in
+      let rest = runs_on states parts closed order by.1 to.next to.inside (goes_on state to.next x order comes to.said to.leads) in (
         rest.0,
         rest.1,
         subst (λ (t : Table). Ended (table_after t (accesses_of order)) rest.0) to.leads.table rest.2,

@@ -1,5 +1,5 @@
 -- The states of a submission that is played by an order: the table, and where each chain is.
-use Rattle.std.specs.Prelude.{◌≡◌, ℕ, ◌+◌, ◌≤◌, List, [], ◌∷◌, length, Contains}
+use Rattle.std.specs.Prelude.{◌≡◌, ℕ, ◌+◌, ◌<◌, ◌≤◌, List, [], ◌∷◌, length, Contains}
 use Rattle.std.specs.List.{AllByRecursion}
 use Rattle.fx_base.specs.Catalogue.{FileEntry}
 use Rattle.fx_chain.specs.Completed.{Completed}
@@ -12,6 +12,7 @@ use Rattle.fx_ring.specs.Submission.{Reported}
 use Rattle.fx_order.specs.Access.{Table, Permits, table_with}
 use Rattle.fx_order.specs.declared.access.Access.{Access}
 use Rattle.fx_order.specs.Order.{IsOneOrder, table_of}
+use Rattle.fx_outcomes.specs.Parts.{AreParts, Parts}
 use Rattle.fx_outcomes.specs.Rests.{HasMemory, IsNext, Rest, Rules, rules_of, settled_at, step}
 
 pub record StateView : Type 0 where
@@ -42,16 +43,23 @@ IsChainExplored catalogue size says states state chain =
     (a : Access) → IsNext catalogue size (state.rests chain) a → Permits state.table a
     → IsExplored (rules_of catalogue size) says states state chain a
 
--- the list has each state that an access leads to from one of its states, and what is answered on
--- the way is said
-abbrev pub AreClosed : List FileEntry → ℕ → (Completed → Type 0) → ℕ → List StateView → Type 0
-AreClosed catalogue size says chains states =
-    (state : StateView) → Contains states state → (chain : ℕ) → 1 ≤ chain → chain ≤ chains
-    → IsChainExplored catalogue size says states state chain
-
 -- no chain has an access left
 abbrev pub IsOver : ℕ → StateView → Type 0
 IsOver chains state = (chain : ℕ) → 1 ≤ chain → chain ≤ chains → (state.rests chain).requests ≡ []
+
+-- no chain of a part before this chain's has an access left
+abbrev pub HasTurn : Parts → ℕ → StateView → ℕ → Type 0
+HasTurn parts chains state chain =
+    (other : ℕ) → 1 ≤ other → other ≤ chains → parts.of_chain other < parts.of_chain chain
+    → (state.rests other).requests ≡ []
+
+-- the list has each state that an access leads to from one of its states, part by part, and what is
+-- answered on the way is said
+abbrev pub AreClosed :
+    List FileEntry → ℕ → Parts → (Completed → Type 0) → ℕ → List StateView → Type 0
+AreClosed catalogue size parts says chains states =
+    (state : StateView) → Contains states state → (chain : ℕ) → 1 ≤ chain → chain ≤ chains
+    → HasTurn parts chains state chain → IsChainExplored catalogue size says states state chain
 
 -- each chain from this one on is at its first request that comes to the table, and what was
 -- answered up to there is said
@@ -70,14 +78,16 @@ pub record IsFirst (says : Completed → Type 0) (old : RingState) (requests : L
   pub chains : AreAtStart (rules_of old.catalogue old.size) says (old.submissions + 1) 1
       (runs_of requests) state
 
--- the list has the first state, and each one that is reached from it, and what is answered on the
--- way is said
+-- the list has the first state, and each one that is reached from it part by part, and what is
+-- answered on the way is said
 pub record AreAllStates (says : Completed → Type 0) (old : RingState) (requests : List Asked)
     (states : List StateView) : Type 0 where
+  pub parts : Parts
+  pub apart : AreParts (table_of old) parts 1 (runs_of requests)
   pub first : StateView
   pub begins : IsFirst says old requests first
   pub inside : Contains states first
-  pub closed : AreClosed old.catalogue old.size says (length (runs_of requests)) states
+  pub closed : AreClosed old.catalogue old.size parts says (length (runs_of requests)) states
 
 -- the ring that a state leaves
 abbrev pub ring_at : RingState → StateView → RingState
