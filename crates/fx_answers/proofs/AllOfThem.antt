@@ -1,18 +1,19 @@
 -- States that were looked through are all of a submission.
 use Rattle.fx_order.proofs.Words.{◌≡◌, ℕ, ◌+◌, ◌-◌, ◌<◌, List, [], length, ◌∷◌, map, refl, sym, ap, subst, ◌∙◌, arith, slice_index_or, All}
-use Rattle.fx_order.proofs.Words.{suc, Contains, IsTrue, Permits, Completed, length-map, Chain, Asked, members_of, runs_of, first_member, ring_of_slots, table_of_slots, all_asked}
+use Rattle.fx_order.proofs.Words.{suc, Table, Contains, IsTrue, Permits, Completed, length-map, Chain, Asked, members_of, runs_of, first_member, ring_of_slots, table_of_slots, all_asked}
 use Rattle.std.proofs.lemmas.List.Elements.{All-contains}
 use Rattle.fx_order.specs.declared.slots.Slots.{Slots}
 use Rattle.std.specs.List.{AllByRecursion}
 use Rattle.fx_table.proofs.Members.{contains_map}
 use Rattle.fx_order.specs.declared.access.Access.{Access}
 use Rattle.fx_outcomes.specs.Rests.{IsNext, Rest, Rules, settled_at}
-use Rattle.fx_outcomes.specs.Nodes.{AreAllStates, AreAtStart, AreClosed, IsChainExplored, StateView}
-use Rattle.fx_answers.specs.Listed.{AreAllBy, AreAtStartBy, IsAtStartBy, IsStateExploredBy, said_by, states_of, told_by, told_states}
+use Rattle.fx_outcomes.specs.Parts.{AreParts, Parts, StaysIn}
+use Rattle.fx_outcomes.specs.Nodes.{AreAllStates, AreAtStart, AreClosed, HasTurn, IsChainExplored, StateView}
+use Rattle.fx_answers.specs.Listed.{AreAllBy, AreAtStartBy, HasTurnBy, IsAtStartBy, IsStateExploredBy, said_by, states_of, told_by, told_states}
 use Rattle.fx_answers.specs.Reports.{AreAllTold, AreToldAtStart, AreToldClosed, LeadsOn, ToldState}
 use Rattle.fx_answers.specs.Tellings.{answers_of}
 use Rattle.fx_answers.specs.Stands.{rest_in}
-use Rattle.fx_answers.specs.Views.{not_begun, rules_in, runs_in, view_in}
+use Rattle.fx_answers.specs.Views.{ArePartsIn, not_begun, parts_of, rules_in, runs_in, view_in}
 use Rattle.fx_answers.specs.declared.closed.Claimed.{Claimed}
 use Rattle.fx_answers.specs.declared.state.State.{State}
 use Rattle.fx_answers.proofs.Lists.{inside_at}
@@ -22,39 +23,48 @@ pub as_many : (asked : List Asked) (chains : List Chain) → map (members_of ask
 as_many asked chains whole = ap length (sym whole) ∙ length-map chains (members_of asked)
 
 -- what is told aside
-plain : (claimed : Claimed) (s : State) → IsStateExploredBy claimed s → (i : ℕ) → i < length claimed.submission.now.chains.now
+plain : (claimed : Claimed) (s : State) → IsStateExploredBy claimed s → (i : ℕ) → i < length claimed.submission.now.chains.now → HasTurnBy claimed s i
     → IsChainExplored claimed.submission.now.setting.catalogue.now claimed.submission.now.setting.size (said_by claimed) (states_of claimed)
     (view_in claimed.submission.now s) (i + 1)
-plain claimed s each i few a next may = (each i few a next may).is
+plain claimed s each i few turn a next may = (each i few turn a next may).is
+
+abbrev parts_by : Claimed → Parts
+parts_by claimed = parts_of claimed.found.now.numbers
+
+abbrev turn_at : Claimed → StateView → ℕ → Type 0
+turn_at claimed view chain = HasTurn (parts_by claimed) (length (runs_in claimed.submission.now)) view chain
 
 -- each state of the list is explored, so the list is closed
 closed_all : (claimed : Claimed) → length (runs_in claimed.submission.now) ≡ length claimed.submission.now.chains.now
     → All (IsStateExploredBy claimed) claimed.found.now.states.items
-    → AreClosed claimed.submission.now.setting.catalogue.now claimed.submission.now.setting.size (said_by claimed) (length (runs_in claimed.submission.now)) (states_of claimed)
+    → AreClosed claimed.submission.now.setting.catalogue.now claimed.submission.now.setting.size (parts_by claimed) (said_by claimed) (length (runs_in claimed.submission.now))
+    (states_of claimed)
 closed_all claimed many each state there chain low high =
     let its = contains_map (view_in claimed.submission.now) claimed.found.now.states.items state there in
     let explored = plain claimed its.0 (All-contains (IsStateExploredBy claimed) claimed.found.now.states.items its.0 each its.1) in
     let number : chain - 1 + 1 ≡ chain = omega (arith, low) in
-    subst (λ (v : StateView). IsChainExplored claimed.submission.now.setting.catalogue.now claimed.submission.now.setting.size (said_by claimed) (states_of claimed) v chain) (sym its.2)
-    (subst (IsChainExplored claimed.submission.now.setting.catalogue.now claimed.submission.now.setting.size (said_by claimed) (states_of claimed) (view_in claimed.submission.now its.0)) number
+    subst (λ (v : StateView). turn_at claimed v chain
+    → IsChainExplored claimed.submission.now.setting.catalogue.now claimed.submission.now.setting.size (said_by claimed) (states_of claimed) v chain) (sym its.2)
+    (subst (λ (n : ℕ). turn_at claimed (view_in claimed.submission.now its.0) n
+    → IsChainExplored claimed.submission.now.setting.catalogue.now claimed.submission.now.setting.size (said_by claimed) (states_of claimed) (view_in claimed.submission.now its.0) n) number
     (explored (chain - 1) (omega (arith, low, high, many))))
 
--- an access that a chain may make next leads on, and so does what is told
+-- an access that a chain may make next in its turn leads on, and so does what is told
 abbrev GoesOn : Claimed → ToldState → ℕ → Access → Type 0
-GoesOn claimed here chain a =
-    IsNext claimed.submission.now.setting.catalogue.now claimed.submission.now.setting.size (here.state.rests chain) a → Permits here.state.table a
+GoesOn claimed here chain a = turn_at claimed here.state chain
+    → IsNext claimed.submission.now.setting.catalogue.now claimed.submission.now.setting.size (here.state.rests chain) a → Permits here.state.table a
     → (next : ToldState) × Contains (told_states claimed) next × LeadsOn (rules_in claimed.submission.now) here chain a next
 
 told_closed : (claimed : Claimed) → IsTrue claimed.submission.now.tells → length (runs_in claimed.submission.now) ≡ length claimed.submission.now.chains.now
     → All (IsStateExploredBy claimed) claimed.found.now.states.items
-    → AreToldClosed claimed.submission.now.setting.catalogue.now claimed.submission.now.setting.size (length (runs_in claimed.submission.now)) (told_states claimed)
-told_closed claimed tells many each here there chain low high a =
+    → AreToldClosed claimed.submission.now.setting.catalogue.now claimed.submission.now.setting.size (parts_by claimed) (length (runs_in claimed.submission.now)) (told_states claimed)
+told_closed claimed tells many each here there chain low high turn a =
     let its = contains_map (told_by claimed) claimed.found.now.states.items here there in
     let explored = All-contains (IsStateExploredBy claimed) claimed.found.now.states.items its.0 each its.1 in
     let number : chain - 1 + 1 ≡ chain = omega (arith, low) in
     let few : chain - 1 < length claimed.submission.now.chains.now = omega (arith, low, high, many) in
-    let goes : GoesOn claimed (told_by claimed its.0) (chain - 1 + 1) a = λ next may. (explored (chain - 1) few a next may).told tells in
-    subst (λ (h : ToldState). GoesOn claimed h chain a) (sym its.2) (subst (λ (n : ℕ). GoesOn claimed (told_by claimed its.0) n a) number goes)
+    let goes : GoesOn claimed (told_by claimed its.0) (chain - 1 + 1) a = λ its_turn next may. (explored (chain - 1) few its_turn a next may).told tells in
+    subst (λ (h : ToldState). GoesOn claimed h chain a) (sym its.2) (subst (λ (n : ℕ). GoesOn claimed (told_by claimed its.0) n a) number goes) turn
 
 -- each chain from one on was told what it answers before its first access
 told_at_start_all : (rules : Rules) (submission chain : ℕ) (runs : List (List Asked)) (here : ToldState)
@@ -74,6 +84,26 @@ told_at_start_all rules submission chain (run ∷ runs) here each =
           subst (λ (n : ℕ). (here.told n ≡ (settled_at rules (first_member submission n) (slice_index_or runs k [])).0)
           × (here.state.rests n ≡ (settled_at rules (first_member submission n) (slice_index_or runs k [])).1)) on (each (suc k) (omega (arith, few)))),
     )
+
+-- the chains from one on stay in their parts
+parts_all : (table : Table) (parts : Parts) (chain : ℕ) (runs : List (List Asked))
+    → ((k : ℕ) → k < length runs → All (λ r. StaysIn table parts.of_slot (parts.of_chain (chain + k)) r.operation) (slice_index_or runs k []))
+    → AreParts table parts chain runs
+parts_all table parts chain [] each = tt
+parts_all table parts chain (run ∷ runs) each =
+    let none : chain + 0 ≡ chain = omega arith in (
+      subst (λ (n : ℕ). All (λ (r : Asked). StaysIn table parts.of_slot (parts.of_chain n) r.operation) run) none (each 0 (omega arith)),
+      parts_all table parts (chain + 1) runs (λ k few.
+          let on : chain + suc k ≡ chain + 1 + k = omega arith in
+          subst (λ (n : ℕ). All (λ (r : Asked). StaysIn table parts.of_slot (parts.of_chain n) r.operation) (slice_index_or runs k [])) on (each (suc k) (omega (arith, few)))),
+    )
+
+parts_in : (claimed : Claimed) (slots : Slots) → length (runs_in claimed.submission.now) ≡ length claimed.submission.now.chains.now
+    → ArePartsIn claimed.submission.now slots claimed.found.now.numbers → AreParts (table_of_slots slots) (parts_by claimed) 1 (runs_in claimed.submission.now)
+parts_in claimed slots many are = parts_all (table_of_slots slots) (parts_by claimed) 1 (runs_in claimed.submission.now) (λ k few.
+    let back : k ≡ 1 + k - 1 = omega arith in
+    subst (λ (n : ℕ). All (λ (r : Asked). StaysIn (table_of_slots slots) (parts_by claimed).of_slot (slice_index_or claimed.found.now.numbers.of_chain.items n 0) r.operation)
+    (slice_index_or (runs_in claimed.submission.now) k [])) back (are k (omega (arith, few, many))))
 
 -- what a chain answers in front of its first access, by its number from 1 and that of its run
 abbrev settled_in_by : Claimed → ℕ → ℕ → List Completed × Rest
@@ -100,18 +130,22 @@ pub all_by : (claimed : Claimed) (slots : Slots) (first : State) → length (run
     → 0 < length claimed.found.now.states.items → first ≡ slice_index_or claimed.found.now.states.items 0 first
     → table_of_slots first.slots ≡ table_of_slots slots → claimed.submission.now.setting.size ≡ length slots.at.items
     → (IsTrue claimed.submission.now.tells → first.telling.removed.items ≡ [])
-    → AreAtStartBy claimed first → All (IsStateExploredBy claimed) claimed.found.now.states.items
+    → ArePartsIn claimed.submission.now slots claimed.found.now.numbers → AreAtStartBy claimed first → All (IsStateExploredBy claimed) claimed.found.now.states.items
     → AreAllBy claimed slots
-all_by claimed slots first many some is table size none start each =
+all_by claimed slots first many some is table size none in_parts start each =
     let sub = claimed.submission.now in
+    let as_slots : table_of_slots slots ≡ record (table_of_slots slots) { size = sub.setting.size } = λ j. record (table_of_slots slots) { size = sym size j } in
+    let apart = subst (λ (t : Table). AreParts t (parts_by claimed) 1 (runs_in sub)) as_slots (parts_in claimed slots many in_parts) in
     let begin = λ (k : ℕ) (few : k < length (runs_in sub)). chains_begin claimed first k (start k (omega (arith, few, many))) in
     record {
       are = λ submissions registrations number.
           subst (λ (n : ℕ). AreAllStates (said_by claimed) (record (ring_of_slots sub.setting.catalogue.now slots submissions registrations) { size = n }) (all_asked sub.requests.now) (states_of claimed)) size
           (record {
+            parts = parts_by claimed;
+            apart = apart;
             first = view_in sub first;
             begins = record {
-              table = table ∙ (λ j. record (table_of_slots slots) { size = sym size j });
+              table = table ∙ as_slots;
               chains = subst (λ (n : ℕ). AreAtStart (rules_in sub) (said_by claimed) n 1 (runs_in sub) (view_in sub first)) number
                   (at_start_all (rules_in sub) (said_by claimed) sub.number 1 (runs_in sub) (view_in sub first) (λ k few. ((begin k few).0, (begin k few).1)));
             };
@@ -121,9 +155,11 @@ all_by claimed slots first many some is table size none start each =
       told = λ tells submissions registrations number.
           subst (λ (n : ℕ). AreAllTold (record (ring_of_slots sub.setting.catalogue.now slots submissions registrations) { size = n }) (all_asked sub.requests.now) (told_states claimed)) size
           (record {
+            parts = parts_by claimed;
+            apart = apart;
             first = told_by claimed first;
             begins = record {
-              table = table ∙ (λ j. record (table_of_slots slots) { size = sym size j });
+              table = table ∙ as_slots;
               removed = none tells;
               chains = subst (λ (n : ℕ). AreToldAtStart (rules_in sub) n 1 (runs_in sub) (told_by claimed first)) number
                   (told_at_start_all (rules_in sub) sub.number 1 (runs_in sub) (told_by claimed first) (λ k few. ((begin k few).2 tells, (begin k few).1)));

@@ -4,6 +4,7 @@ pub mod Choosing
 pub mod SameAnswers
 pub mod Viewing
 pub mod AllOfThem
+pub mod Turns
 pub mod Promised
 pub mod ToldStates
 pub mod Reporting

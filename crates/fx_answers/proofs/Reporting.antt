@@ -7,6 +7,7 @@ use Rattle.std.specs.List.{AllByRecursion}
 use Rattle.fx_outcomes.specs.Rests.{HasMemory, Rest, rules_of, settled_at}
 use Rattle.fx_outcomes.proofs.Requests.{are_right}
 use Rattle.fx_outcomes.proofs.Chain.{settles}
+use Rattle.fx_outcomes.proofs.PartByPart.{order_by_part}
 use Rattle.fx_answers.specs.Reports.{AreToldAtStart, EachReportIsListed, ToldState, told_from}
 use Rattle.fx_answers.proofs.Lists.{each_by_recursion}
 use Rattle.fx_answers.proofs.ToldStates.{Comes, OfChain, runs_on}
@@ -68,8 +69,9 @@ module _ (catalogue : List FileEntry) (size submission : ℕ) (order : List Chai
       }
 
 pub each_report_is_listed : EachReportIsListed
-each_report_is_listed old requests states all report left memory one =
+each_report_is_listed old requests states all report left memory any =
     let runs = runs_of requests in
+    let one = order_by_part all.parts old requests report left all.apart any in
     let files = report.closes.files in
     let done = subst (λ (n : ℕ). AreChainsDone old.catalogue old.size n 1 runs one.order report.completions) one.is.submission one.is.done in
     let f = find old.catalogue old.size (old.submissions + 1) one.order all.first (length runs) files 1 runs report.completions
@@ -80,7 +82,7 @@ each_report_is_listed old requests states all report left memory one =
       each = λ q low high. (let e = f.each q low (omega (arith, high)) in record { later = e.later; whole = e.whole; memory = e.memory; ready = e.ready; rest_is = e.rest_is });
       closed = subst (λ (l : List Closed). IsPermutation (l ++ removed_in (accesses_of one.order)) files) (sym all.begins.removed) one.is.closed.same_files;
     } in
-    let run = runs_on old.catalogue old.size (length runs) f.finals files states all.closed one.order all.first all.inside comes in
+    let run = runs_on old.catalogue old.size (length runs) f.finals files states all.parts all.closed one.order one.by all.first all.inside comes in
     record {
       here = run.0;
       inside = run.1;

@@ -12,7 +12,10 @@ use Rattle.fx_outcomes.specs.Rests.{HasMemory, IsNext, Rest, rules_of, step}
 use Rattle.fx_outcomes.specs.Nodes.{IsOver}
 use Rattle.fx_outcomes.proofs.Requests.{are_right}
 use Rattle.fx_outcomes.proofs.Chain.{IsRest, IsReady, ends, steps}
+use Rattle.fx_outcomes.specs.Parts.{Parts}
+use Rattle.fx_outcomes.proofs.ByPart.{IsByPart}
 use Rattle.fx_outcomes.proofs.Playing.{of_chain}
+use Rattle.fx_outcomes.proofs.Turns.{has_turn}
 use Rattle.fx_answers.specs.Reports.{AreToldClosed, LeadsOn, ToldState}
 
 module _ (catalogue : List FileEntry) (size chains : ℕ) (finals : ℕ → List Completed) (files : List Closed) where
@@ -95,9 +98,17 @@ module _ (catalogue : List FileEntry) (size chains : ℕ) (finals : ℕ → List
     pub closed : IsPermutation here.removed files
     pub table_is : here.state.table ≡ table
 
-  pub runs_on : (states : List ToldState) → AreToldClosed catalogue size chains states → (order : List ChainAccess) (here : ToldState) → Contains states here
+  -- a chain without an access that is left is over
+  over_at : (here : ToldState) (order : List ChainAccess) → Comes here order → (chain : ℕ) → 1 ≤ chain → chain ≤ chains → accesses_of_chain chain order ≡ []
+      → (here.state.rests chain).requests ≡ []
+  over_at here order comes chain low high none =
+      let of = subst (OfChain (here.state.rests chain) (here.told chain) (finals chain)) none (comes.each chain low high) in
+      (ends catalogue size (rules_of catalogue size) (are_right catalogue size) (here.state.rests chain) of.later of.memory of.ready of.rest_is).0
+
+  pub runs_on : (states : List ToldState) (parts : Parts) → AreToldClosed catalogue size parts chains states → (order : List ChainAccess) → IsByPart parts.of_chain order
+      → (here : ToldState) → Contains states here
       → Comes here order → (end : ToldState) × Contains states end × Ended (table_after here.state.table (accesses_of order)) end
-  runs_on states closed [] here there comes = (
+  runs_on states parts closed [] by here there comes = (
     here,
     there,
     record {
@@ -110,11 +121,12 @@ module _ (catalogue : List FileEntry) (size chains : ℕ) (finals : ℕ → List
       table_is = refl;
     },
   )
-  runs_on states closed (x ∷ order) here there comes =
+  runs_on states parts closed (x ∷ order) by here there comes =
       let own = All-head (λ (y : ChainAccess). (1 ≤ y.chain) × (y.chain ≤ chains)) x order comes.within in
       let one = next_one here x order comes in
-      let to = closed here there x.chain own.0 own.1 x.access one.0 comes.permitted.0 in
-      let rest = runs_on states closed order to.0 to.1 (goes_on here to.0 x order comes to.2) in (
+      let turn = has_turn parts here.state.rests chains x order (over_at here (x ∷ order) comes) by in
+      let to = closed here there x.chain own.0 own.1 turn x.access one.0 comes.permitted.0 in
+      let rest = runs_on states parts closed order by.1 to.0 to.1 (goes_on here to.0 x order comes to.2) in (
         rest.0,
         rest.1,
         subst (λ (t : Table). Ended (table_after t (accesses_of order)) rest.0) to.2.leads.table rest.2,

@@ -87,16 +87,21 @@ among_told submission runs states there state k is table chains answers removed 
     inside_at (told_of submission runs) states k there (told_of submission runs state) within
     (sym (get_or_from_slice_get states k there there is)) (same_telling submission runs there state table chains answers removed)
 
--- a chain that has members left isn't over
-pub not_over : (submission : ℕ) (runs : List (List Asked)) (state : State) (i : ℕ) (own : List Request) (progress : Progress)
+-- a chain that has members left has an access left
+pub not_done : (submission : ℕ) (runs : List (List Asked)) (state : State) (i : ℕ) (own : List Request) (progress : Progress)
     → all_asked own ≡ slice_index_or runs i [] → slice_index_or state.chains.items i not_begun ≡ progress
-    → i < length runs → progress.done < length own → IsOver (length runs) (view_of submission runs state) → ⊥
-not_over submission runs state i own progress run is within few over =
-    let none = over (i + 1) (omega arith) (omega (arith, within)) in
+    → progress.done < length own → ((view_of submission runs state).rests (i + 1)).requests ≡ [] → ⊥
+not_done submission runs state i own progress run is few none =
     let here = rest_of_chain submission runs state i (all_asked own) progress (sym run) is in
     let done = is_done (first_member submission (i + 1)) (all_asked own) progress (ap (λ (r : Rest). r.requests) (sym here) ∙ none) in
     let many = length-map own asked_of in
     omega (arith, done, many, few)
+
+pub not_over : (submission : ℕ) (runs : List (List Asked)) (state : State) (i : ℕ) (own : List Request) (progress : Progress)
+    → all_asked own ≡ slice_index_or runs i [] → slice_index_or state.chains.items i not_begun ≡ progress
+    → i < length runs → progress.done < length own → IsOver (length runs) (view_of submission runs state) → ⊥
+not_over submission runs state i own progress run is within few over =
+    not_done submission runs state i own progress run is few (over (i + 1) (omega arith) (omega (arith, within)))
 
 -- a chain that stands where its requests settle
 pub at_start_by : (rules : Rules) (P : Completed → Type 0) (place : Place) (run : List Asked) (before after : List Completion) (done : ℕ) (progress : Progress)

@@ -16,7 +16,7 @@ use Rattle.fx_outcomes.specs.Nodes.{AreAllStates, IsExplored, IsOver, StateView}
 use Rattle.fx_answers.specs.Reports.{AreAllTold, LeadsOn, ToldState}
 use Rattle.fx_answers.specs.Stands.{rest_in}
 use Rattle.fx_answers.specs.Tellings.{all_told, answers_of}
-use Rattle.fx_answers.specs.Views.{not_begun, rules_in, runs_in, told_of, view_in, views_in}
+use Rattle.fx_answers.specs.Views.{HasTurnIn, not_begun, rules_in, runs_in, told_of, view_in, views_in}
 use Rattle.fx_ring.specs.Ring.{RingContents, RingState, ring_of}
 use Rattle.fx_ring.specs.Submission.{Reported}
 use Rattle.fx_order.specs.declared.access.ChainAccess.{ChainAccess}
@@ -69,10 +69,15 @@ IsChainExploredBy claimed state i =
     (a : Access) → IsNextIn claimed state i a → Permits (table_of_slots state.slots) a
     → IsExploredBy claimed state i a
 
--- each access that a chain may make next in the state is explored
+abbrev pub HasTurnBy : Claimed → State → ℕ → Type 0
+HasTurnBy claimed state i =
+    HasTurnIn claimed.submission.now claimed.found.now.numbers state i
+
+-- each access is explored that a chain may make next in the state, where it has its turn
 abbrev pub IsStateExploredBy : Claimed → State → Type 0
 IsStateExploredBy claimed state =
-    (i : ℕ) → i < length claimed.submission.now.chains.now → IsChainExploredBy claimed state i
+    (i : ℕ) → i < length claimed.submission.now.chains.now → HasTurnBy claimed state i
+    → IsChainExploredBy claimed state i
 
 abbrev pub run_in : Claimed → ℕ → List Asked
 run_in claimed i = slice_index_or (runs_in claimed.submission.now) i []

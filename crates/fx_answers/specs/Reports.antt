@@ -14,7 +14,8 @@ use Rattle.fx_order.specs.Access.{Permits, removed_by}
 use Rattle.fx_order.specs.declared.access.Access.{Access}
 use Rattle.fx_order.specs.Order.{IsOneOrder, table_of}
 use Rattle.fx_outcomes.specs.Rests.{HasMemory, IsNext, Rules, rules_of, settled_at, step}
-use Rattle.fx_outcomes.specs.Nodes.{IsOver, Leads, StateView, ring_at}
+use Rattle.fx_outcomes.specs.Parts.{AreParts, Parts}
+use Rattle.fx_outcomes.specs.Nodes.{HasTurn, IsOver, Leads, StateView, ring_at}
 
 -- a state, with what was answered and which files were taken from their slots on the way to it
 pub record ToldState : Type 0 where
@@ -31,11 +32,11 @@ pub record LeadsOn (rules : Rules) (here : ToldState) (chain : ℕ) (a : Access)
   pub others : (other : ℕ) → 1 ≤ other → (other ≡ chain → ⊥) → next.told other ≡ here.told other
   pub removed : IsPermutation (here.removed ++ option_to_list (removed_by a)) next.removed
 
--- the list has each one that an access leads to from one of it
-abbrev pub AreToldClosed : List FileEntry → ℕ → ℕ → List ToldState → Type 0
-AreToldClosed catalogue size chains states =
+-- the list has each one that an access leads to from one of it, part by part
+abbrev pub AreToldClosed : List FileEntry → ℕ → Parts → ℕ → List ToldState → Type 0
+AreToldClosed catalogue size parts chains states =
     (here : ToldState) → Contains states here → (chain : ℕ) → 1 ≤ chain → chain ≤ chains
-    → (a : Access) → IsNext catalogue size (here.state.rests chain) a
+    → HasTurn parts chains here.state chain → (a : Access) → IsNext catalogue size (here.state.rests chain) a
     → Permits here.state.table a
     → (next : ToldState) × Contains states next
     × LeadsOn (rules_of catalogue size) here chain a next
@@ -57,13 +58,15 @@ pub record IsToldFirst (old : RingState) (requests : List Asked) (here : ToldSta
   pub chains : AreToldAtStart (rules_of old.catalogue old.size) (old.submissions + 1) 1
       (runs_of requests) here
 
--- the list has the first one, and each one that is reached from it
+-- the list has the first one, and each one that is reached from it part by part
 pub record AreAllTold (old : RingState) (requests : List Asked) (states : List ToldState)
     : Type 0 where
+  pub parts : Parts
+  pub apart : AreParts (table_of old) parts 1 (runs_of requests)
   pub first : ToldState
   pub begins : IsToldFirst old requests first
   pub inside : Contains states first
-  pub closed : AreToldClosed old.catalogue old.size (length (runs_of requests)) states
+  pub closed : AreToldClosed old.catalogue old.size parts (length (runs_of requests)) states
 
 -- what the chains from this one on were told, one behind another
 abbrev pub told_from : (ℕ → List Completed) → ℕ → List (List Asked) → List Completed

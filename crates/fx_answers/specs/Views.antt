@@ -1,5 +1,5 @@
 -- What the states of the program say of a submission.
-use Rattle.std.specs.Prelude.{◌≡◌, ℕ, ◌+◌, ◌-◌, List, [], map, slice_index_or}
+use Rattle.std.specs.Prelude.{◌≡◌, ℕ, ◌+◌, ◌-◌, ◌<◌, List, [], length, map, slice_index_or, All}
 use Rattle.fx_chain.specs.Completed.{Completed}
 use Rattle.fx_chain.specs.Explains.{first_member}
 use Rattle.fx_chain.specs.Operation.{Asked, all_asked}
@@ -7,11 +7,14 @@ use Rattle.fx_chain.specs.Runs.{runs_of}
 use Rattle.fx_order.specs.Slots.{table_of_slots}
 use Rattle.fx_order.specs.declared.access.Access.{Access}
 use Rattle.fx_outcomes.specs.Rests.{Rules, rules_of, step}
-use Rattle.fx_outcomes.specs.Nodes.{StateView, Leads}
+use Rattle.fx_order.specs.declared.slots.Slots.{Slots}
+use Rattle.fx_outcomes.specs.Parts.{Parts, StaysIn}
+use Rattle.fx_outcomes.specs.Nodes.{HasTurn, StateView, Leads}
 use Rattle.fx_answers.specs.Reports.{ToldState}
 use Rattle.fx_answers.specs.Stands.{rest_in}
 use Rattle.fx_answers.specs.Tellings.{answers_of}
 use Rattle.fx_answers.specs.declared.chain.Progress.{Progress}
+use Rattle.fx_answers.specs.declared.parts.PartNumbers.{PartNumbers}
 use Rattle.fx_answers.specs.declared.state.State.{State}
 use Rattle.fx_answers.specs.declared.submission.Submission.{Submission}
 
@@ -55,3 +58,32 @@ pub record IsStepTo (submission : Submission) (state : State) (i : ℕ) (a : Acc
   pub told : answers ≡ (step (rules_in submission) ((view_in submission state).rests (i + 1)) a).0
   pub leads : Leads (rules_in submission) (view_in submission state) (i + 1) a
       (view_in submission next)
+
+-- the parts that the numbers tell of
+abbrev pub parts_of : PartNumbers → Parts
+parts_of numbers = record {
+  of_chain = λ chain. slice_index_or numbers.of_chain.items (chain - 1) 0;
+  of_slot = λ slot. slice_index_or numbers.of_slot.items slot 0;
+}
+
+-- the requests of a chain stay in its part, by the chain's number from 0
+abbrev pub IsInPart : Submission → Slots → PartNumbers → ℕ → Type 0
+IsInPart submission slots numbers i =
+    All (λ request. StaysIn (table_of_slots slots) (parts_of numbers).of_slot
+    (slice_index_or numbers.of_chain.items i 0) request.operation)
+    (slice_index_or (runs_in submission) i [])
+
+abbrev pub ArePartsIn : Submission → Slots → PartNumbers → Type 0
+ArePartsIn submission slots numbers =
+    (i : ℕ) → i < length submission.chains.now → IsInPart submission slots numbers i
+
+-- no chain of a part before this chain's has an access left, by the chain's number from 0
+abbrev pub HasTurnIn : Submission → PartNumbers → State → ℕ → Type 0
+HasTurnIn submission numbers state i =
+    HasTurn (parts_of numbers) (length (runs_in submission)) (view_in submission state) (i + 1)
+
+-- no chain of a part behind this one has its turn
+abbrev pub IsTurnOf : Submission → PartNumbers → State → ℕ → Type 0
+IsTurnOf submission numbers state part =
+    (i : ℕ) → part < slice_index_or numbers.of_chain.items i 0
+    → HasTurnIn submission numbers state i → ⊥

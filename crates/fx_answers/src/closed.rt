@@ -1,17 +1,19 @@
 //! Whether the states that a search met are all of them.
-ghost use Rattle.std.specs.Prelude.{◌≡◌, ◌<◌, [], IfOk, IsTrue, All, Contains, length};
-ghost use Rattle.std.specs.Prelude.{slice_index_or};
+ghost use Rattle.std.specs.Prelude.{◌≡◌, ◌<◌, [], IfOk, IfSome, IsTrue, All, Contains};
+ghost use Rattle.std.specs.Prelude.{length, slice_index_or};
 ghost use Rattle.fx_chain.specs.Completed.{all_completed, completed_of};
 ghost use Rattle.fx_order.specs.Access.{Permits};
 ghost use Rattle.fx_order.specs.Slots.{table_of_slots};
 ghost use Rattle.fx_answers.specs.Outcomes.{answered};
 ghost use Rattle.fx_answers.specs.Listed.{AreAllBy, AreAtStartBy, IsAtStartBy, says};
-ghost use Rattle.fx_answers.specs.Listed.{IsChainExploredBy, IsExploredBy, IsStateExploredBy};
+ghost use Rattle.fx_answers.specs.Listed.{HasTurnBy, IsChainExploredBy, IsExploredBy, IsStateExploredBy};
 ghost use Rattle.fx_answers.specs.Tellings.{answers_of};
+ghost use Rattle.fx_answers.specs.Views.{IsTurnOf};
 
 use crate::chain::{Progress, chain_accesses, settle};
 use crate::found::Found;
 use crate::outcome::Answer;
+use crate::parts::{are_parts, part_at, waits};
 use crate::state::{State, are_same, next_state};
 use crate::submission::Submission;
 use crate::telling::{are_same as are_same_answers, is_same};
@@ -124,12 +126,32 @@ fn is_chain_explored(claimed: &Claimed<'_>, state: &State, i: usize) -> Result<b
     are_explored(claimed, state, i, &accesses)
 }
 
-// Whether each access that may be made in a state is explored.
+// Whether each access is explored that a chain may make next, if the chain isn't of a part behind the one whose turn it is.
+fn is_explored_in_turn(
+    claimed: &Claimed<'_>,
+    state: &State,
+    turn: Option<usize>,
+    i: usize,
+) -> Result<bool, NoMemory>
+    requires inside { i < length claimed.now.submission.now.chains.now }
+    requires turn { IfSome turn (IsTurnOf claimed.now.submission.now claimed.now.found.now.numbers
+        state.now) }
+    ensures { IfOk result (λ yes. IsTrue yes → HasTurnBy claimed.now state.now i
+        → IsChainExploredBy claimed.now state.now i) }
+{
+    if waits(&claimed.found.numbers, turn, i) {
+        return Ok(true);
+    }
+    is_chain_explored(claimed, state, i)
+}
+
+// Whether each access that may be made in a state, in the part whose turn it is, is explored.
 fn is_state_explored(claimed: &Claimed<'_>, state: &State) -> Result<bool, NoMemory>
     ensures { IfOk result (λ yes. IsTrue yes → IsStateExploredBy claimed.now state.now) }
 {
+    let turn = part_at(claimed.submission, &claimed.found.numbers, state);
     for i in 0..claimed.submission.chains.len() {
-        if !is_chain_explored(claimed, state, i)? {
+        if !is_explored_in_turn(claimed, state, turn, i)? {
             return Ok(false);
         }
     }
@@ -219,6 +241,9 @@ pub(crate) fn are_all_states(claimed: &Claimed<'_>, slots: &Slots) -> Result<boo
         return Ok(false);
     }
     if !has_removed_none(claimed.submission, first) {
+        return Ok(false);
+    }
+    if !are_parts(claimed.submission, slots, &claimed.found.numbers) {
         return Ok(false);
     }
     if !are_at_start(claimed, first)? {

@@ -4,6 +4,7 @@
 use crate::chain::{Progress, chain_accesses, settle};
 use crate::closed::is_among;
 use crate::found::{Found, Step, key_of};
+use crate::parts::{part_at, part_numbers, waits};
 use crate::state::{State, copy_of, next_state};
 use crate::submission::Submission;
 use crate::telling::{Telling, push_copies};
@@ -175,16 +176,35 @@ impl Search {
         Ok(true)
     }
 
+    // Follows each chain of the part whose turn it is in a state. Whether there was room for the states.
+    fn follow_part(
+        &mut self,
+        submission: &Submission<'_>,
+        place: Option<Place>,
+        state: usize,
+    ) -> Result<bool, NoMemory> {
+        let Some(here) = self.found.states.get(state) else {
+            return Ok(true);
+        };
+        let turn = part_at(submission, &self.found.numbers, here);
+        for chain in 0..submission.chains.len() {
+            if !waits(&self.found.numbers, turn, chain)
+                && !self.follow(submission, place, state, chain)?
+            {
+                return Ok(false);
+            }
+        }
+        Ok(true)
+    }
+
     // Looks at the states that were met last first, so that ends are met early. Whether there was room for all.
     fn run(&mut self, submission: &Submission<'_>, place: Option<Place>) -> Result<bool, NoMemory> {
         for _ in 0..self.most {
             let Some(state) = self.open.pop() else {
                 return Ok(true);
             };
-            for chain in 0..submission.chains.len() {
-                if !self.follow(submission, place, state, chain)? {
-                    return Ok(false);
-                }
+            if !self.follow_part(submission, place, state)? {
+                return Ok(false);
             }
         }
         Ok(self.open.is_empty())
@@ -201,7 +221,7 @@ pub(crate) fn explore(
 ) -> Result<Found, NoMemory> {
     let alloc = submission.setting.alloc;
     let mut search = Search {
-        found: Found::new(alloc),
+        found: Found::new(alloc, part_numbers(submission, slots)?),
         open: Vec::new(alloc),
         most: room_for(submission, most),
     };

@@ -3,6 +3,7 @@ ghost use Rattle.std.specs.Prelude.{ℕ, IfOk, IsTrue, Contains, List, map};
 ghost use Rattle.fx_chain.specs.Operation.{Asked};
 ghost use Rattle.fx_answers.specs.Views.{told_of, view_of};
 
+use crate::parts::PartNumbers;
 use crate::state::State;
 use crate::telling::Telling;
 use fx_base::{Closed, Mark, NoMemory};
@@ -28,6 +29,8 @@ pub struct Step {
 pub struct Found {
     /// What memory is from.
     pub alloc: Global,
+    /// The parts of the submission.
+    pub numbers: PartNumbers,
     /// The states.
     pub states: Vec<State>,
     /// The states in numbers, for looking them up.
@@ -125,9 +128,10 @@ pub(crate) fn key_of(alloc: Global, state: &State) -> Result<Vec<u32>, NoMemory>
 
 impl Found {
     /// No state yet.
-    pub(crate) fn new(alloc: Global) -> Found {
+    pub(crate) fn new(alloc: Global, numbers: PartNumbers) -> Found {
         Found {
             alloc,
+            numbers,
             states: Vec::new(alloc),
             keys: IndexSet::new(alloc),
             from: Vec::new(alloc),

@@ -10,6 +10,7 @@ mod explore;
 mod found;
 pub mod laws;
 mod outcome;
+mod parts;
 mod player;
 mod report;
 mod setting;

@@ -1,8 +1,9 @@
-use Rattle.fx_answers.specs.Listed.{IsChainExploredBy}
+use Rattle.fx_order.proofs.Words.{ℕ}
+use Rattle.fx_answers.specs.Listed.{HasTurnBy, IsChainExploredBy}
 use Rattle.fx_answers.proofs.Lists.{one_more}
 use Rattle.fx_answers.proofs.closed.is_state_explored.Goals as goal
 
 pub loop-i-preserved : goal.loop-i-preserved
 loop-i-preserved c =
-    one_more (IsChainExploredBy c.args.claimed.now c.args.state.now) c.loop-i.i c.loop-i.invariant
-    (c.in_ok-is_chain_explored.ensures c.if-not-branch.false)
+    one_more (λ (k : ℕ). HasTurnBy c.args.claimed.now c.args.state.now k → IsChainExploredBy c.args.claimed.now c.args.state.now k) c.loop-i.i c.loop-i.invariant
+    (c.in_ok-is_explored_in_turn.ensures c.if-not-branch.false)
