@@ -6,7 +6,7 @@ from typing import NamedTuple
 
 # so many texts are listed where no number is given
 MOST = 100
-HEAD = re.compile(r"(at least )?(\d+) texts?, where memory is found(?:: more than (\d+) states, or than a gibibyte holds)?(?:; the first (\d+):)?")
+HEAD = re.compile(r"(at least )?(\d+) texts?, where memory is found(?:: more than (\d+) states, or than (\d+) MiB hold)?(?:; the first (\d+):)?")
 
 
 class Listing(NamedTuple):

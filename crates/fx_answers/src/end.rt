@@ -18,7 +18,7 @@ use crate::state::{State, are_same};
 use crate::submission::Submission;
 use fx_base::{Catalogue, NoMemory};
 use fx_chain::{Request, cut};
-use fx_order::{ChainAccess, Slots};
+use fx_order::{ChainAccess, Limits, Slots};
 use std::alloc::Global;
 
 /// One ring that a submission may leave: what then stands at the slots, and an order that leads there.
@@ -135,8 +135,8 @@ fn are_all_ends(claimed: &Claimed<'_>, slots: &Slots, ends: &[End]) -> Result<bo
 
 /// Which rings a submission may leave, at a ring with this catalogue and these slots and behind so many accepted submissions,
 /// where no request lacks memory: each with an order of accesses that leads to it. Where `are_all` is true it leaves no
-/// other; else more states would have to be met than `states`, or than have room in a gibibyte. The caller has seen that no
-/// request has a fault ([`fx_chain::check`]).
+/// other; else more states would have to be met than `limits` allows. The caller has seen that no request has a fault
+/// ([`fx_chain::check`]).
 ///
 /// # Errors
 /// `NoMemory` where there is no memory for the states, or for an end and its order.
@@ -146,7 +146,7 @@ pub fn may_leave(
     slots: &Slots,
     submissions: u32,
     requests: &[Request],
-    states: usize,
+    limits: Limits,
 ) -> Result<Ends, NoMemory>
     requires catalogue { IsCatalogue catalogue.now }
     requires accepted { IsAccepted (all_asked requests.now) }
@@ -171,7 +171,7 @@ pub fn may_leave(
         chains: &chains,
         tells: false,
     };
-    let found = explore(&submission, slots, None, states)?;
+    let found = explore(&submission, slots, None, limits)?;
     let ends = all_confirmed(&submission, slots, &found)?;
     let claimed = Claimed {
         submission: &submission,

@@ -10,7 +10,7 @@ use crate::submission::Submission;
 use crate::telling::{Telling, push_copies};
 use fx_base::NoMemory;
 use fx_chain::{Completion, Op, Place, Request};
-use fx_order::{Access, Slots};
+use fx_order::{Access, Limits, Slots};
 use indexmap::IndexSet;
 use std::alloc::Global;
 
@@ -57,9 +57,6 @@ pub(crate) fn accesses_of(
     chain_accesses(setting, &state.slots, submission.first(i), own, *progress)
 }
 
-// How many bytes the states of a search may take.
-const MOST_BYTES: usize = 1 << 30;
-
 // What a state keeps of a request: its answer, the bytes of a read, and the files that it removed, each with its numbers in the
 // key.
 fn weight_of(request: &Request) -> usize {
@@ -89,15 +86,17 @@ fn weight_told(submission: &Submission<'_>) -> usize {
     weight.saturating_add(submission.chains.len().saturating_mul(32))
 }
 
-// How many states have room, if no more than so many are asked for. A slot of a state takes 40 bytes, and its numbers in the
+// How many states may be met. A slot of a state takes 40 bytes, and its numbers in the
 // key up to 48; a chain takes 16 and 16; and beside them a state has its lists, a step and a place in the hash table, whose
 // blocks may just have been doubled.
-fn room_for(submission: &Submission<'_>, most: usize) -> usize {
+fn room_for(submission: &Submission<'_>, limits: Limits) -> usize {
     let slots = (submission.setting.size as usize).saturating_mul(88);
     let chains = submission.chains.len().saturating_mul(32);
     let weight = slots.saturating_add(chains).saturating_add(768);
     let weight = weight.saturating_add(weight_told(submission));
-    most.min(MOST_BYTES.checked_div(weight).unwrap_or(0))
+    limits
+        .states
+        .min(limits.bytes.checked_div(weight).unwrap_or(0))
 }
 
 /// A search: what it found, the numbers of the states that it has still to look at, and how many states it may meet.
@@ -212,18 +211,18 @@ impl Search {
 }
 
 /// Looks for all states of a submission at these slots, and for what is answered at the place on the way, if there is one. It
-/// meets at most so many states, and no more than have room in a gibibyte.
+/// goes no further than the limits.
 pub(crate) fn explore(
     submission: &Submission<'_>,
     slots: &Slots,
     place: Option<Place>,
-    most: usize,
+    limits: Limits,
 ) -> Result<Found, NoMemory> {
     let alloc = submission.setting.alloc;
     let mut search = Search {
         found: Found::new(alloc, part_numbers(submission, slots)?),
         open: Vec::new(alloc),
-        most: room_for(submission, most),
+        most: room_for(submission, limits),
     };
     let mut told = Vec::new(alloc);
     let first = start(submission, slots, &mut told)?;

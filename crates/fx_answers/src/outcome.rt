@@ -20,7 +20,7 @@ use crate::submission::Submission;
 use crate::telling::copy_of;
 use fx_base::{Catalogue, NoMemory};
 use fx_chain::{Completion, Place, Request, cut};
-use fx_order::{ChainAccess, Slots};
+use fx_order::{ChainAccess, Limits, Slots};
 use std::alloc::Global;
 
 /// What a request may answer, an order of the submission's accesses that comes to it, and the slots that this order leaves.
@@ -50,8 +50,8 @@ pub struct Question<'a> {
     pub requests: &'a [Request],
     /// The place of the request that is asked for.
     pub place: Place,
-    /// How many states may be met, each of them the files at the slots and how far each chain has come.
-    pub states: usize,
+    /// How far the states are looked for, each of them the files at the slots and how far each chain has come.
+    pub limits: Limits,
 }
 
 // What is answered at a place, once more.
@@ -117,9 +117,8 @@ fn all_confirmed(
 
 /// What the request at a place of a submission may answer, at a ring with this catalogue and these slots and behind so many
 /// accepted submissions, where no request lacks memory: each answer with an order of accesses that comes to it. Where
-/// `are_all` is true it answers nothing else; else more states would have to be met than may be, or than have room in a
-/// gibibyte. A place where no request stands has no answer. The caller has seen that no request has a fault
-/// ([`fx_chain::check`]).
+/// `are_all` is true it answers nothing else; else more states would have to be met than the question's limits allow. A place
+/// where no request stands has no answer. The caller has seen that no request has a fault ([`fx_chain::check`]).
 ///
 /// # Errors
 /// `NoMemory` where there is no memory for the states, or for an answer and its order.
@@ -154,7 +153,7 @@ pub fn may_answer(
         tells: false,
     };
     let place = question.place;
-    let found = explore(&submission, slots, Some(place), question.states)?;
+    let found = explore(&submission, slots, Some(place), question.limits)?;
     let answers = all_confirmed(&submission, slots, &found, place)?;
     let claimed = Claimed {
         submission: &submission,

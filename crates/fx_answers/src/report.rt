@@ -22,7 +22,7 @@ use crate::submission::Submission;
 use crate::telling::{are_same as are_same_answers, are_same_closes};
 use fx_base::{Catalogue, CloseList, Closed, NoMemory};
 use fx_chain::{Completion, Request, cut};
-use fx_order::{ChainAccess, Slots};
+use fx_order::{ChainAccess, Limits, Slots};
 use fx_ring::Report;
 use std::alloc::Global;
 
@@ -216,8 +216,8 @@ fn are_all_reports(
 
 /// Which reports a submission may come to, at a ring with this catalogue and these slots and behind so many accepted
 /// submissions, where no request lacks memory: each with an order of accesses that comes to it. Where `are_all` is true it
-/// comes to no other; else more states would have to be met than `states`, or than have room in a gibibyte. The caller has
-/// seen that no request has a fault ([`fx_chain::check`]).
+/// comes to no other; else more states would have to be met than `limits` allows. The caller has seen that no request has a
+/// fault ([`fx_chain::check`]).
 ///
 /// # Errors
 /// `NoMemory` where there is no memory for the states, or for a report and its order.
@@ -227,7 +227,7 @@ pub fn may_report(
     slots: &Slots,
     submissions: u32,
     requests: &[Request],
-    states: usize,
+    limits: Limits,
 ) -> Result<PossibleReports, NoMemory>
     requires catalogue { IsCatalogue catalogue.now }
     requires accepted { IsAccepted (all_asked requests.now) }
@@ -252,7 +252,7 @@ pub fn may_report(
         chains: &chains,
         tells: true,
     };
-    let found = explore(&submission, slots, None, states)?;
+    let found = explore(&submission, slots, None, limits)?;
     let reports = all_confirmed(&submission, slots, &found)?;
     let claimed = Claimed {
         submission: &submission,

@@ -20,9 +20,9 @@ use crate::registration::{
 };
 use crate::submission::play_submission;
 use fx_base::{Catalogue, NoMemory};
-use fx_judge::{Limits, RingSlots};
+use fx_judge::RingSlots;
 use fx_language::{Command, Script};
-use fx_order::Slots;
+use fx_order::{Limits, Slots};
 use fx_script::teardown_text;
 use std::alloc::Global;
 

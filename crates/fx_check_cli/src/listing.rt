@@ -4,6 +4,7 @@ ghost use Rattle.fx_check_cli.specs.Status.{may_status};
 
 use fx_base::{Catalogue, NoMemory};
 use fx_chain::{Chain, Completion, Op, Place, Request, check, cut};
+use fx_check_arguments::Settings;
 use fx_outcomes::count;
 use fx_script::{Command, Script};
 use fx_texts::{Past, RequestAnswers};
@@ -201,6 +202,19 @@ pub fn push_orders(
     Ok(())
 }
 
+/// Puts behind others how far the states were looked for.
+///
+/// # Errors
+/// Where memory is refused.
+pub fn push_limits(told: &mut String, settings: Settings<'_>) -> Result<(), AllocError> {
+    let states = settings.states;
+    let memory = settings.memory;
+    write!(
+        told,
+        ": more than {states} states, or than {memory} MiB hold"
+    )
+}
+
 /// The lines of what a request may answer: each answer, and behind it the orders that come to it; and whether these are all.
 ///
 /// # Errors
@@ -208,7 +222,7 @@ pub fn push_orders(
 pub fn listing(
     alloc: Global,
     script: &Script,
-    states: u32,
+    settings: Settings<'_>,
     may: &RequestAnswers,
 ) -> Result<String, NoMemory> {
     let mut told = String::new(alloc);
@@ -219,10 +233,9 @@ pub fn listing(
     if may.are_all {
         told.push_str("these are all, where memory is found\n")?;
     } else {
-        write!(
-            told,
-            "at least these, where memory is found: more than {states} states, or than a gibibyte holds\n"
-        )?;
+        told.push_str("at least these, where memory is found")?;
+        push_limits(&mut told, settings)?;
+        told.push('\n')?;
     }
     Ok(told)
 }

@@ -13,7 +13,7 @@ mod verdict;
 
 use fx_check::{Judgement, Order, judge};
 use fx_check_arguments::{Ending, Settings, settings_in, words};
-use fx_judge::Limits;
+use fx_order::Limits;
 use fx_script::{PlayFault, Script};
 use fx_texts::{may, texts_of};
 use history::History;
@@ -59,17 +59,25 @@ fn print_history(
     write(rt, history.lines())
 }
 
+// How far states are looked for.
+fn limits_of(settings: Settings<'_>) -> Limits {
+    Limits {
+        states: settings.states as usize,
+        bytes: (settings.memory as usize).saturating_mul(MIB),
+    }
+}
+
 // Prints what the request that the arguments name may answer. It gives the status.
 fn list_answers(rt: &HostRuntime, settings: Settings<'_>, script: &Script) -> Result<u8, Ending> {
     let alloc = rt.alloc();
     let Some(place) = place_of(settings.text) else {
         return Err(Ending::NoPlace(format!(in alloc; "{}", settings.text)?));
     };
-    let answers = may(alloc, script, place, settings.states as usize)?;
+    let answers = may(alloc, script, place, limits_of(settings))?;
     if answers.answers.is_empty() && answers.are_all {
         return Err(Ending::NoRequest(format!(in alloc; "{}", settings.text)?));
     }
-    let told = listing(alloc, script, settings.states, &answers)?;
+    let told = listing(alloc, script, settings, &answers)?;
     write(rt, told.as_str())?;
     Ok(status_of_answers(&answers))
 }
@@ -82,8 +90,8 @@ fn list_texts(
     script: &Script,
 ) -> Result<u8, Ending> {
     let alloc = rt.alloc();
-    let all = texts_of(alloc, script, settings.states as usize)?;
-    let told = listing_of_texts(alloc, script, settings.states, most, &all)?;
+    let all = texts_of(alloc, script, limits_of(settings))?;
+    let told = listing_of_texts(alloc, script, settings, most, &all)?;
     write(rt, told.as_str())?;
     Ok(status_of_texts(&all))
 }
@@ -102,11 +110,7 @@ fn check(rt: &HostRuntime) -> Result<u8, Ending> {
         return list_answers(rt, settings, &script);
     }
     let text = read_path(rt, settings.text)?;
-    let limits = Limits {
-        states: settings.states as usize,
-        bytes: (settings.memory as usize).saturating_mul(MIB),
-    };
-    let judgement = judge(alloc, &script, &text, limits)?;
+    let judgement = judge(alloc, &script, &text, limits_of(settings))?;
     match &judgement {
         Judgement::Legal(orders) if settings.history => {
             print_history(rt, &script, &text, orders.as_slice())?;

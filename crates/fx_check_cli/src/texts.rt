@@ -2,8 +2,9 @@
 ghost use Rattle.std.specs.Prelude.{◌≡◌};
 ghost use Rattle.fx_check_cli.specs.Status.{all_status};
 
-use crate::listing::push_orders;
+use crate::listing::{push_limits, push_orders};
 use fx_base::NoMemory;
+use fx_check_arguments::Settings;
 use fx_script::Script;
 use fx_texts::AllTexts;
 use std::alloc::{AllocError, Global};
@@ -16,7 +17,12 @@ pub fn status_of_texts(all: &AllTexts) -> u8
 }
 
 // Puts the line of how many texts there are behind others: what that rests on, and how many are listed, where not all are.
-fn push_count(told: &mut String, states: u32, most: u32, all: &AllTexts) -> Result<(), AllocError> {
+fn push_count(
+    told: &mut String,
+    settings: Settings<'_>,
+    most: u32,
+    all: &AllTexts,
+) -> Result<(), AllocError> {
     let count = all.texts.len();
     if !all.are_all {
         told.push_str("at least ")?;
@@ -24,10 +30,7 @@ fn push_count(told: &mut String, states: u32, most: u32, all: &AllTexts) -> Resu
     let noun = if count == 1 { "text" } else { "texts" };
     write!(told, "{count} {noun}, where memory is found")?;
     if !all.are_all {
-        write!(
-            told,
-            ": more than {states} states, or than a gibibyte holds"
-        )?;
+        push_limits(told, settings)?;
     }
     if count > most as usize {
         write!(told, "; the first {most}:")?;
@@ -53,12 +56,12 @@ fn push_lines(told: &mut String, text: &str) -> Result<(), AllocError> {
 pub fn listing_of_texts(
     alloc: Global,
     script: &Script,
-    states: u32,
+    settings: Settings<'_>,
     most: u32,
     all: &AllTexts,
 ) -> Result<String, NoMemory> {
     let mut told = String::new(alloc);
-    push_count(&mut told, states, most, all)?;
+    push_count(&mut told, settings, most, all)?;
     let mut number = 0usize;
     for text in all.texts.iter().take(most as usize) {
         let by = all.by.get(number).copied().flatten();

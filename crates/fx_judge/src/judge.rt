@@ -9,7 +9,6 @@ ghost use Rattle.fx_order.specs.Slots.{table_of_slots};
 ghost use Rattle.fx_judge.specs.Verdict.{CameBy, IsToldOutcome, IsVerdict, ring_with_slots};
 
 use crate::chain::{Parts, claims_of_chains};
-use crate::limits::Limits;
 use crate::part::{Outcome, TableTold, judge_table};
 use crate::request::Setting;
 use crate::stop::Stop;
@@ -17,7 +16,7 @@ use crate::told::{RingSlots, Told};
 use crate::verdict::{Doubt, Reason, Verdict};
 use fx_base::{Catalogue, Closed, NoMemory};
 use fx_chain::{Request, cut};
-use fx_order::{ChainAccess, Slots, are_chains_done, are_closed, make_all};
+use fx_order::{ChainAccess, Limits, Slots, are_chains_done, are_closed, make_all};
 use std::alloc::Global;
 
 // Whether each access is of one of so many chains.

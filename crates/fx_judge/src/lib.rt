@@ -12,7 +12,6 @@ mod dead;
 mod full;
 mod judge;
 mod known;
-mod limits;
 mod node;
 mod packed;
 mod part;
@@ -28,6 +27,5 @@ mod update;
 mod verdict;
 
 pub use judge::judge_submission;
-pub use limits::Limits;
 pub use told::{RingSlots, Told};
 pub use verdict::{Doubt, Reason, Verdict};

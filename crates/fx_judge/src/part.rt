@@ -9,7 +9,6 @@ use crate::claim::{Claim, Leaves, Wants, resident_for};
 use crate::component::components;
 use crate::full::{is_range_empty, with_full};
 use crate::known::has_unknown;
-use crate::limits::Limits;
 use crate::node::claim_of;
 use crate::refuted::judge_counts;
 use crate::search::{FEW_STATES, Found, explore};
@@ -17,7 +16,7 @@ use crate::steps::Steps;
 use crate::strand::{Strand, strands_of};
 use crate::verdict::{Doubt, Reason};
 use fx_base::{Closed, NoMemory};
-use fx_order::{Access, ChainAccess, Slots};
+use fx_order::{Access, ChainAccess, Limits, Slots};
 use std::alloc::Global;
 
 /// What came of a search.

@@ -1,11 +1,11 @@
 //! A search for an order. Nothing is proved of what it finds: what it hands over is looked through (`crate::certificate`).
 
-use crate::limits::Limits;
 use crate::node::is_test;
 use crate::steps::{Step, Steps, number_at};
 use crate::tally::Tally;
 use crate::verdict::Doubt;
 use fx_base::NoMemory;
+use fx_order::Limits;
 use indexmap::IndexSet;
 use std::alloc::Global;
 

@@ -6,6 +6,7 @@ mod access;
 mod answer;
 mod chain;
 pub mod laws;
+mod limits;
 mod open;
 mod order;
 mod report;
@@ -17,6 +18,7 @@ mod update;
 
 pub use access::{Access, ChainAccess};
 pub use chain::accesses_made;
+pub use limits::Limits;
 pub use order::{are_closed, make_all};
 pub use report::is_one_order;
 pub use slots::Slots;

@@ -26,9 +26,7 @@ use fx_order::{ChainAccess, Slots};
 use fx_ring::MOST_SUBMISSIONS;
 use fx_script::report_text;
 
-// What the rings that are kept may take together, and each one beside its text: a slot, and all else.
-const MOST_BYTES: usize = 1 << 30;
-
+// What a ring that is kept takes beside its text: a slot, and all else.
 const SLOT_BYTES: usize = 40;
 
 const RING_BYTES: usize = 120;
@@ -182,7 +180,7 @@ fn push_ends(
         &from.ring.slots,
         from.ring.submissions,
         requests,
-        setting.states,
+        setting.limits,
     )?;
     for end in &found.ends {
         let silent = OrderEnd {
@@ -252,7 +250,7 @@ fn push_reports(
         &from.ring.slots,
         from.ring.submissions,
         requests,
-        setting.states,
+        setting.limits,
     )?;
     for possible in &found.reports {
         push_report(setting, pasts, rings, from, possible)?;
@@ -292,15 +290,14 @@ fn push_call(
     Ok(())
 }
 
-// Whether there is room for more rings: fewer than states may be met, and less than a gibibyte in what they printed and
-// their slots.
+// Whether there is room for more rings, which go as far as states do: with what they printed and their slots.
 fn has_room(setting: &Setting<'_>, count: usize, from: &Reached) -> bool {
     let each = from
         .printed
         .len()
         .saturating_add(from.ring.slots.at.len().saturating_mul(SLOT_BYTES))
         .saturating_add(RING_BYTES);
-    count < setting.states && count.saturating_mul(each) < MOST_BYTES
+    count < setting.limits.states && count.saturating_mul(each) < setting.limits.bytes
 }
 
 /// Puts the rings that a command may lead to from one behind others, and says whether these are all of them. No more are put

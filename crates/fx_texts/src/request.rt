@@ -13,6 +13,7 @@ use crate::setting::Setting;
 use fx_base::NoMemory;
 use fx_chain::Place;
 use fx_language::Script;
+use fx_order::Limits;
 use std::alloc::Global;
 
 /// What a request of a script may answer, and orders that come to it.
@@ -28,8 +29,8 @@ pub struct RequestAnswers {
 
 /// What the request at a place of a script may answer where memory is found: each answer is one that it gives in some play
 /// of the whole script. Where `are_all` is true it answers nothing else; else more states of a submission would have to be
-/// met than `states`, or more rings looked at. The orders are those by which the answers were found, and no contract speaks
-/// of them.
+/// met, or more rings looked at, than `limits` allows. The orders are those by which the answers were found, and no contract
+/// speaks of them.
 ///
 /// # Errors
 /// `NoMemory` where there is no memory for the rings, the states or the answers.
@@ -37,7 +38,7 @@ pub fn may(
     alloc: Global,
     script: &Script,
     place: Place,
-    states: usize,
+    limits: Limits,
 ) -> Result<RequestAnswers, NoMemory>
     ensures each { IfOk result (λ may. All
         (λ said. MayAnswerIn script.now place (completed_of said.completion)) may.answers.items) }
@@ -47,7 +48,7 @@ pub fn may(
     let setting = Setting {
         alloc,
         catalogue: script.catalogue(),
-        states,
+        limits,
         keeps: false,
     };
     let mut orders = Vec::new(alloc);

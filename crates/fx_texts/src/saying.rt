@@ -145,7 +145,7 @@ fn push_answers(
     let question = Question {
         requests: asking.requests,
         place: asking.place,
-        states: setting.states,
+        limits: setting.limits,
     };
     let found = may_answer(
         setting.alloc,

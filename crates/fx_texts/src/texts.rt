@@ -15,6 +15,7 @@ use crate::setting::Setting;
 use fx_base::NoMemory;
 use fx_check::{close_in_order, files_at};
 use fx_language::Script;
+use fx_order::Limits;
 use fx_script::teardown_text;
 use indexmap::IndexSet;
 use std::alloc::Global;
@@ -91,13 +92,12 @@ fn all_at_end(setting: &Setting<'_>, rings: &[Reached]) -> Result<EachText, NoMe
 }
 
 /// The texts of a script in which memory is found, each once: each is one that some play of the script prints. Where
-/// `are_all` is true there is no other; else more states of a submission would have to be met than `states`, or more rings
-/// looked at than that or than have room in a gibibyte. The orders are those by which the texts were found, and no contract
-/// speaks of them.
+/// `are_all` is true there is no other; else more states of a submission would have to be met, or more rings looked at, than
+/// `limits` allows. The orders are those by which the texts were found, and no contract speaks of them.
 ///
 /// # Errors
 /// `NoMemory` where there is no memory for the rings, the states or the texts.
-pub fn texts_of(alloc: Global, script: &Script, states: usize) -> Result<AllTexts, NoMemory>
+pub fn texts_of(alloc: Global, script: &Script, limits: Limits) -> Result<AllTexts, NoMemory>
     ensures each { IfOk result (λ all.
         All (λ text. IsTextFound script.now (string_bytes text)) all.texts.keys) }
     ensures once { IfOk result (λ all. IsUnique string_eq all.texts) }
@@ -107,7 +107,7 @@ pub fn texts_of(alloc: Global, script: &Script, states: usize) -> Result<AllText
     let setting = Setting {
         alloc,
         catalogue: script.catalogue(),
-        states,
+        limits,
         keeps: true,
     };
     let mut orders = Vec::new(alloc);
