@@ -1,5 +1,6 @@
 -- A play of the first commands that prints a beginning of the text goes along with what is kept of the ring.
 use Rattle.std.proofs.Common.{◌≡◌, ℕ, suc, ◌+◌, ◌<◌, List, [], ◌∷◌, length, drop, take, sym, subst, slice_index_or, arith}
+use Rattle.fx_calls.proofs.NextCommand.{next_command}
 use Rattle.fx_ring.specs.Ring.{RingContents, RingState, ring_of}
 use Rattle.fx_language.specs.Instruction.{Instruction, instruction_of, instructions_of}
 use Rattle.fx_language.specs.declared.command.Command.{Command}
@@ -7,7 +8,6 @@ use Rattle.fx_lines.specs.Lines.{HasNoCloses}
 use Rattle.fx_lines.proofs.PlaysBegin.{command_begins}
 use Rattle.fx_check.specs.Judged.{PrintsBeginning}
 use Rattle.fx_check.specs.Only.{GoesOn, LeadsNowhere, LeadsTo}
-use Rattle.fx_check.proofs.Plays.{next_command}
 
 -- a ring of this state prints a beginning of this by these commands, and leaves that
 pub record CanBegin (state : RingState) (commands : List Instruction) (text left : List ℕ) : Type 0 where

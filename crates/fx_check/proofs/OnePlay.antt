@@ -1,5 +1,6 @@
 -- A play of the script that prints the text goes along with what is kept of the ring.
 use Rattle.std.proofs.Common.{◌≡◌, ℕ, ◌+◌, ◌<◌, List, [], ◌∷◌, length, drop, subst, ◌∙◌, slice_index_or}
+use Rattle.fx_calls.proofs.NextCommand.{next_command}
 use Rattle.fx_ring.specs.Ring.{RingContents, RingState, new_ring, ring_of}
 use Rattle.fx_language.specs.Instruction.{Instruction, instruction_of, instructions_of}
 use Rattle.fx_script.specs.Play.{IsText, PrintsAll, PrintsEnd}
@@ -7,7 +8,6 @@ use Rattle.fx_language.specs.Script.{Meaning}
 use Rattle.fx_language.specs.declared.command.Command.{Command}
 use Rattle.fx_lines.proofs.PlaysBegin.{plays_begin}
 use Rattle.fx_check.specs.Only.{GoesOn, LeadsNowhere, LeadsTo}
-use Rattle.fx_check.proofs.Plays.{next_command}
 
 -- a ring of this state prints this by these commands and the end of the script
 pub record CanPrintAll (state : RingState) (commands : List Instruction) (text : List ℕ) : Type 0 where

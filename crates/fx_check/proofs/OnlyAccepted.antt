@@ -23,8 +23,8 @@ use Rattle.fx_lines.specs.Lines.{IsReportBefore, Lines, ReadsReport, lines_of, l
 use Rattle.fx_lines.specs.LinesView.{lines_in}
 use Rattle.fx_lines.specs.declared.report.ReportLines.{ReportLines}
 use Rattle.fx_lines.proofs.CompletionCounts.{each_request}
-use Rattle.fx_judge.specs.Verdict.{IsRefuted, ring_with_slots, told_report}
-use Rattle.fx_judge.specs.declared.told.RingSlots.{RingSlots}
+use Rattle.fx_judge.specs.Verdict.{IsRefuted, told_report}
+use Rattle.fx_order.specs.declared.ring_slots.RingSlots.{RingSlots}
 use Rattle.fx_judge.specs.declared.told.Told.{Told}
 use Rattle.fx_check.specs.Kept.{IsKept}
 use Rattle.fx_check.specs.Only.{GoesOn, LeadsNowhere, LeadsTo}
@@ -33,6 +33,7 @@ use Rattle.fx_check.specs.declared.judgement.Fault.{Fault}
 use Rattle.fx_check.proofs.OrderFiles.{are_from, may_close_all}
 use Rattle.fx_check.proofs.ReportInRange.{report_in_range}
 use Rattle.fx_check.proofs.Submissions.{printed_lines}
+use Rattle.fx_order.specs.Slots.{ring_with_slots}
 
 module _ (catalogue : List FileEntry) (old : RingSlots) (kept : IsKept catalogue old) where
   -- the files at slots are told apart

@@ -12,7 +12,7 @@ use Rattle.fx_ring.specs.declared.ring.TheConstants.{MOST_SUBMISSIONS}
 use Rattle.fx_script.specs.Play.{PrintsReport}
 use Rattle.fx_language.specs.Instruction.{SubmitsAll}
 use Rattle.fx_script.specs.Text.{refused_line, too_many_line}
-use Rattle.fx_judge.specs.declared.told.RingSlots.{RingSlots}
+use Rattle.fx_order.specs.declared.ring_slots.RingSlots.{RingSlots}
 use Rattle.fx_check.specs.Met.{IsMet}
 use Rattle.fx_check.specs.Only.{IsOnlyStep}
 use Rattle.fx_check.specs.declared.met.Met.{Met}

@@ -8,7 +8,7 @@ use Rattle.fx_base.specs.declared.errno.Errno.TheVariants.{ENOMEM}
 use Rattle.fx_base.specs.declared.open_file.Closed.{Closed}
 use Rattle.fx_chain.specs.Completed.{negated}
 use Rattle.fx_order.specs.Access.{Table}
-use Rattle.fx_order.specs.Slots.{table_of_slots}
+use Rattle.fx_order.specs.Slots.{ring_with_slots, table_of_slots}
 use Rattle.fx_order.specs.declared.slots.Slots.{Slots}
 use Rattle.fx_ring.specs.Registration.{files_after, range_refusal, register_refusal, registered, registered_sparse, removed_from}
 use Rattle.fx_ring.specs.Registration.{sparse_refusal, unregister_refusal, update_refusal, updated}
@@ -17,13 +17,12 @@ use Rattle.fx_ring.specs.Tags.{tags_given}
 use Rattle.fx_language.specs.Instruction.{Instruction, MakesSparse, RegistersList, SetsRange, Unregisters, UpdatesRing}
 use Rattle.fx_script.specs.Text.{closes_text, result_line}
 use Rattle.fx_lines.proofs.ResultLines.{one_result}
-use Rattle.fx_judge.specs.Verdict.{ring_with_slots}
-use Rattle.fx_judge.specs.declared.told.RingSlots.{RingSlots}
+use Rattle.fx_order.specs.declared.ring_slots.RingSlots.{RingSlots}
 use Rattle.fx_check.specs.Met.{BeginsWith, IsMet}
 use Rattle.fx_check.specs.Only.{IsOnlyStep, LeadsTo}
 use Rattle.fx_check.specs.declared.met.Met.{Met}
 use Rattle.fx_check.specs.declared.met.Met.TheVariants.{Here}
-use Rattle.fx_check.proofs.FilesThere.{all_in_order, all_removed, closes_printed}
+use Rattle.fx_calls.proofs.FilesThere.{all_in_order, all_removed, closes_printed}
 use Rattle.fx_check.proofs.OneText.{AreApart, PrintsEither, either_here, either_only, one_text, range_accepted, range_refused, refusal_only, refused_text}
 use Rattle.fx_check.proofs.Registrations.{empty_table}
 

@@ -5,6 +5,7 @@ use Rattle.std.proofs.lemmas.List.Sorted.{Contains-permutation, IsPermutation-sy
 use Rattle.fx_base.specs.Catalogue.{FileEntry}
 use Rattle.fx_base.specs.declared.mark.Mark.TheVariants.{Submitted}
 use Rattle.fx_base.specs.declared.open_file.Closed.{Closed}
+use Rattle.fx_calls.specs.InRange.{AreInRange, IsInRange}
 use Rattle.fx_chain.specs.Accepted.{IsAccepted, IsChain, members_of}
 use Rattle.fx_chain.specs.Operation.{Asked}
 use Rattle.fx_chain.specs.Runs.{runs_of}
@@ -27,7 +28,6 @@ use Rattle.fx_order.proofs.PlacedNew.{AnyPlace, InLimits, ReachesAll, chain_plac
 use Rattle.fx_check.proofs.Installations.{chains_installed}
 use Rattle.fx_check.specs.Told.{AreFrom, HasNone, IsAtSlot, MayClose, MayCloseAll, OneInstalled}
 use Rattle.fx_lines.specs.Lines.{IsMarkInRange}
-use Rattle.fx_check.specs.Kept.{AreInRange, IsInRange}
 
 -- the runs of an accepted submission are short
 pub short_runs : (asked : List Asked) → IsAccepted asked → All (λ run. length run ≤ 16) (runs_of asked)

@@ -1,5 +1,6 @@
 -- A text that is gone along with command by command is one of the script.
 use Rattle.std.proofs.Common.{◌≡◌, ℕ, suc, ◌+◌, ◌<◌, List, [], ◌∷◌, ◌++◌, length, take, drop, refl, sym, ap, subst, ◌∙◌, slice_index_or, arith, Option}
+use Rattle.fx_calls.proofs.NextCommand.{next_command}
 use Rattle.std.specs.Option.{option_to_list}
 use Rattle.std.proofs.lemmas.List.{take-append-drop, drop-drop}
 use Rattle.std.proofs.Math.Seq.{drop-cons}
@@ -37,13 +38,6 @@ is_text meaning text orders by = (by.0, by.1, all_printed by.0 meaning.commands 
 pub may_print : (old new : RingState) (command : Instruction) (line : List ℕ) (own : Option Order) → MayPrintBy old command new line own
     → MayPrint old command new line
 may_print old new command line own may = λ ring same. let next = may ring same in (next.0, next.1, next.2)
-
-pub next_command : (commands : List Command) (done : ℕ) (command : Command) → done < length commands → command ≡ slice_index_or commands done command
-    → drop done commands ≡ command ∷ drop (done + 1) commands
-next_command commands done command inside is =
-    drop-cons commands done command inside
-    ∙ ap (λ (n : ℕ). slice_index_or commands done command ∷ drop n commands) (let e : suc done ≡ done + 1 = omega arith in e)
-    ∙ ap (λ (c : Command). c ∷ drop (done + 1) commands) (sym is)
 
 -- what is left of the commands, and of the text, where one more command has printed so many bytes
 pub one_further : (commands : List Command) (done : ℕ) (command : Command) (old new : RingState) (text : List ℕ) (at count : ℕ) (own : Option Order)

@@ -8,11 +8,12 @@ use Rattle.fx_base.specs.CloseListView.{CloseListView}
 use Rattle.fx_base.specs.declared.errno.Errno.{Errno}
 use Rattle.fx_base.specs.declared.errno.Errno.TheVariants.{ENOMEM}
 use Rattle.fx_base.specs.declared.open_file.Closed.{Closed}
+use Rattle.fx_calls.specs.InRange.{AreInRange}
 use Rattle.fx_chain.specs.Answers.{is_bad_entry}
 use Rattle.fx_chain.specs.Completed.{negated}
 use Rattle.fx_plain.specs.declared.table.TheConstants.{MOST_SLOTS}
 use Rattle.fx_order.specs.Access.{Table}
-use Rattle.fx_order.specs.Slots.{table_of_slots}
+use Rattle.fx_order.specs.Slots.{ring_with_slots, table_of_slots}
 use Rattle.fx_order.specs.declared.slots.Slots.{Slots}
 use Rattle.fx_ring.specs.Registration.{files_after, is_bad_file, range_refusal, register_refusal, registered, registered_sparse, removed_from}
 use Rattle.fx_ring.specs.Registration.{sparse_refusal, unregister_refusal, update_refusal, updated}
@@ -23,9 +24,8 @@ use Rattle.fx_ring.proofs.Origins.{registered_rings, updated_rings}
 use Rattle.fx_ring.proofs.Rings.{none_rings}
 use Rattle.fx_language.specs.Instruction.{MakesSparse, RegistersList, SetsRange, Unregisters, UpdatesRing}
 use Rattle.fx_script.specs.Text.{closes_text, result_line}
-use Rattle.fx_judge.specs.Verdict.{ring_with_slots}
-use Rattle.fx_judge.specs.declared.told.RingSlots.{RingSlots}
-use Rattle.fx_check.specs.Kept.{AreInRange, IsKept}
+use Rattle.fx_order.specs.declared.ring_slots.RingSlots.{RingSlots}
+use Rattle.fx_check.specs.Kept.{IsKept}
 use Rattle.fx_check.specs.Met.{IsMet, IsStep}
 use Rattle.fx_check.specs.declared.met.Met.{Met}
 use Rattle.fx_check.specs.declared.met.Met.TheVariants.{Here}

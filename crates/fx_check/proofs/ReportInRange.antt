@@ -6,6 +6,7 @@ use Rattle.fx_base.specs.Name.{is_name}
 use Rattle.fx_base.specs.Tags.{tag_completion, tags_of}
 use Rattle.fx_base.specs.declared.open_file.Closed.{Closed}
 use Rattle.fx_base.specs.declared.tag_completion.TagCompletion.{TagCompletion}
+use Rattle.fx_calls.specs.InRange.{IsInRange}
 use Rattle.fx_chain.specs.Accepted.{IsAccepted}
 use Rattle.fx_chain.specs.Operation.{Asked}
 use Rattle.fx_chain.specs.Runs.{runs_of}
@@ -18,12 +19,12 @@ use Rattle.fx_language.specs.Script.{AreFiles}
 use Rattle.fx_script.specs.Text.{name_of}
 use Rattle.fx_lines.specs.Lines.{AreLinesInRange, IsCloseInRange, is_without, lines_of, named_close}
 use Rattle.fx_lines.proofs.Names.{name_without_end}
-use Rattle.fx_judge.specs.Verdict.{ring_with_slots}
-use Rattle.fx_judge.specs.declared.told.RingSlots.{RingSlots}
-use Rattle.fx_check.specs.Kept.{IsInRange, IsKept}
+use Rattle.fx_order.specs.declared.ring_slots.RingSlots.{RingSlots}
+use Rattle.fx_check.specs.Kept.{IsKept}
 use Rattle.fx_check.specs.Told.{MayClose}
 use Rattle.fx_check.proofs.InRange.{all_got, chains_so, permitted_inside}
 use Rattle.fx_check.proofs.OrderFiles.{closed_in_range, may_close_all, short_runs}
+use Rattle.fx_order.specs.Slots.{ring_with_slots}
 
 entry_at : (catalogue : List FileEntry) (i : ℕ) → i < length catalogue → (file : FileEntry) × (slice_get catalogue i ≡ Some file)
 entry_at [] i inside = absurd (omega arith)

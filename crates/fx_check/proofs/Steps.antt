@@ -6,12 +6,12 @@ use Rattle.fx_base.specs.declared.errno.Errno.TheVariants.{ENOMEM}
 use Rattle.fx_ring.specs.Ring.{RingContents, ring_of}
 use Rattle.fx_language.specs.Instruction.{Instruction}
 use Rattle.fx_script.specs.Play.{Answers, Prints}
-use Rattle.fx_judge.specs.Verdict.{ring_with_slots}
-use Rattle.fx_judge.specs.declared.told.RingSlots.{RingSlots}
+use Rattle.fx_order.specs.declared.ring_slots.RingSlots.{RingSlots}
 use Rattle.fx_check.specs.Met.{IsMet, IsStep}
 use Rattle.fx_check.specs.declared.met.Met.{Met}
 use Rattle.fx_check.specs.declared.met.Met.TheVariants.{Here, Apart}
-use Rattle.fx_check.proofs.Shown.{shown}
+use Rattle.fx_calls.proofs.Shown.{shown}
+use Rattle.fx_order.specs.Slots.{ring_with_slots}
 
 pub refused_so : (x : Option Errno) (accepted : Type 0) (refused : Errno → Type 0) (errno : Errno) → x ≡ Some errno → refused errno
     → Answers x accepted refused

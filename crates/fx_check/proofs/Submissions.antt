@@ -28,19 +28,21 @@ use Rattle.std.proofs.lemmas.Simd.{map-map}
 use Rattle.fx_base.specs.Tags.{tag_completion}
 use Rattle.fx_base.specs.declared.open_file.Closed.{Closed}
 use Rattle.fx_base.specs.declared.tag_completion.TagCompletion.{TagCompletion}
+use Rattle.fx_calls.specs.InRange.{AreInRange}
 use Rattle.fx_lines.specs.ClosedView.{close_of}
 use Rattle.fx_lines.specs.LinesView.{lines_in}
 use Rattle.fx_lines.specs.declared.report.ReportLines.{ReportLines}
 use Rattle.fx_lines.specs.Lines.{Lines, line_of_tag, lines_of, lines_text, named_closes, named_line}
-use Rattle.fx_judge.specs.Verdict.{CameBy, ring_with_slots, told_report}
-use Rattle.fx_judge.specs.declared.told.RingSlots.{RingSlots}
+use Rattle.fx_judge.specs.Verdict.{CameBy, told_report}
+use Rattle.fx_order.specs.declared.ring_slots.RingSlots.{RingSlots}
 use Rattle.fx_judge.specs.declared.told.Told.{Told}
-use Rattle.fx_check.specs.Kept.{AreInRange, IsKept}
+use Rattle.fx_check.specs.Kept.{IsKept}
 use Rattle.fx_check.specs.Ordered.{MayPrintBy}
 use Rattle.fx_check.specs.Places.{ArePlaces}
 use Rattle.fx_order.specs.Requests.{AreChainsDone}
 use Rattle.fx_check.specs.declared.judgement.Order.{Order}
 use Rattle.fx_check.proofs.OrderFiles.{left_in_range}
+use Rattle.fx_order.specs.Slots.{ring_with_slots}
 
 -- the text of a report is that of its lines
 pub printed_lines : (catalogue : List FileEntry) (report : Reported) → report_text catalogue report ≡ lines_text (lines_of catalogue report)

@@ -2,11 +2,11 @@
 use Rattle.std.specs.Prelude.{ℕ, ◌≤◌, List, length, take}
 use Rattle.fx_base.specs.Catalogue.{FileEntry}
 use Rattle.fx_language.specs.Instruction.{Instruction}
-use Rattle.fx_judge.specs.Verdict.{ring_with_slots}
-use Rattle.fx_judge.specs.declared.told.RingSlots.{RingSlots}
+use Rattle.fx_order.specs.declared.ring_slots.RingSlots.{RingSlots}
 use Rattle.fx_check.specs.Ordered.{MayPrintBy}
 use Rattle.fx_check.specs.declared.answer.Answer.{Answer}
 use Rattle.fx_check.specs.declared.answer.Answer.TheVariants.{Printed, Broken, Undecided}
+use Rattle.fx_order.specs.Slots.{ring_with_slots}
 
 -- where the text goes on with what the command may print, by this order if there is one, the ring
 -- is led there

@@ -1,24 +1,13 @@
 -- What is kept of a ring while a text is judged.
-use Rattle.std.specs.Prelude.{◌≡◌, ◌<◌, ◌≤◌, ◌^◌, ℕ, List, length, Option, Some}
+use Rattle.std.specs.Prelude.{◌≤◌, List, length}
 use Rattle.fx_base.specs.Catalogue.{FileEntry}
-use Rattle.fx_base.specs.declared.open_file.Closed.{Closed}
+use Rattle.fx_calls.specs.InRange.{AreInRange}
 use Rattle.fx_plain.specs.declared.table.TheConstants.{MOST_SLOTS}
-use Rattle.fx_order.specs.Slots.{table_of_slots}
-use Rattle.fx_judge.specs.Verdict.{ring_with_slots}
-use Rattle.fx_judge.specs.declared.told.RingSlots.{RingSlots}
+use Rattle.fx_order.specs.Slots.{ring_with_slots, table_of_slots}
+use Rattle.fx_order.specs.declared.ring_slots.RingSlots.{RingSlots}
 use Rattle.fx_ring.specs.Ring.{IsRing}
 use Rattle.fx_ring.specs.declared.ring.TheConstants.{MOST_REGISTRATIONS, MOST_SUBMISSIONS}
 use Rattle.fx_language.specs.Script.{AreFiles}
-use Rattle.fx_lines.specs.Lines.{IsMarkInRange}
-
--- the numbers of a file's mark, and its tag, are those that their types have
-pub record IsInRange (file : Closed) : Type 0 where
-  pub mark : IsMarkInRange file.mark
-  pub tag : file.tag < 2 ^ 64
-
--- so are those of the file at each slot
-abbrev pub AreInRange : (ℕ → Option Closed) → Type 0
-AreInRange at = (slot : ℕ) (file : Closed) → at slot ≡ Some file → IsInRange file
 
 -- its counts and its table are within their limits, it is what every ring is, and its catalogue is
 -- that of a script

@@ -4,10 +4,10 @@ use Rattle.fx_base.specs.Catalogue.{FileEntry}
 use Rattle.fx_ring.specs.Ring.{RingContents, RingState, ring_of}
 use Rattle.fx_language.specs.Instruction.{Instruction}
 use Rattle.fx_script.specs.Play.{Prints}
-use Rattle.fx_judge.specs.Verdict.{ring_with_slots}
 use Rattle.fx_check.specs.declared.met.Met.{Met}
 use Rattle.fx_check.specs.declared.met.Met.TheVariants.{Here, Apart}
-use Rattle.fx_judge.specs.declared.told.RingSlots.{RingSlots}
+use Rattle.fx_order.specs.declared.ring_slots.RingSlots.{RingSlots}
+use Rattle.fx_order.specs.Slots.{ring_with_slots}
 
 -- the text begins with so many bytes, which are this line
 pub record BeginsWith (text : List ℕ) (count : ℕ) (line : List ℕ) : Type 0 where

@@ -5,12 +5,12 @@ use Rattle.fx_ring.specs.Ring.{RingContents, RingState, ring_of}
 use Rattle.fx_language.specs.Instruction.{Instruction}
 use Rattle.fx_script.specs.Play.{Prints}
 use Rattle.fx_lines.specs.Lines.{HasNoCloses}
-use Rattle.fx_judge.specs.Verdict.{ring_with_slots}
-use Rattle.fx_judge.specs.declared.told.RingSlots.{RingSlots}
+use Rattle.fx_order.specs.declared.ring_slots.RingSlots.{RingSlots}
 use Rattle.fx_check.specs.declared.answer.Answer.{Answer}
 use Rattle.fx_check.specs.declared.answer.Answer.TheVariants.{Printed, Broken, Undecided}
 use Rattle.fx_check.specs.declared.met.Met.{Met}
 use Rattle.fx_check.specs.declared.met.Met.TheVariants.{Here, Apart}
+use Rattle.fx_order.specs.Slots.{ring_with_slots}
 
 -- a ring of this state is led to the next one by the command, and the text is what that prints and
 -- then the others

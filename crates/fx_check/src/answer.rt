@@ -1,7 +1,7 @@
 ghost use Rattle.std.specs.Prelude.{◌≡◌, ℕ, List};
 ghost use Rattle.fx_base.specs.Catalogue.{FileEntry};
 ghost use Rattle.fx_language.specs.Instruction.{Instruction};
-ghost use Rattle.fx_judge.specs.declared.told.RingSlots.{RingSlots};
+ghost use Rattle.fx_order.specs.declared.ring_slots.RingSlots.{RingSlots};
 ghost use Rattle.fx_check.specs.Answer.{IsAnswer};
 ghost use Rattle.fx_check.specs.Met.{IsStep};
 ghost use Rattle.fx_check.specs.Only.{IsOnlyAnswer, IsOnlyStep};

@@ -1,5 +1,5 @@
-use fx_judge::{Doubt, Reason, RingSlots};
-use fx_order::ChainAccess;
+use fx_judge::{Doubt, Reason};
+use fx_order::{ChainAccess, RingSlots};
 
 /// Which request makes an access of an order.
 #[derive(Clone, Copy, Debug, PartialEq, Eq)]

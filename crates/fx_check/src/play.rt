@@ -4,15 +4,15 @@ ghost use Rattle.fx_base.specs.Catalogue.{FileEntry};
 ghost use Rattle.fx_ring.specs.Ring.{new_ring};
 ghost use Rattle.fx_language.specs.Instruction.{instruction_of};
 ghost use Rattle.fx_script.specs.Play.{PrintsEnd};
-ghost use Rattle.fx_judge.specs.Verdict.{ring_with_slots};
 ghost use Rattle.fx_check.specs.Answer.{IsAnswer};
 ghost use Rattle.fx_check.specs.Judged.{IsJudged};
 ghost use Rattle.fx_check.specs.Kept.{IsKept};
 ghost use Rattle.fx_check.specs.Only.{IsOnlyAnswer};
 ghost use Rattle.fx_language.specs.Script.{AreFiles};
+ghost use Rattle.fx_order.specs.Slots.{ring_with_slots};
 
 use crate::answer::Answer;
-use crate::closes::{close_in_order, files_at};
+use fx_calls::{close_in_order, files_at};
 use crate::judgement::{Break, Fault, Judgement};
 use crate::met::{Met, meet};
 use crate::registration::{
@@ -20,9 +20,8 @@ use crate::registration::{
 };
 use crate::submission::play_submission;
 use fx_base::{Catalogue, NoMemory};
-use fx_judge::RingSlots;
 use fx_language::{Command, Script};
-use fx_order::{Limits, Slots};
+use fx_order::{Limits, RingSlots, Slots};
 use fx_script::teardown_text;
 use std::alloc::Global;
 

@@ -8,15 +8,13 @@ ghost use Rattle.fx_check.specs.Met.{IsMet, IsStep};
 ghost use Rattle.fx_check.specs.Only.{IsOnlyStep};
 ghost use Rattle.fx_check.specs.Kept.{IsKept};
 
-use crate::closes::{close_in_order, files_at};
-use crate::list::{apply_list, empty_slots};
 use crate::met::{Met, meet, meet_refusal, meet_result};
-use crate::refusal::{
-    range_refusal, register_refusal, sparse_refusal, unregister_refusal, update_refusal,
-};
 use fx_base::{Catalogue, Errno, NoMemory};
-use fx_judge::RingSlots;
-use fx_order::Slots;
+use fx_calls::{
+    apply_list, close_in_order, empty_slots, files_at, range_refusal, register_refusal,
+    sparse_refusal, unregister_refusal, update_refusal,
+};
+use fx_order::{RingSlots, Slots};
 use fx_script::{result_line, with_closes};
 use std::alloc::Global;
 

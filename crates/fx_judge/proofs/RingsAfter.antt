@@ -10,6 +10,3 @@ order_rings old left requests report ring none few accepted one =
     let h = each_order_is_a_history (ring_with_files old) requests report left (subst (λ (r : RingState). r.size ≤ 256) (sym is) few) accepted
     (subst (λ (r : RingState). IsOneOrder r requests report left) (sym is) one) in
     subst IsRing h.1 (submitted_rings (ring_with_files old) h.0 requests report (subst IsRing (sym is) ring) h.2)
-
-pub none_past : (catalogue : List FileEntry) (ring : RingSlots) → NonePast (ring_with_slots catalogue ring).size (ring_with_slots catalogue ring).at
-none_past catalogue ring slot past = get_or-eq_default ring.slots.at.items None past

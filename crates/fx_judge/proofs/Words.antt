@@ -28,7 +28,7 @@ pub use Rattle.fx_judge.specs.Packed.{all_unpacked, file_at, numbered_cells, unp
 pub use Rattle.fx_judge.specs.Played.{HasNoOrder, IsCell, IsOutcome, IsPlayed, ShowsFile}
 pub use Rattle.fx_judge.specs.Starts.{starting}
 pub use Rattle.fx_judge.specs.Strands.{AreStrands, has_slot, keeps, seen, slot_of, strand_for}
-pub use Rattle.fx_judge.specs.Verdict.{CameBy, IsRefuted, IsToldOutcome, ring_with_slots, told_report}
+pub use Rattle.fx_judge.specs.Verdict.{CameBy, IsRefuted, IsToldOutcome, told_report}
 pub use Rattle.fx_judge.specs.declared.cell.Cell.{Cell}
 pub use Rattle.fx_judge.specs.declared.chain.MemberClaims.{MemberClaims}
 pub use Rattle.fx_judge.specs.declared.claim.Claim.{Claim}
@@ -45,7 +45,7 @@ pub use Rattle.fx_judge.specs.declared.part.Outcome.TheVariants.{Order, Unsettle
 pub use Rattle.fx_judge.specs.declared.stop.Stop.{Stop}
 pub use Rattle.fx_judge.specs.declared.stop.Stop.TheVariants.{NoMemory, Refuted, Unknown}
 pub use Rattle.fx_judge.specs.declared.strand.Strand.{Strand}
-pub use Rattle.fx_judge.specs.declared.told.RingSlots.{RingSlots}
+pub use Rattle.fx_order.specs.declared.ring_slots.RingSlots.{RingSlots}
 pub use Rattle.fx_judge.specs.declared.told.Told.{Told}
 pub use Rattle.fx_order.proofs.Histories.{each_order_is_a_history}
 pub use Rattle.fx_order.proofs.OneRing.{no_file_that_stays_is_closed}
@@ -56,7 +56,7 @@ pub use Rattle.fx_order.specs.Access.{table_after, table_with}
 pub use Rattle.fx_order.specs.Order.{IsOneOrder, table_of}
 pub use Rattle.fx_order.specs.Requests.{AreChainsDone, AreEntriesDone, IsChainDone, IsCloseDone, IsEntryDone, IsOpenDone, IsReadDone, IsRefused}
 pub use Rattle.fx_order.specs.Requests.{IsRequestDone, IsUpdateDone, Makes, gives}
-pub use Rattle.fx_order.specs.Slots.{table_of_slots}
+pub use Rattle.fx_order.specs.Slots.{ring_with_slots, table_of_slots}
 pub use Rattle.fx_order.specs.declared.access.Access.{Access}
 pub use Rattle.fx_order.specs.declared.access.Access.TheVariants.{Allocates, Clears, FindsFull, Looks, Puts, Takes}
 pub use Rattle.fx_order.specs.declared.access.ChainAccess.{ChainAccess}

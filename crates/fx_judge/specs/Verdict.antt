@@ -1,24 +1,16 @@
 -- What a verdict on a submission says.
 use Rattle.std.specs.Prelude.{◌≡◌, ℕ, ◌+◌, List}
-use Rattle.fx_base.specs.Catalogue.{FileEntry}
 use Rattle.fx_chain.specs.Completed.{all_completed}
 use Rattle.fx_chain.specs.Operation.{Asked}
 use Rattle.fx_ring.specs.Ring.{RingState}
 use Rattle.fx_ring.specs.Submission.{Reported}
 use Rattle.fx_order.specs.Order.{IsOneOrder}
-use Rattle.fx_order.specs.Slots.{ring_of_slots}
 use Rattle.fx_order.specs.declared.access.ChainAccess.{ChainAccess}
 use Rattle.fx_judge.specs.declared.part.Outcome.{Outcome}
 use Rattle.fx_judge.specs.declared.part.Outcome.TheVariants.{Order, Refuted, Unsettled}
-use Rattle.fx_judge.specs.declared.told.RingSlots.{RingSlots}
 use Rattle.fx_judge.specs.declared.told.Told.{Told}
 use Rattle.fx_judge.specs.declared.verdict.Verdict.{Verdict}
 use Rattle.fx_judge.specs.declared.verdict.Verdict.TheVariants.{Legal, NotLegal, Undecided}
-
--- the ring with this catalogue that has these slots and counts
-abbrev pub ring_with_slots : List FileEntry → RingSlots → RingState
-ring_with_slots catalogue ring =
-    ring_of_slots catalogue ring.slots ring.submissions ring.registrations
 
 -- what was told of a submission, as a report; the room of its list of closes may be any
 abbrev pub told_report : RingState → Told → ℕ → Reported

@@ -5,18 +5,18 @@ ghost use Rattle.fx_plain.specs.declared.table.TheConstants.{MOST_SLOTS};
 ghost use Rattle.fx_chain.specs.Accepted.{IsAccepted};
 ghost use Rattle.fx_chain.specs.Operation.{all_asked};
 ghost use Rattle.fx_ring.specs.Ring.{IsRing};
-ghost use Rattle.fx_order.specs.Slots.{table_of_slots};
-ghost use Rattle.fx_judge.specs.Verdict.{CameBy, IsToldOutcome, IsVerdict, ring_with_slots};
+ghost use Rattle.fx_order.specs.Slots.{ring_with_slots, table_of_slots};
+ghost use Rattle.fx_judge.specs.Verdict.{CameBy, IsToldOutcome, IsVerdict};
 
 use crate::chain::{Parts, claims_of_chains};
 use crate::part::{Outcome, TableTold, judge_table};
 use crate::request::Setting;
 use crate::stop::Stop;
-use crate::told::{RingSlots, Told};
+use crate::told::Told;
 use crate::verdict::{Doubt, Reason, Verdict};
 use fx_base::{Catalogue, Closed, NoMemory};
 use fx_chain::{Request, cut};
-use fx_order::{ChainAccess, Limits, Slots, are_chains_done, are_closed, make_all};
+use fx_order::{ChainAccess, Limits, RingSlots, Slots, are_chains_done, are_closed, make_all};
 use std::alloc::Global;
 
 // Whether each access is of one of so many chains.

@@ -27,5 +27,5 @@ mod update;
 mod verdict;
 
 pub use judge::judge_submission;
-pub use told::{RingSlots, Told};
+pub use told::Told;
 pub use verdict::{Doubt, Reason, Verdict};

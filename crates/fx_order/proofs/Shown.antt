@@ -1,8 +1,10 @@
 -- A ring with files at its slots, and none past them, is what a table shows.
-use Rattle.fx_order.proofs.Words.{◌≡◌, inl, inr, ℕ, zero, suc, ◌<◌, ◌≤◌, List, [], ◌∷◌, length, refl, sym, ap, ◌∙◌, arith, Option, Some, None}
+use Rattle.fx_order.proofs.Words.{◌≡◌, inl, inr, ℕ, zero, suc, ◌<◌, ◌≤◌, List, [], ◌∷◌, length, refl, sym, ap, ◌∙◌, arith, Option, Some, None, FileEntry}
 use Rattle.fx_order.proofs.Words.{slice_index_or, if◌then◌else◌, cases_lt, Closed, Contents, state_of, file_at, placed_at, node_at, moved_node}
 use Rattle.fx_order.proofs.Words.{changed_at, identity_of, by_equality, RingContents, RingState, ring_of, Table, Looks, Puts, Clears, Takes}
 use Rattle.fx_order.proofs.Words.{Allocates, FindsFull, PermitsAll, table_with, table_after, Access, get_or-eq_default, Node}
+use Rattle.fx_order.specs.Slots.{ring_with_slots}
+use Rattle.fx_order.specs.declared.ring_slots.RingSlots.{RingSlots}
 
 -- the first so many values of a function
 pub listed : {X : Type 0} → (ℕ → X) → ℕ → List X
@@ -98,3 +100,6 @@ none_past_accesses table (Takes slot removed ∷ accesses) may none =
 none_past_accesses table (Allocates slot file ∷ accesses) may none =
     none_past_accesses (table_with table (Allocates slot file)) accesses may.1 (none_past_change table.size slot table.at (Some file) may.0.0.0 none)
 none_past_accesses table (FindsFull ∷ accesses) may none = none_past_accesses table accesses may.1 none
+
+pub none_past : (catalogue : List FileEntry) (ring : RingSlots) → NonePast (ring_with_slots catalogue ring).size (ring_with_slots catalogue ring).at
+none_past catalogue ring slot past = get_or-eq_default ring.slots.at.items None past

@@ -4,6 +4,7 @@ use Rattle.fx_base.specs.Identity.{Identity}
 use Rattle.fx_base.specs.Catalogue.{FileEntry}
 use Rattle.fx_ring.specs.Ring.{RingState}
 use Rattle.fx_order.specs.Access.{Table}
+use Rattle.fx_order.specs.declared.ring_slots.RingSlots.{RingSlots}
 use Rattle.fx_order.specs.declared.slots.Slots.{Slots}
 
 abbrev pub table_of_slots : Slots → Table
@@ -27,3 +28,8 @@ ring_of_slots catalogue slots submissions registrations = record {
   submissions = submissions;
   registrations = registrations;
 }
+
+-- the ring with this catalogue that has these slots and counts
+abbrev pub ring_with_slots : List FileEntry → RingSlots → RingState
+ring_with_slots catalogue ring =
+    ring_of_slots catalogue ring.slots ring.submissions ring.registrations

@@ -21,10 +21,9 @@ use Rattle.fx_ring.specs.declared.ring.TheConstants.{MOST_REGISTRATIONS, MOST_SU
 use Rattle.fx_ring.proofs.Origins.{registered_rings, updated_rings}
 use Rattle.fx_ring.proofs.Rings.{counted_still, none_rings}
 use Rattle.fx_ring.proofs.SubmittedRing.{submitted_rings}
-use Rattle.fx_judge.proofs.RingsAfter.{none_past}
-use Rattle.fx_judge.specs.Verdict.{ring_with_slots}
 use Rattle.fx_language.specs.Instruction.{Instruction, MakesSparse, RegistersList, SetsRange, SubmitsAll, Unregisters, UpdatesRing}
-use Rattle.fx_order.proofs.Shown.{ring_with_files, shows_ring}
+use Rattle.fx_order.proofs.Shown.{none_past, ring_with_files, shows_ring}
+use Rattle.fx_order.specs.Slots.{ring_with_slots}
 use Rattle.fx_script.specs.Play.{Answers, IsRefused, PrintsReport}
 use Rattle.fx_script.specs.Text.{refused_line, too_many_line}
 use Rattle.fx_texts.specs.Rings.{Leads, LeadsAll, MayLeadAllTo, MayLeadTo, Stage, stage_of}

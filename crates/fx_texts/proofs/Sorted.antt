@@ -8,7 +8,7 @@ use Rattle.fx_base.specs.CloseList.{IsInOrderOfMark}
 use Rattle.fx_base.specs.CloseListView.{CloseListView}
 use Rattle.fx_base.specs.declared.open_file.Closed.{Closed}
 use Rattle.fx_ring.specs.Ring.{HasClosed}
-use Rattle.fx_check.proofs.ClosesInOrder.{is_below, is_order, same_cmp}
+use Rattle.fx_calls.proofs.ClosesInOrder.{is_below, is_order, same_cmp}
 
 abbrev IsNotAbove : Closed → List Closed → Type 0
 IsNotAbove x [] = Unit {0}

@@ -26,7 +26,7 @@ use Rattle.fx_language.specs.Instruction.{Instruction, SubmitsAll}
 use Rattle.fx_script.specs.Play.{Prints, PrintsReport}
 use Rattle.fx_script.specs.Text.{closes_text, completion_lines, refused_line, report_text, too_many_line}
 use Rattle.fx_chain.specs.Accepted.{IsAccepted}
-use Rattle.fx_check.proofs.ClosesInOrder.{one_close_list}
+use Rattle.fx_calls.proofs.ClosesInOrder.{one_close_list}
 use Rattle.fx_order.proofs.OneRing.{each_closed_file_is_known}
 use Rattle.fx_order.specs.Laws.{AreKnown}
 use Rattle.fx_order.specs.Order.{ring_left}

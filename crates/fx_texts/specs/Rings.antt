@@ -10,7 +10,6 @@ use Rattle.fx_chain.specs.Faults.{fault_of}
 use Rattle.fx_chain.specs.Operation.{Asked, all_asked}
 use Rattle.fx_chain.specs.declared.completion.Place.{Place}
 use Rattle.fx_chain.specs.declared.fault.CutFault.{CutFault}
-use Rattle.fx_judge.specs.Verdict.{ring_with_slots}
 use Rattle.fx_order.specs.declared.slots.Slots.{Slots}
 use Rattle.fx_answers.specs.Outcomes.{ring_behind}
 use Rattle.fx_answers.specs.declared.report.PossibleReport.{PossibleReport}
@@ -23,6 +22,7 @@ use Rattle.fx_ring.specs.Tags.{tags_given}
 use Rattle.fx_ring.specs.declared.ring.TheConstants.{MOST_SUBMISSIONS}
 use Rattle.fx_language.specs.Instruction.{Instruction, MakesSparse, RegistersList, Unregisters}
 use Rattle.fx_language.specs.Instruction.{SetsRange, UpdatesRing, SubmitsAll, instructions_of}
+use Rattle.fx_order.specs.Slots.{ring_with_slots}
 use Rattle.fx_script.specs.Play.{Prints, PrintsClosed, PrintsEnd}
 use Rattle.fx_script.specs.Text.{refused_line, report_text, result_line, too_many_line}
 use Rattle.fx_texts.specs.Texts.{FoundMemory, IsReportFound, PrintsAllFound}

@@ -6,9 +6,9 @@ ghost use Rattle.fx_base.specs.CloseListView.{CloseListView};
 ghost use Rattle.fx_chain.specs.Completed.{negated};
 ghost use Rattle.fx_chain.specs.Faults.{fault_of};
 ghost use Rattle.fx_chain.specs.Operation.{all_asked};
-ghost use Rattle.fx_judge.specs.Verdict.{ring_with_slots};
 ghost use Rattle.fx_language.specs.Instruction.{MakesSparse, RegistersList, SetsRange};
 ghost use Rattle.fx_language.specs.Instruction.{Unregisters, UpdatesRing, instruction_of};
+ghost use Rattle.fx_order.specs.Slots.{ring_with_slots};
 ghost use Rattle.fx_plain.specs.declared.table.TheConstants.{MOST_SLOTS};
 ghost use Rattle.fx_ring.specs.Ring.{HasClosed, IsRing};
 ghost use Rattle.fx_script.specs.Text.{closes_text, refused_line, result_line, too_many_line};
@@ -17,13 +17,12 @@ ghost use Rattle.fx_texts.specs.Rings.{IsLineOf, after_call};
 use crate::setting::Setting;
 use fx_base::{Closed, Errno, NoMemory};
 use fx_chain::{Request, check};
-use fx_check::{
+use fx_calls::{
     apply_list, close_in_order, empty_slots, files_at, range_refusal, register_refusal,
     sparse_refusal, unregister_refusal, update_refusal,
 };
-use fx_judge::RingSlots;
 use fx_language::Command;
-use fx_order::Slots;
+use fx_order::{RingSlots, Slots};
 use fx_script::{refused_line, result_line, too_many_line, with_closes};
 
 /// What a call leaves, and what it prints.

@@ -1,14 +1,13 @@
 //! Lists of rings, each of which stands there once.
 ghost use Rattle.std.specs.Prelude.{◌≡◌, IfOk, IsTrue, List, OnOk, Contains, length};
 ghost use Rattle.fx_base.specs.Catalogue.{FileEntry};
-ghost use Rattle.fx_judge.specs.Verdict.{ring_with_slots};
+ghost use Rattle.fx_order.specs.Slots.{ring_with_slots};
 ghost use Rattle.fx_texts.specs.Rings.{Grows, stage_of, stages_of};
 
 use crate::reached::Reached;
 use crate::setting::Setting;
 use fx_base::{Closed, NoMemory};
-use fx_judge::RingSlots;
-use fx_order::Slots;
+use fx_order::{RingSlots, Slots};
 use std::alloc::Global;
 
 /// The same ring once more.

@@ -1,7 +1,7 @@
 //! That a ring can go on to the end of the script.
 ghost use Rattle.std.specs.Prelude.{IfOk, IfSome, IsTrue};
 ghost use Rattle.fx_language.specs.Instruction.{instruction_of, instructions_of};
-ghost use Rattle.fx_judge.specs.Verdict.{ring_with_slots};
+ghost use Rattle.fx_order.specs.Slots.{ring_with_slots};
 ghost use Rattle.fx_ring.specs.Ring.{IsRing};
 ghost use Rattle.fx_texts.specs.Rings.{MayEnd, MayLeadTo, stage_of};
 

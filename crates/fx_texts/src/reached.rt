@@ -2,8 +2,7 @@
 ghost use Rattle.std.specs.Prelude.{◌≤◌, length};
 ghost use Rattle.fx_plain.specs.declared.table.TheConstants.{MOST_SLOTS};
 
-use fx_judge::RingSlots;
-use fx_order::ChainAccess;
+use fx_order::{ChainAccess, RingSlots};
 
 /// An order of an accepted submission, and where the one of the submission before it is kept, if there is one.
 #[derive(Debug, Drop)]

@@ -10,9 +10,8 @@ use crate::next::{both, push_next};
 use crate::reached::{Past, Reached};
 use crate::setting::Setting;
 use fx_base::NoMemory;
-use fx_judge::RingSlots;
 use fx_language::Command;
-use fx_order::Slots;
+use fx_order::{RingSlots, Slots};
 use std::alloc::Global;
 
 /// Rings that commands may lead to.

@@ -3,10 +3,9 @@ ghost use Rattle.std.specs.Prelude.{◌≡◌, ◌+◌, ◌<◌, ◌≤◌, IfOk
 ghost use Rattle.fx_chain.specs.Completed.{completed_of};
 ghost use Rattle.fx_chain.specs.Operation.{all_asked};
 ghost use Rattle.fx_language.specs.Instruction.{instructions_of};
-ghost use Rattle.fx_order.specs.Slots.{ring_of_slots};
+ghost use Rattle.fx_order.specs.Slots.{ring_of_slots, ring_with_slots};
 ghost use Rattle.fx_plain.specs.declared.table.TheConstants.{MOST_SLOTS};
 ghost use Rattle.fx_ring.specs.declared.ring.TheConstants.{MOST_SUBMISSIONS};
-ghost use Rattle.fx_judge.specs.Verdict.{ring_with_slots};
 ghost use Rattle.fx_ring.specs.Ring.{IsRing};
 ghost use Rattle.fx_texts.specs.Rings.{AreRings, AreSaidFrom, Grows, HasEachSaid, HasEachSaidFrom};
 ghost use Rattle.fx_texts.specs.Rings.{MayEnd, MaySay, said_in, stages_of};
@@ -19,9 +18,8 @@ use crate::setting::Setting;
 use fx_answers::{Answer, Question, may_answer};
 use fx_base::NoMemory;
 use fx_chain::Completion;
-use fx_judge::RingSlots;
 use fx_language::Command;
-use fx_order::Slots;
+use fx_order::{RingSlots, Slots};
 use std::alloc::Global;
 
 /// What a request may answer.

@@ -1,8 +1,8 @@
 //! Every text of a script.
 ghost use Rattle.std.specs.Prelude.{◌≡◌, All, Contains, IfOk, IsTrue, List, OnOk, map};
+ghost use Rattle.fx_order.specs.Slots.{ring_with_slots};
 ghost use Rattle.std.specs.Prelude.{string_bytes, string_eq, true, ℕ};
 ghost use Rattle.indexmap.specs.IndexSet.{IsUnique};
-ghost use Rattle.fx_judge.specs.Verdict.{ring_with_slots};
 ghost use Rattle.fx_ring.specs.Ring.{IsRing};
 ghost use Rattle.fx_texts.specs.Rings.{AreRings, EndsAs, Grows, HasEachText, IsTextAt};
 ghost use Rattle.fx_texts.specs.Rings.{stage_of, stages_of};
@@ -13,7 +13,7 @@ use crate::reached::{Past, Reached};
 use crate::rings::after_all;
 use crate::setting::Setting;
 use fx_base::NoMemory;
-use fx_check::{close_in_order, files_at};
+use fx_calls::{close_in_order, files_at};
 use fx_language::Script;
 use fx_order::Limits;
 use fx_script::teardown_text;

@@ -8,7 +8,6 @@ use Rattle.fx_ring.specs.Ring.{RingState, new_ring}
 use Rattle.fx_language.specs.Instruction.{Instruction, instruction_of, instructions_of}
 use Rattle.fx_script.specs.Play.{PrintsEnd}
 use Rattle.fx_language.specs.declared.command.Command.{Command}
-use Rattle.fx_judge.specs.Verdict.{ring_with_slots}
 use Rattle.fx_check.specs.Answer.{IsAnswer}
 use Rattle.fx_check.specs.Judged.{MayPrintFront}
 use Rattle.fx_check.specs.Ordered.{IsTextBy, MayPrintAllBy, MayPrintBy}
@@ -21,6 +20,7 @@ use Rattle.fx_check.proofs.OnePlay.{CanPrintAll, begins, ended, further, no_furt
 use Rattle.fx_check.proofs.Plays.{is_text, may_print, one_further, whole_text}
 use Rattle.fx_check.proofs.play.judge.Goals.{in-Some+in_ok-push-in-Printed, in_default}
 use Rattle.fx_check.proofs.play.judge.Goals as goal
+use Rattle.fx_order.specs.Slots.{ring_with_slots}
 
 pub loop-done-init : goal.loop-done-init
 loop-done-init c = record {

@@ -1,6 +1,5 @@
 use Rattle.std.proofs.Common.{◌≤◌, ◌++◌, List, drop, length, take}
 use Rattle.fx_ring.specs.Ring.{new_ring}
-use Rattle.fx_judge.specs.Verdict.{ring_with_slots}
 use Rattle.fx_language.specs.Instruction.{instructions_of}
 use Rattle.fx_script.specs.Play.{IsText}
 use Rattle.fx_check.specs.Kept.{IsKept}
@@ -10,6 +9,7 @@ use Rattle.fx_check.proofs.Beginnings.{GoesAlong}
 use Rattle.fx_check.proofs.Fronts.{GoesBack}
 use Rattle.fx_check.proofs.OnePlay.{CanPrintAll}
 use Rattle.fx_check.proofs.play.judge.Given as goal
+use Rattle.fx_order.specs.Slots.{ring_with_slots}
 
 abbrev pub invariant-loop-done : goal.invariant-loop-done
 invariant-loop-done l = record {

@@ -1,7 +1,7 @@
 use Rattle.std.proofs.Common.{sym}
 use Rattle.fx_check.proofs.Registrations.{range_goes}
 use Rattle.fx_check.proofs.OnlyRegistrations.{range_only, range_refused_only}
-use Rattle.fx_check.proofs.Entries.{if_ok_then}
+use Rattle.fx_calls.proofs.Entries.{if_ok_then}
 use Rattle.fx_check.specs.declared.met.Met.{Met}
 use Rattle.fx_check.specs.Only.{IsOnlyStep}
 use Rattle.fx_language.specs.Instruction.{SetsRange}

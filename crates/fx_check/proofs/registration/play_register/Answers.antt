@@ -1,7 +1,7 @@
 use Rattle.std.proofs.Common.{sym, option_map}
 use Rattle.fx_base.specs.declared.catalogue.TheConstants.{MOST_ENTRIES}
 use Rattle.std.proofs.Common.{length}
-use Rattle.fx_check.proofs.Entries.{good_registered, if_ok_then}
+use Rattle.fx_calls.proofs.Entries.{good_registered, if_ok_then}
 use Rattle.fx_check.proofs.Registrations.{register_goes, register_keeps, register_stays}
 use Rattle.fx_check.proofs.OnlyRegistrations.{register_apart, register_here, register_refused}
 use Rattle.fx_check.specs.Met.{IsMet}

@@ -1,7 +1,7 @@
 use Rattle.std.proofs.Common.{sym}
 use Rattle.fx_check.proofs.Registrations.{sparse_goes, sparse_keeps}
 use Rattle.fx_check.proofs.OnlyRegistrations.{sparse_apart, sparse_here, sparse_refused}
-use Rattle.fx_check.proofs.Entries.{if_ok_then}
+use Rattle.fx_calls.proofs.Entries.{if_ok_then}
 use Rattle.fx_check.specs.Met.{IsMet}
 use Rattle.fx_script.specs.Text.{result_line}
 use Rattle.std.proofs.Common.{codes, pos, subst}

@@ -7,7 +7,7 @@ use Rattle.fx_lines.specs.LinesView.{front_of, lines_in}
 use Rattle.fx_lines.specs.declared.report.ReportLines.{ReportLines}
 use Rattle.std.specs.Global.{Vec}
 use Rattle.fx_order.specs.declared.access.ChainAccess.{ChainAccess}
-use Rattle.fx_judge.specs.Verdict.{CameBy, IsVerdict, ring_with_slots}
+use Rattle.fx_judge.specs.Verdict.{CameBy, IsVerdict}
 use Rattle.fx_judge.specs.declared.told.Told.{Told}
 use Rattle.fx_judge.specs.declared.verdict.Verdict.{Verdict}
 use Rattle.fx_chain.specs.Completed.{all_completed}
@@ -19,6 +19,7 @@ use Rattle.fx_check.specs.declared.judgement.Order.{Order}
 use Rattle.fx_check.proofs.OnlyAccepted.{none_ordered, none_read, none_told, one_ordered}
 use Rattle.fx_check.proofs.Submissions.{IsOrdered, PlacesAt, accepted_goes, accepted_keeps, ordered_done, ordered_is, kept_still, same_slots}
 use Rattle.fx_check.proofs.submission.play_accepted.Goals as goal
+use Rattle.fx_order.specs.Slots.{ring_with_slots}
 
 pub order_of-requires-clause-few_slots : goal.order_of-requires-clause-few_slots
 order_of-requires-clause-few_slots c =

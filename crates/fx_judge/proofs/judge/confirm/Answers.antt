@@ -1,8 +1,9 @@
 use Rattle.fx_judge.proofs.Words.{◌≡◌, ℕ, ◌+◌, ◌≤◌, ◌∙◌, length, map, refl, ap, subst, All, arith, length-map, members_of, all_asked, runs_of}
 use Rattle.fx_judge.proofs.Words.{Table, table_after, accesses_of, ring_with_slots, told_report}
 use Rattle.fx_judge.proofs.Came.{came}
-use Rattle.fx_judge.proofs.RingsAfter.{order_rings, none_past}
+use Rattle.fx_judge.proofs.RingsAfter.{order_rings}
 use Rattle.fx_judge.proofs.judge.confirm.Goals as goal
+use Rattle.fx_order.proofs.Shown.{none_past}
 
 pub returns-clause-came : goal.returns-clause-came
 returns-clause-came c = λ yes.

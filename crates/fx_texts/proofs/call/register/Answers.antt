@@ -1,6 +1,6 @@
 use Rattle.std.proofs.Common.{length}
 use Rattle.fx_base.specs.declared.catalogue.TheConstants.{MOST_ENTRIES}
-use Rattle.fx_check.proofs.Entries.{good_registered}
+use Rattle.fx_calls.proofs.Entries.{good_registered}
 use Rattle.fx_texts.proofs.call.register.Goals as goal
 
 pub apply_list-requires-clause-good : goal.apply_list-requires-clause-good

@@ -1,6 +1,6 @@
 use Rattle.std.proofs.Common.{length, ◌∙◌}
 use Rattle.fx_base.specs.declared.catalogue.TheConstants.{MOST_ENTRIES}
-use Rattle.fx_check.proofs.Entries.{all_of_list, few_of_list, good_larger}
+use Rattle.fx_calls.proofs.Entries.{all_of_list, few_of_list, good_larger}
 use Rattle.fx_texts.proofs.call.update.Goals as goal
 
 pub apply_list-requires-clause-good : goal.apply_list-requires-clause-good

@@ -1,7 +1,7 @@
 use Rattle.std.proofs.Common.{◌+◌, List, drop, sym, subst}
+use Rattle.fx_calls.proofs.NextCommand.{next_command}
 use Rattle.std.proofs.Math.ListN.{drop_of_length-le}
 use Rattle.std.specs.Prelude.{IfSome, Option}
-use Rattle.fx_check.proofs.Plays.{next_command}
 use Rattle.fx_language.specs.Instruction.{instruction_of, instructions_of}
 use Rattle.fx_language.specs.declared.command.Command.{Command}
 use Rattle.fx_texts.specs.Rings.{MayEnd, MayLeadTo, stage_of}

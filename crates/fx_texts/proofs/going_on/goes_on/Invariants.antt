@@ -1,6 +1,6 @@
 use Rattle.std.proofs.Common.{drop}
-use Rattle.fx_judge.specs.Verdict.{ring_with_slots}
 use Rattle.fx_language.specs.Instruction.{instructions_of}
+use Rattle.fx_order.specs.Slots.{ring_with_slots}
 use Rattle.fx_ring.specs.Ring.{IsRing}
 use Rattle.fx_texts.specs.Rings.{MayEnd}
 use Rattle.fx_texts.proofs.going_on.goes_on.Given as goal

@@ -1,5 +1,5 @@
 use Rattle.std.proofs.Common.{sym, subst}
-use Rattle.fx_check.proofs.Entries.{if_ok_then}
+use Rattle.fx_calls.proofs.Entries.{if_ok_then}
 use Rattle.fx_language.specs.Instruction.{Instruction}
 use Rattle.fx_texts.specs.Rings.{HasEachNext, stage_of, stages_of}
 use Rattle.fx_texts.proofs.next.push_next.Goals as goal

@@ -3,13 +3,13 @@ use Rattle.std.proofs.Common.{◌≡◌, ℕ, zero, suc, ◌+◌, ◌<◌, ℤ, 
 use Rattle.std.proofs.Common.{Option, Some, None, slice_index_or, drop, append_assoc}
 use Rattle.fx_base.specs.declared.mark.Mark.TheVariants.{Registered}
 use Rattle.fx_base.specs.declared.open_file.Closed.{Closed}
+use Rattle.fx_calls.specs.InRange.{AreInRange, IsInRange}
 use Rattle.fx_plain.specs.Step.{changed_at}
 use Rattle.fx_ring.specs.Registration.{file_after, removed_by, removed_from}
 use Rattle.fx_ring.specs.Tags.{tag_at}
 use Rattle.fx_ring.proofs.ListSteps.{files_upto, upto_here, upto_next, removed_next}
 use Rattle.fx_order.specs.Access.{Table, with_file}
 use Rattle.fx_plain.proofs.Cells.{by_equality}
-use Rattle.fx_check.specs.Kept.{AreInRange, IsInRange}
 
 -- one more empty slot
 pub none_more : (xs : List (Option Closed)) → ((k : ℕ) → slice_index_or xs k None ≡ None) → (k : ℕ) → slice_index_or (xs ++ None ∷ []) k None ≡ None

@@ -6,13 +6,13 @@ use Rattle.std.specs.Option.{option_to_list}
 use Rattle.fx_base.specs.declared.mark.Mark.TheVariants.{Registered}
 use Rattle.fx_base.specs.declared.open_file.Closed.{Closed}
 use Rattle.fx_order.specs.Access.{Table, with_file}
-use Rattle.fx_check.specs.Kept.{AreInRange}
 use Rattle.fx_order.specs.Slots.{table_of_slots}
 use Rattle.fx_ring.specs.Registration.{file_after, files_after, removed_from}
 use Rattle.fx_ring.specs.Tags.{tags_for}
-use Rattle.fx_check.proofs.ListWorked.{in_range_after, one_more, more_removed}
-use Rattle.fx_check.proofs.list.apply_list.Goals.{in-Some+in_ok-push, in_default}
-use Rattle.fx_check.proofs.list.apply_list.Goals as goal
+use Rattle.fx_calls.proofs.ListWorked.{in_range_after, one_more, more_removed}
+use Rattle.fx_calls.proofs.list.apply_list.Goals.{in-Some+in_ok-push, in_default}
+use Rattle.fx_calls.proofs.list.apply_list.Goals as goal
+use Rattle.fx_calls.specs.InRange.{AreInRange}
 
 pub loop-i-init : goal.loop-i-init
 loop-i-init c =

@@ -4,8 +4,8 @@ use Rattle.std.proofs.Math.ListN.{get_or-eq_default}
 use Rattle.fx_base.specs.Catalogue.{FileEntry}
 use Rattle.fx_ring.specs.Ring.{RingContents, ring_of}
 use Rattle.fx_order.proofs.Shown.{ring_with_files, shows_ring}
-use Rattle.fx_judge.specs.Verdict.{ring_with_slots}
-use Rattle.fx_judge.specs.declared.told.RingSlots.{RingSlots}
+use Rattle.fx_order.specs.declared.ring_slots.RingSlots.{RingSlots}
+use Rattle.fx_order.specs.Slots.{ring_with_slots}
 
 pub shown : (catalogue : List FileEntry) (ring : RingSlots) → (next : RingContents) × (ring_of next ≡ ring_with_slots catalogue ring)
 shown catalogue ring = (

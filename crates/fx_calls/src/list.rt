@@ -3,12 +3,12 @@ ghost use Rattle.std.specs.Prelude.{◌≡◌, ℤ, ◌+◌, ◌^◌, ◌<◌, �
 ghost use Rattle.std.specs.List.{list_any};
 ghost use Rattle.std.specs.Option.{option_to_list};
 ghost use Rattle.fx_base.specs.declared.catalogue.TheConstants.{MOST_ENTRIES};
+ghost use Rattle.fx_calls.specs.InRange.{AreInRange};
 ghost use Rattle.fx_chain.specs.Answers.{is_bad_entry};
 ghost use Rattle.fx_ring.specs.Registration.{file_after, files_after, removed_by, removed_from};
 ghost use Rattle.fx_ring.specs.Tags.{tag_at, tags_for};
 ghost use Rattle.fx_order.specs.Access.{with_file};
 ghost use Rattle.fx_order.specs.Slots.{table_of_slots};
-ghost use Rattle.fx_check.specs.Kept.{AreInRange};
 
 use fx_base::{Closed, Mark, NoMemory};
 use fx_order::Slots;

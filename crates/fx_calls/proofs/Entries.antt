@@ -9,15 +9,14 @@ use Rattle.fx_base.specs.Catalogue.{FileEntry}
 use Rattle.fx_base.specs.CloseListView.{CloseListView}
 use Rattle.fx_base.specs.declared.open_file.Closed.{Closed}
 use Rattle.fx_chain.specs.Answers.{is_bad_entry}
-use Rattle.fx_order.specs.Slots.{table_of_slots}
+use Rattle.fx_order.specs.Slots.{ring_with_slots, table_of_slots}
 use Rattle.fx_plain.specs.declared.table.TheConstants.{MOST_SLOTS}
 use Rattle.fx_ring.specs.Registration.{is_bad_file, removed_from}
 use Rattle.fx_ring.specs.Ring.{HasClosed, IsRing, files_in_order}
 use Rattle.fx_ring.proofs.Numbers.{good_files, or_left, or_right}
 use Rattle.fx_ring.proofs.Origins.{few_removed, removed_entries}
 use Rattle.fx_ring.proofs.Rings.{IsEntry, entries_of}
-use Rattle.fx_judge.specs.Verdict.{ring_with_slots}
-use Rattle.fx_judge.specs.declared.told.RingSlots.{RingSlots}
+use Rattle.fx_order.specs.declared.ring_slots.RingSlots.{RingSlots}
 
 abbrev pub AreOf : List FileEntry → List Closed → Type 0
 AreOf catalogue files = All (λ file. file.entry < length catalogue) files

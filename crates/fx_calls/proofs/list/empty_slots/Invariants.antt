@@ -1,5 +1,5 @@
 use Rattle.std.proofs.Common.{◌≡◌, ℕ, None, length, slice_index_or}
-use Rattle.fx_check.proofs.list.empty_slots.Given as goal
+use Rattle.fx_calls.proofs.list.empty_slots.Given as goal
 
 abbrev pub invariant-loop-slot : goal.invariant-loop-slot
 invariant-loop-slot l = record {

@@ -3,8 +3,8 @@ use Rattle.fx_order.specs.Slots.{table_of_slots}
 use Rattle.fx_ring.specs.Registration.{removed_from}
 use Rattle.fx_ring.specs.Tags.{tags_for}
 use Rattle.fx_ring.proofs.ListSteps.{files_upto}
-use Rattle.fx_check.specs.Kept.{AreInRange}
-use Rattle.fx_check.proofs.list.apply_list.Given as goal
+use Rattle.fx_calls.proofs.list.apply_list.Given as goal
+use Rattle.fx_calls.specs.InRange.{AreInRange}
 
 abbrev pub invariant-loop-i : goal.invariant-loop-i
 invariant-loop-i l = record {

@@ -3,14 +3,14 @@ ghost use Rattle.std.specs.Prelude.{◌≡◌, ◌+◌, ◌<◌, ◌≤◌, IfNo
 ghost use Rattle.std.specs.List.{list_any};
 ghost use Rattle.fx_base.specs.declared.catalogue.TheConstants.{MOST_ENTRIES};
 ghost use Rattle.fx_chain.specs.Answers.{is_bad_entry};
+ghost use Rattle.fx_order.specs.Slots.{ring_with_slots};
 ghost use Rattle.fx_ring.specs.declared.ring.TheConstants.{MOST_REGISTRATIONS};
 ghost use Rattle.fx_ring.specs.Registration.{is_bad_file, range_refusal, register_refusal, sparse_refusal, unregister_refusal, update_refusal};
 ghost use Rattle.fx_ring.specs.Tags.{tags_for};
 ghost use Rattle.fx_plain.specs.declared.table.TheConstants.{MOST_SLOTS};
-ghost use Rattle.fx_judge.specs.Verdict.{ring_with_slots};
 
 use fx_base::{Catalogue, Errno};
-use fx_judge::RingSlots;
+use fx_order::RingSlots;
 use fx_plain::MOST_SLOTS;
 use fx_ring::{MOST_REGISTRATIONS, are_bad_tags, has_bad_entry, has_bad_file};
 
