@@ -16,7 +16,8 @@ use Rattle.fx_outcomes.specs.Nodes.{AreAllStates, IsExplored, IsOver, StateView}
 use Rattle.fx_answers.specs.Reports.{AreAllTold, LeadsOn, ToldState}
 use Rattle.fx_answers.specs.Stands.{rest_in}
 use Rattle.fx_answers.specs.Tellings.{all_told, answers_of}
-use Rattle.fx_answers.specs.Views.{HasTurnIn, not_begun, rules_in, runs_in, told_of, view_in, views_in}
+use Rattle.fx_answers.specs.Views.{HasTurnIn, not_begun, rules_in, runs_in, told_of, view_in}
+use Rattle.fx_answers.specs.Views.{views_in}
 use Rattle.fx_ring.specs.Ring.{RingContents, RingState, ring_of}
 use Rattle.fx_ring.specs.Submission.{Reported}
 use Rattle.fx_order.specs.declared.access.ChainAccess.{ChainAccess}

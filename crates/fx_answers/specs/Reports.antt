@@ -36,7 +36,8 @@ pub record LeadsOn (rules : Rules) (here : ToldState) (chain : ℕ) (a : Access)
 abbrev pub AreToldClosed : List FileEntry → ℕ → Parts → ℕ → List ToldState → Type 0
 AreToldClosed catalogue size parts chains states =
     (here : ToldState) → Contains states here → (chain : ℕ) → 1 ≤ chain → chain ≤ chains
-    → HasTurn parts chains here.state chain → (a : Access) → IsNext catalogue size (here.state.rests chain) a
+    → HasTurn parts chains here.state chain
+    → (a : Access) → IsNext catalogue size (here.state.rests chain) a
     → Permits here.state.table a
     → (next : ToldState) × Contains states next
     × LeadsOn (rules_of catalogue size) here chain a next

@@ -95,11 +95,7 @@ fn is_in_part(submission: &Submission<'_>, slots: &Slots, numbers: &PartNumbers,
 }
 
 /// Whether each chain of a submission at these slots stays in its part.
-pub(crate) fn are_parts(
-    submission: &Submission<'_>,
-    slots: &Slots,
-    numbers: &PartNumbers,
-) -> bool
+pub(crate) fn are_parts(submission: &Submission<'_>, slots: &Slots, numbers: &PartNumbers) -> bool
     ensures { IsTrue result → ArePartsIn submission.now slots.now numbers.now }
 {
     if numbers.of_slot.len() < slots.at.len() {

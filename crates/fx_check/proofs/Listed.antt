@@ -18,7 +18,7 @@ use Rattle.fx_order.specs.declared.access.Access.{Access}
 use Rattle.fx_order.proofs.EntriesMade.{done_ones, entries_made}
 use Rattle.fx_plain.proofs.Cells.{by_equality}
 use Rattle.fx_check.specs.Places.{IsChainListed, entry_places, own_places, place_at}
-use Rattle.fx_check.specs.declared.judgement.AccessPlace.{AccessPlace}
+use Rattle.fx_order.specs.declared.listed_order.AccessPlace.{AccessPlace}
 
 either_way : (b : Bool) (P Q R : Type 0) → (P → R) → (Q → R) → MatchBool b P Q → R
 either_way true P Q R yes_so not_so given = yes_so given

@@ -19,7 +19,7 @@ use Rattle.fx_order.specs.declared.access.Access.{Access}
 use Rattle.fx_order.specs.declared.access.ChainAccess.{ChainAccess}
 use Rattle.fx_check.specs.PlaceLists.{AreListsOf, IsListFor}
 use Rattle.fx_check.specs.Places.{AreChainsListed, ArePlaces, IsChainListed, places_of_chain}
-use Rattle.fx_check.specs.declared.judgement.AccessPlace.{AccessPlace}
+use Rattle.fx_order.specs.declared.listed_order.AccessPlace.{AccessPlace}
 use Rattle.fx_check.proofs.Listed.{IsPut, chain_count, chain_same}
 
 module _ (catalogue : List FileEntry) (size submission : ℕ) (order : List ChainAccess) where

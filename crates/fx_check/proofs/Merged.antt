@@ -12,7 +12,7 @@ use Rattle.fx_order.proofs.Accesses.{accesses_of_chain-append}
 use Rattle.fx_plain.proofs.Cells.{by_equality}
 use Rattle.fx_check.specs.PlaceLists.{IsListFor}
 use Rattle.fx_check.specs.Places.{places_of_chain}
-use Rattle.fx_check.specs.declared.judgement.AccessPlace.{AccessPlace}
+use Rattle.fx_order.specs.declared.listed_order.AccessPlace.{AccessPlace}
 
 -- how many accesses a chain has in an order
 abbrev pub count_of : ℕ → List ChainAccess → ℕ

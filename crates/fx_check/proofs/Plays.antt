@@ -12,7 +12,7 @@ use Rattle.fx_language.specs.Script.{Meaning}
 use Rattle.fx_language.specs.declared.command.Command.{Command}
 use Rattle.fx_check.specs.Met.{MayPrint}
 use Rattle.fx_check.specs.Ordered.{IsTextBy, MayPrintAllBy, MayPrintBy, PrintsAllBy}
-use Rattle.fx_check.specs.declared.judgement.Order.{Order}
+use Rattle.fx_order.specs.declared.listed_order.Order.{Order}
 
 pub one_printed : (old new : RingState) (command : Instruction) (commands : List Instruction) (text line others : List ℕ) (own : Option Order)
     (later : List Order) → text ≡ line ++ others → MayPrintBy old command new line own → MayPrintAllBy new commands others later

@@ -40,7 +40,7 @@ use Rattle.fx_check.specs.Kept.{IsKept}
 use Rattle.fx_check.specs.Ordered.{MayPrintBy}
 use Rattle.fx_check.specs.Places.{ArePlaces}
 use Rattle.fx_order.specs.Requests.{AreChainsDone}
-use Rattle.fx_check.specs.declared.judgement.Order.{Order}
+use Rattle.fx_order.specs.declared.listed_order.Order.{Order}
 use Rattle.fx_check.proofs.OrderFiles.{left_in_range}
 use Rattle.fx_order.specs.Slots.{ring_with_slots}
 

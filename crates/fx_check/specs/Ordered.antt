@@ -11,7 +11,7 @@ use Rattle.fx_script.specs.Play.{IsStart, Prints, PrintsEnd}
 use Rattle.fx_language.specs.Script.{Meaning}
 use Rattle.fx_script.specs.Text.{report_text}
 use Rattle.fx_check.specs.Places.{ArePlaces}
-use Rattle.fx_check.specs.declared.judgement.Order.{Order}
+use Rattle.fx_order.specs.declared.listed_order.Order.{Order}
 
 -- an accepted submission leads from one ring to another and prints this, by this order of its
 -- requests

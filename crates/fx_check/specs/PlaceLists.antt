@@ -8,7 +8,7 @@ use Rattle.fx_chain.specs.Operation.{Asked}
 use Rattle.fx_order.specs.Access.{accesses_of_chain}
 use Rattle.fx_order.specs.declared.access.ChainAccess.{ChainAccess}
 use Rattle.fx_check.specs.Places.{IsChainListed}
-use Rattle.fx_check.specs.declared.judgement.AccessPlace.{AccessPlace}
+use Rattle.fx_order.specs.declared.listed_order.AccessPlace.{AccessPlace}
 
 -- the places of the chains from this one on, as `AreChainsListed` has them, each chain's in a list
 -- of its own

@@ -11,7 +11,7 @@ use Rattle.fx_order.specs.Access.{accesses_of_chain}
 use Rattle.fx_order.specs.Requests.{IsRequestDone}
 use Rattle.fx_order.specs.declared.access.Access.{Access}
 use Rattle.fx_order.specs.declared.access.ChainAccess.{ChainAccess}
-use Rattle.fx_check.specs.declared.judgement.AccessPlace.{AccessPlace}
+use Rattle.fx_order.specs.declared.listed_order.AccessPlace.{AccessPlace}
 
 -- the place of an access: that of its request, and of an update's the place in its list
 abbrev pub place_at : Place → Option ℕ → AccessPlace

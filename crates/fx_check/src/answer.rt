@@ -6,9 +6,10 @@ ghost use Rattle.fx_check.specs.Answer.{IsAnswer};
 ghost use Rattle.fx_check.specs.Met.{IsStep};
 ghost use Rattle.fx_check.specs.Only.{IsOnlyAnswer, IsOnlyStep};
 
-use crate::judgement::{Fault, Order};
+use crate::judgement::Fault;
 use crate::met::Met;
 use fx_judge::Doubt;
+use fx_order::Order;
 
 /// What a text says of the next command.
 #[derive(Debug, Drop)]

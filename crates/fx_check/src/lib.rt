@@ -12,5 +12,5 @@ mod registration;
 mod submission;
 mod told;
 
-pub use judgement::{AccessPlace, Break, Fault, Judgement, Order};
+pub use judgement::{Break, Fault, Judgement};
 pub use play::judge;

@@ -10,12 +10,11 @@ ghost use Rattle.fx_order.specs.declared.access.Access.{Access};
 ghost use Rattle.fx_order.specs.declared.access.ChainAccess.{ChainAccess as Made};
 ghost use Rattle.fx_check.specs.PlaceLists.{AreListsOf, IsListFor};
 ghost use Rattle.fx_check.specs.Places.{ArePlaces, IsChainListed, entry_places, own_places, places_of_chain};
-ghost use Rattle.fx_check.specs.declared.judgement.AccessPlace.{AccessPlace as Listed};
+ghost use Rattle.fx_order.specs.declared.listed_order.AccessPlace.{AccessPlace as Listed};
 
-use crate::judgement::AccessPlace;
 use fx_base::NoMemory;
 use fx_chain::{Chain, Completion, Op, Place, Request};
-use fx_order::{ChainAccess, accesses_made, members};
+use fx_order::{AccessPlace, ChainAccess, accesses_made, members};
 use std::alloc::Global;
 
 /// The completions of a submission's requests, done at a table of so many slots.

@@ -12,7 +12,6 @@ ghost use Rattle.fx_language.specs.Script.{AreFiles};
 ghost use Rattle.fx_order.specs.Slots.{ring_with_slots};
 
 use crate::answer::Answer;
-use fx_calls::{close_in_order, files_at};
 use crate::judgement::{Break, Fault, Judgement};
 use crate::met::{Met, meet};
 use crate::registration::{
@@ -20,6 +19,7 @@ use crate::registration::{
 };
 use crate::submission::play_submission;
 use fx_base::{Catalogue, NoMemory};
+use fx_calls::{close_in_order, files_at};
 use fx_language::{Command, Script};
 use fx_order::{Limits, RingSlots, Slots};
 use fx_script::teardown_text;

@@ -18,7 +18,7 @@ ghost use Rattle.fx_table.specs.declared.limits.TheConstants.{MAX_CHAINS};
 
 use crate::answer::Answer;
 use crate::blame::wrong_line;
-use crate::judgement::{Fault, Order};
+use crate::judgement::Fault;
 use crate::known::unknown_file;
 use crate::met::meet;
 use crate::places::{Answered, places_of};
@@ -27,7 +27,7 @@ use fx_base::{Catalogue, NoMemory};
 use fx_chain::{Request, check, cut};
 use fx_judge::{Told, Verdict, judge_submission};
 use fx_lines::{ReportLines, read_report};
-use fx_order::{ChainAccess, Limits, RingSlots};
+use fx_order::{ChainAccess, Limits, Order, RingSlots};
 use fx_ring::MOST_SUBMISSIONS;
 use fx_script::{refused_line, too_many_line};
 use std::alloc::Global;

@@ -1,27 +1,20 @@
 //! The program `fixcheck`: says whether the rules allow a text for a script.
 #![tactic(auto)]
 
-mod history;
 mod input;
-mod listing;
-mod state;
-mod submission;
-mod telling;
-mod texts;
 mod unexpected;
 mod verdict;
 
-use fx_check::{Judgement, Order, judge};
+use fx_check::{Judgement, judge};
 use fx_check_arguments::{Ending, Settings, settings_in, words};
-use fx_order::Limits;
+use fx_history::History;
+use fx_listing::{listing, listing_of_texts, place_of, status_of_answers, status_of_texts};
+use fx_order::{Limits, Order};
 use fx_script::{PlayFault, Script};
 use fx_texts::{may, texts_of};
-use history::History;
 use input::{read_path, script_of};
-use listing::{listing, place_of, status_of_answers};
 use std::io::{self, Write};
 use std::process::ExitCode;
-use texts::{listing_of_texts, status_of_texts};
 use verdict::{status_of, verdict_text};
 
 /// How many bytes of a history are kept before they are written.

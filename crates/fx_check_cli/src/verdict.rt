@@ -4,13 +4,14 @@ ghost use Rattle.fx_check_cli.specs.Status.{status};
 
 use crate::unexpected::why_of;
 use fx_base::NoMemory;
-use fx_check::{Break, Fault, Judgement, Order};
+use fx_check::{Break, Fault, Judgement};
 use fx_check_arguments::Settings;
 use fx_complaint::{
     Case, Complaint, Unordered, complaint_of, first_difference, line_behind, line_number,
     line_of_command, shown_line,
 };
 use fx_judge::{Doubt, Reason};
+use fx_order::Order;
 use fx_script::{Command, Script};
 use std::alloc::{AllocError, Global};
 

@@ -16,11 +16,11 @@ ghost use Rattle.fx_texts.specs.Rings.{IsLineOf, after_call};
 
 use crate::setting::Setting;
 use fx_base::{Closed, Errno, NoMemory};
-use fx_chain::{Request, check};
 use fx_calls::{
     apply_list, close_in_order, empty_slots, files_at, range_refusal, register_refusal,
     sparse_refusal, unregister_refusal, update_refusal,
 };
+use fx_chain::{Request, check};
 use fx_language::Command;
 use fx_order::{RingSlots, Slots};
 use fx_script::{refused_line, result_line, too_many_line, with_closes};

@@ -6,7 +6,7 @@ use Rattle.fx_chain.specs.Operation.{all_asked}
 use Rattle.fx_chain.specs.declared.chain.Chain.{Chain}
 use Rattle.fx_order.proofs.ChainsFront.{few_completions}
 use Rattle.fx_order.proofs.FirstAndRest.{all_of_rest}
-use Rattle.fx_check.specs.declared.judgement.AccessPlace.{AccessPlace}
+use Rattle.fx_order.specs.declared.listed_order.AccessPlace.{AccessPlace}
 use Rattle.fx_chain.specs.Completed.{all_completed}
 use Rattle.fx_chain.specs.Explains.{first_member}
 use Rattle.fx_order.specs.Requests.{AreChainsDone, IsChainDone}

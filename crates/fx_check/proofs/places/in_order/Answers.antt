@@ -4,7 +4,7 @@ use Rattle.std.specs.Global.{Vec}
 use Rattle.fx_order.specs.declared.access.Access.TheVariants.{Looks}
 use Rattle.fx_order.specs.declared.access.ChainAccess.{ChainAccess}
 use Rattle.fx_check.specs.Places.{places_of_chain}
-use Rattle.fx_check.specs.declared.judgement.AccessPlace.{AccessPlace}
+use Rattle.fx_order.specs.declared.listed_order.AccessPlace.{AccessPlace}
 use Rattle.fx_check.proofs.Merged.{all_taken, chains_listed, count_of, count_read, counts_more, lists_more, next_inside}
 use Rattle.fx_check.proofs.places.in_order.Goals as goal
 

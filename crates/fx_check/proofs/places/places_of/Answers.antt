@@ -6,7 +6,7 @@ use Rattle.fx_chain.specs.Completed.{all_completed}
 use Rattle.fx_chain.specs.Operation.{Asked, all_asked}
 use Rattle.fx_order.specs.declared.access.ChainAccess.{ChainAccess}
 use Rattle.fx_check.specs.PlaceLists.{AreListsOf}
-use Rattle.fx_check.specs.declared.judgement.AccessPlace.{AccessPlace}
+use Rattle.fx_order.specs.declared.listed_order.AccessPlace.{AccessPlace}
 use Rattle.fx_check.proofs.Lists.{all_places, as_many_lists, first_lists}
 use Rattle.fx_check.proofs.places.places_of.Goals as goal
 

@@ -13,7 +13,7 @@ use Rattle.fx_check.specs.Judged.{MayPrintFront}
 use Rattle.fx_check.specs.Ordered.{IsTextBy, MayPrintAllBy, MayPrintBy}
 use Rattle.fx_check.specs.Only.{IsOnlyAnswer, LeadsNowhere, LeadsTo}
 use Rattle.fx_check.specs.declared.answer.Answer.{Answer}
-use Rattle.fx_check.specs.declared.judgement.Order.{Order}
+use Rattle.fx_order.specs.declared.listed_order.Order.{Order}
 use Rattle.fx_check.proofs.Beginnings.{CanBegin, GoesAlong, along_next, left_behind, no_next}
 use Rattle.fx_check.proofs.Fronts.{one_back, printed_front}
 use Rattle.fx_check.proofs.OnePlay.{CanPrintAll, begins, ended, further, no_further}

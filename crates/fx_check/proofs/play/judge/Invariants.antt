@@ -4,7 +4,7 @@ use Rattle.fx_language.specs.Instruction.{instructions_of}
 use Rattle.fx_script.specs.Play.{IsText}
 use Rattle.fx_check.specs.Kept.{IsKept}
 use Rattle.fx_check.specs.Ordered.{IsTextBy, MayPrintAllBy}
-use Rattle.fx_check.specs.declared.judgement.Order.{Order}
+use Rattle.fx_order.specs.declared.listed_order.Order.{Order}
 use Rattle.fx_check.proofs.Beginnings.{GoesAlong}
 use Rattle.fx_check.proofs.Fronts.{GoesBack}
 use Rattle.fx_check.proofs.OnePlay.{CanPrintAll}

@@ -15,7 +15,7 @@ use Rattle.fx_chain.specs.Runs.{runs_of}
 use Rattle.fx_check.specs.Places.{ArePlaces}
 use Rattle.fx_check.specs.Told.{AreApart, HasLines, TellsKnown}
 use Rattle.fx_check.specs.declared.judgement.Fault.{Fault}
-use Rattle.fx_check.specs.declared.judgement.Order.{Order}
+use Rattle.fx_order.specs.declared.listed_order.Order.{Order}
 use Rattle.fx_check.proofs.OnlyAccepted.{none_ordered, none_read, none_told, one_ordered}
 use Rattle.fx_check.proofs.Submissions.{IsOrdered, PlacesAt, accepted_goes, accepted_keeps, ordered_done, ordered_is, kept_still, same_slots}
 use Rattle.fx_check.proofs.submission.play_accepted.Goals as goal

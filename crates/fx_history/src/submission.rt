@@ -2,8 +2,7 @@
 use crate::telling::Telling;
 use fx_base::{Errno, NoMemory};
 use fx_chain::{Completion, Op, Request};
-use fx_check::{AccessPlace, Order};
-use fx_order::Access;
+use fx_order::{Access, AccessPlace, Order};
 use std::alloc::Global;
 
 // The members of a chain that haven't answered yet: the requests from this one on, in front of that one.

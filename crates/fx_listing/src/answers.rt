@@ -1,6 +1,6 @@
 //! What a request may answer, as it is printed.
 ghost use Rattle.std.specs.Prelude.{◌≡◌};
-ghost use Rattle.fx_check_cli.specs.Status.{may_status};
+ghost use Rattle.fx_listing.specs.Status.{may_status};
 
 use fx_base::{Catalogue, NoMemory};
 use fx_chain::{Chain, Completion, Op, Place, Request, check, cut};

@@ -1,8 +1,8 @@
 //! Every text of a script, as it is printed.
 ghost use Rattle.std.specs.Prelude.{◌≡◌};
-ghost use Rattle.fx_check_cli.specs.Status.{all_status};
+ghost use Rattle.fx_listing.specs.Status.{all_status};
 
-use crate::listing::{push_limits, push_orders};
+use crate::answers::{push_limits, push_orders};
 use fx_base::NoMemory;
 use fx_check_arguments::Settings;
 use fx_script::Script;

@@ -1,0 +1,9 @@
+//! A legal history of a text, told event by event.
+#![tactic(auto)]
+
+mod history;
+mod state;
+mod submission;
+mod telling;
+
+pub use history::History;
