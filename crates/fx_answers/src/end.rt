@@ -18,7 +18,8 @@ use crate::state::{State, are_same};
 use crate::submission::Submission;
 use fx_base::{Catalogue, NoMemory};
 use fx_chain::{Request, cut};
-use fx_order::{ChainAccess, Limits, Slots};
+use fx_order::{ChainAccess, Slots};
+use fx_search::Limits;
 use std::alloc::Global;
 
 /// One ring that a submission may leave: what then stands at the slots, and an order that leads there.

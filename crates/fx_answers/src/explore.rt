@@ -10,7 +10,8 @@ use crate::submission::Submission;
 use crate::telling::{Telling, push_copies};
 use fx_base::NoMemory;
 use fx_chain::{Completion, Op, Place, Request};
-use fx_order::{Access, Limits, Slots};
+use fx_order::{Access, Slots};
+use fx_search::Limits;
 use indexmap::IndexSet;
 use std::alloc::Global;
 

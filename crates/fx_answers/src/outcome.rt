@@ -20,7 +20,8 @@ use crate::submission::Submission;
 use crate::telling::copy_of;
 use fx_base::{Catalogue, NoMemory};
 use fx_chain::{Completion, Place, Request, cut};
-use fx_order::{ChainAccess, Limits, Slots};
+use fx_order::{ChainAccess, Slots};
+use fx_search::Limits;
 use std::alloc::Global;
 
 /// What a request may answer, an order of the submission's accesses that comes to it, and the slots that this order leaves.

@@ -22,8 +22,9 @@ use crate::submission::Submission;
 use crate::telling::{are_same as are_same_answers, are_same_closes};
 use fx_base::{Catalogue, CloseList, Closed, NoMemory};
 use fx_chain::{Completion, Request, cut};
-use fx_order::{ChainAccess, Limits, Slots};
+use fx_order::{ChainAccess, Slots};
 use fx_ring::Report;
+use fx_search::Limits;
 use std::alloc::Global;
 
 /// A report that a submission may come to, an order of its accesses that comes to it, and the slots that this order leaves.

@@ -8,8 +8,8 @@ ghost use Rattle.fx_check.specs.Only.{IsOnlyAnswer, IsOnlyStep};
 
 use crate::judgement::Fault;
 use crate::met::Met;
-use fx_judge::Doubt;
 use fx_order::Order;
+use fx_search::Doubt;
 
 /// What a text says of the next command.
 #[derive(Debug, Drop)]

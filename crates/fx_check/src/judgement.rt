@@ -1,5 +1,6 @@
-use fx_judge::{Doubt, Reason};
+use fx_judge::Reason;
 use fx_order::{Order, RingSlots};
+use fx_search::Doubt;
 
 /// Why a text is none of a script, where its first commands may have printed what stands in front. It is advice for a
 /// person, and no contract speaks of it.

@@ -21,8 +21,9 @@ use crate::submission::play_submission;
 use fx_base::{Catalogue, NoMemory};
 use fx_calls::{close_in_order, files_at};
 use fx_language::{Command, Script};
-use fx_order::{Limits, RingSlots, Slots};
+use fx_order::{RingSlots, Slots};
 use fx_script::teardown_text;
+use fx_search::Limits;
 use std::alloc::Global;
 
 // A ring without a table, with nothing counted.

@@ -27,9 +27,10 @@ use fx_base::{Catalogue, NoMemory};
 use fx_chain::{Request, check, cut};
 use fx_judge::{Told, Verdict, judge_submission};
 use fx_lines::{ReportLines, read_report};
-use fx_order::{ChainAccess, Limits, Order, RingSlots};
+use fx_order::{ChainAccess, Order, RingSlots};
 use fx_ring::MOST_SUBMISSIONS;
 use fx_script::{refused_line, too_many_line};
+use fx_search::Limits;
 use std::alloc::Global;
 
 // What lines tell of a submission, or else which line can't be.

@@ -10,9 +10,10 @@ use fx_complaint::{
     Case, Complaint, Unordered, complaint_of, first_difference, line_behind, line_number,
     line_of_command, shown_line,
 };
-use fx_judge::{Doubt, Reason};
+use fx_judge::Reason;
 use fx_order::Order;
 use fx_script::{Command, Script};
+use fx_search::Doubt;
 use std::alloc::{AllocError, Global};
 
 /// The status of the program: 0 for a legal text, 1 for another one, 6 where it is undecided.

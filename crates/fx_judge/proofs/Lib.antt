@@ -1,11 +1,5 @@
 pub mod Words
-pub mod Lists
-pub mod Writing
 pub mod Telling
-pub mod Reaching
-pub mod Hopeless
-pub mod Uneven
-pub mod Unpacking
 pub mod Unknown
 pub mod RequestClaims
 pub mod CellSteps

@@ -8,8 +8,9 @@ use Rattle.fx_judge.proofs.Words.{PermitsAll, table_with, table_after, removed_b
 use Rattle.fx_judge.proofs.Words.{Looks, FindsFull, ChainAccess, Fits, left_by, touched, Standing, IsEnd, Ends}
 use Rattle.fx_judge.proofs.Words.{cells_after, is_staying, made, may_stay, next, with_cell, IsCell, IsPlayed, ShowsFile, starting, AreStrands}
 use Rattle.fx_judge.proofs.Words.{has_slot, seen, Cell, Claim, At, Empty, File, Resident, Strand}
-use Rattle.fx_judge.specs.Machine.{HasNoEnd}
+use Rattle.fx_search.specs.Machine.{HasNoEnd}
 use Rattle.fx_judge.proofs.CellSteps.{allowed, cells_follow, at_after, moved}
+use Rattle.fx_search.proofs.SlotsKept.{slots_after}
 
 -- the accesses of a chain with one more in front
 pub of_chain : (x : ChainAccess) (order : List ChainAccess) (chain : ℕ)
@@ -44,24 +45,6 @@ first_left closes [] zero a rest all = absurd all
 first_left closes [] (suc n) a rest all = absurd all
 first_left closes (x ∷ claims) zero a rest all = (x, refl, all.0, all.1)
 first_left closes (x ∷ claims) (suc n) a rest all = first_left closes claims n a rest all
-
--- writing a file leaves the slots
-slots_stay : (cells : List Cell) (slot : ℕ) (file : Option Resident) (o : Option ℕ) → has_slot (with_cell cells slot file) o ≡ has_slot cells o
-slots_stay [] slot file None = refl
-slots_stay [] slot file (Some k) = refl
-slots_stay (cell ∷ cells) slot file None =
-    by_equality cell.slot slot (λ b. list_any (λ (x : Cell). x.in_range) ((if b then record cell { file = file } else cell) ∷ with_cell cells slot file) ≡ list_any (λ (x : Cell). x.in_range) (cell ∷ cells))
-    (λ _. ap (λ (b : Bool). cell.in_range || b) (slots_stay cells slot file None))
-    (λ _. ap (λ (b : Bool). cell.in_range || b) (slots_stay cells slot file None))
-slots_stay (cell ∷ cells) slot file (Some k) =
-    by_equality cell.slot slot (λ b. list_any (λ (x : Cell). x.slot == k) ((if b then record cell { file = file } else cell) ∷ with_cell cells slot file) ≡ list_any (λ (x : Cell). x.slot == k) (cell ∷ cells))
-    (λ _. ap (λ (b : Bool). (cell.slot == k) || b) (slots_stay cells slot file (Some k)))
-    (λ _. ap (λ (b : Bool). (cell.slot == k) || b) (slots_stay cells slot file (Some k)))
-
-pub slots_after : (cells : List Cell) (claim : Claim) (o : Option ℕ) → has_slot (cells_after cells claim) o ≡ has_slot cells o
-slots_after cells (At slot wants Empty) o = slots_stay cells slot None o
-slots_after cells (At slot wants (File resident)) o = slots_stay cells slot (Some resident) o
-slots_after cells claim o = refl
 
 some_or_none : {X : Type 0} (x : Option X) → ((y : X) × (x ≡ Some y)) ⊎ (x ≡ None)
 some_or_none None = inr refl

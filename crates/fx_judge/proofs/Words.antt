@@ -19,32 +19,32 @@ pub use Rattle.fx_chain.specs.declared.request.Request.{Request}
 pub use Rattle.fx_chain.specs.declared.request.Target.{Target}
 pub use Rattle.fx_chain.specs.declared.request.Target.TheVariants.{Any, Slot}
 pub use Rattle.fx_judge.specs.Chains.{AreDone, TellsChains, TellsMember}
-pub use Rattle.fx_judge.specs.Claims.{AreClaims, Fits, IsLeft, IsPossible, IsResident, Possibly, Tells, Wanted, found_by, left_by, touched}
-pub use Rattle.fx_judge.specs.Dead.{IsHopeless, NoneHelps, may_find, no_help}
-pub use Rattle.fx_judge.specs.Machine.{Ends, HasNoEnd, IsEnd, IsExplored, IsLookedThrough, Standing, StepLeadsInside, allows, cell_at, cell_with, cells_after}
-pub use Rattle.fx_judge.specs.Machine.{claim_at, is_same, is_staying, is_taken, is_test, made, may_leave, may_stay, next, suits, view}
-pub use Rattle.fx_judge.specs.Machine.{with_cell}
-pub use Rattle.fx_judge.specs.Packed.{all_unpacked, file_at, numbered_cells, unpacked}
+pub use Rattle.fx_judge.specs.Claims.{AreClaims, Fits, IsLeft, IsPossible, Possibly, Tells, Wanted, found_by, left_by, touched}
+pub use Rattle.fx_search.specs.Dead.{IsHopeless, NoneHelps, may_find, no_help}
+pub use Rattle.fx_search.specs.Machine.{Ends, HasNoEnd, IsEnd, IsExplored, IsLookedThrough, Standing, StepLeadsInside, allows, cell_at, cell_with, cells_after}
+pub use Rattle.fx_search.specs.Machine.{claim_at, is_same, is_staying, is_taken, is_test, made, may_leave, may_stay, next, suits, view}
+pub use Rattle.fx_search.specs.Machine.{with_cell}
+pub use Rattle.fx_search.specs.Packed.{all_unpacked, file_at, numbered_cells, unpacked}
 pub use Rattle.fx_judge.specs.Played.{HasNoOrder, IsCell, IsOutcome, IsPlayed, ShowsFile}
-pub use Rattle.fx_judge.specs.Starts.{starting}
-pub use Rattle.fx_judge.specs.Strands.{AreStrands, has_slot, keeps, seen, slot_of, strand_for}
+pub use Rattle.fx_search.specs.Starts.{starting}
+pub use Rattle.fx_judge.specs.Strands.{AreStrands, seen, strand_for}
 pub use Rattle.fx_judge.specs.Verdict.{CameBy, IsRefuted, IsToldOutcome, told_report}
-pub use Rattle.fx_judge.specs.declared.cell.Cell.{Cell}
+pub use Rattle.fx_search.specs.declared.cell.Cell.{Cell}
 pub use Rattle.fx_judge.specs.declared.chain.MemberClaims.{MemberClaims}
-pub use Rattle.fx_judge.specs.declared.claim.Claim.{Claim}
-pub use Rattle.fx_judge.specs.declared.claim.Claim.TheVariants.{At, Full}
-pub use Rattle.fx_judge.specs.declared.claim.Leaves.{Leaves}
-pub use Rattle.fx_judge.specs.declared.claim.Leaves.TheVariants.{Empty, File, Same}
-pub use Rattle.fx_judge.specs.declared.claim.Resident.{Resident}
-pub use Rattle.fx_judge.specs.declared.claim.Wants.{Wants}
-pub use Rattle.fx_judge.specs.declared.claim.Wants.TheVariants.{Anything, Bytes, Nothing, NothingToTake, Something}
-pub use Rattle.fx_judge.specs.declared.node.Node.{Node}
-pub use Rattle.fx_judge.specs.declared.packed.Packing.{Packing}
+pub use Rattle.fx_search.specs.declared.claim.Claim.{Claim}
+pub use Rattle.fx_search.specs.declared.claim.Claim.TheVariants.{At, Full}
+pub use Rattle.fx_search.specs.declared.claim.Leaves.{Leaves}
+pub use Rattle.fx_search.specs.declared.claim.Leaves.TheVariants.{Empty, File, Same}
+pub use Rattle.fx_search.specs.declared.claim.Resident.{Resident}
+pub use Rattle.fx_search.specs.declared.claim.Wants.{Wants}
+pub use Rattle.fx_search.specs.declared.claim.Wants.TheVariants.{Anything, Bytes, Nothing, NothingToTake, Something}
+pub use Rattle.fx_search.specs.declared.node.Node.{Node}
+pub use Rattle.fx_search.specs.declared.packed.Packing.{Packing}
 pub use Rattle.fx_judge.specs.declared.part.Outcome.{Outcome}
 pub use Rattle.fx_judge.specs.declared.part.Outcome.TheVariants.{Order, Unsettled}
 pub use Rattle.fx_judge.specs.declared.stop.Stop.{Stop}
 pub use Rattle.fx_judge.specs.declared.stop.Stop.TheVariants.{NoMemory, Refuted, Unknown}
-pub use Rattle.fx_judge.specs.declared.strand.Strand.{Strand}
+pub use Rattle.fx_search.specs.declared.strand.Strand.{Strand}
 pub use Rattle.fx_order.specs.declared.ring_slots.RingSlots.{RingSlots}
 pub use Rattle.fx_judge.specs.declared.told.Told.{Told}
 pub use Rattle.fx_order.proofs.Histories.{each_order_is_a_history}
@@ -65,6 +65,8 @@ pub use Rattle.fx_plain.specs.Step.{changed_at}
 pub use Rattle.fx_ring.proofs.SubmittedRing.{submitted_rings}
 pub use Rattle.fx_ring.specs.Ring.{IsRing, RingState, ring_of}
 pub use Rattle.fx_ring.specs.Submission.{Reported}
+pub use Rattle.fx_search.specs.Residents.{IsResident}
+pub use Rattle.fx_search.specs.AtSlots.{has_slot, keeps, slot_of}
 pub use Rattle.fx_table.proofs.Members.{contains_head, contains_tail}
 pub use Rattle.std.proofs.Common.{All, Bool, Contains, Err, IfOk, IsPermutation, IsSome, IsTrue, List, None, Ok, Option, Result, Some, [], ap}
 pub use Rattle.std.proofs.Common.{append_assoc, arith, cond, drop, drop-cons, eq-eqb, false, filter, get_or, if◌then◌else◌, inl, inr, int_le, int_lt}

@@ -16,7 +16,7 @@ use Rattle.fx_order.specs.declared.access.Access.{Access}
 use Rattle.fx_order.specs.declared.access.ChainAccess.{ChainAccess}
 use Rattle.fx_judge.specs.Claims.{AreClaims, IsPossible, Possibly, Tells}
 use Rattle.fx_judge.specs.declared.chain.MemberClaims.{MemberClaims}
-use Rattle.fx_judge.specs.declared.claim.Claim.{Claim}
+use Rattle.fx_search.specs.declared.claim.Claim.{Claim}
 use Rattle.fx_judge.specs.declared.stop.Stop.{Stop}
 use Rattle.fx_judge.specs.declared.stop.Stop.TheVariants.{Refuted, Unknown, NoMemory}
 

@@ -1,6 +1,6 @@
 -- What completions tell of the accesses that were made: claims, one for each access.
 use Rattle.std.specs.Prelude.{◌≡◌, ℕ, ◌+◌, ◌<◌, ◌≤◌, true, List, slice_get, slice_index_or, Option}
-use Rattle.std.specs.Prelude.{Some, None, Result, Ok, Err, IsTrue, ◌↔◌, Contains}
+use Rattle.std.specs.Prelude.{Some, None, Result, Ok, Err}
 use Rattle.std.specs.Global.{Vec}
 use Rattle.std.specs.List.{AllZip, AllByRecursion}
 use Rattle.fx_base.specs.Identity.{Identity}
@@ -10,14 +10,14 @@ use Rattle.fx_order.specs.declared.access.Access.TheVariants.{Looks, Puts, Clear
 use Rattle.fx_order.specs.declared.access.Access.TheVariants.{FindsFull}
 use Rattle.fx_order.specs.declared.access.Access.{Access}
 use Rattle.fx_order.specs.declared.access.ChainAccess.{ChainAccess}
-use Rattle.fx_judge.specs.declared.claim.Resident.{Resident}
-use Rattle.fx_judge.specs.declared.claim.Wants.{Wants}
-use Rattle.fx_judge.specs.declared.claim.Wants.TheVariants.{Anything, Nothing, NothingToTake}
-use Rattle.fx_judge.specs.declared.claim.Wants.TheVariants.{Something, Bytes}
-use Rattle.fx_judge.specs.declared.claim.Leaves.{Leaves}
-use Rattle.fx_judge.specs.declared.claim.Leaves.TheVariants.{Same, Empty, File}
-use Rattle.fx_judge.specs.declared.claim.Claim.{Claim}
-use Rattle.fx_judge.specs.declared.claim.Claim.TheVariants.{At, Full}
+use Rattle.fx_search.specs.Residents.{IsResident}
+use Rattle.fx_search.specs.declared.claim.Wants.{Wants}
+use Rattle.fx_search.specs.declared.claim.Wants.TheVariants.{Anything, Nothing, NothingToTake}
+use Rattle.fx_search.specs.declared.claim.Wants.TheVariants.{Something, Bytes}
+use Rattle.fx_search.specs.declared.claim.Leaves.{Leaves}
+use Rattle.fx_search.specs.declared.claim.Leaves.TheVariants.{Same, Empty, File}
+use Rattle.fx_search.specs.declared.claim.Claim.{Claim}
+use Rattle.fx_search.specs.declared.claim.Claim.TheVariants.{At, Full}
 use Rattle.fx_judge.specs.declared.stop.Stop.{Stop}
 use Rattle.fx_judge.specs.declared.stop.Stop.TheVariants.{Refuted, Unknown, NoMemory}
 
@@ -47,11 +47,6 @@ left_by (Clears slot removed) = None
 left_by (Takes slot removed) = None
 left_by (Allocates slot file) = Some file
 left_by FindsFull = None
-
--- a file, and whether the closes have it
-pub record IsResident (closes : List Closed) (file : Identity) (resident : Resident) : Type 0 where
-  pub same : resident.file ≡ file
-  pub leaves : IsTrue resident.leaves ↔ Contains closes file
 
 -- the file that was found is one that the claim speaks of
 abbrev pub Wanted : Wants → Option Identity → Type 0

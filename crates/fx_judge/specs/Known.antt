@@ -2,9 +2,9 @@
 use Rattle.std.specs.Prelude.{◌≡◌, ◌⊎◌, List, Option, Some, Contains, Any}
 use Rattle.std.specs.Global.{Vec}
 use Rattle.fx_base.specs.Identity.{Identity}
-use Rattle.fx_judge.specs.declared.claim.Claim.{Claim}
-use Rattle.fx_judge.specs.declared.claim.Claim.TheVariants.{At, Full}
-use Rattle.fx_judge.specs.declared.claim.Leaves.TheVariants.{Same, Empty, File}
+use Rattle.fx_search.specs.declared.claim.Claim.{Claim}
+use Rattle.fx_search.specs.declared.claim.Claim.TheVariants.{At, Full}
+use Rattle.fx_search.specs.declared.claim.Leaves.TheVariants.{Same, Empty, File}
 
 -- the claim leaves the file at its slot
 abbrev pub Brings : Claim → Identity → Type 0

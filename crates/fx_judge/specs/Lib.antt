@@ -1,11 +1,6 @@
 pub mod Verdict
 pub mod Claims
 pub mod Chains
-pub mod Machine
-pub mod Dead
-pub mod Starts
-pub mod Packed
 pub mod Strands
 pub mod Played
 pub mod Known
-pub mod Counted

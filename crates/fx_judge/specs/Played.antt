@@ -7,12 +7,13 @@ use Rattle.fx_base.specs.declared.open_file.Closed.{Closed}
 use Rattle.fx_order.specs.Access.{Table, IsInRange, PermitsAll, table_after, removed_in}
 use Rattle.fx_order.specs.Access.{accesses_of}
 use Rattle.fx_order.specs.declared.access.ChainAccess.{ChainAccess}
-use Rattle.fx_judge.specs.Claims.{AreClaims, IsResident}
-use Rattle.fx_judge.specs.declared.cell.Cell.{Cell}
-use Rattle.fx_judge.specs.declared.claim.Claim.{Claim}
-use Rattle.fx_judge.specs.declared.claim.Resident.{Resident}
+use Rattle.fx_judge.specs.Claims.{AreClaims}
+use Rattle.fx_search.specs.declared.cell.Cell.{Cell}
+use Rattle.fx_search.specs.declared.claim.Claim.{Claim}
+use Rattle.fx_search.specs.declared.claim.Resident.{Resident}
 use Rattle.fx_judge.specs.declared.part.Outcome.{Outcome}
 use Rattle.fx_judge.specs.declared.part.Outcome.TheVariants.{Order, Refuted, Unsettled}
+use Rattle.fx_search.specs.Residents.{IsResident}
 
 -- the file that is there, with whether the closes have it
 abbrev pub ShowsFile : List Closed → Option Identity → Option Resident → Type 0

@@ -1,30 +1,17 @@
 -- The claims of chains at some slots alone.
-use Rattle.std.specs.Prelude.{◌≡◌, ◌⊎◌, ℕ, ◌≤◌, ◌==◌, Bool, List, [], ◌∷◌, filter, length}
-use Rattle.std.specs.Prelude.{slice_get, Option, Some, None, if◌then◌else◌}
+use Rattle.std.specs.Prelude.{◌≡◌, ◌⊎◌, ℕ, ◌≤◌, ◌==◌, List, [], ◌∷◌, filter, length}
+use Rattle.std.specs.Prelude.{slice_get, Some, if◌then◌else◌}
 use Rattle.std.specs.Global.{Vec}
-use Rattle.std.specs.List.{AllZip, list_any}
+use Rattle.std.specs.List.{AllZip}
 use Rattle.fx_base.specs.declared.open_file.Closed.{Closed}
 use Rattle.fx_order.specs.Access.{accesses_of_chain}
 use Rattle.fx_order.specs.declared.access.Access.{Access}
 use Rattle.fx_order.specs.declared.access.ChainAccess.{ChainAccess}
 use Rattle.fx_judge.specs.Claims.{Fits, touched}
-use Rattle.fx_judge.specs.declared.cell.Cell.{Cell}
-use Rattle.fx_judge.specs.declared.claim.Claim.{Claim}
-use Rattle.fx_judge.specs.declared.claim.Claim.TheVariants.{At, Full}
-use Rattle.fx_judge.specs.declared.strand.Strand.{Strand}
-
--- the claim, or the access, is of one of these slots, or of the allocation range where they
--- have one of it
-abbrev pub has_slot : List Cell → Option ℕ → Bool
-has_slot cells (Some slot) = list_any (λ cell. cell.slot == slot) cells
-has_slot cells None = list_any (λ cell. cell.in_range) cells
-
-abbrev pub slot_of : Claim → Option ℕ
-slot_of (At slot wants leaves) = Some slot
-slot_of Full = None
-
-abbrev pub keeps : List Cell → Claim → Bool
-keeps cells claim = has_slot cells (slot_of claim)
+use Rattle.fx_search.specs.AtSlots.{has_slot}
+use Rattle.fx_search.specs.declared.cell.Cell.{Cell}
+use Rattle.fx_search.specs.declared.claim.Claim.{Claim}
+use Rattle.fx_search.specs.declared.strand.Strand.{Strand}
 
 -- the accesses of these slots
 abbrev pub seen : List Cell → List Access → List Access

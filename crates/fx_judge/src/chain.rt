@@ -7,13 +7,13 @@ ghost use Rattle.fx_order.specs.Requests.{IsChainDone};
 ghost use Rattle.fx_judge.specs.Claims.{Possibly, Tells};
 ghost use Rattle.fx_judge.specs.Chains.{TellsChains, TellsMember};
 
-use crate::claim::Claim;
 use crate::request::{Setting, claims_of_request, is_failure};
 use crate::stop::Stop;
 use crate::verdict::Reason;
 use fx_base::Errno;
 use fx_chain::{Chain, Completion, Place, Request};
 use fx_order::members;
+use fx_search::Claim;
 use std::alloc::Global;
 
 /// The claims of a member, and whether the chain is severed behind it.

@@ -1,7 +1,7 @@
 //! Which slots chains have in common. Nothing is promised of it: each part is judged by itself, whatever its slots.
 
-use crate::claim::Claim;
 use fx_base::NoMemory;
+use fx_search::Claim;
 use std::alloc::Global;
 
 // Joins the parts of two slots.

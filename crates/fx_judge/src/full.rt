@@ -3,9 +3,9 @@
 
 ghost use Rattle.std.specs.Prelude.{◌<◌, ◌+◌, ◌^◌, length};
 
-use crate::claim::Claim;
 use fx_base::NoMemory;
 use fx_order::{Access, ChainAccess, Slots};
+use fx_search::Claim;
 use std::alloc::Global;
 
 /// Whether a table has no slot of its allocation range.

@@ -13,10 +13,11 @@ use crate::part::{Outcome, TableTold, judge_table};
 use crate::request::Setting;
 use crate::stop::Stop;
 use crate::told::Told;
-use crate::verdict::{Doubt, Reason, Verdict};
+use crate::verdict::{Reason, Verdict};
 use fx_base::{Catalogue, Closed, NoMemory};
 use fx_chain::{Request, cut};
-use fx_order::{ChainAccess, Limits, RingSlots, Slots, are_chains_done, are_closed, make_all};
+use fx_order::{ChainAccess, RingSlots, Slots, are_chains_done, are_closed, make_all};
+use fx_search::{Doubt, Limits};
 use std::alloc::Global;
 
 // Whether each access is of one of so many chains.

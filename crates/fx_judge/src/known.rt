@@ -4,9 +4,9 @@ ghost use Rattle.fx_order.specs.Slots.{table_of_slots};
 ghost use Rattle.fx_judge.specs.Known.{Brings, IsBrought, IsKnown};
 ghost use Rattle.fx_judge.specs.Played.{HasNoOrder};
 
-use crate::claim::{Claim, Leaves};
 use crate::part::TableTold;
 use fx_base::{Closed, Mark};
+use fx_search::{Claim, Leaves};
 
 // Whether a claim leaves this file at its slot.
 fn is_bringing(claim: &Claim, file: Closed) -> bool

@@ -2,30 +2,20 @@
 //! directions.
 #![tactic(auto)]
 
-mod cell;
-mod certificate;
 mod chain;
-mod claim;
 mod component;
-mod counted;
-mod dead;
 mod full;
 mod judge;
 mod known;
-mod node;
-mod packed;
 mod part;
 mod refuted;
 mod request;
-mod search;
-mod steps;
 mod stop;
-mod strand;
-mod tally;
+mod strands;
 mod told;
 mod update;
 mod verdict;
 
 pub use judge::judge_submission;
 pub use told::Told;
-pub use verdict::{Doubt, Reason, Verdict};
+pub use verdict::{Reason, Verdict};

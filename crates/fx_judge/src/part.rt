@@ -3,20 +3,18 @@ ghost use Rattle.std.specs.Prelude.{◌≡◌, ◌<◌, ◌+◌, ◌^◌, All, I
 ghost use Rattle.fx_order.specs.Slots.{table_of_slots};
 ghost use Rattle.fx_judge.specs.Played.{IsCell, IsOutcome};
 
-use crate::cell::{Cell, apply, cell_at};
-use crate::certificate::{Web, shows_no_end};
-use crate::claim::{Claim, Leaves, Wants, resident_for};
 use crate::component::components;
 use crate::full::{is_range_empty, with_full};
 use crate::known::has_unknown;
-use crate::node::claim_of;
 use crate::refuted::judge_counts;
-use crate::search::{FEW_STATES, Found, explore};
-use crate::steps::Steps;
-use crate::strand::{Strand, strands_of};
-use crate::verdict::{Doubt, Reason};
+use crate::strands::strands_of;
+use crate::verdict::Reason;
 use fx_base::{Closed, NoMemory};
-use fx_order::{Access, ChainAccess, Limits, Slots};
+use fx_order::{Access, ChainAccess, Slots};
+use fx_search::{
+    Cell, Claim, Doubt, FEW_STATES, Found, Leaves, Limits, Steps, Strand, Wants, Web, apply,
+    cell_at, claim_of, explore, resident_for, shows_no_end,
+};
 use std::alloc::Global;
 
 /// What came of a search.

@@ -1,19 +1,15 @@
 //! What is seen without a search: a slot's files don't come out even, or a request waits for one that doesn't come.
 ghost use Rattle.std.specs.Prelude.{◌≡◌, ◌<◌, ◌+◌, ◌^◌, All, IfOk, IsTrue, length, ℕ};
 ghost use Rattle.fx_order.specs.Slots.{table_of_slots};
-ghost use Rattle.fx_judge.specs.Machine.{HasNoEnd};
+ghost use Rattle.fx_search.specs.Machine.{HasNoEnd};
 ghost use Rattle.fx_judge.specs.Played.{HasNoOrder, IsCell, IsOutcome};
-ghost use Rattle.fx_judge.specs.Starts.{starting};
+ghost use Rattle.fx_search.specs.Starts.{starting};
 
-use crate::cell::Cell;
-use crate::counted::is_uneven;
-use crate::dead::is_dead_by;
-use crate::node::start_of;
 use crate::part::{Outcome, TableTold, cell_of, cells_of};
-use crate::steps::Steps;
-use crate::strand::{Strand, strands_of};
-use crate::verdict::{Doubt, Reason};
+use crate::strands::strands_of;
+use crate::verdict::Reason;
 use fx_base::NoMemory;
+use fx_search::{Cell, Doubt, Steps, Strand, is_dead_by, is_uneven, start_of};
 use std::alloc::Global;
 
 // Whether it is seen of a slot that no order of the claims leads to an end.

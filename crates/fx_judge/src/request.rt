@@ -11,12 +11,12 @@ ghost use Rattle.fx_order.specs.Requests.{IsRefused, IsOpenDone, IsReadDone, IsC
 ghost use Rattle.fx_order.specs.declared.access.Access.{Access as OneAccess};
 ghost use Rattle.fx_judge.specs.Claims.{Fits, Possibly, Tells};
 
-use crate::claim::{Claim, Leaves, Wants, resident_for};
 use crate::stop::Stop;
 use crate::update::claims_of_update;
 use crate::verdict::Reason;
 use fx_base::{Catalogue, Closed, Errno, NoMemory};
 use fx_chain::{Completion, LONGEST_READ, Op, Place, Request, Target};
+use fx_search::{Claim, Leaves, Wants, resident_for};
 use std::alloc::Global;
 
 /// What is known where claims are looked for.

@@ -8,13 +8,13 @@ ghost use Rattle.fx_order.specs.Requests.{AreEntriesDone, IsEntryDone, IsUpdateD
 ghost use Rattle.fx_order.specs.declared.access.Access.{Access as OneAccess};
 ghost use Rattle.fx_judge.specs.Claims.{Fits, Tells};
 
-use crate::claim::{Claim, Leaves, Wants, resident_for};
 use crate::request::{Setting, installed, is_answer, refused};
 use crate::stop::Stop;
 use crate::verdict::Reason;
 use fx_base::{Errno, MOST_ENTRIES};
 use fx_chain::{Completion, LONGEST_UPDATE, Place};
 use fx_ring::has_bad_entry;
+use fx_search::{Claim, Leaves, Wants, resident_for};
 use std::alloc::Global;
 
 // The claim of an entry at a place in its list, and at a slot; an entry that leaves its slot has none.

@@ -1,5 +1,6 @@
 use fx_chain::Place;
 use fx_order::ChainAccess;
+use fx_search::Doubt;
 
 /// Where it was seen that what was told comes of no order. It is advice for a person, and no contract speaks of it.
 #[derive(Clone, Copy, Debug, PartialEq, Eq)]
@@ -14,17 +15,6 @@ pub enum Reason {
     Slot(u32),
     /// What was told of slots comes of no order of the accesses of chains that have slots in common.
     Chains,
-}
-
-/// Why nothing is said of a submission (this project's own).
-#[derive(Clone, Copy, Debug, PartialEq, Eq)]
-pub enum Doubt {
-    /// There are more states than may be looked at.
-    TooManyStates,
-    /// There are states for which there is no more room.
-    TooMuchMemory,
-    /// What was found couldn't be shown to be right.
-    NotShown,
 }
 
 /// Whether what was told of a submission comes of an order of its requests (this project's own).

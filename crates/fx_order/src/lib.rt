@@ -6,7 +6,6 @@ mod access;
 mod answer;
 mod chain;
 pub mod laws;
-mod limits;
 mod listed_order;
 mod open;
 mod order;
@@ -20,7 +19,6 @@ mod update;
 
 pub use access::{Access, ChainAccess};
 pub use chain::accesses_made;
-pub use limits::Limits;
 pub use listed_order::{AccessPlace, Order};
 pub use order::{are_closed, make_all};
 pub use report::is_one_order;

@@ -13,7 +13,7 @@ use crate::setting::Setting;
 use fx_base::NoMemory;
 use fx_chain::Place;
 use fx_language::Script;
-use fx_order::Limits;
+use fx_search::Limits;
 use std::alloc::Global;
 
 /// What a request of a script may answer, and orders that come to it.

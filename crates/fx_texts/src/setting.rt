@@ -2,7 +2,7 @@
 ghost use Rattle.fx_base.specs.Catalogue.{IsCatalogue};
 
 use fx_base::Catalogue;
-use fx_order::Limits;
+use fx_search::Limits;
 use std::alloc::Global;
 
 /// What stays while the commands of a script are played: its files, how far the states of a submission and the rings are

@@ -15,8 +15,8 @@ use crate::setting::Setting;
 use fx_base::NoMemory;
 use fx_calls::{close_in_order, files_at};
 use fx_language::Script;
-use fx_order::Limits;
 use fx_script::teardown_text;
+use fx_search::Limits;
 use indexmap::IndexSet;
 use std::alloc::Global;
 

@@ -1,6 +1,6 @@
 use Rattle.fx_judge.proofs.Words.{arith, length-map, asked_of, completed_of}
 use Rattle.fx_judge.proofs.ChainClaims.{nothing_told, all_told, one_more, one_stops}
-use Rattle.fx_judge.proofs.Lists.{mapped_at}
+use Rattle.fx_search.proofs.Lists.{mapped_at}
 use Rattle.fx_judge.proofs.chain.claims_of_chain.Goals as goal
 
 pub loop-i-init : goal.loop-i-init

@@ -1,7 +1,7 @@
 use Rattle.fx_judge.proofs.Words.{◌≡◌, ◌∙◌, List, All, All-more, Claim, Vec, false, refl, subst, sym, take_all, true}
 use Rattle.std.specs.Prelude.{Any}
 use Rattle.fx_judge.specs.Known.{Brings}
-use Rattle.fx_judge.proofs.Lists.{no_any}
+use Rattle.fx_search.proofs.Lists.{no_any}
 use Rattle.fx_judge.proofs.known.is_brought.Goals as goal
 
 pub returns-then-has_bringing : goal.returns-then-has_bringing

@@ -1,0 +1,94 @@
+//! States from which no end is reached: a claim waits for a file that doesn't come.
+ghost use Rattle.std.specs.Prelude.{◌≡◌, ℕ, ◌≤◌, IsTrue, Some, true, slice_get};
+ghost use Rattle.fx_search.specs.Dead.{IsHopeless, NoneHelps, may_find, no_help};
+ghost use Rattle.fx_search.specs.Machine.{HasNoEnd, view};
+ghost use Rattle.fx_search.specs.declared.claim.Claim.{Claim as OneClaim};
+
+use crate::cell::{cell_at, may_leave, suits};
+use crate::claim::{Claim, Leaves, Resident};
+use crate::node::{Node, place_of};
+use crate::strand::Strand;
+
+/// Whether a claim may be made where this is at its slot.
+pub(crate) fn may_find(claim: &Claim, found: Option<Resident>) -> bool
+    ensures { result ≡ may_find claim.now found }
+{
+    match claim {
+        Claim::At(_, wants, leaves) => {
+            suits(wants, found) && (matches!(leaves, Leaves::Same) || may_leave(found))
+        }
+        Claim::Full => true,
+    }
+}
+
+/// Whether another claim changes nothing at a slot, or leaves there what the claim may not be made with.
+pub(crate) fn is_no_help(slot: u32, claim: &Claim, other: &Claim) -> bool
+    ensures { result ≡ no_help slot claim.now other.now }
+{
+    match other {
+        Claim::At(at, _, leaves) => match leaves {
+            Leaves::Same => true,
+            Leaves::Empty => *at != slot || !may_find(claim, None),
+            Leaves::File(file) => *at != slot || !may_find(claim, Some(*file)),
+        },
+        Claim::Full => true,
+    }
+}
+
+// Whether none of the claims from a place on helps.
+fn none_helps_from(slot: u32, claim: &Claim, claims: &[Claim], first: usize) -> bool
+    ensures { IsTrue result → ((k : ℕ) (other : OneClaim) → first ≤ k
+        → slice_get claims.now k ≡ Some other → no_help slot claim.now other ≡ true) }
+{
+    for k in first..claims.len() {
+        if !is_no_help(slot, claim, &claims[k]) {
+            return false;
+        }
+    }
+    true
+}
+
+// Whether no claim that is still to be made helps.
+fn none_helps(strands: &[Strand], places: &[usize], slot: u32, claim: &Claim) -> bool
+    ensures { IsTrue result → NoneHelps strands.now places.now slot claim.now }
+{
+    for c in 0..strands.len() {
+        if !none_helps_from(slot, claim, &strands[c].claims, place_of(places, c)) {
+            return false;
+        }
+    }
+    true
+}
+
+// Whether a claim may not be made with what is at the slot, and that stays, or what may come is no better.
+fn is_hopeless(strands: &[Strand], node: &Node, slot: u32, claim: &Claim) -> bool
+    ensures { IsTrue result → IsHopeless strands.now (view node.now) slot claim.now }
+{
+    let found = cell_at(&node.cells, slot);
+    if may_find(claim, found) {
+        return false;
+    }
+    !may_leave(found) || none_helps(strands, &node.places, slot, claim)
+}
+
+/// Whether the claim of a chain at a place is still to be made, and waits for a file that doesn't come.
+pub fn is_dead_by(strands: &[Strand], node: &Node, at: Option<(usize, usize)>) -> bool
+    ensures { IsTrue result → HasNoEnd strands.now (view node.now) }
+{
+    let Some((chain, k)) = at else {
+        return false;
+    };
+    let Some(strand) = strands.get(chain) else {
+        return false;
+    };
+    let Some(claim) = strand.claims.get(k) else {
+        return false;
+    };
+    let Claim::At(slot, _, _) = claim else {
+        return false;
+    };
+    if k < place_of(&node.places, chain) {
+        return false;
+    }
+    is_hopeless(strands, node, *slot, claim)
+}

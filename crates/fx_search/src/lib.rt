@@ -1,0 +1,29 @@
+//! In which order claims may be made, one for each access that is told of: a search, of which nothing is proved, and proved code
+//! that looks through what it met.
+#![tactic(auto)]
+
+mod cell;
+mod certificate;
+mod claim;
+mod counted;
+mod dead;
+mod doubt;
+mod limits;
+mod node;
+mod packed;
+mod search;
+mod steps;
+mod strand;
+mod tally;
+
+pub use cell::{Cell, apply, cell_at};
+pub use certificate::{Web, shows_no_end};
+pub use claim::{Claim, Leaves, Resident, Wants, resident_for};
+pub use counted::is_uneven;
+pub use dead::is_dead_by;
+pub use doubt::Doubt;
+pub use limits::Limits;
+pub use node::{claim_of, start_of};
+pub use search::{FEW_STATES, Found, explore};
+pub use steps::Steps;
+pub use strand::{Strand, has_slot};

@@ -1,0 +1,27 @@
+//! The claims of a chain.
+ghost use Rattle.std.specs.Prelude.{◌≡◌, ◌==◌};
+ghost use Rattle.std.specs.List.{list_any};
+
+use crate::cell::Cell;
+use crate::claim::Claim;
+
+/// A chain, by its number from 1, and its claims at some slots.
+#[derive(Debug, Drop)]
+pub struct Strand {
+    /// The chain.
+    pub chain: u32,
+    /// The claims, the first one first.
+    pub claims: Vec<Claim>,
+}
+
+/// Whether one of these slots is this one.
+pub fn has_slot(cells: &[Cell], slot: u32) -> bool
+    ensures { result ≡ list_any (λ cell. cell.slot == slot) cells.now }
+{
+    for cell in cells {
+        if cell.slot == slot {
+            return true;
+        }
+    }
+    false
+}

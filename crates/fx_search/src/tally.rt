@@ -1,0 +1,153 @@
+//! The claims of a slot that are still to be made, counted as a search goes. Nothing is promised of it.
+
+use crate::cell::may_leave;
+use crate::claim::{Claim, Leaves, Resident, Wants};
+use crate::dead::may_find;
+use crate::node::is_test;
+use fx_base::NoMemory;
+use std::alloc::Global;
+
+// Claims that may be made with the same files.
+#[derive(Clone, Copy)]
+struct Class<'a> {
+    // One of them.
+    claim: &'a Claim,
+    // How many are still to be made.
+    left: usize,
+    // How many claims that are still to be made leave what these may be made with.
+    helpers: usize,
+}
+
+/// The claims of a slot that are still to be made.
+#[derive(Drop)]
+pub struct Tally<'a> {
+    classes: Vec<Class<'a>>,
+    // How many take a file that is there.
+    takes: usize,
+    // How many remove what is there, and bring no file.
+    empties: usize,
+    // How many bring a file that the closes have.
+    leaving: usize,
+    // How many bring one that they don't have.
+    staying: usize,
+}
+
+// Whether both may be made with the same files.
+fn is_alike(one: &Claim, other: &Claim) -> bool {
+    let (Claim::At(_, wants, _), Claim::At(_, others, _)) = (one, other) else {
+        return false;
+    };
+    let same_wants = match (wants, others) {
+        (Wants::Anything, Wants::Anything) => true,
+        (Wants::Nothing, Wants::Nothing) => true,
+        (Wants::NothingToTake, Wants::NothingToTake) => true,
+        (Wants::Something, Wants::Something) => true,
+        (Wants::Bytes(fits), Wants::Bytes(others)) => fits == others,
+        _ => false,
+    };
+    same_wants && is_test(one) == is_test(other)
+}
+
+// One more, or one less.
+fn count(number: &mut usize, is_more: bool) {
+    *number = if is_more {
+        number.saturating_add(1)
+    } else {
+        number.saturating_sub(1)
+    };
+}
+
+impl<'a> Tally<'a> {
+    /// No claims.
+    pub fn new(alloc: Global) -> Tally<'a> {
+        Tally {
+            classes: Vec::new(alloc),
+            takes: 0,
+            empties: 0,
+            leaving: 0,
+            staying: 0,
+        }
+    }
+
+    /// The same classes once more, with what was counted.
+    pub fn copy(&self, alloc: Global) -> Result<Tally<'a>, NoMemory> {
+        Ok(Tally {
+            classes: Vec::from_slice(alloc, &self.classes)?,
+            ..*self
+        })
+    }
+
+    /// The number of the claims that may be made with the same files as this one, which is no reason to count it.
+    pub(crate) fn class_of(&mut self, claim: &'a Claim) -> Result<usize, NoMemory> {
+        for i in 0..self.classes.len() {
+            if is_alike(self.classes[i].claim, claim) {
+                return Ok(i);
+            }
+        }
+        self.classes.push(Class {
+            claim,
+            left: 0,
+            helpers: 0,
+        })?;
+        Ok(self.classes.len().saturating_sub(1))
+    }
+
+    // Counts what a claim leaves for the others.
+    fn count_left(&mut self, left: Option<Resident>, is_more: bool) {
+        for class in self.classes.iter_mut() {
+            if may_find(class.claim, left) {
+                count(&mut class.helpers, is_more);
+            }
+        }
+    }
+
+    /// Counts a claim of this class as still to be made, or as made.
+    pub(crate) fn count_claim(&mut self, class: usize, claim: &Claim, is_more: bool) {
+        if class < self.classes.len() {
+            count(&mut self.classes[class].left, is_more);
+        }
+        let Claim::At(_, wants, leaves) = claim else {
+            return;
+        };
+        match leaves {
+            Leaves::Same => {}
+            Leaves::Empty => {
+                count(&mut self.empties, is_more);
+                if matches!(wants, Wants::Something) {
+                    count(&mut self.takes, is_more);
+                }
+                self.count_left(None, is_more);
+            }
+            Leaves::File(file) => {
+                if file.leaves {
+                    count(&mut self.leaving, is_more);
+                } else {
+                    count(&mut self.staying, is_more);
+                }
+                self.count_left(Some(*file), is_more);
+            }
+        }
+    }
+
+    /// Whether a claim waits for a file that doesn't come, where this is at the slot ([`crate::dead`]).
+    pub fn is_hopeless(&self, found: Option<Resident>) -> bool {
+        let stays = !may_leave(found);
+        for class in &self.classes {
+            if class.left > 0 && (stays || class.helpers == 0) && !may_find(class.claim, found) {
+                return true;
+            }
+        }
+        false
+    }
+
+    /// Whether the files don't come out even, where this is at the slot ([`crate::counted`]).
+    pub fn is_uneven(&self, found: Option<Resident>) -> bool {
+        let (mut leaving, mut staying) = (self.leaving, self.staying);
+        match found {
+            Some(file) if file.leaves => leaving = leaving.saturating_add(1),
+            Some(_) => staying = staying.saturating_add(1),
+            None => {}
+        }
+        staying > 1 || leaving < self.takes || (self.empties == 0 && staying == 0 && leaving > 0)
+    }
+}
