@@ -7,8 +7,8 @@ use Rattle.fx_base.specs.declared.open_file.Closed.{Closed}
 use Rattle.fx_ring.specs.Registration.{removed_by, removed_from}
 use Rattle.fx_ring.specs.Ring.{HasClosed, IsRing, RingState, files_in_order, files_of}
 use Rattle.fx_script.specs.Play.{PrintsClosed, PrintsEnd}
-use Rattle.fx_script.specs.Text.{closes_text, teardown_text}
 use Rattle.fx_calls.proofs.ClosesInOrder.{one_close_list}
+use Rattle.fx_print.specs.Text.{closes_text, teardown_text}
 
 abbrev pub IsAtOne : (ℕ → Option Closed) → Closed → Type 0
 IsAtOne at file = (slot : ℕ) × (at slot ≡ Some file)

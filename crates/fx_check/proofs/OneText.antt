@@ -10,13 +10,13 @@ use Rattle.fx_chain.specs.Completed.{negated}
 use Rattle.fx_ring.specs.Ring.{RingContents, RingState, ring_of}
 use Rattle.fx_language.specs.Instruction.{Instruction}
 use Rattle.fx_script.specs.Play.{Answers, IsRefused, Prints}
-use Rattle.fx_script.specs.Text.{result_line}
 use Rattle.fx_order.specs.declared.ring_slots.RingSlots.{RingSlots}
 use Rattle.fx_check.specs.Met.{BeginsWith, IsMet}
 use Rattle.fx_check.specs.Only.{IsOnlyStep, LeadsTo}
 use Rattle.fx_check.specs.declared.met.Met.{Met}
 use Rattle.fx_check.specs.declared.met.Met.TheVariants.{Here, Apart}
 use Rattle.fx_order.specs.Slots.{ring_with_slots}
+use Rattle.fx_print.specs.Text.{result_line}
 
 pub rest_behind : (text line others : List ℕ) (count : ℕ) → BeginsWith text count line → text ≡ line ++ others → others ≡ drop count text
 rest_behind text line others count found split =

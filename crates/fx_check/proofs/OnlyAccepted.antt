@@ -18,7 +18,7 @@ use Rattle.fx_order.proofs.OneRing.{each_report_leads_to_one_ring}
 use Rattle.fx_order.proofs.Ordered.{each_history_is_an_order}
 use Rattle.fx_language.specs.Instruction.{SubmitsAll}
 use Rattle.fx_script.specs.Play.{PrintsReport}
-use Rattle.fx_script.specs.Text.{refused_line, report_text, too_many_line}
+use Rattle.fx_script.specs.Text.{report_text}
 use Rattle.fx_lines.specs.Lines.{IsReportBefore, Lines, ReadsReport, lines_of, lines_text}
 use Rattle.fx_lines.specs.LinesView.{lines_in}
 use Rattle.fx_lines.specs.declared.report.ReportLines.{ReportLines}
@@ -34,6 +34,7 @@ use Rattle.fx_check.proofs.OrderFiles.{are_from, may_close_all}
 use Rattle.fx_check.proofs.ReportInRange.{report_in_range}
 use Rattle.fx_check.proofs.Submissions.{printed_lines}
 use Rattle.fx_order.specs.Slots.{ring_with_slots}
+use Rattle.fx_print.specs.Text.{refused_line, too_many_line}
 
 module _ (catalogue : List FileEntry) (old : RingSlots) (kept : IsKept catalogue old) where
   -- the files at slots are told apart

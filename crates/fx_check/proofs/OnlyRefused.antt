@@ -11,12 +11,12 @@ use Rattle.fx_ring.specs.Ring.{RingState, ring_of}
 use Rattle.fx_ring.specs.declared.ring.TheConstants.{MOST_SUBMISSIONS}
 use Rattle.fx_script.specs.Play.{PrintsReport}
 use Rattle.fx_language.specs.Instruction.{SubmitsAll}
-use Rattle.fx_script.specs.Text.{refused_line, too_many_line}
 use Rattle.fx_order.specs.declared.ring_slots.RingSlots.{RingSlots}
 use Rattle.fx_check.specs.Met.{IsMet}
 use Rattle.fx_check.specs.Only.{IsOnlyStep}
 use Rattle.fx_check.specs.declared.met.Met.{Met}
 use Rattle.fx_check.proofs.OneText.{one_text}
+use Rattle.fx_print.specs.Text.{refused_line, too_many_line}
 
 refused_play : (x : Option CutFault) (fault : CutFault) (played : Type 0) (new old : RingState) (line : List ℕ) → x ≡ Some fault
     → MatchOption x played (λ cut. (new ≡ old) × (line ≡ refused_line cut)) → (new ≡ old) × (line ≡ refused_line fault)

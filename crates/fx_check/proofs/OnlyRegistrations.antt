@@ -15,7 +15,6 @@ use Rattle.fx_ring.specs.Registration.{sparse_refusal, unregister_refusal, updat
 use Rattle.fx_ring.specs.Ring.{HasClosed, RingState, IsRing, files_of, ring_of, without_table}
 use Rattle.fx_ring.specs.Tags.{tags_given}
 use Rattle.fx_language.specs.Instruction.{Instruction, MakesSparse, RegistersList, SetsRange, Unregisters, UpdatesRing}
-use Rattle.fx_script.specs.Text.{closes_text, result_line}
 use Rattle.fx_lines.proofs.ResultLines.{one_result}
 use Rattle.fx_order.specs.declared.ring_slots.RingSlots.{RingSlots}
 use Rattle.fx_check.specs.Met.{BeginsWith, IsMet}
@@ -25,6 +24,7 @@ use Rattle.fx_check.specs.declared.met.Met.TheVariants.{Here}
 use Rattle.fx_calls.proofs.FilesThere.{all_in_order, all_removed, closes_printed}
 use Rattle.fx_check.proofs.OneText.{AreApart, PrintsEither, either_here, either_only, one_text, range_accepted, range_refused, refusal_only, refused_text}
 use Rattle.fx_check.proofs.Registrations.{empty_table}
+use Rattle.fx_print.specs.Text.{closes_text, result_line}
 
 -- a line of success is none of a call that found no memory
 success_apart : (word : List ℕ) (n : ℕ) (tail : List ℕ) → n < 2 ^ 31 → AreApart (result_line word (pos n) ++ tail) (result_line word (negated ENOMEM))

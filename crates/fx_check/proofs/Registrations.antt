@@ -23,13 +23,13 @@ use Rattle.fx_ring.specs.declared.ring.TheConstants.{MOST_REGISTRATIONS}
 use Rattle.fx_ring.proofs.Origins.{registered_rings, updated_rings}
 use Rattle.fx_ring.proofs.Rings.{none_rings}
 use Rattle.fx_language.specs.Instruction.{MakesSparse, RegistersList, SetsRange, Unregisters, UpdatesRing}
-use Rattle.fx_script.specs.Text.{closes_text, result_line}
 use Rattle.fx_order.specs.declared.ring_slots.RingSlots.{RingSlots}
 use Rattle.fx_check.specs.Kept.{IsKept}
 use Rattle.fx_check.specs.Met.{IsMet, IsStep}
 use Rattle.fx_check.specs.declared.met.Met.{Met}
 use Rattle.fx_check.specs.declared.met.Met.TheVariants.{Here}
 use Rattle.fx_check.proofs.Steps.{accepted_so, goes, no_memory_so, refused_so, stays}
+use Rattle.fx_print.specs.Text.{closes_text, result_line}
 
 ranged_so : (x : Option Errno) (accepted : Type 0) (refused : Errno → Type 0) (errno : Errno) → x ≡ Some errno → refused errno
     → MatchOption x accepted refused

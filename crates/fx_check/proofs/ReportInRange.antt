@@ -16,7 +16,6 @@ use Rattle.fx_ring.specs.Submission.{Reported}
 use Rattle.fx_order.specs.Access.{accesses_of}
 use Rattle.fx_order.specs.Order.{IsOneOrder, table_of}
 use Rattle.fx_language.specs.Script.{AreFiles}
-use Rattle.fx_script.specs.Text.{name_of}
 use Rattle.fx_lines.specs.Lines.{AreLinesInRange, IsCloseInRange, is_without, lines_of, named_close}
 use Rattle.fx_lines.proofs.Names.{name_without_end}
 use Rattle.fx_order.specs.declared.ring_slots.RingSlots.{RingSlots}
@@ -25,6 +24,7 @@ use Rattle.fx_check.specs.Told.{MayClose}
 use Rattle.fx_check.proofs.InRange.{all_got, chains_so, permitted_inside}
 use Rattle.fx_check.proofs.OrderFiles.{closed_in_range, may_close_all, short_runs}
 use Rattle.fx_order.specs.Slots.{ring_with_slots}
+use Rattle.fx_print.specs.Text.{name_of}
 
 entry_at : (catalogue : List FileEntry) (i : ℕ) → i < length catalogue → (file : FileEntry) × (slice_get catalogue i ≡ Some file)
 entry_at [] i inside = absurd (omega arith)

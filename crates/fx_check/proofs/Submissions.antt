@@ -23,7 +23,7 @@ use Rattle.fx_ring.specs.Submission.{Reported}
 use Rattle.fx_ring.specs.declared.ring.TheConstants.{MOST_SUBMISSIONS}
 use Rattle.fx_language.specs.Instruction.{SubmitsAll}
 use Rattle.fx_script.specs.Play.{PrintsReport}
-use Rattle.fx_script.specs.Text.{closed_lines, completion_lines, name_of, refused_line, report_text, tag_lines, too_many_line}
+use Rattle.fx_script.specs.Text.{report_text}
 use Rattle.std.proofs.lemmas.Simd.{map-map}
 use Rattle.fx_base.specs.Tags.{tag_completion}
 use Rattle.fx_base.specs.declared.open_file.Closed.{Closed}
@@ -43,6 +43,7 @@ use Rattle.fx_order.specs.Requests.{AreChainsDone}
 use Rattle.fx_order.specs.declared.listed_order.Order.{Order}
 use Rattle.fx_check.proofs.OrderFiles.{left_in_range}
 use Rattle.fx_order.specs.Slots.{ring_with_slots}
+use Rattle.fx_print.specs.Text.{closed_lines, completion_lines, name_of, refused_line, tag_lines, too_many_line}
 
 -- the text of a report is that of its lines
 pub printed_lines : (catalogue : List FileEntry) (report : Reported) → report_text catalogue report ≡ lines_text (lines_of catalogue report)

@@ -12,12 +12,12 @@ use Rattle.fx_chain.specs.Operation.{all_asked, asked_of}
 use Rattle.fx_chain.specs.declared.completion.Completion.{Completion}
 use Rattle.fx_chain.specs.declared.request.Request.{Request}
 use Rattle.fx_order.specs.declared.slots.Slots.{Slots}
-use Rattle.fx_script.specs.Text.{name_of}
 use Rattle.fx_lines.specs.ClosedView.{close_of}
 use Rattle.fx_lines.specs.Lines.{NamedClose, named_close, named_closes}
 use Rattle.fx_lines.specs.declared.close.ClosedLine.{ClosedLine}
 use Rattle.fx_check.specs.Told.{AreApart, HasDistinctMarks, HasNone, Installed, IsAtSlot, MayClose, OneInstalled}
 use Rattle.fx_calls.proofs.ClosesInOrder.{neither_below, same_cmp}
+use Rattle.fx_print.specs.Text.{name_of}
 
 -- an entry of the catalogue has its name
 name_at_entry : (catalogue : List FileEntry) (entry : ℕ) → entry < length catalogue → name_at catalogue entry ≡ Some (name_of catalogue entry)

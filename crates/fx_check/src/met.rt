@@ -1,8 +1,8 @@
 //! What a command printed, looked for at the beginning of a text.
 ghost use Rattle.std.specs.Prelude.{◌≡◌, IfOk, string_bytes};
 ghost use Rattle.fx_chain.specs.Completed.{negated};
-ghost use Rattle.fx_script.specs.Text.{result_line};
 ghost use Rattle.fx_check.specs.Met.{IsMet};
+ghost use Rattle.fx_print.specs.Text.{result_line};
 
 use fx_base::{Errno, NoMemory};
 use fx_script::result_line;

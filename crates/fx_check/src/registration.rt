@@ -3,10 +3,10 @@ ghost use Rattle.std.specs.Prelude.{◌≡◌, IfOk, OnOk, option_map};
 ghost use Rattle.fx_base.specs.declared.errno.Errno.TheVariants.{ENOMEM};
 ghost use Rattle.fx_chain.specs.Completed.{negated};
 ghost use Rattle.fx_language.specs.Instruction.{MakesSparse, RegistersList, SetsRange, Unregisters, UpdatesRing};
-ghost use Rattle.fx_script.specs.Text.{result_line};
 ghost use Rattle.fx_check.specs.Met.{IsMet, IsStep};
 ghost use Rattle.fx_check.specs.Only.{IsOnlyStep};
 ghost use Rattle.fx_check.specs.Kept.{IsKept};
+ghost use Rattle.fx_print.specs.Text.{result_line};
 
 use crate::met::{Met, meet, meet_refusal, meet_result};
 use fx_base::{Catalogue, Errno, NoMemory};

@@ -3,7 +3,6 @@ use Rattle.std.proofs.Common.{◌≡◌, ℕ, ◌<◌, ◌^◌, true, List, ◌�
 use Rattle.std.specs.Prelude.{codes, decimal, not, ◌==◌}
 use Rattle.std.proofs.lemmas.List.{append_assoc}
 use Rattle.fx_base.specs.declared.mark.Mark.{Mark}
-use Rattle.fx_script.specs.Text.{mark_text}
 use Rattle.fx_lines.specs.Front.{IsCutPart, close_text, cut_text}
 use Rattle.fx_lines.specs.Lines.{IsCloseInRange, IsMarkInRange, NamedClose, is_without, line_of_tag, named_line}
 use Rattle.fx_lines.specs.Reads.{IsPrintedFrom}
@@ -12,6 +11,7 @@ use Rattle.fx_language.proofs.Conditions.{and_right}
 use Rattle.fx_lines.proofs.Decimals.{decimal_without}
 use Rattle.fx_lines.proofs.LinesInTurn.{IsOneLine}
 use Rattle.fx_lines.proofs.Marks.{mark_without}
+use Rattle.fx_print.specs.Text.{mark_text}
 
 close_is : (close : NamedClose) (mark : Mark) (name : List ℕ) → close.mark ≡ mark → close.name ≡ name
     → close ≡ record { mark = mark; name = name }

@@ -5,7 +5,6 @@ use Rattle.std.specs.Fmt.{signed_decimal}
 use Rattle.std.proofs.lemmas.List.{append_assoc}
 use Rattle.fx_chain.specs.Completed.{Completed}
 use Rattle.fx_chain.specs.declared.completion.Place.{Place}
-use Rattle.fx_script.specs.Text.{completion_line}
 use Rattle.fx_lines.specs.Front.{IsCutPart, answer_text, completion_text, cut_text, place_text}
 use Rattle.fx_lines.specs.Lines.{IsCompletionInRange, IsPlaceInRange, IsResultInRange, is_without}
 use Rattle.fx_lines.specs.Reads.{IsPrintedFrom}
@@ -15,6 +14,7 @@ use Rattle.fx_lines.proofs.Hexes.{hex_without}
 use Rattle.fx_lines.proofs.LinesInTurn.{IsOneLine}
 use Rattle.fx_lines.proofs.Marks.{place_without}
 use Rattle.fx_lines.proofs.Results.{result_without}
+use Rattle.fx_print.specs.Text.{completion_line}
 
 -- a completion is that of its parts
 completion_is : (c : Completed) (place : Place) (res : ℤ) (got : List ℕ) → c.place ≡ place → c.res ≡ res → c.got ≡ got

@@ -6,9 +6,9 @@ use Rattle.hex.specs.Hex.{IsBytes, decode_of, encode_lower, encode_with, lower_d
 use Rattle.hex.specs.declared.error.FromHexError.{FromHexError}
 use Rattle.hex.proofs.HexLemmas.{decode_of-encode_lower, decode_of-ok, length-encode_with}
 use Rattle.fx_language.proofs.Conditions.{and_left, and_right, and_true}
-use Rattle.fx_script.specs.Text.{got_text}
 use Rattle.fx_lines.specs.Lines.{is_without}
 use Rattle.fx_lines.specs.Reads.{IsPrintedFrom, Reads}
+use Rattle.fx_print.specs.Text.{got_text}
 
 -- no bytes are printed as an empty word
 pub none_empty : (word : List ℕ) → length word ≡ 0 → Reads encode_lower (λ got. (0 < length got) × IsBytes got) word None

@@ -7,12 +7,12 @@ use Rattle.fx_language.specs.Words.{is_digit}
 use Rattle.fx_base.specs.declared.mark.Mark.{Mark}
 use Rattle.fx_base.specs.declared.mark.Mark.TheVariants.{Registered, Submitted}
 use Rattle.fx_chain.specs.declared.completion.Place.{Place}
-use Rattle.fx_script.specs.Text.{mark_text}
 use Rattle.fx_lines.specs.Front.{entry_text, number_text, place_text}
 use Rattle.fx_lines.specs.Lines.{IsMarkInRange, IsPlaceInRange, is_without}
 use Rattle.fx_lines.specs.Reads.{IsPrintedFrom, Reads}
 use Rattle.fx_lines.proofs.Cuts.{other_first, without_between}
 use Rattle.fx_lines.proofs.Decimals.{decimal_without}
+use Rattle.fx_print.specs.Text.{mark_text}
 
 -- a place is that of its numbers
 pub place_is : (place : Place) (s c m : ℕ) → place.submission ≡ s → place.chain ≡ c → place.member ≡ m

@@ -27,10 +27,10 @@ use Rattle.fx_ring.specs.Submission.{ExplainsParts, IsOneHistory, Reported}
 use Rattle.fx_ring.specs.declared.ring.TheConstants.{MOST_SUBMISSIONS}
 use Rattle.fx_language.specs.Instruction.{Instruction, MakesSparse, RegistersList, Unregisters, SetsRange, UpdatesRing, SubmitsAll}
 use Rattle.fx_script.specs.Play.{Answers, IsRefused, Prints, PrintsClosed, PrintsEnd, PrintsReport}
-use Rattle.fx_script.specs.Text.{closes_text, completion_lines, got_text, kind_name, refused_line, result_line, too_many_line}
 use Rattle.fx_lines.specs.Laws.{PlaysBeginWithNoClose}
 use Rattle.fx_lines.specs.Lines.{HasNoCloses}
 use Rattle.fx_lines.proofs.FirstBytes.{begins_with_digit, by_first, by_nothing, by_teardown, no_letter}
+use Rattle.fx_print.specs.Text.{closes_text, completion_lines, got_text, kind_name, refused_line, result_line, too_many_line}
 
 -- no files, no lines of them
 no_files : (files : List Closed) → length files ≡ 0 → files ≡ []

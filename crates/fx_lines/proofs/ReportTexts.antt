@@ -8,12 +8,12 @@ use Rattle.std.specs.Io.{StartsWith}
 use Rattle.std.specs.List.{flat_map}
 use Rattle.std.proofs.lemmas.List.{append_assoc, take_at}
 use Rattle.fx_chain.specs.Completed.{Completed}
-use Rattle.fx_script.specs.Text.{completion_line}
 use Rattle.fx_lines.specs.Front.{AreAll, AreSoMany, IsFront, lines_before}
 use Rattle.fx_lines.specs.Lines.{HasNoCloses, IsCloseInRange, IsCompletionInRange, IsReportBefore, Lines, NamedClose, ReadsReport, line_of_tag, lines_text, named_line}
 use Rattle.fx_lines.specs.Reads.{IsPrintedFrom, Reads}
 use Rattle.fx_lines.proofs.LinesInTurn.{not_begun}
 use Rattle.fx_lines.proofs.Readings.{pair_is}
+use Rattle.fx_print.specs.Text.{completion_line}
 
 lines_is : (lines : Lines) (cs : List Completed) (closed : List NamedClose) (tags : List ℕ)
     → lines.completions ≡ cs → lines.closed ≡ closed → lines.tags ≡ tags → lines ≡ record { completions = cs; closed = closed; tags = tags }

@@ -6,8 +6,8 @@ use Rattle.std.specs.Io.{StartsWith}
 use Rattle.std.specs.List.{flat_map}
 use Rattle.fx_chain.specs.Completed.{Completed}
 use Rattle.fx_chain.specs.declared.completion.Place.{Place}
-use Rattle.fx_script.specs.Text.{got_text, mark_text}
 use Rattle.fx_lines.specs.Lines.{NamedClose, is_without}
+use Rattle.fx_print.specs.Text.{got_text, mark_text}
 
 -- a value that was read, and the rest of the text
 abbrev pub with_rest : {A : Type 0} → A × Bor (List ℕ) → A × List ℕ

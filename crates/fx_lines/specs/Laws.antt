@@ -5,9 +5,9 @@ use Rattle.fx_ring.specs.Ring.{RingContents}
 use Rattle.fx_ring.specs.Submission.{IsOneHistory, Reported}
 use Rattle.fx_language.specs.Instruction.{Instruction}
 use Rattle.fx_script.specs.Play.{PrintsAll}
-use Rattle.fx_script.specs.Text.{result_line}
 use Rattle.fx_base.specs.Name.{is_name}
 use Rattle.fx_lines.specs.Lines.{HasNoCloses, IsResultInRange, is_without}
+use Rattle.fx_print.specs.Text.{result_line}
 
 -- a text begins with at most one line of a word and a result
 abbrev pub BeginsWithOneResult : Type 0

@@ -12,8 +12,8 @@ use Rattle.fx_base.specs.declared.open_file.Closed.{Closed}
 use Rattle.fx_chain.specs.Completed.{Completed}
 use Rattle.fx_chain.specs.declared.completion.Place.{Place}
 use Rattle.fx_ring.specs.Submission.{Reported}
-use Rattle.fx_script.specs.Text.{closed_line, completion_lines, name_of, tag_line}
 use Rattle.fx_lines.specs.Reads.{Reads}
+use Rattle.fx_print.specs.Text.{closed_line, completion_lines, name_of, tag_line}
 
 -- what the line of a closed file says
 pub record NamedClose : Type 0 where

@@ -1,10 +1,10 @@
 //! The lines of closed files, and those of their tags.
 ghost use Rattle.std.specs.Prelude.{◌<◌, ◌^◌, IfOk, codes, map, option_map};
-ghost use Rattle.fx_script.specs.Text.{mark_text};
 ghost use Rattle.fx_lines.specs.ClosedView.{close_of};
 ghost use Rattle.fx_lines.specs.Front.{close_text, entry_text, lines_before, AreAll, IsFront};
 ghost use Rattle.fx_lines.specs.Lines.{IsCloseInRange, IsMarkInRange, IsPlaceInRange, line_of_tag, named_line};
 ghost use Rattle.fx_lines.specs.Reads.{Reads};
+ghost use Rattle.fx_print.specs.Text.{mark_text};
 
 use crate::cut::{cut, rest_behind};
 use crate::number::{first_number, number, tag};

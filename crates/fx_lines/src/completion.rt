@@ -2,10 +2,10 @@
 ghost use Rattle.std.specs.Prelude.{◌<◌, IfOk, length, option_map};
 ghost use Rattle.hex.specs.Hex.{encode_lower, IsBytes};
 ghost use Rattle.fx_chain.specs.Completed.{all_completed, completed_of};
-ghost use Rattle.fx_script.specs.Text.{completion_line};
 ghost use Rattle.fx_lines.specs.Front.{answer_text, completion_text, lines_before, place_text, AreSoMany, IsFront};
 ghost use Rattle.fx_lines.specs.Lines.{IsCompletionInRange, IsPlaceInRange, IsResultInRange};
 ghost use Rattle.fx_lines.specs.Reads.{Reads};
+ghost use Rattle.fx_print.specs.Text.{completion_line};
 
 use crate::cut::cut;
 use crate::number::{first_number, number, res_of};

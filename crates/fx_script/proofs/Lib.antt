@@ -1,5 +1,3 @@
-pub mod Hexes
 pub mod Turns
 pub mod KeptBytes
 pub mod PlaySteps
-pub mod Chunks

@@ -23,8 +23,9 @@ use Rattle.fx_ring.specs.declared.ring.TheConstants.{MOST_SUBMISSIONS}
 use Rattle.fx_language.specs.Instruction.{Instruction, MakesSparse, RegistersList, Unregisters}
 use Rattle.fx_language.specs.Instruction.{SetsRange, UpdatesRing, SubmitsAll}
 use Rattle.fx_language.specs.Script.{Meaning}
-use Rattle.fx_script.specs.Text.{result_line, closes_text, refused_line, report_text, teardown_text}
-use Rattle.fx_script.specs.Text.{too_many_line}
+use Rattle.fx_print.specs.Text.{result_line, closes_text, refused_line, teardown_text}
+use Rattle.fx_print.specs.Text.{too_many_line}
+use Rattle.fx_script.specs.Text.{report_text}
 
 -- what a call answers that takes memory: its refusal, if there is one, and else that it was
 -- accepted or found no memory

@@ -5,14 +5,14 @@ ghost use Rattle.fx_chain.specs.Completed.{negated};
 ghost use Rattle.fx_chain.specs.Operation.{all_asked};
 ghost use Rattle.fx_ring.specs.Ring.{ring_of};
 ghost use Rattle.fx_language.specs.Instruction.{MakesSparse, RegistersList, Unregisters, SetsRange, UpdatesRing, SubmitsAll, instruction_of};
+ghost use Rattle.fx_print.specs.Text.{result_line};
 ghost use Rattle.fx_script.specs.Play.{Prints, PrintsEnd};
-ghost use Rattle.fx_script.specs.Text.{result_line};
 
-use crate::printed::printed_report;
-use crate::text::{refused_line, result_line, teardown_text, too_many_line, with_closes};
+use crate::report::printed_report;
 use fx_base::{Errno, NoMemory};
 use fx_chain::{Gate, Request};
 use fx_language::Command;
+use fx_print::{refused_line, result_line, teardown_text, too_many_line, with_closes};
 use fx_ring::{Ring, SubmitFault};
 use fx_table::FileTable;
 use std::alloc::Global;

@@ -24,12 +24,12 @@ use Rattle.fx_ring.specs.declared.ring.TheConstants.{MOST_REGISTRATIONS, MOST_SU
 use Rattle.fx_order.specs.declared.ring_slots.RingSlots.{RingSlots}
 use Rattle.fx_language.specs.Instruction.{Instruction, MakesSparse, RegistersList, SetsRange, SubmitsAll, Unregisters, UpdatesRing}
 use Rattle.fx_script.specs.Play.{Answers, IsRefused, Prints, PrintsClosed, PrintsReport}
-use Rattle.fx_script.specs.Text.{closes_text, refused_line, result_line, too_many_line}
 use Rattle.fx_lines.specs.Lines.{IsResultInRange}
 use Rattle.fx_lines.proofs.ResultLines.{one_result}
 use Rattle.fx_calls.proofs.FilesThere.{IsAtOne, all_in_order, all_removed, closes_printed}
 use Rattle.fx_calls.proofs.Shown.{shown}
 use Rattle.fx_order.specs.Slots.{ring_with_slots}
+use Rattle.fx_print.specs.Text.{closes_text, refused_line, result_line, too_many_line}
 use Rattle.fx_texts.specs.Rings.{AnswersFound, IsCall, IsLineOf, Leads, MayLeadTo, Stage, after_call, count_after, count_behind, kept_text, stage, unless_refused}
 use Rattle.fx_texts.specs.Texts.{FoundMemory, HasFound}
 

@@ -14,8 +14,8 @@ use Rattle.fx_ring.specs.Submission.{IsOneHistory, Reported}
 use Rattle.fx_ring.specs.Tags.{tags_given}
 use Rattle.fx_ring.specs.declared.ring.TheConstants.{MOST_SUBMISSIONS}
 use Rattle.fx_language.specs.Instruction.{Instruction, MakesSparse, RegistersList, SetsRange, SubmitsAll, Unregisters, UpdatesRing}
+use Rattle.fx_print.specs.Text.{refused_line, too_many_line}
 use Rattle.fx_script.specs.Play.{Prints, PrintsReport}
-use Rattle.fx_script.specs.Text.{refused_line, too_many_line}
 use Rattle.fx_texts.specs.Rings.{LeadsAll, after_call, count_after, count_after_all, count_behind, unless_refused}
 use Rattle.fx_texts.specs.Texts.{FoundMemory, IsReportFound}
 use Rattle.fx_texts.proofs.Calls.{call_leaves}

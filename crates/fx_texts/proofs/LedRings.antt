@@ -24,8 +24,8 @@ use Rattle.fx_ring.proofs.SubmittedRing.{submitted_rings}
 use Rattle.fx_language.specs.Instruction.{Instruction, MakesSparse, RegistersList, SetsRange, SubmitsAll, Unregisters, UpdatesRing}
 use Rattle.fx_order.proofs.Shown.{none_past, ring_with_files, shows_ring}
 use Rattle.fx_order.specs.Slots.{ring_with_slots}
+use Rattle.fx_print.specs.Text.{refused_line, too_many_line}
 use Rattle.fx_script.specs.Play.{Answers, IsRefused, PrintsReport}
-use Rattle.fx_script.specs.Text.{refused_line, too_many_line}
 use Rattle.fx_texts.specs.Rings.{Leads, LeadsAll, MayLeadAllTo, MayLeadTo, Stage, stage_of}
 use Rattle.fx_texts.specs.declared.reached.Reached.{Reached}
 

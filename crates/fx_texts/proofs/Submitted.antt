@@ -24,12 +24,13 @@ use Rattle.fx_ring.specs.Submission.{Reported, reported}
 use Rattle.fx_ring.specs.declared.ring.TheConstants.{MOST_SUBMISSIONS}
 use Rattle.fx_language.specs.Instruction.{Instruction, SubmitsAll}
 use Rattle.fx_script.specs.Play.{Prints, PrintsReport}
-use Rattle.fx_script.specs.Text.{closes_text, completion_lines, refused_line, report_text, too_many_line}
+use Rattle.fx_script.specs.Text.{report_text}
 use Rattle.fx_chain.specs.Accepted.{IsAccepted}
 use Rattle.fx_calls.proofs.ClosesInOrder.{one_close_list}
 use Rattle.fx_order.proofs.OneRing.{each_closed_file_is_known}
 use Rattle.fx_order.specs.Laws.{AreKnown}
 use Rattle.fx_order.specs.Order.{ring_left}
+use Rattle.fx_print.specs.Text.{closes_text, completion_lines, refused_line, too_many_line}
 use Rattle.std.proofs.lemmas.Bool.{true≢false}
 use Rattle.std.proofs.lemmas.List.Sorted.{IsPermutation-refl}
 use Rattle.fx_texts.specs.Rings.{HasEachNext, Leads, MayEnd, MayLeadTo, MaySay, Stage, count_behind, kept_text, stage_left, stage_reported}

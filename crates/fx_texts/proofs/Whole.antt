@@ -10,8 +10,8 @@ use Rattle.fx_order.proofs.Shown.{ring_with_files, shows_ring}
 use Rattle.fx_ring.specs.Ring.{RingContents, RingState, files_of, new_ring, ring_of}
 use Rattle.fx_language.specs.Instruction.{Instruction, SubmitsAll}
 use Rattle.fx_language.specs.Script.{Meaning}
+use Rattle.fx_print.specs.Text.{teardown_text}
 use Rattle.fx_script.specs.Play.{PrintsEnd}
-use Rattle.fx_script.specs.Text.{teardown_text}
 use Rattle.std.proofs.lemmas.List.{append-nil}
 use Rattle.fx_texts.specs.Rings.{HasEachLast, HasEachSaidFrom, MayEnd, MayLeadAllTo, MayLeadTo, MaySay, EndsAs, IsTextAt, Stage, count_after_all, count_behind, stage}
 use Rattle.fx_texts.specs.Texts.{IsTextFound, MayAnswerIn, PrintsAllFound}

@@ -23,8 +23,9 @@ use Rattle.fx_ring.specs.declared.ring.TheConstants.{MOST_SUBMISSIONS}
 use Rattle.fx_language.specs.Instruction.{Instruction, MakesSparse, RegistersList, Unregisters}
 use Rattle.fx_language.specs.Instruction.{SetsRange, UpdatesRing, SubmitsAll, instructions_of}
 use Rattle.fx_order.specs.Slots.{ring_with_slots}
+use Rattle.fx_print.specs.Text.{refused_line, result_line, too_many_line}
 use Rattle.fx_script.specs.Play.{Prints, PrintsClosed, PrintsEnd}
-use Rattle.fx_script.specs.Text.{refused_line, report_text, result_line, too_many_line}
+use Rattle.fx_script.specs.Text.{report_text}
 use Rattle.fx_texts.specs.Texts.{FoundMemory, IsReportFound, PrintsAllFound}
 use Rattle.fx_texts.specs.declared.asking.Asking.{Asking}
 use Rattle.fx_texts.specs.declared.saying.Said.{Said}

@@ -12,8 +12,9 @@ use Rattle.fx_answers.specs.Outcomes.{MayReport}
 use Rattle.fx_language.specs.Instruction.{Instruction, MakesSparse, RegistersList, Unregisters}
 use Rattle.fx_language.specs.Instruction.{SetsRange, UpdatesRing, SubmitsAll}
 use Rattle.fx_language.specs.Script.{Meaning}
+use Rattle.fx_print.specs.Text.{result_line}
 use Rattle.fx_script.specs.Play.{IsStart, IsText, Prints, PrintsEnd}
-use Rattle.fx_script.specs.Text.{report_text, result_line}
+use Rattle.fx_script.specs.Text.{report_text}
 
 -- a call between submissions found memory: its line isn't its word and -12
 abbrev pub HasFound : List ℕ → List ℕ → Type 0

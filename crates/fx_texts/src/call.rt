@@ -10,8 +10,8 @@ ghost use Rattle.fx_language.specs.Instruction.{MakesSparse, RegistersList, Sets
 ghost use Rattle.fx_language.specs.Instruction.{Unregisters, UpdatesRing, instruction_of};
 ghost use Rattle.fx_order.specs.Slots.{ring_with_slots};
 ghost use Rattle.fx_plain.specs.declared.table.TheConstants.{MOST_SLOTS};
+ghost use Rattle.fx_print.specs.Text.{closes_text, refused_line, result_line, too_many_line};
 ghost use Rattle.fx_ring.specs.Ring.{HasClosed, IsRing};
-ghost use Rattle.fx_script.specs.Text.{closes_text, refused_line, result_line, too_many_line};
 ghost use Rattle.fx_texts.specs.Rings.{IsLineOf, after_call};
 
 use crate::setting::Setting;

@@ -5,9 +5,9 @@ use Rattle.fx_calls.proofs.Entries.{good_registered, if_ok_then}
 use Rattle.fx_check.proofs.Registrations.{register_goes, register_keeps, register_stays}
 use Rattle.fx_check.proofs.OnlyRegistrations.{register_apart, register_here, register_refused}
 use Rattle.fx_check.specs.Met.{IsMet}
-use Rattle.fx_script.specs.Text.{result_line}
 use Rattle.std.proofs.Common.{codes, pos, subst}
 use Rattle.fx_check.proofs.registration.play_register.Goals as goal
+use Rattle.fx_print.specs.Text.{result_line}
 
 pub returns-in-Some-clause-step : goal.returns-in-Some-clause-step
 returns-in-Some-clause-step c =

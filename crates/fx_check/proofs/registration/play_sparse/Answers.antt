@@ -3,9 +3,9 @@ use Rattle.fx_check.proofs.Registrations.{sparse_goes, sparse_keeps}
 use Rattle.fx_check.proofs.OnlyRegistrations.{sparse_apart, sparse_here, sparse_refused}
 use Rattle.fx_calls.proofs.Entries.{if_ok_then}
 use Rattle.fx_check.specs.Met.{IsMet}
-use Rattle.fx_script.specs.Text.{result_line}
 use Rattle.std.proofs.Common.{codes, pos, subst}
 use Rattle.fx_check.proofs.registration.play_sparse.Goals as goal
+use Rattle.fx_print.specs.Text.{result_line}
 
 pub returns-in_ok-ring-in-Here-clause-step : goal.returns-in_ok-ring-in-Here-clause-step
 returns-in_ok-ring-in-Here-clause-step c =

@@ -1,5 +1,4 @@
 use Rattle.std.proofs.Common.{refl, sym, ap, ◌∙◌, ◌++◌, List, ℕ, string_bytes}
-use Rattle.fx_script.specs.Text.{closes_text}
 use Rattle.fx_check.proofs.Registrations.{unregister_goes}
 use Rattle.fx_calls.proofs.Entries.{all_closed, all_of_ring, few_of_ring}
 use Rattle.fx_check.proofs.OnlyRegistrations.{unregister_apart, unregister_here, unregister_refused}
@@ -7,6 +6,7 @@ use Rattle.fx_calls.proofs.Entries.{if_ok_then}
 use Rattle.fx_check.specs.Met.{IsMet}
 use Rattle.std.proofs.Common.{subst}
 use Rattle.fx_check.proofs.registration.play_unregister.Goals as goal
+use Rattle.fx_print.specs.Text.{closes_text}
 
 pub close_in_order-requires-clause-entries : goal.close_in_order-requires-clause-entries
 close_in_order-requires-clause-entries c =

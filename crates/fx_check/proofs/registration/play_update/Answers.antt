@@ -3,7 +3,6 @@ use Rattle.fx_base.specs.declared.catalogue.TheConstants.{MOST_ENTRIES}
 use Rattle.fx_order.specs.Access.{Table}
 use Rattle.fx_ring.specs.Registration.{files_after, removed_from}
 use Rattle.fx_ring.specs.Tags.{tags_for}
-use Rattle.fx_script.specs.Text.{closes_text, result_line}
 use Rattle.fx_calls.proofs.Entries.{all_closed, all_of_list, few_of_list, good_larger, if_ok_then}
 use Rattle.fx_calls.specs.InRange.{AreInRange}
 use Rattle.fx_check.proofs.Registrations.{copied, update_goes, update_keeps, update_no_memory, update_stays}
@@ -11,6 +10,7 @@ use Rattle.fx_check.proofs.OnlyRegistrations.{update_apart, update_here, update_
 use Rattle.fx_check.specs.Met.{IsMet}
 use Rattle.std.proofs.Common.{arith, subst}
 use Rattle.fx_check.proofs.registration.play_update.Goals as goal
+use Rattle.fx_print.specs.Text.{closes_text, result_line}
 
 pub returns-in-Some-clause-step : goal.returns-in-Some-clause-step
 returns-in-Some-clause-step c =

@@ -5,9 +5,9 @@ use Rattle.std.proofs.lemmas.Result.{IfOk-weaker}
 use Rattle.std.specs.Prelude.{IfOk, Ok}
 use Rattle.fx_chain.specs.Completed.{all_completed, completed_of}
 use Rattle.fx_chain.specs.declared.completion.Completion.{Completion}
-use Rattle.fx_script.specs.Text.{completion_line, completion_lines}
-use Rattle.fx_script.proofs.Chunks.{all_chunks, joined}
-use Rattle.fx_script.proofs.printed.texts_of.Goals as goal
+use Rattle.fx_print.specs.Text.{completion_line, completion_lines}
+use Rattle.fx_print.proofs.Chunks.{all_chunks, joined}
+use Rattle.fx_print.proofs.printed.texts_of.Goals as goal
 
 lines-append : (a b : List Completion) → completion_lines (all_completed (a ++ b)) ≡ completion_lines (all_completed a) ++ completion_lines (all_completed b)
 lines-append a b = ap completion_lines (map-append completed_of a b) ∙ flat_map-append completion_line (all_completed a) (all_completed b)

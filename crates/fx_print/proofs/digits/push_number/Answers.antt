@@ -1,6 +1,6 @@
 use Rattle.std.proofs.Common.{◌++◌, ap, sym, ◌∙◌, arith, string_bytes, List, ℕ}
 use Rattle.std.proofs.lemmas.Fmt.{decimal_digit}
-use Rattle.fx_script.proofs.digits.push_number.Goals as goal
+use Rattle.fx_print.proofs.digits.push_number.Goals as goal
 
 pub returns-then-number-lt10 : goal.returns-then-number-lt10
 returns-then-number-lt10 c =

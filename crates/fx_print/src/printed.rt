@@ -1,13 +1,11 @@
-//! The text of a large report, which several threads make.
+//! The text of a large submission, which several threads make.
 ghost use Rattle.std.specs.Prelude.{◌≡◌, ◌<◌, All, IfOk, Ok, flat_map, length, map, string_bytes};
 ghost use Rattle.fx_chain.specs.Completed.{all_completed};
-ghost use Rattle.fx_ring.specs.Submission.{reported};
-ghost use Rattle.fx_script.specs.Text.{completion_lines, report_text};
+ghost use Rattle.fx_print.specs.Text.{completion_lines, submission_text};
 
-use crate::text::{completions_text, report_text, room_of, with_closes};
-use fx_base::{Catalogue, NoMemory};
+use crate::text::{completions_text, room_of, submission_text, with_closes};
+use fx_base::{Catalogue, CloseList, NoMemory};
 use fx_chain::Completion;
-use fx_ring::Report;
 use std::alloc::Global;
 use std::thread;
 use std::thread::Threads;
@@ -65,25 +63,28 @@ fn joined(alloc: Global, texts: Vec<String>) -> Result<String, NoMemory>
     Ok(all)
 }
 
-/// The text of a submission, as [`report_text`] makes it. Where it is large, its lines are made by as many threads as the
+/// The text of a submission, as [`submission_text`] makes it. Where it is large, its lines are made by as many threads as the
 /// submission has workers, and joined.
-pub fn printed_report(
+///
+/// # Errors
+/// `NoMemory` where the memory of the text or of the tags is refused.
+pub fn printed_submission(
     rt: &(impl Threads + Sync),
     alloc: Global,
-    report: &Report,
     catalogue: &Catalogue,
+    completions: &[Completion],
+    closes: &CloseList,
     workers: u32,
 ) -> Result<String, NoMemory>
-    requires { All (λ file. file.entry < length catalogue.now) report.now.closes.files }
-    ensures { IfOk result (λ text.
-        string_bytes text ≡ report_text catalogue.now (reported report.now)) }
+    requires { All (λ file. file.entry < length catalogue.now) closes.now.files }
+    ensures { IfOk result (λ text. string_bytes text
+        ≡ submission_text catalogue.now (all_completed completions.now) closes.now.files) }
 {
-    let completions = report.completions.as_slice();
     if workers < 2 || room_of(completions) < LARGE {
-        return report_text(alloc, report, catalogue);
+        return submission_text(alloc, catalogue, completions, closes);
     }
     let size = completions.len() / workers as usize + 1;
     let mut texts = texts_of(rt, alloc, completions, size)?;
-    texts.push(with_closes(alloc, "", catalogue, &report.closes)?)?;
+    texts.push(with_closes(alloc, "", catalogue, closes)?)?;
     joined(alloc, texts)
 }

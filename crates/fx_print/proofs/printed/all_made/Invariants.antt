@@ -1,6 +1,6 @@
 use Rattle.std.proofs.Common.{◌≡◌, ◌++◌, map}
 use Rattle.std.specs.Prelude.{Ok}
-use Rattle.fx_script.proofs.printed.all_made.Given as goal
+use Rattle.fx_print.proofs.printed.all_made.Given as goal
 
 -- the texts so far, and what is left to look at, are what was made
 abbrev pub invariant-loop-text : goal.invariant-loop-text

@@ -1,7 +1,7 @@
 use Rattle.std.proofs.Common.{◌≡◌, ◌++◌, string_bytes}
 use Rattle.std.specs.Slice.Iter.{chunks_rest, chunks_size}
 use Rattle.hex.specs.Hex.{encode_lower}
-use Rattle.fx_script.proofs.digits.push_hex.Given as goal
+use Rattle.fx_print.proofs.digits.push_hex.Given as goal
 
 -- the text so far, and the digits of the bytes that are left, are what is to come
 abbrev pub invariant-loop-stretch : goal.invariant-loop-stretch

@@ -4,13 +4,11 @@ ghost use Rattle.hex.specs.Hex.{encode_lower};
 ghost use Rattle.std.specs.Fmt.{signed_decimal};
 ghost use Rattle.fx_chain.specs.Completed.{completed_of, all_completed};
 ghost use Rattle.fx_base.specs.Tags.{tags_of};
-ghost use Rattle.fx_ring.specs.Submission.{reported};
-ghost use Rattle.fx_script.specs.Text.{result_line, got_text, kind_name, mark_text, place_text, refused_line, too_many_line, completion_line, completion_lines, closed_line, closed_lines, closes_text, report_text, tag_line, tag_lines, teardown_text};
+ghost use Rattle.fx_print.specs.Text.{result_line, got_text, kind_name, mark_text, place_text, refused_line, too_many_line, completion_line, completion_lines, closed_line, closed_lines, closes_text, submission_text, tag_line, tag_lines, teardown_text};
 
 use crate::digits::{push_hex, push_number, push_signed};
 use fx_base::{Catalogue, CloseList, Closed, Mark, NoMemory, TagCompletion};
 use fx_chain::{Completion, CutFault, CutKind, Place};
-use fx_ring::Report;
 use std::alloc::{AllocError, Global};
 
 /// How many bytes the line of a completion has besides the bytes of a read: four numbers of at most eleven bytes.
@@ -252,23 +250,22 @@ pub(crate) fn completions_text(
 }
 
 /// The text of a submission: a line for each completion, one for each file that was closed, and one for each of their
-/// tags. The caller has seen that each closed entry is below [`Catalogue::len`], as it is with the catalogue of the ring that
-/// gave the report.
+/// tags. The caller has seen that each closed entry is below [`Catalogue::len`].
 ///
 /// # Errors
 /// `NoMemory` where the memory of the text or of the tags is refused.
-pub fn report_text(
+pub fn submission_text(
     alloc: Global,
-    report: &Report,
     catalogue: &Catalogue,
+    completions: &[Completion],
+    closes: &CloseList,
 ) -> Result<String, NoMemory>
-    requires { All (λ file. file.entry < length catalogue.now) report.now.closes.files }
-    ensures { IfOk result (λ text.
-        string_bytes text ≡ report_text catalogue.now (reported report.now)) }
+    requires { All (λ file. file.entry < length catalogue.now) closes.now.files }
+    ensures { IfOk result (λ text. string_bytes text
+        ≡ submission_text catalogue.now (all_completed completions.now) closes.now.files) }
 {
-    let completions = report.completions.as_slice();
-    let files = report.closes.files();
-    let tags = report.closes.tags(alloc)?;
+    let files = closes.files();
+    let tags = closes.tags(alloc)?;
     let room = room_of_closes(files, tags.as_slice()).saturating_add(room_of(completions));
     let mut text = String::with_capacity(alloc, room)?;
     push_completions(&mut text, completions)?;

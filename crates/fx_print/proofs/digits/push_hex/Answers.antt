@@ -3,8 +3,8 @@ use Rattle.std.proofs.lemmas.List.{append-nil, nil_from_length}
 use Rattle.std.specs.Slice.Iter.{chunks_rest}
 use Rattle.std.specs.Str.{IsUtf8}
 use Rattle.hex.specs.Hex.{encode_lower}
-use Rattle.fx_script.proofs.Hexes.{encode_lower-append, encode_lower-is_text, nothing_left, on_ok}
-use Rattle.fx_script.proofs.digits.push_hex.Goals as goal
+use Rattle.fx_print.proofs.Hexes.{encode_lower-append, encode_lower-is_text, nothing_left, on_ok}
+use Rattle.fx_print.proofs.digits.push_hex.Goals as goal
 
 pub unwrap-requires : goal.unwrap-requires
 unwrap-requires c = c.encode_to_slice.ensures.fits.1 (search rules)

@@ -1,6 +1,6 @@
 use Rattle.std.proofs.Common.{◌≡◌, ◌++◌, string_bytes}
 use Rattle.std.specs.List.{flat_map}
-use Rattle.fx_script.proofs.printed.joined.Given as goal
+use Rattle.fx_print.proofs.printed.joined.Given as goal
 
 -- the texts so far, and those that are left, are all
 abbrev pub invariant-loop-text : goal.invariant-loop-text
