@@ -1,22 +1,14 @@
 -- A list that is applied to slots, one number further.
-use Rattle.std.proofs.Common.{◌≡◌, ℕ, zero, suc, ◌+◌, ◌<◌, ℤ, pos, negsuc, List, [], ◌∷◌, ◌++◌, ◌^◌, length, refl, sym, ap, subst, ◌∙◌, arith, if◌then◌else◌}
-use Rattle.std.proofs.Common.{Option, Some, None, slice_index_or, drop, append_assoc}
+use Rattle.std.proofs.Common.{◌≡◌, ℕ, zero, suc, ◌+◌, ◌<◌, ℤ, pos, negsuc, List, ◌++◌, ◌^◌, length, sym, ap, subst, ◌∙◌, if◌then◌else◌}
+use Rattle.std.proofs.Common.{Option, Some, slice_index_or, drop, append_assoc}
 use Rattle.fx_base.specs.declared.mark.Mark.TheVariants.{Registered}
 use Rattle.fx_base.specs.declared.open_file.Closed.{Closed}
 use Rattle.fx_calls.specs.InRange.{AreInRange, IsInRange}
-use Rattle.fx_plain.specs.Step.{changed_at}
 use Rattle.fx_ring.specs.Registration.{file_after, removed_by, removed_from}
 use Rattle.fx_ring.specs.Tags.{tag_at}
 use Rattle.fx_ring.proofs.ListSteps.{files_upto, upto_here, upto_next, removed_next}
 use Rattle.fx_order.specs.Access.{Table, with_file}
 use Rattle.fx_plain.proofs.Cells.{by_equality}
-
--- one more empty slot
-pub none_more : (xs : List (Option Closed)) → ((k : ℕ) → slice_index_or xs k None ≡ None) → (k : ℕ) → slice_index_or (xs ++ None ∷ []) k None ≡ None
-none_more [] none zero = refl
-none_more [] none (suc k) = refl
-none_more (x ∷ xs) none zero = none zero
-none_more (x ∷ xs) none (suc k) = none_more xs (λ j. none (suc j)) k
 
 -- a number of a list leaves files in range
 pub in_range_after : (t : Table) (slot k i tag : ℕ) (z : ℤ) → AreInRange t.at → k < 2 ^ 32 → i < 2 ^ 32 → tag < 2 ^ 64

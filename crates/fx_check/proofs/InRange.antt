@@ -2,14 +2,17 @@
 use Rattle.std.proofs.Common.{◌≡◌, inl, inr, ℕ, zero, suc, ◌+◌, ◌<◌, ◌≤◌, ◌^◌, ◌==◌, ◌||◌, nat_le, nat_lt, ℤ, pos, Bool, true, false, cond}
 use Rattle.std.proofs.Common.{List, [], ◌∷◌, ◌++◌, filter, length, take, drop, All, refl, sym, subst, arith, Option, Some, None, slice_get}
 use Rattle.std.specs.List.{list_any}
-use Rattle.std.proofs.lemmas.Bool.{ltb-false}
-use Rattle.std.proofs.lemmas.List.Elements.{All-append, All-cons, All-head, All-nil, All-tail}
+use Rattle.std.proofs.lemmas.Bool.{cases_lt, ltb-false}
+use Rattle.std.proofs.lemmas.Option.{get_or_from_slice_get, slice_get_within}
+use Rattle.std.proofs.lemmas.List.Elements.{All-append, All-cons, All-drop, All-get_or, All-head, All-nil, All-tail, All-take}
+use Rattle.std.proofs.lemmas.List.{get_or-drop, get_or-take, get_or_past, length-drop, length-take}
+use Rattle.std.proofs.Math.Seq.{drop-append_seam, take-append_seam}
 use Rattle.hex.specs.Hex.{IsBytes}
 use Rattle.fx_base.specs.AddFault.{has_name}
 use Rattle.fx_base.specs.Catalogue.{FileEntry, bytes_at, part_of}
 use Rattle.fx_base.specs.declared.catalogue.TheConstants.{LONGEST_ENTRY}
 use Rattle.fx_base.specs.declared.errno.Errno.{Errno}
-use Rattle.fx_base.specs.declared.errno.Errno.TheVariants.{ENOENT, ENXIO, EBADF, EAGAIN, ENOMEM, EBUSY, EINVAL, ENFILE, EMFILE, ECANCELED}
+use Rattle.fx_base.specs.declared.errno.Errno.TheVariants.{ENOENT, ENXIO, EBADF, ENOMEM, EINVAL, ENFILE, ECANCELED}
 use Rattle.fx_chain.specs.Answers.{installed, is_bad_entry}
 use Rattle.fx_chain.specs.Completed.{Completed, completed, next_member, refusal}
 use Rattle.fx_chain.specs.Explains.{canceled, first_member, severs}
@@ -19,97 +22,54 @@ use Rattle.fx_chain.specs.declared.request.Target.{Target}
 use Rattle.fx_chain.specs.declared.request.Target.TheVariants.{Slot, Any}
 use Rattle.fx_order.specs.Access.{Table, PermitsAll, accesses_of, accesses_of_chain, table_with}
 use Rattle.fx_order.specs.declared.access.Access.{Access}
-use Rattle.fx_order.specs.declared.access.Access.TheVariants.{Looks, Puts, Clears, Takes, Allocates, FindsFull}
+use Rattle.fx_order.specs.declared.access.Access.TheVariants.{Allocates}
 use Rattle.fx_order.specs.declared.access.ChainAccess.{ChainAccess}
 use Rattle.fx_order.specs.Requests.{IsRefused, IsOpenDone, IsReadDone, IsCloseDone, IsUpdateDone, IsRequestDone, IsChainDone, AreChainsDone}
 use Rattle.fx_order.proofs.PlacedNew.{either_way}
 use Rattle.fx_language.specs.Script.{AreFiles}
 use Rattle.fx_lines.specs.Lines.{IsCompletionInRange, IsPlaceInRange}
 
--- each allocation is at a slot of a table of this size
+-- an allocation is at a slot of a table of this size
+abbrev IsInside : ℕ → Access → Type 0
+IsInside size (Allocates slot file) = slot < size
+IsInside size _ = Unit {0}
+
 abbrev pub AreInside : ℕ → List Access → Type 0
-AreInside size [] = Unit {0}
-AreInside size (Allocates slot file ∷ xs) = (slot < size) × AreInside size xs
-AreInside size (_ ∷ xs) = AreInside size xs
+AreInside size xs = All (IsInside size) xs
 
 pub permitted_inside : (t : Table) (xs : List Access) → PermitsAll t xs → AreInside t.size xs
-permitted_inside t [] may = tt
-permitted_inside t (Looks slot found ∷ xs) may = permitted_inside (table_with t (Looks slot found)) xs may.1
-permitted_inside t (Puts slot file removed ∷ xs) may = permitted_inside (table_with t (Puts slot file removed)) xs may.1
-permitted_inside t (Clears slot removed ∷ xs) may = permitted_inside (table_with t (Clears slot removed)) xs may.1
-permitted_inside t (Takes slot removed ∷ xs) may = permitted_inside (table_with t (Takes slot removed)) xs may.1
-permitted_inside t (Allocates slot file ∷ xs) may = (may.0.0.0, permitted_inside (table_with t (Allocates slot file)) xs may.1)
-permitted_inside t (FindsFull ∷ xs) may = permitted_inside (table_with t FindsFull) xs may.1
-
--- of an access and others
-inside_rest : (size : ℕ) (x : Access) (xs : List Access) → AreInside size (x ∷ xs) → AreInside size xs
-inside_rest size (Looks slot found) xs inside = inside
-inside_rest size (Puts slot file removed) xs inside = inside
-inside_rest size (Clears slot removed) xs inside = inside
-inside_rest size (Takes slot removed) xs inside = inside
-inside_rest size (Allocates slot file) xs inside = inside.1
-inside_rest size FindsFull xs inside = inside
-
-inside_more : (size : ℕ) (x : Access) (xs ys : List Access) → AreInside size (x ∷ xs) → AreInside size ys → AreInside size (x ∷ ys)
-inside_more size (Looks slot found) xs ys inside more = more
-inside_more size (Puts slot file removed) xs ys inside more = more
-inside_more size (Clears slot removed) xs ys inside more = more
-inside_more size (Takes slot removed) xs ys inside more = more
-inside_more size (Allocates slot file) xs ys inside more = (inside.0, more)
-inside_more size FindsFull xs ys inside more = more
-
-inside_front : (size : ℕ) (xs ys : List Access) → AreInside size (xs ++ ys) → AreInside size xs
-inside_front size [] ys inside = tt
-inside_front size (x ∷ xs) ys inside =
-    inside_more size x (xs ++ ys) xs inside (inside_front size xs ys (inside_rest size x (xs ++ ys) inside))
-
-inside_behind : (size : ℕ) (xs ys : List Access) → AreInside size (xs ++ ys) → AreInside size ys
-inside_behind size [] ys inside = inside
-inside_behind size (x ∷ xs) ys inside = inside_behind size xs ys (inside_rest size x (xs ++ ys) inside)
+permitted_inside t [] may = All-nil (IsInside t.size)
+permitted_inside t (Allocates slot file ∷ xs) may =
+    All-cons (IsInside t.size) (Allocates slot file) xs may.0.0.0 (permitted_inside (table_with t (Allocates slot file)) xs may.1)
+permitted_inside t (x ∷ xs) may = All-cons (IsInside t.size) x xs tt (permitted_inside (table_with t x) xs may.1)
 
 pub inside_chain : (size c : ℕ) (order : List ChainAccess) → AreInside size (accesses_of order) → AreInside size (accesses_of_chain c order)
-inside_chain size c [] inside = tt
+inside_chain size c [] inside = inside
 inside_chain size c (x ∷ order) inside =
-    either (x.chain == c) (inside_chain size c order (inside_rest size x.access (accesses_of order) inside))
+    either (x.chain == c) (inside_chain size c order (All-tail (IsInside size) x.access (accesses_of order) inside))
   where
     either : (b : Bool) → AreInside size (accesses_of_chain c order)
         → AreInside size (accesses_of (cond b (x ∷ filter (λ y. y.chain == c) order) (filter (λ y. y.chain == c) order)))
-    either true more = inside_more size x.access (accesses_of order) (accesses_of_chain c order) inside more
+    either true more =
+        All-cons (IsInside size) x.access (accesses_of_chain c order) (All-head (IsInside size) x.access (accesses_of order) inside) more
     either false more = more
 
 -- an element of a list of which each is so
 pub all_got : {A : Type 0} (P : A → Type 0) (xs : List A) (i : ℕ) (x : A) → All P xs → slice_get xs i ≡ Some x → P x
-all_got P [] i x all is = absurd (cc)
-all_got P (y ∷ xs) zero x all is = let e : y ≡ x = cc in subst P e (All-head P y xs all)
-all_got P (y ∷ xs) (suc i) x all is = all_got P xs i x (All-tail P y xs all) is
+all_got P xs i x all is = subst P (get_or_from_slice_get xs i x x is) (All-get_or P xs i x (slice_get_within xs i x is) all)
 
 no_bytes : IsBytes []
 no_bytes zero = omega arith
 no_bytes (suc i) = omega arith
 
-one_more_byte : (x : ℕ) (xs : List ℕ) → x < 256 → IsBytes xs → IsBytes (x ∷ xs)
-one_more_byte x xs one more zero = one
-one_more_byte x xs one more (suc i) = more i
-
 taken_bytes : (n : ℕ) (xs : List ℕ) → IsBytes xs → IsBytes (take n xs)
-taken_bytes zero xs fits = no_bytes
-taken_bytes (suc n) [] fits = no_bytes
-taken_bytes (suc n) (x ∷ xs) fits = one_more_byte x (take n xs) (fits 0) (taken_bytes n xs (λ k. fits (suc k)))
+taken_bytes n xs fits i = elim (cases_lt i n) [
+  | inl low ↦ rw (get_or-take n xs i 0 low) (fits i)
+  | inr past ↦ rw (get_or_past (take n xs) i 0 (omega (arith, length-take n xs))) (omega arith)
+]
 
 left_bytes : (n : ℕ) (xs : List ℕ) → IsBytes xs → IsBytes (drop n xs)
-left_bytes zero xs fits = fits
-left_bytes (suc n) [] fits = no_bytes
-left_bytes (suc n) (x ∷ xs) fits = left_bytes n xs (λ k. fits (suc k))
-
-taken_length : (n : ℕ) (xs : List ℕ) → length (take n xs) ≤ length xs
-taken_length zero xs = omega arith
-taken_length (suc n) [] = omega arith
-taken_length (suc n) (x ∷ xs) = let rest = taken_length n xs in omega arith
-
-left_length : (n : ℕ) (xs : List ℕ) → length (drop n xs) ≤ length xs
-left_length zero xs = omega arith
-left_length (suc n) [] = omega arith
-left_length (suc n) (x ∷ xs) = let rest = left_length n xs in omega arith
+left_bytes n xs fits i = rw get_or-drop (fits (n + i))
 
 -- bytes that a read gives
 record AreGiven (got : List ℕ) : Type 0 where
@@ -124,21 +84,13 @@ given catalogue entry off len are = of (slice_get catalogue entry) refl
     of (Some file) is =
         let small : length file.bytes ≤ LONGEST_ENTRY = all_got (λ (f : FileEntry). length f.bytes ≤ LONGEST_ENTRY) catalogue entry file are.catalogue.small is in
         let bytes : IsBytes file.bytes = all_got (λ (f : FileEntry). IsBytes f.bytes) catalogue entry file are.bytes is in
-        let first = taken_length len (drop off file.bytes) in
-        let rest = left_length off file.bytes in
+        let first = length-take len (drop off file.bytes) in
+        let rest = length-drop off file.bytes in
         record { small = omega arith; bytes = taken_bytes len (drop off file.bytes) (left_bytes off file.bytes bytes) }
 
 error_in_range : (errno : Errno) (place : Place) → IsPlaceInRange place → IsCompletionInRange (refusal place errno)
 error_in_range ENOENT place is = record { place = is; res = omega arith; got = no_bytes }
-error_in_range ENXIO place is = record { place = is; res = omega arith; got = no_bytes }
-error_in_range EBADF place is = record { place = is; res = omega arith; got = no_bytes }
-error_in_range EAGAIN place is = record { place = is; res = omega arith; got = no_bytes }
-error_in_range ENOMEM place is = record { place = is; res = omega arith; got = no_bytes }
-error_in_range EBUSY place is = record { place = is; res = omega arith; got = no_bytes }
-error_in_range EINVAL place is = record { place = is; res = omega arith; got = no_bytes }
-error_in_range ENFILE place is = record { place = is; res = omega arith; got = no_bytes }
-error_in_range EMFILE place is = record { place = is; res = omega arith; got = no_bytes }
-error_in_range ECANCELED place is = record { place = is; res = omega arith; got = no_bytes }
+error_in_range _ place is = record { place = is; res = omega arith; got = no_bytes }
 
 number_in_range : (n : ℕ) (place : Place) → IsPlaceInRange place → n < 2 ^ 31 → IsCompletionInRange (completed place (pos n) [])
 number_in_range n place is few = record { place = is; res = few; got = no_bytes }
@@ -161,7 +113,7 @@ module _ (catalogue : List FileEntry) (are : AreFiles catalogue) (size : ℕ) (s
         either_way (size == 0) _ _ _ (λ _. refused_so ENFILE accesses c)
         (λ _ x. elim x [
           | inl y ↦ (let within : AreInside size (Allocates y.0 (installed place 0 entry) ∷ []) = subst (AreInside size) y.1.0 inside in
-              let low = within.0 in
+              let low = All-head (IsInside size) (Allocates y.0 (installed place 0 entry)) [] within in
               so c _ y.1.1 (number_in_range y.0 place is (omega arith)))
           | inr y ↦ so c _ y.1 (error_in_range ENFILE place is)
         ])
@@ -227,10 +179,10 @@ module _ (catalogue : List FileEntry) (are : AreFiles catalogue) (size : ℕ) (s
       let within : AreInside size (x.0 ++ x.1) = subst (AreInside size) x.4 inside in
       let next : IsPlaceInRange (next_member place) = moved place (length rs) is few in
       subst (All IsCompletionInRange) (sym x.5)
-      (All-cons IsCompletionInRange x.2 x.3 (request_so place is r.operation x.0 x.2 (inside_front size x.0 x.1 within) x.6)
+      (All-cons IsCompletionInRange x.2 x.3 (request_so place is r.operation x.0 x.2 (subst (AreInside size) (take-append_seam x.0 x.1) (All-take (IsInside size) (length x.0) (x.0 ++ x.1) within)) x.6)
       (either_way (severs r x.2) _ _ (All IsCompletionInRange x.3)
       (λ _ y. subst (All IsCompletionInRange) (sym y.1) (canceled_so (next_member place) rs next (omega arith)))
-      (λ _ y. chain_so (next_member place) rs x.1 x.3 next (omega arith) (inside_behind size x.0 x.1 within) y) x.7))
+      (λ _ y. chain_so (next_member place) rs x.1 x.3 next (omega arith) (subst (AreInside size) (drop-append_seam x.0 x.1) (All-drop (IsInside size) (length x.0) (x.0 ++ x.1) within)) y) x.7))
 
   -- the completions of an order
   pub chains_so : (submission first : ℕ) (runs : List (List Asked)) (order : List ChainAccess) (cs : List Completed) → submission < 2 ^ 32

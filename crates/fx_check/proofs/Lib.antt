@@ -1,13 +1,11 @@
 pub mod OneText
-pub mod Steps
 pub mod Plays
 pub mod Listed
 pub mod Lists
 pub mod Merged
-pub mod OnePlay
 pub mod Registrations
-pub mod OnlyRegistrations
-pub mod OnlyRefused
+pub mod Calls
+pub mod OneAnswer
 pub mod Submissions
 pub mod InRange
 pub mod Installations
@@ -15,5 +13,3 @@ pub mod OrderFiles
 pub mod ReportInRange
 pub mod OnlyAccepted
 pub mod Tellings
-pub mod Fronts
-pub mod Beginnings

@@ -1,6 +1,6 @@
 -- The places of a chain's accesses.
 use Rattle.std.proofs.Common.{◌≡◌, ◌≢◌, ℕ, suc, ◌+◌, ◌<◌, ◌==◌, ◌||◌, nat_lt, Bool, true, false, if◌then◌else◌, ℤ, negsuc, int_le, List, [], ◌∷◌, ◌++◌, All, length}
-use Rattle.std.proofs.Common.{Some, None, refl, sym, ap, subst, ◌∙◌, arith, append-nil, append_assoc, length-append, slice_index_or, drop, take}
+use Rattle.std.proofs.Common.{Some, None, refl, sym, ap, subst, ◌∙◌, arith, append-nil, append_assoc, length-append, slice_index_or, take}
 use Rattle.std.specs.Bool.{MatchBool}
 use Rattle.std.specs.List.{list_any}
 use Rattle.std.proofs.lemmas.List.{length-replicate, length-take-le, take_more}
@@ -149,69 +149,33 @@ abbrev pub IsPut : List FileEntry → ℕ → Place → List Asked → List Acce
 IsPut catalogue size place requests accesses completions old new =
     (own : List AccessPlace) × (new ≡ old ++ own) × IsChainListed catalogue size place requests accesses own completions
 
-pub too_few : (catalogue : List FileEntry) (size : ℕ) (place : Place) (request : Asked) (requests : List Asked) (accesses : List Access)
-    → IsChainDone catalogue size place (request ∷ requests) accesses [] → ⊥
-too_few catalogue size place request requests accesses x = let e : 0 ≡ suc (length x.3) = ap length x.5 in absurd (omega arith)
-
 module _ (catalogue : List FileEntry) (size : ℕ) (place : Place) (request : Asked) (requests : List Asked) (c : Completed) (cs : List Completed)
     (old mid : List AccessPlace)
     (first : (own : List Access) → IsRequestDone catalogue size place request.operation own c → mid ≡ old ++ own_places place request.operation own) where
   same_first : (d : Completed) (ds : List Completed) → ◌≡◌ {A = List Completed} (c ∷ cs) (d ∷ ds) → d ≡ c
   same_first d ds same = sym (ap (λ (l : List Completed). slice_index_or l 0 c) same)
 
-  same_rest : (d : Completed) (ds : List Completed) → ◌≡◌ {A = List Completed} (c ∷ cs) (d ∷ ds) → ds ≡ cs
-  same_rest d ds same = sym (ap (λ (l : List Completed). drop 1 l) same)
+  abbrev Done : Bool → List Access → List Completed → Type 0
+  Done cut others ds = MatchBool cut ((others ≡ []) × (ds ≡ canceled (next_member place) requests))
+      (IsChainDone catalogue size (next_member place) requests others ds)
+
+  abbrev DoneSo : Bool → List Access → List AccessPlace → List Completed → Type 0
+  DoneSo cut others behind ds = MatchBool cut ((others ≡ []) × (behind ≡ []) × (ds ≡ canceled (next_member place) requests))
+      (IsChainListed catalogue size (next_member place) requests others behind ds)
+
+  put : (new behind : List AccessPlace) (accesses : List Access) (x : IsChainDone catalogue size place (request ∷ requests) accesses (c ∷ cs))
+      → new ≡ mid ++ behind → DoneSo (severs request x.2) x.1 behind x.3 → IsPut catalogue size place (request ∷ requests) accesses (c ∷ cs) old new
+  put new behind accesses x is rest =
+      let own = own_places place request.operation x.0 in
+      let done = subst (λ (e : Completed). IsRequestDone catalogue size place request.operation x.0 e) (same_first x.2 x.3 x.5) x.6 in (
+        own ++ behind,
+        is ∙ ap (λ (l : List AccessPlace). l ++ behind) (first x.0 done) ∙ append_assoc old own behind,
+        (x.0, x.1, behind, x.2, x.3, x.4, x.5, refl, x.6, rest),
+      )
 
   pub severed_put : (accesses : List Access) → severs request c ≡ true → IsChainDone catalogue size place (request ∷ requests) accesses (c ∷ cs)
       → IsPut catalogue size place (request ∷ requests) accesses (c ∷ cs) old mid
   severed_put accesses cut x =
-      let d : x.2 ≡ c = same_first x.2 x.3 x.5 in
-      let done = subst (λ (e : Completed). IsRequestDone catalogue size place request.operation x.0 e) d x.6 in
-      let over = subst (λ (b : Bool). MatchBool b ((x.1 ≡ []) × (x.3 ≡ canceled (next_member place) requests))
-      (IsChainDone catalogue size (next_member place) requests x.1 x.3)) (ap (severs request) d ∙ cut) x.7 in (
-        own_places place request.operation x.0,
-        first x.0 done,
-        (
-          x.0,
-          x.1,
-          [],
-          x.2,
-          x.3,
-          x.4,
-          x.5,
-          sym (append-nil (own_places place request.operation x.0)),
-          x.6,
-          subst (λ (b : Bool). MatchBool b ((x.1 ≡ []) × (◌≡◌ {A = List AccessPlace} [] []) × (x.3 ≡ canceled (next_member place) requests))
-              (IsChainListed catalogue size (next_member place) requests x.1 [] x.3)) (sym (ap (severs request) d ∙ cut)) (over.0, refl, over.1),
-        ),
-      )
-
-  pub going_put : (new : List AccessPlace) (accesses : List Access) → severs request c ≡ false
-      → ((others : List Access) → IsChainDone catalogue size (next_member place) requests others cs
-      → IsPut catalogue size (next_member place) requests others cs mid new)
-      → IsChainDone catalogue size place (request ∷ requests) accesses (c ∷ cs)
-      → IsPut catalogue size place (request ∷ requests) accesses (c ∷ cs) old new
-  going_put new accesses goes rest x =
-      let d : x.2 ≡ c = same_first x.2 x.3 x.5 in
-      let done = subst (λ (e : Completed). IsRequestDone catalogue size place request.operation x.0 e) d x.6 in
-      let others = subst (λ (b : Bool). MatchBool b ((x.1 ≡ []) × (x.3 ≡ canceled (next_member place) requests))
-      (IsChainDone catalogue size (next_member place) requests x.1 x.3)) (ap (severs request) d ∙ goes) x.7 in
-      let later = rest x.1 (subst (λ (ds : List Completed). IsChainDone catalogue size (next_member place) requests x.1 ds) (same_rest x.2 x.3 x.5) others) in
-      let own = own_places place request.operation x.0 in (
-        own ++ later.0,
-        later.1 ∙ ap (λ (l : List AccessPlace). l ++ later.0) (first x.0 done) ∙ append_assoc old own later.0,
-        (
-          x.0,
-          x.1,
-          later.0,
-          x.2,
-          x.3,
-          x.4,
-          x.5,
-          refl,
-          x.6,
-          subst (λ (b : Bool). MatchBool b ((x.1 ≡ []) × (later.0 ≡ []) × (x.3 ≡ canceled (next_member place) requests))
-              (IsChainListed catalogue size (next_member place) requests x.1 later.0 x.3)) (sym (ap (severs request) d ∙ goes))
-              (subst (λ (ds : List Completed). IsChainListed catalogue size (next_member place) requests x.1 later.0 ds) (sym (same_rest x.2 x.3 x.5)) later.2),
-        ),
-      )
+      let severed = ap (severs request) (same_first x.2 x.3 x.5) ∙ cut in
+      let over = subst (λ (b : Bool). Done b x.1 x.3) severed x.7 in
+      put mid [] accesses x (sym (append-nil mid)) (subst (λ (b : Bool). DoneSo b x.1 [] x.3) (sym severed) (over.0, refl, over.1))

@@ -1,5 +1,5 @@
 -- The places of all chains, a list for each.
-use Rattle.std.proofs.Common.{◌≡◌, ◌-◌, map, take, drop, slice_index_or, ℕ, zero, suc, ◌+◌, ◌≤◌, List, [], ◌∷◌, ◌++◌, length, Some, refl, sym, ap, subst, ◌∙◌, arith, append-nil, append_assoc, slice_get}
+use Rattle.std.proofs.Common.{◌≡◌, ◌-◌, map, take, drop, slice_index_or, ℕ, zero, suc, ◌+◌, ◌≤◌, List, [], ◌∷◌, ◌++◌, length, Some, refl, sym, ap, subst, ◌∙◌, arith, append_assoc, slice_get}
 use Rattle.std.proofs.lemmas.Option.{get_or_from_slice_get, slice_get_within}
 use Rattle.std.proofs.lemmas.List.{drop-map, length-map, take-append-drop, take-map}
 use Rattle.std.specs.Global.{Vec}
@@ -87,10 +87,6 @@ module _ (catalogue : List FileEntry) (size submission : ℕ) (order : List Chai
   abbrev pub ArePut : ℕ → List (List Asked) → List Completed → List (Vec AccessPlace) → List (Vec AccessPlace) → Type 0
   ArePut chain runs cs old new =
       (own : List (Vec AccessPlace)) × (new ≡ old ++ own) × AreListsOf catalogue size submission chain runs order own cs
-
-  pub no_lists : (chain : ℕ) (cs : List Completed) (old : List (Vec AccessPlace)) → AreChainsDone catalogue size submission chain [] order cs
-      → ArePut chain [] cs old old
-  no_lists chain cs old x = ([], sym (append-nil old), (refl, x))
 
   pub one_more_list : (chain : ℕ) (run : List Asked) (runs : List (List Asked)) (cs own others : List Completed) (old new : List (Vec AccessPlace))
       (places : Vec AccessPlace) → cs ≡ own ++ others

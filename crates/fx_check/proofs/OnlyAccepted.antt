@@ -1,15 +1,11 @@
 -- An accepted submission: a text goes on with its lines in one way alone.
-use Rattle.std.proofs.Common.{◌≡◌, ℕ, ◌+◌, ◌<◌, ◌≤◌, Bool, false, nat_le, List, ◌++◌, length, drop, sym, ap, subst, ◌∙◌, arith, Option, Some, None, Result, Ok, Err, length-append}
-use Rattle.std.specs.Bool.{MatchBool}
-use Rattle.std.specs.Option.{MatchOption}
-use Rattle.std.proofs.Math.Seq.{drop-append_seam}
+use Rattle.std.proofs.Common.{◌≡◌, ℕ, ◌<◌, ◌≤◌, false, List, ◌++◌, length, sym, ap, subst, ◌∙◌, Some, None, Result, Ok, Err}
 use Rattle.std.proofs.lemmas.Bool.{lt-leb}
 use Rattle.fx_base.specs.Catalogue.{FileEntry}
 use Rattle.fx_chain.specs.Accepted.{IsAccepted}
 use Rattle.fx_chain.specs.Completed.{all_completed}
 use Rattle.fx_chain.specs.Operation.{Asked}
 use Rattle.fx_chain.specs.Runs.{runs_of}
-use Rattle.fx_chain.specs.declared.fault.CutFault.{CutFault}
 use Rattle.fx_ring.specs.Ring.{RingContents, RingState, ring_of}
 use Rattle.fx_ring.specs.Submission.{Reported}
 use Rattle.fx_ring.specs.declared.ring.TheConstants.{MOST_SUBMISSIONS}
@@ -17,7 +13,6 @@ use Rattle.fx_order.specs.Order.{IsOneOrder}
 use Rattle.fx_order.proofs.OneRing.{each_report_leads_to_one_ring}
 use Rattle.fx_order.proofs.Ordered.{each_history_is_an_order}
 use Rattle.fx_language.specs.Instruction.{SubmitsAll}
-use Rattle.fx_script.specs.Play.{PrintsReport}
 use Rattle.fx_script.specs.Text.{report_text}
 use Rattle.fx_lines.specs.Lines.{IsReportBefore, Lines, ReadsReport, lines_of, lines_text}
 use Rattle.fx_lines.specs.LinesView.{lines_in}
@@ -27,14 +22,16 @@ use Rattle.fx_judge.specs.Verdict.{IsRefuted, told_report}
 use Rattle.fx_order.specs.declared.ring_slots.RingSlots.{RingSlots}
 use Rattle.fx_judge.specs.declared.told.Told.{Told}
 use Rattle.fx_check.specs.Kept.{IsKept}
-use Rattle.fx_check.specs.Only.{GoesOn, LeadsNowhere, LeadsTo}
+use Rattle.fx_check.specs.Met.{BeginsWith}
+use Rattle.fx_check.specs.Step.{GoesOn, LeadsNowhere, LeadsTo}
 use Rattle.fx_check.specs.Told.{AreApart, HasLines, Tells, TellsKnown}
 use Rattle.fx_check.specs.declared.judgement.Fault.{Fault}
 use Rattle.fx_check.proofs.OrderFiles.{are_from, may_close_all}
+use Rattle.fx_check.proofs.OneAnswer.{submitted}
+use Rattle.fx_check.proofs.OneText.{rest_behind}
 use Rattle.fx_check.proofs.ReportInRange.{report_in_range}
 use Rattle.fx_check.proofs.Submissions.{printed_lines}
 use Rattle.fx_order.specs.Slots.{ring_with_slots}
-use Rattle.fx_print.specs.Text.{refused_line, too_many_line}
 
 module _ (catalogue : List FileEntry) (old : RingSlots) (kept : IsKept catalogue old) where
   -- the files at slots are told apart
@@ -59,19 +56,10 @@ module _ (catalogue : List FileEntry) (old : RingSlots) (kept : IsKept catalogue
       split : text ≡ lines_text (lines_of catalogue report) ++ others
       fits : IsReportBefore (length asked) (lines_of catalogue report, others)
 
-    reported : (next : RingContents) (others : List ℕ) (g : GoesOn before (SubmitsAll asked) text next others) → PrintsReport g.ring asked next g.line
-    reported next others g =
-        let few_yet : nat_le MOST_SUBMISSIONS g.ring.submissions ≡ false =
-        ap (λ (r : RingState). nat_le MOST_SUBMISSIONS r.submissions) g.same ∙ lt-leb MOST_SUBMISSIONS old.submissions few in
-        let Refused : CutFault → Type 0 = λ fault. (ring_of next ≡ ring_of g.ring) × (g.line ≡ refused_line fault) in
-        let TooMany : Type 0 = (ring_of next ≡ ring_of g.ring) × (g.line ≡ too_many_line) in
-        let Reports : Type 0 = PrintsReport g.ring asked next g.line in
-        subst (λ (b : Bool). MatchBool b TooMany Reports) few_yet
-        (subst (λ (x : Option CutFault). MatchOption x (MatchBool (nat_le MOST_SUBMISSIONS g.ring.submissions) TooMany Reports) Refused) accepted g.prints)
-
     played : (next : RingContents) (others : List ℕ) → GoesOn before (SubmitsAll asked) text next others → Played next others
     played next others g =
-        let (report, history, printed) = reported next others g in
+        let (report, history, printed) =
+        (submitted before asked None false accepted (lt-leb MOST_SUBMISSIONS old.submissions few) g.ring next g.line g.same).0 g.prints in
         let order : IsOneOrder before asked report (ring_of next) =
         subst (λ (r : RingState). IsOneOrder r asked report (ring_of next)) g.same (each_history_is_an_order g.ring next asked report history) in
         record {
@@ -131,19 +119,12 @@ module _ (catalogue : List FileEntry) (old : RingSlots) (kept : IsKept catalogue
         none_ordered refuted next others g =
             let p = played next others g in refuted p.report.closes.room (ring_of next) (told_order next others p)
 
-        pub one_ordered : (new : RingState) (count : ℕ) → count + length rest ≡ length text
+        pub one_ordered : (new : RingState) (count : ℕ) → BeginsWith text count (lines_text (lines_in lines))
             → ((room : ℕ) → IsOneOrder before asked (told_report before told room) new) → LeadsTo before (SubmitsAll asked) text count new
-        one_ordered new count counts ordered next others g =
-            let p = played next others g in
-            let behind : others ≡ rest = ap (λ (front : Lines × List ℕ). front.1) (same_front next others p) in
-            let front : List ℕ = lines_text (lines_in lines) in
-            let split : text ≡ front ++ rest = found.printed in
-            let sizes = length-append front rest in
-            let whole = ap length split in
-            let size : count ≡ length front = omega arith in
-            let left : rest ≡ drop count text =
-            sym (ap (λ (n : ℕ). drop n text) size ∙ ap (drop (length front)) split ∙ drop-append_seam front rest) in (
+        one_ordered new count begins ordered next others g =
+            let p = played next others g in (
               each_report_leads_to_one_ring before asked (told_report before told p.report.closes.room) (ring_of next) new kept.files.catalogue kept.is_ring
                   (told_order next others p) (ordered p.report.closes.room),
-              behind ∙ left,
+              ap (λ (front : Lines × List ℕ). front.1) (same_front next others p)
+                  ∙ rest_behind text (lines_text (lines_in lines)) rest count begins found.printed,
             )

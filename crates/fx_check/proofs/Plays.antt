@@ -1,30 +1,93 @@
--- A text that is gone along with command by command is one of the script.
-use Rattle.std.proofs.Common.{◌≡◌, ℕ, suc, ◌+◌, ◌<◌, List, [], ◌∷◌, ◌++◌, length, take, drop, refl, sym, ap, subst, ◌∙◌, slice_index_or, arith, Option}
+-- The plays of a script go along with the text, command by command.
+use Rattle.std.proofs.Common.{◌≡◌, ℕ, zero, suc, ◌+◌, ◌<◌, ◌≤◌, List, [], ◌∷◌, ◌++◌, length, take, drop, refl, sym, ap, subst, ◌∙◌, arith, slice_index_or, Option}
 use Rattle.fx_calls.proofs.NextCommand.{next_command}
+use Rattle.std.proofs.Common.{append-nil, append_assoc}
 use Rattle.std.specs.Option.{option_to_list}
-use Rattle.std.proofs.lemmas.List.{take-append-drop, drop-drop}
+use Rattle.std.proofs.lemmas.List.{drop-drop, drop-map, take-append-drop, take_all}
 use Rattle.std.proofs.Math.Seq.{drop-cons}
-use Rattle.fx_ring.specs.Ring.{RingContents, RingState, new_ring}
+use Rattle.fx_ring.specs.Ring.{RingContents, RingState, new_ring, ring_of}
 use Rattle.fx_order.proofs.Shown.{ring_with_files, shows_ring}
 use Rattle.fx_language.specs.Instruction.{Instruction, instruction_of, instructions_of}
-use Rattle.fx_script.specs.Play.{IsText, PrintsAll}
 use Rattle.fx_language.specs.Script.{Meaning}
 use Rattle.fx_language.specs.declared.command.Command.{Command}
-use Rattle.fx_check.specs.Met.{MayPrint}
+use Rattle.fx_script.specs.Play.{IsText, Prints, PrintsAll, PrintsEnd}
+use Rattle.fx_lines.specs.Lines.{HasNoCloses}
+use Rattle.fx_lines.proofs.PlaysBegin.{command_begins, plays_begin}
+use Rattle.fx_order.specs.declared.ring_slots.RingSlots.{RingSlots}
+use Rattle.fx_check.specs.Judged.{IsBroken, MayPrintFront, PrintsBeginning}
 use Rattle.fx_check.specs.Ordered.{IsTextBy, MayPrintAllBy, MayPrintBy, PrintsAllBy}
+use Rattle.fx_check.specs.Step.{GoesOn, LeadsNowhere, LeadsTo}
+use Rattle.fx_check.specs.declared.judgement.Fault.{Fault}
 use Rattle.fx_order.specs.declared.listed_order.Order.{Order}
 
-pub one_printed : (old new : RingState) (command : Instruction) (commands : List Instruction) (text line others : List ℕ) (own : Option Order)
-    (later : List Order) → text ≡ line ++ others → MayPrintBy old command new line own → MayPrintAllBy new commands others later
-    → MayPrintAllBy old (command ∷ commands) text (option_to_list own ++ later)
-one_printed old new command commands text line others own later split may rest =
-    λ ring same. let next = may ring same in (next.0, line, others, own, later, next.2, next.3, split, refl, rest next.0 next.1)
+pub next_instruction : (commands : List Command) (all : List Instruction) (done : ℕ) (command : Command) → instructions_of commands ≡ all
+    → done < length commands → command ≡ slice_index_or commands done command → drop done all ≡ instruction_of command ∷ drop (done + 1) all
+next_instruction commands all done command same inside is =
+    sym (ap (λ (l : List Instruction). drop done l) same) ∙ drop-map instruction_of done commands
+    ∙ ap (λ (l : List Command). instructions_of l) (next_command commands done command inside is)
+    ∙ ap (λ (l : List Instruction). instruction_of command ∷ l) (sym (drop-map instruction_of (done + 1) commands)
+    ∙ ap (λ (l : List Instruction). drop (done + 1) l) same)
 
-pub whole_text : (meaning : Meaning) (text : List ℕ) (orders : List Order) → MayPrintAllBy (new_ring meaning.catalogue) meaning.commands text orders
-    → IsTextBy meaning text orders
-whole_text meaning text orders may =
-    let shows = shows_ring (new_ring meaning.catalogue) (λ slot past. refl) in
-    (ring_with_files (new_ring meaning.catalogue), shows, may (ring_with_files (new_ring meaning.catalogue)) shows)
+-- what commands are to print: the whole text, with the end of the script, or a beginning of it, and leave this
+pub data Aim : Type 0 where
+  Whole : Aim
+  Leaves : List ℕ → Aim
+
+abbrev pub PrintsTo : Aim → RingContents → List Instruction → List ℕ → Type 0
+PrintsTo Whole ring commands text = PrintsAll ring commands text
+PrintsTo (Leaves left) ring commands text = PrintsBeginning ring commands text left
+
+-- a ring of this state prints so
+pub record CanPrint (aim : Aim) (state : RingState) (commands : List Instruction) (text : List ℕ) : Type 0 where
+  pub ring : RingContents
+  pub same : ring_of ring ≡ state
+  pub prints : PrintsTo aim ring commands text
+
+-- each ring of this state may print the whole text by these orders, or the text of the first commands
+abbrev pub MayPrintTo : Aim → RingState → List Instruction → List ℕ → List Order → Type 0
+MayPrintTo Whole state commands text orders = MayPrintAllBy state commands text orders
+MayPrintTo (Leaves left) state commands text orders = MayPrintFront state commands text
+
+-- where the commands that are done have printed the text up to here, each play that prints the text is at this state, and what may be printed
+-- of this state goes on with what was printed
+pub record GoesWith (script : Meaning) (text : List ℕ) (done at : ℕ) (orders : List Order) (now : RingState) : Type 0 where
+  pub along : (aim : Aim) (more : ℕ) → CanPrint aim (new_ring script.catalogue) (take (done + more) script.commands) text
+      → CanPrint aim now (take more (drop done script.commands)) (drop at text)
+  pub back : (aim : Aim) (commands : List Instruction) (others : List ℕ) (later : List Order) → MayPrintTo aim now commands others later
+      → MayPrintTo aim (new_ring script.catalogue) (take done script.commands ++ commands) (take at text ++ others) (orders ++ later)
+
+-- the first command, and those behind it
+
+parts : (aim : Aim) (ring : RingContents) (command : Instruction) (commands : List Instruction) (text : List ℕ)
+    → PrintsTo aim ring (command ∷ commands) text → (next : RingContents) × (line : List ℕ) × (others : List ℕ)
+    × Prints ring command next line × (text ≡ line ++ others) × PrintsTo aim next commands others
+parts Whole ring command commands text prints = prints
+parts (Leaves left) ring command commands text prints = prints
+
+no_closes : (aim : Aim) (ring : RingContents) (commands : List Instruction) (text : List ℕ) → PrintsTo aim ring commands text → HasNoCloses text
+no_closes Whole ring commands text prints = plays_begin ring commands text prints
+no_closes (Leaves left) ring [] text behind = behind.0
+no_closes (Leaves left) ring (command ∷ commands) text (next, line, others, prints, is, more) =
+    subst HasNoCloses (sym is) (command_begins ring command next line others prints (no_closes (Leaves left) next commands others more))
+
+one_before : (aim : Aim) (old new : RingState) (command : Instruction) (commands : List Instruction) (line text : List ℕ) (own : Option Order)
+    (later : List Order) → MayPrintBy old command new line own → MayPrintTo aim new commands text later
+    → MayPrintTo aim old (command ∷ commands) (line ++ text) (option_to_list own ++ later)
+one_before Whole old new command commands line text own later may rest = λ ring same.
+    let next = may ring same in (next.0, line, text, own, later, next.2, next.3, refl, refl, rest next.0 next.1)
+one_before (Leaves left) old new command commands line text own later may rest = λ ring same.
+    let next = may ring same in (next.0, line, text, next.2, refl, rest next.0 next.1)
+
+nothing_taken : {A : Type 0} (n : ℕ) → ◌≡◌ {A = List A} (take n []) []
+nothing_taken zero = refl
+nothing_taken (suc n) = refl
+
+taken_further : {A : Type 0} (at count : ℕ) (text : List A) → take at text ++ take count (drop at text) ≡ take (at + count) text
+taken_further zero count text = ap (λ (n : ℕ). take n text) (let e : count ≡ 0 + count = omega arith in e)
+taken_further (suc at) count [] = nothing_taken count ∙ sym (nothing_taken (suc at + count))
+taken_further {A = A} (suc at) count (b ∷ text) =
+    ap (λ (l : List A). b ∷ l) (taken_further at count text)
+    ∙ ap (λ (n : ℕ). take n (b ∷ text)) (let e : suc (at + count) ≡ suc at + count = omega arith in e)
 
 -- without the orders
 all_printed : (ring : RingContents) (commands : List Instruction) (text : List ℕ) (orders : List Order) → PrintsAllBy ring commands text orders
@@ -32,25 +95,120 @@ all_printed : (ring : RingContents) (commands : List Instruction) (text : List �
 all_printed ring [] text orders by = by.0
 all_printed ring (command ∷ commands) text orders by = (by.0, by.1, by.2, by.5, by.7, all_printed by.0 commands by.2 by.4 by.9)
 
-pub is_text : (meaning : Meaning) (text : List ℕ) (orders : List Order) → IsTextBy meaning text orders → IsText meaning text
-is_text meaning text orders by = (by.0, by.1, all_printed by.0 meaning.commands text orders by.2)
+module _ (script : Meaning) (text : List ℕ) where
+  abbrev first : RingState
+  first = new_ring script.catalogue
 
-pub may_print : (old new : RingState) (command : Instruction) (line : List ℕ) (own : Option Order) → MayPrintBy old command new line own
-    → MayPrint old command new line
-may_print old new command line own may = λ ring same. let next = may ring same in (next.0, next.1, next.2)
+  pub at_start : GoesWith script text 0 0 [] first
+  at_start = record {
+    along = λ aim more can.
+        let e : 0 + more ≡ more = omega arith in subst (λ (n : ℕ). CanPrint aim first (take n script.commands) text) e can;
+    back = λ aim commands others later may. may;
+  }
 
--- what is left of the commands, and of the text, where one more command has printed so many bytes
-pub one_further : (commands : List Command) (done : ℕ) (command : Command) (old new : RingState) (text : List ℕ) (at count : ℕ) (own : Option Order)
-    (later : List Order) → done < length commands
-    → command ≡ slice_index_or commands done command
-    → MayPrintBy old (instruction_of command) new (take count (drop at text)) own
-    → MayPrintAllBy new (instructions_of (drop (done + 1) commands)) (drop (at + count) text) later
-    → MayPrintAllBy old (instructions_of (drop done commands)) (drop at text) (option_to_list own ++ later)
-one_further commands done command old new text at count own later inside is may rest =
-    let here = next_command commands done command inside is in
-    let parts : drop at text ≡ take count (drop at text) ++ drop count (drop at text) = sym (take-append-drop count (drop at text)) in
-    let behind : drop count (drop at text) ≡ drop (at + count) text = drop-drop count at text in
-    subst (λ (cs : List Command). MayPrintAllBy old (instructions_of cs) (drop at text) (option_to_list own ++ later)) (sym here)
-    (one_printed old new (instruction_of command) (instructions_of (drop (done + 1) commands)) (drop at text) (take count (drop at text))
-    (drop count (drop at text)) own later parts may
-    (subst (λ (t : List ℕ). MayPrintAllBy new (instructions_of (drop (done + 1) commands)) t later) (sym behind) rest))
+  whole : (n : ℕ) → length script.commands ≤ n → IsText script text → CanPrint Whole first (take n script.commands) text
+  whole n all (ring, starts, prints) = record {
+    ring = ring;
+    same = starts;
+    prints = subst (λ (cs : List Instruction). PrintsAll ring cs text) (sym (take_all n script.commands all)) prints;
+  }
+
+  module _ (done at : ℕ) (orders : List Order) (now : RingState) (so_far : GoesWith script text done at orders now) where
+    behind : (aim : Aim) → CanPrint aim first (take done script.commands) text → CanPrint aim now [] (drop at text)
+    behind aim can =
+        let e : done ≡ done + 0 = omega arith in so_far.along aim 0 (subst (λ (n : ℕ). CanPrint aim first (take n script.commands) text) e can)
+
+    printed : (aim : Aim) (commands : List Instruction) (others all : List ℕ) → take done script.commands ≡ commands → take at text ++ others ≡ all
+        → MayPrintTo aim now [] others [] → MayPrintTo aim first commands all orders
+    printed aim commands others all same is may =
+        subst (λ (l : List Instruction). MayPrintTo aim first l all orders) (append-nil (take done script.commands) ∙ same)
+        (subst (λ (l : List ℕ). MayPrintTo aim first (take done script.commands ++ []) l orders) is
+        (subst (λ (l : List Order). MayPrintTo aim first (take done script.commands ++ []) (take at text ++ others) l) (append-nil orders)
+        (so_far.back aim [] others [] may)))
+
+    broken : (ring : RingSlots) (fault : Fault) → at ≤ length text → (IsText script text → ⊥) → (done < length script.commands → (left : List ℕ)
+        → CanPrint (Leaves left) first (take (done + 1) script.commands) text → ⊥)
+        → IsBroken script text (record { commands = done; at = at; ring = ring; fault = fault })
+    broken ring fault inside none next = record {
+      none = none;
+      inside = inside;
+      front = printed (Leaves []) (take done script.commands) [] (take at text) refl (append-nil (take at text)) (λ ring same. refl);
+      place = λ ring left starts prints. (behind (Leaves left) (record { ring = ring; same = starts; prints = prints })).prints.1;
+      next = λ more ring left starts prints. next more left (record { ring = ring; same = starts; prints = prints });
+    }
+
+    module _ (past : length script.commands ≤ done) where
+      pub not_ended : (ring : RingSlots) (fault : Fault) → at ≤ length text → (PrintsEnd now (drop at text) → ⊥)
+          → IsBroken script text (record { commands = done; at = at; ring = ring; fault = fault })
+      not_ended ring fault inside never = broken ring fault inside
+          (λ is. let can = behind Whole (whole done past is) in never (subst (λ (r : RingState). PrintsEnd r (drop at text)) can.same can.prints))
+          (λ more left can. absurd (omega arith))
+
+      pub ended : PrintsEnd now (drop at text) → IsText script text × IsTextBy script text orders
+      ended end =
+          let may : MayPrintAllBy first script.commands text orders =
+          printed Whole script.commands (drop at text) text (take_all done script.commands past) (take-append-drop at text)
+          (λ ring same. (subst (λ (r : RingState). PrintsEnd r (drop at text)) (sym same) end, refl)) in
+          let shows = shows_ring first (λ slot none. refl) in
+          let by = may (ring_with_files first) shows in (
+            (ring_with_files first, shows, all_printed (ring_with_files first) script.commands text orders by),
+            (ring_with_files first, shows, by),
+          )
+
+    module _ (command : Instruction) (is : drop done script.commands ≡ command ∷ drop (done + 1) script.commands) where
+      played : (aim : Aim) (more : ℕ) → CanPrint aim first (take (done + suc more) script.commands) text
+          → (next : RingContents) × (others : List ℕ) × GoesOn now command (drop at text) next others
+          × PrintsTo aim next (take more (drop (done + 1) script.commands)) others
+      played aim more can =
+          let here = so_far.along aim (suc more) can in
+          let later = take more (drop (done + 1) script.commands) in
+          let (next, line, others, prints, split, rest) = parts aim here.ring command later (drop at text)
+          (subst (λ (cs : List Instruction). PrintsTo aim here.ring (take (suc more) cs) (drop at text)) is here.prints) in (
+            next,
+            others,
+            record {
+              ring = here.ring;
+              line = line;
+              same = here.same;
+              prints = prints;
+              split = split;
+              behind = no_closes aim next later others rest;
+            },
+            rest,
+          )
+
+      pub stops : (ring : RingSlots) (fault : Fault) → at ≤ length text → LeadsNowhere now command (drop at text)
+          → IsBroken script text (record { commands = done; at = at; ring = ring; fault = fault })
+      stops ring fault inside nowhere =
+          let none : (aim : Aim) (more : ℕ) → CanPrint aim first (take (done + suc more) script.commands) text → ⊥ =
+          λ aim more can. let p = played aim more can in nowhere p.0 p.1 p.2 in
+          broken ring fault inside (λ is. none Whole (length script.commands) (whole (done + suc (length script.commands)) (omega arith) is))
+          (λ more left. none (Leaves left) 0)
+
+      pub goes_on : (count : ℕ) (own : Option Order) (grown : List Order) (new : RingState) → MayPrintBy now command new (take count (drop at text)) own
+          → LeadsTo now command (drop at text) count new → grown ≡ orders ++ option_to_list own → GoesWith script text (done + 1) (at + count) grown new
+      goes_on count own grown new may leads grows = record {
+        along = λ aim more can.
+            let e : (done + 1) + more ≡ done + suc more = omega arith in
+            let (next, others, goes, rest) = played aim more (subst (λ (n : ℕ). CanPrint aim first (take n script.commands) text) e can) in
+            let there = leads next others goes in
+            record {
+              ring = next;
+              same = there.0;
+              prints = subst (λ (t : List ℕ). PrintsTo aim next (take more (drop (done + 1) script.commands)) t) (there.1 ∙ drop-drop count at text) rest;
+            };
+        back = λ aim commands others later rest.
+            let line = take count (drop at text) in
+            let cs : take done script.commands ++ command ∷ commands ≡ take (done + 1) script.commands ++ commands =
+            sym (append_assoc (take done script.commands) (command ∷ []) commands) ∙ ap (λ (l : List Instruction). l ++ commands)
+            (ap (λ (l : List Instruction). take done script.commands ++ take 1 l) (sym is) ∙ taken_further done 1 script.commands) in
+            let t : take at text ++ (line ++ others) ≡ take (at + count) text ++ others =
+            sym (append_assoc (take at text) line others) ∙ ap (λ (l : List ℕ). l ++ others) (taken_further at count text) in
+            let all : orders ++ (option_to_list own ++ later) ≡ grown ++ later =
+            sym (append_assoc orders (option_to_list own) later) ∙ ap (λ (l : List Order). l ++ later) (sym grows) in
+            subst (λ (l : List Order). MayPrintTo aim first (take (done + 1) script.commands ++ commands) (take (at + count) text ++ others) l) all
+            (subst (λ (l : List ℕ). MayPrintTo aim first (take (done + 1) script.commands ++ commands) l (orders ++ (option_to_list own ++ later))) t
+            (subst (λ (l : List Instruction). MayPrintTo aim first l (take at text ++ (line ++ others)) (orders ++ (option_to_list own ++ later))) cs
+            (so_far.back aim (command ∷ commands) (line ++ others) (option_to_list own ++ later)
+            (one_before aim now new command commands line others own later may rest))));
+      }

@@ -1,9 +1,6 @@
 -- An accepted submission whose lines a text goes on with.
-use Rattle.std.proofs.Common.{◌≡◌, ℕ, ◌+◌, ◌<◌, ◌≤◌, Bool, false, nat_le, List, ◌++◌, length, map, filter, not, ◌==◌, take, sym, ap, subst, ◌∙◌, arith, Option, Some, None, refl, length-append}
-use Rattle.std.specs.Bool.{MatchBool}
+use Rattle.std.proofs.Common.{◌≡◌, ℕ, ◌+◌, ◌<◌, ◌≤◌, false, List, ◌++◌, length, map, filter, not, ◌==◌, take, sym, ap, subst, ◌∙◌, arith, Some, None, refl}
 use Rattle.std.specs.List.{flat_map}
-use Rattle.std.specs.Option.{MatchOption}
-use Rattle.std.proofs.Math.Seq.{take-append_seam}
 use Rattle.std.proofs.lemmas.Bool.{lt-leb}
 use Rattle.std.proofs.lemmas.List.Folds.{flat_map-map}
 use Rattle.fx_base.specs.Catalogue.{FileEntry}
@@ -11,7 +8,6 @@ use Rattle.fx_base.specs.Tags.{tags_of}
 use Rattle.fx_chain.specs.Completed.{all_completed}
 use Rattle.fx_chain.specs.Faults.{fault_of}
 use Rattle.fx_chain.specs.Operation.{Asked}
-use Rattle.fx_chain.specs.declared.fault.CutFault.{CutFault}
 use Rattle.fx_chain.specs.Runs.{runs_of}
 use Rattle.fx_table.specs.declared.limits.TheConstants.{MAX_CHAINS}
 use Rattle.fx_order.specs.Order.{IsOneOrder, IsOrderOf, ring_left}
@@ -22,13 +18,11 @@ use Rattle.fx_ring.specs.Ring.{RingState, IsRing, ring_of}
 use Rattle.fx_ring.specs.Submission.{Reported}
 use Rattle.fx_ring.specs.declared.ring.TheConstants.{MOST_SUBMISSIONS}
 use Rattle.fx_language.specs.Instruction.{SubmitsAll}
-use Rattle.fx_script.specs.Play.{PrintsReport}
 use Rattle.fx_script.specs.Text.{report_text}
 use Rattle.std.proofs.lemmas.Simd.{map-map}
 use Rattle.fx_base.specs.Tags.{tag_completion}
 use Rattle.fx_base.specs.declared.open_file.Closed.{Closed}
 use Rattle.fx_base.specs.declared.tag_completion.TagCompletion.{TagCompletion}
-use Rattle.fx_calls.specs.InRange.{AreInRange}
 use Rattle.fx_lines.specs.ClosedView.{close_of}
 use Rattle.fx_lines.specs.LinesView.{lines_in}
 use Rattle.fx_lines.specs.declared.report.ReportLines.{ReportLines}
@@ -37,13 +31,15 @@ use Rattle.fx_judge.specs.Verdict.{CameBy, told_report}
 use Rattle.fx_order.specs.declared.ring_slots.RingSlots.{RingSlots}
 use Rattle.fx_judge.specs.declared.told.Told.{Told}
 use Rattle.fx_check.specs.Kept.{IsKept}
+use Rattle.fx_check.specs.Met.{BeginsWith}
 use Rattle.fx_check.specs.Ordered.{MayPrintBy}
 use Rattle.fx_check.specs.Places.{ArePlaces}
 use Rattle.fx_order.specs.Requests.{AreChainsDone}
 use Rattle.fx_order.specs.declared.listed_order.Order.{Order}
+use Rattle.fx_check.proofs.OneAnswer.{submitted}
 use Rattle.fx_check.proofs.OrderFiles.{left_in_range}
 use Rattle.fx_order.specs.Slots.{ring_with_slots}
-use Rattle.fx_print.specs.Text.{closed_lines, completion_lines, name_of, refused_line, tag_lines, too_many_line}
+use Rattle.fx_print.specs.Text.{closed_lines, completion_lines, name_of, tag_lines}
 
 -- the text of a report is that of its lines
 pub printed_lines : (catalogue : List FileEntry) (report : Reported) → report_text catalogue report ≡ lines_text (lines_of catalogue report)
@@ -80,32 +76,6 @@ tags_again files others same =
     ∙ sym (map-map (λ (completion : TagCompletion). completion.user_data) (λ (file : Closed). tag_completion file.tag)
     (filter (λ (file : Closed). not (file.tag == 0)) others))
 
-front_taken : (text front rest : List ℕ) (count : ℕ) → text ≡ front ++ rest → count + length rest ≡ length text → take count text ≡ front
-front_taken text front rest count split counts =
-    let sizes = length-append front rest in
-    let whole = ap length split in
-    let same : count ≡ length front = omega arith in
-    ap (λ (n : ℕ). take n text) same ∙ ap (take (length front)) split ∙ take-append_seam front rest
-
--- what stays a ring stays kept
-pub kept_still : (catalogue : List FileEntry) (old new : RingSlots) → ring_with_slots catalogue new ≡ ring_with_slots catalogue old → IsKept catalogue old
-    → IsKept catalogue new
-kept_still catalogue old new same kept =
-    let slots : length new.slots.at.items ≡ length old.slots.at.items = ap (λ (r : RingState). r.size) same in
-    let submissions : new.submissions ≡ old.submissions = ap (λ (r : RingState). r.submissions) same in
-    let registrations : new.registrations ≡ old.registrations = ap (λ (r : RingState). r.registrations) same in
-    let few = kept.few_slots in
-    let early = kept.few_submissions in
-    let most = kept.few_registrations in
-    record {
-      few_slots = omega arith;
-      few_submissions = omega arith;
-      few_registrations = omega arith;
-      is_ring = subst IsRing (sym same) kept.is_ring;
-      files = kept.files;
-      in_range = subst AreInRange (sym (ap (λ (r : RingState). r.at) same)) kept.in_range;
-    }
-
 module _ (catalogue : List FileEntry) (old new : RingSlots) (asked : List Asked) (told : Told) where
   abbrev pub before : RingState
   before = ring_with_slots catalogue old
@@ -136,7 +106,7 @@ module _ (catalogue : List FileEntry) (old new : RingSlots) (asked : List Asked)
   PlacesAt size submission order =
       ArePlaces catalogue size submission (runs_of asked) (all_completed told.completions.items) order.accesses.items order.places.items
 
-  pub accepted_goes : (lines : Lines) (text rest : List ℕ) (count : ℕ) (order : Order) → IsKept catalogue old → fault_of asked ≡ None
+  pub accepted_goes : (lines : Lines) (text : List ℕ) (count : ℕ) (order : Order) → IsKept catalogue old → fault_of asked ≡ None
       → old.submissions < MOST_SUBMISSIONS → CameBy before asked told order.accesses.items after → order.submission ≡ new.submissions
       → PlacesAt (length new.slots.at.items) new.submissions order
       → ((number room : ℕ) → lines_of catalogue (record {
@@ -144,15 +114,14 @@ module _ (catalogue : List FileEntry) (old new : RingSlots) (asked : List Asked)
         completions = all_completed told.completions.items;
         closes = record { files = told.closes.items; room = room };
       }) ≡ lines)
-      → text ≡ lines_text lines ++ rest → count + length rest ≡ length text
+      → BeginsWith text count (lines_text lines)
       → (count ≤ length text) × MayPrintBy before (SubmitsAll asked) after (take count text) (Some order)
-  accepted_goes lines text rest count order kept accepted few came numbered listed has split counts = (
-    omega arith,
+  accepted_goes lines text count order kept accepted few came numbered listed has begins = (
+    begins.inside,
     λ ring same.
         let report : Reported = told_report before told 0 in
         let printed : take count text ≡ report_text ring.catalogue report =
-        front_taken text (lines_text lines) rest count split counts
-        ∙ ap lines_text (sym (has (old.submissions + 1) 0)) ∙ sym (printed_lines catalogue report)
+        begins.is_line ∙ ap lines_text (sym (has (old.submissions + 1) 0)) ∙ sym (printed_lines catalogue report)
         ∙ ap (λ (r : RingState). report_text r.catalogue report) (sym same) in
         let small : (ring_of ring).size ≤ MOST_SLOTS = subst (λ (r : RingState). r.size ≤ MOST_SLOTS) (sym same) kept.few_slots in
         let accesses : List ChainAccess = order.accesses.items in
@@ -163,17 +132,11 @@ module _ (catalogue : List FileEntry) (old new : RingSlots) (asked : List Asked)
         let counted : new.submissions ≡ old.submissions + 1 = ap (λ (r : RingState). r.submissions) first.after in
         let one : IsOneOrder (ring_of ring) asked report after = subst (λ (r : RingState). IsOneOrder r asked report after) (sym same) first in
         let history = each_order_is_a_history ring asked report after small accepted one in
-        let few_yet : nat_le MOST_SUBMISSIONS ring.submissions ≡ false =
-        ap (λ (r : RingState). nat_le MOST_SUBMISSIONS r.submissions) same ∙ lt-leb MOST_SUBMISSIONS old.submissions few in
-        let next = history.0 in
-        let reports : PrintsReport ring asked next (take count text) = (report, history.2, printed) in (
+        let next = history.0 in (
           next,
           history.1,
-          subst (λ (x : Option CutFault). MatchOption x
-              (MatchBool (nat_le MOST_SUBMISSIONS ring.submissions) ((ring_of next ≡ ring_of ring) × (take count text ≡ too_many_line)) (PrintsReport ring asked next (take count text)))
-              (λ fault. (ring_of next ≡ ring_of ring) × (take count text ≡ refused_line fault))) (sym accepted)
-              (subst (λ (b : Bool). MatchBool b ((ring_of next ≡ ring_of ring) × (take count text ≡ too_many_line)) (PrintsReport ring asked next (take count text)))
-              (sym few_yet) reports),
+          (submitted before asked None false accepted (lt-leb MOST_SUBMISSIONS old.submissions few) ring next (take count text) same).1
+              (report, history.2, printed),
           (
             asked,
             refl,

@@ -1,5 +1,7 @@
 -- What lines tell is one list of files, or none.
-use Rattle.std.proofs.Common.{◌≡◌, false, ⊎_elim, ℕ, zero, suc, ◌+◌, ◌<◌, ◌≤◌, List, [], ◌∷◌, length, map, drop, refl, sym, ap, subst, ◌∙◌, arith, Some, slice_get, slice_index_or}
+use Rattle.std.proofs.Common.{◌≡◌, false, ⊎_elim, ℕ, zero, suc, ◌+◌, ◌<◌, ◌≤◌, List, [], ◌∷◌, length, map, drop, refl, sym, ap, subst, ◌∙◌, arith, Some, slice_index_or}
+use Rattle.std.proofs.lemmas.List.{get_or-map, get_or_default, length-map}
+use Rattle.std.proofs.lemmas.Option.{slice_get-get_or}
 use Rattle.std.specs.Ordering.{is_lt}
 use Rattle.fx_base.specs.Catalogue.{FileEntry, name_at}
 use Rattle.fx_base.specs.CloseList.{IsInOrderOfMark, mark_cmp}
@@ -15,7 +17,7 @@ use Rattle.fx_order.specs.declared.slots.Slots.{Slots}
 use Rattle.fx_lines.specs.ClosedView.{close_of}
 use Rattle.fx_lines.specs.Lines.{NamedClose, named_close, named_closes}
 use Rattle.fx_lines.specs.declared.close.ClosedLine.{ClosedLine}
-use Rattle.fx_check.specs.Told.{AreApart, HasDistinctMarks, HasNone, Installed, IsAtSlot, MayClose, OneInstalled}
+use Rattle.fx_check.specs.Told.{AreApart, HasDistinctMarks, Installed, IsAtSlot, MayClose, OneInstalled}
 use Rattle.fx_calls.proofs.ClosesInOrder.{neither_below, same_cmp}
 use Rattle.fx_print.specs.Text.{name_of}
 
@@ -40,42 +42,23 @@ module _ (catalogue : List FileEntry) (slots : Slots) (apart : AreApart catalogu
       (λ new. absurd (new.1 there.0 other there.1 (is ∙ sym marks)))
       may.from
 
-  -- where none has, it has no tag
-  pub new_file : HasNone slots mark → (entry : ℕ) → name_at catalogue entry ≡ Some name
-      → ◌≡◌ {A = Closed} (record { mark = mark; entry = entry; tag = 0 }) file
-  new_file none entry is = ⊎_elim
-      (λ here. absurd (none here.0 file here.1 marks))
-      (λ new i. record { mark = sym marks i; entry = same_entry entry is i; tag = sym new.0 i })
-      may.from
+pub as_many : (catalogue : List FileEntry) (files : List Closed) (lines : List ClosedLine) → named_closes catalogue files ≡ map close_of lines
+    → length files ≡ length lines
+as_many catalogue files lines same = sym (length-map files (named_close catalogue)) ∙ ap length same ∙ length-map lines close_of
 
 -- the line of one of several files
 pub close_at : (catalogue : List FileEntry) (files : List Closed) (lines : List ClosedLine) (i : ℕ) (line : ClosedLine) (d : Closed)
     → named_closes catalogue files ≡ map close_of lines → i < length lines → line ≡ slice_index_or lines i line
     → (i < length files) × (named_close catalogue (slice_index_or files i d) ≡ close_of line)
-close_at catalogue [] [] i line d same inside is = absurd (omega arith)
-close_at catalogue [] (l ∷ lines) i line d same inside is = let e : 0 ≡ suc (length (map close_of lines)) = ap length same in absurd (omega arith)
-close_at catalogue (f ∷ files) [] i line d same inside is = absurd (omega arith)
-close_at catalogue (f ∷ files) (l ∷ lines) zero line d same inside is =
-    (omega arith, ap (λ (xs : List NamedClose). slice_index_or xs 0 (named_close catalogue f)) same ∙ ap close_of (sym is))
-close_at catalogue (f ∷ files) (l ∷ lines) (suc i) line d same inside is =
-    let rest = close_at catalogue files lines i line d (ap (λ (xs : List NamedClose). drop 1 xs) same) (omega arith) is in
-    let low = rest.0 in
-    (omega arith, rest.1)
-
-pub as_many : (catalogue : List FileEntry) (files : List Closed) (lines : List ClosedLine) → named_closes catalogue files ≡ map close_of lines
-    → length files ≡ length lines
-as_many catalogue [] [] same = refl
-as_many catalogue [] (l ∷ lines) same = let e : 0 ≡ suc (length (map close_of lines)) = ap length same in absurd (omega arith)
-as_many catalogue (f ∷ files) [] same = let e : suc (length (map (named_close catalogue) files)) ≡ 0 = ap length same in absurd (omega arith)
-as_many catalogue (f ∷ files) (l ∷ lines) same =
-    let rest = as_many catalogue files lines (ap (λ (xs : List NamedClose). drop 1 xs) same) in omega arith
+close_at catalogue files lines i line d same inside is =
+    let many = as_many catalogue files lines same in (
+      omega arith,
+      sym (get_or-map (named_close catalogue) files i d (close_of line) (omega arith))
+          ∙ ap (λ (xs : List NamedClose). slice_index_or xs i (close_of line)) same
+          ∙ get_or-map close_of lines i line (close_of line) inside ∙ ap close_of (sym is),
+    )
 
 -- a file in order of mark isn't at or before the one in front of it
-got_at : (files : List Closed) (i : ℕ) (d : Closed) → i < length files → slice_get files i ≡ Some (slice_index_or files i d)
-got_at [] i d inside = absurd (omega arith)
-got_at (f ∷ files) zero d inside = refl
-got_at (f ∷ files) (suc i) d inside = got_at files i d (omega arith)
-
 pub in_turn : (files : List Closed) (i j : ℕ) (d : Closed) → IsInOrderOfMark files → HasDistinctMarks files → j + 1 ≡ i → i < length files
     → is_lt (mark_cmp (slice_index_or files j d).mark (slice_index_or files i d).mark) ≡ false → ⊥
 in_turn files i j d up distinct next inside is =
@@ -84,7 +67,7 @@ in_turn files i j d up distinct next inside is =
     let here : is_lt (mark_cmp x.mark y.mark) ≡ false = subst (λ (n : ℕ). is_lt (mark_cmp x.mark (slice_index_or files n d).mark) ≡ false) (sym next) is in
     let marks : x.mark ≡ y.mark = neither_below x y (ap is_lt (same_cmp x.mark y.mark) ∙ here)
     (ap is_lt (same_cmp y.mark x.mark) ∙ up j d (omega arith) (omega arith)) in
-    let one : j ≡ j + 1 = distinct j (j + 1) x y (got_at files j d (omega arith)) (got_at files (j + 1) d (omega arith)) marks in
+    let one : j ≡ j + 1 = distinct j (j + 1) x y (slice_get-get_or files j d (omega arith)) (slice_get-get_or files (j + 1) d (omega arith)) marks in
     absurd (omega arith)
 
 -- the derived comparison is the one by cases
@@ -94,17 +77,11 @@ cmp_is (Registered k i) (Submitted s c m e) = refl
 cmp_is (Submitted s c m e) (Registered k i) = refl
 cmp_is (Submitted s c m e) (Submitted t d n f) = refl
 
--- where there is an element, it doesn't matter what stands for none
-same_at : (files : List Closed) (k : ℕ) (d e : Closed) → k < length files → slice_index_or files k d ≡ slice_index_or files k e
-same_at [] k d e within = absurd (omega arith)
-same_at (x ∷ files) zero d e within = refl
-same_at (x ∷ files) (suc k) d e within = same_at files k d e (omega arith)
-
 pub not_in_turn : (files : List Closed) (i j : ℕ) (d e : Closed) → j + 1 ≡ i → i < length files
     → is_lt (ghosts.cmp (slice_index_or files j d).mark (slice_index_or files i e).mark) ≡ false → IsInOrderOfMark files → HasDistinctMarks files → ⊥
 not_in_turn files i j d e next inside is up distinct =
     in_turn files i j d up distinct next inside
-    (ap (λ (f : Closed). is_lt (mark_cmp (slice_index_or files j d).mark f.mark)) (same_at files i d e inside)
+    (ap (λ (f : Closed). is_lt (mark_cmp (slice_index_or files j d).mark f.mark)) (get_or_default files i d e inside)
     ∙ ap is_lt (sym (cmp_is (slice_index_or files j d).mark (slice_index_or files i e).mark)) ∙ is)
 
 -- one of the requests from a place on, where it isn't the one there

@@ -1,20 +1,23 @@
 -- What is kept of a ring while a text is judged.
-use Rattle.std.specs.Prelude.{◌≤◌, List, length}
+use Rattle.std.specs.Prelude.{◌≤◌, List}
 use Rattle.fx_base.specs.Catalogue.{FileEntry}
 use Rattle.fx_calls.specs.InRange.{AreInRange}
 use Rattle.fx_plain.specs.declared.table.TheConstants.{MOST_SLOTS}
-use Rattle.fx_order.specs.Slots.{ring_with_slots, table_of_slots}
 use Rattle.fx_order.specs.declared.ring_slots.RingSlots.{RingSlots}
-use Rattle.fx_ring.specs.Ring.{IsRing}
+use Rattle.fx_ring.specs.Ring.{IsRing, RingState}
 use Rattle.fx_ring.specs.declared.ring.TheConstants.{MOST_REGISTRATIONS, MOST_SUBMISSIONS}
 use Rattle.fx_language.specs.Script.{AreFiles}
+use Rattle.fx_order.specs.Slots.{ring_with_slots}
 
--- its counts and its table are within their limits, it is what every ring is, and its catalogue is
--- that of a script
-pub record IsKept (catalogue : List FileEntry) (ring : RingSlots) : Type 0 where
-  pub few_slots : length ring.slots.at.items ≤ MOST_SLOTS
+-- a ring's counts and its table are within their limits, it is what every ring is, and its
+-- catalogue is that of a script
+pub record IsOfScript (ring : RingState) : Type 0 where
+  pub few_slots : ring.size ≤ MOST_SLOTS
   pub few_submissions : ring.submissions ≤ MOST_SUBMISSIONS
   pub few_registrations : ring.registrations ≤ MOST_REGISTRATIONS
-  pub is_ring : IsRing (ring_with_slots catalogue ring)
-  pub files : AreFiles catalogue
-  pub in_range : AreInRange (table_of_slots ring.slots).at
+  pub is_ring : IsRing ring
+  pub files : AreFiles ring.catalogue
+  pub in_range : AreInRange ring.at
+
+abbrev pub IsKept : List FileEntry → RingSlots → Type 0
+IsKept catalogue ring = IsOfScript (ring_with_slots catalogue ring)

@@ -4,6 +4,6 @@ pub mod Told
 pub mod Places
 pub mod PlaceLists
 pub mod Ordered
+pub mod Step
 pub mod Answer
-pub mod Only
 pub mod Judged

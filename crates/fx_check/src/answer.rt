@@ -3,8 +3,7 @@ ghost use Rattle.fx_base.specs.Catalogue.{FileEntry};
 ghost use Rattle.fx_language.specs.Instruction.{Instruction};
 ghost use Rattle.fx_order.specs.declared.ring_slots.RingSlots.{RingSlots};
 ghost use Rattle.fx_check.specs.Answer.{IsAnswer};
-ghost use Rattle.fx_check.specs.Met.{IsStep};
-ghost use Rattle.fx_check.specs.Only.{IsOnlyAnswer, IsOnlyStep};
+ghost use Rattle.fx_check.specs.Step.{IsStep};
 
 use crate::judgement::Fault;
 use crate::met::Met;
@@ -25,13 +24,10 @@ pub(crate) enum Answer {
 impl Answer {
     /// The answer where a command has few texts, and isn't counted as a submission.
     pub fn of(met: Met) -> Answer
-        ensures step { (catalogue : List FileEntry) (old new : RingSlots) (command : Instruction)
+        ensures { (catalogue : List FileEntry) (old new : RingSlots) (command : Instruction)
             (text : List ℕ) → IsStep catalogue old command text met new
             → new.submissions ≡ old.submissions
             → IsAnswer catalogue old command text result new }
-        ensures only { (catalogue : List FileEntry) (old new : RingSlots) (command : Instruction)
-            (text : List ℕ) → IsOnlyStep catalogue old command text met new
-            → IsOnlyAnswer catalogue old command text result new }
     {
         match met {
             Met::Here(count) => Answer::Printed(count, None),

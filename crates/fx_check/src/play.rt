@@ -7,7 +7,6 @@ ghost use Rattle.fx_script.specs.Play.{PrintsEnd};
 ghost use Rattle.fx_check.specs.Answer.{IsAnswer};
 ghost use Rattle.fx_check.specs.Judged.{IsJudged};
 ghost use Rattle.fx_check.specs.Kept.{IsKept};
-ghost use Rattle.fx_check.specs.Only.{IsOnlyAnswer};
 ghost use Rattle.fx_language.specs.Script.{AreFiles};
 ghost use Rattle.fx_order.specs.Slots.{ring_with_slots};
 
@@ -53,8 +52,6 @@ fn play_command(
 ) -> Result<Answer, NoMemory>
     requires { IsKept catalogue.now ring.old }
     ensures answer { IfOk result (λ answer. IsAnswer catalogue.now ring.old
-        (instruction_of command.now) text.now answer ring.new) }
-    ensures only { IfOk result (λ answer. IsOnlyAnswer catalogue.now ring.old
         (instruction_of command.now) text.now answer ring.new) }
     ensures kept { OnOk result (IsKept catalogue.now ring.new) }
 {

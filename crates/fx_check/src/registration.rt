@@ -3,9 +3,9 @@ ghost use Rattle.std.specs.Prelude.{◌≡◌, IfOk, OnOk, option_map};
 ghost use Rattle.fx_base.specs.declared.errno.Errno.TheVariants.{ENOMEM};
 ghost use Rattle.fx_chain.specs.Completed.{negated};
 ghost use Rattle.fx_language.specs.Instruction.{MakesSparse, RegistersList, SetsRange, Unregisters, UpdatesRing};
-ghost use Rattle.fx_check.specs.Met.{IsMet, IsStep};
-ghost use Rattle.fx_check.specs.Only.{IsOnlyStep};
 ghost use Rattle.fx_check.specs.Kept.{IsKept};
+ghost use Rattle.fx_check.specs.Met.{IsMet};
+ghost use Rattle.fx_check.specs.Step.{IsStep};
 ghost use Rattle.fx_print.specs.Text.{result_line};
 
 use crate::met::{Met, meet, meet_refusal, meet_result};
@@ -49,8 +49,6 @@ pub(crate) fn play_sparse(
     requires { IsKept catalogue.now ring.old }
     ensures step { IfOk result (λ met. IsStep catalogue.now ring.old
         (MakesSparse n) text.now met ring.new) }
-    ensures only { IfOk result (λ met. IsOnlyStep catalogue.now ring.old
-        (MakesSparse n) text.now met ring.new) }
     ensures counted { ring.new.submissions ≡ ring.old.submissions }
     ensures kept { OnOk result (IsKept catalogue.now ring.new) }
 {
@@ -80,9 +78,6 @@ pub(crate) fn play_register(
 ) -> Result<Met, NoMemory>
     requires { IsKept catalogue.now ring.old }
     ensures step { IfOk result (λ met. IsStep catalogue.now ring.old
-        (RegistersList given.now.list.now (option_map (λ tags. tags.now) given.now.tags))
-        text.now met ring.new) }
-    ensures only { IfOk result (λ met. IsOnlyStep catalogue.now ring.old
         (RegistersList given.now.list.now (option_map (λ tags. tags.now) given.now.tags))
         text.now met ring.new) }
     ensures counted { ring.new.submissions ≡ ring.old.submissions }
@@ -117,8 +112,6 @@ pub(crate) fn play_unregister(
 ) -> Result<Met, NoMemory>
     requires { IsKept catalogue.now ring.old }
     ensures step { IfOk result (λ met. IsStep catalogue.now ring.old
-        Unregisters text.now met ring.new) }
-    ensures only { IfOk result (λ met. IsOnlyStep catalogue.now ring.old
         Unregisters text.now met ring.new) }
     ensures counted { ring.new.submissions ≡ ring.old.submissions }
     ensures kept { OnOk result (IsKept catalogue.now ring.new) }
@@ -157,8 +150,6 @@ pub(crate) fn play_range(
     requires { IsKept catalogue.now ring.old }
     ensures step { IfOk result (λ met. IsStep catalogue.now ring.old
         (SetsRange range.0 range.1) text.now met ring.new) }
-    ensures only { IfOk result (λ met. IsOnlyStep catalogue.now ring.old
-        (SetsRange range.0 range.1) text.now met ring.new) }
     ensures counted { ring.new.submissions ≡ ring.old.submissions }
     ensures kept { OnOk result (IsKept catalogue.now ring.new) }
 {
@@ -189,9 +180,6 @@ pub(crate) fn play_update(
 ) -> Result<Met, NoMemory>
     requires { IsKept catalogue.now ring.old }
     ensures step { IfOk result (λ met. IsStep catalogue.now ring.old
-        (UpdatesRing off given.now.list.now (option_map (λ tags. tags.now) given.now.tags))
-        text.now met ring.new) }
-    ensures only { IfOk result (λ met. IsOnlyStep catalogue.now ring.old
         (UpdatesRing off given.now.list.now (option_map (λ tags. tags.now) given.now.tags))
         text.now met ring.new) }
     ensures counted { ring.new.submissions ≡ ring.old.submissions }

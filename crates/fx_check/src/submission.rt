@@ -10,7 +10,6 @@ ghost use Rattle.fx_ring.specs.declared.ring.TheConstants.{MOST_SUBMISSIONS};
 ghost use Rattle.fx_language.specs.Instruction.{SubmitsAll};
 ghost use Rattle.fx_check.specs.Answer.{IsAnswer};
 ghost use Rattle.fx_check.specs.Kept.{IsKept};
-ghost use Rattle.fx_check.specs.Only.{IsOnlyAnswer};
 ghost use Rattle.fx_check.specs.Places.{ArePlaces};
 ghost use Rattle.fx_order.specs.Requests.{AreChainsDone};
 ghost use Rattle.fx_check.specs.Told.{AreApart, HasLines, TellsAll, TellsKnown};
@@ -150,8 +149,6 @@ fn play_accepted(
     requires kept { IsKept catalogue.now ring.old }
     ensures answer { IfOk result (λ answer. IsAnswer catalogue.now ring.old
         (SubmitsAll (all_asked requests.now)) text.now answer ring.new) }
-    ensures only { IfOk result (λ answer. IsOnlyAnswer catalogue.now ring.old
-        (SubmitsAll (all_asked requests.now)) text.now answer ring.new) }
     ensures kept { OnOk result (IsKept catalogue.now ring.new) }
 {
     let number = ring.submissions + 1;
@@ -187,8 +184,6 @@ pub(crate) fn play_submission(
 ) -> Result<Answer, NoMemory>
     requires { IsKept catalogue.now ring.old }
     ensures answer { IfOk result (λ answer. IsAnswer catalogue.now ring.old
-        (SubmitsAll (all_asked requests.now)) text.now answer ring.new) }
-    ensures only { IfOk result (λ answer. IsOnlyAnswer catalogue.now ring.old
         (SubmitsAll (all_asked requests.now)) text.now answer ring.new) }
     ensures kept { OnOk result (IsKept catalogue.now ring.new) }
 {

@@ -1,4 +1,4 @@
-use Rattle.std.proofs.Common.{◌≡◌, ◌+◌, ℕ, ℤ, List, [], ◌∷◌, ◌++◌, pos, to_z, of_z, w32, slice_index_or, drop, ap, refl, subst, sym, ◌∙◌, rules, arith, length, append-nil}
+use Rattle.std.proofs.Common.{◌≡◌, ◌+◌, ℕ, ℤ, List, [], ◌∷◌, ◌++◌, pos, to_z, of_z, w32, slice_index_or, drop, ap, subst, sym, ◌∙◌, rules, arith, length, append-nil}
 use Rattle.std.proofs.Math.Seq.{drop-length}
 use Rattle.fx_ring.proofs.ListSteps.{files_upto, upto_none, upto_all}
 use Rattle.std.specs.Global.{Vec}
@@ -7,7 +7,7 @@ use Rattle.fx_base.specs.declared.mark.Mark.TheVariants.{Registered}
 use Rattle.fx_base.specs.declared.open_file.Closed.{Closed}
 use Rattle.fx_order.specs.Access.{Table, with_file}
 use Rattle.fx_order.specs.Slots.{table_of_slots}
-use Rattle.fx_ring.specs.Registration.{file_after, files_after, removed_from}
+use Rattle.fx_ring.specs.Registration.{file_after, removed_from}
 use Rattle.fx_ring.specs.Tags.{tags_for}
 use Rattle.fx_calls.proofs.ListWorked.{in_range_after, one_more, more_removed}
 use Rattle.fx_calls.proofs.list.apply_list.Goals.{in-Some+in_ok-push, in_default}

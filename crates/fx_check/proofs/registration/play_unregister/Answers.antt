@@ -1,12 +1,16 @@
-use Rattle.std.proofs.Common.{refl, sym, ap, ◌∙◌, ◌++◌, List, ℕ, string_bytes}
-use Rattle.fx_check.proofs.Registrations.{unregister_goes}
-use Rattle.fx_calls.proofs.Entries.{all_closed, all_of_ring, few_of_ring}
-use Rattle.fx_check.proofs.OnlyRegistrations.{unregister_apart, unregister_here, unregister_refused}
-use Rattle.fx_calls.proofs.Entries.{if_ok_then}
-use Rattle.fx_check.specs.Met.{IsMet}
-use Rattle.std.proofs.Common.{subst}
+use Rattle.std.proofs.Common.{◌∙◌, ◌++◌, List, ℕ, ap, arith, codes, pos, refl, string_bytes, subst, sym}
+use Rattle.fx_base.specs.declared.open_file.Closed.{Closed}
+use Rattle.fx_language.specs.Instruction.{Unregisters}
+use Rattle.fx_order.specs.declared.slots.Slots.{Slots}
+use Rattle.fx_ring.specs.Ring.{HasClosed, files_of}
+use Rattle.fx_script.specs.Play.{PrintsClosed}
+use Rattle.fx_check.proofs.Calls.{accepted, no_memory, refused}
+use Rattle.fx_calls.proofs.Entries.{all_closed, all_of_ring, few_of_ring, if_ok_then}
+use Rattle.fx_check.proofs.Registrations.{emptied, none_left, with_slots}
+use Rattle.fx_check.proofs.registration.play_unregister.Goals.{After-meet-met}
 use Rattle.fx_check.proofs.registration.play_unregister.Goals as goal
-use Rattle.fx_print.specs.Text.{closes_text}
+use Rattle.fx_order.specs.Slots.{ring_with_slots}
+use Rattle.fx_print.specs.Text.{closes_text, result_line}
 
 pub close_in_order-requires-clause-entries : goal.close_in_order-requires-clause-entries
 close_in_order-requires-clause-entries c =
@@ -22,34 +26,31 @@ with_closes-requires c =
     (all_of_ring c.args.catalogue.now c.args.ring.now c.deref.result.now (c.deref.ensures.value ∙ c.in_ok-files.ensures) c.requires.is_ring)
     c.in_ok-closes.ensures
 
-pub returns-in-Here-clause-step : goal.returns-in-Here-clause-step
-returns-in-Here-clause-step c =
-    unregister_goes c.args.catalogue.now c.args.ring.now c.args.text.now c.meet-met.result (record { range = (0, 0); at = c.new.result }) c.in-Here.count
-    c.deref.result.now c.in_ok-closes.closes (string_bytes c.in_ok-whole.whole) c.new.ensures.items refl (c.deref.ensures.value ∙ c.in_ok-files.ensures)
-    c.in_ok-closes.ensures
-    (c.in_ok-whole.ensures ∙ ap (λ (l : List ℕ). l ++ closes_text c.args.catalogue.now c.in_ok-closes.closes.files) (c.as_str.ensures.value ∙ c.in_ok-line.ensures))
-    (sym c.in_default.ensures) c.in-Here.is c.meet-met.ensures
+told : (c : After-meet-met) → PrintsClosed (ring_with_slots c.args.catalogue.now c.args.ring.now) (files_of (ring_with_slots c.args.catalogue.now c.args.ring.now))
+    (result_line (codes "unregister") (pos 0)) (string_bytes c.in_ok-whole.whole)
+told c = (
+  c.in_ok-closes.closes,
+  subst (λ (l : List Closed). HasClosed l c.in_ok-closes.closes) (c.deref.ensures.value ∙ c.in_ok-files.ensures) c.in_ok-closes.ensures,
+  c.in_ok-whole.ensures ∙ ap (λ (l : List ℕ). l ++ closes_text c.args.catalogue.now c.in_ok-closes.closes.files) (c.as_str.ensures.value ∙ c.in_ok-line.ensures),
+)
 
-pub returns-in-Some-clause-only : goal.returns-in-Some-clause-only
-returns-in-Some-clause-only c =
+pub returns-in-Some-clause-step : goal.returns-in-Some-clause-step
+returns-in-Some-clause-step c =
     if_ok_then c.meet_refusal.result
-    (λ met found. unregister_refused c.args.catalogue.now c.args.ring.now c.args.text.now met c.in-Some.errno (sym c.in-Some.ensures) found)
+    (λ met. refused c.args.catalogue.now c.args.ring.now Unregisters c.args.text.now tt c.in-Some.errno met (sym c.in-Some.ensures))
     c.meet_refusal.ensures
 
-pub returns-in-Here-clause-only : goal.returns-in-Here-clause-only
-returns-in-Here-clause-only c =
-    unregister_here c.args.catalogue.now c.args.ring.now c.args.text.now c.meet-met.result
-    c.deref.result.now c.in_ok-closes.closes (c.deref.ensures.value ∙ c.in_ok-files.ensures) c.in_ok-closes.ensures c.requires.is_ring
-    (sym c.in_default.ensures) (record { range = (0, 0); at = c.new.result }) c.in-Here.count (string_bytes c.in_ok-whole.whole) c.new.ensures.items refl
-    (c.in_ok-whole.ensures ∙ ap (λ (l : List ℕ). l ++ closes_text c.args.catalogue.now c.in_ok-closes.closes.files) (c.as_str.ensures.value ∙ c.in_ok-line.ensures))
-    c.in-Here.is c.meet-met.ensures
+pub returns-in-Here-clause-step : goal.returns-in-Here-clause-step
+returns-in-Here-clause-step c =
+    let slots : Slots = record { range = (0, 0); at = c.new.result } in
+    accepted c.args.catalogue.now c.args.ring.now Unregisters c.args.text.now tt c.requires.is_ring (sym c.in_default.ensures) (omega arith)
+    (string_bytes c.in_ok-whole.whole) (told (goal.at.returns-in-Here-clause-step c).After-meet-met) c.meet-met.result c.meet-met.ensures
+    (with_slots c.args.ring.now slots) c.in-Here.count
+    (emptied c.args.catalogue.now c.args.ring.now slots 0 (none_left slots c.new.ensures.items refl)) c.in-Here.is
 
-pub returns-clause-only : goal.returns-clause-only
-returns-clause-only c =
+pub returns-clause-step : goal.returns-clause-step
+returns-clause-step c =
     if_ok_then c.or_no_memory.result
-    (λ met found. unregister_apart c.args.catalogue.now c.args.ring.now c.args.text.now met
-    c.deref.result.now c.in_ok-closes.closes (c.deref.ensures.value ∙ c.in_ok-files.ensures) c.in_ok-closes.ensures c.requires.is_ring
-    (sym c.in_default.ensures) (string_bytes c.in_ok-whole.whole)
-    (c.in_ok-whole.ensures ∙ ap (λ (l : List ℕ). l ++ closes_text c.args.catalogue.now c.in_ok-closes.closes.files) (c.as_str.ensures.value ∙ c.in_ok-line.ensures))
-    (subst (IsMet c.args.text.now (string_bytes c.in_ok-whole.whole)) c.in-Apart.is c.meet-met.ensures) found)
+    (λ met. no_memory c.args.catalogue.now c.args.ring.now Unregisters c.args.text.now tt c.requires.is_ring (sym c.in_default.ensures) (omega arith)
+    (string_bytes c.in_ok-whole.whole) (told (goal.at.returns-clause-step c).After-meet-met) c.meet-met.result c.meet-met.ensures c.in-Apart.wanted met c.in-Apart.is)
     c.or_no_memory.ensures

@@ -1,117 +1,107 @@
-use Rattle.std.proofs.Common.{◌≡◌, ◌+◌, sym, ap, ◌∙◌, ◌++◌, List, ℕ, pos, to_z, of_z, w64, codes, rules, length, option_map, string_bytes}
+use Rattle.std.proofs.Common.{◌≡◌, ◌+◌, ◌<◌, ◌^◌, ◌∙◌, ◌++◌, List, ℕ, ap, arith, codes, length, of_z, option_map, pos, rules, string_bytes, subst, sym, to_z, w64}
 use Rattle.fx_base.specs.declared.catalogue.TheConstants.{MOST_ENTRIES}
+use Rattle.fx_base.specs.declared.open_file.Closed.{Closed}
+use Rattle.fx_language.specs.Instruction.{Instruction, UpdatesRing}
 use Rattle.fx_order.specs.Access.{Table}
-use Rattle.fx_ring.specs.Registration.{files_after, removed_from}
+use Rattle.fx_order.specs.Slots.{ring_with_slots, table_of_slots}
+use Rattle.fx_ring.specs.Registration.{files_after, removed_from, updated}
+use Rattle.fx_ring.specs.Ring.{HasClosed}
 use Rattle.fx_ring.specs.Tags.{tags_for}
-use Rattle.fx_calls.proofs.Entries.{all_closed, all_of_list, few_of_list, good_larger, if_ok_then}
+use Rattle.fx_ring.proofs.Origins.{updated_rings}
+use Rattle.fx_script.specs.Play.{PrintsClosed}
+use Rattle.fx_check.proofs.Calls.{accepted, no_memory, refused}
+use Rattle.fx_calls.proofs.Entries.{AreOf, all_closed, all_of_list, few_of_list, good_larger, if_ok_then}
 use Rattle.fx_calls.specs.InRange.{AreInRange}
-use Rattle.fx_check.proofs.Registrations.{copied, update_goes, update_keeps, update_no_memory, update_stays}
-use Rattle.fx_check.proofs.OnlyRegistrations.{update_apart, update_here, update_refused}
-use Rattle.fx_check.specs.Met.{IsMet}
-use Rattle.std.proofs.Common.{arith, subst}
+use Rattle.fx_check.proofs.Registrations.{copied, counted_keeps, counted_with, updated_now}
+use Rattle.fx_check.proofs.registration.play_update.Goals.{After-deref-2, After-meet-met}
 use Rattle.fx_check.proofs.registration.play_update.Goals as goal
 use Rattle.fx_print.specs.Text.{closes_text, result_line}
-
-pub returns-in-Some-clause-step : goal.returns-in-Some-clause-step
-returns-in-Some-clause-step c =
-    if_ok_then c.meet_refusal.result
-    (λ met found. update_stays c.args.catalogue.now c.args.ring.now c.args.text.now met c.args.off c.args.given.now.list.now
-    (option_map (λ given. given.now) c.args.given.now.tags) c.in-Some.errno (sym c.in-Some.ensures.value) found)
-    c.meet_refusal.ensures
 
 pub apply_list-requires-clause-good : goal.apply_list-requires-clause-good
 apply_list-requires-clause-good c =
     good_larger (length c.args.catalogue.now) MOST_ENTRIES c.args.given.now.list.now c.in_default.ensures.entries c.in_default.ensures.good
 
+module _ (c : After-deref-2) where
+  same : table_of_slots (record { range = c.args.ring.now.slots.range; at = c.in_ok-from_slice.field-0 }) ≡ table_of_slots c.args.ring.now.slots
+  same = copied c.args.ring.now.slots c.in_ok-from_slice.field-0 (c.in_ok-from_slice.ensures.items ∙ c.deref.ensures.value)
+
+  removed : c.deref-2.result.now ≡ removed_from (table_of_slots c.args.ring.now.slots).at c.args.off c.args.given.now.list.now
+  removed = c.deref-2.ensures.value ∙ c.in_ok-files.ensures.removed ∙ ap (λ (t : Table). removed_from t.at c.args.off c.args.given.now.list.now) same
+
+  entries : AreOf c.args.catalogue.now c.deref-2.result.now
+  entries = all_of_list c.args.catalogue.now c.args.ring.now c.args.off c.args.given.now.list.now c.deref-2.result.now removed c.requires.is_ring
+
+  now : ring_with_slots c.args.catalogue.now (counted_with c.args.ring.now c.apply_list.new.slots)
+      ≡ updated (ring_with_slots c.args.catalogue.now c.args.ring.now) c.args.off c.args.given.now.list.now
+      (tags_for c.args.given.now.list.now c.args.given.now.tags)
+  now = updated_now c.args.catalogue.now c.args.ring.now c.apply_list.new.slots c.args.off c.args.given.now.list.now
+      (tags_for c.args.given.now.list.now c.args.given.now.tags)
+      (c.in_ok-files.ensures.table ∙ ap (λ (t : Table). record t {
+        at = files_after (c.args.ring.now.registrations + 1) t.at c.args.off c.args.given.now.list.now (tags_for c.args.given.now.list.now c.args.given.now.tags);
+      }) same)
+
 pub close_in_order-requires-clause-entries : goal.close_in_order-requires-clause-entries
-close_in_order-requires-clause-entries c =
-    let same = copied c.args.ring.now.slots c.in_ok-from_slice.field-0 (c.in_ok-from_slice.ensures.items ∙ c.deref.ensures.value) in
-    all_of_list c.args.catalogue.now c.args.ring.now c.args.off c.args.given.now.list.now c.deref-2.result.now
-    (c.deref-2.ensures.value ∙ c.in_ok-files.ensures.removed ∙ ap (λ (t : Table). removed_from t.at c.args.off c.args.given.now.list.now) same) c.requires.is_ring
+close_in_order-requires-clause-entries c = entries (goal.at.close_in_order-requires-clause-entries c).After-deref-2
 
 pub close_in_order-requires-clause-few : goal.close_in_order-requires-clause-few
 close_in_order-requires-clause-few c =
-    let same = copied c.args.ring.now.slots c.in_ok-from_slice.field-0 (c.in_ok-from_slice.ensures.items ∙ c.deref.ensures.value) in
     few_of_list c.args.ring.now c.args.off c.args.given.now.list.now c.deref-2.result.now
-    (c.deref-2.ensures.value ∙ c.in_ok-files.ensures.removed ∙ ap (λ (t : Table). removed_from t.at c.args.off c.args.given.now.list.now) same)
-    c.in_default.ensures.inside c.requires.few_slots
+    (removed (goal.at.close_in_order-requires-clause-few c).After-deref-2) c.in_default.ensures.inside c.requires.few_slots
 
 pub with_closes-requires : goal.with_closes-requires
 with_closes-requires c =
-    let same = copied c.args.ring.now.slots c.in_ok-from_slice.field-0 (c.in_ok-from_slice.ensures.items ∙ c.deref.ensures.value) in
-    all_closed c.args.catalogue.now c.deref-2.result.now c.in_ok-closes.closes
-    (all_of_list c.args.catalogue.now c.args.ring.now c.args.off c.args.given.now.list.now c.deref-2.result.now
-    (c.deref-2.ensures.value ∙ c.in_ok-files.ensures.removed ∙ ap (λ (t : Table). removed_from t.at c.args.off c.args.given.now.list.now) same) c.requires.is_ring)
-    c.in_ok-closes.ensures
+    all_closed c.args.catalogue.now c.deref-2.result.now c.in_ok-closes.closes (entries (goal.at.with_closes-requires c).After-deref-2) c.in_ok-closes.ensures
+
+module _ (c : After-meet-met) where
+  abbrev command : Instruction
+  command = UpdatesRing c.args.off c.args.given.now.list.now (option_map (λ given. given.now) c.args.given.now.tags)
+
+  told : c.deref-2.result.now ≡ removed_from (table_of_slots c.args.ring.now.slots).at c.args.off c.args.given.now.list.now
+      → PrintsClosed (ring_with_slots c.args.catalogue.now c.args.ring.now)
+      (removed_from (table_of_slots c.args.ring.now.slots).at c.args.off c.args.given.now.list.now)
+      (result_line (codes "regupdate") (pos (length c.args.given.now.list.now))) (string_bytes c.in_ok-whole.whole)
+  told all =
+      let counted : to_z w64 (of_z w64 c.from.result) ≡ pos (length c.args.given.now.list.now) = search rules in (
+        c.in_ok-closes.closes,
+        subst (λ (l : List Closed). HasClosed l c.in_ok-closes.closes) all c.in_ok-closes.ensures,
+        c.in_ok-whole.ensures ∙ ap (λ (l : List ℕ). l ++ closes_text c.args.catalogue.now c.in_ok-closes.closes.files) (c.as_str.ensures.value
+            ∙ c.in_ok-line.ensures ∙ ap (result_line (codes "regupdate")) counted),
+      )
+
+  few : length c.args.given.now.list.now < 2 ^ 31
+  few = let inside = c.in_default.ensures.inside in let slots = c.requires.few_slots in omega arith
+
+pub returns-in-Some-clause-step : goal.returns-in-Some-clause-step
+returns-in-Some-clause-step c =
+    if_ok_then c.meet_refusal.result
+    (λ met. refused c.args.catalogue.now c.args.ring.now
+    (UpdatesRing c.args.off c.args.given.now.list.now (option_map (λ given. given.now) c.args.given.now.tags))
+    c.args.text.now tt c.in-Some.errno met (sym c.in-Some.ensures.value))
+    c.meet_refusal.ensures
 
 pub returns-in-Here-clause-step : goal.returns-in-Here-clause-step
 returns-in-Here-clause-step c =
-    let counted : to_z w64 (of_z w64 c.from.result) ≡ pos (length c.args.given.now.list.now) = search rules in
-    let same = copied c.args.ring.now.slots c.in_ok-from_slice.field-0 (c.in_ok-from_slice.ensures.items ∙ c.deref.ensures.value) in
-    update_goes c.args.catalogue.now c.args.ring.now c.args.text.now c.meet-met.result c.args.off c.args.given.now.list.now (option_map (λ given. given.now) c.args.given.now.tags)
-    c.apply_list.new.slots
-    (c.in_ok-files.ensures.table ∙ ap (λ (t : Table). record t {
-      at = files_after (c.args.ring.now.registrations + 1) t.at c.args.off c.args.given.now.list.now (tags_for c.args.given.now.list.now c.args.given.now.tags);
-    }) same)
-    c.in-Here.count c.deref-2.result.now c.in_ok-closes.closes (string_bytes c.in_ok-whole.whole)
-    (c.deref-2.ensures.value ∙ c.in_ok-files.ensures.removed ∙ ap (λ (t : Table). removed_from t.at c.args.off c.args.given.now.list.now) same)
-    c.in_ok-closes.ensures
-    (c.in_ok-whole.ensures ∙ ap (λ (l : List ℕ). l ++ closes_text c.args.catalogue.now c.in_ok-closes.closes.files) (c.as_str.ensures.value ∙ c.in_ok-line.ensures
-    ∙ ap (result_line (codes "regupdate")) counted))
-    (sym c.in_default.ensures.value) c.in-Here.is c.meet-met.ensures
+    let d = (goal.at.returns-in-Here-clause-step c).After-deref-2 in
+    let m = (goal.at.returns-in-Here-clause-step c).After-meet-met in
+    accepted c.args.catalogue.now c.args.ring.now (command m) c.args.text.now tt c.requires.is_ring (sym c.in_default.ensures.value) (few m)
+    (string_bytes c.in_ok-whole.whole) (told m (removed d)) c.meet-met.result c.meet-met.ensures
+    (counted_with c.args.ring.now c.apply_list.new.slots) c.in-Here.count
+    (now d) c.in-Here.is
 
 pub returns-in-Here-clause-kept : goal.returns-in-Here-clause-kept
 returns-in-Here-clause-kept c =
-    let same = copied c.args.ring.now.slots c.in_ok-from_slice.field-0 (c.in_ok-from_slice.ensures.items ∙ c.deref.ensures.value) in
-    update_keeps c.args.catalogue.now c.args.ring.now c.args.text.now c.meet-met.result c.args.off c.args.given.now.list.now (option_map (λ given. given.now) c.args.given.now.tags)
-    c.apply_list.new.slots
-    (c.in_ok-files.ensures.table ∙ ap (λ (t : Table). record t {
-      at = files_after (c.args.ring.now.registrations + 1) t.at c.args.off c.args.given.now.list.now (tags_for c.args.given.now.list.now c.args.given.now.tags);
-    }) same)
-    c.in_default.ensures.good c.in_default.ensures.counted
-    (λ fits. c.in_ok-files.ensures.in_range (subst (λ (t : Table). AreInRange t.at) (sym same) fits)) c.requires
+    let d = (goal.at.returns-in-Here-clause-kept c).After-deref-2 in
+    counted_keeps c.args.catalogue.now c.args.ring.now c.apply_list.new.slots _ (now d) c.requires.few_slots
+    (updated_rings (ring_with_slots c.args.catalogue.now c.args.ring.now) c.args.off c.args.given.now.list.now
+    (tags_for c.args.given.now.list.now c.args.given.now.tags) c.requires.is_ring c.in_default.ensures.good)
+    c.in_default.ensures.counted
+    (c.in_ok-files.ensures.in_range (subst (λ (t : Table). AreInRange t.at) (sym (same d)) c.requires.in_range)) c.requires
 
 pub returns-in-Apart-clause-step : goal.returns-in-Apart-clause-step
 returns-in-Apart-clause-step c =
+    let d = (goal.at.returns-in-Apart-clause-step c).After-deref-2 in
+    let m = (goal.at.returns-in-Apart-clause-step c).After-meet-met in
     if_ok_then c.or_no_memory.result
-    (λ met found. update_no_memory c.args.catalogue.now c.args.ring.now c.args.text.now met c.args.off c.args.given.now.list.now
-    (option_map (λ given. given.now) c.args.given.now.tags) (sym c.in_default.ensures.value) found)
-    c.or_no_memory.ensures
-
-pub returns-in-Some-clause-only : goal.returns-in-Some-clause-only
-returns-in-Some-clause-only c =
-    if_ok_then c.meet_refusal.result
-    (λ met found. update_refused c.args.catalogue.now c.args.ring.now c.args.text.now met c.args.off c.args.given.now.list.now (option_map (λ given. given.now) c.args.given.now.tags)
-    c.in-Some.errno (sym c.in-Some.ensures.value) found)
-    c.meet_refusal.ensures
-
-pub returns-in-Here-clause-only : goal.returns-in-Here-clause-only
-returns-in-Here-clause-only c =
-    let counted : to_z w64 (of_z w64 c.from.result) ≡ pos (length c.args.given.now.list.now) = search rules in
-    let same = copied c.args.ring.now.slots c.in_ok-from_slice.field-0 (c.in_ok-from_slice.ensures.items ∙ c.deref.ensures.value) in
-    update_here c.args.catalogue.now c.args.ring.now c.args.text.now c.meet-met.result c.args.off c.args.given.now.list.now (option_map (λ given. given.now) c.args.given.now.tags)
-    c.deref-2.result.now c.in_ok-closes.closes
-    (c.deref-2.ensures.value ∙ c.in_ok-files.ensures.removed ∙ ap (λ (t : Table). removed_from t.at c.args.off c.args.given.now.list.now) same)
-    c.in_ok-closes.ensures c.requires.is_ring (let inside = c.in_default.ensures.inside in let few = c.requires.few_slots in omega arith)
-    (sym c.in_default.ensures.value) c.apply_list.new.slots c.in-Here.count (string_bytes c.in_ok-whole.whole)
-    (c.in_ok-files.ensures.table ∙ ap (λ (t : Table). record t {
-      at = files_after (c.args.ring.now.registrations + 1) t.at c.args.off c.args.given.now.list.now (tags_for c.args.given.now.list.now c.args.given.now.tags);
-    }) same)
-    (c.in_ok-whole.ensures ∙ ap (λ (l : List ℕ). l ++ closes_text c.args.catalogue.now c.in_ok-closes.closes.files) (c.as_str.ensures.value ∙ c.in_ok-line.ensures
-    ∙ ap (result_line (codes "regupdate")) counted))
-    c.in-Here.is c.meet-met.ensures
-
-pub returns-in-Apart-clause-only : goal.returns-in-Apart-clause-only
-returns-in-Apart-clause-only c =
-    let counted : to_z w64 (of_z w64 c.from.result) ≡ pos (length c.args.given.now.list.now) = search rules in
-    let same = copied c.args.ring.now.slots c.in_ok-from_slice.field-0 (c.in_ok-from_slice.ensures.items ∙ c.deref.ensures.value) in
-    if_ok_then c.or_no_memory.result
-    (λ met found. update_apart c.args.catalogue.now c.args.ring.now c.args.text.now met c.args.off c.args.given.now.list.now (option_map (λ given. given.now) c.args.given.now.tags)
-    c.deref-2.result.now c.in_ok-closes.closes
-    (c.deref-2.ensures.value ∙ c.in_ok-files.ensures.removed ∙ ap (λ (t : Table). removed_from t.at c.args.off c.args.given.now.list.now) same)
-    c.in_ok-closes.ensures c.requires.is_ring (let inside = c.in_default.ensures.inside in let few = c.requires.few_slots in omega arith)
-    (sym c.in_default.ensures.value) (string_bytes c.in_ok-whole.whole)
-    (c.in_ok-whole.ensures ∙ ap (λ (l : List ℕ). l ++ closes_text c.args.catalogue.now c.in_ok-closes.closes.files) (c.as_str.ensures.value ∙ c.in_ok-line.ensures
-    ∙ ap (result_line (codes "regupdate")) counted))
-    (subst (IsMet c.args.text.now (string_bytes c.in_ok-whole.whole)) c.in-Apart.is c.meet-met.ensures) found)
+    (λ met. no_memory c.args.catalogue.now c.args.ring.now (command m) c.args.text.now tt c.requires.is_ring (sym c.in_default.ensures.value) (few m)
+    (string_bytes c.in_ok-whole.whole) (told m (removed d)) c.meet-met.result c.meet-met.ensures c.in-Apart.wanted met c.in-Apart.is)
     c.or_no_memory.ensures

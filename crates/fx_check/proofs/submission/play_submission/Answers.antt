@@ -4,22 +4,22 @@ use Rattle.fx_chain.specs.Runs.{runs_of}
 use Rattle.fx_chain.specs.Operation.{all_asked}
 use Rattle.fx_language.specs.Instruction.{SubmitsAll}
 use Rattle.fx_check.specs.Met.{IsMet}
-use Rattle.fx_check.proofs.OnlyRefused.{fault_told, refused_only, too_many_only}
+use Rattle.fx_check.proofs.OneAnswer.{fault_told, refused, too_many}
 use Rattle.fx_check.proofs.submission.play_submission.Goals as goal
 
-pub returns-in-Err-clause-only : goal.returns-in-Err-clause-only
-returns-in-Err-clause-only c =
-    c.of.ensures.only c.args.catalogue.now c.args.ring.now c.args.ring.now (SubmitsAll (all_asked c.args.requests.now)) c.args.text.now
-    (refused_only c.args.catalogue.now c.args.ring.now (all_asked c.args.requests.now) c.args.text.now c.in-Err.fault c.meet.result
+pub returns-in-Err-clause-answer : goal.returns-in-Err-clause-answer
+returns-in-Err-clause-answer c =
+    c.of.ensures c.args.catalogue.now c.args.ring.now c.args.ring.now (SubmitsAll (all_asked c.args.requests.now)) c.args.text.now
+    (refused c.args.catalogue.now c.args.ring.now c.args.text.now c.meet.result (all_asked c.args.requests.now) c.in-Err.fault
     (fault_told (fault_of (all_asked c.args.requests.now)) c.in-Err.fault (length (runs_of (all_asked c.args.requests.now))) (Err c.in-Err.fault) refl
     c.in-Err.ensures.fault c.in-Err.ensures.chains)
-    (subst (λ (l : List ℕ). IsMet c.args.text.now l c.meet.result) c.in_ok-refused_line.ensures c.meet.ensures))
+    (subst (λ (l : List ℕ). IsMet c.args.text.now l c.meet.result) c.in_ok-refused_line.ensures c.meet.ensures)) refl
 
-pub returns-then-ring-ge-MOST_SUBMISSIONS-clause-only : goal.returns-then-ring-ge-MOST_SUBMISSIONS-clause-only
-returns-then-ring-ge-MOST_SUBMISSIONS-clause-only c =
-    c.of-then-ring-ge-MOST_SUBMISSIONS.ensures.only c.args.catalogue.now c.args.ring.now c.args.ring.now (SubmitsAll (all_asked c.args.requests.now))
+pub returns-then-ring-ge-MOST_SUBMISSIONS-clause-answer : goal.returns-then-ring-ge-MOST_SUBMISSIONS-clause-answer
+returns-then-ring-ge-MOST_SUBMISSIONS-clause-answer c =
+    c.of-then-ring-ge-MOST_SUBMISSIONS.ensures c.args.catalogue.now c.args.ring.now c.args.ring.now (SubmitsAll (all_asked c.args.requests.now))
     c.args.text.now
-    (too_many_only c.args.catalogue.now c.args.ring.now (all_asked c.args.requests.now) c.args.text.now c.meet-then-ring-ge-MOST_SUBMISSIONS.result
+    (too_many c.args.catalogue.now c.args.ring.now c.args.text.now c.meet-then-ring-ge-MOST_SUBMISSIONS.result (all_asked c.args.requests.now)
     c.in_default.ensures.accepted c.if-ring-ge-MOST_SUBMISSIONS.true
     (subst (λ (l : List ℕ). IsMet c.args.text.now l c.meet-then-ring-ge-MOST_SUBMISSIONS.result) c.in_ok-too_many_line.ensures
-    c.meet-then-ring-ge-MOST_SUBMISSIONS.ensures))
+    c.meet-then-ring-ge-MOST_SUBMISSIONS.ensures)) refl

@@ -1,16 +1,20 @@
--- That a text goes on with what a command prints in one way alone, or in none.
-use Rattle.std.specs.Prelude.{◌≡◌, ℕ, List, ◌++◌, drop}
+-- With what a text goes on that the next command prints, and where that leads.
+use Rattle.std.specs.Prelude.{◌≡◌, ℕ, ◌≤◌, List, ◌++◌, length, take, drop}
 use Rattle.fx_base.specs.Catalogue.{FileEntry}
 use Rattle.fx_ring.specs.Ring.{RingContents, RingState, ring_of}
 use Rattle.fx_language.specs.Instruction.{Instruction}
 use Rattle.fx_script.specs.Play.{Prints}
 use Rattle.fx_lines.specs.Lines.{HasNoCloses}
 use Rattle.fx_order.specs.declared.ring_slots.RingSlots.{RingSlots}
-use Rattle.fx_check.specs.declared.answer.Answer.{Answer}
-use Rattle.fx_check.specs.declared.answer.Answer.TheVariants.{Printed, Broken, Undecided}
 use Rattle.fx_check.specs.declared.met.Met.{Met}
 use Rattle.fx_check.specs.declared.met.Met.TheVariants.{Here, Apart}
 use Rattle.fx_order.specs.Slots.{ring_with_slots}
+
+-- each ring of the one state may be led to the other by the command, and print this
+abbrev pub MayPrint : RingState → Instruction → RingState → List ℕ → Type 0
+MayPrint old command new line =
+    (ring : RingContents) → ring_of ring ≡ old
+    → (next : RingContents) × (ring_of next ≡ new) × Prints ring command next line
 
 -- a ring of this state is led to the next one by the command, and the text is what that prints and
 -- then the others
@@ -34,19 +38,12 @@ abbrev pub LeadsNowhere : RingState → Instruction → List ℕ → Type 0
 LeadsNowhere old command text =
     (next : RingContents) (others : List ℕ) → GoesOn old command text next others → ⊥
 
--- a text goes on with what the command prints in this one way, or in none
-abbrev pub IsOnlyStep :
-    List FileEntry → RingSlots → Instruction → List ℕ → Met → RingSlots → Type 0
-IsOnlyStep catalogue old command text (Here count) new =
-    LeadsTo (ring_with_slots catalogue old) command text count (ring_with_slots catalogue new)
-IsOnlyStep catalogue old command text (Apart wanted) new =
+-- the text goes on with what the command may print in one way alone, which leads there, or in none
+abbrev pub IsStep : List FileEntry → RingSlots → Instruction → List ℕ → Met → RingSlots → Type 0
+IsStep catalogue old command text (Here count) new =
+    (count ≤ length text)
+    × MayPrint (ring_with_slots catalogue old) command (ring_with_slots catalogue new)
+    (take count text)
+    × LeadsTo (ring_with_slots catalogue old) command text count (ring_with_slots catalogue new)
+IsStep catalogue old command text (Apart wanted) new =
     LeadsNowhere (ring_with_slots catalogue old) command text
-
--- the same of an answer; where it is undecided nothing is said
-abbrev pub IsOnlyAnswer :
-    List FileEntry → RingSlots → Instruction → List ℕ → Answer → RingSlots → Type 0
-IsOnlyAnswer catalogue old command text (Printed count order) new =
-    LeadsTo (ring_with_slots catalogue old) command text count (ring_with_slots catalogue new)
-IsOnlyAnswer catalogue old command text (Broken fault) new =
-    LeadsNowhere (ring_with_slots catalogue old) command text
-IsOnlyAnswer catalogue old command text (Undecided doubt) new = Unit {0}

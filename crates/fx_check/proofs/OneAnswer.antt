@@ -1,0 +1,91 @@
+-- The commands that find one answer, whatever memory there is: a range that is set or refused, and a submission that is refused.
+use Rattle.std.proofs.Common.{◌≡◌, ◌↔◌, ◌≤◌, Bool, true, nat_le, List, ℕ, pos, codes, refl, sym, ap, subst, ◌∙◌, Option, Some, None, Result, Ok, Err, IfSome, IfNone}
+use Rattle.std.specs.Bool.{MatchBool}
+use Rattle.std.specs.Option.{MatchOption}
+use Rattle.std.proofs.lemmas.Bool.{le-leb}
+use Rattle.fx_base.specs.Catalogue.{FileEntry}
+use Rattle.fx_base.specs.declared.errno.Errno.{Errno}
+use Rattle.fx_chain.specs.Completed.{negated}
+use Rattle.fx_chain.specs.Faults.{fault_of}
+use Rattle.fx_chain.specs.Operation.{Asked}
+use Rattle.fx_chain.specs.declared.fault.CutFault.{CutFault}
+use Rattle.fx_ring.specs.Registration.{range_refusal}
+use Rattle.fx_ring.specs.Ring.{RingContents, RingState, ring_of}
+use Rattle.fx_ring.specs.declared.ring.TheConstants.{MOST_SUBMISSIONS}
+use Rattle.fx_script.specs.Play.{IsRefused, Prints, PrintsReport}
+use Rattle.fx_language.specs.Instruction.{SetsRange, SubmitsAll}
+use Rattle.fx_order.specs.declared.ring_slots.RingSlots.{RingSlots}
+use Rattle.fx_check.specs.Met.{IsMet}
+use Rattle.fx_check.specs.Step.{IsStep}
+use Rattle.fx_check.specs.declared.met.Met.{Met}
+use Rattle.fx_check.proofs.OneText.{exactly, goes}
+use Rattle.fx_order.specs.Slots.{ring_with_slots}
+use Rattle.fx_print.specs.Text.{refused_line, result_line, too_many_line}
+
+-- what a submission prints that has this fault, where this says whether the ring counts no more of them
+abbrev pub Submitted : RingContents → RingState → List Asked → Option CutFault → Bool → RingContents → List ℕ → Type 0
+Submitted ring before asked fault full next line =
+    MatchOption fault (MatchBool full ((ring_of next ≡ before) × (line ≡ too_many_line)) (PrintsReport ring asked next line))
+    (λ cut. (ring_of next ≡ before) × (line ≡ refused_line cut))
+
+pub submitted : (before : RingState) (asked : List Asked) (fault : Option CutFault) (full : Bool) → fault_of asked ≡ fault
+    → nat_le MOST_SUBMISSIONS before.submissions ≡ full → (ring next : RingContents) (line : List ℕ) → ring_of ring ≡ before
+    → Prints ring (SubmitsAll asked) next line ↔ Submitted ring before asked fault full next line
+submitted before asked fault full is counted ring next line same =
+    let now : nat_le MOST_SUBMISSIONS ring.submissions ≡ full = ap (λ (r : RingState). nat_le MOST_SUBMISSIONS r.submissions) same ∙ counted in
+    subst (λ (r : RingState). Prints ring (SubmitsAll asked) next line ↔ Submitted ring r asked fault full next line) same
+    (subst (λ (b : Bool). Prints ring (SubmitsAll asked) next line ↔ Submitted ring (ring_of ring) asked fault b next line) now
+    (subst (λ (x : Option CutFault).
+    Prints ring (SubmitsAll asked) next line ↔ Submitted ring (ring_of ring) asked x (nat_le MOST_SUBMISSIONS ring.submissions) next line) is
+    ((λ p. p), (λ p. p))))
+
+module _ (catalogue : List FileEntry) (old : RingSlots) (text : List ℕ) (met : Met) where
+  abbrev before : RingState
+  before = ring_with_slots catalogue old
+
+  -- a submission that is refused, or is one past the last that is counted
+  pub refused : (asked : List Asked) (fault : CutFault) → fault_of asked ≡ Some fault → IsMet text (refused_line fault) met
+      → IsStep catalogue old (SubmitsAll asked) text met old
+  refused asked fault is = let line = refused_line fault in
+      goes catalogue old old (SubmitsAll asked) text line (exactly before (SubmitsAll asked) text before line
+      (submitted before asked (Some fault) (nat_le MOST_SUBMISSIONS before.submissions) is refl)) met
+
+  pub too_many : (asked : List Asked) → fault_of asked ≡ None → MOST_SUBMISSIONS ≤ old.submissions → IsMet text too_many_line met
+      → IsStep catalogue old (SubmitsAll asked) text met old
+  too_many asked accepted many =
+      goes catalogue old old (SubmitsAll asked) text too_many_line (exactly before (SubmitsAll asked) text before too_many_line
+      (submitted before asked None true accepted (le-leb MOST_SUBMISSIONS old.submissions many))) met
+
+  module _ (off len : ℕ) where
+    -- the ring with the range
+    abbrev pub ranged : RingSlots
+    ranged = record old { slots = record old.slots { range = (off, len) } }
+
+    range_at : (x : Option Errno) → range_refusal before off len ≡ x → (ring next : RingContents) (line : List ℕ) → ring_of ring ≡ before
+        → Prints ring (SetsRange off len) next line
+        ↔ MatchOption x ((ring_of next ≡ record before { range = (off, len) }) × (line ≡ result_line (codes "range") (pos 0)))
+        (IsRefused before (ring_of next) (codes "range") line)
+    range_at x is ring next line same =
+        let At : RingState → Option Errno → Type 0 = λ r y. Prints ring (SetsRange off len) next line
+        ↔ MatchOption y ((ring_of next ≡ record r { range = (off, len) }) × (line ≡ result_line (codes "range") (pos 0)))
+        (IsRefused r (ring_of next) (codes "range") line) in
+        subst (At before) is (subst (λ (r : RingState). At r (range_refusal r off len)) same ((λ p. p), (λ p. p)))
+
+    pub range_refused : (errno : Errno) → range_refusal before off len ≡ Some errno → IsMet text (result_line (codes "range") (negated errno)) met
+        → IsStep catalogue old (SetsRange off len) text met old
+    range_refused errno is = let line = result_line (codes "range") (negated errno) in
+        goes catalogue old old (SetsRange off len) text line (exactly before (SetsRange off len) text before line (range_at (Some errno) is)) met
+
+    pub range_set : (shown : Met) → range_refusal before off len ≡ None → IsMet text (result_line (codes "range") (pos 0)) met → met ≡ shown
+        → IsStep catalogue old (SetsRange off len) text shown ranged
+    range_set shown none found is = let line = result_line (codes "range") (pos 0) in
+        goes catalogue old ranged (SetsRange off len) text line
+        (exactly before (SetsRange off len) text (record before { range = (off, len) }) line (range_at None none)) shown (subst (IsMet text line) is found)
+
+abbrev Told : Type 0
+Told = Result ℕ CutFault
+
+pub fault_told : (x : Option CutFault) (fault : CutFault) (n : ℕ) (told : Result ℕ CutFault) → told ≡ Err fault
+    → IfSome x (λ other. told ≡ Err other) → IfNone x (told ≡ Ok n) → x ≡ Some fault
+fault_told None fault n told is some none = let e : ◌≡◌ {A = Told} (Ok n) (Err fault) = sym none ∙ is in cc
+fault_told (Some other) fault n told is some none = let e : ◌≡◌ {A = Told} (Err other) (Err fault) = sym some ∙ is in cc
