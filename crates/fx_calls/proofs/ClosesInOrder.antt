@@ -8,7 +8,7 @@ use Rattle.std.specs.Prelude.{nat_eq}
 use Rattle.std.specs.declared.cmp.Ordering.{Ordering}
 use Rattle.std.specs.declared.cmp.Ordering.TheVariants.{Less, Equal, Greater}
 use Rattle.std.proofs.lemmas.Bool.{true≢false}
-use Rattle.std.proofs.lemmas.List.Elements.{All-head, All-tail}
+use Rattle.std.proofs.lemmas.List.Elements.{All-cons, All-head, All-tail}
 use Rattle.std.proofs.lemmas.List.Sorted.{All-permutation, ranks_by, sorted_far, sum_by-IsPermutation}
 use Rattle.std.proofs.lemmas.List.Sums.{sum_by-cons}
 use Rattle.fx_base.specs.CloseList.{IsInOrderOfMark, mark_cmp}
@@ -75,23 +75,18 @@ neither_below x y one other =
 
 -- none of them is below the first
 abbrev pub AreNotBelow : Closed → List Closed → Type 0
-AreNotBelow x [] = Unit {0}
-AreNotBelow x (y ∷ ys) = (is_below y x ≡ false) × AreNotBelow x ys
+AreNotBelow x ys = All (λ y. is_below y x ≡ false) ys
 
 abbrev pub Rises : List Closed → Type 0
 Rises [] = Unit {0}
 Rises (x ∷ xs) = AreNotBelow x xs × Rises xs
-
-not_below_each : (x : Closed) (ys : List Closed) → ((k : ℕ) → k < length ys → is_below (slice_index_or ys k x) x ≡ false) → AreNotBelow x ys
-not_below_each x [] each = tt
-not_below_each x (y ∷ ys) each = (each 0 (omega arith), not_below_each x ys (λ k inside. each (suc k) (omega arith)))
 
 -- what is sorted rises
 rises_from : (xs : List Closed) → ((i j : ℕ) (d : Closed) → i ≤ j → j < length xs → is_below (slice_index_or xs j d) (slice_index_or xs i d) ≡ false)
     → Rises xs
 rises_from [] far = tt
 rises_from (x ∷ xs) far = (
-  not_below_each x xs (λ k inside. far 0 (suc k) x (omega arith) (omega arith)),
+  λ k d inside. far 0 (suc k) d (omega arith) (omega arith),
   rises_from xs (λ i j d le inside. far (suc i) (suc j) d (omega arith) (omega arith)),
 )
 
@@ -116,7 +111,8 @@ found_above : (k : List ℕ) (y : Closed) (zs : List Closed) → AreNotBelow y z
 found_above k y [] rises some = absurd (omega arith)
 found_above k y (z ∷ zs) rises some =
     let parts = sum_by-cons (hits k) z zs in
-    by_test (pointwise nat_eq (numbers z.mark) k) k y z (sum_by (hits k) zs) refl rises.0 (omega arith) (λ more. found_above k y zs rises.1 more)
+    by_test (pointwise nat_eq (numbers z.mark) k) k y z (sum_by (hits k) zs) refl (All-head (λ (x : Closed). is_below x y ≡ false) z zs rises)
+    (omega arith) (λ more. found_above k y zs (All-tail (λ (x : Closed). is_below x y ≡ false) z zs rises) more)
   where
     by_test : (b : Bool) (k : List ℕ) (y z : Closed) (more : ℕ) → pointwise nat_eq (numbers z.mark) k ≡ b → is_below z y ≡ false
         → 1 ≤ (if b then 1 else 0) + more → (1 ≤ more → below k (numbers y.mark) ≡ false) → below k (numbers y.mark) ≡ false
@@ -125,7 +121,7 @@ found_above k y (z ∷ zs) rises some =
 
 module _ (P : Closed → Type 0) (one : (x y : Closed) → P x → P y → x.mark ≡ y.mark → x ≡ y) where
   first_too : (x : Closed) (xs : List Closed) → AreNotBelow x xs → AreNotBelow x (x ∷ xs)
-  first_too x xs rises = (not_itself, rises)
+  first_too x xs rises = All-cons (λ (y : Closed). is_below y x ≡ false) x xs not_itself rises
     where
       not_itself : is_below x x ≡ false
       not_itself = by (is_below x x) refl

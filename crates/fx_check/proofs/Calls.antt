@@ -51,12 +51,13 @@ call_of ring (UpdatesRing off list tags) = record {
 }
 call_of ring _ = record { word = []; refusal = None; left = ring; res = 0; closed = None }
 
+-- the commands that these are: a range takes no memory, and a submission is no call
 abbrev pub TakesMemory : Instruction → Type 0
 TakesMemory (SetsRange off len) = ⊥
 TakesMemory (SubmitsAll asked) = ⊥
 TakesMemory _ = Unit {0}
 
--- the line of a result, and those of the files
+-- the line of a result, and those of the files where they are told
 abbrev pub TellsClosed : RingState → List ℕ → Option (List Closed) → List ℕ → Type 0
 TellsClosed ring head None line = line ≡ head
 TellsClosed ring head (Some files) line = PrintsClosed ring files head line
@@ -68,6 +69,7 @@ Tells ring call line = TellsClosed ring (result_line call.word (pos call.res)) c
 abbrev Called : RingState → Call → Option Errno → RingState → List ℕ → Type 0
 Called old call refusal new line = Answers refusal ((new ≡ call.left) × Tells old call line) (IsRefused old new call.word line)
 
+-- `Prints` says the same
 called : (old new : RingContents) (command : Instruction) (line : List ℕ) → TakesMemory command
     → Prints old command new line ↔ Called (ring_of old) (call_of (ring_of old) command) (call_of (ring_of old) command).refusal (ring_of new) line
 called old new (SetsRange off len) line takes = absurd takes
@@ -115,6 +117,7 @@ module _ (catalogue : List FileEntry) (old : RingSlots) (command : Instruction) 
       (subst (λ (r : RingState). Prints ring command next printed ↔ Called r (call_of r command) (call_of r command).refusal (ring_of next) printed) same
       (called ring next command printed takes))
 
+  -- a call that is refused, and below one that is accepted and one that finds no memory
   pub refused : (errno : Errno) (met : Met) → call.refusal ≡ Some errno → IsMet text (result_line call.word (negated errno)) met
       → IsStep catalogue old command text met old
   refused errno met is = let line = result_line call.word (negated errno) in

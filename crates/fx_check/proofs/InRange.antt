@@ -177,12 +177,14 @@ module _ (catalogue : List FileEntry) (are : AreFiles catalogue) (size : ℕ) (s
   chain_so place [] accesses cs is few inside x = subst (All IsCompletionInRange) (sym x.1) (All-nil IsCompletionInRange)
   chain_so place (r ∷ rs) accesses cs is few inside x =
       let within : AreInside size (x.0 ++ x.1) = subst (AreInside size) x.4 inside in
+      let front = subst (AreInside size) (take-append_seam x.0 x.1) (All-take (IsInside size) (length x.0) (x.0 ++ x.1) within) in
+      let behind = subst (AreInside size) (drop-append_seam x.0 x.1) (All-drop (IsInside size) (length x.0) (x.0 ++ x.1) within) in
       let next : IsPlaceInRange (next_member place) = moved place (length rs) is few in
       subst (All IsCompletionInRange) (sym x.5)
-      (All-cons IsCompletionInRange x.2 x.3 (request_so place is r.operation x.0 x.2 (subst (AreInside size) (take-append_seam x.0 x.1) (All-take (IsInside size) (length x.0) (x.0 ++ x.1) within)) x.6)
+      (All-cons IsCompletionInRange x.2 x.3 (request_so place is r.operation x.0 x.2 front x.6)
       (either_way (severs r x.2) _ _ (All IsCompletionInRange x.3)
       (λ _ y. subst (All IsCompletionInRange) (sym y.1) (canceled_so (next_member place) rs next (omega arith)))
-      (λ _ y. chain_so (next_member place) rs x.1 x.3 next (omega arith) (subst (AreInside size) (drop-append_seam x.0 x.1) (All-drop (IsInside size) (length x.0) (x.0 ++ x.1) within)) y) x.7))
+      (λ _ y. chain_so (next_member place) rs x.1 x.3 next (omega arith) behind y) x.7))
 
   -- the completions of an order
   pub chains_so : (submission first : ℕ) (runs : List (List Asked)) (order : List ChainAccess) (cs : List Completed) → submission < 2 ^ 32

@@ -11,7 +11,7 @@ use Rattle.fx_base.specs.declared.errno.Errno.TheVariants.{EBADF, EINVAL, ENXIO}
 use Rattle.fx_chain.specs.Answers.{is_bad_entry}
 use Rattle.fx_chain.specs.Completed.{Completed, next_member}
 use Rattle.fx_chain.specs.Explains.{canceled, severs}
-use Rattle.fx_chain.specs.Operation.{Asked, Operation, Opens, Reads, Closes, Updates}
+use Rattle.fx_chain.specs.Operation.{Asked, Operation, Updates}
 use Rattle.fx_chain.specs.declared.completion.Place.{Place}
 use Rattle.fx_order.specs.Requests.{IsChainDone, IsRefused, IsRequestDone, IsUpdateDone}
 use Rattle.fx_order.specs.declared.access.Access.{Access}
@@ -86,12 +86,10 @@ update_made entries size place off list own c some =
 -- as many places as accesses
 pub own_listed : (catalogue : List FileEntry) (size : ℕ) (place : Place) (operation : Operation) (own : List Access) (c : Completed)
     → IsRequestDone catalogue size place operation own c → length (own_places place operation own) ≡ length own
-own_listed catalogue size place (Opens name target) own c done = length-replicate (length own) (place_at place None)
-own_listed catalogue size place (Reads slot off len) own c done = length-replicate (length own) (place_at place None)
-own_listed catalogue size place (Closes slot) own c done = length-replicate (length own) (place_at place None)
 own_listed catalogue size place (Updates off list) own c done =
     by_equality (length own) 0 (λ b. length (if b then [] else entry_places place 0 list) ≡ length own) (λ none. sym none)
     (λ some. entries_listed place 0 list ∙ sym (update_made (length catalogue) size place off list own c some done))
+own_listed catalogue size place _ own c done = length-replicate (length own) (place_at place None)
 
 -- the places of an update that made accesses
 -- they are all of the chain
@@ -112,14 +110,12 @@ entries_of_chain place n (entry ∷ list) =
     (one_of_chain (int_le (negsuc 0) entry) place n) (entries_of_chain place (n + 1) list)
 
 own_of_chain : (place : Place) (operation : Operation) (own : List Access) → AreOfChain place.chain (own_places place operation own)
-own_of_chain place (Opens name target) own = All-replicate (λ (p : AccessPlace). p.chain ≡ place.chain) (length own) (place_at place None) refl
-own_of_chain place (Reads slot off len) own = All-replicate (λ (p : AccessPlace). p.chain ≡ place.chain) (length own) (place_at place None) refl
-own_of_chain place (Closes slot) own = All-replicate (λ (p : AccessPlace). p.chain ≡ place.chain) (length own) (place_at place None) refl
 own_of_chain place (Updates off list) own = by (length own == 0)
   where
     by : (b : Bool) → AreOfChain place.chain (if b then [] else entry_places place 0 list)
     by true = none_of_chain place.chain
     by false = entries_of_chain place 0 list
+own_of_chain place _ own = All-replicate (λ (p : AccessPlace). p.chain ≡ place.chain) (length own) (place_at place None) refl
 
 -- a chain has as many places as accesses
 pub chain_count : (catalogue : List FileEntry) (size : ℕ) (place : Place) (requests : List Asked) (accesses : List Access) (places : List AccessPlace)

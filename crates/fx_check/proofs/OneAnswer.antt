@@ -82,10 +82,7 @@ module _ (catalogue : List FileEntry) (old : RingSlots) (text : List ℕ) (met :
         goes catalogue old ranged (SetsRange off len) text line
         (exactly before (SetsRange off len) text (record before { range = (off, len) }) line (range_at None none)) shown (subst (IsMet text line) is found)
 
-abbrev Told : Type 0
-Told = Result ℕ CutFault
-
 pub fault_told : (x : Option CutFault) (fault : CutFault) (n : ℕ) (told : Result ℕ CutFault) → told ≡ Err fault
     → IfSome x (λ other. told ≡ Err other) → IfNone x (told ≡ Ok n) → x ≡ Some fault
-fault_told None fault n told is some none = let e : ◌≡◌ {A = Told} (Ok n) (Err fault) = sym none ∙ is in cc
-fault_told (Some other) fault n told is some none = let e : ◌≡◌ {A = Told} (Err other) (Err fault) = sym some ∙ is in cc
+fault_told None fault n told is some none = let e : ◌≡◌ {A = Result ℕ CutFault} (Ok n) (Err fault) = sym none ∙ is in cc
+fault_told (Some other) fault n told is some none = let e : ◌≡◌ {A = Result ℕ CutFault} (Err other) (Err fault) = sym some ∙ is in cc
