@@ -5,6 +5,7 @@ pub mod Playing
 pub mod Commuting
 pub mod ByPart
 pub mod Turns
+pub mod Idling
 pub mod Staying
 pub mod PartByPart
 pub mod First

@@ -1,5 +1,6 @@
 -- The states of a submission that is played by an order: the table, and where each chain is.
-use Rattle.std.specs.Prelude.{◌≡◌, ℕ, ◌+◌, ◌<◌, ◌≤◌, List, [], ◌∷◌, length, Contains}
+use Rattle.std.specs.Prelude.{◌≡◌, ℕ, ◌+◌, ◌<◌, ◌≤◌, Bool, true, false, List, [], ◌∷◌, length}
+use Rattle.std.specs.Prelude.{Contains}
 use Rattle.std.specs.List.{AllByRecursion}
 use Rattle.fx_base.specs.Catalogue.{FileEntry}
 use Rattle.fx_chain.specs.Completed.{Completed}
@@ -12,6 +13,7 @@ use Rattle.fx_ring.specs.Submission.{Reported}
 use Rattle.fx_order.specs.Access.{Table, Permits, table_with}
 use Rattle.fx_order.specs.declared.access.Access.{Access}
 use Rattle.fx_order.specs.Order.{IsOneOrder, table_of}
+use Rattle.fx_outcomes.specs.Idle.{AreIdle}
 use Rattle.fx_outcomes.specs.Parts.{AreParts, Parts}
 use Rattle.fx_outcomes.specs.Rests.{HasMemory, IsNext, Rest, Rules, rules_of, settled_at, step}
 
@@ -43,23 +45,25 @@ IsChainExplored catalogue size says states state chain =
     (a : Access) → IsNext catalogue size (state.rests chain) a → Permits state.table a
     → IsExplored (rules_of catalogue size) says states state chain a
 
--- no chain has an access left
-abbrev pub IsOver : ℕ → StateView → Type 0
-IsOver chains state = (chain : ℕ) → 1 ≤ chain → chain ≤ chains → (state.rests chain).requests ≡ []
+-- each chain is idle
+abbrev pub IsOver : (Rest → Bool) → ℕ → StateView → Type 0
+IsOver idle chains state =
+    (chain : ℕ) → 1 ≤ chain → chain ≤ chains → idle (state.rests chain) ≡ true
 
--- no chain of a part before this chain's has an access left
-abbrev pub HasTurn : Parts → ℕ → StateView → ℕ → Type 0
-HasTurn parts chains state chain =
+-- each chain of a part before this chain's is idle
+abbrev pub HasTurn : (Rest → Bool) → Parts → ℕ → StateView → ℕ → Type 0
+HasTurn idle parts chains state chain =
     (other : ℕ) → 1 ≤ other → other ≤ chains → parts.of_chain other < parts.of_chain chain
-    → (state.rests other).requests ≡ []
+    → idle (state.rests other) ≡ true
 
--- the list has each state that an access leads to from one of its states, part by part, and what is
--- answered on the way is said
-abbrev pub AreClosed :
-    List FileEntry → ℕ → Parts → (Completed → Type 0) → ℕ → List StateView → Type 0
-AreClosed catalogue size parts says chains states =
+-- the list has each state that an access leads to from one of its states, part by part, but for those
+-- of idle chains, and what is answered on the way is said
+abbrev pub AreClosed : List FileEntry → ℕ → (Rest → Bool) → Parts → (Completed → Type 0) → ℕ
+    → List StateView → Type 0
+AreClosed catalogue size idle parts says chains states =
     (state : StateView) → Contains states state → (chain : ℕ) → 1 ≤ chain → chain ≤ chains
-    → HasTurn parts chains state chain → IsChainExplored catalogue size says states state chain
+    → HasTurn idle parts chains state chain → idle (state.rests chain) ≡ false
+    → IsChainExplored catalogue size says states state chain
 
 -- each chain from this one on is at its first request that comes to the table, and what was
 -- answered up to there is said
@@ -82,23 +86,25 @@ pub record IsFirst (says : Completed → Type 0) (old : RingState) (requests : L
 -- answered on the way is said
 pub record AreAllStates (says : Completed → Type 0) (old : RingState) (requests : List Asked)
     (states : List StateView) : Type 0 where
+  pub idle : Rest → Bool
+  pub idling : AreIdle says idle
   pub parts : Parts
   pub apart : AreParts (table_of old) parts 1 (runs_of requests)
   pub first : StateView
   pub begins : IsFirst says old requests first
   pub inside : Contains states first
-  pub closed : AreClosed old.catalogue old.size parts says (length (runs_of requests)) states
+  pub closed : AreClosed old.catalogue old.size idle parts says (length (runs_of requests)) states
 
 -- the ring that a state leaves
 abbrev pub ring_at : RingState → StateView → RingState
 ring_at old state = record old { at = state.table.at; submissions = old.submissions + 1 }
 
 -- one of the states is over, and leaves this ring
-pub record HasEnd (old : RingState) (requests : List Asked) (states : List StateView)
-    (left : RingState) : Type 0 where
+pub record HasEnd (old : RingState) (requests : List Asked) (idle : Rest → Bool)
+    (states : List StateView) (left : RingState) : Type 0 where
   pub state : StateView
   pub inside : Contains states state
-  pub over : IsOver (length (runs_of requests)) state
+  pub over : IsOver idle (length (runs_of requests)) state
   pub leaves : left ≡ ring_at old state
 
 -- what is answered at the place is one of these answers
@@ -110,9 +116,9 @@ IsListed place answers c = c.place ≡ place → Contains answers c
 abbrev pub EachOutcomeIsListed : Type 0
 EachOutcomeIsListed =
     (place : Place) (answers : List Completed) (old : RingState) (requests : List Asked)
-    (states : List StateView) → AreAllStates (IsListed place answers) old requests states
+    (states : List StateView) (all : AreAllStates (IsListed place answers) old requests states)
     → (report : Reported) (left : RingState)
     → AllByRecursion HasMemory report.completions
     → IsOneOrder old requests report left
     → AllByRecursion (IsListed place answers) report.completions
-    × HasEnd old requests states left
+    × HasEnd old requests all.idle states left
