@@ -1,21 +1,24 @@
 -- States that were looked through are all of a submission.
 use Rattle.fx_order.proofs.Words.{◌≡◌, ℕ, ◌+◌, ◌-◌, ◌<◌, List, [], length, ◌∷◌, map, refl, sym, ap, subst, ◌∙◌, arith, slice_index_or, All}
-use Rattle.fx_order.proofs.Words.{suc, Table, Contains, IsTrue, Permits, Completed, length-map, Chain, Asked, members_of, runs_of, first_member, ring_of_slots, table_of_slots, all_asked}
+use Rattle.fx_order.proofs.Words.{Bool, true, false, suc, Table, Contains, IsTrue, Permits, Completed, length-map, Chain, Asked, members_of, runs_of, first_member, ring_of_slots, table_of_slots, all_asked}
 use Rattle.std.proofs.lemmas.List.Elements.{All-contains}
 use Rattle.fx_order.specs.declared.slots.Slots.{Slots}
 use Rattle.std.specs.List.{AllByRecursion}
 use Rattle.fx_table.proofs.Members.{contains_map}
 use Rattle.fx_order.specs.declared.access.Access.{Access}
-use Rattle.fx_outcomes.specs.Rests.{IsNext, Rest, Rules, settled_at}
+use Rattle.fx_outcomes.specs.Idle.{has_none}
+use Rattle.fx_outcomes.specs.Rests.{IsNext, IsNextOf, Rest, Rules, settled_at}
 use Rattle.fx_outcomes.specs.Parts.{AreParts, Parts, StaysIn}
 use Rattle.fx_outcomes.specs.Nodes.{AreAllStates, AreAtStart, AreClosed, HasTurn, IsChainExplored, StateView}
 use Rattle.fx_answers.specs.Listed.{AreAllBy, AreAtStartBy, HasTurnBy, IsAtStartBy, IsStateExploredBy, said_by, states_of, told_by, told_states}
 use Rattle.fx_answers.specs.Reports.{AreAllTold, AreToldAtStart, AreToldClosed, LeadsOn, ToldState}
 use Rattle.fx_answers.specs.Tellings.{answers_of}
 use Rattle.fx_answers.specs.Stands.{rest_in}
-use Rattle.fx_answers.specs.Views.{ArePartsIn, not_begun, parts_of, rules_in, runs_in, view_in}
+use Rattle.fx_answers.specs.Views.{ArePartsIn, is_idle, is_idle_at, not_begun, parts_of, rules_in, runs_in, view_in}
 use Rattle.fx_answers.specs.declared.closed.Claimed.{Claimed}
 use Rattle.fx_answers.specs.declared.state.State.{State}
+use Rattle.fx_answers.specs.declared.submission.Submission.{Submission}
+use Rattle.fx_answers.proofs.Idle.{are_idle, none_for, none_left, over_idle}
 use Rattle.fx_answers.proofs.Lists.{inside_at}
 use Rattle.fx_answers.proofs.Viewing.{at_start_all}
 
@@ -24,36 +27,48 @@ as_many asked chains whole = ap length (sym whole) ∙ length-map chains (member
 
 -- what is told aside
 plain : (claimed : Claimed) (s : State) → IsStateExploredBy claimed s → (i : ℕ) → i < length claimed.submission.now.chains.now → HasTurnBy claimed s i
+    → is_idle_at claimed.submission.now s i ≡ false
     → IsChainExplored claimed.submission.now.setting.catalogue.now claimed.submission.now.setting.size (said_by claimed) (states_of claimed)
     (view_in claimed.submission.now s) (i + 1)
-plain claimed s each i few turn a next may = (each i few turn a next may).is
+plain claimed s each i few turn awake a next may = (each i few turn awake a next may).is
 
 abbrev parts_by : Claimed → Parts
 parts_by claimed = parts_of claimed.found.now.numbers
 
+abbrev idle_by : Claimed → Rest → Bool
+idle_by claimed = is_idle claimed.submission.now
+
 abbrev turn_at : Claimed → StateView → ℕ → Type 0
-turn_at claimed view chain = HasTurn (parts_by claimed) (length (runs_in claimed.submission.now)) view chain
+turn_at claimed view chain = HasTurn (idle_by claimed) (parts_by claimed) (length (runs_in claimed.submission.now)) view chain
 
 -- each state of the list is explored, so the list is closed
 closed_all : (claimed : Claimed) → length (runs_in claimed.submission.now) ≡ length claimed.submission.now.chains.now
     → All (IsStateExploredBy claimed) claimed.found.now.states.items
-    → AreClosed claimed.submission.now.setting.catalogue.now claimed.submission.now.setting.size (parts_by claimed) (said_by claimed) (length (runs_in claimed.submission.now))
+    → AreClosed claimed.submission.now.setting.catalogue.now claimed.submission.now.setting.size (idle_by claimed) (parts_by claimed) (said_by claimed) (length (runs_in claimed.submission.now))
     (states_of claimed)
 closed_all claimed many each state there chain low high =
     let its = contains_map (view_in claimed.submission.now) claimed.found.now.states.items state there in
     let explored = plain claimed its.0 (All-contains (IsStateExploredBy claimed) claimed.found.now.states.items its.0 each its.1) in
     let number : chain - 1 + 1 ≡ chain = omega (arith, low) in
-    subst (λ (v : StateView). turn_at claimed v chain
+    subst (λ (v : StateView). turn_at claimed v chain → idle_by claimed (v.rests chain) ≡ false
     → IsChainExplored claimed.submission.now.setting.catalogue.now claimed.submission.now.setting.size (said_by claimed) (states_of claimed) v chain) (sym its.2)
-    (subst (λ (n : ℕ). turn_at claimed (view_in claimed.submission.now its.0) n
+    (subst (λ (n : ℕ). turn_at claimed (view_in claimed.submission.now its.0) n → idle_by claimed ((view_in claimed.submission.now its.0).rests n) ≡ false
     → IsChainExplored claimed.submission.now.setting.catalogue.now claimed.submission.now.setting.size (said_by claimed) (states_of claimed) (view_in claimed.submission.now its.0) n) number
     (explored (chain - 1) (omega (arith, low, high, many))))
 
 -- an access that a chain may make next in its turn leads on, and so does what is told
 abbrev GoesOn : Claimed → ToldState → ℕ → Access → Type 0
-GoesOn claimed here chain a = turn_at claimed here.state chain
+GoesOn claimed here chain a = HasTurn has_none (parts_by claimed) (length (runs_in claimed.submission.now)) here.state chain
     → IsNext claimed.submission.now.setting.catalogue.now claimed.submission.now.setting.size (here.state.rests chain) a → Permits here.state.table a
     → (next : ToldState) × Contains (told_states claimed) next × LeadsOn (rules_in claimed.submission.now) here chain a next
+
+no_next : (claimed : Claimed) (rest : Rest) (a : Access) → rest.requests ≡ []
+    → IsNext claimed.submission.now.setting.catalogue.now claimed.submission.now.setting.size rest a → ⊥
+no_next claimed rest a none next =
+    subst (λ (l : List Asked). IsNextOf claimed.submission.now.setting.catalogue.now claimed.submission.now.setting.size rest.place l rest.made a) none next
+
+tells_so : (submission : Submission) → IsTrue submission.tells → submission.tells ≡ true
+tells_so submission tells = tells
 
 told_closed : (claimed : Claimed) → IsTrue claimed.submission.now.tells → length (runs_in claimed.submission.now) ≡ length claimed.submission.now.chains.now
     → All (IsStateExploredBy claimed) claimed.found.now.states.items
@@ -63,7 +78,15 @@ told_closed claimed tells many each here there chain low high turn a =
     let explored = All-contains (IsStateExploredBy claimed) claimed.found.now.states.items its.0 each its.1 in
     let number : chain - 1 + 1 ≡ chain = omega (arith, low) in
     let few : chain - 1 < length claimed.submission.now.chains.now = omega (arith, low, high, many) in
-    let goes : GoesOn claimed (told_by claimed its.0) (chain - 1 + 1) a = λ its_turn next may. (explored (chain - 1) few its_turn a next may).told tells in
+    let rest : Rest = (told_by claimed its.0).state.rests (chain - 1 + 1) in
+    let goes : GoesOn claimed (told_by claimed its.0) (chain - 1 + 1) a = λ its_turn next may.
+    elim (idle_by claimed rest) as (λ b. idle_by claimed rest ≡ b
+    → (to : ToldState) × Contains (told_states claimed) to × LeadsOn (rules_in claimed.submission.now) (told_by claimed its.0) (chain - 1 + 1) a to) [
+      | true ↦ λ asleep. absurd (no_next claimed rest a (none_left claimed.submission.now rest (tells_so claimed.submission.now tells) asleep) next)
+      | false ↦ λ awake. (explored (chain - 1) few
+          (λ other low_one high_one less. let its_rest : Rest = (told_by claimed its.0).state.rests other in
+          over_idle claimed.submission.now its_rest (none_for its_rest (its_turn other low_one high_one less))) awake a next may).told tells
+    ] refl in
     subst (λ (h : ToldState). GoesOn claimed h chain a) (sym its.2) (subst (λ (n : ℕ). GoesOn claimed (told_by claimed its.0) n a) number goes) turn
 
 -- each chain from one on was told what it answers before its first access
@@ -139,8 +162,9 @@ all_by claimed slots first many some is table size none in_parts start each =
     let begin = λ (k : ℕ) (few : k < length (runs_in sub)). chains_begin claimed first k (start k (omega (arith, few, many))) in
     record {
       are = λ submissions registrations number.
-          subst (λ (n : ℕ). AreAllStates (said_by claimed) (record (ring_of_slots sub.setting.catalogue.now slots submissions registrations) { size = n }) (all_asked sub.requests.now) (states_of claimed)) size
+          subst (λ (n : ℕ). AreAllStates (idle_by claimed) (said_by claimed) (record (ring_of_slots sub.setting.catalogue.now slots submissions registrations) { size = n }) (all_asked sub.requests.now) (states_of claimed)) size
           (record {
+            idling = are_idle claimed;
             parts = parts_by claimed;
             apart = apart;
             first = view_in sub first;

@@ -7,12 +7,15 @@ use Rattle.fx_order.specs.declared.slots.Slots.{Slots}
 use Rattle.fx_table.proofs.Members.{contains_map}
 use Rattle.std.proofs.lemmas.List.Elements.{All-contains}
 use Rattle.fx_ring.specs.Submission.{reported}
+use Rattle.fx_outcomes.specs.Idle.{has_none}
+use Rattle.fx_outcomes.specs.Rests.{Rest}
 use Rattle.fx_outcomes.specs.Nodes.{IsOver}
+use Rattle.fx_answers.proofs.Idle.{none_for, over_idle}
 use Rattle.fx_answers.specs.Listed.{AreAllReportsBy, IsPlayOf, IsPossibleIn, IsToldAt, IsToldOf, told_by, told_states}
 use Rattle.fx_answers.specs.Outcomes.{HasEachReport, IsPossible, IsReportBy, MayReport, TellsOf}
 use Rattle.fx_answers.specs.Reports.{HasReport, ToldState, told_from}
 use Rattle.fx_answers.specs.Tellings.{all_told, answers_of}
-use Rattle.fx_answers.specs.Views.{runs_in, told_of, view_in}
+use Rattle.fx_answers.specs.Views.{IsOverIn, runs_in, told_of, view_in}
 use Rattle.fx_answers.specs.declared.closed.Claimed.{Claimed}
 use Rattle.fx_answers.specs.declared.report.PossibleReport.{PossibleReport}
 use Rattle.fx_answers.specs.declared.state.State.{State}
@@ -89,7 +92,9 @@ reports_by claimed slots reports given submissions registrations number are tell
     let one = subst (λ (r : RingState). IsOneOrder r requests report (ring_of left)) same (each_history_is_an_order ring left requests report may.history) in
     let has = each_report_is_listed old requests (told_states claimed) (whole.all.told tells submissions registrations number) report (ring_of left) may.memory one in
     let at = contains_map (told_by claimed) claimed.found.now.states.items has.here has.inside in
-    let over : IsOver (length (runs_in sub)) (view_in sub at.0) = subst (λ (h : ToldState). IsOver (length (runs_in sub)) h.state) at.2 has.over in
+    let over : IsOverIn sub at.0 = λ chain low high.
+    let rest : Rest = (view_in sub at.0).rests chain in
+    over_idle sub rest (none_for rest (subst (λ (h : ToldState). IsOver has_none (length (runs_in sub)) h.state) at.2 has.over chain low high)) in
     let telling = All-contains (IsToldAt sub reports) claimed.found.now.states.items at.0 listed at.1 over in
     let its = All-contains (IsPossibleIn sub slots) reports telling.0 each telling.1 submissions registrations number in (
       telling.0,

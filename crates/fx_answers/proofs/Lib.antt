@@ -3,6 +3,7 @@ pub mod Settling
 pub mod Choosing
 pub mod SameAnswers
 pub mod Viewing
+pub mod Idle
 pub mod AllOfThem
 pub mod Turns
 pub mod Promised

@@ -1,5 +1,5 @@
 -- What an order and a whole list of states show of a ring's histories.
-use Rattle.fx_order.proofs.Words.{◌≡◌, ℕ, ◌+◌, ◌≤◌, List, length, refl, sym, ap, subst, ◌∙◌, Contains, All, Some, Option, Completed, Asked, Place, table_of_slots, completed_of, ring_of_slots, all_asked, All-map, All-weaker}
+use Rattle.fx_order.proofs.Words.{Bool, ◌≡◌, ℕ, ◌+◌, ◌≤◌, List, length, refl, sym, ap, subst, ◌∙◌, Contains, All, Some, Option, Completed, Asked, Place, table_of_slots, completed_of, ring_of_slots, all_asked, All-map, All-weaker}
 use Rattle.fx_order.proofs.Words.{IsAccepted, IsOneOrder, IsOrderOf, RingContents, RingState, ring_left, ring_of, Reported, runs_of}
 use Rattle.fx_order.proofs.Histories.{each_order_is_a_history}
 use Rattle.fx_order.proofs.Ordered.{each_history_is_an_order}
@@ -8,13 +8,13 @@ use Rattle.fx_order.specs.declared.access.ChainAccess.{ChainAccess}
 use Rattle.fx_order.specs.declared.slots.Slots.{Slots}
 use Rattle.fx_table.proofs.Members.{contains_map, contains_mapped}
 use Rattle.std.proofs.lemmas.List.Elements.{All-contains}
-use Rattle.fx_outcomes.specs.Rests.{HasMemory}
+use Rattle.fx_outcomes.specs.Rests.{HasMemory, Rest}
 use Rattle.fx_outcomes.specs.Nodes.{AreAllStates, HasEnd, IsOver, StateView, ring_at}
 use Rattle.fx_outcomes.proofs.First.{all_said}
 use Rattle.std.specs.List.{AllByRecursion}
 use Rattle.fx_answers.specs.Outcomes.{IsAnswer, HasEachAnswer, HasEachEnd, IsEnd, IsReportBy, MayReport, ring_behind, rings_behind}
 use Rattle.fx_answers.specs.Listed.{AreAllBy, AreAllEndsBy, IsEndIn, IsEndListed, IsPlayOf, said_by, says, states_of, tables_behind}
-use Rattle.fx_answers.specs.Views.{view_in}
+use Rattle.fx_answers.specs.Views.{is_idle, view_in}
 use Rattle.fx_answers.specs.declared.closed.Claimed.{Claimed}
 use Rattle.fx_answers.specs.declared.end.End.{End}
 use Rattle.fx_answers.specs.declared.outcome.Answer.{Answer}
@@ -31,18 +31,18 @@ may_of old asked order report slots small accepted by ring same =
     (h.0, h.1 ∙ (ap (ring_left order) same ∙ sym by.leaves), record { history = h.2; memory = by.memory })
 
 -- whatever a ring may come to, all states show
-shown : (P : Completed → Type 0) (old : RingState) (asked : List Asked) (states : List StateView) → AreAllStates P old asked states
+shown : (idle : Rest → Bool) (P : Completed → Type 0) (old : RingState) (asked : List Asked) (states : List StateView) → AreAllStates idle P old asked states
     → (ring left : RingContents) (report : Reported) → ring_of ring ≡ old → MayReport ring asked report left
-    → AllByRecursion P report.completions × HasEnd old asked states (ring_of left)
-shown P old asked states all ring left report same may =
-    all_said P old asked states all report (ring_of left) (each_by_recursion HasMemory report.completions may.memory)
+    → AllByRecursion P report.completions × HasEnd old asked idle states (ring_of left)
+shown idle P old asked states all ring left report same may =
+    all_said idle P old asked states all report (ring_of left) (each_by_recursion HasMemory report.completions may.memory)
     (subst (λ (r : RingState). IsOneOrder r asked report (ring_of left)) same (each_history_is_an_order ring left asked report may.history))
 
 -- all states show all answers
-pub each_answer : (old : RingState) (asked : List Asked) (place : Place) (answers : List Answer) (states : List StateView)
-    → AreAllStates (says (Some place) answers) old asked states → HasEachAnswer old asked place answers
-each_answer old asked place answers states all ring left c same may there =
-    each_of (says (Some place) answers) may.report.completions c (shown (says (Some place) answers) old asked states all ring left may.report same may.may).0
+pub each_answer : (idle : Rest → Bool) (old : RingState) (asked : List Asked) (place : Place) (answers : List Answer) (states : List StateView)
+    → AreAllStates idle (says (Some place) answers) old asked states → HasEachAnswer old asked place answers
+each_answer idle old asked place answers states all ring left c same may there =
+    each_of (says (Some place) answers) may.report.completions c (shown idle (says (Some place) answers) old asked states all ring left may.report same may.may).0
     may.inside (ap Some (sym there))
 
 pub ring_same : (old : RingState) (slots : Slots) (order : List ChainAccess) (state : StateView) → ring_behind old slots ≡ ring_left order old
@@ -58,11 +58,11 @@ ring_same old slots order state leaves is =
     }
 
 -- all states show all ends
-pub each_end : (P : Completed → Type 0) (old : RingState) (asked : List Asked) (ends : List End) (states : List StateView) → AreAllStates P old asked states
-    → All (λ v. IsOver (length (runs_of asked)) v → Contains (tables_behind ends) v.table) states → All (IsEnd old asked) ends → HasEachEnd old asked ends
-each_end P old asked ends states all listed each ring left same may =
-    let end = (shown P old asked states all ring left may.report same may.may).1 in
-    let at = All-contains (λ (v : StateView). IsOver (length (runs_of asked)) v → Contains (tables_behind ends) v.table) states end.state listed end.inside end.over in
+pub each_end : (idle : Rest → Bool) (P : Completed → Type 0) (old : RingState) (asked : List Asked) (ends : List End) (states : List StateView)
+    → AreAllStates idle P old asked states → All (λ v. IsOver idle (length (runs_of asked)) v → Contains (tables_behind ends) v.table) states → All (IsEnd old asked) ends → HasEachEnd old asked ends
+each_end idle P old asked ends states all listed each ring left same may =
+    let end = (shown idle P old asked states all ring left may.report same may.may).1 in
+    let at = All-contains (λ (v : StateView). IsOver idle (length (runs_of asked)) v → Contains (tables_behind ends) v.table) states end.state listed end.inside end.over in
     let found = contains_map (λ (e : End). table_of_slots e.slots) ends end.state.table at in
     let its = All-contains (IsEnd old asked) ends found.0 each found.1 in
     subst (Contains (rings_behind old ends)) (sym (end.leaves ∙ ring_same old found.0.slots found.0.order.items end.state its.by.leaves found.2))
@@ -89,14 +89,14 @@ is_end old asked report end play = record {
 
 -- what was looked through shows all answers
 pub answers_by : (claimed : Claimed) (slots : Slots) (place : Place) (answers : List Answer) (submissions registrations : ℕ)
-    → claimed.submission.now.number ≡ submissions + 1 → claimed.place ≡ Some place → claimed.answers.now ≡ answers → AreAllBy claimed slots
+    → claimed.submission.now.number ≡ submissions + 1 → claimed.submission.now.asked ≡ Some place → claimed.answers.now ≡ answers → AreAllBy claimed slots
     → HasEachAnswer (ring_of_slots claimed.submission.now.setting.catalogue.now slots submissions registrations) (all_asked claimed.submission.now.requests.now) place answers
 answers_by claimed slots place answers submissions registrations number asked are all =
     let old = ring_of_slots claimed.submission.now.setting.catalogue.now slots submissions registrations in
     let requests = all_asked claimed.submission.now.requests.now in
-    each_answer old requests place answers (states_of claimed)
-    (subst (λ (p : Option Place). AreAllStates (says p answers) old requests (states_of claimed)) asked
-    (subst (λ (l : List Answer). AreAllStates (says claimed.place l) old requests (states_of claimed)) are (all.are submissions registrations number)))
+    each_answer (is_idle claimed.submission.now) old requests place answers (states_of claimed)
+    (subst (λ (p : Option Place). AreAllStates (is_idle claimed.submission.now) (says p answers) old requests (states_of claimed)) asked
+    (subst (λ (l : List Answer). AreAllStates (is_idle claimed.submission.now) (says claimed.submission.now.asked l) old requests (states_of claimed)) are (all.are submissions registrations number)))
 
 -- and all ends
 pub ends_by : (claimed : Claimed) (slots : Slots) (ends given : List End) (submissions registrations : ℕ)
@@ -107,6 +107,6 @@ ends_by claimed slots ends given submissions registrations number are whole each
     let old = ring_of_slots sub.setting.catalogue.now slots submissions registrations in
     let requests = all_asked sub.requests.now in
     let listed = subst (λ (l : List End). All (IsEndListed sub l) claimed.found.now.states.items) are whole.listed in
-    each_end (said_by claimed) old requests ends (states_of claimed) (whole.all.are submissions registrations number)
-    (All-map (λ (v : StateView). IsOver (length (runs_of requests)) v → Contains (tables_behind ends) v.table) (view_in sub) claimed.found.now.states.items listed)
+    each_end (is_idle sub) (said_by claimed) old requests ends (states_of claimed) (whole.all.are submissions registrations number)
+    (All-map (λ (v : StateView). IsOver (is_idle sub) (length (runs_of requests)) v → Contains (tables_behind ends) v.table) (view_in sub) claimed.found.now.states.items listed)
     (All-weaker (IsEndIn sub slots) (IsEnd old requests) (λ end is. is submissions registrations number) ends each)

@@ -1,6 +1,6 @@
 -- An order goes through the states of a closed list with what is told, up to one where no chain has an access left.
 use Rattle.fx_order.proofs.Words.{◌≡◌, inl, inr, ℕ, ◌≤◌, List, [], ◌∷◌, ◌++◌, refl, sym, ap, subst, ◌∙◌, append_assoc, FileEntry, append-nil, by_equality}
-use Rattle.fx_order.proofs.Words.{All, All-head, All-tail, Completed, Table, PermitsAll, table_after, removed_in, removed_by, Closed, accesses_of, accesses_of_chain}
+use Rattle.fx_order.proofs.Words.{true, ◌==◌, length, Asked, All, All-head, All-tail, Completed, Table, PermitsAll, table_after, removed_in, removed_by, Closed, accesses_of, accesses_of_chain}
 use Rattle.fx_order.proofs.Words.{IsPermutation, IsPermutation-trans, IsPermutation-sym}
 use Rattle.std.proofs.lemmas.List.Sorted.{IsPermutation-append_left}
 use Rattle.fx_order.specs.declared.access.Access.{Access}
@@ -12,6 +12,7 @@ use Rattle.fx_outcomes.specs.Rests.{HasMemory, IsNext, Rest, rules_of, step}
 use Rattle.fx_outcomes.specs.Nodes.{IsOver}
 use Rattle.fx_outcomes.proofs.Requests.{are_right}
 use Rattle.fx_outcomes.proofs.Chain.{IsRest, IsReady, ends, steps}
+use Rattle.fx_outcomes.specs.Idle.{has_none}
 use Rattle.fx_outcomes.specs.Parts.{Parts}
 use Rattle.fx_outcomes.proofs.ByPart.{IsByPart}
 use Rattle.fx_outcomes.proofs.Playing.{of_chain}
@@ -93,17 +94,17 @@ module _ (catalogue : List FileEntry) (size chains : ℕ) (finals : ℕ → List
 
   -- where the order is over
   pub record Ended (table : Table) (here : ToldState) : Type 0 where
-    pub over : IsOver chains here.state
+    pub over : IsOver has_none chains here.state
     pub told : (chain : ℕ) → 1 ≤ chain → chain ≤ chains → finals chain ≡ here.told chain
     pub closed : IsPermutation here.removed files
     pub table_is : here.state.table ≡ table
 
   -- a chain without an access that is left is over
   over_at : (here : ToldState) (order : List ChainAccess) → Comes here order → (chain : ℕ) → 1 ≤ chain → chain ≤ chains → accesses_of_chain chain order ≡ []
-      → (here.state.rests chain).requests ≡ []
+      → has_none (here.state.rests chain) ≡ true
   over_at here order comes chain low high none =
       let of = subst (OfChain (here.state.rests chain) (here.told chain) (finals chain)) none (comes.each chain low high) in
-      (ends catalogue size (rules_of catalogue size) (are_right catalogue size) (here.state.rests chain) of.later of.memory of.ready of.rest_is).0
+      ap (λ (l : List Asked). length l == 0) (ends catalogue size (rules_of catalogue size) (are_right catalogue size) (here.state.rests chain) of.later of.memory of.ready of.rest_is).0
 
   pub runs_on : (states : List ToldState) (parts : Parts) → AreToldClosed catalogue size parts chains states → (order : List ChainAccess) → IsByPart parts.of_chain order
       → (here : ToldState) → Contains states here
@@ -112,7 +113,7 @@ module _ (catalogue : List FileEntry) (size chains : ℕ) (finals : ℕ → List
     here,
     there,
     record {
-      over = λ chain low high. (let of = comes.each chain low high in (ends catalogue size (rules_of catalogue size) (are_right catalogue size) (here.state.rests chain) of.later of.memory of.ready of.rest_is).0);
+      over = λ chain low high. over_at here [] comes chain low high refl;
       told = λ chain low high.
           let of = comes.each chain low high in
           let none = ends catalogue size (rules_of catalogue size) (are_right catalogue size) (here.state.rests chain) of.later of.memory of.ready of.rest_is in
@@ -124,7 +125,7 @@ module _ (catalogue : List FileEntry) (size chains : ℕ) (finals : ℕ → List
   runs_on states parts closed (x ∷ order) by here there comes =
       let own = All-head (λ (y : ChainAccess). (1 ≤ y.chain) × (y.chain ≤ chains)) x order comes.within in
       let one = next_one here x order comes in
-      let turn = has_turn parts here.state.rests chains x order (over_at here (x ∷ order) comes) by in
+      let turn = has_turn has_none parts here.state.rests chains x order (over_at here (x ∷ order) comes) by in
       let to = closed here there x.chain own.0 own.1 turn x.access one.0 comes.permitted.0 in
       let rest = runs_on states parts closed order by.1 to.0 to.1 (goes_on here to.0 x order comes to.2) in (
         rest.0,

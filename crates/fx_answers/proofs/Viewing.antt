@@ -1,17 +1,17 @@
 -- What the states of the program say, chain by chain.
 use Rattle.fx_order.proofs.Words.{◌≡◌, ℕ, suc, ◌+◌, ◌-◌, ◌<◌, List, [], ◌∷◌, ◌++◌, length, map, sym, ap, subst, ◌∙◌, arith, slice_index_or, All, length-map}
-use Rattle.fx_order.proofs.Words.{Contains, IsTrue, Vec, Completed, Asked, Place, table_of_slots, first_member}
+use Rattle.fx_order.proofs.Words.{Bool, false, not, ◌&&◌, Contains, IsTrue, Vec, Completed, Asked, Place, table_of_slots, first_member}
 use Rattle.fx_order.specs.declared.access.Access.{Access}
 use Rattle.std.specs.Prelude.{Some, slice_get}
 use Rattle.std.proofs.lemmas.Option.{get_or_from_slice_get, slice_get_within}
 use Rattle.fx_order.proofs.Words.{Request, Completion, all_asked, all_completed, asked_of, completed_of, drop}
 use Rattle.std.specs.List.{AllByRecursion}
-use Rattle.fx_outcomes.specs.Rests.{Rest, Rules, settled_at}
-use Rattle.fx_outcomes.specs.Nodes.{AreAtStart, IsOver, StateView}
-use Rattle.fx_answers.specs.Stands.{Settles, moved, rest_for, rest_in}
+use Rattle.fx_outcomes.specs.Rests.{Rules, settled_at}
+use Rattle.fx_outcomes.specs.Nodes.{AreAtStart, StateView}
+use Rattle.fx_answers.specs.Stands.{Settles, asks_from, moved, rest_for, rest_in}
 use Rattle.fx_answers.specs.Reports.{LeadsOn}
 use Rattle.fx_answers.specs.Tellings.{IsToldOn, answers_of}
-use Rattle.fx_answers.specs.Views.{IsStepTo, not_begun, rules_in, run_at, runs_in, told_of, view_in, view_of}
+use Rattle.fx_answers.specs.Views.{IsStepTo, is_idle, is_idle_at, not_begun, rules_in, run_at, runs_in, told_of, view_in, view_of}
 use Rattle.fx_answers.specs.Listed.{IsExploredBy, said_by, states_of, told_by, told_states}
 use Rattle.fx_answers.specs.declared.submission.Submission.{Submission}
 use Rattle.std.proofs.lemmas.List.{get_or-set_other, get_or-set_same}
@@ -19,7 +19,9 @@ use Rattle.fx_answers.specs.declared.closed.Claimed.{Claimed}
 use Rattle.fx_answers.specs.declared.chain.Progress.{Progress}
 use Rattle.fx_answers.specs.declared.state.State.{State}
 use Rattle.fx_answers.proofs.Lists.{by_recursion, inside_at}
-use Rattle.fx_answers.proofs.Choosing.{is_done}
+use Rattle.fx_answers.proofs.Idle.{all_reads, idle_by, idle_for, idle_some}
+use Rattle.std.specs.List.{list_all}
+use Rattle.fx_outcomes.specs.Idle.{is_read}
 
 less_one : (i : ℕ) → i + 1 - 1 ≡ i
 less_one i = omega arith
@@ -87,21 +89,29 @@ among_told submission runs states there state k is table chains answers removed 
     inside_at (told_of submission runs) states k there (told_of submission runs state) within
     (sym (get_or_from_slice_get states k there there is)) (same_telling submission runs there state table chains answers removed)
 
--- a chain that has members left has an access left
-pub not_done : (submission : ℕ) (runs : List (List Asked)) (state : State) (i : ℕ) (own : List Request) (progress : Progress)
-    → all_asked own ≡ slice_index_or runs i [] → slice_index_or state.chains.items i not_begun ≡ progress
-    → progress.done < length own → ((view_of submission runs state).rests (i + 1)).requests ≡ [] → ⊥
-not_done submission runs state i own progress run is few none =
-    let here = rest_of_chain submission runs state i (all_asked own) progress (sym run) is in
-    let done = is_done (first_member submission (i + 1)) (all_asked own) progress (ap (λ (r : Rest). r.requests) (sym here) ∙ none) in
-    let many = length-map own asked_of in
-    omega (arith, done, many, few)
+-- whether a chain is idle, by its members that are left
+pub idle_here : (submission : Submission) (state : State) (i : ℕ) (own : List Request) (left : List Request) (progress : Progress)
+    → all_asked own ≡ slice_index_or (runs_in submission) i [] → slice_index_or state.chains.items i not_begun ≡ progress
+    → all_asked left ≡ drop progress.done (all_asked own)
+    → is_idle_at submission state i ≡ idle_by submission (all_asked left) (moved (first_member submission.number (i + 1)) progress.done)
+idle_here submission state i own left progress run is behind =
+    let place = moved (first_member submission.number (i + 1)) progress.done in
+    ap (is_idle submission) (rest_of_chain submission.number (runs_in submission) state i (all_asked own) progress (sym run) is)
+    ∙ (idle_for submission place (drop progress.done (all_asked own)) progress.made
+    ∙ ap (λ (l : List Asked). idle_by submission l place) (sym behind))
 
-pub not_over : (submission : ℕ) (runs : List (List Asked)) (state : State) (i : ℕ) (own : List Request) (progress : Progress)
-    → all_asked own ≡ slice_index_or runs i [] → slice_index_or state.chains.items i not_begun ≡ progress
-    → i < length runs → progress.done < length own → IsOver (length runs) (view_of submission runs state) → ⊥
-not_over submission runs state i own progress run is within few over =
-    not_done submission runs state i own progress run is few (over (i + 1) (omega arith) (omega (arith, within)))
+-- where some are left and nothing is told, by whether these are reads and are asked for
+pub idle_some_here : (submission : Submission) (state : State) (i : ℕ) (own left : List Request) (progress : Progress) (reads asks : Bool)
+    → all_asked own ≡ slice_index_or (runs_in submission) i [] → slice_index_or state.chains.items i not_begun ≡ progress
+    → all_asked left ≡ drop progress.done (all_asked own) → (length left ≡ 0 → ⊥) → submission.tells ≡ false
+    → reads ≡ list_all (λ request. is_read (asked_of request).operation) left
+    → asks ≡ asks_from submission.asked (moved (first_member submission.number (i + 1)) progress.done)
+    → is_idle_at submission state i ≡ (reads && not asks)
+idle_some_here submission state i own left progress reads asks run is behind some silent are ask =
+    let many = length-map left asked_of in
+    idle_here submission state i own left progress run is behind
+    ∙ (idle_some submission (all_asked left) (moved (first_member submission.number (i + 1)) progress.done) (λ none. some (omega (arith, none, many))) silent
+    ∙ (λ j. (sym (are ∙ all_reads left)) j && not (sym ask j)))
 
 -- a chain that stands where its requests settle
 pub at_start_by : (rules : Rules) (P : Completed → Type 0) (place : Place) (run : List Asked) (before after : List Completion) (done : ℕ) (progress : Progress)

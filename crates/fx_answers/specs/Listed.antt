@@ -1,5 +1,5 @@
 -- What is looked through of the states that a search met.
-use Rattle.std.specs.Prelude.{◌≡◌, ℕ, ◌+◌, ◌<◌, List, [], length, map, slice_index_or}
+use Rattle.std.specs.Prelude.{◌≡◌, ℕ, ◌+◌, ◌<◌, List, [], length, map, slice_index_or, false}
 use Rattle.std.specs.Prelude.{All, Contains, IsTrue, Option, Some}
 use Rattle.std.specs.List.{AllByRecursion}
 use Rattle.fx_chain.specs.Completed.{Completed, all_completed}
@@ -12,12 +12,12 @@ use Rattle.fx_order.specs.declared.access.Access.{Access}
 use Rattle.fx_order.specs.declared.slots.Slots.{Slots}
 use Rattle.fx_order.specs.Access.{Permits}
 use Rattle.fx_outcomes.specs.Rests.{IsNext, Rest, settled_at}
-use Rattle.fx_outcomes.specs.Nodes.{AreAllStates, IsExplored, IsOver, StateView}
+use Rattle.fx_outcomes.specs.Nodes.{AreAllStates, IsExplored, StateView}
 use Rattle.fx_answers.specs.Reports.{AreAllTold, LeadsOn, ToldState}
 use Rattle.fx_answers.specs.Stands.{rest_in}
 use Rattle.fx_answers.specs.Tellings.{all_told, answers_of}
-use Rattle.fx_answers.specs.Views.{HasTurnIn, not_begun, rules_in, runs_in, told_of, view_in}
-use Rattle.fx_answers.specs.Views.{views_in}
+use Rattle.fx_answers.specs.Views.{HasTurnIn, IsOverIn, is_idle, is_idle_at, not_begun, rules_in}
+use Rattle.fx_answers.specs.Views.{runs_in, told_of, view_in, views_in}
 use Rattle.fx_ring.specs.Ring.{RingContents, RingState, ring_of}
 use Rattle.fx_ring.specs.Submission.{Reported}
 use Rattle.fx_order.specs.declared.access.ChainAccess.{ChainAccess}
@@ -36,7 +36,7 @@ abbrev pub says : Option Place → List Answer → Completed → Type 0
 says place answers c = place ≡ Some c.place → Contains (answered answers) c
 
 abbrev pub said_by : Claimed → Completed → Type 0
-said_by claimed = says claimed.place claimed.answers.now
+said_by claimed = says claimed.submission.now.asked claimed.answers.now
 
 abbrev pub states_of : Claimed → List StateView
 states_of claimed = views_in claimed.submission.now claimed.found.now.states.items
@@ -74,11 +74,14 @@ abbrev pub HasTurnBy : Claimed → State → ℕ → Type 0
 HasTurnBy claimed state i =
     HasTurnIn claimed.submission.now claimed.found.now.numbers state i
 
--- each access is explored that a chain may make next in the state, where it has its turn
+-- the chain's accesses are explored in its turn, unless it is idle
+abbrev pub IsExploredInTurn : Claimed → State → ℕ → Type 0
+IsExploredInTurn claimed state i = HasTurnBy claimed state i
+    → is_idle_at claimed.submission.now state i ≡ false → IsChainExploredBy claimed state i
+
 abbrev pub IsStateExploredBy : Claimed → State → Type 0
-IsStateExploredBy claimed state =
-    (i : ℕ) → i < length claimed.submission.now.chains.now → HasTurnBy claimed state i
-    → IsChainExploredBy claimed state i
+IsStateExploredBy claimed state = (i : ℕ) → i < length claimed.submission.now.chains.now
+    → IsExploredInTurn claimed state i
 
 abbrev pub run_in : Claimed → ℕ → List Asked
 run_in claimed i = slice_index_or (runs_in claimed.submission.now) i []
@@ -107,7 +110,7 @@ AreAtStartBy claimed state =
 -- the states are all of the submission at these slots, and what is answered at the place is said
 pub record AreAllBy (claimed : Claimed) (slots : Slots) : Type 0 where
   pub are : (submissions registrations : ℕ) → claimed.submission.now.number ≡ submissions + 1
-      → AreAllStates (said_by claimed)
+      → AreAllStates (is_idle claimed.submission.now) (said_by claimed)
       (ring_of_slots claimed.submission.now.setting.catalogue.now slots submissions registrations)
       (all_asked claimed.submission.now.requests.now) (states_of claimed)
   pub told : IsTrue claimed.submission.now.tells → (submissions registrations : ℕ)
@@ -151,10 +154,9 @@ IsEndIn submission slots end = OfEach submission slots (λ old requests. IsEnd o
 abbrev pub tables_behind : List End → List Table
 tables_behind ends = map (λ end. table_of_slots end.slots) ends
 
--- where no chain of the state has an access left, its table is that of one of the ends
+-- where the state is over, its table is that of one of the ends
 abbrev pub IsEndListed : Submission → List End → State → Type 0
-IsEndListed submission ends state =
-    IsOver (length (runs_in submission)) (view_in submission state)
+IsEndListed submission ends state = IsOverIn submission state
     → Contains (tables_behind ends) (table_of_slots state.slots)
 
 -- the states are all of the submission at these slots, and the ends are those of them
@@ -177,10 +179,9 @@ pub record IsToldOf (submission : Submission) (state : State) (possible : Possib
   pub closes : possible.report.closes.files ≡ state.telling.removed.items
   pub table : table_of_slots possible.slots ≡ table_of_slots state.slots
 
--- where no chain of the state has an access left, one of the reports tells of it
+-- where the state is over, one of the reports tells of it
 abbrev pub IsToldAt : Submission → List PossibleReport → State → Type 0
-IsToldAt submission reports state =
-    IsOver (length (runs_in submission)) (view_in submission state)
+IsToldAt submission reports state = IsOverIn submission state
     → (possible : PossibleReport) × Contains reports possible × IsToldOf submission state possible
 
 -- the states are all of the submission at these slots, and the reports are those of them

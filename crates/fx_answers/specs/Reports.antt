@@ -14,6 +14,7 @@ use Rattle.fx_order.specs.Access.{Permits, removed_by}
 use Rattle.fx_order.specs.declared.access.Access.{Access}
 use Rattle.fx_order.specs.Order.{IsOneOrder, table_of}
 use Rattle.fx_outcomes.specs.Rests.{HasMemory, IsNext, Rules, rules_of, settled_at, step}
+use Rattle.fx_outcomes.specs.Idle.{has_none}
 use Rattle.fx_outcomes.specs.Parts.{AreParts, Parts}
 use Rattle.fx_outcomes.specs.Nodes.{HasTurn, IsOver, Leads, StateView, ring_at}
 
@@ -36,7 +37,7 @@ pub record LeadsOn (rules : Rules) (here : ToldState) (chain : ℕ) (a : Access)
 abbrev pub AreToldClosed : List FileEntry → ℕ → Parts → ℕ → List ToldState → Type 0
 AreToldClosed catalogue size parts chains states =
     (here : ToldState) → Contains states here → (chain : ℕ) → 1 ≤ chain → chain ≤ chains
-    → HasTurn parts chains here.state chain
+    → HasTurn has_none parts chains here.state chain
     → (a : Access) → IsNext catalogue size (here.state.rests chain) a
     → Permits here.state.table a
     → (next : ToldState) × Contains states next
@@ -79,7 +80,7 @@ pub record HasReport (old : RingState) (requests : List Asked) (states : List To
     (report : Reported) (left : RingState) : Type 0 where
   pub here : ToldState
   pub inside : Contains states here
-  pub over : IsOver (length (runs_of requests)) here.state
+  pub over : IsOver has_none (length (runs_of requests)) here.state
   pub completions : report.completions ≡ told_from here.told 1 (runs_of requests)
   pub closes : IsPermutation here.removed report.closes.files
   pub leaves : left ≡ ring_at old here.state

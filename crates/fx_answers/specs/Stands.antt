@@ -1,5 +1,6 @@
 -- Where a chain is, by how many of its members are done.
-use Rattle.std.specs.Prelude.{◌≡◌, ℕ, ◌+◌, ◌≤◌, List, [], ◌∷◌, ◌++◌, length, drop, Contains}
+use Rattle.std.specs.Prelude.{◌≡◌, ℕ, ◌+◌, ◌≤◌, ◌==◌, ◌&&◌, nat_le, Bool, false, List, []}
+use Rattle.std.specs.Prelude.{◌∷◌, ◌++◌, length, drop, Contains, Option, Some, None}
 use Rattle.fx_base.specs.Catalogue.{FileEntry}
 use Rattle.fx_chain.specs.Completed.{Completed}
 use Rattle.fx_chain.specs.Operation.{Asked}
@@ -41,3 +42,10 @@ pub record Steps (rules : Rules) (place : Place) (run : List Asked) (progress : 
 abbrev pub HasEachNext : List FileEntry → Table → Rest → List Access → Type 0
 HasEachNext catalogue table rest choices =
     (a : Access) → IsNext catalogue table.size rest a → Permits table a → Contains choices a
+
+-- the request that is asked for, if there is one, is that at this place or one behind it
+abbrev pub asks_from : Option Place → Place → Bool
+asks_from None place = false
+asks_from (Some own) place =
+    own.submission == place.submission
+    && (own.chain == place.chain && nat_le place.member own.member)

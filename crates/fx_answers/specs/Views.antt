@@ -1,17 +1,20 @@
 -- What the states of the program say of a submission.
-use Rattle.std.specs.Prelude.{◌≡◌, ℕ, ◌+◌, ◌-◌, ◌<◌, List, [], length, map, slice_index_or, All}
+use Rattle.std.specs.Prelude.{◌≡◌, ℕ, ◌+◌, ◌-◌, ◌<◌, ◌==◌, ◌&&◌, not, Bool, true, false, List, []}
+use Rattle.std.specs.Prelude.{length, map, slice_index_or, All, if◌then◌else◌}
+use Rattle.std.specs.List.{list_all}
 use Rattle.fx_chain.specs.Completed.{Completed}
 use Rattle.fx_chain.specs.Explains.{first_member}
 use Rattle.fx_chain.specs.Operation.{Asked, all_asked}
 use Rattle.fx_chain.specs.Runs.{runs_of}
 use Rattle.fx_order.specs.Slots.{table_of_slots}
 use Rattle.fx_order.specs.declared.access.Access.{Access}
-use Rattle.fx_outcomes.specs.Rests.{Rules, rules_of, step}
+use Rattle.fx_outcomes.specs.Rests.{Rest, Rules, rules_of, step}
 use Rattle.fx_order.specs.declared.slots.Slots.{Slots}
 use Rattle.fx_outcomes.specs.Parts.{Parts, StaysIn}
-use Rattle.fx_outcomes.specs.Nodes.{HasTurn, StateView, Leads}
+use Rattle.fx_outcomes.specs.Idle.{is_read}
+use Rattle.fx_outcomes.specs.Nodes.{HasTurn, IsOver, StateView, Leads}
 use Rattle.fx_answers.specs.Reports.{ToldState}
-use Rattle.fx_answers.specs.Stands.{rest_in}
+use Rattle.fx_answers.specs.Stands.{asks_from, rest_in}
 use Rattle.fx_answers.specs.Tellings.{answers_of}
 use Rattle.fx_answers.specs.declared.chain.Progress.{Progress}
 use Rattle.fx_answers.specs.declared.parts.PartNumbers.{PartNumbers}
@@ -77,10 +80,28 @@ abbrev pub ArePartsIn : Submission → Slots → PartNumbers → Type 0
 ArePartsIn submission slots numbers =
     (i : ℕ) → i < length submission.chains.now → IsInPart submission slots numbers i
 
--- no chain of a part before this chain's has an access left, by the chain's number from 0
+-- no request of the chain is left, or nothing but reads, and nobody asks what these answer
+abbrev pub is_idle : Submission → Rest → Bool
+is_idle submission rest =
+    if length rest.requests == 0 then true
+    else (if submission.tells then false
+    else (list_all (λ request. is_read request.operation) rest.requests
+    && not (asks_from submission.asked rest.place)))
+
+-- whether a chain is, by its number from 0
+abbrev pub is_idle_at : Submission → State → ℕ → Bool
+is_idle_at submission state i = is_idle submission ((view_in submission state).rests (i + 1))
+
+-- each chain of a part before this chain's is idle, by the chain's number from 0
 abbrev pub HasTurnIn : Submission → PartNumbers → State → ℕ → Type 0
 HasTurnIn submission numbers state i =
-    HasTurn (parts_of numbers) (length (runs_in submission)) (view_in submission state) (i + 1)
+    HasTurn (is_idle submission) (parts_of numbers) (length (runs_in submission))
+    (view_in submission state) (i + 1)
+
+-- each chain is
+abbrev pub IsOverIn : Submission → State → Type 0
+IsOverIn submission state =
+    IsOver (is_idle submission) (length (runs_in submission)) (view_in submission state)
 
 -- no chain of a part behind this one has its turn
 abbrev pub IsTurnOf : Submission → PartNumbers → State → ℕ → Type 0

@@ -87,8 +87,8 @@ pub(crate) fn settle(
     Ok(1 + settle(setting, moved(place, 1), behind, told)?)
 }
 
-// The members of a chain behind so many.
-fn left(members: &[Request], done: usize) -> &[Request]
+/// The members of a chain behind so many.
+pub(crate) fn left(members: &[Request], done: usize) -> &[Request]
     requires { All (λ r. IsWithinLimits (asked_of r)) members.now }
     ensures left { all_asked result.now ≡ drop done (all_asked members.now) }
     ensures limits { All (λ r. IsWithinLimits (asked_of r)) result.now }

@@ -6,7 +6,7 @@ ghost use Rattle.fx_order.specs.Access.{Permits};
 ghost use Rattle.fx_order.specs.Slots.{table_of_slots};
 ghost use Rattle.fx_answers.specs.Outcomes.{answered};
 ghost use Rattle.fx_answers.specs.Listed.{AreAllBy, AreAtStartBy, IsAtStartBy, says};
-ghost use Rattle.fx_answers.specs.Listed.{HasTurnBy, IsChainExploredBy, IsExploredBy, IsStateExploredBy};
+ghost use Rattle.fx_answers.specs.Listed.{IsChainExploredBy, IsExploredBy, IsExploredInTurn, IsStateExploredBy};
 ghost use Rattle.fx_answers.specs.Tellings.{answers_of};
 ghost use Rattle.fx_answers.specs.Views.{IsTurnOf};
 
@@ -55,12 +55,11 @@ fn are_listed(place: Option<Place>, answers: &[Answer], told: &[Completion]) -> 
     true
 }
 
-/// What is looked through: states, the place that is asked for, if there is one, and what is answered there.
+/// What is looked through: states, and what is answered at the place that is asked for, if there is one.
 #[derive(Drop)]
 pub(crate) struct Claimed<'a> {
     pub(crate) submission: &'a Submission<'a>,
     pub(crate) found: &'a Found,
-    pub(crate) place: Option<Place>,
     pub(crate) answers: &'a [Answer],
 }
 
@@ -82,7 +81,7 @@ fn is_explored(
     let Some(next) = next_state(claimed.submission, state, i, access, &mut told)? else {
         return Ok(false);
     };
-    if !are_listed(claimed.place, claimed.answers, &told) {
+    if !are_listed(claimed.submission.asked, claimed.answers, &told) {
         return Ok(false);
     }
     claimed.found.has(&next)
@@ -126,7 +125,7 @@ fn is_chain_explored(claimed: &Claimed<'_>, state: &State, i: usize) -> Result<b
     are_explored(claimed, state, i, &accesses)
 }
 
-// Whether each access is explored that a chain may make next, if the chain isn't of a part behind the one whose turn it is.
+// Whether each access is explored that a chain may make next, if it isn't idle, nor of a part behind the one whose turn it is.
 fn is_explored_in_turn(
     claimed: &Claimed<'_>,
     state: &State,
@@ -136,10 +135,9 @@ fn is_explored_in_turn(
     requires inside { i < length claimed.now.submission.now.chains.now }
     requires turn { IfSome turn (IsTurnOf claimed.now.submission.now claimed.now.found.now.numbers
         state.now) }
-    ensures { IfOk result (λ yes. IsTrue yes → HasTurnBy claimed.now state.now i
-        → IsChainExploredBy claimed.now state.now i) }
+    ensures { IfOk result (λ yes. IsTrue yes → IsExploredInTurn claimed.now state.now i) }
 {
-    if waits(&claimed.found.numbers, turn, i) {
+    if waits(&claimed.found.numbers, turn, i) || state.is_idle(claimed.submission, i) {
         return Ok(true);
     }
     is_chain_explored(claimed, state, i)
@@ -196,7 +194,7 @@ fn is_at_start(claimed: &Claimed<'_>, state: &State, i: usize) -> Result<bool, N
     if !has_told(submission, state, i, &told) {
         return Ok(false);
     }
-    Ok(are_listed(claimed.place, claimed.answers, &told))
+    Ok(are_listed(claimed.submission.asked, claimed.answers, &told))
 }
 
 // Whether each chain of a state is at its first access.

@@ -171,13 +171,13 @@ pub fn may_leave(
         requests,
         chains: &chains,
         tells: false,
+        asked: None,
     };
-    let found = explore(&submission, slots, None, limits)?;
+    let found = explore(&submission, slots, limits)?;
     let ends = all_confirmed(&submission, slots, &found)?;
     let claimed = Claimed {
         submission: &submission,
         found: &found,
-        place: None,
         answers: &[],
     };
     let are_all = are_all_ends(&claimed, slots, &ends)?;

@@ -147,7 +147,6 @@ impl Search {
     fn follow(
         &mut self,
         submission: &Submission<'_>,
-        place: Option<Place>,
         state: usize,
         chain: usize,
     ) -> Result<bool, NoMemory> {
@@ -168,7 +167,7 @@ impl Search {
                 chain,
                 access,
             };
-            self.note(place, told, Some(step))?;
+            self.note(submission.asked, told, Some(step))?;
             if !self.add(next, Some(step))? {
                 return Ok(false);
             }
@@ -176,20 +175,31 @@ impl Search {
         Ok(true)
     }
 
-    // Follows each chain of the part whose turn it is in a state. Whether there was room for the states.
-    fn follow_part(
-        &mut self,
+    // Whether a chain is idle in a state, or of a part behind the one whose turn it is.
+    fn is_left_alone(
+        &self,
         submission: &Submission<'_>,
-        place: Option<Place>,
+        turn: Option<usize>,
         state: usize,
-    ) -> Result<bool, NoMemory> {
+        chain: usize,
+    ) -> bool {
+        let Some(here) = self.found.states.get(state) else {
+            return true;
+        };
+        waits(&self.found.numbers, turn, chain)
+            || chain >= submission.chains.len()
+            || here.is_idle(submission, chain)
+    }
+
+    // Follows each chain of the part whose turn it is in a state. Whether there was room for the states.
+    fn follow_part(&mut self, submission: &Submission<'_>, state: usize) -> Result<bool, NoMemory> {
         let Some(here) = self.found.states.get(state) else {
             return Ok(true);
         };
         let turn = part_at(submission, &self.found.numbers, here);
         for chain in 0..submission.chains.len() {
-            if !waits(&self.found.numbers, turn, chain)
-                && !self.follow(submission, place, state, chain)?
+            if !self.is_left_alone(submission, turn, state, chain)
+                && !self.follow(submission, state, chain)?
             {
                 return Ok(false);
             }
@@ -198,12 +208,12 @@ impl Search {
     }
 
     // Looks at the states that were met last first, so that ends are met early. Whether there was room for all.
-    fn run(&mut self, submission: &Submission<'_>, place: Option<Place>) -> Result<bool, NoMemory> {
+    fn run(&mut self, submission: &Submission<'_>) -> Result<bool, NoMemory> {
         for _ in 0..self.most {
             let Some(state) = self.open.pop() else {
                 return Ok(true);
             };
-            if !self.follow_part(submission, place, state)? {
+            if !self.follow_part(submission, state)? {
                 return Ok(false);
             }
         }
@@ -216,7 +226,6 @@ impl Search {
 pub(crate) fn explore(
     submission: &Submission<'_>,
     slots: &Slots,
-    place: Option<Place>,
     limits: Limits,
 ) -> Result<Found, NoMemory> {
     let alloc = submission.setting.alloc;
@@ -227,8 +236,8 @@ pub(crate) fn explore(
     };
     let mut told = Vec::new(alloc);
     let first = start(submission, slots, &mut told)?;
-    search.note(place, told, None)?;
-    let is_whole = search.add(first, None)? && search.run(submission, place)?;
+    search.note(submission.asked, told, None)?;
+    let is_whole = search.add(first, None)? && search.run(submission)?;
     let Search {
         mut found,
         open: _,

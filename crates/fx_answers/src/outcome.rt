@@ -142,6 +142,7 @@ pub fn may_answer(
         (all_asked question.now.requests.now) question.now.place found.answers.items) }
 {
     let chains = cut(alloc, question.requests)?;
+    let place = question.place;
     let submission = Submission {
         setting: Setting {
             alloc,
@@ -152,14 +153,13 @@ pub fn may_answer(
         requests: question.requests,
         chains: &chains,
         tells: false,
+        asked: Some(place),
     };
-    let place = question.place;
-    let found = explore(&submission, slots, Some(place), question.limits)?;
+    let found = explore(&submission, slots, question.limits)?;
     let answers = all_confirmed(&submission, slots, &found, place)?;
     let claimed = Claimed {
         submission: &submission,
         found: &found,
-        place: Some(place),
         answers: &answers,
     };
     let are_all = are_all_states(&claimed, slots)?;

@@ -134,13 +134,13 @@ fn turn_with(
     requires turn { IfSome turn (IsTurnOf submission.now numbers.now state.now) }
     ensures { IfSome result (IsTurnOf submission.now numbers.now state.now) }
 {
-    if state.progress(i).done >= submission.members(i).len() {
+    if state.is_idle(submission, i) {
         return turn;
     }
     earlier(turn, numbers, i)
 }
 
-/// The part whose turn it is in a state: the first one with a chain that has an access left, if there is one.
+/// The part whose turn it is in a state: the first one with a chain that isn't idle, if there is one.
 pub(crate) fn part_at(
     submission: &Submission<'_>,
     numbers: &PartNumbers,

@@ -252,13 +252,13 @@ pub fn may_report(
         requests,
         chains: &chains,
         tells: true,
+        asked: None,
     };
-    let found = explore(&submission, slots, None, limits)?;
+    let found = explore(&submission, slots, limits)?;
     let reports = all_confirmed(&submission, slots, &found)?;
     let claimed = Claimed {
         submission: &submission,
         found: &found,
-        place: None,
         answers: &[],
     };
     let are_all = are_all_reports(&claimed, slots, &reports)?;

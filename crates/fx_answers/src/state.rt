@@ -2,19 +2,19 @@
 ghost use Rattle.std.specs.Prelude.{◌≡◌, ◌<◌, []};
 ghost use Rattle.std.specs.Prelude.{IfOk, IfSome, IsTrue, length, slice_index_or, slice_set};
 ghost use Rattle.fx_chain.specs.Completed.{all_completed};
-ghost use Rattle.fx_chain.specs.Runs.{runs_of};
-ghost use Rattle.fx_chain.specs.Operation.{all_asked};
+ghost use Rattle.fx_chain.specs.Operation.{asked_of};
+ghost use Rattle.std.specs.List.{list_all};
 ghost use Rattle.fx_order.specs.Access.{Permits, table_with};
 ghost use Rattle.fx_order.specs.Slots.{table_of_slots};
-ghost use Rattle.fx_outcomes.specs.Nodes.{IsOver};
+ghost use Rattle.fx_outcomes.specs.Idle.{is_read};
 ghost use Rattle.fx_answers.specs.Tellings.{IsToldOn, answers_of};
-ghost use Rattle.fx_answers.specs.Views.{IsStepTo, not_begun, view_in};
+ghost use Rattle.fx_answers.specs.Views.{IsOverIn, IsStepTo, is_idle_at, not_begun};
 
-use crate::chain::{Progress, step};
+use crate::chain::{Progress, left, step};
 use crate::submission::Submission;
 use crate::telling::{Telling, are_all_same, are_same_closes};
 use fx_base::{Closed, NoMemory};
-use fx_chain::Completion;
+use fx_chain::{Completion, Op, Request};
 use fx_order::{Access, Slots};
 use std::alloc::Global;
 
@@ -80,6 +80,18 @@ pub(crate) fn copy_of(alloc: Global, slots: &Slots) -> Result<Slots, NoMemory>
     })
 }
 
+// Whether each of these requests is a read.
+fn are_reads(requests: &[Request]) -> bool
+    ensures { result ≡ list_all (λ request. is_read (asked_of request).operation) requests.now }
+{
+    for request in requests {
+        if !matches!(request.op, Op::Read { .. }) {
+            return false;
+        }
+    }
+    true
+}
+
 impl State {
     /// Whether both are one.
     pub(crate) fn is_same(&self, other: &State) -> bool
@@ -108,13 +120,29 @@ impl State {
         }
     }
 
-    /// Whether no chain has an access left.
+    /// Whether a chain is idle, by its number from 0: no request of it is left, or nothing but reads, and nobody asks what these
+    /// answer.
+    pub(crate) fn is_idle(&self, submission: &Submission<'_>, i: usize) -> bool
+        requires { i < length submission.now.chains.now }
+        ensures { result ≡ is_idle_at submission.now self.now i }
+    {
+        let progress = self.progress(i);
+        let left = left(submission.members(i), progress.done);
+        if left.is_empty() {
+            return true;
+        }
+        if submission.tells {
+            return false;
+        }
+        are_reads(left) && !submission.asks_behind(i, progress.done)
+    }
+
+    /// Whether each chain is idle.
     pub(crate) fn is_over(&self, submission: &Submission<'_>) -> bool
-        ensures { IsOver (length (runs_of (all_asked submission.now.requests.now)))
-            (view_in submission.now self.now) → IsTrue result }
+        ensures { IsOverIn submission.now self.now → IsTrue result }
     {
         for i in 0..submission.chains.len() {
-            if self.progress(i).done < submission.members(i).len() {
+            if !self.is_idle(submission, i) {
                 return false;
             }
         }

@@ -6,14 +6,15 @@ ghost use Rattle.fx_chain.specs.Explains.{first_member};
 ghost use Rattle.fx_chain.specs.Operation.{all_asked, asked_of};
 ghost use Rattle.fx_chain.specs.Runs.{runs_of};
 ghost use Rattle.fx_plain.specs.declared.table.TheConstants.{MOST_SLOTS};
+ghost use Rattle.fx_answers.specs.Stands.{asks_from, moved};
 ghost use Rattle.fx_table.specs.declared.limits.TheConstants.{MAX_CHAINS};
 
 use crate::setting::Setting;
 use fx_chain::{Chain, MOST_MEMBERS, Place, Request};
 use fx_order::members;
 
-/// A submission that is played: its number, its requests, the chains into which they were cut, and whether its states keep what
-/// was told on the way to them.
+/// A submission that is played: its number, its requests, the chains into which they were cut, whether its states keep what
+/// was told on the way to them, and the place of the request whose answers are asked for, if there is one.
 #[derive(Drop)]
 pub(crate) struct Submission<'a> {
     pub(crate) setting: Setting<'a>,
@@ -21,6 +22,7 @@ pub(crate) struct Submission<'a> {
     pub(crate) requests: &'a [Request],
     pub(crate) chains: &'a [Chain],
     pub(crate) tells: bool,
+    pub(crate) asked: Option<Place>,
     pub ghost catalogued: { IsCatalogue setting.catalogue.now },
     pub ghost accepted: { IsAccepted (all_asked requests.now) },
     pub ghost runs: { map (members_of (all_asked requests.now)) chains.now
@@ -40,6 +42,22 @@ impl Submission<'_> {
             submission: self.number,
             chain: i as u32 + 1,
             member: 1,
+        }
+    }
+
+    /// Whether the request that is asked for is one of a chain, by the chain's number from 0, behind so many of its members.
+    pub(crate) fn asks_behind(&self, i: usize, done: usize) -> bool
+        requires { i < length self.now.chains.now }
+        ensures { result ≡ asks_from self.now.asked (moved (first_member self.now.number (i + 1)) done) }
+    {
+        let first = self.first(i);
+        match self.asked {
+            Some(own) => {
+                own.submission == first.submission
+                    && own.chain == first.chain
+                    && done < own.member as usize
+            }
+            None => false,
         }
     }
 

@@ -5,7 +5,6 @@ use Rattle.std.specs.Option.{MatchOption}
 use Rattle.std.proofs.lemmas.Bool.{le-leb}
 use Rattle.fx_base.specs.Catalogue.{FileEntry}
 use Rattle.fx_base.specs.declared.errno.Errno.{Errno}
-use Rattle.fx_chain.specs.Completed.{negated}
 use Rattle.fx_chain.specs.Faults.{fault_of}
 use Rattle.fx_chain.specs.Operation.{Asked}
 use Rattle.fx_chain.specs.declared.fault.CutFault.{CutFault}
@@ -70,11 +69,6 @@ module _ (catalogue : List FileEntry) (old : RingSlots) (text : List ℕ) (met :
         ↔ MatchOption y ((ring_of next ≡ record r { range = (off, len) }) × (line ≡ result_line (codes "range") (pos 0)))
         (IsRefused r (ring_of next) (codes "range") line) in
         subst (At before) is (subst (λ (r : RingState). At r (range_refusal r off len)) same ((λ p. p), (λ p. p)))
-
-    pub range_refused : (errno : Errno) → range_refusal before off len ≡ Some errno → IsMet text (result_line (codes "range") (negated errno)) met
-        → IsStep catalogue old (SetsRange off len) text met old
-    range_refused errno is = let line = result_line (codes "range") (negated errno) in
-        goes catalogue old old (SetsRange off len) text line (exactly before (SetsRange off len) text before line (range_at (Some errno) is)) met
 
     pub range_set : (shown : Met) → range_refusal before off len ≡ None → IsMet text (result_line (codes "range") (pos 0)) met → met ≡ shown
         → IsStep catalogue old (SetsRange off len) text shown ranged

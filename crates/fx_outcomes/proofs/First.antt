@@ -1,6 +1,6 @@
 -- An order of a submission begins at its first state.
 use Rattle.fx_order.proofs.Words.{◌≡◌, ℕ, ◌+◌, ◌<◌, ◌≤◌, ◌==◌, List, [], ◌∷◌, ◌++◌, length, refl, sym, ap, subst, ◌∙◌, arith, if◌then◌else◌}
-use Rattle.fx_order.proofs.Words.{inr, FileEntry, by_equality, Completed, Asked, runs_of, first_member, Table, accesses_of, accesses_of_chain}
+use Rattle.fx_order.proofs.Words.{Bool, inr, FileEntry, by_equality, Completed, Asked, runs_of, first_member, Table, accesses_of, accesses_of_chain}
 use Rattle.fx_order.proofs.Words.{AreChainsDone, IsOneOrder, table_after, PermitsAll}
 use Rattle.fx_order.specs.declared.access.ChainAccess.{ChainAccess}
 use Rattle.fx_ring.specs.Ring.{RingState}
@@ -87,22 +87,22 @@ module _ (catalogue : List FileEntry) (size submission : ℕ) (says : Completed 
       }
 
 -- whatever is to be said of the answers
-pub all_said : (says : Completed → Type 0) (old : RingState) (requests : List Asked) (states : List StateView) (all : AreAllStates says old requests states)
-    → (report : Reported) (left : RingState) → AllByRecursion HasMemory report.completions → IsOneOrder old requests report left
-    → AllByRecursion says report.completions × HasEnd old requests all.idle states left
-all_said says old requests states all report left memory any =
+pub all_said : (idle : Rest → Bool) (says : Completed → Type 0) (old : RingState) (requests : List Asked) (states : List StateView)
+    → AreAllStates idle says old requests states → (report : Reported) (left : RingState) → AllByRecursion HasMemory report.completions → IsOneOrder old requests report left
+    → AllByRecursion says report.completions × HasEnd old requests idle states left
+all_said idle says old requests states all report left memory any =
     let runs = runs_of requests in
     let one = order_by_part all.parts old requests report left all.apart any in
     let done = subst (λ (n : ℕ). AreChainsDone old.catalogue old.size n 1 runs one.order report.completions) one.is.submission one.is.done in
     let f = find old.catalogue old.size (old.submissions + 1) says one.order all.first (length runs) 1 runs report.completions memory done all.begins.chains in
-    let comes : Comes old.catalogue old.size says all.idle all.idling (length runs) f.finals all.first one.order = record {
+    let comes : Comes old.catalogue old.size says idle all.idling (length runs) f.finals all.first one.order = record {
       permitted = subst (λ (t : Table). PermitsAll t (accesses_of one.order)) (sym all.begins.table) one.is.permitted;
       within = one.is.chains;
       each = λ q low high.
           let e = f.each q low (omega (arith, high)) in
           inr (subst (λ (l : List Completed). OfChain old.catalogue old.size says (all.first.rests q) l (accesses_of_chain q one.order)) e.1 e.2);
     } in
-    let run = runs_on old.catalogue old.size says all.idle all.idling (length runs) f.finals states all.parts all.closed one.order one.by all.first all.inside comes in (
+    let run = runs_on old.catalogue old.size says idle all.idling (length runs) f.finals states all.parts all.closed one.order one.by all.first all.inside comes in (
       subst (AllByRecursion says) (sym f.whole) (all_told says f.finals 1 runs (λ q low high. run.2.said q low (omega (arith, high)))),
       record {
         state = run.0;
@@ -116,5 +116,5 @@ all_said says old requests states all report left memory any =
     )
 
 pub each_outcome_is_listed : EachOutcomeIsListed
-each_outcome_is_listed place answers old requests states all report left memory one =
-    all_said (IsListed place answers) old requests states all report left memory one
+each_outcome_is_listed place answers idle old requests states all report left memory one =
+    all_said idle (IsListed place answers) old requests states all report left memory one

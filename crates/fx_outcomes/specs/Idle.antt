@@ -1,5 +1,5 @@
 -- Chains of which no access matters any more.
-use Rattle.std.specs.Prelude.{◌≡◌, ◌+◌, ◌<◌, ◌≤◌, Bool, true, false, [], length}
+use Rattle.std.specs.Prelude.{◌≡◌, ◌+◌, ◌<◌, ◌≤◌, ◌==◌, Bool, true, false, [], length}
 use Rattle.std.specs.List.{list_all}
 use Rattle.fx_chain.specs.Completed.{Completed}
 use Rattle.fx_chain.specs.Operation.{Operation, Reads}
@@ -17,8 +17,12 @@ pub record IsLeft (rest : Rest) (place : Place) : Type 0 where
   pub behind : rest.place.member ≤ place.member
   pub within : place.member < rest.place.member + length rest.requests
 
--- of a chain that is idle nothing but reads is left, and whatever these answer is said; a chain that
--- is over is idle
+-- no request of the chain is left
+abbrev pub has_none : Rest → Bool
+has_none rest = length rest.requests == 0
+
+-- of a chain that is idle nothing but reads is left, and whatever these answer is said; a chain
+-- that is over is idle
 pub record AreIdle (says : Completed → Type 0) (idle : Rest → Bool) : Type 0 where
   pub over : (rest : Rest) → rest.requests ≡ [] → idle rest ≡ true
   pub reads : (rest : Rest) → idle rest ≡ true

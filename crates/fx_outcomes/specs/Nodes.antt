@@ -56,8 +56,8 @@ HasTurn idle parts chains state chain =
     (other : ℕ) → 1 ≤ other → other ≤ chains → parts.of_chain other < parts.of_chain chain
     → idle (state.rests other) ≡ true
 
--- the list has each state that an access leads to from one of its states, part by part, but for those
--- of idle chains, and what is answered on the way is said
+-- the list has each state that an access leads to from one of its states, part by part, but for
+-- accesses of idle chains, and what is answered on the way is said
 abbrev pub AreClosed : List FileEntry → ℕ → (Rest → Bool) → Parts → (Completed → Type 0) → ℕ
     → List StateView → Type 0
 AreClosed catalogue size idle parts says chains states =
@@ -84,9 +84,8 @@ pub record IsFirst (says : Completed → Type 0) (old : RingState) (requests : L
 
 -- the list has the first state, and each one that is reached from it part by part, and what is
 -- answered on the way is said
-pub record AreAllStates (says : Completed → Type 0) (old : RingState) (requests : List Asked)
-    (states : List StateView) : Type 0 where
-  pub idle : Rest → Bool
+pub record AreAllStates (idle : Rest → Bool) (says : Completed → Type 0) (old : RingState)
+    (requests : List Asked) (states : List StateView) : Type 0 where
   pub idling : AreIdle says idle
   pub parts : Parts
   pub apart : AreParts (table_of old) parts 1 (runs_of requests)
@@ -115,10 +114,11 @@ IsListed place answers c = c.place ≡ place → Contains answers c
 -- listed, and the ring that is left is that of a state of the list
 abbrev pub EachOutcomeIsListed : Type 0
 EachOutcomeIsListed =
-    (place : Place) (answers : List Completed) (old : RingState) (requests : List Asked)
-    (states : List StateView) (all : AreAllStates (IsListed place answers) old requests states)
+    (place : Place) (answers : List Completed) (idle : Rest → Bool) (old : RingState)
+    (requests : List Asked) (states : List StateView)
+    → AreAllStates idle (IsListed place answers) old requests states
     → (report : Reported) (left : RingState)
     → AllByRecursion HasMemory report.completions
     → IsOneOrder old requests report left
     → AllByRecursion (IsListed place answers) report.completions
-    × HasEnd old requests all.idle states left
+    × HasEnd old requests idle states left

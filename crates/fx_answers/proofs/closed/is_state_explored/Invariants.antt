@@ -1,6 +1,6 @@
 use Rattle.fx_order.proofs.Words.{◌<◌, ℕ}
-use Rattle.fx_answers.specs.Listed.{HasTurnBy, IsChainExploredBy}
+use Rattle.fx_answers.specs.Listed.{IsExploredInTurn}
 use Rattle.fx_answers.proofs.closed.is_state_explored.Given as goal
 
 abbrev pub invariant-loop-i : goal.invariant-loop-i
-invariant-loop-i l = (k : ℕ) → k < l.i → HasTurnBy l.claimed l.state k → IsChainExploredBy l.claimed l.state k
+invariant-loop-i l = (k : ℕ) → k < l.i → IsExploredInTurn l.claimed l.state k

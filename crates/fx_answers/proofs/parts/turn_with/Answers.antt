@@ -1,5 +1,5 @@
 use Rattle.std.specs.Prelude.{IfSome}
-use Rattle.fx_order.proofs.Words.{ℕ, Option, inl, inr, sym, subst, arith, all_asked}
+use Rattle.fx_order.proofs.Words.{ℕ, ◌∙◌, Option, inl, inr, sym, subst, arith, all_asked}
 use Rattle.fx_answers.specs.Views.{IsTurnOf}
 use Rattle.fx_answers.proofs.AllOfThem.{as_many}
 use Rattle.fx_answers.proofs.Turns.{is_turn}
@@ -12,6 +12,6 @@ returns c =
     let many = as_many (all_asked sub.requests.now) sub.chains.now sub.runs in
     elim c.earlier.ensures [
       | inl same ↦ subst its (sym same) c.requires.turn
-      | inr own ↦ subst its (sym own) (is_turn sub c.args.numbers.now c.args.state.now c.args.i c.members.result.now c.progress.result c.members.ensures.run
-          (sym c.progress.ensures) (omega (arith, c.requires.inside, many)) (omega (arith, c.if-progress-members.false)))
+      | inr own ↦ subst its (sym own) (is_turn sub c.args.numbers.now c.args.state.now c.args.i (omega (arith, c.requires.inside, many))
+          (sym c.is_idle.ensures ∙ c.if-is_idle.false))
     ]

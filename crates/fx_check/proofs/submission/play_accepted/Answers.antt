@@ -1,4 +1,4 @@
-use Rattle.std.proofs.Common.{◌≡◌, ◌-◌, List, ℕ, Option, Some, None, Result, Ok, IfOk, length, option_map, subst, sym}
+use Rattle.std.proofs.Common.{◌-◌, List, ℕ, Option, Some, None, Result, Ok, IfOk, length, option_map, subst, sym}
 use Rattle.std.proofs.lemmas.List.{length-map}
 use Rattle.std.specs.Borrow.{Bor}
 use Rattle.fx_chain.specs.Operation.{Asked, all_asked, asked_of}
@@ -12,7 +12,6 @@ use Rattle.fx_judge.specs.declared.told.Told.{Told}
 use Rattle.fx_judge.specs.declared.verdict.Verdict.{Verdict}
 use Rattle.fx_chain.specs.Completed.{all_completed}
 use Rattle.fx_chain.specs.Runs.{runs_of}
-use Rattle.fx_check.specs.Kept.{IsOfScript}
 use Rattle.fx_check.specs.Met.{BeginsWith}
 use Rattle.fx_check.specs.Places.{ArePlaces}
 use Rattle.fx_check.specs.Told.{AreApart, HasLines, TellsKnown}
@@ -127,16 +126,3 @@ returns-in-NotLegal-clause-answer c =
     c.in-Some.front.0 c.in-Some.front.1.now (found (goal.at.returns-in-NotLegal-clause-answer c).In-Some) c.in-Ok.told (has o) (tells o)
     (subst (λ (v : Verdict). IsVerdict (ring_with_slots c.args.catalogue.now c.args.ring.now) (all_asked c.args.requests.now) c.in-Ok.told v
     (ring_with_slots c.args.catalogue.now c.judge_submission.new.ring)) c.in-NotLegal.is c.in_ok-accesses.ensures.verdict).1
-
-pub returns-in-NotLegal-clause-kept : goal.returns-in-NotLegal-clause-kept
-returns-in-NotLegal-clause-kept c =
-    subst IsOfScript (sym
-    (subst (λ (v : Verdict). IsVerdict (ring_with_slots c.args.catalogue.now c.args.ring.now) (all_asked c.args.requests.now) c.in-Ok.told v
-    (ring_with_slots c.args.catalogue.now c.judge_submission.new.ring)) c.in-NotLegal.is c.in_ok-accesses.ensures.verdict).0) c.requires.kept
-
-pub returns-clause-kept : goal.returns-clause-kept
-returns-clause-kept c =
-    let same : ring_with_slots c.args.catalogue.now c.judge_submission.new.ring ≡ ring_with_slots c.args.catalogue.now c.args.ring.now =
-    subst (λ (v : Verdict). IsVerdict (ring_with_slots c.args.catalogue.now c.args.ring.now) (all_asked c.args.requests.now) c.in-Ok.told v
-    (ring_with_slots c.args.catalogue.now c.judge_submission.new.ring)) c.in-Undecided.is c.in_ok-accesses.ensures.verdict in
-    subst IsOfScript (sym same) c.requires.kept
