@@ -7,6 +7,7 @@ use fx_answers::{Question, may_answer, may_leave, may_report};
 use fx_base::{Catalogue, Closed, Mark};
 use fx_chain::{Op, Place, Request, SqeFlags, Target, check};
 use fx_order::Slots;
+use fx_search::Limits;
 use std::alloc::{AllocError, Global};
 use std::test::Fail;
 
@@ -15,6 +16,14 @@ const FILE: Closed = Closed {
     entry: 0,
     tag: 0,
 };
+
+// So many states, which a MiB holds.
+fn within(states: usize) -> Limits {
+    Limits {
+        states,
+        bytes: 1_048_576,
+    }
+}
 
 // A read of slot 0, a close of it, and an open at any slot, each a chain.
 fn requests(alloc: Global) -> Result<Vec<Request>, AllocError> {
@@ -79,7 +88,7 @@ fn answers_and_ends(rt: HostRuntime) -> Result<(), Fail> {
                 chain,
                 member: 1,
             },
-            states,
+            limits: within(states),
         };
         let found = may_answer(alloc, &catalogue, &slots, 0, &question)?;
         let is_whole = found.are_all && found.answers.len() == count;
@@ -92,7 +101,7 @@ fn answers_and_ends(rt: HostRuntime) -> Result<(), Fail> {
         let Ok(_) = check(&requests) else {
             panic!(rt; "the requests aren't accepted");
         };
-        let found = may_leave(alloc, &catalogue, &slots, 0, &requests, states)?;
+        let found = may_leave(alloc, &catalogue, &slots, 0, &requests, within(states))?;
         let is_whole = found.are_all && found.ends.len() == 2;
         assert!(rt;
             is_whole == (states == 100) && found.are_all == is_whole,
@@ -115,7 +124,7 @@ fn reports(rt: HostRuntime) -> Result<(), Fail> {
         let Ok(_) = check(&requests) else {
             panic!(rt; "the requests aren't accepted");
         };
-        let found = may_report(alloc, &catalogue, &slots, 0, &requests, states)?;
+        let found = may_report(alloc, &catalogue, &slots, 0, &requests, within(states))?;
         let is_whole = found.are_all && found.reports.len() == 4;
         assert!(rt;
             is_whole == (states == 100) && found.are_all == is_whole,
