@@ -3,6 +3,7 @@ use Rattle.fx_order.proofs.Words.{◌≡◌, ◌⊎◌, inl, inr, ℕ, ◌==◌,
 use Rattle.fx_order.proofs.Words.{Option, Some, false≢true, Asked, Place, asked_of, Request, all_asked}
 use Rattle.std.specs.List.{list_all}
 use Rattle.std.proofs.lemmas.Bool.{and_from, and_parts, le-leb}
+use Rattle.std.proofs.lemmas.List.{nil_from_length}
 use Rattle.fx_outcomes.specs.Idle.{AreIdle, IsLeft, has_none, is_read}
 use Rattle.fx_outcomes.specs.Rests.{Rest}
 use Rattle.fx_answers.specs.Listed.{said_by}
@@ -28,10 +29,6 @@ idle_for submission place (request ∷ requests) made = refl
 pub over_idle : (submission : Submission) (rest : Rest) → rest.requests ≡ [] → is_idle submission rest ≡ true
 over_idle submission rest none = ap (λ (l : List Asked). idle_by submission l rest.place) none
 
-nil : (l : List Asked) → length l ≡ 0 → l ≡ []
-nil [] none = refl
-nil (x ∷ l) none = absurd (omega (arith, none))
-
 -- nothing is left, or reads, and they aren't asked for
 cases : (tells asks reads : Bool) → (if tells then false else (reads && not asks)) ≡ true → (tells ≡ false) × (reads ≡ true) × (asks ≡ false)
 cases true asks reads is = absurd (false≢true is)
@@ -45,7 +42,7 @@ idle_cases submission rest =
     by_equality (length rest.requests) 0
     (λ b. (if b then true else (if submission.tells then false else (are_reads rest.requests && not asks))) ≡ true
     → (rest.requests ≡ []) ⊎ ((submission.tells ≡ false) × (are_reads rest.requests ≡ true) × (asks ≡ false)))
-    (λ none _. inl (nil rest.requests none)) (λ _ is. inr (cases submission.tells asks (are_reads rest.requests) is))
+    (λ none _. inl (nil_from_length rest.requests none)) (λ _ is. inr (cases submission.tells asks (are_reads rest.requests) is))
 
 -- the place of a request that is left is asked from there
 asked_left : (rest : Rest) (own : Place) → IsLeft rest own → asks_from (Some own) rest.place ≡ true
@@ -78,7 +75,7 @@ has_none_for rest none = ap (λ (l : List Asked). length l == 0) none
 
 pub none_for : (rest : Rest) → has_none rest ≡ true → rest.requests ≡ []
 none_for rest = by_equality (length rest.requests) 0 (λ b. b ≡ true → rest.requests ≡ [])
-    (λ none _. nil rest.requests none) (λ _ isnt. absurd (false≢true isnt))
+    (λ none _. nil_from_length rest.requests none) (λ _ isnt. absurd (false≢true isnt))
 
 -- the members are all reads
 pub all_reads : (requests : List Request) → list_all (λ request. is_read (asked_of request).operation) requests ≡ are_reads (all_asked requests)
@@ -104,4 +101,4 @@ idle_told submission requests place some tells =
     (λ _. ap (λ (b : Bool). if b then false else (are_reads requests && not (asks_from submission.asked place))) tells)
 
 pub idle_none : (submission : Submission) (requests : List Asked) (place : Place) → length requests ≡ 0 → idle_by submission requests place ≡ true
-idle_none submission requests place none = ap (λ (l : List Asked). idle_by submission l place) (nil requests none)
+idle_none submission requests place none = ap (λ (l : List Asked). idle_by submission l place) (nil_from_length requests none)
