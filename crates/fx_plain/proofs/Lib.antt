@@ -7,6 +7,7 @@ pub mod Writes
 pub mod Removals
 pub mod Holding
 pub mod Settled
+pub mod OwnNumbers
 pub mod Moving
 pub mod Emptying
 pub mod FilesOut

@@ -1,11 +1,11 @@
 -- Each file moves to the node of its slot's number, one slot after another.
 use Rattle.fx_plain.proofs.Words.{◌≡◌, ◌≢◌, ℕ, ◌+◌, ◌<◌, ◌≤◌, List, [], ◌∷◌, ◌++◌, length, refl, sym, ap, ◌∙◌, slice_set, Option, Some, None, IfSome}
 use Rattle.fx_plain.proofs.Words.{IsSome, arith, set-set, length-set, get_or-set_same, get_or-set_other, get_or_append_left, Closed, AllPlaced}
-use Rattle.fx_plain.proofs.Words.{IsRenumbered, slot_at, node_at, file_named, file_in, opening_slot, moved_node, nodes_without, file_count_of, At}
+use Rattle.fx_plain.proofs.Words.{AreFiled, AreVacant, IsFiled, IsVacant, IsRenumbered, KeepsFirst, subst, slot_at, node_at, file_named, file_in, opening_slot, moved_node, nodes_without, file_count_of, At}
 use Rattle.fx_plain.proofs.Words.{Gone, sum_by, Node, sum_by-set, set-get_or, HaveOwnNumbers}
 use Rattle.std.proofs.Math.Seq.{get_or-append_seam}
-use Rattle.fx_plain.proofs.Cells.{by_equality}
-use Rattle.fx_plain.proofs.Writes.{has_file-At}
+use Rattle.fx_plain.proofs.Cells.{by_equality, each_set}
+use Rattle.fx_plain.proofs.Writes.{has_file-At, inside_of-At}
 use Rattle.fx_plain.proofs.Removals.{other_number}
 
 file_named_same : (old new : List Node) (x : Option ℕ) → ((n : ℕ) → x ≡ Some n → node_at new n ≡ node_at old n) → file_named new x ≡ file_named old x
@@ -78,15 +78,19 @@ module _ (slots : List (Option ℕ)) (first nodes : List Node) (s : ℕ) (placed
   earlier_stays (Some n) is u lt = get_or-set_other nodes n u Gone Gone
       (λ (same : u ≡ n). let e : n ≡ s = own s n is (omega arith) in absurd (omega arith))
 
-  pub moved_settled : (expected : ℕ → Node) (v : Node) → s < length nodes → v ≡ expected s → ((u : ℕ) → u < s → node_at nodes u ≡ expected u)
-      → (u : ℕ) → u < s + 1 → node_at (slice_set (nodes_without nodes (slot_at slots s)) s v) u ≡ expected u
-  moved_settled expected v room is before u lt =
-      by_equality u s (λ _. node_at (slice_set (nodes_without nodes (slot_at slots s)) s v) u ≡ expected u)
-      (λ same. ap (node_at (slice_set (nodes_without nodes (slot_at slots s)) s v)) same
-      ∙ get_or-set_same (nodes_without nodes (slot_at slots s)) s v Gone (let len = length-without nodes (slot_at slots s) in omega arith)
-      ∙ is ∙ ap expected (sym same))
-      (λ other. get_or-set_other (nodes_without nodes (slot_at slots s)) s u v Gone other
-      ∙ earlier_stays (slot_at slots s) refl u (omega arith) ∙ before u (omega arith))
+  -- what holds of the nodes of the slots before it, and of this one's, holds of each of them
+  pub each_settled : (P : ℕ → Node → Type 0) (v : Node) → s < length nodes → P s v → ((u : ℕ) → u < s → P u (node_at nodes u))
+      → (u : ℕ) → u < s + 1 → P u (node_at (slice_set (nodes_without nodes (slot_at slots s)) s v) u)
+  each_settled P v room here before u lt = each_set P (nodes_without nodes (slot_at slots s)) s v Gone
+      (let len = length-without nodes (slot_at slots s) in omega arith) here u
+      (λ other. subst (P u) (sym (earlier_stays (slot_at slots s) refl u (omega arith))) (before u (omega arith)))
+
+  -- the nodes of the slots behind it stay
+  pub later_stays : (v : Node) (x : Option ℕ) → slot_at slots s ≡ x → (u : ℕ) → s + 1 ≤ u → u < length slots
+      → node_at (slice_set (nodes_without nodes x) s v) u ≡ node_at nodes u
+  later_stays v None is u le lt = get_or-set_other nodes s u v Gone (λ (same : u ≡ s). absurd (omega arith))
+  later_stays v (Some n) is u le lt = get_or-set_other (nodes_without nodes (Some n)) s u v Gone (λ (same : u ≡ s). absurd (omega arith))
+      ∙ get_or-set_other nodes n u Gone Gone (λ (same : u ≡ n). let e : n ≡ s = own s n is (omega arith) in absurd (omega arith))
 
 -- a slot that has its own number already
 module _ (slots : List (Option ℕ)) (nodes : List Node) (s : ℕ) (at : slot_at slots s ≡ Some s) where
@@ -98,15 +102,64 @@ module _ (slots : List (Option ℕ)) (nodes : List Node) (s : ℕ) (at : slot_at
       ∙ ap (λ (node : Node). slice_set nodes s (moved_node (file_in node) s)) named
       ∙ ap (slice_set nodes s) (sym named) ∙ set-get_or nodes s Gone)
 
--- what is named stays where there are more nodes
+-- the node that a slot's file moved to
+pub filed_by_move : (slots : List (Option ℕ)) (nodes : List Node) (s : ℕ) (node : Node) → node ≡ moved_node (file_named nodes (slot_at slots s)) s
+    → IsFiled slots nodes s node
+filed_by_move slots nodes s node is = record {
+  file = λ n at. is ∙ ap (λ (x : Option ℕ). moved_node (file_named nodes x) s) at;
+  vacant = λ none. subst IsVacant (sym (is ∙ ap (λ (x : Option ℕ). moved_node (file_named nodes x) s) none))
+      (record { used = refl; none_removed = refl });
+}
+
+-- a slot whose file has its own number needs nothing
+own_opening : (x : Option ℕ) (s : ℕ) → ((n : ℕ) → x ≡ Some n → n ≡ s) → x ≡ opening_slot x s
+own_opening None s own = refl
+own_opening (Some n) s own = ap Some (own n refl)
+
+module _ (slots : List (Option ℕ)) (nodes : List Node) (s : ℕ) (own : (n : ℕ) → slot_at slots s ≡ Some n → n ≡ s) where
+  pub named_as_is : slot_at slots s ≡ opening_slot (slot_at slots s) s
+  named_as_is = own_opening (slot_at slots s) s own
+
+  pub filed_as_is : AllPlaced slots nodes → (slot_at slots s ≡ None → IsVacant (node_at nodes s)) → IsFiled slots nodes s (node_at nodes s)
+  filed_as_is placed vacant = record {
+    file = λ n at. let there = placed s n at in
+        ap (node_at nodes) (sym (own n at)) ∙ there.1 ∙ sym (ap (λ (node : Node). moved_node (file_in node) s) there.1);
+    vacant = vacant;
+  }
+
+-- files that stand in nodes of which more were made
 module _ (slots : List (Option ℕ)) (old new : List Node) (placed : AllPlaced slots old)
-    (kept : (n : ℕ) → IsSome (file_in (node_at old n)) → node_at new n ≡ node_at old n) where
-  pub renumbered_again : (changed : List (Option ℕ)) (moved : List Node) → IsRenumbered slots new changed moved
-      → IsRenumbered slots old changed moved
-  renumbered_again changed moved r = record {
+    (same : (n : ℕ) → n < length old → node_at new n ≡ node_at old n) where
+  named_before : (u n : ℕ) → slot_at slots u ≡ Some n → node_at new n ≡ node_at old n
+  named_before u n at = let there = placed u n at in same n (inside_of-At old n u there.0 there.1)
+
+  pub still_placed : AllPlaced slots new
+  still_placed u n at = let there = placed u n at in (there.0, named_before u n at ∙ there.1)
+
+  pub still_vacant : length slots ≤ length old → AreVacant slots old → AreVacant slots new
+  still_vacant few vacant u lt none = subst IsVacant (sym (same u (omega arith))) (vacant u lt none)
+
+  pub filed_before : (changed : List (Option ℕ)) (moved : List Node) → AreFiled slots new changed moved → AreFiled slots old changed moved
+  filed_before changed moved r = record {
     same_size = r.same_size;
     named = r.named;
-    filed = λ u lt. r.filed u lt ∙ ap (λ x. moved_node x u) (file_named_same old new (slot_at slots u) (λ n is. let there = placed u n is in
-        kept n (has_file-At old n u there.0 there.1)));
+    filed = λ u lt. let f = r.filed u lt in record {
+      file = λ n at. f.file n at ∙ ap (λ (node : Node). moved_node (file_in node) u) (named_before u n at);
+      vacant = f.vacant;
+    };
     same_full = r.same_full;
   }
+
+-- and so many nodes are kept and made
+pub renumbered : (slots : List (Option ℕ)) (nodes : List Node) (changed : List (Option ℕ)) (moved last : List Node) (numbers : ℕ)
+    → AreFiled slots nodes changed moved → KeepsFirst moved (length slots) numbers last → IsRenumbered slots nodes changed last numbers
+renumbered slots nodes changed moved last numbers r first = record {
+  files = record {
+    same_size = r.same_size;
+    named = r.named;
+    filed = λ u lt. subst (IsFiled slots nodes u) (sym (first.same u lt)) (r.filed u lt);
+    same_full = r.same_full;
+  };
+  size = first.size;
+  fresh = first.fresh;
+}

@@ -2,55 +2,53 @@
 use Rattle.fx_plain.proofs.Words.{sum_by, ◌≡◌, ℕ, ◌<◌, ◌≤◌, ◌^◌, Bool, true, false, not, ◌&&◌, List, length, replicate, refl, sym, ap, subst, ◌∙◌}
 use Rattle.fx_plain.proofs.Words.{slice_index, Option, Some, None, arith, inl, inr, length-replicate, cases_lt, get_or-eq_default, Closed, IsSettled}
 use Rattle.fx_plain.proofs.Words.{opening, Contents, IsTable, IsCounted, state_of, slot_at, node_at, file_at, placed_at, removed_at, is_fresh}
-use Rattle.fx_plain.proofs.Words.{is_retired, IsRenumbered, KeepsFirst, moved_node, file_named, file_in, opening_slot, removed_count_of, itself}
+use Rattle.fx_plain.proofs.Words.{is_retired, IsRenumbered, IsVacant, moved_node, file_in, opening_slot, removed_count_of, itself}
 use Rattle.fx_plain.proofs.Words.{Fresh, At, Gone, Node, nat_lt, lt-ltb, le-ltb, file_numbered}
 use Rattle.fx_plain.proofs.Cells.{inside_of, read_default}
-use Rattle.fx_plain.proofs.Settled.{no_holds, none_removed}
+use Rattle.fx_plain.proofs.Settled.{no_holds, none_removed, quiet_is}
 use Rattle.fx_plain.proofs.SumLemmas.{sum_of_nothings, sum_by-replicate}
 
 opening_own : (slot number : ℕ) (x : Option ℕ) → opening_slot x slot ≡ Some number → number ≡ slot
 opening_own slot number None is = cc
 opening_own slot number (Some m) is = cc
 
-moved_is : (P : Node → Type 0) (slot : ℕ) (x : Option Closed) → P Gone → ((f : Closed) → P (At slot f)) → P (moved_node x slot)
-moved_is P slot None gone there = gone
-moved_is P slot (Some f) gone there = there f
-
-module _ (c : Contents) (slots : List (Option ℕ)) (moved nodes : List Node) (numbers : ℕ) (t : IsTable c) (enough : length c.slots ≤ numbers)
-    (few : numbers < 2 ^ 32) (r : IsRenumbered c.slots c.nodes slots moved) (first : KeepsFirst moved (length c.slots) numbers nodes)
-    (holds : List ℕ) (unheld : holds ≡ replicate numbers 0) where
+module _ (c : Contents) (slots : List (Option ℕ)) (nodes : List Node) (numbers : ℕ) (t : IsTable c) (enough : length c.slots ≤ numbers)
+    (few : numbers < 2 ^ 32) (r : IsRenumbered c.slots c.nodes slots nodes numbers) (holds : List ℕ) (unheld : holds ≡ replicate numbers 0) where
   abbrev pub prepared : Contents
   prepared = record { slots = slots; range = c.range; nodes = nodes; holds = holds; numbers = numbers }
 
-  node_low : (n : ℕ) → n < length c.slots → node_at nodes n ≡ moved_node (file_named c.nodes (slot_at c.slots n)) n
-  node_low n low = first.same n low ∙ r.filed n low
+  -- the node of a slot's own number has its file
+  own_node : (u m : ℕ) → u < length c.slots → slot_at c.slots u ≡ Some m → node_at nodes u ≡ moved_node (file_in (node_at c.nodes m)) u
+  own_node u m inside is = (r.files.filed u inside).file m is
+
+  -- in no node of a slot stands a removed file
+  low_vacant : (n : ℕ) → n < length c.slots → (x : Option ℕ) → slot_at c.slots n ≡ x → IsVacant (node_at nodes n)
+  low_vacant n low None is = (r.files.filed n low).vacant is
+  low_vacant n low (Some m) is = subst IsVacant
+      (sym (own_node n m low is ∙ ap (λ (node : Node). moved_node (file_in node) n) (t.placed n m is).1)) (record { used = refl; none_removed = refl })
 
   -- what holds of each kind of node holds of each
-  each_node : (P : ℕ → Node → Type 0) → ((n : ℕ) (x : Option Closed) → n < length c.slots → P n (moved_node x n))
+  each_node : (P : ℕ → Node → Type 0) → ((n : ℕ) (node : Node) → n < length c.slots → IsVacant node → P n node)
       → ((n : ℕ) → length c.slots ≤ n → n < numbers → P n Fresh) → ((n : ℕ) → numbers ≤ n → P n Gone) → (n : ℕ) → P n (node_at nodes n)
   each_node P low mid high n = elim (cases_lt n (length c.slots)) [
-    | inl lt ↦ subst (P n) (sym (node_low n lt)) (low n (file_named c.nodes (slot_at c.slots n)) lt)
+    | inl lt ↦ low n (node_at nodes n) lt (low_vacant n lt (slot_at c.slots n) refl)
     | inr ge ↦ elim (cases_lt n numbers) [
-      | inl lt ↦ subst (P n) (sym (first.fresh n ge lt)) (mid n ge lt)
-      | inr past ↦ let len = first.size in subst (P n) (sym (get_or-eq_default nodes Gone (omega arith))) (high n past)
+      | inl lt ↦ subst (P n) (sym (r.fresh n ge lt)) (mid n ge lt)
+      | inr past ↦ let len = r.size in subst (P n) (sym (get_or-eq_default nodes Gone (omega arith))) (high n past)
     ]
   ]
 
   none_waits : (n : ℕ) → removed_at n (node_at nodes n) ≡ None
   none_waits = each_node (λ n node. removed_at n node ≡ None)
-      (λ n x lt. moved_is (λ node. removed_at n node ≡ None) n x refl (λ _. refl)) (λ n ge lt. refl) (λ n ge. refl)
+      (λ n node lt vacant. (quiet_is node vacant.none_removed).0 n) (λ n ge lt. refl) (λ n ge. refl)
 
   fresh_is : (n : ℕ) → is_fresh (node_at nodes n) ≡ (not (nat_lt n (length c.slots)) && nat_lt n numbers)
   fresh_is = each_node (λ n node. is_fresh node ≡ (not (nat_lt n (length c.slots)) && nat_lt n numbers))
-      (λ n x lt. moved_is (λ node. is_fresh node ≡ false) n x refl (λ _. refl)
+      (λ n node lt vacant. vacant.used
       ∙ sym (ap (λ (b : Bool). not b && nat_lt n numbers) (lt-ltb n (length c.slots) lt)))
       (λ n ge lt. sym (ap (λ (b : Bool). not b && nat_lt n numbers) (le-ltb n (length c.slots) ge) ∙ lt-ltb n numbers lt))
       (λ n ge. sym (ap (λ (b : Bool × Bool). not b.0 && b.1)
       (λ i. (le-ltb n (length c.slots) (let e = enough in omega arith) i, le-ltb n numbers ge i))))
-
-  -- the node of a slot's own number has its file
-  own_node : (u m : ℕ) → u < length c.slots → slot_at c.slots u ≡ Some m → node_at nodes u ≡ moved_node (file_in (node_at c.nodes m)) u
-  own_node u m inside is = node_low u inside ∙ ap (λ (x : Option ℕ). moved_node (file_named c.nodes x) u) is
 
   named_node : (u : ℕ) → u < length c.slots → (x : Option ℕ) → slot_at c.slots u ≡ x
       → file_at nodes (opening_slot x u) ≡ file_numbered (file_at c.nodes x) u
@@ -61,8 +59,8 @@ module _ (c : Contents) (slots : List (Option ℕ)) (moved nodes : List Node) (n
 
   at_is : (u : ℕ) → file_at nodes (slot_at slots u) ≡ file_numbered (file_at c.nodes (slot_at c.slots u)) u
   at_is u = elim (cases_lt u (length c.slots)) [
-    | inl lt ↦ ap (file_at nodes) (r.named u lt) ∙ named_node u lt (slot_at c.slots u) refl
-    | inr ge ↦ ap (file_at nodes) (get_or-eq_default slots None (let same = r.same_size in omega arith))
+    | inl lt ↦ ap (file_at nodes) (r.files.named u lt) ∙ named_node u lt (slot_at c.slots u) refl
+    | inr ge ↦ ap (file_at nodes) (get_or-eq_default slots None (let same = r.files.same_size in omega arith))
         ∙ sym (ap (λ (x : Option ℕ). file_numbered (file_at c.nodes x) u) (get_or-eq_default c.slots None ge))
   ]
 
@@ -71,7 +69,7 @@ module _ (c : Contents) (slots : List (Option ℕ)) (moved nodes : List Node) (n
 
   pub state_of-fields : state_of prepared ≡ opening (state_of c) numbers
   state_of-fields = λ i. record {
-    size = r.same_size i;
+    size = r.files.same_size i;
     range = c.range;
     at = λ u. at_is u i;
     removed = λ n. none_waits n i;
@@ -87,21 +85,23 @@ module _ (c : Contents) (slots : List (Option ℕ)) (moved nodes : List Node) (n
 
   slot_inside : (u k : ℕ) → slot_at slots u ≡ Some k → u < length c.slots
   slot_inside u k is = let lt = inside_of slots u None (λ (gone : slot_at slots u ≡ None). let e : Some k ≡ None = sym is ∙ gone in cc) in
-      let same = r.same_size in omega arith
+      let same = r.files.same_size in omega arith
+
+  pub own_number : (u k : ℕ) → slot_at slots u ≡ Some k → k ≡ u
+  own_number u k is = opening_own u k (slot_at c.slots u) (sym (r.files.named u (slot_inside u k is)) ∙ is)
 
   prepared_keeps : IsTable prepared
   prepared_keeps = record {
-    own = λ u k is lt. opening_own u k (slot_at c.slots u) (sym (r.named u (slot_inside u k is)) ∙ is);
-    used = λ k lt. let below : k < length c.slots = let same = r.same_size in omega arith in
+    own = λ u k is lt. own_number u k is;
+    used = λ k lt. let below : k < length c.slots = let same = r.files.same_size in omega arith in
         fresh_is k ∙ ap (λ (b : Bool). not b && nat_lt k numbers) (lt-ltb k (length c.slots) below);
-    few_slots = let f = t.few_slots in let same = r.same_size in omega arith;
-    range_inside = let inside = t.range_inside in let same = r.same_size in omega arith;
-    few_nodes = let len = first.size in omega arith;
-    same_numbers = ap (length {A = ℕ}) unheld ∙ length-replicate numbers 0 ∙ sym first.size;
-    placed = λ u k is. let inside = slot_inside u k is in named_placed u k inside (slot_at c.slots u) refl (sym (r.named u inside) ∙ is);
-    held = each_node (λ n node. is_retired node ≡ true → 0 < slice_index holds n) (λ n x lt.
-        moved_is (λ node. is_retired node ≡ true → 0 < slice_index holds n) n x (λ (e : false ≡ true). cc)
-        (λ f (e : false ≡ true). cc)) (λ n ge lt is. cc) (λ n ge is. cc);
+    few_slots = let f = t.few_slots in let same = r.files.same_size in omega arith;
+    range_inside = let inside = t.range_inside in let same = r.files.same_size in omega arith;
+    few_nodes = let len = r.size in omega arith;
+    same_numbers = ap (length {A = ℕ}) unheld ∙ length-replicate numbers 0 ∙ sym r.size;
+    placed = λ u k is. let inside = slot_inside u k is in named_placed u k inside (slot_at c.slots u) refl (sym (r.files.named u inside) ∙ is);
+    held = each_node (λ n node. is_retired node ≡ true → 0 < slice_index holds n)
+        (λ n node lt vacant is. let e : false ≡ true = sym (quiet_is node vacant.none_removed).2 ∙ is in cc) (λ n ge lt is. cc) (λ n ge is. cc);
   }
 
   pub fields_keep : (full held removed : ℕ) → IsCounted c full held removed → IsSettled (state_of c)
@@ -109,11 +109,10 @@ module _ (c : Contents) (slots : List (Option ℕ)) (moved nodes : List Node) (n
   fields_keep full held removed k settled = (
     prepared_keeps,
     record {
-      full_slots = k.full_slots ∙ sym r.same_full;
+      full_slots = k.full_slots ∙ sym r.files.same_full;
       all_holds = no_holds c full held removed k settled ∙ sym (ap (sum_by itself) unheld ∙ sum_by-replicate itself numbers 0 refl);
       small_holds = λ n. let z = no_hold n in omega arith;
       all_removed = none_removed c full held removed k settled ∙ sym (sum_of_nothings removed_count_of nodes Gone
-          (each_node (λ n node. removed_count_of node ≡ 0)
-          (λ n x lt. moved_is (λ node. removed_count_of node ≡ 0) n x refl (λ _. refl)) (λ n ge lt. refl) (λ n ge. refl)));
+          (each_node (λ n node. removed_count_of node ≡ 0) (λ n node lt vacant. vacant.none_removed) (λ n ge lt. refl) (λ n ge. refl)));
     },
   )

@@ -2,7 +2,7 @@
 -- wait for their retirement, and `numbers_of` how many numbers were prepared.
 use Rattle.std.specs.Prelude.{◌≡◌, ℕ, ◌+◌, ◌<◌, ◌≤◌, ◌^◌, Bool, true, false, List, length, Option}
 use Rattle.std.specs.Prelude.{Some, None, slice_index, slice_index_or, slice_set}
-use Rattle.std.specs.Prelude.{nat_lt, if◌then◌else◌, sum_by}
+use Rattle.std.specs.Prelude.{sum_by}
 use Rattle.fx_base.specs.Identity.{Identity}
 use Rattle.fx_plain.specs.State.{State}
 use Rattle.fx_plain.specs.declared.event.File.{File}
@@ -146,27 +146,10 @@ abbrev pub file_named : List Node → Option ℕ → Option Identity
 file_named nodes None = None
 file_named nodes (Some number) = file_in (node_at nodes number)
 
--- the node of each number, as passes begin
-abbrev pub opening_node : List (Option ℕ) → List Node → ℕ → ℕ → Node
-opening_node slots nodes numbers number =
-    if nat_lt number (length slots) then moved_node (file_named nodes (slot_at slots number)) number
-    else if nat_lt number numbers then Fresh
-    else Gone
-
 -- a slot as passes begin: the number of its file is its own
 abbrev pub opening_slot : Option ℕ → ℕ → Option ℕ
 opening_slot None slot = None
 opening_slot (Some number) slot = Some slot
-
--- each slot has its own number now, and its file stands in the node of that number
-pub record IsRenumbered (slots : List (Option ℕ)) (nodes : List Node) (new : List (Option ℕ))
-    (moved : List Node) : Type 0 where
-  pub same_size : length new ≡ length slots
-  pub named : (slot : ℕ) → slot < length slots
-      → slot_at new slot ≡ opening_slot (slot_at slots slot) slot
-  pub filed : (slot : ℕ) → slot < length slots
-      → node_at moved slot ≡ moved_node (file_named nodes (slot_at slots slot)) slot
-  pub same_full : sum_by file_count_of new ≡ sum_by file_count_of slots
 
 -- the first nodes are kept, and those behind them are fresh
 pub record KeepsFirst (old : List Node) (kept len : ℕ) (new : List Node) : Type 0 where

@@ -5,3 +5,4 @@ pub mod Reserved
 pub mod Contents
 pub mod Table
 pub mod Laws
+pub mod OwnNumbers

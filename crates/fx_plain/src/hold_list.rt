@@ -1,5 +1,5 @@
 //! The holds of a table's files by number. As with the nodes, what no look-up reached isn't written and is 0.
-ghost use Rattle.std.specs.Prelude.{◌≡◌, ◌+◌, ◌-◌, ◌<◌, ◌^◌, ◌≤◌, ℕ, [], length, replicate, slice_index, slice_set, vec_len, vec_capacity, IfOk};
+ghost use Rattle.std.specs.Prelude.{◌≡◌, ◌+◌, ◌-◌, ◌<◌, ◌^◌, ◌≤◌, ℕ, [], length, replicate, slice_index, slice_set, vec_len, vec_capacity, IfOk, IfSome, IfNone};
 ghost use Rattle.fx_plain.specs.Reserved.{with_rest};
 
 use fx_base::NoMemory;
@@ -41,6 +41,34 @@ impl HoldList {
     {
         let written = Vec::with_capacity(alloc, len as usize)?;
         Ok(HoldList { written, len })
+    }
+
+    // So many zeros, or `None` where there are as many holds here, which may start again.
+    pub(crate) fn zeros_beyond(&self, alloc: Global, len: u32) -> Result<Option<HoldList>, NoMemory>
+        ensures new { IfOk result (λ new. IfSome new (λ holds. holds ≡ replicate len 0)) }
+        ensures here { IfOk result (λ new. IfNone new (len ≤ length self.now)) }
+    {
+        if len <= self.len {
+            return Ok(None);
+        }
+        Ok(Some(HoldList::zeros(alloc, len)?))
+    }
+
+    // So many zeros: new ones, or else the first of those that are here.
+    pub(crate) fn start_again(&mut self, new: Option<HoldList>, len: u32)
+        requires new { IfSome new (λ holds. holds ≡ replicate len 0) }
+        requires here { IfNone new (len ≤ length self.old) }
+        requires zeros { (number : ℕ) → slice_index self.old number ≡ 0 }
+        ensures { self.new ≡ replicate len 0 }
+    {
+        if let Some(holds) = new {
+            *self = holds;
+            return;
+        }
+        if self.written.len() > len as usize {
+            self.written.clear();
+        }
+        self.len = len;
     }
 
     // How many holds the file of a number has.

@@ -6,6 +6,7 @@ mod hold_list;
 pub mod laws;
 mod node;
 mod node_list;
+mod slot_span;
 mod table;
 
 pub use event::{Action, Event, File};

@@ -52,13 +52,18 @@ impl NodeList {
         NodeList { written, len }
     }
 
-    // Room for so many nodes, if that takes no memory: whether it doesn't.
-    pub(crate) fn extend(&mut self, len: u32) -> bool
+    // Room for so many nodes, if the first `kept` are there and it takes no memory: whether that is so.
+    pub(crate) fn extend(&mut self, kept: usize, len: u32) -> bool
+        ensures there { IsTrue result → kept ≤ length self.old }
         ensures enough { IsTrue result → len ≤ length self.new }
-        ensures kept { IsTrue result → (number : ℕ) → IsSome (file_in (node_at self.old number))
+        ensures same { IsTrue result → (number : ℕ) → number < length self.old
             → node_at self.new number ≡ node_at self.old number }
+        ensures longer { IsTrue result → length self.old ≤ length self.new }
         ensures refused { result ≡ false → self.new ≡ self.old }
     {
+        if kept > self.len as usize {
+            return false;
+        }
         if len <= self.len {
             return true;
         }

@@ -10,6 +10,7 @@ mod slots;
 
 use crate::hold_list::HoldList;
 use crate::node_list::NodeList;
+use crate::slot_span::SlotSpan;
 use fx_base::{Closed, Mark, NoMemory};
 use std::alloc::Global;
 use std::marker::Model;
@@ -42,10 +43,13 @@ pub struct PlainTable {
     full: u32,
     held: u64,
     removed: u32,
+    // Outside of these slots each file has its slot's own number, so that a preparation has nothing to do there.
+    to_renumber: SlotSpan,
 }
 
 impl Model for PlainTable {
     ghost use Rattle.fx_plain.specs.Contents.{Contents, IsTable, IsCounted};
+    ghost use Rattle.fx_plain.specs.OwnNumbers.{HaveOwnOutside};
 
     ghost Value = { Contents };
 
@@ -64,7 +68,8 @@ impl Model for PlainTable {
           nodes = t.nodes;
           holds = t.holds;
           numbers = t.numbers;
-        } in IsTable c × IsCounted c t.full t.held t.removed };
+        } in (IsTable c × IsCounted c t.full t.held t.removed)
+        × HaveOwnOutside c.slots t.to_renumber };
 }
 
 impl PlainTable {
@@ -83,6 +88,7 @@ impl PlainTable {
             full: 0,
             held: 0,
             removed: 0,
+            to_renumber: SlotSpan::none(),
         }
     }
 
@@ -111,6 +117,7 @@ impl PlainTable {
             full: 0,
             held: 0,
             removed: 0,
+            to_renumber: SlotSpan::none(),
         })
     }
 

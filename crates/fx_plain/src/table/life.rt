@@ -3,11 +3,13 @@ ghost use Rattle.std.specs.Prelude.{◌≡◌, ◌≤◌, ◌<◌, ◌+◌, ℕ,
 ghost use Rattle.std.specs.Option.{option_to_list};
 ghost use Rattle.fx_base.specs.declared.open_file.Closed.{Closed};
 ghost use Rattle.fx_plain.specs.State.{vacant, opening, IsSettled, files_of, files_in_order};
-ghost use Rattle.fx_plain.specs.Contents.{state_of, numbers_of, IsTable, IsPrepared, slot_at, node_at, moved_node, file_in, file_named, nodes_without, opening_slot, file_at, AllPlaced, HaveOwnNumbers, IsRenumbered, SameButPlaced, removed_count_of, At};
+ghost use Rattle.fx_plain.specs.OwnNumbers.{HaveOwnOutside, AreVacant, AreFiled, IsRenumbered};
+ghost use Rattle.fx_plain.specs.Contents.{state_of, numbers_of, IsTable, IsPrepared, slot_at, node_at, moved_node, file_in, file_named, nodes_without, opening_slot, file_at, AllPlaced, HaveOwnNumbers, SameButPlaced, removed_count_of, At};
 
 use crate::hold_list::HoldList;
 use crate::node::Node;
 use crate::node_list::NodeList;
+use crate::slot_span::SlotSpan;
 use crate::table::PlainTable;
 use fx_base::{CloseList, NoMemory};
 use std::alloc::Global;
@@ -37,20 +39,10 @@ impl PlainTable {
         ensures sound { IsTable self.new }
         ensures err { OnErr result (self.new ≡ self.old) }
     {
-        let alloc = self.nodes.allocator();
-        let holds = HoldList::zeros(alloc, numbers)?;
-        if self.nodes.extend(numbers) {
-            renumber_in_place(&mut self.slots, &mut self.nodes);
-            self.nodes.cut(self.slots.len(), numbers);
-            self.holds = holds;
-            self.numbers = numbers;
-            return Ok(());
-        }
-        let mut moved = Vec::with_capacity(alloc, numbers as usize)?;
-        renumber(&mut self.slots, &mut self.nodes, &mut moved);
-        let nodes = NodeList::new(moved, numbers);
-        mem::replace(&mut self.nodes, nodes).spend();
-        self.holds = holds;
+        let holds = self.holds.zeros_beyond(self.nodes.allocator(), numbers)?;
+        renumber(&mut self.slots, &mut self.nodes, &self.to_renumber, numbers)?;
+        self.holds.start_again(holds, numbers);
+        self.to_renumber = SlotSpan::none();
         self.numbers = numbers;
         Ok(())
     }
@@ -73,6 +65,7 @@ impl PlainTable {
         self.range_start = 0;
         self.range_len = 0;
         self.full = 0;
+        self.to_renumber = SlotSpan::none();
     }
 
     /// Spends a settled table ([`PlainTable::is_settled`]) that has no file ([`PlainTable::full`] is 0).
@@ -95,6 +88,7 @@ impl PlainTable {
             full: _,
             held: _,
             removed: _,
+            to_renumber: _,
         } = self;
         nodes.spend();
     }
@@ -117,12 +111,42 @@ fn move_file(slots: &mut Vec<Option<u32>>, nodes: &mut NodeList, slot: usize) ->
     Node::At(slot as u32, nodes.take_file(number))
 }
 
-// Each file that stands at a slot moves to the node of the slot's own number.
-fn renumber(slots: &mut Vec<Option<u32>>, nodes: &mut NodeList, moved: &mut Vec<Node>)
+// The file at each slot moves to the node of the slot's own number, and so many nodes stand behind them: in the list
+// that is there, if it has room.
+fn renumber(
+    slots: &mut Vec<Option<u32>>,
+    nodes: &mut NodeList,
+    span: &SlotSpan,
+    numbers: u32,
+) -> Result<(), NoMemory>
+    requires few { vec_len slots.old < 2 ^ 32 }
+    requires enough { vec_len slots.old ≤ numbers }
+    requires placed { AllPlaced slots.old.items nodes.old }
+    requires own { HaveOwnNumbers slots.old.items }
+    requires outside { HaveOwnOutside slots.old.items span.now }
+    requires vacant { AreVacant slots.old.items nodes.old }
+    ensures ok { OnOk result
+        (IsRenumbered slots.old.items nodes.old slots.new.items nodes.new numbers) }
+    ensures err { OnErr result ((slots.new ≡ slots.old) × (nodes.new ≡ nodes.old)) }
+{
+    if nodes.extend(slots.len(), numbers) {
+        renumber_in_place(slots, nodes, span);
+        nodes.cut(slots.len(), numbers);
+        return Ok(());
+    }
+    let mut moved = Vec::with_capacity(nodes.allocator(), numbers as usize)?;
+    renumber_into(slots, nodes, &mut moved);
+    let renumbered = NodeList::new(moved, numbers);
+    mem::replace(nodes, renumbered).spend();
+    Ok(())
+}
+
+// Each file that stands at a slot moves to the node of the slot's own number, in a new list.
+fn renumber_into(slots: &mut Vec<Option<u32>>, nodes: &mut NodeList, moved: &mut Vec<Node>)
     requires few { vec_len slots.old < 2 ^ 32 }
     requires placed { AllPlaced slots.old.items nodes.old }
     requires room { (moved.old.items ≡ []) × (vec_len slots.old ≤ vec_capacity moved.old) }
-    ensures renumbered { IsRenumbered slots.old.items nodes.old slots.new.items moved.new.items }
+    ensures filed { AreFiled slots.old.items nodes.old slots.new.items moved.new.items }
     ensures count { vec_len moved.new ≡ vec_len slots.old }
     ensures capacity { vec_capacity moved.new ≡ vec_capacity moved.old }
 {
@@ -152,16 +176,18 @@ fn settle(slots: &mut Vec<Option<u32>>, nodes: &mut NodeList, slot: usize)
     nodes.set_node(slot as u32, node);
 }
 
-// As `renumber` does, in the list of nodes that is there.
-fn renumber_in_place(slots: &mut Vec<Option<u32>>, nodes: &mut NodeList)
+// As `renumber_into` does, in the list that is there, where the slots outside of a span need nothing.
+fn renumber_in_place(slots: &mut Vec<Option<u32>>, nodes: &mut NodeList, span: &SlotSpan)
     requires few { vec_len slots.old < 2 ^ 32 }
     requires placed { AllPlaced slots.old.items nodes.old }
     requires own { HaveOwnNumbers slots.old.items }
     requires nodes { vec_len slots.old ≤ length nodes.old }
-    ensures renumbered { IsRenumbered slots.old.items nodes.old slots.new.items nodes.new }
+    requires outside { HaveOwnOutside slots.old.items span.now }
+    requires vacant { AreVacant slots.old.items nodes.old }
+    ensures filed { AreFiled slots.old.items nodes.old slots.new.items nodes.new }
     ensures len { length nodes.new ≡ length nodes.old }
 {
-    for slot in 0..slots.len() {
+    for slot in span.start as usize..span.end as usize {
         settle(slots, nodes, slot);
     }
 }

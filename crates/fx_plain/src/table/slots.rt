@@ -25,6 +25,7 @@ impl PlainTable {
         ensures fresh { (other : ℕ) → (other ≡ number → ⊥)
             → (state_of self.old).fresh other ≡ true → (state_of self.new).fresh other ≡ true }
     {
+        self.to_renumber.widen(slot);
         self.nodes.set_node(number, Node::At(slot, file));
         let replaced = self.slots[slot as usize];
         self.slots[slot as usize] = Some(number);

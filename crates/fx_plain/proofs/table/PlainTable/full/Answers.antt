@@ -4,5 +4,5 @@ use Rattle.fx_plain.proofs.table.PlainTable.full.Goals as goal
 
 pub returns : goal.returns
 returns c =
-    c.self.invariant.1.full_slots ∙ sym (length-files_of (the_view c.self.inside) c.self.invariant.0)
+    c.self.invariant.0.1.full_slots ∙ sym (length-files_of (the_view c.self.inside) c.self.invariant.0.0)
     ∙ ap (λ (k : Contents). length (files_of (state_of k))) c.self.view_is

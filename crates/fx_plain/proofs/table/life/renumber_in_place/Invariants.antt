@@ -1,4 +1,4 @@
-use Rattle.fx_plain.proofs.Words.{◌≡◌, ◌≤◌, ◌<◌, ℕ, Some, length, sum_by, slot_at, node_at, moved_node, file_named, opening_slot, file_count_of}
+use Rattle.fx_plain.proofs.Words.{◌≡◌, ◌≤◌, ◌<◌, ℕ, Some, length, sum_by, slot_at, node_at, opening_slot, file_count_of, IsFiled}
 use Rattle.fx_plain.proofs.Words.{vec_len}
 use Rattle.fx_plain.proofs.table.life.renumber_in_place.Given as goal
 
@@ -9,7 +9,8 @@ invariant-loop-slot l = record {
   nodes_len : length l.nodes ≡ length l.fn.nodes;
   done : (s : ℕ) → s < l.slot → slot_at l.slots.items s ≡ opening_slot (slot_at l.fn.slots.items s) s;
   rest : (s : ℕ) → l.slot ≤ s → slot_at l.slots.items s ≡ slot_at l.fn.slots.items s;
-  moved : (s : ℕ) → s < l.slot → node_at l.nodes s ≡ moved_node (file_named l.fn.nodes (slot_at l.fn.slots.items s)) s;
+  filed : (s : ℕ) → s < l.slot → s < vec_len l.fn.slots → IsFiled l.fn.slots.items l.fn.nodes s (node_at l.nodes s);
   left : (s number : ℕ) → l.slot ≤ s → slot_at l.fn.slots.items s ≡ Some number → node_at l.nodes number ≡ node_at l.fn.nodes number;
+  stays : (s : ℕ) → l.slot ≤ s → s < vec_len l.fn.slots → node_at l.nodes s ≡ node_at l.fn.nodes s;
   full : sum_by file_count_of l.slots.items ≡ sum_by file_count_of l.fn.slots.items;
 }

@@ -1,6 +1,6 @@
 use Rattle.fx_plain.proofs.Words.{◌≡◌, ◌≤◌, ◌<◌, ℕ, Some, length, sum_by, slot_at, node_at, moved_node, file_named, opening_slot, file_count_of}
 use Rattle.fx_plain.proofs.Words.{vec_len, vec_capacity}
-use Rattle.fx_plain.proofs.table.life.renumber.Given as goal
+use Rattle.fx_plain.proofs.table.life.renumber_into.Given as goal
 
 -- the slots so far name their own numbers, and the others are as they were, with their files
 abbrev pub invariant-loop-slot : goal.invariant-loop-slot
