@@ -49,10 +49,11 @@ def entries(count):
 
 
 def prepared(numbers):
-    """A table that was prepared for eight numbers, of which two are left, is prepared for so many."""
+    """A table that was prepared for eight numbers, of which two are left, is prepared for so many: for fewer without memory."""
     before = [*TABLE, "numbers 8", "fresh from 6", "fresh 2, the last one 7"]
     after = [*TABLE, f"numbers {numbers}", "fresh from 4", f"fresh {numbers - 4}, the last one {numbers - 1}"]
-    return Call(f"prepare - {numbers}", ["prepare: done"], after, "NoMemory", before)
+    refusal = "NoMemory" if numbers > 8 else None
+    return Call(f"prepare - {numbers}", ["prepare: done"], after, refusal, before)
 
 
 def opened(table, passes):
@@ -133,7 +134,7 @@ def run(table, workers):
 def calls():
     """Each call, as the program is asked for it."""
     yield from (entries(count) for count in (0, 1, 4))
-    yield from (prepared(numbers) for numbers in (5, 300))
+    yield from (prepared(numbers) for numbers in (5, 9, 300))
     yield from (opened(table, passes) for table in TABLES for passes in (1, 16))
     yield from between_submissions()
     yield from (submitted(table, workers) for table in TABLES for workers in (1, 2))
