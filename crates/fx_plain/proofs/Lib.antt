@@ -19,3 +19,4 @@ pub mod LawHolds
 pub mod LawTallies
 pub mod LawFiles
 pub mod FilesWereInstalled
+pub mod Renaming

@@ -3,6 +3,7 @@
 
 ghost use Rattle.std.specs.Prelude.{◌≡◌};
 ghost use Rattle.fx_plain.specs.Laws.{NoCloseWhileHeld, ClosedAtMostOnce, EveryRemovedFileIsClosed, EveryFileWasThereOrInstalled, OpeningIsStart};
+ghost use Rattle.fx_plain.specs.Renaming.{NumbersAreNames};
 ghost use Rattle.fx_plain.specs.declared.table.TheConstants.{MOST_SLOTS};
 
 /// A table has at most 256 slots.
@@ -35,4 +36,10 @@ pub fn every_file_was_there_or_installed()
 /// The state that passes begin with is one from which the laws above speak.
 pub fn opening_is_start()
     ensures { OpeningIsStart }
+{}
+
+/// A history stays legal where the files get other numbers, each another one: it leads to the same files, holds and
+/// removed files under the new numbers.
+pub fn numbers_are_names()
+    ensures { NumbersAreNames }
 {}
