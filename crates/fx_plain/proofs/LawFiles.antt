@@ -19,7 +19,7 @@ abbrev IsOnly : File → State → Type 0
 IsOnly f st = HoldsOfFiles (Same f) (SameAt f) (λ _ p. p) st
 
 -- a file that is installed has a fresh number, which is then used, and closes nothing
-installed_now : (f : File) (st : State) (a : Action) → Allows st a → installed_by a ≡ Some f
+pub installed_now : (f : File) (st : State) (a : Action) → Allows st a → installed_by a ≡ Some f
     → (st.fresh f.number ≡ true) × ((after st a).fresh f.number ≡ false) × (closed_of f.number a ≡ [])
 installed_now f st (Put slot new replaced) may is = let e : new ≡ f = cc in let was = may.1 in
     (ap (λ (x : File). st.fresh x.number) (sym e) ∙ was, grind arith, refl)
@@ -27,7 +27,7 @@ installed_now f st (Allocate slot new) may is = let e : new ≡ f = cc in let wa
     (ap (λ (x : File). st.fresh x.number) (sym e) ∙ was, grind arith, refl)
 installed_now f st _ may is = cc
 
-used_after : (st : State) (a : Action) (n : ℕ) → st.fresh n ≡ false → (after st a).fresh n ≡ false
+pub used_after : (st : State) (a : Action) (n : ℕ) → st.fresh n ≡ false → (after st a).fresh n ≡ false
 used_after st (Look slot None) n used = used
 used_after st (Put slot new replaced) n used = grind arith
 used_after st (Allocate slot new) n used = grind arith

@@ -20,3 +20,6 @@ pub mod LawTallies
 pub mod LawFiles
 pub mod FilesWereInstalled
 pub mod Renaming
+pub mod Places
+pub mod OpenedAnew
+pub mod AtRest

@@ -4,10 +4,48 @@ use Rattle.fx_plain.proofs.Words.{if◌then◌else◌, ◌==◌, arith, State, A
 use Rattle.fx_plain.proofs.Words.{All, action_of, File, Event, Action, Look, Release, Put, Clear, Take, Allocate, Close}
 use Rattle.fx_plain.specs.declared.event.Action.TheVariants.{Full}
 use Rattle.fx_plain.specs.History.{held_after, held_by, ReleasesItsOwn, AllReleaseTheirOwn}
-use Rattle.fx_plain.specs.Renaming.{Renaming, IsOneToOne, IsNamed, renamed_file, renamed_found, renamed, renamed_event, read_at, renamed_state}
-use Rattle.fx_plain.specs.Renaming.{IsRenamable, InstallsNamed}
 use Rattle.fx_plain.specs.Laws.{installed_by}
 use Rattle.fx_plain.proofs.Cells.{by_equality}
+use Rattle.fx_plain.specs.Reopening.{Renaming, renamed_file, renamed_found, renamed, renamed_event}
+
+-- each number leads r.back to one that leads to it
+abbrev pub IsOneToOne : Renaming → Type 0
+IsOneToOne r = (new old : ℕ) → r.back new ≡ Some old → r.number old ≡ new
+
+-- the number leads to one that leads back
+abbrev pub IsNamed : Renaming → ℕ → Type 0
+IsNamed r old = r.back (r.number old) ≡ Some old
+
+-- what is read under a new number: what stands under the old one, or else what a table without
+-- files has there
+abbrev pub read_at : {X Y : Type 0} → (X → Y) → Y → (ℕ → X) → Option ℕ → Y
+read_at g none f None = none
+read_at g none f (Some old) = g (f old)
+
+-- the state with other numbers, of which these are fresh
+abbrev pub renamed_state : Renaming → (ℕ → Bool) → State → State
+renamed_state r fresh st = record {
+  size = st.size;
+  range = st.range;
+  at = λ slot. renamed_found r (st.at slot);
+  removed = λ new. read_at (renamed_found r) None st.removed (r.back new);
+  holds = λ new. read_at (λ n. n) 0 st.holds (r.back new);
+  fresh = fresh;
+}
+
+-- each file of the state has a number that leads to one which leads back, and each such number that
+-- is fresh leads to a fresh one
+pub record IsRenamable (r : Renaming) (fresh : ℕ → Bool) (st : State) : Type 0 where
+  pub at : (slot : ℕ) (f : File) → st.at slot ≡ Some f → IsNamed r f.number
+  pub held : (old : ℕ) → 0 < st.holds old → IsNamed r old
+  pub removed : (old : ℕ) (f : File) → st.removed old ≡ Some f → IsNamed r f.number
+  pub stays_fresh : (old : ℕ) → IsNamed r old → st.fresh old ≡ true → fresh (r.number old) ≡ true
+
+-- so has each file that one of the actions installs
+abbrev pub InstallsNamed : Renaming → List Action → Type 0
+InstallsNamed r [] = Unit {0}
+InstallsNamed r (action ∷ h) =
+    InstallsNamed r h × ((f : File) → installed_by action ≡ Some f → IsNamed r f.number)
 
 changed_here : {X : Type 0} (f : ℕ → X) (n : ℕ) (v : X) → changed_at f n v n ≡ v
 changed_here f n v = by_equality n n (λ b. (if b then v else f n) ≡ v) (λ _. refl) (λ other. absurd (other refl))

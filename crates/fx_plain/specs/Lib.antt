@@ -6,4 +6,4 @@ pub mod Contents
 pub mod Table
 pub mod Laws
 pub mod OwnNumbers
-pub mod Renaming
+pub mod Reopening

@@ -3,7 +3,7 @@
 
 ghost use Rattle.std.specs.Prelude.{◌≡◌};
 ghost use Rattle.fx_plain.specs.Laws.{NoCloseWhileHeld, ClosedAtMostOnce, EveryRemovedFileIsClosed, EveryFileWasThereOrInstalled, OpeningIsStart};
-ghost use Rattle.fx_plain.specs.Renaming.{NumbersAreNames};
+ghost use Rattle.fx_plain.specs.Reopening.{OpeningIsAtRest, StaysAtRest, OpenedAnew};
 ghost use Rattle.fx_plain.specs.declared.table.TheConstants.{MOST_SLOTS};
 
 /// A table has at most 256 slots.
@@ -38,8 +38,17 @@ pub fn opening_is_start()
     ensures { OpeningIsStart }
 {}
 
-/// A history stays legal where the files get other numbers, each another one: it leads to the same files, holds and
-/// removed files under the new numbers.
-pub fn numbers_are_names()
-    ensures { NumbersAreNames }
+/// A table that is opened is at rest ([`opening_is_start`]'s state, of a table's own slots alone).
+pub fn opening_is_at_rest()
+    ensures { OpeningIsAtRest }
+{}
+
+/// A table at rest is so again wherever its history leads to a settled state.
+pub fn a_table_comes_to_rest()
+    ensures { StaysAtRest }
+{}
+
+/// What happens to a table at rest may happen to one that is opened with its files: numbers are names.
+pub fn a_later_part_may_open_a_table()
+    ensures { OpenedAnew }
 {}

@@ -1,0 +1,210 @@
+-- A later part of a history, with the numbers that a table which is opened then gives.
+use Rattle.fx_plain.proofs.Words.{◌≡◌, ◌≢◌, ◌⊎◌, ℕ, ◌+◌, ◌-◌, ◌<◌, ◌≤◌, Bool, true, false, not, ◌&&◌, nat_lt, List, [], ◌∷◌, map, length, refl, sym, ap, subst, ◌∙◌}
+use Rattle.fx_plain.proofs.Words.{Option, Some, None, if◌then◌else◌, arith, inl, inr, cases_lt, lt-ltb, le-ltb, State, IsSettled, opening, file_numbered}
+use Rattle.fx_plain.proofs.Words.{Allows, AllowsAll, after, state_after, changed_at, action_of, File, Event, Action, Put, Allocate, Look, IsLegal, identity_of, number_of}
+use Rattle.fx_plain.specs.Laws.{IsStart, installed_by}
+use Rattle.fx_plain.proofs.LawFiles.{installed_now, used_after}
+use Rattle.fx_plain.proofs.Places.{place_of, number_at, IsIn, AreDistinct, number_at_in, place_below, number_at_place, place_of_number}
+use Rattle.fx_plain.proofs.Places.{slot_of, slot_found, no_slot_found}
+use Rattle.fx_plain.proofs.Renaming.{IsOneToOne, IsNamed, read_at, renamed_state, IsRenamable, InstallsNamed, legal_renamed}
+use Rattle.fx_plain.specs.Reopening.{Renaming, renamed_found, renamed_file, renamed_event, installs_of, with_installed, HasOtherNumbers, IsAtRest}
+
+-- a number that was used at the start is used afterwards
+used_behind : (start : State) (h : List Action) (n : ℕ) → start.fresh n ≡ false → (state_after start h).fresh n ≡ false
+used_behind start [] n used = used
+used_behind start (a ∷ h) n used = used_after (state_after start h) a n (used_behind start h n used)
+
+by_installed : (a : Action) (l : List ℕ) (n : ℕ) → IsIn n (with_installed (installed_by a) l) → ((f : File) × (installed_by a ≡ Some f) × (f.number ≡ n)) ⊎ IsIn n l
+by_installed a l n is = elim (installed_by a) as (λ x. installed_by a ≡ x → IsIn n (with_installed x l) → ((f : File) × (installed_by a ≡ Some f) × (f.number ≡ n)) ⊎ IsIn n l) [
+  | None ↦ λ _ there. inr there
+  | Some f ↦ λ by there. elim there [ inl same ↦ inl (f, by, same) | inr more ↦ inr more ]
+] refl is
+
+-- a number that was given was fresh at the start, and is used then
+module _ (start : State) where
+  pub used_then : (h : List Action) → AllowsAll start h → (n : ℕ) → IsIn n (installs_of h) → (state_after start h).fresh n ≡ false
+  used_then [] may n is = absurd is
+  used_then (a ∷ h) may n is = elim (by_installed a (installs_of h) n is) [
+    | inl new ↦ subst (λ (k : ℕ). (after (state_after start h) a).fresh k ≡ false) new.2 (installed_now new.0 (state_after start h) a may.1 new.1).1
+    | inr there ↦ used_after (state_after start h) a n (used_then h may.0 n there)
+  ]
+
+  fresh_before : (h : List Action) (n : ℕ) → (state_after start h).fresh n ≡ true → start.fresh n ≡ true
+  fresh_before h n fresh = elim (start.fresh n) as (λ b. start.fresh n ≡ b → b ≡ true) [
+    | true ↦ λ _. refl
+    | false ↦ λ used. let clash : false ≡ true = sym (used_behind start h n used) ∙ fresh in absurd (cc clash)
+  ] refl
+
+  pub was_fresh : (h : List Action) → AllowsAll start h → (n : ℕ) → IsIn n (installs_of h) → start.fresh n ≡ true
+  was_fresh [] may n is = absurd is
+  was_fresh (a ∷ h) may n is = elim (by_installed a (installs_of h) n is) [
+    | inl new ↦ subst (λ (k : ℕ). start.fresh k ≡ true) new.2
+        (fresh_before h new.0.number (installed_now new.0 (state_after start h) a may.1 new.1).0)
+    | inr there ↦ was_fresh h may.0 n there
+  ]
+
+  pub distinct_installs : (h : List Action) → AllowsAll start h → AreDistinct (installs_of h)
+  distinct_installs [] may = tt
+  distinct_installs (a ∷ h) may = elim (installed_by a) as (λ x. installed_by a ≡ x → AreDistinct (with_installed x (installs_of h))) [
+    | None ↦ λ _. distinct_installs h may.0
+    | Some f ↦ λ by. (
+      λ there. let clash : true ≡ false = sym (installed_now f (state_after start h) a may.1 by).0 ∙ used_then h may.0 f.number there in cc clash,
+      distinct_installs h may.0,
+    )
+  ] refl
+
+-- a slot's file gets the slot's number, and a new one a number behind those of the slots
+abbrev pub number_by : ℕ → List ℕ → ℕ → Option ℕ → ℕ
+number_by size new old None = size + place_of old new
+number_by size new old (Some slot) = slot
+
+module _ (chain : ℕ → ℕ) (start : State) (new : List ℕ) where
+  abbrev pub by_order : Renaming
+  by_order = record {
+    number = λ old. number_by start.size new old (slot_of start.at start.size old);
+    chain = chain;
+    back = λ k. if nat_lt k start.size then number_of (start.at k) else number_at (k - start.size) new;
+  }
+
+  back_low : (k : ℕ) → k < start.size → by_order.back k ≡ number_of (start.at k)
+  back_low k lt = ap (λ (b : Bool). if b then number_of (start.at k) else number_at (k - start.size) new) (lt-ltb k start.size lt)
+
+  back_high : (k : ℕ) → start.size ≤ k → by_order.back k ≡ number_at (k - start.size) new
+  back_high k le = ap (λ (b : Bool). if b then number_of (start.at k) else number_at (k - start.size) new) (le-ltb k start.size le)
+
+  module _ (begins : IsStart start) (fresh : (n : ℕ) → IsIn n new → start.fresh n ≡ true) (distinct : AreDistinct new) where
+    of_slot : (slot : ℕ) (f : File) → slot < start.size → start.at slot ≡ Some f → (x : Option ℕ) → slot_of start.at start.size f.number ≡ x
+        → number_by start.size new f.number x ≡ slot
+    of_slot slot f lt is None none = absurd (no_slot_found start.at start.size f.number none slot lt f is refl)
+    of_slot slot f lt is (Some s) found = let there = slot_found start.at start.size f.number s found in
+        begins.distinct s slot there.1 f there.0 lt there.2 is there.3
+
+    of_new : (n : ℕ) → start.fresh n ≡ true → (x : Option ℕ) → slot_of start.at start.size n ≡ x → number_by start.size new n x ≡ start.size + place_of n new
+    of_new n is None none = refl
+    of_new n is (Some s) found = let there = slot_found start.at start.size n s found in
+        let clash : false ≡ true = sym (begins.used s there.1 there.0 there.2) ∙ ap start.fresh there.3 ∙ is in absurd (cc clash)
+
+    number_of_new : (n : ℕ) → start.fresh n ≡ true → by_order.number n ≡ start.size + place_of n new
+    number_of_new n is = of_new n is (slot_of start.at start.size n) refl
+
+    named_slot : (slot : ℕ) (f : File) → slot < start.size → start.at slot ≡ Some f → IsNamed by_order f.number
+    named_slot slot f lt is = ap by_order.back (of_slot slot f lt is (slot_of start.at start.size f.number) refl) ∙ back_low slot lt ∙ ap number_of is
+
+    pub named_new : (n : ℕ) → IsIn n new → IsNamed by_order n
+    named_new n there =
+        let back : by_order.back (start.size + place_of n new) ≡ number_at (start.size + place_of n new - start.size) new = back_high _ (omega arith) in
+        let same : start.size + place_of n new - start.size ≡ place_of n new = omega arith in
+        ap by_order.back (number_of_new n (fresh n there)) ∙ back ∙ ap (λ (k : ℕ). number_at k new) same ∙ number_at_place n new there
+
+    from_slot : (k old : ℕ) → k < start.size → (x : Option File) → start.at k ≡ x → number_of x ≡ Some old → by_order.number old ≡ k
+    from_slot k old lt None is same = absurd (cc same)
+    from_slot k old lt (Some f) is same = let e : f.number ≡ old = cc same in
+        ap by_order.number (sym e) ∙ of_slot k f lt is (slot_of start.at start.size f.number) refl
+
+    pub one_to_one : IsOneToOne by_order
+    one_to_one k old is = elim (cases_lt k start.size) [
+      | inl lt ↦ from_slot k old lt (start.at k) refl (sym (back_low k lt) ∙ is)
+      | inr le ↦ let there = sym (back_high k le) ∙ is in
+          let place = place_of_number (k - start.size) old new distinct there in
+          number_of_new old (fresh old (number_at_in (k - start.size) old new there)) ∙ (let e = place in omega (arith, e, le))
+    ]
+
+    -- a fresh number that leads back is one of the new ones
+    is_new : (n : ℕ) → start.fresh n ≡ true → IsNamed by_order n → IsIn n new
+    is_new n is named = let at = number_of_new n is in
+        let back : by_order.back (by_order.number n) ≡ number_at (by_order.number n - start.size) new = back_high _ (omega (arith, at)) in
+        number_at_in (by_order.number n - start.size) n new (sym back ∙ named)
+
+    module _ (numbers : ℕ) (enough : start.size + length new ≤ numbers) (past : (slot : ℕ) → start.size ≤ slot → start.at slot ≡ None) where
+      fresh_then : (n : ℕ) → IsNamed by_order n → start.fresh n ≡ true
+          → (not (nat_lt (by_order.number n) start.size) && nat_lt (by_order.number n) numbers) ≡ true
+      fresh_then n named is =
+          let at = number_of_new n is in
+          let below = place_below n new (is_new n is named) in
+          let low : start.size ≤ by_order.number n = omega (arith, at) in
+          let high : by_order.number n < numbers = omega (arith, at, below, enough) in
+          ap (λ (b : Bool × Bool). not b.0 && b.1) (λ i. (le-ltb (by_order.number n) start.size low i, lt-ltb (by_order.number n) numbers high i))
+
+      at_inside : (slot : ℕ) (f : File) → start.at slot ≡ Some f → slot < start.size
+      at_inside slot f is = elim (cases_lt slot start.size) [
+        | inl lt ↦ lt
+        | inr le ↦ let clash : None ≡ Some f = sym (past slot le) ∙ is in absurd (cc clash)
+      ]
+
+      pub renamable : IsRenamable by_order (opening start numbers).fresh start
+      renamable = record {
+        at = λ slot f is. named_slot slot f (at_inside slot f is) is;
+        held = λ n some. let none = begins.settled.unheld n in absurd (omega (arith, some, none));
+        removed = λ n f is. let clash : None ≡ Some f = sym (begins.settled.closed n) ∙ is in absurd (cc clash);
+        stays_fresh = fresh_then;
+      }
+
+      found_anew : (slot : ℕ) (x : Option File) → start.at slot ≡ x → renamed_found by_order x ≡ file_numbered x slot
+      found_anew slot None is = refl
+      found_anew slot (Some f) is = ap (λ (n : ℕ). Some (record f { number = n }))
+          (of_slot slot f (at_inside slot f is) is (slot_of start.at start.size f.number) refl)
+
+      none_removed : (x : Option ℕ) → read_at (renamed_found by_order) None start.removed x ≡ None
+      none_removed None = refl
+      none_removed (Some n) = ap (renamed_found by_order) (begins.settled.closed n)
+
+      none_held : (x : Option ℕ) → read_at (λ n. n) 0 start.holds x ≡ 0
+      none_held None = refl
+      none_held (Some n) = begins.settled.unheld n
+
+      pub opened : renamed_state by_order (opening start numbers).fresh start ≡ opening start numbers
+      opened = λ i. record (opening start numbers) {
+        at = λ slot. found_anew slot (start.at slot) refl i;
+        removed = λ n. none_removed (by_order.back n) i;
+        holds = λ n. none_held (by_order.back n) i;
+      }
+
+installs_named : (r : Renaming) (h : List Action) → ((n : ℕ) → IsIn n (installs_of h) → IsNamed r n) → InstallsNamed r h
+installs_named r [] known = tt
+installs_named r (a ∷ h) known = elim (installed_by a) as (λ x. installed_by a ≡ x → ((n : ℕ) → IsIn n (with_installed x (installs_of h)) → IsNamed r n)
+    → InstallsNamed r h × ((f : File) → installed_by a ≡ Some f → IsNamed r f.number)) [
+      | None ↦ λ by all. (installs_named r h all, λ f is. let clash : None ≡ Some f = sym by ∙ is in absurd (cc clash))
+      | Some g ↦ λ by all. (
+        installs_named r h (λ n there. all n (inr there)),
+        λ f is. let e : Some g ≡ Some f = sym by ∙ is in all f.number (inl (cc e)),
+      )
+    ] refl known
+
+same_identity : (r : Renaming) (x : Option File) → identity_of (renamed_found r x) ≡ identity_of x
+same_identity r None = refl
+same_identity r (Some f) = refl
+
+settled_still : (r : Renaming) (fresh : ℕ → Bool) (st : State) → IsSettled st → IsSettled (renamed_state r fresh st)
+settled_still r fresh st settled = record {
+  unheld = λ n. elim (r.back n) as (λ x. read_at (λ k. k) 0 st.holds x ≡ 0) [ None ↦ refl | Some old ↦ settled.unheld old ];
+  closed = λ n. elim (r.back n) as (λ x. read_at (renamed_found r) None st.removed x ≡ None) [
+    | None ↦ refl
+    | Some old ↦ ap (renamed_found r) (settled.closed old)
+  ];
+}
+
+pub opened_anew : (chain : ℕ → ℕ) (numbers : ℕ) (start end : State) (h : List Event) → IsAtRest start
+    → start.size + length (installs_of (map action_of h)) ≤ numbers → IsLegal start h end
+    → (r : Renaming) × (left : State) × (r.chain ≡ chain) × IsLegal (opening start numbers) (map (renamed_event r) h) left × HasOtherNumbers end left
+opened_anew chain numbers start end h rest enough legal =
+    let actions = map action_of h in
+    let may = legal.leads.0 in
+    let new = installs_of actions in
+    let fresh = was_fresh start actions may in
+    let distinct = distinct_installs start actions may in
+    let r = by_order chain start new in
+    let renamed = legal_renamed r (one_to_one chain start new rest.start fresh distinct) (opening start numbers).fresh start end h
+    (renamable chain start new rest.start fresh distinct numbers enough rest.inside)
+    (installs_named r actions (named_new chain start new rest.start fresh distinct)) legal in (
+      r,
+      renamed_state r renamed.0 end,
+      refl,
+      subst (λ (s : State). IsLegal s (map (renamed_event r) h) (renamed_state r renamed.0 end))
+          (opened chain start new rest.start fresh distinct numbers enough rest.inside) renamed.1,
+      record {
+        size = refl;
+        range = refl;
+        files = λ slot. same_identity r (end.at slot);
+        settled = settled_still r renamed.0 end;
+      },
+    )

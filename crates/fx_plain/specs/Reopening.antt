@@ -1,0 +1,85 @@
+-- File numbers are names: a later part of a table's history is one of a table that is opened anew.
+use Rattle.std.specs.Prelude.{◌≡◌, ℕ, ◌+◌, ◌≤◌, List, [], ◌∷◌, length, map, Option, Some, None}
+use Rattle.std.specs.Prelude.{option_map}
+use Rattle.fx_plain.specs.State.{State, IsSettled, opening}
+use Rattle.fx_plain.specs.Contents.{Contents, state_of}
+use Rattle.fx_plain.specs.History.{IsLegal, action_of}
+use Rattle.fx_plain.specs.Laws.{IsStart, installed_by}
+use Rattle.fx_plain.specs.Table.{identity_of}
+use Rattle.fx_plain.specs.declared.event.File.{File}
+use Rattle.fx_plain.specs.declared.event.Event.{Event}
+use Rattle.fx_plain.specs.declared.event.Action.{Action}
+use Rattle.fx_plain.specs.declared.event.Action.TheVariants.{Look, Release, Put, Clear, Take}
+use Rattle.fx_plain.specs.declared.event.Action.TheVariants.{Allocate, Full, Close}
+
+pub record Renaming : Type 0 where
+  -- the new number of a file, and the new one of a chain
+  pub number : ℕ → ℕ
+  pub chain : ℕ → ℕ
+  -- the old number that a new one stands for
+  pub back : ℕ → Option ℕ
+
+abbrev pub renamed_file : Renaming → File → File
+renamed_file r f = record f { number = r.number f.number }
+
+abbrev pub renamed_found : Renaming → Option File → Option File
+renamed_found r found = option_map (renamed_file r) found
+
+abbrev pub renamed : Renaming → Action → Action
+renamed r (Look slot found) = Look slot (renamed_found r found)
+renamed r (Release f) = Release (renamed_file r f)
+renamed r (Put slot f replaced) = Put slot (renamed_file r f) (renamed_found r replaced)
+renamed r (Clear slot found) = Clear slot (renamed_found r found)
+renamed r (Take slot found) = Take slot (renamed_found r found)
+renamed r (Allocate slot f) = Allocate slot (renamed_file r f)
+renamed r Full = Full
+renamed r (Close f) = Close (renamed_file r f)
+
+abbrev pub renamed_event : Renaming → Event → Event
+renamed_event r e =
+    record { pass = e.pass; chain = r.chain e.chain; action = renamed r e.action }
+
+-- the numbers of the files that were installed, the last one first
+abbrev pub with_installed : Option File → List ℕ → List ℕ
+with_installed None numbers = numbers
+with_installed (Some f) numbers = f.number ∷ numbers
+
+abbrev pub installs_of : List Action → List ℕ
+installs_of [] = []
+installs_of (action ∷ h) = with_installed (installed_by action) (installs_of h)
+
+-- the same files at the same slots, and it is settled where the other one is
+pub record HasOtherNumbers (one other : State) : Type 0 where
+  pub size : other.size ≡ one.size
+  pub range : other.range ≡ one.range
+  pub files : (slot : ℕ) → identity_of (other.at slot) ≡ identity_of (one.at slot)
+  pub settled : IsSettled one → IsSettled other
+
+-- a table between submissions: histories may begin there, and no file is past its slots
+pub record IsAtRest (st : State) : Type 0 where
+  pub start : IsStart st
+  pub inside : (slot : ℕ) → st.size ≤ slot → st.at slot ≡ None
+
+-- a table that was opened is at rest, and so is one wherever it is settled afterwards
+abbrev pub OpeningIsAtRest : Type 0
+OpeningIsAtRest = (plain : Contents) (numbers : ℕ) → IsAtRest (opening (state_of plain) numbers)
+
+abbrev pub StaysAtRest : Type 0
+StaysAtRest =
+    (start end : State) (h : List Event)
+    → IsAtRest start
+    → IsLegal start h end
+    → IsSettled end
+    → IsAtRest end
+
+-- what happens to a table at rest may happen to one that is opened with its files, if that has
+-- numbers for all that are installed; events may be of other chains there
+abbrev pub OpenedAnew : Type 0
+OpenedAnew =
+    (chain : ℕ → ℕ) (numbers : ℕ) (start end : State) (h : List Event)
+    → IsAtRest start
+    → start.size + length (installs_of (map action_of h)) ≤ numbers
+    → IsLegal start h end
+    → (r : Renaming) × (left : State) × (r.chain ≡ chain)
+    × IsLegal (opening start numbers) (map (renamed_event r) h) left
+    × HasOtherNumbers end left
