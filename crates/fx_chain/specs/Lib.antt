@@ -11,3 +11,4 @@ pub mod Explains
 pub mod Performs
 pub mod Removals
 pub mod Contexts
+pub mod OtherNumbers

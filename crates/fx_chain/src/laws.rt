@@ -4,6 +4,7 @@
 ghost use Rattle.std.specs.Prelude.{◌≡◌, List, ◌∷◌, ◌++◌, MatchOption};
 ghost use Rattle.fx_chain.specs.Faults.{HasNoFault, IsFirstFault, fault_of};
 ghost use Rattle.fx_chain.specs.Operation.{Asked};
+ghost use Rattle.fx_chain.specs.OtherNumbers.{ExplainsByAnyNumbers, GivesNumbersAsAsked};
 ghost use Rattle.fx_chain.specs.Runs.{AreTheOnlyRuns, StandsIn, runs_of};
 
 use crate::fault::MOST_MEMBERS;
@@ -36,4 +37,14 @@ pub fn each_request_stands_in_its_run()
 pub fn fault_is_the_first()
     ensures { (requests : List Asked)
         → MatchOption (fault_of requests) (HasNoFault requests) (IsFirstFault requests) }
+{}
+
+/// What a chain answers doesn't depend on the numbers of the files.
+pub fn chains_answer_by_any_numbers()
+    ensures { ExplainsByAnyNumbers }
+{}
+
+/// A chain gives no more numbers than its requests ask for.
+pub fn chains_give_numbers_as_asked()
+    ensures { GivesNumbersAsAsked }
 {}

@@ -1,13 +1,13 @@
 -- A settled table is at rest, wherever its history has led to.
 use Rattle.fx_plain.proofs.Words.{◌≡◌, ◌≢◌, ℕ, zero, suc, ◌+◌, ◌<◌, ◌≤◌, true, false, List, [], ◌∷◌, map, sym, ap, subst, ◌∙◌, Option, Some, None, refl}
-use Rattle.fx_plain.proofs.Words.{if◌then◌else◌, arith, inl, inr, cases_lt, get_or-eq_default, State, IsSettled, opening, file_numbered, Allows, AllowsAll, after, state_after}
+use Rattle.fx_plain.proofs.Words.{if◌then◌else◌, arith, get_or-eq_default, State, IsSettled, opening, file_numbered, Allows, AllowsAll, after, state_after}
 use Rattle.fx_plain.proofs.Words.{changed_at, action_of, File, Event, Action, Put, Clear, Take, Allocate, Look, IsLegal, Contents, state_of, slot_at, file_at}
 use Rattle.fx_plain.specs.Laws.{IsStart}
 use Rattle.fx_plain.specs.Reopening.{IsAtRest}
 use Rattle.fx_plain.proofs.Cells.{by_equality}
 use Rattle.fx_plain.proofs.Named.{named, named_same}
 use Rattle.fx_plain.proofs.Sums.{sum_below, sum_grows}
-use Rattle.fx_plain.proofs.LawTallies.{bit, placed, placed_one, tally, tally_start, tally_all}
+use Rattle.fx_plain.proofs.LawTallies.{bit, placed_one, tally, tally_start, tally_all}
 
 -- two terms of a sum
 two_terms : (f : ℕ → ℕ) (n j k : ℕ) → j ≢ k → j < n → k < n → f j + f k ≤ sum_below f n

@@ -1,30 +1,30 @@
 -- A later part of a history, with the numbers that a table which is opened then gives.
-use Rattle.fx_plain.proofs.Words.{◌≡◌, ◌≢◌, ◌⊎◌, ℕ, ◌+◌, ◌-◌, ◌<◌, ◌≤◌, Bool, true, false, not, ◌&&◌, nat_lt, List, [], ◌∷◌, map, length, refl, sym, ap, subst, ◌∙◌}
+use Rattle.fx_plain.proofs.Words.{◌≡◌, ◌⊎◌, ℕ, ◌+◌, ◌-◌, ◌<◌, ◌≤◌, Bool, true, false, not, ◌&&◌, nat_lt, List, [], ◌∷◌, map, length, refl, sym, ap, subst, ◌∙◌}
 use Rattle.fx_plain.proofs.Words.{Option, Some, None, if◌then◌else◌, arith, inl, inr, cases_lt, lt-ltb, le-ltb, State, IsSettled, opening, file_numbered}
-use Rattle.fx_plain.proofs.Words.{Allows, AllowsAll, after, state_after, changed_at, action_of, File, Event, Action, Put, Allocate, Look, IsLegal, identity_of, number_of}
+use Rattle.fx_plain.proofs.Words.{AllowsAll, after, state_after, action_of, File, Event, Action, IsLegal, identity_of, number_of}
 use Rattle.fx_plain.specs.Laws.{IsStart, installed_by}
 use Rattle.fx_plain.proofs.LawFiles.{installed_now, used_after}
 use Rattle.fx_plain.proofs.Places.{place_of, number_at, IsIn, AreDistinct, number_at_in, place_below, number_at_place, place_of_number}
 use Rattle.fx_plain.proofs.Places.{slot_of, slot_found, no_slot_found}
 use Rattle.fx_plain.proofs.Renaming.{IsOneToOne, IsNamed, read_at, renamed_state, IsRenamable, InstallsNamed, legal_renamed}
-use Rattle.fx_plain.specs.Reopening.{Renaming, renamed_found, renamed_file, renamed_event, installs_of, with_installed, HasOtherNumbers, IsAtRest}
+use Rattle.fx_plain.specs.Reopening.{Renaming, renamed_found, renamed_event, numbers_given, with_number_of, HasOtherNumbers, IsAtRest}
 
 -- a number that was used at the start is used afterwards
 used_behind : (start : State) (h : List Action) (n : ℕ) → start.fresh n ≡ false → (state_after start h).fresh n ≡ false
 used_behind start [] n used = used
 used_behind start (a ∷ h) n used = used_after (state_after start h) a n (used_behind start h n used)
 
-by_installed : (a : Action) (l : List ℕ) (n : ℕ) → IsIn n (with_installed (installed_by a) l) → ((f : File) × (installed_by a ≡ Some f) × (f.number ≡ n)) ⊎ IsIn n l
-by_installed a l n is = elim (installed_by a) as (λ x. installed_by a ≡ x → IsIn n (with_installed x l) → ((f : File) × (installed_by a ≡ Some f) × (f.number ≡ n)) ⊎ IsIn n l) [
+by_installed : (a : Action) (l : List ℕ) (n : ℕ) → IsIn n (with_number_of (installed_by a) l) → ((f : File) × (installed_by a ≡ Some f) × (f.number ≡ n)) ⊎ IsIn n l
+by_installed a l n is = elim (installed_by a) as (λ x. installed_by a ≡ x → IsIn n (with_number_of x l) → ((f : File) × (installed_by a ≡ Some f) × (f.number ≡ n)) ⊎ IsIn n l) [
   | None ↦ λ _ there. inr there
   | Some f ↦ λ by there. elim there [ inl same ↦ inl (f, by, same) | inr more ↦ inr more ]
 ] refl is
 
 -- a number that was given was fresh at the start, and is used then
 module _ (start : State) where
-  pub used_then : (h : List Action) → AllowsAll start h → (n : ℕ) → IsIn n (installs_of h) → (state_after start h).fresh n ≡ false
+  pub used_then : (h : List Action) → AllowsAll start h → (n : ℕ) → IsIn n (numbers_given h) → (state_after start h).fresh n ≡ false
   used_then [] may n is = absurd is
-  used_then (a ∷ h) may n is = elim (by_installed a (installs_of h) n is) [
+  used_then (a ∷ h) may n is = elim (by_installed a (numbers_given h) n is) [
     | inl new ↦ subst (λ (k : ℕ). (after (state_after start h) a).fresh k ≡ false) new.2 (installed_now new.0 (state_after start h) a may.1 new.1).1
     | inr there ↦ used_after (state_after start h) a n (used_then h may.0 n there)
   ]
@@ -35,17 +35,17 @@ module _ (start : State) where
     | false ↦ λ used. let clash : false ≡ true = sym (used_behind start h n used) ∙ fresh in absurd (cc clash)
   ] refl
 
-  pub was_fresh : (h : List Action) → AllowsAll start h → (n : ℕ) → IsIn n (installs_of h) → start.fresh n ≡ true
+  pub was_fresh : (h : List Action) → AllowsAll start h → (n : ℕ) → IsIn n (numbers_given h) → start.fresh n ≡ true
   was_fresh [] may n is = absurd is
-  was_fresh (a ∷ h) may n is = elim (by_installed a (installs_of h) n is) [
+  was_fresh (a ∷ h) may n is = elim (by_installed a (numbers_given h) n is) [
     | inl new ↦ subst (λ (k : ℕ). start.fresh k ≡ true) new.2
         (fresh_before h new.0.number (installed_now new.0 (state_after start h) a may.1 new.1).0)
     | inr there ↦ was_fresh h may.0 n there
   ]
 
-  pub distinct_installs : (h : List Action) → AllowsAll start h → AreDistinct (installs_of h)
+  pub distinct_installs : (h : List Action) → AllowsAll start h → AreDistinct (numbers_given h)
   distinct_installs [] may = tt
-  distinct_installs (a ∷ h) may = elim (installed_by a) as (λ x. installed_by a ≡ x → AreDistinct (with_installed x (installs_of h))) [
+  distinct_installs (a ∷ h) may = elim (installed_by a) as (λ x. installed_by a ≡ x → AreDistinct (with_number_of x (numbers_given h))) [
     | None ↦ λ _. distinct_installs h may.0
     | Some f ↦ λ by. (
       λ there. let clash : true ≡ false = sym (installed_now f (state_after start h) a may.1 by).0 ∙ used_then h may.0 f.number there in cc clash,
@@ -159,9 +159,9 @@ module _ (chain : ℕ → ℕ) (start : State) (new : List ℕ) where
         holds = λ n. none_held (by_order.back n) i;
       }
 
-installs_named : (r : Renaming) (h : List Action) → ((n : ℕ) → IsIn n (installs_of h) → IsNamed r n) → InstallsNamed r h
+installs_named : (r : Renaming) (h : List Action) → ((n : ℕ) → IsIn n (numbers_given h) → IsNamed r n) → InstallsNamed r h
 installs_named r [] known = tt
-installs_named r (a ∷ h) known = elim (installed_by a) as (λ x. installed_by a ≡ x → ((n : ℕ) → IsIn n (with_installed x (installs_of h)) → IsNamed r n)
+installs_named r (a ∷ h) known = elim (installed_by a) as (λ x. installed_by a ≡ x → ((n : ℕ) → IsIn n (with_number_of x (numbers_given h)) → IsNamed r n)
     → InstallsNamed r h × ((f : File) → installed_by a ≡ Some f → IsNamed r f.number)) [
       | None ↦ λ by all. (installs_named r h all, λ f is. let clash : None ≡ Some f = sym by ∙ is in absurd (cc clash))
       | Some g ↦ λ by all. (
@@ -184,12 +184,12 @@ settled_still r fresh st settled = record {
 }
 
 pub opened_anew : (chain : ℕ → ℕ) (numbers : ℕ) (start end : State) (h : List Event) → IsAtRest start
-    → start.size + length (installs_of (map action_of h)) ≤ numbers → IsLegal start h end
+    → start.size + length (numbers_given (map action_of h)) ≤ numbers → IsLegal start h end
     → (r : Renaming) × (left : State) × (r.chain ≡ chain) × IsLegal (opening start numbers) (map (renamed_event r) h) left × HasOtherNumbers end left
 opened_anew chain numbers start end h rest enough legal =
     let actions = map action_of h in
     let may = legal.leads.0 in
-    let new = installs_of actions in
+    let new = numbers_given actions in
     let fresh = was_fresh start actions may in
     let distinct = distinct_installs start actions may in
     let r = by_order chain start new in

@@ -1,12 +1,12 @@
 -- One step of a table, and a history, with other numbers.
 use Rattle.fx_plain.proofs.Words.{◌≡◌, ◌≢◌, ℕ, ◌+◌, ◌-◌, ◌<◌, Bool, true, false, List, [], ◌∷◌, map, refl, sym, ap, subst, ◌∙◌, Option, Some, None, IsSome}
-use Rattle.fx_plain.proofs.Words.{if◌then◌else◌, ◌==◌, arith, State, Allows, AllowsAll, after, state_after, changed_at, with_removed, IsLegal}
-use Rattle.fx_plain.proofs.Words.{All, action_of, File, Event, Action, Look, Release, Put, Clear, Take, Allocate, Close}
+use Rattle.fx_plain.proofs.Words.{if◌then◌else◌, ◌==◌, State, Allows, AllowsAll, after, state_after, changed_at, with_removed, IsLegal}
+use Rattle.fx_plain.proofs.Words.{action_of, File, Event, Action, Look, Release, Put, Clear, Take, Allocate, Close}
 use Rattle.fx_plain.specs.declared.event.Action.TheVariants.{Full}
 use Rattle.fx_plain.specs.History.{held_after, held_by, ReleasesItsOwn, AllReleaseTheirOwn}
 use Rattle.fx_plain.specs.Laws.{installed_by}
 use Rattle.fx_plain.proofs.Cells.{by_equality}
-use Rattle.fx_plain.specs.Reopening.{Renaming, renamed_file, renamed_found, renamed, renamed_event}
+use Rattle.fx_plain.specs.Reopening.{Renaming, renamed_found, renamed, renamed_event}
 
 -- each number leads r.back to one that leads to it
 abbrev pub IsOneToOne : Renaming → Type 0

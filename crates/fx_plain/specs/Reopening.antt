@@ -39,14 +39,14 @@ abbrev pub renamed_event : Renaming → Event → Event
 renamed_event r e =
     record { pass = e.pass; chain = r.chain e.chain; action = renamed r e.action }
 
--- the numbers of the files that were installed, the last one first
-abbrev pub with_installed : Option File → List ℕ → List ℕ
-with_installed None numbers = numbers
-with_installed (Some f) numbers = f.number ∷ numbers
+-- the numbers that installed files were given, the last one first
+abbrev pub with_number_of : Option File → List ℕ → List ℕ
+with_number_of None numbers = numbers
+with_number_of (Some f) numbers = f.number ∷ numbers
 
-abbrev pub installs_of : List Action → List ℕ
-installs_of [] = []
-installs_of (action ∷ h) = with_installed (installed_by action) (installs_of h)
+abbrev pub numbers_given : List Action → List ℕ
+numbers_given [] = []
+numbers_given (action ∷ h) = with_number_of (installed_by action) (numbers_given h)
 
 -- the same files at the same slots, and it is settled where the other one is
 pub record HasOtherNumbers (one other : State) : Type 0 where
@@ -78,7 +78,7 @@ abbrev pub OpenedAnew : Type 0
 OpenedAnew =
     (chain : ℕ → ℕ) (numbers : ℕ) (start end : State) (h : List Event)
     → IsAtRest start
-    → start.size + length (installs_of (map action_of h)) ≤ numbers
+    → start.size + length (numbers_given (map action_of h)) ≤ numbers
     → IsLegal start h end
     → (r : Renaming) × (left : State) × (r.chain ≡ chain)
     × IsLegal (opening start numbers) (map (renamed_event r) h) left
