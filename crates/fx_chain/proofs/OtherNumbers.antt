@@ -1,7 +1,7 @@
 -- The steps of a chain with other numbers, and how many numbers they give.
-use Rattle.fx_chain.proofs.Words.{◌≡◌, ◌⊎◌, ℕ, zero, suc, ◌+◌, ◌<◌, ◌≤◌, Bool, true, false, ℤ, pos, negsuc, List, [], ◌∷◌, ◌++◌, length, map, refl, sym, ap, ◌∙◌, Option}
+use Rattle.fx_chain.proofs.Words.{◌≡◌, ◌⊎◌, ℕ, zero, suc, ◌+◌, ◌<◌, ◌≤◌, Bool, true, false, ℤ, pos, negsuc, List, [], ◌∷◌, ◌++◌, length, map, ap, ◌∙◌, Option}
 use Rattle.fx_chain.proofs.Words.{Some, None, inl, inr, arith}
-use Rattle.std.specs.Prelude.{int_le, nat_le, nat_lt, ◌==◌, ◌||◌}
+use Rattle.std.specs.Prelude.{nat_le, nat_lt, ◌==◌, ◌||◌}
 use Rattle.std.specs.Bool.{MatchBool}
 use Rattle.std.specs.List.{list_any}
 use Rattle.std.proofs.lemmas.List.{map-append}
@@ -12,11 +12,11 @@ use Rattle.fx_base.specs.declared.errno.Errno.{Errno}
 use Rattle.fx_base.specs.declared.errno.Errno.TheVariants.{ENOENT, ENXIO, EBADF, ENOMEM, EINVAL, ENFILE}
 use Rattle.fx_plain.specs.declared.event.File.{File}
 use Rattle.fx_plain.specs.declared.event.Action.{Action}
-use Rattle.fx_plain.specs.declared.event.Action.TheVariants.{Put, Allocate, Full, Look, Take, Clear}
+use Rattle.fx_plain.specs.declared.event.Action.TheVariants.{Put, Allocate, Full}
 use Rattle.fx_plain.specs.History.{◌▷◌, ◌▷▷◌}
 use Rattle.fx_plain.specs.Laws.{installed_by}
 use Rattle.fx_plain.specs.Reopening.{Renaming, renamed, renamed_file, renamed_found, numbers_given, with_number_of}
-use Rattle.fx_chain.specs.Answers.{Refuses, MayClose, OpensAt, ReadsAt, TakesAt, AppliesEntry, AppliesList, ReadsFrom, Empties, UpdatesFrom, Answers}
+use Rattle.fx_chain.specs.Answers.{Refuses, MayClose, OpensAt, ReadsAt, TakesAt, AppliesEntry, AppliesList, Answers}
 use Rattle.fx_chain.specs.Answers.{is_bad_entry, installed}
 use Rattle.fx_chain.specs.Completed.{Completed, completed, refusal, next_member}
 use Rattle.fx_chain.specs.Explains.{Explains, severs, canceled}
