@@ -10,3 +10,4 @@ pub mod Dealing
 pub mod Passing
 pub mod Calling
 pub mod Closing
+pub mod Settling

@@ -97,6 +97,10 @@ impl FileTable for BatonTable {
         Some(next)
     }
 
+    fn settle(&self, pass: &mut BatonPass) {
+        self.settle(pass)
+    }
+
     fn look(&self, rt: &impl Wait, pass: &mut BatonPass, slot: u32) -> Result<Hold, LookFault> {
         if pass.looks_left == 0 {
             return Err(LookFault::Spent);

@@ -79,3 +79,12 @@ impl<U: Turn> Play<PlainTable, View> for Give<U> {
 
     ghost then = { Gives U.events U.doing };
 }
+
+/// Observe: nothing changes. It tells that the rule holds, of some state with this seat in it.
+pub struct Observe;
+
+impl Play<PlainTable, View> for Observe {
+    ghost use Rattle.fx_baton.specs.Settling.{Observes};
+
+    ghost then = { Observes };
+}

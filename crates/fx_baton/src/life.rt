@@ -7,9 +7,10 @@ ghost use Rattle.fx_table.specs.Pass.{IsIdle, new_passes};
 ghost use Rattle.fx_table.specs.Closing.{ClosesTable};
 ghost use Rattle.fx_baton.specs.Passes.{view_of};
 ghost use Rattle.fx_baton.specs.Tables.{opening_of_table, IsPassOfTable};
+ghost use Rattle.fx_table.specs.Settling.{IsSettledSoFar};
 ghost use Rattle.fx_baton.specs.Lives.{HasAllPasses, IsIdleSeatOf, logs_in, AllIsHome, Leaves};
 
-use crate::kinds::{Deal, Gather};
+use crate::kinds::{Deal, Gather, Observe};
 use crate::pass::BatonPass;
 use crate::table::BatonTable;
 use crate::view::{Start, View};
@@ -135,6 +136,18 @@ impl BatonTable {
         let plain = closed.take(0);
         closed.free();
         plain
+    }
+
+    // Shows the only pass of a table all that has happened, while it does nothing.
+    pub(crate) fn settle(&self, pass: &mut BatonPass)
+        requires alone { (opening_of_table self.now).passes ≡ 1 }
+        requires fits { IsPassOfTable self.now pass.old }
+        requires idle { IsIdle (view_of pass.old) }
+        ensures fits { IsPassOfTable self.now pass.new }
+        ensures same { view_of pass.new ≡ view_of pass.old }
+        ensures settled { IsSettledSoFar (opening_of_table self.now) (view_of pass.new) }
+    {
+        self.table.shared.load::<Observe>(&mut pass.seat, 0);
     }
 
     // The table, when all passes have come back.

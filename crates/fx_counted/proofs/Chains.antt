@@ -12,6 +12,8 @@ use Rattle.std.proofs.Common.{length-set}
 use Rattle.std.proofs.lemmas.List.Sums.{count_by-le-length}
 use Rattle.fx_counted.proofs.Words.{Between}
 use Rattle.fx_counted.proofs.Steps.{NodeIn}
+use Rattle.fx_counted.proofs.Ones.{bit_else}
+use Rattle.fx_counted.proofs.Ending.{drawn, told}
 
 abbrev pick : {P : Type 0} → Dec P → Phase → Phase → Phase
 pick (yes _) a b = a
@@ -99,11 +101,11 @@ module _ (turn : Turn) where
     either_phase phases n same new = ⊎_elim (λ e. same e) (λ t. new t.0 t.1) (phases n)
 
     draw_step : v.work ≡ Between Idle → Phases
-        → first_or 0 drawn ≤ v.start.chains → left ≤ 64 → left ≤ v.start.numbers * first_or 0 drawn
+        → first_or 0 drawn ≤ v.start.chains → ((c : ℕ) → first_or 0 drawn < c → times c drawn ≡ 0) → left ≤ 64 → left ≤ v.start.numbers * first_or 0 drawn
         → ((n : ℕ) → next_in v.start y ≤ n → n < end_in v.start y → phase' n ≡ spare x.number)
         → DrawsCount v.start.chains v.start.numbers phase' (set st.views id w) (found + 1)
         → Step turn y v.work v.change r.history phase' words' st.homes
-    draw_step idle phases chain few inside spares draws = let apart = far turn in record {
+    draw_step idle phases chain last few inside spares draws = let apart = far turn in record {
       words = length-set st.words draw_place (found + 1);
       homes = refl;
       number = refl;
@@ -130,6 +132,7 @@ module _ (turn : Turn) where
         own = o.own;
         held = o.held;
         chain = chain;
+        last = last;
         few_left = few;
         left_inside = inside;
         next = subst (PlacesNext v.start y) (sym idle) tt;
@@ -142,10 +145,10 @@ module _ (turn : Turn) where
       draws = subst (DrawsCount v.start.chains v.start.numbers phase' (set st.views id w)) (sym (get_or-set_same st.words draw_place (found + 1) 0 wide)) draws;
     }
 
-    drawn_so : Step turn y v.work v.change r.history phase' words' st.homes → (carried : List (ℕ × Option Closed)) (slots : ℕ)
+    drawn_so : Step turn y v.work v.change r.history phase' words' st.homes → (v.start.passes ≡ 1 → found ≡ chain_in x) → (carried : List (ℕ × Option Closed)) (slots : ℕ)
         → Draws (opening_of v.start) (shown x v.work) (chain_given v.start.chains found) (shown y v.work)
         → Made turn carried draw_place (λ _. found + 1) (DrawTells (step slots draw_place 1 0 none) (v, carried))
-    drawn_so kept carried slots draws = (
+    drawn_so kept alone carried slots draws = (
       w,
       keeps,
       tt,
@@ -154,12 +157,28 @@ module _ (turn : Turn) where
         one = (y, refl);
         draws = subst (λ (l : List Log). Draws (opening_of v.start) (shown (first_log l) v.work) (chain_given v.start.chains found) (shown y v.work))
             (sym one) draws;
+        alone = λ passes. alone passes ∙ sym (ap (λ (l : List Log). chain_in (first_log l)) one);
         same = (refl, refl, refl, refl);
         steps = let e = ap (λ (l : List Log). (first_log l).steps) one in omega arith;
       },
     )
 
   module _ (idle : v.work ≡ Between Idle) (untold : x.no_chains_left ≡ false) where
+    -- a pass alone has drawn all chains that were given
+    alone : v.start.passes ≡ 1 → found ≡ chain_in x
+    alone passes =
+        let all : length v.logs ≡ v.start.passes = ap (length {A = Log}) one ∙ sym passes in
+        let drawn_here : times d.given x.drawn ≡ once d.given d.given =
+        (let e : sum_by (λ (z : Log). times d.given z.drawn) v.logs ≡ 0 + times d.given x.drawn = ap (λ (l : List Log). sum_by (λ z. times d.given z.drawn) l) one in
+        let f = drawn v.start st r id v here idle all d.given in omega arith) in
+        let none_told : sum_by told_of st.views ≡ 0 =
+        (let e : sum_by (λ (z : Log). one_if z.no_chains_left) v.logs ≡ 0 + one_if x.no_chains_left = ap (λ (l : List Log). sum_by (λ z. one_if z.no_chains_left) l) one in
+        let f = told v.start st r id v here idle all in let g = ap one_if untold in omega arith) in
+        let counts = d.counts in
+        let few = chain_few in
+        dite (dec_le d.given (chain_in x)) (λ le. omega (arith, le, few, counts, none_told))
+        (λ gt. let none = (its_log turn).last d.given (omega (arith, gt)) in absurd (omega (arith, none, drawn_here, gt, once_is d.given d.given)))
+
     -- there is a next chain
     module _ (more : found < v.start.chains) where
       abbrev lo : ℕ
@@ -208,11 +227,16 @@ module _ (turn : Turn) where
                 ∙ d.unused n (omega (arith, low, given_numbers, one_more)) high;
           }
 
+      last_drawn : (c : ℕ) → found + 1 < c → times c ((found + 1) ∷ x.drawn) ≡ 0
+      last_drawn c behind = let first = sum_by-cons (λ d. one_if (eqb d c)) (found + 1) x.drawn in let other = bit_else c (found + 1) (omega (arith, behind)) in
+          let few = chain_few in let same = given_is in let rest = (its_log turn).last c (omega (arith, behind, few, same)) in
+          omega (arith, first, other, rest)
+
       next_drawn : (carried : List (ℕ × Option Closed)) (slots : ℕ)
           → Made turn carried draw_place (λ _. found + 1) (DrawTells (step slots draw_place 1 0 none) (v, carried))
       next_drawn carried slots = drawn_so ((found + 1) ∷ x.drawn) x.no_chains_left v.start.numbers phase'
-          (draw_step _ _ _ phase' idle phases (omega arith) r.shape.numbers (omega (arith, one_more))
-          (λ n low high. given_in lo hi x.number r.phase n (omega (arith, low, one_more)) high) counts) carried slots
+          (draw_step _ _ _ phase' idle phases (omega arith) last_drawn r.shape.numbers (omega (arith, one_more))
+          (λ n low high. given_in lo hi x.number r.phase n (omega (arith, low, one_more)) high) counts) alone carried slots
           (let g = given_is in let c = chain_few in
           subst (λ (c : Option ℕ). Draws (opening_of v.start) (shown x v.work) c
           (shown (y ((found + 1) ∷ x.drawn) x.no_chains_left v.start.numbers phase') v.work))
@@ -234,8 +258,8 @@ module _ (turn : Turn) where
       none_drawn : (carried : List (ℕ × Option Closed)) (slots : ℕ)
           → Made turn carried draw_place (λ _. found + 1) (DrawTells (step slots draw_place 1 0 none) (v, carried))
       none_drawn carried slots = let o = its_log turn in let p = ap placing idle in
-          drawn_so x.drawn true x.numbers_left r.phase (draw_step _ _ _ r.phase idle (λ n. inl refl) o.chain o.few_left o.left_inside
-          (λ n low high. o.spares n (omega arith) high) counts') carried slots
+          drawn_so x.drawn true x.numbers_left r.phase (draw_step _ _ _ r.phase idle (λ n. inl refl) o.chain o.last o.few_left o.left_inside
+          (λ n low high. o.spares n (omega arith) high) counts') alone carried slots
           (subst (λ (c : Option ℕ). Draws (opening_of v.start) (shown x v.work) c (shown (y x.drawn true x.numbers_left r.phase) v.work))
           (sym (ap (λ (b : Bool). cond b (Some (found + 1)) None) (le-ltb found v.start.chains done))) refl)
 

@@ -181,7 +181,7 @@ module _ (k : Start) (s : Shared) (r : Agrees k s) (seat : ℕ) (v : View) (at :
       ap (λ (z : View). z.work) (sym is) ∙ idle)
       (λ other. ((r.each_view i u e).empty (empty_else i u other e)).0)
 
-  log_at : (x : Log) → Contains v.logs x → LogAgrees k r.history r.phase v.work x
+  pub log_at : (x : Log) → Contains v.logs x → LogAgrees k r.history r.phase v.work x
   log_at x has = let i = place_in v.logs x has in (r.each_view seat v at).logs i.0 x i.1
 
   only_here : (f : View → ℕ) → ((u : View) → u.logs ≡ [] → f u ≡ 0) → sum_by f s.views ≡ f v
@@ -190,20 +190,20 @@ module _ (k : Start) (s : Shared) (r : Agrees k s) (seat : ℕ) (v : View) (at :
   numbers : (p : ℕ) → sum_by (λ (x : Log). one_if (eqb x.number p)) v.logs ≡ once k.passes p
   numbers p = sym (only_here (logs_of p) (λ u e. ap (λ (l : List Log). sum_by (λ x. one_if (eqb x.number p)) l) e)) ∙ r.passes p
 
-  drawn : (c : ℕ) → sum_by (λ (x : Log). times c x.drawn) v.logs ≡ once r.draws.given c
+  pub drawn : (c : ℕ) → sum_by (λ (x : Log). times c x.drawn) v.logs ≡ once r.draws.given c
   drawn c = sym (only_here (drawn_of c) (λ u e. ap (λ (l : List Log). sum_by (λ x. times c x.drawn) l) e)) ∙ r.draws.each c
 
-  told : sum_by (λ (x : Log). one_if x.no_chains_left) v.logs ≡ sum_by told_of s.views
+  pub told : sum_by (λ (x : Log). one_if x.no_chains_left) v.logs ≡ sum_by told_of s.views
   told = sym (only_here told_of (λ u e. ap (λ (l : List Log). sum_by (λ x. one_if x.no_chains_left) l) e))
 
-  author : (e : Event) → Contains r.history e → (x : Log) × Contains v.logs x × (e.pass ≡ x.number)
+  pub author : (e : Event) → Contains r.history e → (x : Log) × Contains v.logs x × (e.pass ≡ x.number)
   author e has =
       let known : once k.passes e.pass ≢ 0 = λ none. in_part r.history e has (r.authors e.pass none) in
       let n = numbers e.pass in
       let x = found_by (λ (z : Log). z.number) e.pass v.logs (omega (arith, known, n)) in
       (x.0, x.1, sym x.2)
 
-  given_some : (c : ℕ) (x : Log) → Contains v.logs x → Contains x.drawn c → 0 < once r.draws.given c
+  pub given_some : (c : ℕ) (x : Log) → Contains v.logs x → Contains x.drawn c → 0 < once r.draws.given c
   given_some c x has d =
       let a = sum_of (λ (z : Log). times c z.drawn) v.logs x has in
       let b = sum_of (λ n. one_if (eqb n c)) x.drawn c d in

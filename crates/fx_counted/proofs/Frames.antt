@@ -51,6 +51,7 @@ module _ (id p j : ℕ) (other : j ≢ id) (phase phase' : ℕ → Phase) (stays
       own = g.parts y.number n ∙ o.own;
       held = g.helds y.number n ∙ o.held;
       chain = o.chain;
+      last = o.last;
       few_left = o.few_left;
       left_inside = o.left_inside;
       next = o.next;

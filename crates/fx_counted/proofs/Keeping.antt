@@ -95,6 +95,7 @@ module _ (turn : Turn) where
     own = refl;
     held = held;
     chain = o.chain;
+    last = o.last;
     few_left = omega arith;
     left_inside = omega arith;
     next = next;

@@ -38,3 +38,4 @@ pub mod Ending
 pub mod Gathered
 pub mod HomeComing
 pub mod Finishing
+pub mod Settling

@@ -142,6 +142,7 @@ module _ (k : Start) (words : List ℕ) (homes : List (Option Closed)) (o : Open
       own = refl;
       held = refl;
       chain = omega arith;
+      last = λ c behind. refl;
       few_left = omega arith;
       left_inside = omega arith;
       next = tt;

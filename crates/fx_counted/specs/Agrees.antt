@@ -1,7 +1,7 @@
 -- The rule of the table without a lock: words, places and views agree with the state that one legal
 -- history leads to.
 use Rattle.std.specs.Prelude.{◌≡◌, ℕ, ◌+◌, ◌*◌, ◌<◌, ◌≤◌, ◌⊎◌, true, List, [], length, slice_index}
-use Rattle.std.specs.Prelude.{Option, Some, None, sum_by}
+use Rattle.std.specs.Prelude.{Option, Some, None, ◌==◌, count_by, sum_by}
 use mathlib.Core.Option.{some, none}
 use mathlib.Core.Option as maybe
 use lib.ListN.{get_elem?}
@@ -145,6 +145,8 @@ pub record LogAgrees (k : Start) (h : List Event) (phase : ℕ → Phase)
   pub own : part_of_pass x.number h ≡ part_of_pass x.number x.front
   pub held : held_by h x.number ≡ held_in work
   pub chain : chain_in x ≤ k.chains
+  -- it drew no chain behind its last one
+  pub last : (c : ℕ) → chain_in x < c → count_by (λ d. d == c) x.drawn ≡ 0
   pub few_left : x.numbers_left ≤ CHAIN_NUMBERS
   pub left_inside : x.numbers_left ≤ k.numbers * chain_in x
   -- the numbers that are left to it are its own

@@ -169,6 +169,8 @@ pub record DrawTells (st : At) (m : Sat) (found : ℕ) (m' : Sat) : Type 0 where
   pub one : (x : Log) × (m'.0.logs ≡ x ∷ [])
   pub draws : Draws (opening_of m.0.start) (pass_of m.0) (chain_given m.0.start.chains found)
       (pass_of m'.0)
+  -- a pass alone found the number of its last chain
+  pub alone : m.0.start.passes ≡ 1 → found ≡ (pass_of m.0).chain
   pub same : (m'.0.work ≡ m.0.work) × (m'.0.change ≡ m.0.change) × (m'.0.start ≡ m.0.start)
       × (m'.1 ≡ m.1)
   pub steps : steps_of m'.0 ≡ steps_of m.0 + 1

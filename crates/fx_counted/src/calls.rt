@@ -2,6 +2,7 @@
 //! steps as its clause says.
 ghost use Rattle.std.specs.Prelude.{◌≡◌, ◌+◌, ◌<◌, ◌≤◌, true, Option, option_map};
 ghost use Rattle.fx_plain.specs.declared.event.File.{File};
+ghost use Rattle.fx_table.specs.Settling.{DrawsNext};
 ghost use Rattle.fx_table.specs.Calls.{Draws, Looked, Released, Placed, Cleared, Taken, HasRetired};
 ghost use Rattle.fx_table.specs.Opening.{size_of};
 ghost use Rattle.fx_table.specs.Pass.{IsIdle, IsHoldOf, IsRetiredOf, retired_of, next_number};
@@ -27,6 +28,8 @@ impl CountedTable {
         ensures fits { IsPassOfTable self.now pass.new }
         ensures drawn { let o = opening_of_table self.now in
             Draws o (view_of pass.old) result (view_of pass.new) }
+        ensures next { let o = opening_of_table self.now in
+            o.passes ≡ 1 → DrawsNext o (view_of pass.old) result }
         ensures steps { steps_taken pass.new ≤ steps_taken pass.old + 1 }
         ensures no_step { (view_of pass.old).no_chains_left ≡ true
             → steps_taken pass.new ≡ steps_taken pass.old }

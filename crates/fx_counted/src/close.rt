@@ -5,11 +5,12 @@ ghost use mathlib.Core.Option.{some};
 ghost use lib.ListN.{get_elem?};
 ghost use Rattle.fx_table.specs.Closing.{ClosesTable};
 ghost use Rattle.fx_table.specs.Pass.{IsIdle};
+ghost use Rattle.fx_table.specs.Settling.{IsSettledSoFar};
 ghost use Rattle.fx_counted.specs.Lives.{IsIdleSeatOf, logs_in, AllAreIdle, Leaves};
 ghost use Rattle.fx_counted.specs.Tables.{view_of, opening_of_table, IsPassOfTable};
 
-use crate::kinds::Gather;
-use crate::layout::{home_place, homes_for, slot_place};
+use crate::kinds::{Gather, Observe};
+use crate::layout::{CONTROL, home_place, homes_for, slot_place};
 use crate::pass::CountedPass;
 use crate::table::CountedTable;
 use crate::view::View;
@@ -32,6 +33,18 @@ impl CountedTable {
         };
         let seat = self.gather(first.into_seat(), passes);
         self.finish(seat)
+    }
+
+    /// Shows the only pass of a table all that has happened, while it does nothing ([`FileTable::settle`]).
+    pub fn settle(&self, pass: &mut CountedPass)
+        requires alone { (opening_of_table self.now).passes ≡ 1 }
+        requires fits { IsPassOfTable self.now pass.old }
+        requires idle { IsIdle (view_of pass.old) }
+        ensures fits { IsPassOfTable self.now pass.new }
+        ensures same { view_of pass.new ≡ view_of pass.old }
+        ensures settled { IsSettledSoFar (opening_of_table self.now) (view_of pass.new) }
+    {
+        self.table.shared.load::<Observe>(&mut pass.seat, CONTROL);
     }
 
     // All passes in one seat.

@@ -74,6 +74,10 @@ impl FileTable for CountedTable {
         self.draw(pass)
     }
 
+    fn settle(&self, pass: &mut CountedPass) {
+        self.settle(pass)
+    }
+
     fn look(&self, _rt: &impl Wait, pass: &mut CountedPass, slot: u32) -> Result<Hold, LookFault> {
         self.look(pass, slot)
     }

@@ -167,3 +167,12 @@ impl Play<Option<OpenFile>, View> for Load {
 
     ghost then = { GoesOn Same };
 }
+
+/// Observe: nothing changes. It tells that the rule holds, of some state with this seat in it.
+pub struct Observe;
+
+impl Play<Option<OpenFile>, View> for Observe {
+    ghost use Rattle.fx_counted.specs.Settling.{Observes};
+
+    ghost then = { Observes };
+}

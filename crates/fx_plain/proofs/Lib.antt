@@ -23,3 +23,4 @@ pub mod Renaming
 pub mod Places
 pub mod OpenedAnew
 pub mod AtRest
+pub mod Behind

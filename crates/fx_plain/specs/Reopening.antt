@@ -3,7 +3,7 @@ use Rattle.std.specs.Prelude.{◌≡◌, ℕ, ◌+◌, ◌≤◌, List, [], ◌�
 use Rattle.std.specs.Prelude.{option_map}
 use Rattle.fx_plain.specs.State.{State, IsSettled, opening}
 use Rattle.fx_plain.specs.Contents.{Contents, state_of}
-use Rattle.fx_plain.specs.History.{IsLegal, action_of}
+use Rattle.fx_plain.specs.History.{IsLegal, action_of, held_by, state_after, ◌▷▷◌}
 use Rattle.fx_plain.specs.Laws.{IsStart, installed_by}
 use Rattle.fx_plain.specs.Table.{identity_of}
 use Rattle.fx_plain.specs.declared.event.File.{File}
@@ -83,3 +83,11 @@ OpenedAnew =
     → (r : Renaming) × (left : State) × (r.chain ≡ chain)
     × IsLegal (opening start numbers) (map (renamed_event r) h) left
     × HasOtherNumbers end left
+
+-- where nobody holds anything, what comes behind a legal history is legal from the state there
+abbrev pub LegalBehind : Type 0
+LegalBehind =
+    (start end : State) (h more : List Event)
+    → ((pass : ℕ) → held_by h pass ≡ None)
+    → IsLegal start (h ▷▷ more) end
+    → IsLegal (state_after start (map action_of h)) more end

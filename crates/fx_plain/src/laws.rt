@@ -3,7 +3,7 @@
 
 ghost use Rattle.std.specs.Prelude.{◌≡◌};
 ghost use Rattle.fx_plain.specs.Laws.{NoCloseWhileHeld, ClosedAtMostOnce, EveryRemovedFileIsClosed, EveryFileWasThereOrInstalled, OpeningIsStart};
-ghost use Rattle.fx_plain.specs.Reopening.{OpeningIsAtRest, StaysAtRest, OpenedAnew};
+ghost use Rattle.fx_plain.specs.Reopening.{LegalBehind, OpeningIsAtRest, StaysAtRest, OpenedAnew};
 ghost use Rattle.fx_plain.specs.declared.table.TheConstants.{MOST_SLOTS};
 
 /// A table has at most 256 slots.
@@ -51,4 +51,9 @@ pub fn a_table_comes_to_rest()
 /// What happens to a table at rest may happen to one that is opened with its files: numbers are names.
 pub fn a_later_part_may_open_a_table()
     ensures { OpenedAnew }
+{}
+
+/// Where nobody holds anything, what comes behind a legal history is legal from the state there.
+pub fn what_comes_behind_is_legal()
+    ensures { LegalBehind }
 {}

@@ -6,3 +6,4 @@ pub mod Calls
 pub mod Closing
 pub mod Turns
 pub mod Laws
+pub mod Settling

@@ -6,6 +6,7 @@ ghost use Rattle.fx_table.specs.Opening.{Opening, opening_with, IsOpenedFor, siz
 ghost use Rattle.fx_table.specs.Pass.{PassView, IsIdle, IsFront, IsHoldOf, IsRetiredOf, new_passes};
 ghost use Rattle.fx_table.specs.Calls.{Draws, Looked, Released, Placed, Allocated, Cleared, Taken, HasRetired};
 ghost use Rattle.fx_table.specs.Closing.{ClosesTable};
+ghost use Rattle.fx_table.specs.Settling.{DrawsNext, IsSettledSoFar};
 
 use crate::limits::{CHAIN_NUMBERS, MAX_CHAINS, MAX_PASSES};
 use crate::values::{Empty, Hold, LookFault, Retired};
@@ -121,12 +122,15 @@ pub trait FileTable: Sync {
         ensures { result ≡ (view pass.now).numbers_left };
 
     /// The next chain of an idle pass (`is_idle`), or `None` where there are no more. The chains of a pass rise, and no
-    /// chain is given twice. After `None` a pass is answered `None`. A draw adds nothing to the history.
+    /// chain is given twice; those of a pass alone are 1, 2 and so on. After `None` a pass is answered `None`. A draw adds
+    /// nothing to the history.
     fn draw(&self, pass: &mut Self::Pass) -> Option<u32>
         requires fits { fits self.now pass.old }
         requires idle { IsIdle (view pass.old) }
         ensures fits { fits self.now pass.new }
-        ensures drawn { Draws (opening self.now) (view pass.old) result (view pass.new) };
+        ensures drawn { Draws (opening self.now) (view pass.old) result (view pass.new) }
+        ensures next { (opening self.now).passes ≡ 1
+            → DrawsNext (opening self.now) (view pass.old) result };
 
     /// Looks a slot below `size` up, by an idle pass (`is_idle`). The file there has one more hold until the pass releases
     /// it (io_uring_enter(2), "IOSQE_FIXED_FILE").
@@ -215,6 +219,16 @@ pub trait FileTable: Sync {
         ensures fits { fits self.now pass.new }
         ensures retired { HasRetired (opening self.now) (view pass.old) retired result
             (view pass.new) };
+
+    /// Shows an idle pass (`is_idle`) of a table that it has alone all that has happened: what it did is the whole
+    /// history so far, no file is held, and each removed file is closed. Nothing changes.
+    fn settle(&self, pass: &mut Self::Pass)
+        requires alone { (opening self.now).passes ≡ 1 }
+        requires fits { fits self.now pass.old }
+        requires idle { IsIdle (view pass.old) }
+        ensures fits { fits self.now pass.new }
+        ensures same { view pass.new ≡ view pass.old }
+        ensures settled { IsSettledSoFar (opening self.now) (view pass.new) };
 
     // What a pass has seen is legal, and its own events there are what it has done.
     ghost fronts: { (table : Self) (pass : Self.Pass) → fits table pass

@@ -1,0 +1,5 @@
+use Rattle.fx_plain.proofs.Behind.{legal_behind}
+use Rattle.fx_plain.proofs.laws.what_comes_behind_is_legal.Goals as goal
+
+pub returns : goal.returns
+returns c = legal_behind
