@@ -35,8 +35,8 @@ impl CountedTable {
         self.finish(seat)
     }
 
-    /// Shows the only pass of a table all that has happened, while it does nothing ([`FileTable::settle`]).
-    pub fn settle(&self, pass: &mut CountedPass)
+    // Shows the only pass of a table all that has happened, while it does nothing.
+    pub(crate) fn settle(&self, pass: &mut CountedPass)
         requires alone { (opening_of_table self.now).passes ≡ 1 }
         requires fits { IsPassOfTable self.now pass.old }
         requires idle { IsIdle (view_of pass.old) }

@@ -84,6 +84,10 @@ impl<const PASSES: u32> FileTable for OnlyFor<PASSES> {
         self.inner.draw(pass)
     }
 
+    fn settle(&self, pass: &mut BatonPass) {
+        self.inner.settle(pass)
+    }
+
     fn look(&self, rt: &impl Wait, pass: &mut BatonPass, slot: u32) -> Result<Hold, LookFault> {
         self.inner.look(rt, pass, slot)
     }
