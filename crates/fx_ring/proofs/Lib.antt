@@ -23,3 +23,7 @@ pub mod WorkersTogether
 pub mod NewCrew
 pub mod PlayedCrew
 pub mod SubmissionLaws
+pub mod LoneHistories
+pub mod LonePlays
+pub mod LoneEnds
+pub mod RingsOpened

@@ -8,3 +8,4 @@ pub mod Outcomes
 pub mod Playing
 pub mod PlaySetting
 pub mod Laws
+pub mod OpenRings

@@ -4,6 +4,7 @@
 
 ghost use Rattle.std.specs.Prelude.{◌≡◌};
 ghost use Rattle.fx_ring.specs.Laws.{NoHeldFileCloses, NoFileClosesTwice, NoFileIsLost};
+ghost use Rattle.fx_ring.specs.OpenRings.{PartIsOneHistory};
 ghost use Rattle.fx_ring.specs.declared.ring.TheConstants.{MOST_SUBMISSIONS, MOST_REGISTRATIONS};
 
 /// A ring accepts at most 65,535 submissions, and at most 65,535 registrations and updates
@@ -28,4 +29,9 @@ pub fn no_file_closes_twice()
 /// and was never closed, or is at no slot and was closed once.
 pub fn no_file_is_lost()
     ensures { NoFileIsLost }
+{}
+
+/// What a pass alone does for a submission, on a table that stays open before and afterwards, is one history.
+pub fn what_a_pass_alone_does_is_one_history()
+    ensures { PartIsOneHistory }
 {}

@@ -6,6 +6,7 @@ mod crew;
 pub mod laws;
 mod list;
 mod needs;
+mod open_ring;
 mod outcome;
 mod play;
 mod registration;
@@ -16,5 +17,6 @@ mod submission;
 mod worker;
 
 pub use list::{are_bad_tags, has_bad_entry, has_bad_file};
+pub use open_ring::OpenRing;
 pub use report::{Report, SubmitFault};
 pub use ring::{MOST_REGISTRATIONS, MOST_SUBMISSIONS, Ring};

@@ -9,7 +9,7 @@ ghost use Rattle.fx_chain.specs.Accepted.{IsAccepted, IsChain, members_of};
 ghost use Rattle.fx_chain.specs.Operation.{all_asked};
 ghost use Rattle.fx_chain.specs.Runs.{runs_of};
 ghost use Rattle.fx_ring.specs.Outcomes.{HasRoomForCrew};
-ghost use Rattle.fx_ring.specs.Ring.{AreEntries, ring_of, ring_with};
+ghost use Rattle.fx_ring.specs.Ring.{AreEntries, RingState, ring_of, ring_with};
 ghost use Rattle.fx_ring.specs.PlaySetting.{IsPlayOf};
 ghost use Rattle.fx_ring.specs.Work.{InstallAtMost};
 ghost use Rattle.fx_ring.specs.Submission.{IsOneHistory, reported, submit_refusal};
@@ -105,27 +105,31 @@ fn play<T: FileTable, R: Threads + Wait + Sync, G: Gate>(
     }
 }
 
-impl Ring {
-    // Why a submission is refused, except when out of memory.
-    fn submit_refusal(&self, requests: &[Request], workers: u32) -> Option<SubmitFault>
-        ensures value { result
-            ≡ submit_refusal (ring_of self.now) (all_asked requests.now) workers }
-        ensures accepted { IfNone result (IsAccepted (all_asked requests.now)) }
-        ensures workers { IfNone result ((1 ≤ workers) × (workers ≤ MAX_PASSES)) }
-        ensures few { IfNone result (self.now.submissions < MOST_SUBMISSIONS) }
-    {
-        if workers == 0 || workers > MAX_PASSES {
-            return Some(SubmitFault::Workers);
-        }
-        if let Err(fault) = check(requests) {
-            return Some(SubmitFault::Cut(fault));
-        }
-        if self.submissions >= MOST_SUBMISSIONS {
-            return Some(SubmitFault::TooMany);
-        }
-        None
+// Why a submission is refused, except when out of memory, where so many were accepted before.
+pub(crate) fn refusal_behind(
+    submissions: u32,
+    requests: &[Request],
+    workers: u32,
+) -> Option<SubmitFault>
+    ensures value { (ring : RingState) → ring.submissions ≡ submissions
+        → result ≡ submit_refusal ring (all_asked requests.now) workers }
+    ensures accepted { IfNone result (IsAccepted (all_asked requests.now)) }
+    ensures workers { IfNone result ((1 ≤ workers) × (workers ≤ MAX_PASSES)) }
+    ensures few { IfNone result (submissions < MOST_SUBMISSIONS) }
+{
+    if workers == 0 || workers > MAX_PASSES {
+        return Some(SubmitFault::Workers);
     }
+    if let Err(fault) = check(requests) {
+        return Some(SubmitFault::Cut(fault));
+    }
+    if submissions >= MOST_SUBMISSIONS {
+        return Some(SubmitFault::TooMany);
+    }
+    None
+}
 
+impl Ring {
     /// Plays a submission on the ring's table (io_uring_enter(2)). Requests that are linked with
     /// each other make a chain, whose members start one after another; a request that isn't linked
     /// is a chain of its own. Each worker draws a chain, plays it and draws the next one, and every
@@ -172,7 +176,7 @@ impl Ring {
             AreEntries (ring_of self.new) report.closes.files) }
         ensures err { OnErr result (ring_of self.new ≡ ring_of self.old) }
     {
-        if let Some(fault) = self.submit_refusal(requests, workers) {
+        if let Some(fault) = refusal_behind(self.submissions, requests, workers) {
             return Err(fault);
         }
         let plain = mem::replace(&mut self.table, PlainTable::none(alloc));

@@ -44,7 +44,11 @@ impl<P> Worker<P> {
 }
 
 // The members of a chain, the first of which is 1.
-fn members_of_chain<'a>(requests: &'a [Request], chains: &[Chain], chain: u32) -> &'a [Request]
+pub(crate) fn members_of_chain<'a>(
+    requests: &'a [Request],
+    chains: &[Chain],
+    chain: u32,
+) -> &'a [Request]
     requires some { (1 ≤ chain) × (chain ≤ length chains.now) }
     requires members { map (members_of (all_asked requests.now)) chains.now
         ≡ runs_of (all_asked requests.now) }

@@ -1,5 +1,10 @@
 use Rattle.fx_ring.proofs.Words.{◌≡◌, ◌+◌, ◌<◌, List, ap, sym, subst, ◌∙◌, rules, IsSettled, Contents, state_of, IsGivenBack, Asked, all_asked}
 use Rattle.fx_ring.proofs.Words.{RingContents, ring_of, ring_with, IsOneHistory, reported, MOST_SUBMISSIONS}
+use Rattle.fx_ring.proofs.Words.{Option, refl}
+use Rattle.std.specs.Prelude.{Err, Result, IfSome, IfNone}
+use Rattle.fx_ring.specs.declared.report.Report.{Report}
+use Rattle.fx_ring.specs.declared.report.SubmitFault.{SubmitFault}
+use Rattle.fx_ring.specs.declared.report.SubmitFault.TheVariants.{NoMemory}
 use Rattle.fx_ring.proofs.Rings.{contents_of, emptied_settled, given_back_rings, given_back_at_rest}
 use Rattle.fx_ring.proofs.SubmittedRing.{submitted_at_rest, submitted_entries}
 use Rattle.fx_ring.proofs.ring.Ring.submit.Goals as goal
@@ -50,3 +55,15 @@ returns-in-Err-clause-err g c =
     given_back_rings before c.replace-in-Err.new.dest
     (subst (λ (z : Contents × Contents). IsGivenBack z.0 z.1) (λ i. (c.replace-plain.ensures.value i, back i)) c.in-Err.ensures.refused)
     ∙ ap ring_of c.self.view_is
+
+pub returns-in-Some-clause-refused : goal.returns-in-Some-clause-refused
+returns-in-Some-clause-refused g c =
+    let same = sym (ap (λ (ring : RingContents). (ring_of ring).submissions) c.self.view_is) in
+    subst (λ (x : Option SubmitFault). IfSome x (λ fault. ◌≡◌ {A = Result Report SubmitFault} (Err c.in-Some.fault) (Err fault)))
+    (sym c.in-Some.is ∙ c.refusal_behind.ensures.value (ring_of c.args.self.now) same) refl
+
+pub returns-in-Some-clause-only_refusal : goal.returns-in-Some-clause-only_refusal
+returns-in-Some-clause-only_refusal g c =
+    let same = sym (ap (λ (ring : RingContents). (ring_of ring).submissions) c.self.view_is) in
+    subst (λ (x : Option SubmitFault). IfNone x (c.in-Some.fault ≡ NoMemory))
+    (sym c.in-Some.is ∙ c.refusal_behind.ensures.value (ring_of c.args.self.now) same) tt

@@ -1,0 +1,316 @@
+-- What a pass alone did between two settled moments, as the history of one submission.
+use Rattle.fx_ring.proofs.Words.{◌≡◌, ◌≢◌, ℕ, zero, suc, ◌+◌, ◌-◌, ◌*◌, ◌<◌, ◌≤◌, ◌==◌, Bool, true, false, not, ◌&&◌, nat_lt, cond, List, [], ◌∷◌, ◌++◌, map, filter}
+use Rattle.fx_ring.proofs.Words.{length, length-append, refl, sym, ap, subst, ◌∙◌, arith, Option, Some, None, All, All-head, All-tail, All-weaker, Contains}
+use Rattle.fx_ring.proofs.Words.{slice_index_or, by_equality, cases_lt, lt-ltb, inl, inr, IsPermutation, IsNonDecreasingBy, FileEntry, CloseListView, Closed}
+use Rattle.fx_ring.proofs.Words.{State, IsSettled, IsStart, opening, file_numbered, Contents, state_of, state_after, IsLegal, action_of, closes_in, closed_by}
+use Rattle.fx_ring.proofs.Words.{part_of_chain, installed_by, identity_of, File, Event, Action, Opening, size_of, state_at, PassView, numbers_for}
+use Rattle.fx_ring.proofs.Words.{Completed, Explains, first_member, Asked, runs_of, all_installs, IsShortRun, RingContents, RingState, HasClosed, ring_of, ring_with}
+use Rattle.fx_ring.proofs.Words.{with_table, IsOneHistory, HasWorked, worker_state, completions_of_chain, run_of_chain, get_or}
+use Rattle.fx_plain.specs.Contents.{file_at, placed_at, node_at, slot_at}
+use Rattle.fx_plain.specs.declared.node.Node.{Node}
+use Rattle.fx_plain.specs.declared.node.Node.TheVariants.{At, Gone}
+use Rattle.fx_plain.specs.declared.table.TheConstants.{MOST_SLOTS}
+use Rattle.fx_plain.specs.History.{held_by, ◌▷▷◌}
+use Rattle.fx_plain.specs.Reopening.{Renaming, renamed, renamed_event, numbers_given, with_number_of, IsAtRest, HasOtherNumbers}
+use Rattle.fx_plain.proofs.Cells.{read_default}
+use Rattle.fx_plain.proofs.AtRest.{opening_is_at_rest, stays_at_rest}
+use Rattle.fx_plain.proofs.Leading.{same_size}
+use Rattle.fx_plain.proofs.Behind.{legal_behind}
+use Rattle.fx_plain.proofs.OpenedAnew.{opened_anew}
+use Rattle.fx_table.specs.Opening.{start_of}
+use Rattle.fx_table.specs.Settling.{IsSettledSoFar}
+use Rattle.fx_table.proofs.Members.{contains_map, contains_mapped, each_all}
+use Rattle.fx_chain.proofs.OtherNumbers.{explains, few_given}
+use Rattle.fx_ring.specs.OpenRings.{listed, number_if, node_if, table_with_files, chain_less, begun_behind}
+use Rattle.fx_ring.proofs.Parts.{has, lacks, kept_lacking, within_lacking, none_within}
+use Rattle.fx_ring.proofs.PartsExplained.{IsShort, in_order_explained}
+use Rattle.std.proofs.lemmas.List.{get_or_append_left, get_or_past}
+use Rattle.std.proofs.Math.Seq.{get_or-append_seam}
+
+-- lists of what stands at places
+
+length_listed : {X : Type 0} (at : ℕ → X) (n : ℕ) → length (listed at n) ≡ n
+length_listed at zero = refl
+length_listed at (suc n) = let rest = length_listed at n in let both = length-append (listed at n) (at n ∷ []) in omega arith
+
+read_listed : {X : Type 0} (at : ℕ → X) (n i : ℕ) (d : X) → i < n → slice_index_or (listed at n) i d ≡ at i
+read_listed at zero i d lt = absurd (omega arith)
+read_listed at (suc n) i d lt = by_equality i n (λ _. slice_index_or (listed at n ++ at n ∷ []) i d ≡ at i)
+    (λ same. ap (λ (k : ℕ). slice_index_or (listed at n ++ at n ∷ []) k d) (same ∙ sym (length_listed at n))
+    ∙ get_or-append_seam (listed at n) (at n) [] d ∙ ap at (sym same))
+    (λ other. let below : i < length (listed at n) = let len = length_listed at n in omega arith in
+    get_or_append_left (listed at n) (at n ∷ []) d i below ∙ read_listed at n i d (omega arith))
+
+-- the table with the files of a state
+
+module _ (st : State) (inside : (slot : ℕ) → st.size ≤ slot → st.at slot ≡ None) where
+  abbrev table : Contents
+  table = table_with_files st
+
+  placed_so : (slot : ℕ) (x : Option File) → st.at slot ≡ x → slot < st.size → file_at table.nodes (number_if slot x) ≡ file_numbered x slot
+  placed_so slot None is lt = refl
+  placed_so slot (Some f) is lt =
+      ap (placed_at slot) (read_listed (λ k. node_if k (st.at k)) st.size slot Gone lt ∙ ap (node_if slot) is)
+
+  at_slot : (slot : ℕ) → file_at table.nodes (slot_at table.slots slot) ≡ file_numbered (st.at slot) slot
+  at_slot slot = elim (cases_lt slot st.size) [
+    | inl lt ↦ ap (file_at table.nodes) (read_listed (λ k. number_if k (st.at k)) st.size slot None lt) ∙ placed_so slot (st.at slot) refl lt
+    | inr le ↦ ap (file_at table.nodes) (get_or_past table.slots slot None (let len = length_listed (λ k. number_if k (st.at k)) st.size in omega arith))
+        ∙ sym (ap (λ (x : Option File). file_numbered x slot) (inside slot le))
+  ]
+
+  again : (x : Option File) (slot : ℕ) → file_numbered (file_numbered x slot) slot ≡ file_numbered x slot
+  again None slot = refl
+  again (Some f) slot = refl
+
+  pub opened_so : (numbers : ℕ) → opening (state_of table) numbers ≡ opening st numbers
+  opened_so numbers = λ i. record (opening st numbers) {
+    size = length_listed (λ k. number_if k (st.at k)) st.size i;
+    at = λ slot. (ap (λ (x : Option File). file_numbered x slot) (at_slot slot) ∙ again (st.at slot) slot) i;
+    fresh = λ n. not (nat_lt n (length_listed (λ k. number_if k (st.at k)) st.size i)) && nat_lt n numbers;
+  }
+
+  pub told_so : (x : Option File) (slot : ℕ) → identity_of (file_numbered x slot) ≡ identity_of x
+  told_so None slot = refl
+  told_so (Some f) slot = refl
+
+  pub told_at : (slot : ℕ) → identity_of (file_at table.nodes (slot_at table.slots slot)) ≡ identity_of (st.at slot)
+  told_at slot = ap identity_of (at_slot slot) ∙ told_so (st.at slot) slot
+
+  pub ring_so : (catalogue : List FileEntry) (submissions registrations : ℕ)
+      → ring_of (ring_with catalogue table submissions registrations) ≡ record (with_table (ring_of (ring_with catalogue table submissions registrations)) st) { submissions = submissions }
+  ring_so catalogue submissions registrations = λ i. record (ring_of (ring_with catalogue table submissions registrations)) {
+    size = length_listed (λ k. number_if k (st.at k)) st.size i;
+    range = st.range;
+    at = λ slot. told_at slot i;
+  }
+
+pub size_there : (st : State) → (state_of (table_with_files st)).size ≡ st.size
+size_there st = length_listed (λ k. number_if k (st.at k)) st.size
+
+-- a table that is opened
+
+number_there : (x : Option File) (slot : ℕ) (f : File) → file_numbered x slot ≡ Some f → f.number ≡ slot
+number_there None slot f is = cc
+number_there (Some g) slot f is = cc
+
+pub opening_starts : (st : State) (numbers : ℕ) → IsStart (opening st numbers)
+opening_starts st numbers = record {
+  settled = record { unheld = λ _. refl; closed = λ _. refl };
+  distinct = λ slot other f g below below_other is is_other same.
+      sym (number_there (st.at slot) slot f is) ∙ same ∙ number_there (st.at other) other g is_other;
+  used = λ slot f below is. ap (λ (b : Bool). not b && nat_lt f.number numbers)
+      (lt-ltb f.number st.size (let e = number_there (st.at slot) slot f is in omega arith));
+}
+
+pub at_rest_of : (o : Opening) (v : PassView) → IsSettledSoFar o v → IsAtRest (state_at o v.own)
+at_rest_of o v settled = stays_at_rest (start_of o) (state_at o v.own) v.own
+    (opening_is_at_rest o.contents (numbers_for o.chains) (opening_starts (state_of o.contents) (numbers_for o.chains))) settled.legal settled.settled
+
+-- a table with the files of a state is settled
+
+none_removed : (slot : ℕ) (x : Option File) → Rattle.fx_plain.specs.Contents.removed_at slot (node_if slot x) ≡ None
+none_removed slot None = refl
+none_removed slot (Some f) = refl
+
+pub table_settled : (st : State) → IsSettled (state_of (table_with_files st))
+table_settled st = record {
+  unheld = λ n. read_default st.size n 0;
+  closed = λ n. elim (cases_lt n st.size) [
+    | inl lt ↦ ap (Rattle.fx_plain.specs.Contents.removed_at n) (read_listed (λ k. node_if k (st.at k)) st.size n Gone lt) ∙ none_removed n (st.at n)
+    | inr le ↦ ap (Rattle.fx_plain.specs.Contents.removed_at n) (get_or_past (table_with_files st).nodes n Gone
+        (let len = length_listed (λ k. node_if k (st.at k)) st.size in omega arith))
+  ];
+}
+
+-- what others than the pass hold
+
+nobody : (number : ℕ) (h : List Event) → All (λ e. e.pass ≡ number) h → (p : ℕ) → p ≢ number → held_by h p ≡ None
+nobody number [] all p other = refl
+nobody number (e ∷ h) all p other = let mine = All-head (λ (z : Event). z.pass ≡ number) e h all in
+    by_equality e.pass p (λ b. cond {A = Option File} b (Rattle.fx_plain.specs.History.held_after (held_by h p) e.action) (held_by h p) ≡ None)
+    (λ same. absurd (other (sym same ∙ mine)))
+    (λ _. nobody number h (All-tail (λ (z : Event). z.pass ≡ number) e h all) p other)
+
+none_held : (number : ℕ) (h : List Event) → All (λ e. e.pass ≡ number) h → held_by h number ≡ None → (p : ℕ) → held_by h p ≡ None
+none_held number h all none p = by_equality p number (λ _. held_by h p ≡ None) (λ same. ap (held_by h) same ∙ none) (λ other. nobody number h all p other)
+
+-- how many numbers the chains of a history give
+
+abbrev given : List Event → ℕ
+given h = length (numbers_given (map action_of h))
+
+one_given : (a : Action) (l : List ℕ) → length (with_number_of (installed_by a) l) ≡ length (with_number_of (installed_by a) []) + length l
+one_given a l = elim (installed_by a) as (λ x. length (with_number_of x l) ≡ length (with_number_of x []) + length l) [ None ↦ omega arith | Some f ↦ omega arith ]
+
+abbrev chain_of : Event → ℕ
+chain_of e = e.chain
+
+given_split : (first : ℕ) (h : List Event) → given h ≡ given (filter (has chain_of first) h) + given (filter (lacks chain_of first) h)
+given_split first [] = refl
+given_split first (e ∷ h) =
+    let rest = given_split first h in
+    let one = one_given e.action (numbers_given (map action_of h)) in
+    let mine = one_given e.action (numbers_given (map action_of (filter (has chain_of first) h))) in
+    let others = one_given e.action (numbers_given (map action_of (filter (lacks chain_of first) h))) in
+    elim (e.chain == first) as (λ b. given (e ∷ h) ≡ given (cond b (e ∷ filter (has chain_of first) h) (filter (has chain_of first) h))
+    + given (cond (not b) (e ∷ filter (lacks chain_of first) h) (filter (lacks chain_of first) h))) [
+      | true ↦ omega (arith, rest, one, mine)
+      | false ↦ omega (arith, rest, one, others)
+    ]
+
+given_by_chains : (most first n : ℕ) (h : List Event) → All (λ e. (first ≤ e.chain) × (e.chain < first + n)) h
+    → ((c : ℕ) → first ≤ c → c < first + n → given (part_of_chain c h) ≤ most) → given h ≤ most * n
+given_by_chains most first zero h all few = let none = ap given (none_within chain_of first h all) in omega (arith, none)
+given_by_chains most first (suc n) h all few =
+    let split = given_split first h in
+    let here = few first (omega arith) (omega arith) in
+    let rest = given_by_chains most (first + 1) n (filter (lacks chain_of first) h) (within_lacking chain_of first n h all)
+    (λ c low high. subst (λ (l : List Event). given l ≤ most) (sym (kept_lacking chain_of first c h (λ same. absurd (omega arith))))
+    (few c (omega arith) (omega arith))) in
+    let times : most * suc n ≡ most + most * n = omega arith in
+    omega (arith, split, here, rest, times)
+
+-- the history with other numbers and chains
+
+module _ (r : Renaming) (base : ℕ) where
+  abbrev anew : Renaming
+  anew = record r { chain = λ c. c - base }
+
+  parts_same : (c : ℕ) (since : List Event)
+      → map action_of (part_of_chain c (map (renamed_event anew) since)) ≡ map (renamed anew) (map action_of (part_of_chain c (map (chain_less base) since)))
+  parts_same c [] = refl
+  parts_same c (e ∷ since) = elim (e.chain - base == c) as (λ b.
+      map action_of (cond b (renamed_event anew e ∷ part_of_chain c (map (renamed_event anew) since)) (part_of_chain c (map (renamed_event anew) since)))
+      ≡ map (renamed anew) (map action_of (cond b (chain_less base e ∷ part_of_chain c (map (chain_less base) since)) (part_of_chain c (map (chain_less base) since))))) [
+        | true ↦ ap (λ (l : List Action). renamed anew e.action ∷ l) (parts_same c since)
+        | false ↦ parts_same c since
+      ]
+
+  closed_same : (a : Action) → closed_by (renamed anew a) ≡ closed_by a
+  closed_same (Rattle.fx_plain.specs.declared.event.Action.TheVariants.Close f) = refl
+  closed_same _ = refl
+
+  closes_same : (since : List Event) → closes_in (map action_of (map (renamed_event anew) since)) ≡ closes_in (map action_of (map (chain_less base) since))
+  closes_same [] = refl
+  closes_same (e ∷ since) = ap (λ (x : List Closed × List Closed). x.0 ++ x.1) (λ i. (closes_same since i, closed_same e.action i))
+
+actions_less : (base : ℕ) (since : List Event) → map action_of (map (chain_less base) since) ≡ map action_of since
+actions_less base [] = refl
+actions_less base (e ∷ since) = ap (λ (l : List Action). e.action ∷ l) (actions_less base since)
+
+module _ (catalogue : List FileEntry) (o : Opening) (before after : PassView) (drawn : List ℕ) (since : List Event) (submissions : ℕ)
+    (requests : List Asked) (completions : List Completed) (closes : CloseListView) (few_slots : size_of o ≤ MOST_SLOTS)
+    (short : All IsShortRun (runs_of requests)) (first : IsSettledSoFar o before) (last : IsSettledSoFar o after)
+    (authors : All (λ e. e.pass ≡ before.number) before.own) (own : after.own ≡ before.own ▷▷ since)
+    (worked : HasWorked catalogue (size_of o) (submissions + 1) (runs_of requests)
+    (worker_state (begun_behind before.chain drawn since after) completions closes))
+    (all_drawn : (c : ℕ) → 1 ≤ c → c ≤ length (runs_of requests) → Contains drawn c) where
+  abbrev base : ℕ
+  base = before.chain
+
+  abbrev runs : List (List Asked)
+  runs = runs_of requests
+
+  abbrev st : State
+  st = state_at o before.own
+
+  abbrev end : State
+  end = state_at o after.own
+
+  abbrev less : List Event
+  less = map (chain_less base) since
+
+  at_rest : IsAtRest st
+  at_rest = at_rest_of o before first
+
+  end_at_rest : IsAtRest end
+  end_at_rest = at_rest_of o after last
+
+  behind : IsLegal st since end
+  behind = legal_behind (start_of o) end before.own since (none_held before.number before.own authors first.held)
+      (subst (λ (h : List Event). IsLegal (start_of o) h end) own last.legal)
+
+  chain_inside : (e : Event) → Contains less e → (1 ≤ e.chain) × (e.chain ≤ length runs)
+  chain_inside e there = let is = worked.inside e.chain (worked.own e there) in let low = is.0 in let high = is.1 in let top = worked.reached in
+      (low, omega (arith, high, top))
+
+  few_of_chain : (c : ℕ) → 1 ≤ c → c ≤ length runs → given (part_of_chain c less) ≤ 64
+  few_of_chain c low high =
+      let told = few_given catalogue (size_of o) (run_of_chain runs c) (first_member (submissions + 1) c) (map action_of (part_of_chain c less))
+      (completions_of_chain c completions) (worked.explained c (all_drawn c low high)) in
+      let run = short (c - 1) [] (omega (arith, low, high)) in
+      let few = run.installs in omega (arith, told, few)
+
+  few_numbers : given since ≤ 64 * length runs
+  few_numbers = subst (λ (l : List Action). length (numbers_given l) ≤ 64 * length runs) (actions_less base since)
+      (given_by_chains 64 1 (length runs) less
+      (each_all (λ e. (1 ≤ e.chain) × (e.chain < 1 + length runs)) less (λ e there. let is = chain_inside e there in let low = is.0 in let high = is.1 in
+      (low, omega (arith, high))))
+      (λ c low high. few_of_chain c low (omega (arith, high))))
+
+  opened : (r : Renaming) × (left : State) × (r.chain ≡ (λ c. c - base))
+      × IsLegal (opening st (numbers_for (length runs))) (map (renamed_event r) since) left × HasOtherNumbers end left
+  opened = opened_anew (λ c. c - base) (numbers_for (length runs)) st end since at_rest
+      (let few = few_numbers in let same : st.size ≡ size_of o = same_size (start_of o) st (map action_of before.own) first.legal.leads in omega (arith, few, few_slots, same)) behind
+
+  abbrev r : Renaming
+  r = record opened.0 { chain = λ c. c - base }
+
+  abbrev left : State
+  left = opened.1
+
+  abbrev history : List Event
+  history = map (renamed_event r) since
+
+  history_is : map (renamed_event opened.0) since ≡ history
+  history_is = ap (λ (chain : ℕ → ℕ). map (renamed_event (record opened.0 { chain = chain })) since) opened.2
+
+  legal : IsLegal (opening (state_of (table_with_files st)) (numbers_for (length runs))) history left
+  legal = subst (λ (z : State × List Event). IsLegal z.0 z.1 left)
+      (λ i. (sym (opened_so st at_rest.inside (numbers_for (length runs))) i, history_is i)) opened.3
+
+  explained : (c : ℕ) → 1 ≤ c → c ≤ length runs
+      → Explains catalogue (size_of o) (first_member (submissions + 1) c) (run_of_chain runs c) (map action_of (part_of_chain c history))
+      (completions_of_chain c completions)
+  explained c low high = subst (λ (l : List Action). Explains catalogue (size_of o) (first_member (submissions + 1) c) (run_of_chain runs c) l
+      (completions_of_chain c completions)) (sym (parts_same opened.0 base c since))
+      (explains r catalogue (size_of o) (run_of_chain runs c) (first_member (submissions + 1) c) (map action_of (part_of_chain c less))
+      (completions_of_chain c completions) (worked.explained c (all_drawn c low high)))
+
+  inside : All (λ c. (1 ≤ c.place.chain) × (c.place.chain ≤ length runs)) completions
+  inside = All-weaker (λ c. Contains drawn c.place.chain) (λ c. (1 ≤ c.place.chain) × (c.place.chain ≤ length runs))
+      (λ c has. let is = worked.inside c.place.chain has in let low = is.0 in let high = is.1 in let top = worked.reached in
+      (low, omega (arith, high, top))) completions worked.completed
+
+  chains : (e : Event) → Contains history e → (1 ≤ e.chain) × (e.chain ≤ length runs)
+  chains e there = let from = contains_map (renamed_event r) since e there in
+      let is = chain_inside (chain_less base from.0) (contains_mapped (chain_less base) since from.0 from.1) in
+      subst (λ (c : ℕ). (1 ≤ c) × (c ≤ length runs)) (sym (ap (λ (z : Event). z.chain) from.2)) is
+
+  pub part_is_one_history : (registrations : ℕ) (sorted : List Completed) (files : CloseListView) → IsPermutation completions sorted
+      → IsNonDecreasingBy (λ c. c.place.chain * 32 + c.place.member) sorted → HasClosed closes.files files
+      → IsOneHistory (ring_with catalogue (table_with_files st) submissions registrations) requests
+      (record { submission = submissions + 1; completions = sorted; closes = files })
+      (ring_with catalogue (table_with_files end) (submissions + 1) registrations)
+  part_is_one_history registrations sorted files same rises closed = record {
+    history = history;
+    end = left;
+    legal = legal;
+    settled = opened.4.settled last.settled;
+    chains = chains;
+    explained = subst (λ (size : ℕ). Rattle.fx_ring.specs.Submission.ExplainsParts catalogue size (submissions + 1) 1 runs history sorted)
+        (sym (size_there st ∙ same_size (start_of o) st (map action_of before.own) first.legal.leads))
+        (in_order_explained catalogue (size_of o) (submissions + 1) history completions runs
+        (All-weaker IsShortRun IsShort (λ run is. is.members) runs short) inside explained sorted same rises);
+    closed = subst (λ (l : List Closed). HasClosed l files)
+        (worked.closed ∙ sym (closes_same opened.0 base since)) closed;
+    submission = refl;
+    after = ring_so end end_at_rest.inside catalogue (submissions + 1) registrations
+        ∙ (λ i. record (with_table (ring_of (ring_with catalogue (table_with_files st) submissions registrations)) left) {
+          size = sym opened.4.size i;
+          range = sym opened.4.range i;
+          at = λ slot. sym (opened.4.files slot) i;
+          submissions = submissions + 1;
+        });
+  }

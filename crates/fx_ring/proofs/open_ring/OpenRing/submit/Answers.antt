@@ -1,0 +1,36 @@
+use Rattle.fx_ring.proofs.Words.{◌≡◌, ℕ, ◌+◌, ◌≤◌, ◌∙◌, ap, refl, sym, subst, arith, length, Option, Some, rules, ring_of, RingContents, RingState, all_asked}
+use Rattle.std.specs.Prelude.{Err, Result, IfSome, IfNone}
+use Rattle.fx_ring.specs.Submission.{submit_refusal, reported}
+use Rattle.fx_ring.specs.declared.report.Report.{Report}
+use Rattle.fx_ring.specs.declared.report.SubmitFault.{SubmitFault}
+use Rattle.fx_ring.specs.declared.report.SubmitFault.TheVariants.{NoMemory}
+use Rattle.fx_ring.proofs.RingsOpened.{kept_behind, counts_shown}
+use Rattle.fx_ring.proofs.open_ring.OpenRing.submit.Goals as goal
+
+pub returns-in-Some-clause-refused : goal.returns-in-Some-clause-refused
+returns-in-Some-clause-refused g c =
+    let same = sym (ap (λ (ring : RingContents). (ring_of ring).submissions) c.self.view_is)
+    ∙ counts_shown g.T.FileTable.view (λ p. g.T.FileTable.fits c.self.inside.table p) c.self.inside.catalogue (g.T.FileTable.opening c.self.inside.table)
+    0 0 0 0 c.self.inside.submissions c.self.inside.registrations c.self.inside.passes.items in
+    subst (λ (x : Option SubmitFault). IfSome x (λ fault. ◌≡◌ {A = Result (Option Report) SubmitFault} (Err c.in-Some.fault) (Err fault)))
+    (sym c.in-Some.is ∙ c.refusal_behind.ensures.value (ring_of c.args.self.now) same) refl
+
+pub returns-in-Some-clause-only_refusal : goal.returns-in-Some-clause-only_refusal
+returns-in-Some-clause-only_refusal g c =
+    let same = sym (ap (λ (ring : RingContents). (ring_of ring).submissions) c.self.view_is)
+    ∙ counts_shown g.T.FileTable.view (λ p. g.T.FileTable.fits c.self.inside.table p) c.self.inside.catalogue (g.T.FileTable.opening c.self.inside.table)
+    0 0 0 0 c.self.inside.submissions c.self.inside.registrations c.self.inside.passes.items in
+    subst (λ (x : Option SubmitFault). IfNone x (c.in-Some.fault ≡ NoMemory))
+    (sym c.in-Some.is ∙ c.refusal_behind.ensures.value (ring_of c.args.self.now) same) tt
+
+pub invariant_of-self : goal.invariant_of-self
+invariant_of-self g c = (kept_behind g.T.FileTable.view (λ p. g.T.FileTable.fits c.self.inside.table p) _ _ _ _ _ _ _ _ c.index_mut.result.now _ _
+    (all_asked c.args.requests.now) (reported c.submit_alone-report.result) c.submit_alone-report.ensures.alone (search rules)
+    c.in_default.ensures.few c.submit_alone-report.ensures.chain (c.submit_alone-report.ensures.played c.self.inside.registrations)
+    c.self.inside.passes.items c.self.invariant c.index_mut.ensures.value).0
+
+pub returns-clause-entries : goal.returns-clause-entries
+returns-clause-entries g c = (kept_behind g.T.FileTable.view (λ p. g.T.FileTable.fits c.self.inside.table p) _ _ _ _ _ _ _ _ c.index_mut.result.now _ _
+    (all_asked c.args.requests.now) (reported c.submit_alone-report.result) c.submit_alone-report.ensures.alone (search rules)
+    c.in_default.ensures.few c.submit_alone-report.ensures.chain (c.submit_alone-report.ensures.played c.self.inside.registrations)
+    c.self.inside.passes.items c.self.invariant c.index_mut.ensures.value).1

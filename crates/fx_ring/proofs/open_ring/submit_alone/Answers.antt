@@ -1,0 +1,27 @@
+use Rattle.fx_ring.proofs.Words.{arith, ◌≡◌, ℕ, ◌+◌, ◌≤◌, List, length, sym, ap, subst, ◌∙◌, All, Event, PassView, Opening, Asked, all_asked, runs_of, Reported, IsOneHistory}
+use Rattle.fx_ring.specs.OpenRings.{ring_led_by, begun_behind, chains_to}
+use Rattle.fx_ring.proofs.Runs.{as_many}
+use Rattle.fx_ring.proofs.LoneHistories.{part_is_one_history}
+use Rattle.fx_ring.proofs.LoneEnds.{authors_of, all_drawn, runs_within}
+use Rattle.fx_ring.proofs.open_ring.submit_alone.Goals as goal
+
+pub returns-clause-played : goal.returns-clause-played
+returns-clause-played g c registrations =
+    let V : g.row.T-Pass.Denot → PassView = λ p. g.T.FileTable.view p in
+    let s = c.args.submission.now in
+    let o = g.T.FileTable.opening c.args.table.now in
+    let asked = all_asked s.requests.now in
+    let before = V c.args.pass.now in
+    let p = c.play_alone.ensures.played in
+    let alone = c.requires.alone in
+    let count = as_many s.requests.now c.args.chains.now c.requires.members in
+    let one = part_is_one_history s.catalogue.now o before (V c.play_alone.new.pass) (chains_to (length c.args.chains.now)) p.since s.earlier asked _ _
+    alone.few_slots (runs_within asked c.args.chains.now c.requires.members c.requires.within) alone.settled
+    (subst (λ (v : PassView). Rattle.fx_table.specs.Settling.IsSettledSoFar o v) c.settle.ensures.same c.settle.ensures.settled)
+    (authors_of o before alone.settled ((g.met.T.FileTable g.world.𝓛 g.world.𝓜 g.world.𝓡 ((λ s x. x), (λ x. x), (λ x. x), λ x. x)).fronts _ _ alone.fits)) p.own p.worked
+    (λ chain low high. all_drawn (length c.args.chains.now) chain low (let same = count in omega (arith, high, same))) registrations
+    _ c.sort.new.self.closes c.sort.ensures.completions c.sort.ensures.in_order
+    (record { same_files = c.sort.ensures.closes; in_order = c.sort.ensures.in_order_of_mark }) in
+    subst (λ (z : Reported × PassView). IsOneHistory (ring_led_by s.catalogue.now o before s.earlier registrations) asked z.0
+    (ring_led_by s.catalogue.now o z.1 (s.earlier + 1) registrations))
+    (λ i. (sym c.report.ensures i, sym c.settle.ensures.same i)) one

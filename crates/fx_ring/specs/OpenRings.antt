@@ -1,0 +1,145 @@
+-- A ring whose table stays open between submissions of one worker.
+use Rattle.std.specs.Prelude.{◌≡◌, ℕ, false, zero, suc, ◌+◌, ◌-◌, ◌*◌, ◌≤◌, List, [], ◌∷◌, ◌++◌}
+use Rattle.std.specs.Prelude.{map, replicate}
+use Rattle.std.specs.Prelude.{length, All, Contains, Option, Some, None, IsPermutation}
+use Rattle.std.specs.List.Sorted.{IsNonDecreasingBy}
+use Rattle.fx_base.specs.Catalogue.{FileEntry}
+use Rattle.fx_base.specs.CloseListView.{CloseListView}
+use Rattle.fx_plain.specs.State.{State}
+use Rattle.fx_plain.specs.Contents.{Contents}
+use Rattle.fx_plain.specs.History.{◌▷◌, ◌▷▷◌}
+use Rattle.fx_plain.specs.declared.event.File.{File}
+use Rattle.fx_plain.specs.declared.event.Event.{Event}
+use Rattle.fx_plain.specs.declared.node.Node.{Node}
+use Rattle.fx_plain.specs.declared.node.Node.TheVariants.{At, Gone}
+use Rattle.fx_plain.specs.declared.table.TheConstants.{MOST_SLOTS}
+use Rattle.fx_table.specs.declared.limits.TheConstants.{MAX_CHAINS}
+use Rattle.fx_table.specs.Opening.{Opening, size_of, state_at}
+use Rattle.fx_table.specs.Pass.{PassView, IsIdle, new_pass}
+use Rattle.fx_table.specs.Settling.{IsSettledSoFar}
+use Rattle.fx_chain.specs.Accepted.{IsShortRun}
+use Rattle.fx_chain.specs.Completed.{Completed}
+use Rattle.fx_chain.specs.Operation.{Asked}
+use Rattle.fx_chain.specs.Runs.{runs_of}
+use Rattle.fx_ring.specs.Ring.{RingContents, HasClosed, IsAtRest, ring_with}
+use Rattle.fx_ring.specs.Submission.{IsOneHistory}
+use Rattle.fx_ring.specs.Work.{HasWorked, worker_state}
+
+-- the list of what stands at the first so many places
+abbrev pub listed : {X : Type 0} → (ℕ → X) → ℕ → List X
+listed at zero = []
+listed at (suc n) = listed at n ++ at n ∷ []
+
+abbrev pub number_if : ℕ → Option File → Option ℕ
+number_if slot None = None
+number_if slot (Some f) = Some slot
+
+abbrev pub node_if : ℕ → Option File → Node
+node_if slot None = Gone
+node_if slot (Some f) = At slot f.identity
+
+-- a table of one thread with the files of a state
+abbrev pub table_with_files : State → Contents
+table_with_files st = record {
+  slots = listed (λ slot. number_if slot (st.at slot)) st.size;
+  range = st.range;
+  nodes = listed (λ slot. node_if slot (st.at slot)) st.size;
+  holds = replicate st.size 0;
+  numbers = st.size;
+}
+
+-- a ring with the files to which the pass of an open table has led
+abbrev pub ring_led_by : List FileEntry → Opening → PassView → ℕ → ℕ → RingContents
+ring_led_by catalogue o v submissions registrations =
+    ring_with catalogue (table_with_files (state_at o v.own)) submissions registrations
+
+-- an event, with the chains counted from another one on
+abbrev pub chain_less : ℕ → Event → Event
+chain_less base e = record e { chain = e.chain - base }
+
+-- the pass, as if it had begun behind a chain and had drawn and done this since
+abbrev pub begun_behind : ℕ → List ℕ → List Event → PassView → PassView
+begun_behind base drawn since v =
+    record v { own = map (chain_less base) since; drawn = drawn; chain = v.chain - base }
+
+-- the chains up to this one, the last one first
+abbrev pub chains_to : ℕ → List ℕ
+chains_to zero = []
+chains_to (suc n) = chains_to n ▷ suc n
+
+-- a pass alone, which was so before, has played so many chains of a submission
+pub record HasPlayedAlone {P : Type 0} (V : P → PassView) (Fits : P → Type 0) (o : Opening)
+    (catalogue : List FileEntry) (submission : ℕ) (requests : List Asked) (before : PassView)
+    (played : ℕ) (pass : P) (completions : List Completed) (closes : CloseListView)
+    : Type 0 where
+  pub fits : Fits pass
+  pub idle : IsIdle (V pass)
+  pub more : (V pass).no_chains_left ≡ false
+  pub number : (V pass).number ≡ before.number
+  pub chain : (V pass).chain ≡ before.chain + played
+  pub since : List Event
+  pub own : (V pass).own ≡ before.own ▷▷ since
+  pub worked : HasWorked catalogue (size_of o) submission (runs_of requests)
+      (worker_state (begun_behind before.chain (chains_to played) since (V pass)) completions
+      closes)
+
+-- the only pass of an open table, between two submissions
+pub record IsAloneAt {P : Type 0} (V : P → PassView) (Fits : P → Type 0) (o : Opening) (pass : P)
+    : Type 0 where
+  pub alone : o.passes ≡ 1
+  pub few_slots : size_of o ≤ MOST_SLOTS
+  pub fits : Fits pass
+  pub idle : IsIdle (V pass)
+  pub more : (V pass).no_chains_left ≡ false
+  pub settled : IsSettledSoFar o (V pass)
+
+-- what is kept beside an open table: how many slots it has, for how many chains it was opened, how
+-- many of them were drawn, and how many files each may install
+pub record HasRoomLeft (o : Opening) (v : PassView) (size chains drawn most : ℕ) : Type 0 where
+  pub slots : size ≡ size_of o
+  pub all : chains ≡ o.chains
+  pub given : drawn ≡ v.chain
+  pub few_given : drawn ≤ chains
+  pub few_chains : chains ≤ MAX_CHAINS
+  pub installs : most ≤ o.numbers
+
+-- a ring with a list of passes, of which one is meant
+abbrev pub ring_shown : {P : Type 0} → (P → PassView) → List FileEntry → Opening → ℕ → ℕ → List P
+    → RingContents
+ring_shown V catalogue o submissions registrations [] =
+    ring_led_by catalogue o (new_pass 1) submissions registrations
+ring_shown V catalogue o submissions registrations (pass ∷ others) =
+    ring_led_by catalogue o (V pass) submissions registrations
+
+-- what a ring with an open table keeps
+abbrev pub IsKeptOpen : {P : Type 0} → (P → PassView) → (P → Type 0) → List FileEntry → Opening
+    → ℕ → ℕ → ℕ → ℕ → ℕ → ℕ → List P → Type 0
+IsKeptOpen V Fits catalogue o size chains drawn most submissions registrations [] = ⊥
+IsKeptOpen V Fits catalogue o size chains drawn most submissions registrations (pass ∷ others) =
+    (others ≡ []) × IsAloneAt V Fits o pass × HasRoomLeft o (V pass) size chains drawn most
+    × IsAtRest (ring_led_by catalogue o (V pass) submissions registrations)
+
+-- what a pass alone did for a submission, from one moment at which all was settled to another, is
+-- one history
+abbrev pub PartIsOneHistory : Type 0
+PartIsOneHistory =
+    (catalogue : List FileEntry) (o : Opening) (before after : PassView) (drawn : List ℕ)
+    (since : List Event) (submissions registrations : ℕ) (requests : List Asked)
+    (completions sorted : List Completed) (closes files : CloseListView)
+    → size_of o ≤ MOST_SLOTS
+    → All IsShortRun (runs_of requests)
+    → IsSettledSoFar o before
+    → IsSettledSoFar o after
+    → All (λ e. e.pass ≡ before.number) before.own
+    → after.own ≡ before.own ▷▷ since
+    → HasWorked catalogue (size_of o) (submissions + 1) (runs_of requests)
+    (worker_state (begun_behind before.chain drawn since after) completions closes)
+    → ((c : ℕ) → 1 ≤ c → c ≤ length (runs_of requests) → Contains drawn c)
+    → IsPermutation completions sorted
+    → IsNonDecreasingBy (λ c. c.place.chain * 32 + c.place.member) sorted
+    → HasClosed closes.files files
+    → IsOneHistory
+    (ring_with catalogue (table_with_files (state_at o before.own)) submissions registrations)
+    requests
+    (record { submission = submissions + 1; completions = sorted; closes = files })
+    (ring_with catalogue (table_with_files (state_at o after.own)) (submissions + 1) registrations)
