@@ -12,6 +12,8 @@ mod effects;
 #[cfg(test)]
 mod gates;
 #[cfg(test)]
+mod open_rings;
+#[cfg(test)]
 mod refused;
 #[cfg(test)]
 mod refusing;
