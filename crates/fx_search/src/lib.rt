@@ -11,10 +11,14 @@ mod doubt;
 mod limits;
 mod node;
 mod packed;
+mod plans;
 mod search;
+mod step;
 mod steps;
 mod strand;
 mod tally;
+mod tracks;
+mod walk;
 
 pub use cell::{Cell, apply, cell_at};
 pub use certificate::{Web, shows_no_end};

@@ -5,20 +5,11 @@ use crate::claim::{Claim, Leaves, Resident};
 use crate::dead::{is_no_help, may_find};
 use crate::node::is_test;
 use crate::packed::Packing;
+use crate::step::{ClaimAt, Step, bit_behind, number_at, set_number};
 use crate::strand::Strand;
 use crate::tally::Tally;
 use fx_base::NoMemory;
 use std::alloc::Global;
-
-/// A claim, the place of its slot among those of the part, the number of the file that it leaves there, and the class that it
-/// is counted in.
-#[derive(Clone, Copy)]
-pub struct Step<'a> {
-    pub claim: &'a Claim,
-    pub cell: Option<usize>,
-    pub left: Option<u16>,
-    pub class: usize,
-}
 
 /// The claims of chains at some slots.
 #[derive(Drop)]
@@ -34,9 +25,6 @@ pub struct Steps<'a> {
     count: usize,
 }
 
-/// A claim, by its chain and its place among the chain's.
-pub type ClaimAt = (usize, usize);
-
 // The place of a slot among those of a part.
 fn cell_of(cells: &[Cell], slot: u32) -> Option<usize> {
     for i in 0..cells.len() {
@@ -45,20 +33,6 @@ fn cell_of(cells: &[Cell], slot: u32) -> Option<usize> {
         }
     }
     None
-}
-
-/// The number at a place of a packed state.
-pub(crate) fn number_at(row: &[u16], place: usize) -> u16 {
-    match row.get(place) {
-        Some(number) => *number,
-        None => 0,
-    }
-}
-
-fn set_number(row: &mut [u16], place: usize, number: u16) {
-    if place < row.len() {
-        row[place] = number;
-    }
 }
 
 // Notes a file of a slot, and answers its number.
@@ -137,6 +111,7 @@ impl<'a> Steps<'a> {
                 cell: None,
                 left: None,
                 class: 0,
+                bit: 0,
             });
         };
         let cell = cell_of(&self.packing.cells, *slot);
@@ -153,11 +128,16 @@ impl<'a> Steps<'a> {
             Some(cell) if cell < self.classes.len() => self.classes[cell].class_of(claim)?,
             _ => 0,
         };
+        let before = match cell {
+            Some(cell) => self.at.get(cell).map(|claims| claims.len()),
+            None => None,
+        };
         Ok(Step {
             claim,
             cell,
             left,
             class,
+            bit: bit_behind(before),
         })
     }
 
@@ -187,6 +167,24 @@ impl<'a> Steps<'a> {
     pub(crate) fn next_of(&self, row: &[u16], chain: usize) -> Option<Step<'a>> {
         let steps = self.chains.get(chain)?;
         steps.get(number_at(row, chain) as usize).copied()
+    }
+
+    /// The claims of a slot, each with its chain, those of the first chain first.
+    pub(crate) fn claims_at(
+        &self,
+        alloc: Global,
+        cell: usize,
+    ) -> Result<Vec<(usize, Step<'a>)>, NoMemory> {
+        let mut claims = Vec::new(alloc);
+        let Some(places) = self.at.get(cell) else {
+            return Ok(claims);
+        };
+        for (chain, k) in places {
+            if let Some(step) = self.chains.get(*chain).and_then(|own| own.get(*k)) {
+                claims.push((*chain, *step))?;
+            }
+        }
+        Ok(claims)
     }
 
     // The claim of a chain at a place, where it is still to be made.
