@@ -49,4 +49,4 @@ def parts():
     crossed = ["open a at 5 link", "read 6 0 1", "open b at 6 link", "read 5 0 1"]
     told = ["1.6.1 0", "1.6.2 1 63", "1.7.1 0", "1.7.2 1 63"]
     opened = ["closed 1.6.1.0 a", "closed 1.7.1.0 b"]
-    yield "a later part", *case(crossed, told, both, rest, opened), NOT_LEGAL, "no order of the requests"
+    yield "a later part", *case(crossed, told, both, rest, opened), NOT_LEGAL, "lines 13 and 15 of the text: no order of the requests gives all of these"

@@ -1,28 +1,123 @@
-//! The lines of a submission that tell of a slot, where each of them is right by itself.
+//! The lines of a submission that have no order together, where each of them is right by itself.
 use crate::case::Case;
 use crate::complaint::Complaint;
+use crate::contradiction::Cause;
 use crate::report::Report;
-use fx_base::NoMemory;
+use fx_base::{Errno, NoMemory};
 use fx_chain::{Completion, Op, Request, Target};
-use std::alloc::Global;
+use std::alloc::{AllocError, Global};
 
 /// With more lines than this nobody is helped by them.
 const MOST_LINES: usize = 16;
 
-// Whether the result of a request depends on what is at a slot, or at any slot.
-fn depends_on(request: &Request, completion: &Completion, slot: Option<u32>) -> bool {
-    let own = match &request.op {
+// Whether the result of a request depends on what is at the slots that are looked at, one of which may be of the allocation range.
+fn depends_on(cause: &Cause<'_>, has_range: bool, request: &Request, it: &Completion) -> bool {
+    if it.res == -Errno::ECANCELED.code() {
+        return false;
+    }
+    match &request.op {
+        Op::Read { slot, .. } | Op::Close { slot } => cause.has_slot(*slot),
         Op::Open {
             target: Target::Any,
             ..
-        } => u32::try_from(completion.res).ok(),
-        Op::Read { slot, .. } | Op::Close { slot } => Some(*slot),
-        _ => return false,
-    };
-    completion.res != -125 && (slot.is_none() || own == slot)
+        } => match u32::try_from(it.res) {
+            Ok(slot) => cause.has_slot(slot),
+            Err(_) => has_range && it.res == -Errno::ENFILE.code(),
+        },
+        _ => false,
+    }
 }
 
-/// The lines that have no order together, as a search found of a slot or of all; none where these are too many to be told.
+// The lines of the requests whose results depend on the slots that are looked at.
+fn completions_at(
+    alloc: Global,
+    cause: &Cause<'_>,
+    case: &Case<'_>,
+    report: &Report,
+) -> Result<Vec<usize>, AllocError> {
+    let has_range = cause.has_range();
+    let mut lines = Vec::new(alloc);
+    for (at, (request, it)) in case
+        .requests
+        .iter()
+        .zip(report.completions.iter())
+        .enumerate()
+    {
+        if depends_on(cause, has_range, request, it) {
+            lines.push(at)?;
+        }
+    }
+    Ok(lines)
+}
+
+// The lines of the files that were closed from there.
+fn closes_at(alloc: Global, cause: &Cause<'_>, report: &Report) -> Result<Vec<usize>, AllocError> {
+    let mut lines = Vec::new(alloc);
+    for i in &report.closes {
+        if let Some(it) = report.files.get(*i) {
+            if let (true, Some(line)) = (cause.has_slot(it.slot), it.closed) {
+                lines.push(line)?;
+            }
+        }
+    }
+    Ok(lines)
+}
+
+// Those of the lines that may be left out: an open at any slot could have come to another one.
+fn optional(alloc: Global, case: &Case<'_>, lines: &[usize]) -> Result<Vec<usize>, AllocError> {
+    let mut those = Vec::new(alloc);
+    for line in lines {
+        if let Some(request) = case.requests.get(*line) {
+            if matches!(request.op, Op::Read { .. } | Op::Close { .. }) {
+                those.push(*line)?;
+            }
+        }
+    }
+    Ok(those)
+}
+
+// Adds the lines that weren't left out.
+fn push_left(
+    lines: &mut Vec<usize>,
+    cause: &Cause<'_>,
+    others: &[usize],
+) -> Result<(), AllocError> {
+    for line in others {
+        if cause.has_line(*line) {
+            lines.push(*line)?;
+        }
+    }
+    Ok(())
+}
+
+// That these lines have no order together.
+fn why_of(
+    alloc: Global,
+    cause: &Cause<'_>,
+    is_one: bool,
+    slot: Option<u32>,
+) -> Result<String, AllocError> {
+    let mut why = String::new(alloc);
+    why.push_str("no order of the requests gives ")?;
+    why.push_str(if is_one { "this one" } else { "all of these" })?;
+    if let Some(slot) = slot {
+        why.push_str(if is_one {
+            ", which tells"
+        } else {
+            ", which tell"
+        })?;
+        write!(why, " of slot {slot}")?;
+    }
+    if cause.are_all() {
+        why.push_str(", and closes no other file")?;
+    }
+    if !is_one && !cause.is_sure() {
+        why.push_str("; fewer of them may contradict each other")?;
+    }
+    Ok(why)
+}
+
+/// Lines that have no order together, as a search found of a slot or of all; none where these are too many to be told.
 ///
 /// # Errors
 /// Where memory is refused.
@@ -32,31 +127,25 @@ pub fn no_order(
     report: &Report,
     slot: Option<u32>,
 ) -> Result<Option<Complaint>, NoMemory> {
+    let mut cause = Cause::new(alloc, case, report)?;
+    let is_seen = cause.look_at(slot)?;
+    let completions = completions_at(alloc, &cause, case, report)?;
+    let closes = closes_at(alloc, &cause, report)?;
     let mut lines = Vec::new(alloc);
-    for (at, (request, it)) in case
-        .requests
-        .iter()
-        .zip(report.completions.iter())
-        .enumerate()
-    {
-        if depends_on(request, it, slot) {
-            lines.push(at)?;
-        }
+    if is_seen {
+        cause.leave_out_all(&closes)?;
+        cause.leave_out_all(&optional(alloc, case, &completions)?)?;
+        push_left(&mut lines, &cause, &completions)?;
+        push_left(&mut lines, &cause, &closes)?;
     }
-    for i in &report.closes {
-        if let Some(it) = report.files.get(*i) {
-            if let (true, Some(line)) = (slot.is_none() || Some(it.slot) == slot, it.closed) {
-                lines.push(line)?;
-            }
-        }
+    if lines.is_empty() {
+        cause.keep_all();
+        push_left(&mut lines, &cause, &completions)?;
+        push_left(&mut lines, &cause, &closes)?;
     }
     if lines.is_empty() || lines.len() > MOST_LINES {
         return Ok(None);
     }
-    let mut why = String::new(alloc);
-    why.push_str("no order of the requests gives all of these")?;
-    if let Some(slot) = slot {
-        write!(why, ", which tell of slot {slot}")?;
-    }
+    let why = why_of(alloc, &cause, lines.len() == 1, slot)?;
     Ok(Some(Complaint::Lines(lines, why)))
 }

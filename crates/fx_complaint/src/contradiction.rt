@@ -1,0 +1,380 @@
+//! Lines that have no order together, and of which none can be left out: lines are left out, and it is searched again.
+use crate::case::Case;
+use crate::joined::Joined;
+use crate::report::{Installed, Report};
+use crate::told::{Left, claims_told, question_of};
+use fx_base::NoMemory;
+use fx_search::{Found, Limits, Steps, explore};
+use std::alloc::{AllocError, Global};
+
+/// How many searches there are at most, how many lines they go through, and how many states they meet in all; how many are met
+/// with each line, and how many where lines are left out.
+const SEARCHES: usize = 1_000;
+
+const LINES: usize = 4_000_000;
+
+const STATES: usize = 200_000;
+
+const FIRST_STATES: usize = 50_000;
+
+const MORE_STATES: usize = 20_000;
+
+/// How many bytes the states of a search take.
+const BYTES: usize = 67_108_864;
+
+/// In how many ways files may stay or be closed of which no line tells it.
+const WAYS: usize = 64;
+
+/// A search for lines that have no order together.
+#[derive(Drop)]
+pub struct Cause<'a> {
+    alloc: Global,
+    case: &'a Case<'a>,
+    report: &'a Report,
+    // The slots that are looked at.
+    slots: Vec<bool>,
+    // Whether no other file is closed than those that have a line; and the slots at which one of the others is, so that no
+    // further file stays there.
+    are_all: bool,
+    kept: Vec<bool>,
+    left: Left,
+    searches: usize,
+    states: usize,
+    // Whether each line that wasn't left out was seen to be needed.
+    is_sure: bool,
+}
+
+// Sets a flag of a list, if it has the place.
+fn set(list: &mut [bool], place: usize, flag: bool) {
+    if let Some(it) = list.get_mut(place) {
+        *it = flag;
+    }
+}
+
+// So many times a flag.
+fn flags(alloc: Global, count: usize, flag: bool) -> Result<Vec<bool>, AllocError> {
+    let mut list = Vec::new(alloc);
+    for _ in 0..count {
+        list.push(flag)?;
+    }
+    Ok(list)
+}
+
+// In how many ways at most one file of each group may stay.
+fn ways_of(groups: &[Vec<usize>]) -> usize {
+    let mut ways = 1usize;
+    for group in groups {
+        ways = ways.saturating_mul(group.len().saturating_add(1));
+    }
+    ways
+}
+
+impl<'a> Cause<'a> {
+    /// A search that leaves no line out yet, and looks at no slot.
+    ///
+    /// # Errors
+    /// Where memory is refused.
+    pub fn new(
+        alloc: Global,
+        case: &'a Case<'a>,
+        report: &'a Report,
+    ) -> Result<Cause<'a>, AllocError> {
+        let mut kept = flags(alloc, case.size(), false)?;
+        for it in &report.files {
+            if it.closed.is_none() {
+                set(&mut kept, it.slot as usize, true);
+            }
+        }
+        let lines = report.completions.len().saturating_add(report.closes.len());
+        let left = Left {
+            out: flags(alloc, lines, false)?,
+            stays: flags(alloc, report.files.len(), false)?,
+            swept: Vec::new(alloc),
+        };
+        Ok(Cause {
+            alloc,
+            case,
+            report,
+            slots: flags(alloc, case.size(), false)?,
+            are_all: false,
+            kept,
+            left,
+            searches: SEARCHES.min(LINES.checked_div(lines).unwrap_or(SEARCHES)),
+            states: STATES,
+            is_sure: true,
+        })
+    }
+
+    /// Whether a slot is looked at.
+    pub fn has_slot(&self, slot: u32) -> bool {
+        matches!(self.slots.get(slot as usize), Some(true))
+    }
+
+    /// Whether a slot of the allocation range is looked at.
+    pub fn has_range(&self) -> bool {
+        let (first, count) = self.case.slots.range;
+        for (slot, is_looked_at) in self.slots.iter().enumerate() {
+            let behind = slot.checked_sub(first as usize);
+            if *is_looked_at && matches!(behind, Some(behind) if behind < count as usize) {
+                return true;
+            }
+        }
+        false
+    }
+
+    /// Whether a line wasn't left out.
+    pub fn has_line(&self, line: usize) -> bool {
+        !matches!(self.left.out.get(line), Some(true))
+    }
+
+    /// Whether the lines have no order where no other file is closed than those that have a line.
+    pub fn are_all(&self) -> bool {
+        self.are_all
+    }
+
+    /// Whether each line that wasn't left out was seen to be needed.
+    pub fn is_sure(&self) -> bool {
+        self.is_sure
+    }
+
+    /// Looks at this slot, or at those that chains join and of which it is first seen that the lines have no order there, and
+    /// else at all. It answers whether that was seen.
+    ///
+    /// # Errors
+    /// Where memory is refused.
+    pub fn look_at(&mut self, slot: Option<u32>) -> Result<bool, NoMemory> {
+        if let Some(slot) = slot {
+            set(&mut self.slots, slot as usize, true);
+            return self.sees_no_order();
+        }
+        let size = self.case.size();
+        let all = flags(self.alloc, size, true)?;
+        let (_, chains) = claims_told(self.alloc, self.case, self.report, &self.left, &all)?;
+        let joined = Joined::new(self.alloc, size, self.case.slots.range, &chains)?;
+        for label in 0..size {
+            if let Some(slots) = joined.group(self.alloc, label)? {
+                self.slots = slots;
+                if self.sees_no_order()? {
+                    return Ok(true);
+                }
+            }
+        }
+        self.slots = all;
+        Ok(false)
+    }
+
+    // Whether it is seen that the lines have no order, whatever other files are closed, or else where no other one is.
+    fn sees_no_order(&mut self) -> Result<bool, NoMemory> {
+        for are_all in [false, true] {
+            self.are_all = are_all;
+            if self.has_no_order(FIRST_STATES)? == Some(true) {
+                return Ok(true);
+            }
+        }
+        Ok(false)
+    }
+
+    // Whether nothing tells if a file is closed. Where one stays that has no line, each other one is closed.
+    fn is_free(&self, it: &Installed) -> bool {
+        match it.closed {
+            Some(line) => {
+                let is_kept = matches!(self.kept.get(it.slot as usize), Some(true));
+                !self.has_line(line) && !(self.are_all && is_kept)
+            }
+            None => !self.are_all,
+        }
+    }
+
+    // For each slot the files of which nothing tells if they are closed: one of them may stay.
+    fn free_files(&self) -> Result<Vec<Vec<usize>>, NoMemory> {
+        let mut groups: Vec<Vec<usize>> = Vec::new(self.alloc);
+        for (i, it) in self.report.files.iter().enumerate() {
+            if self.has_slot(it.slot) && self.is_free(it) {
+                self.push_free(&mut groups, i, it.slot)?;
+            }
+        }
+        Ok(groups)
+    }
+
+    // The slot of a group of files.
+    fn slot_of(&self, group: &[usize]) -> Option<u32> {
+        let first = group.first()?;
+        let it = self.report.files.get(*first)?;
+        Some(it.slot)
+    }
+
+    // Adds a file to those at its slot.
+    fn push_free(
+        &self,
+        groups: &mut Vec<Vec<usize>>,
+        file: usize,
+        slot: u32,
+    ) -> Result<(), AllocError> {
+        for group in groups.iter_mut() {
+            if self.slot_of(group.as_slice()) == Some(slot) {
+                return Ok(group.push(file)?);
+            }
+        }
+        let mut group = Vec::new(self.alloc);
+        group.push(file)?;
+        Ok(groups.push(group)?)
+    }
+
+    // Which file of a group stays first, from 1: the one that has no line. 0 for none.
+    fn first_choice(&self, group: &[usize]) -> usize {
+        for (i, file) in group.iter().enumerate() {
+            if matches!(self.report.files.get(*file), Some(it) if it.closed.is_none()) {
+                return i.saturating_add(1);
+            }
+        }
+        0
+    }
+
+    // Lets files stay in one of the ways. In the first one those stay that have no line.
+    fn choose(&mut self, groups: &[Vec<usize>], way: usize) {
+        for (i, it) in self.report.files.iter().enumerate() {
+            set(&mut self.left.stays, i, it.closed.is_none());
+        }
+        let mut rest = way;
+        for group in groups {
+            let ways = group.len().saturating_add(1);
+            let choice = rest
+                .saturating_add(self.first_choice(group))
+                .checked_rem(ways);
+            rest = rest.checked_div(ways).unwrap_or(0);
+            for (i, file) in group.iter().enumerate() {
+                set(
+                    &mut self.left.stays,
+                    *file,
+                    Some(i.saturating_add(1)) == choice,
+                );
+            }
+        }
+    }
+
+    // Whether the lines that aren't left out have no order, where the files stay that were chosen, and how many states that
+    // took; none if it isn't seen.
+    fn search(&mut self, most: usize) -> Result<(Option<bool>, usize), NoMemory> {
+        let states = most.min(self.states);
+        if self.searches == 0 || states == 0 {
+            return Ok((None, 0));
+        }
+        self.searches = self.searches.saturating_sub(1);
+        let asked = question_of(self.alloc, self.case, self.report, &self.left, &self.slots)?;
+        let steps = Steps::new(self.alloc, &asked.strands, &asked.cells)?;
+        let limits = Limits {
+            states,
+            bytes: BYTES,
+        };
+        let (rows, found) = explore(self.alloc, &steps, limits)?;
+        self.states = self.states.saturating_sub(rows.len());
+        let seen = match found {
+            Found::NoEnd => Some(true),
+            Found::Order(_) => Some(false),
+            Found::Stopped(_) => None,
+        };
+        Ok((seen, rows.len()))
+    }
+
+    // The same where none of the files in groups stays, and the last one of each group goes at any time. Where the lines have no
+    // order so, they have none whichever of these files stay.
+    fn sweep(
+        &mut self,
+        groups: &[Vec<usize>],
+        most: usize,
+    ) -> Result<(Option<bool>, usize), NoMemory> {
+        for group in groups {
+            for file in group {
+                set(&mut self.left.stays, *file, false);
+            }
+            if let Some(slot) = self.slot_of(group) {
+                self.left.swept.push(slot)?;
+            }
+        }
+        let seen = self.search(most)?;
+        self.left.swept.clear();
+        Ok(seen)
+    }
+
+    // Whether the lines that aren't left out have no order, whatever files are closed of which no line tells it; none if it isn't
+    // seen.
+    fn has_no_order(&mut self, most: usize) -> Result<Option<bool>, NoMemory> {
+        let groups = self.free_files()?;
+        let (mut left, ways) = (most, ways_of(&groups));
+        self.choose(&groups, 0);
+        if ways > 1 {
+            let (seen, states) = self.sweep(&groups, left)?;
+            if seen == Some(true) {
+                return Ok(seen);
+            }
+            left = left.saturating_sub(states);
+        }
+        for way in 0..ways.min(WAYS) {
+            self.choose(&groups, way);
+            let (seen, states) = self.search(left)?;
+            if seen != Some(true) {
+                return Ok(seen);
+            }
+            left = left.saturating_sub(states);
+        }
+        Ok(if ways > WAYS { None } else { Some(true) })
+    }
+
+    // Leaves lines out, if the others have no order without them.
+    fn leave_out(&mut self, lines: &[usize]) -> Result<(), NoMemory> {
+        for line in lines {
+            set(&mut self.left.out, *line, true);
+        }
+        let seen = self.has_no_order(MORE_STATES)?;
+        if seen == Some(true) {
+            return Ok(());
+        }
+        for line in lines {
+            set(&mut self.left.out, *line, false);
+        }
+        if seen.is_none() && lines.len() == 1 {
+            self.is_sure = false;
+        }
+        Ok(())
+    }
+
+    // Leaves lines out, so many at a time, which still stand.
+    fn leave_out_by(&mut self, lines: &[usize], size: usize) -> Result<(), NoMemory> {
+        let mut own = Vec::new(self.alloc);
+        for (i, line) in lines.iter().enumerate() {
+            if self.has_line(*line) {
+                own.push(*line)?;
+            }
+            let is_last = i.saturating_add(1) == lines.len();
+            if !own.is_empty() && (own.len() >= size || is_last) {
+                self.leave_out(&own)?;
+                own.clear();
+            }
+        }
+        Ok(())
+    }
+
+    /// Leaves out which of some lines it may: halves of them first, and at last each by itself.
+    ///
+    /// # Errors
+    /// Where memory is refused.
+    pub fn leave_out_all(&mut self, lines: &[usize]) -> Result<(), NoMemory> {
+        let mut size = lines.len();
+        for _ in 0..lines.len() {
+            size = size.saturating_add(1) / 2;
+            self.leave_out_by(lines, size)?;
+            if size <= 1 {
+                break;
+            }
+        }
+        Ok(())
+    }
+
+    /// Leaves out no line, where nothing is seen of fewer.
+    pub fn keep_all(&mut self) {
+        for line in self.left.out.iter_mut() {
+            *line = false;
+        }
+        self.is_sure = false;
+    }
+}

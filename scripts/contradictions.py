@@ -1,0 +1,118 @@
+"""Whether lines that fixcheck names as having no order have none, and whether one can be left out: looked at in every order of the
+requests of a submission on scripts/model.py, one step at a time.
+
+A line that isn't named, or that is left out, says nothing: its request may answer what it does, where that leaves the requests behind
+it in its chain canceled or not as in the text; and a file may be closed or not. Lines of opens at any slot are never left out. Where
+lines tell of one slot, what is done at the others is left out."""
+import re
+
+from model import ECANCELED, Player, chains_of, severs
+from orders import Search, TooManyOrders, completion_of, pieces_of, reached
+
+SAYS, OF_SLOT = "no order of the requests gives ", re.compile(r"which tells? of slot (\d+)")
+CLOSES_NO_OTHER, FEWER = "and closes no other file", "fewer of them may contradict"
+
+
+class Step:
+    """A request of a text, or one entry of an update: its line, from 0, the result and the bytes there, and whether the next request of
+    its chain is canceled, or None where that doesn't depend on it."""
+
+    def __init__(self, line, place, request, linked_by, told, behind):
+        self.line, self.place, self.request, self.linked_by, self.told, self.behind = line, place, request, linked_by, told, behind
+
+    def slot(self):
+        """The slot that it comes to, or None where it finds all full."""
+        kind, *words = self.request
+        if kind != "open":
+            return words[0]
+        return words[1] if words[1] is not None else self.told[0] if self.told[0] >= 0 else None
+
+    def may_be_left_out(self):
+        return self.request[0] in ("read", "close")
+
+    def leaves_chain(self, res):
+        """Whether the rest of the chain is as in the text, where it answers this and its line says nothing. A read may want memory."""
+        if self.behind is None:
+            return True
+        is_severed = severs(self.request, self.linked_by, res)
+        return is_severed == self.behind or self.behind and self.request[0] == "read" and self.request[3] > 0
+
+
+class Submission:
+    """A submission of a text, by its command: the player in front of it, the steps of each chain, and the lines of closed files, by
+    their places. What stands at the slots in front of it is known by the files that were closed before."""
+
+    def __init__(self, script, lines, command, slot):
+        search, self.player, at = Search(lines, splits=True), Player(script.files), 0
+        for earlier in script.commands[: command - 1]:
+            self.player, at = next(search.after(self.player, earlier, at))
+        self.player.submissions += 1
+        self.chains, self.closed = [], {}
+        for nth, chain in enumerate(chains_of(script.commands[command - 1][1]), 1):
+            self.chains.append([it for it in self.steps_of(nth, chain, lines, at) if slot is None or it.slot() in (slot, None)])
+            at += len(chain)
+        if slot is not None:
+            # an open that finds the range full finds a file at this slot, if it is there; nothing is known of the others
+            self.player.range = (slot, 1) if slot in range(self.player.range[0], sum(self.player.range)) else (0, 0)
+        while at < len(lines) and lines[at].startswith("closed "):
+            self.closed[at] = lines[at]
+            at += 1
+
+    def steps_of(self, nth, chain, lines, at):
+        steps = []
+        told = [completion_of(lines[at + it], (self.player.submissions, nth, it + 1)) for it in range(len(chain))]
+        for member, (request, linked_by) in enumerate(chain):
+            res, got = told[member]
+            if res == -ECANCELED:
+                continue
+            behind = told[member + 1][0] == -ECANCELED if linked_by == "link" and member + 1 < len(chain) else None
+            place = self.player.submissions, nth, member + 1
+            steps += [Step(at + member, place, piece, linked_by, (it, got), behind) for piece, it in pieces_of(request, res)]
+        return steps
+
+    def has_order(self, named, closes_no_other, most):
+        """Whether the requests have an order that gives the lines that are named."""
+        def moves(player, at):
+            for nth, chain in enumerate(self.chains):
+                if at[nth] < len(chain):
+                    step, after = chain[at[nth]], player.copy()
+                    after.wanted = step.told[0]
+                    answer = after.perform(step.place, step.request)
+                    if answer == step.told or step.line not in named and step.may_be_left_out() and step.leaves_chain(answer[0]):
+                        yield after, (*at[:nth], at[nth] + 1, *at[nth + 1 :])
+
+        goal, seen = tuple(map(len, self.chains)), 0
+        for player, at in reached((self.player.copy(), (0,) * len(self.chains)), moves):
+            seen += 1
+            if seen > most:
+                raise TooManyOrders
+            if at == goal and self.closes(player, named, closes_no_other):
+                return True
+        return False
+
+    def closes(self, player, named, closes_no_other):
+        closed = {it for it in player.copy().closed_lines() if it.startswith("closed ")}
+        return {it for nth, it in self.closed.items() if nth in named} <= closed and (not closes_no_other or closed <= set(self.closed.values()))
+
+    def optional(self, named):
+        """Those of the lines that may be left out."""
+        reads = {step.line for chain in self.chains for step in chain if step.may_be_left_out()}
+        return [it for it in named if it in reads or it in self.closed]
+
+
+def complaint_of(script, text, said, most=20_000):
+    """What is wrong with the lines that a verdict, `said`, names as having no order; None where nothing is. TooManyOrders where that
+    isn't looked at."""
+    lines, command = text.split("\n")[:-1], int(re.search(r"command (\d+)", said[0])[1])
+    of_slot = OF_SLOT.search(said[0])
+    submission = Submission(script, lines, command, int(of_slot[1]) if of_slot else None)
+    named = {int(re.match(r" +(\d+): ", it)[1]) - 1 for it in said[1:]}
+    closes_no_other = CLOSES_NO_OTHER in said[0]
+    if submission.has_order(named, closes_no_other, most):
+        return f"an order gives the lines {sorted(it + 1 for it in named)}"
+    if FEWER in said[0]:
+        return None
+    for line in submission.optional(named):
+        if not submission.has_order(named - {line}, closes_no_other, most):
+            return f"line {line + 1} may be left out"
+    return None
