@@ -6,7 +6,7 @@ PREFIX ?= /usr/local
 export SCRIPT TEXT N PREFIX DESTDIR
 VARIABLES := SCRIPT TEXT N CRATE CRATES PREFIX DESTDIR
 
-ifeq ($(wildcard scripts/need-script),)
+ifeq ($(wildcard scripts/need),)
 $(error Call make in the folder of this Makefile: make -C '$(patsubst %/,%,$(dir $(abspath $(lastword $(MAKEFILE_LIST)))))')
 endif
 given := $(foreach it,$(.VARIABLES),$(if $(filter command,$(origin $(it))),$(it)))
@@ -62,7 +62,7 @@ try:
 	@scripts/try-script
 
 check:
-	@scripts/run-check
+	@scripts/run-script check
 
 litmus:
 	@scripts/litmus
@@ -95,7 +95,7 @@ texts:
 
 pictures:
 	@scripts/build-program fx_check_cli fixcheck
-	@scripts/draw-pictures bin/fixcheck
+	@scripts/check-pictures bin/fixcheck --draw
 
 workers:
 	@scripts/build-program
@@ -150,7 +150,7 @@ bench-rust:
 	@scripts/bench-rust
 
 gate:
-	@scripts/need-toolchain
+	@scripts/need toolchain
 	@rt ci
 
 clean:

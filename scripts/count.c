@@ -1,12 +1,17 @@
-/* Preloaded before a program. It counts the threads that the program makes, the bytes of memory that it asks for by malloc,
- * calloc, realloc and aligned_alloc, and its writes to standard output. It keeps them in the file that the variable COUNTS
- * names, as numbers of 8 bytes: the threads, the bytes, the writes, and what each of the first 64 writes was given.
- * scripts/check-workers reads it. */
+/* Preloaded before a program. It counts the threads that the program makes, the bytes of memory that it asks for, its growths
+ * and its writes to standard output, and keeps them in the file that the variable COUNTS names, as numbers of 8 bytes: the
+ * threads, the bytes, the growths, the writes, and what each of the first 64 writes was given. So they are there however the
+ * program ends. scripts/counts.py reads them.
+ *
+ * Growths are the calls of malloc, calloc, realloc, posix_memalign and aligned_alloc from the begin of main to its end. The
+ * one whose number the variable REFUSED_GROWTH has, from 1 on, is refused, where it has one. */
 #define _GNU_SOURCE
 #include <dlfcn.h>
+#include <errno.h>
 #include <fcntl.h>
 #include <pthread.h>
 #include <stdatomic.h>
+#include <stdbool.h>
 #include <stddef.h>
 #include <stdint.h>
 #include <stdlib.h>
@@ -16,6 +21,8 @@
 
 enum { KEPT = 64 };
 
+typedef int Main(int, char **, char **);
+typedef int Start(Main *, int, char **, void (*)(void), void (*)(void), void (*)(void), void *);
 typedef int Create(pthread_t *, const pthread_attr_t *, void *(*)(void *), void *);
 
 /* the C library's own, under names that nobody else defines */
@@ -25,10 +32,13 @@ extern void *__libc_realloc(void *, size_t);
 extern void *__libc_memalign(size_t, size_t);
 
 struct counts {
-    _Atomic uint64_t threads, bytes, writes, given[KEPT];
+    _Atomic uint64_t threads, bytes, growths, writes, given[KEPT];
 };
 
 static struct counts none, *counts = &none;
+static Main *main_of_the_program;
+static _Atomic bool is_in_main;
+static uint64_t refused;
 
 __attribute__((constructor)) static void map_counts(void)
 {
@@ -38,35 +48,46 @@ __attribute__((constructor)) static void map_counts(void)
         _exit(77);
     close(file);
     counts = there;
+    if (getenv("REFUSED_GROWTH") != NULL)
+        refused = strtoull(getenv("REFUSED_GROWTH"), NULL, 10);
 }
 
-static void add_bytes(size_t size)
+static bool is_refused(size_t size)
 {
     atomic_fetch_add(&counts->bytes, size);
+    if (!atomic_load(&is_in_main) || atomic_fetch_add(&counts->growths, 1) + 1 != refused)
+        return false;
+    errno = ENOMEM;
+    return true;
 }
 
 void *malloc(size_t size)
 {
-    add_bytes(size);
-    return __libc_malloc(size);
+    return is_refused(size) ? NULL : __libc_malloc(size);
 }
 
 void *calloc(size_t count, size_t size)
 {
-    add_bytes(count * size);
-    return __libc_calloc(count, size);
+    return is_refused(count * size) ? NULL : __libc_calloc(count, size);
 }
 
 void *realloc(void *old, size_t size)
 {
-    add_bytes(size);
-    return __libc_realloc(old, size);
+    return is_refused(size) ? NULL : __libc_realloc(old, size);
 }
 
 void *aligned_alloc(size_t alignment, size_t size)
 {
-    add_bytes(size);
-    return __libc_memalign(alignment, size);
+    return is_refused(size) ? NULL : __libc_memalign(alignment, size);
+}
+
+int posix_memalign(void **made, size_t alignment, size_t size)
+{
+    void *memory = is_refused(size) ? NULL : __libc_memalign(alignment, size);
+    if (memory == NULL)
+        return ENOMEM;
+    *made = memory;
+    return 0;
 }
 
 ssize_t write(int file, const void *bytes, size_t size)
@@ -84,4 +105,20 @@ int pthread_create(pthread_t *thread, const pthread_attr_t *how, void *(*start)(
     Create *create = (Create *)dlsym(RTLD_NEXT, "pthread_create");
     atomic_fetch_add(&counts->threads, 1);
     return create(thread, how, start, with);
+}
+
+static int counted_main(int count, char **words, char **variables)
+{
+    atomic_store(&is_in_main, true);
+    int status = main_of_the_program(count, words, variables);
+    atomic_store(&is_in_main, false);
+    return status;
+}
+
+int __libc_start_main(Main *main, int count, char **words, void (*begin)(void), void (*end)(void),
+                      void (*end_of_loader)(void), void *stack)
+{
+    Start *start = (Start *)dlsym(RTLD_NEXT, "__libc_start_main");
+    main_of_the_program = main;
+    return start(counted_main, count, words, begin, end, end_of_loader, stack);
 }

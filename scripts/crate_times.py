@@ -1,9 +1,9 @@
 """How long crates take: which crate stands on which, the seconds of scripts/seconds.txt, and how long some are expected to take in
 lanes that prove beside each other."""
-import os
 import re
 
-ROOT = os.path.dirname(os.path.dirname(os.path.abspath(__file__)))
+from repository import read
+
 # a crate of which nothing was measured
 UNMEASURED = 100
 # what a crate takes that was proved before and hasn't changed
@@ -13,19 +13,17 @@ KEPT = 1
 def crates():
     """Each crate of crates.txt with those of them that it stands on, in the order of the file."""
     found = {}
-    with open(f"{ROOT}/crates.txt", encoding="utf-8") as file:
-        for line in file:
-            left, colon, right = line.partition("#")[0].partition(":")
-            if colon:
-                found[left.split()[0]] = right.split()
+    for line in read("crates.txt").splitlines():
+        left, colon, right = line.partition("#")[0].partition(":")
+        if colon:
+            found[left.split()[0]] = right.split()
     return {name: [it for it in below if it in found] for name, below in found.items()}
 
 
 def measured():
     """The processor seconds of each crate that was measured: of its proof, and of its tests."""
-    with open(f"{ROOT}/scripts/seconds.txt", encoding="utf-8") as file:
-        rows = (line.split() for line in file if re.match(r"\w", line))
-        return {name: (int(proof), int(tests)) for name, proof, tests in rows}
+    rows = (line.split() for line in read("scripts/seconds.txt").splitlines() if re.match(r"\w", line))
+    return {name: (int(proof), int(tests)) for name, proof, tests in rows}
 
 
 def needed(root, below):

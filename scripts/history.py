@@ -3,16 +3,9 @@ has it. A history is legal where each of its steps may be taken in the state tha
 
 A file is its number here. Where a step may not be taken, `Illegal` says why."""
 
+from illegal import want
+
 FRESH, REMOVED, CLOSED = "fresh", "removed", "closed"
-
-
-class Illegal(Exception):
-    """A step that may not be taken where it stands."""
-
-
-def want(holds, complaint, *words):
-    if not holds:
-        raise Illegal(complaint.format(*words))
 
 
 def changed(items, at, it):

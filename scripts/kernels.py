@@ -5,26 +5,23 @@ order (scripts/orders.py), by rules that docs/LINUX.md lists by their names. Whe
 scripts/orders.py has the word."""
 import collections
 import functools
-import glob
 import os
 import re
-import subprocess
 import sys
-import tempfile
 from typing import NamedTuple
 
-HERE = os.path.dirname(os.path.abspath(__file__))
-ROOT = os.path.dirname(HERE)
-sys.path.append(os.path.join(ROOT, "linux"))
 from model import REGISTRATIONS, SUBMISSIONS, Script, play
 from orders import TooManyOrders, ending_of
+from programs import LEGAL, NOT_LEGAL, UNDECIDED, run, verdict
+from repository import HERE, ROOT, read, write
+
+sys.path.append(os.path.join(ROOT, "linux"))
 from rules import Linux
 
 PLAYER = os.path.join(ROOT, "build/play-on-kernel")
 FIXCHECK = os.path.join(ROOT, "bin/fixcheck")
 # the player's status where a line can't be said to a kernel, and scripts/play-on-kernel's where there is none to play on
 CANT_SAY, NO_KERNEL = 78, 77
-LEGAL, NOT_LEGAL, UNDECIDED = 0, 1, 6
 # how many states fixcheck looks at of most texts, and where these don't suffice
 STATES, MOST_STATES = 1_000, 1_000_000
 SAME, ORDER, REFUSED, LEFT_OUT, UNSAID = "same", "order", "refused", "left out", "unsaid"
@@ -33,16 +30,9 @@ SAME, ORDER, REFUSED, LEFT_OUT, UNSAID = "same", "order", "refused", "left out",
 def listed():
     """The names of the differences that docs/LINUX.md lists, since the rows of its first table begin with them; and the version
     of the kernel that they were found on, as 6.18."""
-    with open(os.path.join(ROOT, "docs/LINUX.md"), encoding="utf-8") as page:
-        table = page.read().split("\n## ")[1]
+    table = read("docs/LINUX.md").split("\n## ")[1]
     names = frozenset(re.findall(r"^\| `([a-z_]+)` \|", table, re.MULTILINE))
     return names, re.search(r"^Found on kernel (\d+\.\d+)", table, re.MULTILINE)[1]
-
-
-def files_of(folder):
-    for path in sorted(glob.glob(os.path.join(ROOT, folder, "*.script"))):
-        with open(path, "rb") as file:
-            yield os.path.relpath(path, ROOT), file.read()
 
 
 def large_differences():
@@ -51,15 +41,10 @@ def large_differences():
     yield "too_many_registrations", b"register -1\nunregister\n" * (REGISTRATIONS + 1)
 
 
-def run(command, text, seconds=120):
-    ran = subprocess.run(command, input=text, capture_output=True, timeout=seconds, check=False)
-    return ran.stdout.decode(errors="backslashreplace"), ran.returncode, ran.stderr.decode(errors="backslashreplace")
-
-
 def built_player():
     """Builds the player of this machine's kernel. The status, and the line that says what is missing."""
-    built = subprocess.run([os.path.join(HERE, "play-on-kernel"), "--build"], capture_output=True, text=True, check=False)
-    return built.returncode, (built.stdout + built.stderr).strip().removeprefix("kernel: skipped: ")
+    status, text, message = run([os.path.join(HERE, "play-on-kernel"), "--build"])
+    return status, (text + message).strip().removeprefix("kernel: skipped: ")
 
 
 class Fixcheck:
@@ -71,25 +56,18 @@ class Fixcheck:
     def is_built(self):
         return os.path.exists(self.program)
 
-    def ask(self, path, written, states):
-        said, status, complaint = run([self.program, "--states", str(states), path, "-"], written.encode())
-        if complaint or status not in (LEGAL, NOT_LEGAL, UNDECIDED):
-            raise RuntimeError(f"fixcheck ended with status {status}: {said}{complaint}")
-        return status, said
-
     def verdict(self, text, written):
         """LEGAL, NOT_LEGAL or UNDECIDED, and what it says; None where it isn't there."""
         if not self.is_built():
             return None, ""
-        with tempfile.NamedTemporaryFile(suffix=".script") as file:
-            file.write(text)
-            file.flush()
-            for states in (STATES, MOST_STATES):
-                status, said = self.ask(file.name, written, states)
-                if status != UNDECIDED:
-                    break
+        for states in (STATES, MOST_STATES):
+            status, said, complaint = verdict(self.program, text, written, "--states", str(states))
+            if complaint or status not in (LEGAL, NOT_LEGAL, UNDECIDED):
+                raise RuntimeError(f"fixcheck ended with status {status}: {said}{complaint}")
+            if status != UNDECIDED:
+                break
         self.asked[status, states] += 1
-        return status, said
+        return status, "".join(f"{it}\n" for it in said)
 
 
 class Found(NamedTuple):
@@ -102,28 +80,33 @@ class Found(NamedTuple):
     said: str = ""
 
 
+def ending_by_linux(text, written, shown, splits=False):
+    """The player at the end of a play, by the rules and these differences, that writes the text in some order, or None."""
+    return ending_of(Script(text), written, functools.partial(Linux, shown=shown), splits)
+
+
 def found(fixcheck, text, written, splits=False, shown=frozenset()):
     """How a text stands to what the rules allow."""
-    is_same, (verdict, said) = written == play(text)[0], fixcheck.verdict(text, written)
+    is_same, (status, said) = written == play(text)[0], fixcheck.verdict(text, written)
     if is_same:
-        return Found(None if verdict == NOT_LEGAL else SAME, written, said=said)
-    if verdict == LEGAL:
+        return Found(None if status == NOT_LEGAL else SAME, written, said=said)
+    if status == LEGAL:
         return Found(ORDER, written)
     try:
-        ending = ending_of(Script(text), written, functools.partial(Linux, shown=shown), splits)
+        ending = ending_by_linux(text, written, shown, splits)
     except TooManyOrders:
         return Found(LEFT_OUT, written, said=said)
     standing = ending and ending.met
     if ending and not ending.met:
         # an order without a difference makes the text legal, and fixcheck must not say that there is none
-        standing = None if verdict == NOT_LEGAL else ORDER
+        standing = None if status == NOT_LEGAL else ORDER
     return Found(standing, written, said=said)
 
 
 def found_of_kernel(player, fixcheck, text, shown):
     """What the player gives for a script, where the kernel has shown these differences."""
     fault = play(text)[2]
-    written, status, complaint = run([player], text)
+    status, written, complaint = run([player], text)
     if status == CANT_SAY:
         return Found(UNSAID, written, complaint)
     if fault:
@@ -135,15 +118,13 @@ def found_of_kernel(player, fixcheck, text, shown):
 
 def text_of_kernel(player, text, nth):
     """Every second time chains run beside each other, each request started by a thread of the kernel."""
-    written, status, complaint = run([player, *(["--async"] if nth % 2 else [])], text)
+    status, written, complaint = run([player, *(["--async"] if nth % 2 else [])], text)
     return None if status or complaint else written
 
 
 def keep(name, text, written):
     """Keeps a script and the text that is wrong in build/: their paths."""
-    os.makedirs(os.path.join(ROOT, "build"), exist_ok=True)
     paths = [os.path.join("build", f"{os.path.basename(name)}.{ending}") for ending in ("script", "text")]
-    for path, content in zip(paths, (text, written.encode())):
-        with open(os.path.join(ROOT, path), "wb") as file:
-            file.write(content)
+    for path, content in zip(paths, (text, written)):
+        write(path, content)
     return paths

@@ -16,10 +16,9 @@ import sys
 import tempfile
 import time
 
-sys.dont_write_bytecode = True
-sys.path.insert(0, os.path.dirname(os.path.abspath(__file__)))
-from crate_times import KEPT, ROOT, UNMEASURED, behind, crates, expected, measured, needed, told
+from crate_times import KEPT, UNMEASURED, behind, crates, expected, measured, needed, told
 from proved import copy_below, take_back
+from repository import ROOT
 
 LOG = "build/program.log"
 STARTED = "build/program.started"

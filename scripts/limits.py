@@ -100,6 +100,17 @@ def large_text(members):
     return lines(*script), lines(*text, "teardown", "closed 1.1.1.0 a.txt")
 
 
+def large_submission(chains):
+    """So many chains of 16 members: five times an open at slot 0, a read of its file and a close, and then an open that the
+    next chain replaces."""
+    chain = linked(*["open a.txt at 0", "read 0 0 5", "close 0"] * 5, "open a.txt at 0")
+    places = [(c, m) for c in range(1, chains + 1) for m in range(1, MEMBERS + 1)]
+    text = [f"1.{c}.{m} {'5 68656c6c6f' if m % 3 == 2 else 0}" for c, m in places]
+    closed = [f"closed 1.{c}.{m}.0 a.txt" for c, m in places if m % 3 == 1]
+    script = lines("file a.txt 68656c6c6f", "sparse 1", *chain * chains, "submit")
+    return script, lines("sparse 0", *text, *closed[:-1], "teardown", closed[-1])
+
+
 def longest_script():
     """A script of 4,194,304 bytes: as many commands as it has room for, and empty lines."""
     count = SCRIPT_BYTES // len("sparse 0\n")
@@ -125,18 +136,10 @@ def all_updates():
 
 def limits():
     """Each script at a limit: its name, the script, the text, and the line and the fault of a bad one."""
-    yield "full_table", *full_table(), ""
-    yield "heaviest_submission", *heaviest_submission(), ""
-    yield "far_reads", *far_reads(), ""
-    yield "largest_numbers", *largest_numbers(), ""
-    yield "long_lists", *long_lists(), ""
-    yield "bad_list_in_a_line_too_long", f"update 10 {','.join(['0'] * 4996)}\nsubmit\n", "", "line 1: long-line"
-    yield "full_catalogue", *full_catalogue(), ""
-    yield "too_many_submissions", *too_many_submissions(), ""
-    yield "too_many_registrations", *too_many_registrations(), ""
-    yield "all_updates", *all_updates(), ""
+    for whole in (full_table, heaviest_submission, far_reads, largest_numbers, long_lists, full_catalogue,
+                  too_many_submissions, too_many_registrations, all_updates, longest_script):
+        yield whole.__name__, *whole(), ""
     yield "text_of_8_megabytes", *large_text(1), ""
     yield "text_of_134_megabytes", *large_text(MEMBERS), ""
-    script, text = longest_script()
-    yield "longest_script", script, text, ""
-    yield "bad_script_too_long", script + "\n", "", "line 0: long-script"
+    yield "bad_list_in_a_line_too_long", f"update 10 {','.join(['0'] * 4996)}\nsubmit\n", "", "line 1: long-line"
+    yield "bad_script_too_long", longest_script()[0] + "\n", "", "line 0: long-script"

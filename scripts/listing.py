@@ -1,8 +1,9 @@
 """The list of a script's texts, as `fixcheck --all` prints it, and as examples/questions keeps it."""
 import re
-import subprocess
-import tempfile
 from typing import NamedTuple
+
+from programs import kept_script, run
+from repository import read
 
 # so many texts are listed where no number is given
 MOST = 100
@@ -41,8 +42,7 @@ def parsed(lines):
 
 def kept(path):
     """The list that a file keeps."""
-    with open(path, encoding="ascii") as file:
-        return parsed(file.read().split("\n"))
+    return parsed(read(path).split("\n"))
 
 
 class Failed(Exception):
@@ -51,14 +51,11 @@ class Failed(Exception):
 
 def asked(fixcheck, script, most=MOST, *options):
     """What `fixcheck --all` lists for a script. Its status is 0 exactly where these are all."""
-    with tempfile.NamedTemporaryFile(suffix=".script") as file:
-        file.write(script)
-        file.flush()
-        command = [fixcheck, f"--all={most}", *options, "--", file.name]
-        done = subprocess.run(command, capture_output=True, text=True, timeout=300, check=False)
-    if done.returncode not in (0, 6) or done.stderr:
-        raise Failed(f"fixcheck --all ended with status {done.returncode} and said: {done.stderr.strip()}")
-    found = parsed(done.stdout.split("\n"))
-    if found.are_all != (done.returncode == 0):
-        raise Failed(f"fixcheck --all ended with status {done.returncode} behind {done.stdout[:80]!r}")
+    with kept_script(script) as path:
+        status, said, message = run([fixcheck, f"--all={most}", *options, "--", path], seconds=300)
+    if status not in (0, 6) or message:
+        raise Failed(f"fixcheck --all ended with status {status} and said: {message.strip()}")
+    found = parsed(said.split("\n"))
+    if found.are_all != (status == 0):
+        raise Failed(f"fixcheck --all ended with status {status} behind {said[:80]!r}")
     return found

@@ -395,15 +395,19 @@ class Player:
         if refusal:
             return [f"submit refused {refusal}"]
         self.submissions += 1
+        return self.lines_of(chains_of(requests)) + self.closed_lines()
+
+    def lines_of(self, chains):
+        """The completions of a submission's chains, which are played in their order."""
         lines = []
-        for nth, chain in enumerate(chains_of(requests), 1):
+        for nth, chain in enumerate(chains, 1):
             is_severed = False
             for member, (request, linked_by) in enumerate(chain, 1):
                 place = self.submissions, nth, member
                 res, got = (-ECANCELED, b"") if is_severed else self.perform(place, request)
                 is_severed |= severs(request, linked_by, res)
                 lines.append(completion_line(place, res, got))
-        return lines + self.closed_lines()
+        return lines
 
     def closed_lines(self):
         """A line for each file that was closed since the last lines, in order of mark, and then one for each of their tags."""
@@ -439,11 +443,6 @@ def play(text):
     except Fault as fault:
         return "", 3, fault
     return Player(script.files).play(script.commands), 0, None
-
-
-def fixfiles(text):
-    """The text that a script writes, and the status."""
-    return play(text)[:2]
 
 
 if __name__ == "__main__":

@@ -6,21 +6,11 @@ import shutil
 import sys
 
 from crate_times import needed
+from repository import ROOT, read, write
 
-TOP = os.path.dirname(os.path.dirname(os.path.abspath(__file__)))
 PARTS = ("src", "specs", "proofs", "out")
 # how the gate ends
 VERDICT = re.compile(r"^\d+ passed, \d+ failed$", re.MULTILINE)
-
-
-def read(path):
-    with open(path, encoding="utf-8") as it:
-        return it.read()
-
-
-def write(path, text):
-    with open(path, "w", encoding="utf-8") as it:
-        it.write(text)
 
 
 class Gate:
@@ -44,7 +34,7 @@ class Gate:
 
     def is_newer(self):
         """Whether each source was last written before the gate began."""
-        tops = (top for part in PARTS[:-1] for top in glob.glob(f"{TOP}/crates/*/{part}"))
+        tops = (top for part in PARTS[:-1] for top in glob.glob(f"{ROOT}/crates/*/{part}"))
         sources = (f"{folder}/{file}" for top in tops for folder, _, files in os.walk(top) for file in files)
         return all(os.stat(it).st_mtime < self.began for it in sources)
 
@@ -61,15 +51,15 @@ def link_or_copy(one, other):
 def copy_part(room, name, part):
     """Copies a folder of a crate, where it has one."""
     how = link_or_copy if part.startswith("out") else shutil.copy2
-    if os.path.isdir(f"{TOP}/crates/{name}/{part}"):
-        shutil.copytree(f"{TOP}/crates/{name}/{part}", f"{room}/crates/{name}/{part}", symlinks=True, copy_function=how)
+    if os.path.isdir(f"{ROOT}/crates/{name}/{part}"):
+        shutil.copytree(f"{ROOT}/crates/{name}/{part}", f"{room}/crates/{name}/{part}", symlinks=True, copy_function=how)
 
 
 def copy_crates(room, gate=None):
     """Copies the crates into a folder, with what earlier checks kept of them, or with the libraries that the gate has made so far."""
     for file in ("crates.txt", "HANDLES"):
-        shutil.copy(f"{TOP}/{file}", room)
-    for name in os.listdir(f"{TOP}/crates"):
+        shutil.copy(f"{ROOT}/{file}", room)
+    for name in os.listdir(f"{ROOT}/crates"):
         parts = PARTS if not gate else [*PARTS[:-1], "out/rlib"] if gate.has_proved(name) else PARTS[:-1]
         for part in parts:
             copy_part(room, name, part)
@@ -81,8 +71,8 @@ def copy_below(room, name, below):
     """Copies a crate with what earlier checks kept of it, and the crates that it stands on with their libraries. No other crate is
     listed there."""
     those = needed(name, below)
-    shutil.copy(f"{TOP}/HANDLES", room)
-    lines = read(f"{TOP}/crates.txt").splitlines(keepends=True)
+    shutil.copy(f"{ROOT}/HANDLES", room)
+    lines = read(f"{ROOT}/crates.txt").splitlines(keepends=True)
     write(f"{room}/crates.txt", "".join(it for it in lines if re.match(r"\w*", it)[0] in those))
     for it in those:
         for part in (*PARTS[:-1], "out" if it == name else "out/rlib"):
@@ -91,7 +81,7 @@ def copy_below(room, name, below):
 
 def take_back(room, name):
     """Moves what was proved of a crate in such a copy to the repository."""
-    made, kept = f"{room}/crates/{name}/out", f"{TOP}/crates/{name}/out"
+    made, kept = f"{room}/crates/{name}/out", f"{ROOT}/crates/{name}/out"
     if os.path.isdir(made):
         shutil.rmtree(kept, ignore_errors=True)
         shutil.move(made, kept)

@@ -180,10 +180,8 @@ class Sweep:
         self.wrong += [f"never: {it}" for it in sorted(self.call.wanted - set(self.kinds))]
 
     def told(self):
-        """One line, and one for each of the first outcomes that are wrong."""
-        self.judge()
+        """What was refused, how many growths there were, and what came of them."""
         of_the_call = [it for it in self.kinds if it not in ("no setting", "behind the call")]
         kinds = ", ".join(f"{it}: {of_the_call.count(it)}" for it in self.call.outcomes if it in of_the_call)
         name = self.call.words.replace(" -", "").removesuffix(" 0")
-        yield f"{name}, refused by {self.refuser}: {len(of_the_call)} growths; {kinds}; {len(self.wrong)} wrong"
-        yield from (f"  {it}" for it in self.wrong[:3])
+        return f"{name}, refused by {self.refuser}", f"{len(of_the_call)} growths", kinds

@@ -55,13 +55,12 @@ def registrations():
     return lines(*script, "unregister", "register 1,1")
 
 
-def scripts(open_read_close, has_lists):
-    """Each script by its name. A program from before lists were registered hasn't all of them."""
+def scripts(open_read_close):
+    """Each script by its name."""
     yield "open_read_close", open_read_close
     yield "hard_links", hard_links()
-    if has_lists:
-        yield "registrations", registrations()
-        yield "tags", tags()
+    yield "registrations", registrations()
+    yield "tags", tags()
     yield "full_catalogue", full_catalogue()[0]
     yield "full_chains", full_chains()
     yield "updates", updates()

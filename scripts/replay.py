@@ -1,14 +1,6 @@
 """Plays a script on scripts/model.py with the requests of each submission done in a given order, one at a time."""
-from model import ECANCELED, Player, chains_of, completion_line, severs
-
-
-class WrongOrder(Exception):
-    """An order that is none of its submission."""
-
-
-def want(holds, what):
-    if not holds:
-        raise WrongOrder(what)
+from model import ECANCELED, Player, completion_line, severs
+from illegal import want
 
 
 def orders_of(lines):
@@ -42,18 +34,13 @@ class Replayed(Player):
         self.work_off(words[0] + entry, [words[1][entry]], lambda _: (1, *place, entry))
         return len(words[1]), b""
 
-    def submit(self, requests):
-        refusal = self.refusal_of_submission(requests)
-        if refusal:
-            return [f"submit refused {refusal}"]
-        self.submissions += 1
-        chains = [Chain((self.submissions, nth), chain) for nth, chain in enumerate(chains_of(requests), 1)]
+    def lines_of(self, those):
+        chains = [Chain((self.submissions, nth), chain) for nth, chain in enumerate(those, 1)]
         want(self.submissions in self.orders, f"submission {self.submissions} has no order")
         for chain, member, entry in self.orders.pop(self.submissions):
             want(1 <= chain <= len(chains), f"there is no chain {chain}")
             chains[chain - 1].step(self, member, entry)
-        lines = [line for chain in chains for line in chain.end(self)]
-        return lines + self.closed_lines()
+        return [line for chain in chains for line in chain.end(self)]
 
 
 class Chain:

@@ -1,7 +1,8 @@
 """The rule that the words of the table without a lock keep between any two steps, as docs/INTERNALS.md has it: words and
 places agree with the state that the history leads to. It looks at a `Table` of scripts/steps.py."""
-from history import CLOSED, FRESH, REMOVED, want
+from history import CLOSED, FRESH, REMOVED
 from steps import BORN, EMPTY, FILE, ONE_CHANGE, control_word, takes_of
+from illegal import want
 
 
 def agree(table):

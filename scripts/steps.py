@@ -8,7 +8,8 @@ Each pass has drawn a chain before the play begins. A number is its place in the
 have the numbers of their slots, and behind them each chain has as many as a pass may install. In a slot word it is as
 large as the product's, 256 + 64 (c - 1) + k for the k-th file of chain c. Look-ups that are spent make no step and aren't
 here, nor are the splits and joins of passes. A take has the steps of a clear."""
-from history import History, changed, want
+from history import History, changed
+from illegal import want
 
 # a node word at its birth, a change in flight, and what the count of full slots is raised by
 BORN, ONE_CHANGE, BIAS = 1 << 32, 1 << 32, 65_536

@@ -40,33 +40,27 @@ def chains_of(requests, members):
         yield f"{chain + 1}.{member + 1}", request if is_last else f"{request} link"
 
 
-def lists():
-    """A list of each size is registered, updated between submissions, and unregistered. Each third entry is none."""
-    script, text, k = [A], [], 0
-    for count in EACH_SIZE:
-        entries = ["-1" if it % 3 == 2 else "0" for it in range(count)]
-        there = [it for it in range(count) if it % 3 != 2]
-        script += [f"register {','.join(entries)}", f"regupdate 0 {','.join(['0'] * count)}", "unregister"]
-        text += ["register 0", f"regupdate {count}", *(f"closed r{k + 1}.{it} a.txt" for it in there)]
-        text += ["unregister 0", *(f"closed r{k + 2}.{it} a.txt" for it in range(count))]
-        k += 2
-    return lines(*script), lines(*text)
+def no_tags(first, places):
+    return "", []
 
 
 def tags_from(first, places):
-    """A word of tags for places that have a file, or none, and the lines that tell those of the files."""
+    """The word of tags behind a list, for places that have a file or none, and the lines that tell those of the files."""
     tags = [first + it if has_file else 0 for it, has_file in enumerate(places)]
-    return ",".join(map(str, tags)), [f"tag {it}" for it in tags if it]
+    return " " + ",".join(map(str, tags)), [f"tag {it}" for it in tags if it]
 
 
-def tagged_lists():
-    """As `lists`, where each file of a list has a tag of its own: those that an update replaces, and those that are left."""
+def lists(tags_of=no_tags):
+    """A list of each size is registered, updated between submissions, and unregistered. Each third entry is none. Each file may
+    have a tag of its own: those that the update replaces, and those that are left."""
     script, text, k = [A], [], 0
     for count in EACH_SIZE:
         entries = ["-1" if it % 3 == 2 else "0" for it in range(count)]
-        (tags, told), (others, told_last) = tags_from(7, [it == "0" for it in entries]), tags_from(LARGEST_TAG - count, [True] * count)
-        script += [f"register {','.join(entries)} {tags}", f"regupdate 0 {','.join(['0'] * count)} {others}", "unregister"]
-        text += ["register 0", f"regupdate {count}", *(f"closed r{k + 1}.{it} a.txt" for it in range(count) if it % 3 != 2), *told]
+        tags, told = tags_of(7, [it == "0" for it in entries])
+        others, told_last = tags_of(LARGEST_TAG - count, [True] * count)
+        script += [f"register {','.join(entries)}{tags}", f"regupdate 0 {','.join(['0'] * count)}{others}", "unregister"]
+        text += ["register 0", f"regupdate {count}"]
+        text += [*(f"closed r{k + 1}.{it} a.txt" for it in range(count) if it % 3 != 2), *told]
         text += ["unregister 0", *(f"closed r{k + 2}.{it} a.txt" for it in range(count)), *told_last]
         k += 2
     return lines(*script), lines(*text)
@@ -79,24 +73,18 @@ def tagged_tables():
     for nth, count in enumerate(sizes(SLOTS), 1):
         tags, told = tags_from(1, [True] * count)
         submission += 1
-        script += [f"sparse {count}", f"regupdate 0 {','.join(['0'] * count)} {tags}", *(f"close {it}" for it in range(0, count, 2)), "submit", "unregister"]
+        script += [f"sparse {count}", f"regupdate 0 {','.join(['0'] * count)}{tags}", *(f"close {it}" for it in range(0, count, 2)), "submit", "unregister"]
         text += ["sparse 0", f"regupdate {count}", *(f"{submission}.{it + 1}.1 0" for it in range((count + 1) // 2))]
         text += [*(f"closed r{nth}.{it} a.txt" for it in range(0, count, 2)), *told[::2], "unregister 0"]
         text += [*(f"closed r{nth}.{it} a.txt" for it in range(1, count, 2)), *told[1::2]]
     return lines(*script), lines(*text)
 
 
-def ends(count):
-    """A table of so many files is there at the end of the script."""
-    text = ["register 0", "teardown", *(f"closed r1.{it} a.txt" for it in range(count))]
-    return lines(A, f"register {','.join(['0'] * count)}"), lines(*text)
-
-
-def tagged_ends(count):
-    """So is one whose files have tags."""
-    tags, told = tags_from(1, [True] * count)
+def ends(count, tags_of=no_tags):
+    """A table of so many files is there at the end of the script, with tags or without."""
+    tags, told = tags_of(1, [True] * count)
     text = ["register 0", "teardown", *(f"closed r1.{it} a.txt" for it in range(count)), *told]
-    return lines(A, f"register {','.join(['0'] * count)} {tags}"), lines(*text)
+    return lines(A, f"register {','.join(['0'] * count)}{tags}"), lines(*text)
 
 
 def tables():
@@ -237,16 +225,17 @@ def catalogues(count):
 
 def sweeps():
     """Each script: its name, the script, the text, and the line and the fault of a bad one."""
-    for whole in (lists, tagged_lists, tables, tagged_tables, one_slot_free, updates, files, reads, openings):
+    for whole in (lists, tables, tagged_tables, one_slot_free, updates, files, reads, openings):
         yield whole.__name__, *whole(), ""
-    by_size = ((ends, EACH_SIZE), (tagged_ends, EACH_SIZE), (catalogues, sizes(FILES)), (chains, sizes(CHAINS)))
-    by_size += ((heavy_chains, sizes(CHAINS)), (requests, sizes(REQUESTS)), (weights, sizes(WEIGHT)))
-    for made, counts in by_size:
-        for count in counts:
+    yield "tagged_lists", *lists(tags_from), ""
+    for count in EACH_SIZE:
+        yield f"ends_{count}", *ends(count), ""
+        yield f"tagged_ends_{count}", *ends(count, tags_from), ""
+    by_size = ((catalogues, FILES), (chains, CHAINS), (heavy_chains, CHAINS), (requests, REQUESTS), (weights, WEIGHT))
+    for made, most in (*by_size, (waiting, SCRIPT_BYTES // len("close 0\n") - 1)):
+        for count in sizes(most):
             yield f"{made.__name__}_{count}", *made(count), ""
-    for count in sizes(SCRIPT_BYTES // len("close 0\n") - 1):
-        yield f"waiting_{count}", *waiting(count), ""
-    for line in sizes(SCRIPT_BYTES // len("#\n")):
-        yield f"fault_at_{line}", *fault_at(line)
-    for line in sizes(SCRIPT_BYTES // len("#\n") - len("close 0\n")):
-        yield f"unsubmitted_from_{line}", *unsubmitted_from(line)
+    lines_of_comments = SCRIPT_BYTES // len("#\n")
+    for made, most in ((fault_at, lines_of_comments), (unsubmitted_from, lines_of_comments - len("close 0\n"))):
+        for line in sizes(most):
+            yield f"{made.__name__}_{line}", *made(line)

@@ -4,17 +4,9 @@ those of the text. How much a read gave is looked at, and the bytes aren't, sinc
 import re
 
 from model import Script, chains_of
+from illegal import Illegal, want
 
 EVENT = re.compile(r"(Look|Release|Put|Clear|Take|Allocate|Full|Close)(?:\(([^)]*)\))?(?: tag (\d+))?")
-
-
-class Illegal(Exception):
-    """What is told is none."""
-
-
-def want(holds, what):
-    if not holds:
-        raise Illegal(what)
 
 
 class Table:

@@ -2,21 +2,19 @@
 chain left out or exchanged, the outcome of a refused growth, the growths between two marks, a verdict that is a lie, and one that names
 another command or line. Each function tells how many wrong answers of its kind there were, and those that nothing complained of. scripts/check-checks wants the
 numbers."""
-import os
 import re
-import subprocess
 
+from illegal import Illegal
 import kernels
-from kernels import LEGAL, NOT_LEGAL, ORDER, SAME, UNDECIDED
-from loaded import module
+from kernels import ORDER, SAME
 from model import Script, play
+from programs import LEGAL, NOT_LEGAL, UNDECIDED, run
 from refused_growths import NO_MEMORY, Outcomes
-from replay import WrongOrder, replayed
+from replay import replayed
+from repository import ROOT, module, read, read_bytes, text_beside
 from spoiled_lines import Spoiled
 from told_history import complaint_of
 
-HERE = os.path.dirname(os.path.abspath(__file__))
-EXAMPLES = os.path.join(os.path.dirname(HERE), "examples")
 # examples whose histories have each event and each call, and tags
 TOLD = ("open_read_close", "tagged_files_leave_in_each_way", "replaced_between_two_members", "unregister_closes_every_file",
         "allocation_fills_its_range", "ring_update_clears_skips_and_replaces", "tag_at_the_teardown")
@@ -37,13 +35,11 @@ def kinds(fixcheck):
 
 def examples():
     for name in TOLD:
-        with open(f"{EXAMPLES}/{name}.script", "rb") as script, open(f"{EXAMPLES}/{name}.text", encoding="utf-8") as text:
-            yield name, script.read(), text.read()
+        yield name, read_bytes(f"examples/{name}.script"), text_beside(f"examples/{name}.script")
 
 
 def said(fixcheck, name, *options):
-    command = [fixcheck, *options, f"{EXAMPLES}/{name}.script", f"{EXAMPLES}/{name}.text"]
-    return subprocess.run(command, capture_output=True, text=True, check=True).stdout.splitlines()
+    return run([fixcheck, *options, f"examples/{name}.script", f"examples/{name}.text"], cwd=ROOT)[1].splitlines()
 
 
 def changed_lines(lines, at):
@@ -74,7 +70,7 @@ def histories(fixcheck):
 def is_taken(script, text, lines):
     try:
         return replayed(Script(script), text, lines) == text
-    except WrongOrder:
+    except Illegal:
         return False
 
 
@@ -101,14 +97,13 @@ def orders(fixcheck):
 def outcomes():
     """What may not come out where a growth is refused: a part of a command's text, an answer -12 with a text that it doesn't
     leave, and one of a call that needs no memory."""
-    with open(f"{EXAMPLES}/open_read_close.script", encoding="utf-8") as file:
-        those = Outcomes(file.read())
+    those = Outcomes(read("examples/open_read_close.script"))
     text = those.text
-    read = text.replace("1.1.2 5 68656c6c6f", "1.1.2 -12")
+    refused = text.replace("1.1.2 5 68656c6c6f", "1.1.2 -12")
     rows = [
         (0, text, "", True), (0, "sparse -12\n1.1.1 -6\n1.1.2 -125\n1.1.3 -125\n", "", True), (5, "sparse 0\n", NO_MEMORY, True), (5, "", NO_MEMORY, True),
-        (0, read.replace("1.1.3 0\nclosed 1.1.1.0 a.txt\n", "1.1.3 -125\nteardown\nclosed 1.1.1.0 a.txt\n"), "", True),
-        (0, read, "", False), (0, text.replace("sparse 0", "sparse -12"), "", False), (0, text.replace("1.1.3 0", "1.1.3 -12"), "", False),
+        (0, refused.replace("1.1.3 0\nclosed 1.1.1.0 a.txt\n", "1.1.3 -125\nteardown\nclosed 1.1.1.0 a.txt\n"), "", True),
+        (0, refused, "", False), (0, text.replace("sparse 0", "sparse -12"), "", False), (0, text.replace("1.1.3 0", "1.1.3 -12"), "", False),
         (0, text[:-1], "", False), (0, text, "more", False), (5, text[:20], NO_MEMORY, False), (5, "sparse 0\n", "", False), (4, text, "", False),
         (0, text.replace("1.1.1 0", "1.1.1 -12"), "", False), (1, "", NO_MEMORY, False),
     ]
@@ -127,8 +122,7 @@ def verdicts():
     """What scripts/agree makes of a text and a verdict of fixcheck: the model's text, another order of it, one with a difference of
     Linux, and one that nothing gives."""
     names = kernels.listed()[0]
-    with open(f"{EXAMPLES}/replaced_between_two_members.script", "rb") as file:
-        script = file.read()
+    script = read_bytes("examples/replaced_between_two_members.script")
     same = play(script)[0]
     other = same.replace("1.1.2 5 68656c6c6f", "1.1.2 2 6869")
     refused, opened = b"file a.txt 61\nsparse 1\nopen a.txt at 1\nsubmit\n", "sparse 0\n1.1.1 -22\nclosed 1.1.1.0 a.txt\n"

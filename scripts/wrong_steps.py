@@ -1,5 +1,7 @@
 """Wrong step tables of the table without a lock, by their names: each is scripts/steps.py with one thing wrong. They show
 that scripts/check-steps can fail."""
+import re
+
 from steps import ONE_CHANGE, Table, control_word, takes_of
 
 
@@ -141,20 +143,9 @@ class DrawSkipsAChain(Table):
         return super().given_chain(who, old + 1)
 
 
-WRONG = {
-    "look_counts_beside_the_slot": LookCountsBesideTheSlot,
-    "look_answers_the_opening_file": LookAnswersTheOpeningFile,
-    "retire_ignores_holders": RetireIgnoresHolders,
-    "node_word_starts_at_one": NodeWordStartsAtOne,
-    "both_hand_the_file_out": BothHandTheFileOut,
-    "neither_hands_the_file_out": NeitherHandsTheFileOut,
-    "put_denies_a_replacement": PutDeniesAReplacement,
-    "full_after_one_scan": FullAfterOneScan,
-    "full_with_others_in_a_change": FullWithOthersInAChange,
-    "control_word_without_bias": ControlWordWithoutBias,
-    "end_before_swap": EndBeforeSwap,
-    "takes_read_before_the_swap": TakesReadBeforeTheSwap,
-    "exchange_without_compare": ExchangeWithoutCompare,
-    "draw_repeats_a_chain": DrawRepeatsAChain,
-    "draw_skips_a_chain": DrawSkipsAChain,
-}
+def named(table):
+    """LookCountsBesideTheSlot is look_counts_beside_the_slot."""
+    return re.sub(r"(?<!^)(?=[A-Z])", "_", table.__name__).lower()
+
+
+WRONG = {named(it): it for it in Table.__subclasses__()}

@@ -1,0 +1,81 @@
+"""Runs of programs, questions to fixcheck, and what is built of C and preloaded."""
+import contextlib
+import os
+import subprocess
+import tempfile
+
+from repository import HERE, ROOT
+
+BUILD = os.path.join(ROOT, "build")
+# how fixcheck ends
+LEGAL, NOT_LEGAL, UNDECIDED = 0, 1, 6
+# what each library that is preloaded is compiled with beside the flags of all
+LIBRARY = ("-shared", "-fPIC")
+FLAGS = {"spoil.c": ("-static",), "step.c": (*LIBRARY, "-mno-red-zone"), "count.c": LIBRARY}
+
+
+def run_bytes(command, given=b"", seconds=120, **how):
+    """The status, the text and the message of a command, as bytes."""
+    how = {"stdout": subprocess.PIPE, "stderr": subprocess.PIPE, "timeout": seconds, **how}
+    it = subprocess.run(command, input=given, check=False, **how)
+    return it.returncode, it.stdout, it.stderr
+
+
+def run(command, given=b"", seconds=120, **how):
+    """The same, decoded. A byte that is no character shows as `\\x` and its digits."""
+    given = given.encode() if isinstance(given, str) else given
+    status, *written = run_bytes(command, given, seconds, **how)
+    return status, *(it.decode(errors="backslashreplace") for it in written)
+
+
+def difference(found, wanted):
+    """How a status, a text and a message differ from the wanted ones: nothing where they don't."""
+    if found[0] != wanted[0]:
+        return f"ended with status {found[0]}, and not {wanted[0]}, and said {found[2][:300]!r}"
+    if found[1] != wanted[1]:
+        at = len(os.path.commonprefix([found[1], wanted[1]]))
+        parts = f"{found[1][at : at + 60]!r}, and not {wanted[1][at : at + 60]!r}"
+        return f"wrote another text, from byte {at} on: {parts}"
+    return "" if found[2] == wanted[2] else f"said {found[2][:300]!r}, and not {wanted[2]!r}"
+
+
+@contextlib.contextmanager
+def kept_script(script):
+    """The path of a file that has the script for as long as it is needed."""
+    with tempfile.NamedTemporaryFile(suffix=".script") as file:
+        file.write(script)
+        file.flush()
+        yield file.name
+
+
+def verdict(fixcheck, script, text, *options):
+    """The status, the lines and the message of fixcheck, asked of a text, which it reads from standard
+    input. In the message stands `script` for the script's path."""
+    with kept_script(script) as path:
+        status, said, message = run([fixcheck, *options, path, "-"], text)
+    return status, said.splitlines(), message.replace(path, "script")
+
+
+def built(source):
+    """Builds a library or a program of a source in C of this folder, and gives its path. It is moved
+    into place, so that two builds at once do no harm."""
+    os.makedirs(BUILD, exist_ok=True)
+    ending = ".so" if "-shared" in FLAGS[source] else ""
+    path = os.path.join(BUILD, source.removesuffix(".c") + ending)
+    made, flags = f"{path}.{os.getpid()}", ["-O2", "-Wall", "-Wextra", "-Werror", *FLAGS[source]]
+    subprocess.run(["cc", *flags, "-o", made, os.path.join(HERE, source)], check=True)
+    os.replace(made, path)
+    return path
+
+
+def preloaded(library, **variables):
+    """How a program is run behind a library of build/: beside it, since a space or a colon in the
+    library's path would end that for the loader."""
+    return {"env": {**os.environ, "LD_PRELOAD": f"./{library}.so", **variables}, "cwd": BUILD}
+
+
+def in_turns(fixfiles, script, seed, turn, *options):
+    """A play whose threads go in turns of at most so many instructions (scripts/step.c), or as they
+    like where that is 0."""
+    how = preloaded("step", SEED=str(seed), TURN=str(turn)) if turn else {}
+    return run([fixfiles, *options], script, **how)

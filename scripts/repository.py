@@ -1,0 +1,53 @@
+"""The files of this repository: where they are, what they have, and programs as modules."""
+import glob
+import importlib.machinery
+import importlib.util
+import os
+
+HERE = os.path.dirname(os.path.abspath(__file__))
+ROOT = os.path.dirname(HERE)
+
+
+def read(path):
+    """The text of a file, by its path from the top of the repository, or by a whole path."""
+    with open(os.path.join(ROOT, path), encoding="utf-8") as file:
+        return file.read()
+
+
+def read_bytes(path):
+    with open(os.path.join(ROOT, path), "rb") as file:
+        return file.read()
+
+
+def write(path, content):
+    """Writes text or bytes, into a folder that is made where it is missing."""
+    path = os.path.join(ROOT, path)
+    os.makedirs(os.path.dirname(path), exist_ok=True)
+    with open(path, "wb") as file:
+        file.write(content if isinstance(content, bytes) else content.encode())
+
+
+def scripts_of(*folders):
+    """The scripts of these folders, each with its path from the top, in the order of the paths."""
+    found = (glob.glob(f"{folder}/*.script", root_dir=ROOT) for folder in folders)
+    for path in sorted(it for those in found for it in those):
+        yield path, read_bytes(path)
+
+
+def text_beside(path):
+    """The text that is kept beside a script."""
+    return read(path.removesuffix("script") + "text")
+
+
+def kept_beside(path, ending):
+    """What another file of a script's name has, or nothing where there is none."""
+    file = path.removesuffix("script") + ending
+    return read(file) if os.path.exists(os.path.join(ROOT, file)) else ""
+
+
+def module(name):
+    """A program of this folder as a module."""
+    loader = importlib.machinery.SourceFileLoader(name.replace("-", "_"), os.path.join(HERE, name))
+    made = importlib.util.module_from_spec(importlib.util.spec_from_loader(loader.name, loader))
+    loader.exec_module(made)
+    return made
