@@ -65,6 +65,10 @@ impl FileTable for BatonTable {
         (self.range_start, self.range_len)
     }
 
+    fn passes(&self) -> u32 {
+        self.passes
+    }
+
     fn is_idle(&self, pass: &BatonPass) -> bool {
         pass.idle
     }

@@ -58,6 +58,10 @@ impl FileTable for CountedTable {
         self.range()
     }
 
+    fn passes(&self) -> u32 {
+        self.passes()
+    }
+
     fn is_idle(&self, pass: &CountedPass) -> bool {
         self.is_idle(pass)
     }

@@ -24,6 +24,13 @@ impl CountedTable {
         (self.range_start, self.range_len)
     }
 
+    // How many passes it was opened for.
+    pub(crate) fn passes(&self) -> u32
+        ensures { result ≡ (opening_of_table self.now).passes }
+    {
+        self.passes
+    }
+
     // Whether the pass holds no file, and has none to retire.
     pub(crate) fn is_idle(&self, pass: &CountedPass) -> bool
         requires { IsPassOfTable self.now pass.now }

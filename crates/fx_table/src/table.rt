@@ -104,6 +104,10 @@ pub trait FileTable: Sync {
     fn range(&self) -> (u32, u32)
         ensures { result ≡ range_of (opening self.now) };
 
+    /// How many passes it was opened for.
+    fn passes(&self) -> u32
+        ensures { result ≡ (opening self.now).passes };
+
     /// Whether the pass does nothing now.
     fn is_idle(&self, pass: &Self::Pass) -> bool
         requires { fits self.now pass.now }
@@ -220,8 +224,8 @@ pub trait FileTable: Sync {
         ensures retired { HasRetired (opening self.now) (view pass.old) retired result
             (view pass.new) };
 
-    /// Shows an idle pass (`is_idle`) of a table that it has alone all that has happened: what it did is the whole
-    /// history so far, no file is held, and each removed file is closed. Nothing changes.
+    /// Shows an idle pass (`is_idle`) of a table that it has alone (`passes` is 1) all that has happened: what it did is
+    /// the whole history so far, no file is held, and each removed file is closed. Nothing changes.
     fn settle(&self, pass: &mut Self::Pass)
         requires alone { (opening self.now).passes ≡ 1 }
         requires fits { fits self.now pass.old }

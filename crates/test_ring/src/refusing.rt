@@ -68,6 +68,10 @@ impl<const PASSES: u32> FileTable for OnlyFor<PASSES> {
         self.inner.range()
     }
 
+    fn passes(&self) -> u32 {
+        self.inner.passes()
+    }
+
     fn is_idle(&self, pass: &BatonPass) -> bool {
         self.inner.is_idle(pass)
     }
