@@ -37,12 +37,8 @@ begins_by_tally st few settled = record {
       ] refl;
 }
 
-same_size : (st : State) (a : Action) → (after st a).size ≡ st.size
-same_size st (Look slot None) = refl
-same_size st _ = refl
-
 -- no file is past the slots
-abbrev HasNonePast : State → Type 0
+abbrev pub HasNonePast : State → Type 0
 HasNonePast st = (slot : ℕ) → st.size ≤ slot → st.at slot ≡ None
 
 none_past : (st : State) (slot : ℕ) (x : Option File) → slot < st.size → HasNonePast st → (u : ℕ) → st.size ≤ u → changed_at st.at slot x u ≡ None
@@ -56,7 +52,7 @@ inside_after st (Take slot found) may none = none_past st slot None may.0 none
 inside_after st (Allocate slot f) may none = none_past st slot (Some f) may.0 none
 inside_after st _ may none = none
 
-inside_behind : (start : State) (h : List Action) → AllowsAll start h → HasNonePast start → HasNonePast (state_after start h)
+pub inside_behind : (start : State) (h : List Action) → AllowsAll start h → HasNonePast start → HasNonePast (state_after start h)
 inside_behind start [] may none = none
 inside_behind start (a ∷ h) may none = inside_after (state_after start h) a may.1 (inside_behind start h may.0 none)
 
@@ -71,9 +67,9 @@ no_file_there : (x : Option File) (slot : ℕ) → x ≡ None → file_numbered 
 no_file_there None slot is = refl
 no_file_there (Some f) slot is = absurd (cc is)
 
+pub opens_inside : (plain : Contents) (numbers : ℕ) → HasNonePast (opening (state_of plain) numbers)
+opens_inside plain numbers slot le = no_file_there (file_at plain.nodes (slot_at plain.slots slot)) slot
+    (ap (file_at plain.nodes) (get_or-eq_default plain.slots None le))
+
 pub opening_is_at_rest : (plain : Contents) (numbers : ℕ) → IsStart (opening (state_of plain) numbers) → IsAtRest (opening (state_of plain) numbers)
-opening_is_at_rest plain numbers start = record {
-  start = start;
-  inside = λ slot le. no_file_there (file_at plain.nodes (slot_at plain.slots slot)) slot
-      (ap (file_at plain.nodes) (get_or-eq_default plain.slots None le));
-}
+opening_is_at_rest plain numbers start = record { start = start; inside = opens_inside plain numbers }

@@ -2,6 +2,7 @@
 use Rattle.fx_plain.proofs.Words.{◌≡◌, ◌≢◌, ℕ, zero, suc, replicate, ◌<◌, Bool, true, false, List, length, refl, sym, ap, ◌∙◌, slice_index_or}
 use Rattle.fx_plain.proofs.Words.{slice_set, subst, ◌==◌, if◌then◌else◌, inl, inr, get_or-set_same, get_or-set_other, eqb-true, cases_lt}
 use Rattle.fx_plain.proofs.Words.{get_or-eq_default, changed_at}
+use Rattle.std.proofs.Common.{eq-eqb, ne_eqb}
 use Rattle.std.proofs.lemmas.Bool.Decides.{not_from_Decides, Decides-eqb}
 
 -- either two numbers are equal, and the test says so, or they are not
@@ -20,6 +21,13 @@ module _ {X Y : Type 0} (g : ℕ → X → Y) (xs : List X) (k : ℕ) (v d : X) 
       (λ other. ap (g q) (get_or-set_other xs k q v d other)) i
 
 module _ {Y : Type 0} (f : ℕ → Y) (k : ℕ) where
+  -- the place that was written, and each other one
+  pub changed_here : (v : Y) (q : ℕ) → q ≡ k → changed_at f k v q ≡ v
+  changed_here v q same = rw (eq-eqb q k same)
+
+  pub changed_else : (v : Y) (q : ℕ) → q ≢ k → changed_at f k v q ≡ f q
+  changed_else v q other = rw (ne_eqb q k other)
+
   -- to write the same value again changes nothing
   pub unchanged : (v : Y) → v ≡ f k → changed_at f k v ≡ f
   unchanged v is = λ i q. by_equality q k (λ b. (if b then v else f q) ≡ f q) (λ same. is ∙ ap f (sym same)) (λ other. refl) i

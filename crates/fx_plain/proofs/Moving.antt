@@ -1,7 +1,7 @@
 -- Each file moves to the node of its slot's number, one slot after another.
 use Rattle.fx_plain.proofs.Words.{◌≡◌, ◌≢◌, ℕ, ◌+◌, ◌<◌, ◌≤◌, List, [], ◌∷◌, ◌++◌, length, refl, sym, ap, ◌∙◌, slice_set, Option, Some, None, IfSome}
 use Rattle.fx_plain.proofs.Words.{IsSome, arith, set-set, length-set, get_or-set_same, get_or-set_other, get_or_append_left, Closed, AllPlaced}
-use Rattle.fx_plain.proofs.Words.{AreFiled, AreVacant, IsFiled, IsVacant, IsRenumbered, KeepsFirst, subst, slot_at, node_at, file_named, file_in, opening_slot, moved_node, nodes_without, file_count_of, At}
+use Rattle.fx_plain.proofs.Words.{AreFiled, IsFiled, IsVacant, IsRenumbered, KeepsFirst, subst, slot_at, node_at, file_named, file_in, opening_slot, moved_node, nodes_without, file_count_of, At}
 use Rattle.fx_plain.proofs.Words.{Gone, sum_by, Node, sum_by-set, set-get_or, HaveOwnNumbers}
 use Rattle.std.proofs.Math.Seq.{get_or-append_seam}
 use Rattle.fx_plain.proofs.Cells.{by_equality, each_set}
@@ -135,20 +135,6 @@ module _ (slots : List (Option ℕ)) (old new : List Node) (placed : AllPlaced s
 
   pub still_placed : AllPlaced slots new
   still_placed u n at = let there = placed u n at in (there.0, named_before u n at ∙ there.1)
-
-  pub still_vacant : length slots ≤ length old → AreVacant slots old → AreVacant slots new
-  still_vacant few vacant u lt none = subst IsVacant (sym (same u (omega arith))) (vacant u lt none)
-
-  pub filed_before : (changed : List (Option ℕ)) (moved : List Node) → AreFiled slots new changed moved → AreFiled slots old changed moved
-  filed_before changed moved r = record {
-    same_size = r.same_size;
-    named = r.named;
-    filed = λ u lt. let f = r.filed u lt in record {
-      file = λ n at. f.file n at ∙ ap (λ (node : Node). moved_node (file_in node) u) (named_before u n at);
-      vacant = f.vacant;
-    };
-    same_full = r.same_full;
-  }
 
 -- and so many nodes are kept and made
 pub renumbered : (slots : List (Option ℕ)) (nodes : List Node) (changed : List (Option ℕ)) (moved last : List Node) (numbers : ℕ)

@@ -5,7 +5,7 @@ use Rattle.fx_plain.proofs.Words.{action_of, File, Event, Action, Look, Release,
 use Rattle.fx_plain.specs.declared.event.Action.TheVariants.{Full}
 use Rattle.fx_plain.specs.History.{held_after, held_by, ReleasesItsOwn, AllReleaseTheirOwn}
 use Rattle.fx_plain.specs.Laws.{installed_by}
-use Rattle.fx_plain.proofs.Cells.{by_equality}
+use Rattle.fx_plain.proofs.Cells.{by_equality, changed_here, changed_else}
 use Rattle.fx_plain.specs.Reopening.{Renaming, renamed_found, renamed, renamed_event}
 
 -- each number leads r.back to one that leads to it
@@ -47,12 +47,6 @@ InstallsNamed r [] = Unit {0}
 InstallsNamed r (action ∷ h) =
     InstallsNamed r h × ((f : File) → installed_by action ≡ Some f → IsNamed r f.number)
 
-changed_here : {X : Type 0} (f : ℕ → X) (n : ℕ) (v : X) → changed_at f n v n ≡ v
-changed_here f n v = by_equality n n (λ b. (if b then v else f n) ≡ v) (λ _. refl) (λ other. absurd (other refl))
-
-changed_else : {X : Type 0} (f : ℕ → X) (n : ℕ) (v : X) (m : ℕ) → m ≢ n → changed_at f n v m ≡ f m
-changed_else f n v m apart = by_equality m n (λ b. (if b then v else f m) ≡ f m) (λ same. absurd (apart same)) (λ _. refl)
-
 -- what holds of the new value, and of each old one at another place, holds of each
 each_changed : {X : Type 0} (P : ℕ → X → Type 0) (f : ℕ → X) (n : ℕ) (v : X) → P n v → (m : ℕ) → (m ≢ n → P m (f m)) → P m (changed_at f n v m)
 each_changed P f n v here m others = by_equality m n (λ b. P m (if b then v else f m))
@@ -88,7 +82,7 @@ module _ (r : Renaming) (one : IsOneToOne r) where
       → changed_at (λ k. read_at g none f (r.back k)) (r.number n) (g v) ≡ (λ k. read_at g none (changed_at f n v) (r.back k))
   changed_back g none f n v known = λ i k. by_equality k (r.number n)
       (λ b. (if b then g v else read_at g none f (r.back k)) ≡ read_at g none (changed_at f n v) (r.back k))
-      (λ same. sym (ap (read_at g none (changed_at f n v)) (ap r.back same ∙ known) ∙ ap g (changed_here f n v)))
+      (λ same. sym (ap (read_at g none (changed_at f n v)) (ap r.back same ∙ known) ∙ ap g (changed_here f n v n refl)))
       (λ other. elsewhere_back g none f n v k other (r.back k) refl) i
 
   removed_back : (removed : ℕ → Option File) (found : Option File) → ((f : File) → found ≡ Some f → IsNamed r f.number)

@@ -1,8 +1,8 @@
 -- What the counts of a table say of its state.
-use Rattle.fx_plain.proofs.Words.{◌≡◌, ℕ, zero, suc, ◌+◌, ◌<◌, ◌≤◌, ◌^◌, true, false, List, [], ◌∷◌, length, length-append, replicate, refl, sym, ap}
-use Rattle.fx_plain.proofs.Words.{subst, ◌∙◌, Option, Some, None, IfSome, arith, State, IsSettled, files_in_order, files_of, identities_of, Contents}
+use Rattle.fx_plain.proofs.Words.{◌≡◌, ℕ, zero, suc, ◌+◌, ◌≤◌, true, false, List, [], ◌∷◌, length, length-append, replicate, refl, sym, ap}
+use Rattle.fx_plain.proofs.Words.{subst, ◌∙◌, Option, Some, None, arith, IsSettled, files_in_order, files_of, identities_of, Contents}
 use Rattle.fx_plain.proofs.Words.{IsTable, IsCounted, state_of, slot_at, node_at, file_at, placed_at, removed_at, is_leaving, is_retired}
-use Rattle.fx_plain.proofs.Words.{file_count_of, removed_count_of, itself, Fresh, Leaving, Retired, Gone, sum_by, HasRoomForHold, File, Node}
+use Rattle.fx_plain.proofs.Words.{file_count_of, removed_count_of, itself, Fresh, Leaving, Retired, Gone, sum_by, Node}
 use Rattle.fx_plain.proofs.Words.{sum_by-cons}
 use Rattle.fx_plain.proofs.Sums.{sum_below}
 use Rattle.fx_plain.proofs.Cells.{read_default}
@@ -88,11 +88,3 @@ sparse_keeps slots n nodes holds slots_are few no_nodes no_hold len =
         all_removed = refl;
       },
     )
-
-fits_unheld : (st : State) → IsSettled st → (found : Option File) → IfSome found (λ f. st.holds f.number + 1 < 2 ^ 32)
-fits_unheld st settled None = tt
-fits_unheld st settled (Some f) = let unheld = settled.unheld f.number in omega arith
-
--- in a settled state one more hold fits
-pub settled_has_room : (st : State) → IsSettled st → (slot : ℕ) → HasRoomForHold st slot
-settled_has_room st settled slot = fits_unheld st settled (st.at slot)
