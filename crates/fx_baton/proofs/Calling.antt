@@ -5,7 +5,7 @@ use Rattle.fx_baton.proofs.Words.{state_of, leaving, Leads, action_of, close_of,
 use Rattle.fx_baton.proofs.Words.{closed_by_retirement, HasRoomForHold, EndsHold, LetsLeave, File, Look, Release, Put, Clear, Take, Allocate, Full}
 use Rattle.fx_baton.proofs.Words.{Close, pass_of_number, number_behind, Opening, size_of, PassView, hold_of, retired_of, next_of, Doing, Idle}
 use Rattle.fx_baton.proofs.Words.{Holding, Retiring, Log, View, Start, Call, BatonPass, opening_of, begin_of, holds_by, IsTurn, view_of, is_idle}
-use Rattle.fx_baton.proofs.Words.{HasTable, UsesNext, HasCalled, HasGivenBack, first_own, IsHoldOf, IsRetiredOf, next_is_its_own}
+use Rattle.fx_baton.proofs.Words.{HasTable, UsesNext, HasCalled, HasGivenBack, first_own, IsHoldOf, IsRetiredOf, next_is_its_own, bit_here}
 use Rattle.fx_table.specs.Calls.{Adds, no_use, one_number, new_file, ReleasesFile, RetiresFile, Placed, Cleared, one_look, HasRetired, Released}
 use Rattle.fx_baton.specs.Turns.{holds_now, retires_now, release_in, retirement_in, actions_of, doing_of, events_of, use_of, table_of_slots}
 use Rattle.atomic_table.specs.Lent.{seat_with}
@@ -15,7 +15,6 @@ use Rattle.fx_table.specs.declared.values.Hold.{Hold}
 use Rattle.fx_table.specs.declared.values.Retired.{Retired}
 use Rattle.fx_baton.specs.declared.view.Call.TheVariants.{Look as LookCall, Release as ReleaseCall, Put as PutCall, Allocate as AllocateCall}
 use Rattle.fx_baton.specs.declared.view.Call.TheVariants.{Full as FullCall, Clear as ClearCall, Take as TakeCall, Retire as RetireCall}
-use Rattle.fx_baton.proofs.Counts.{one_if}
 use Rattle.fx_baton.proofs.CallsAreTurns.{look_turn, slot_turn, full_turn, letting_go_turn, file_released, retire_turn, file_retired, is_held}
 use Rattle.fx_baton.proofs.CallsAreTurns.{is_leaving}
 
@@ -278,7 +277,7 @@ module _ {id : TableId} {k : Start} {u : PassView} {c : Contents} {p : BatonPass
     node_is = ap (λ (x : Hold). x.node) held.2
 
     pub holds_some : 0 < (state_of c).holds hold.node
-    holds_some = let a = h.knows.holds f.number in let b = ap (holds_by f.number) holds_here in let r = one_if f.number f.number refl in
+    holds_some = let a = h.knows.holds f.number in let b = ap (holds_by f.number) holds_here in let r = bit_here f.number f.number refl in
         let e = ap (state_of c).holds node_is in omega arith
 
     pub release_called : (d : Contents) (out : Option Closed) → EndsHold c d hold.node out → HasCalled id k ReleaseCall true (lent d)

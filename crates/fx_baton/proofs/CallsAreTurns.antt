@@ -4,12 +4,13 @@ use Rattle.fx_baton.proofs.Words.{eq-eqb, ◌⊎◌, inl, inr, ⊎_elim, dite, �
 use Rattle.fx_baton.proofs.Words.{changed_at, with_removed, Contents, state_of, leaving, Leads, IsLegal, ReleasesItsOwn, held_by, close_of, ◌▷◌, ◌▷▷◌}
 use Rattle.fx_baton.proofs.Words.{closed_by_release, closed_by_retirement, File, Event, Look, Release, Full, Close, pass_of_number, number_behind}
 use Rattle.fx_baton.proofs.Words.{HasFile, Idle, Holding, Retiring, legal_then, held_mine, one_author, Log, View, begin_of, file_held, file_in_hand}
-use Rattle.fx_baton.proofs.Words.{holds_by, removals_by, leaving_count, Knows, IsTurn, held_after, numbers_for, Doing, more_leaving}
+use Rattle.fx_baton.proofs.Words.{holds_by, removals_by, leaving_count, Knows, IsTurn, held_after, numbers_for, Doing, more_leaving, bit_here}
+use Rattle.fx_baton.proofs.Words.{one_more_at, one_less_at}
 use Rattle.fx_plain.specs.declared.event.Action.{Action}
 use Rattle.fx_baton.specs.Turns.{by, holds_now, retires_now}
-use Rattle.fx_table.proofs.Changes.{changed_here, changed_else}
+use Rattle.fx_plain.proofs.Cells.{changed_here, changed_else}
 use Rattle.fx_table.proofs.FileLemmas.{none_file, stays_put, apart_from, leaving_file, removed_file, still_there, now_removed, not_closed}
-use Rattle.fx_baton.proofs.Counts.{one_if, one_more_at, one_less_at, flag_set, flag_back, one_true}
+use Rattle.fx_baton.proofs.Counts.{flag_set, flag_back, one_true}
 
 retires : (o : Option File) → ((n : ℕ) → holds_by n (retires_now o) ≡ 0) × (file_held (retires_now o) ≡ None) × (file_in_hand (retires_now o) ≡ o)
 retires None = (λ n. refl, refl, refl)
@@ -185,7 +186,7 @@ module _ (v : View) (x : Log) (c d : Contents) (chain : ℕ) (known : Knows v x 
 
     pub is_leaving : leaving c f.number ≡ true
     is_leaving = one_true (leaving c f.number)
-        (let a = known.leaves f.number in let b = ap (removals_by f.number) removes in let r = one_if f.number f.number refl in omega arith)
+        (let a = known.leaves f.number in let b = ap (removals_by f.number) removes in let r = bit_here f.number f.number refl in omega arith)
 
     held_nothing : held_by x.front x.number ≡ None
     held_nothing = known.held ∙ ap file_held removes

@@ -1,20 +1,15 @@
 -- The rule holds when a table is opened.
 use Rattle.fx_baton.proofs.Words.{◌≡◌, ℕ, zero, suc, ◌<◌, ◌≤◌, Bool, true, false, cond, List, [], ◌∷◌, sym, refl, ap, ◌∙◌, subst, arith, inl, inr}
-use Rattle.fx_baton.proofs.Words.{⊎_elim, some, some-injective, some-ne-none, get_elem?, Some, None, nat_lt, not, ◌&&◌, Contains, State, opening}
-use Rattle.fx_baton.proofs.Words.{file_numbered, IsSettled, Contents, state_of, IsTable, is_leaving, node_at, removed_at, Node, identity_of}
-use Rattle.fx_baton.proofs.Words.{numbers_for, HasSameFiles, IsGivenBack, contains_none, contains_cases, Idle, Log, View, Start, IsKept, IsLog}
-use Rattle.fx_baton.proofs.Words.{IsView, leaving_count, begin_of, first_view, new_logs, new_log}
+use Rattle.fx_baton.proofs.Words.{some, some-injective, some-ne-none, get_elem?, Some, None, nat_lt, not, ◌&&◌, State, opening, file_numbered}
+use Rattle.fx_baton.proofs.Words.{IsSettled, Contents, state_of, IsTable, is_leaving, node_at, removed_at, Node, identity_of, numbers_for}
+use Rattle.fx_baton.proofs.Words.{HasSameFiles, IsGivenBack, contains_none, Idle, Log, View, Start, IsKept, IsLog, IsView, leaving_count, begin_of}
+use Rattle.fx_baton.proofs.Words.{first_view, new_log, contains_map}
 use Rattle.fx_plain.specs.declared.node.Node.TheVariants.{Leaving}
 use Rattle.std.proofs.lemmas.Bool.{lt-ltb, ltb-true}
 use Rattle.atomic_table.specs.Table.{opening as table_opening}
-use Rattle.fx_baton.proofs.Counts.{length_new}
-
-new_is : (q n : ℕ) (x : Log) → Contains (new_logs q n) x → x ≡ new_log x.number
-new_is q zero x h = absurd (contains_none x h)
-new_is q (suc n) x h = ⊎_elim
-    (λ (e : x ≡ new_log q). e ∙ ap new_log (ap (λ (z : Log). z.number) (sym e)))
-    (λ t. new_is (suc q) n x t)
-    (contains_cases (new_log q) (new_logs (suc q) n) x h)
+use Rattle.std.specs.List.{range_with_len}
+use Rattle.std.proofs.lemmas.List.FromFn.{length-map-range_with_len}
+use Rattle.fx_table.proofs.Ones.{counted_once}
 
 single_at : {A : Type 0} (v : A) (i : ℕ) (u : A) → get_elem? (v ∷ []) i ≡ some u → v ≡ u
 single_at v zero u e = some-injective v u e
@@ -52,7 +47,7 @@ module _ (k : Start) (c : Contents) (begins : state_of c ≡ begin_of k) (sound 
   new_view = record {
     logs =
         λ x h. subst (λ (z : Log). IsLog k [] c Idle z)
-        (sym (new_is 1 k.passes x h)) record { seen = ([], refl); own = refl; held = refl; fresh = λ n low from high its. ap (λ (z : State). z.fresh n) begins ∙ fresh_there n low high };
+        (sym (contains_map new_log (range_with_len 1 k.passes) x h).2) record { seen = ([], refl); own = refl; held = refl; fresh = λ n low from high its. ap (λ (z : State). z.fresh n) begins ∙ fresh_there n low high };
     file = λ f e. let no : None ≡ Some f = e in absurd (cc no);
     empty = λ _. (refl, refl);
     start = inr refl;
@@ -66,8 +61,8 @@ module _ (k : Start) (c : Contents) (begins : state_of c ≡ begin_of k) (sound 
     sound = sound;
     place = inl (refl, refl, λ i u e. ap (λ (z : View). z.loan) (sym (single_at (first_view k) i u e)));
     views = λ i u e. subst (IsView k [] c) (single_at (first_view k) i u e) new_view;
-    numbers = λ p. omega arith;
-    count = let a = length_new 1 k.passes in omega arith;
+    numbers = λ p. let a = counted_once (λ (x : Log). x.number) new_log (λ n. refl) p k.passes in omega arith;
+    count = let a = length-map-range_with_len new_log 1 k.passes in omega arith;
     few = few;
     authors = λ e h. absurd (contains_none e h);
     held = λ n. let a = ap (λ (z : State). z.holds n) begins in omega arith;

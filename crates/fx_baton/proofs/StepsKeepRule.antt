@@ -3,18 +3,11 @@ use Rattle.fx_baton.proofs.Words.{◌≡◌, ◌≢◌, ℕ, ◌+◌, ◌<◌, �
 use Rattle.fx_baton.proofs.Words.{get_elem?, Some, Contains, sum_by, Contains-append_cases, at_set, set_else, Contents, state_of, leaving, IsTable}
 use Rattle.fx_baton.proofs.Words.{IsLegal, ◌▷▷◌, File, Event, pass_of_number, HasFile, seen_further, part_other, held_other, sum_set, sum_at, sum_two}
 use Rattle.fx_baton.proofs.Words.{Log, View, Start, Shared, begin_of, logs_of, file_in_hand, holds_by, removals_by, leaving_count, IsLog, IsView}
-use Rattle.fx_baton.proofs.Words.{IsHome, IsAway, IsKept, ap, None, some-injective}
-use Rattle.fx_baton.proofs.Counts.{some_log, new_counted, hand_is_counted, one_true}
+use Rattle.fx_baton.proofs.Words.{IsHome, IsAway, IsKept, None, once_is}
+use Rattle.fx_baton.proofs.Counts.{some_log, hand_is_counted, one_true}
 
 pub none_some : {A : Type 0} (a : A) → None ≡ Some a → ⊥
 none_some a e = cc
-
--- a seat that has the table is another one than a seat that lacks it
-pub other_seat : (views : List View) (i id : ℕ) (u v : View) (c : Contents) → get_elem? views i ≡ some u → u.loan ≡ Some c
-    → get_elem? views id ≡ some v → v.loan ≡ None → i ≢ id
-other_seat views i id u v c there has at free same =
-    let is : u ≡ v = some-injective u v (sym there ∙ (ap (get_elem? views) same ∙ at)) in
-    none_some c (sym free ∙ (sym (ap (λ (z : View). z.loan) is) ∙ has))
 
 module _ (k : Start) (s : Shared) (r : IsKept k s) (id : ℕ) (v : View) (at : get_elem? s.views id ≡ some v) (w : View)
     (c : Contents) (es : List Event) (words : List ℕ) (homes : List (mathlib.Core.Option.Option Contents)) where
@@ -31,7 +24,7 @@ module _ (k : Start) (s : Shared) (r : IsKept k s) (id : ℕ) (v : View) (at : g
       let b = some_log x.number u.logs y hy same in
       let t = sum_two (λ (z : View). logs_of x.number z.logs) s.views id i v u (λ j. n (sym j)) at e in
       let o = r.numbers x.number in
-      let l = new_counted x.number 1 k.passes in
+      let l = once_is k.passes x.number in
       absurd (omega arith)
 
   -- What the step has to show: the seat's new view, what the new events are, that files with which others have to do
@@ -88,7 +81,7 @@ module _ (k : Start) (s : Shared) (r : IsKept k s) (id : ℕ) (v : View) (at : g
         let a = some_log t.log.number v.logs t.log t.log_in refl in
         let b = sum_at (λ (z : View). logs_of t.log.number z.logs) s.views id v at in
         let o = r.numbers t.log.number in
-        let n = new_counted t.log.number 1 k.passes in
+        let n = once_is k.passes t.log.number in
         (omega arith, omega arith)
 
     pub keeps_rule : IsKept k next

@@ -1,5 +1,5 @@
 -- The names that most proofs of this crate use.
-pub use Rattle.atomic_table.proofs.Lists.{at_longer, at_set, at_snoc, set_again, set_else}
+pub use Rattle.atomic_table.proofs.Lists.{at_set, set_again, set_else}
 pub use Rattle.atomic_table.specs.Seated.{TableId}
 pub use Rattle.atomic_table.specs.Table.{Allows, Joins, Splits, gives, keeps, rest, step, takes}
 pub use Rattle.atomic_table.specs.declared.shared.Seat.{Seat}
@@ -8,9 +8,8 @@ pub use Rattle.fx_baton.specs.Lives.{IsIdleSeatOf, IsNewPass, dealt, logs_in}
 pub use Rattle.fx_baton.specs.Passes.{HasCalled, HasGivenBack, HasSeenMore, HasTable, IsPassOf, UsesNext, first_front, first_own, is_idle, next_of}
 pub use Rattle.fx_baton.specs.Passes.{pass_behind, view_of}
 pub use Rattle.fx_baton.specs.Rule.{Gives, Grabs, HasFreshNumbers, IsAway, IsHome, IsKept, IsLog, IsTurn, IsView, Knows, Seated, Shared, Takes}
-pub use Rattle.fx_baton.specs.Rule.{begin_of, empty_view, file_held, file_in_hand, first_of, first_view, holds_by, joined_view, leaving_count}
-pub use Rattle.fx_baton.specs.Rule.{lent_view, log_behind, logs_of, new_log, new_logs, opening_of, removals_by, rest_of, view_behind, view_of_first}
-pub use Rattle.fx_baton.specs.Rule.{view_without_first}
+pub use Rattle.fx_baton.specs.Rule.{begin_of, empty_view, file_held, file_in_hand, first_view, holds_by, joined_view, leaving_count, lent_view}
+pub use Rattle.fx_baton.specs.Rule.{log_behind, logs_of, new_log, opening_of, removals_by, view_behind, view_of_first, view_without_first}
 pub use Rattle.fx_baton.specs.declared.pass.BatonPass.{BatonPass}
 pub use Rattle.fx_baton.specs.Tables.{IsPassOfTable}
 pub use Rattle.fx_baton.specs.declared.table.BatonTable.{BatonTable}
@@ -30,26 +29,26 @@ pub use Rattle.fx_plain.specs.declared.event.File.{File}
 pub use Rattle.fx_plain.specs.declared.node.Node.{Node}
 pub use Rattle.fx_table.proofs.Calls.{seen_again, seen_further}
 pub use Rattle.fx_table.proofs.Histories.{held_mine, held_other, legal_then, one_author, part_mine, part_other}
-pub use Rattle.fx_table.proofs.Members.{contains_cases, contains_head, contains_map, contains_mapped, contains_none, contains_only, contains_reverse}
-pub use Rattle.fx_table.proofs.Members.{contains_reversed, contains_tail}
-pub use Rattle.fx_table.proofs.SumLemmas.{sum_at, sum_le_at, sum_map, sum_of, sum_only, sum_reverse, sum_set, sum_two}
+pub use Rattle.fx_table.proofs.Members.{contains_head, contains_map, contains_mapped, contains_none, contains_only, contains_reverse}
+pub use Rattle.fx_table.proofs.Members.{contains_reversed}
+pub use Rattle.fx_table.proofs.Ones.{bit_here, one_if, once_is, one_less_at, one_more_at}
+pub use Rattle.fx_table.proofs.SumLemmas.{found_by, sum_at, sum_le_at, sum_map, sum_of, sum_set, sum_two, sum_zero_at}
 pub use Rattle.fx_table.proofs.Turns.{all_are_drawn, drawn_few, drawn_inside, next_is_its_own}
 pub use Rattle.fx_table.specs.Closing.{ClosesTable, times_drawn}
 pub use Rattle.fx_table.specs.Files.{HasFile}
 pub use Rattle.fx_table.specs.Numbers.{chains_of_pass, number_behind, numbers_for, pass_of_chain, pass_of_number}
 pub use Rattle.fx_table.specs.Opening.{HasSameFiles, IsGivenBack, Opening, size_of, state_at}
-pub use Rattle.fx_table.specs.Pass.{IsFront, IsHoldOf, IsIdle, IsRetiredOf, PassView, hold_of, new_pass, new_passes, new_passes_from, retired_of}
+pub use Rattle.fx_table.specs.Pass.{IsFront, IsHoldOf, IsRetiredOf, PassView, hold_of, new_pass, retired_of}
 pub use Rattle.fx_table.specs.Turns.{HasDrawnInTurn}
 pub use Rattle.fx_table.specs.declared.values.Doing.{Doing}
 pub use Rattle.fx_table.specs.declared.values.Doing.TheVariants.{Holding, Idle, Retiring}
 pub use Rattle.std.proofs.Common.{All, Bool, List, [], ap, arith, cond, eq-eqb, eqb, false, get_or, inl, inr, is_none, length, length-append, map}
-pub use Rattle.std.proofs.Common.{ne_eqb, refl, reverse, set, subst, suc, sym, true, vec_capacity, zero, ℕ, ⊎_elim, ◌*◌, ◌++◌, ◌+◌, ◌-◌, ◌<◌, ◌^◌}
-pub use Rattle.std.proofs.Common.{◌∙◌, ◌∷◌, ◌≡◌, ◌≢◌, ◌≤◌, ◌⊎◌}
-pub use Rattle.std.proofs.lemmas.List.Elements.{All-contains, All-push, Contains-append_cases, Contains-append_left, Contains-append_right}
-pub use Rattle.std.proofs.lemmas.List.Elements.{All-weaker, Contains-push}
-pub use Rattle.std.proofs.lemmas.List.Sums.{sum_by-append, sum_by-cons}
+pub use Rattle.std.proofs.Common.{refl, reverse, set, subst, suc, sym, true, vec_capacity, zero, ℕ, ⊎_elim, ◌*◌, ◌++◌, ◌+◌, ◌-◌, ◌<◌, ◌^◌, ◌∙◌, ◌∷◌}
+pub use Rattle.std.proofs.Common.{◌≡◌, ◌≢◌, ◌≤◌, ◌⊎◌}
+pub use Rattle.std.proofs.lemmas.List.Elements.{All-contains, Contains-append_cases, Contains-push}
+pub use Rattle.std.proofs.lemmas.List.Sums.{sum_by-append}
 pub use Rattle.std.specs.Prelude.{Contains, IfSome, None, Option, Some, count_by, if◌then◌else◌, is_some, nat_lt, not, option_map, sum_by, ◌&&◌, ◌==◌}
 pub use lib.ListN.{get_elem?}
 pub use mathlib.Core.Logic.{dite}
 pub use mathlib.Core.Option.{none, some, some-injective, some-ne-none}
-pub use native.Mathlib.Decide.{dec_lt, ℕ_discrete}
+pub use native.Mathlib.Decide.{ℕ_discrete}

@@ -1,5 +1,5 @@
 -- Passes as they are dealt out and gathered.
-use Rattle.std.specs.Prelude.{◌≡◌, ℕ, ◌+◌, ◌-◌, true, false, List, [], ◌∷◌, ◌++◌, None}
+use Rattle.std.specs.Prelude.{◌≡◌, ℕ, ◌+◌, ◌-◌, true, false, List, [], flat_map, None}
 use Rattle.atomic_table.specs.declared.shared.Seat.{Seat}
 use lib.ListN.{get_elem?}
 use mathlib.Core.Option.{some}
@@ -15,11 +15,11 @@ use Rattle.fx_baton.specs.Rule.{Shared, IsKept, IsHome, first_view, new_logs}
 
 -- the view of a seat that has the new passes from p to the last
 abbrev pub dealt : Start → ℕ → View
-dealt k p = record { start = k; logs = new_logs p ((k.passes + 1) - p); doing = Idle; loan = None }
+dealt k p = record (first_view k) { logs = new_logs p ((k.passes + 1) - p) }
 
+-- the passes of these seats, in their order
 abbrev pub logs_in : List BatonPass → List Log
-logs_in [] = []
-logs_in (p ∷ ps) = p.seat.me.0.logs ++ logs_in ps
+logs_in ps = flat_map (λ p. p.seat.me.0.logs) ps
 
 -- the pass of this seat and number, of so many, has done nothing
 pub record IsNewPass (seat : Seat Contents View) (number passes : ℕ) (p : BatonPass) : Type 0 where

@@ -1,7 +1,8 @@
 -- The rule of the table guarded by one word.
-use Rattle.std.specs.Prelude.{◌≡◌, ◌≢◌, ℕ, zero, suc, ◌+◌, ◌<◌, ◌≤◌, ◌==◌, ◌⊎◌, true, if◌then◌else◌}
-use Rattle.std.specs.Prelude.{List, [], ◌∷◌, ◌++◌, map, length, Option, Some}
+use Rattle.std.specs.Prelude.{◌≡◌, ◌≢◌, ℕ, ◌+◌, ◌<◌, ◌≤◌, ◌==◌, ◌⊎◌, true, if◌then◌else◌}
+use Rattle.std.specs.Prelude.{List, [], ◌∷◌, ◌++◌, map, length, take, drop, Option, Some}
 use Rattle.std.specs.Prelude.{None, Contains, count_by, sum_by}
+use Rattle.std.specs.List.{range_with_len}
 use mathlib.Core.Option.{some, none}
 use lib.ListN.{get_elem?}
 use Rattle.atomic_table.specs.Table.{State as TableState, Me, Step}
@@ -11,7 +12,7 @@ use Rattle.fx_plain.specs.History.{IsLegal, IsSeenBy, part_of_pass, held_by, ◌
 use Rattle.fx_plain.specs.declared.event.File.{File}
 use Rattle.fx_plain.specs.declared.event.Event.{Event}
 use Rattle.fx_table.specs.declared.limits.TheConstants.{FIRST_CHAIN_NUMBER, MAX_PASSES}
-use Rattle.fx_table.specs.Numbers.{numbers_for, number_behind, pass_of_number}
+use Rattle.fx_table.specs.Numbers.{numbers_for, number_behind, once, pass_of_number}
 use Rattle.fx_table.specs.Files.{HasFile}
 use Rattle.fx_table.specs.Opening.{Opening, opening_with, start_of}
 use Rattle.fx_table.specs.declared.values.Doing.{Doing}
@@ -42,27 +43,18 @@ new_log p = record { number = p; front = []; own = [] }
 
 -- so many new passes, from p on
 abbrev pub new_logs : ℕ → ℕ → List Log
-new_logs p zero = []
-new_logs p (suc n) = new_log p ∷ new_logs (suc p) n
+new_logs p n = map new_log (range_with_len p n)
 
 -- the view of the seat that opens the table
 abbrev pub first_view : Start → View
 first_view k = record { start = k; logs = new_logs 1 k.passes; doing = Idle; loan = None }
 
-abbrev pub rest_of : List Log → List Log
-rest_of [] = []
-rest_of (x ∷ xs) = xs
-
-abbrev pub first_of : List Log → List Log
-first_of [] = []
-first_of (x ∷ xs) = x ∷ []
-
 -- a view without the first of its passes, and with that one alone
 abbrev pub view_without_first : View → View
-view_without_first v = record v { logs = rest_of v.logs }
+view_without_first v = record v { logs = drop 1 v.logs }
 
 abbrev pub view_of_first : View → View
-view_of_first v = record v { logs = first_of v.logs }
+view_of_first v = record v { logs = take 1 v.logs }
 
 -- a view with the passes of another: each keeps its own front
 abbrev pub joined_view : View → View → View
@@ -154,8 +146,8 @@ pub record IsKept (k : Start) (s : Shared) : Type 0 where
   pub sound : IsTable contents
   pub place : IsHome contents s ⊎ IsAway contents history s
   pub views : (i : ℕ) (v : View) → get_elem? s.views i ≡ some v → IsView k history contents v
-  -- each pass is in one view, as in the first
-  pub numbers : (p : ℕ) → sum_by (λ v. logs_of p v.logs) s.views ≡ logs_of p (first_view k).logs
+  -- each pass is in one view
+  pub numbers : (p : ℕ) → sum_by (λ v. logs_of p v.logs) s.views ≡ once k.passes p
   pub count : sum_by (λ v. length v.logs) s.views ≡ k.passes
   pub few : k.passes ≤ MAX_PASSES
   pub authors : (e : Event) → Contains history e → (1 ≤ e.pass) × (e.pass ≤ k.passes)

@@ -5,12 +5,10 @@ use Rattle.fx_counted.proofs.Words.{Closed, File, changed_at, no_use, next_numbe
 use Rattle.fx_counted.proofs.Words.{Agrees, word_of, place_of, opening_of, chain_in, chain_numbers, first_log, pass_of, IsNumber, state_after_all}
 use Rattle.fx_counted.proofs.Words.{end_in, next_in, held_in, placing, held_of, holding, Phase, spare, placed, emptied, closed, owner, file_in}
 use Rattle.fx_counted.proofs.Words.{Stepped, Start, View, Idle, Placing, Holding, Emptying, looks, mul-le-mul_left, BirthsKeep, RestsKeep, Births}
-use Rattle.fx_counted.proofs.Words.{Rests, inl}
-use Rattle.fx_counted.proofs.Steps.{grows_none, change_here, change_else, busy, does_now, Turn, turn_of, word_at, its_log, its_work, by_turn, went}
-use Rattle.fx_counted.proofs.Steps.{tells_none, one_same, near, far, NodeStep, node_agrees}
+use Rattle.fx_counted.proofs.Words.{Rests, inl, Between}
+use Rattle.fx_counted.proofs.Steps.{grows_none, changed_here, changed_else, busy, does_now, Turn, turn_of, word_at, its_log, its_work, by_turn, went}
+use Rattle.fx_counted.proofs.Steps.{tells_none, one_same, near, far, NodeStep, node_agrees, NodeIn}
 use Rattle.std.proofs.Common.{length-set}
-use Rattle.fx_counted.proofs.Words.{Between}
-use Rattle.fx_counted.proofs.Steps.{NodeIn}
 
 -- the file that a pass holds is open
 pub held_file : (k : Start) (phase : ℕ → Phase) (j : ℕ) (u : View) (f : File) → u.work ≡ Between (Holding f)
@@ -84,8 +82,8 @@ module _ (turn : Turn) where
       known = does_now st.views id v (went turn r.history (Placing b) v.change) (Placing b) here refl;
       held = o.held ∙ ap held_in idle;
       next = (refl, some_left);
-      spares = λ n low high. let p = ap placing idle in change_else r.phase b (placed id) n (λ same. omega arith) ∙ o.spares n (omega arith) high;
-      work = (its_b, change_here r.phase b (placed id) b refl);
+      spares = λ n low high. let p = ap placing idle in changed_else r.phase b (placed id) n (λ same. omega arith) ∙ o.spares n (omega arith) high;
+      work = (its_b, changed_here r.phase b (placed id) b refl);
       holds = λ n. let e : held_of n v ≡ 0 = ap (holding n) idle in omega arith;
     }
 
@@ -130,7 +128,7 @@ module _ (turn : Turn) where
         rest_step q w.0 (emptied id) closed w.1 refl refl (ap held_in is) (ap busy is)
             (λ m. ap (holding m) is) record { counts = refl; at_home = refl; no_holds = n.no_holds; not_removed = n.not_removed } tt
             (λ m low high. let p = ap placing is in let s = o.spares m (omega arith) high in
-            change_else r.phase q closed m (λ same. cc (sym s ∙ (ap r.phase same ∙ w.1))) ∙ s),
+            changed_else r.phase q closed m (λ same. cc (sym s ∙ (ap r.phase same ∙ w.1))) ∙ s),
       )
 
   rest_placed : (q : ℕ) → v.work ≡ Placing q → (its : IsNumber v.start q) × NodeStep turn q its 0
@@ -149,8 +147,8 @@ module _ (turn : Turn) where
               not_removed = n.not_removed;
             } tt
             (λ m low high. let p = ap placing is in
-            dite (ℕ_discrete m q) (λ same. change_here r.phase q (spare x.number) m same)
-            (λ other. change_else r.phase q (spare x.number) m other ∙ o.spares m (let a = next.0 in omega arith) high)),
+            dite (ℕ_discrete m q) (λ same. changed_here r.phase q (spare x.number) m same)
+            (λ other. changed_else r.phase q (spare x.number) m other ∙ o.spares m (let a = next.0 in omega arith) high)),
       )
 
 pub births_keep : BirthsKeep

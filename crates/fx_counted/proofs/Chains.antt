@@ -5,14 +5,12 @@ use Rattle.fx_counted.proofs.Words.{⊎_elim, dite, none, ℕ_discrete, dec_le, 
 use Rattle.fx_counted.proofs.Words.{sum_at, sum_le_at, NodeAgrees, OwnerAgrees, lengths, PlacesNext, WorkAgrees, DrawsCount, word_of, place_of}
 use Rattle.fx_counted.proofs.Words.{control_place, draw_place, slot_place, opening_of, state_after_all, chain_in, shown, first_log, drawn_of, told_of}
 use Rattle.fx_counted.proofs.Words.{once, placing, Phase, unborn, spare, owner, file_in, Log, View, Idle, looks, mul-add, mul-le-mul_left, Draws}
-use Rattle.fx_counted.proofs.Words.{DrawsKeep, first_or, DrawTells, next_in, end_in, chain_given}
+use Rattle.fx_counted.proofs.Words.{DrawsKeep, first_or, DrawTells, next_in, end_in, chain_given, Between}
 use Rattle.fx_counted.proofs.Steps.{owner_same, grows_none, Turn, turn_of, word_at, now, its_log, Step, step_kept, by_turn, Made, near, far}
-use Rattle.fx_counted.proofs.Steps.{slot_same, control_same, one_if, times, bit_here, once_is, once_more}
+use Rattle.fx_counted.proofs.Steps.{slot_same, control_same, one_if, times, bit_here, once_is, once_more, NodeIn}
 use Rattle.std.proofs.Common.{length-set}
 use Rattle.std.proofs.lemmas.List.Sums.{count_by-le-length}
-use Rattle.fx_counted.proofs.Words.{Between}
-use Rattle.fx_counted.proofs.Steps.{NodeIn}
-use Rattle.fx_counted.proofs.Ones.{bit_else}
+use Rattle.fx_table.proofs.Ones.{bit_else}
 use Rattle.fx_counted.proofs.Ending.{drawn, told}
 
 abbrev pick : {P : Type 0} → Dec P → Phase → Phase → Phase
@@ -170,10 +168,10 @@ module _ (turn : Turn) where
         let all : length v.logs ≡ v.start.passes = ap (length {A = Log}) one ∙ sym passes in
         let drawn_here : times d.given x.drawn ≡ once d.given d.given =
         (let e : sum_by (λ (z : Log). times d.given z.drawn) v.logs ≡ 0 + times d.given x.drawn = ap (λ (l : List Log). sum_by (λ z. times d.given z.drawn) l) one in
-        let f = drawn v.start st r id v here idle all d.given in omega arith) in
+        let f = drawn v.start st r id v here all d.given in omega arith) in
         let none_told : sum_by told_of st.views ≡ 0 =
         (let e : sum_by (λ (z : Log). one_if z.no_chains_left) v.logs ≡ 0 + one_if x.no_chains_left = ap (λ (l : List Log). sum_by (λ z. one_if z.no_chains_left) l) one in
-        let f = told v.start st r id v here idle all in let g = ap one_if untold in omega arith) in
+        let f = told v.start st r id v here all in let g = ap one_if untold in omega arith) in
         let counts = d.counts in
         let few = chain_few in
         dite (dec_le d.given (chain_in x)) (λ le. omega (arith, le, few, counts, none_told))

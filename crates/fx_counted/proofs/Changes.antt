@@ -4,14 +4,13 @@ use Rattle.fx_counted.proofs.Words.{some, ℕ_discrete, get_elem?, set_here, set
 use Rattle.fx_counted.proofs.Words.{one_number, range_of, event_of, takes_in, slot_word_of, name_made, entry_made, takes_made, Names, NodeAgrees}
 use Rattle.fx_counted.proofs.Words.{OwnerAgrees, WorkAgrees, PlacesNext, Agrees, if_full, looks, word_of, place_of, slot_place, opening_of, slots_of}
 use Rattle.fx_counted.proofs.Words.{IsNumber, state_after_all, shown, next_in, held_in, placing, holding, Phase, unborn, spare, placed, seated, owner}
-use Rattle.fx_counted.proofs.Words.{file_in, IsInside, Stepped, retiring, turned, View, Idle, Placing, Change, keeps, stepped}
-use Rattle.fx_counted.proofs.Steps.{busy, stays_same, owner_stays, grows_one, part_mine, change_here, change_else, same_shape, Turn, Homes, word_at}
+use Rattle.fx_counted.proofs.Words.{file_in, IsInside, Stepped, retiring, turned, View, Idle, Placing, Change, keeps, stepped, Between}
+use Rattle.fx_counted.proofs.Steps.{busy, stays_same, owner_stays, grows_one, part_mine, changed_here, changed_else, same_shape, Turn, Homes, word_at}
 use Rattle.fx_counted.proofs.Steps.{now, logged, its_log, its_work, tells, went, tells_one, node_same}
 use Rattle.std.proofs.Common.{length-set}
 use Rattle.fx_counted.proofs.Births.{in_phase, roomy, else_place, unheld}
 use Rattle.fx_counted.proofs.FullSlots.{Stands, control_swap}
 use Rattle.fx_counted.proofs.Swaps.{NotOf, Effect, h', removed_else, found, state, so, seat_of, not_old, elsewhere, w, Swap, swap_agrees}
-use Rattle.fx_counted.proofs.Words.{Between}
 
 module _ (turn : Turn) (s : ℕ) (inside : s < slots_of turn.v.start) (stands : Stands (range_of (opening_of turn.v.start)) s turn.v.change)
     (old : Option File) (was : (state_after_all turn.v.start turn.r.history).at s ≡ old) where
@@ -55,7 +54,7 @@ module _ (turn : Turn) (s : ℕ) (inside : s < slots_of turn.v.start) (stands : 
           (ap (λ (z : State). z.fresh n) does.state) (ap (λ (z : State). z.removed n) does.state ∙ removed_else s₀.removed old n other)
           (ap (λ (z : State). z.holds n) does.state) refl refl refl (ap (λ (z : State). z.size) does.state) (r.phase n)
           (λ i g is there. ap (λ (z : State). z.at i) does.state
-          ∙ change_else s₀.at s None i (elsewhere turn s inside old was n i g other there))
+          ∙ changed_else s₀.at s None i (elsewhere turn s inside old was n i g other there))
           (r.each_node n has);
       old_home = λ f is. refl;
       owners = λ n has other. owner_stays st.views id v
@@ -101,10 +100,10 @@ module _ (turn : Turn) (s : ℕ) (inside : s < slots_of turn.v.start) (stands : 
     phase₁ = changed_at r.phase n (seated s file)
 
     here_phase : phase₁ n ≡ seated s file
-    here_phase = change_here r.phase n (seated s file) n refl
+    here_phase = changed_here r.phase n (seated s file) n refl
 
     else_phase : (m : ℕ) (ph : Phase) → r.phase m ≡ ph → (ph ≡ placed id → ⊥) → phase₁ m ≡ ph
-    else_phase m ph is other = change_else r.phase n (seated s file) m (λ same. other (sym is ∙ (ap r.phase same ∙ its.1))) ∙ is
+    else_phase m ph is other = changed_else r.phase n (seated s file) m (λ same. other (sym is ∙ (ap r.phase same ∙ its.1))) ∙ is
 
     abbrev c : Change
     c = turned v.change (if_full old) 1
@@ -120,19 +119,19 @@ module _ (turn : Turn) (s : ℕ) (inside : s < slots_of turn.v.start) (stands : 
       counts = let a = o.counts in let b = o.no_looks in let c = o.no_holds in omega arith;
       at_home = set_here st.homes (place_of v.start n) (some (Some file)) (roomy turn n its.0);
       inside = let z = in_size in let q = ap (λ (z : State). z.size) does.state in omega arith;
-      there = ap (λ (z : State). z.at s) does.state ∙ change_here s₀.at s (Some (numbered n file)) s refl;
+      there = ap (λ (z : State). z.at s) does.state ∙ changed_here s₀.at s (Some (numbered n file)) s refl;
       not_removed = ap (λ (z : State). z.removed n) does.state ∙ (removed_else s₀.removed old n apart_old ∙ o.not_removed);
     }
 
     node_else : (m : ℕ) → IsNumber v.start m → m ≢ n → NotOf m old → Node m (r.phase m)
     node_else m has other apart = node_same s₀ (after a) m (looks r.history m) (looks r.history m) _ _ _ _
-        (ap (λ (z : State). z.fresh m) does.state ∙ change_else s₀.fresh n false m other)
+        (ap (λ (z : State). z.fresh m) does.state ∙ changed_else s₀.fresh n false m other)
         (ap (λ (z : State). z.removed m) does.state ∙ removed_else s₀.removed old m apart)
         (ap (λ (z : State). z.holds m) does.state) refl refl
         (set_else st.homes (place_of v.start n) (place_of v.start m) (some (Some file))
         (else_place turn n its.0 m has other)) (ap (λ (z : State). z.size) does.state) (r.phase m)
         (λ i g is there. ap (λ (z : State). z.at i) does.state
-        ∙ change_else s₀.at s (Some (numbered n file)) i
+        ∙ changed_else s₀.at s (Some (numbered n file)) i
         (elsewhere turn s inside old was m i g apart there)) (r.each_node m has)
 
     installation : Swap turn s inside old was a (slot_word_of n file.entry) (Some (numbered n file)) homes' phase₁ (x.numbers_left - 1) c
@@ -155,15 +154,15 @@ module _ (turn : Turn) (s : ℕ) (inside : s < slots_of turn.v.start) (stands : 
       unused = λ m is. else_phase m unborn is (λ bad. cc bad);
       nodes = λ m has apart. dite (ℕ_discrete m n)
           (λ same. subst (λ (m : ℕ). Node m (phase₁ m)) (sym same) (subst (Node n) (sym here_phase) node_here))
-          (λ other. subst (Node m) (sym (change_else r.phase n (seated s file) m other)) (node_else m has other apart));
+          (λ other. subst (Node m) (sym (changed_else r.phase n (seated s file) m other)) (node_else m has other apart));
       old_home = λ f is. let q = seat_of turn s inside f (was ∙ is) in
           set_else st.homes (place_of v.start n) (place_of v.start f.number) (some (Some file))
           (else_place turn n its.0 f.number q.0
           (λ same. let z : seated s f.identity ≡ placed id = sym q.2 ∙ (ap r.phase same ∙ its.1) in cc z));
       owners = λ m has apart. dite (ℕ_discrete m n)
           (λ same. subst (λ (z : ℕ × Phase). OwnerAgrees (set st.views id w₁) z.0 z.1)
-          (λ i. (sym same i, sym (change_here r.phase n (seated s file) m same) i)) tt)
-          (λ other. subst (OwnerAgrees (set st.views id w₁) m) (sym (change_else r.phase n (seated s file) m other))
+          (λ i. (sym same i, sym (changed_here r.phase n (seated s file) m same) i)) tt)
+          (λ other. subst (OwnerAgrees (set st.views id w₁) m) (sym (changed_else r.phase n (seated s file) m other))
           (owner_stays st.views id v w₁ here m (λ bad. let b = ap busy works in
           other (omega arith)) (r.phase m) (r.each_owner m has)));
       fewer = omega arith;

@@ -1,12 +1,11 @@
 -- What a step of one seat leaves as it was.
-use Rattle.fx_counted.proofs.Words.{sum_by, ◌≡◌, ◌≢◌, ℕ, zero, suc, ◌+◌, ◌<◌, List, [], ◌∷◌, set, length, sym, refl, ap, ◌∙◌, subst, arith}
-use Rattle.fx_counted.proofs.Words.{⊎_elim, eqb, some, some-injective, some-ne-none, get_elem?, at_set, set_here, set_else, File, Event, numbered}
-use Rattle.fx_counted.proofs.Words.{sum_at, sum_two, Does, OwnerAgrees, WorkAgrees, ViewAgrees, Agrees, Shared, logs_of, Phase, spare, placed}
+use Rattle.fx_counted.proofs.Words.{Contains, sum_of, sum_by, ◌≡◌, ◌≢◌, ℕ, zero, suc, ◌+◌, ◌<◌, List, [], ◌∷◌, set, length, sym, refl, ap, ◌∙◌, subst}
+use Rattle.fx_counted.proofs.Words.{arith, ⊎_elim, eqb, some, some-injective, some-ne-none, get_elem?, at_set, set_here, set_else, File, Event}
+use Rattle.fx_counted.proofs.Words.{numbered, sum_two, Does, OwnerAgrees, WorkAgrees, ViewAgrees, Agrees, Shared, logs_of, Phase, spare, placed}
 use Rattle.fx_counted.proofs.Words.{leaving, emptied, owner, file_in, Log, Start, View, Work, Idle, Placing, Holding, Retiring, Emptying, dite}
-use Rattle.fx_counted.proofs.Words.{ℕ_discrete}
+use Rattle.fx_counted.proofs.Words.{ℕ_discrete, Between}
 use Rattle.fx_counted.proofs.Histories.{Grows}
-use Rattle.fx_counted.proofs.Ones.{one_if, bit_here, once_is}
-use Rattle.fx_counted.proofs.Words.{Between}
+use Rattle.fx_table.proofs.Ones.{one_if, bit_here, once_is}
 
 -- the number that a pass alone works with, plus 1, or 0
 abbrev pub busy : Work → ℕ
@@ -42,11 +41,11 @@ module _ (id p j : ℕ) (other : j ≢ id) (phase phase' : ℕ → Phase) (stays
   work_stays k (Emptying n) keeps o = (o.0, same_for n (emptied j) o.1 refl)
 
   -- another view, after events of a pass that it doesn't have
-  pub view_stays : (k : Start) (h h' : List Event) → Grows p h h' → (u : View) → ((i : ℕ) (y : Log) → get_elem? u.logs i ≡ some y → y.number ≢ p)
+  pub view_stays : (k : Start) (h h' : List Event) → Grows p h h' → (u : View) → ((y : Log) → Contains u.logs y → y.number ≢ p)
       → ((f : File) → u.work ≡ Between (Holding f) → file_in (phase' f.number) ≡ file_in (phase f.number))
       → ViewAgrees k h phase j u → ViewAgrees k h' phase' j u
   view_stays k h h' g u not_its keeps ok = record {
-    logs = λ i y e. let o = ok.logs i y e in let n : p ≢ y.number = λ same. not_its i y e (sym same) in record {
+    logs = λ y e. let o = ok.logs y e in let n : p ≢ y.number = λ same. not_its y e (sym same) in record {
       seen = g.seen y.front o.seen;
       own = g.parts y.number n ∙ o.own;
       held = g.helds y.number n ∙ o.held;
@@ -65,14 +64,14 @@ module _ (id p j : ℕ) (other : j ≢ id) (phase phase' : ℕ → Phase) (stays
 -- a pass that one view has is in no other one
 pub not_there : (k : Start) (st : Shared) → Agrees k st → (id j : ℕ) (v u : View) (x : Log)
     → get_elem? st.views id ≡ some v → v.logs ≡ x ∷ [] → j ≢ id → get_elem? st.views j ≡ some u
-    → (i : ℕ) (y : Log) → get_elem? u.logs i ≡ some y → y.number ≢ x.number
-not_there k st r id j v u x here one other there i y at same =
+    → (y : Log) → Contains u.logs y → y.number ≢ x.number
+not_there k st r id j v u x here one other there y at same =
     let t = sum_two (logs_of x.number) st.views j id u v other there here in
     let a = r.passes x.number in
     let c : logs_of x.number v ≡ 0 + one_if (eqb x.number x.number) = ap
     (λ (l : List Log). sum_by (λ z. one_if (eqb z.number x.number)) l) one in
     let d = bit_here x.number x.number refl in
-    let e = sum_at (λ z. one_if (eqb z.number x.number)) u.logs i y at in
+    let e = sum_of (λ z. one_if (eqb z.number x.number)) u.logs y at in
     let f = bit_here x.number y.number same in
     omega (arith, once_is k.passes x.number)
 

@@ -2,7 +2,7 @@
 use Rattle.fx_counted.proofs.Words.{◌≡◌, ◌≢◌, ℕ, zero, suc, ◌+◌, ◌<◌, ◌≤◌, List, set, sym, refl, ap, ◌∙◌, ◌⊎◌, inl, inr, ⊎_elim, arith, Option, Some}
 use Rattle.fx_counted.proofs.Words.{None, IsSome, subst, dite, some, ℕ_discrete, get_elem?, changed_at, File, sum_set, in_change, added, removed_by}
 use Rattle.fx_counted.proofs.Words.{changes_of, added_of, removed_of, if_full, full_in, ControlCounts, turned, Change, Outside, Same, View, changed}
-use Rattle.fx_counted.proofs.Histories.{change_here, change_else}
+use Rattle.fx_plain.proofs.Cells.{changed_here, changed_else}
 
 pub full_else : (at : ℕ → Option File) (s : ℕ) (new : Option File) (off len : ℕ) → ((i : ℕ) → i < len → off + i ≢ s)
     → full_in (changed_at at s new) off len ≡ full_in at off len
@@ -10,7 +10,7 @@ full_else at s new off zero other = refl
 full_else at s new off (suc len) other =
     let a = full_else at s new off len (λ i l. other i (omega arith)) in
     let b : if_full (changed_at at s new (off + len)) ≡ if_full (at (off + len)) = ap if_full
-    (change_else at s new (off + len) (other len (omega arith))) in
+    (changed_else at s new (off + len) (other len (omega arith))) in
     omega arith
 
 pub full_here : (at : ℕ → Option File) (s : ℕ) (new : Option File) (off len : ℕ) → off ≤ s → s < off + len
@@ -19,11 +19,11 @@ full_here at s new off zero a b = absurd (omega arith)
 full_here at s new off (suc len) a b = dite (ℕ_discrete (off + len) s)
     (λ here. let c = full_else at s new off len (λ i l. λ bad. omega arith) in
     let d : if_full (changed_at at s new (off + len)) ≡ if_full new = ap if_full
-    (change_here at s new (off + len) here) in
+    (changed_here at s new (off + len) here) in
     let e : if_full (at (off + len)) ≡ if_full (at s) = ap (λ (i : ℕ). if_full (at i)) here in omega arith)
     (λ else. let c = full_here at s new off len a (omega arith) in
     let d : if_full (changed_at at s new (off + len)) ≡ if_full (at (off + len)) = ap if_full
-    (change_else at s new (off + len) else) in omega arith)
+    (changed_else at s new (off + len) else) in omega arith)
 
 pub full_one : (found : Option File) → if_full found ≤ 1
 full_one None = omega arith

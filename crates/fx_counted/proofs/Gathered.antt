@@ -1,103 +1,98 @@
 -- All passes in one seat: what the one history says of each of them.
-use Rattle.fx_counted.proofs.Words.{◌≡◌, ℕ, ◌<◌, List, [], ◌∷◌, map, length, reverse, sym, refl, ap, ◌∙◌, subst, arith, ⊎_elim, length-append}
-use Rattle.fx_counted.proofs.Words.{Contains, sum_by, some, get_elem?, Contains-append_left, sum_by-append, sum_by-cons, TableId, Contents, state_of}
-use Rattle.fx_counted.proofs.Words.{IsSettled, ClosesTable, times_drawn, HasSameFiles, PassView, contains_none, contains_head}
-use Rattle.fx_counted.proofs.Words.{contains_tail, contains_cases, contains_map, contains_mapped, sum_map, Agrees, logs_in, Shared, opening_of}
-use Rattle.fx_counted.proofs.Words.{state_after_all, first_log, view_of, IsPassOf, CountedPass, Log, Start, View, Outside, Idle, length-reverse}
-use Rattle.fx_counted.proofs.Words.{Contains-append_right, Contains-append_cases, contains_only, contains_reverse, contains_reversed, sum_reverse}
-use Rattle.fx_counted.proofs.Ending.{closes_logs, idle_each}
-use Rattle.fx_counted.proofs.Words.{Work, shown}
-use Rattle.fx_counted.proofs.Ones.{times}
-use Rattle.fx_counted.proofs.Words.{Between}
+use Rattle.fx_counted.proofs.Words.{◌≤◌, ◌≢◌, eqb, some, get_elem?, Contains, sum_by, TableId, Contents, state_of, IsSettled, ClosesTable}
+use Rattle.fx_counted.proofs.Words.{times_drawn, HasSameFiles, PassView, contains_none, contains_head, contains_map, contains_mapped}
+use Rattle.fx_counted.proofs.Words.{contains_reverse, contains_reversed, sum_map, sum_of, found_by, found_sum, Agrees, LogAgrees, logs_in, Shared}
+use Rattle.fx_counted.proofs.Words.{opening_of, state_after_all, first_log, view_of, IsPassOf, CountedPass, Log, Start, View, Event, IsSeenBy}
+use Rattle.fx_counted.proofs.Words.{part_of_pass, length-reverse, length-map, once, Between, Idle, true, ◌≡◌, ℕ, ◌<◌, List, [], ◌∷◌, map, length}
+use Rattle.fx_counted.proofs.Words.{reverse, sym, refl, ap, ◌∙◌, subst, arith}
+use Rattle.fx_table.proofs.Chains.{in_part, some_there, some_times}
+use Rattle.fx_table.proofs.Gathering.{logs_are as each_log, sum_gathered, each_seat}
+use Rattle.fx_table.proofs.Settling.{IsWhole, closes_table}
+use Rattle.fx_table.proofs.Ones.{one_if, times, once_is}
+use Rattle.fx_counted.proofs.Ending.{settled_end, whole_here, sum_here, drawn, told}
+
+some_pass : {X : Type 0} (l : List X) → 0 < length l → (x : X) × Contains l x
+some_pass [] low = absurd (omega arith)
+some_pass (x ∷ l) low = (x, contains_head x l)
 
 module _ (id : TableId) (k : Start) where
   abbrev pub Is : CountedPass → Type 0
   Is p = IsPassOf id k p
 
-  abbrev log_of : CountedPass → Log
+  -- the one log of a pass
+  abbrev pub log_of : CountedPass → Log
   log_of p = first_log p.seat.me.0.logs
 
   its_log : (p : CountedPass) → Is p → p.seat.me.0.logs ≡ log_of p ∷ []
   its_log p fits = fits.seated.one ∙ ap (λ (x : Log). x ∷ []) (sym (ap first_log fits.seated.one))
 
-  length_logs : (ps : List CountedPass) → ((p : CountedPass) → Contains ps p → Is p) → length (logs_in ps) ≡ length ps
-  length_logs [] f = refl
-  length_logs (p ∷ ps) f =
-      let r = length_logs ps (λ q h. f q (contains_tail p ps q h)) in
-      let one = ap (length {A = Log}) (f p (contains_head p ps)).seated.one in
-      omega (arith, length-append p.seat.me.0.logs (logs_in ps))
-
-  log_in : (ps : List CountedPass) (p : CountedPass) → ((p : CountedPass) → Contains ps p → Is p) → Contains ps p → Contains (logs_in ps) (log_of p)
-  log_in [] p f h = absurd (contains_none p h)
-  log_in (q ∷ ps) p f h = ⊎_elim
-      (λ (e : p ≡ q). Contains-append_left q.seat.me.0.logs (logs_in ps) (log_of p)
-      (subst (λ (z : CountedPass). Contains q.seat.me.0.logs (log_of z)) (sym e)
-      (subst (λ (l : List Log). Contains l (log_of q)) (sym (its_log q (f q (contains_head q ps)))) (contains_head (log_of q) []))))
-      (λ t. Contains-append_right q.seat.me.0.logs (logs_in ps) (log_of p) (log_in ps p (λ z i. f z (contains_tail q ps z i)) t))
-      (contains_cases q ps p h)
-
-  log_from : (ps : List CountedPass) (x : Log) → ((p : CountedPass) → Contains ps p → Is p) → Contains (logs_in ps) x
-      → (p : CountedPass) × Contains ps p × (x ≡ log_of p)
-  log_from [] x f h = absurd (contains_none x h)
-  log_from (q ∷ ps) x f h = ⊎_elim
-      (λ i. (
-        q,
-        contains_head q ps,
-        contains_only (log_of q) x (subst (λ (l : List Log). Contains l x) (its_log q (f q (contains_head q ps))) i),
-      ))
-      (λ i. let r = log_from ps x (λ z j. f z (contains_tail q ps z j)) i in (r.0, contains_tail q ps r.0 r.1, r.2))
-      (Contains-append_cases q.seat.me.0.logs (logs_in ps) x h)
-
-  sum_logs : (f : Log → ℕ) (ps : List CountedPass) → ((p : CountedPass) → Contains ps p → Is p)
-      → sum_by f (logs_in ps) ≡ sum_by (λ p. f (log_of p)) ps
-  sum_logs f [] each = refl
-  sum_logs f (p ∷ ps) each =
-      let r = sum_logs f ps (λ q h. each q (contains_tail p ps q h)) in
-      let a = sum_by-append f p.seat.me.0.logs (logs_in ps) in
-      let b = sum_by-cons (λ (q : CountedPass). f (log_of q)) p ps in
-      let one : sum_by f p.seat.me.0.logs ≡ sum_by f (log_of p ∷ []) = ap (sum_by f) (its_log p (each p (contains_head p ps))) in
-      let c = sum_by-cons f (log_of p) [] in
-      omega arith
-
   module _ (ps : List CountedPass) (each : (p : CountedPass) → Contains ps p → Is p) (count : length ps ≡ k.passes)
       (s : Shared) (r : Agrees k s) (seat : ℕ) (v : View) (at : get_elem? s.views seat ≡ some v) (logs_are : v.logs ≡ logs_in (reverse ps))
-      (idle : v.work ≡ Between Idle) (out : v.change ≡ Outside) where
-    each_back : (p : CountedPass) → Contains (reverse ps) p → Is p
-    each_back p h = each p (contains_reverse ps p h)
+      (idle : v.work ≡ Between Idle) where
+    these_logs : v.logs ≡ map log_of (reverse ps)
+    these_logs = logs_are ∙ each_log (λ p. p.seat.me.0.logs) log_of (reverse ps) (λ p h. its_log p (each p (contains_reverse ps p h)))
 
     all_logs : length v.logs ≡ k.passes
-    all_logs = ap (length {A = Log}) logs_are ∙ (length_logs (reverse ps) each_back ∙ (length-reverse ps ∙ count))
+    all_logs = ap (length {A = Log}) these_logs ∙ (length-map (reverse ps) log_of ∙ (length-reverse ps ∙ count))
 
     pub all_idle : (i : ℕ) (u : View) → get_elem? s.views i ≡ some u → u.work ≡ Between Idle
-    all_idle = idle_each k s r seat v at idle all_logs
+    all_idle = each_seat (λ (u : View). u.logs) s.views seat v at (whole_here k s r seat v at all_logs) (λ u. u.work ≡ Between Idle) idle
+        (λ i u e none. ((r.each_view i u e).empty none).0)
 
-    -- what a pass shows is what its log shows, its doing aside
-    view_from : (w : PassView) → Contains (map view_of ps) w → (x : Log) × (d : Work) × Contains v.logs x × (w ≡ shown x d)
-    view_from w h = let p = contains_map view_of ps w h in (
-      log_of p.0,
-      p.0.seat.me.0.work,
-      subst (λ (l : List Log). Contains l (log_of p.0)) (sym logs_are) (log_in (reverse ps) p.0 each_back (contains_reversed ps p.0 p.1)),
-      p.2,
-    )
+    pub known : (p : CountedPass) → Contains ps p → LogAgrees k r.history r.phase v.work (log_of p)
+    known p h = (r.each_view seat v at).logs (log_of p) (subst (λ (l : List Log). Contains l (log_of p)) (sym these_logs)
+        (contains_mapped log_of (reverse ps) p (contains_reversed ps p h)))
 
-    shown_from : (x : Log) → Contains v.logs x → (d : Work) × Contains (map view_of ps) (shown x d)
-    shown_from x h =
-        let p = log_from (reverse ps) x each_back (subst (λ (l : List Log). Contains l x) logs_are h) in
-        let work = p.0.seat.me.0.work in (
-          work,
-          subst (λ (z : Log). Contains (map view_of ps) (shown z work)) (sym p.2)
-              (contains_mapped view_of ps p.0 (contains_reverse ps p.0 p.1)),
-        )
+    sum_of_all : (f : Log → ℕ) → sum_by f v.logs ≡ sum_by (λ p. f (log_of p)) ps
+    sum_of_all f = sum_gathered (λ (p : CountedPass). p.seat.me.0.logs) log_of f ps v.logs these_logs
 
-    draws : (chain : ℕ) → sum_by (times_drawn chain) (map view_of ps) ≡ sum_by (λ (x : Log). times chain x.drawn) v.logs
-    draws chain =
-        let a = sum_map (times_drawn chain) view_of ps in
-        let b = sum_logs (λ x. times chain x.drawn) (reverse ps) each_back in
-        let c = ap (sum_by (λ (x : Log). times chain x.drawn)) logs_are in
-        let d = sum_reverse (λ (p : CountedPass). times chain (log_of p).drawn) ps in
-        omega arith
+    drawn_by : (c : ℕ) → sum_by (λ p. times c (log_of p).drawn) ps ≡ once r.draws.given c
+    drawn_by c = sym (sum_of_all (λ x. times c x.drawn)) ∙ drawn k s r seat v at all_logs c
+
+    author : (e : Event) → Contains r.history e → (p : CountedPass) × Contains ps p × (e.pass ≡ (log_of p).number)
+    author e h =
+        let known : once k.passes e.pass ≢ 0 = λ none.
+        contains_none e (subst (λ (l : List Event). Contains l e) (r.authors e.pass none) (in_part e.pass r.history e h refl)) in
+        let a = sum_of_all (λ x. one_if (eqb x.number e.pass)) in
+        let b = sum_here k s r seat v at all_logs (λ x. one_if (eqb x.number e.pass)) in
+        let c = r.passes e.pass in
+        let p = found_by (λ (q : CountedPass). (log_of q).number) e.pass ps (omega (arith, known)) in
+        (p.0, p.1, sym p.2)
+
+    inside : (c : ℕ) (p : CountedPass) → Contains ps p → Contains (log_of p).drawn c → (0 < c) × (c ≤ k.chains)
+    inside c p h d =
+        let a = sum_of (λ (q : CountedPass). times c (log_of q).drawn) ps p h in
+        let b = some_times c (log_of p).drawn d in
+        let e = drawn_by c in
+        let few = r.draws.few in
+        let o = once_is r.draws.given c in
+        (omega (arith, o), omega (arith, o))
+
+    all_drawn : 0 < k.passes → ((w : PassView) → Contains (map view_of ps) w → w.no_chains_left ≡ true) → (c : ℕ) → 0 < c → c ≤ k.chains
+        → (w : PassView) × Contains (map view_of ps) w × Contains w.drawn c
+    all_drawn some_passes ended c low high =
+        let first = some_pass ps (omega arith) in
+        let a = sum_of (λ (q : CountedPass). one_if (log_of q).no_chains_left) ps first.0 first.1 in
+        let b = ap one_if (ended (view_of first.0) (contains_mapped view_of ps first.0 first.1)) in
+        let t = told k s r seat v at all_logs in
+        let u = sum_of_all (λ x. one_if x.no_chains_left) in
+        let given = r.draws.all (omega arith) in
+        let p = found_sum (λ (q : CountedPass). times c (log_of q).drawn) ps (omega (arith, drawn_by c, once_is r.draws.given c)) in
+        (view_of p.0, contains_mapped view_of ps p.0 p.1, some_there c (log_of p.0).drawn p.2)
+
+    pub whole : 0 < k.passes → IsWhole (opening_of k) r.history (map view_of ps)
+    whole some_passes = record {
+      legal = r.legal;
+      settled = settled_end k s r all_idle;
+      seen = λ w h. let p = contains_map view_of ps w h in subst (λ (z : PassView). IsSeenBy z.front r.history) (sym p.2) (known p.0 p.1).seen;
+      own = λ w h. let p = contains_map view_of ps w h in
+          subst (λ (z : PassView). part_of_pass z.number r.history ≡ z.own) (sym p.2) (known p.0 p.1).own;
+      authors = λ e h. let p = author e h in (view_of p.0, contains_mapped view_of ps p.0 p.1, p.2);
+      chains_inside = λ w h c d. let p = contains_map view_of ps w h in inside c p.0 p.1 (subst (λ (z : PassView). Contains z.drawn c) p.2 d);
+      drawn_once = λ c. let m = sum_map (times_drawn c) view_of ps in omega (arith, m, drawn_by c, once_is r.draws.given c);
+      all_drawn = all_drawn some_passes;
+    }
 
     pub closes : 0 < k.passes → (left : Contents) → HasSameFiles (state_after_all k r.history) (state_of left) → IsSettled (state_of left)
         → ClosesTable (opening_of k) (map view_of ps) left
-    closes some_passes left files at_rest =
-        closes_logs k s r seat v at idle all_logs left files at_rest some_passes (map view_of ps) view_from shown_from draws
+    closes some_passes left = closes_table (opening_of k) r.history (map view_of ps) left (whole some_passes)

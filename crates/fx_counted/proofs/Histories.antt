@@ -1,15 +1,9 @@
 -- Histories that grow by one event.
 use Rattle.fx_counted.proofs.Words.{◌≡◌, ◌≢◌, ℕ, ◌+◌, ◌≤◌, List, [], ◌∷◌, sym, refl, ap, ◌∙◌, arith, eq-eqb, ne_eqb, Some, None, dite, ℕ_discrete}
-use Rattle.fx_counted.proofs.Words.{State, after, changed_at, held_after, held_by, IsSeenBy, part_of_pass, Event, Action, Look, start_of, range_of}
-use Rattle.fx_counted.proofs.Words.{looks, all_looks, opening_of, slots_of, state_after_all, Start, ReleasesItsOwn, IsLegal, looks_after, look_in}
+use Rattle.fx_counted.proofs.Words.{State, after, held_after, held_by, IsSeenBy, part_of_pass, Event, Action, Look, start_of, range_of, looks}
+use Rattle.fx_counted.proofs.Words.{all_looks, opening_of, slots_of, state_after_all, Start, ReleasesItsOwn, IsLegal, looks_after, look_in}
 use Rattle.fx_plain.specs.Step.{Allows}
-
-module _ {A : Type 0} (f : ℕ → A) (i : ℕ) (a : A) where
-  pub change_here : (j : ℕ) → j ≡ i → changed_at f i a j ≡ a
-  change_here j e = rw (eq-eqb j i e) refl
-
-  pub change_else : (j : ℕ) → j ≢ i → changed_at f i a j ≡ f j
-  change_else j n = rw (ne_eqb j i n) refl
+use Rattle.fx_plain.proofs.Cells.{changed_here, changed_else}
 
 pub part_mine : (p : ℕ) (e : Event) (h : List Event) → e.pass ≡ p → part_of_pass p (e ∷ h) ≡ e ∷ part_of_pass p h
 part_mine p e h is = rw (eq-eqb e.pass p is) refl
@@ -61,8 +55,8 @@ same_shape k (e ∷ h) = let a = after_shape (state_after_all k h) e.action in l
 looks_step : (f : ℕ → ℕ) (all : ℕ) → ((n : ℕ) → f n ≤ all) → (a : Action) (n : ℕ) → looks_after f a n ≤ all + look_in a
 looks_step f all few (Look slot None) n = let m = few n in omega arith
 looks_step f all few (Look slot (Some g)) n = dite (ℕ_discrete n g.number)
-    (λ (e : n ≡ g.number). let m = few g.number in let is = change_here f g.number (f g.number + 1) n e in omega arith)
-    (λ e. let m = few n in let is = change_else f g.number (f g.number + 1) n e in omega arith)
+    (λ (e : n ≡ g.number). let m = few g.number in let is = changed_here f g.number (f g.number + 1) n e in omega arith)
+    (λ e. let m = few n in let is = changed_else f g.number (f g.number + 1) n e in omega arith)
 looks_step f all few _ n = let m = few n in omega arith
 
 -- the looks of one file are at most all looks

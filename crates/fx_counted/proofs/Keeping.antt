@@ -1,17 +1,17 @@
 -- A step of a seat with one pass keeps the rule, if it keeps what the step changes.
-use Rattle.fx_counted.proofs.Words.{sum_by, ◌≡◌, ℕ, zero, suc, ◌+◌, ◌<◌, ◌≤◌, List, [], ◌∷◌, ◌++◌, map, set, length, sym, refl, ap, ◌∙◌, subst, arith}
-use Rattle.fx_counted.proofs.Words.{get_or, Option, None, inr, eq-eqb, eqb, some, some-injective, some-ne-none, get_elem?, Closed, part_of_pass}
-use Rattle.fx_counted.proofs.Words.{Event, Action, Use, Adds, range_of, PassView, event_of, sum_set, sum_at, SlotAgrees, NodeAgrees, OwnerAgrees}
-use Rattle.fx_counted.proofs.Words.{WorkAgrees, LogAgrees, ViewAgrees, lengths, Agrees, ControlCounts, looks, all_looks, DrawsCount, control_place}
-use Rattle.fx_counted.proofs.Words.{draw_place, slot_place, node_place, home_place, Shared, opening_of, slots_of, IsNumber, state_after_all, Sat}
-use Rattle.fx_counted.proofs.Words.{shown, first_log, doing_in, logs_of, looks_of, held_of, Phase, IsInside, Stepped, Change, Log, View, Work}
-use Rattle.fx_counted.proofs.Words.{stepped, Act, Valid, carried_after, HasPass, held_by, held_in, PlacesNext, placing, next_in, end_in, spare}
-use Rattle.fx_counted.proofs.Words.{HasShape, Start, no_use, ◌▷◌}
+use Rattle.fx_counted.proofs.Words.{Contains, contains_head, contains_only, sum_by, ◌≡◌, ℕ, ◌+◌, ◌<◌, ◌≤◌, List, [], ◌∷◌, ◌++◌, map, set, length, sym}
+use Rattle.fx_counted.proofs.Words.{refl, ap, ◌∙◌, subst, arith, get_or, Option, None, inr, eq-eqb, eqb, some, get_elem?, Closed, part_of_pass, Event}
+use Rattle.fx_counted.proofs.Words.{Action, Use, Adds, range_of, PassView, event_of, sum_set, sum_at, SlotAgrees, NodeAgrees, OwnerAgrees, WorkAgrees}
+use Rattle.fx_counted.proofs.Words.{LogAgrees, ViewAgrees, lengths, Agrees, ControlCounts, looks, all_looks, DrawsCount, control_place, draw_place}
+use Rattle.fx_counted.proofs.Words.{slot_place, node_place, home_place, Shared, opening_of, slots_of, IsNumber, state_after_all, Sat, shown}
+use Rattle.fx_counted.proofs.Words.{first_log, doing_in, logs_of, looks_of, held_of, Phase, IsInside, Stepped, Change, Log, View, Work, stepped, Act}
+use Rattle.fx_counted.proofs.Words.{Valid, carried_after, HasPass, held_by, held_in, PlacesNext, placing, next_in, end_in, spare, HasShape, Start}
+use Rattle.fx_counted.proofs.Words.{no_use, ◌▷◌}
+use mathlib.Core.Option as maybe
 use Rattle.fx_counted.proofs.Histories.{Grows, IsHistory, grows_none, grows_one, part_mine}
 use Rattle.fx_counted.proofs.Frames.{Stays, KeepsHeld, view_stays, not_there, views_after}
-use Rattle.fx_counted.proofs.Ones.{one_if}
+use Rattle.fx_table.proofs.Ones.{one_if}
 use Rattle.atomic_table.specs.Table.{Allows}
-use mathlib.Core.Option as maybe
 
 abbrev pub Homes : Type 0
 Homes = List (maybe.Option (Option Closed))
@@ -76,7 +76,7 @@ module _ (turn : Turn) where
   open turn use {st, v, r, id, x, here, one}
 
   pub its_log : LogAgrees v.start r.history r.phase v.work x
-  its_log = (r.each_view id v here).logs 0 x (ap (λ (l : List Log). get_elem? l 0) one)
+  its_log = (r.each_view id v here).logs x (subst (λ (l : List Log). Contains l x) (sym one) (contains_head x []))
 
   pub its_work : WorkAgrees v.start r.phase id v.work
   its_work = (r.each_view id v here).work
@@ -135,15 +135,11 @@ module _ (turn : Turn) where
 
     its_view : Step → ViewAgrees v.start h' phase' id (now v y d c)
     its_view s = record {
-      logs = λ i z e. its i z e;
+      logs = λ z h. subst (LogAgrees v.start h' phase' d) (sym (contains_only y z h)) s.log;
       work = s.work;
       empty = λ none. absurd (omega (arith, ap (length {A = Log}) none));
       start = inr refl;
     }
-      where
-        its : (i : ℕ) (z : Log) → get_elem? (y ∷ []) i ≡ some z → LogAgrees v.start h' phase' d z
-        its zero z e = subst (LogAgrees v.start h' phase' d) (some-injective y z e) s.log
-        its (suc i) z e = absurd (some-ne-none z (sym e))
 
     pub step_kept : Step → Agrees v.start record { words = words'; homes = homes'; views = views' }
     step_kept s = record {

@@ -1,5 +1,4 @@
 pub mod Words
-pub mod Ones
 pub mod Places
 mod PlacesByHand
 pub mod Histories

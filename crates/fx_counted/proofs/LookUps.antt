@@ -1,17 +1,15 @@
 -- A look-up keeps the rule.
 use Rattle.fx_counted.proofs.Words.{◌≡◌, ◌≢◌, ℕ, ◌+◌, ◌-◌, ◌%◌, ◌^◌, ◌<◌, List, [], ◌∷◌, set, sym, refl, ap, ◌∙◌, subst, arith, Option, Some, None}
-use Rattle.fx_counted.proofs.Words.{dite, none, ℕ_discrete, keeps, stepped, step, Closed, ◌▷◌, held_by, State, File, Event, Look, range_of}
-use Rattle.fx_counted.proofs.Words.{event_of, name_in, entry_in, takes_in, Names, SlotAgrees, Agrees, PlacesNext, WorkAgrees, looks}
-use Rattle.fx_counted.proofs.Words.{full_in, slot_place, opening_of, slots_of, IsNumber, state_after_all, shown}
-use Rattle.fx_counted.proofs.Words.{held_in, placing, held_of, holding, Phase, seated, file_in, Stepped, IsInside, Log, View, Idle, eqb, one_look}
-use Rattle.fx_counted.proofs.Words.{name_more, entry_more, takes_more, LooksKeep, Looks, holds_now}
-use Rattle.fx_counted.proofs.Steps.{busy, stays_same, owner_stays, IsHistory, grows_one, legal_more, held_mine, part_mine, change_else, same_shape}
+use Rattle.fx_counted.proofs.Words.{dite, none, ℕ_discrete, keeps, stepped, step, Closed, ◌▷◌, held_by, State, File, Event, Look, range_of, event_of}
+use Rattle.fx_counted.proofs.Words.{name_in, entry_in, takes_in, Names, SlotAgrees, Agrees, PlacesNext, WorkAgrees, looks, full_in, slot_place}
+use Rattle.fx_counted.proofs.Words.{opening_of, slots_of, IsNumber, state_after_all, shown, held_in, placing, held_of, holding, Phase, seated}
+use Rattle.fx_counted.proofs.Words.{file_in, Stepped, IsInside, Log, View, Idle, eqb, one_look, name_more, entry_more, takes_more, LooksKeep, Looks}
+use Rattle.fx_counted.proofs.Words.{holds_now, Between}
+use Rattle.fx_counted.proofs.Steps.{busy, stays_same, owner_stays, IsHistory, grows_one, legal_more, held_mine, part_mine, changed_else, same_shape}
 use Rattle.fx_counted.proofs.Steps.{Turn, turn_of, word_at, now, logged, its_log, tells, by_turn, Made, log_now, far, one_if, bit_here, one_more_at}
-use Rattle.fx_counted.proofs.Steps.{node_same, control_same}
+use Rattle.fx_counted.proofs.Steps.{node_same, control_same, NodeIn}
 use Rattle.fx_counted.specs.Agrees.{IsSeated}
 use Rattle.fx_counted.proofs.SlotSteps.{SlotStep, slot_agrees}
-use Rattle.fx_counted.proofs.Words.{Between}
-use Rattle.fx_counted.proofs.Steps.{NodeIn}
 
 pub add_one : (n : ℕ) → takes_in n + 1 < 4294967296 → n < 18446744073709551616 → (n + 1) % 2 ^ 64 ≡ n + 1
 add_one n low fits = omega arith
@@ -134,7 +132,7 @@ module _ (turn : Turn) (idle : turn.v.work ≡ Between Idle) (some_left : 0 < tu
       looks_now n = one_more_at (looks r.history) q n
 
       looks_else_is : (n : ℕ) → n ≢ q → looks h₁ n ≡ looks r.history n
-      looks_else_is n other = change_else (looks r.history) q (looks r.history q + 1) n other
+      looks_else_is n other = changed_else (looks r.history) q (looks r.history q + 1) n other
 
       holds_now_is : (n : ℕ) → (state_after_all v.start h₁).holds n ≡ old.holds n + one_if (eqb q n)
       holds_now_is n = one_more_at old.holds q n
@@ -152,7 +150,7 @@ module _ (turn : Turn) (idle : turn.v.work ≡ Between Idle) (some_left : 0 < tu
             not_removed = o.not_removed;
           })
           (λ other. node_same old (state_after_all v.start h₁) n (looks r.history n) (looks h₁ n) _ _ _ _ refl refl
-          (change_else old.holds q (old.holds q + 1) n other) (looks_else_is n other) refl refl refl (r.phase n) (λ i g seat_is there. refl)
+          (changed_else old.holds q (old.holds q + 1) n other) (looks_else_is n other) refl refl refl (r.phase n) (λ i g seat_is there. refl)
           (r.each_node n has))
 
       hit : Agrees v.start record { words = set st.words (slot_place s) word'; homes = st.homes; views = set st.views id (w (Some f) is) }

@@ -7,7 +7,8 @@ use Rattle.fx_counted.proofs.Words.{chain_numbers, IsNumber, state_after_all, en
 use Rattle.fx_counted.proofs.Words.{seated, owner, file_in, Log, View, Work, Holding, retired, ⊎_elim, ◌⊎◌}
 use Rattle.std.proofs.Common.{length-set}
 use Rattle.fx_counted.proofs.Places.{inside, apart}
-use Rattle.fx_counted.proofs.Histories.{Grows, IsHistory, change_here, change_else}
+use Rattle.fx_counted.proofs.Histories.{Grows, IsHistory}
+use Rattle.fx_plain.proofs.Cells.{changed_here, changed_else}
 use Rattle.fx_counted.proofs.Frames.{busy, owner_stays}
 use Rattle.fx_counted.proofs.Keeping.{Turn, Homes, word_at, logged, Step, step_kept, log_now, went}
 use Rattle.fx_counted.proofs.Unchanged.{slot_same, node_same, control_same, draws_same}
@@ -79,10 +80,10 @@ module _ (turn : Turn) where
 
     module _ (s : NodeStep) where
       phase_here : phase' q ≡ ph
-      phase_here = change_here r.phase q ph q refl
+      phase_here = changed_here r.phase q ph q refl
 
       phase_else : (n : ℕ) → n ≢ q → phase' n ≡ r.phase n
-      phase_else n other = change_else r.phase q ph n other
+      phase_else n other = changed_else r.phase q ph n other
 
       -- a fact of the phases that holds at q holds everywhere
       each_phase : (P : ℕ → Phase → Type 0) (n : ℕ) → (n ≡ q → P q ph) → P n (r.phase n) → P n (phase' n)

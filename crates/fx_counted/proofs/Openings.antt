@@ -1,45 +1,27 @@
 -- A table that is opened keeps the rule.
-use Rattle.fx_counted.proofs.Words.{◌≡◌, ℕ, zero, suc, ◌+◌, ◌*◌, ◌<◌, ◌≤◌, Bool, nat_lt, cond, List, [], ◌∷◌, map, length, sym, refl, ap, ◌∙◌, subst}
-use Rattle.fx_counted.proofs.Words.{arith, eqb, lt-ltb, le-ltb, inl, inr, ⊎_elim, Option, Some, None, slice_index, sum_by, count_by, sum_by-cons}
-use Rattle.fx_counted.proofs.Words.{dite, some, some-injective, some-ne-none, dec_le, get_elem?, Closed, state_of, State, file_numbered, numbered}
-use Rattle.fx_counted.proofs.Words.{File, numbers_for, range_of, born, takes_in, name_made, entry_made, takes_made, Names, SlotAgrees, NodeAgrees}
+use Rattle.fx_counted.proofs.Words.{◌≡◌, ℕ, zero, suc, ◌+◌, ◌*◌, ◌<◌, ◌≤◌, Bool, nat_lt, cond, List, [], ◌∷◌, map, sym, refl, ap, ◌∙◌, subst, arith}
+use Rattle.fx_counted.proofs.Words.{eqb, lt-ltb, le-ltb, inl, inr, ⊎_elim, Option, Some, None, slice_index, sum_by, count_by, sum_by-cons, dite, some}
+use Rattle.fx_counted.proofs.Words.{some-injective, some-ne-none, dec_le, get_elem?, Closed, state_of, State, file_numbered, numbered, File}
+use Rattle.fx_counted.proofs.Words.{numbers_for, range_of, born, takes_in, name_made, entry_made, takes_made, Names, SlotAgrees, NodeAgrees}
 use Rattle.fx_counted.proofs.Words.{OwnerAgrees, LogAgrees, ViewAgrees, Agrees, new_logs, word_of, place_of, slot_place, word_for, node_for, home_for}
-use Rattle.fx_counted.proofs.Words.{OpensWith, opening_of, slots_of, chain_numbers, IsNumber, state_after_all, new_log, once, Phase, unborn, seated}
-use Rattle.fx_counted.proofs.Words.{closed, Log, Start, View, Idle, ◌&&◌, length-map, at_map, first_view, first_file, OpeningKeeps}
+use Rattle.fx_counted.proofs.Words.{OpensWith, opening_of, slots_of, chain_numbers, IsNumber, state_after_all, new_log, Phase, unborn, seated, closed}
+use Rattle.fx_counted.proofs.Words.{Log, Start, View, Idle, ◌&&◌, length-map, at_map, first_view, first_file, OpeningKeeps, contains_map, sum_zero}
+use Rattle.fx_counted.proofs.Words.{Between}
 use Rattle.std.proofs.Common.{not}
 use Rattle.atomic_table.specs.Table.{opening}
 use Rattle.fx_counted.specs.Agrees.{IsSeated}
 use Rattle.fx_counted.proofs.FullSlots.{full_few}
-use Rattle.fx_counted.proofs.Ones.{one_if, once_is, once_more}
+use Rattle.fx_table.proofs.Ones.{one_if, once_is, counted_once}
+use Rattle.std.specs.List.{range_with_len}
+use Rattle.std.proofs.lemmas.List.FromFn.{length-map-range_with_len}
 use Rattle.fx_counted.proofs.Places.{fewer_numbers}
-use Rattle.fx_counted.proofs.Words.{Between}
-
-at_new : (p n i : ℕ) (x : Log) → get_elem? (new_logs p n) i ≡ some x → (q : ℕ) × (x ≡ new_log q)
-at_new p zero i x e = absurd (some-ne-none x (sym e))
-at_new p (suc n) zero x e = (p, sym (some-injective (new_log p) x e))
-at_new p (suc n) (suc i) x e = at_new (suc p) n i x e
 
 looks_new : (p n : ℕ) → sum_by (λ (y : Log). y.looks_left) (new_logs p n) ≡ 1048576 * n
 looks_new p zero = refl
-looks_new p (suc n) = let a = looks_new (suc p) n in let b = sum_by-cons (λ (y : Log). y.looks_left) (new_log p) (new_logs (suc p) n) in omega arith
+looks_new p (suc n) = let a = looks_new (p + 1) n in let b = sum_by-cons (λ (y : Log). y.looks_left) (new_log p) (new_logs (p + 1) n) in omega arith
 
-length_new : (p n : ℕ) → length (new_logs p n) ≡ n
-length_new p zero = refl
-length_new p (suc n) = let a = length_new (suc p) n in omega arith
-
-none_new : (f : Log → ℕ) → ((p : ℕ) → f (new_log p) ≡ 0) → (p n : ℕ) → sum_by f (new_logs p n) ≡ 0
-none_new f none p zero = refl
-none_new f none p (suc n) = let a = none_new f none (suc p) n in let b = sum_by-cons f (new_log p)
-    (new_logs (suc p) n) in let c = none p in omega arith
-
-abbrev counted : ℕ → ℕ → ℕ → ℕ
-counted q p n = sum_by (λ (y : Log). one_if (eqb y.number q)) (new_logs p n)
-
-counted_is : (q p n : ℕ) → counted q (suc p) n + once p q ≡ once (p + n) q
-counted_is q p zero = let e : p ≡ p + 0 = omega arith in let f = ap (λ m. once m q) e in omega arith
-counted_is q p (suc n) = let b = sum_by-cons (λ (y : Log). one_if (eqb y.number q)) (new_log (suc p)) (new_logs (suc (suc p)) n) in
-    let e : suc p + n ≡ p + suc n = omega arith in
-    omega (arith, counted_is q (suc p) n, b, once_more p (suc p) q (omega arith), ap (λ m. once m q) e)
+none_new : (f : Log → ℕ) → ((p : ℕ) → f (new_log p) ≡ 0) → (n : ℕ) → sum_by f (new_logs 1 n) ≡ 0
+none_new f none n = sum_zero f (new_logs 1 n) (λ x h. let p = contains_map new_log (range_with_len 1 n) x h in ap f p.2 ∙ none p.0)
 
 -- the phase of a slot's number
 abbrev phase_for : ℕ → Option File → Phase
@@ -137,7 +119,7 @@ module _ (k : Start) (words : List ℕ) (homes : List (Option Closed)) (o : Open
 
   view_opens : (j : ℕ) (v : View) → get_elem? (first_view k ∷ []) j ≡ some v → ViewAgrees k [] (first_phase k) j v
   view_opens zero v e = subst (ViewAgrees k [] (first_phase k) 0) (some-injective (first_view k) v e) record {
-    logs = λ i x at. let new = at_new 1 k.passes i x at in subst (LogAgrees k [] (first_phase k) (Between Idle)) (sym new.1) record {
+    logs = λ x h. subst (LogAgrees k [] (first_phase k) (Between Idle)) (sym (contains_map new_log (range_with_len 1 k.passes) x h).2) record {
       seen = ([], refl);
       own = refl;
       held = refl;
@@ -175,17 +157,17 @@ module _ (k : Start) (words : List ℕ) (homes : List (Option Closed)) (o : Open
     each_view = view_opens;
     holds = λ n. refl;
     look_ups = let a = looks_new 1 k.passes in omega arith;
-    passes = λ p. let e : 0 + k.passes ≡ k.passes = omega arith in omega (arith, counted_is p 0 k.passes, once_is 0 p, ap (λ m. once m p) e);
-    whole = let a = length_new 1 k.passes in omega arith;
+    passes = λ p. let a = counted_once (λ (y : Log). y.number) new_log (λ n. refl) p k.passes in omega arith;
+    whole = let a = length-map-range_with_len new_log 1 k.passes in omega arith;
     authors = λ p none. refl;
     control = let a = o.control in let b = full_few (first_file k) (range_of (opening_of k)).0
         (range_of (opening_of k)).1 in let c = o.range in let d = o.slots in record { upper = omega arith; lower = omega arith };
     draws = record {
       given = 0;
       few = omega arith;
-      each = λ c. let a = none_new (λ y. count_by (λ d. eqb d c) y.drawn) (λ p. refl) 1 k.passes in omega (arith, once_is 0 c);
-      counts = let a = none_new (λ y. one_if y.no_chains_left) (λ p. refl) 1 k.passes in let b = o.draw in omega arith;
-      all = λ some_told. let a = none_new (λ y. one_if y.no_chains_left) (λ p. refl) 1 k.passes in absurd (omega arith);
+      each = λ c. let a = none_new (λ y. count_by (λ d. eqb d c) y.drawn) (λ p. refl) k.passes in omega (arith, once_is 0 c);
+      counts = let a = none_new (λ y. one_if y.no_chains_left) (λ p. refl) k.passes in let b = o.draw in omega arith;
+      all = λ some_told. let a = none_new (λ y. one_if y.no_chains_left) (λ p. refl) k.passes in absurd (omega arith);
       unused = λ n low high. high_phase n (let a = o.slots in omega arith);
     };
   }

@@ -1,16 +1,15 @@
 -- A release keeps the rule.
 use Rattle.fx_counted.proofs.Words.{◌≡◌, ◌≢◌, ℕ, ◌+◌, ◌-◌, ◌%◌, ◌^◌, ◌<◌, List, [], ◌∷◌, set, sym, refl, ap, ◌∙◌, subst, arith, Option, Some, None}
-use Rattle.fx_counted.proofs.Words.{dite, some, none, ℕ_discrete, keeps, takes, step, set_here, set_else, Closed, ◌▷◌, State, numbered, File}
-use Rattle.fx_counted.proofs.Words.{Event, Release, Close, no_use, event_of, sum_at, sum_two, NodeAgrees, WorkAgrees, looks, word_of, place_of}
-use Rattle.fx_counted.proofs.Words.{IsNumber, state_after_all, shown, held_in, placing, held_of, holding, Phase, seated, leaving, retired, emptied}
-use Rattle.fx_counted.proofs.Words.{file_in, LetsGo, TakesOut, Idle, Holding, Emptying, eqb, ReleasesKeep, Releases, inr, inl}
-use Rattle.fx_counted.proofs.Steps.{busy, does_now, owner_stays, IsHistory, grows_one, grows_more, legal_more, held_mine, part_mine, change_here}
-use Rattle.fx_counted.proofs.Steps.{change_else, Turn, turn_of, its_log, its_work, tells, by_turn, Made, went, tells_one, NodeStep, node_agrees}
+use Rattle.fx_counted.proofs.Words.{dite, some, none, ℕ_discrete, keeps, takes, step, set_here, set_else, Closed, ◌▷◌, State, numbered, File, Event}
+use Rattle.fx_counted.proofs.Words.{Release, Close, no_use, event_of, sum_at, sum_two, NodeAgrees, WorkAgrees, looks, word_of, place_of, IsNumber}
+use Rattle.fx_counted.proofs.Words.{state_after_all, shown, held_in, placing, held_of, holding, Phase, seated, leaving, retired, emptied, file_in}
+use Rattle.fx_counted.proofs.Words.{LetsGo, TakesOut, Idle, Holding, Emptying, eqb, ReleasesKeep, Releases, inr, inl, Between}
+use Rattle.fx_counted.proofs.Steps.{busy, does_now, owner_stays, IsHistory, grows_one, grows_more, legal_more, held_mine, part_mine, changed_here}
+use Rattle.fx_counted.proofs.Steps.{changed_else, Turn, turn_of, its_log, its_work, tells, by_turn, Made, went, tells_one, NodeStep, node_agrees}
 use Rattle.fx_counted.proofs.Steps.{one_if, one_less_at}
 use Rattle.std.proofs.Common.{length-set}
 use Rattle.fx_counted.proofs.Births.{in_phase, word_now, home_now, roomy, else_place}
 use Rattle.fx_counted.proofs.Retirements.{sub_wraps, holding_it, few_looks, its_hold, spares_stay}
-use Rattle.fx_counted.proofs.Words.{Between}
 
 module _ (turn : Turn) (f : File) (works : turn.v.work ≡ Between (Holding f)) where
   open turn use {st, v, r, id, x, here, one}
@@ -49,10 +48,10 @@ module _ (turn : Turn) (f : File) (works : turn.v.work ≡ Between (Holding f)) 
   new = state_after_all v.start h₁
 
   one_less : new.holds q ≡ old.holds q - 1
-  one_less = change_here old.holds q (old.holds q - 1) q refl
+  one_less = changed_here old.holds q (old.holds q - 1) q refl
 
   other_holds : (m : ℕ) → m ≢ q → new.holds m ≡ old.holds m
-  other_holds = change_else old.holds q (old.holds q - 1)
+  other_holds = changed_else old.holds q (old.holds q - 1)
 
   -- what the number is, by its phase
   abbrev Now : ℕ → Phase → Type 0
@@ -114,8 +113,8 @@ module _ (turn : Turn) (f : File) (works : turn.v.work ≡ Between (Holding f)) 
     held = held_mine x.number freeing r.history refl;
     next = tt;
     spares = λ m low high. let p = ap placing works in
-        dite (ℕ_discrete m q) (λ same. change_here r.phase q (r.phase q) m same
-        ∙ (ap r.phase (sym same) ∙ o.spares m (omega arith) high)) (λ other. change_else r.phase q (r.phase q) m other
+        dite (ℕ_discrete m q) (λ same. changed_here r.phase q (r.phase q) m same
+        ∙ (ap r.phase (sym same) ∙ o.spares m (omega arith) high)) (λ other. changed_else r.phase q (r.phase q) m other
         ∙ o.spares m (omega arith) high);
     work = tt;
     holds = holds_more;
@@ -143,7 +142,7 @@ module _ (turn : Turn) (f : File) (works : turn.v.work ≡ Between (Holding f)) 
             fresh = refl;
             looked = refl;
             all = omega arith;
-            removed = change_else old.removed q None;
+            removed = changed_else old.removed q None;
             holds = other_holds;
           };
           homes = length-set st.homes (place_of v.start q) none;
@@ -157,7 +156,7 @@ module _ (turn : Turn) (f : File) (works : turn.v.work ≡ Between (Holding f)) 
             counts = omega arith;
             at_home = set_here st.homes (place_of v.start q) none (roomy turn q mine.0);
             no_holds = let z = one_less in omega arith;
-            not_removed = change_here old.removed q None q refl;
+            not_removed = changed_here old.removed q None q refl;
           };
           known = does_now st.views id v (went turn h₂ (Emptying q) v.change) (Emptying q) here refl;
           held = held_mine x.number closing h₁ refl ∙ held_mine x.number freeing r.history refl;
@@ -165,7 +164,7 @@ module _ (turn : Turn) (f : File) (works : turn.v.work ≡ Between (Holding f)) 
           spares = λ m low high. let p = ap placing works in
               spares_stay turn q (retired f.identity) (emptied id) x.number l.phase (λ z bad. cc bad) m
               (o.spares m (omega arith) high);
-          work = (mine.0, change_here r.phase q (emptied id) q refl);
+          work = (mine.0, changed_here r.phase q (emptied id) q refl);
           holds = holds_more;
         }
 

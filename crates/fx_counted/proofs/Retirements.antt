@@ -1,16 +1,15 @@
 -- A retirement keeps the rule.
 use Rattle.fx_counted.proofs.Words.{◌≡◌, ◌≢◌, ℕ, ◌+◌, ◌-◌, ◌%◌, ◌^◌, ◌<◌, ◌≤◌, List, [], ◌∷◌, set, sym, refl, ap, ◌∙◌, subst, arith, eq-eqb, Option}
-use Rattle.fx_counted.proofs.Words.{Some, None, dite, some, none, ℕ_discrete, get_elem?, keeps, takes, step, set_here, set_else, Closed}
-use Rattle.fx_counted.proofs.Words.{changed_at, File, Event, Close, event_of, sum_at, retire_amount_of, NodeAgrees, WorkAgrees, Agrees, looks}
-use Rattle.fx_counted.proofs.Words.{word_of, place_of, IsNumber, state_after_all, shown, end_in, next_in, held_in, placing, held_of, holding, Phase}
-use Rattle.fx_counted.proofs.Words.{spare, leaving, retired, emptied, owner, file_in, TakesOut, View, Idle, Holding, Retiring, Emptying, RetiresKeep}
-use Rattle.fx_counted.proofs.Words.{Retires, inr, inl}
-use Rattle.fx_counted.proofs.Steps.{busy, does_now, IsHistory, grows_none, grows_one, legal_more, held_mine, change_here, change_else, looks_few}
+use Rattle.fx_counted.proofs.Words.{Some, None, dite, some, none, ℕ_discrete, get_elem?, keeps, takes, step, set_here, set_else, Closed, changed_at}
+use Rattle.fx_counted.proofs.Words.{File, Event, Close, event_of, sum_at, retire_amount_of, NodeAgrees, WorkAgrees, Agrees, looks, word_of, place_of}
+use Rattle.fx_counted.proofs.Words.{IsNumber, state_after_all, shown, end_in, next_in, held_in, placing, held_of, holding, Phase, spare, leaving}
+use Rattle.fx_counted.proofs.Words.{retired, emptied, owner, file_in, TakesOut, View, Idle, Holding, Retiring, Emptying, RetiresKeep, Retires, inr}
+use Rattle.fx_counted.proofs.Words.{inl, Between}
+use Rattle.fx_counted.proofs.Steps.{busy, does_now, IsHistory, grows_none, grows_one, legal_more, held_mine, changed_here, changed_else, looks_few}
 use Rattle.fx_counted.proofs.Steps.{Turn, turn_of, its_log, its_work, by_turn, Made, went, tells_none, tells_one, one_same, NodeStep, node_agrees}
 use Rattle.std.proofs.Common.{length-set}
 use Rattle.atomic_table.specs.Table.{Allows}
 use Rattle.fx_counted.proofs.Births.{in_phase, word_now, home_now, roomy, else_place}
-use Rattle.fx_counted.proofs.Words.{Between}
 
 pub sub_wraps : (n k : ℕ) → k ≤ n → n < 18446744073709551616 → 0 < k → (n + (2 ^ 64 - k)) % 2 ^ 64 ≡ n - k
 sub_wraps n k le fits more = omega arith
@@ -32,7 +31,7 @@ module _ (turn : Turn) where
   -- the spare numbers, where a number changes that is none of them
   pub spares_stay : (q : ℕ) (ph ph' : Phase) (p : ℕ) → r.phase q ≡ ph → ((z : ℕ) → ph ≢ spare z) → (n : ℕ)
       → r.phase n ≡ spare p → changed_at r.phase q ph' n ≡ spare p
-  spares_stay q ph ph' p is not_spare n its = change_else r.phase q ph' n (λ same. not_spare p (sym is ∙ (ap r.phase (sym same) ∙ its))) ∙ its
+  spares_stay q ph ph' p is not_spare n its = changed_else r.phase q ph' n (λ same. not_spare p (sym is ∙ (ap r.phase (sym same) ∙ its))) ∙ its
 
   -- a retirement
   module _ (f : File) (t : ℕ) (works : v.work ≡ Between (Retiring f t)) where
@@ -100,7 +99,7 @@ module _ (turn : Turn) where
             fresh = refl;
             looked = refl;
             all = omega arith;
-            removed = change_else (state_after_all v.start r.history).removed q None;
+            removed = changed_else (state_after_all v.start r.history).removed q None;
             holds = λ m other. refl;
           };
           homes = length-set st.homes (place_of v.start q) none;
@@ -113,13 +112,13 @@ module _ (turn : Turn) where
             counts = omega arith;
             at_home = set_here st.homes (place_of v.start q) none (roomy turn q mine.0);
             no_holds = z;
-            not_removed = change_here (state_after_all v.start r.history).removed q None q refl;
+            not_removed = changed_here (state_after_all v.start r.history).removed q None q refl;
           };
           known = does_now st.views id v (went turn (closing ∷ r.history) (Emptying q) v.change) (Emptying q) here refl;
           held = held_mine x.number closing r.history refl ∙ (o.held ∙ ap held_in works);
           next = tt;
           spares = keeps_spares (emptied id);
-          work = (mine.0, change_here r.phase q (emptied id) q refl);
+          work = (mine.0, changed_here r.phase q (emptied id) q refl);
           holds = λ m. let b = ap (holding m) works in omega arith;
         }
 

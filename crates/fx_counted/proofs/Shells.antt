@@ -2,7 +2,7 @@
 use Rattle.fx_counted.proofs.Words.{◌≡◌, ◌≢◌, ℕ, zero, suc, ◌+◌, ◌<◌, ◌≤◌, List, [], ◌∷◌, ◌++◌, length, sym, refl, ap, ◌∙◌, subst, arith, ◌⊎◌, inl}
 use Rattle.fx_counted.proofs.Words.{inr, ⊎_elim, Option, Some, None, dite, ℕ_discrete, dec_le, Closed, State, IsSettled, Contents, state_of, file_at}
 use Rattle.fx_counted.proofs.Words.{changed_at, numbered, identity_of, AreBack, file_in_place, slot_at, IsShell}
-use Rattle.fx_counted.proofs.Histories.{change_here, change_else}
+use Rattle.fx_plain.proofs.Cells.{changed_here, changed_else}
 
 -- the last of a list of places
 pub last_place : (xs : List (Option Closed)) (x : Option Closed) → file_in_place (xs ++ x ∷ []) (length xs) ≡ x
@@ -32,8 +32,8 @@ pub file_put : (a b : State) (slot : ℕ) (file : Closed) → IsSettled a
 file_put a b slot file settled is = subst (Becomes a slot (Some file)) (sym is) record {
   size = refl;
   range = refl;
-  there = ap identity_of (change_here a.at slot (Some (numbered slot file)) slot refl);
-  others = λ other ne. change_else a.at slot (Some (numbered slot file)) other ne;
+  there = ap identity_of (changed_here a.at slot (Some (numbered slot file)) slot refl);
+  others = λ other ne. changed_else a.at slot (Some (numbered slot file)) other ne;
   settled = record { unheld = settled.unheld; closed = settled.closed };
 }
 

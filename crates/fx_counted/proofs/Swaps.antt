@@ -3,14 +3,12 @@ use Rattle.fx_counted.proofs.Words.{◌≡◌, ◌≢◌, ℕ, ◌<◌, ◌≤�
 use Rattle.fx_counted.proofs.Words.{ℕ_discrete, get_elem?, Closed, held_by, held_after, changed_at, with_removed, State, numbered, File, Event, Bool}
 use Rattle.fx_counted.proofs.Words.{Action, range_of, event_of, takes_in, Names, SlotAgrees, NodeAgrees, OwnerAgrees, WorkAgrees, Agrees}
 use Rattle.fx_counted.proofs.Words.{ControlCounts, looks, all_looks, word_of, place_of, control_place, slot_place, opening_of, slots_of, IsNumber}
-use Rattle.fx_counted.proofs.Words.{state_after_all, shown, end_in, next_in, held_in, holding, Phase, unborn, spare, seated, leaving, owner}
-use Rattle.fx_counted.proofs.Words.{file_in, retiring, Change, Log, View, Work, Retiring}
-use Rattle.fx_counted.proofs.Steps.{Stays, KeepsHeld, does_now, IsHistory, grows_one, held_mine, change_here, change_else, Turn, Homes, word_at, now}
-use Rattle.fx_counted.proofs.Steps.{logged, its_log, log_now}
+use Rattle.fx_counted.proofs.Words.{state_after_all, shown, end_in, next_in, held_in, holding, Phase, unborn, spare, seated, leaving, owner, file_in}
+use Rattle.fx_counted.proofs.Words.{retiring, Change, Log, View, Work, Retiring, Between}
+use Rattle.fx_counted.proofs.Steps.{Stays, KeepsHeld, does_now, IsHistory, grows_one, held_mine, changed_here, changed_else, Turn, Homes, word_at}
+use Rattle.fx_counted.proofs.Steps.{now, logged, its_log, log_now, NodeIn}
 use Rattle.fx_counted.specs.Agrees.{IsSeated}
 use Rattle.fx_counted.proofs.SlotSteps.{SlotStep, slot_agrees}
-use Rattle.fx_counted.proofs.Words.{Between}
-use Rattle.fx_counted.proofs.Steps.{NodeIn}
 
 -- the phases after a file has left its slot for the seat id
 abbrev pub gone_out : ℕ → Option File → ℕ → (ℕ → Phase) → ℕ → Phase
@@ -24,11 +22,11 @@ NotOf n (Some f) = n ≢ f.number
 
 pub out_else : (id : ℕ) (old : Option File) (takes : ℕ) (phase : ℕ → Phase) (n : ℕ) → NotOf n old → gone_out id old takes phase n ≡ phase n
 out_else id None takes phase n other = refl
-out_else id (Some f) takes phase n other = change_else phase f.number (leaving id takes f.identity) n other
+out_else id (Some f) takes phase n other = changed_else phase f.number (leaving id takes f.identity) n other
 
 pub removed_else : (removed : ℕ → Option File) (old : Option File) (n : ℕ) → NotOf n old → with_removed removed old n ≡ removed n
 removed_else removed None n other = refl
-removed_else removed (Some f) n other = change_else removed f.number (Some f) n other
+removed_else removed (Some f) n other = changed_else removed f.number (Some f) n other
 
 by_old : (old : Option File) (n : ℕ) (P : Type 0) → ((f : File) → old ≡ Some f → n ≡ f.number → P) → (NotOf n old → P) → P
 by_old None n P is else = else tt
@@ -142,12 +140,12 @@ module _ (turn : Turn) (s : ℕ) (inside : s < slots_of turn.v.start) where
               all_takes = its.1;
               removed = ap (λ (z : State). z.removed f.number) p.does.state
                   ∙ (ap (λ (o : Option File). with_removed state.removed o f.number) is
-                  ∙ change_here state.removed f.number (Some f) f.number refl);
+                  ∙ changed_here state.removed f.number (Some f) f.number refl);
             }
 
         out_here : (f : File) → old ≡ Some f → phase' f.number ≡ leaving id (takes_in found) f.identity
         out_here f is = ap (λ (o : Option File). gone_out id o (takes_in found) phase₁ f.number) is
-            ∙ change_here phase₁ f.number (leaving id (takes_in found) f.identity) f.number refl
+            ∙ changed_here phase₁ f.number (leaving id (takes_in found) f.identity) f.number refl
 
         else_phase : (n : ℕ) → NotOf n old → phase' n ≡ phase₁ n
         else_phase n other = out_else id old (takes_in found) phase₁ n other
@@ -163,13 +161,13 @@ module _ (turn : Turn) (s : ℕ) (inside : s < slots_of turn.v.start) where
           homes = p.homes;
           grows = grows_one x.number r.history (e a) refl;
           legal = p.does.legal;
-          slot = let at_is : next_state.at s ≡ new = ap (λ (z : State). z.at s) p.does.state ∙ change_here state.at s new s refl in record {
+          slot = let at_is : next_state.at s ≡ new = ap (λ (z : State). z.at s) p.does.state ∙ changed_here state.at s new s refl in record {
             names = subst (Names word') (sym at_is) p.names;
             seat = subst (IsSeated v.start (looks (h' a)) phase' s word') (sym at_is) (seat_now new refl p.seat);
             takes = let z = p.no_takes in omega arith;
           };
           others = λ i l other. (
-            ap (λ (z : State). z.at i) p.does.state ∙ change_else state.at s new i other,
+            ap (λ (z : State). z.at i) p.does.state ∙ changed_else state.at s new i other,
             λ f there its. (
               ap (λ (g : ℕ → ℕ). g f.number) p.does.looked,
               else_phase f.number (not_old f.number (seated i f.identity) its (λ g bad. other (cc bad)))

@@ -5,7 +5,7 @@ use Rattle.fx_counted.proofs.Words.{added, removed_by, changes_of, added_of, rem
 use Rattle.fx_counted.proofs.Words.{state_after_all, drawn_of, told_of, Phase, unborn, seated, leaving, retired, emptied, closed, Log, Start, View}
 use Rattle.fx_counted.proofs.Words.{takes_in}
 use Rattle.fx_counted.specs.Agrees.{IsSeated, IsGone}
-use Rattle.fx_counted.proofs.Ones.{one_if, times}
+use Rattle.fx_table.proofs.Ones.{one_if, times}
 
 module _ (k : Start) (h h' : List Event) (phase phase' : ℕ → Phase) (slot : ℕ) where
   abbrev pub SameFile : Type 0

@@ -1,5 +1,5 @@
 -- The names that these proofs cite, passed on from one place. Declares nothing.
-pub use Rattle.atomic_table.proofs.Lists.{set_here, set_else, at_set, at_longer, at_last, at_map, at_snoc, exchanged}
+pub use Rattle.atomic_table.proofs.Lists.{set_here, set_else, at_set, at_longer, at_last, at_map, exchanged}
 pub use Rattle.atomic_table.specs.Seated.{TableId}
 pub use Rattle.atomic_table.specs.Table.{Act, keeps, Valid, stepped, carried_after, step, gives, rest, takes, Final, Seen}
 pub use Rattle.atomic_table.specs.declared.shared.Seat.{Seat}
@@ -9,7 +9,7 @@ pub use Rattle.fx_counted.specs.Agrees.{lengths, Home, HasShape}
 pub use Rattle.fx_counted.specs.Changing.{InRange, HasToTell, IsAtWork, begun, difference}
 pub use Rattle.fx_counted.specs.Control.{full_in, if_full, ControlCounts, in_change, added, removed_by, changes_of, added_of, removed_of}
 pub use Rattle.fx_counted.specs.Counts.{looks, all_looks, looks_after, look_in}
-pub use Rattle.fx_counted.specs.Cuts.{rest_of, first_of, without_first, first_alone, new_logs, first_view, together, spent}
+pub use Rattle.fx_counted.specs.Cuts.{without_first, first_alone, new_logs, first_view, together, spent}
 pub use Rattle.fx_counted.specs.Draws.{DrawsCount}
 pub use Rattle.fx_counted.specs.Firsts.{AreFirstWords, AreFirstHomes, first_at}
 pub use Rattle.fx_counted.specs.Goes.{Goes}
@@ -23,7 +23,7 @@ pub use Rattle.fx_counted.specs.Moves.{HasPlace}
 pub use Rattle.fx_counted.specs.Opens.{word_for, node_for, home_for, OpensWith, first_file, OpeningKeeps}
 pub use Rattle.fx_counted.specs.Passes.{Shared, opening_of, slots_of, chain_numbers, IsNumber, state_after_all, shown, held_in, placing, held_of}
 pub use Rattle.fx_counted.specs.Passes.{holding, Sat, pass_of, doing_in, chain_in, first_log, end_in, next_in, drawn_of, told_of, looks_of, logs_of}
-pub use Rattle.fx_counted.specs.Passes.{new_log, once, first_or}
+pub use Rattle.fx_counted.specs.Passes.{new_log, first_or}
 pub use Rattle.fx_counted.specs.Phases.{Phase, seated, file_in, placed, unborn, spare, leaving, owner, retired, emptied, closed}
 pub use Rattle.fx_counted.specs.Searching.{StillPlaces, HasAllocated, Tries, IsPlacing, HasFoundAllFull, RoundEnds}
 pub use Rattle.fx_counted.specs.Shells.{file_in_place, AreBack, IsShellOf, IsShell}
@@ -41,7 +41,7 @@ pub use Rattle.fx_counted.specs.declared.view.Work.{Work}
 pub use Rattle.fx_counted.specs.declared.view.Work.TheVariants.{Between, Placing, Emptying}
 pub use Rattle.fx_table.specs.declared.values.Doing.TheVariants.{Idle, Holding, Retiring}
 pub use Rattle.fx_plain.specs.Contents.{Contents, state_of, file_at, IsPrepared, slot_at}
-pub use Rattle.fx_plain.specs.History.{◌▷◌, held_by, held_after, part_of_pass, IsSeenBy, AllowsAll, action_of, ◌▷▷◌, ReleasesItsOwn, IsLegal}
+pub use Rattle.fx_plain.specs.History.{◌▷◌, held_by, held_after, part_of_pass, IsSeenBy, action_of, ◌▷▷◌, ReleasesItsOwn, IsLegal}
 pub use Rattle.fx_plain.specs.State.{State, IsSettled, file_numbered, files_in_order, identities_of}
 pub use Rattle.fx_plain.specs.Step.{changed_at, with_removed, after}
 pub use Rattle.fx_plain.specs.Table.{numbered, identity_of, number_of, slots_in_order}
@@ -49,14 +49,14 @@ pub use Rattle.fx_plain.specs.declared.event.Action.{Action}
 pub use Rattle.fx_plain.specs.declared.event.Action.TheVariants.{Look, Put, Clear, Take, Allocate, Close, Release, Full}
 pub use Rattle.fx_plain.specs.declared.event.Event.{Event}
 pub use Rattle.fx_plain.specs.declared.event.File.{File}
-pub use Rattle.fx_table.proofs.Members.{contains_none, contains_head, contains_tail, contains_cases, contains_map, contains_mapped, contains_only}
-pub use Rattle.fx_table.proofs.Members.{contains_reverse, contains_reversed, each_all}
-pub use Rattle.fx_table.proofs.SumLemmas.{sum_at, sum_two, sum_set, sum_le_at, sum_map, sum_only, sum_of, sum_zero, sum_reverse}
+pub use Rattle.fx_table.proofs.Members.{contains_none, contains_head, contains_map, contains_mapped, contains_only, contains_reverse}
+pub use Rattle.fx_table.proofs.Members.{contains_reversed, each_all}
+pub use Rattle.fx_table.proofs.SumLemmas.{found_by, found_sum, sum_at, sum_two, sum_set, sum_le_at, sum_map, sum_of, sum_zero, sum_zero_at}
 pub use Rattle.fx_table.specs.Calls.{Use, no_use, one_number, Adds, Draws, both_uses, one_look, Placed, Cleared, Taken}
 pub use Rattle.fx_table.specs.Closing.{ClosesTable, times_drawn}
-pub use Rattle.fx_table.specs.Numbers.{numbers_for, numbers_up_to}
+pub use Rattle.fx_table.specs.Numbers.{numbers_for, numbers_up_to, once}
 pub use Rattle.fx_table.specs.Opening.{range_of, start_of, IsGivenBack, HasSameFiles, size_of, Opening}
-pub use Rattle.fx_table.specs.Pass.{event_of, IsFront, PassView, new_passes, next_number, new_pass, new_passes_from, retired_of, IsIdle}
+pub use Rattle.fx_table.specs.Pass.{event_of, IsFront, PassView, next_number, new_pass, retired_of, IsIdle}
 pub use Rattle.fx_table.specs.declared.limits.TheConstants.{MAX_CHAINS, MAX_PASSES}
 pub use Rattle.fx_table.specs.declared.values.Retired.{Retired}
 pub use Rattle.fx_words.proofs.Parts.{name_made, entry_made, takes_made, name_more, entry_more, takes_more, named_suc}
@@ -67,9 +67,8 @@ pub use Rattle.std.proofs.Common.{lt-ltb, le-ltb, Option, Some, None, slice_inde
 pub use Rattle.std.proofs.Common.{eq-eqb, ne_eqb, length-append, true, map, get_or, IsSome, ◌*◌, get_or-set_other, get_or-set_same, ◌/◌, reverse}
 pub use Rattle.std.proofs.Common.{replicate, vec_capacity, rules, All, ◌&&◌, nat_eq, Vec, Global}
 pub use Rattle.std.proofs.Math.Nat.{mul-le-mul_left, mul-add, mul-le-mul_right}
-pub use Rattle.std.proofs.lemmas.List.{length-reverse, length-map, get_or_append_left, set-get_or, reverse-append}
-pub use Rattle.std.proofs.lemmas.List.Elements.{Contains-append_left, All-contains, Contains-append_right, Contains-append_cases, All-push}
-pub use Rattle.std.proofs.lemmas.List.Elements.{Contains-push}
+pub use Rattle.std.proofs.lemmas.List.{length-reverse, length-map, get_or_append_left, set-get_or}
+pub use Rattle.std.proofs.lemmas.List.Elements.{Contains-append_left, All-contains, Contains-push}
 pub use Rattle.std.proofs.lemmas.List.Sums.{sum_by-append, sum_by-cons}
 pub use Rattle.std.specs.Mem.Slots.{slots_items, slots_len, IsFull, slots_filled}
 pub use Rattle.std.specs.Prelude.{sum_by, count_by, Contains, Result, option_map, Ok, Err, OnOk, is_some, ok_or, ℤ}

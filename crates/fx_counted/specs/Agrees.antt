@@ -1,7 +1,7 @@
 -- The rule of the table without a lock: words, places and views agree with the state that one legal
 -- history leads to.
 use Rattle.std.specs.Prelude.{◌≡◌, ℕ, ◌+◌, ◌*◌, ◌<◌, ◌≤◌, ◌⊎◌, true, List, [], length, slice_index}
-use Rattle.std.specs.Prelude.{Option, Some, None, ◌==◌, count_by, sum_by}
+use Rattle.std.specs.Prelude.{Option, Some, None, ◌==◌, Contains, count_by, sum_by}
 use mathlib.Core.Option.{some, none}
 use mathlib.Core.Option as maybe
 use lib.ListN.{get_elem?}
@@ -14,6 +14,7 @@ use Rattle.fx_plain.specs.declared.event.Event.{Event}
 use Rattle.fx_plain.specs.declared.table.TheConstants.{MOST_SLOTS}
 use Rattle.fx_table.specs.declared.limits.TheConstants.{CHAIN_NUMBERS, MAX_CHAINS, MAX_PASSES}
 use Rattle.fx_table.specs.declared.limits.TheConstants.{PASS_LOOKS}
+use Rattle.fx_table.specs.Numbers.{once}
 use Rattle.fx_table.specs.Opening.{start_of, range_of}
 use Rattle.fx_words.specs.Words.{name_in, entry_in, takes_in, born}
 use Rattle.fx_counted.specs.Control.{ControlCounts}
@@ -24,7 +25,6 @@ use Rattle.fx_counted.specs.Layout.{home_place, homes_for}
 use Rattle.fx_counted.specs.Passes.{Shared, opening_of, slots_of, chain_numbers, IsNumber}
 use Rattle.fx_counted.specs.Passes.{state_after_all, chain_in}
 use Rattle.fx_counted.specs.Passes.{end_in, next_in, held_in, placing, logs_of, looks_of, held_of}
-use Rattle.fx_counted.specs.Passes.{once}
 use Rattle.fx_counted.specs.Phases.{Phase, unborn, spare, placed, seated, leaving, retired, emptied}
 use Rattle.fx_counted.specs.Phases.{closed, file_in}
 use Rattle.fx_counted.specs.declared.view.Change.TheVariants.{Outside}
@@ -156,8 +156,7 @@ pub record LogAgrees (k : Start) (h : List Event) (phase : ℕ → Phase)
 -- one seat, and its view
 pub record ViewAgrees (k : Start) (h : List Event) (phase : ℕ → Phase)
     (seat : ℕ) (v : View) : Type 0 where
-  pub logs : (i : ℕ) (x : Log) → get_elem? v.logs i ≡ some x
-      → LogAgrees k h phase v.work x
+  pub logs : (x : Log) → Contains v.logs x → LogAgrees k h phase v.work x
   pub work : WorkAgrees k phase seat v.work
   pub empty : v.logs ≡ [] → (v.work ≡ Between Idle) × (v.change ≡ Outside)
   pub start : (v.logs ≡ []) ⊎ (v.start ≡ k)

@@ -1,5 +1,6 @@
 -- How a view is cut in two, and how two are made one.
-use Rattle.std.specs.Prelude.{ℕ, zero, suc, List, [], ◌∷◌, ◌++◌}
+use Rattle.std.specs.Prelude.{ℕ, List, [], ◌++◌, map, take, drop}
+use Rattle.std.specs.List.{range_with_len}
 use Rattle.fx_plain.specs.Contents.{Contents}
 use Rattle.fx_counted.specs.Passes.{new_log}
 use Rattle.fx_counted.specs.declared.view.Change.TheVariants.{Outside}
@@ -11,8 +12,7 @@ use Rattle.fx_table.specs.declared.values.Doing.TheVariants.{Idle}
 
 -- so many new passes, from p on
 abbrev pub new_logs : ℕ → ℕ → List Log
-new_logs p zero = []
-new_logs p (suc n) = new_log p ∷ new_logs (suc p) n
+new_logs p n = map new_log (range_with_len p n)
 
 -- the view of the seat that opens the table
 abbrev pub first_view : Start → View
@@ -23,23 +23,13 @@ first_view k = record {
   change = Outside;
 }
 
--- a list without its first pass
-abbrev pub rest_of : List Log → List Log
-rest_of [] = []
-rest_of (x ∷ xs) = xs
-
--- the first pass alone
-abbrev pub first_of : List Log → List Log
-first_of [] = []
-first_of (x ∷ xs) = x ∷ []
-
 -- a view without the first of its passes
 abbrev pub without_first : View → View
-without_first v = record v { logs = rest_of v.logs }
+without_first v = record v { logs = drop 1 v.logs }
 
 -- a view with the first of them alone
 abbrev pub first_alone : View → View
-first_alone v = record v { logs = first_of v.logs }
+first_alone v = record v { logs = take 1 v.logs }
 
 -- a view with the passes of another: each keeps its own front
 abbrev pub together : View → View → View

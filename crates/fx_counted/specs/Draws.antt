@@ -1,7 +1,7 @@
 -- The draw word: how many chains were given, of so many numbers each, and how many passes got None.
 use Rattle.std.specs.Prelude.{◌≡◌, ℕ, ◌+◌, ◌<◌, ◌≤◌, List, sum_by}
-use Rattle.fx_table.specs.Numbers.{numbers_up_to}
-use Rattle.fx_counted.specs.Passes.{drawn_of, told_of, once}
+use Rattle.fx_table.specs.Numbers.{numbers_up_to, once}
+use Rattle.fx_counted.specs.Passes.{drawn_of, told_of}
 use Rattle.fx_counted.specs.Phases.{Phase, unborn}
 use Rattle.fx_counted.specs.declared.view.View.{View}
 

@@ -1,5 +1,5 @@
 -- Passes as they are dealt out and gathered.
-use Rattle.std.specs.Prelude.{◌≡◌, ℕ, ◌+◌, ◌-◌, true, false, List, [], ◌∷◌, ◌++◌, Option}
+use Rattle.std.specs.Prelude.{◌≡◌, ℕ, ◌+◌, ◌-◌, true, false, List, [], flat_map, Option}
 use Rattle.atomic_table.specs.declared.shared.Seat.{Seat}
 use mathlib.Core.Option.{some}
 use lib.ListN.{get_elem?}
@@ -22,17 +22,11 @@ use Rattle.fx_table.specs.declared.values.Doing.TheVariants.{Idle}
 
 -- the view of a seat that has the new passes from p to the last
 abbrev pub dealt : Start → ℕ → View
-dealt k p = record {
-  start = k;
-  logs = new_logs p ((k.passes + 1) - p);
-  work = Between Idle;
-  change = Outside;
-}
+dealt k p = record (first_view k) { logs = new_logs p ((k.passes + 1) - p) }
 
 -- the passes of these seats, in their order
 abbrev pub logs_in : List CountedPass → List Log
-logs_in [] = []
-logs_in (p ∷ ps) = p.seat.me.0.logs ++ logs_in ps
+logs_in ps = flat_map (λ p. p.seat.me.0.logs) ps
 
 -- the pass of this seat has done nothing
 pub record IsNewPass (seat : Seat (Option Identity) View) (p : CountedPass) : Type 0 where

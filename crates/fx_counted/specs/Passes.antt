@@ -1,5 +1,5 @@
 -- What views say of passes.
-use Rattle.std.specs.Prelude.{ℕ, zero, suc, ◌-◌, ◌*◌, ◌==◌, nat_lt, false, List, [], ◌∷◌, Option}
+use Rattle.std.specs.Prelude.{ℕ, ◌-◌, ◌*◌, ◌==◌, false, List, [], ◌∷◌, Option}
 use Rattle.std.specs.Prelude.{Some, None, sum_by, count_by, if◌then◌else◌}
 use Rattle.atomic_table.specs.Table.{State as TableState, Me}
 use Rattle.fx_base.specs.Identity.{Identity}
@@ -148,8 +148,3 @@ looks_of v = sum_by (λ x. x.looks_left) v.logs
 -- 1 where a view's pass holds the file of the number, and else 0
 abbrev pub held_of : ℕ → View → ℕ
 held_of n v = holding n v.work
-
--- 1 for the numbers from 1 to n, and else 0
-abbrev pub once : ℕ → ℕ → ℕ
-once n zero = 0
-once n (suc p) = if nat_lt p n then 1 else 0

@@ -14,14 +14,16 @@ use Rattle.fx_table.specs.Pass.{PassView, IsOfDrawnChains, event_of}
 use Rattle.fx_table.specs.Calls.{Use, Adds}
 use Rattle.fx_table.specs.Closing.{ClosesTable, times_drawn}
 use Rattle.fx_table.proofs.Members.{contains_none, contains_head, contains_tail, contains_cases, contains_map}
-use Rattle.fx_table.proofs.SumLemmas.{sum_of}
+use Rattle.fx_table.proofs.Ones.{bit_here, one_if}
+use Rattle.fx_table.proofs.SumLemmas.{found_by, sum_of}
 
 -- what stands in a list is counted
 pub some_times : (c : ℕ) (l : List ℕ) → Contains l c → 1 ≤ count_by (λ d. eqb d c) l
-some_times c l h =
-    let one : cond {A = ℕ} (eqb c c) 1 0 ≡ 1 = rw (eq-eqb c c refl) in
-    let a : cond {A = ℕ} (eqb c c) 1 0 ≤ count_by (λ d. eqb d c) l = sum_of (λ d. cond (eqb d c) 1 0) l c h in
-    omega arith
+some_times c l h = let one = bit_here c c refl in let a = sum_of (λ d. one_if (eqb d c)) l c h in omega arith
+
+-- what is counted stands there
+pub some_there : (c : ℕ) (l : List ℕ) → 1 ≤ count_by (λ d. eqb d c) l → Contains l c
+some_there c l low = let d = found_by (λ n. n) c l low in subst (Contains l) d.2 d.1
 
 -- of passes that have drawn a chain at most once in all, those that drew it are one
 pub one_pass : (c : ℕ) (vs : List PassView) → sum_by (times_drawn c) vs ≤ 1 → (v w : PassView)
@@ -45,7 +47,7 @@ pub one_pass_of_chain : (o : Opening) (passes : List PassView) (left : Contents)
 one_pass_of_chain o passes left chain one other k h i d e = one_pass chain passes (k.drawn_once chain) one other h i d e
 
 -- an event of a pass stands in its part
-in_part : (p : ℕ) (h : List Event) (e : Event) → Contains h e → e.pass ≡ p → Contains (part_of_pass p h) e
+pub in_part : (p : ℕ) (h : List Event) (e : Event) → Contains h e → e.pass ≡ p → Contains (part_of_pass p h) e
 in_part p [] e i is = absurd (contains_none e i)
 in_part p (x ∷ h) e i is = ⊎_elim
     (λ (same : e ≡ x). rw (eq-eqb x.pass p (ap (λ (z : Event). z.pass) (sym same) ∙ is))

@@ -10,7 +10,7 @@ use Rattle.fx_plain.specs.declared.node.Node.{Node}
 use Rattle.fx_plain.specs.declared.node.Node.TheVariants.{At}
 use Rattle.fx_plain.specs.declared.event.File.{File}
 use Rattle.fx_table.specs.Files.{HasFile}
-use Rattle.fx_table.proofs.Changes.{changed_here, changed_else}
+use Rattle.fx_plain.proofs.Cells.{changed_here, changed_else}
 
 pub some_file : (f g : File) → Some f ≡ Some g → f ≡ g
 some_file f g e = cc

@@ -1,10 +1,13 @@
 -- Sums over lists, and what one changed element does to them.
-use Rattle.std.proofs.Common.{◌≡◌, ◌≢◌, ℕ, zero, suc, ◌+◌, ◌≤◌, List, [], ◌∷◌, map, set, reverse, sym, refl, ap, ◌∙◌, arith, ⊎_elim}
-use Rattle.std.specs.Prelude.{sum_by, Contains}
+use Rattle.std.proofs.Common.{◌≡◌, ◌≢◌, ℕ, zero, suc, ◌+◌, ◌≤◌, List, [], ◌∷◌, map, set, reverse, sym, refl, ap, ◌∙◌, arith, ⊎_elim, cond, eqb}
+use Rattle.std.specs.Prelude.{sum_by, count_by, Contains}
 use Rattle.std.proofs.lemmas.List.{reverse-append}
 use Rattle.std.proofs.lemmas.List.Sums.{sum_by-cons, sum_by-append}
 use mathlib.Core.Option.{some, some-injective, some-ne-none}
+use mathlib.Core.Logic.{dite}
+use native.Mathlib.Decide.{ℕ_discrete}
 use lib.ListN.{get_elem?}
+use Rattle.fx_plain.proofs.Cells.{by_equality}
 use Rattle.fx_table.proofs.Members.{contains_none, contains_head, contains_tail, contains_cases}
 
 module _ {X : Type 0} (f : X → ℕ) where
@@ -62,10 +65,17 @@ module _ {X : Type 0} (f : X → ℕ) where
       let r = sum_zero l (λ y h. each y (contains_tail x l y h)) in
       omega arith
 
-  sum_zero_at : (l : List X) → ((i : ℕ) (v : X) → get_elem? l i ≡ some v → f v ≡ 0) → sum_by f l ≡ 0
+  pub sum_zero_at : (l : List X) → ((i : ℕ) (v : X) → get_elem? l i ≡ some v → f v ≡ 0) → sum_by f l ≡ 0
   sum_zero_at [] each = refl
   sum_zero_at (x ∷ l) each =
       let a = sum_by-cons f x l in let b = each 0 x refl in let r = sum_zero_at l (λ i v e. each (suc i) v e) in omega arith
+
+  -- an element that adds to a sum
+  pub found_sum : (l : List X) → 1 ≤ sum_by f l → (x : X) × Contains l x × (1 ≤ f x)
+  found_sum [] low = absurd (omega arith)
+  found_sum (x ∷ l) low = dite (ℕ_discrete (f x) 0)
+      (λ none. let a = sum_by-cons f x l in let r = found_sum l (omega arith) in (r.0, contains_tail x l r.0 r.1, r.2))
+      (λ some. (x, contains_head x l, omega (arith, some)))
 
   -- a sum to which one element alone adds
   pub sum_only : (l : List X) (i : ℕ) (v : X) → get_elem? l i ≡ some v → ((j : ℕ) (u : X) → j ≢ i → get_elem? l j ≡ some u → f u ≡ 0)
@@ -107,3 +117,8 @@ sum_map f g (x ∷ l) =
     let b = sum_by-cons (λ z. f (g z)) x l in
     let r = sum_map f g l in
     omega arith
+
+-- an element that is counted for its number
+pub found_by : {X : Type 0} (f : X → ℕ) (n : ℕ) (l : List X) → 1 ≤ count_by (λ x. eqb (f x) n) l → (x : X) × Contains l x × (f x ≡ n)
+found_by f n l low = let r = found_sum (λ x. cond {A = ℕ} (eqb (f x) n) 1 0) l low in
+    (r.0, r.1, by_equality (f r.0) n (λ b. 1 ≤ cond {A = ℕ} b 1 0 → f r.0 ≡ n) (λ is one. is) (λ other none. absurd (omega arith)) r.2)

@@ -1,6 +1,6 @@
 -- Passes that take turns at the chains: no chain is drawn twice, and none is left out.
-use Rattle.std.proofs.Common.{◌≡◌, ◌≢◌, ℕ, zero, suc, ◌+◌, ◌-◌, ◌*◌, ◌/◌, ◌%◌, ◌<◌, ◌≤◌, true, false, cond, List, ◌∷◌, sym, refl, ap, ◌∙◌, subst}
-use Rattle.std.proofs.Common.{arith, eqb, eq-eqb, ne_eqb, suc-mul, mul-le-mul_right, lt_of_not-le, div-add-mod', mod-lt, ⊎_elim}
+use Rattle.std.proofs.Common.{◌≡◌, ◌≢◌, ℕ, zero, suc, ◌+◌, ◌-◌, ◌*◌, ◌/◌, ◌%◌, ◌<◌, ◌≤◌, true, cond, List, sym, refl, ap, ◌∙◌, subst}
+use Rattle.std.proofs.Common.{arith, eqb, suc-mul, mul-le-mul_right, lt_of_not-le, div-add-mod', mod-lt, ⊎_elim}
 use mathlib.Core.Logic.{dite}
 use native.Mathlib.Decide.{ℕ_discrete}
 use Rattle.std.specs.Prelude.{Contains, count_by, sum_by}
@@ -12,6 +12,7 @@ use Rattle.fx_table.specs.Pass.{PassView, next_number}
 use Rattle.fx_table.specs.Closing.{times_drawn}
 use Rattle.fx_table.specs.Turns.{HasDrawnInTurn}
 use Rattle.fx_table.proofs.Members.{contains_none, contains_head, contains_tail, contains_cases}
+use Rattle.fx_table.proofs.Ones.{bit_here, bit_else}
 use Rattle.fx_table.proofs.SumLemmas.{sum_le_of}
 
 chain_is_there : (p n count i : ℕ) → i < count → Contains (chains_of_pass p n count) (p + i * n)
@@ -44,12 +45,6 @@ times c p n count = count_by (λ d. eqb d c) (chains_of_pass p n count)
 times_more : (c p n k : ℕ) → times c p n (suc k) ≡ cond (eqb (p + k * n) c) 1 0 + times c p n k
 times_more c p n k = sum_by-cons (λ d. cond (eqb d c) 1 0) (p + k * n) (chains_of_pass p n k)
 
-is_counted : (d c : ℕ) → d ≡ c → cond {A = ℕ} (eqb d c) 1 0 ≡ 1
-is_counted d c e = rw (eq-eqb d c e)
-
-not_counted : (d c : ℕ) → d ≢ c → cond {A = ℕ} (eqb d c) 1 0 ≡ 0
-not_counted d c n = rw (ne_eqb d c n)
-
 -- a chain behind all of them is not among them
 later : (p n count c : ℕ) → 1 ≤ n → p + count * n ≤ c → times c p n count ≡ 0
 later p n zero c low l = refl
@@ -58,14 +53,14 @@ later p n (suc k) c low l =
     let more : suc k * n ≡ u + n = omega (arith, suc-mul k n) in
     let before : p + u < c = omega (arith, more, l, low) in
     let r = later p n k c low (omega (arith, before)) in
-    let b = not_counted (p + k * n) c (λ e. omega (arith, e, before)) in
+    let b = bit_else c (p + k * n) (λ e. omega (arith, e, before)) in
     omega (arith, times_more c p n k, r, b)
 
 at_most_once : (p n count c : ℕ) → 1 ≤ n → times c p n count ≤ 1
 at_most_once p n zero c low = omega arith
 at_most_once p n (suc k) c low = dite (ℕ_discrete (p + k * n) c)
-    (λ e. let r = later p n k c low (omega (arith, e)) in let b = is_counted (p + k * n) c e in omega (arith, times_more c p n k, r, b))
-    (λ other. let r = at_most_once p n k c low in let b = not_counted (p + k * n) c other in omega (arith, times_more c p n k, r, b))
+    (λ e. let r = later p n k c low (omega (arith, e)) in let b = bit_here c (p + k * n) e in omega (arith, times_more c p n k, r, b))
+    (λ other. let r = at_most_once p n k c low in let b = bit_else c (p + k * n) other in omega (arith, times_more c p n k, r, b))
 
 chain_of_its_pass : (p n i : ℕ) → 1 ≤ p → p ≤ n → pass_of_chain n (p + i * n) ≡ p
 chain_of_its_pass p n i low high =
@@ -79,13 +74,13 @@ not_of_another : (p n count c : ℕ) → 1 ≤ p → p ≤ n → p ≢ pass_of_c
 not_of_another p n zero c low high other = refl
 not_of_another p n (suc k) c low high other =
     let r = not_of_another p n k c low high other in
-    let b = not_counted (p + k * n) c (λ e. other (sym (chain_of_its_pass p n k low high) ∙ ap (pass_of_chain n) e)) in
+    let b = bit_else c (p + k * n) (λ e. other (sym (chain_of_its_pass p n k low high) ∙ ap (pass_of_chain n) e)) in
     omega (arith, times_more c p n k, r, b)
 
 -- a pass has drawn a chain at most once, and only one of its own
 times_small : (p n count c : ℕ) → 1 ≤ p → p ≤ n → times c p n count ≤ cond (eqb p (pass_of_chain n c)) 1 0
 times_small p n count c low high = dite (ℕ_discrete p (pass_of_chain n c))
-    (λ e. let b = is_counted p (pass_of_chain n c) e in let r = at_most_once p n count c (omega arith) in omega (arith, b, r))
+    (λ e. let b = bit_here (pass_of_chain n c) p e in let r = at_most_once p n count c (omega arith) in omega (arith, b, r))
     (λ other. let r = not_of_another p n count c low high other in omega (arith, r))
 
 -- the number that a pass of n gives next is one of its own
@@ -116,40 +111,6 @@ module _ (o : Opening) (v : PassView) (some_left : 0 < v.numbers_left) where
   next_is_its_own count t =
       let inside = t.left_inside in let few = t.few_left in let reached = t.reached in let is = next_is count t in
       (next_of_chain count t, omega (arith, inside, few, is), omega (arith, inside, few, reached, is))
-
--- a draw
-module _ (o : Opening) (v : PassView) (count : ℕ) (t : HasDrawnInTurn o count v) where
-  -- the chain that the pass draws next
-  abbrev pub next_chain : ℕ
-  next_chain = v.number + count * o.passes
-
-  later_than : (n : ℕ) → v.chain ≡ last_chain_of_pass v.number o.passes n → v.chain < v.number + n * o.passes
-  later_than zero e = let low = t.number.0 in omega (arith, e, low)
-  later_than (suc k) e = let m = suc-mul k o.passes in let low = t.number.0 in let high = t.number.1 in omega (arith, e, m, low, high)
-
-  pub chain_rises : v.chain < next_chain
-  chain_rises = later_than count t.chain
-
-  pub draws_next : next_chain ≤ o.chains → v.no_chains_left ≡ false
-      → HasDrawnInTurn o (suc count) (record v { chain = next_chain; drawn = next_chain ∷ v.drawn; numbers_left = o.numbers })
-  draws_next inside more_left = record {
-    whole = t.whole;
-    number = t.number;
-    drawn = ap (λ (l : List ℕ). next_chain ∷ l) t.drawn;
-    chain = refl;
-    reached = inside;
-    last_drawn = λ e. let no : false ≡ true = sym more_left ∙ e in absurd (cc no);
-    few_left = let all = t.whole in omega (arith, all);
-    left_inside = let all = t.whole in let low = t.number.0 in let u : ℕ = count * o.passes in omega (arith, all, low);
-    unused =
-        let now : next_number o v ≡ (256 + 64 * v.chain) - v.numbers_left = ap (λ (each : ℕ). (256 + each * v.chain) - v.numbers_left) t.whole in
-        let then : (256 + o.numbers * next_chain) - o.numbers ≡ (256 + 64 * next_chain) - 64 =
-        ap (λ (each : ℕ). (256 + each * next_chain) - each) t.whole in
-        let a = t.unused in let rises = chain_rises in omega (arith, a, rises, now, then);
-  }
-
-  pub draws_no_more : o.chains < next_chain → HasDrawnInTurn o count (record v { no_chains_left = true })
-  draws_no_more past = let last_drawn : true ≡ true → o.chains < next_chain = λ e. past in assumption (last_drawn, t)
 
 -- all passes of a closed table
 module _ (o : Opening) (vs : List PassView) (counts : (v : PassView) → Contains vs v → (count : ℕ) × HasDrawnInTurn o count v) where

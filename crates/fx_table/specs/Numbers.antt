@@ -1,5 +1,6 @@
 -- Which file numbers a chain has, and which pass has which chains where the passes take turns.
-use Rattle.std.specs.Prelude.{ℕ, zero, suc, ◌+◌, ◌-◌, ◌*◌, ◌/◌, ◌%◌, List, [], ◌∷◌}
+use Rattle.std.specs.Prelude.{ℕ, zero, suc, ◌+◌, ◌-◌, ◌*◌, ◌/◌, ◌%◌, nat_lt, if◌then◌else◌}
+use Rattle.std.specs.Prelude.{List, [], ◌∷◌}
 use Rattle.fx_table.specs.declared.limits.TheConstants.{FIRST_CHAIN_NUMBER, CHAIN_NUMBERS}
 use Rattle.fx_plain.specs.History.{◌▷◌}
 use Rattle.fx_plain.specs.declared.event.Event.{Event}
@@ -38,6 +39,11 @@ chains_of_pass p n (suc count) = chains_of_pass p n count ▷ (p + count * n)
 abbrev pub last_chain_of_pass : ℕ → ℕ → ℕ → ℕ
 last_chain_of_pass p n zero = 0
 last_chain_of_pass p n (suc count) = p + count * n
+
+-- 1 for the numbers from 1 to n, and else 0
+abbrev pub once : ℕ → ℕ → ℕ
+once n zero = 0
+once n (suc p) = if nat_lt p n then 1 else 0
 
 -- the pass, of n, whose chain it is, and the one whose number it is
 abbrev pub pass_of_chain : ℕ → ℕ → ℕ

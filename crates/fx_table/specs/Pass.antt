@@ -1,5 +1,6 @@
 -- A pass as contracts see it.
-use Rattle.std.specs.Prelude.{◌≡◌, ℕ, zero, suc, ◌+◌, ◌-◌, Bool, false, List, [], ◌∷◌, Contains}
+use Rattle.std.specs.Prelude.{◌≡◌, ℕ, ◌-◌, Bool, false, List, [], map, Contains}
+use Rattle.std.specs.List.{range_with_len}
 use Rattle.fx_plain.specs.declared.event.File.{File}
 use Rattle.fx_plain.specs.declared.event.Event.{Event}
 use Rattle.fx_plain.specs.declared.event.Action.{Action}
@@ -49,8 +50,7 @@ new_pass number = record {
 
 -- the passes from a number on
 abbrev pub new_passes_from : ℕ → ℕ → List PassView
-new_passes_from first zero = []
-new_passes_from first (suc n) = new_pass first ∷ new_passes_from (first + 1) n
+new_passes_from first n = map new_pass (range_with_len first n)
 
 -- so many passes, numbered from 1
 abbrev pub new_passes : ℕ → List PassView

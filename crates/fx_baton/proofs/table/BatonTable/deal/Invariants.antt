@@ -1,15 +1,12 @@
-use Rattle.fx_baton.proofs.Words.{◌≡◌, ◌≤◌, ◌+◌, ◌-◌, length, map, All, vec_capacity, [], new_passes, view_of, IsPassOf, IsIdle, dealt}
+use Rattle.fx_baton.proofs.Words.{◌≡◌, ◌≤◌, ◌-◌, vec_capacity, [], view_of, IsPassOf, dealt}
 use Rattle.fx_baton.proofs.table.BatonTable.deal.Given as goal
+use Rattle.fx_table.proofs.Dealing.{AreDealt}
 
 abbrev pub invariant-loop-number : goal.invariant-loop-number
 invariant-loop-number l = record {
-  low : 1 ≤ l.number;
-  high : l.number ≤ l.self.passes;
+  before : AreDealt (IsPassOf l.self.table.shared.table_id l.self.table.shared.key) view_of l.number l.self.passes l.list.items;
   table : l.seat.table_id ≡ l.self.table.shared.table_id;
   me : l.seat.me ≡ (dealt l.self.table.shared.key l.number, []);
-  ready : All (λ p. IsPassOf l.self.table.shared.table_id l.self.table.shared.key p × IsIdle (view_of p)) l.list.items;
-  new : map view_of l.list.items ≡ new_passes (l.number - 1);
-  count : length l.list.items + 1 ≡ l.number;
   room : l.self.passes ≤ vec_capacity l.list;
 }
 

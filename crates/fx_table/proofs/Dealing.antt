@@ -1,0 +1,62 @@
+-- Passes are dealt out, one for each number from 1 on.
+use Rattle.std.proofs.Common.{◌≡◌, ℕ, suc, ◌+◌, ◌-◌, ◌<◌, ◌≤◌, List, [], ◌∷◌, ◌++◌, map, length, take, sym, ap, ◌∙◌, subst, arith, length-append, All}
+use Rattle.std.specs.List.{range_with_len}
+use Rattle.std.proofs.lemmas.List.{map_push}
+use Rattle.std.proofs.lemmas.List.Elements.{All-push}
+use Rattle.std.proofs.lemmas.List.FromFn.{map-range_with_len_more}
+use Rattle.fx_table.specs.Pass.{PassView, IsIdle, new_pass, new_passes}
+
+-- what is left to deal of n, where p is next
+module _ {X : Type 0} (new : ℕ → X) (p n : ℕ) where
+  abbrev left : ℕ → List X
+  left q = map new (range_with_len q ((n + 1) - q))
+
+  pub first_left : p ≤ n → left p ≡ new p ∷ left (p + 1)
+  first_left few = let e : (n + 1) - p ≡ suc ((n + 1) - (p + 1)) = omega arith in ap (λ (m : ℕ). map new (range_with_len p m)) e
+
+  pub last_left : p ≡ n → left p ≡ take 1 (left p)
+  last_left last =
+      let e : (n + 1) - p ≡ 1 = omega arith in
+      let alone : left p ≡ new p ∷ [] = ap (λ (m : ℕ). map new (range_with_len p m)) e in
+      alone ∙ sym (ap (take 1) alone)
+
+module _ {P : Type 0} (Is : P → Type 0) (shown : P → PassView) where
+  -- an idle pass of the table
+  abbrev pub IsReady : P → Type 0
+  IsReady p = Is p × IsIdle (shown p)
+
+  -- the passes before p were dealt, of n
+  pub record AreDealt (p n : ℕ) (list : List P) : Type 0 where
+    pub low : 1 ≤ p
+    pub high : p ≤ n
+    pub ready : All IsReady list
+    pub new : map shown list ≡ new_passes (p - 1)
+    pub count : length list + 1 ≡ p
+
+module _ {P : Type 0} {Is : P → Type 0} {shown : P → PassView} {p n : ℕ} {old list : List P} {x : P} (dealt : AreDealt Is shown p n old)
+    (pushed : list ≡ old ++ x ∷ []) (new : Is x × (shown x ≡ new_pass p)) where
+  ready_now : All (IsReady Is shown) list
+  ready_now = subst (All (IsReady Is shown)) (sym pushed) (All-push (IsReady Is shown) old x dealt.ready (new.0, ap (λ (v : PassView). v.doing) new.1))
+
+  new_now : map shown list ≡ new_passes p
+  new_now =
+      let low = dealt.low in
+      let next : 1 + (p - 1) ≡ p = omega arith in
+      let so_many : (p - 1) + 1 ≡ p = omega arith in
+      ap (map shown) pushed ∙ (map_push shown old x ∙ ((λ i. dealt.new i ++ new.1 i ∷ [])
+      ∙ (sym (map-range_with_len_more new_pass 1 (p - 1) p next) ∙ ap new_passes so_many)))
+
+  count_now : length list ≡ p
+  count_now = let e = dealt.count in let f = ap (length {A = P}) pushed in omega (arith, f, length-append old (x ∷ []))
+
+  pub one_dealt : p < n → AreDealt Is shown (p + 1) n list
+  one_dealt few = record {
+    low = omega arith;
+    high = omega arith;
+    ready = ready_now;
+    new = new_now ∙ ap new_passes (let e : p ≡ (p + 1) - 1 = omega arith in e);
+    count = ap (λ (m : ℕ). m + 1) count_now;
+  }
+
+  pub all_dealt : p ≡ n → All (IsReady Is shown) list × (length list ≡ n) × (map shown list ≡ new_passes n)
+  all_dealt last = (ready_now, count_now ∙ last, new_now ∙ ap new_passes last)

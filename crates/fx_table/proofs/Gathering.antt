@@ -1,0 +1,45 @@
+-- All passes in one seat, which come back one behind the other.
+use Rattle.std.proofs.Common.{◌≡◌, ◌≢◌, ℕ, List, [], ◌∷◌, ◌++◌, map, length, reverse, sym, refl, ap, ◌∙◌, subst, arith}
+use Rattle.std.specs.Prelude.{Contains, flat_map, sum_by}
+use Rattle.std.proofs.lemmas.List.{nil_from_length, reverse-append}
+use mathlib.Core.Logic.{dite}
+use mathlib.Core.Option.{some, some-injective}
+use native.Mathlib.Decide.{ℕ_discrete}
+use lib.ListN.{get_elem?}
+use Rattle.fx_table.proofs.Members.{contains_head, contains_tail}
+use Rattle.fx_table.proofs.SumLemmas.{sum_map, sum_only, sum_reverse, sum_two}
+
+module _ {P L : Type 0} (logs : P → List L) where
+  -- the first pass, and the others behind it
+  pub gathered : (ps others : List P) (first : P) (its all : List L) → ps ≡ others ++ first ∷ [] → its ≡ logs first
+      → all ≡ its ++ flat_map logs (reverse others) → all ≡ flat_map logs (reverse ps)
+  gathered ps others first its all split is joined = joined ∙ (ap (λ (l : List L). l ++ flat_map logs (reverse others)) is
+      ∙ ap (flat_map logs) (sym (ap (reverse {A = P}) split ∙ reverse-append others (first ∷ []))))
+
+  -- where each pass has one log
+  pub logs_are : (log : P → L) (ps : List P) → ((p : P) → Contains ps p → logs p ≡ log p ∷ []) → flat_map logs ps ≡ map log ps
+  logs_are log [] each = refl
+  logs_are log (p ∷ ps) each = λ i. each p (contains_head p ps) i ++ logs_are log ps (λ q h. each q (contains_tail p ps q h)) i
+
+  -- what all of them add to
+  pub sum_gathered : (log : P → L) (f : L → ℕ) (ps : List P) (all : List L) → all ≡ map log (reverse ps) → sum_by f all ≡ sum_by (λ p. f (log p)) ps
+  sum_gathered log f ps all is = ap (sum_by f) is ∙ (sum_map f log (reverse ps) ∙ sum_reverse (λ p. f (log p)) ps)
+
+-- a seat that has all logs
+module _ {V L : Type 0} (logs : V → List L) (views : List V) (seat : ℕ) (v : V) (at : get_elem? views seat ≡ some v)
+    (all : length (logs v) ≡ sum_by (λ u. length (logs u)) views) where
+  pub empty_else : (i : ℕ) (u : V) → i ≢ seat → get_elem? views i ≡ some u → logs u ≡ []
+  empty_else i u other e =
+      let a = sum_two (λ z. length (logs z)) views seat i v u (λ j. other (sym j)) at e in
+      nil_from_length (logs u) (omega arith)
+
+  -- it alone adds to what seats without logs don't add to
+  pub only_here : (f : V → ℕ) → ((u : V) → logs u ≡ [] → f u ≡ 0) → sum_by f views ≡ f v
+  only_here f none = sum_only f views seat v at (λ i u other e. none u (empty_else i u other e))
+
+  -- what holds of it, and of each seat without logs, holds of each
+  pub each_seat : (P : V → Type 0) → P v → ((i : ℕ) (u : V) → get_elem? views i ≡ some u → logs u ≡ [] → P u)
+      → (i : ℕ) (u : V) → get_elem? views i ≡ some u → P u
+  each_seat P here none i u e = dite (ℕ_discrete i seat)
+      (λ same. subst P (some-injective v u (sym at ∙ (ap (get_elem? views) (sym same) ∙ e))) here)
+      (λ other. none i u e (empty_else i u other e))

@@ -1,0 +1,63 @@
+-- The one history of all passes, which a close tells, and a table of one pass without it.
+use Rattle.std.proofs.Common.{◌≡◌, ℕ, ◌<◌, ◌≤◌, true, List, [], ◌∷◌, sym, ap, ◌∙◌, subst}
+use Rattle.std.specs.Prelude.{Contains, None, sum_by}
+use Rattle.std.proofs.lemmas.List.{append-nil}
+use Rattle.std.proofs.lemmas.List.Elements.{Contains-append_right}
+use Rattle.fx_plain.specs.State.{IsSettled}
+use Rattle.fx_plain.specs.Contents.{Contents, state_of}
+use Rattle.fx_plain.specs.History.{IsLegal, IsSeenBy, part_of_pass, held_by}
+use Rattle.fx_plain.specs.declared.event.Event.{Event}
+use Rattle.fx_table.specs.Closing.{ClosesTable, times_drawn}
+use Rattle.fx_table.specs.Opening.{Opening, start_of, state_at, HasSameFiles}
+use Rattle.fx_table.specs.Pass.{PassView, IsFront}
+use Rattle.fx_table.specs.Settling.{IsSettledSoFar}
+use Rattle.fx_table.proofs.Histories.{part_mine}
+use Rattle.fx_table.proofs.Members.{contains_head, contains_only}
+
+-- what one pass did alone is all that there is
+pub all_mine : (q : ℕ) (h : List Event) → ((e : Event) → Contains h e → e.pass ≡ q) → part_of_pass q h ≡ h
+all_mine q h a = ap (part_of_pass q) (sym (append-nil h)) ∙ (part_mine q h [] a ∙ append-nil h)
+
+-- what a close tells, the table that comes back aside
+pub record IsWhole (o : Opening) (history : List Event) (passes : List PassView) : Type 0 where
+  pub legal : IsLegal (start_of o) history (state_at o history)
+  pub settled : IsSettled (state_at o history)
+  pub seen : (v : PassView) → Contains passes v → IsSeenBy v.front history
+  pub own : (v : PassView) → Contains passes v → part_of_pass v.number history ≡ v.own
+  pub authors : (e : Event) → Contains history e → (v : PassView) × Contains passes v × (e.pass ≡ v.number)
+  pub chains_inside : (v : PassView) → Contains passes v → (c : ℕ) → Contains v.drawn c → (0 < c) × (c ≤ o.chains)
+  pub drawn_once : (c : ℕ) → sum_by (times_drawn c) passes ≤ 1
+  pub all_drawn : ((v : PassView) → Contains passes v → v.no_chains_left ≡ true)
+      → (c : ℕ) → 0 < c → c ≤ o.chains → (v : PassView) × Contains passes v × Contains v.drawn c
+
+pub closes_table : (o : Opening) (h : List Event) (passes : List PassView) (left : Contents) → IsWhole o h passes
+    → HasSameFiles (state_at o h) (state_of left) → IsSettled (state_of left) → ClosesTable o passes left
+closes_table o h passes left whole same at_rest =
+    search (whole.legal, whole.settled, whole.seen, whole.own, whole.authors, whole.chains_inside, whole.drawn_once, whole.all_drawn)
+
+-- a history that one pass made is its own
+pub own_history : (v : PassView) (h : List Event) → ((e : Event) → Contains h e → (w : PassView) × Contains (v ∷ []) w × (e.pass ≡ w.number))
+    → part_of_pass v.number h ≡ v.own → h ≡ v.own
+own_history v h authors own =
+    sym (all_mine v.number h (λ e i. let a = authors e i in a.2 ∙ ap (λ (w : PassView). w.number) (contains_only v a.0 a.1))) ∙ own
+
+-- a table of one pass, which holds nothing
+module _ (o : Opening) (v : PassView) (h : List Event) (whole : IsWhole o h (v ∷ [])) (front : IsFront o v)
+    (free : held_by h v.number ≡ None) where
+  is_own : h ≡ v.own
+  is_own = own_history v h whole.authors (whole.own v (contains_head v []))
+
+  author : (e : Event) → Contains v.front e → e.pass ≡ v.number
+  author e i =
+      let seen = whole.seen v (contains_head v []) in
+      let a = whole.authors e (subst (λ (l : List Event). Contains l e) (sym seen.1) (Contains-append_right seen.0 v.front e i)) in
+      a.2 ∙ ap (λ (w : PassView). w.number) (contains_only v a.0 a.1)
+
+  pub settles : IsSettledSoFar o v
+  settles = record {
+    whole = sym (all_mine v.number v.front author) ∙ front.mine;
+    legal = subst (λ (l : List Event). IsLegal (start_of o) l (state_at o l)) is_own whole.legal;
+    settled = subst (λ (l : List Event). IsSettled (state_at o l)) is_own whole.settled;
+    held = subst (λ (l : List Event). held_by l v.number ≡ None) is_own free;
+    chains_inside = whole.chains_inside v (contains_head v []);
+  }
