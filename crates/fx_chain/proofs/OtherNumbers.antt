@@ -1,29 +1,20 @@
 -- The steps of a chain with other numbers, and how many numbers they give.
-use Rattle.fx_chain.proofs.Words.{◌≡◌, ◌⊎◌, ℕ, zero, suc, ◌+◌, ◌<◌, ◌≤◌, Bool, true, false, ℤ, pos, negsuc, List, [], ◌∷◌, ◌++◌, length, map, ap, ◌∙◌, Option}
-use Rattle.fx_chain.proofs.Words.{Some, None, inl, inr, arith}
+use Rattle.fx_chain.proofs.Words.{◌≡◌, ◌⊎◌, ℕ, zero, suc, ◌+◌, ◌<◌, ◌≤◌, Bool, true, false, ℤ, pos, negsuc, List, [], ◌∷◌, ◌++◌, length, map, ap, ◌∙◌}
+use Rattle.fx_chain.proofs.Words.{Option, Some, None, inl, inr, arith, MatchBool, list_any, map-append, sum_by-cons, FileEntry, Action, Put, ◌▷◌}
+use Rattle.fx_chain.proofs.Words.{◌▷▷◌, Refuses, MayClose, AppliesEntry, AppliesList, Answers, is_bad_entry, Completed, completed, refusal}
+use Rattle.fx_chain.proofs.Words.{next_member, Explains, severs, canceled, Operation, Opens, Reads, Closes, Updates, Asked, entry_installs}
+use Rattle.fx_chain.proofs.Words.{list_installs, installs_of, all_installs, Place}
 use Rattle.std.specs.Prelude.{nat_le, nat_lt, ◌==◌, ◌||◌}
-use Rattle.std.specs.Bool.{MatchBool}
-use Rattle.std.specs.List.{list_any}
-use Rattle.std.proofs.lemmas.List.{map-append}
-use Rattle.std.proofs.lemmas.List.Sums.{sum_by-cons}
-use Rattle.fx_base.specs.Catalogue.{FileEntry, name_at}
+use Rattle.fx_base.specs.Catalogue.{name_at}
 use Rattle.fx_base.specs.AddFault.{has_name}
 use Rattle.fx_base.specs.declared.errno.Errno.{Errno}
 use Rattle.fx_base.specs.declared.errno.Errno.TheVariants.{ENOENT, ENXIO, EBADF, ENOMEM, EINVAL, ENFILE}
 use Rattle.fx_plain.specs.declared.event.File.{File}
-use Rattle.fx_plain.specs.declared.event.Action.{Action}
-use Rattle.fx_plain.specs.declared.event.Action.TheVariants.{Put, Allocate, Full}
-use Rattle.fx_plain.specs.History.{◌▷◌, ◌▷▷◌}
+use Rattle.fx_plain.specs.declared.event.Action.TheVariants.{Allocate, Full}
 use Rattle.fx_plain.specs.Laws.{installed_by}
 use Rattle.fx_plain.specs.Reopening.{Renaming, renamed, renamed_file, renamed_found, numbers_given, with_number_of}
-use Rattle.fx_chain.specs.Answers.{Refuses, MayClose, OpensAt, ReadsAt, TakesAt, AppliesEntry, AppliesList, Answers}
-use Rattle.fx_chain.specs.Answers.{is_bad_entry, installed}
-use Rattle.fx_chain.specs.Completed.{Completed, completed, refusal, next_member}
-use Rattle.fx_chain.specs.Explains.{Explains, severs, canceled}
-use Rattle.fx_chain.specs.Operation.{Operation, Opens, Reads, Closes, Updates, Asked}
-use Rattle.fx_chain.specs.Weights.{entry_installs, list_installs, installs_of, all_installs}
+use Rattle.fx_chain.specs.Answers.{OpensAt, ReadsAt, TakesAt, installed}
 use Rattle.fx_chain.proofs.EntryKinds.{list_installs-cons}
-use Rattle.fx_chain.specs.declared.completion.Place.{Place}
 use Rattle.fx_chain.specs.declared.request.Target.{Target}
 use Rattle.fx_chain.specs.declared.request.Target.TheVariants.{Slot, Any}
 

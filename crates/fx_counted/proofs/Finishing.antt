@@ -3,7 +3,7 @@ use Rattle.fx_counted.proofs.Words.{◌≡◌, ℕ, zero, suc, ◌+◌, ◌-◌,
 use Rattle.fx_counted.proofs.Words.{Option, Some, None, slice_index, dite, some, some-injective, some-ne-none, dec_le, get_elem?, Closed, Contents}
 use Rattle.fx_counted.proofs.Words.{state_of, State, number_of, identity_of, File, HasSameFiles, Names, Agrees, HasNode, slot_place, home_place}
 use Rattle.fx_counted.proofs.Words.{homes_for, Shared, slots_of, chain_numbers, IsNumber, state_after_all, IsShellOf, AreBack, CountedTable, Start}
-use Rattle.fx_counted.proofs.Words.{View, Idle, Final, Seen, AllAreIdle, Leaves}
+use Rattle.fx_counted.proofs.Words.{View, Idle, Final, Seen, AllAreIdle, Leaves, Between}
 use Rattle.fx_counted.proofs.Calling.{has_node, its_numbers}
 use Rattle.fx_counted.proofs.Ending.{home_file, file_home, one_slot, none_outside_end}
 use Rattle.fx_counted.proofs.Frames.{inside_list}
@@ -13,7 +13,6 @@ use Rattle.fx_counted.proofs.Naming.{node_is}
 use Rattle.fx_counted.proofs.Places.{apart, low_home, high_home}
 use Rattle.fx_counted.proofs.Shells.{IsPartlyBack, Becomes, first_back, none_given}
 use Rattle.fx_counted.proofs.Starting.{at_place}
-use Rattle.fx_counted.proofs.Words.{Between}
 
 pub word_at_place : (ws : List ℕ) (i w : ℕ) → get_elem? ws i ≡ some w → slice_index ws i ≡ w
 word_at_place [] i w e = absurd (some-ne-none w (sym e))

@@ -4,16 +4,14 @@ use Rattle.fx_counted.proofs.Words.{get_or-set_same, Option, Bool, dite, some, �
 use Rattle.fx_counted.proofs.Words.{range_of, NodeAgrees, OwnerAgrees, WorkAgrees, PlacesNext, Agrees, full_in, looks, all_looks, control_place}
 use Rattle.fx_counted.proofs.Words.{draw_place, slot_place, node_place, home_place, PlacesAreInside, PlacesAreApart, opening_of, slots_of}
 use Rattle.fx_counted.proofs.Words.{chain_numbers, IsNumber, state_after_all, end_in, next_in, held_in, placing, held_of, Phase, unborn, spare}
-use Rattle.fx_counted.proofs.Words.{seated, owner, file_in, Log, View, Work, Holding, retired, ⊎_elim, ◌⊎◌}
+use Rattle.fx_counted.proofs.Words.{seated, owner, file_in, Log, View, Work, Holding, retired, ⊎_elim, ◌⊎◌, Between}
 use Rattle.std.proofs.Common.{length-set}
 use Rattle.fx_counted.proofs.Places.{inside, apart}
 use Rattle.fx_counted.proofs.Histories.{Grows, IsHistory}
 use Rattle.fx_plain.proofs.Cells.{changed_here, changed_else}
 use Rattle.fx_counted.proofs.Frames.{busy, owner_stays}
-use Rattle.fx_counted.proofs.Keeping.{Turn, Homes, word_at, logged, Step, step_kept, log_now, went}
+use Rattle.fx_counted.proofs.Keeping.{Turn, Homes, word_at, logged, Step, step_kept, log_now, went, NodeIn}
 use Rattle.fx_counted.proofs.Unchanged.{slot_same, node_same, control_same, draws_same}
-use Rattle.fx_counted.proofs.Words.{Between}
-use Rattle.fx_counted.proofs.Keeping.{NodeIn}
 
 -- what a step on the number q tells of the histories
 pub record OneNumber (v : View) (q : ℕ) (h h' : List Event) : Type 0 where

@@ -1,13 +1,11 @@
 -- What a pass answers that removed a file from a slot, or found none.
 use Rattle.fx_counted.proofs.Words.{◌≡◌, ℕ, [], sym, refl, ap, ◌∙◌, subst, Option, Some, None, option_map, Result, Closed, ◌▷◌, numbered, File, Put}
-use Rattle.fx_counted.proofs.Words.{Clear, Take, Adds, no_use, one_number, PassView, next_number, Retired, doing_in, retiring, ok_or, Placed}
-use Rattle.fx_counted.proofs.Words.{Cleared, Taken, Opening, retired_of, IsPassOfTable, slot_place, slot_of, Goes, Stepped, Outside, Change, Sat}
-use Rattle.fx_counted.proofs.Words.{Action, CountedTable, CountedPass, opening_of_table, view_of, pass_of}
-use Rattle.fx_counted.proofs.Words.{Idle, Retiring}
+use Rattle.fx_counted.proofs.Words.{Clear, Take, Adds, no_use, one_number, PassView, next_number, Retired, doing_in, retiring, ok_or, Placed, Cleared}
+use Rattle.fx_counted.proofs.Words.{Taken, Opening, retired_of, IsPassOfTable, slot_place, slot_of, Goes, Stepped, Outside, Change, Sat, Action}
+use Rattle.fx_counted.proofs.Words.{CountedTable, CountedPass, opening_of_table, view_of, pass_of, Idle, Retiring, Between}
 use Rattle.fx_table.specs.declared.values.Empty.{Empty}
 use Rattle.fx_counted.proofs.Calling.{slot_at}
 use Rattle.fx_counted.proofs.Going.{adds_so, goes_around}
-use Rattle.fx_counted.proofs.Words.{Between}
 
 -- a removal between a begin and an end, if there are such
 pub removal_adds : (act : ℕ → Option File → Action) (t : CountedTable) (p : CountedPass) (fits : IsPassOfTable t p) (slot i takes : ℕ)

@@ -2,11 +2,9 @@
 use Rattle.fx_counted.proofs.Words.{◌≡◌, ℕ, ◌+◌, Bool, [], ◌∷◌, sym, ap, ◌∙◌, subst, ◌≢◌, ne_eqb, eq-eqb, Some, dite, none, ℕ_discrete, step, rest}
 use Rattle.fx_counted.proofs.Words.{Closed, ◌▷◌, numbered, Allocate, Full, no_use, one_number, Goes, place_of, slot_of, Sat, StillPlaces}
 use Rattle.fx_counted.proofs.Words.{HasAllocated, Tries, Stepped, Exchanges, Change, Outside, Same, More, Start, Work, Idle, Placing, nat_eq}
-use Rattle.fx_counted.proofs.Words.{IsPlacing, HasFoundAllFull}
+use Rattle.fx_counted.proofs.Words.{IsPlacing, HasFoundAllFull, List, Action, Use, ◌▷▷◌, both_uses, Between}
 use Rattle.fx_counted.specs.Searching.{Proceeds}
-use Rattle.fx_counted.proofs.Words.{List, Action, Use, ◌▷▷◌, both_uses}
 use Rattle.fx_counted.proofs.Going.{goes_one, goes_then, still_at_work}
-use Rattle.fx_counted.proofs.Words.{Between}
 
 -- one step more, and some more
 proceeds_one : {m m' : Sat} {xs : List Action} {a : Use} {w : Work} {c : Change} → Stepped m xs a w c m' → Proceeds m xs a w c m'

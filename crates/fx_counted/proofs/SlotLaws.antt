@@ -1,11 +1,10 @@
 -- Swaps, loads and exchanges keep the rule.
-use Rattle.fx_counted.proofs.Words.{◌≡◌, ◌≢◌, ℕ, ◌-◌, ◌<◌, ◌^◌, Bool, List, [], ◌∷◌, set, false, sym, refl, ap, ◌∙◌, subst, arith, eqb}
-use Rattle.fx_counted.proofs.Words.{Option, Some, None, inl, none, keeps, gives, rest, stepped, step, Closed, ◌▷◌, changed_at, numbered, File, Action}
-use Rattle.fx_counted.proofs.Words.{Put, Clear, Take, Allocate, Use, no_use, one_number, name_in, takes_in, slot_word_of, Names, WorkAgrees}
-use Rattle.fx_counted.proofs.Words.{Agrees, if_full, HasPass, MayChange, place_of, slot_place, slot_of, Sat, slots_of, state_after_all}
-use Rattle.fx_counted.proofs.Words.{Stepped, Exchanges, GoesOn, retiring, turned, Change, Same, Log, Start, View, Work, Idle, Placing, placed}
-use Rattle.fx_counted.proofs.Words.{event_of, shown, set-get_or, exchanged, ClearsKeep, TakesKeep, InstallsKeep, LoadsKeep, ExchangesKeep, Installs}
-use Rattle.fx_counted.proofs.Words.{Removes}
+use Rattle.fx_counted.proofs.Words.{◌≡◌, ◌≢◌, ℕ, ◌-◌, ◌<◌, ◌^◌, Bool, List, [], ◌∷◌, set, false, sym, refl, ap, ◌∙◌, subst, arith, eqb, Option, Some}
+use Rattle.fx_counted.proofs.Words.{None, inl, none, keeps, gives, rest, stepped, step, Closed, ◌▷◌, changed_at, numbered, File, Action, Put, Clear}
+use Rattle.fx_counted.proofs.Words.{Take, Allocate, Use, no_use, one_number, name_in, takes_in, slot_word_of, Names, WorkAgrees, Agrees, if_full}
+use Rattle.fx_counted.proofs.Words.{HasPass, MayChange, place_of, slot_place, slot_of, Sat, slots_of, state_after_all, Stepped, Exchanges, GoesOn}
+use Rattle.fx_counted.proofs.Words.{retiring, turned, Change, Same, Log, Start, View, Work, Idle, Placing, placed, event_of, shown, set-get_or}
+use Rattle.fx_counted.proofs.Words.{exchanged, ClearsKeep, TakesKeep, InstallsKeep, LoadsKeep, ExchangesKeep, Installs, Removes, Between}
 use Rattle.fx_counted.proofs.Steps.{legal_more, same_shape, Turn, turn_of, word_at, now, logged, its_work, by_turn, went, Made, far, control_same}
 use prog.Atomic.{either}
 use Rattle.atomic_table.specs.Table.{Allows}
@@ -16,7 +15,6 @@ use Rattle.fx_counted.proofs.Changes.{in_size, names_old, removal_agrees, remova
 use Rattle.fx_counted.proofs.Changes.{installed_view}
 use Rattle.fx_counted.proofs.ControlSteps.{goes_on}
 use Rattle.fx_counted.proofs.Swaps.{Effect}
-use Rattle.fx_counted.proofs.Words.{Between}
 
 placing_same : (n m : ℕ) → Placing n ≡ Placing m → n ≡ m
 placing_same n m e = cc e

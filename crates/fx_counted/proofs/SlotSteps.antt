@@ -2,12 +2,10 @@
 use Rattle.fx_counted.proofs.Words.{◌≡◌, ◌≢◌, ℕ, ◌+◌, ◌<◌, ◌≤◌, List, set, length, sym, refl, ap, ◌∙◌, subst, arith, get_or-set_other}
 use Rattle.fx_counted.proofs.Words.{get_or-set_same, None, dite, ℕ_discrete, get_elem?, Event, range_of, SlotAgrees, NodeAgrees, OwnerAgrees}
 use Rattle.fx_counted.proofs.Words.{WorkAgrees, LogAgrees, Agrees, ControlCounts, looks, all_looks, control_place, draw_place, slot_place, node_place}
-use Rattle.fx_counted.proofs.Words.{home_place, opening_of, slots_of, IsNumber, state_after_all, held_of, Phase, unborn, Change, Log, View}
-use Rattle.fx_counted.proofs.Words.{Work}
-use Rattle.fx_counted.proofs.Steps.{Grows, IsHistory, Stays, KeepsHeld, Turn, Homes, word_at, now, logged, Step, step_kept, near, far, SameFile, slot_same}
-use Rattle.fx_counted.proofs.Steps.{draws_same}
+use Rattle.fx_counted.proofs.Words.{home_place, opening_of, slots_of, IsNumber, state_after_all, held_of, Phase, unborn, Change, Log, View, Work}
+use Rattle.fx_counted.proofs.Steps.{Grows, IsHistory, Stays, KeepsHeld, Turn, Homes, word_at, now, logged, Step, step_kept, near, far, SameFile}
+use Rattle.fx_counted.proofs.Steps.{slot_same, draws_same, NodeIn}
 use Rattle.std.proofs.Common.{length-set}
-use Rattle.fx_counted.proofs.Steps.{NodeIn}
 
 module _ (turn : Turn) (s : ℕ) (inside : s < slots_of turn.v.start) (left looks_left : ℕ) (d : Work) (c : Change) (h' : List Event) (phase' : ℕ → Phase)
     (word' : ℕ) (homes' : Homes) where

@@ -1,14 +1,13 @@
 -- How large the words become.
-use Rattle.fx_counted.proofs.Words.{sum_by, ◌≡◌, ℕ, ◌+◌, ◌≤◌, Option, Some, None, sym, ◌∙◌, subst, arith, some, get_elem?, File, sum_le_at}
-use Rattle.fx_counted.proofs.Words.{node_in, Agrees, NodeAgrees, Names, WorkAgrees, lengths, home_place, changes_of, looks, all_looks}
-use Rattle.fx_counted.proofs.Words.{Shared, IsNumber, slots_of, looks_of, told_of, state_after_all, Phase, seated, leaving, Start, View, Retiring}
+use Rattle.fx_counted.proofs.Words.{sum_by, ◌≡◌, ℕ, ◌+◌, ◌≤◌, Option, Some, None, sym, ◌∙◌, subst, arith, some, get_elem?, File, sum_le_at, node_in}
+use Rattle.fx_counted.proofs.Words.{Agrees, NodeAgrees, Names, WorkAgrees, lengths, home_place, changes_of, looks, all_looks, Shared, IsNumber}
+use Rattle.fx_counted.proofs.Words.{slots_of, looks_of, told_of, state_after_all, Phase, seated, leaving, Start, View, Retiring, Between}
 use Rattle.fx_counted.specs.Agrees.{IsSeated}
 use Rattle.fx_counted.specs.Bounds.{AreBounded, WordsAreBounded, slot_word_in, node_word_in, draw_word_in}
 use Rattle.fx_counted.proofs.Chains.{told_few}
 use Rattle.fx_counted.proofs.ControlSteps.{few_changes, few_full, few_added, few_removed}
 use Rattle.fx_counted.proofs.Histories.{looks_few}
 use Rattle.fx_counted.proofs.Naming.{node_is}
-use Rattle.fx_counted.proofs.Words.{Between}
 
 module _ (k : Start) (s : Shared) (r : Agrees k s) where
   few_passes : sum_by lengths s.views ≤ 16

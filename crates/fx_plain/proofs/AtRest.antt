@@ -1,7 +1,8 @@
 -- A settled table is at rest, wherever its history has led to.
-use Rattle.fx_plain.proofs.Words.{◌≡◌, ◌≢◌, ℕ, zero, suc, ◌+◌, ◌<◌, ◌≤◌, true, false, List, [], ◌∷◌, map, sym, ap, subst, ◌∙◌, Option, Some, None, refl}
-use Rattle.fx_plain.proofs.Words.{if◌then◌else◌, arith, get_or-eq_default, State, IsSettled, opening, file_numbered, Allows, AllowsAll, after, state_after}
-use Rattle.fx_plain.proofs.Words.{changed_at, action_of, File, Event, Action, Put, Clear, Take, Allocate, Look, IsLegal, Contents, state_of, slot_at, file_at}
+use Rattle.fx_plain.proofs.Words.{◌≡◌, ◌≢◌, ℕ, zero, suc, ◌+◌, ◌<◌, ◌≤◌, true, false, List, [], ◌∷◌, map, sym, ap, subst, ◌∙◌, Option, Some, None}
+use Rattle.fx_plain.proofs.Words.{refl, if◌then◌else◌, arith, get_or-eq_default, State, IsSettled, opening, file_numbered, Allows, AllowsAll, after}
+use Rattle.fx_plain.proofs.Words.{state_after, changed_at, action_of, File, Event, Action, Put, Clear, Take, Allocate, Look, IsLegal, Contents}
+use Rattle.fx_plain.proofs.Words.{state_of, slot_at, file_at}
 use Rattle.fx_plain.specs.Laws.{IsStart}
 use Rattle.fx_plain.specs.Reopening.{IsAtRest}
 use Rattle.fx_plain.proofs.Cells.{by_equality}

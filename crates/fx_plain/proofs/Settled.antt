@@ -1,9 +1,8 @@
 -- What the counts of a table say of its state.
-use Rattle.fx_plain.proofs.Words.{◌≡◌, ℕ, zero, suc, ◌+◌, ◌≤◌, true, false, List, [], ◌∷◌, length, length-append, replicate, refl, sym, ap}
-use Rattle.fx_plain.proofs.Words.{subst, ◌∙◌, Option, Some, None, arith, IsSettled, files_in_order, files_of, identities_of, Contents}
-use Rattle.fx_plain.proofs.Words.{IsTable, IsCounted, state_of, slot_at, node_at, file_at, placed_at, removed_at, is_leaving, is_retired}
-use Rattle.fx_plain.proofs.Words.{file_count_of, removed_count_of, itself, Fresh, Leaving, Retired, Gone, sum_by, Node}
-use Rattle.fx_plain.proofs.Words.{sum_by-cons}
+use Rattle.fx_plain.proofs.Words.{◌≡◌, ℕ, zero, suc, ◌+◌, ◌≤◌, true, false, List, [], ◌∷◌, length, length-append, replicate, refl, sym, ap, subst}
+use Rattle.fx_plain.proofs.Words.{◌∙◌, Option, Some, None, arith, IsSettled, files_in_order, files_of, identities_of, Contents, IsTable, IsCounted}
+use Rattle.fx_plain.proofs.Words.{state_of, slot_at, node_at, file_at, placed_at, removed_at, is_leaving, is_retired, file_count_of, removed_count_of}
+use Rattle.fx_plain.proofs.Words.{itself, Fresh, Leaving, Retired, Gone, sum_by, Node, sum_by-cons}
 use Rattle.fx_plain.proofs.Sums.{sum_below}
 use Rattle.fx_plain.proofs.Cells.{read_default}
 use Rattle.fx_plain.proofs.SumLemmas.{sum_of_nothings, nothing_in_sum, sum_by-replicate}

@@ -1,13 +1,8 @@
 -- Two calls in a row.
-use Rattle.std.proofs.Common.{ℕ, List, [], ◌++◌, map, sym, refl, ap, ◌∙◌, append_assoc, arith}
-use mathlib.Core.List.{map-append}
-use Rattle.fx_plain.specs.declared.event.Event.{Event}
-use Rattle.fx_plain.specs.declared.event.Action.{Action}
-use Rattle.fx_plain.specs.History.{IsSeenBy, ◌▷▷◌}
-use Rattle.fx_table.specs.declared.values.Doing.{Doing}
-use Rattle.fx_table.specs.Opening.{Opening}
-use Rattle.fx_table.specs.Pass.{PassView, IsFront, event_of}
-use Rattle.fx_table.specs.Calls.{Use, Adds, no_use, both_uses}
+use Rattle.fx_table.proofs.Words.{ℕ, List, [], ◌++◌, map, sym, refl, ap, ◌∙◌, arith, map-append, Event, Action, IsSeenBy, ◌▷▷◌, Doing, Opening}
+use Rattle.fx_table.proofs.Words.{PassView, IsFront, event_of, Use, Adds}
+use Rattle.std.proofs.Common.{append_assoc}
+use Rattle.fx_table.specs.Calls.{no_use, both_uses}
 
 pub seen_again : (h : List Event) → IsSeenBy h h
 seen_again h = ([], refl)

@@ -1,18 +1,9 @@
 -- A chain has one pass, and its part of the one history is what that pass did for it.
-use Rattle.std.proofs.Common.{◌≡◌, ℕ, ◌≤◌, true, false, cond, List, [], ◌∷◌, map, sym, refl, ap, subst, ◌∙◌, arith, eqb, eq-eqb, ⊎_elim}
-use Rattle.std.specs.Prelude.{Contains, sum_by, count_by}
-use Rattle.std.proofs.lemmas.List.Elements.{Contains-append_cases}
-use Rattle.std.proofs.lemmas.List.Sums.{sum_by-cons}
-use Rattle.fx_plain.proofs.Cells.{by_equality}
-use Rattle.fx_plain.specs.Contents.{Contents}
-use Rattle.fx_plain.specs.History.{part_of_pass, part_of_chain}
-use Rattle.fx_plain.specs.declared.event.Event.{Event}
-use Rattle.fx_plain.specs.declared.event.Action.{Action}
-use Rattle.fx_table.specs.declared.values.Doing.{Doing}
-use Rattle.fx_table.specs.Opening.{Opening}
-use Rattle.fx_table.specs.Pass.{PassView, IsOfDrawnChains, event_of}
-use Rattle.fx_table.specs.Calls.{Use, Adds}
-use Rattle.fx_table.specs.Closing.{ClosesTable, times_drawn}
+use Rattle.fx_table.proofs.Words.{◌≡◌, ℕ, ◌≤◌, true, false, cond, List, [], ◌∷◌, map, sym, refl, ap, subst, ◌∙◌, arith, eqb, eq-eqb, ⊎_elim, Contains}
+use Rattle.fx_table.proofs.Words.{sum_by, count_by, Contains-append_cases, sum_by-cons, by_equality, Contents, part_of_pass, Event, Action, Doing}
+use Rattle.fx_table.proofs.Words.{Opening, PassView, event_of, Use, Adds, ClosesTable, times_drawn}
+use Rattle.fx_plain.specs.History.{part_of_chain}
+use Rattle.fx_table.specs.Pass.{IsOfDrawnChains}
 use Rattle.fx_table.proofs.Members.{contains_none, contains_head, contains_tail, contains_cases, contains_map}
 use Rattle.fx_table.proofs.Ones.{bit_here, one_if}
 use Rattle.fx_table.proofs.SumLemmas.{found_by, sum_of}

@@ -1,10 +1,11 @@
 -- Passes are dealt out, one for each number from 1 on.
-use Rattle.std.proofs.Common.{◌≡◌, ℕ, suc, ◌+◌, ◌-◌, ◌<◌, ◌≤◌, List, [], ◌∷◌, ◌++◌, map, length, take, sym, ap, ◌∙◌, subst, arith, length-append, All}
-use Rattle.std.specs.List.{range_with_len}
+use Rattle.fx_table.proofs.Words.{◌≡◌, ℕ, suc, ◌+◌, ◌-◌, ◌<◌, ◌≤◌, List, [], ◌∷◌, ◌++◌, map, length, take, sym, ap, ◌∙◌, subst, arith, All}
+use Rattle.fx_table.proofs.Words.{range_with_len, PassView}
+use Rattle.std.proofs.Common.{length-append}
 use Rattle.std.proofs.lemmas.List.{map_push}
 use Rattle.std.proofs.lemmas.List.Elements.{All-push}
 use Rattle.std.proofs.lemmas.List.FromFn.{map-range_with_len_more}
-use Rattle.fx_table.specs.Pass.{PassView, IsIdle, new_pass, new_passes}
+use Rattle.fx_table.specs.Pass.{IsIdle, new_pass, new_passes}
 
 -- what is left to deal of n, where p is next
 module _ {X : Type 0} (new : ℕ → X) (p n : ℕ) where

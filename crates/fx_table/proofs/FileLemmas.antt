@@ -1,11 +1,9 @@
 -- Where files are, before and after an action.
-use Rattle.std.proofs.Common.{◌≡◌, ◌≢◌, ℕ, true, false, List, sym, refl, ap, ◌∙◌, subst, ◌⊎◌, inl, inr, ⊎_elim}
-use mathlib.Core.Logic.{dite}
-use native.Mathlib.Decide.{ℕ_discrete}
-use Rattle.std.specs.Prelude.{Option, Some, None}
-use Rattle.fx_plain.specs.State.{State}
-use Rattle.fx_plain.specs.Step.{changed_at, with_removed}
-use Rattle.fx_plain.specs.Contents.{Contents, state_of, leaving, is_leaving, IsTable, node_at, slot_at, placed_at, removed_at, file_at}
+use Rattle.fx_table.proofs.Words.{◌≡◌, ◌≢◌, ℕ, true, false, List, sym, refl, ap, ◌∙◌, subst, ◌⊎◌, inl, inr, ⊎_elim, dite, ℕ_discrete, None, State}
+use Rattle.fx_table.proofs.Words.{changed_at, Contents, state_of}
+use Rattle.std.specs.Prelude.{Option, Some}
+use Rattle.fx_plain.specs.Step.{with_removed}
+use Rattle.fx_plain.specs.Contents.{leaving, is_leaving, IsTable, node_at, slot_at, placed_at, removed_at, file_at}
 use Rattle.fx_plain.specs.declared.node.Node.{Node}
 use Rattle.fx_plain.specs.declared.node.Node.TheVariants.{At}
 use Rattle.fx_plain.specs.declared.event.File.{File}

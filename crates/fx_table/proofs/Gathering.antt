@@ -1,11 +1,8 @@
 -- All passes in one seat, which come back one behind the other.
-use Rattle.std.proofs.Common.{◌≡◌, ◌≢◌, ℕ, List, [], ◌∷◌, ◌++◌, map, length, reverse, sym, refl, ap, ◌∙◌, subst, arith}
-use Rattle.std.specs.Prelude.{Contains, flat_map, sum_by}
-use Rattle.std.proofs.lemmas.List.{nil_from_length, reverse-append}
-use mathlib.Core.Logic.{dite}
-use mathlib.Core.Option.{some, some-injective}
-use native.Mathlib.Decide.{ℕ_discrete}
-use lib.ListN.{get_elem?}
+use Rattle.fx_table.proofs.Words.{◌≡◌, ◌≢◌, ℕ, List, [], ◌∷◌, ◌++◌, map, length, reverse, sym, refl, ap, ◌∙◌, subst, arith, Contains, sum_by}
+use Rattle.fx_table.proofs.Words.{reverse-append, dite, some, some-injective, ℕ_discrete, get_elem?}
+use Rattle.std.specs.Prelude.{flat_map}
+use Rattle.std.proofs.lemmas.List.{nil_from_length}
 use Rattle.fx_table.proofs.Members.{contains_head, contains_tail}
 use Rattle.fx_table.proofs.SumLemmas.{sum_map, sum_only, sum_reverse, sum_two}
 

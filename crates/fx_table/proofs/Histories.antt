@@ -1,13 +1,9 @@
 -- Histories that go on, by what one pass does or by what others do.
-use Rattle.std.proofs.Common.{◌≡◌, ◌≢◌, ℕ, List, [], ◌∷◌, ◌++◌, map, sym, refl, ap, ◌∙◌, subst, eq-eqb, ne_eqb}
-use Rattle.std.specs.Prelude.{Contains}
+use Rattle.fx_table.proofs.Words.{◌≡◌, ◌≢◌, ℕ, List, [], ◌∷◌, ◌++◌, map, sym, refl, ap, ◌∙◌, subst, eq-eqb, ne_eqb, Contains, map-append, State}
+use Rattle.fx_table.proofs.Words.{held_by, IsLegal, part_of_pass, ◌▷▷◌, Event, Action}
 use Rattle.std.proofs.lemmas.List.Elements.{filter-append}
-use mathlib.Core.List.{map-append}
 use Rattle.fx_plain.proofs.Leading.{leads_then}
-use Rattle.fx_plain.specs.State.{State}
-use Rattle.fx_plain.specs.History.{Leads, action_of, held_after, held_by, AllReleaseTheirOwn, IsLegal, part_of_pass, ◌▷▷◌}
-use Rattle.fx_plain.specs.declared.event.Event.{Event}
-use Rattle.fx_plain.specs.declared.event.Action.{Action}
+use Rattle.fx_plain.specs.History.{Leads, action_of, held_after, AllReleaseTheirOwn}
 use Rattle.fx_table.proofs.Members.{contains_head, contains_tail, contains_map}
 
 part_none : (q : ℕ) (es : List Event) → ((e : Event) → Contains es e → e.pass ≢ q) → part_of_pass q es ≡ []

@@ -1,8 +1,8 @@
 -- What a list contains, by its first element and the others.
-use Rattle.std.proofs.Common.{◌≡◌, List, [], ◌∷◌, map, reverse, sym, refl, subst, suc, zero, arith, ◌⊎◌, inl, inr, ⊎_elim}
-use Rattle.std.specs.Prelude.{Contains, All, slice_index_or}
-use Rattle.std.proofs.lemmas.List.{reverse-append}
-use Rattle.std.proofs.lemmas.List.Elements.{Contains-append_left, Contains-append_right, Contains-append_cases, All-contains_itself}
+use Rattle.fx_table.proofs.Words.{◌≡◌, List, [], ◌∷◌, map, reverse, sym, refl, subst, suc, zero, arith, ◌⊎◌, inl, inr, ⊎_elim, Contains, All}
+use Rattle.fx_table.proofs.Words.{reverse-append, Contains-append_left, Contains-append_right, Contains-append_cases}
+use Rattle.std.specs.Prelude.{slice_index_or}
+use Rattle.std.proofs.lemmas.List.Elements.{All-contains_itself}
 
 module _ {X : Type 0} where
   pub contains_none : (x : X) → Contains [] x → ⊥

@@ -1,12 +1,8 @@
 -- Counts by ones: of what has a number, and of the numbers from 1 on.
-use Rattle.std.proofs.Common.{◌≡◌, ◌≢◌, ℕ, zero, suc, ◌+◌, ◌-◌, ◌<◌, ◌≤◌, Bool, cond, eqb, List, map, refl, ap, arith, eq-eqb, ne_eqb, ◌⊎◌, inl, inr}
-use Rattle.std.proofs.Common.{lt-ltb, le-ltb}
-use Rattle.std.specs.Prelude.{count_by}
-use Rattle.std.specs.List.{range_with_len}
-use Rattle.std.proofs.lemmas.List.Sums.{sum_by-cons}
-use mathlib.Core.Logic.{dite}
-use native.Mathlib.Decide.{ℕ_discrete, dec_le}
-use Rattle.fx_plain.specs.Step.{changed_at}
+use Rattle.fx_table.proofs.Words.{◌≡◌, ◌≢◌, ℕ, zero, suc, ◌+◌, ◌-◌, ◌<◌, ◌≤◌, cond, eqb, List, map, refl, ap, arith, eq-eqb, ne_eqb, ◌⊎◌, inl, inr}
+use Rattle.fx_table.proofs.Words.{count_by, range_with_len, sum_by-cons, dite, ℕ_discrete, changed_at}
+use Rattle.std.proofs.Common.{Bool, lt-ltb, le-ltb}
+use native.Mathlib.Decide.{dec_le}
 use Rattle.fx_table.specs.Numbers.{once}
 
 abbrev pub one_if : Bool → ℕ

@@ -1,15 +1,9 @@
 -- The one history of all passes, which a close tells, and a table of one pass without it.
-use Rattle.std.proofs.Common.{◌≡◌, ℕ, ◌<◌, ◌≤◌, true, List, [], ◌∷◌, sym, ap, ◌∙◌, subst}
-use Rattle.std.specs.Prelude.{Contains, None, sum_by}
+use Rattle.fx_table.proofs.Words.{◌≡◌, ℕ, ◌<◌, ◌≤◌, true, List, [], ◌∷◌, sym, ap, ◌∙◌, subst, Contains, None, sum_by, Contains-append_right, Contents}
+use Rattle.fx_table.proofs.Words.{state_of, IsLegal, IsSeenBy, part_of_pass, held_by, Event, ClosesTable, times_drawn, Opening, PassView, IsFront}
 use Rattle.std.proofs.lemmas.List.{append-nil}
-use Rattle.std.proofs.lemmas.List.Elements.{Contains-append_right}
 use Rattle.fx_plain.specs.State.{IsSettled}
-use Rattle.fx_plain.specs.Contents.{Contents, state_of}
-use Rattle.fx_plain.specs.History.{IsLegal, IsSeenBy, part_of_pass, held_by}
-use Rattle.fx_plain.specs.declared.event.Event.{Event}
-use Rattle.fx_table.specs.Closing.{ClosesTable, times_drawn}
-use Rattle.fx_table.specs.Opening.{Opening, start_of, state_at, HasSameFiles}
-use Rattle.fx_table.specs.Pass.{PassView, IsFront}
+use Rattle.fx_table.specs.Opening.{start_of, state_at, HasSameFiles}
 use Rattle.fx_table.specs.Settling.{IsSettledSoFar}
 use Rattle.fx_table.proofs.Histories.{part_mine}
 use Rattle.fx_table.proofs.Members.{contains_head, contains_only}

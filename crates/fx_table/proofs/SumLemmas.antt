@@ -1,13 +1,7 @@
 -- Sums over lists, and what one changed element does to them.
-use Rattle.std.proofs.Common.{◌≡◌, ◌≢◌, ℕ, zero, suc, ◌+◌, ◌≤◌, List, [], ◌∷◌, map, set, reverse, sym, refl, ap, ◌∙◌, arith, ⊎_elim, cond, eqb}
-use Rattle.std.specs.Prelude.{sum_by, count_by, Contains}
-use Rattle.std.proofs.lemmas.List.{reverse-append}
-use Rattle.std.proofs.lemmas.List.Sums.{sum_by-cons, sum_by-append}
-use mathlib.Core.Option.{some, some-injective, some-ne-none}
-use mathlib.Core.Logic.{dite}
-use native.Mathlib.Decide.{ℕ_discrete}
-use lib.ListN.{get_elem?}
-use Rattle.fx_plain.proofs.Cells.{by_equality}
+use Rattle.fx_table.proofs.Words.{◌≡◌, ◌≢◌, ℕ, zero, suc, ◌+◌, ◌≤◌, List, [], ◌∷◌, map, set, reverse, sym, refl, ap, ◌∙◌, arith, ⊎_elim, cond, eqb}
+use Rattle.fx_table.proofs.Words.{sum_by, count_by, Contains, reverse-append, sum_by-cons, sum_by-append, some, some-injective, some-ne-none, dite}
+use Rattle.fx_table.proofs.Words.{ℕ_discrete, get_elem?, by_equality}
 use Rattle.fx_table.proofs.Members.{contains_none, contains_head, contains_tail, contains_cases}
 
 module _ {X : Type 0} (f : X → ℕ) where

@@ -1,15 +1,10 @@
 -- Passes that take turns at the chains: no chain is drawn twice, and none is left out.
-use Rattle.std.proofs.Common.{◌≡◌, ◌≢◌, ℕ, zero, suc, ◌+◌, ◌-◌, ◌*◌, ◌/◌, ◌%◌, ◌<◌, ◌≤◌, true, cond, List, sym, refl, ap, ◌∙◌, subst}
-use Rattle.std.proofs.Common.{arith, eqb, suc-mul, mul-le-mul_right, lt_of_not-le, div-add-mod', mod-lt, ⊎_elim}
-use mathlib.Core.Logic.{dite}
-use native.Mathlib.Decide.{ℕ_discrete}
-use Rattle.std.specs.Prelude.{Contains, count_by, sum_by}
+use Rattle.fx_table.proofs.Words.{◌≡◌, ◌≢◌, ℕ, zero, suc, ◌+◌, ◌-◌, ◌<◌, ◌≤◌, true, cond, List, sym, refl, ap, ◌∙◌, subst, arith, eqb, ⊎_elim, dite}
+use Rattle.fx_table.proofs.Words.{ℕ_discrete, Contains, count_by, sum_by, sum_by-cons, Opening, PassView, times_drawn}
+use Rattle.std.proofs.Common.{◌*◌, ◌/◌, ◌%◌, suc-mul, mul-le-mul_right, lt_of_not-le, div-add-mod', mod-lt}
 use Rattle.std.proofs.lemmas.Nat.{mod-mul-add}
-use Rattle.std.proofs.lemmas.List.Sums.{sum_by-cons}
 use Rattle.fx_table.specs.Numbers.{chains_of_pass, last_chain_of_pass, pass_of_chain, pass_of_number}
-use Rattle.fx_table.specs.Opening.{Opening}
-use Rattle.fx_table.specs.Pass.{PassView, next_number}
-use Rattle.fx_table.specs.Closing.{times_drawn}
+use Rattle.fx_table.specs.Pass.{next_number}
 use Rattle.fx_table.specs.Turns.{HasDrawnInTurn}
 use Rattle.fx_table.proofs.Members.{contains_none, contains_head, contains_tail, contains_cases}
 use Rattle.fx_table.proofs.Ones.{bit_here, bit_else}

@@ -1,9 +1,8 @@
 use Rattle.fx_counted.proofs.Words.{◌≡◌, ◌<◌, ◌≤◌, ◌+◌, ℕ, length, List, [], ◌∷◌, ◌++◌, refl, sym, ap, ◌∙◌, subst, arith, length-append, Option, Some}
-use Rattle.fx_counted.proofs.Words.{None, dite, dec_le, Closed, state_of, file_in_place, State}
-use Rattle.fx_counted.proofs.Words.{get_or_append_left}
+use Rattle.fx_counted.proofs.Words.{None, dite, dec_le, Closed, state_of, file_in_place, State, get_or_append_left}
+use Rattle.fx_counted.proofs.shell.put_all.Goals as goal
 use Rattle.fx_counted.proofs.Shells.{IsPartlyBack, Becomes, file_put, last_place, all_away, all_back, last_back, none_given}
 use Rattle.fx_counted.proofs.shell.put_all.Goals.{After-len-slot}
-use Rattle.fx_counted.proofs.shell.put_all.Goals as goal
 
 pub loop-file-init : goal.loop-file-init
 loop-file-init c = record {

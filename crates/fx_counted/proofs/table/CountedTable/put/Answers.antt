@@ -1,15 +1,14 @@
 use Rattle.fx_counted.proofs.Words.{◌≡◌, ℕ, [], ◌∷◌, ap, ◌∙◌, subst, arith, Some, Closed, ◌▷◌, numbered, Put, takes_in, slot_word_of, Adds}
-use Rattle.fx_counted.proofs.Words.{one_number, if_full, place_of, slot_of, pass_of, doing_in, view_of, opening_of_table, Stepped, retiring}
-use Rattle.fx_counted.proofs.Words.{turned, Start, Placing, Bool, true, false, sym, File, List, Log, None, Option, Retired, first_log}
-use Rattle.fx_counted.proofs.Words.{is_idle, option_map, refl, rest, is_some, retired_of}
+use Rattle.fx_counted.proofs.Words.{one_number, if_full, place_of, slot_of, pass_of, doing_in, view_of, opening_of_table, Stepped, retiring, turned}
+use Rattle.fx_counted.proofs.Words.{Start, Placing, Bool, true, false, sym, File, List, Log, None, Option, Retired, first_log, is_idle, option_map}
+use Rattle.fx_counted.proofs.Words.{refl, rest, is_some, retired_of, Between}
+use Rattle.fx_counted.proofs.table.CountedTable.put.Goals as goal
 use Rattle.std.specs.Prelude.{not}
-use Rattle.fx_counted.proofs.Words.{Between}
 use Rattle.fx_counted.proofs.Calling.{slot_inside, slot_at}
 use Rattle.fx_counted.proofs.Going.{its_pass, adds_so, goes_one, goes_then, goes_around, still_pass}
 use Rattle.fx_counted.proofs.Removing.{placed_so}
 use Rattle.fx_counted.proofs.SlotLaws.{installs_keep}
 use Rattle.fx_counted.proofs.Telling.{may_change}
-use Rattle.fx_counted.proofs.table.CountedTable.put.Goals as goal
 
 pub swap-found-requires : goal.swap-found-requires
 swap-found-requires c =

@@ -1,8 +1,7 @@
-use Rattle.fx_counted.proofs.Words.{ℕ, [], inr, ◌∙◌, subst, arith, Some, Closed, ◌▷◌, numbered, Allocate, Adds, one_number, HasPlace}
-use Rattle.fx_counted.proofs.Words.{pass_of, HasAllocated, view_of, opening_of_table, Outside, Idle}
-use Rattle.fx_counted.proofs.Words.{Idle}
-use Rattle.fx_counted.proofs.Going.{its_pass, adds_so, goes_one, goes_then}
+use Rattle.fx_counted.proofs.Words.{ℕ, [], inr, ◌∙◌, subst, arith, Some, Closed, ◌▷◌, numbered, Allocate, Adds, one_number, HasPlace, pass_of}
+use Rattle.fx_counted.proofs.Words.{HasAllocated, view_of, opening_of_table, Outside, Idle}
 use Rattle.fx_counted.proofs.table.CountedTable.put_any.Goals as goal
+use Rattle.fx_counted.proofs.Going.{its_pass, adds_so, goes_one, goes_then}
 
 pub returns-in-Some-clause-allocated : goal.returns-in-Some-clause-allocated
 returns-in-Some-clause-allocated g c =

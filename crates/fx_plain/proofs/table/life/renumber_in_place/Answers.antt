@@ -1,8 +1,9 @@
 use Rattle.fx_plain.proofs.Words.{rules, refl, ◌≡◌, ◌≤◌, ◌<◌, ◌+◌, sym, ap, subst, ◌∙◌, length, ℕ, List, Option, slice_set, arith, inl, inr, cases_lt}
-use Rattle.fx_plain.proofs.Words.{slot_at, node_at, nodes_without, opening_slot, file_count_of, moved_node, file_named, Node, sum_by, IsFiled, Some, vec_len}
+use Rattle.fx_plain.proofs.Words.{slot_at, node_at, nodes_without, opening_slot, file_count_of, moved_node, file_named, Node, sum_by, IsFiled, Some}
+use Rattle.fx_plain.proofs.Words.{vec_len}
+use Rattle.fx_plain.proofs.table.life.renumber_in_place.Goals as goal
 use Rattle.fx_plain.proofs.Moving.{IsLeft, named_same, done_next, rest_next, full_next, left_settled, each_settled, later_stays, filed_by_move}
 use Rattle.fx_plain.proofs.Moving.{named_as_is, filed_as_is}
-use Rattle.fx_plain.proofs.table.life.renumber_in_place.Goals as goal
 
 pub loop-slot-init : goal.loop-slot-init
 loop-slot-init c =

@@ -1,5 +1,4 @@
-use Rattle.fx_plain.proofs.Words.{◌≡◌, ◌≤◌, ◌<◌, ℕ, Some, length, sum_by, slot_at, node_at, opening_slot, file_count_of, IsFiled}
-use Rattle.fx_plain.proofs.Words.{vec_len}
+use Rattle.fx_plain.proofs.Words.{◌≡◌, ◌≤◌, ◌<◌, ℕ, Some, length, sum_by, slot_at, node_at, opening_slot, file_count_of, IsFiled, vec_len}
 use Rattle.fx_plain.proofs.table.life.renumber_in_place.Given as goal
 
 -- the slots so far name their own numbers, whose nodes have their files, and what the others name is as it was
