@@ -3,11 +3,11 @@ use Rattle.fx_baton.proofs.Words.{◌≡◌, ℕ, ◌+◌, ◌*◌, ◌<◌, ◌
 use Rattle.fx_baton.proofs.Words.{Some, None, option_map, IfSome, is_some, not, TableId, rest, Closed, State, Steps, changed_at, Contents, IsTable}
 use Rattle.fx_baton.proofs.Words.{state_of, leaving, Leads, action_of, close_of, ◌▷◌, ◌▷▷◌, numbered, identity_of, closed_by_release}
 use Rattle.fx_baton.proofs.Words.{closed_by_retirement, HasRoomForHold, EndsHold, LetsLeave, File, Look, Release, Put, Clear, Take, Allocate, Full}
-use Rattle.fx_baton.proofs.Words.{Close, pass_of_number, number_behind, Opening, size_of, PassView, hold_of, retired_of, next_of, Doing, Idle}
-use Rattle.fx_baton.proofs.Words.{Holding, Retiring, Log, View, Start, Call, BatonPass, opening_of, begin_of, holds_by, IsTurn, view_of, is_idle}
-use Rattle.fx_baton.proofs.Words.{HasTable, UsesNext, HasCalled, HasGivenBack, first_own, IsHoldOf, IsRetiredOf, next_is_its_own, bit_here}
-use Rattle.fx_table.specs.Calls.{Adds, no_use, one_number, new_file, ReleasesFile, RetiresFile, Placed, Cleared, one_look, HasRetired, Released}
-use Rattle.fx_baton.specs.Turns.{holds_now, retires_now, release_in, retirement_in, actions_of, doing_of, events_of, use_of, table_of_slots}
+use Rattle.fx_baton.proofs.Words.{Close, pass_of_number, number_behind, Opening, size_of, PassView, hold_of, next_of, Doing, Idle, Holding, Retiring}
+use Rattle.fx_baton.proofs.Words.{Log, View, Start, Call, BatonPass, opening_of, begin_of, holds_by, IsTurn, view_of, is_idle, HasTable, UsesNext}
+use Rattle.fx_baton.proofs.Words.{HasCalled, HasGivenBack, first_own, IsHoldOf, IsRetiredOf, next_is_its_own, bit_here}
+use Rattle.fx_table.specs.Calls.{retiring, Adds, no_use, one_number, new_file, ReleasesFile, RetiresFile, one_look, HasRetired, Released}
+use Rattle.fx_baton.specs.Turns.{holds_now, release_in, retirement_in, actions_of, doing_of, events_of, use_of, table_of_slots}
 use Rattle.atomic_table.specs.Lent.{seat_with}
 use Rattle.fx_plain.specs.Step.{Allows}
 use Rattle.fx_plain.proofs.Leading.{same_size}
@@ -45,7 +45,7 @@ shown f = (f.number, f.identity.entry)
 
 -- what a pass does that found a file, and one that removed it
 idle_told : {X : Type 0} (tell : File → X) (o : Option File) (found : Option X) (flag : Bool) → is_some found ≡ not flag → found ≡ option_map tell o
-    → (flag ≡ is_idle (holds_now o)) × (flag ≡ is_idle (retires_now o))
+    → (flag ≡ is_idle (holds_now o)) × (flag ≡ is_idle (retiring o 0))
 idle_told tell None found flag says e = (flag_is found flag says ∙ ap is_none e, flag_is found flag says ∙ ap is_none e)
 idle_told tell (Some f) found flag says e = (flag_is found flag says ∙ ap is_none e, flag_is found flag says ∙ ap is_none e)
 
@@ -58,16 +58,6 @@ some_found : {X : Type 0} (tell : File → X) (x : X) (P : Option File → Type 
     → (f : File) × (x ≡ tell f) × P (Some f)
 some_found tell x P None e a = let no : None ≡ Some x = sym e in absurd (cc no)
 some_found tell x P (Some f) e a = (f, (let z : Some x ≡ Some (tell f) = e in cc z), a)
-
-removed_none : (P : Option File → Doing → Type 0) (o : Option File) → None ≡ option_map (λ f. retired_of f 0) o → P o (retires_now o) → P None Idle
-removed_none P = none_found (λ f. retired_of f 0) (λ z. P z (retires_now z))
-
-removed_some : (x : Retired) (P : Option File → Doing → Type 0) (o : Option File) → Some x ≡ option_map (λ f. retired_of f 0) o → P o (retires_now o)
-    → (f : File) × (x ≡ retired_of f x.takes) × P (Some f) (Retiring f x.takes)
-removed_some x P o e a =
-    let there = some_found (λ f. retired_of f 0) x (λ z. P z (retires_now z)) o e a in
-    let none_told : x.takes ≡ 0 = ap (λ (r : Retired). r.takes) there.1 in
-    (there.0, there.1 ∙ ap (retired_of there.0) (sym none_told), subst (λ (t : ℕ). P (Some there.0) (Retiring there.0 t)) (sym none_told) there.2)
 
 -- a pass took the table, and was lent what it took
 module _ {id : TableId} {k : Start} {u : PassView} {c : Contents} {p : BatonPass}
@@ -224,40 +214,7 @@ module _ {id : TableId} {k : Start} {u : PassView} {c : Contents} {p : BatonPass
       e (added d gives) in
       (there.0, (λ i. record { node = (there.1 i).0; entry = (there.1 i).1 }), there.2)
 
-  -- what a removal answers: nothing, or a file that is to be retired
-  pub placed_so : (slot number : ℕ) (its file : Closed) (d : Contents) {q : BatonPass} → number ≡ next_of u → its ≡ file
-      → HasGivenBack id k (PutCall slot number its) (lent d) q → (result : Option Retired)
-      → result ≡ option_map (λ f. retired_of f 0) ((state_of c).at slot) → Placed o u slot file result (view_of q)
-  placed_so slot number its file d {q} next is gives result told =
-      let P : Option File → Doing → Type 0 = λ z doing. Adds o u ([] ▷ Put slot (new_file o u file) z) doing one_number (view_of q) in
-      let a : P ((state_of c).at slot) (retires_now ((state_of c).at slot)) = subst
-      (λ (z : ℕ × Closed). Adds o u ([] ▷ Put slot (numbered z.0 z.1) ((state_of c).at slot)) (retires_now ((state_of c).at slot)) one_number (view_of q))
-      (λ i. (next i, is i)) (added d gives) in
-      elim result as (λ r. r ≡ option_map (λ f. retired_of f 0) ((state_of c).at slot) → Placed o u slot file r (view_of q)) [
-        | None ↦ λ e. removed_none P ((state_of c).at slot) e a
-        | Some x ↦ λ e. removed_some x P ((state_of c).at slot) e a
-      ] told
-
-  pub cleared_so : (slot : ℕ) (d : Contents) {q : BatonPass} → HasGivenBack id k (ClearCall slot) (lent d) q → (result : Option Retired)
-      → result ≡ option_map (λ f. retired_of f 0) ((state_of c).at slot) → Cleared o u slot result (view_of q)
-  cleared_so slot d {q} gives result told =
-      let P : Option File → Doing → Type 0 = λ z doing. Adds o u ([] ▷ Clear slot z) doing no_use (view_of q) in
-      elim result as (λ r. r ≡ option_map (λ f. retired_of f 0) ((state_of c).at slot) → Cleared o u slot r (view_of q)) [
-        | None ↦ λ e. removed_none P ((state_of c).at slot) e (added d gives)
-        | Some x ↦ λ e. removed_some x P ((state_of c).at slot) e (added d gives)
-      ] told
-
-  pub none_taken : (slot : ℕ) (d : Contents) {q : BatonPass} → HasGivenBack id k (TakeCall slot) (lent d) q
-      → None ≡ option_map (λ f. retired_of f 0) ((state_of c).at slot) → Adds o u ([] ▷ Take slot None) Idle no_use (view_of q)
-  none_taken slot d {q} gives e =
-      removed_none (λ z doing. Adds o u ([] ▷ Take slot z) doing no_use (view_of q)) ((state_of c).at slot) e (added d gives)
-
-  pub file_taken : (slot : ℕ) (x : Retired) (d : Contents) {q : BatonPass} → HasGivenBack id k (TakeCall slot) (lent d) q
-      → Some x ≡ option_map (λ f. retired_of f 0) ((state_of c).at slot)
-      → (f : File) × (x ≡ retired_of f x.takes) × Adds o u ([] ▷ Take slot (Some f)) (Retiring f x.takes) no_use (view_of q)
-  file_taken slot x d {q} gives e =
-      removed_some x (λ z doing. Adds o u ([] ▷ Take slot z) doing no_use (view_of q)) ((state_of c).at slot) e (added d gives)
-
+  -- what an installation at a free slot answers
   pub allocated_so : (slot number : ℕ) (its file : Closed) (d : Contents) {q : BatonPass} → number ≡ next_of u → its ≡ file
       → HasGivenBack id k (AllocateCall slot number its) (lent d) q → slot < (state_of c).size
       → (slot < size_of o) × Adds o u ([] ▷ Allocate slot (new_file o u file)) Idle one_number (view_of q)

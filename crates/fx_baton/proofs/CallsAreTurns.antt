@@ -7,12 +7,13 @@ use Rattle.fx_baton.proofs.Words.{HasFile, Idle, Holding, Retiring, legal_then, 
 use Rattle.fx_baton.proofs.Words.{holds_by, removals_by, leaving_count, Knows, IsTurn, held_after, numbers_for, Doing, more_leaving, bit_here}
 use Rattle.fx_baton.proofs.Words.{one_more_at, one_less_at}
 use Rattle.fx_plain.specs.declared.event.Action.{Action}
-use Rattle.fx_baton.specs.Turns.{by, holds_now, retires_now}
+use Rattle.fx_table.specs.Calls.{retiring}
+use Rattle.fx_baton.specs.Turns.{by, holds_now}
 use Rattle.fx_plain.proofs.Cells.{changed_here, changed_else}
 use Rattle.fx_table.proofs.FileLemmas.{none_file, stays_put, apart_from, leaving_file, removed_file, still_there, now_removed, not_closed}
 use Rattle.fx_baton.proofs.Counts.{flag_set, flag_back, one_true}
 
-retires : (o : Option File) → ((n : ℕ) → holds_by n (retires_now o) ≡ 0) × (file_held (retires_now o) ≡ None) × (file_in_hand (retires_now o) ≡ o)
+retires : (o : Option File) → ((n : ℕ) → holds_by n (retiring o 0) ≡ 0) × (file_held (retiring o 0) ≡ None) × (file_in_hand (retiring o 0) ≡ o)
 retires None = (λ n. refl, refl, refl)
 retires (Some f) = (λ n. refl, refl, refl)
 
@@ -117,7 +118,7 @@ module _ (v : View) (x : Log) (c d : Contents) (chain : ℕ) (known : Knows v x 
 
     -- what stood at the slot, if anything did, is leaving now
     leaves_more : (slot : ℕ) (o : Option File) → o ≡ (state_of c).at slot → leaving d ≡ more_leaving (leaving c) o
-        → (n : ℕ) → leaving_count d n + removals_by n v.doing ≡ leaving_count c n + removals_by n (retires_now o)
+        → (n : ℕ) → leaving_count d n + removals_by n v.doing ≡ leaving_count c n + removals_by n (retiring o 0)
     leaves_more slot None is leaves n = none_leaves_now leaves n
     leaves_more slot (Some f) is leaves n =
         let a : leaving_count d n ≡ cond {A = ℕ} (changed_at (leaving c) f.number true n) 1 0 =
@@ -131,10 +132,10 @@ module _ (v : View) (x : Log) (c d : Contents) (chain : ℕ) (known : Knows v x 
       fresh = fresh_after new;
       removed = with_removed (state_of c).removed found;
     } → found ≡ (state_of c).at slot → leaving d ≡ more_leaving (leaving c) found → ReleasesItsOwn (held_by x.front x.number) a
-        → ((h : Option File) → held_after h a ≡ h) → Installs new (x.own ▷▷ done (a ∷ [])) → IsTurn v x c d (done (a ∷ [])) (retires_now found)
+        → ((h : Option File) → held_after h a ≡ h) → Installs new (x.own ▷▷ done (a ∷ [])) → IsTurn v x c d (done (a ∷ [])) (retiring found 0)
     slot_turn a slot new found step now is leaves own still installs =
         let apart = apart_from c known.sound slot found is in
-        turn (a ∷ []) (retires_now found) new _ now refl installs (legal_one a step own)
+        turn (a ∷ []) (retiring found 0) new _ now refl installs (legal_one a step own)
         (λ n. let b = ap (holds_by n) idle in let r = (retires found).0 n in omega arith) (leaves_more slot found is leaves)
         (λ f i _. still_there (state_of c) slot new found is apart f i)
         (held_mine x.number chain a x.front ∙ (still (held_by x.front x.number) ∙ (held_none ∙ sym (retires found).1)))

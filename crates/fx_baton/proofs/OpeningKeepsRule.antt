@@ -1,9 +1,8 @@
 -- The rule holds when a table is opened.
 use Rattle.fx_baton.proofs.Words.{◌≡◌, ℕ, zero, suc, ◌<◌, ◌≤◌, Bool, true, false, cond, List, [], ◌∷◌, sym, refl, ap, ◌∙◌, subst, arith, inl, inr}
-use Rattle.fx_baton.proofs.Words.{some, some-injective, some-ne-none, get_elem?, Some, None, nat_lt, not, ◌&&◌, State, opening, file_numbered}
-use Rattle.fx_baton.proofs.Words.{IsSettled, Contents, state_of, IsTable, is_leaving, node_at, removed_at, Node, identity_of, numbers_for}
-use Rattle.fx_baton.proofs.Words.{HasSameFiles, IsGivenBack, contains_none, Idle, Log, View, Start, IsKept, IsLog, IsView, leaving_count, begin_of}
-use Rattle.fx_baton.proofs.Words.{first_view, new_log, contains_map}
+use Rattle.fx_baton.proofs.Words.{some, some-injective, some-ne-none, get_elem?, Some, None, nat_lt, not, ◌&&◌, State, Contents, state_of, IsTable}
+use Rattle.fx_baton.proofs.Words.{is_leaving, node_at, removed_at, Node, numbers_for, contains_none, Idle, Log, View, Start, IsKept, IsLog, IsView}
+use Rattle.fx_baton.proofs.Words.{leaving_count, begin_of, first_view, new_log, contains_map}
 use Rattle.fx_plain.specs.declared.node.Node.TheVariants.{Leaving}
 use Rattle.std.proofs.lemmas.Bool.{lt-ltb, ltb-true}
 use Rattle.atomic_table.specs.Table.{opening as table_opening}
@@ -14,19 +13,6 @@ use Rattle.fx_table.proofs.Ones.{counted_once}
 single_at : {A : Type 0} (v : A) (i : ℕ) (u : A) → get_elem? (v ∷ []) i ≡ some u → v ≡ u
 single_at v zero u e = some-injective v u e
 single_at v (suc i) u e = absurd (some-ne-none u (sym e))
-
--- a table that was prepared has the same files, and is settled
-pub back_prepared : (plain back : Contents) (n : ℕ) → state_of back ≡ opening (state_of plain) n → IsGivenBack plain back
-back_prepared plain back n e = record {
-  files = subst (HasSameFiles (state_of plain)) (sym e)
-      record {
-        size = refl;
-        range = refl;
-        files = λ slot. elim ((state_of plain).at slot)
-            as (λ o. identity_of (file_numbered o slot) ≡ identity_of o) [ None ↦ refl | Some f ↦ refl ];
-      };
-  settled = subst IsSettled (sym e) record { unheld = λ m. refl; closed = λ m. refl };
-}
 
 -- a table without removed files has none that is leaving
 not_leaving : (number : ℕ) (node : Node) → removed_at number node ≡ None → is_leaving node ≡ false

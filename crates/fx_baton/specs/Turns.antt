@@ -8,7 +8,7 @@ use Rattle.fx_plain.specs.declared.event.Event.{Event}
 use Rattle.fx_plain.specs.declared.event.Action.{Action}
 use Rattle.fx_plain.specs.declared.event.Action.TheVariants.{Look, Release, Put, Clear, Take}
 use Rattle.fx_plain.specs.declared.event.Action.TheVariants.{Allocate, Full}
-use Rattle.fx_table.specs.Calls.{Use, no_use, one_look, one_number}
+use Rattle.fx_table.specs.Calls.{Use, no_use, one_look, one_number, retiring}
 use Rattle.fx_table.specs.declared.values.Doing.{Doing}
 use Rattle.fx_table.specs.declared.values.Doing.TheVariants.{Idle, Holding, Retiring}
 use Rattle.fx_baton.specs.declared.view.Call.{Call}
@@ -31,14 +31,10 @@ abbrev pub table_of_slots : List (ℕ × Contents) → Contents
 table_of_slots [] = empty_table
 table_of_slots (x ∷ xs) = x.1
 
--- what a pass does that found this file, and one that removed it
+-- what a pass does that found this file
 abbrev pub holds_now : Option File → Doing
 holds_now None = Idle
 holds_now (Some f) = Holding f
-
-abbrev pub retires_now : Option File → Doing
-retires_now None = Idle
-retires_now (Some f) = Retiring f 0
 
 -- a release and a retirement, and the close of the file that comes out
 abbrev pub release_in : Contents → Doing → List Action
@@ -66,9 +62,9 @@ actions_of c doing RetireCall = retirement_in c doing
 -- what the pass does afterwards
 abbrev pub doing_of : Contents → Call → Doing
 doing_of c (LookCall slot) = holds_now ((state_of c).at slot)
-doing_of c (PutCall slot number file) = retires_now ((state_of c).at slot)
-doing_of c (ClearCall slot) = retires_now ((state_of c).at slot)
-doing_of c (TakeCall slot) = retires_now ((state_of c).at slot)
+doing_of c (PutCall slot number file) = retiring ((state_of c).at slot) 0
+doing_of c (ClearCall slot) = retiring ((state_of c).at slot) 0
+doing_of c (TakeCall slot) = retiring ((state_of c).at slot) 0
 doing_of c _ = Idle
 
 -- what a call uses up

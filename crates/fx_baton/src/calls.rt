@@ -182,10 +182,7 @@ impl FileTable for BatonTable {
         let entry = plain.entry_at(slot);
         let removed = plain.take(slot);
         self.give_back(pass, Call::Take(slot), removed.is_none());
-        match retired(removed, entry) {
-            Some(removed) => Ok(removed),
-            None => Err(Empty),
-        }
+        retired(removed, entry).ok_or(Empty)
     }
 
     fn retire(&self, rt: &impl Wait, pass: &mut BatonPass, retired: Retired) -> Option<OpenFile> {

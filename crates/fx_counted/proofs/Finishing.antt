@@ -1,23 +1,17 @@
 -- What lies in the places at the settled end, and how it comes back.
-use Rattle.fx_counted.proofs.Words.{◌≡◌, ℕ, zero, suc, ◌+◌, ◌-◌, ◌*◌, ◌<◌, List, [], ◌∷◌, length, set, sym, refl, ap, ◌∙◌, subst, arith, inl, inr}
-use Rattle.fx_counted.proofs.Words.{Option, Some, None, slice_index, dite, some, some-injective, some-ne-none, dec_le, get_elem?, Closed, Contents}
-use Rattle.fx_counted.proofs.Words.{state_of, State, number_of, identity_of, File, HasSameFiles, Names, Agrees, HasNode, slot_place, home_place}
-use Rattle.fx_counted.proofs.Words.{homes_for, Shared, slots_of, chain_numbers, IsNumber, state_after_all, IsShellOf, AreBack, CountedTable, Start}
-use Rattle.fx_counted.proofs.Words.{View, Idle, Final, Seen, AllAreIdle, Leaves, Between}
+use Rattle.fx_counted.proofs.Words.{◌≡◌, ℕ, suc, ◌+◌, ◌-◌, ◌*◌, ◌<◌, List, length, set, sym, refl, ap, ◌∙◌, subst, arith, inl, inr, Option, Some}
+use Rattle.fx_counted.proofs.Words.{None, slice_index, dite, some, some-injective, dec_le, get_elem?, Closed, Contents, state_of, State, number_of}
+use Rattle.fx_counted.proofs.Words.{identity_of, File, HasSameFiles, Names, Agrees, HasNode, slot_place, home_place, homes_for, Shared, slots_of}
+use Rattle.fx_counted.proofs.Words.{chain_numbers, IsNumber, state_after_all, IsShellOf, AreBack, CountedTable, Start, View, Idle, Final, Seen}
+use Rattle.fx_counted.proofs.Words.{AllAreIdle, Leaves, Between}
 use Rattle.fx_counted.proofs.Calling.{has_node, its_numbers}
 use Rattle.fx_counted.proofs.Ending.{home_file, file_home, one_slot, none_outside_end}
-use Rattle.fx_counted.proofs.Frames.{inside_list}
+use Rattle.fx_counted.proofs.Frames.{inside_list, read_at}
 use Rattle.fx_counted.proofs.Histories.{same_shape}
 use Rattle.fx_counted.proofs.HomeComing.{number_at, file_of, file_at, without, emptied, AreAtHome, here_at, none_past, untouched}
 use Rattle.fx_counted.proofs.Naming.{node_is}
 use Rattle.fx_counted.proofs.Places.{apart, low_home, high_home}
 use Rattle.fx_counted.proofs.Shells.{IsPartlyBack, Becomes, first_back, none_given}
-use Rattle.fx_counted.proofs.Starting.{at_place}
-
-pub word_at_place : (ws : List ℕ) (i w : ℕ) → get_elem? ws i ≡ some w → slice_index ws i ≡ w
-word_at_place [] i w e = absurd (some-ne-none w (sym e))
-word_at_place (x ∷ ws) zero w e = some-injective x w e
-word_at_place (x ∷ ws) (suc i) w e = word_at_place ws i w e
 
 -- one slot's file comes back, or there is none
 module _ {size : ℕ} {words : List ℕ} {numbers : ℕ} {xs : List (Option Closed)} (home : AreAtHome size words numbers xs) {shell : State}
@@ -26,7 +20,7 @@ module _ {size : ℕ} {words : List ℕ} {numbers : ℕ} {xs : List (Option Clos
   file_is : {n place : ℕ} {x : Option Closed} → number_at size words slot ≡ Some n → place ≡ home_place size n → get_elem? now place ≡ some x
       → file_at size words xs slot ≡ x
   file_is {n} {place} {x} named is there = here_at size words xs slot inside ∙ (ap (file_of size words xs) named
-      ∙ at_place xs (home_place size n) x (sym (untouched size words numbers xs home slot slot n (omega arith) inside named)
+      ∙ read_at xs (home_place size n) x None (sym (untouched size words numbers xs home slot slot n (omega arith) inside named)
       ∙ (ap (λ (l : List (Option Closed)). get_elem? l (home_place size n)) (sym are) ∙ (ap (get_elem? now) (sym is) ∙ there))))
 
   pub some_back : {n place : ℕ} {one : Closed} {st' : State} → number_at size words slot ≡ Some n → place ≡ home_place size n
@@ -122,7 +116,7 @@ module _ (k : Start) (s : Shared) (r : Agrees k s) (all_idle : (i : ℕ) (u : Vi
     where
       go : (slot : ℕ) → slot < size → (found : Option File) → end.at slot ≡ found → file_of size words xs (number_of found) ≡ identity_of found
       go slot l None e = refl
-      go slot l (Some f) e = at_place xs (home_place size f.number) (Some f.identity) (at_home _ _ (file_home k s r all_idle slot f l e).1)
+      go slot l (Some f) e = read_at xs (home_place size f.number) (Some f.identity) None (at_home _ _ (file_home k s r all_idle slot f l e).1)
 
   pub leaves_files : (shell : Contents) (left : Contents) → IsShellOf (state_of k.plain.value) (state_of shell)
       → AreBack (state_of shell) (file_at size words xs) (state_of left) → HasSameFiles end (state_of left)

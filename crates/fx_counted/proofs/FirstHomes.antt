@@ -1,25 +1,13 @@
 -- The files of the slots move to the places of a shared table.
-use Rattle.fx_counted.proofs.Words.{◌≡◌, ℕ, zero, suc, ◌<◌, ◌≤◌, List, [], ◌∷◌, ◌++◌, length, sym, refl, ap, ◌∙◌, subst, arith, length-append, Option}
-use Rattle.fx_counted.proofs.Words.{Some, None, Result, dite, some, ℕ_discrete, get_elem?, at_longer, Closed, Contents, state_of, State, IsSettled}
-use Rattle.fx_counted.proofs.Words.{file_numbered, identity_of, File, HasSameFiles, IsGivenBack, AreFirstHomes, homes_for, IsShellOf, Ok, Err, OnOk}
-use Rattle.fx_counted.proofs.Words.{at_last, slots_in_order}
+use Rattle.fx_counted.proofs.Words.{◌≡◌, ℕ, ◌<◌, ◌≤◌, List, [], ◌∷◌, ◌++◌, length, sym, refl, ap, ◌∙◌, subst, arith, length-append, Option, None}
+use Rattle.fx_counted.proofs.Words.{Result, dite, some, ℕ_discrete, get_elem?, at_longer, Closed, Contents, state_of, State, IsSettled, identity_of}
+use Rattle.fx_counted.proofs.Words.{File, HasSameFiles, IsGivenBack, AreFirstHomes, homes_for, IsShellOf, Ok, Err, OnOk, at_last, slots_in_order}
 use Rattle.fx_plain.specs.State.{opening}
-
-same_identity : (found : Option File) (slot : ℕ) → identity_of (file_numbered found slot) ≡ identity_of found
-same_identity None slot = refl
-same_identity (Some f) slot = refl
+use Rattle.atomic_table.proofs.Lists.{at_index}
+use Rattle.std.proofs.lemmas.List.FromFn.{length-map-range_with_len, get_or-map-range_with_len}
+use Rattle.fx_table.proofs.Preparing.{prepared_again}
 
 -- a preparation keeps the files
-prepared_again : (old new : Contents) (numbers : ℕ) → state_of new ≡ opening (state_of old) numbers → IsGivenBack old new
-prepared_again old new numbers is = record {
-  files = subst (HasSameFiles (state_of old)) (sym is) record {
-    size = refl;
-    range = refl;
-    files = λ slot. same_identity ((state_of old).at slot) slot;
-  };
-  settled = subst IsSettled (sym is) record { unheld = λ n. refl; closed = λ n. refl };
-}
-
 pub prepared_or_not : {E : Type 0} (old new : Contents) (numbers : ℕ) (r : Result (Unit {0}) E)
     → OnOk r (state_of new ≡ opening (state_of old) numbers) → OnOk r (IsGivenBack old new)
 prepared_or_not old new numbers (Ok x) is = prepared_again old new numbers is
@@ -34,16 +22,11 @@ all_taken st same now files settled is = subst (IsShellOf st) (sym is) record {
 }
 
 length_in_order : (at : ℕ → Option File) (n : ℕ) → length (slots_in_order at n) ≡ n
-length_in_order at zero = refl
-length_in_order at (suc n) = let rest = length_in_order at n in
-    let both = length-append (slots_in_order at n) (identity_of (at n) ∷ []) in omega (arith, rest, both)
+length_in_order at = length-map-range_with_len (λ slot. identity_of (at slot)) 0
 
 in_order : (at : ℕ → Option File) (n slot : ℕ) → slot < n → get_elem? (slots_in_order at n) slot ≡ some (identity_of (at slot))
-in_order at zero slot l = absurd (omega arith)
-in_order at (suc n) slot l = dite (ℕ_discrete slot n)
-    (λ same. at_last (slots_in_order at n) (identity_of (at n)) slot (length_in_order at n ∙ sym same)
-    ∙ ap (λ (k : ℕ). some (identity_of (at k))) (sym same))
-    (λ ne. at_longer (slots_in_order at n) (identity_of (at n) ∷ []) slot (identity_of (at slot)) (in_order at n slot (omega (arith, ne))))
+in_order at n slot l = at_index (slots_in_order at n) slot (identity_of (at slot)) (let a = length_in_order at n in omega arith)
+    (sym (get_or-map-range_with_len (λ s. identity_of (at s)) 0 n slot slot (identity_of (at slot)) l (omega arith)))
 
 -- behind the slots' places the others are empty
 pub record AreHomesUpTo (st : State) (homes : List (Option Closed)) : Type 0 where

@@ -4,6 +4,7 @@ use Rattle.fx_counted.proofs.Words.{arith, ⊎_elim, eqb, some, some-injective, 
 use Rattle.fx_counted.proofs.Words.{numbered, sum_two, Does, OwnerAgrees, WorkAgrees, ViewAgrees, Agrees, Shared, logs_of, Phase, spare, placed}
 use Rattle.fx_counted.proofs.Words.{leaving, emptied, owner, file_in, Log, Start, View, Work, Idle, Placing, Holding, Retiring, Emptying, dite}
 use Rattle.fx_counted.proofs.Words.{ℕ_discrete, Between}
+use Rattle.std.specs.Prelude.{slice_index_or}
 use Rattle.fx_counted.proofs.Histories.{Grows}
 use Rattle.fx_table.proofs.Ones.{one_if, bit_here, once_is}
 
@@ -81,6 +82,12 @@ pub views_after : (P : ℕ → View → Type 0) (views : List View) (id : ℕ) (
     → (j : ℕ) (u : View) → get_elem? (set views id w) j ≡ some u → P j u
 views_after P views id w mine others j u e = ⊎_elim (λ (t : (j ≡ id) × (w ≡ u)). subst (λ (z : ℕ × View). P z.0 z.1) (λ i. (sym t.0 i, t.1 i)) mine)
     (λ (t : (j ≢ id) × (get_elem? views j ≡ some u)). others j u t.0 t.1) (at_set views id j w u e)
+
+-- an element, and what is read there
+pub read_at : {A : Type 0} (xs : List A) (i : ℕ) (v d : A) → get_elem? xs i ≡ some v → slice_index_or xs i d ≡ v
+read_at [] i v d e = absurd (some-ne-none v (sym e))
+read_at (x ∷ xs) zero v d e = some-injective x v e
+read_at (x ∷ xs) (suc i) v d e = read_at xs i v d e
 
 pub inside_list : {A : Type 0} (xs : List A) (i : ℕ) (v : A) → get_elem? xs i ≡ some v → i < length xs
 inside_list [] i v e = absurd (some-ne-none v (sym e))

@@ -1,8 +1,9 @@
 -- Histories that grow by one event.
 use Rattle.fx_counted.proofs.Words.{◌≡◌, ◌≢◌, ℕ, ◌+◌, ◌≤◌, List, [], ◌∷◌, sym, refl, ap, ◌∙◌, arith, eq-eqb, ne_eqb, Some, None, dite, ℕ_discrete}
-use Rattle.fx_counted.proofs.Words.{State, after, held_after, held_by, IsSeenBy, part_of_pass, Event, Action, Look, start_of, range_of, looks}
-use Rattle.fx_counted.proofs.Words.{all_looks, opening_of, slots_of, state_after_all, Start, ReleasesItsOwn, IsLegal, looks_after, look_in}
+use Rattle.fx_counted.proofs.Words.{held_after, held_by, IsSeenBy, part_of_pass, Event, Action, Look, start_of, range_of, looks, all_looks}
+use Rattle.fx_counted.proofs.Words.{opening_of, slots_of, state_after_all, Start, ReleasesItsOwn, IsLegal, looks_after, look_in, map, action_of}
 use Rattle.fx_plain.specs.Step.{Allows}
+use Rattle.fx_plain.proofs.Leading.{same_shape as shape_of_state}
 use Rattle.fx_plain.proofs.Cells.{changed_here, changed_else}
 
 pub part_mine : (p : ℕ) (e : Event) (h : List Event) → e.pass ≡ p → part_of_pass p (e ∷ h) ≡ e ∷ part_of_pass p h
@@ -43,14 +44,9 @@ pub legal_more : (k : Start) (h : List Event) (e : Event) → IsHistory k h → 
     → ReleasesItsOwn (held_by h e.pass) e.action → IsHistory k (e ∷ h)
 legal_more k h e legal may own = record { leads = ((legal.leads.0, may), refl); releases = (legal.releases, own) }
 
-after_shape : (st : State) (a : Action) → ((after st a).size ≡ st.size) × ((after st a).range ≡ st.range)
-after_shape st (Look slot None) = (refl, refl)
-after_shape st _ = (refl, refl)
-
 -- no history changes the size or the range
 pub same_shape : (k : Start) (h : List Event) → ((state_after_all k h).size ≡ slots_of k) × ((state_after_all k h).range ≡ range_of (opening_of k))
-same_shape k [] = (refl, refl)
-same_shape k (e ∷ h) = let a = after_shape (state_after_all k h) e.action in let b = same_shape k h in (a.0 ∙ b.0, a.1 ∙ b.1)
+same_shape k h = shape_of_state (start_of (opening_of k)) (map action_of h)
 
 looks_step : (f : ℕ → ℕ) (all : ℕ) → ((n : ℕ) → f n ≤ all) → (a : Action) (n : ℕ) → looks_after f a n ≤ all + look_in a
 looks_step f all few (Look slot None) n = let m = few n in omega arith

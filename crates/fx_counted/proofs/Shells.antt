@@ -1,22 +1,13 @@
 -- Files leave a table of one thread, and come back.
-use Rattle.fx_counted.proofs.Words.{◌≡◌, ◌≢◌, ℕ, zero, suc, ◌+◌, ◌<◌, ◌≤◌, List, [], ◌∷◌, ◌++◌, length, sym, refl, ap, ◌∙◌, subst, arith, ◌⊎◌, inl}
-use Rattle.fx_counted.proofs.Words.{inr, ⊎_elim, Option, Some, None, dite, ℕ_discrete, dec_le, Closed, State, IsSettled, Contents, state_of, file_at}
-use Rattle.fx_counted.proofs.Words.{changed_at, numbered, identity_of, AreBack, file_in_place, slot_at, IsShell}
+use Rattle.fx_counted.proofs.Words.{◌≡◌, ◌≢◌, ℕ, ◌+◌, ◌<◌, ◌≤◌, sym, refl, ap, ◌∙◌, subst, arith, ◌⊎◌, inl, inr, ⊎_elim, Option, Some, None, dite}
+use Rattle.fx_counted.proofs.Words.{ℕ_discrete, dec_le, Closed, State, IsSettled, Contents, state_of, file_at, changed_at, numbered, identity_of}
+use Rattle.fx_counted.proofs.Words.{AreBack, IsShell}
+use Rattle.std.proofs.Math.ListN.{get_or-eq_default}
 use Rattle.fx_plain.proofs.Cells.{changed_here, changed_else}
-
--- the last of a list of places
-pub last_place : (xs : List (Option Closed)) (x : Option Closed) → file_in_place (xs ++ x ∷ []) (length xs) ≡ x
-last_place [] x = refl
-last_place (y ∷ xs) x = last_place xs x
 
 -- a table has no file behind its slots
 pub none_outside : (c : Contents) (slot : ℕ) → (state_of c).size ≤ slot → (state_of c).at slot ≡ None
-none_outside c slot g = ap (file_at c.nodes) (go c.slots slot g)
-  where
-    go : (xs : List (Option ℕ)) (i : ℕ) → length xs ≤ i → slot_at xs i ≡ None
-    go [] i g = refl
-    go (x ∷ xs) zero g = absurd (omega arith)
-    go (x ∷ xs) (suc i) g = go xs i (omega arith)
+none_outside c slot g = ap (file_at c.nodes) (get_or-eq_default c.slots None g)
 
 -- the slot has this file now, or none, and the others have what they had
 pub record Becomes (old : State) (slot : ℕ) (file : Option Closed) (new : State) : Type 0 where

@@ -9,7 +9,7 @@ use Rattle.fx_plain.specs.declared.event.File.{File}
 use Rattle.fx_plain.specs.declared.event.Action.{Action}
 use Rattle.fx_plain.specs.declared.event.Action.TheVariants.{Look, Release, Put, Allocate, Full}
 use Rattle.fx_plain.specs.declared.event.Action.TheVariants.{Close}
-use Rattle.fx_table.specs.Calls.{Use, no_use, one_look, one_number, Adds, Draws}
+use Rattle.fx_table.specs.Calls.{Use, no_use, one_look, one_number, Adds, Draws, retiring}
 use Rattle.fx_table.specs.Opening.{range_of}
 use Rattle.fx_table.specs.Pass.{next_number}
 use Rattle.fx_words.specs.Words.{takes_in, full_word_of}
@@ -24,7 +24,6 @@ use Rattle.fx_counted.specs.declared.view.Log.{Log}
 use Rattle.fx_counted.specs.declared.view.Start.{Start}
 use Rattle.fx_counted.specs.declared.view.Work.{Work}
 use Rattle.fx_counted.specs.declared.view.Work.TheVariants.{Between, Placing, Emptying}
-use Rattle.fx_table.specs.declared.values.Doing.{Doing}
 use Rattle.fx_table.specs.declared.values.Doing.TheVariants.{Idle, Holding, Retiring}
 
 -- a step of a table whose places have an open file or none
@@ -55,11 +54,6 @@ pub record Stepped (m : Sat) (actions : List Action) (used : Use) (w : Work) (c 
 abbrev pub holds_now : Option File → Work
 holds_now None = Between Idle
 holds_now (Some f) = Between (Holding f)
-
--- what a pass does between two calls that removed it
-abbrev pub retiring : Option File → ℕ → Doing
-retiring None takes = Idle
-retiring (Some f) takes = Retiring f takes
 
 -- what a pass in a change has to tell when a slot had so many files, and has so many now
 abbrev pub changed : ℕ → ℕ → Change

@@ -14,14 +14,14 @@ closes_in-then h [] = sym (append-nil (closes_in h))
 closes_in-then h (action ∷ more) = ap (λ (files : List Closed). files ++ closed_by action) (closes_in-then h more)
     ∙ append_assoc (closes_in h) (closes_in more) (closed_by action)
 
-same_size_after : (st : State) (action : Action) → (after st action).size ≡ st.size
-same_size_after st (Look slot None) = refl
-same_size_after st _ = refl
+shape_after : (st : State) (action : Action) → ((after st action).size ≡ st.size) × ((after st action).range ≡ st.range)
+shape_after st (Look slot None) = (refl, refl)
+shape_after st _ = (refl, refl)
 
-state_size : (st : State) (h : List Action) → (state_after st h).size ≡ st.size
-state_size st [] = refl
-state_size st (action ∷ h) = same_size_after (state_after st h) action ∙ state_size st h
+-- no history changes the size of a table, or its range
+pub same_shape : (st : State) (h : List Action) → ((state_after st h).size ≡ st.size) × ((state_after st h).range ≡ st.range)
+same_shape st [] = (refl, refl)
+same_shape st (action ∷ h) = let a = shape_after (state_after st h) action in let b = same_shape st h in (a.0 ∙ b.0, a.1 ∙ b.1)
 
--- no history changes the size of a table
 pub same_size : (first last : State) (h : List Action) → Leads first h last → last.size ≡ first.size
-same_size first last h lead = ap (λ (st : State). st.size) lead.1 ∙ state_size first h
+same_size first last h lead = ap (λ (st : State). st.size) lead.1 ∙ (same_shape first h).0

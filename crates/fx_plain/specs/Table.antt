@@ -1,7 +1,7 @@
 -- What the calls of a table answer.
-use Rattle.std.specs.Prelude.{◌≡◌, ℕ, zero, suc, ◌+◌, ◌<◌, ◌^◌, ◌==◌, not, ◌&&◌, Bool, true}
-use Rattle.std.specs.Prelude.{if◌then◌else◌, List, [], ◌∷◌, ◌++◌, Option, Some, None, option_map}
-use Rattle.std.specs.Prelude.{IfSome}
+use Rattle.std.specs.Prelude.{◌≡◌, ℕ, ◌+◌, ◌<◌, ◌^◌, ◌==◌, not, ◌&&◌, Bool, true, if◌then◌else◌}
+use Rattle.std.specs.Prelude.{List, [], map, Option, Some, None, option_map, IfSome}
+use Rattle.std.specs.List.{range_with_len}
 use Rattle.fx_base.specs.Identity.{Identity}
 use Rattle.fx_plain.specs.State.{State}
 use Rattle.fx_plain.specs.Step.{Steps, changed_at}
@@ -16,8 +16,7 @@ identity_of found = option_map (λ f. f.identity) found
 
 -- what stands at the first so many slots, one after another: a file or none
 abbrev pub slots_in_order : (ℕ → Option File) → ℕ → List (Option Identity)
-slots_in_order at zero = []
-slots_in_order at (suc n) = slots_in_order at n ++ identity_of (at n) ∷ []
+slots_in_order at n = map (λ slot. identity_of (at slot)) (range_with_len 0 n)
 
 abbrev pub number_of : Option File → Option ℕ
 number_of found = option_map (λ f. f.number) found

@@ -80,6 +80,11 @@ Released o v hold result w =
 abbrev pub new_file : Opening → PassView → Identity → File
 new_file o v file = numbered (next_number o v) file
 
+-- what a pass does that removed this file, of so many takes
+abbrev pub retiring : Option File → ℕ → Doing
+retiring None takes = Idle
+retiring (Some f) takes = Retiring f takes
+
 abbrev pub Placed : Opening → PassView → ℕ → Identity → Option Retired → PassView → Type 0
 Placed o v slot file None w = Adds o v ([] ▷ Put slot (new_file o v file) None) Idle one_number w
 Placed o v slot file (Some x) w =

@@ -1,7 +1,8 @@
 use Rattle.fx_counted.proofs.Words.{◌≡◌, ◌<◌, ◌≤◌, ◌+◌, ℕ, length, List, [], ◌∷◌, ◌++◌, refl, sym, ap, ◌∙◌, subst, arith, length-append, Option, Some}
 use Rattle.fx_counted.proofs.Words.{None, dite, dec_le, Closed, state_of, file_in_place, State, get_or_append_left}
 use Rattle.fx_counted.proofs.shell.put_all.Goals as goal
-use Rattle.fx_counted.proofs.Shells.{IsPartlyBack, Becomes, file_put, last_place, all_away, all_back, last_back, none_given}
+use Rattle.std.proofs.lemmas.List.{get_or_push}
+use Rattle.fx_counted.proofs.Shells.{IsPartlyBack, Becomes, file_put, all_away, all_back, last_back, none_given}
 use Rattle.fx_counted.proofs.shell.put_all.Goals.{After-len-slot}
 
 pub loop-file-init : goal.loop-file-init
@@ -20,7 +21,7 @@ module _ (all xs ys : List (Option Closed)) (x : Option Closed) (split : xs ≡ 
 
   last_is : file_in_place all (length ys) ≡ x
   last_is = sym (same (length ys) (let a = one_less in omega arith))
-      ∙ (ap (λ (l : List (Option Closed)). file_in_place l (length ys)) split ∙ last_place ys x)
+      ∙ (ap (λ (l : List (Option Closed)). file_in_place l (length ys)) split ∙ get_or_push ys x None (length ys) refl)
 
   same_before : (k : ℕ) → k < length ys → file_in_place ys k ≡ file_in_place all k
   same_before k l = sym (get_or_append_left ys (x ∷ []) None k l) ∙ (ap (λ (z : List (Option Closed)). file_in_place z k) (sym split)

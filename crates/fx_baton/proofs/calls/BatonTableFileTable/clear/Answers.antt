@@ -1,6 +1,7 @@
 use Rattle.fx_baton.proofs.Words.{state_of}
-use Rattle.fx_baton.proofs.Calling.{may_lend, slot_inside, clear_called, cleared_so}
 use Rattle.fx_baton.proofs.calls.BatonTableFileTable.clear.Goals as goal
+use Rattle.fx_baton.proofs.Calling.{may_lend, slot_inside, clear_called, added}
+use Rattle.fx_table.proofs.Removing.{cleared_so}
 
 pub slot_mut-plain-requires : goal.slot_mut-plain-requires
 slot_mut-plain-requires g c = may_lend c.borrow.ensures
@@ -17,5 +18,6 @@ give_back-requires g c =
 
 pub returns-clause-cleared : goal.returns-clause-cleared
 returns-clause-cleared g c =
-    cleared_so c.borrow.ensures c.slot_mut-plain.ensures.value c.args.slot c.clear-removed.new.self c.give_back.ensures _
+    cleared_so _ _ c.args.slot _ 0 _ _
     (c.retired.ensures ((state_of c.slot_mut-plain.result.now).at c.args.slot) c.clear-removed.ensures.answer c.entry_at-entry.ensures)
+    (added c.borrow.ensures c.slot_mut-plain.ensures.value c.clear-removed.new.self c.give_back.ensures)

@@ -1,6 +1,7 @@
 use Rattle.fx_baton.proofs.Words.{sym, subst, Closed, state_of, numbered, LetsLeave, Put}
-use Rattle.fx_baton.proofs.Calling.{may_lend, slot_inside, number_fresh, put_called, placed_so}
 use Rattle.fx_baton.proofs.calls.BatonTableFileTable.put.Goals as goal
+use Rattle.fx_baton.proofs.Calling.{may_lend, slot_inside, number_fresh, put_called, added}
+use Rattle.fx_table.proofs.Removing.{placed_so}
 
 pub slot_mut-plain-requires : goal.slot_mut-plain-requires
 slot_mut-plain-requires g c = may_lend c.borrow.ensures
@@ -26,5 +27,7 @@ give_back-requires g c =
 
 pub returns-clause-placed : goal.returns-clause-placed
 returns-clause-placed g c =
-    placed_so c.borrow.ensures c.slot_mut-plain.ensures.value c.args.slot _ _ c.args.file c.put-replaced.new.self c.next_number-number.ensures
-    c.identity-identity.ensures c.give_back.ensures _ (c.retired.ensures ((state_of c.slot_mut-plain.result.now).at c.args.slot) c.put-replaced.ensures.replaced.answer c.entry_at-entry.ensures)
+    placed_so _ _ c.args.slot _ 0 _ _
+    (c.retired.ensures ((state_of c.slot_mut-plain.result.now).at c.args.slot) c.put-replaced.ensures.replaced.answer c.entry_at-entry.ensures)
+    _ _ c.args.file c.next_number-number.ensures c.identity-identity.ensures
+    (added c.borrow.ensures c.slot_mut-plain.ensures.value c.put-replaced.new.self c.give_back.ensures)

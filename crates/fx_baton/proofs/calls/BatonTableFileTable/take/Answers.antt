@@ -1,6 +1,7 @@
-use Rattle.fx_baton.proofs.Words.{sym, ◌∙◌, state_of}
-use Rattle.fx_baton.proofs.Calling.{may_lend, slot_inside, take_called, none_taken, file_taken}
+use Rattle.fx_baton.proofs.Words.{state_of}
 use Rattle.fx_baton.proofs.calls.BatonTableFileTable.take.Goals as goal
+use Rattle.fx_baton.proofs.Calling.{may_lend, slot_inside, take_called, added}
+use Rattle.fx_table.proofs.Removing.{taken_so}
 
 pub slot_mut-plain-requires : goal.slot_mut-plain-requires
 slot_mut-plain-requires g c = may_lend c.borrow.ensures
@@ -15,12 +16,8 @@ pub give_back-requires : goal.give_back-requires
 give_back-requires g c =
     take_called c.borrow.ensures c.slot_mut-plain.ensures.value c.requires.idle c.args.slot _ _ _ c.take-removed.ensures c.is_none.ensures
 
-pub returns-in-Some-clause-taken : goal.returns-in-Some-clause-taken
-returns-in-Some-clause-taken g c =
-    file_taken c.borrow.ensures c.slot_mut-plain.ensures.value c.args.slot c.in-Some.removed c.take-removed.new.self c.give_back.ensures
-    (sym c.in-Some.is ∙ c.retired.ensures ((state_of c.slot_mut-plain.result.now).at c.args.slot) c.take-removed.ensures.answer c.entry_at-entry.ensures)
-
-pub returns-in-None-clause-taken : goal.returns-in-None-clause-taken
-returns-in-None-clause-taken g c =
-    none_taken c.borrow.ensures c.slot_mut-plain.ensures.value c.args.slot c.take-removed.new.self c.give_back.ensures
-    (sym c.in-None.is ∙ c.retired.ensures ((state_of c.slot_mut-plain.result.now).at c.args.slot) c.take-removed.ensures.answer c.entry_at-entry.ensures)
+pub returns-clause-taken : goal.returns-clause-taken
+returns-clause-taken g c =
+    taken_so _ _ c.args.slot _ 0 _ _
+    (c.retired.ensures ((state_of c.slot_mut-plain.result.now).at c.args.slot) c.take-removed.ensures.answer c.entry_at-entry.ensures)
+    _ _ c.ok_or.ensures.value (added c.borrow.ensures c.slot_mut-plain.ensures.value c.take-removed.new.self c.give_back.ensures)

@@ -1,6 +1,7 @@
 use Rattle.fx_baton.proofs.Words.{◌≡◌, sym, ◌∙◌, ap, ◌++◌, ◌∷◌, [], opening, Contents, state_of, numbers_for}
-use Rattle.fx_baton.proofs.OpeningKeepsRule.{opens, back_prepared}
 use Rattle.fx_baton.proofs.table.BatonTable.start.Goals as goal
+use Rattle.fx_baton.proofs.OpeningKeepsRule.{opens}
+use Rattle.fx_table.proofs.Preparing.{prepared_again}
 
 pub new-requires : goal.new-requires
 new-requires c =
@@ -16,4 +17,4 @@ returns-clause-refused c =
     let pushed = c.push_reserved.ensures.items ∙ ap (λ l. l ++ c.prepare.new.self ∷ []) c.in-Ok.ensures.items in
     let both : c.only_table.result ∷ [] ≡ c.prepare.new.self ∷ [] = sym c.only_table.ensures ∙ (c.in-Err.ensures.err ∙ pushed) in
     let is : c.only_table.result ≡ c.prepare.new.self = cc both in
-    back_prepared c.args.plain c.only_table.result c.numbers_for.result (ap state_of is ∙ c.in-Ok-prepare.ensures.ok)
+    prepared_again c.args.plain c.only_table.result c.numbers_for.result (ap state_of is ∙ c.in-Ok-prepare.ensures.ok)

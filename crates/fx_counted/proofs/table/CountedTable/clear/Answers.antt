@@ -1,10 +1,11 @@
 use Rattle.fx_counted.proofs.Words.{◌∙◌, Clear, takes_in, pass_of, view_of, opening_of_table}
+use Rattle.fx_counted.proofs.table.CountedTable.clear.Goals as goal
 use Rattle.fx_counted.proofs.Calling.{slot_inside}
 use Rattle.fx_counted.proofs.Going.{its_pass, work_between}
-use Rattle.fx_counted.proofs.Removing.{cleared_so, removal_adds}
+use Rattle.fx_table.proofs.Removing.{cleared_so}
+use Rattle.fx_counted.proofs.Removing.{removal_adds}
 use Rattle.fx_counted.proofs.SlotLaws.{clears_keep}
 use Rattle.fx_counted.proofs.Telling.{may_change}
-use Rattle.fx_counted.proofs.table.CountedTable.clear.Goals as goal
 
 pub swap-found-requires : goal.swap-found-requires
 swap-found-requires c =
@@ -29,6 +30,6 @@ returns-clause-cleared c =
     let m = c.end.new.seat.me in
     let takes = takes_in c.swap-found.result in
     let went = c.swap-found.ensures.2 in
-    cleared_so (opening_of_table t) (view_of p) c.args.slot went.file takes c.removed_in-removed.result (pass_of m.0)
+    cleared_so (opening_of_table t) (view_of p) c.args.slot went.file takes _ (pass_of m.0)
     (c.removed_in-removed.ensures went.file went.names) (removal_adds Clear t p c.requires.fits c.args.slot c.slot_place.result takes went.file
     c.slot_place.ensures c.begin-began.ensures.goes went.stepped c.end.ensures.goes)

@@ -1,17 +1,17 @@
 use Rattle.fx_counted.proofs.Words.{◌≡◌, ◌+◌, ◌*◌, ℕ, List, sym, ap, ◌∙◌, subst, arith, Option, Some, None, some, some-injective, get_elem?}
 use Rattle.fx_counted.proofs.Words.{slots_items, slots_len, IsFull, Closed, Contents, IsPrepared, state_of, node_in, slot_place}
-use Rattle.fx_counted.proofs.Finishing.{word_at_place, home_at_end, known_at_end, leaves_at_end, some_back, none_back, none_named, place_emptied}
-use Rattle.fx_counted.proofs.Finishing.{none_emptied}
+use Rattle.fx_counted.proofs.table.CountedTable.finish.Goals as goal
+use Rattle.fx_counted.proofs.Finishing.{home_at_end, known_at_end, leaves_at_end, some_back, none_back, none_named, place_emptied, none_emptied}
+use Rattle.fx_counted.proofs.Frames.{read_at}
 use Rattle.fx_counted.proofs.HomeComing.{number_at, file_at, emptied, all_gone}
 use Rattle.fx_counted.proofs.Shells.{IsPartlyBack, all_back, file_put}
 use Rattle.fx_counted.proofs.table.CountedTable.finish.Goals.{in-Some+in-Some-take_home, in-Some+in_default-take_home, in_default}
-use Rattle.fx_counted.proofs.table.CountedTable.finish.Goals as goal
 
 -- what a slot's word names
 named_by : (size slot : ℕ) {ws now : List ℕ} {place word : ℕ} (n : Option ℕ) → now ≡ ws → place ≡ slot_place slot → get_elem? now place ≡ some word
     → n ≡ node_in word → number_at size ws slot ≡ n
 named_by size slot {ws} {now} {place} {word} n same is there named =
-    ap node_in (word_at_place ws (slot_place slot) word (ap (get_elem? ws) (sym is) ∙ (ap (λ (l : List ℕ). get_elem? l place) (sym same) ∙ there)))
+    ap node_in (read_at ws (slot_place slot) word 0 (ap (get_elem? ws) (sym is) ∙ (ap (λ (l : List ℕ). get_elem? l place) (sym same) ∙ there)))
     ∙ sym named
 
 pub home_place-requires-clause-number : goal.home_place-requires-clause-number

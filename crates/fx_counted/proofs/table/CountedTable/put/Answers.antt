@@ -6,7 +6,7 @@ use Rattle.fx_counted.proofs.table.CountedTable.put.Goals as goal
 use Rattle.std.specs.Prelude.{not}
 use Rattle.fx_counted.proofs.Calling.{slot_inside, slot_at}
 use Rattle.fx_counted.proofs.Going.{its_pass, adds_so, goes_one, goes_then, goes_around, still_pass}
-use Rattle.fx_counted.proofs.Removing.{placed_so}
+use Rattle.fx_table.proofs.Removing.{placed_so}
 use Rattle.fx_counted.proofs.SlotLaws.{installs_keep}
 use Rattle.fx_counted.proofs.Telling.{may_change}
 
@@ -76,8 +76,8 @@ returns c =
           (c.end.ensures.places ∙ (went.carried ∙ ap rest carried))
           tt refl refl (omega (arith, left, shown, known)) (omega arith)
           (idle_if_none went.replaced takes _ _ c.is_none-pass.ensures (c.removed_in-replaced.ensures went.replaced went.names));
-      placed = placed_so o v c.args.slot n file went.replaced takes c.removed_in-replaced.result (pass_of m₄.0) c.next_number-number.ensures.number
-          (c.removed_in-replaced.ensures went.replaced went.names)
+      placed = placed_so o v c.args.slot went.replaced takes _ (pass_of m₄.0) (c.removed_in-replaced.ensures went.replaced went.names) n file file
+          c.next_number-number.ensures.number refl
           (subst (λ (s : ℕ). Adds o v ([] ▷ Put s (numbered n file) went.replaced) (doing_in (Between (retiring went.replaced takes))) one_number
           (pass_of m₄.0)) here adds);
       steps = let few = goes.steps in omega (arith, few);

@@ -1,10 +1,11 @@
 use Rattle.fx_counted.proofs.Words.{◌∙◌, Take, takes_in, pass_of, view_of, opening_of_table}
+use Rattle.fx_counted.proofs.table.CountedTable.take.Goals as goal
 use Rattle.fx_counted.proofs.Calling.{slot_inside}
 use Rattle.fx_counted.proofs.Going.{its_pass, work_between}
-use Rattle.fx_counted.proofs.Removing.{taken_so, removal_adds}
+use Rattle.fx_table.proofs.Removing.{taken_so}
+use Rattle.fx_counted.proofs.Removing.{removal_adds}
 use Rattle.fx_counted.proofs.SlotLaws.{takes_keep}
 use Rattle.fx_counted.proofs.Telling.{may_change}
-use Rattle.fx_counted.proofs.table.CountedTable.take.Goals as goal
 
 pub swap-found-requires : goal.swap-found-requires
 swap-found-requires c =
@@ -29,6 +30,6 @@ returns-clause-taken c =
     let m = c.end.new.seat.me in
     let takes = takes_in c.swap-found.result in
     let went = c.swap-found.ensures.2 in
-    taken_so (opening_of_table t) (view_of p) c.args.slot went.file takes c.removed_in-removed.result c.ok_or.result _ (pass_of m.0)
-    (c.removed_in-removed.ensures went.file went.names) c.ok_or.ensures.value
+    taken_so (opening_of_table t) (view_of p) c.args.slot went.file takes _ (pass_of m.0) (c.removed_in-removed.ensures went.file went.names)
+    _ _ c.ok_or.ensures.value
     (removal_adds Take t p c.requires.fits c.args.slot c.slot_place.result takes went.file c.slot_place.ensures c.begin-began.ensures.goes went.stepped c.end.ensures.goes)

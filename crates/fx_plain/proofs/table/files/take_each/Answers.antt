@@ -1,7 +1,8 @@
-use Rattle.fx_plain.proofs.Words.{rules, add-one, ◌≡◌, ◌<◌, ◌+◌, ◌++◌, ◌∷◌, [], sym, ap, subst, ◌∙◌, length, append_assoc, arith, ℕ, List, Option, Closed}
+use Rattle.fx_plain.proofs.Words.{rules, ◌≡◌, ◌<◌, ◌+◌, ◌++◌, ◌∷◌, [], sym, ap, subst, ◌∙◌, length, append_assoc, arith, ℕ, List, Option, Closed}
 use Rattle.fx_plain.proofs.Words.{File, identity_of, slots_in_order, file_at, file_named, slot_at, nodes_without, Node}
-use Rattle.fx_plain.proofs.Emptying.{read_slot, next_taken, worked_next, IsWorked}
 use Rattle.fx_plain.proofs.table.files.take_each.Goals as goal
+use Rattle.std.proofs.lemmas.List.FromFn.{map-range_with_len_more}
+use Rattle.fx_plain.proofs.Emptying.{read_slot, next_taken, worked_next, IsWorked}
 
 pub loop-slot-preserved : goal.loop-slot-preserved
 loop-slot-preserved c =
@@ -21,7 +22,7 @@ loop-slot-preserved c =
       files = pushed.items ∙ (ap (λ (xs : List (Option Closed)). xs ++ c.take_named.result ∷ []) i.files
           ∙ (append_assoc c.args.files.now.items (slots_in_order at s) (c.take_named.result ∷ [])
           ∙ (ap (λ (y : Option Closed). c.args.files.now.items ++ (slots_in_order at s ++ y ∷ [])) taken
-          ∙ ap (λ (xs : List (Option Closed)). c.args.files.now.items ++ xs) (sym (ap (slots_in_order at) (add-one s))))));
+          ∙ ap (λ (xs : List (Option Closed)). c.args.files.now.items ++ xs) (sym (map-range_with_len_more (λ u. identity_of (at u)) 0 s s (let e : 0 + s ≡ s = omega arith in e))))));
       count = let a = pushed.len in let b = i.count in omega (arith, a, b);
       capacity = pushed.capacity ∙ i.capacity;
       worked = subst (λ (xs : List Node). IsWorked slots first xs (s + 1)) (sym nodes_are)
