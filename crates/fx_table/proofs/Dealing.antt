@@ -1,9 +1,9 @@
 -- Passes are dealt out, one for each number from 1 on.
-use Rattle.fx_table.proofs.Words.{◌≡◌, ℕ, suc, ◌+◌, ◌-◌, ◌<◌, ◌≤◌, List, [], ◌∷◌, ◌++◌, map, length, take, sym, ap, ◌∙◌, subst, arith, All}
+use Rattle.fx_table.proofs.Words.{Contains, ◌≡◌, ℕ, suc, ◌+◌, ◌-◌, ◌<◌, ◌≤◌, List, [], ◌∷◌, ◌++◌, map, length, take, sym, ap, ◌∙◌, subst, arith, All}
 use Rattle.fx_table.proofs.Words.{range_with_len, PassView}
 use Rattle.std.proofs.Common.{length-append}
 use Rattle.std.proofs.lemmas.List.{map_push}
-use Rattle.std.proofs.lemmas.List.Elements.{All-push}
+use Rattle.std.proofs.lemmas.List.Elements.{All-push, All-contains}
 use Rattle.std.proofs.lemmas.List.FromFn.{map-range_with_len_more}
 use Rattle.fx_table.specs.Pass.{IsIdle, new_pass, new_passes}
 
@@ -25,6 +25,9 @@ module _ {P : Type 0} (Is : P → Type 0) (shown : P → PassView) where
   -- an idle pass of the table
   abbrev pub IsReady : P → Type 0
   IsReady p = Is p × IsIdle (shown p)
+
+  pub fits : (ps : List P) → All IsReady ps → (p : P) → Contains ps p → Is p
+  fits ps ready p h = (All-contains IsReady ps p ready h).0
 
   -- the passes before p were dealt, of n
   pub record AreDealt (p n : ℕ) (list : List P) : Type 0 where

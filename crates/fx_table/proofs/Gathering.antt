@@ -1,10 +1,15 @@
 -- All passes in one seat, which come back one behind the other.
 use Rattle.fx_table.proofs.Words.{◌≡◌, ◌≢◌, ℕ, List, [], ◌∷◌, ◌++◌, map, length, reverse, sym, refl, ap, ◌∙◌, subst, arith, Contains, sum_by}
-use Rattle.fx_table.proofs.Words.{reverse-append, dite, some, some-injective, ℕ_discrete, get_elem?}
+use Rattle.fx_table.proofs.Words.{reverse-append, dite, some, some-injective, ℕ_discrete, get_elem?, All}
 use Rattle.std.specs.Prelude.{flat_map}
+use Rattle.std.proofs.lemmas.List.Elements.{All-contains, Contains-push}
 use Rattle.std.proofs.lemmas.List.{nil_from_length}
 use Rattle.fx_table.proofs.Members.{contains_head, contains_tail}
 use Rattle.fx_table.proofs.SumLemmas.{sum_map, sum_only, sum_reverse, sum_two}
+
+-- what holds of all holds of the last one
+pub last_of : {X : Type 0} (P : X → Type 0) (xs ys : List X) (x : X) → xs ≡ ys ++ x ∷ [] → All P xs → P x
+last_of {X} P xs ys x split all = All-contains P xs x all (subst (λ (l : List X). Contains l x) (sym split) (Contains-push ys x))
 
 module _ {P L : Type 0} (logs : P → List L) where
   -- the first pass, and the others behind it

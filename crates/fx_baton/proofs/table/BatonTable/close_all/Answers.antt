@@ -1,19 +1,14 @@
-use Rattle.fx_baton.proofs.Words.{List, map, ap, subst, arith, Contains, All, All-contains, ClosesTable, opening_of, view_of, BatonTable, BatonPass}
-use Rattle.fx_baton.proofs.Words.{IsPassOfTable}
+use Rattle.fx_baton.proofs.Words.{map, ap, subst, arith, ClosesTable, opening_of, view_of, BatonPass, IsPassOfTable}
 use Rattle.fx_baton.proofs.table.BatonTable.close_all.Goals as goal
-use Rattle.fx_table.proofs.Dealing.{IsReady}
+use Rattle.fx_table.proofs.Dealing.{fits}
 use Rattle.fx_table.proofs.Gathering.{gathered}
 use Rattle.fx_baton.proofs.Closing.{at_home, closes}
-
--- passes that are ready are passes of the table
-fits : (t : BatonTable) (ps : List BatonPass) → All (IsReady (IsPassOfTable t) view_of) ps → (p : BatonPass) → Contains ps p → IsPassOfTable t p
-fits t ps ready p h = (All-contains (IsReady (IsPassOfTable t) view_of) ps p ready h).0
 
 pub finish-requires-clause-home : goal.finish-requires-clause-home
 finish-requires-clause-home c s r at =
     let t = c.args.self.table.shared in
     let seat = c.gather-seat in
-    at_home t.table_id t.key c.args.passes.items (fits c.args.self c.args.passes.items c.requires.ready) c.requires.all s r seat.result.id seat.result.me.0 at
+    at_home t.table_id t.key c.args.passes.items (fits (IsPassOfTable c.args.self) view_of c.args.passes.items c.requires.ready) c.requires.all s r seat.result.id seat.result.me.0 at
     (gathered (λ (p : BatonPass). p.seat.me.0.logs) _ _ _ _ _ c.in-Some.ensures.items (ap (λ z. z.me.0.logs) c.seat_of-seat.ensures) seat.ensures.logs) seat.ensures.seat.idle seat.ensures.seat.free
 
 pub returns : goal.returns
@@ -24,5 +19,5 @@ returns c =
     let all = c.args.self.key.1 in
     let some_passes = c.args.self.bounds.1 in
     subst (ClosesTable (opening_of t.key) (map view_of c.args.passes.items)) f.3
-    (closes t.table_id t.key c.args.passes.items (fits c.args.self c.args.passes.items c.requires.ready) c.requires.all f.0 f.1 seat.result.id seat.result.me.0 f.2
+    (closes t.table_id t.key c.args.passes.items (fits (IsPassOfTable c.args.self) view_of c.args.passes.items c.requires.ready) c.requires.all f.0 f.1 seat.result.id seat.result.me.0 f.2
     (gathered (λ (p : BatonPass). p.seat.me.0.logs) _ _ _ _ _ c.in-Some.ensures.items (ap (λ z. z.me.0.logs) c.seat_of-seat.ensures) seat.ensures.logs) seat.ensures.seat.idle seat.ensures.seat.free (omega (arith, all, some_passes)))

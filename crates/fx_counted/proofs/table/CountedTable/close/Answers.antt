@@ -1,15 +1,10 @@
-use Rattle.fx_counted.proofs.Words.{All, Contains, List, [], ◌∷◌, sym, ap, subst, arith, All-contains, Contains-append_left, IsIdleSeatOf, view_of}
+use Rattle.fx_counted.proofs.Words.{Contains, List, [], ◌∷◌, sym, ap, subst, arith, All-contains, Contains-append_left, IsIdleSeatOf, view_of}
 use Rattle.fx_counted.proofs.Words.{CountedPass, CountedTable, each_all, IsIdle, IsPassOfTable}
 use Rattle.fx_counted.proofs.table.CountedTable.close.Goals as goal
-use Rattle.fx_table.proofs.Dealing.{IsReady}
+use Rattle.fx_table.proofs.Dealing.{IsReady, fits}
 use Rattle.fx_table.proofs.Gathering.{gathered}
 use Rattle.fx_counted.proofs.Gathered.{all_idle, closes}
 use Rattle.fx_counted.proofs.Going.{work_between}
-
--- passes that are ready are passes of the table
-fits : (t : CountedTable) (ps : List CountedPass) → All (IsReady (IsPassOfTable t) view_of) ps → (p : CountedPass) → Contains ps p
-    → IsPassOfTable t p
-fits t ps ready p h = (All-contains (IsReady (IsPassOfTable t) view_of) ps p ready h).0
 
 -- the seat of an idle pass
 idle_seat : (t : CountedTable) (p : CountedPass) → IsPassOfTable t p → IsIdle (view_of p) → IsIdleSeatOf t p.seat
@@ -36,7 +31,7 @@ pub finish-requires-clause-idle : goal.finish-requires-clause-idle
 finish-requires-clause-idle c s r at =
     let t = c.args.self.table.shared in
     let seat = c.gather-seat in
-    all_idle t.table_id t.key c.args.passes.items (fits c.args.self c.args.passes.items c.requires.ready) c.requires.all s r seat.result.id
+    all_idle t.table_id t.key c.args.passes.items (fits (IsPassOfTable c.args.self) view_of c.args.passes.items c.requires.ready) c.requires.all s r seat.result.id
     seat.result.me.0 at (gathered (λ (p : CountedPass). p.seat.me.0.logs) _ _ _ _ _ c.in-Some.ensures.items
     (ap (λ z. z.me.0.logs) c.into_seat.ensures) seat.ensures.logs) seat.ensures.seat.work
 
@@ -47,7 +42,7 @@ returns c =
     let f = c.finish.ensures in
     let all = c.args.self.key.1 in
     let some_passes = c.args.self.bounds.1 in
-    closes t.table_id t.key c.args.passes.items (fits c.args.self c.args.passes.items c.requires.ready) c.requires.all f.last f.rule seat.result.id
+    closes t.table_id t.key c.args.passes.items (fits (IsPassOfTable c.args.self) view_of c.args.passes.items c.requires.ready) c.requires.all f.last f.rule seat.result.id
     seat.result.me.0 f.view (gathered (λ (p : CountedPass). p.seat.me.0.logs) _ _ _ _ _ c.in-Some.ensures.items
     (ap (λ z. z.me.0.logs) c.into_seat.ensures) seat.ensures.logs) seat.ensures.seat.work
     (omega (arith, all, some_passes)) c.finish.result f.files f.settled

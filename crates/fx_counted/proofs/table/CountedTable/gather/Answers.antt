@@ -1,17 +1,14 @@
-use Rattle.fx_counted.proofs.Words.{List, sym, subst, arith, Contains, All-contains, IsIdleSeatOf, CountedPass, Contains-push}
-use Rattle.fx_counted.proofs.Seats.{joins_keep}
+use Rattle.fx_counted.proofs.Words.{sym, subst, arith, IsIdleSeatOf, CountedPass}
 use Rattle.fx_counted.proofs.table.CountedTable.gather.Goals as goal
+use Rattle.fx_table.proofs.Gathering.{last_of}
+use Rattle.fx_counted.proofs.Seats.{joins_keep}
 
 pub join_seat-requires : goal.join_seat-requires
 join_seat-requires c =
     let t = c.args.self.now in
     let words = t.words in
     let i = c.loop-pass.invariant in
-    let pass = c.in-Some.pass in
-    let h : Contains c.loop-pass.passes.items pass =
-    subst (λ (l : List CountedPass). Contains l pass) (sym c.in-Some.ensures.items) (Contains-push c.pop.new.self.items pass) in
-    let p = subst (IsIdleSeatOf t) (sym c.into_seat-other.ensures)
-    (All-contains (λ (z : CountedPass). IsIdleSeatOf t z.seat) c.loop-pass.passes.items pass i.passes h) in
+    let p = subst (IsIdleSeatOf t) (sym c.into_seat-other.ensures) (last_of (λ (z : CountedPass). IsIdleSeatOf t z.seat) _ _ _ c.in-Some.ensures.items i.passes) in
     let seat = c.loop-pass.seat in
     let other = c.into_seat-other.result in (
       i.seat.table,
