@@ -1,9 +1,11 @@
 -- A seat with one pass may try the word, and take the table where it is at home.
-use Rattle.fx_baton.proofs.Words.{◌≡◌, ℕ, zero, suc, ◌≤◌, ◌==◌, List, [], ◌∷◌, length, set, get_or, sym, refl, ap, ◌∙◌, subst, arith, inl, inr}
-use Rattle.fx_baton.proofs.Words.{⊎_elim, some, none, some-ne-none, get_elem?, None, Contains, step, takes, keeps, set_else, set_again, Contents}
-use Rattle.fx_baton.proofs.Words.{state_of, IsLegal, Event, seen_again, contains_none, contains_head, contains_only, sum_at, sum_le_at, Log, View}
-use Rattle.fx_baton.proofs.Words.{Start, Shared, Seated, begin_of, logs_of, holds_by, removals_by, HasFreshNumbers, IsLog, IsView, IsHome, IsAway}
-use Rattle.fx_baton.proofs.Words.{IsKept, Knows, lent_view, Grabs, Allows}
+use Rattle.fx_baton.proofs.Words.{◌≡◌, ℕ, ◌≤◌, ◌==◌, List, [], ◌∷◌, length, set, get_or, sym, refl, ap, ◌∙◌, subst, arith, inl, inr, ⊎_elim, some}
+use Rattle.fx_baton.proofs.Words.{none, get_elem?, None, Contains, step, takes, keeps, set_else, set_again, Contents, state_of, IsLegal, Event}
+use Rattle.fx_baton.proofs.Words.{seen_again, contains_none, contains_head, contains_only, sum_at, sum_le_at, Log, View, Start, Shared, Seated}
+use Rattle.fx_baton.proofs.Words.{begin_of, logs_of, holds_by, removals_by, HasFreshNumbers, IsLog, IsView, IsHome, IsAway, IsKept, Knows, lent_view}
+use Rattle.fx_baton.proofs.Words.{Grabs, Allows}
+use Rattle.atomic_table.proofs.Lists.{set_here}
+use Rattle.fx_table.proofs.Members.{stands_at}
 use prog.Atomic.{either}
 use Rattle.fx_baton.proofs.Counts.{holds_small}
 use Rattle.fx_baton.proofs.StepsKeepRule.{Turns, keeps_rule}
@@ -23,11 +25,6 @@ holds_few : (k : Start) (h : List Event) (c : Contents) (n : ℕ) (v : View) (xs
     → holds_by n v.doing ≤ length xs
 holds_few k h c n v [] e r = let a = ap (holds_by n) (r.empty e).0 in omega arith
 holds_few k h c n v (x ∷ xs) e r = let a = holds_small n v.doing in omega arith
-
-set_there : {A : Type 0} (l : List A) (i : ℕ) (a b : A) → get_elem? l i ≡ some a → get_elem? (set l i b) i ≡ some b
-set_there [] i a b e = absurd (some-ne-none a (sym e))
-set_there (x ∷ xs) zero a b e = refl
-set_there (x ∷ xs) (suc i) a b e = set_there xs i a b e
 
 -- a seat with a pass began where the table did
 pub started : (k : Start) (h : List Event) (c : Contents) (v : View) (x : Log) → v.logs ≡ x ∷ [] → IsView k h c v → v.start ≡ k
@@ -79,7 +76,7 @@ module _ (k : Start) (id : ℕ) (v : View) (x : Log) (one : v.logs ≡ x ∷ [])
         homes = ap (λ l. set l 0 none) home.1;
         holder = id;
         view = lent;
-        at = set_there s.views id v lent at;
+        at = set_here s.views id lent (stands_at s.views id v at).0;
         loan = refl;
         whole = λ y h. ap (λ (z : Log). z.front) (contains_only _ y h);
         others = λ i u n e. home.2 i u (sym (set_else s.views id i lent n) ∙ e);

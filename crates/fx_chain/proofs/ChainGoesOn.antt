@@ -43,7 +43,8 @@ canceled_more place (x ∷ requests) r =
     (canceled_more (next_member place) requests r
     ∙ ap (λ (x : Place). canceled (next_member place) requests ++ refusal x ECANCELED ∷ []) (sym (further_member place (length requests))))
 
-canceled_count : (place : Place) (requests : List Asked) → length (canceled place requests) ≡ length requests
+-- each member that was canceled has a completion
+pub canceled_count : (place : Place) (requests : List Asked) → length (canceled place requests) ≡ length requests
 canceled_count place [] = refl
 canceled_count place (x ∷ requests) = ap suc (canceled_count (next_member place) requests)
 

@@ -136,7 +136,7 @@ module _ (r : Renaming) where
 abbrev given : List Action → ℕ
 given events = length (numbers_given events)
 
-given_one : (a : Action) (l : List ℕ) → length (with_number_of (installed_by a) l) ≡ length (with_number_of (installed_by a) []) + length l
+pub given_one : (a : Action) (l : List ℕ) → length (with_number_of (installed_by a) l) ≡ length (with_number_of (installed_by a) []) + length l
 given_one a l = elim (installed_by a) as (λ x. length (with_number_of x l) ≡ length (with_number_of x []) + length l) [ None ↦ omega arith | Some f ↦ omega arith ]
 
 given_all : (later earlier : List Action) → given (later ++ earlier) ≡ given earlier + given later

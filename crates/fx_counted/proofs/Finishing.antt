@@ -6,7 +6,8 @@ use Rattle.fx_counted.proofs.Words.{chain_numbers, IsNumber, state_after_all, Is
 use Rattle.fx_counted.proofs.Words.{AllAreIdle, Leaves, Between}
 use Rattle.fx_counted.proofs.Calling.{has_node, its_numbers}
 use Rattle.fx_counted.proofs.Ending.{home_file, file_home, one_slot, none_outside_end}
-use Rattle.fx_counted.proofs.Frames.{inside_list, read_at}
+use Rattle.fx_counted.proofs.Frames.{read_at}
+use Rattle.fx_table.proofs.Members.{stands_at}
 use Rattle.fx_counted.proofs.Histories.{same_shape}
 use Rattle.fx_counted.proofs.HomeComing.{number_at, file_of, file_at, without, emptied, AreAtHome, here_at, none_past, untouched}
 use Rattle.fx_counted.proofs.Naming.{node_is}
@@ -91,14 +92,14 @@ module _ (k : Start) (s : Shared) (r : Agrees k s) (all_idle : (i : ℕ) (u : Vi
   pub are_at_home : AreAtHome size words (chain_numbers k) xs
   are_at_home = record {
     count = sym long ∙ r.shape.homes;
-    inside = λ slot n l is. inside_list xs (home_place size n) _ (home_is slot n l is);
+    inside = λ slot n l is. (stands_at xs (home_place size n) _ (home_is slot n l is)).0;
     apart = λ slot other n m l l' ne is is'.
         let f = named slot n l is in
         let g = named other m l' is' in
         (apart size (chain_numbers k) r.shape.slots).homes n m (known slot n l is) (known other m l' is')
         (λ same. ne (one_slot k s r all_idle slot other f.0 g.0 l l' f.1 g.1 (f.2 ∙ (same ∙ sym g.2))));
     others = λ place file there.
-        let inside = inside_list xs place (Some file) there in
+        let inside = (stands_at xs place (Some file) there).0 in
         let wide = r.shape.homes in
         let b = by_place place (omega (arith, inside, long, wide)) in
         let h = home_file k s r all_idle b.0 b.1 in

@@ -1,9 +1,10 @@
 -- What a step of one seat leaves as it was.
-use Rattle.fx_counted.proofs.Words.{Contains, sum_of, sum_by, ◌≡◌, ◌≢◌, ℕ, zero, suc, ◌+◌, ◌<◌, List, [], ◌∷◌, set, length, sym, refl, ap, ◌∙◌, subst}
-use Rattle.fx_counted.proofs.Words.{arith, ⊎_elim, eqb, some, some-injective, some-ne-none, get_elem?, at_set, set_here, set_else, File, Event}
-use Rattle.fx_counted.proofs.Words.{numbered, sum_two, Does, OwnerAgrees, WorkAgrees, ViewAgrees, Agrees, Shared, logs_of, Phase, spare, placed}
-use Rattle.fx_counted.proofs.Words.{leaving, emptied, owner, file_in, Log, Start, View, Work, Idle, Placing, Holding, Retiring, Emptying, dite}
-use Rattle.fx_counted.proofs.Words.{ℕ_discrete, Between}
+use Rattle.fx_counted.proofs.Words.{Contains, sum_of, sum_by, ◌≡◌, ◌≢◌, ℕ, ◌+◌, List, [], ◌∷◌, set, sym, refl, ap, ◌∙◌, subst, arith, ⊎_elim, eqb}
+use Rattle.fx_counted.proofs.Words.{some, some-injective, get_elem?, at_set, set_here, set_else, File, Event, numbered, sum_two, Does, OwnerAgrees}
+use Rattle.fx_counted.proofs.Words.{WorkAgrees, ViewAgrees, Agrees, Shared, logs_of, Phase, spare, placed, leaving, emptied, owner, file_in, Log}
+use Rattle.fx_counted.proofs.Words.{Start, View, Work, Idle, Placing, Holding, Retiring, Emptying, dite, ℕ_discrete, Between}
+use Rattle.fx_table.proofs.Members.{stands_at}
+use Rattle.std.proofs.lemmas.List.{get_or_default}
 use Rattle.std.specs.Prelude.{slice_index_or}
 use Rattle.fx_counted.proofs.Histories.{Grows}
 use Rattle.fx_table.proofs.Ones.{one_if, bit_here, once_is}
@@ -83,19 +84,12 @@ pub views_after : (P : ℕ → View → Type 0) (views : List View) (id : ℕ) (
 views_after P views id w mine others j u e = ⊎_elim (λ (t : (j ≡ id) × (w ≡ u)). subst (λ (z : ℕ × View). P z.0 z.1) (λ i. (sym t.0 i, t.1 i)) mine)
     (λ (t : (j ≢ id) × (get_elem? views j ≡ some u)). others j u t.0 t.1) (at_set views id j w u e)
 
--- an element, and what is read there
+-- what is read where an element stands
 pub read_at : {A : Type 0} (xs : List A) (i : ℕ) (v d : A) → get_elem? xs i ≡ some v → slice_index_or xs i d ≡ v
-read_at [] i v d e = absurd (some-ne-none v (sym e))
-read_at (x ∷ xs) zero v d e = some-injective x v e
-read_at (x ∷ xs) (suc i) v d e = read_at xs i v d e
-
-pub inside_list : {A : Type 0} (xs : List A) (i : ℕ) (v : A) → get_elem? xs i ≡ some v → i < length xs
-inside_list [] i v e = absurd (some-ne-none v (sym e))
-inside_list (x ∷ xs) zero v e = omega arith
-inside_list (x ∷ xs) (suc i) v e = let m = inside_list xs i v e in omega arith
+read_at xs i v d e = let at = stands_at xs i v e in get_or_default xs i d v at.0 ∙ at.1
 
 pub does_now : (views : List View) (id : ℕ) (v w : View) (d : Work) → get_elem? views id ≡ some v → w.work ≡ d → Does (set views id w) id d
-does_now views id v w d here is = (w, set_here views id w (inside_list views id v here), is)
+does_now views id v w d here is = (w, set_here views id w (stands_at views id v here).0, is)
 
 -- the pass of a number is known in other views too, if what is done with it is
 pub owner_map : (views views' : List View) (n : ℕ)

@@ -3,7 +3,7 @@ use Rattle.fx_counted.proofs.Words.{◌≡◌, ◌≢◌, ℕ, zero, suc, ◌<�
 use Rattle.fx_counted.proofs.Words.{arith, lt-ltb, le-ltb, Option, Some, None, slice_index, dite, some, ℕ_discrete, get_elem?, set_here, set_else}
 use Rattle.fx_counted.proofs.Words.{Closed, node_in, slot_place, home_place, homes_for, file_in_place}
 use lib.ListN.{length-set}
-use Rattle.fx_counted.proofs.Frames.{inside_list}
+use Rattle.fx_table.proofs.Members.{stands_at}
 
 pub elem_there : (xs : List (Option Closed)) (i : ℕ) → i < length xs → (x : Option Closed) × (get_elem? xs i ≡ some x)
 elem_there [] i l = absurd (omega arith)
@@ -59,7 +59,7 @@ module _ (size : ℕ) (words : List ℕ) where
   still_none None xs place e = e
   still_none (Some n) xs place e = dite (ℕ_discrete place (home_place size n))
       (λ same. let here = ap (get_elem? xs) (sym same) ∙ e in ap (get_elem? (set xs (home_place size n) None)) same
-      ∙ set_here xs (home_place size n) None (inside_list xs (home_place size n) None here))
+      ∙ set_here xs (home_place size n) None (stands_at xs (home_place size n) None here).0)
       (λ ne. set_else xs (home_place size n) place None ne ∙ e)
 
   none_stays : (done : ℕ) (xs : List (Option Closed)) (place : ℕ) → get_elem? xs place ≡ some None → get_elem? (emptied done xs) place ≡ some None

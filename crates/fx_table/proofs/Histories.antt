@@ -14,7 +14,8 @@ part_none q (e ∷ es) n = rw (ne_eqb e.pass q (n e (contains_head e es))) (part
 pub part_other : (q : ℕ) (es h : List Event) → ((e : Event) → Contains es e → e.pass ≢ q) → part_of_pass q (h ▷▷ es) ≡ part_of_pass q h
 part_other q es h n = filter-append _ es h ∙ ap (λ (l : List Event). l ++ part_of_pass q h) (part_none q es n)
 
-part_all : (q : ℕ) (es : List Event) → ((e : Event) → Contains es e → e.pass ≡ q) → part_of_pass q es ≡ es
+-- what a pass did is all of it, where nobody else did anything
+pub part_all : (q : ℕ) (es : List Event) → ((e : Event) → Contains es e → e.pass ≡ q) → part_of_pass q es ≡ es
 part_all q [] a = refl
 part_all q (e ∷ es) a = rw (eq-eqb e.pass q (a e (contains_head e es)))
     (ap (λ (l : List Event). e ∷ l) (part_all q es (λ x i. a x (contains_tail e es x i))))

@@ -1,6 +1,7 @@
 -- What a list contains, by its first element and the others.
-use Rattle.fx_table.proofs.Words.{◌≡◌, List, [], ◌∷◌, map, reverse, sym, refl, subst, suc, zero, arith, ◌⊎◌, inl, inr, ⊎_elim, Contains, All}
-use Rattle.fx_table.proofs.Words.{reverse-append, Contains-append_left, Contains-append_right, Contains-append_cases}
+use Rattle.fx_table.proofs.Words.{ℕ, ◌<◌, length, get_elem?, some, some-ne-none, some-injective, ◌≡◌, List, [], ◌∷◌, map, reverse, sym, refl, subst}
+use Rattle.fx_table.proofs.Words.{suc, zero, arith, ◌⊎◌, inl, inr, ⊎_elim, Contains, All, reverse-append, Contains-append_left, Contains-append_right}
+use Rattle.fx_table.proofs.Words.{Contains-append_cases}
 use Rattle.std.specs.Prelude.{slice_index_or}
 use Rattle.std.proofs.lemmas.List.Elements.{All-contains_itself}
 
@@ -17,6 +18,12 @@ module _ {X : Type 0} where
   pub contains_cases : (y : X) (xs : List X) (x : X) → Contains (y ∷ xs) x → (x ≡ y) ⊎ Contains xs x
   contains_cases y xs x (zero, inside, is) = inl (sym is)
   contains_cases y xs x (suc k, inside, is) = inr (k, omega arith, is)
+
+  -- the element at an index
+  pub stands_at : (l : List X) (i : ℕ) (v : X) → get_elem? l i ≡ some v → (i < length l) × (slice_index_or l i v ≡ v)
+  stands_at [] i v e = absurd (some-ne-none v (sym e))
+  stands_at (x ∷ l) zero v e = (omega arith, some-injective x v e)
+  stands_at (x ∷ l) (suc i) v e = let r = stands_at l i v e in (omega (arith, r.0), r.1)
 
   -- a list of one
   pub contains_only : (x y : X) → Contains (x ∷ []) y → y ≡ x

@@ -1,16 +1,11 @@
 -- The one history of all passes, which a close tells, and a table of one pass without it.
 use Rattle.fx_table.proofs.Words.{◌≡◌, ℕ, ◌<◌, ◌≤◌, true, List, [], ◌∷◌, sym, ap, ◌∙◌, subst, Contains, None, sum_by, Contains-append_right, Contents}
 use Rattle.fx_table.proofs.Words.{state_of, IsLegal, IsSeenBy, part_of_pass, held_by, Event, ClosesTable, times_drawn, Opening, PassView, IsFront}
-use Rattle.std.proofs.lemmas.List.{append-nil}
 use Rattle.fx_plain.specs.State.{IsSettled}
 use Rattle.fx_table.specs.Opening.{start_of, state_at, HasSameFiles}
 use Rattle.fx_table.specs.Settling.{IsSettledSoFar}
-use Rattle.fx_table.proofs.Histories.{part_mine}
+use Rattle.fx_table.proofs.Histories.{part_all}
 use Rattle.fx_table.proofs.Members.{contains_head, contains_only}
-
--- what one pass did alone is all that there is
-pub all_mine : (q : ℕ) (h : List Event) → ((e : Event) → Contains h e → e.pass ≡ q) → part_of_pass q h ≡ h
-all_mine q h a = ap (part_of_pass q) (sym (append-nil h)) ∙ (part_mine q h [] a ∙ append-nil h)
 
 -- what a close tells, the table that comes back aside
 pub record IsWhole (o : Opening) (history : List Event) (passes : List PassView) : Type 0 where
@@ -33,7 +28,7 @@ closes_table o h passes left whole same at_rest =
 pub own_history : (v : PassView) (h : List Event) → ((e : Event) → Contains h e → (w : PassView) × Contains (v ∷ []) w × (e.pass ≡ w.number))
     → part_of_pass v.number h ≡ v.own → h ≡ v.own
 own_history v h authors own =
-    sym (all_mine v.number h (λ e i. let a = authors e i in a.2 ∙ ap (λ (w : PassView). w.number) (contains_only v a.0 a.1))) ∙ own
+    sym (part_all v.number h (λ e i. let a = authors e i in a.2 ∙ ap (λ (w : PassView). w.number) (contains_only v a.0 a.1))) ∙ own
 
 -- a table of one pass, which holds nothing
 module _ (o : Opening) (v : PassView) (h : List Event) (whole : IsWhole o h (v ∷ [])) (front : IsFront o v)
@@ -49,7 +44,7 @@ module _ (o : Opening) (v : PassView) (h : List Event) (whole : IsWhole o h (v �
 
   pub settles : IsSettledSoFar o v
   settles = record {
-    whole = sym (all_mine v.number v.front author) ∙ front.mine;
+    whole = sym (part_all v.number v.front author) ∙ front.mine;
     legal = subst (λ (l : List Event). IsLegal (start_of o) l (state_at o l)) is_own whole.legal;
     settled = subst (λ (l : List Event). IsSettled (state_at o l)) is_own whole.settled;
     held = subst (λ (l : List Event). held_by l v.number ≡ None) is_own free;

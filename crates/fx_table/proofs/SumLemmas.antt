@@ -1,27 +1,16 @@
 -- Sums over lists, and what one changed element does to them.
-use Rattle.fx_table.proofs.Words.{◌≡◌, ◌≢◌, ℕ, zero, suc, ◌+◌, ◌≤◌, List, [], ◌∷◌, map, set, reverse, sym, refl, ap, ◌∙◌, arith, ⊎_elim, cond, eqb}
-use Rattle.fx_table.proofs.Words.{sum_by, count_by, Contains, reverse-append, sum_by-cons, sum_by-append, some, some-injective, some-ne-none, dite}
+use Rattle.fx_table.proofs.Words.{◌≡◌, ◌≢◌, ℕ, zero, suc, ◌+◌, ◌≤◌, List, [], ◌∷◌, map, set, reverse, sym, refl, ap, ◌∙◌, arith, cond, eqb, sum_by}
+use Rattle.fx_table.proofs.Words.{count_by, Contains, reverse-append, sum_by-cons, sum_by-append, some, some-injective, some-ne-none, dite}
 use Rattle.fx_table.proofs.Words.{ℕ_discrete, get_elem?, by_equality}
-use Rattle.fx_table.proofs.Members.{contains_none, contains_head, contains_tail, contains_cases}
+use Rattle.std.proofs.lemmas.List.Sums.{sum_by-set, get_or-le-sum_by}
+use Rattle.fx_table.proofs.Members.{stands_at, contains_head, contains_tail}
 
 module _ {X : Type 0} (f : X → ℕ) where
   pub sum_set : (l : List X) (i : ℕ) (v w : X) → get_elem? l i ≡ some v → sum_by f (set l i w) + f v ≡ sum_by f l + f w
-  sum_set [] i v w e = absurd (some-ne-none v (sym e))
-  sum_set (x ∷ xs) zero v w e =
-      let s : f x ≡ f v = ap f (some-injective x v e) in
-      let a = sum_by-cons f x xs in
-      let b = sum_by-cons f w xs in
-      omega arith
-  sum_set (x ∷ xs) (suc i) v w e =
-      let r = sum_set xs i v w e in
-      let a = sum_by-cons f x xs in
-      let b = sum_by-cons f x (set xs i w) in
-      omega arith
+  sum_set l i v w e = let at = stands_at l i v e in let a = sum_by-set f l i w v at.0 in let b = ap f at.1 in omega arith
 
   pub sum_at : (l : List X) (i : ℕ) (v : X) → get_elem? l i ≡ some v → f v ≤ sum_by f l
-  sum_at [] i v e = absurd (some-ne-none v (sym e))
-  sum_at (x ∷ xs) zero v e = let s : f x ≡ f v = ap f (some-injective x v e) in let a = sum_by-cons f x xs in omega arith
-  sum_at (x ∷ xs) (suc i) v e = let r = sum_at xs i v e in let a = sum_by-cons f x xs in omega arith
+  sum_at l i v e = let at = stands_at l i v e in let a = get_or-le-sum_by f l i v at.0 in let b = ap f at.1 in omega arith
 
   -- two elements at different places
   pub sum_two : (l : List X) (i j : ℕ) (v w : X) → i ≢ j → get_elem? l i ≡ some v → get_elem? l j ≡ some w → f v + f w ≤ sum_by f l
@@ -36,11 +25,7 @@ module _ {X : Type 0} (f : X → ℕ) where
 
   -- an element that the list contains
   pub sum_of : (l : List X) (v : X) → Contains l v → f v ≤ sum_by f l
-  sum_of [] v h = absurd (contains_none v h)
-  sum_of (x ∷ l) v h = let a = sum_by-cons f x l in ⊎_elim
-      (λ (is : v ≡ x). let b = ap f is in omega arith)
-      (λ t. let r = sum_of l v t in omega arith)
-      (contains_cases x l v h)
+  sum_of l v h = let a = get_or-le-sum_by f l h.0 v h.1 in let b = ap f h.2 in omega arith
 
   pub sum_reverse : (l : List X) → sum_by f (reverse l) ≡ sum_by f l
   sum_reverse [] = refl
@@ -50,14 +35,6 @@ module _ {X : Type 0} (f : X → ℕ) where
       let b = sum_by-cons f x l in
       let c = sum_by-cons f x [] in
       ap (sum_by f) (reverse-append (x ∷ []) l) ∙ omega arith
-
-  pub sum_zero : (l : List X) → ((x : X) → Contains l x → f x ≡ 0) → sum_by f l ≡ 0
-  sum_zero [] each = refl
-  sum_zero (x ∷ l) each =
-      let a = sum_by-cons f x l in
-      let b = each x (contains_head x l) in
-      let r = sum_zero l (λ y h. each y (contains_tail x l y h)) in
-      omega arith
 
   pub sum_zero_at : (l : List X) → ((i : ℕ) (v : X) → get_elem? l i ≡ some v → f v ≡ 0) → sum_by f l ≡ 0
   sum_zero_at [] each = refl
@@ -70,6 +47,10 @@ module _ {X : Type 0} (f : X → ℕ) where
   found_sum (x ∷ l) low = dite (ℕ_discrete (f x) 0)
       (λ none. let a = sum_by-cons f x l in let r = found_sum l (omega arith) in (r.0, contains_tail x l r.0 r.1, r.2))
       (λ some. (x, contains_head x l, omega (arith, some)))
+
+  pub sum_zero : (l : List X) → ((x : X) → Contains l x → f x ≡ 0) → sum_by f l ≡ 0
+  sum_zero l each = dite (ℕ_discrete (sum_by f l) 0) (λ none. none)
+      (λ some. let x = found_sum l (omega (arith, some)) in let none = each x.0 x.1 in absurd (omega arith))
 
   -- a sum to which one element alone adds
   pub sum_only : (l : List X) (i : ℕ) (v : X) → get_elem? l i ≡ some v → ((j : ℕ) (u : X) → j ≢ i → get_elem? l j ≡ some u → f u ≡ 0)
