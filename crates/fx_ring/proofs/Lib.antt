@@ -27,3 +27,4 @@ pub mod LoneHistories
 pub mod LonePlays
 pub mod LoneEnds
 pub mod RingsOpened
+pub mod SameRings

@@ -9,6 +9,7 @@ use Rattle.fx_ring.proofs.NewCrew.{runs_have_all, runs_weigh_all}
 use Rattle.fx_plain.specs.History.{◌▷▷◌}
 use Rattle.fx_table.specs.Calls.{Draws}
 use Rattle.fx_chain.specs.Performs.{PlaysChain, player}
+use Rattle.fx_ring.specs.Work.{requests_behind}
 use Rattle.fx_ring.specs.OpenRings.{chain_less, chains_to, begun_behind}
 use Rattle.fx_ring.proofs.ChainPlayed.{GoesOn, HasPlayed, drawing, worked_on, room_left, sum_behind}
 
@@ -93,6 +94,12 @@ module _ (o : Opening) (catalogue : List FileEntry) (submission : ℕ) (runs : L
 
   pub chain_next : x.chain ≡ base + (i + 1)
   chain_next = let e = played.2.acts.adds.chain in let f = ap (λ (z : PassView). z.chain) w_is in omega (arith, e, f, next, at)
+
+  pub looks_next : (start : ℕ) → start + requests_behind runs i ≤ v.looks_left + requests_behind runs 0
+      → start + requests_behind runs (i + 1) ≤ x.looks_left + requests_behind runs 0
+  looks_next start so_far =
+      let asked = sum_behind (λ (run : List Asked). length run) runs [] i (i + 1) (omega arith) inside in
+      let left = goes.looks_left in let few = played.2.few_looks in omega (arith, asked, left, few, so_far)
 
   pub more_next : x.no_chains_left ≡ v.no_chains_left
   more_next = played.2.acts.adds.no_chains_left ∙ ap (λ (z : PassView). z.no_chains_left) w_is

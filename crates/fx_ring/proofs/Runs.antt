@@ -2,6 +2,8 @@
 use Rattle.fx_ring.proofs.Words.{◌≡◌, ℕ, ◌+◌, ◌-◌, ◌≤◌, List, [], length, map, take, drop, slice_index_or, sym, ap, subst, ◌∙◌, All, arith}
 use Rattle.fx_ring.proofs.Words.{get_or-map, length-map, IsChain, IsShortRun, members_of, Asked, all_asked, runs_of, all_installs, Chain, Request}
 use Rattle.fx_ring.proofs.Words.{InstallAtMost, run_of_chain}
+use Rattle.fx_ring.proofs.Words.{All-contains, Contains}
+use Rattle.fx_table.proofs.Members.{contains_mapped, each_all}
 use Rattle.fx_chain.proofs.Asking.{asked_part}
 
 -- the part of a list that a chain is
@@ -35,3 +37,10 @@ module _ (requests : List Request) (chains : List Chain) (c : ℕ) (d : Chain) (
 pub as_many : (requests : List Request) (chains : List Chain) → map (members_of (all_asked requests)) chains ≡ runs_of (all_asked requests)
     → length (runs_of (all_asked requests)) ≡ length chains
 as_many requests chains members = ap length (sym members) ∙ length-map chains (members_of (all_asked requests))
+
+-- what no run installs more than, no chain does
+pub chains_install : (asked : List Asked) (chains : List Chain) (most : ℕ) → map (members_of asked) chains ≡ runs_of asked
+    → All (λ run. all_installs run ≤ most) (runs_of asked) → InstallAtMost asked most chains
+chains_install asked chains most members all = each_all (λ chain. all_installs (members_of asked chain) ≤ most) chains
+    (λ chain h. All-contains (λ run. all_installs run ≤ most) (runs_of asked) (members_of asked chain) all
+    (subst (λ (l : List (List Asked)). Contains l (members_of asked chain)) members (contains_mapped (members_of asked) chains chain h)))

@@ -11,7 +11,7 @@ use Rattle.fx_plain.specs.declared.event.Action.TheVariants.{Look}
 use Rattle.fx_table.specs.Numbers.{numbers_for}
 use Rattle.fx_chain.specs.Operation.{Asked}
 use Rattle.fx_chain.specs.Runs.{runs_of}
-use Rattle.fx_ring.specs.Ring.{RingContents}
+use Rattle.fx_ring.specs.Ring.{RingContents, ring_of}
 use Rattle.fx_ring.specs.Submission.{IsOneHistory, Reported}
 
 -- the state that the history of a submission begins with
@@ -46,3 +46,11 @@ NoFileIsLost =
     → (one : IsOneHistory old requests report new)
     → (f : File) → IsAtSlot (start_of_submission old requests) f ⊎ IsInstalled one.history f
     → IsStillThere one.history one.end f ⊎ IsClosedOnce one.history one.end f
+
+-- what a submission may do on a ring, it may do on one that shows the same
+abbrev pub SameRingsDoTheSame : Type 0
+SameRingsDoTheSame =
+    (old same new : RingContents) (requests : List Asked) (report : Reported)
+    → ring_of same ≡ ring_of old
+    → IsOneHistory old requests report new
+    → IsOneHistory same requests report new

@@ -21,9 +21,10 @@ use Rattle.fx_chain.specs.Accepted.{IsShortRun}
 use Rattle.fx_chain.specs.Completed.{Completed}
 use Rattle.fx_chain.specs.Operation.{Asked}
 use Rattle.fx_chain.specs.Runs.{runs_of}
+use Rattle.fx_chain.specs.Weights.{all_installs}
 use Rattle.fx_ring.specs.Ring.{RingContents, HasClosed, IsAtRest, ring_with}
 use Rattle.fx_ring.specs.Submission.{IsOneHistory}
-use Rattle.fx_ring.specs.Work.{HasWorked, worker_state}
+use Rattle.fx_ring.specs.Work.{HasWorked, requests_behind, worker_state}
 
 -- the list of what stands at the first so many places
 abbrev pub listed : {X : Type 0} → (ℕ → X) → ℕ → List X
@@ -53,6 +54,29 @@ abbrev pub ring_led_by : List FileEntry → Opening → PassView → ℕ → ℕ
 ring_led_by catalogue o v submissions registrations =
     ring_with catalogue (table_with_files (state_at o v.own)) submissions registrations
 
+-- what callers know of a ring whose table is open: the ring, and for what its table has room
+pub record OpenRingContents : Type 0 where
+  pub ring : RingContents
+  -- how many chains it can play yet, how many files each of them may install, and how often it can
+  -- be looked up yet
+  pub chains_left : ℕ
+  pub most : ℕ
+  pub looks_left : ℕ
+
+-- there is room for the requests: a chain for each of their runs, none of which installs more files
+-- than a chain may, and a look-up for each request
+pub record IsRoomFor (requests : List Asked) (opened : OpenRingContents) : Type 0 where
+  pub chains : length (runs_of requests) ≤ opened.chains_left
+  pub installs : All (λ run. all_installs run ≤ opened.most) (runs_of requests)
+  pub looks : length requests ≤ opened.looks_left
+
+-- a chain less for each run of the requests, and at most a look-up less for each request
+pub record HasUsed (old : OpenRingContents) (requests : List Asked) (new : OpenRingContents)
+    : Type 0 where
+  pub chains : new.chains_left + length (runs_of requests) ≡ old.chains_left
+  pub most : new.most ≡ old.most
+  pub looks : old.looks_left ≤ new.looks_left + length requests
+
 -- an event, with the chains counted from another one on
 abbrev pub chain_less : ℕ → Event → Event
 chain_less base e = record e { chain = e.chain - base }
@@ -77,6 +101,9 @@ pub record HasPlayedAlone {P : Type 0} (V : P → PassView) (Fits : P → Type 0
   pub more : (V pass).no_chains_left ≡ false
   pub number : (V pass).number ≡ before.number
   pub chain : (V pass).chain ≡ before.chain + played
+  -- it looked up at most once for each request of these chains
+  pub looks : before.looks_left + requests_behind (runs_of requests) played
+      ≤ (V pass).looks_left + requests_behind (runs_of requests) 0
   pub since : List Event
   pub own : (V pass).own ≡ before.own ▷▷ since
   pub worked : HasWorked catalogue (size_of o) submission (runs_of requests)
@@ -110,6 +137,11 @@ ring_shown V catalogue o submissions registrations [] =
     ring_led_by catalogue o (new_pass 1) submissions registrations
 ring_shown V catalogue o submissions registrations (pass ∷ others) =
     ring_led_by catalogue o (V pass) submissions registrations
+
+-- how often the pass that is meant can look up yet
+abbrev pub looks_shown : {P : Type 0} → (P → PassView) → List P → ℕ
+looks_shown V [] = 0
+looks_shown V (pass ∷ others) = (V pass).looks_left
 
 -- what a ring with an open table keeps
 abbrev pub IsKeptOpen : {P : Type 0} → (P → PassView) → (P → Type 0) → List FileEntry → Opening

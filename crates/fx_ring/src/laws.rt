@@ -3,7 +3,7 @@
 //! nothing (this project's own).
 
 ghost use Rattle.std.specs.Prelude.{◌≡◌};
-ghost use Rattle.fx_ring.specs.Laws.{NoHeldFileCloses, NoFileClosesTwice, NoFileIsLost};
+ghost use Rattle.fx_ring.specs.Laws.{NoHeldFileCloses, NoFileClosesTwice, NoFileIsLost, SameRingsDoTheSame};
 ghost use Rattle.fx_ring.specs.OpenRings.{PartIsOneHistory};
 ghost use Rattle.fx_ring.specs.declared.ring.TheConstants.{MOST_SUBMISSIONS, MOST_REGISTRATIONS};
 
@@ -34,4 +34,9 @@ pub fn no_file_is_lost()
 /// What a pass alone does for a submission, on a table that stays open before and afterwards, is one history.
 pub fn what_a_pass_alone_does_is_one_history()
     ensures { PartIsOneHistory }
+{}
+
+/// A submission may do the same on two rings that show the same: which numbers their files have makes no difference.
+pub fn rings_that_show_the_same_may_do_the_same()
+    ensures { SameRingsDoTheSame }
 {}

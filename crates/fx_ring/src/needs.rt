@@ -1,5 +1,5 @@
 //! What the chains of a submission need of a table: a number for each file that they install.
-ghost use Rattle.std.specs.Prelude.{◌≡◌, ◌≤◌, All};
+ghost use Rattle.std.specs.Prelude.{◌≡◌, ◌≤◌, ℕ, All};
 ghost use Rattle.fx_table.specs.declared.limits.TheConstants.{CHAIN_NUMBERS};
 ghost use Rattle.fx_chain.specs.Accepted.{IsChain};
 ghost use Rattle.fx_chain.specs.Operation.{all_asked};
@@ -25,6 +25,8 @@ pub(crate) fn most_installs(requests: &[Request], chains: &[Chain]) -> u32
     requires { All (IsChain (all_asked requests.now)) chains.now }
     ensures few { result ≤ CHAIN_NUMBERS }
     ensures each { InstallAtMost (all_asked requests.now) result chains.now }
+    ensures least { (most : ℕ) → InstallAtMost (all_asked requests.now) most chains.now
+        → result ≤ most }
 {
     let mut most = 0;
     for chain in chains {

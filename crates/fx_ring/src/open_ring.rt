@@ -1,13 +1,13 @@
 //! A ring whose table stays open from one submission to the next, for one worker.
 ghost use Rattle.std.specs.Prelude.{IfOk, IfErr, IfSome, IfNone, OnErr, Err, IsOkUnless, MatchOption, ◌≡◌, ◌+◌, ◌≤◌, ℕ, false, length, map, All};
 ghost use Rattle.fx_table.specs.Pass.{IsIdle};
-ghost use Rattle.fx_table.specs.declared.limits.TheConstants.{CHAIN_NUMBERS, MAX_CHAINS};
+ghost use Rattle.fx_table.specs.declared.limits.TheConstants.{CHAIN_NUMBERS, MAX_CHAINS, PASS_LOOKS};
 ghost use Rattle.fx_chain.specs.Accepted.{IsChain, members_of};
 ghost use Rattle.fx_chain.specs.Completed.{all_completed};
 ghost use Rattle.fx_chain.specs.Operation.{all_asked};
 ghost use Rattle.fx_chain.specs.Runs.{runs_of};
 ghost use Rattle.fx_ring.specs.Outcomes.{HasRoomFor};
-ghost use Rattle.fx_ring.specs.OpenRings.{HasPlayedAlone, IsAloneAt, ring_led_by};
+ghost use Rattle.fx_ring.specs.OpenRings.{HasPlayedAlone, HasUsed, IsAloneAt, IsRoomFor, ring_led_by};
 ghost use Rattle.fx_ring.specs.Submission.{IsOneHistory, reported, submit_refusal};
 ghost use Rattle.fx_ring.specs.declared.report.SubmitFault.TheVariants.{NoMemory as Refused};
 ghost use Rattle.fx_ring.specs.Work.{InstallAtMost};
@@ -27,8 +27,11 @@ use std::alloc::Global;
 use std::marker::Model;
 use std::sync::Wait;
 
-/// A ring whose table is open for one worker, and stays so from one submission to the next: a submission takes no more time
-/// than its requests do. It is no `Drop`, as a ring is none.
+/// A ring whose table is open for one worker, and stays so from one submission to the next: none of them opens or closes it.
+/// It is no `Drop`, as a ring is none.
+///
+/// Contracts see the ring, and for what its table has room yet: so many chains, each of which may install so many files, and
+/// so many look-ups.
 pub struct OpenRing<T: FileTable> {
     catalogue: Catalogue,
     table: T,
@@ -44,13 +47,18 @@ pub struct OpenRing<T: FileTable> {
 }
 
 impl<T: FileTable> Model for OpenRing<T> {
-    ghost use Rattle.fx_ring.specs.Ring.{RingContents};
-    ghost use Rattle.fx_ring.specs.OpenRings.{ring_shown, IsKeptOpen};
+    ghost use Rattle.std.specs.Prelude.{◌-◌};
+    ghost use Rattle.fx_ring.specs.OpenRings.{OpenRingContents, ring_shown, looks_shown, IsKeptOpen};
 
-    ghost Value = { RingContents };
+    ghost Value = { OpenRingContents };
 
-    ghost view = { λ s. ring_shown T.view s.catalogue (T.opening s.table) s.submissions s.registrations
-        s.passes.items };
+    ghost view = { λ s. record {
+      ring = ring_shown T.view s.catalogue (T.opening s.table) s.submissions s.registrations
+          s.passes.items;
+      chains_left = s.chains - s.drawn;
+      most = s.most;
+      looks_left = looks_shown T.view s.passes.items;
+    } };
 
     ghost invariant = { λ s. IsKeptOpen T.view (T.fits s.table) s.catalogue (T.opening s.table) s.size
         s.chains s.drawn s.most s.submissions s.registrations s.passes.items };
@@ -70,7 +78,10 @@ impl Ring {
     ) -> Result<OpenRing<T>, (Ring, NoMemory)>
         requires chains { chains ≤ MAX_CHAINS }
         requires most { most ≤ CHAIN_NUMBERS }
-        ensures opened { IfOk result (λ opened. ring_of opened ≡ ring_of self) }
+        ensures opened { IfOk result (λ opened. ring_of opened.ring ≡ ring_of self) }
+        ensures chains_left { IfOk result (λ opened. opened.chains_left ≡ chains) }
+        ensures each { IfOk result (λ opened. opened.most ≡ most) }
+        ensures looks_left { IfOk result (λ opened. opened.looks_left ≡ PASS_LOOKS) }
         ensures refused { IfErr result (λ back. ring_of back.0 ≡ ring_of self) }
     {
         let Ring {
@@ -106,16 +117,26 @@ impl Ring {
 }
 
 impl<T: FileTable> OpenRing<T> {
+    /// The files that can be opened.
+    pub fn catalogue(&self) -> &Catalogue
+        ensures { result.now ≡ (ring_of self.now.ring).catalogue }
+    {
+        &self.catalogue
+    }
+
     /// How many slots there are.
     pub fn size(&self) -> u32
-        ensures { result ≡ (ring_of self.now).size }
+        ensures { result ≡ (ring_of self.now.ring).size }
     {
         self.size
     }
 
     /// Plays a submission on the open table, as [`Ring::submit`] does by one worker. `None` where the table has no room for
-    /// it: it was opened for fewer chains than are asked for by now, or for chains that install fewer files, or it was looked
-    /// up too often. Then nothing was done: [`OpenRing::close`] gives a ring that plays it.
+    /// it: fewer chains are left of those that it was opened for, or a chain installs more files than it was opened for, or
+    /// fewer look-ups are left than there are requests, of [`fx_table::PASS_LOOKS`] at first. Then nothing was done:
+    /// [`OpenRing::close`] gives a ring that plays it.
+    ///
+    /// Each chain uses one of the chains that are left, and each request at most one look-up.
     ///
     /// # Errors
     /// Those of [`Ring::submit`] with one worker. The ring is then as it was.
@@ -126,14 +147,21 @@ impl<T: FileTable> OpenRing<T> {
         requests: &[Request],
         gate: &G,
     ) -> Result<Option<Report>, SubmitFault>
-        ensures refused { IfSome (submit_refusal (ring_of self.old) (all_asked requests.now) 1)
+        ensures refused { IfSome
+            (submit_refusal (ring_of self.old.ring) (all_asked requests.now) 1)
             (λ fault. result ≡ Err fault) }
-        ensures only_refusal { IfNone (submit_refusal (ring_of self.old) (all_asked requests.now) 1)
+        ensures only_refusal { IfNone
+            (submit_refusal (ring_of self.old.ring) (all_asked requests.now) 1)
             (IsOkUnless result Refused) }
         ensures one_history { IfOk result (λ played. MatchOption played (self.new ≡ self.old)
-            (λ report. IsOneHistory self.old (all_asked requests.now) (reported report) self.new)) }
+            (λ report. IsOneHistory self.old.ring (all_asked requests.now) (reported report)
+            self.new.ring)) }
         ensures entries { IfOk result (λ played. IfSome played
-            (λ report. AreEntries (ring_of self.new) report.closes.files)) }
+            (λ report. AreEntries (ring_of self.new.ring) report.closes.files)) }
+        ensures no_room { IfOk result (λ played. IfNone played
+            (IsRoomFor (all_asked requests.now) self.old → ⊥)) }
+        ensures used { IfOk result (λ played. IfSome played
+            (λ _. HasUsed self.old (all_asked requests.now) self.new)) }
         ensures err { OnErr result (self.new ≡ self.old) }
     {
         if let Some(fault) = refusal_behind(self.submissions, requests, 1) {
@@ -178,7 +206,7 @@ impl<T: FileTable> OpenRing<T> {
 
     /// The ring again, with its own table. It can't run out of memory.
     pub fn close(self) -> Ring
-        ensures { ring_of result ≡ ring_of self }
+        ensures { ring_of result ≡ ring_of self.ring }
     {
         let OpenRing {
             catalogue,
@@ -220,6 +248,8 @@ fn submit_alone<T: FileTable, R: Wait, G: Gate>(
     requires room { HasRoomFor (all_asked submission.now.requests.now) outcome }
     ensures alone { IsAloneAt T.view (T.fits table.now) (T.opening table.now) pass.new }
     ensures chain { (T.view pass.new).chain ≡ (T.view pass.old).chain + length chains.now }
+    ensures looks { (T.view pass.old).looks_left
+        ≤ (T.view pass.new).looks_left + length submission.now.requests.now }
     ensures played { let o = T.opening table.now in let s = submission.now in
         (registrations : ℕ) → IsOneHistory
         (ring_led_by s.catalogue.now o (T.view pass.old) s.earlier registrations)

@@ -1,3 +1,4 @@
 pub mod Turns
 pub mod KeptBytes
+pub mod SameRings
 pub mod PlaySteps

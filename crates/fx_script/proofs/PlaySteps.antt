@@ -1,26 +1,21 @@
--- A play goes on by one command.
-use Rattle.std.proofs.Common.{◌≡◌, ℕ, ◌+◌, ◌<◌, List, [], ◌∷◌, ◌++◌, length, refl, sym, ap, subst, ◌∙◌, Option}
-use Rattle.std.proofs.Common.{Some, None, append_assoc, map, drop, suc, slice_index_or, add-one, inl, inr, arith}
-use Rattle.std.proofs.lemmas.List.{append-nil}
+-- A play goes on by some commands.
+use Rattle.std.proofs.Common.{◌≡◌, ℕ, ◌+◌, ◌<◌, ◌≤◌, List, [], ◌∷◌, ◌++◌, length, refl, sym, ap, subst, ◌∙◌, Option}
+use Rattle.std.proofs.Common.{Some, None, append_assoc, map, drop, take, slice_index_or, inl, inr, arith}
+use Rattle.std.proofs.lemmas.List.{append-nil, map-append, take-append-drop, take_all, take_more}
 use Rattle.std.proofs.lemmas.List.Sorted.{IsPermutation-refl}
-use Rattle.std.proofs.Math.Seq.{drop-cons, drop-length}
+use Rattle.std.proofs.Math.Seq.{take-add}
 use Rattle.std.specs.Io.KnownBytes.{Appends}
+use Rattle.std.specs.Prelude.{IfErr, IfOk, OnOk, Result, Ok, Err}
 use Rattle.std.specs.List.Sorted.{IsPermutation}
 use Rattle.fx_ring.specs.Ring.{RingContents, RingState, files_in_order, ring_of}
-use Rattle.fx_language.specs.Instruction.{Instruction, instruction_of}
-use Rattle.fx_script.specs.Play.{Prints, PrintsAll, PrintsEnd, PrintsFirst}
+use Rattle.fx_language.specs.Instruction.{Instruction, instruction_of, instructions_of}
+use Rattle.fx_language.specs.Script.{Meaning}
+use Rattle.fx_script.specs.Play.{IsStart, IsText, IsTextOfFirst, Prints, PrintsAll, PrintsEnd, PrintsFirst, PrintsUpTo}
 use Rattle.fx_script.specs.Run.{IsPlayFault, Writes}
+use Rattle.fx_script.proofs.SameRings.{up_to_same, up_to_other, all_same, first_same}
 use Rattle.fx_language.specs.declared.command.Command.{Command}
 use Rattle.fx_script.specs.declared.play_fault.PlayFault.{PlayFault}
-use Rattle.fx_script.specs.declared.play_fault.PlayFault.TheVariants.{NoMemory}
-
--- what was written so far, and that whatever the commands that are left print goes behind it
-pub record PlaysOn (first : RingContents) (all : List Instruction) (before : Option (List ℕ))
-    (now : RingContents) (left : List Instruction) (written : Option (List ℕ)) : Type 0 where
-  pub text : List ℕ
-  pub appended : Appends before written text
-  pub goes_first : (others : List ℕ) → PrintsFirst now left others → PrintsFirst first all (text ++ others)
-  pub goes_on : (others : List ℕ) → PrintsAll now left others → PrintsAll first all (text ++ others)
+use Rattle.fx_script.specs.declared.play_fault.PlayFault.TheVariants.{Read, Script, Write, NoMemory}
 
 Appends-nothing : (known : Option (List ℕ)) → Appends known known []
 Appends-nothing None = tt
@@ -33,55 +28,163 @@ Appends-append (Some a) (Some b) None xs ys first second = absurd second
 Appends-append (Some a) (Some b) (Some c) xs ys first second =
     second ∙ ap (λ (k : List ℕ). k ++ ys) first ∙ append_assoc a xs ys
 
-pub begins : (first : RingContents) (all : List Instruction) (known : Option (List ℕ)) → PlaysOn first all known first all known
-begins first all known = record {
-  text = [];
-  appended = Appends-nothing known;
-  goes_first = λ others prints. prints;
-  goes_on = λ others prints. prints;
-}
+-- what is known of a play without memory may be put otherwise
+fault_maps : (fault : PlayFault) (one other : Type 0) → (one → other) → IsPlayFault fault one → IsPlayFault fault other
+fault_maps Read one other f known = known
+fault_maps (Script line kind) one other f known = known
+fault_maps Write one other f known = known
+fault_maps NoMemory one other f known = f known
 
-pub one_more : (first : RingContents) (all : List Instruction) (now next : RingContents) (command : Instruction)
-    (left : List Instruction) (before known written : Option (List ℕ)) → PlaysOn first all before now (command ∷ left) known
-    → (line : List ℕ) → Prints now command next line → Appends known written line → PlaysOn first all before next left written
-one_more first all now next command left before known written on line prints appended = record {
-  text = on.text ++ line;
-  appended = Appends-append before known written on.text line on.appended appended;
-  goes_first = λ others more.
-      subst (PrintsFirst first all) (sym (append_assoc on.text line others))
-      (on.goes_first (line ++ others) (inr (next, line, others, prints, refl, more)));
-  goes_on = λ others more.
-      subst (PrintsAll first all) (sym (append_assoc on.text line others))
-      (on.goes_on (line ++ others) (next, line, others, prints, refl, more));
-}
+-- what some commands print, with what those behind them print
 
-pub ends : (first : RingContents) (all : List Instruction) (now : RingContents) (before known written : Option (List ℕ))
-    (text : List ℕ) → PlaysOn first all before now [] known → PrintsEnd (ring_of now) text → Appends known written text
-    → Writes (PrintsAll first all) before written
-ends first all now before known written text on end appended =
-    (on.text ++ text, on.goes_on text end, Appends-append before known written on.text text on.appended appended)
+module _ (next : RingContents) (others : List ℕ) where
+  up_to_more : (front back : List Instruction) (ring last : RingContents) (text : List ℕ) → PrintsUpTo ring front next text
+      → PrintsUpTo next back last others → PrintsUpTo ring (front ++ back) last (text ++ others)
+  up_to_more [] back ring last text (end, none) more =
+      subst (λ (t : List ℕ). PrintsUpTo ring back last (t ++ others)) (sym none) (up_to_same next ring (sym end) back last others more)
+  up_to_more (command ∷ front) back ring last text (then, line, rest, prints, parts, goes_on) more = (
+    then, line, rest ++ others, prints, ap (λ (t : List ℕ). t ++ others) parts ∙ append_assoc line rest others,
+    up_to_more front back then last rest goes_on more)
 
-pub front_command : (commands : List Command) (i : ℕ) (r : Command) → i < length commands → r ≡ slice_index_or commands i r
-    → map instruction_of (drop i commands) ≡ instruction_of r ∷ map instruction_of (drop (i + 1) commands)
-front_command commands i r inside is =
-    rw (add-one, drop-cons commands i r inside)
-    (ap (λ (x : Command). instruction_of x ∷ map instruction_of (drop (suc i) commands)) (sym is))
+  all_more : (front back : List Instruction) (ring : RingContents) (text : List ℕ) → PrintsUpTo ring front next text
+      → PrintsAll next back others → PrintsAll ring (front ++ back) (text ++ others)
+  all_more [] back ring text (end, none) more =
+      subst (λ (t : List ℕ). PrintsAll ring back (t ++ others)) (sym none) (all_same next ring (sym end) back others more)
+  all_more (command ∷ front) back ring text (then, line, rest, prints, parts, goes_on) more = (
+    then, line, rest ++ others, prints, ap (λ (t : List ℕ). t ++ others) parts ∙ append_assoc line rest others,
+    all_more front back then rest goes_on more)
 
-pub no_command : (commands : List Command) (i : ℕ) → i ≡ length commands → map instruction_of (drop i commands) ≡ []
-no_command commands i is =
-    ap (λ (n : ℕ). map instruction_of (drop n commands)) is ∙ ap (map instruction_of) (drop-length commands)
+  first_more : (front back : List Instruction) (ring : RingContents) (text : List ℕ) → PrintsUpTo ring front next text
+      → PrintsFirst next back others → PrintsFirst ring (front ++ back) (text ++ others)
+  first_more [] back ring text (end, none) more =
+      subst (λ (t : List ℕ). PrintsFirst ring back (t ++ others)) (sym none) (first_same next ring (sym end) back others more)
+  first_more (command ∷ front) back ring text (then, line, rest, prints, parts, goes_on) more = inr (
+    then, line, rest ++ others, prints, ap (λ (t : List ℕ). t ++ others) parts ∙ append_assoc line rest others,
+    first_more front back then rest goes_on more)
 
 prints_nothing : (now : RingContents) (left : List Instruction) → PrintsFirst now left []
 prints_nothing now [] = refl
 prints_nothing now (command ∷ commands) = inl refl
 
--- without memory the first commands were played
-pub ends_early : (fault : PlayFault) (first : RingContents) (all : List Instruction) (now : RingContents)
-    (left : List Instruction) (before known : Option (List ℕ)) → PlaysOn first all before now left known
-    → fault ≡ NoMemory → IsPlayFault fault (Writes (PrintsFirst first all) before known)
-ends_early fault first all now left before known on is =
-    subst (λ (f : PlayFault). IsPlayFault f (Writes (PrintsFirst first all) before known)) (sym is)
-    (on.text, subst (PrintsFirst first all) (append-nil on.text) (on.goes_first [] (prints_nothing now left)), on.appended)
+-- where nothing was written, that is what no commands print
+pub nothing_written : (fault : PlayFault) (ring : RingContents) (commands : List Instruction) (before written : Option (List ℕ))
+    → IsPlayFault fault (written ≡ before) → IsPlayFault fault (Writes (PrintsFirst ring commands) before written)
+nothing_written fault ring commands before written = fault_maps fault _ _ (λ same.
+    ([], prints_nothing ring commands, subst (λ (w : Option (List ℕ)). Appends before w []) (sym same) (Appends-nothing before)))
+
+-- the first so many commands were played: what was written is the text of these
+
+pub begins : (ring : RingContents) (commands : List Command) (known : Option (List ℕ))
+    → Writes (PrintsUpTo ring (instructions_of (take 0 commands)) ring) known known
+begins ring commands known = ([], (refl, refl), Appends-nothing known)
+
+pub one_alone : (ring next : RingContents) (command : Instruction) (before written : Option (List ℕ)) → Writes (Prints ring command next) before written
+    → Writes (PrintsUpTo ring (command ∷ []) next) before written
+one_alone ring next command before written (text, prints, appended) = (text, (next, text, [], prints, sym (append-nil text), (refl, refl)), appended)
+
+module _ (ring now : RingContents) (commands : List Command) (i : ℕ) (before known written : Option (List ℕ))
+    (so_far : Writes (PrintsUpTo ring (instructions_of (take i commands)) now) before known) where
+  abbrev front : List Instruction
+  front = instructions_of (take i commands)
+
+  abbrev back : List Instruction
+  back = instructions_of (drop i commands)
+
+  whole : front ++ back ≡ instructions_of commands
+  whole = sym (map-append instruction_of (take i commands) (drop i commands)) ∙ ap instructions_of (take-append-drop i commands)
+
+  -- and so many more
+  pub some_more : (next : RingContents) (count : ℕ) → Writes (PrintsUpTo now (instructions_of (take count (drop i commands))) next) known written
+      → Writes (PrintsUpTo ring (instructions_of (take (i + count) commands)) next) before written
+  some_more next count (line, prints, appended) = (
+    so_far.0 ++ line,
+    subst (λ (l : List Instruction). PrintsUpTo ring l next (so_far.0 ++ line))
+        (sym (map-append instruction_of (take i commands) (take count (drop i commands))) ∙ ap instructions_of (sym (take-add i count commands)))
+        (up_to_more now line front (instructions_of (take count (drop i commands))) ring next so_far.0 so_far.1 prints),
+    Appends-append before known written so_far.0 line so_far.2 appended,
+  )
+
+  -- and one more
+  pub one_more : (next : RingContents) (command : Command) → i < length commands → command ≡ slice_index_or commands i command
+      → Writes (Prints now (instruction_of command) next) known written
+      → Writes (PrintsUpTo ring (instructions_of (take (i + 1) commands)) next) before written
+  one_more next command inside is one =
+      let alone = one_alone now next (instruction_of command) known written one in (
+        so_far.0 ++ alone.0,
+        subst (λ (l : List Instruction). PrintsUpTo ring l next (so_far.0 ++ alone.0))
+            (sym (map-append instruction_of (take i commands) (command ∷ []))
+            ∙ ap instructions_of (ap (λ (c : Command). take i commands ++ c ∷ []) is ∙ sym (take_more commands i command inside)))
+            (up_to_more now alone.0 front (instruction_of command ∷ []) ring next so_far.0 so_far.1 alone.1),
+        Appends-append before known written so_far.0 alone.0 so_far.2 alone.2,
+      )
+
+  -- and the end
+  pub ends : length commands ≤ i → Writes (PrintsEnd (ring_of now)) known written → Writes (PrintsAll ring (instructions_of commands)) before written
+  ends all (line, prints, appended) = (
+    so_far.0 ++ line,
+    subst (λ (l : List Instruction). PrintsAll ring l (so_far.0 ++ line))
+        (append-nil front ∙ ap instructions_of (take_all i commands all))
+        (all_more now line front [] ring so_far.0 so_far.1 prints),
+    Appends-append before known written so_far.0 line so_far.2 appended,
+  )
+
+  -- or the play came to no end behind them
+  pub ends_early : (fault : PlayFault) → IsPlayFault fault (Writes (PrintsFirst now back) known written)
+      → IsPlayFault fault (Writes (PrintsFirst ring (instructions_of commands)) before written)
+  ends_early fault = fault_maps fault _ _ (λ (line, prints, appended). (
+    so_far.0 ++ line,
+    subst (λ (l : List Instruction). PrintsFirst ring l (so_far.0 ++ line)) whole
+        (first_more now line front back ring so_far.0 so_far.1 prints),
+    Appends-append before known written so_far.0 line so_far.2 appended,
+  ))
+
+  -- or at the end
+  pub ends_all : length commands ≤ i → (r : Result (Unit {0}) PlayFault) → OnOk r (Writes (PrintsEnd (ring_of now)) known written)
+      → OnOk r (Writes (PrintsAll ring (instructions_of commands)) before written)
+  ends_all all (Ok done) end = ends all end
+  ends_all all (Err fault) end = tt
+
+  pub fails_at_end : (r : Result (Unit {0}) PlayFault) → IfErr r (λ fault. IsPlayFault fault (written ≡ known))
+      → IfErr r (λ fault. IsPlayFault fault (Writes (PrintsFirst ring (instructions_of commands)) before written))
+  fails_at_end (Ok done) failed = tt
+  fails_at_end (Err fault) failed = ends_early fault (nothing_written fault now back known written failed)
+
+-- what was played on the ring while its table was open
+
+module _ (ring opened after closed : RingContents) (opens : ring_of opened ≡ ring_of ring) (closes : ring_of closed ≡ ring_of after)
+    (commands : List Command) (before written : Option (List ℕ)) where
+  pub played_open : (r : Result ℕ PlayFault) → IfOk r (λ count. Writes (PrintsUpTo opened (instructions_of (take count commands)) after) before written)
+      → IfOk r (λ count. Writes (PrintsUpTo ring (instructions_of (take count commands)) closed) before written)
+  played_open (Ok count) (text, prints, appended) = (
+    text,
+    up_to_same opened ring (sym opens) (instructions_of (take count commands)) closed text
+        (up_to_other after closed closes (instructions_of (take count commands)) opened text prints),
+    appended,
+  )
+  played_open (Err fault) played = tt
+
+  pub failed_open : (r : Result ℕ PlayFault)
+      → IfErr r (λ fault. IsPlayFault fault (Writes (PrintsFirst opened (instructions_of commands)) before written))
+      → IfErr r (λ fault. IsPlayFault fault (Writes (PrintsFirst ring (instructions_of commands)) before written))
+  failed_open (Ok count) failed = tt
+  failed_open (Err fault) failed = fault_maps fault _ _ (λ (text, prints, appended).
+      (text, first_same opened ring (sym opens) (instructions_of commands) text prints, appended)) failed
+
+-- the text of commands that begin with a ring without a table is the script's
+
+module _ (meaning : Meaning) (ring : RingContents) (start : IsStart meaning ring) (commands : List Instruction) (same : commands ≡ meaning.commands)
+    (before written : Option (List ℕ)) where
+  pub all_text : (r : Result (Unit {0}) PlayFault) → OnOk r (Writes (PrintsAll ring commands) before written)
+      → OnOk r (Writes (IsText meaning) before written)
+  all_text (Ok done) (text, prints, appended) =
+      (text, (ring, start, subst (λ (l : List Instruction). PrintsAll ring l text) same prints), appended)
+  all_text (Err fault) played = tt
+
+  pub first_text : (r : Result (Unit {0}) PlayFault) → IfErr r (λ fault. IsPlayFault fault (Writes (PrintsFirst ring commands) before written))
+      → IfErr r (λ fault. IsPlayFault fault (Writes (IsTextOfFirst meaning) before written))
+  first_text (Ok done) failed = tt
+  first_text (Err fault) failed = fault_maps fault _ _ (λ (text, prints, appended).
+      (text, (ring, start, subst (λ (l : List Instruction). PrintsFirst ring l text) same prints), appended)) failed
 
 -- without a table no file is left
 pub nothing_left : (ring : RingState) → ring.size ≡ 0 → PrintsEnd ring []

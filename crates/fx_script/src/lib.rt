@@ -4,11 +4,14 @@
 
 mod input;
 pub mod laws;
+mod needs;
 mod play_fault;
 mod player;
 mod prints;
 mod report;
 mod runner;
+mod together;
+mod writes;
 
 pub use fx_language::{
     Command, LARGEST_NUMBER, LARGEST_TAG, LONGEST_LINE, LONGEST_SCRIPT, Script, ScriptError,

@@ -1,15 +1,15 @@
 //! A play: the commands of a script are given to a ring, one after another, and what each prints is written.
-ghost use Rattle.std.specs.Prelude.{◌≡◌, ◌≤◌, IfErr, OnOk};
-ghost use Rattle.std.specs.Io.KnownBytes.{Appends};
+ghost use Rattle.std.specs.Prelude.{◌≡◌, ◌≤◌, IfErr, IfOk, OnOk, length, take};
 ghost use Rattle.fx_table.specs.declared.limits.TheConstants.{MAX_PASSES};
 ghost use Rattle.fx_ring.specs.Ring.{ring_of};
-ghost use Rattle.fx_language.specs.Instruction.{instructions_of};
-ghost use Rattle.fx_script.specs.Play.{IsText, IsTextOfFirst, PrintsAll, PrintsFirst};
+ghost use Rattle.fx_language.specs.Instruction.{instruction_of, instructions_of};
+ghost use Rattle.fx_script.specs.Play.{IsText, IsTextOfFirst, Prints, PrintsAll, PrintsEnd, PrintsFirst, PrintsUpTo};
 ghost use Rattle.fx_script.specs.Run.{IsPlayFault, Writes};
-ghost use Rattle.fx_script.specs.declared.play_fault.PlayFault.TheVariants.{Write};
 
 use crate::play_fault::PlayFault;
 use crate::prints::{command_text, end_text};
+use crate::together::play_together;
+use crate::writes::write_text;
 use fx_chain::Gate;
 use fx_language::{Command, Script};
 use fx_ring::Ring;
@@ -19,42 +19,106 @@ use std::io::Write;
 use std::sync::Wait;
 use std::thread::Threads;
 
-// Writes what a command prints, by one call: a reader of the output that gets a write at a time gets a command at a time.
-fn write_text<W: Write>(writer: &mut W, text: &str) -> Result<(), PlayFault>
-    ensures written { OnOk result
-        (Appends (W.contents writer.old) (W.contents writer.new) text.now) }
-    ensures fault { IfErr result (λ fault. fault ≡ Write) }
+// Plays a command, and writes what it prints.
+fn play_command<T: FileTable, G: Gate, W: Write>(
+    rt: &(impl Threads + Wait + Sync),
+    alloc: Global,
+    ring: &mut Ring,
+    command: &Command,
+    workers: u32,
+    gate: &G,
+    writer: &mut W,
+) -> Result<(), PlayFault>
+    requires workers { (1 ≤ workers) × (workers ≤ MAX_PASSES) }
+    ensures ok { OnOk result (Writes (Prints ring.old (instruction_of command.now) ring.new)
+        (W.contents writer.old) (W.contents writer.new)) }
+    ensures fault { IfErr result (λ fault. IsPlayFault fault
+        (W.contents writer.new ≡ W.contents writer.old)) }
 {
-    writer
-        .write_all(text.as_bytes())
-        .map_err(|_| PlayFault::Write)
+    let printed = command_text::<T, G>(rt, alloc, ring, command, workers, gate)?;
+    write_text(writer, printed.as_str())
+}
+
+// Plays the submissions that some commands begin with, where one worker plays them together, and the command behind them, and
+// gives how many commands these are.
+fn play_some<T: FileTable, G: Gate, W: Write>(
+    rt: &(impl Threads + Wait + Sync),
+    alloc: Global,
+    ring: Ring,
+    commands: &[Command],
+    workers: u32,
+    gate: &G,
+    writer: &mut W,
+) -> (Ring, Result<usize, PlayFault>)
+    requires workers { (1 ≤ workers) × (workers ≤ MAX_PASSES) }
+    requires commands { 1 ≤ length commands.now }
+    ensures count { IfOk result.1 (λ count. (1 ≤ count) × (count ≤ length commands.now)) }
+    ensures ok { IfOk result.1 (λ count. Writes
+        (PrintsUpTo ring (instructions_of (take count commands.now)) result.0)
+        (W.contents writer.old) (W.contents writer.new)) }
+    ensures fault { IfErr result.1 (λ fault. IsPlayFault fault
+        (Writes (PrintsFirst ring (instructions_of commands.now))
+        (W.contents writer.old) (W.contents writer.new))) }
+{
+    let (mut ring, together) =
+        play_together::<T, G, W>(rt, alloc, ring, commands, workers, gate, writer);
+    let count = match together {
+        Ok(count) => count,
+        Err(fault) => return (ring, Err(fault)),
+    };
+    let Some(next) = commands.get(count) else {
+        return (ring, Ok(count));
+    };
+    match play_command::<T, G, W>(rt, alloc, &mut ring, next, workers, gate, writer) {
+        Ok(()) => (ring, Ok(count + 1)),
+        Err(fault) => (ring, Err(fault)),
+    }
+}
+
+// Closes the files that are left, and writes what the end prints.
+fn play_end<W: Write>(alloc: Global, ring: &mut Ring, writer: &mut W) -> Result<(), PlayFault>
+    ensures ok { OnOk result (Writes (PrintsEnd (ring_of ring.old))
+        (W.contents writer.old) (W.contents writer.new)) }
+    ensures fault { IfErr result (λ fault. IsPlayFault fault
+        (W.contents writer.new ≡ W.contents writer.old)) }
+    ensures closed { OnOk result ((ring_of ring.new).size ≡ 0) }
+{
+    let text = end_text(alloc, ring)?;
+    write_text(writer, text.as_str())
 }
 
 // Plays the commands, writes what each prints, and closes the files that are left at the end.
 fn play_commands<T: FileTable, G: Gate, W: Write>(
     rt: &(impl Threads + Wait + Sync),
     alloc: Global,
-    ring: &mut Ring,
+    ring: Ring,
     commands: &[Command],
     workers: u32,
     gate: &G,
     writer: &mut W,
-) -> Result<(), PlayFault>
+) -> (Ring, Result<(), PlayFault>)
     requires workers { (1 ≤ workers) × (workers ≤ MAX_PASSES) }
-    ensures ok { OnOk result (Writes (PrintsAll ring.old (instructions_of commands.now))
+    ensures ok { OnOk result.1 (Writes (PrintsAll ring (instructions_of commands.now))
         (W.contents writer.old) (W.contents writer.new)) }
-    ensures fault { IfErr result (λ fault. IsPlayFault fault
-        (Writes (PrintsFirst ring.old (instructions_of commands.now))
+    ensures fault { IfErr result.1 (λ fault. IsPlayFault fault
+        (Writes (PrintsFirst ring (instructions_of commands.now))
         (W.contents writer.old) (W.contents writer.new))) }
-    ensures closed { OnOk result ((ring_of ring.new).size ≡ 0) }
+    ensures closed { OnOk result.1 ((ring_of result.0).size ≡ 0) }
 {
-    for command in commands {
-        let printed = command_text::<T, G>(rt, alloc, ring, command, workers, gate)?;
-        write_text(writer, printed.as_str())?;
+    let mut ring = ring;
+    let mut played = 0;
+    while played < commands.len() {
+        let left = &commands[played..];
+        let (after, some) =
+            play_some::<T, G, W>(rt, alloc, ring, left, workers, gate, writer);
+        ring = after;
+        match some {
+            Ok(count) => played += count,
+            Err(fault) => return (ring, Err(fault)),
+        }
     }
-    let text = end_text(alloc, ring)?;
-    write_text(writer, text.as_str())?;
-    Ok(())
+    let ended = play_end(alloc, &mut ring, writer);
+    (ring, ended)
 }
 
 /// Plays a script on a ring without a table, each of its submissions by so many workers, and writes what each command
@@ -79,11 +143,10 @@ pub fn play<T: FileTable, G: Gate, W: Write>(
         (Writes (IsTextOfFirst script) (W.contents writer.old) (W.contents writer.new))) }
 {
     let (catalogue, commands) = script.into_parts();
-    let mut ring = Ring::new(alloc, catalogue);
-    let result = play_commands::<T, G, W>(
+    let (ring, result) = play_commands::<T, G, W>(
         rt,
         alloc,
-        &mut ring,
+        Ring::new(alloc, catalogue),
         commands.as_slice(),
         workers,
         gate,

@@ -32,6 +32,10 @@ loop-chain-preserved c =
           (All-weaker (λ x. all_installs (members_of asked x) ≤ c.loop-chain.most) (λ x. all_installs (members_of asked x) ≤ c.max-most.result)
           (λ x l. omega (arith, l, low)) (take c.loop-chain.chain-index c.args.chains.now) so_far.each)
           (omega (arith, same, its, high));
+      least = λ most all.
+          let here : all_installs (members_of asked chain) ≤ most = all c.loop-chain.chain-index none c.loop-chain-test.true in
+          let earlier = so_far.least most all in
+          let new : c.installs_of_chain.result ≤ most = omega (arith, same, its, here) in grind (arith, common_steps);
     }
 
 pub returns-clause-each : goal.returns-clause-each

@@ -2,7 +2,7 @@ use Rattle.fx_ring.proofs.Words.{◌≡◌, ℕ, ◌+◌, ◌<◌, ◌≤◌, Li
 use Rattle.fx_ring.proofs.Words.{all_completed, run_of_chain, vec_capacity, asked_of, length-map}
 use Rattle.fx_chain.specs.Performs.{PlaysChain, player}
 use Rattle.fx_ring.proofs.Runs.{as_many}
-use Rattle.fx_ring.proofs.LonePlays.{since_then, worked_next, room_next, own_next, chain_next, more_next, number_next, begun_has_worked, begun_has_room}
+use Rattle.fx_ring.proofs.LonePlays.{since_then, worked_next, room_next, own_next, chain_next, looks_next, more_next, number_next, begun_has_worked, begun_has_room}
 use Rattle.fx_ring.proofs.open_ring.play_alone.Given.{Over}
 use Rattle.fx_ring.proofs.open_ring.play_alone.Goals.{After-run_chain}
 use Rattle.fx_ring.proofs.open_ring.play_alone.Goals as goal
@@ -17,6 +17,7 @@ loop-i-init g c =
         more = c.requires.more;
         number = refl;
         chain = omega arith;
+        looks = omega arith;
         since = [];
         own = refl;
         worked = begun_has_worked _ _ _ (all_asked s.requests.now) (V c.args.pass.now) c.args.outcome.now c.requires.room;
@@ -71,6 +72,7 @@ loop-i-preserved g c =
         number = number_next (o g a) _ _ (runs g a) (base g a) (i g a) b.since _ _ _ _ _ _ _ b.worked b.chain (inside g a) _ (next g a) drew (played g a)
             ∙ b.number;
         chain = chain_next (o g a) _ _ (runs g a) (base g a) (i g a) b.since _ _ _ _ _ _ _ b.worked b.chain (inside g a) _ (next g a) drew (played g a);
+        looks = looks_next (o g a) _ _ (runs g a) (base g a) (i g a) b.since _ _ _ _ _ _ _ b.worked b.chain (inside g a) _ (next g a) drew (played g a) _ b.looks;
         since = since_then (o g a) _ _ (runs g a) (base g a) (i g a) b.since _ _ _ _ _ _ _ b.worked b.chain (inside g a) _ (next g a) drew (played g a);
         own = own_next (o g a) _ _ (runs g a) (base g a) (i g a) b.since _ _ _ _ _ _ _ b.worked b.chain (inside g a) _ (next g a) drew (played g a) _ b.own;
         worked = worked_next (o g a) _ _ (runs g a) (base g a) (i g a) b.since _ _ _ _ _ _ _ b.worked b.chain (inside g a) _ (next g a) drew (played g a);

@@ -1,5 +1,7 @@
 use Rattle.fx_ring.proofs.Words.{arith, ◌≡◌, ℕ, ◌+◌, ◌≤◌, List, length, sym, ap, subst, ◌∙◌, All, Event, PassView, Opening, Asked, all_asked, runs_of, Reported, IsOneHistory}
 use Rattle.fx_ring.specs.OpenRings.{ring_led_by, begun_behind, chains_to}
+use Rattle.fx_ring.proofs.Words.{asked_of, length-map}
+use Rattle.fx_ring.proofs.NewCrew.{runs_have_all}
 use Rattle.fx_ring.proofs.Runs.{as_many}
 use Rattle.fx_ring.proofs.LoneHistories.{part_is_one_history}
 use Rattle.fx_ring.proofs.LoneEnds.{authors_of, all_drawn, runs_within}
@@ -25,3 +27,12 @@ returns-clause-played g c registrations =
     subst (λ (z : Reported × PassView). IsOneHistory (ring_led_by s.catalogue.now o before s.earlier registrations) asked z.0
     (ring_led_by s.catalogue.now o z.1 (s.earlier + 1) registrations))
     (λ i. (sym c.report.ensures i, sym c.settle.ensures.same i)) one
+
+pub returns-clause-looks : goal.returns-clause-looks
+returns-clause-looks g c =
+    let V : g.row.T-Pass.Denot → PassView = λ p. g.T.FileTable.view p in
+    let s = c.args.submission.now in
+    let all = runs_have_all (all_asked s.requests.now) in
+    let few = c.play_alone.ensures.played.looks in
+    let count = length-map s.requests.now asked_of in
+    let same = ap (λ (v : PassView). v.looks_left) c.settle.ensures.same in omega (arith, all, few, count, same)

@@ -1,56 +1,62 @@
-use Rattle.std.proofs.Common.{rules, subst, ◌≡◌, ◌+◌, List, drop, string_bytes}
-use Rattle.std.proofs.lemmas.Result.{err_from_is_err_and}
-use Rattle.std.specs.Io.KnownBytes.{Appends}
-use Rattle.fx_language.specs.Instruction.{Instruction, instruction_of, instructions_of}
-use Rattle.fx_script.proofs.PlaySteps.{PlaysOn, one_more, ends, ends_early, front_command, no_command}
+use Rattle.std.proofs.Common.{rules, ◌≡◌, ◌+◌, ◌-◌, ◌≤◌, List, length, length-drop, take, drop, arith, subst}
+use Rattle.std.specs.Prelude.{IfErr, IfOk, Result, ℕ}
+use Rattle.std.proofs.lemmas.List.{take_rest}
+use Rattle.fx_script.specs.declared.play_fault.PlayFault.{PlayFault}
+use Rattle.fx_language.specs.declared.command.Command.{Command}
+use Rattle.fx_language.specs.Instruction.{instructions_of}
+use Rattle.fx_script.specs.Play.{PrintsFirst, PrintsUpTo}
+use Rattle.fx_script.specs.Run.{IsPlayFault, Writes}
+use Rattle.fx_script.proofs.PlaySteps.{some_more, ends_early, ends_all, fails_at_end}
 use Rattle.fx_script.proofs.player.play_commands.Goals as goal
 
-pub loop-command-preserved : goal.loop-command-preserved
-loop-command-preserved g c =
+pub loop-played-preserved : goal.loop-played-preserved
+loop-played-preserved g c =
     let contents = g.W.Write.contents in
-    let before = contents c.args.writer.now in
-    let known = contents c.loop-command.writer in
-    let first = c.args.ring.now in
-    let all = instructions_of c.args.commands.now in
-    let now = c.loop-command.ring in
-    let front = front_command c.args.commands.now c.loop-command.command-index c.command-item.result (search rules) c.command-item.is in
-    let goes_on = λ (left : List Instruction). PlaysOn first all before now left known in
-    let on = subst goes_on front c.loop-command.invariant in
-    let text : c.as_str.result.now ≡ string_bytes c.in_ok-printed.printed = search rules in
-    let written = subst (Appends known (contents c.write_text.new.writer)) text c.in_ok-write_text.ensures.written in
-    one_more first all now c.command_text.new.ring (instruction_of c.command-item.result)
-    (instructions_of (drop (c.loop-command.command-index + 1) c.args.commands.now))
-    before known (contents c.write_text.new.writer) on
-    (string_bytes c.in_ok-printed.printed) c.in_ok-printed.ensures written
+    let left : List Command = drop c.loop-played.played c.args.commands.now in
+    let r = c.play_some-after.result.1 in
+    let counted : IfOk r (λ count. (1 ≤ count) × (count ≤ length left)) = subst (λ (l : List Command). IfOk r (λ count. (1 ≤ count) × (count ≤ length l)))
+    (take_rest c.args.commands.now c.loop-played.played) c.play_some-after.ensures.count in
+    let few = (subst (λ (r : Result ℕ PlayFault). IfOk r (λ count. (1 ≤ count) × (count ≤ length left))) c.in-Ok.is counted).1 in
+    let played : IfOk r (λ count. Writes (PrintsUpTo c.loop-played.ring (instructions_of (take count left)) c.play_some-after.result.0)
+    (contents c.loop-played.writer) (contents c.play_some-after.new.writer)) =
+    subst (λ (l : List Command). IfOk r (λ count. Writes (PrintsUpTo c.loop-played.ring (instructions_of (take count l)) c.play_some-after.result.0)
+    (contents c.loop-played.writer) (contents c.play_some-after.new.writer))) (take_rest c.args.commands.now c.loop-played.played)
+    c.play_some-after.ensures.ok in
+    let written = subst (λ (r : Result ℕ PlayFault). IfOk r (λ count. Writes (PrintsUpTo c.loop-played.ring (instructions_of (take count left)) c.play_some-after.result.0)
+    (contents c.loop-played.writer) (contents c.play_some-after.new.writer))) c.in-Ok.is played in
+    let rest = length-drop c.loop-played.played c.args.commands.now in
+    let so_far = c.loop-played.invariant.inside in
+    record {
+      inside = omega (arith, few, rest, so_far);
+      so_far = some_more c.args.ring c.loop-played.ring c.args.commands.now c.loop-played.played (contents c.args.writer.now)
+          (contents c.loop-played.writer) (contents c.play_some-after.new.writer) c.loop-played.invariant.so_far
+          c.play_some-after.result.0 c.in-Ok.count written;
+    }
 
-pub returns-in_err-printed-clause-fault : goal.returns-in_err-printed-clause-fault
-returns-in_err-printed-clause-fault g c =
+pub returns-in-Err-clause-fault : goal.returns-in-Err-clause-fault
+returns-in-Err-clause-fault g c =
     let contents = g.W.Write.contents in
-    let passed = err_from_is_err_and c.from_residual.result c.from_residual.ensures.1 in
-    rw passed.1 (ends_early passed.0 c.args.ring.now (instructions_of c.args.commands.now) c.loop-command.ring
-    (instructions_of (drop c.loop-command.command-index c.args.commands.now)) (contents c.args.writer.now)
-    (contents c.loop-command.writer) c.loop-command.invariant passed.2)
-
-pub returns-in_err-text-clause-fault : goal.returns-in_err-text-clause-fault
-returns-in_err-text-clause-fault g c =
-    let contents = g.W.Write.contents in
-    let passed = err_from_is_err_and c.from_residual-in_err-text.result c.from_residual-in_err-text.ensures.1 in
-    rw passed.1 (ends_early passed.0 c.args.ring.now (instructions_of c.args.commands.now) c.loop-command.ring
-    (instructions_of (drop c.loop-command.command-index c.args.commands.now)) (contents c.args.writer.now)
-    (contents c.loop-command.writer) c.loop-command.invariant passed.2)
+    let left : List Command = drop c.loop-played.played c.args.commands.now in
+    let told : IfErr c.play_some-after.result.1 (λ fault. IsPlayFault fault (Writes (PrintsFirst c.loop-played.ring (instructions_of left))
+    (contents c.loop-played.writer) (contents c.play_some-after.new.writer))) =
+    subst (λ (l : List Command). IfErr c.play_some-after.result.1 (λ fault. IsPlayFault fault (Writes (PrintsFirst c.loop-played.ring (instructions_of l))
+    (contents c.loop-played.writer) (contents c.play_some-after.new.writer)))) (take_rest c.args.commands.now c.loop-played.played)
+    c.play_some-after.ensures.fault in
+    let failed = subst (λ (r : Result ℕ PlayFault). IfErr r (λ fault. IsPlayFault fault (Writes (PrintsFirst c.loop-played.ring (instructions_of left))
+    (contents c.loop-played.writer) (contents c.play_some-after.new.writer)))) c.in-Err.is told in
+    ends_early c.args.ring c.loop-played.ring c.args.commands.now c.loop-played.played (contents c.args.writer.now)
+    (contents c.loop-played.writer) (contents c.play_some-after.new.writer) c.loop-played.invariant.so_far c.in-Err.fault failed
 
 pub returns-clause-ok : goal.returns-clause-ok
 returns-clause-ok g c =
     let contents = g.W.Write.contents in
-    let before = contents c.args.writer.now in
-    let known = contents c.loop-command.writer in
-    let first = c.args.ring.now in
-    let all = instructions_of c.args.commands.now in
-    let now = c.loop-command.ring in
-    let none = no_command c.args.commands.now c.loop-command.command-index (search rules) in
-    let goes_on = λ (left : List Instruction). PlaysOn first all before now left known in
-    let on = subst goes_on none c.loop-command.invariant in
-    let text : c.as_str-2.result.now ≡ string_bytes c.in_ok-text.text = search rules in
-    let written = subst (Appends known (contents c.write_text-2.new.writer)) text c.in_ok-write_text-2.ensures.written in
-    ends first all now before known (contents c.write_text-2.new.writer)
-    (string_bytes c.in_ok-text.text) on c.in_ok-text.ensures.end written
+    ends_all c.args.ring c.loop-played.ring c.args.commands.now c.loop-played.played (contents c.args.writer.now)
+    (contents c.loop-played.writer) (contents c.play_end-ended.new.writer) c.loop-played.invariant.so_far c.loop-played-test.false
+    c.play_end-ended.result c.play_end-ended.ensures.ok
+
+pub returns-clause-fault : goal.returns-clause-fault
+returns-clause-fault g c =
+    let contents = g.W.Write.contents in
+    fails_at_end c.args.ring c.loop-played.ring c.args.commands.now c.loop-played.played (contents c.args.writer.now)
+    (contents c.loop-played.writer) (contents c.play_end-ended.new.writer) c.loop-played.invariant.so_far
+    c.play_end-ended.result c.play_end-ended.ensures.fault

@@ -1,4 +1,5 @@
-use Rattle.fx_ring.proofs.Words.{◌≡◌, ◌∙◌, ap, ring_of, RingContents}
+use Rattle.fx_ring.proofs.Words.{◌≡◌, ◌∙◌, ap, ring_of}
+use Rattle.fx_ring.specs.OpenRings.{OpenRingContents}
 use Rattle.fx_ring.proofs.RingsOpened.{closed_ring}
 use Rattle.fx_ring.proofs.open_ring.OpenRing.close.Goals as goal
 
@@ -8,4 +9,4 @@ invariant_of-result g c = (closed_ring g.T.FileTable.view (λ p. g.T.FileTable.f
 
 pub returns : goal.returns
 returns g c = (closed_ring g.T.FileTable.view (λ p. g.T.FileTable.fits c.self.inside.table p) _ _ _ _ _ _ _ _ c.self.inside.passes.items _
-    c.self.invariant c.close.ensures).0 ∙ ap ring_of c.self.view_is
+    c.self.invariant c.close.ensures).0 ∙ ap (λ (opened : OpenRingContents). ring_of opened.ring) c.self.view_is

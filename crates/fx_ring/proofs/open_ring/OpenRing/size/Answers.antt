@@ -1,7 +1,8 @@
-use Rattle.fx_ring.proofs.Words.{◌≡◌, ℕ, ◌∙◌, ap, ring_of, RingContents}
+use Rattle.fx_ring.proofs.Words.{◌≡◌, ℕ, ◌∙◌, ap, ring_of}
+use Rattle.fx_ring.specs.OpenRings.{OpenRingContents}
 use Rattle.fx_ring.proofs.RingsOpened.{size_shown}
 use Rattle.fx_ring.proofs.open_ring.OpenRing.size.Goals as goal
 
 pub returns : goal.returns
 returns g c = size_shown g.T.FileTable.view (λ p. g.T.FileTable.fits c.self.inside.table p) _ _ _ _ _ _ _ _ c.self.inside.passes.items c.self.invariant
-    ∙ ap (λ (ring : RingContents). (ring_of ring).size) c.self.view_is
+    ∙ ap (λ (opened : OpenRingContents). (ring_of opened.ring).size) c.self.view_is

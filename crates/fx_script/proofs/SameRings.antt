@@ -1,0 +1,80 @@
+-- What commands print on a ring, they print on one that shows the same.
+use Rattle.std.proofs.Common.{◌≡◌, ℕ, pos, List, [], ◌∷◌, length, refl, sym, subst, ◌∙◌, Option, Some, None, Bool, true, false, nat_le, inl, inr, codes}
+use Rattle.std.specs.Bool.{MatchBool}
+use Rattle.std.specs.Option.{MatchOption}
+use Rattle.fx_chain.specs.Faults.{fault_of}
+use Rattle.fx_chain.specs.Operation.{Asked}
+use Rattle.fx_chain.specs.declared.fault.CutFault.{CutFault}
+use Rattle.fx_ring.proofs.SameRings.{same_history}
+use Rattle.fx_ring.specs.Registration.{range_refusal, register_refusal, registered, registered_sparse, removed_from, sparse_refusal}
+use Rattle.fx_ring.specs.Registration.{unregister_refusal, update_refusal, updated}
+use Rattle.fx_ring.specs.Ring.{RingContents, RingState, files_of, ring_of, without_table}
+use Rattle.fx_ring.specs.Tags.{tags_given}
+use Rattle.fx_ring.specs.declared.ring.TheConstants.{MOST_SUBMISSIONS}
+use Rattle.fx_language.specs.Instruction.{Instruction, MakesSparse, RegistersList, Unregisters, SetsRange, UpdatesRing, SubmitsAll}
+use Rattle.fx_print.specs.Text.{result_line, refused_line, too_many_line}
+use Rattle.fx_script.specs.Play.{Answers, IsRefused, Prints, PrintsAll, PrintsClosed, PrintsEnd, PrintsFirst, PrintsReport, PrintsUpTo}
+use Rattle.fx_script.specs.Text.{report_text}
+
+module _ (old same next : RingContents) (line : List ℕ) (is : ring_of same ≡ ring_of old) where
+  -- what a submission prints, where this is said of its report
+  abbrev OnSubmit : Option CutFault → Bool → RingState → Type 0 → Type 0
+  OnSubmit fault many ring reported = MatchOption fault (MatchBool many ((ring_of next ≡ ring) × (line ≡ too_many_line)) reported)
+      (λ f. (ring_of next ≡ ring) × (line ≡ refused_line f))
+
+  reports : (fault : Option CutFault) (many : Bool) (ring : RingState) (one other : Type 0) → (one → other)
+      → OnSubmit fault many ring one → OnSubmit fault many ring other
+  reports None true ring one other f p = p
+  reports None false ring one other f p = f p
+  reports (Some fault) many ring one other f p = p
+
+  report_same : (asked : List Asked) → PrintsReport old asked next line → PrintsReport same asked next line
+  report_same asked (report, one, text) =
+      (report, same_history old same next asked report is one, subst (λ (r : RingState). line ≡ report_text r.catalogue report) (sym is) text)
+
+  prints_same : (command : Instruction) → Prints old command next line → Prints same command next line
+  prints_same (MakesSparse n) p = subst (λ (r : RingState). Answers (sparse_refusal r n)
+      ((ring_of next ≡ registered_sparse r n) × (line ≡ result_line (codes "sparse") (pos 0)))
+      (IsRefused r (ring_of next) (codes "sparse") line)) (sym is) p
+  prints_same (RegistersList list tags) p = subst (λ (r : RingState). Answers (register_refusal r list (tags_given list tags))
+      ((ring_of next ≡ registered r list (tags_given list tags)) × (line ≡ result_line (codes "register") (pos 0)))
+      (IsRefused r (ring_of next) (codes "register") line)) (sym is) p
+  prints_same Unregisters p = subst (λ (r : RingState). Answers (unregister_refusal r)
+      ((ring_of next ≡ without_table r) × PrintsClosed r (files_of r) (result_line (codes "unregister") (pos 0)) line)
+      (IsRefused r (ring_of next) (codes "unregister") line)) (sym is) p
+  prints_same (SetsRange off len) p = subst (λ (r : RingState). MatchOption (range_refusal r off len)
+      ((ring_of next ≡ record r { range = (off, len) }) × (line ≡ result_line (codes "range") (pos 0)))
+      (IsRefused r (ring_of next) (codes "range") line)) (sym is) p
+  prints_same (UpdatesRing off list tags) p = subst (λ (r : RingState). Answers (update_refusal r off list (tags_given list tags))
+      ((ring_of next ≡ updated r off list (tags_given list tags))
+      × PrintsClosed r (removed_from r.at off list) (result_line (codes "regupdate") (pos (length list))) line)
+      (IsRefused r (ring_of next) (codes "regupdate") line)) (sym is) p
+  prints_same (SubmitsAll asked) p = subst (λ (r : RingState). OnSubmit (fault_of asked) (nat_le MOST_SUBMISSIONS r.submissions) r
+      (PrintsReport same asked next line)) (sym is)
+      (reports (fault_of asked) (nat_le MOST_SUBMISSIONS old.submissions) (ring_of old) (PrintsReport old asked next line)
+      (PrintsReport same asked next line) (report_same asked) p)
+
+module _ (old same : RingContents) (is : ring_of same ≡ ring_of old) where
+  pub up_to_same : (commands : List Instruction) (last : RingContents) (text : List ℕ) → PrintsUpTo old commands last text
+      → PrintsUpTo same commands last text
+  up_to_same [] last text (end, none) = (end ∙ sym is, none)
+  up_to_same (command ∷ commands) last text (next, line, others, prints, parts, more) =
+      (next, line, others, prints_same old same next line is command prints, parts, more)
+
+  pub all_same : (commands : List Instruction) (text : List ℕ) → PrintsAll old commands text → PrintsAll same commands text
+  all_same [] text end = subst (λ (r : RingState). PrintsEnd r text) (sym is) end
+  all_same (command ∷ commands) text (next, line, others, prints, parts, more) =
+      (next, line, others, prints_same old same next line is command prints, parts, more)
+
+  pub first_same : (commands : List Instruction) (text : List ℕ) → PrintsFirst old commands text → PrintsFirst same commands text
+  first_same [] text none = none
+  first_same (command ∷ commands) text (inl none) = inl none
+  first_same (command ∷ commands) text (inr (next, line, others, prints, parts, more)) =
+      inr (next, line, others, prints_same old same next line is command prints, parts, more)
+
+-- the last ring may be any that shows the same
+pub up_to_other : (last other : RingContents) → ring_of other ≡ ring_of last → (commands : List Instruction) (ring : RingContents) (text : List ℕ)
+    → PrintsUpTo ring commands last text → PrintsUpTo ring commands other text
+up_to_other last other is [] ring text (end, none) = (is ∙ end, none)
+up_to_other last other is (command ∷ commands) ring text (next, line, others, prints, parts, more) =
+    (next, line, others, prints, parts, up_to_other last other is commands next others more)

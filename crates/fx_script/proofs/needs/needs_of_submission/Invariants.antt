@@ -1,0 +1,10 @@
+use Rattle.std.proofs.Common.{◌≤◌}
+use Rattle.fx_table.specs.declared.limits.TheConstants.{CHAIN_NUMBERS, MAX_CHAINS}
+use Rattle.fx_script.proofs.needs.needs_of_submission.Given as goal
+
+abbrev pub invariant-loop-i : goal.invariant-loop-i
+invariant-loop-i l = record {
+  few_chains : l.chains ≤ MAX_CHAINS;
+  few_files : l.most ≤ CHAIN_NUMBERS;
+  few_installs : l.installs ≤ CHAIN_NUMBERS;
+}
