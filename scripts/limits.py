@@ -122,6 +122,32 @@ def too_many_submissions():
     return "submit\n" * 65_536, "submit refused too-many-submissions\n"
 
 
+def open_after_open(count, update_behind):
+    """So many submissions of one open each at one slot: more than a table that stays open plays, or installs. Behind some of
+    them the ring's table is updated."""
+    script, text, last = ["file a.txt 68656c6c6f", "sparse 1"], ["sparse 0"], None
+    for s in range(1, count + 1):
+        script += ["open a.txt at 0", "submit"]
+        text += [f"{s}.1.1 0", *([f"closed {last} a.txt"] if last else [])]
+        last = f"{s}.1.1.0"
+        if s == update_behind:
+            script += ["regupdate 0 0"]
+            text += ["regupdate 1", f"closed {last} a.txt"]
+            last = "r1.0"
+    return lines(*script), lines(*text, "teardown", f"closed {last} a.txt")
+
+
+def submissions_1024():
+    """One more than a table has chains, with an update of the ring between two of them."""
+    return open_after_open(1_024, 512)
+
+
+def submissions_65535():
+    """As many as a ring accepts, and one more."""
+    script, text = open_after_open(65_535, 0)
+    return script + "submit\n", text.replace("teardown\n", "submit refused too-many-submissions\nteardown\n")
+
+
 def too_many_registrations():
     """65,535 lists are registered, and then one that the ring refuses."""
     script = "file a.txt -\n" + "register 0\nunregister\n" * 65_535 + "register 0\n"
@@ -137,7 +163,8 @@ def all_updates():
 def limits():
     """Each script at a limit: its name, the script, the text, and the line and the fault of a bad one."""
     for whole in (full_table, heaviest_submission, far_reads, largest_numbers, long_lists, full_catalogue,
-                  too_many_submissions, too_many_registrations, all_updates, longest_script):
+                  too_many_submissions, submissions_1024, submissions_65535, too_many_registrations, all_updates,
+                  longest_script):
         yield whole.__name__, *whole(), ""
     yield "text_of_8_megabytes", *large_text(1), ""
     yield "text_of_134_megabytes", *large_text(MEMBERS), ""

@@ -101,6 +101,17 @@ def submitted(table, workers):
     return call
 
 
+def submitted_open(table):
+    """The same on a ring whose table is open: opening it may be refused, or the submission."""
+    closed, slots = ring(2, 1, 1, 0, 1), ["open ring: 2 slots"]
+    after, opened_file = ring(2, 1, 1, 1, 1), "closed 1.2.1.0 1"
+    whole = ["submit_open: done", "submission 1", "1.1.1 5 hello", "1.1.2 0 ", "1.2.1 1 ", "closed r1.0 0"]
+    cut = ["submit_open: done", "submission 1", "1.1.1 -12 ", "1.1.2 -125 ", "1.2.1 1 "]
+    refused = ["submit_open: NoMemory", *slots, *whole, *after, opened_file]
+    others = {"a read answers -12": [*cut, *after, "closed r1.0 0", opened_file], "no memory to submit": refused}
+    return Call(f"submit_open {table} 1", whole, after, "NoMemory", closed, [opened_file], others)
+
+
 def read_script():
     """A script with a line of each kind."""
     requests = ['Open { name: "a.txt", target: Slot(0) }, flags: SqeFlags(4)', 'Open { name: "b.txt", target: Any }, flags: SqeFlags(0)']
@@ -138,6 +149,7 @@ def calls():
     yield from (opened(table, passes) for table in TABLES for passes in (1, 16))
     yield from between_submissions()
     yield from (submitted(table, workers) for table in TABLES for workers in (1, 2))
+    yield from (submitted_open(table) for table in TABLES)
     yield read_script()
     yield text_of_report()
     yield from (run(table, workers) for table in TABLES for workers in (1, 2))

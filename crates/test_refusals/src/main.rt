@@ -51,6 +51,8 @@ fn make<R: Threads + Wait + Print + Sync>(rt: &R, alloc: Global, asked: Asked<'_
         ("tear_down", _) => rings::tear_down(rt, alloc),
         ("submit", "words") => rings::submit::<CountedTable, R>(rt, alloc, count),
         ("submit", "baton") => rings::submit::<BatonTable, R>(rt, alloc, count),
+        ("submit_open", "words") => rings::submit_open::<CountedTable, R>(rt, alloc),
+        ("submit_open", "baton") => rings::submit_open::<BatonTable, R>(rt, alloc),
         ("read", _) => scripts::read(rt, alloc),
         ("report_text", _) => scripts::text_of_report(rt, alloc),
         ("run", "words") => scripts::run_script::<CountedTable, R>(rt, alloc, count),

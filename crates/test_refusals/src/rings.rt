@@ -3,7 +3,7 @@ use crate::setting::{new_ring, requests, ring_with, tagged_ring};
 use crate::{ATTEMPTS, tell};
 use fx_base::NoMemory;
 use fx_chain::OpenGate;
-use fx_ring::Ring;
+use fx_ring::{OpenRing, Ring};
 use fx_table::FileTable;
 use std::alloc::Global;
 use std::fmt::Debug;
@@ -183,5 +183,47 @@ pub(crate) fn submit<T: FileTable, R: Threads + Wait + Print + Sync>(
         }
     }
     end(rt, alloc, ring);
+    Some(())
+}
+
+// Opens the ring's table for the two chains of [`requests`], once more where memory was refused.
+fn opened<T: FileTable, R: Print>(rt: &R, alloc: Global, ring: Ring) -> Result<OpenRing<T>, Ring> {
+    match ring.open::<T>(alloc, 2, 1) {
+        Ok(opened) => Ok(opened),
+        Err((ring, NoMemory)) => {
+            refused(rt, "submit_open", NoMemory, &ring);
+            ring.open::<T>(alloc, 2, 1).map_err(|(ring, NoMemory)| ring)
+        }
+    }
+}
+
+/// Submits the same chains on a ring whose table is open.
+pub(crate) fn submit_open<T: FileTable, R: Wait + Print>(rt: &R, alloc: Global) -> Option<()> {
+    let requests = requests(alloc)?;
+    let ring = ring_with(alloc, &[0, -1], 1, 1)?;
+    let mut ring = match opened::<T, R>(rt, alloc, ring) {
+        Ok(ring) => ring,
+        Err(ring) => {
+            end(rt, alloc, ring);
+            return Some(());
+        }
+    };
+    for _ in 0..ATTEMPTS {
+        match ring.submit(rt, alloc, requests.as_slice(), &OpenGate) {
+            Ok(Some(report)) => {
+                tell::done(rt, "submit_open");
+                tell::report(rt, &report);
+                break;
+            }
+            Ok(None) => {
+                let _ = println!(rt; "submit_open: no room");
+            }
+            Err(fault) => {
+                tell::refused(rt, "submit_open", fault);
+                let _ = println!(rt; "open ring: {} slots", ring.size());
+            }
+        }
+    }
+    end(rt, alloc, ring.close());
     Some(())
 }

@@ -12,8 +12,6 @@ mod effects;
 #[cfg(test)]
 mod gates;
 #[cfg(test)]
-mod open_rings;
-#[cfg(test)]
 mod refused;
 #[cfg(test)]
 mod refusing;
