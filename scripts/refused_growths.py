@@ -55,6 +55,14 @@ def registrations():
     return lines(*script, "unregister", "register 1,1")
 
 
+def small_submissions():
+    """Submissions that follow each other: some for which one table stays open, one that needs far more numbers than they do,
+    others behind it, and some behind an update of the ring."""
+    small = ["open a.txt at 0", "submit", "read 0 0 5", "submit"]
+    heavy = [*linked(*["open a.txt at 1"] * 8), "submit"]
+    return lines("file a.txt 68656c6c6f", "sparse 2", *small, *heavy, *small, "regupdate 0 0", *small)
+
+
 def scripts(open_read_close):
     """Each script by its name."""
     yield "open_read_close", open_read_close
@@ -64,6 +72,7 @@ def scripts(open_read_close):
     yield "full_catalogue", full_catalogue()[0]
     yield "full_chains", full_chains()
     yield "updates", updates()
+    yield "small_submissions", small_submissions()
 
 
 class Refusing(Player):
