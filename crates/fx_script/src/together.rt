@@ -76,7 +76,8 @@ fn play_open<T: FileTable, G: Gate, W: Write>(
 }
 
 /// Plays the submissions that some commands begin with on a table that stays open between them, and gives the ring and how many
-/// they were. None is played by more workers than one, and none where no memory is left to open the table for all of them.
+/// they were. None is played by more workers than one, and none where no memory is left to open the table for all of them: then
+/// each may be played by itself.
 pub fn play_together<T: FileTable, G: Gate, W: Write>(
     rt: &(impl Threads + Wait + Sync),
     alloc: Global,
@@ -98,6 +99,9 @@ pub fn play_together<T: FileTable, G: Gate, W: Write>(
         return (ring, Ok(0));
     }
     let needs = needs_together(commands, ring.size());
+    if needs.chains == 0 {
+        return (ring, Ok(0));
+    }
     match ring.open::<T>(alloc, needs.chains, needs.most) {
         Ok(opened) => {
             let mut opened = opened;
