@@ -6,7 +6,7 @@ use Rattle.fx_table.specs.Opening.{HasSameFiles}
 use Rattle.fx_table.specs.Pass.{IsFront}
 use Rattle.fx_table.specs.Settling.{IsSettledSoFar}
 use Rattle.fx_table.proofs.Members.{contains_head, contains_tail, contains_only, contains_map, each_all}
-use Rattle.fx_table.proofs.Histories.{part_mine}
+use Rattle.fx_table.proofs.Settling.{own_history}
 use Rattle.std.proofs.lemmas.List.{append-nil}
 use Rattle.fx_ring.specs.OpenRings.{chains_to}
 
@@ -33,11 +33,6 @@ runs_within requests chains members within = subst (All IsShortRun) members
     let m = contains_map (members_of requests) chains run h in
     subst IsShortRun (sym m.2) (All-contains (IsChain requests) chains m.0 within m.1).run))
 
--- the history of a table that only this pass had is what the pass did
-all_mine : (q : ℕ) (h : List Event) → ((e : Event) → Contains h e → e.pass ≡ q) → part_of_pass q h ≡ h
-all_mine q h a = ap (part_of_pass q) (sym (append-nil h)) ∙ (part_mine q h [] a ∙ append-nil h)
-
 pub closed_files : (o : Opening) (v : PassView) (left : Contents) → ClosesTable o (v ∷ []) left → HasSameFiles (state_at o v.own) (state_of left)
 closed_files o v left closing = subst (λ (h : List Event). HasSameFiles (state_at o h) (state_of left))
-    (sym (all_mine v.number closing.history (λ e h. let a = closing.authors e h in a.2 ∙ ap (λ (z : PassView). z.number) (contains_only v a.0 a.1)))
-    ∙ closing.own v (contains_head v [])) closing.files
+    (own_history v closing.history closing.authors (closing.own v (contains_head v []))) closing.files

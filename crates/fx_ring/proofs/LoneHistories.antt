@@ -20,7 +20,8 @@ use Rattle.fx_plain.proofs.OpenedAnew.{opened_anew}
 use Rattle.fx_table.specs.Opening.{start_of}
 use Rattle.fx_table.specs.Settling.{IsSettledSoFar}
 use Rattle.fx_table.proofs.Members.{contains_map, contains_mapped, each_all}
-use Rattle.fx_chain.proofs.OtherNumbers.{explains, few_given}
+use Rattle.fx_table.proofs.Preparing.{same_identity}
+use Rattle.fx_chain.proofs.OtherNumbers.{explains, few_given, given_one}
 use Rattle.fx_ring.specs.OpenRings.{listed, number_if, node_if, table_with_files, chain_less, begun_behind}
 use Rattle.fx_ring.proofs.Parts.{has, lacks, kept_lacking, within_lacking, none_within}
 use Rattle.fx_ring.proofs.PartsExplained.{IsShort, in_order_explained}
@@ -70,12 +71,8 @@ module _ (st : State) (inside : (slot : ℕ) → st.size ≤ slot → st.at slot
     fresh = λ n. not (nat_lt n (length_listed (λ k. number_if k (st.at k)) st.size i)) && nat_lt n numbers;
   }
 
-  pub told_so : (x : Option File) (slot : ℕ) → identity_of (file_numbered x slot) ≡ identity_of x
-  told_so None slot = refl
-  told_so (Some f) slot = refl
-
   pub told_at : (slot : ℕ) → identity_of (file_at table.nodes (slot_at table.slots slot)) ≡ identity_of (st.at slot)
-  told_at slot = ap identity_of (at_slot slot) ∙ told_so (st.at slot) slot
+  told_at slot = ap identity_of (at_slot slot) ∙ same_identity (st.at slot) slot
 
   pub ring_so : (catalogue : List FileEntry) (submissions registrations : ℕ)
       → ring_of (ring_with catalogue table submissions registrations) ≡ record (with_table (ring_of (ring_with catalogue table submissions registrations)) st) { submissions = submissions }
@@ -140,9 +137,6 @@ none_held number h all none p = by_equality p number (λ _. held_by h p ≡ None
 abbrev given : List Event → ℕ
 given h = length (numbers_given (map action_of h))
 
-one_given : (a : Action) (l : List ℕ) → length (with_number_of (installed_by a) l) ≡ length (with_number_of (installed_by a) []) + length l
-one_given a l = elim (installed_by a) as (λ x. length (with_number_of x l) ≡ length (with_number_of x []) + length l) [ None ↦ omega arith | Some f ↦ omega arith ]
-
 abbrev chain_of : Event → ℕ
 chain_of e = e.chain
 
@@ -150,9 +144,9 @@ given_split : (first : ℕ) (h : List Event) → given h ≡ given (filter (has 
 given_split first [] = refl
 given_split first (e ∷ h) =
     let rest = given_split first h in
-    let one = one_given e.action (numbers_given (map action_of h)) in
-    let mine = one_given e.action (numbers_given (map action_of (filter (has chain_of first) h))) in
-    let others = one_given e.action (numbers_given (map action_of (filter (lacks chain_of first) h))) in
+    let one = given_one e.action (numbers_given (map action_of h)) in
+    let mine = given_one e.action (numbers_given (map action_of (filter (has chain_of first) h))) in
+    let others = given_one e.action (numbers_given (map action_of (filter (lacks chain_of first) h))) in
     elim (e.chain == first) as (λ b. given (e ∷ h) ≡ given (cond b (e ∷ filter (has chain_of first) h) (filter (has chain_of first) h))
     + given (cond (not b) (e ∷ filter (lacks chain_of first) h) (filter (lacks chain_of first) h))) [
       | true ↦ omega (arith, rest, one, mine)

@@ -11,13 +11,10 @@ use Rattle.fx_table.specs.declared.limits.TheConstants.{MAX_CHAINS}
 use Rattle.fx_table.specs.Opening.{IsOpenedFor, HasSameFiles, start_of}
 use Rattle.fx_table.specs.Settling.{IsSettledSoFar}
 use Rattle.fx_table.proofs.Members.{contains_none}
+use Rattle.fx_table.proofs.Preparing.{same_identity}
 use Rattle.fx_ring.specs.OpenRings.{table_with_files, ring_led_by, ring_shown, IsKeptOpen, IsAloneAt, HasRoomLeft}
 use Rattle.fx_ring.proofs.LoneHistories.{told_at, size_there, at_rest_of, table_settled}
 use Rattle.fx_ring.proofs.LoneEnds.{closed_files}
-
-told_there : (x : Option File) (slot : ℕ) → identity_of (file_numbered x slot) ≡ identity_of x
-told_there None slot = refl
-told_there (Some f) slot = refl
 
 -- the ring with a table of the same files
 same_ring : (catalogue : List FileEntry) (o : Opening) (v : PassView) (left : Contents) (submissions registrations : ℕ) → IsSettledSoFar o v
@@ -73,7 +70,7 @@ module _ {P : Type 0} (V : P → PassView) (Fits : P → Type 0) (catalogue : Li
       size = ap (λ (c : Contents). (state_of c).size) (sym opened.contents);
       range = ap (λ (c : Contents). (state_of c).range) (sym opened.contents);
       files = λ slot. ap (λ (c : Contents). identity_of ((state_of c).at slot)) (sym opened.contents)
-          ∙ sym (told_there ((state_of o.contents).at slot) slot);
+          ∙ sym (same_identity ((state_of o.contents).at slot) slot);
     }
 
     pub opened_ring : (items : List P) → length items ≡ 1 → map V items ≡ new_passes 1 → All (λ p. Fits p × IsIdle (V p)) items

@@ -11,6 +11,7 @@ use Rattle.std.specs.List.Sorted.{IsPermutation}
 use Rattle.fx_table.proofs.Members.{contains_none, contains_head, contains_tail, contains_cases, contains_map, contains_mapped, contains_reverse}
 use Rattle.fx_table.proofs.Members.{contains_reversed, each_all}
 use Rattle.fx_ring.proofs.ClosesInParts.{closes_of, closes_with, closes_by_key}
+use Rattle.fx_table.proofs.Chains.{in_part}
 use Rattle.fx_ring.proofs.NumberedParts.{numbers_from, number_within, few_in_parts, one_part, all_parts, filter_parts, parts_reversed, same_parts}
 use Rattle.std.proofs.lemmas.List.Folds.{flat_map-map}
 use Rattle.fx_ring.proofs.CompletionPlaces.{place_key}
@@ -29,18 +30,6 @@ completed_by w = w.completions
 
 abbrev pub closed_by_worker : WorkerState → List Closed
 closed_by_worker w = w.closes.files
-
--- an event of a pass stands in its part
-in_part : (p : ℕ) (h : List Event) (e : Event) → Contains h e → e.pass ≡ p → Contains (part_of_pass p h) e
-in_part p [] e i is = absurd (contains_none e i)
-in_part p (x ∷ h) e i is = ⊎_elim
-    (λ (same : e ≡ x). rw (eq-eqb x.pass p (ap (λ (z : Event). z.pass) (sym same) ∙ is))
-    (subst (Contains (x ∷ part_of_pass p h)) (sym same) (contains_head x (part_of_pass p h))))
-    (λ t. elim (eqb x.pass p) as (λ b. Contains (cond b (x ∷ part_of_pass p h) (part_of_pass p h)) e) [
-      | true ↦ contains_tail x (part_of_pass p h) e (in_part p h e t is)
-      | false ↦ in_part p h e t is
-    ])
-    (contains_cases x h e i)
 
 -- a worker that did not draw a chain has none of its completions
 none_of_chain : (c : ℕ) (drawn : List ℕ) (xs : List Completed) → All (λ x. Contains drawn x.place.chain) xs
