@@ -1,13 +1,12 @@
 -- A submission of a pass alone begins and ends settled, and so does the table that is closed then.
-use Rattle.fx_ring.proofs.Words.{◌≡◌, ◌≢◌, ℕ, zero, suc, ◌+◌, ◌<◌, ◌≤◌, ◌==◌, cond, List, [], ◌∷◌, ◌++◌, map, filter, length, refl, sym, ap, subst, ◌∙◌, arith}
+use Rattle.fx_ring.proofs.Words.{◌≡◌, ℕ, zero, suc, ◌≤◌, cond, List, [], ◌∷◌, map, sym, subst, arith}
 use Rattle.fx_ring.proofs.Words.{All, All-nil, All-cons, All-contains, Contains, by_equality, IsShortRun, IsChain, members_of, Asked, runs_of, Chain, Event}
 use Rattle.fx_ring.proofs.Words.{part_of_pass, ClosesTable, Contents, state_of, Opening, state_at, PassView}
 use Rattle.fx_table.specs.Opening.{HasSameFiles}
 use Rattle.fx_table.specs.Pass.{IsFront}
 use Rattle.fx_table.specs.Settling.{IsSettledSoFar}
-use Rattle.fx_table.proofs.Members.{contains_head, contains_tail, contains_only, contains_map, each_all}
+use Rattle.fx_table.proofs.Members.{contains_head, contains_tail, contains_map, each_all}
 use Rattle.fx_table.proofs.Settling.{own_history}
-use Rattle.std.proofs.lemmas.List.{append-nil}
 use Rattle.fx_ring.specs.OpenRings.{chains_to}
 
 -- the events of a pass are the pass's

@@ -2,16 +2,15 @@
 use Rattle.fx_ring.proofs.Words.{◌≡◌, ◌≢◌, ℕ, zero, suc, ◌+◌, ◌-◌, ◌*◌, ◌<◌, ◌≤◌, ◌==◌, Bool, true, false, not, ◌&&◌, nat_lt, cond, List, [], ◌∷◌, ◌++◌, map, filter}
 use Rattle.fx_ring.proofs.Words.{length, length-append, refl, sym, ap, subst, ◌∙◌, arith, Option, Some, None, All, All-head, All-tail, All-weaker, Contains}
 use Rattle.fx_ring.proofs.Words.{slice_index_or, by_equality, cases_lt, lt-ltb, inl, inr, IsPermutation, IsNonDecreasingBy, FileEntry, CloseListView, Closed}
-use Rattle.fx_ring.proofs.Words.{State, IsSettled, IsStart, opening, file_numbered, Contents, state_of, state_after, IsLegal, action_of, closes_in, closed_by}
-use Rattle.fx_ring.proofs.Words.{part_of_chain, installed_by, identity_of, File, Event, Action, Opening, size_of, state_at, PassView, numbers_for}
-use Rattle.fx_ring.proofs.Words.{Completed, Explains, first_member, Asked, runs_of, all_installs, IsShortRun, RingContents, RingState, HasClosed, ring_of, ring_with}
-use Rattle.fx_ring.proofs.Words.{with_table, IsOneHistory, HasWorked, worker_state, completions_of_chain, run_of_chain, get_or}
+use Rattle.fx_ring.proofs.Words.{State, IsSettled, IsStart, opening, file_numbered, Contents, state_of, IsLegal, action_of, closes_in, closed_by}
+use Rattle.fx_ring.proofs.Words.{part_of_chain, identity_of, File, Event, Action, Opening, size_of, state_at, PassView, numbers_for}
+use Rattle.fx_ring.proofs.Words.{Completed, Explains, first_member, Asked, runs_of, IsShortRun, HasClosed, ring_of, ring_with}
+use Rattle.fx_ring.proofs.Words.{with_table, IsOneHistory, HasWorked, worker_state, completions_of_chain, run_of_chain}
 use Rattle.fx_plain.specs.Contents.{file_at, placed_at, node_at, slot_at}
-use Rattle.fx_plain.specs.declared.node.Node.{Node}
-use Rattle.fx_plain.specs.declared.node.Node.TheVariants.{At, Gone}
+use Rattle.fx_plain.specs.declared.node.Node.TheVariants.{Gone}
 use Rattle.fx_plain.specs.declared.table.TheConstants.{MOST_SLOTS}
 use Rattle.fx_plain.specs.History.{held_by, ◌▷▷◌}
-use Rattle.fx_plain.specs.Reopening.{Renaming, renamed, renamed_event, numbers_given, with_number_of, IsAtRest, HasOtherNumbers}
+use Rattle.fx_plain.specs.Reopening.{Renaming, renamed, renamed_event, numbers_given, IsAtRest, HasOtherNumbers}
 use Rattle.fx_plain.proofs.Cells.{read_default}
 use Rattle.fx_plain.proofs.AtRest.{opening_is_at_rest, stays_at_rest}
 use Rattle.fx_plain.proofs.Leading.{same_size}

@@ -1,8 +1,8 @@
 -- A pass alone goes on by one chain of a submission.
-use Rattle.fx_ring.proofs.Words.{◌≡◌, ℕ, zero, suc, ◌+◌, ◌-◌, ◌<◌, ◌≤◌, List, [], ◌∷◌, ◌++◌, map, length, refl, sym, ap, subst, ◌∙◌, arith, Some, map-append}
+use Rattle.fx_ring.proofs.Words.{◌≡◌, ℕ, ◌+◌, ◌-◌, ◌<◌, ◌≤◌, List, [], ◌∷◌, ◌++◌, map, length, refl, sym, ap, subst, ◌∙◌, arith, Some, map-append}
 use Rattle.fx_ring.proofs.Words.{append_assoc, FileEntry, CloseListView, Event, Action, ◌▷◌, Opening, size_of, PassView, event_of, Completed, Asked, all_weights}
 use Rattle.fx_ring.proofs.Words.{worker_state, WorkerState, run_of_chain, HasWorked, HasRoom}
-use Rattle.fx_ring.proofs.Words.{All, All-nil, Contains, vec_capacity, runs_of, all_completed, Completion, HasRoomFor, Outcome}
+use Rattle.fx_ring.proofs.Words.{All-nil, Contains, vec_capacity, runs_of, all_completed, Completion, HasRoomFor, Outcome}
 use Rattle.std.proofs.Common.{add-one}
 use Rattle.fx_table.proofs.Members.{contains_none}
 use Rattle.fx_ring.proofs.NewCrew.{runs_have_all, runs_weigh_all}

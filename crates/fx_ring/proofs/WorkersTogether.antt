@@ -1,14 +1,14 @@
 -- What the workers of a submission did, taken together.
-use Rattle.fx_ring.proofs.Words.{◌≡◌, ℕ, ◌+◌, ◌-◌, ◌<◌, ◌≤◌, ◌==◌, true, false, cond, List, [], ◌∷◌, map, flat_map, reverse, length, All, sum_by}
-use Rattle.fx_ring.proofs.Words.{count_by, slice_index_or, refl, sym, ap, subst, ◌∙◌, arith, eqb, eq-eqb, ⊎_elim, IsNonDecreasingBy}
+use Rattle.fx_ring.proofs.Words.{◌≡◌, ℕ, ◌+◌, ◌-◌, ◌<◌, ◌≤◌, ◌==◌, true, List, [], map, flat_map, reverse, length, All, sum_by}
+use Rattle.fx_ring.proofs.Words.{count_by, slice_index_or, refl, sym, ap, subst, ◌∙◌, arith, eqb, IsNonDecreasingBy}
 use Rattle.fx_ring.proofs.Words.{All-contains, IsPermutation-trans, length_permutation, FileEntry, IsInOrderOfMark}
-use Rattle.fx_ring.proofs.Words.{CloseListView, Closed, opening, Contents, state_of, IsLegal, action_of, part_of_chain, part_of_pass}
+use Rattle.fx_ring.proofs.Words.{CloseListView, Closed, opening, Contents, state_of, IsLegal, action_of, part_of_chain}
 use Rattle.fx_ring.proofs.Words.{Event, ClosesTable, times_drawn, numbers_for, Opening, size_of, state_at, PassView, IsOfDrawnChains, some_times}
 use Rattle.fx_ring.proofs.Words.{part_of_drawn, sum_reverse, sum_map, Completed, Explains, first_member, Asked, runs_of}
 use Rattle.fx_ring.proofs.Words.{all_weights, ring_with, IsOneHistory, WorkerState, HasWorked, run_of_chain, completions_of_chain}
 use Rattle.std.specs.Prelude.{Contains}
 use Rattle.std.specs.List.Sorted.{IsPermutation}
-use Rattle.fx_table.proofs.Members.{contains_none, contains_head, contains_tail, contains_cases, contains_map, contains_mapped, contains_reverse}
+use Rattle.fx_table.proofs.Members.{contains_map, contains_mapped, contains_reverse}
 use Rattle.fx_table.proofs.Members.{contains_reversed, each_all}
 use Rattle.fx_ring.proofs.ClosesInParts.{closes_of, closes_with, closes_by_key}
 use Rattle.fx_table.proofs.Chains.{in_part}

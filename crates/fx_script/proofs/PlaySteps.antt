@@ -1,6 +1,6 @@
 -- A play goes on by some commands.
 use Rattle.std.proofs.Common.{◌≡◌, ℕ, ◌+◌, ◌<◌, ◌≤◌, List, [], ◌∷◌, ◌++◌, length, refl, sym, ap, subst, ◌∙◌, Option}
-use Rattle.std.proofs.Common.{Some, None, append_assoc, map, drop, take, slice_index_or, inl, inr, arith}
+use Rattle.std.proofs.Common.{Some, None, append_assoc, drop, take, slice_index_or, inl, inr, arith}
 use Rattle.std.proofs.lemmas.List.{append-nil, map-append, take-append-drop, take_all, take_more}
 use Rattle.std.proofs.lemmas.List.Sorted.{IsPermutation-refl}
 use Rattle.std.proofs.Math.Seq.{take-add}
@@ -43,24 +43,39 @@ module _ (next : RingContents) (others : List ℕ) where
   up_to_more [] back ring last text (end, none) more =
       subst (λ (t : List ℕ). PrintsUpTo ring back last (t ++ others)) (sym none) (up_to_same next ring (sym end) back last others more)
   up_to_more (command ∷ front) back ring last text (then, line, rest, prints, parts, goes_on) more = (
-    then, line, rest ++ others, prints, ap (λ (t : List ℕ). t ++ others) parts ∙ append_assoc line rest others,
-    up_to_more front back then last rest goes_on more)
+    then,
+    line,
+    rest ++ others,
+    prints,
+    ap (λ (t : List ℕ). t ++ others) parts ∙ append_assoc line rest others,
+    up_to_more front back then last rest goes_on more,
+  )
 
   all_more : (front back : List Instruction) (ring : RingContents) (text : List ℕ) → PrintsUpTo ring front next text
       → PrintsAll next back others → PrintsAll ring (front ++ back) (text ++ others)
   all_more [] back ring text (end, none) more =
       subst (λ (t : List ℕ). PrintsAll ring back (t ++ others)) (sym none) (all_same next ring (sym end) back others more)
   all_more (command ∷ front) back ring text (then, line, rest, prints, parts, goes_on) more = (
-    then, line, rest ++ others, prints, ap (λ (t : List ℕ). t ++ others) parts ∙ append_assoc line rest others,
-    all_more front back then rest goes_on more)
+    then,
+    line,
+    rest ++ others,
+    prints,
+    ap (λ (t : List ℕ). t ++ others) parts ∙ append_assoc line rest others,
+    all_more front back then rest goes_on more,
+  )
 
   first_more : (front back : List Instruction) (ring : RingContents) (text : List ℕ) → PrintsUpTo ring front next text
       → PrintsFirst next back others → PrintsFirst ring (front ++ back) (text ++ others)
   first_more [] back ring text (end, none) more =
       subst (λ (t : List ℕ). PrintsFirst ring back (t ++ others)) (sym none) (first_same next ring (sym end) back others more)
   first_more (command ∷ front) back ring text (then, line, rest, prints, parts, goes_on) more = inr (
-    then, line, rest ++ others, prints, ap (λ (t : List ℕ). t ++ others) parts ∙ append_assoc line rest others,
-    first_more front back then rest goes_on more)
+    then,
+    line,
+    rest ++ others,
+    prints,
+    ap (λ (t : List ℕ). t ++ others) parts ∙ append_assoc line rest others,
+    first_more front back then rest goes_on more,
+  )
 
 prints_nothing : (now : RingContents) (left : List Instruction) → PrintsFirst now left []
 prints_nothing now [] = refl

@@ -1,5 +1,5 @@
 -- What commands print on a ring, they print on one that shows the same.
-use Rattle.std.proofs.Common.{◌≡◌, ℕ, pos, List, [], ◌∷◌, length, refl, sym, subst, ◌∙◌, Option, Some, None, Bool, true, false, nat_le, inl, inr, codes}
+use Rattle.std.proofs.Common.{◌≡◌, ℕ, pos, List, [], ◌∷◌, length, sym, subst, ◌∙◌, Option, Some, None, Bool, true, false, nat_le, inl, inr, codes}
 use Rattle.std.specs.Bool.{MatchBool}
 use Rattle.std.specs.Option.{MatchOption}
 use Rattle.fx_chain.specs.Faults.{fault_of}

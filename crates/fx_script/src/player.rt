@@ -60,8 +60,9 @@ fn play_some<T: FileTable, G: Gate, W: Write>(
         (Writes (PrintsFirst ring (instructions_of commands.now))
         (W.contents writer.old) (W.contents writer.new))) }
 {
-    let (mut ring, together) =
-        play_together::<T, G, W>(rt, alloc, ring, commands, workers, gate, writer);
+    let (mut ring, together) = play_together::<T, G, W>(
+        rt, alloc, ring, commands, workers, gate, writer,
+    );
     let count = match together {
         Ok(count) => count,
         Err(fault) => return (ring, Err(fault)),
@@ -109,8 +110,7 @@ fn play_commands<T: FileTable, G: Gate, W: Write>(
     let mut played = 0;
     while played < commands.len() {
         let left = &commands[played..];
-        let (after, some) =
-            play_some::<T, G, W>(rt, alloc, ring, left, workers, gate, writer);
+        let (after, some) = play_some::<T, G, W>(rt, alloc, ring, left, workers, gate, writer);
         ring = after;
         match some {
             Ok(count) => played += count,

@@ -35,9 +35,7 @@ fn submission_text<T: FileTable, G: Gate>(
 {
     match opened.submit::<G>(rt, alloc, requests, gate) {
         Ok(None) => Ok(None),
-        Ok(Some(report)) => {
-            Ok(Some(printed_report(rt, alloc, &report, opened.catalogue(), 1)?))
-        }
+        Ok(Some(report)) => { Ok(Some(printed_report(rt, alloc, &report, opened.catalogue(), 1)?)) }
         Err(SubmitFault::Cut(fault)) => Ok(Some(refused_line(alloc, fault)?)),
         Err(SubmitFault::TooMany) => Ok(Some(too_many_line(alloc)?)),
         Err(SubmitFault::NoMemory) => Err(NoMemory),

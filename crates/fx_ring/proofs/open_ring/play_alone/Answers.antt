@@ -1,4 +1,4 @@
-use Rattle.fx_ring.proofs.Words.{◌≡◌, ℕ, ◌+◌, ◌<◌, ◌≤◌, List, [], length, refl, sym, subst, ◌∙◌, arith, Some, PassView, Opening, Asked, all_asked, runs_of}
+use Rattle.fx_ring.proofs.Words.{◌≡◌, ℕ, ◌+◌, ◌≤◌, List, [], length, refl, subst, ◌∙◌, arith, Some, PassView, Opening, Asked, all_asked, runs_of}
 use Rattle.fx_ring.proofs.Words.{all_completed, run_of_chain, vec_capacity, asked_of, length-map}
 use Rattle.fx_chain.specs.Performs.{PlaysChain, player}
 use Rattle.fx_ring.proofs.Runs.{as_many}

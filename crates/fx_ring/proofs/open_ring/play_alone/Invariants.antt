@@ -1,4 +1,4 @@
-use Rattle.fx_ring.proofs.Words.{ℕ, ◌+◌, PassView, all_asked, all_completed, runs_of, HasRoom, worker_state, vec_capacity}
+use Rattle.fx_ring.proofs.Words.{◌+◌, PassView, all_asked, all_completed, runs_of, HasRoom, worker_state, vec_capacity}
 use Rattle.fx_ring.specs.OpenRings.{HasPlayedAlone, begun_behind, chains_to}
 use Rattle.fx_ring.proofs.open_ring.play_alone.Given as goal
 

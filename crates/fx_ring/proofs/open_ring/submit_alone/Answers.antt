@@ -1,5 +1,5 @@
-use Rattle.fx_ring.proofs.Words.{arith, ◌≡◌, ℕ, ◌+◌, ◌≤◌, List, length, sym, ap, subst, ◌∙◌, All, Event, PassView, Opening, Asked, all_asked, runs_of, Reported, IsOneHistory}
-use Rattle.fx_ring.specs.OpenRings.{ring_led_by, begun_behind, chains_to}
+use Rattle.fx_ring.proofs.Words.{arith, ◌+◌, length, sym, ap, subst, PassView, all_asked, Reported, IsOneHistory}
+use Rattle.fx_ring.specs.OpenRings.{ring_led_by, chains_to}
 use Rattle.fx_ring.proofs.Words.{asked_of, length-map}
 use Rattle.fx_ring.proofs.NewCrew.{runs_have_all}
 use Rattle.fx_ring.proofs.Runs.{as_many}

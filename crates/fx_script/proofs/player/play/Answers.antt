@@ -1,6 +1,5 @@
-use Rattle.std.proofs.Common.{◌≡◌, ◌∙◌, ap, List}
+use Rattle.std.proofs.Common.{◌∙◌, ap}
 use Rattle.fx_ring.specs.Ring.{new_ring}
-use Rattle.fx_language.specs.declared.command.Command.{Command}
 use Rattle.fx_language.specs.Instruction.{instructions_of}
 use Rattle.fx_script.proofs.PlaySteps.{all_text, first_text}
 use Rattle.fx_script.proofs.player.play.Goals as goal

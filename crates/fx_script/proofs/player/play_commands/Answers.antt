@@ -1,4 +1,4 @@
-use Rattle.std.proofs.Common.{rules, ◌≡◌, ◌+◌, ◌-◌, ◌≤◌, List, length, length-drop, take, drop, arith, subst}
+use Rattle.std.proofs.Common.{◌≤◌, List, length, length-drop, take, drop, arith, subst}
 use Rattle.std.specs.Prelude.{IfErr, IfOk, Result, ℕ}
 use Rattle.std.proofs.lemmas.List.{take_rest}
 use Rattle.fx_script.specs.declared.play_fault.PlayFault.{PlayFault}

@@ -1,7 +1,6 @@
-use Rattle.std.proofs.Common.{rules, ap, subst, sym, ◌≡◌, ◌∙◌, List, ℕ, refl, string_bytes, Option}
+use Rattle.std.proofs.Common.{rules, ap, subst, sym, ◌≡◌, ◌∙◌, refl, string_bytes}
 use Rattle.std.proofs.lemmas.Result.{err_from_is_err_and}
 use Rattle.std.specs.Io.KnownBytes.{Appends}
-use Rattle.std.specs.Option.{MatchOption}
 use Rattle.fx_chain.specs.Operation.{all_asked}
 use Rattle.fx_language.specs.Instruction.{Instruction, SubmitsAll, instruction_of}
 use Rattle.fx_script.specs.Play.{Prints}

@@ -1,6 +1,6 @@
-use Rattle.fx_ring.proofs.Words.{◌≡◌, ℕ, ◌+◌, ◌≤◌, ◌∙◌, ap, refl, sym, subst, arith, length, Option, Some, rules, ring_of, RingContents, RingState, all_asked}
+use Rattle.fx_ring.proofs.Words.{◌≡◌, ◌∙◌, ap, refl, sym, subst, arith, Option, rules, ring_of, all_asked}
 use Rattle.std.specs.Prelude.{Err, Result, IfSome, IfNone}
-use Rattle.fx_ring.specs.Submission.{submit_refusal, reported}
+use Rattle.fx_ring.specs.Submission.{reported}
 use Rattle.fx_ring.specs.declared.report.Report.{Report}
 use Rattle.fx_ring.specs.declared.report.SubmitFault.{SubmitFault}
 use Rattle.fx_ring.specs.declared.report.SubmitFault.TheVariants.{NoMemory}

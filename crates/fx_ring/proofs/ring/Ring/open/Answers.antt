@@ -1,4 +1,4 @@
-use Rattle.fx_ring.proofs.Words.{◌≡◌, ℕ, ◌∙◌, ap, refl, sym, ring_of}
+use Rattle.fx_ring.proofs.Words.{◌∙◌, ap, refl, ring_of}
 use Rattle.fx_ring.proofs.Rings.{given_back_at_rest}
 use Rattle.fx_ring.proofs.RingsOpened.{opened_ring}
 use Rattle.fx_ring.proofs.ring.Ring.open.Goals as goal
