@@ -68,7 +68,7 @@ fn suspects(alloc: Global, table: &TableTold<'_>) -> Result<Vec<usize>, NoMemory
     slots.clear();
     for slot in 0..tallies.len() {
         let found = steps.file(&start, slot);
-        if tallies[slot].is_uneven(found) || tallies[slot].is_hopeless(found) {
+        if tallies[slot].is_dead(found) {
             slots.push(slot)?;
         }
     }

@@ -13,6 +13,7 @@ mod node;
 mod packed;
 mod plans;
 mod search;
+mod state;
 mod step;
 mod steps;
 mod strand;

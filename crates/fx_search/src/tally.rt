@@ -48,8 +48,8 @@ fn is_alike(one: &Claim, other: &Claim) -> bool {
     same_wants && is_test(one) == is_test(other)
 }
 
-// One more, or one less.
-fn count(number: &mut usize, is_more: bool) {
+/// One more, or one less.
+pub(crate) fn count(number: &mut usize, is_more: bool) {
     *number = if is_more {
         number.saturating_add(1)
     } else {
@@ -129,8 +129,8 @@ impl<'a> Tally<'a> {
         }
     }
 
-    /// Whether a claim waits for a file that doesn't come, where this is at the slot ([`crate::dead`]).
-    pub fn is_hopeless(&self, found: Option<Resident>) -> bool {
+    // Whether a claim waits for a file that doesn't come, where this is at the slot ([`crate::dead`]).
+    fn is_hopeless(&self, found: Option<Resident>) -> bool {
         let stays = !may_leave(found);
         for class in &self.classes {
             if class.left > 0 && (stays || class.helpers == 0) && !may_find(class.claim, found) {
@@ -140,8 +140,8 @@ impl<'a> Tally<'a> {
         false
     }
 
-    /// Whether the files don't come out even, where this is at the slot ([`crate::counted`]).
-    pub fn is_uneven(&self, found: Option<Resident>) -> bool {
+    // Whether the files don't come out even, where this is at the slot ([`crate::counted`]).
+    fn is_uneven(&self, found: Option<Resident>) -> bool {
         let (mut leaving, mut staying) = (self.leaving, self.staying);
         match found {
             Some(file) if file.leaves => leaving = leaving.saturating_add(1),
@@ -149,5 +149,10 @@ impl<'a> Tally<'a> {
             None => {}
         }
         staying > 1 || leaving < self.takes || (self.empties == 0 && staying == 0 && leaving > 0)
+    }
+
+    /// Whether no order of the claims leads to an end, as far as these counts tell, where this is at the slot.
+    pub fn is_dead(&self, found: Option<Resident>) -> bool {
+        self.is_uneven(found) || self.is_hopeless(found)
     }
 }
