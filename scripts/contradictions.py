@@ -3,10 +3,10 @@ requests of a submission on scripts/model.py, one step at a time.
 
 A line that isn't named, or that is left out, says nothing: its request may answer what it does, where that leaves the requests behind
 it in its chain canceled or not as in the text; and a file may be closed or not. Lines of opens at any slot are never left out. Where
-lines tell of one slot, what is done at the others is left out."""
+lines tell of one slot, what is done at the others is left out, and none of their lines may be named."""
 import re
 
-from model import ECANCELED, Player, chains_of, severs
+from model import ECANCELED, Player, chains_of, severs, submitted, text_of_mark
 from orders import Search, TooManyOrders, completion_of, pieces_of, reached
 
 SAYS, OF_SLOT = "no order of the requests gives ", re.compile(r"which tells? of slot (\d+)")
@@ -29,6 +29,15 @@ class Step:
 
     def may_be_left_out(self):
         return self.request[0] in ("read", "close")
+
+    def tells(self):
+        """Whether its line tells what is at the slots: a read's or a close's, or that of an open at any slot."""
+        return self.may_be_left_out() or self.request[0] == "open" and self.request[2] is None
+
+    def mark(self):
+        """The mark of the file that it installs, if it does."""
+        kind, *words = self.request
+        return text_of_mark(submitted(self.place, words[2] if kind == "update" and len(words) > 2 else 0))
 
     def leaves_chain(self, res):
         """Whether the rest of the chain is as in the text, where it answers this and its line says nothing. A read may want memory."""
@@ -54,8 +63,11 @@ class Submission:
         if slot is not None:
             # an open that finds the range full finds a file at this slot, if it is there; nothing is known of the others
             self.player.range = (slot, 1) if slot in range(self.player.range[0], sum(self.player.range)) else (0, 0)
+        marks = {step.mark() for chain in self.chains for step in chain}
+        marks |= {text_of_mark(file[0]) for nth, file in enumerate(self.player.slots) if file and nth == slot}
         while at < len(lines) and lines[at].startswith("closed "):
-            self.closed[at] = lines[at]
+            if slot is None or lines[at].split(" ")[1] in marks:
+                self.closed[at] = lines[at]
             at += 1
 
     def steps_of(self, nth, chain, lines, at):
@@ -94,6 +106,10 @@ class Submission:
         closed = {it for it in player.copy().closed_lines() if it.startswith("closed ")}
         return {it for nth, it in self.closed.items() if nth in named} <= closed and (not closes_no_other or closed <= set(self.closed.values()))
 
+    def strange(self, named):
+        """Those of the lines that tell nothing of the slot, or of what is at the slots."""
+        return named - {step.line for chain in self.chains for step in chain if step.tells()} - set(self.closed)
+
     def optional(self, named):
         """Those of the lines that may be left out."""
         reads = {step.line for chain in self.chains for step in chain if step.may_be_left_out()}
@@ -108,6 +124,8 @@ def complaint_of(script, text, said, most=20_000):
     submission = Submission(script, lines, command, int(of_slot[1]) if of_slot else None)
     named = {int(re.match(r" +(\d+): ", it)[1]) - 1 for it in said[1:]}
     closes_no_other = CLOSES_NO_OTHER in said[0]
+    for line in submission.strange(named):
+        return f"line {line + 1} tells nothing of it"
     if submission.has_order(named, closes_no_other, most):
         return f"an order gives the lines {sorted(it + 1 for it in named)}"
     if FEWER in said[0]:

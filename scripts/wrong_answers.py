@@ -1,14 +1,16 @@
 """Shows that what looks at an answer complains of a wrong one: a history with a line left out or changed, an order with steps of a
-chain left out or exchanged, the outcome of a refused growth, the growths between two marks, a verdict that is a lie, and one that names
-another command or line. Each function tells how many wrong answers of its kind there were, and those that nothing complained of. scripts/check-checks wants the
-numbers."""
+chain left out or exchanged, the outcome of a refused growth, the growths between two marks, a verdict that is a lie, one that names
+another command or line, and one that names a line too many or too few of those that have no order. Each function tells how many wrong
+answers of its kind there were, and those that nothing complained of. scripts/check-checks wants the numbers."""
+import os
 import re
 
+import contradictions
 from illegal import Illegal
 import kernels
 from kernels import ORDER, SAME
 from model import Script, play
-from programs import LEGAL, NOT_LEGAL, UNDECIDED, run
+from programs import LEGAL, NOT_LEGAL, UNDECIDED, run, verdict
 from refused_growths import NO_MEMORY, Outcomes
 from replay import replayed
 from repository import ROOT, module, read, read_bytes, text_beside
@@ -21,6 +23,8 @@ TOLD = ("open_read_close", "tagged_files_leave_in_each_way", "replaced_between_t
 # how many lines their histories have, and how many pairs of steps of one chain stand beside each other in their orders; and how
 # many rows there are of outcomes, growths, verdicts and what they name
 LINES, PAIRS, OUTCOMES, GROWTHS, VERDICTS, NAMES = 110, 3, 15, 6, 8, 9
+# kept texts with lines that have no order, each of which is needed for that; and how many lines these texts have
+UNORDERED, UNORDERED_LINES = "examples/judged/submissions.judged", 44
 
 
 def kinds(fixcheck):
@@ -31,6 +35,7 @@ def kinds(fixcheck):
     yield "growths between marks", GROWTHS, growths
     yield "verdicts", VERDICTS, verdicts
     yield "names in verdicts", NAMES, names_told
+    yield "lines that have no order", UNORDERED_LINES, lambda: unordered(fixcheck)
 
 
 def examples():
@@ -151,3 +156,22 @@ def names_told():
         ("not legal: the end of the script; line 4 of the text: wanted x, found y; 1.1.1.0 a is at slot 0", (True, True)),
     ]
     return len(rows), [f"{said!r} isn't taken to name {wanted}" for said, wanted in rows if wrong.is_named(said) != wanted]
+
+
+def unordered(fixcheck):
+    """Of the lines that have no order each left out, and each other line of the text named beside them."""
+    seen, missed = 0, []
+    for script, text, *_ in module("check-verdicts").verdicts_of(os.path.join(ROOT, UNORDERED)):
+        text = text.decode()
+        said = verdict(fixcheck, script, text)[1]
+        if contradictions.SAYS not in said[0] or contradictions.FEWER in said[0]:
+            continue
+        if contradictions.complaint_of(Script(script), text, said) is not None:
+            missed.append(f"{said}, which is right")
+        for nth, line in enumerate(text.splitlines(), 1):
+            seen += 1
+            named = f"  {nth}: {line}"
+            wrong = [it for it in said if it != named] if named in said else [*said, named]
+            if contradictions.complaint_of(Script(script), text, wrong) is None:
+                missed.append(f"{wrong}")
+    return seen, missed
