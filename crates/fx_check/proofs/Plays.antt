@@ -1,7 +1,7 @@
 -- The plays of a script go along with the text, command by command.
 use Rattle.std.proofs.Common.{◌≡◌, ℕ, zero, suc, ◌+◌, ◌<◌, ◌≤◌, List, [], ◌∷◌, ◌++◌, length, take, drop, refl, sym, ap, subst, ◌∙◌, arith, slice_index_or, Option}
 use Rattle.fx_calls.proofs.NextCommand.{next_command}
-use Rattle.std.proofs.Common.{append-nil, append_assoc}
+use Rattle.std.proofs.Common.{append-nil, append_assoc, length-drop}
 use Rattle.std.specs.Option.{option_to_list}
 use Rattle.std.proofs.lemmas.List.{drop-drop, drop-map, take-append-drop, take_all}
 use Rattle.std.proofs.Math.Seq.{drop-cons}
@@ -126,21 +126,25 @@ module _ (script : Meaning) (text : List ℕ) where
         (subst (λ (l : List Order). MayPrintTo aim first (take done script.commands ++ []) (take at text ++ others) l) (append-nil orders)
         (so_far.back aim [] others [] may)))
 
-    broken : (ring : RingSlots) (fault : Fault) → at ≤ length text → (IsText script text → ⊥) → (done < length script.commands → (left : List ℕ)
+    broken : (ring : RingSlots) (fault : Fault) → done ≤ length script.commands → at ≤ length text → (IsText script text → ⊥) → (done < length script.commands → (left : List ℕ)
         → CanPrint (Leaves left) first (take (done + 1) script.commands) text → ⊥)
         → IsBroken script text (record { commands = done; at = at; ring = ring; fault = fault })
-    broken ring fault inside none next = record {
+    broken ring fault counted inside none next = record {
       none = none;
+      counted = counted;
       inside = inside;
       front = printed (Leaves []) (take done script.commands) [] (take at text) refl (append-nil (take at text)) (λ ring same. refl);
       place = λ ring left starts prints. (behind (Leaves left) (record { ring = ring; same = starts; prints = prints })).prints.1;
       next = λ more ring left starts prints. next more left (record { ring = ring; same = starts; prints = prints });
     }
 
-    module _ (past : length script.commands ≤ done) where
+    module _ (all : done ≡ length script.commands) where
+      past : length script.commands ≤ done
+      past = omega arith
+
       pub not_ended : (ring : RingSlots) (fault : Fault) → at ≤ length text → (PrintsEnd now (drop at text) → ⊥)
           → IsBroken script text (record { commands = done; at = at; ring = ring; fault = fault })
-      not_ended ring fault inside never = broken ring fault inside
+      not_ended ring fault inside never = broken ring fault (omega arith) inside
           (λ is. let can = behind Whole (whole done past is) in never (subst (λ (r : RingState). PrintsEnd r (drop at text)) can.same can.prints))
           (λ more left can. absurd (omega arith))
 
@@ -182,7 +186,9 @@ module _ (script : Meaning) (text : List ℕ) where
       stops ring fault inside nowhere =
           let none : (aim : Aim) (more : ℕ) → CanPrint aim first (take (done + suc more) script.commands) text → ⊥ =
           λ aim more can. let p = played aim more can in nowhere p.0 p.1 p.2 in
-          broken ring fault inside (λ is. none Whole (length script.commands) (whole (done + suc (length script.commands)) (omega arith) is))
+          let size = length-drop done script.commands in
+          let some = ap (λ (l : List Instruction). length l) is in
+          broken ring fault (omega arith) inside (λ is. none Whole (length script.commands) (whole (done + suc (length script.commands)) (omega arith) is))
           (λ more left. none (Leaves left) 0)
 
       pub goes_on : (count : ℕ) (own : Option Order) (grown : List Order) (new : RingState) → MayPrintBy now command new (take count (drop at text)) own

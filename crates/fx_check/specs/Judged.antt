@@ -35,6 +35,7 @@ PrintsBeginning ring (command ∷ commands) text left =
 -- beginning of it, but with the next command they print none
 pub record IsBroken (script : Meaning) (text : List ℕ) (broken : Break) : Type 0 where
   pub none : ¬ (IsText script text)
+  pub counted : broken.commands ≤ length script.commands
   pub inside : broken.at ≤ length text
   pub front : MayPrintFront (new_ring script.catalogue) (take broken.commands script.commands)
       (take broken.at text)

@@ -83,9 +83,9 @@ module _ (c : In_ok-play_end) where
   abbrev now : RingState
   now = ring_with_slots c.catalogue-catalogue.result.now c.loop-done.ring
 
-  past : length c.args.script.now.commands ≤ length c.commands-commands.result.now
-  past =
-      let as_many = length-map c.commands-commands.result.now instruction_of in
+  as_many : length c.commands-commands.result.now ≡ length c.args.script.now.commands
+  as_many =
+      let each = length-map c.commands-commands.result.now instruction_of in
       let all : length (instructions_of c.commands-commands.result.now) ≡ length c.args.script.now.commands =
       ap (λ (cs : List Instruction). length cs) c.commands-commands.ensures in
       omega arith
@@ -101,7 +101,7 @@ pub returns-in-Some-2 : goal.returns-in-Some-2
 returns-in-Some-2 c =
     let e = (goal.at.returns-in-Some-2 c).In_ok-play_end in
     let never = rw c.in-Some-2.is at c.in_ok-play_end.ensures.only in
-    not_ended c.args.script.now c.args.text.now (length c.commands-commands.result.now) c.loop-done.at c.loop-done.orders.items (now e) (all_done e) (past e)
+    not_ended c.args.script.now c.args.text.now (length c.commands-commands.result.now) c.loop-done.at c.loop-done.orders.items (now e) (all_done e) (as_many e)
     _ _ c.loop-done.invariant.inside (λ end. never (subst (λ (t : List ℕ). PrintsEnd (now e) t) (sym (rest_so c.loop-done.at c.args.text.now)) end))
 
 pub returns-in-None : goal.returns-in-None
@@ -109,5 +109,5 @@ returns-in-None c =
     let e = (goal.at.returns-in-None c).In_ok-play_end in
     let end : PrintsEnd (now e) (take (length c.args.text.now - c.loop-done.at) (drop c.loop-done.at c.args.text.now)) =
     rw c.in-None.is at c.in_ok-play_end.ensures.end in
-    ended c.args.script.now c.args.text.now (length c.commands-commands.result.now) c.loop-done.at c.loop-done.orders.items (now e) (all_done e) (past e)
+    ended c.args.script.now c.args.text.now (length c.commands-commands.result.now) c.loop-done.at c.loop-done.orders.items (now e) (all_done e) (as_many e)
     (subst (λ (t : List ℕ). PrintsEnd (now e) t) (rest_so c.loop-done.at c.args.text.now) end)
