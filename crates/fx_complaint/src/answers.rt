@@ -1,5 +1,6 @@
 //! What a request may answer, whatever the others answer (docs/MODEL.md, "What a request answers").
 use crate::case::Case;
+use crate::event::name_of;
 use crate::may_be::MayBe;
 use fx_base::{Errno, NoMemory};
 use fx_chain::{Completion, Op, Request, Target, is_bad_entry};
@@ -218,9 +219,8 @@ fn push_answer(
         Answer::Bytes(entry) => {
             let bytes = bytes_of(alloc, case, request, entry)?;
             push_bytes(told, &bytes)?;
-            if (entry as u32) < case.catalogue.len() {
-                told.push_str(" of ")?;
-                told.push_str(case.catalogue.name_of(entry))?;
+            if let Some(name) = name_of(case.catalogue, entry) {
+                write!(told, " of {name}")?;
             }
         }
     }

@@ -48,6 +48,12 @@ impl<'a> Case<'a> {
         self.slots.at.len()
     }
 
+    /// Whether a slot is of the allocation range.
+    pub fn is_in_range(&self, slot: usize) -> bool {
+        let (first, count) = self.slots.range;
+        matches!(slot.checked_sub(first as usize), Some(behind) if behind < count as usize)
+    }
+
     /// The completions that its first lines tell, up to one that tells none.
     ///
     /// # Errors

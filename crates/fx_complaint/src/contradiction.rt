@@ -1,10 +1,10 @@
 //! Lines that have no order together, and of which none can be left out: lines are left out, and it is searched again.
 use crate::case::Case;
-use crate::joined::Joined;
+use crate::flags::{flags, is_at, set};
 use crate::report::{Installed, Report};
 use crate::told::{Left, claims_told, question_of};
 use fx_base::NoMemory;
-use fx_search::{Found, Limits, Steps, explore};
+use fx_search::{Found, Limits, Steps, components, explore};
 use std::alloc::{AllocError, Global};
 
 /// How many searches there are at most, how many lines they go through, and how many states they meet in all; how many are met
@@ -42,22 +42,6 @@ pub struct Cause<'a> {
     states: usize,
     // Whether each line that wasn't left out was seen to be needed.
     is_sure: bool,
-}
-
-// Sets a flag of a list, if it has the place.
-fn set(list: &mut [bool], place: usize, flag: bool) {
-    if let Some(it) = list.get_mut(place) {
-        *it = flag;
-    }
-}
-
-// So many times a flag.
-fn flags(alloc: Global, count: usize, flag: bool) -> Result<Vec<bool>, AllocError> {
-    let mut list = Vec::new(alloc);
-    for _ in 0..count {
-        list.push(flag)?;
-    }
-    Ok(list)
 }
 
 // In how many ways at most one file of each group may stay.
@@ -107,24 +91,18 @@ impl<'a> Cause<'a> {
 
     /// Whether a slot is looked at.
     pub fn has_slot(&self, slot: u32) -> bool {
-        matches!(self.slots.get(slot as usize), Some(true))
+        is_at(&self.slots, slot as usize)
     }
 
     /// Whether a slot of the allocation range is looked at.
     pub fn has_range(&self) -> bool {
-        let (first, count) = self.case.slots.range;
-        for (slot, is_looked_at) in self.slots.iter().enumerate() {
-            let behind = slot.checked_sub(first as usize);
-            if *is_looked_at && matches!(behind, Some(behind) if behind < count as usize) {
-                return true;
-            }
-        }
-        false
+        let mut slots = self.slots.iter().enumerate();
+        slots.any(|(slot, is_looked_at)| *is_looked_at && self.case.is_in_range(slot))
     }
 
     /// Whether a line wasn't left out.
     pub fn has_line(&self, line: usize) -> bool {
-        !matches!(self.left.out.get(line), Some(true))
+        !is_at(&self.left.out, line)
     }
 
     /// Whether the lines have no order where no other file is closed than those that have a line.
@@ -150,13 +128,16 @@ impl<'a> Cause<'a> {
         let size = self.case.size();
         let all = flags(self.alloc, size, true)?;
         let (_, chains) = claims_told(self.alloc, self.case, self.report, &self.left, &all)?;
-        let joined = Joined::new(self.alloc, size, self.case.slots.range, &chains)?;
-        for label in 0..size {
-            if let Some(slots) = joined.group(self.alloc, label)? {
-                self.slots = slots;
-                if self.sees_no_order()? {
-                    return Ok(true);
-                }
+        for part in &components(self.alloc, size, self.case.slots.range, &chains)? {
+            if part.len() < 2 {
+                continue;
+            }
+            self.slots = flags(self.alloc, size, false)?;
+            for slot in part {
+                set(&mut self.slots, *slot, true);
+            }
+            if self.sees_no_order()? {
+                return Ok(true);
             }
         }
         self.slots = all;
@@ -178,8 +159,7 @@ impl<'a> Cause<'a> {
     fn is_free(&self, it: &Installed) -> bool {
         match it.closed {
             Some(line) => {
-                let is_kept = matches!(self.kept.get(it.slot as usize), Some(true));
-                !self.has_line(line) && !(self.are_all && is_kept)
+                !self.has_line(line) && !(self.are_all && is_at(&self.kept, it.slot as usize))
             }
             None => !self.are_all,
         }

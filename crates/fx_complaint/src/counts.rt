@@ -1,7 +1,7 @@
 //! The lines of a submission that contradict each other by the number of files at a slot.
 use crate::case::Case;
 use crate::complaint::Complaint;
-use crate::event::push_mark;
+use crate::event::push_file;
 use crate::report::{Installed, Report};
 use fx_base::{Errno, NoMemory};
 use fx_chain::Op;
@@ -79,17 +79,16 @@ fn counts_of(alloc: Global, case: &Case<'_>, report: &Report) -> Result<Vec<Coun
     Ok(counts)
 }
 
-// Puts a file behind others: its mark and its name.
-fn push_file(told: &mut String, case: &Case<'_>, it: Option<&Installed>) -> Result<(), AllocError> {
-    let Some(it) = it else {
-        return Ok(());
-    };
-    push_mark(told, it.file.mark)?;
-    if (it.file.entry as u32) < case.catalogue.len() {
-        told.push(' ')?;
-        told.push_str(case.catalogue.name_of(it.file.entry))?;
+// Puts one of the report's files behind others, if it has that one.
+fn push_installed(
+    told: &mut String,
+    case: &Case<'_>,
+    it: Option<&Installed>,
+) -> Result<(), AllocError> {
+    match it {
+        Some(it) => push_file(told, case.catalogue, it.file),
+        None => Ok(()),
     }
-    Ok(())
 }
 
 // That two files are left at a slot.
@@ -111,9 +110,9 @@ fn two_left(
         }
     }
     let mut why = String::new(alloc);
-    push_file(&mut why, case, one)?;
+    push_installed(&mut why, case, one)?;
     why.push_str(" and ")?;
-    push_file(&mut why, case, other)?;
+    push_installed(&mut why, case, other)?;
     write!(
         why,
         " are both left at slot {slot}: one has no `closed` line"
@@ -210,7 +209,7 @@ fn too_few_closed(
     )?;
     if let Some(left) = count.left {
         why.push_str("; ")?;
-        push_file(&mut why, case, report.files.get(left))?;
+        push_installed(&mut why, case, report.files.get(left))?;
         why.push_str(" has none")?;
     }
     Ok(Complaint::Lines(lines, why))

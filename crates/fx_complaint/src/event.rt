@@ -70,12 +70,28 @@ fn push_found(told: &mut String, found: Option<Closed>) -> Result<(), AllocError
     }
 }
 
-// Puts a file that is installed behind others: its mark and its name.
-fn push_new(told: &mut String, catalogue: &Catalogue, file: Closed) -> Result<(), AllocError> {
+/// The name of a catalogue entry.
+pub(crate) fn name_of(catalogue: &Catalogue, entry: u8) -> Option<&str> {
+    if u32::from(entry) < catalogue.len() {
+        Some(catalogue.name_of(entry))
+    } else {
+        None
+    }
+}
+
+/// Puts a file behind others: its mark and its name.
+///
+/// # Errors
+/// Where memory is refused.
+pub(crate) fn push_file(
+    told: &mut String,
+    catalogue: &Catalogue,
+    file: Closed,
+) -> Result<(), AllocError> {
     push_mark(told, file.mark)?;
-    if u32::from(file.entry) < catalogue.len() {
+    if let Some(name) = name_of(catalogue, file.entry) {
         told.push(' ')?;
-        told.push_str(catalogue.name_of(file.entry))?;
+        told.push_str(name)?;
     }
     Ok(())
 }
@@ -122,7 +138,7 @@ pub fn push_event(
         }
         Event::Put(slot, file, found) => {
             write!(told, "Put({slot}, ")?;
-            push_new(told, catalogue, file)?;
+            push_file(told, catalogue, file)?;
             told.push_str(", ")?;
             push_found(told, found)?;
             told.push(')')
@@ -131,7 +147,7 @@ pub fn push_event(
         Event::Take(slot, found) => push_at(told, "Take", slot, found),
         Event::Allocate(slot, file) => {
             write!(told, "Allocate({slot}, ")?;
-            push_new(told, catalogue, file)?;
+            push_file(told, catalogue, file)?;
             told.push(')')
         }
         Event::Full => told.push_str("Full"),

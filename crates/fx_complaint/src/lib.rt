@@ -10,7 +10,7 @@ mod contradiction;
 mod counts;
 mod event;
 mod finding;
-mod joined;
+mod flags;
 mod lines;
 mod may_be;
 mod report;

@@ -1,6 +1,6 @@
 //! The files of a submission, as the lines of its report tell them.
 use crate::case::Case;
-use fx_base::{Closed, NoMemory};
+use fx_base::{Closed, Mark, NoMemory};
 use fx_chain::{Completion, Op, Request, Target};
 use std::alloc::Global;
 
@@ -33,6 +33,17 @@ fn slot_of(target: Target, res: i32) -> Option<u32> {
     }
 }
 
+// A file that a line tells installed, and of which none tells yet that it was closed.
+fn installed_at(mark: Mark, entry: u8, slot: u32, line: usize) -> Installed {
+    let tag = 0;
+    Installed {
+        file: Closed { mark, entry, tag },
+        slot,
+        line: Some(line),
+        closed: None,
+    }
+}
+
 // Puts the files that a request installed behind others.
 fn push_installed(
     files: &mut Vec<Installed>,
@@ -49,34 +60,14 @@ fn push_installed(
         Op::Open { name, target } => {
             let entry = case.catalogue.find(name.as_str());
             if let (Some(entry), Some(slot)) = (entry, slot_of(*target, completion.res)) {
-                let file = Closed {
-                    mark: place.mark(0),
-                    entry,
-                    tag: 0,
-                };
-                files.push(Installed {
-                    file,
-                    slot,
-                    line: Some(line),
-                    closed: None,
-                })?;
+                files.push(installed_at(place.mark(0), entry, slot, line))?;
             }
         }
         Op::Update { off, list } => {
             let (mut in_list, mut slot) = (0u32, *off);
             for number in list {
                 if let Ok(entry) = u8::try_from(*number) {
-                    let file = Closed {
-                        mark: place.mark(in_list),
-                        entry,
-                        tag: 0,
-                    };
-                    files.push(Installed {
-                        file,
-                        slot,
-                        line: Some(line),
-                        closed: None,
-                    })?;
+                    files.push(installed_at(place.mark(in_list), entry, slot, line))?;
                 }
                 in_list = in_list.saturating_add(1);
                 slot = slot.saturating_add(1);

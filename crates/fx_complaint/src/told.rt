@@ -1,6 +1,7 @@
 //! What the lines of a submission tell of the accesses at some slots, where some lines are left out: claims, for a search.
 use crate::answers::bytes_of;
 use crate::case::Case;
+use crate::flags::is_at;
 use crate::report::Report;
 use bitflags::Flags;
 use fx_base::{Errno, NoMemory};
@@ -35,11 +36,6 @@ enum Behind {
     Runs,
     // It did.
     Canceled,
-}
-
-// The flag at a place of a list; false behind its end.
-fn is_at(list: &[bool], place: usize) -> bool {
-    matches!(list.get(place), Some(true))
 }
 
 // What the line behind a request tells.
@@ -239,7 +235,6 @@ impl Reader<'_> {
 
     // The slots as they are before the submission, of those that are looked at.
     fn cells(&mut self) -> Result<Vec<Cell>, NoMemory> {
-        let (first, count) = self.case.slots.range;
         let mut cells = Vec::new(self.alloc);
         let mut slot = 0u32;
         for found in &self.case.slots.at {
@@ -249,10 +244,9 @@ impl Reader<'_> {
                 None
             };
             if self.has_slot(slot) {
-                let in_range = first <= slot && slot.saturating_sub(first) < count;
                 cells.push(Cell {
                     slot,
-                    in_range,
+                    in_range: self.case.is_in_range(slot as usize),
                     file,
                 })?;
             }

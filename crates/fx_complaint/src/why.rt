@@ -1,6 +1,7 @@
 //! Why a request can't have its completion.
 use crate::answers::{bytes_of, push_bytes, refusal_of};
 use crate::case::Case;
+use crate::event::name_of;
 use fx_base::{Errno, NoMemory};
 use fx_chain::{Completion, Op, Request, Target};
 use std::alloc::{AllocError, Global};
@@ -73,10 +74,8 @@ fn push_nearest(
         return Ok(());
     };
     let found = nearest(alloc, case, request, got)?;
-    let name = match found {
-        Some((entry, _)) if (entry as u32) < case.catalogue.len() => case.catalogue.name_of(entry),
-        _ => "none",
-    };
+    let name = found.and_then(|(entry, _)| name_of(case.catalogue, entry));
+    let name = name.unwrap_or("none");
     if let Some((_, usize::MAX)) = found {
         write!(
             told,

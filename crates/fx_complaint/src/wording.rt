@@ -57,8 +57,8 @@ fn push_tags(told: &mut String, tags: &Option<Vec<u64>>) -> Result<(), AllocErro
     }
 }
 
-/// The word of a command.
-pub fn word_of(command: &Command) -> &'static str {
+// The word of a command.
+fn word_of(command: &Command) -> &'static str {
     match command {
         Command::Sparse(_) => "sparse",
         Command::Register(_, _) => "register",

@@ -1,24 +1,16 @@
 //! Lines of closed files and of tags that can't stand behind a submission's completions.
 use crate::case::Case;
 use crate::complaint::Complaint;
-use crate::event::push_mark;
+use crate::event::{name_of, push_mark};
 use crate::lines::{behind, line_at, line_behind};
 use crate::report::{Installed, Report};
 use fx_base::{Mark, NoMemory};
 use fx_lines::{ClosedLine, read_report};
 use std::alloc::{AllocError, Global};
 
-// A text made of two parts.
-fn joined(alloc: Global, front: &str, back: &str) -> Result<String, AllocError> {
-    let mut text = String::new(alloc);
-    text.push_str(front)?;
-    text.push_str(back)?;
-    Ok(text)
-}
-
 // That a line should be another, for a reason that needs no more words.
 fn another(alloc: Global, at: usize, wanted: &str, why: &str) -> Result<Complaint, AllocError> {
-    Ok(Complaint::Line(at, joined(alloc, wanted, "")?, joined(alloc, why, "")?))
+    Ok(Complaint::Line(at, wanted.to_owned(alloc)?, why.to_owned(alloc)?))
 }
 
 // That two lines contradict each other.
@@ -26,7 +18,7 @@ fn two_lines(alloc: Global, one: usize, other: usize, why: &str) -> Result<Compl
     let mut lines = Vec::new(alloc);
     lines.push(one)?;
     lines.push(other)?;
-    Ok(Complaint::Lines(lines, joined(alloc, why, "")?))
+    Ok(Complaint::Lines(lines, why.to_owned(alloc)?))
 }
 
 // Which of the files, from 0, has a mark; those from one on are looked at first.
@@ -59,21 +51,16 @@ fn unknown(alloc: Global, case: &Case<'_>, at: usize, mark: Mark) -> Result<Comp
             why.push_str(" before the submission")?;
         }
     }
-    let wanted = joined(
-        alloc,
-        "a file that was at a slot, or that a request installed",
-        "",
-    )?;
+    let wanted = format!(in alloc; "a file that was at a slot, or that a request installed")?;
     Ok(Complaint::Line(at, wanted, why))
 }
 
 // That a closed file has another name.
 fn misnamed(alloc: Global, at: usize, mark: Mark, name: &str) -> Result<Complaint, AllocError> {
-    let mut wanted = joined(alloc, "closed ", "")?;
+    let mut wanted = format!(in alloc; "closed ")?;
     push_mark(&mut wanted, mark)?;
-    wanted.push(' ')?;
-    wanted.push_str(name)?;
-    Ok(Complaint::Line(at, wanted, joined(alloc, "the file has that name", "")?))
+    write!(wanted, " {name}")?;
+    Ok(Complaint::Line(at, wanted, format!(in alloc; "the file has that name")?))
 }
 
 // What is wrong with a line of a closed file; it is then told closed.
@@ -93,8 +80,7 @@ fn complaint_of(
     let Some(known) = report.files.get_mut(i) else {
         return Ok(None);
     };
-    if (known.file.entry as u32) < case.catalogue.len() {
-        let name = case.catalogue.name_of(known.file.entry);
+    if let Some(name) = name_of(case.catalogue, known.file.entry) {
         if name.as_bytes() != line.name.as_slice() {
             return Ok(Some(misnamed(alloc, at, line.mark, name)?));
         }
@@ -134,7 +120,7 @@ fn complaint_behind(
     let place = format!(in alloc; "{number}.")?;
     if line_at(rest, 0).starts_with(place.as_bytes()) {
         let why = format!(in alloc; "the submission has {count} requests, and this is one more")?;
-        let wanted = joined(alloc, "a closed file, or the next command's line", "")?;
+        let wanted = format!(in alloc; "a closed file, or the next command's line")?;
         return Ok(Some(Complaint::Line(at, wanted, why)));
     }
     let mut rest = rest;

@@ -20,7 +20,7 @@ pub use Rattle.fx_chain.specs.declared.request.Target.{Target}
 pub use Rattle.fx_chain.specs.declared.request.Target.TheVariants.{Any, Slot}
 pub use Rattle.fx_judge.specs.Chains.{AreDone, TellsChains, TellsMember}
 pub use Rattle.fx_judge.specs.Claims.{AreClaims, Fits, IsLeft, IsPossible, Possibly, Tells, Wanted, found_by, left_by, touched}
-pub use Rattle.fx_search.specs.Dead.{IsHopeless, NoneHelps, may_find, no_help}
+pub use Rattle.fx_search.specs.Dead.{IsHopeless, NoneHelps, no_help}
 pub use Rattle.fx_search.specs.Machine.{Ends, HasNoEnd, IsEnd, IsExplored, IsLookedThrough, Standing, StepLeadsInside, allows, cell_at, cell_with, cells_after}
 pub use Rattle.fx_search.specs.Machine.{claim_at, is_same, is_staying, is_taken, is_test, made, may_leave, may_stay, next, suits, view}
 pub use Rattle.fx_search.specs.Machine.{with_cell}

@@ -3,7 +3,6 @@
 #![tactic(auto)]
 
 mod chain;
-mod component;
 mod full;
 mod judge;
 mod known;

@@ -3,7 +3,6 @@ ghost use Rattle.std.specs.Prelude.{◌≡◌, ◌<◌, ◌+◌, ◌^◌, All, I
 ghost use Rattle.fx_order.specs.Slots.{table_of_slots};
 ghost use Rattle.fx_judge.specs.Played.{IsCell, IsOutcome};
 
-use crate::component::components;
 use crate::full::{is_range_empty, with_full};
 use crate::known::has_unknown;
 use crate::refuted::judge_counts;
@@ -13,7 +12,7 @@ use fx_base::{Closed, NoMemory};
 use fx_order::{Access, ChainAccess, Slots};
 use fx_search::{
     Cell, Claim, Doubt, FEW_STATES, Found, Leaves, Limits, Steps, Strand, Wants, Web, apply,
-    cell_at, claim_of, explore, resident_for, shows_no_end,
+    cell_at, claim_of, components, explore, resident_for, shows_no_end,
 };
 use std::alloc::Global;
 

@@ -1,6 +1,6 @@
 -- Claims leave the slots what they are.
-use Rattle.fx_search.proofs.Words.{◌≡◌, ℕ, ◌==◌, ◌&&◌, ◌||◌, Bool, true, false, List, [], ◌∷◌, Option, Some, None, refl, sym, ap, ◌∙◌, if◌then◌else◌, cond}
-use Rattle.fx_search.proofs.Words.{by_equality, map, list_any, cells_after, with_cell, cell_with, has_slot, Cell, Claim, At, Full, Same, Empty, File, Resident}
+use Rattle.fx_search.proofs.Words.{◌≡◌, ℕ, ◌==◌, ◌||◌, Bool, List, [], ◌∷◌, Option, Some, None, refl, ap, if◌then◌else◌}
+use Rattle.fx_search.proofs.Words.{by_equality, list_any, cells_after, with_cell, has_slot, Cell, Claim, At, Empty, File, Resident}
 
 -- writing a file leaves the slots
 slots_stay : (cells : List Cell) (slot : ℕ) (file : Option Resident) (o : Option ℕ) → has_slot (with_cell cells slot file) o ≡ has_slot cells o

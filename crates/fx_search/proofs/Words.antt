@@ -2,9 +2,9 @@
 pub use Rattle.fx_search.specs.AtSlots.{has_slot, keeps, slot_of}
 pub use Rattle.fx_search.specs.Residents.{IsResident}
 pub use Rattle.fx_base.specs.declared.open_file.Closed.{Closed}
-pub use Rattle.fx_search.specs.Dead.{IsHopeless, NoneHelps, may_find, no_help}
+pub use Rattle.fx_search.specs.Dead.{IsHopeless, NoneHelps, no_help}
 pub use Rattle.fx_search.specs.Machine.{Ends, HasNoEnd, IsEnd, IsExplored, IsLookedThrough, Standing, StepLeadsInside, allows, cell_at, cell_with, cells_after}
-pub use Rattle.fx_search.specs.Machine.{claim_at, is_same, is_staying, is_taken, is_test, made, may_leave, may_stay, next, suits, view}
+pub use Rattle.fx_search.specs.Machine.{claim_at, is_same, is_staying, is_taken, is_test, made, may_find, may_leave, may_stay, next, suits, view}
 pub use Rattle.fx_search.specs.Machine.{with_cell}
 pub use Rattle.fx_search.specs.Packed.{all_unpacked, file_at, numbered_cells, unpacked}
 pub use Rattle.fx_search.specs.Starts.{starting}

@@ -1,17 +1,11 @@
 -- A claim that waits for a file that doesn't come.
-use Rattle.std.specs.Prelude.{◌≡◌, ◌⊎◌, ℕ, ◌≤◌, ◌==◌, ◌&&◌, ◌||◌, not, Bool, true, false, List}
-use Rattle.std.specs.Prelude.{slice_get, slice_index, Option, Some, None}
-use Rattle.fx_search.specs.Machine.{Standing, cell_at, is_same, may_leave, suits}
+use Rattle.std.specs.Prelude.{◌≡◌, ◌⊎◌, ℕ, ◌≤◌, ◌==◌, ◌||◌, not, Bool, true, false, List}
+use Rattle.std.specs.Prelude.{slice_get, slice_index, Some, None}
+use Rattle.fx_search.specs.Machine.{Standing, cell_at, may_find, may_leave}
 use Rattle.fx_search.specs.declared.claim.Claim.{Claim}
 use Rattle.fx_search.specs.declared.claim.Claim.TheVariants.{At, Full}
 use Rattle.fx_search.specs.declared.claim.Leaves.TheVariants.{Same, Empty, File}
-use Rattle.fx_search.specs.declared.claim.Resident.{Resident}
 use Rattle.fx_search.specs.declared.strand.Strand.{Strand}
-
--- the claim may be made where this is at its slot
-abbrev pub may_find : Claim → Option Resident → Bool
-may_find (At slot wants leaves) found = suits wants found && (is_same leaves || may_leave found)
-may_find Full found = true
 
 -- the other claim changes nothing at the slot, or leaves what the claim may not be made with
 abbrev pub no_help : ℕ → Claim → Claim → Bool

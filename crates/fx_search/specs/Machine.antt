@@ -52,10 +52,14 @@ is_same Same = true
 is_same Empty = false
 is_same (File resident) = false
 
+-- the claim may be made where this is at its slot
+abbrev pub may_find : Claim → Option Resident → Bool
+may_find (At slot wants leaves) found = suits wants found && (is_same leaves || may_leave found)
+may_find Full found = true
+
 -- the access may be made where the slots have these files
 abbrev pub allows : List Cell → Claim → Bool
-allows cells (At slot wants leaves) =
-    suits wants (cell_at cells slot) && (is_same leaves || may_leave (cell_at cells slot))
+allows cells (At slot wants leaves) = may_find (At slot wants leaves) (cell_at cells slot)
 allows cells Full = list_all is_taken cells
 
 abbrev pub cell_with : ℕ → Option Resident → Cell → Cell

@@ -1,7 +1,7 @@
 //! A slot as the states of a search have it.
 ghost use Rattle.std.specs.Prelude.{◌≡◌, IsTrue, ◌↔◌};
 ghost use Rattle.std.specs.List.{list_all};
-ghost use Rattle.fx_search.specs.Machine.{allows, cell_at, cells_after, is_staying, is_taken, may_leave, suits, with_cell};
+ghost use Rattle.fx_search.specs.Machine.{allows, cell_at, cells_after, is_staying, is_taken, may_find, may_leave, suits, with_cell};
 
 use crate::claim::{Claim, Leaves, Resident, Wants};
 
@@ -29,7 +29,7 @@ pub fn cell_at(cells: &[Cell], slot: u32) -> Option<Resident>
 }
 
 // Whether the file found is one that a claim speaks of.
-pub(crate) fn suits(wants: &Wants, found: Option<Resident>) -> bool
+fn suits(wants: &Wants, found: Option<Resident>) -> bool
     ensures { result ≡ suits wants.now found }
 {
     match wants {
@@ -51,6 +51,18 @@ pub(crate) fn may_leave(found: Option<Resident>) -> bool
     match found {
         Some(resident) => resident.leaves,
         None => true,
+    }
+}
+
+/// Whether a claim may be made where this is at its slot.
+pub(crate) fn may_find(claim: &Claim, found: Option<Resident>) -> bool
+    ensures { result ≡ may_find claim.now found }
+{
+    match claim {
+        Claim::At(_, wants, leaves) => {
+            suits(wants, found) && (matches!(leaves, Leaves::Same) || may_leave(found))
+        }
+        Claim::Full => true,
     }
 }
 
@@ -85,10 +97,7 @@ pub(crate) fn is_allowed(cells: &[Cell], claim: &Claim) -> bool
     ensures { result ≡ allows cells.now claim.now }
 {
     match claim {
-        Claim::At(slot, wants, leaves) => {
-            let found = cell_at(cells, *slot);
-            suits(wants, found) && (matches!(leaves, Leaves::Same) || may_leave(found))
-        }
+        Claim::At(slot, _, _) => may_find(claim, cell_at(cells, *slot)),
         Claim::Full => are_taken(cells),
     }
 }

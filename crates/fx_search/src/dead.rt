@@ -1,25 +1,13 @@
 //! States from which no end is reached: a claim waits for a file that doesn't come.
 ghost use Rattle.std.specs.Prelude.{◌≡◌, ℕ, ◌≤◌, IsTrue, Some, true, slice_get};
-ghost use Rattle.fx_search.specs.Dead.{IsHopeless, NoneHelps, may_find, no_help};
+ghost use Rattle.fx_search.specs.Dead.{IsHopeless, NoneHelps, no_help};
 ghost use Rattle.fx_search.specs.Machine.{HasNoEnd, view};
 ghost use Rattle.fx_search.specs.declared.claim.Claim.{Claim as OneClaim};
 
-use crate::cell::{cell_at, may_leave, suits};
-use crate::claim::{Claim, Leaves, Resident};
+use crate::cell::{cell_at, may_find, may_leave};
+use crate::claim::{Claim, Leaves};
 use crate::node::{Node, place_of};
 use crate::strand::Strand;
-
-/// Whether a claim may be made where this is at its slot.
-pub(crate) fn may_find(claim: &Claim, found: Option<Resident>) -> bool
-    ensures { result ≡ may_find claim.now found }
-{
-    match claim {
-        Claim::At(_, wants, leaves) => {
-            suits(wants, found) && (matches!(leaves, Leaves::Same) || may_leave(found))
-        }
-        Claim::Full => true,
-    }
-}
 
 /// Whether another claim changes nothing at a slot, or leaves there what the claim may not be made with.
 pub(crate) fn is_no_help(slot: u32, claim: &Claim, other: &Claim) -> bool

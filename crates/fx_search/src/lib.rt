@@ -5,6 +5,7 @@
 mod cell;
 mod certificate;
 mod claim;
+mod component;
 mod counted;
 mod dead;
 mod doubt;
@@ -24,6 +25,7 @@ mod walk;
 pub use cell::{Cell, apply, cell_at};
 pub use certificate::{Web, shows_no_end};
 pub use claim::{Claim, Leaves, Resident, Wants, resident_for};
+pub use component::components;
 pub use counted::is_uneven;
 pub use dead::is_dead_by;
 pub use doubt::Doubt;

@@ -1,8 +1,8 @@
 //! The claims of a part by numbers, and the state of a search that goes through them. Nothing is promised of it.
 
-use crate::cell::{Cell, may_leave};
+use crate::cell::{Cell, may_find, may_leave};
 use crate::claim::{Claim, Leaves, Resident};
-use crate::dead::{is_no_help, may_find};
+use crate::dead::is_no_help;
 use crate::node::is_test;
 use crate::packed::Packing;
 use crate::step::{ClaimAt, Step, bit_behind, number_at, set_number};

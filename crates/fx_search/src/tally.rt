@@ -1,8 +1,7 @@
 //! The claims of a slot that are still to be made, counted as a search goes. Nothing is promised of it.
 
-use crate::cell::may_leave;
+use crate::cell::{may_find, may_leave};
 use crate::claim::{Claim, Leaves, Resident, Wants};
-use crate::dead::may_find;
 use crate::node::is_test;
 use fx_base::NoMemory;
 use std::alloc::Global;

@@ -1,7 +1,7 @@
 //! Orders of the claims of a slot by itself, in which chains come nearly in turn, as workers begin them: what is at a slot when which of
 //! its claims were made, where the others can be made so. Nothing is promised of it.
 
-use crate::dead::may_find;
+use crate::cell::may_find;
 use crate::step::{MOST_CLAIMS, Step};
 use crate::steps::Steps;
 use fx_base::NoMemory;

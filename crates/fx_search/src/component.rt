@@ -1,7 +1,7 @@
-//! Which slots chains have in common. Nothing is promised of it: each part is judged by itself, whatever its slots.
+//! Which slots chains have in common. Nothing is promised of it: a part is judged by itself, whatever its slots.
 
+use crate::claim::Claim;
 use fx_base::NoMemory;
-use fx_search::Claim;
 use std::alloc::Global;
 
 // Joins the parts of two slots.
@@ -48,7 +48,7 @@ fn join_chain(labels: &mut [usize], range: (u32, u32), claims: &[Claim]) {
 }
 
 /// The slots, parted so that no chain has claims in two parts.
-pub(crate) fn components(
+pub fn components(
     alloc: Global,
     size: usize,
     range: (u32, u32),

@@ -1,0 +1,26 @@
+//! Lists of flags.
+use std::alloc::{AllocError, Global};
+
+/// The flag at a place of a list; false behind its end.
+pub fn is_at(list: &[bool], place: usize) -> bool {
+    matches!(list.get(place), Some(true))
+}
+
+/// Sets a flag of a list, if it has the place.
+pub fn set(list: &mut [bool], place: usize, flag: bool) {
+    if let Some(it) = list.get_mut(place) {
+        *it = flag;
+    }
+}
+
+/// So many times a flag.
+///
+/// # Errors
+/// Where memory is refused.
+pub fn flags(alloc: Global, count: usize, flag: bool) -> Result<Vec<bool>, AllocError> {
+    let mut list = Vec::new(alloc);
+    for _ in 0..count {
+        list.push(flag)?;
+    }
+    Ok(list)
+}
