@@ -1,13 +1,13 @@
 -- An order whose accesses the claims tell of is, at some slots alone, an order of the claims of these slots.
 use Rattle.fx_judge.proofs.Words.{◌≡◌, ◌⊎◌, inl, inr, ℕ, zero, suc, ◌+◌, ◌<◌, ◌≤◌, ◌==◌, ◌&&◌, ◌||◌, not, Bool, true, false, List, [], ◌∷◌, ◌++◌}
 use Rattle.fx_judge.proofs.Words.{length, map, filter, drop, cond, refl, sym, ap, subst, ◌∙◌, arith, All, Contains, slice_get, slice_index}
-use Rattle.fx_judge.proofs.Words.{slice_index_or, slice_set, Option, Some, None, if◌then◌else◌, option_and_then, AllZip, list_all, list_any}
+use Rattle.fx_judge.proofs.Words.{slice_index_or, slice_set, Option, Some, None, if◌then◌else◌, option_and_then, AllZip, list_all}
 use Rattle.fx_judge.proofs.Words.{option_to_list, length-map, length-set, get_or-set_same, get_or-set_other, All-contains, All-head, All-tail}
 use Rattle.fx_judge.proofs.Words.{Contains-append_right, slice_get_within, Closed, by_equality, contains_head, contains_tail, Table, Permits}
 use Rattle.fx_judge.proofs.Words.{PermitsAll, table_with, table_after, removed_by, removed_in, access_of, accesses_of, accesses_of_chain, Access}
 use Rattle.fx_judge.proofs.Words.{Looks, FindsFull, ChainAccess, Fits, left_by, touched, Standing, IsEnd, Ends}
-use Rattle.fx_judge.proofs.Words.{cells_after, is_staying, made, may_stay, next, with_cell, IsCell, IsPlayed, ShowsFile, starting, AreStrands}
-use Rattle.fx_judge.proofs.Words.{has_slot, seen, Cell, Claim, At, Empty, File, Resident, Strand}
+use Rattle.fx_judge.proofs.Words.{cells_after, is_staying, made, may_stay, next, IsCell, IsPlayed, ShowsFile, starting, AreStrands}
+use Rattle.fx_judge.proofs.Words.{has_slot, seen, Cell, Claim, Resident, Strand}
 use Rattle.fx_search.specs.Machine.{HasNoEnd}
 use Rattle.fx_judge.proofs.CellSteps.{allowed, cells_follow, at_after, moved}
 use Rattle.fx_search.proofs.SlotsKept.{slots_after}
