@@ -4,7 +4,6 @@ use Rattle.fx_calls.proofs.NextCommand.{next_command}
 use Rattle.std.proofs.Common.{append-nil, append_assoc, length-drop}
 use Rattle.std.specs.Option.{option_to_list}
 use Rattle.std.proofs.lemmas.List.{drop-drop, drop-map, take-append-drop, take_all}
-use Rattle.std.proofs.Math.Seq.{drop-cons}
 use Rattle.fx_ring.specs.Ring.{RingContents, RingState, new_ring, ring_of}
 use Rattle.fx_order.proofs.Shown.{ring_with_files, shows_ring}
 use Rattle.fx_language.specs.Instruction.{Instruction, instruction_of, instructions_of}
