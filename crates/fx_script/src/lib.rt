@@ -10,6 +10,7 @@ mod player;
 mod prints;
 mod report;
 mod runner;
+mod setting;
 mod together;
 mod writes;
 

@@ -8,6 +8,7 @@ ghost use Rattle.fx_script.specs.Run.{IsPlayFault, Writes};
 
 use crate::play_fault::PlayFault;
 use crate::prints::{command_text, end_text};
+use crate::setting::Setting;
 use crate::together::play_together;
 use crate::writes::write_text;
 use fx_chain::Gate;
@@ -20,37 +21,29 @@ use std::sync::Wait;
 use std::thread::Threads;
 
 // Plays a command, and writes what it prints.
-fn play_command<T: FileTable, G: Gate, W: Write>(
-    rt: &(impl Threads + Wait + Sync),
-    alloc: Global,
+fn play_command<T: FileTable, R: Threads + Wait + Sync, G: Gate, W: Write>(
+    setting: &Setting<'_, R, G>,
     ring: &mut Ring,
     command: &Command,
-    workers: u32,
-    gate: &G,
     writer: &mut W,
 ) -> Result<(), PlayFault>
-    requires workers { (1 ≤ workers) × (workers ≤ MAX_PASSES) }
     ensures ok { OnOk result (Writes (Prints ring.old (instruction_of command.now) ring.new)
         (W.contents writer.old) (W.contents writer.new)) }
     ensures fault { IfErr result (λ fault. IsPlayFault fault
         (W.contents writer.new ≡ W.contents writer.old)) }
 {
-    let printed = command_text::<T, G>(rt, alloc, ring, command, workers, gate)?;
+    let printed = command_text::<T, R, G>(setting, ring, command)?;
     write_text(writer, printed.as_str())
 }
 
 // Plays the submissions that some commands begin with, where one worker plays them together, and the command behind them, and
 // gives how many commands these are.
-fn play_some<T: FileTable, G: Gate, W: Write>(
-    rt: &(impl Threads + Wait + Sync),
-    alloc: Global,
+fn play_some<T: FileTable, R: Threads + Wait + Sync, G: Gate, W: Write>(
+    setting: &Setting<'_, R, G>,
     ring: Ring,
     commands: &[Command],
-    workers: u32,
-    gate: &G,
     writer: &mut W,
 ) -> (Ring, Result<usize, PlayFault>)
-    requires workers { (1 ≤ workers) × (workers ≤ MAX_PASSES) }
     requires commands { 1 ≤ length commands.now }
     ensures count { IfOk result.1 (λ count. (1 ≤ count) × (count ≤ length commands.now)) }
     ensures ok { IfOk result.1 (λ count. Writes
@@ -60,9 +53,7 @@ fn play_some<T: FileTable, G: Gate, W: Write>(
         (Writes (PrintsFirst ring (instructions_of commands.now))
         (W.contents writer.old) (W.contents writer.new))) }
 {
-    let (mut ring, together) = play_together::<T, G, W>(
-        rt, alloc, ring, commands, workers, gate, writer,
-    );
+    let (mut ring, together) = play_together::<T, R, G, W>(setting, ring, commands, writer);
     let count = match together {
         Ok(count) => count,
         Err(fault) => return (ring, Err(fault)),
@@ -70,7 +61,7 @@ fn play_some<T: FileTable, G: Gate, W: Write>(
     let Some(next) = commands.get(count) else {
         return (ring, Ok(count));
     };
-    match play_command::<T, G, W>(rt, alloc, &mut ring, next, workers, gate, writer) {
+    match play_command::<T, R, G, W>(setting, &mut ring, next, writer) {
         Ok(()) => (ring, Ok(count + 1)),
         Err(fault) => (ring, Err(fault)),
     }
@@ -89,16 +80,12 @@ fn play_end<W: Write>(alloc: Global, ring: &mut Ring, writer: &mut W) -> Result<
 }
 
 // Plays the commands, writes what each prints, and closes the files that are left at the end.
-fn play_commands<T: FileTable, G: Gate, W: Write>(
-    rt: &(impl Threads + Wait + Sync),
-    alloc: Global,
+fn play_commands<T: FileTable, R: Threads + Wait + Sync, G: Gate, W: Write>(
+    setting: &Setting<'_, R, G>,
     ring: Ring,
     commands: &[Command],
-    workers: u32,
-    gate: &G,
     writer: &mut W,
 ) -> (Ring, Result<(), PlayFault>)
-    requires workers { (1 ≤ workers) × (workers ≤ MAX_PASSES) }
     ensures ok { OnOk result.1 (Writes (PrintsAll ring (instructions_of commands.now))
         (W.contents writer.old) (W.contents writer.new)) }
     ensures fault { IfErr result.1 (λ fault. IsPlayFault fault
@@ -110,14 +97,14 @@ fn play_commands<T: FileTable, G: Gate, W: Write>(
     let mut played = 0;
     while played < commands.len() {
         let left = &commands[played..];
-        let (after, some) = play_some::<T, G, W>(rt, alloc, ring, left, workers, gate, writer);
+        let (after, some) = play_some::<T, R, G, W>(setting, ring, left, writer);
         ring = after;
         match some {
             Ok(count) => played += count,
             Err(fault) => return (ring, Err(fault)),
         }
     }
-    let ended = play_end(alloc, &mut ring, writer);
+    let ended = play_end(setting.alloc, &mut ring, writer);
     (ring, ended)
 }
 
@@ -143,15 +130,14 @@ pub fn play<T: FileTable, G: Gate, W: Write>(
         (Writes (IsTextOfFirst script) (W.contents writer.old) (W.contents writer.new))) }
 {
     let (catalogue, commands) = script.into_parts();
-    let (ring, result) = play_commands::<T, G, W>(
+    let setting = Setting {
         rt,
         alloc,
-        Ring::new(alloc, catalogue),
-        commands.as_slice(),
         workers,
         gate,
-        writer,
-    );
+    };
+    let ring = Ring::new(alloc, catalogue);
+    let (ring, result) = play_commands::<T, _, G, W>(&setting, ring, commands.as_slice(), writer);
     // Where the play came to its end, no file is left in it.
     ring.abandon();
     result

@@ -1,6 +1,5 @@
 //! What each command prints: the answer of the ring to it.
 ghost use Rattle.std.specs.Prelude.{◌≡◌, ◌≤◌, IfOk, OnOk, Some, None, pos, string_bytes};
-ghost use Rattle.fx_table.specs.declared.limits.TheConstants.{MAX_PASSES};
 ghost use Rattle.fx_chain.specs.Completed.{negated};
 ghost use Rattle.fx_chain.specs.Operation.{all_asked};
 ghost use Rattle.fx_ring.specs.Ring.{ring_of};
@@ -9,6 +8,7 @@ ghost use Rattle.fx_print.specs.Text.{result_line};
 ghost use Rattle.fx_script.specs.Play.{Prints, PrintsEnd};
 
 use crate::report::printed_report;
+use crate::setting::Setting;
 use fx_base::{Errno, NoMemory};
 use fx_chain::{Gate, Request};
 use fx_language::Command;
@@ -114,19 +114,16 @@ fn update_tagged(
     }
 }
 
-fn submit<T: FileTable, G: Gate>(
-    rt: &(impl Threads + Wait + Sync),
-    alloc: Global,
+fn submit<T: FileTable, R: Threads + Wait + Sync, G: Gate>(
+    setting: &Setting<'_, R, G>,
     ring: &mut Ring,
     requests: &[Request],
-    workers: u32,
-    gate: &G,
 ) -> Result<String, NoMemory>
-    requires workers { (1 ≤ workers) × (workers ≤ MAX_PASSES) }
     ensures { IfOk result (λ text.
         Prints ring.old (SubmitsAll (all_asked requests.now)) ring.new (string_bytes text)) }
 {
-    match ring.submit::<T, G>(rt, alloc, requests, workers, gate) {
+    let (rt, alloc, workers) = (setting.rt, setting.alloc, setting.workers);
+    match ring.submit::<T, G>(rt, alloc, requests, workers, setting.gate) {
         Ok(report) => printed_report(rt, alloc, &report, ring.catalogue(), workers),
         Err(SubmitFault::Cut(fault)) => refused_line(alloc, fault),
         Err(SubmitFault::TooMany) => too_many_line(alloc),
@@ -137,18 +134,15 @@ fn submit<T: FileTable, G: Gate>(
 
 // Gives a command to the ring, and gives what it prints. Want of memory in a call between submissions is printed; it is an
 // answer here where it is that of a submission or of a text.
-pub fn command_text<T: FileTable, G: Gate>(
-    rt: &(impl Threads + Wait + Sync),
-    alloc: Global,
+pub fn command_text<T: FileTable, R: Threads + Wait + Sync, G: Gate>(
+    setting: &Setting<'_, R, G>,
     ring: &mut Ring,
     command: &Command,
-    workers: u32,
-    gate: &G,
 ) -> Result<String, NoMemory>
-    requires workers { (1 ≤ workers) × (workers ≤ MAX_PASSES) }
     ensures { IfOk result (λ text.
         Prints ring.old (instruction_of command.now) ring.new (string_bytes text)) }
 {
+    let alloc = setting.alloc;
     match command {
         Command::Sparse(n) => sparse(alloc, ring, *n),
         Command::Register(list, None) => register(alloc, ring, list.as_slice()),
@@ -161,9 +155,7 @@ pub fn command_text<T: FileTable, G: Gate>(
         Command::Update(off, list, Some(tags)) => {
             update_tagged(alloc, ring, *off, list.as_slice(), tags.as_slice())
         }
-        Command::Submit(requests) => {
-            submit::<T, G>(rt, alloc, ring, requests.as_slice(), workers, gate)
-        }
+        Command::Submit(requests) => submit::<T, R, G>(setting, ring, requests.as_slice()),
     }
 }
 

@@ -9,6 +9,7 @@ ghost use Rattle.fx_script.specs.Run.{IsPlayFault, Writes};
 use crate::needs::needs_together;
 use crate::play_fault::PlayFault;
 use crate::report::printed_report;
+use crate::setting::Setting;
 use crate::writes::write_text;
 use fx_base::NoMemory;
 use fx_chain::{Gate, Request};
@@ -16,24 +17,22 @@ use fx_language::Command;
 use fx_print::{refused_line, too_many_line};
 use fx_ring::{OpenRing, Ring, SubmitFault};
 use fx_table::FileTable;
-use std::alloc::Global;
 use std::io::Write;
 use std::sync::Wait;
 use std::thread::Threads;
 
 // Plays a submission on an open table, and gives what it prints, or none where the table has no room for it.
-fn submission_text<T: FileTable, G: Gate>(
-    rt: &(impl Threads + Wait + Sync),
-    alloc: Global,
+fn submission_text<T: FileTable, R: Threads + Wait + Sync, G: Gate>(
+    setting: &Setting<'_, R, G>,
     opened: &mut OpenRing<T>,
     requests: &[Request],
-    gate: &G,
 ) -> Result<Option<String>, NoMemory>
     ensures { IfOk result (λ played. MatchOption played (opened.new ≡ opened.old)
         (λ text. Prints opened.old.ring (SubmitsAll (all_asked requests.now)) opened.new.ring
         (string_bytes text))) }
 {
-    match opened.submit::<G>(rt, alloc, requests, gate) {
+    let (rt, alloc) = (setting.rt, setting.alloc);
+    match opened.submit::<G>(rt, alloc, requests, setting.gate) {
         Ok(None) => Ok(None),
         Ok(Some(report)) => { Ok(Some(printed_report(rt, alloc, &report, opened.catalogue(), 1)?)) }
         Err(SubmitFault::Cut(fault)) => Ok(Some(refused_line(alloc, fault)?)),
@@ -44,12 +43,10 @@ fn submission_text<T: FileTable, G: Gate>(
 }
 
 // Plays the submissions that some commands begin with, as long as the open table has room, and gives how many they were.
-fn play_open<T: FileTable, G: Gate, W: Write>(
-    rt: &(impl Threads + Wait + Sync),
-    alloc: Global,
+fn play_open<T: FileTable, R: Threads + Wait + Sync, G: Gate, W: Write>(
+    setting: &Setting<'_, R, G>,
     opened: &mut OpenRing<T>,
     commands: &[Command],
-    gate: &G,
     writer: &mut W,
 ) -> Result<usize, PlayFault>
     ensures count { IfOk result (λ count. count ≤ length commands.now) }
@@ -64,7 +61,7 @@ fn play_open<T: FileTable, G: Gate, W: Write>(
         let Command::Submit(requests) = command else {
             return Ok(i);
         };
-        let played = submission_text::<T, G>(rt, alloc, opened, requests.as_slice(), gate)?;
+        let played = submission_text::<T, R, G>(setting, opened, requests.as_slice())?;
         let Some(text) = played else {
             return Ok(i);
         };
@@ -76,13 +73,10 @@ fn play_open<T: FileTable, G: Gate, W: Write>(
 /// Plays the submissions that some commands begin with on a table that stays open between them, and gives the ring and how many
 /// they were. None is played by more workers than one, and none where no memory is left to open the table for all of them: then
 /// each may be played by itself.
-pub fn play_together<T: FileTable, G: Gate, W: Write>(
-    rt: &(impl Threads + Wait + Sync),
-    alloc: Global,
+pub fn play_together<T: FileTable, R: Threads + Wait + Sync, G: Gate, W: Write>(
+    setting: &Setting<'_, R, G>,
     ring: Ring,
     commands: &[Command],
-    workers: u32,
-    gate: &G,
     writer: &mut W,
 ) -> (Ring, Result<usize, PlayFault>)
     ensures count { IfOk result.1 (λ count. count ≤ length commands.now) }
@@ -93,17 +87,17 @@ pub fn play_together<T: FileTable, G: Gate, W: Write>(
         (Writes (PrintsFirst ring (instructions_of commands.now))
         (W.contents writer.old) (W.contents writer.new))) }
 {
-    if workers > 1 {
+    if setting.workers > 1 {
         return (ring, Ok(0));
     }
     let needs = needs_together(commands, ring.size());
     if needs.chains == 0 {
         return (ring, Ok(0));
     }
-    match ring.open::<T>(alloc, needs.chains, needs.most) {
+    match ring.open::<T>(setting.alloc, needs.chains, needs.most) {
         Ok(opened) => {
             let mut opened = opened;
-            let played = play_open::<T, G, W>(rt, alloc, &mut opened, commands, gate, writer);
+            let played = play_open::<T, R, G, W>(setting, &mut opened, commands, writer);
             (opened.close(), played)
         }
         Err((back, NoMemory)) => (back, Ok(0)),

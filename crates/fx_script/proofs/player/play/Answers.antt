@@ -7,9 +7,9 @@ use Rattle.fx_script.proofs.player.play.Goals as goal
 pub returns-clause-ok : goal.returns-clause-ok
 returns-clause-ok g c =
     let same = ap instructions_of c.as_slice.ensures.value ∙ c.into_parts-catalogue.ensures.commands in
-    all_text c.args.script c.new.result (c.new.ensures ∙ ap new_ring c.into_parts-catalogue.ensures.catalogue) (instructions_of c.as_slice.result.now) same _ _ c.play_commands-ring.result.1 c.play_commands-ring.ensures.ok
+    all_text c.args.script c.new-ring.result (c.new-ring.ensures ∙ ap new_ring c.into_parts-catalogue.ensures.catalogue) (instructions_of c.as_slice.result.now) same _ _ c.play_commands-ring.result.1 c.play_commands-ring.ensures.ok
 
 pub returns-clause-fault : goal.returns-clause-fault
 returns-clause-fault g c =
     let same = ap instructions_of c.as_slice.ensures.value ∙ c.into_parts-catalogue.ensures.commands in
-    first_text c.args.script c.new.result (c.new.ensures ∙ ap new_ring c.into_parts-catalogue.ensures.catalogue) (instructions_of c.as_slice.result.now) same _ _ c.play_commands-ring.result.1 c.play_commands-ring.ensures.fault
+    first_text c.args.script c.new-ring.result (c.new-ring.ensures ∙ ap new_ring c.into_parts-catalogue.ensures.catalogue) (instructions_of c.as_slice.result.now) same _ _ c.play_commands-ring.result.1 c.play_commands-ring.ensures.fault

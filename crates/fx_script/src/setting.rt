@@ -1,0 +1,16 @@
+ghost use Rattle.std.specs.Prelude.{◌≤◌};
+ghost use Rattle.fx_table.specs.declared.limits.TheConstants.{MAX_PASSES};
+
+use std::alloc::Global;
+
+/// What stays while a script is played: what threads and waits are made with, its memory, how many workers play each submission,
+/// and the gate.
+#[derive(Drop)]
+pub struct Setting<'a, R, G> {
+    pub rt: &'a R,
+    pub alloc: Global,
+    pub workers: u32,
+    pub gate: &'a G,
+    pub ghost some: { 1 ≤ workers },
+    pub ghost few: { workers ≤ MAX_PASSES },
+}
