@@ -1,11 +1,11 @@
 """What fixcheck is asked of beside random scripts: texts of each size, and parts of a submission beside one with too many states.
 Statuses and lines are worked out by hand, by docs/CHECKING.md."""
-from limits import limits, lines
+from limits import BAD_LIMITS, LIMITS, limits, lines
 from sweeps import KINDS, sweeps
 
 NOT_LEGAL, UNDECIDED = 1, 6
 # of limits two are bad scripts; of sweeps two kinds are
-LEGAL_SIZES = 14 - 2 + sum(count for kind, count in KINDS.items() if kind not in ("fault_at", "unsubmitted_from"))
+LEGAL_SIZES = LIMITS - BAD_LIMITS + sum(count for kind, count in KINDS.items() if kind not in ("fault_at", "unsubmitted_from"))
 # how many rows of parts there are
 PARTS = 3
 # so many states are too few for the part of two slots: an order of its ten accesses goes through eleven
