@@ -1,6 +1,6 @@
 //! What is read: the script and the text.
 use fx_check_arguments::Ending;
-use fx_complaint::{line_at, line_behind};
+use fx_report::{line_at, line_behind};
 use fx_script::{PlayFault, Script, ScriptError};
 use std::alloc::{AllocError, Global};
 use std::fs;

@@ -6,12 +6,13 @@ use crate::unexpected::why_of;
 use fx_base::NoMemory;
 use fx_check::{Break, Fault, Judgement};
 use fx_check_arguments::Settings;
-use fx_complaint::{
-    Case, Complaint, Unordered, complaint_of, first_difference, line_behind, line_number,
-    line_of_command, shown_line,
-};
+use fx_complaint::{Finding, look_through};
+use fx_contradiction::no_order;
 use fx_judge::Reason;
 use fx_order::Order;
+use fx_report::{
+    Case, Complaint, first_difference, line_behind, line_number, line_of_command, shown_line,
+};
 use fx_script::{Command, Script};
 use fx_search::Doubt;
 use std::alloc::{AllocError, Global};
@@ -161,12 +162,15 @@ fn complaint_in(
         text: text.get(broken.at..).unwrap_or(b""),
         line: line_number(text, broken.at),
     };
-    let unordered = match &broken.fault {
-        Fault::Order(_, Reason::Slot(slot)) => Some(Unordered::Slot(*slot)),
-        Fault::Order(_, Reason::Chains) => Some(Unordered::Chains),
-        _ => None,
+    let report = match look_through(alloc, &case)? {
+        Finding::Wrong(complaint) => return Ok(Some(complaint)),
+        Finding::Fits(report) => report,
     };
-    complaint_of(alloc, &case, unordered)
+    match &broken.fault {
+        Fault::Order(_, Reason::Slot(slot)) => no_order(alloc, &case, &report, Some(*slot)),
+        Fault::Order(_, Reason::Chains) => no_order(alloc, &case, &report, None),
+        _ => Ok(None),
+    }
 }
 
 // Puts behind others why a text breaks.

@@ -1,9 +1,8 @@
 //! What a request may answer, whatever the others answer (docs/MODEL.md, "What a request answers").
-use crate::case::Case;
-use crate::event::name_of;
 use crate::may_be::MayBe;
 use fx_base::{Errno, NoMemory};
 use fx_chain::{Completion, Op, Request, Target, is_bad_entry};
+use fx_report::{Case, name_of};
 use std::alloc::{AllocError, Global};
 
 /// How many answers, and how many bytes of a file, are shown.
@@ -129,24 +128,6 @@ pub fn answers_of(
     Ok(answers)
 }
 
-/// The bytes that a request reads of an entry: none where it is no read.
-///
-/// # Errors
-/// Where memory is refused.
-pub fn bytes_of(
-    alloc: Global,
-    case: &Case<'_>,
-    request: &Request,
-    entry: u8,
-) -> Result<Vec<u8>, NoMemory> {
-    let mut bytes = Vec::new(alloc);
-    if let Op::Read { off, len, .. } = &request.op {
-        bytes.reserve_exact(*len as usize)?;
-        case.catalogue.read_into(entry, *off, *len, &mut bytes);
-    }
-    Ok(bytes)
-}
-
 /// Whether a completion is one of some answers.
 ///
 /// # Errors
@@ -167,7 +148,7 @@ pub fn is_among(
                 Err(_) => false,
             },
             Answer::Bytes(entry) => {
-                let bytes = bytes_of(alloc, case, request, entry)?;
+                let bytes = case.bytes_of(alloc, request, entry)?;
                 usize::try_from(*res).ok() == Some(bytes.len())
                     && bytes.as_slice() == got.as_slice()
             }
@@ -217,7 +198,7 @@ fn push_answer(
             }
         }
         Answer::Bytes(entry) => {
-            let bytes = bytes_of(alloc, case, request, entry)?;
+            let bytes = case.bytes_of(alloc, request, entry)?;
             push_bytes(told, &bytes)?;
             if let Some(name) = name_of(case.catalogue, entry) {
                 write!(told, " of {name}")?;

@@ -1,10 +1,7 @@
 //! The lines of a submission that contradict each other by the number of files at a slot.
-use crate::case::Case;
-use crate::complaint::Complaint;
-use crate::event::push_file;
-use crate::report::{Installed, Report};
 use fx_base::{Errno, NoMemory};
 use fx_chain::Op;
+use fx_report::{Case, Complaint, Installed, Report, push_file};
 use std::alloc::{AllocError, Global};
 
 /// What the lines tell of a slot.

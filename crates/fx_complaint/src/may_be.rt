@@ -1,7 +1,7 @@
 //! What may be at the slots of a table during a submission, whatever its requests answer.
-use crate::case::Case;
 use fx_base::NoMemory;
 use fx_chain::{Op, Target};
+use fx_report::Case;
 use std::alloc::{AllocError, Global};
 
 /// What may be at a slot at some time.

@@ -1,9 +1,8 @@
 //! Why a request can't have its completion.
-use crate::answers::{bytes_of, push_bytes, refusal_of};
-use crate::case::Case;
-use crate::event::name_of;
+use crate::answers::{push_bytes, refusal_of};
 use fx_base::{Errno, NoMemory};
 use fx_chain::{Completion, Op, Request, Target};
+use fx_report::{Case, name_of};
 use std::alloc::{AllocError, Global};
 
 // Puts behind others why a request doesn't come to the table.
@@ -46,7 +45,7 @@ fn nearest(
     let mut best = None;
     for entry in 0..case.catalogue.len() {
         let entry = u8::try_from(entry).unwrap_or(u8::MAX);
-        let bytes = bytes_of(alloc, case, request, entry)?;
+        let bytes = case.bytes_of(alloc, request, entry)?;
         if bytes.as_slice() == got {
             return Ok(Some((entry, usize::MAX)));
         }
@@ -85,7 +84,7 @@ fn push_nearest(
     }
     write!(told, "no file gives these bytes at {off}")?;
     if let Some((entry, 1..)) = found {
-        let bytes = bytes_of(alloc, case, request, entry)?;
+        let bytes = case.bytes_of(alloc, request, entry)?;
         write!(told, "; nearest: {name} with ")?;
         push_bytes(told, &bytes)?;
     }

@@ -1,12 +1,11 @@
 //! Completions that no request there may have, or that their chain doesn't let be.
 use crate::answers::{Answer, answers_of, is_among, push_answers, refusal_of};
-use crate::case::{Case, next_place, push_place};
-use crate::complaint::Complaint;
 use crate::may_be::{MayBe, may_be_at};
 use crate::why::push_why;
 use bitflags::Flags;
 use fx_base::{Errno, NoMemory};
 use fx_chain::{Completion, Op, Place, Request, SqeFlags, Target};
+use fx_report::{Case, Complaint, next_place, push_place};
 use std::alloc::{AllocError, Global};
 
 // The place of a request, and its chain up to there: the lines of its first member and of the one that severed it, if one did.

@@ -1,11 +1,9 @@
 //! Lines of closed files and of tags that can't stand behind a submission's completions.
-use crate::case::Case;
-use crate::complaint::Complaint;
-use crate::event::{name_of, push_mark};
-use crate::lines::{behind, line_at, line_behind};
-use crate::report::{Installed, Report};
 use fx_base::{Mark, NoMemory};
 use fx_lines::{ClosedLine, read_report};
+use fx_report::{
+    Case, Complaint, Installed, Report, behind, line_at, line_behind, name_of, push_mark,
+};
 use std::alloc::{AllocError, Global};
 
 // That a line should be another, for a reason that needs no more words.

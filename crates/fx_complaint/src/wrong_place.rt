@@ -1,10 +1,7 @@
 //! Lines that don't have the place of the request whose turn it is.
-use crate::case::{Case, next_place, push_place};
-use crate::complaint::Complaint;
-use crate::lines::{behind, line_at};
-use crate::wording::push_request;
 use fx_base::NoMemory;
 use fx_chain::{Place, Request};
+use fx_report::{Case, Complaint, behind, line_at, next_place, push_place, push_request};
 use std::alloc::{AllocError, Global};
 
 // A place and the blank behind it, as the line of its completion begins.

@@ -1,6 +1,6 @@
 //! The state that a history leads to.
 use fx_base::{Closed, Mark};
-use fx_complaint::{Event, push_mark};
+use fx_report::{Event, push_mark};
 use std::alloc::{AllocError, Global};
 
 /// The files at the slots of a table, and the one file that a request holds or that was removed and isn't closed yet. There

@@ -2,7 +2,7 @@
 use crate::state::State;
 use fx_base::Catalogue;
 use fx_chain::{Completion, Request};
-use fx_complaint::{Event, events_of, push_event, push_request};
+use fx_report::{Event, events_of, push_event, push_request};
 use fx_order::Access;
 use std::alloc::{AllocError, Global};
 

@@ -1,7 +1,7 @@
 //! A submission that a text breaks at.
 use crate::lines::{behind, line_at};
 use fx_base::{Catalogue, NoMemory};
-use fx_chain::{Completion, Place, Request};
+use fx_chain::{Completion, Op, Place, Request};
 use fx_lines::read_report;
 use fx_order::Slots;
 use std::alloc::{AllocError, Global};
@@ -72,6 +72,24 @@ impl<'a> Case<'a> {
             rest = behind(rest, line);
         }
         Ok(completions)
+    }
+
+    /// The bytes that a request reads of an entry: none where it is no read.
+    ///
+    /// # Errors
+    /// Where memory is refused.
+    pub fn bytes_of(
+        &self,
+        alloc: Global,
+        request: &Request,
+        entry: u8,
+    ) -> Result<Vec<u8>, NoMemory> {
+        let mut bytes = Vec::new(alloc);
+        if let Op::Read { off, len, .. } = &request.op {
+            bytes.reserve_exact(*len as usize)?;
+            self.catalogue.read_into(entry, *off, *len, &mut bytes);
+        }
+        Ok(bytes)
     }
 }
 

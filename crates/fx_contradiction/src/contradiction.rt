@@ -1,9 +1,8 @@
 //! Lines that have no order together, and of which none can be left out: lines are left out, and it is searched again.
-use crate::case::Case;
 use crate::flags::{flags, is_at, set};
-use crate::report::{Installed, Report};
 use crate::told::{Left, claims_told, question_of};
 use fx_base::NoMemory;
+use fx_report::{Case, Installed, Report};
 use fx_search::{Found, Limits, Steps, components, explore};
 use std::alloc::{AllocError, Global};
 

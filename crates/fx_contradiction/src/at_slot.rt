@@ -1,13 +1,11 @@
 //! The lines of a submission that have no order together, where each of them is right by itself.
-use crate::case::Case;
-use crate::complaint::Complaint;
 use crate::contradiction::Cause;
-use crate::report::Report;
 use fx_base::{Errno, NoMemory};
 use fx_chain::{Completion, Op, Request, Target};
+use fx_report::{Case, Complaint, Report};
 use std::alloc::{AllocError, Global};
 
-/// With more lines than this nobody is helped by them.
+// With more lines than this nobody is helped by them.
 const MOST_LINES: usize = 16;
 
 // Whether the result of a request depends on what is at the slots that are looked at, one of which may be of the allocation range.

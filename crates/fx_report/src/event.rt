@@ -71,7 +71,7 @@ fn push_found(told: &mut String, found: Option<Closed>) -> Result<(), AllocError
 }
 
 /// The name of a catalogue entry.
-pub(crate) fn name_of(catalogue: &Catalogue, entry: u8) -> Option<&str> {
+pub fn name_of(catalogue: &Catalogue, entry: u8) -> Option<&str> {
     if u32::from(entry) < catalogue.len() {
         Some(catalogue.name_of(entry))
     } else {
@@ -83,7 +83,7 @@ pub(crate) fn name_of(catalogue: &Catalogue, entry: u8) -> Option<&str> {
 ///
 /// # Errors
 /// Where memory is refused.
-pub(crate) fn push_file(
+pub fn push_file(
     told: &mut String,
     catalogue: &Catalogue,
     file: Closed,

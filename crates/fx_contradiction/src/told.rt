@@ -1,11 +1,9 @@
 //! What the lines of a submission tell of the accesses at some slots, where some lines are left out: claims, for a search.
-use crate::answers::bytes_of;
-use crate::case::Case;
 use crate::flags::is_at;
-use crate::report::Report;
 use bitflags::Flags;
 use fx_base::{Errno, NoMemory};
 use fx_chain::{Completion, Op, Request, SqeFlags, Target};
+use fx_report::{Case, Report};
 use fx_search::{Cell, Claim, Leaves, Resident, Strand, Wants};
 use std::alloc::{AllocError, Global};
 
@@ -66,7 +64,7 @@ fn fits_of(
     let mut fits = [false; 256];
     for number in 0..case.catalogue.len() {
         let entry = u8::try_from(number).unwrap_or(u8::MAX);
-        let bytes = bytes_of(alloc, case, request, entry)?;
+        let bytes = case.bytes_of(alloc, request, entry)?;
         fits[entry as usize] = match got {
             Some(got) => bytes.as_slice() == got,
             None => bytes.len() == len as usize,
