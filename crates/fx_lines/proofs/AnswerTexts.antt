@@ -1,12 +1,7 @@
 -- The answers of completions, as they are printed: a result, and perhaps the bytes of a read.
-use Rattle.std.proofs.Common.{◌≡◌, ℕ, ◌<◌, List, [], ◌∷◌, ◌++◌, length, refl, sym, ap, ◌∙◌, inl, inr, arith, None}
-use Rattle.std.specs.Prelude.{ℤ, ◌⊎◌}
-use Rattle.std.specs.Fmt.{signed_decimal}
-use Rattle.std.proofs.lemmas.List.{append-nil}
-use Rattle.hex.specs.Hex.{IsBytes, encode_lower}
-use Rattle.fx_lines.specs.Front.{IsCutPart, answer_text, cut_text}
-use Rattle.fx_lines.specs.Lines.{IsResultInRange, is_without}
-use Rattle.fx_lines.specs.Reads.{IsPrintedFrom, Reads}
+use Rattle.fx_lines.proofs.Words.{◌≡◌, ℕ, ◌<◌, List, [], ◌∷◌, ◌++◌, length, refl, sym, ap, ◌∙◌, inl, inr, arith, None, ℤ, signed_decimal, append-nil}
+use Rattle.fx_lines.proofs.Words.{IsBytes, encode_lower, IsCutPart, answer_text, cut_text, IsResultInRange, is_without, IsPrintedFrom, Reads}
+use Rattle.std.specs.Prelude.{◌⊎◌}
 use Rattle.fx_lines.proofs.Cuts.{cut_has}
 use Rattle.fx_lines.proofs.Hexes.{some_got}
 use Rattle.fx_lines.proofs.Readings.{pair_is}

@@ -1,17 +1,12 @@
 -- The lines of closed files and of tags, part by part.
-use Rattle.std.proofs.Common.{◌≡◌, ℕ, ◌<◌, ◌^◌, true, List, ◌∷◌, ◌++◌, refl, sym, ap, ◌∙◌}
-use Rattle.std.specs.Prelude.{codes, decimal, not, ◌==◌}
-use Rattle.std.proofs.lemmas.List.{append_assoc}
-use Rattle.fx_base.specs.declared.mark.Mark.{Mark}
-use Rattle.fx_lines.specs.Front.{IsCutPart, close_text, cut_text}
-use Rattle.fx_lines.specs.Lines.{IsCloseInRange, IsMarkInRange, NamedClose, is_without, line_of_tag, named_line}
-use Rattle.fx_lines.specs.Reads.{IsPrintedFrom}
+use Rattle.fx_lines.proofs.Words.{◌≡◌, ℕ, ◌<◌, ◌^◌, true, List, ◌∷◌, ◌++◌, refl, sym, ap, ◌∙◌, codes, decimal, append_assoc, Mark, IsCutPart}
+use Rattle.fx_lines.proofs.Words.{close_text, cut_text, IsCloseInRange, IsMarkInRange, NamedClose, is_without, line_of_tag, named_line, IsPrintedFrom}
+use Rattle.fx_lines.proofs.Words.{and_right, mark_text}
+use Rattle.std.specs.Prelude.{not, ◌==◌}
 use Rattle.fx_lines.proofs.Cuts.{without_between, without_right}
-use Rattle.fx_language.proofs.Conditions.{and_right}
 use Rattle.fx_lines.proofs.Decimals.{decimal_without}
 use Rattle.fx_lines.proofs.LinesInTurn.{IsOneLine}
 use Rattle.fx_lines.proofs.Marks.{mark_without}
-use Rattle.fx_print.specs.Text.{mark_text}
 
 close_is : (close : NamedClose) (mark : Mark) (name : List ℕ) → close.mark ≡ mark → close.name ≡ name
     → close ≡ record { mark = mark; name = name }

@@ -1,19 +1,10 @@
 -- How many completions a submission has.
-use Rattle.std.proofs.Common.{◌≡◌, ℕ, ◌+◌, Bool, true, false, List, [], ◌∷◌, length, refl, ap, ◌∙◌, arith}
+use Rattle.fx_lines.proofs.Words.{◌≡◌, ℕ, ◌+◌, Bool, true, false, List, [], ◌∷◌, length, refl, ap, ◌∙◌, arith, MatchBool, length-append, FileEntry}
+use Rattle.fx_lines.proofs.Words.{state_of, Event, Completed, Asked, runs_of, Place, are_runs, ExplainsParts}
 use Rattle.std.specs.Prelude.{flat_map}
-use Rattle.std.specs.Bool.{MatchBool}
-use Rattle.std.proofs.lemmas.List.{length-append}
-use Rattle.fx_base.specs.Catalogue.{FileEntry}
-use Rattle.fx_plain.specs.Contents.{state_of}
 use Rattle.fx_plain.specs.declared.event.Action.{Action}
-use Rattle.fx_plain.specs.declared.event.Event.{Event}
-use Rattle.fx_chain.specs.Completed.{Completed, next_member}
+use Rattle.fx_chain.specs.Completed.{next_member}
 use Rattle.fx_chain.specs.Explains.{Explains, canceled, severs}
-use Rattle.fx_chain.specs.Operation.{Asked}
-use Rattle.fx_chain.specs.Runs.{runs_of}
-use Rattle.fx_chain.specs.declared.completion.Place.{Place}
-use Rattle.fx_chain.proofs.Runs.{are_runs}
-use Rattle.fx_ring.specs.Submission.{ExplainsParts}
 use Rattle.fx_lines.specs.Laws.{ReportsHaveEachRequest}
 
 canceled_count : (place : Place) (requests : List Asked) → length (canceled place requests) ≡ length requests

@@ -1,20 +1,13 @@
 -- The lines of completions, part by part.
-use Rattle.std.proofs.Common.{◌≡◌, ℕ, true, List, [], ◌∷◌, ◌++◌, refl, sym, ap, ◌∙◌, inl, inr}
-use Rattle.std.specs.Prelude.{ℤ}
-use Rattle.std.specs.Fmt.{signed_decimal}
-use Rattle.std.proofs.lemmas.List.{append_assoc}
-use Rattle.fx_chain.specs.Completed.{Completed}
-use Rattle.fx_chain.specs.declared.completion.Place.{Place}
-use Rattle.fx_lines.specs.Front.{IsCutPart, answer_text, completion_text, cut_text, place_text}
-use Rattle.fx_lines.specs.Lines.{IsCompletionInRange, IsPlaceInRange, IsResultInRange, is_without}
-use Rattle.fx_lines.specs.Reads.{IsPrintedFrom}
+use Rattle.fx_lines.proofs.Words.{◌≡◌, ℕ, true, List, [], ◌∷◌, ◌++◌, refl, sym, ap, ◌∙◌, inl, inr, ℤ, signed_decimal, append_assoc, Completed, Place}
+use Rattle.fx_lines.proofs.Words.{IsCutPart, answer_text, completion_text, cut_text, place_text, IsCompletionInRange, IsPlaceInRange, IsResultInRange}
+use Rattle.fx_lines.proofs.Words.{is_without, IsPrintedFrom, completion_line}
 use Rattle.fx_lines.proofs.AnswerTexts.{FitsAnswer, alone_or_cut}
 use Rattle.fx_lines.proofs.Cuts.{without_between}
 use Rattle.fx_lines.proofs.Hexes.{hex_without}
 use Rattle.fx_lines.proofs.LinesInTurn.{IsOneLine}
 use Rattle.fx_lines.proofs.Marks.{place_without}
 use Rattle.fx_lines.proofs.Results.{result_without}
-use Rattle.fx_print.specs.Text.{completion_line}
 
 -- a completion is that of its parts
 completion_is : (c : Completed) (place : Place) (res : ℤ) (got : List ℕ) → c.place ≡ place → c.res ≡ res → c.got ≡ got

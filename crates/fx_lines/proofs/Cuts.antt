@@ -1,15 +1,11 @@
 -- A text without a byte, and a text that is cut at one.
-use Rattle.std.proofs.Common.{◌≡◌, ◌≢◌, ℕ, ◌+◌, ◌<◌, ◌==◌, true, false, not, List, [], ◌∷◌, ◌++◌, length, get_or, take, drop, refl, sym, ap, ◌∙◌, take-append-drop, Option, Some, None}
-use Rattle.std.specs.Prelude.{MatchOption, option_map}
-use Rattle.std.specs.Borrow.{Bor}
-use Rattle.std.proofs.lemmas.List.{append_cancel_left, drop_more}
-use Rattle.std.proofs.lemmas.Bool.Decides.{nat_tests}
-use Rattle.std.proofs.Common.{arith}
+use Rattle.fx_lines.proofs.Words.{◌≡◌, ℕ, ◌+◌, ◌<◌, ◌==◌, true, false, not, List, [], ◌∷◌, ◌++◌, length, get_or, take, drop, refl, sym, ap, ◌∙◌}
+use Rattle.fx_lines.proofs.Words.{take-append-drop, Option, Some, None, option_map, Bor, append_cancel_left, nat_tests, arith, and_left, and_right}
+use Rattle.fx_lines.proofs.Words.{and_true, IsCutPart, cut_text, is_without, IsPrintedFrom, Reads}
+use Rattle.std.proofs.Common.{◌≢◌}
+use Rattle.std.specs.Prelude.{MatchOption}
+use Rattle.std.proofs.lemmas.List.{drop_more}
 use Rattle.std.proofs.lemmas.List.Folds.{list_all-append}
-use Rattle.fx_language.proofs.Conditions.{and_left, and_right, and_true}
-use Rattle.fx_lines.specs.Front.{IsCutPart, cut_text}
-use Rattle.fx_lines.specs.Lines.{is_without}
-use Rattle.fx_lines.specs.Reads.{IsPrintedFrom, Reads}
 use Rattle.fx_lines.proofs.Readings.{pair_is}
 
 -- a byte isn't another than itself

@@ -1,16 +1,13 @@
 -- Decimal numbers as they are printed.
-use Rattle.std.proofs.Common.{◌≡◌, ℕ, ◌+◌, ◌<◌, ◌≤◌, ◌^◌, ◌==◌, zero, suc, Bool, true, false, not, nat_le, List, [], ◌∷◌, length, get_or, slice_index, refl, sym, ap, ◌∙◌, arith, Some, None, if◌then◌else◌}
-use Rattle.std.specs.Prelude.{◌&&◌, ◌||◌, decimal}
-use Rattle.std.specs.List.{list_all}
+use Rattle.fx_lines.proofs.Words.{◌≡◌, ℕ, ◌+◌, ◌<◌, ◌≤◌, ◌^◌, ◌==◌, zero, suc, Bool, true, false, not, nat_le, List, [], ◌∷◌, length, get_or}
+use Rattle.fx_lines.proofs.Words.{slice_index, refl, sym, ap, ◌∙◌, arith, Some, None, if◌then◌else◌, decimal, list_all, nat_tests, and_left}
+use Rattle.fx_lines.proofs.Words.{and_right, and_true, is_digit, is_without, true≢false, Reads}
+use Rattle.std.specs.Prelude.{◌&&◌, ◌||◌}
 use Rattle.std.specs.Str.Parse.{digits_value}
-use Rattle.std.proofs.lemmas.Bool.Decides.{nat_tests}
 use Rattle.std.proofs.lemmas.Fmt.{decimal_digit, decimal_nonempty, first_decimal, digits_decimal, digits_value-decimal, decimal-digits_value}
 use Rattle.std.proofs.lemmas.Str.Parse.{IsNumeralModel, IsDigitsTest, numerals_by_value}
-use Rattle.fx_language.proofs.Conditions.{and_left, and_right, and_true, le_of}
-use Rattle.fx_language.specs.Words.{is_digit, is_decimal, number_up_to}
-use Rattle.fx_lines.specs.Lines.{is_without}
-use Rattle.std.proofs.lemmas.Bool.{true≢false}
-use Rattle.fx_lines.specs.Reads.{Reads}
+use Rattle.fx_language.proofs.Conditions.{le_of}
+use Rattle.fx_language.specs.Words.{is_decimal, number_up_to}
 
 le_is : (a b : ℕ) → a ≤ b → nat_le a b ≡ true
 le_is a b is = grind (arith, nat_tests)

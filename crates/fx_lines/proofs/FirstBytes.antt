@@ -1,11 +1,7 @@
 -- What a play prints begins with no line of a closed file, and with none of a tag.
-use Rattle.std.proofs.Common.{◌≡◌, ℕ, zero, suc, ◌/◌, ◌%◌, ◌<◌, ◌==◌, true, false, List, [], ◌∷◌, ◌++◌, get_or, refl, sym, ap, ◌∙◌, arith, if◌then◌else◌}
-use Rattle.std.specs.Prelude.{codes, decimal}
+use Rattle.fx_lines.proofs.Words.{◌≡◌, ℕ, zero, suc, ◌/◌, ◌%◌, ◌<◌, ◌==◌, true, false, List, [], ◌∷◌, ◌++◌, get_or, refl, sym, ap, ◌∙◌, arith}
+use Rattle.fx_lines.proofs.Words.{if◌then◌else◌, codes, decimal, true≢false, nat_tests, is_digit, HasNoCloses}
 use Rattle.std.specs.Fmt.{digit_glyph, digits, digits_onto}
-use Rattle.std.proofs.lemmas.Bool.{true≢false}
-use Rattle.std.proofs.lemmas.Bool.Decides.{nat_tests}
-use Rattle.fx_language.specs.Words.{is_digit}
-use Rattle.fx_lines.specs.Lines.{HasNoCloses}
 
 -- a text with another first byte
 pub by_first : (b : ℕ) (rest : List ℕ) → (b == 99) ≡ false → (b == 116) ≡ false → HasNoCloses (b ∷ rest)

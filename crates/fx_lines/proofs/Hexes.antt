@@ -1,14 +1,11 @@
 -- The bytes of a read, as they are printed.
-use Rattle.std.proofs.Common.{◌≡◌, ℕ, zero, suc, ◌/◌, ◌%◌, ◌<◌, ◌==◌, Bool, true, false, not, List, [], ◌∷◌, ◌++◌, length, slice_index, refl, ap, ◌∙◌, arith, Ok, Err, None, if◌then◌else◌}
-use Rattle.std.proofs.lemmas.Bool.{eqb-true}
-use Rattle.std.specs.List.{list_all}
-use Rattle.hex.specs.Hex.{IsBytes, decode_of, encode_lower, encode_with, lower_digits}
+use Rattle.fx_lines.proofs.Words.{◌≡◌, ℕ, zero, suc, ◌/◌, ◌%◌, ◌<◌, ◌==◌, Bool, true, false, not, List, [], ◌∷◌, ◌++◌, length, slice_index, refl, ap}
+use Rattle.fx_lines.proofs.Words.{◌∙◌, arith, None, if◌then◌else◌, eqb-true, list_all, IsBytes, encode_lower, and_left, and_right, and_true}
+use Rattle.fx_lines.proofs.Words.{is_without, IsPrintedFrom, Reads, got_text}
+use Rattle.std.proofs.Common.{Ok, Err}
+use Rattle.hex.specs.Hex.{decode_of, encode_with, lower_digits}
 use Rattle.hex.specs.declared.error.FromHexError.{FromHexError}
 use Rattle.hex.proofs.HexLemmas.{decode_of-encode_lower, decode_of-ok, length-encode_with}
-use Rattle.fx_language.proofs.Conditions.{and_left, and_right, and_true}
-use Rattle.fx_lines.specs.Lines.{is_without}
-use Rattle.fx_lines.specs.Reads.{IsPrintedFrom, Reads}
-use Rattle.fx_print.specs.Text.{got_text}
 
 -- no bytes are printed as an empty word
 pub none_empty : (word : List ℕ) → length word ≡ 0 → Reads encode_lower (λ got. (0 < length got) × IsBytes got) word None

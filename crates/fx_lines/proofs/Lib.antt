@@ -1,3 +1,4 @@
+pub mod Words
 pub mod Cuts
 pub mod Decimals
 pub mod LinesInTurn

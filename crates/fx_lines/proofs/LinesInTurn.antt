@@ -1,12 +1,9 @@
 -- Lines that are read one after another.
-use Rattle.std.proofs.Common.{◌≡◌, ℕ, true, List, [], ◌∷◌, ◌++◌, length, take, drop, refl, sym, ap, subst, ◌∙◌, All, None, take-append-drop}
-use Rattle.std.specs.Io.{StartsWith}
-use Rattle.std.specs.List.{flat_map}
-use Rattle.std.proofs.lemmas.List.{append_assoc, append-nil, append_cancel_left, flat_map_more, take_at}
-use Rattle.std.proofs.lemmas.List.Elements.{All-push, All-head, All-tail, All-nil}
-use Rattle.fx_lines.specs.Front.{IsCutPart, IsFront, cut_text, lines_before}
-use Rattle.fx_lines.specs.Lines.{is_without}
-use Rattle.fx_lines.specs.Reads.{Reads, IsPrintedFrom}
+use Rattle.fx_lines.proofs.Words.{◌≡◌, ℕ, true, List, [], ◌∷◌, ◌++◌, length, take, drop, refl, sym, ap, subst, ◌∙◌, All, None, take-append-drop}
+use Rattle.fx_lines.proofs.Words.{StartsWith, flat_map, append_assoc, append-nil, append_cancel_left, take_at, All-head, IsCutPart, IsFront, cut_text}
+use Rattle.fx_lines.proofs.Words.{lines_before, is_without, Reads, IsPrintedFrom}
+use Rattle.std.proofs.lemmas.List.{flat_map_more}
+use Rattle.std.proofs.lemmas.List.Elements.{All-push, All-tail, All-nil}
 use Rattle.fx_lines.proofs.Readings.{pair_is}
 
 -- the first lines of a text, and the rest: whatever lines the text has, these are the first of them

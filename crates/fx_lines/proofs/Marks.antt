@@ -1,18 +1,13 @@
 -- Places and marks by their numbers.
-use Rattle.std.proofs.Common.{◌≡◌, ℕ, ◌<◌, ◌^◌, List, [], ◌∷◌, ◌++◌, refl, sym, ap, ◌∙◌, arith, Option, Some, None, option_map}
-use Rattle.std.specs.Prelude.{decimal, not, true, false, ◌==◌}
-use Rattle.std.proofs.lemmas.List.{append_assoc}
-use Rattle.fx_language.proofs.Conditions.{and_true}
-use Rattle.fx_language.specs.Words.{is_digit}
-use Rattle.fx_base.specs.declared.mark.Mark.{Mark}
+use Rattle.fx_lines.proofs.Words.{◌≡◌, ℕ, ◌<◌, ◌^◌, List, [], ◌∷◌, ◌++◌, refl, sym, ap, ◌∙◌, arith, Option, Some, None, decimal, append_assoc}
+use Rattle.fx_lines.proofs.Words.{and_true, is_digit, Mark, Place, number_text, place_text, IsMarkInRange, IsPlaceInRange, is_without, IsPrintedFrom}
+use Rattle.fx_lines.proofs.Words.{Reads, mark_text}
+use Rattle.std.proofs.Common.{option_map}
+use Rattle.std.specs.Prelude.{not, true, false, ◌==◌}
 use Rattle.fx_base.specs.declared.mark.Mark.TheVariants.{Registered, Submitted}
-use Rattle.fx_chain.specs.declared.completion.Place.{Place}
-use Rattle.fx_lines.specs.Front.{entry_text, number_text, place_text}
-use Rattle.fx_lines.specs.Lines.{IsMarkInRange, IsPlaceInRange, is_without}
-use Rattle.fx_lines.specs.Reads.{IsPrintedFrom, Reads}
+use Rattle.fx_lines.specs.Front.{entry_text}
 use Rattle.fx_lines.proofs.Cuts.{other_first, without_between}
 use Rattle.fx_lines.proofs.Decimals.{decimal_without}
-use Rattle.fx_print.specs.Text.{mark_text}
 
 -- a place is that of its numbers
 pub place_is : (place : Place) (s c m : ℕ) → place.submission ≡ s → place.chain ≡ c → place.member ≡ m

@@ -1,11 +1,8 @@
 -- The names of a catalogue stand in lines.
-use Rattle.std.proofs.Common.{◌≡◌, ℕ, ◌==◌, Bool, true, false, not, nat_le, List, [], ◌∷◌, length, refl, sym, ap, ◌∙◌}
-use Rattle.std.specs.List.{list_all}
-use Rattle.std.proofs.lemmas.Bool.{eqb-true, true≢false}
+use Rattle.fx_lines.proofs.Words.{◌≡◌, ℕ, ◌==◌, Bool, true, false, not, nat_le, List, [], ◌∷◌, length, refl, sym, ap, ◌∙◌, list_all, eqb-true}
+use Rattle.fx_lines.proofs.Words.{true≢false, and_left, and_right, and_true, is_without}
 use Rattle.fx_base.specs.Name.{is_name, name_byte}
 use Rattle.fx_base.specs.declared.name.TheConstants.{LONGEST_NAME}
-use Rattle.fx_language.proofs.Conditions.{and_left, and_right, and_true}
-use Rattle.fx_lines.specs.Lines.{is_without}
 
 -- no byte of a name is a line end
 no_end : (b : ℕ) (test : Bool) → (b == 10) ≡ test → name_byte b ≡ true → not test ≡ true

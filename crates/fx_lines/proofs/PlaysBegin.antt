@@ -1,36 +1,28 @@
 -- What a play prints begins with no line of a closed file, and with none of a tag.
-use Rattle.std.proofs.Common.{◌≡◌, ℕ, ◌<◌, ◌≤◌, ◌==◌, Bool, true, false, nat_le, List, [], ◌∷◌, ◌++◌, length, drop, map, refl, sym, ap, subst, ◌∙◌, inl, inr, arith, All, Option, Some, None, if◌then◌else◌}
-use Rattle.std.specs.Prelude.{ℤ, pos, codes, decimal, Contains}
-use Rattle.std.specs.Fmt.{signed_decimal}
-use Rattle.std.specs.Bool.{MatchBool}
+use Rattle.fx_lines.proofs.Words.{◌≡◌, ℕ, ◌<◌, ◌≤◌, ◌==◌, Bool, true, false, nat_le, List, [], ◌∷◌, ◌++◌, length, drop, map, refl, sym, ap, subst}
+use Rattle.fx_lines.proofs.Words.{◌∙◌, inl, inr, arith, All, Option, Some, None, if◌then◌else◌, ℤ, pos, codes, decimal, signed_decimal, MatchBool}
+use Rattle.fx_lines.proofs.Words.{append_assoc, All-head, FileEntry, state_of, Event, Completed, Asked, runs_of, are_runs, ExplainsParts, HasNoCloses}
+use Rattle.fx_lines.proofs.Words.{completion_lines, got_text, result_line}
+use Rattle.std.specs.Prelude.{Contains}
 use Rattle.std.specs.Option.{MatchOption}
-use Rattle.std.proofs.lemmas.List.{append_assoc}
 use Rattle.std.proofs.lemmas.List.Sorted.{length_permutation}
-use Rattle.std.proofs.lemmas.List.Elements.{All-head}
-use Rattle.fx_base.specs.Catalogue.{FileEntry}
 use Rattle.fx_base.specs.declared.errno.Errno.{Errno}
 use Rattle.fx_base.specs.declared.errno.Errno.TheVariants.{ENOMEM}
 use Rattle.fx_base.specs.declared.open_file.Closed.{Closed}
-use Rattle.fx_plain.specs.Contents.{state_of}
 use Rattle.fx_plain.specs.History.{action_of, closes_in}
-use Rattle.fx_plain.specs.declared.event.Event.{Event}
-use Rattle.fx_chain.specs.Completed.{Completed, negated}
+use Rattle.fx_chain.specs.Completed.{negated}
 use Rattle.fx_chain.specs.Faults.{fault_of}
-use Rattle.fx_chain.specs.Operation.{Asked}
-use Rattle.fx_chain.specs.Runs.{runs_of}
 use Rattle.fx_chain.specs.declared.fault.CutFault.{CutFault}
-use Rattle.fx_chain.proofs.Runs.{are_runs}
 use Rattle.fx_ring.specs.Ring.{RingContents, RingState, files_of, ring_of}
 use Rattle.fx_ring.specs.Registration.{range_refusal, register_refusal, removed_from, sparse_refusal, unregister_refusal, update_refusal}
 use Rattle.fx_ring.specs.Tags.{tags_given}
-use Rattle.fx_ring.specs.Submission.{ExplainsParts, IsOneHistory, Reported}
+use Rattle.fx_ring.specs.Submission.{IsOneHistory, Reported}
 use Rattle.fx_ring.specs.declared.ring.TheConstants.{MOST_SUBMISSIONS}
 use Rattle.fx_language.specs.Instruction.{Instruction, MakesSparse, RegistersList, Unregisters, SetsRange, UpdatesRing, SubmitsAll}
 use Rattle.fx_script.specs.Play.{Answers, IsRefused, Prints, PrintsClosed, PrintsEnd, PrintsReport}
 use Rattle.fx_lines.specs.Laws.{PlaysBeginWithNoClose}
-use Rattle.fx_lines.specs.Lines.{HasNoCloses}
 use Rattle.fx_lines.proofs.FirstBytes.{begins_with_digit, by_first, by_nothing, by_teardown, no_letter}
-use Rattle.fx_print.specs.Text.{closes_text, completion_lines, got_text, kind_name, refused_line, result_line, too_many_line}
+use Rattle.fx_print.specs.Text.{closes_text, kind_name, refused_line, too_many_line}
 
 -- no files, no lines of them
 no_files : (files : List Closed) → length files ≡ 0 → files ≡ []

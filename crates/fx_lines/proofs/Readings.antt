@@ -1,7 +1,6 @@
 -- What was read, where it is known whether something was.
-use Rattle.std.proofs.Common.{◌≡◌, ℕ, List, sym, ap, ◌∙◌, subst}
+use Rattle.fx_lines.proofs.Words.{◌≡◌, ℕ, List, sym, ap, ◌∙◌, subst, IsPrintedFrom, Reads}
 use Rattle.std.specs.Prelude.{Option, Some, None}
-use Rattle.fx_lines.specs.Reads.{IsPrintedFrom, Reads}
 
 pub at_some : {A : Type 0} (print : A → List ℕ) (fits : A → Type 0) (text : List ℕ) (r : Option A) (x : A) → r ≡ Some x
     → Reads print fits text r → IsPrintedFrom print fits text x

@@ -1,19 +1,12 @@
 -- The lines of a report: those of its completions, then those of closed files, then those of tags.
-use Rattle.std.proofs.Common.{◌≡◌, ℕ, ◌<◌, ◌^◌, true, false, List, [], ◌∷◌, ◌++◌, length, get_or, take, refl, sym, ap, ◌∙◌, Option, Some, None, ◌==◌}
-use Rattle.std.proofs.lemmas.Bool.{true≢false}
+use Rattle.fx_lines.proofs.Words.{◌≡◌, ℕ, ◌<◌, ◌^◌, true, false, List, [], ◌∷◌, ◌++◌, length, get_or, take, refl, sym, ap, ◌∙◌, Option, Some, None}
+use Rattle.fx_lines.proofs.Words.{◌==◌, true≢false, codes, option_map, Bor, StartsWith, flat_map, append_assoc, take_at, Completed, AreAll, AreSoMany}
+use Rattle.fx_lines.proofs.Words.{IsFront, lines_before, HasNoCloses, IsCloseInRange, IsCompletionInRange, NamedClose, line_of_tag, named_line}
+use Rattle.fx_lines.proofs.Words.{IsPrintedFrom, Reads, completion_line}
 use Rattle.std.specs.Prelude.{is_some}
-use Rattle.std.specs.Prelude.{codes, option_map}
-use Rattle.std.specs.Borrow.{Bor}
-use Rattle.std.specs.Io.{StartsWith}
-use Rattle.std.specs.List.{flat_map}
-use Rattle.std.proofs.lemmas.List.{append_assoc, take_at}
-use Rattle.fx_chain.specs.Completed.{Completed}
-use Rattle.fx_lines.specs.Front.{AreAll, AreSoMany, IsFront, lines_before}
-use Rattle.fx_lines.specs.Lines.{HasNoCloses, IsCloseInRange, IsCompletionInRange, IsReportBefore, Lines, NamedClose, ReadsReport, line_of_tag, lines_text, named_line}
-use Rattle.fx_lines.specs.Reads.{IsPrintedFrom, Reads}
+use Rattle.fx_lines.specs.Lines.{IsReportBefore, Lines, ReadsReport, lines_text}
 use Rattle.fx_lines.proofs.LinesInTurn.{not_begun}
 use Rattle.fx_lines.proofs.Readings.{pair_is}
-use Rattle.fx_print.specs.Text.{completion_line}
 
 lines_is : (lines : Lines) (cs : List Completed) (closed : List NamedClose) (tags : List ℕ)
     → lines.completions ≡ cs → lines.closed ≡ closed → lines.tags ≡ tags → lines ≡ record { completions = cs; closed = closed; tags = tags }

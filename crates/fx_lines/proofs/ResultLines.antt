@@ -1,16 +1,11 @@
 -- The line of a result tells it.
-use Rattle.std.proofs.Common.{◌≡◌, ℕ, ◌<◌, ◌^◌, List, ◌++◌, refl, sym, ◌∙◌, arith}
-use Rattle.std.specs.Prelude.{ℤ, pos, negsuc, codes}
-use Rattle.std.specs.Fmt.{signed_decimal}
+use Rattle.fx_lines.proofs.Words.{◌≡◌, ℕ, ◌<◌, ◌^◌, List, ◌++◌, refl, sym, ◌∙◌, arith, ℤ, pos, negsuc, codes, signed_decimal, append_assoc}
+use Rattle.fx_lines.proofs.Words.{append_cancel_left, cut_text, IsResultInRange, result_line}
 use Rattle.std.specs.Int.Signed.{mag}
 use Rattle.std.proofs.lemmas.Fmt.{signed_decimal_injective}
-use Rattle.std.proofs.lemmas.List.{append_assoc, append_cancel_left}
-use Rattle.fx_lines.specs.Front.{cut_text}
 use Rattle.fx_lines.specs.Laws.{BeginsWithOneResult}
-use Rattle.fx_lines.specs.Lines.{IsResultInRange}
 use Rattle.fx_lines.proofs.Cuts.{cut_once}
 use Rattle.fx_lines.proofs.Results.{result_without}
-use Rattle.fx_print.specs.Text.{result_line}
 
 small : (res : ℤ) → IsResultInRange res → mag res < 2 ^ 63
 small (pos n) fits = omega arith

@@ -1,11 +1,6 @@
 -- Results as they are printed: 0 or more, or a sign and a number.
-use Rattle.std.proofs.Common.{◌≡◌, ℕ, ◌-◌, ◌<◌, ◌^◌, suc, ◌==◌, not, true, false, List, [], ◌∷◌, ◌++◌, refl, sym, ap, ◌∙◌, arith, None}
-use Rattle.std.specs.Prelude.{ℤ, pos, negsuc, decimal}
-use Rattle.std.specs.Fmt.{signed_decimal}
-use Rattle.fx_language.proofs.Conditions.{and_true}
-use Rattle.fx_language.specs.Words.{is_digit}
-use Rattle.fx_lines.specs.Lines.{IsResultInRange, is_without}
-use Rattle.fx_lines.specs.Reads.{IsPrintedFrom, Reads}
+use Rattle.fx_lines.proofs.Words.{◌≡◌, ℕ, ◌-◌, ◌<◌, ◌^◌, suc, ◌==◌, not, true, false, List, [], ◌∷◌, ◌++◌, refl, sym, ap, ◌∙◌, arith, None, ℤ, pos}
+use Rattle.fx_lines.proofs.Words.{negsuc, decimal, signed_decimal, and_true, is_digit, IsResultInRange, is_without, IsPrintedFrom, Reads}
 use Rattle.fx_lines.proofs.Cuts.{not_first}
 use Rattle.fx_lines.proofs.Decimals.{decimal_without}
 

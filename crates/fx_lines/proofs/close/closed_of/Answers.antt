@@ -1,8 +1,7 @@
-use Rattle.std.proofs.Common.{◌≡◌, refl, rules}
+use Rattle.fx_lines.proofs.Words.{◌≡◌, refl, rules, mark_text}
 use Rattle.fx_lines.proofs.CloseTexts.{one_close, parts_of_close}
 use Rattle.fx_lines.proofs.Marks.{mark_without}
 use Rattle.fx_lines.proofs.close.closed_of.Goals as goal
-use Rattle.fx_print.specs.Text.{mark_text}
 
 pub returns-in_default : goal.returns-in_default
 returns-in_default c = λ other fits same.

@@ -1,6 +1,4 @@
-use Rattle.std.proofs.Common.{◌≡◌, ℕ, List, [], ◌∷◌, ◌++◌, ◌∙◌, sym, ap, rules, None, Some}
-use Rattle.std.specs.Prelude.{decimal}
-use Rattle.fx_lines.specs.Front.{number_text}
+use Rattle.fx_lines.proofs.Words.{◌≡◌, ℕ, List, [], ◌∷◌, ◌++◌, ◌∙◌, sym, ap, rules, None, Some, decimal, number_text}
 use Rattle.fx_lines.proofs.Marks.{no_registered, registered_only, submitted_only}
 use Rattle.fx_lines.proofs.close.mark_of.Goals as goal
 

@@ -1,9 +1,4 @@
-use Rattle.std.proofs.Common.{[], ◌∷◌, map}
-use Rattle.std.specs.Prelude.{codes}
-use Rattle.std.proofs.lemmas.List.{map-append}
-use Rattle.fx_lines.specs.ClosedView.{close_of}
-use Rattle.fx_lines.specs.Front.{AreAll, close_text}
-use Rattle.fx_lines.specs.Lines.{IsCloseInRange, IsMarkInRange, named_line}
+use Rattle.fx_lines.proofs.Words.{[], ◌∷◌, map, codes, map-append, close_of, AreAll, close_text, IsCloseInRange, IsMarkInRange, named_line}
 use Rattle.fx_lines.proofs.CloseTexts.{close_fits, closes_are_lines}
 use Rattle.fx_lines.proofs.LinesInTurn.{ends_here, first_line, goes_on, line_begins, line_printed, no_line, not_begun, one_more, other_line, stops}
 use Rattle.fx_lines.proofs.close.read_closed.Goals as goal

@@ -1,8 +1,4 @@
-use Rattle.std.proofs.Common.{length, map}
-use Rattle.std.specs.Prelude.{codes}
-use Rattle.fx_lines.specs.ClosedView.{close_of}
-use Rattle.fx_lines.specs.Front.{AreAll}
-use Rattle.fx_lines.specs.Lines.{IsCloseInRange, named_line}
+use Rattle.fx_lines.proofs.Words.{length, map, codes, close_of, AreAll, IsCloseInRange, named_line}
 use Rattle.fx_lines.proofs.LinesInTurn.{HasFirst}
 use Rattle.fx_lines.proofs.close.read_closed.Given as goal
 

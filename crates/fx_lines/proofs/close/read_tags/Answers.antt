@@ -1,7 +1,4 @@
-use Rattle.std.proofs.Common.{◌<◌, ◌^◌}
-use Rattle.std.specs.Prelude.{codes, decimal}
-use Rattle.fx_lines.specs.Front.{AreAll}
-use Rattle.fx_lines.specs.Lines.{line_of_tag}
+use Rattle.fx_lines.proofs.Words.{◌<◌, ◌^◌, codes, decimal, AreAll, line_of_tag}
 use Rattle.fx_lines.proofs.CloseTexts.{tags_are_lines}
 use Rattle.fx_lines.proofs.LinesInTurn.{ends_here, first_line, goes_on, line_begins, line_printed, no_line, not_begun, one_more, other_line, stops}
 use Rattle.fx_lines.proofs.close.read_tags.Goals as goal

@@ -1,7 +1,4 @@
-use Rattle.std.proofs.Common.{◌<◌, ◌^◌, length}
-use Rattle.std.specs.Prelude.{codes}
-use Rattle.fx_lines.specs.Front.{AreAll}
-use Rattle.fx_lines.specs.Lines.{line_of_tag}
+use Rattle.fx_lines.proofs.Words.{◌<◌, ◌^◌, length, codes, AreAll, line_of_tag}
 use Rattle.fx_lines.proofs.LinesInTurn.{HasFirst}
 use Rattle.fx_lines.proofs.close.read_tags.Given as goal
 

@@ -1,6 +1,4 @@
-use Rattle.std.proofs.Common.{rules, w32}
-use Rattle.std.specs.Int.RustNames.{FitsSigned}
-use Rattle.std.proofs.lemmas.Int.{to_z-of_z}
+use Rattle.fx_lines.proofs.Words.{rules, w32, FitsSigned, to_z-of_z}
 use Rattle.fx_lines.proofs.AnswerTexts.{none_alone, none_bytes, none_word, one_alone, one_both}
 use Rattle.fx_lines.proofs.completion.answer_of.Goals as goal
 

@@ -1,7 +1,5 @@
-use Rattle.std.proofs.Common.{◌∙◌, sym, ap, eq-eqb, inl, inr, rules}
-use Rattle.hex.specs.Hex.{encode_lower}
-use Rattle.std.proofs.lemmas.Bool.{eqb-true, true≢false}
-use Rattle.std.proofs.lemmas.Bool.Decides.{Decides-eqb}
+use Rattle.fx_lines.proofs.Words.{◌∙◌, sym, ap, inl, inr, rules, encode_lower, eqb-true, true≢false, Decides-eqb}
+use Rattle.std.proofs.Common.{eq-eqb}
 use Rattle.std.proofs.lemmas.Slice.Eq.{slice_eq-Decides}
 use Rattle.fx_lines.proofs.Hexes.{none_empty, none_other, printed_again, printed_otherwise}
 use Rattle.fx_lines.proofs.completion.bytes_of.Goals as goal

@@ -1,7 +1,4 @@
-use Rattle.std.proofs.Common.{refl, rules, w32}
-use Rattle.std.specs.Int.RustNames.{FitsSigned}
-use Rattle.std.proofs.lemmas.Int.{to_z-of_z}
-use Rattle.fx_lines.specs.Front.{answer_text, place_text}
+use Rattle.fx_lines.proofs.Words.{refl, rules, w32, FitsSigned, to_z-of_z, answer_text, place_text}
 use Rattle.fx_lines.proofs.CompletionTexts.{one_completion, parts_of_completion}
 use Rattle.fx_lines.proofs.Marks.{place_without}
 use Rattle.fx_lines.proofs.completion.completion_of.Goals as goal

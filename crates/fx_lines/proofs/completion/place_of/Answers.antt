@@ -1,6 +1,4 @@
-use Rattle.std.proofs.Common.{◌≡◌, ℕ, List, ◌∙◌, sym, ap, rules, None}
-use Rattle.std.specs.Prelude.{decimal}
-use Rattle.fx_lines.specs.Front.{number_text}
+use Rattle.fx_lines.proofs.Words.{◌≡◌, ℕ, List, ◌∙◌, sym, ap, rules, None, decimal, number_text}
 use Rattle.fx_lines.proofs.Marks.{place_is}
 use Rattle.fx_lines.proofs.completion.place_of.Goals as goal
 

@@ -1,12 +1,10 @@
-use Rattle.std.proofs.Common.{◌≡◌, ◌<◌, ◌≤◌, [], ◌∷◌, length, refl, arith}
-use Rattle.std.proofs.lemmas.List.{length-append, length-map, map-append}
-use Rattle.fx_chain.specs.Completed.{all_completed, completed_of}
-use Rattle.fx_lines.specs.Front.{AreSoMany, completion_text}
-use Rattle.fx_lines.specs.Lines.{IsCompletionInRange}
+use Rattle.fx_lines.proofs.Words.{◌≡◌, ◌<◌, ◌≤◌, [], ◌∷◌, length, refl, arith, length-append, map-append, all_completed, AreSoMany, completion_text}
+use Rattle.fx_lines.proofs.Words.{IsCompletionInRange, completion_line}
+use Rattle.std.proofs.lemmas.List.{length-map}
+use Rattle.fx_chain.specs.Completed.{completed_of}
 use Rattle.fx_lines.proofs.CompletionTexts.{completions_are_lines}
 use Rattle.fx_lines.proofs.LinesInTurn.{ends_here, first_line, line_printed, no_line, one_more, other_line, stops}
 use Rattle.fx_lines.proofs.completion.read_completions.Goals as goal
-use Rattle.fx_print.specs.Text.{completion_line}
 
 pub returns-in_default : goal.returns-in_default
 returns-in_default c =

@@ -1,10 +1,6 @@
-use Rattle.std.proofs.Common.{◌≡◌, length}
-use Rattle.fx_chain.specs.Completed.{all_completed}
-use Rattle.fx_lines.specs.Front.{AreSoMany}
-use Rattle.fx_lines.specs.Lines.{IsCompletionInRange}
+use Rattle.fx_lines.proofs.Words.{◌≡◌, length, all_completed, AreSoMany, IsCompletionInRange, completion_line}
 use Rattle.fx_lines.proofs.LinesInTurn.{HasFirst}
 use Rattle.fx_lines.proofs.completion.read_completions.Given as goal
-use Rattle.fx_print.specs.Text.{completion_line}
 
 -- the completions so far are those of the first lines
 abbrev pub invariant-loop : goal.invariant-loop

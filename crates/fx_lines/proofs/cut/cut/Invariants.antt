@@ -1,5 +1,4 @@
-use Rattle.std.proofs.Common.{◌≡◌, true, take}
-use Rattle.fx_lines.specs.Lines.{is_without}
+use Rattle.fx_lines.proofs.Words.{◌≡◌, true, take, is_without}
 use Rattle.fx_lines.proofs.cut.cut.Given as goal
 
 -- no byte so far is the one at which the text is cut

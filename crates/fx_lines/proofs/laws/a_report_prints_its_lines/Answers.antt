@@ -1,10 +1,8 @@
-use Rattle.std.proofs.Common.{◌≡◌, ◌++◌, List, ℕ, map, sym, ap, ◌∙◌}
-use Rattle.std.specs.List.{flat_map}
+use Rattle.fx_lines.proofs.Words.{◌≡◌, ◌++◌, List, ℕ, map, sym, ap, ◌∙◌, flat_map, line_of_tag, named_line, completion_lines}
 use Rattle.std.proofs.lemmas.List.Folds.{flat_map-map}
 use Rattle.fx_base.specs.Tags.{tags_of}
-use Rattle.fx_lines.specs.Lines.{line_of_tag, named_line}
+use Rattle.fx_print.specs.Text.{closed_lines, name_of, tag_lines}
 use Rattle.fx_lines.proofs.laws.a_report_prints_its_lines.Goals as goal
-use Rattle.fx_print.specs.Text.{closed_lines, completion_lines, name_of, tag_lines}
 
 pub returns : goal.returns
 returns c = λ catalogue report.

@@ -1,5 +1,4 @@
-use Rattle.std.proofs.Common.{◌≡◌, ◌∷◌, ◌++◌, ℕ, List, ◌∙◌, sym, ap, refl, arith, rules, None}
-use Rattle.std.specs.Prelude.{decimal}
+use Rattle.fx_lines.proofs.Words.{◌≡◌, ◌∷◌, ◌++◌, ℕ, List, ◌∙◌, sym, ap, refl, arith, rules, None, decimal}
 use Rattle.fx_lines.proofs.Decimals.{decimal_without}
 use Rattle.fx_lines.proofs.Readings.{pair_is}
 use Rattle.fx_lines.proofs.number.first_number.Goals as goal

@@ -1,5 +1,4 @@
-use Rattle.std.proofs.Common.{◌≡◌, ◌^◌, ◌∙◌, sym, arith, rules, None}
-use Rattle.std.specs.Prelude.{decimal}
+use Rattle.fx_lines.proofs.Words.{◌≡◌, ◌^◌, ◌∙◌, sym, arith, rules, None, decimal}
 use Rattle.fx_lines.proofs.Decimals.{number_reads}
 use Rattle.fx_lines.proofs.Readings.{at_none, at_some, from_none}
 use Rattle.fx_lines.proofs.number.number.Goals as goal

@@ -1,7 +1,4 @@
-use Rattle.std.proofs.Common.{◌∙◌, map, sym}
-use Rattle.std.specs.Prelude.{codes}
-use Rattle.fx_chain.specs.Completed.{all_completed}
-use Rattle.fx_lines.specs.ClosedView.{close_of}
+use Rattle.fx_lines.proofs.Words.{◌∙◌, map, sym, codes, all_completed, close_of}
 use Rattle.fx_lines.proofs.ReportTexts.{all_parts, begun, closed_behind_tags, no_first, no_second, no_third, unbegun}
 use Rattle.fx_lines.proofs.report.read_report.Goals as goal
 
