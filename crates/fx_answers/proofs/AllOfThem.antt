@@ -1,23 +1,18 @@
 -- States that were looked through are all of a submission.
-use Rattle.fx_order.proofs.Words.{◌≡◌, ℕ, ◌+◌, ◌-◌, ◌<◌, List, [], length, ◌∷◌, map, refl, sym, ap, subst, ◌∙◌, arith, slice_index_or, All}
-use Rattle.fx_order.proofs.Words.{Bool, true, false, suc, Table, Contains, IsTrue, Permits, Completed, length-map, Chain, Asked, members_of, runs_of, first_member, ring_of_slots, table_of_slots, all_asked}
-use Rattle.std.proofs.lemmas.List.Elements.{All-contains}
-use Rattle.fx_order.specs.declared.slots.Slots.{Slots}
-use Rattle.std.specs.List.{AllByRecursion}
-use Rattle.fx_table.proofs.Members.{contains_map}
-use Rattle.fx_order.specs.declared.access.Access.{Access}
-use Rattle.fx_outcomes.specs.Idle.{has_none}
-use Rattle.fx_outcomes.specs.Rests.{IsNext, IsNextOf, Rest, Rules, settled_at}
-use Rattle.fx_outcomes.specs.Parts.{AreParts, Parts, StaysIn}
-use Rattle.fx_outcomes.specs.Nodes.{AreAllStates, AreAtStart, AreClosed, HasTurn, IsChainExplored, StateView}
-use Rattle.fx_answers.specs.Listed.{AreAllBy, AreAtStartBy, HasTurnBy, IsAtStartBy, IsStateExploredBy, said_by, states_of, told_by, told_states}
-use Rattle.fx_answers.specs.Reports.{AreAllTold, AreToldAtStart, AreToldClosed, LeadsOn, ToldState}
-use Rattle.fx_answers.specs.Tellings.{answers_of}
-use Rattle.fx_answers.specs.Stands.{rest_in}
-use Rattle.fx_answers.specs.Views.{ArePartsIn, is_idle, is_idle_at, not_begun, parts_of, rules_in, runs_in, view_in}
-use Rattle.fx_answers.specs.declared.closed.Claimed.{Claimed}
-use Rattle.fx_answers.specs.declared.state.State.{State}
-use Rattle.fx_answers.specs.declared.submission.Submission.{Submission}
+use Rattle.fx_answers.proofs.Words.{◌≡◌, ℕ, ◌+◌, ◌-◌, ◌<◌, List, [], length, ◌∷◌, map, refl, sym, ap, subst, ◌∙◌, arith, slice_index_or, All, Bool}
+use Rattle.fx_answers.proofs.Words.{true, false, suc, Table, Contains, IsTrue, Permits, Completed, length-map, Asked, runs_of, first_member}
+use Rattle.fx_answers.proofs.Words.{ring_of_slots, table_of_slots, all_asked, All-contains, Slots, AllByRecursion, contains_map, Access, has_none}
+use Rattle.fx_answers.proofs.Words.{IsNext, Rest, Rules, settled_at, Parts, StaysIn, AreAllStates, AreAtStart, StateView, AreAllBy, IsAtStartBy}
+use Rattle.fx_answers.proofs.Words.{IsStateExploredBy, said_by, states_of, told_by, told_states, AreToldAtStart, AreToldClosed, LeadsOn, ToldState}
+use Rattle.fx_answers.proofs.Words.{answers_of, rest_in, is_idle, is_idle_at, not_begun, parts_of, rules_in, runs_in, view_in, Claimed, State}
+use Rattle.fx_answers.proofs.Words.{Submission}
+use Rattle.fx_order.proofs.Words.{Chain, members_of}
+use Rattle.fx_outcomes.specs.Rests.{IsNextOf}
+use Rattle.fx_outcomes.specs.Parts.{AreParts}
+use Rattle.fx_outcomes.specs.Nodes.{AreClosed, HasTurn, IsChainExplored}
+use Rattle.fx_answers.specs.Listed.{AreAtStartBy, HasTurnBy}
+use Rattle.fx_answers.specs.Reports.{AreAllTold}
+use Rattle.fx_answers.specs.Views.{ArePartsIn}
 use Rattle.fx_answers.proofs.Idle.{are_idle, none_for, none_left, over_idle}
 use Rattle.fx_answers.proofs.Lists.{inside_at}
 use Rattle.fx_answers.proofs.Viewing.{at_start_all}

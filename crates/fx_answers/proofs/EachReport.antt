@@ -1,25 +1,16 @@
 -- What was looked through shows all reports.
-use Rattle.fx_order.proofs.Words.{◌≡◌, ℕ, suc, ◌+◌, ◌-◌, ◌<◌, List, [], ◌∷◌, ◌++◌, length, sym, ap, subst, ◌∙◌, arith, slice_index_or, All, IsTrue}
-use Rattle.fx_order.proofs.Words.{Asked, Closed, Completed, Vec, Completion, IsOneOrder, IsPermutation, RingState, Reported, all_asked, all_completed, length-map, ring_of, ring_of_slots}
+use Rattle.fx_answers.proofs.Words.{◌≡◌, ℕ, suc, ◌+◌, ◌-◌, ◌<◌, List, [], ◌∷◌, ◌++◌, length, sym, ap, subst, ◌∙◌, arith, slice_index_or, All, IsTrue}
+use Rattle.fx_answers.proofs.Words.{Asked, Closed, Completed, Vec, Completion, IsOneOrder, IsPermutation, RingState, Reported, all_asked}
+use Rattle.fx_answers.proofs.Words.{all_completed, length-map, ring_of, ring_of_slots, each_history_is_an_order, Slots, contains_map, All-contains}
+use Rattle.fx_answers.proofs.Words.{has_none, Rest, IsOver, IsPlayOf, IsPossibleIn, IsToldAt, told_by, told_states, IsReportBy, MayReport, ToldState}
+use Rattle.fx_answers.proofs.Words.{told_from, all_told, answers_of, runs_in, told_of, view_in, Claimed, PossibleReport, State, Submission}
 use Rattle.fx_base.specs.CloseListView.{CloseListView}
-use Rattle.fx_order.proofs.Ordered.{each_history_is_an_order}
-use Rattle.fx_order.specs.declared.slots.Slots.{Slots}
-use Rattle.fx_table.proofs.Members.{contains_map}
-use Rattle.std.proofs.lemmas.List.Elements.{All-contains}
 use Rattle.fx_ring.specs.Submission.{reported}
-use Rattle.fx_outcomes.specs.Idle.{has_none}
-use Rattle.fx_outcomes.specs.Rests.{Rest}
-use Rattle.fx_outcomes.specs.Nodes.{IsOver}
 use Rattle.fx_answers.proofs.Idle.{none_for, over_idle}
-use Rattle.fx_answers.specs.Listed.{AreAllReportsBy, IsPlayOf, IsPossibleIn, IsToldAt, IsToldOf, told_by, told_states}
-use Rattle.fx_answers.specs.Outcomes.{HasEachReport, IsPossible, IsReportBy, MayReport, TellsOf}
-use Rattle.fx_answers.specs.Reports.{HasReport, ToldState, told_from}
-use Rattle.fx_answers.specs.Tellings.{all_told, answers_of}
-use Rattle.fx_answers.specs.Views.{IsOverIn, runs_in, told_of, view_in}
-use Rattle.fx_answers.specs.declared.closed.Claimed.{Claimed}
-use Rattle.fx_answers.specs.declared.report.PossibleReport.{PossibleReport}
-use Rattle.fx_answers.specs.declared.state.State.{State}
-use Rattle.fx_answers.specs.declared.submission.Submission.{Submission}
+use Rattle.fx_answers.specs.Listed.{AreAllReportsBy, IsToldOf}
+use Rattle.fx_answers.specs.Outcomes.{HasEachReport, IsPossible, TellsOf}
+use Rattle.fx_answers.specs.Reports.{HasReport}
+use Rattle.fx_answers.specs.Views.{IsOverIn}
 use Rattle.fx_answers.proofs.AllOfThem.{as_many}
 use Rattle.fx_answers.proofs.Promised.{ring_same}
 use Rattle.fx_answers.proofs.Reporting.{each_report_is_listed}

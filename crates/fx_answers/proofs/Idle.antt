@@ -1,16 +1,11 @@
 -- A chain that is idle has nothing but reads left, which nobody asks for.
-use Rattle.fx_order.proofs.Words.{◌≡◌, ◌⊎◌, inl, inr, ℕ, ◌==◌, ◌&&◌, not, Bool, true, false, if◌then◌else◌, List, [], ◌∷◌, length, refl, sym, ap, ◌∙◌, arith, by_equality}
-use Rattle.fx_order.proofs.Words.{Option, Some, false≢true, Asked, Place, asked_of, Request, all_asked}
-use Rattle.std.specs.List.{list_all}
+use Rattle.fx_answers.proofs.Words.{◌≡◌, inl, inr, ℕ, ◌==◌, ◌&&◌, not, Bool, true, false, if◌then◌else◌, List, [], ◌∷◌, length, refl, sym, ap, ◌∙◌}
+use Rattle.fx_answers.proofs.Words.{arith, by_equality, Option, Some, false≢true, Asked, Place, asked_of, Request, all_asked, list_all, has_none}
+use Rattle.fx_answers.proofs.Words.{is_read, Rest, said_by, asks_from, rest_for, is_idle, Claimed, Submission}
+use Rattle.fx_order.proofs.Words.{◌⊎◌}
 use Rattle.std.proofs.lemmas.Bool.{and_from, and_parts, le-leb}
 use Rattle.std.proofs.lemmas.List.{nil_from_length}
-use Rattle.fx_outcomes.specs.Idle.{AreIdle, IsLeft, has_none, is_read}
-use Rattle.fx_outcomes.specs.Rests.{Rest}
-use Rattle.fx_answers.specs.Listed.{said_by}
-use Rattle.fx_answers.specs.Stands.{asks_from, rest_for}
-use Rattle.fx_answers.specs.Views.{is_idle}
-use Rattle.fx_answers.specs.declared.closed.Claimed.{Claimed}
-use Rattle.fx_answers.specs.declared.submission.Submission.{Submission}
+use Rattle.fx_outcomes.specs.Idle.{AreIdle, IsLeft}
 use Rattle.fx_answers.proofs.Settling.{tested}
 
 abbrev pub are_reads : List Asked → Bool

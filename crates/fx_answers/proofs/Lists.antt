@@ -1,8 +1,7 @@
 -- What holds of each element, by recursion over the list.
-use Rattle.fx_order.proofs.Words.{◌≡◌, ℕ, ◌<◌, List, [], ◌∷◌, length, map, sym, ap, ◌∙◌, arith, slice_index_or, All, All-head, All-tail}
-use Rattle.fx_order.proofs.Words.{Contains, contains_none, contains_cases, get_or-map, length-map, inl, inr, subst, by_equality, ◌+◌}
-use Rattle.std.proofs.lemmas.Option.{get_or_from_slice_get, slice_get-get_or}
-use Rattle.std.specs.List.{AllByRecursion}
+use Rattle.fx_answers.proofs.Words.{◌≡◌, ℕ, ◌<◌, List, [], ◌∷◌, length, map, sym, ap, ◌∙◌, arith, slice_index_or, All, All-head, All-tail, Contains}
+use Rattle.fx_answers.proofs.Words.{length-map, inl, inr, subst, by_equality, ◌+◌, get_or_from_slice_get, slice_get-get_or, AllByRecursion}
+use Rattle.fx_order.proofs.Words.{contains_none, contains_cases, get_or-map}
 use Rattle.std.specs.Prelude.{IfOk, Result, Ok, Err}
 
 pub by_recursion : {X Y : Type 0} (P : Y → Type 0) (f : X → Y) (xs : List X) → All (λ x. P (f x)) xs → AllByRecursion P (map f xs)

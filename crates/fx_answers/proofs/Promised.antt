@@ -1,23 +1,17 @@
 -- What an order and a whole list of states show of a ring's histories.
-use Rattle.fx_order.proofs.Words.{Bool, ◌≡◌, ℕ, ◌+◌, ◌≤◌, List, length, refl, sym, ap, subst, ◌∙◌, Contains, All, Some, Option, Completed, Asked, Place, table_of_slots, completed_of, ring_of_slots, all_asked, All-map, All-weaker}
-use Rattle.fx_order.proofs.Words.{IsAccepted, IsOneOrder, IsOrderOf, RingContents, RingState, ring_left, ring_of, Reported, runs_of}
+use Rattle.fx_answers.proofs.Words.{Bool, ◌≡◌, ℕ, ◌+◌, ◌≤◌, List, length, refl, sym, ap, subst, ◌∙◌, Contains, All, Some, Option, Completed, Asked}
+use Rattle.fx_answers.proofs.Words.{Place, table_of_slots, completed_of, ring_of_slots, all_asked, All-map, IsOneOrder, RingState, ring_of, Reported}
+use Rattle.fx_answers.proofs.Words.{runs_of, each_history_is_an_order, ChainAccess, Slots, contains_map, All-contains, HasMemory, Rest, AreAllStates}
+use Rattle.fx_answers.proofs.Words.{IsOver, StateView, AllByRecursion, IsReportBy, MayReport, AreAllBy, IsEndIn, IsEndListed, IsPlayOf, said_by, says}
+use Rattle.fx_answers.proofs.Words.{states_of, is_idle, view_in, Claimed, End, Answer}
+use Rattle.fx_order.proofs.Words.{All-weaker, IsAccepted, IsOrderOf, RingContents, ring_left}
 use Rattle.fx_order.proofs.Histories.{each_order_is_a_history}
-use Rattle.fx_order.proofs.Ordered.{each_history_is_an_order}
 use Rattle.fx_plain.specs.declared.table.TheConstants.{MOST_SLOTS}
-use Rattle.fx_order.specs.declared.access.ChainAccess.{ChainAccess}
-use Rattle.fx_order.specs.declared.slots.Slots.{Slots}
-use Rattle.fx_table.proofs.Members.{contains_map, contains_mapped}
-use Rattle.std.proofs.lemmas.List.Elements.{All-contains}
-use Rattle.fx_outcomes.specs.Rests.{HasMemory, Rest}
-use Rattle.fx_outcomes.specs.Nodes.{AreAllStates, HasEnd, IsOver, StateView, ring_at}
+use Rattle.fx_table.proofs.Members.{contains_mapped}
+use Rattle.fx_outcomes.specs.Nodes.{HasEnd, ring_at}
 use Rattle.fx_outcomes.proofs.First.{all_said}
-use Rattle.std.specs.List.{AllByRecursion}
-use Rattle.fx_answers.specs.Outcomes.{IsAnswer, HasEachAnswer, HasEachEnd, IsEnd, IsReportBy, MayReport, ring_behind, rings_behind}
-use Rattle.fx_answers.specs.Listed.{AreAllBy, AreAllEndsBy, IsEndIn, IsEndListed, IsPlayOf, said_by, says, states_of, tables_behind}
-use Rattle.fx_answers.specs.Views.{is_idle, view_in}
-use Rattle.fx_answers.specs.declared.closed.Claimed.{Claimed}
-use Rattle.fx_answers.specs.declared.end.End.{End}
-use Rattle.fx_answers.specs.declared.outcome.Answer.{Answer}
+use Rattle.fx_answers.specs.Outcomes.{IsAnswer, HasEachAnswer, HasEachEnd, IsEnd, ring_behind, rings_behind}
+use Rattle.fx_answers.specs.Listed.{AreAllEndsBy, tables_behind}
 use Rattle.fx_answers.proofs.Lists.{each_by_recursion, each_of}
 
 -- an order of accesses is one history

@@ -1,14 +1,12 @@
 -- An order of a submission begins at the first of its states, and ends at one that tells of its report.
-use Rattle.fx_order.proofs.Words.{◌≡◌, ℕ, ◌+◌, ◌<◌, ◌≤◌, ◌==◌, List, [], ◌∷◌, ◌++◌, length, refl, sym, ap, subst, ◌∙◌, arith, if◌then◌else◌}
-use Rattle.fx_order.proofs.Words.{FileEntry, by_equality, IsPermutation, Completed, Asked, runs_of, first_member, Table, accesses_of, accesses_of_chain}
-use Rattle.fx_order.proofs.Words.{AreChainsDone, table_after, removed_in, PermitsAll, Closed}
-use Rattle.fx_order.specs.declared.access.ChainAccess.{ChainAccess}
-use Rattle.std.specs.List.{AllByRecursion}
-use Rattle.fx_outcomes.specs.Rests.{HasMemory, Rest, rules_of, settled_at}
-use Rattle.fx_outcomes.proofs.Requests.{are_right}
+use Rattle.fx_answers.proofs.Words.{◌≡◌, ℕ, ◌+◌, ◌<◌, ◌≤◌, ◌==◌, List, [], ◌∷◌, ◌++◌, length, refl, sym, ap, subst, ◌∙◌, arith, if◌then◌else◌}
+use Rattle.fx_answers.proofs.Words.{FileEntry, by_equality, IsPermutation, Completed, Asked, runs_of, first_member, Table, accesses_of}
+use Rattle.fx_answers.proofs.Words.{accesses_of_chain, table_after, removed_in, PermitsAll, Closed, ChainAccess, AllByRecursion, HasMemory, Rest}
+use Rattle.fx_answers.proofs.Words.{rules_of, settled_at, are_right, AreToldAtStart, ToldState, told_from}
+use Rattle.fx_order.proofs.Words.{AreChainsDone}
 use Rattle.fx_outcomes.proofs.Chain.{settles}
 use Rattle.fx_outcomes.proofs.PartByPart.{order_by_part}
-use Rattle.fx_answers.specs.Reports.{AreToldAtStart, EachReportIsListed, ToldState, told_from}
+use Rattle.fx_answers.specs.Reports.{EachReportIsListed}
 use Rattle.fx_answers.proofs.Lists.{each_by_recursion}
 use Rattle.fx_answers.proofs.ToldStates.{Comes, OfChain, runs_on}
 

@@ -1,23 +1,16 @@
 -- An order goes through the states of a closed list with what is told, up to one where no chain has an access left.
-use Rattle.fx_order.proofs.Words.{◌≡◌, inl, inr, ℕ, ◌≤◌, List, [], ◌∷◌, ◌++◌, refl, sym, ap, subst, ◌∙◌, append_assoc, FileEntry, append-nil, by_equality}
-use Rattle.fx_order.proofs.Words.{true, ◌==◌, length, Asked, All, All-head, All-tail, Completed, Table, PermitsAll, table_after, removed_in, removed_by, Closed, accesses_of, accesses_of_chain}
-use Rattle.fx_order.proofs.Words.{IsPermutation, IsPermutation-trans, IsPermutation-sym}
+use Rattle.fx_answers.proofs.Words.{◌≡◌, inl, inr, ℕ, ◌≤◌, List, [], ◌∷◌, ◌++◌, refl, sym, ap, subst, ◌∙◌, append_assoc, FileEntry, append-nil}
+use Rattle.fx_answers.proofs.Words.{by_equality, true, ◌==◌, length, Asked, All, All-head, All-tail, Completed, Table, PermitsAll, table_after}
+use Rattle.fx_answers.proofs.Words.{removed_in, removed_by, Closed, accesses_of, accesses_of_chain, IsPermutation, Access, ChainAccess}
+use Rattle.fx_answers.proofs.Words.{AllByRecursion, option_to_list, HasMemory, IsNext, Rest, rules_of, step, IsOver, are_right, has_none, Parts}
+use Rattle.fx_answers.proofs.Words.{AreToldClosed, LeadsOn, ToldState}
+use Rattle.fx_order.proofs.Words.{IsPermutation-trans, IsPermutation-sym}
 use Rattle.std.proofs.lemmas.List.Sorted.{IsPermutation-append_left}
-use Rattle.fx_order.specs.declared.access.Access.{Access}
-use Rattle.fx_order.specs.declared.access.ChainAccess.{ChainAccess}
 use Rattle.std.specs.Prelude.{Contains}
-use Rattle.std.specs.List.{AllByRecursion}
-use Rattle.std.specs.Option.{option_to_list}
-use Rattle.fx_outcomes.specs.Rests.{HasMemory, IsNext, Rest, rules_of, step}
-use Rattle.fx_outcomes.specs.Nodes.{IsOver}
-use Rattle.fx_outcomes.proofs.Requests.{are_right}
 use Rattle.fx_outcomes.proofs.Chain.{IsRest, IsReady, ends, steps}
-use Rattle.fx_outcomes.specs.Idle.{has_none}
-use Rattle.fx_outcomes.specs.Parts.{Parts}
 use Rattle.fx_outcomes.proofs.ByPart.{IsByPart}
 use Rattle.fx_outcomes.proofs.Playing.{of_chain}
 use Rattle.fx_outcomes.proofs.Turns.{has_turn}
-use Rattle.fx_answers.specs.Reports.{AreToldClosed, LeadsOn, ToldState}
 
 module _ (catalogue : List FileEntry) (size chains : ℕ) (finals : ℕ → List Completed) (files : List Closed) where
   -- a chain goes on from its place, where it was told this, by these accesses, to what it tells in the end

@@ -1,9 +1,7 @@
 -- The part of a chain that isn't idle is one behind which no chain has its turn.
-use Rattle.fx_order.proofs.Words.{◌≡◌, ℕ, ◌+◌, ◌-◌, ◌<◌, ◌∙◌, false, false≢true, sym, length, ap, arith, slice_index_or}
-use Rattle.fx_answers.specs.Views.{IsTurnOf, is_idle_at, runs_in}
+use Rattle.fx_answers.proofs.Words.{◌≡◌, ℕ, ◌+◌, ◌-◌, ◌<◌, ◌∙◌, false, false≢true, sym, length, ap, arith, slice_index_or, IsTurnOf, is_idle_at}
+use Rattle.fx_answers.proofs.Words.{runs_in, State, Submission}
 use Rattle.fx_answers.specs.declared.parts.PartNumbers.{PartNumbers}
-use Rattle.fx_answers.specs.declared.state.State.{State}
-use Rattle.fx_answers.specs.declared.submission.Submission.{Submission}
 
 pub is_turn : (submission : Submission) (numbers : PartNumbers) (state : State) (i : ℕ) → i < length (runs_in submission)
     → is_idle_at submission state i ≡ false → IsTurnOf submission numbers state (slice_index_or numbers.of_chain.items i 0)

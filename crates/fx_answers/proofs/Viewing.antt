@@ -1,27 +1,17 @@
 -- What the states of the program say, chain by chain.
-use Rattle.fx_order.proofs.Words.{◌≡◌, ℕ, suc, ◌+◌, ◌-◌, ◌<◌, List, [], ◌∷◌, ◌++◌, length, map, sym, ap, subst, ◌∙◌, arith, slice_index_or, All, length-map}
-use Rattle.fx_order.proofs.Words.{Bool, false, not, ◌&&◌, Contains, IsTrue, Vec, Completed, Asked, Place, table_of_slots, first_member}
-use Rattle.fx_order.specs.declared.access.Access.{Access}
+use Rattle.fx_answers.proofs.Words.{◌≡◌, ℕ, suc, ◌+◌, ◌-◌, ◌<◌, List, [], ◌∷◌, ◌++◌, length, map, sym, ap, subst, ◌∙◌, arith, slice_index_or, All}
+use Rattle.fx_answers.proofs.Words.{length-map, Bool, false, not, ◌&&◌, Contains, IsTrue, Vec, Completed, Asked, Place, table_of_slots, first_member}
+use Rattle.fx_answers.proofs.Words.{Access, get_or_from_slice_get, Request, Completion, all_asked, all_completed, asked_of, completed_of, drop}
+use Rattle.fx_answers.proofs.Words.{AllByRecursion, Rules, settled_at, AreAtStart, StateView, Settles, asks_from, moved, rest_for, rest_in, LeadsOn}
+use Rattle.fx_answers.proofs.Words.{answers_of, IsStepTo, is_idle, is_idle_at, not_begun, rules_in, runs_in, told_of, view_in, IsExploredBy, said_by}
+use Rattle.fx_answers.proofs.Words.{states_of, told_by, told_states, Submission, Claimed, Progress, State, list_all, is_read}
 use Rattle.std.specs.Prelude.{Some, slice_get}
-use Rattle.std.proofs.lemmas.Option.{get_or_from_slice_get, slice_get_within}
-use Rattle.fx_order.proofs.Words.{Request, Completion, all_asked, all_completed, asked_of, completed_of, drop}
-use Rattle.std.specs.List.{AllByRecursion}
-use Rattle.fx_outcomes.specs.Rests.{Rules, settled_at}
-use Rattle.fx_outcomes.specs.Nodes.{AreAtStart, StateView}
-use Rattle.fx_answers.specs.Stands.{Settles, asks_from, moved, rest_for, rest_in}
-use Rattle.fx_answers.specs.Reports.{LeadsOn}
-use Rattle.fx_answers.specs.Tellings.{IsToldOn, answers_of}
-use Rattle.fx_answers.specs.Views.{IsStepTo, is_idle, is_idle_at, not_begun, rules_in, run_at, runs_in, told_of, view_in, view_of}
-use Rattle.fx_answers.specs.Listed.{IsExploredBy, said_by, states_of, told_by, told_states}
-use Rattle.fx_answers.specs.declared.submission.Submission.{Submission}
+use Rattle.std.proofs.lemmas.Option.{slice_get_within}
+use Rattle.fx_answers.specs.Tellings.{IsToldOn}
+use Rattle.fx_answers.specs.Views.{run_at, view_of}
 use Rattle.std.proofs.lemmas.List.{get_or-set_other, get_or-set_same}
-use Rattle.fx_answers.specs.declared.closed.Claimed.{Claimed}
-use Rattle.fx_answers.specs.declared.chain.Progress.{Progress}
-use Rattle.fx_answers.specs.declared.state.State.{State}
 use Rattle.fx_answers.proofs.Lists.{by_recursion, inside_at}
 use Rattle.fx_answers.proofs.Idle.{all_reads, idle_by, idle_for, idle_some}
-use Rattle.std.specs.List.{list_all}
-use Rattle.fx_outcomes.specs.Idle.{is_read}
 
 less_one : (i : ℕ) → i + 1 - 1 ≡ i
 less_one i = omega arith

@@ -8,6 +8,5 @@ pub mod Entries
 pub mod ChainClaims
 pub mod StrandSteps
 pub mod RingsAfter
-pub mod Came
 pub mod AllChains
 pub mod Refuting

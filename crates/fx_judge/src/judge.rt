@@ -1,11 +1,10 @@
 //! The verdict on a submission.
-ghost use Rattle.std.specs.Prelude.{◌≡◌, ℕ, ◌+◌, ◌<◌, ◌≤◌, ◌^◌, All, IfOk, IsTrue, OnErr, length, false};
-ghost use Rattle.fx_base.specs.CloseList.{IsInOrderOfMark};
+ghost use Rattle.std.specs.Prelude.{◌≡◌, ◌+◌, ◌<◌, ◌≤◌, ◌^◌, IfOk, IsTrue, OnErr, length, false};
 ghost use Rattle.fx_plain.specs.declared.table.TheConstants.{MOST_SLOTS};
 ghost use Rattle.fx_chain.specs.Accepted.{IsAccepted};
 ghost use Rattle.fx_chain.specs.Operation.{all_asked};
 ghost use Rattle.fx_ring.specs.Ring.{IsRing};
-ghost use Rattle.fx_order.specs.Slots.{ring_with_slots, table_of_slots};
+ghost use Rattle.fx_order.specs.Slots.{ring_with_slots};
 ghost use Rattle.fx_judge.specs.Verdict.{CameBy, IsToldOutcome, IsVerdict};
 
 use crate::chain::{Parts, claims_of_chains};
@@ -13,35 +12,12 @@ use crate::part::{Outcome, TableTold, judge_table};
 use crate::request::Setting;
 use crate::stop::Stop;
 use crate::told::Told;
-use crate::verdict::{Reason, Verdict};
-use fx_base::{Catalogue, Closed, NoMemory};
+use crate::verdict::Verdict;
+use fx_base::{Catalogue, NoMemory};
 use fx_chain::{Request, cut};
-use fx_order::{ChainAccess, RingSlots, Slots, are_chains_done, are_closed, make_all};
+use fx_order::{ChainAccess, RingSlots, SubmissionReport, slots_left};
 use fx_search::{Doubt, Limits};
 use std::alloc::Global;
-
-// Whether each access is of one of so many chains.
-fn are_within(order: &[ChainAccess], chains: usize) -> bool
-    ensures { IsTrue result
-        → All (λ x. (1 ≤ x.chain) × (x.chain ≤ chains)) order.now }
-{
-    for x in order {
-        if x.chain == 0 || x.chain as usize > chains {
-            return false;
-        }
-    }
-    true
-}
-
-// The same slots once more.
-fn copy_slots(alloc: Global, slots: &Slots) -> Result<Slots, NoMemory>
-    ensures { IfOk result (λ copy. table_of_slots copy ≡ table_of_slots slots.now) }
-{
-    Ok(Slots {
-        range: slots.range,
-        at: Vec::from_slice(alloc, &slots.at)?,
-    })
-}
 
 /// What is judged: what was told of a submission's requests.
 #[derive(Drop)]
@@ -68,35 +44,18 @@ fn confirm(case: &Case<'_>, ring: &mut RingSlots, order: &[ChainAccess]) -> Resu
     ensures no_memory { OnErr result (ring_with_slots case.now.catalogue.now ring.new
         ≡ ring_with_slots case.now.catalogue.now ring.old) }
 {
-    let alloc = case.alloc;
-    let chains = cut(alloc, case.requests)?;
-    if !are_within(order, chains.len()) {
+    let submitted = SubmissionReport {
+        catalogue: case.catalogue,
+        submissions: ring.submissions,
+        requests: case.requests,
+        completions: &case.told.completions,
+        closes: &case.told.closes,
+    };
+    let Some(left) = slots_left(case.alloc, &submitted, &ring.slots, order)? else {
         return Ok(false);
-    }
-    let size = ring.slots.at.len() as u32;
-    let submission = ring.submissions + 1;
-    if !are_chains_done(
-        alloc,
-        case.catalogue,
-        size,
-        submission,
-        1,
-        case.requests,
-        &chains,
-        order,
-        &case.told.completions,
-    )? {
-        return Ok(false);
-    }
-    if !are_closed(alloc, order, &case.told.closes)? {
-        return Ok(false);
-    }
-    let mut slots = copy_slots(alloc, &ring.slots)?;
-    if !make_all(&mut slots, order) {
-        return Ok(false);
-    }
-    ring.slots = slots;
-    ring.submissions = submission;
+    };
+    ring.slots = left;
+    ring.submissions = ring.submissions + 1;
     Ok(true)
 }
 

@@ -3,3 +3,4 @@ pub mod Slots
 pub mod Requests
 pub mod Order
 pub mod Laws
+pub mod SubmissionReport

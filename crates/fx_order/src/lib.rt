@@ -15,13 +15,15 @@ mod ring_slots;
 mod setting;
 mod slots;
 mod submission;
+mod submission_report;
 mod update;
 
 pub use access::{Access, ChainAccess};
 pub use chain::accesses_made;
 pub use listed_order::{AccessPlace, Order};
 pub use order::{are_closed, make_all};
-pub use report::is_one_order;
+pub use report::{is_one_order, slots_left};
 pub use ring_slots::RingSlots;
 pub use slots::Slots;
-pub use submission::{are_chains_done, members};
+pub use submission::{OrderedRequests, are_chains_done, members};
+pub use submission_report::SubmissionReport;

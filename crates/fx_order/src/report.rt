@@ -1,15 +1,18 @@
-//! Whether a report came of an order of a submission's requests.
-ghost use Rattle.std.specs.Prelude.{◌≡◌, ℕ, ◌<◌, ◌≤◌, ◌+◌, ◌^◌, ◌↔◌, All, IfOk, IsTrue, OnErr, false, length};
+//! Whether what is told of a submission is what an order of its requests gives.
+ghost use Rattle.std.specs.Prelude.{◌≡◌, ℕ, ◌<◌, ◌≤◌, ◌+◌, ◌^◌, ◌↔◌, All, IfOk, IfSome, IsSome, IsTrue, OnErr, false, length};
 ghost use Rattle.fx_chain.specs.Accepted.{IsAccepted};
 ghost use Rattle.fx_chain.specs.Operation.{all_asked};
 ghost use Rattle.fx_ring.specs.Submission.{reported};
 ghost use Rattle.fx_order.specs.Order.{IsOrderOf, ring_left};
-ghost use Rattle.fx_order.specs.Slots.{ring_of_slots, table_of_slots};
+ghost use Rattle.fx_order.specs.Slots.{ring_of_slots, ring_with_slots, table_of_slots};
+ghost use Rattle.fx_order.specs.SubmissionReport.{report_of};
 
 use crate::access::ChainAccess;
 use crate::order::{are_closed, make_all};
+use crate::ring_slots::RingSlots;
 use crate::slots::Slots;
-use crate::submission::are_chains_done;
+use crate::submission::{OrderedRequests, are_chains_done};
+use crate::submission_report::SubmissionReport;
 use fx_base::{Catalogue, NoMemory};
 use fx_chain::{Request, cut};
 use fx_ring::Report;
@@ -39,59 +42,92 @@ fn copy_of(alloc: Global, slots: &Slots) -> Result<Slots, NoMemory>
     })
 }
 
-/// Whether a report came of this order of a submission's requests, done one at a time, at a table that has these files and
-/// behind so many accepted submissions. Where it did, the slots have the files that the order left, and else they stay.
-/// The caller has seen that no request has a fault ([`fx_chain::check`]).
+/// The slots that an order of a submission's requests leaves, which are done one at a time at a table with these files, if
+/// it gives what is told of the submission.
 ///
 /// # Errors
 /// `NoMemory` where there is no memory for lists as long as the submission, the order and the table, or the bytes of a
-/// read. The slots stay.
+/// read.
+pub fn slots_left(
+    alloc: Global,
+    submitted: &SubmissionReport<'_>,
+    slots: &Slots,
+    order: &[ChainAccess],
+) -> Result<Option<Slots>, NoMemory>
+    requires accepted { IsAccepted (all_asked submitted.now.requests.now) }
+    requires small { length slots.now.at.items < 2 ^ 32 }
+    requires few { submitted.now.submissions + 1 < 2 ^ 32 }
+    ensures order { IfOk result (λ left. IsSome left
+        ↔ ((registrations room : ℕ) → IsOrderOf order.now
+        (ring_of_slots submitted.now.catalogue.now slots.now submitted.now.submissions registrations)
+        (all_asked submitted.now.requests.now) (report_of submitted.now room))) }
+    ensures left { IfOk result (λ left. IfSome left (λ new. (registrations : ℕ)
+        → ring_of_slots submitted.now.catalogue.now new (submitted.now.submissions + 1) registrations
+        ≡ ring_left order.now (ring_of_slots submitted.now.catalogue.now slots.now
+        submitted.now.submissions registrations))) }
+{
+    let chains = cut(alloc, submitted.requests)?;
+    if !are_within(order, chains.len()) {
+        return Ok(None);
+    }
+    let ordered = OrderedRequests {
+        catalogue: submitted.catalogue,
+        size: slots.at.len() as u32,
+        submission: submitted.submissions + 1,
+        requests: submitted.requests,
+        order,
+    };
+    if !are_chains_done(alloc, &ordered, 1, &chains, submitted.completions)? {
+        return Ok(None);
+    }
+    if !are_closed(alloc, order, submitted.closes)? {
+        return Ok(None);
+    }
+    let mut left = copy_of(alloc, slots)?;
+    if !make_all(&mut left, order) {
+        return Ok(None);
+    }
+    Ok(Some(left))
+}
+
+/// Whether a report came of this order of a submission's requests, done one at a time, at a ring with this catalogue. Where it
+/// did, the ring is afterwards the one that the order left, and else it stays. The caller has seen that no request has a
+/// fault ([`fx_chain::check`]).
+///
+/// # Errors
+/// `NoMemory` where there is no memory for lists as long as the submission, the order and the table, or the bytes of a
+/// read. The ring stays.
 pub fn is_one_order(
     alloc: Global,
     catalogue: &Catalogue,
-    slots: &mut Slots,
-    submissions: u32,
+    ring: &mut RingSlots,
     requests: &[Request],
     report: &Report,
     order: &[ChainAccess],
 ) -> Result<bool, NoMemory>
     requires accepted { IsAccepted (all_asked requests.now) }
-    requires small { length slots.old.at.items < 2 ^ 32 }
-    ensures order { IfOk result (λ yes. IsTrue yes ↔ ((registrations : ℕ) → IsOrderOf order.now
-        (ring_of_slots catalogue.now slots.old submissions registrations)
-        (all_asked requests.now) (reported report.now))) }
-    ensures left { IfOk result (λ yes. IsTrue yes → (registrations : ℕ)
-        → ring_of_slots catalogue.now slots.new (submissions + 1) registrations
-        ≡ ring_left order.now (ring_of_slots catalogue.now slots.old submissions registrations)) }
-    ensures stays { IfOk result (λ yes. yes ≡ false → slots.new ≡ slots.old) }
-    ensures err { OnErr result (slots.new ≡ slots.old) }
+    requires small { length ring.old.slots.at.items < 2 ^ 32 }
+    ensures order { IfOk result (λ yes. IsTrue yes ↔ IsOrderOf order.now
+        (ring_with_slots catalogue.now ring.old) (all_asked requests.now) (reported report.now)) }
+    ensures left { IfOk result (λ yes. IsTrue yes → ring_with_slots catalogue.now ring.new
+        ≡ ring_left order.now (ring_with_slots catalogue.now ring.old)) }
+    ensures stays { IfOk result (λ yes. yes ≡ false → ring.new ≡ ring.old) }
+    ensures err { OnErr result (ring.new ≡ ring.old) }
 {
-    let chains = cut(alloc, requests)?;
-    let size = slots.at.len() as u32;
-    let number = submissions as u64 + 1;
-    if report.submission as u64 != number || !are_within(order, chains.len()) {
+    if report.submission as u64 != ring.submissions as u64 + 1 {
         return Ok(false);
     }
-    if !are_chains_done(
-        alloc,
+    let submitted = SubmissionReport {
         catalogue,
-        size,
-        report.submission,
-        1,
+        submissions: ring.submissions,
         requests,
-        &chains,
-        order,
-        &report.completions,
-    )? {
+        completions: &report.completions,
+        closes: report.closes.files(),
+    };
+    let Some(left) = slots_left(alloc, &submitted, &ring.slots, order)? else {
         return Ok(false);
-    }
-    if !are_closed(alloc, order, report.closes.files())? {
-        return Ok(false);
-    }
-    let mut left = copy_of(alloc, slots)?;
-    if !make_all(&mut left, order) {
-        return Ok(false);
-    }
-    *slots = left;
+    };
+    ring.slots = left;
+    ring.submissions = report.submission;
     Ok(true)
 }

@@ -24,27 +24,38 @@ pub fn members<'a>(requests: &'a [Request], chain: Chain) -> &'a [Request]
     &requests[first..first + chain.len as usize]
 }
 
-/// A submission's requests, and an order of their accesses.
+/// A submission's requests, and an order of their accesses at a table of so many slots (this project's own).
 #[derive(Drop)]
-pub(crate) struct Ordered<'a> {
-    pub(crate) setting: &'a Setting<'a>,
-    pub(crate) submission: u32,
-    pub(crate) requests: &'a [Request],
-    pub(crate) order: &'a [ChainAccess],
+pub struct OrderedRequests<'a> {
+    /// The files that may be opened.
+    pub catalogue: &'a Catalogue,
+    /// How many slots the table has.
+    pub size: u32,
+    /// Which submission it is, from 1.
+    pub submission: u32,
+    /// Its requests.
+    pub requests: &'a [Request],
+    /// The accesses, the first one's first.
+    pub order: &'a [ChainAccess],
 }
 
-/// Whether the chains from this one on made their accesses of the order, and answered so. The completions are those of
-/// these chains.
-pub(crate) fn are_done_from(
-    ordered: &Ordered<'_>,
+/// Whether the chains from this one on made their accesses of an order, and answered so. The completions are those of these
+/// chains, in order of place. The caller has seen that the chains are those into which the requests were cut
+/// ([`fx_chain::cut`]).
+///
+/// # Errors
+/// `NoMemory` where there is no memory for the accesses of a chain, or the bytes of a read.
+pub fn are_chains_done(
+    alloc: Global,
+    ordered: &OrderedRequests<'_>,
     chain: u32,
     chains: &[Chain],
     completions: &[Completion],
 ) -> Result<bool, NoMemory>
     requires within { All (IsChain (all_asked ordered.now.requests.now)) chains.now }
     requires numbers { chain + length chains.now < 2 ^ 32 }
-    ensures { IfOk result (λ yes. IsTrue yes ↔ AreChainsDone ordered.now.setting.now.catalogue.now
-        ordered.now.setting.now.size ordered.now.submission chain
+    ensures { IfOk result (λ yes. IsTrue yes ↔ AreChainsDone ordered.now.catalogue.now
+        ordered.now.size ordered.now.submission chain
         (map (members_of (all_asked ordered.now.requests.now)) chains.now) ordered.now.order.now
         (all_completed completions.now)) }
 {
@@ -56,51 +67,19 @@ pub(crate) fn are_done_from(
         return Ok(false);
     }
     let (own, others) = completions.split_at(members.len());
-    let accesses = accesses_of_chain(ordered.setting.alloc, chain, ordered.order)?;
+    let accesses = accesses_of_chain(alloc, chain, ordered.order)?;
+    let setting = Setting {
+        alloc,
+        catalogue: ordered.catalogue,
+        size: ordered.size,
+    };
     let place = Place {
         submission: ordered.submission,
         chain,
         member: 1,
     };
-    if !is_chain_done(ordered.setting, place, members, &accesses, own)? {
+    if !is_chain_done(&setting, place, members, &accesses, own)? {
         return Ok(false);
     }
-    are_done_from(ordered, chain + 1, chains, others)
-}
-
-/// Whether the chains from this one on made their accesses of an order, and answered so, at a table of so many slots. The
-/// completions are those of these chains, in order of place. The caller has seen that the chains are those into which the
-/// requests were cut ([`fx_chain::cut`]).
-///
-/// # Errors
-/// `NoMemory` where there is no memory for the accesses of a chain, or the bytes of a read.
-pub fn are_chains_done(
-    alloc: Global,
-    catalogue: &Catalogue,
-    size: u32,
-    submission: u32,
-    chain: u32,
-    requests: &[Request],
-    chains: &[Chain],
-    order: &[ChainAccess],
-    completions: &[Completion],
-) -> Result<bool, NoMemory>
-    requires within { All (IsChain (all_asked requests.now)) chains.now }
-    requires numbers { chain + length chains.now < 2 ^ 32 }
-    ensures { IfOk result (λ yes. IsTrue yes ↔ AreChainsDone catalogue.now size submission chain
-        (map (members_of (all_asked requests.now)) chains.now) order.now
-        (all_completed completions.now)) }
-{
-    let setting = Setting {
-        alloc,
-        catalogue,
-        size,
-    };
-    let ordered = Ordered {
-        setting: &setting,
-        submission,
-        requests,
-        order,
-    };
-    are_done_from(&ordered, chain, chains, completions)
+    are_chains_done(alloc, ordered, chain + 1, chains, others)
 }

@@ -1,7 +1,5 @@
-use Rattle.fx_order.proofs.Words.{◌+◌, ◌-◌, ◌∙◌, List, length, take, drop, sym, ap, subst, all_asked, all_completed, asked_of, severs, Request, Place}
-use Rattle.fx_order.proofs.FirstAndRest.{first_is}
-use Rattle.fx_outcomes.specs.Rests.{Rules, rules_of}
-use Rattle.fx_answers.specs.Stands.{Settles}
+use Rattle.fx_answers.proofs.Words.{◌+◌, ◌-◌, ◌∙◌, List, length, take, drop, sym, ap, subst, all_asked, all_completed, asked_of, severs, Request}
+use Rattle.fx_answers.proofs.Words.{Place, first_is, Rules, rules_of, Settles}
 use Rattle.fx_answers.proofs.Settling.{pushed, settled_on, tested}
 use Rattle.fx_answers.proofs.chain.+settle.Goals as goal
 

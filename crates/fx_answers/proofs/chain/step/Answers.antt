@@ -1,8 +1,5 @@
-use Rattle.fx_order.proofs.Words.{◌≡◌, ◌+◌, ◌-◌, ◌∙◌, List, take, [], ◌∷◌, Some, drop, length, sym, ap, subst, refl, all_asked, all_completed, asked_of, completed_of}
-use Rattle.fx_order.proofs.Words.{Request, Place, arith}
-use Rattle.fx_order.proofs.FirstAndRest.{first_is}
-use Rattle.fx_outcomes.specs.Rests.{Rules, rules_of}
-use Rattle.fx_answers.specs.Stands.{Settles, moved}
+use Rattle.fx_answers.proofs.Words.{◌≡◌, ◌+◌, ◌-◌, ◌∙◌, List, take, [], ◌∷◌, Some, drop, length, sym, ap, subst, refl, all_asked, all_completed}
+use Rattle.fx_answers.proofs.Words.{asked_of, completed_of, Request, Place, arith, first_is, Rules, rules_of, Settles, moved}
 use Rattle.fx_answers.proofs.Settling.{pushed, steps_more, steps_on, steps_over}
 use Rattle.fx_answers.proofs.chain.step.Goals as goal
 

@@ -1,5 +1,4 @@
-use Rattle.fx_order.proofs.Words.{◌≡◌, ◌<◌, List, length, arith, subst, slice_index_or, all_asked, IfOk-weaker}
-use Rattle.fx_answers.specs.declared.state.State.{State}
+use Rattle.fx_answers.proofs.Words.{◌≡◌, ◌<◌, List, length, arith, subst, slice_index_or, all_asked, IfOk-weaker, State}
 use Rattle.fx_answers.proofs.AllOfThem.{all_by, as_many}
 use Rattle.fx_answers.proofs.closed.are_all_states.Goals as goal
 

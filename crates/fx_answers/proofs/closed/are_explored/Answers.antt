@@ -1,7 +1,5 @@
-use Rattle.fx_order.proofs.Words.{Permits, None, table_of_slots}
-use Rattle.fx_order.specs.declared.access.Access.{Access}
+use Rattle.fx_answers.proofs.Words.{Permits, None, table_of_slots, Access, IsExploredBy}
 use Rattle.fx_order.specs.declared.access.Access.TheVariants.{Looks}
-use Rattle.fx_answers.specs.Listed.{IsExploredBy}
 use Rattle.fx_answers.proofs.Lists.{one_more_at}
 use Rattle.fx_answers.proofs.closed.are_explored.Goals as goal
 

@@ -1,6 +1,4 @@
-use Rattle.fx_order.proofs.Words.{ℕ, ◌<◌, slice_index_or, Permits, table_of_slots}
-use Rattle.fx_order.specs.declared.access.Access.{Access}
-use Rattle.fx_answers.specs.Listed.{IsExploredBy}
+use Rattle.fx_answers.proofs.Words.{ℕ, ◌<◌, slice_index_or, Permits, table_of_slots, Access, IsExploredBy}
 use Rattle.fx_answers.proofs.closed.are_explored.Given as goal
 
 abbrev pub invariant-loop-access : goal.invariant-loop-access

@@ -1,9 +1,6 @@
-use Rattle.fx_order.proofs.Words.{◌≡◌, ◌∙◌, ◌++◌, List, All, ap, sym, subst, slice_index_or, all_completed, completed_of, Asked, Place, Completion}
-use Rattle.fx_outcomes.specs.Rests.{Rules}
-use Rattle.fx_answers.specs.Listed.{first_in, run_in, said_by, settled_in}
-use Rattle.fx_answers.specs.Stands.{Settles}
-use Rattle.fx_answers.specs.Views.{not_begun, rules_in}
-use Rattle.fx_answers.specs.declared.chain.Progress.{Progress}
+use Rattle.fx_answers.proofs.Words.{◌≡◌, ◌∙◌, ◌++◌, List, All, ap, sym, subst, slice_index_or, all_completed, completed_of, Asked, Place, Completion}
+use Rattle.fx_answers.proofs.Words.{Rules, said_by, Settles, not_begun, rules_in, Progress}
+use Rattle.fx_answers.specs.Listed.{first_in, run_in, settled_in}
 use Rattle.fx_answers.proofs.Viewing.{at_start_by}
 use Rattle.fx_answers.proofs.closed.is_at_start.Goals as goal
 

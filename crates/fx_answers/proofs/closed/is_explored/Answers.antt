@@ -1,7 +1,5 @@
-use Rattle.fx_order.proofs.Words.{All, subst, all_completed, completed_of, Completion}
+use Rattle.fx_answers.proofs.Words.{All, subst, all_completed, completed_of, Completion, said_by, IsStepTo, runs_in}
 use Rattle.fx_answers.proofs.Lists.{ok_two}
-use Rattle.fx_answers.specs.Listed.{said_by}
-use Rattle.fx_answers.specs.Views.{IsStepTo, runs_in}
 use Rattle.fx_answers.proofs.Viewing.{explored}
 use Rattle.fx_answers.proofs.closed.is_explored.Goals as goal
 

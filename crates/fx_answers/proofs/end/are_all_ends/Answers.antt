@@ -1,5 +1,4 @@
-use Rattle.fx_order.proofs.Words.{All, subst, IfOk-weaker}
-use Rattle.fx_answers.specs.Listed.{IsEndListed}
+use Rattle.fx_answers.proofs.Words.{All, subst, IfOk-weaker, IsEndListed}
 use Rattle.fx_answers.proofs.end.are_all_ends.Goals as goal
 
 pub returns : goal.returns

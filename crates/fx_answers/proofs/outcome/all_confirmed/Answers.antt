@@ -1,6 +1,4 @@
-use Rattle.fx_order.proofs.Words.{◌∙◌, ◌∷◌, All, All-append, All-cons, All-nil, Vec, ap, sym, subst, []}
-use Rattle.fx_answers.specs.Listed.{IsAnswerIn}
-use Rattle.fx_answers.specs.declared.outcome.Answer.{Answer}
+use Rattle.fx_answers.proofs.Words.{◌∙◌, ◌∷◌, All, All-append, All-cons, All-nil, Vec, ap, sym, subst, [], IsAnswerIn, Answer}
 use Rattle.fx_answers.proofs.outcome.all_confirmed.Goals.{in-Some+in_ok-push, in_default}
 use Rattle.fx_answers.proofs.outcome.all_confirmed.Goals as goal
 

@@ -1,5 +1,4 @@
-use Rattle.fx_order.proofs.Words.{Contains, List, subst, all_completed, completed_of, Completion}
-use Rattle.fx_answers.specs.Listed.{report_of}
+use Rattle.fx_answers.proofs.Words.{Contains, List, subst, all_completed, completed_of, Completion, report_of}
 use Rattle.fx_answers.proofs.Promised.{is_answer}
 use Rattle.fx_answers.proofs.outcome.confirmed.Goals as goal
 

@@ -1,7 +1,5 @@
-use Rattle.fx_order.proofs.Words.{◌≡◌, ◌∙◌, ℕ, List, [], All, All-map, ap, sym, subst, slice_index_or, asked_of, Asked, table_of_slots}
-use Rattle.std.proofs.lemmas.Option.{get_or_from_slice_get, slice_get-get_or}
-use Rattle.fx_outcomes.specs.Parts.{StaysIn}
-use Rattle.fx_answers.specs.Views.{parts_of, runs_in}
+use Rattle.fx_answers.proofs.Words.{◌≡◌, ◌∙◌, ℕ, List, [], All, All-map, ap, sym, subst, slice_index_or, asked_of, Asked, table_of_slots}
+use Rattle.fx_answers.proofs.Words.{get_or_from_slice_get, slice_get-get_or, StaysIn, parts_of, runs_in}
 use Rattle.fx_answers.proofs.parts.is_in_part.Goals as goal
 
 pub returns-in-Some : goal.returns-in-Some

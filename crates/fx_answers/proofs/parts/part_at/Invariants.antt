@@ -1,5 +1,4 @@
-use Rattle.std.specs.Prelude.{IfSome}
-use Rattle.fx_answers.specs.Views.{IsTurnOf}
+use Rattle.fx_answers.proofs.Words.{IfSome, IsTurnOf}
 use Rattle.fx_answers.proofs.parts.part_at.Given as goal
 
 abbrev pub invariant-loop-i : goal.invariant-loop-i

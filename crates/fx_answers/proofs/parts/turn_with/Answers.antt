@@ -1,6 +1,4 @@
-use Rattle.std.specs.Prelude.{IfSome}
-use Rattle.fx_order.proofs.Words.{ℕ, ◌∙◌, Option, inl, inr, sym, subst, arith, all_asked}
-use Rattle.fx_answers.specs.Views.{IsTurnOf}
+use Rattle.fx_answers.proofs.Words.{IfSome, ℕ, ◌∙◌, Option, inl, inr, sym, subst, arith, all_asked, IsTurnOf}
 use Rattle.fx_answers.proofs.AllOfThem.{as_many}
 use Rattle.fx_answers.proofs.Turns.{is_turn}
 use Rattle.fx_answers.proofs.parts.turn_with.Goals as goal

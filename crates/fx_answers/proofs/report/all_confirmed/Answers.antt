@@ -1,6 +1,4 @@
-use Rattle.fx_order.proofs.Words.{◌∙◌, ◌∷◌, All, All-append, All-cons, All-nil, Vec, ap, sym, subst, []}
-use Rattle.fx_answers.specs.Listed.{IsPossibleIn}
-use Rattle.fx_answers.specs.declared.report.PossibleReport.{PossibleReport}
+use Rattle.fx_answers.proofs.Words.{◌∙◌, ◌∷◌, All, All-append, All-cons, All-nil, Vec, ap, sym, subst, [], IsPossibleIn, PossibleReport}
 use Rattle.fx_answers.proofs.report.all_confirmed.Goals.{in-Some+in_ok-push, in_default}
 use Rattle.fx_answers.proofs.report.all_confirmed.Goals as goal
 

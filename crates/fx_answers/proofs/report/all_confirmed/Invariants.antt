@@ -1,5 +1,4 @@
-use Rattle.fx_order.proofs.Words.{All}
-use Rattle.fx_answers.specs.Listed.{IsPossibleIn}
+use Rattle.fx_answers.proofs.Words.{All, IsPossibleIn}
 use Rattle.fx_answers.proofs.report.all_confirmed.Given as goal
 
 abbrev pub invariant-loop-i : goal.invariant-loop-i

@@ -1,5 +1,4 @@
-use Rattle.fx_order.proofs.Words.{All, subst, IfOk-weaker}
-use Rattle.fx_answers.specs.Listed.{IsToldAt}
+use Rattle.fx_answers.proofs.Words.{All, subst, IfOk-weaker, IsToldAt}
 use Rattle.fx_answers.proofs.report.are_all_reports.Goals as goal
 
 pub returns : goal.returns

@@ -1,5 +1,4 @@
-use Rattle.fx_order.proofs.Words.{arith}
-use Rattle.std.proofs.lemmas.List.{same_lists}
+use Rattle.fx_answers.proofs.Words.{arith, same_lists}
 use Rattle.fx_answers.proofs.state.are_same_chains.Goals as goal
 
 pub returns : goal.returns

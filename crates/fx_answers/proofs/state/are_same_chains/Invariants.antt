@@ -1,5 +1,4 @@
-use Rattle.fx_order.proofs.Words.{◌≡◌, ℕ, ◌<◌, slice_index_or}
-use Rattle.fx_answers.specs.declared.chain.Progress.{Progress}
+use Rattle.fx_answers.proofs.Words.{◌≡◌, ℕ, ◌<◌, slice_index_or, Progress}
 use Rattle.fx_answers.proofs.state.are_same_chains.Given as goal
 
 abbrev pub invariant-loop-i : goal.invariant-loop-i

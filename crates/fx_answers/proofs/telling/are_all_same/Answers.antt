@@ -1,6 +1,4 @@
-use Rattle.fx_order.proofs.Words.{◌≡◌, ◌∙◌, List, sym, ap, arith, length-map, all_completed, Vec, Completed, Completion}
-use Rattle.std.proofs.lemmas.List.{same_lists}
-use Rattle.fx_answers.specs.Tellings.{answers_of}
+use Rattle.fx_answers.proofs.Words.{◌≡◌, ◌∙◌, List, sym, ap, arith, length-map, all_completed, Vec, Completed, Completion, same_lists, answers_of}
 use Rattle.fx_answers.proofs.SameAnswers.{same_once_more}
 use Rattle.fx_answers.proofs.telling.are_all_same.Goals as goal
 

@@ -1,5 +1,4 @@
-use Rattle.fx_order.proofs.Words.{◌≡◌, ℕ, ◌<◌, List, slice_index_or, Completed}
-use Rattle.fx_answers.specs.Tellings.{answers_of}
+use Rattle.fx_answers.proofs.Words.{◌≡◌, ℕ, ◌<◌, List, slice_index_or, Completed, answers_of}
 use Rattle.fx_answers.proofs.telling.are_all_same.Given as goal
 
 abbrev pub invariant-loop-i : goal.invariant-loop-i

@@ -1,5 +1,4 @@
-use Rattle.fx_order.proofs.Words.{arith, length-map, all_completed, completed_of}
-use Rattle.std.proofs.lemmas.List.{same_lists}
+use Rattle.fx_answers.proofs.Words.{arith, length-map, all_completed, completed_of, same_lists}
 use Rattle.fx_answers.proofs.SameAnswers.{same_once_more}
 use Rattle.fx_answers.proofs.telling.are_same.Goals as goal
 

@@ -1,62 +1,23 @@
-use Rattle.fx_order.proofs.Words.{◌≡◌, ℕ, ◌+◌, ◌≤◌, length, refl, sym, subst, ap, ◌∙◌, All, IsPermutation, arith, false≢true, IsInOrderOfMark, all_asked}
-use Rattle.fx_order.proofs.Words.{runs_of, Table, removed_in, accesses_of, table_after}
-use Rattle.fx_order.proofs.OrderOf.{as_many, ring_left_is}
-use Rattle.fx_order.proofs.report.is_one_order.Goals.{then-report-number-via-then-report-number}
-use Rattle.fx_order.proofs.report.is_one_order.Goals.{then-report-number-via-else-report-number+then-not-are_within}
+use Rattle.fx_order.proofs.Words.{◌≡◌, ℕ, ◌+◌, refl, sym, subst, ap, ◌∙◌, arith, all_completed, all_asked, ring_of_slots, Reported}
+use Rattle.fx_order.specs.Order.{IsOrderOf}
+use Rattle.fx_order.specs.Slots.{ring_with_slots}
 use Rattle.fx_order.proofs.report.is_one_order.Goals as goal
-
-pub returns-then-report-number-clause-order : goal.returns-then-report-number-clause-order
-returns-then-report-number-clause-order c = (
-  λ no. absurd (false≢true no),
-  λ o. let number : c.args.report.now.submission ≡ c.args.submissions + 1 = (o 0).submission in
-      elim c.then-report-number.branch [
-        | then-report-number-via-then-report-number w ↦ absurd (omega arith)
-        | then-report-number-via-else-report-number+then-not-are_within w ↦
-            let count : w.len.result ≡ length (runs_of (all_asked c.args.requests.now)) =
-            as_many (all_asked c.args.requests.now) c.in_ok-chains.chains.items w.len.result (omega (arith, c.in_ok-chains.chains.ok.0)) c.in_ok-chains.ensures.members in
-            absurd (false≢true (sym w.if-not-are_within.true ∙ w.are_within.ensures.1 (rw count (o 0).chains)))
-      ],
-)
-
-pub returns-then-not-branch-clause-order : goal.returns-then-not-branch-clause-order
-returns-then-not-branch-clause-order c = (
-  λ no. absurd (false≢true no),
-  λ o. let size : c.len-size.result ≡ length c.args.slots.now.at.items = omega (arith, c.args.slots.now.at.ok.0) in
-      absurd (false≢true (sym c.if-not-branch.true ∙ c.in_ok-are_chains_done.ensures.1
-      (rw (size, c.deref.ensures.value, c.in_ok-chains.ensures.members, c.deref-2.ensures.value) (o 0).done))),
-)
-
-pub returns-then-not-branch-2-clause-order : goal.returns-then-not-branch-2-clause-order
-returns-then-not-branch-2-clause-order c = (
-  λ no. absurd (false≢true no),
-  λ o. absurd (false≢true (sym c.if-not-branch-2.true
-      ∙ c.in_ok-are_closed.ensures.1 (rw c.files.ensures ((o 0).closed.same_files, (o 0).closed.in_order)))),
-)
-
-pub returns-then-not-make_all-clause-order : goal.returns-then-not-make_all-clause-order
-returns-then-not-make_all-clause-order c = (
-  λ no. absurd (false≢true no),
-  λ o. absurd (false≢true (sym c.if-not-make_all.true ∙ c.make_all.ensures.permitted.1 (rw c.in_ok-left.ensures (o 0).permitted))),
-)
 
 pub returns-clause-order : goal.returns-clause-order
 returns-clause-order c = (
-  λ yes registrations.
-      let size : c.len-size.result ≡ length c.args.slots.now.at.items = omega (arith, c.args.slots.now.at.ok.0) in
-      let count : c.len.result ≡ length (runs_of (all_asked c.args.requests.now)) =
-      as_many (all_asked c.args.requests.now) c.in_ok-chains.chains.items c.len.result (omega (arith, c.in_ok-chains.chains.ok.0)) c.in_ok-chains.ensures.members in
-      let closed = c.in_ok-are_closed.ensures.0 c.if-not-branch-2.false in
-      record {
-        permitted = rw c.in_ok-left.ensures at (c.make_all.ensures.permitted.0 c.if-not-make_all.false);
-        chains = subst (λ (n : ℕ). All (λ x. (1 ≤ x.chain) × (x.chain ≤ n)) c.args.order.now) count (c.are_within.ensures.0 c.if-not-are_within.false);
-        done = rw (c.deref.ensures.value, c.in_ok-chains.ensures.members, c.deref-2.ensures.value, size) at (c.in_ok-are_chains_done.ensures.0 c.if-not-branch.false);
-        closed = record { same_files = subst (IsPermutation (removed_in (accesses_of c.args.order.now))) c.files.ensures closed.0; in_order = subst IsInOrderOfMark c.files.ensures closed.1 };
-        submission = omega arith;
-      },
+  λ _. let ring = ring_with_slots c.args.catalogue.now c.args.ring.now in
+      let room = c.args.report.now.closes.room in
+      let number : c.args.report.now.submission ≡ c.args.ring.now.submissions + 1 = omega arith in
+      subst (λ (r : Reported). IsOrderOf c.args.order.now ring (all_asked c.args.requests.now) r) (λ i. record {
+        submission = sym number i;
+        completions = all_completed (c.deref.ensures.value i);
+        closes = record { files = c.files.ensures i; room = room };
+      }) ((rw c.in-Some.is at c.in_ok-left.ensures.order).0 refl c.args.ring.now.registrations room),
   λ _. refl,
 )
 
 pub returns-clause-left : goal.returns-clause-left
-returns-clause-left c = λ yes registrations.
-    ring_left_is c.args.catalogue.now c.args.slots.now c.make_all.new.slots c.args.submissions registrations c.args.order.now
-    (c.make_all.ensures.made c.if-not-make_all.false ∙ ap (λ (t : Table). table_after t (accesses_of c.args.order.now)) c.in_ok-left.ensures)
+returns-clause-left c = λ _.
+    let number : c.args.report.now.submission ≡ c.args.ring.now.submissions + 1 = omega arith in
+    ap (λ (n : ℕ). ring_of_slots c.args.catalogue.now c.in-Some.left n c.args.ring.now.registrations) number
+    ∙ (rw c.in-Some.is at c.in_ok-left.ensures.left) c.args.ring.now.registrations

@@ -1,6 +1,5 @@
-use Rattle.fx_order.proofs.Words.{◌≡◌, ◌∙◌, ◌++◌, List, ap, subst, all_completed, Closed, Completed, IsPermutation, removed_by}
-use Rattle.std.specs.Option.{option_to_list}
-use Rattle.fx_answers.specs.Tellings.{answers_of}
+use Rattle.fx_answers.proofs.Words.{◌≡◌, ◌∙◌, ◌++◌, List, ap, subst, all_completed, Closed, Completed, IsPermutation, removed_by, option_to_list}
+use Rattle.fx_answers.proofs.Words.{answers_of}
 use Rattle.fx_answers.proofs.SameAnswers.{set_answers}
 use Rattle.fx_answers.proofs.telling.Telling.after.Goals as goal
 

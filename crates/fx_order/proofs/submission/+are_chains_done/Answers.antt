@@ -1,7 +1,7 @@
 use Rattle.fx_order.proofs.Words.{IfOk-weaker, ◌∙◌, rules, false≢true, sym, IsChain, all_asked, Chain}
 use Rattle.fx_order.proofs.ChainsFront.{few_completions, first_run, goes_on, not_first, others_completed, own_completed}
 use Rattle.fx_order.proofs.FirstAndRest.{all_of_rest}
-use Rattle.fx_order.proofs.submission.+are_done_from.Goals as goal
+use Rattle.fx_order.proofs.submission.+are_chains_done.Goals as goal
 
 abbrev none : Chain
 none = record { first = 0; len = 0 }
@@ -9,7 +9,7 @@ none = record { first = 0; len = 0 }
 pub returns-then-completions-members : goal.returns-then-completions-members
 returns-then-completions-members t c = (
   λ no. absurd (false≢true no),
-  λ x. absurd (few_completions c.args.ordered.now.setting.now.catalogue.now c.args.ordered.now.setting.now.size c.args.ordered.now.submission c.args.chain
+  λ x. absurd (few_completions c.args.ordered.now.catalogue.now c.args.ordered.now.size c.args.ordered.now.submission c.args.chain
       (all_asked c.args.ordered.now.requests.now) c.args.chains.now none c.in-len1-up.len_at_least c.members-members.result.now
       c.members-members.ensures.members c.args.ordered.now.order.now c.args.completions.now c.if-completions-members.true x),
 )
@@ -19,15 +19,15 @@ returns-then-not-branch t c =
     rw (first_run (all_asked c.args.ordered.now.requests.now) c.args.chains.now none c.members-members.result.now c.in-len1-up.len_at_least
     c.members-members.ensures.members) (
       λ no. absurd (false≢true no),
-      λ x. absurd (not_first c.args.ordered.now.setting.now.catalogue.now c.args.ordered.now.setting.now.size c.args.ordered.now.submission c.args.chain
+      λ x. absurd (not_first c.args.ordered.now.catalogue.now c.args.ordered.now.size c.args.ordered.now.submission c.args.chain
           _ _ c.args.ordered.now.order.now _ c.deref.result.now _ _ (c.deref.ensures.value ∙ c.in_ok-accesses.ensures)
           (own_completed c.members-members.result.now c.args.completions.now _ c.split_at.ensures.front)
           (others_completed c.members-members.result.now c.args.completions.now _ c.split_at.ensures.back)
           (λ done. false≢true (sym c.if-not-branch.true ∙ c.in_ok-is_chain_done.ensures.1 done)) x),
     )
 
-pub are_done_from-requires : goal.are_done_from-requires
-are_done_from-requires t c = (
+pub are_chains_done-requires : goal.are_chains_done-requires
+are_chains_done-requires t c = (
   search rules,
   (
     all_of_rest (IsChain (all_asked c.args.ordered.now.requests.now)) c.args.chains.now none c.in-len1-up.len_at_least c.requires.within,
@@ -39,10 +39,10 @@ pub returns : goal.returns
 returns t c =
     rw (first_run (all_asked c.args.ordered.now.requests.now) c.args.chains.now none c.members-members.result.now c.in-len1-up.len_at_least
     c.members-members.ensures.members)
-    (IfOk-weaker c.are_done_from.result _ _
-    (goes_on c.args.ordered.now.setting.now.catalogue.now c.args.ordered.now.setting.now.size c.args.ordered.now.submission c.args.chain
+    (IfOk-weaker c.are_chains_done.result _ _
+    (goes_on c.args.ordered.now.catalogue.now c.args.ordered.now.size c.args.ordered.now.submission c.args.chain
     _ _ c.args.ordered.now.order.now _ c.deref.result.now _ _ (c.deref.ensures.value ∙ c.in_ok-accesses.ensures)
     (own_completed c.members-members.result.now c.args.completions.now _ c.split_at.ensures.front)
     (others_completed c.members-members.result.now c.args.completions.now _ c.split_at.ensures.back)
     (c.in_ok-is_chain_done.ensures.0 c.if-not-branch.false))
-    c.are_done_from.ensures)
+    c.are_chains_done.ensures)
