@@ -1,26 +1,18 @@
 -- The calls between submissions that take memory: what one prints at a ring, and so where a text leads that goes on with that.
-use Rattle.std.proofs.Common.{◌≡◌, ◌↔◌, ◌<◌, ◌^◌, ℕ, pos, negsuc, List, [], ◌++◌, All, codes, length, refl, sym, ap, subst, ◌∙◌, inl, inr, ⊎_elim, arith}
-use Rattle.std.proofs.Common.{Option, Some, None, IfSome, Global, String, append_assoc, drop}
-use Rattle.fx_base.specs.Catalogue.{FileEntry}
-use Rattle.fx_base.specs.declared.errno.Errno.{Errno}
-use Rattle.fx_base.specs.declared.errno.Errno.TheVariants.{ENOMEM}
-use Rattle.fx_base.specs.declared.open_file.Closed.{Closed}
+use Rattle.fx_check.proofs.Words.{◌≡◌, ◌↔◌, ◌<◌, ◌^◌, ℕ, pos, negsuc, List, [], ◌++◌, All, codes, length, refl, sym, ap, subst, ◌∙◌, inl, inr, ⊎_elim}
+use Rattle.fx_check.proofs.Words.{arith, Option, Some, None, IfSome, append_assoc, drop, FileEntry, Errno, ENOMEM, Closed, registered}
+use Rattle.fx_check.proofs.Words.{registered_sparse, removed_from, updated, RingContents, RingState, IsRing, files_of, ring_of, Instruction}
+use Rattle.fx_check.proofs.Words.{MakesSparse, RegistersList, SetsRange, SubmitsAll, Unregisters, UpdatesRing, Prints, PrintsClosed, RingSlots, IsMet}
+use Rattle.fx_check.proofs.Words.{IsStep, Met, Here, Apart, ring_with_slots, closes_text, result_line}
+use Rattle.std.proofs.Common.{Global, String}
 use Rattle.fx_chain.specs.Completed.{negated}
-use Rattle.fx_ring.specs.Registration.{register_refusal, registered, registered_sparse, removed_from, sparse_refusal, unregister_refusal, update_refusal, updated}
-use Rattle.fx_ring.specs.Ring.{RingContents, RingState, IsRing, files_of, ring_of, without_table}
+use Rattle.fx_ring.specs.Registration.{register_refusal, sparse_refusal, unregister_refusal, update_refusal}
+use Rattle.fx_ring.specs.Ring.{without_table}
 use Rattle.fx_ring.specs.Tags.{tags_given}
-use Rattle.fx_language.specs.Instruction.{Instruction, MakesSparse, RegistersList, SetsRange, SubmitsAll, Unregisters, UpdatesRing}
-use Rattle.fx_script.specs.Play.{Answers, IsRefused, Prints, PrintsClosed}
+use Rattle.fx_script.specs.Play.{Answers, IsRefused}
 use Rattle.fx_lines.proofs.ResultLines.{one_result}
-use Rattle.fx_order.specs.declared.ring_slots.RingSlots.{RingSlots}
-use Rattle.fx_check.specs.Met.{IsMet}
-use Rattle.fx_check.specs.Step.{IsStep}
-use Rattle.fx_check.specs.declared.met.Met.{Met}
-use Rattle.fx_check.specs.declared.met.Met.TheVariants.{Here, Apart}
 use Rattle.fx_calls.proofs.FilesThere.{IsAtOne, all_in_order, all_removed, closes_printed}
 use Rattle.fx_check.proofs.OneText.{exactly, goes, whole}
-use Rattle.fx_order.specs.Slots.{ring_with_slots}
-use Rattle.fx_print.specs.Text.{closes_text, result_line}
 
 -- a call at a ring: its word, and why it is refused; where it isn't, the ring that it leaves, its result, and the files that it tells closed
 pub record Call : Type 0 where

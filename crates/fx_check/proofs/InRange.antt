@@ -1,32 +1,22 @@
 -- The lines of an accepted submission's report have numbers that their types have.
-use Rattle.std.proofs.Common.{◌≡◌, inl, inr, ℕ, zero, suc, ◌+◌, ◌<◌, ◌≤◌, ◌^◌, ◌==◌, ◌||◌, nat_le, nat_lt, ℤ, pos, Bool, true, false, cond}
-use Rattle.std.proofs.Common.{List, [], ◌∷◌, ◌++◌, filter, length, take, drop, All, refl, sym, subst, arith, Option, Some, None, slice_get}
-use Rattle.std.specs.List.{list_any}
+use Rattle.fx_check.proofs.Words.{◌≡◌, inl, inr, ℕ, zero, suc, ◌+◌, ◌<◌, ◌≤◌, ◌^◌, ◌==◌, ◌||◌, nat_le, nat_lt, ℤ, pos, Bool, true, false, cond, List}
+use Rattle.fx_check.proofs.Words.{[], ◌∷◌, ◌++◌, filter, length, take, drop, All, refl, sym, subst, arith, Option, Some, None, slice_get, list_any}
+use Rattle.fx_check.proofs.Words.{get_or_from_slice_get, slice_get_within, All-append, All-cons, All-get_or, All-head, All-nil, All-tail}
+use Rattle.fx_check.proofs.Words.{drop-append_seam, take-append_seam, has_name, FileEntry, Errno, ENOENT, ENXIO, EBADF, ENOMEM, EINVAL, ENFILE}
+use Rattle.fx_check.proofs.Words.{installed, is_bad_entry, Completed, completed, next_member, canceled, first_member, severs, Asked, Operation, Opens}
+use Rattle.fx_check.proofs.Words.{Reads, Closes, Updates, Place, Target, Slot, Any, Table, accesses_of, accesses_of_chain, Access, ChainAccess}
+use Rattle.fx_check.proofs.Words.{IsRefused, IsOpenDone, IsReadDone, IsCloseDone, IsUpdateDone, IsRequestDone, IsChainDone, AreChainsDone, either_way}
+use Rattle.fx_check.proofs.Words.{AreFiles}
 use Rattle.std.proofs.lemmas.Bool.{cases_lt, ltb-false}
-use Rattle.std.proofs.lemmas.Option.{get_or_from_slice_get, slice_get_within}
-use Rattle.std.proofs.lemmas.List.Elements.{All-append, All-cons, All-drop, All-get_or, All-head, All-nil, All-tail, All-take}
+use Rattle.std.proofs.lemmas.List.Elements.{All-drop, All-take}
 use Rattle.std.proofs.lemmas.List.{get_or-drop, get_or-take, get_or_past, length-drop, length-take}
-use Rattle.std.proofs.Math.Seq.{drop-append_seam, take-append_seam}
 use Rattle.hex.specs.Hex.{IsBytes}
-use Rattle.fx_base.specs.AddFault.{has_name}
-use Rattle.fx_base.specs.Catalogue.{FileEntry, bytes_at, part_of}
+use Rattle.fx_base.specs.Catalogue.{bytes_at, part_of}
 use Rattle.fx_base.specs.declared.catalogue.TheConstants.{LONGEST_ENTRY}
-use Rattle.fx_base.specs.declared.errno.Errno.{Errno}
-use Rattle.fx_base.specs.declared.errno.Errno.TheVariants.{ENOENT, ENXIO, EBADF, ENOMEM, EINVAL, ENFILE, ECANCELED}
-use Rattle.fx_chain.specs.Answers.{installed, is_bad_entry}
-use Rattle.fx_chain.specs.Completed.{Completed, completed, next_member, refusal}
-use Rattle.fx_chain.specs.Explains.{canceled, first_member, severs}
-use Rattle.fx_chain.specs.Operation.{Asked, Operation, Opens, Reads, Closes, Updates}
-use Rattle.fx_chain.specs.declared.completion.Place.{Place}
-use Rattle.fx_chain.specs.declared.request.Target.{Target}
-use Rattle.fx_chain.specs.declared.request.Target.TheVariants.{Slot, Any}
-use Rattle.fx_order.specs.Access.{Table, PermitsAll, accesses_of, accesses_of_chain, table_with}
-use Rattle.fx_order.specs.declared.access.Access.{Access}
+use Rattle.fx_base.specs.declared.errno.Errno.TheVariants.{ECANCELED}
+use Rattle.fx_chain.specs.Completed.{refusal}
+use Rattle.fx_order.specs.Access.{PermitsAll, table_with}
 use Rattle.fx_order.specs.declared.access.Access.TheVariants.{Allocates}
-use Rattle.fx_order.specs.declared.access.ChainAccess.{ChainAccess}
-use Rattle.fx_order.specs.Requests.{IsRefused, IsOpenDone, IsReadDone, IsCloseDone, IsUpdateDone, IsRequestDone, IsChainDone, AreChainsDone}
-use Rattle.fx_order.proofs.PlacedNew.{either_way}
-use Rattle.fx_language.specs.Script.{AreFiles}
 use Rattle.fx_lines.specs.Lines.{IsCompletionInRange, IsPlaceInRange}
 
 -- an allocation is at a slot of a table of this size

@@ -1,29 +1,13 @@
 -- What an order places, a request installed that completed so.
-use Rattle.std.proofs.Common.{◌≡◌, inl, inr, ⊎_elim, ℕ, zero, suc, ◌+◌, ◌<◌, ◌≤◌, ◌==◌, ◌||◌, nat_le, nat_lt, ℤ, pos, negsuc}
-use Rattle.std.proofs.Common.{List, [], ◌∷◌, ◌++◌, length, refl, sym, ap, subst, ◌∙◌, arith, Some, slice_get}
-use Rattle.std.specs.List.{list_any, flat_map}
-use Rattle.fx_base.specs.AddFault.{has_name}
-use Rattle.fx_base.specs.Catalogue.{FileEntry}
-use Rattle.fx_base.specs.declared.errno.Errno.{Errno}
-use Rattle.fx_base.specs.declared.errno.Errno.TheVariants.{ENOENT, ENXIO, EBADF, EINVAL, ENFILE}
-use Rattle.fx_base.specs.declared.mark.Mark.{Mark}
-use Rattle.fx_base.specs.declared.mark.Mark.TheVariants.{Submitted}
-use Rattle.fx_base.specs.declared.open_file.Closed.{Closed}
-use Rattle.fx_chain.specs.Answers.{installed, is_bad_entry}
-use Rattle.fx_chain.specs.Completed.{Completed, completed, next_member}
-use Rattle.fx_chain.specs.Explains.{canceled, first_member, severs}
-use Rattle.fx_chain.specs.Operation.{Asked, Operation, Opens, Reads, Closes, Updates}
-use Rattle.fx_chain.specs.declared.completion.Place.{Place}
-use Rattle.fx_chain.specs.declared.request.Target.{Target}
-use Rattle.fx_chain.specs.declared.request.Target.TheVariants.{Slot, Any}
-use Rattle.fx_order.specs.Access.{accesses_of_chain}
-use Rattle.fx_order.specs.declared.access.Access.{Access}
-use Rattle.fx_order.specs.declared.access.ChainAccess.{ChainAccess}
-use Rattle.fx_order.specs.Requests.{IsRefused, IsOpenDone, IsReadDone, IsCloseDone, IsEntryDone, AreEntriesDone, IsUpdateDone, IsRequestDone, IsChainDone, AreChainsDone}
-use Rattle.fx_order.proofs.Placed.{Has, has_either, placed, placed-append}
-use Rattle.fx_order.proofs.PlacedNew.{either_way}
-use Rattle.fx_plain.proofs.Cells.{by_equality}
-use Rattle.fx_check.specs.Told.{Installed, InstallsAt, OneInstalled}
+use Rattle.fx_check.proofs.Words.{◌≡◌, inl, inr, ⊎_elim, ℕ, zero, suc, ◌+◌, ◌<◌, ◌≤◌, ◌==◌, ◌||◌, nat_le, nat_lt, ℤ, pos, negsuc, List, [], ◌∷◌, ◌++◌}
+use Rattle.fx_check.proofs.Words.{length, refl, sym, ap, subst, ◌∙◌, arith, Some, slice_get, list_any, flat_map, has_name, FileEntry, Errno, ENOENT}
+use Rattle.fx_check.proofs.Words.{ENXIO, EBADF, EINVAL, ENFILE, Mark, Submitted, Closed, installed, is_bad_entry, Completed, completed, next_member}
+use Rattle.fx_check.proofs.Words.{canceled, first_member, severs, Asked, Operation, Opens, Reads, Closes, Updates, Place, Target, Slot, Any}
+use Rattle.fx_check.proofs.Words.{accesses_of_chain, Access, ChainAccess, IsRefused, IsOpenDone, IsReadDone, IsCloseDone, IsUpdateDone, IsRequestDone}
+use Rattle.fx_check.proofs.Words.{IsChainDone, AreChainsDone, Has, placed, either_way, by_equality, Installed, OneInstalled}
+use Rattle.fx_order.specs.Requests.{IsEntryDone, AreEntriesDone}
+use Rattle.fx_order.proofs.Placed.{has_either, placed-append}
+use Rattle.fx_check.specs.Told.{InstallsAt}
 
 module _ (s : ℕ) (f : Closed) where
   abbrev Places : List Access → Type 0

@@ -1,3 +1,4 @@
+pub mod Words
 pub mod OneText
 pub mod Plays
 pub mod Listed

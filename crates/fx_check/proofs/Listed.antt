@@ -1,24 +1,13 @@
 -- The places of a chain's accesses.
-use Rattle.std.proofs.Common.{◌≡◌, ◌≢◌, ℕ, suc, ◌+◌, ◌<◌, ◌==◌, ◌||◌, nat_lt, Bool, true, false, if◌then◌else◌, ℤ, negsuc, int_le, List, [], ◌∷◌, ◌++◌, All, length}
-use Rattle.std.proofs.Common.{Some, None, refl, sym, ap, subst, ◌∙◌, arith, append-nil, append_assoc, length-append, slice_index_or, take}
-use Rattle.std.specs.Bool.{MatchBool}
-use Rattle.std.specs.List.{list_any}
-use Rattle.std.proofs.lemmas.List.{length-replicate, length-take-le, take_more}
-use Rattle.std.proofs.lemmas.List.Elements.{All-append, All-replicate}
-use Rattle.fx_base.specs.Catalogue.{FileEntry}
-use Rattle.fx_base.specs.declared.errno.Errno.{Errno}
-use Rattle.fx_base.specs.declared.errno.Errno.TheVariants.{EBADF, EINVAL, ENXIO}
-use Rattle.fx_chain.specs.Answers.{is_bad_entry}
-use Rattle.fx_chain.specs.Completed.{Completed, next_member}
-use Rattle.fx_chain.specs.Explains.{canceled, severs}
-use Rattle.fx_chain.specs.Operation.{Asked, Operation, Updates}
-use Rattle.fx_chain.specs.declared.completion.Place.{Place}
-use Rattle.fx_order.specs.Requests.{IsChainDone, IsRefused, IsRequestDone, IsUpdateDone}
-use Rattle.fx_order.specs.declared.access.Access.{Access}
+use Rattle.fx_check.proofs.Words.{◌≡◌, ◌≢◌, ℕ, suc, ◌+◌, ◌<◌, ◌==◌, ◌||◌, nat_lt, Bool, true, false, if◌then◌else◌, ℤ, negsuc, int_le, List, [], ◌∷◌}
+use Rattle.fx_check.proofs.Words.{◌++◌, All, length, Some, None, refl, sym, ap, subst, ◌∙◌, arith, append-nil, append_assoc, length-append}
+use Rattle.fx_check.proofs.Words.{slice_index_or, take, MatchBool, list_any, length-take-le, take_more, All-append, FileEntry, Errno, EBADF, EINVAL}
+use Rattle.fx_check.proofs.Words.{ENXIO, is_bad_entry, Completed, next_member, canceled, severs, Asked, Operation, Updates, Place, IsChainDone}
+use Rattle.fx_check.proofs.Words.{IsRefused, IsRequestDone, IsUpdateDone, Access, by_equality, IsChainListed, entry_places, place_at, AccessPlace}
+use Rattle.std.proofs.lemmas.List.{length-replicate}
+use Rattle.std.proofs.lemmas.List.Elements.{All-replicate}
 use Rattle.fx_order.proofs.EntriesMade.{done_ones, entries_made}
-use Rattle.fx_plain.proofs.Cells.{by_equality}
-use Rattle.fx_check.specs.Places.{IsChainListed, entry_places, own_places, place_at}
-use Rattle.fx_order.specs.declared.listed_order.AccessPlace.{AccessPlace}
+use Rattle.fx_check.specs.Places.{own_places}
 
 either_way : (b : Bool) (P Q R : Type 0) → (P → R) → (Q → R) → MatchBool b P Q → R
 either_way true P Q R yes_so not_so given = yes_so given

@@ -1,25 +1,12 @@
 -- The places of all chains, a list for each.
-use Rattle.std.proofs.Common.{◌≡◌, ◌-◌, map, take, drop, slice_index_or, ℕ, zero, suc, ◌+◌, ◌≤◌, List, [], ◌∷◌, ◌++◌, length, Some, refl, sym, ap, subst, ◌∙◌, arith, append_assoc, slice_get}
-use Rattle.std.proofs.lemmas.Option.{get_or_from_slice_get, slice_get_within}
-use Rattle.std.proofs.lemmas.List.{drop-map, length-map, take-append-drop, take-map}
-use Rattle.std.specs.Global.{Vec}
-use Rattle.fx_base.specs.Catalogue.{FileEntry}
-use Rattle.fx_chain.specs.Accepted.{members_of}
-use Rattle.fx_chain.specs.Completed.{Completed, all_completed, completed_of}
-use Rattle.fx_chain.specs.Explains.{first_member}
-use Rattle.fx_chain.specs.Operation.{Asked, all_asked, asked_of}
-use Rattle.fx_chain.specs.declared.chain.Chain.{Chain}
-use Rattle.fx_chain.specs.declared.completion.Completion.{Completion}
-use Rattle.fx_chain.specs.declared.request.Request.{Request}
+use Rattle.fx_check.proofs.Words.{◌≡◌, ◌-◌, map, take, drop, slice_index_or, ℕ, zero, suc, ◌+◌, ◌≤◌, List, [], ◌∷◌, ◌++◌, length, Some, refl, sym, ap}
+use Rattle.fx_check.proofs.Words.{subst, ◌∙◌, arith, append_assoc, slice_get, get_or_from_slice_get, slice_get_within, drop-map, length-map}
+use Rattle.fx_check.proofs.Words.{take-append-drop, Vec, FileEntry, members_of, Completed, all_completed, completed_of, first_member, Asked}
+use Rattle.fx_check.proofs.Words.{all_asked, asked_of, Chain, Completion, Request, first_and_rest, accesses_of_chain, AreChainsDone, IsChainDone}
+use Rattle.fx_check.proofs.Words.{Access, ChainAccess, AreListsOf, IsListFor, ArePlaces, IsChainListed, places_of_chain, AccessPlace}
+use Rattle.std.proofs.lemmas.List.{take-map}
 use Rattle.fx_order.proofs.ChainFront.{front_is, length-done}
-use Rattle.fx_order.proofs.FirstAndRest.{first_and_rest}
-use Rattle.fx_order.specs.Access.{accesses_of_chain}
-use Rattle.fx_order.specs.Requests.{AreChainsDone, IsChainDone}
-use Rattle.fx_order.specs.declared.access.Access.{Access}
-use Rattle.fx_order.specs.declared.access.ChainAccess.{ChainAccess}
-use Rattle.fx_check.specs.PlaceLists.{AreListsOf, IsListFor}
-use Rattle.fx_check.specs.Places.{AreChainsListed, ArePlaces, IsChainListed, places_of_chain}
-use Rattle.fx_order.specs.declared.listed_order.AccessPlace.{AccessPlace}
+use Rattle.fx_check.specs.Places.{AreChainsListed}
 use Rattle.fx_check.proofs.Listed.{IsPut, chain_count, chain_same}
 
 module _ (catalogue : List FileEntry) (size submission : ℕ) (order : List ChainAccess) where

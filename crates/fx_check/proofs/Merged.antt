@@ -1,18 +1,12 @@
 -- Places, as an order has their accesses.
-use Rattle.std.proofs.Common.{◌≡◌, ◌≢◌, ◌-◌, ℕ, Some, slice_get, slice_set, ◌+◌, ◌<◌, ◌≤◌, ◌==◌, List, [], ◌∷◌, ◌++◌, All, length, take, drop, map, if◌then◌else◌}
-use Rattle.std.proofs.Common.{refl, sym, ap, subst, ◌∙◌, arith, append-nil, length-append, slice_index_or}
-use Rattle.std.proofs.lemmas.List.{get_or-set_other, get_or-set_same, map-append, take-append-drop, take_all, take_more}
-use Rattle.std.proofs.lemmas.Option.{get_or_from_slice_get, slice_get-get_or, slice_get_read, slice_get_within}
-use Rattle.std.proofs.Math.Seq.{take-length}
-use Rattle.std.specs.Global.{Vec}
-use Rattle.std.proofs.lemmas.List.Elements.{All-get_or, filter-append}
-use Rattle.fx_order.specs.Access.{accesses_of_chain}
-use Rattle.fx_order.specs.declared.access.ChainAccess.{ChainAccess}
+use Rattle.fx_check.proofs.Words.{◌≡◌, ◌≢◌, ◌-◌, ℕ, Some, slice_get, slice_set, ◌+◌, ◌<◌, ◌≤◌, ◌==◌, List, [], ◌∷◌, ◌++◌, All, length, take, drop}
+use Rattle.fx_check.proofs.Words.{map, if◌then◌else◌, refl, sym, ap, subst, ◌∙◌, arith, append-nil, length-append, slice_index_or, map-append}
+use Rattle.fx_check.proofs.Words.{take-append-drop, take_all, take_more, get_or_from_slice_get, slice_get-get_or, slice_get_within, take-length, Vec}
+use Rattle.fx_check.proofs.Words.{All-get_or, accesses_of_chain, ChainAccess, by_equality, IsListFor, places_of_chain, AccessPlace}
+use Rattle.std.proofs.lemmas.List.{get_or-set_other, get_or-set_same}
+use Rattle.std.proofs.lemmas.Option.{slice_get_read}
+use Rattle.std.proofs.lemmas.List.Elements.{filter-append}
 use Rattle.fx_order.proofs.Accesses.{accesses_of_chain-append}
-use Rattle.fx_plain.proofs.Cells.{by_equality}
-use Rattle.fx_check.specs.PlaceLists.{IsListFor}
-use Rattle.fx_check.specs.Places.{places_of_chain}
-use Rattle.fx_order.specs.declared.listed_order.AccessPlace.{AccessPlace}
 
 -- how many accesses a chain has in an order
 abbrev pub count_of : ℕ → List ChainAccess → ℕ

@@ -1,25 +1,15 @@
 -- The commands that find one answer, whatever memory there is: a range that is set or refused, and a submission that is refused.
-use Rattle.std.proofs.Common.{◌≡◌, ◌↔◌, ◌≤◌, Bool, true, nat_le, List, ℕ, pos, codes, refl, sym, ap, subst, ◌∙◌, Option, Some, None, Result, Ok, Err, IfSome, IfNone}
-use Rattle.std.specs.Bool.{MatchBool}
+use Rattle.fx_check.proofs.Words.{◌≡◌, ◌↔◌, ◌≤◌, Bool, true, nat_le, List, ℕ, pos, codes, refl, sym, ap, subst, ◌∙◌, Option, Some, None, Result, Ok}
+use Rattle.fx_check.proofs.Words.{Err, IfSome, MatchBool, FileEntry, Errno, fault_of, Asked, RingContents, RingState, ring_of, MOST_SUBMISSIONS}
+use Rattle.fx_check.proofs.Words.{Prints, SetsRange, SubmitsAll, RingSlots, IsMet, IsStep, Met, ring_with_slots, result_line}
+use Rattle.std.proofs.Common.{IfNone}
 use Rattle.std.specs.Option.{MatchOption}
 use Rattle.std.proofs.lemmas.Bool.{le-leb}
-use Rattle.fx_base.specs.Catalogue.{FileEntry}
-use Rattle.fx_base.specs.declared.errno.Errno.{Errno}
-use Rattle.fx_chain.specs.Faults.{fault_of}
-use Rattle.fx_chain.specs.Operation.{Asked}
 use Rattle.fx_chain.specs.declared.fault.CutFault.{CutFault}
 use Rattle.fx_ring.specs.Registration.{range_refusal}
-use Rattle.fx_ring.specs.Ring.{RingContents, RingState, ring_of}
-use Rattle.fx_ring.specs.declared.ring.TheConstants.{MOST_SUBMISSIONS}
-use Rattle.fx_script.specs.Play.{IsRefused, Prints, PrintsReport}
-use Rattle.fx_language.specs.Instruction.{SetsRange, SubmitsAll}
-use Rattle.fx_order.specs.declared.ring_slots.RingSlots.{RingSlots}
-use Rattle.fx_check.specs.Met.{IsMet}
-use Rattle.fx_check.specs.Step.{IsStep}
-use Rattle.fx_check.specs.declared.met.Met.{Met}
+use Rattle.fx_script.specs.Play.{IsRefused, PrintsReport}
 use Rattle.fx_check.proofs.OneText.{exactly, goes}
-use Rattle.fx_order.specs.Slots.{ring_with_slots}
-use Rattle.fx_print.specs.Text.{refused_line, result_line, too_many_line}
+use Rattle.fx_print.specs.Text.{refused_line, too_many_line}
 
 -- what a submission prints that has this fault, where this says whether the ring counts no more of them
 abbrev pub Submitted : RingContents → RingState → List Asked → Option CutFault → Bool → RingContents → List ℕ → Type 0

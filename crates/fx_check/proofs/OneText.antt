@@ -1,18 +1,8 @@
 -- A command that prints one line alone, of those that a text begins with: the text leads where that line leads.
-use Rattle.std.proofs.Common.{◌≡◌, ◌↔◌, ◌-◌, ℕ, List, ◌++◌, drop, length, length-append, take, sym, ap, ◌∙◌, arith}
-use Rattle.std.proofs.Math.Seq.{drop-append_seam, take-append_seam}
-use Rattle.std.proofs.lemmas.List.{length-take-le, take-append-drop}
-use Rattle.fx_base.specs.Catalogue.{FileEntry}
-use Rattle.fx_ring.specs.Ring.{RingContents, RingState, ring_of}
-use Rattle.fx_language.specs.Instruction.{Instruction}
-use Rattle.fx_script.specs.Play.{Prints}
-use Rattle.fx_order.specs.declared.ring_slots.RingSlots.{RingSlots}
-use Rattle.fx_check.specs.Met.{BeginsWith, IsMet}
-use Rattle.fx_check.specs.Step.{GoesOn, IsStep}
-use Rattle.fx_check.specs.declared.met.Met.{Met}
-use Rattle.fx_check.specs.declared.met.Met.TheVariants.{Here, Apart}
+use Rattle.fx_check.proofs.Words.{◌≡◌, ◌↔◌, ◌-◌, ℕ, List, ◌++◌, drop, length, length-append, take, sym, ap, ◌∙◌, arith, drop-append_seam}
+use Rattle.fx_check.proofs.Words.{take-append_seam, length-take-le, take-append-drop, FileEntry, RingContents, RingState, ring_of, Instruction}
+use Rattle.fx_check.proofs.Words.{Prints, RingSlots, BeginsWith, IsMet, GoesOn, IsStep, Met, Here, Apart, ring_with_slots}
 use Rattle.fx_calls.proofs.Shown.{shown}
-use Rattle.fx_order.specs.Slots.{ring_with_slots}
 
 pub rest_behind : (text line others : List ℕ) (count : ℕ) → BeginsWith text count line → text ≡ line ++ others → others ≡ drop count text
 rest_behind text line others count found split =

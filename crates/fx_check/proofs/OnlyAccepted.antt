@@ -1,37 +1,19 @@
 -- An accepted submission: a text goes on with its lines in one way alone.
-use Rattle.std.proofs.Common.{◌≡◌, ℕ, ◌<◌, ◌≤◌, false, List, ◌++◌, length, sym, ap, subst, ◌∙◌, Some, None, Result, Ok, Err}
-use Rattle.std.proofs.lemmas.Bool.{lt-leb}
-use Rattle.fx_base.specs.Catalogue.{FileEntry}
-use Rattle.fx_chain.specs.Accepted.{IsAccepted}
-use Rattle.fx_chain.specs.Completed.{all_completed}
-use Rattle.fx_chain.specs.Operation.{Asked}
-use Rattle.fx_chain.specs.Runs.{runs_of}
-use Rattle.fx_ring.specs.Ring.{RingContents, RingState, ring_of}
-use Rattle.fx_ring.specs.Submission.{Reported}
-use Rattle.fx_ring.specs.declared.ring.TheConstants.{MOST_SUBMISSIONS}
-use Rattle.fx_order.specs.Order.{IsOneOrder}
+use Rattle.fx_check.proofs.Words.{◌≡◌, ℕ, ◌<◌, ◌≤◌, false, List, ◌++◌, length, sym, ap, subst, ◌∙◌, Some, None, Result, Ok, Err, lt-leb, FileEntry}
+use Rattle.fx_check.proofs.Words.{IsAccepted, all_completed, Asked, runs_of, RingContents, RingState, ring_of, Reported, MOST_SUBMISSIONS, IsOneOrder}
+use Rattle.fx_check.proofs.Words.{SubmitsAll, report_text, Lines, ReadsReport, lines_of, lines_text, lines_in, ReportLines, told_report, RingSlots}
+use Rattle.fx_check.proofs.Words.{Told, IsKept, BeginsWith, GoesOn, LeadsNowhere, LeadsTo, AreApart, HasLines, TellsKnown, Fault, ring_with_slots}
 use Rattle.fx_order.proofs.OneRing.{each_report_leads_to_one_ring}
 use Rattle.fx_order.proofs.Ordered.{each_history_is_an_order}
-use Rattle.fx_language.specs.Instruction.{SubmitsAll}
-use Rattle.fx_script.specs.Text.{report_text}
-use Rattle.fx_lines.specs.Lines.{IsReportBefore, Lines, ReadsReport, lines_of, lines_text}
-use Rattle.fx_lines.specs.LinesView.{lines_in}
-use Rattle.fx_lines.specs.declared.report.ReportLines.{ReportLines}
+use Rattle.fx_lines.specs.Lines.{IsReportBefore}
 use Rattle.fx_lines.proofs.CompletionCounts.{each_request}
-use Rattle.fx_judge.specs.Verdict.{IsRefuted, told_report}
-use Rattle.fx_order.specs.declared.ring_slots.RingSlots.{RingSlots}
-use Rattle.fx_judge.specs.declared.told.Told.{Told}
-use Rattle.fx_check.specs.Kept.{IsKept}
-use Rattle.fx_check.specs.Met.{BeginsWith}
-use Rattle.fx_check.specs.Step.{GoesOn, LeadsNowhere, LeadsTo}
-use Rattle.fx_check.specs.Told.{AreApart, HasLines, Tells, TellsKnown}
-use Rattle.fx_check.specs.declared.judgement.Fault.{Fault}
+use Rattle.fx_judge.specs.Verdict.{IsRefuted}
+use Rattle.fx_check.specs.Told.{Tells}
 use Rattle.fx_check.proofs.OrderFiles.{are_from, may_close_all}
 use Rattle.fx_check.proofs.OneAnswer.{submitted}
 use Rattle.fx_check.proofs.OneText.{rest_behind}
 use Rattle.fx_check.proofs.ReportInRange.{report_in_range}
 use Rattle.fx_check.proofs.Submissions.{printed_lines}
-use Rattle.fx_order.specs.Slots.{ring_with_slots}
 
 module _ (catalogue : List FileEntry) (old : RingSlots) (kept : IsKept catalogue old) where
   -- the files at slots are told apart

@@ -1,32 +1,23 @@
 -- The files that an order closes, and those that it leaves.
-use Rattle.std.proofs.Common.{◌≡◌, ◌^◌, ◌⊎◌, inl, inr, ⊎_elim, ℕ, ◌<◌, ◌≤◌, List, length, All, Contains, sym, ap, subst, ◌∙◌, arith}
-use Rattle.std.proofs.lemmas.List.Elements.{All-map, All-weaker}
+use Rattle.fx_check.proofs.Words.{◌≡◌, ◌^◌, inl, inr, ⊎_elim, ℕ, ◌<◌, ◌≤◌, List, length, All, Contains, sym, ap, subst, ◌∙◌, arith, All-map}
+use Rattle.fx_check.proofs.Words.{FileEntry, Submitted, Closed, AreInRange, IsInRange, IsAccepted, IsChain, members_of, Asked, runs_of, Chain}
+use Rattle.fx_check.proofs.Words.{each_all, RingState, IsRing, Reported, accesses_of, Access, Slots, IsOneOrder, table_of, table_of_slots, Has}
+use Rattle.fx_check.proofs.Words.{placed, AreFrom, IsAtSlot, MayClose, OneInstalled}
+use Rattle.std.proofs.Common.{◌⊎◌}
+use Rattle.std.proofs.lemmas.List.Elements.{All-weaker}
 use Rattle.std.proofs.lemmas.List.Sorted.{Contains-permutation, IsPermutation-sym}
-use Rattle.fx_base.specs.Catalogue.{FileEntry}
-use Rattle.fx_base.specs.declared.mark.Mark.TheVariants.{Submitted}
-use Rattle.fx_base.specs.declared.open_file.Closed.{Closed}
-use Rattle.fx_calls.specs.InRange.{AreInRange, IsInRange}
-use Rattle.fx_chain.specs.Accepted.{IsAccepted, IsChain, members_of}
-use Rattle.fx_chain.specs.Operation.{Asked}
-use Rattle.fx_chain.specs.Runs.{runs_of}
-use Rattle.fx_chain.specs.declared.chain.Chain.{Chain}
 use Rattle.fx_chain.specs.Chains.{chains_of}
 use Rattle.fx_chain.proofs.Chains.{accepted-chains, members-are-runs}
 use Rattle.fx_chain.proofs.Runs.{are_runs}
-use Rattle.fx_table.proofs.Members.{each_all}
-use Rattle.fx_ring.specs.Ring.{HasCounted, RingState, IsRing}
-use Rattle.fx_ring.specs.Submission.{Reported}
-use Rattle.fx_order.specs.Access.{accesses_of, removed_in}
-use Rattle.fx_order.specs.declared.access.Access.{Access}
-use Rattle.fx_order.specs.declared.slots.Slots.{Slots}
+use Rattle.fx_ring.specs.Ring.{HasCounted}
+use Rattle.fx_order.specs.Access.{removed_in}
 use Rattle.fx_order.specs.Laws.{AreKnown, IsOfNext, IsThere}
-use Rattle.fx_order.specs.Order.{IsOneOrder, table_of}
-use Rattle.fx_order.specs.Slots.{ring_of_slots, table_of_slots}
+use Rattle.fx_order.specs.Slots.{ring_of_slots}
 use Rattle.fx_order.proofs.OneRing.{each_closed_file_is_known}
-use Rattle.fx_order.proofs.Placed.{Has, left_from, placed, removed_from, removes_contained}
+use Rattle.fx_order.proofs.Placed.{left_from, removed_from, removes_contained}
 use Rattle.fx_order.proofs.PlacedNew.{AnyPlace, InLimits, ReachesAll, chain_places, has_in_chain, reaches_all_limits}
 use Rattle.fx_check.proofs.Installations.{chains_installed}
-use Rattle.fx_check.specs.Told.{AreFrom, HasNone, IsAtSlot, MayClose, MayCloseAll, OneInstalled}
+use Rattle.fx_check.specs.Told.{HasNone, MayCloseAll}
 use Rattle.fx_lines.specs.Lines.{IsMarkInRange}
 
 -- the runs of an accepted submission are short

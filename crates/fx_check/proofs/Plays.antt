@@ -1,23 +1,18 @@
 -- The plays of a script go along with the text, command by command.
-use Rattle.std.proofs.Common.{◌≡◌, ℕ, zero, suc, ◌+◌, ◌<◌, ◌≤◌, List, [], ◌∷◌, ◌++◌, length, take, drop, refl, sym, ap, subst, ◌∙◌, arith, slice_index_or, Option}
+use Rattle.fx_check.proofs.Words.{◌≡◌, ℕ, zero, suc, ◌+◌, ◌<◌, ◌≤◌, List, [], ◌∷◌, ◌++◌, length, take, drop, refl, sym, ap, subst, ◌∙◌, arith}
+use Rattle.fx_check.proofs.Words.{slice_index_or, Option, append-nil, append_assoc, length-drop, option_to_list, drop-map, take-append-drop, take_all}
+use Rattle.fx_check.proofs.Words.{RingContents, RingState, new_ring, ring_of, Instruction, instruction_of, instructions_of, Prints, PrintsEnd}
+use Rattle.fx_check.proofs.Words.{RingSlots, MayPrintBy, GoesOn, LeadsNowhere, LeadsTo, Fault, Order}
 use Rattle.fx_calls.proofs.NextCommand.{next_command}
-use Rattle.std.proofs.Common.{append-nil, append_assoc, length-drop}
-use Rattle.std.specs.Option.{option_to_list}
-use Rattle.std.proofs.lemmas.List.{drop-drop, drop-map, take-append-drop, take_all}
-use Rattle.fx_ring.specs.Ring.{RingContents, RingState, new_ring, ring_of}
+use Rattle.std.proofs.lemmas.List.{drop-drop}
 use Rattle.fx_order.proofs.Shown.{ring_with_files, shows_ring}
-use Rattle.fx_language.specs.Instruction.{Instruction, instruction_of, instructions_of}
 use Rattle.fx_language.specs.Script.{Meaning}
 use Rattle.fx_language.specs.declared.command.Command.{Command}
-use Rattle.fx_script.specs.Play.{IsText, Prints, PrintsAll, PrintsEnd}
+use Rattle.fx_script.specs.Play.{IsText, PrintsAll}
 use Rattle.fx_lines.specs.Lines.{HasNoCloses}
 use Rattle.fx_lines.proofs.PlaysBegin.{command_begins, plays_begin}
-use Rattle.fx_order.specs.declared.ring_slots.RingSlots.{RingSlots}
 use Rattle.fx_check.specs.Judged.{IsBroken, MayPrintFront, PrintsBeginning}
-use Rattle.fx_check.specs.Ordered.{IsTextBy, MayPrintAllBy, MayPrintBy, PrintsAllBy}
-use Rattle.fx_check.specs.Step.{GoesOn, LeadsNowhere, LeadsTo}
-use Rattle.fx_check.specs.declared.judgement.Fault.{Fault}
-use Rattle.fx_order.specs.declared.listed_order.Order.{Order}
+use Rattle.fx_check.specs.Ordered.{IsTextBy, MayPrintAllBy, PrintsAllBy}
 
 pub next_instruction : (commands : List Command) (all : List Instruction) (done : ℕ) (command : Command) → instructions_of commands ≡ all
     → done < length commands → command ≡ slice_index_or commands done command → drop done all ≡ instruction_of command ∷ drop (done + 1) all

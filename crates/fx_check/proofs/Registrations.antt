@@ -1,19 +1,10 @@
 -- The rings that the calls between submissions leave, as they are kept.
-use Rattle.std.proofs.Common.{◌≡◌, ◌≤◌, ◌<◌, ◌+◌, ℕ, ℤ, List, [], length, refl, sym, ap, subst, ◌∙◌, arith, Option, Some, None, slice_index_or}
-use Rattle.std.specs.Global.{Vec}
-use Rattle.fx_base.specs.Catalogue.{FileEntry}
-use Rattle.fx_base.specs.declared.open_file.Closed.{Closed}
-use Rattle.fx_calls.specs.InRange.{AreInRange}
-use Rattle.fx_plain.specs.declared.table.TheConstants.{MOST_SLOTS}
-use Rattle.fx_order.specs.Access.{Table}
-use Rattle.fx_order.specs.Slots.{ring_with_slots, table_of_slots}
-use Rattle.fx_order.specs.declared.slots.Slots.{Slots}
-use Rattle.fx_ring.specs.Registration.{files_after, registered, registered_sparse, updated}
-use Rattle.fx_ring.specs.Ring.{IsRing, RingState}
+use Rattle.fx_check.proofs.Words.{◌≡◌, ◌≤◌, ◌<◌, ◌+◌, ℕ, ℤ, List, [], length, refl, sym, ap, subst, ◌∙◌, arith, Option, Some, None, slice_index_or}
+use Rattle.fx_check.proofs.Words.{Vec, FileEntry, Closed, AreInRange, MOST_SLOTS, Table, ring_with_slots, table_of_slots, Slots, files_after}
+use Rattle.fx_check.proofs.Words.{registered, registered_sparse, updated, IsRing, RingState, RingSlots, IsKept}
 use Rattle.fx_ring.specs.declared.ring.TheConstants.{MOST_REGISTRATIONS}
 use Rattle.fx_ring.proofs.Rings.{none_rings}
-use Rattle.fx_order.specs.declared.ring_slots.RingSlots.{RingSlots}
-use Rattle.fx_check.specs.Kept.{IsKept, IsOfScript}
+use Rattle.fx_check.specs.Kept.{IsOfScript}
 
 abbrev pub empty_table : ℕ → Table
 empty_table n = record { size = n; range = (0, n); at = λ _. None }

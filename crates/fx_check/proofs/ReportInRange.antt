@@ -1,30 +1,15 @@
 -- The lines of an accepted submission's report have numbers that their types have, and names without a line end.
-use Rattle.std.proofs.Common.{◌≡◌, ℕ, zero, suc, ◌<◌, ◌≤◌, ◌^◌, ◌==◌, Bool, true, false, not, cond, List, [], ◌∷◌, filter, length, map, All, Contains, IsTrue, refl, sym, ap, subst, arith, Some, slice_get, unwrap_or, option_map}
-use Rattle.std.proofs.lemmas.List.Elements.{All-cons, All-head, All-map, All-nil, All-tail}
-use Rattle.fx_base.specs.Catalogue.{FileEntry}
+use Rattle.fx_check.proofs.Words.{◌≡◌, ℕ, zero, suc, ◌<◌, ◌≤◌, ◌^◌, ◌==◌, Bool, true, false, not, cond, List, [], ◌∷◌, filter, length, map, All}
+use Rattle.fx_check.proofs.Words.{Contains, refl, sym, ap, subst, arith, Some, slice_get, option_map, All-cons, All-head, All-map, All-nil, All-tail}
+use Rattle.fx_check.proofs.Words.{FileEntry, tag_completion, tags_of, Closed, TagCompletion, IsInRange, IsAccepted, Asked, runs_of, each_all}
+use Rattle.fx_check.proofs.Words.{RingState, Reported, accesses_of, IsOneOrder, table_of, AreFiles, lines_of, named_close, RingSlots, IsKept}
+use Rattle.fx_check.proofs.Words.{MayClose, ring_with_slots, name_of}
+use Rattle.std.proofs.Common.{IsTrue, unwrap_or}
 use Rattle.fx_base.specs.Name.{is_name}
-use Rattle.fx_base.specs.Tags.{tag_completion, tags_of}
-use Rattle.fx_base.specs.declared.open_file.Closed.{Closed}
-use Rattle.fx_base.specs.declared.tag_completion.TagCompletion.{TagCompletion}
-use Rattle.fx_calls.specs.InRange.{IsInRange}
-use Rattle.fx_chain.specs.Accepted.{IsAccepted}
-use Rattle.fx_chain.specs.Operation.{Asked}
-use Rattle.fx_chain.specs.Runs.{runs_of}
-use Rattle.fx_table.proofs.Members.{each_all}
-use Rattle.fx_ring.specs.Ring.{RingState}
-use Rattle.fx_ring.specs.Submission.{Reported}
-use Rattle.fx_order.specs.Access.{accesses_of}
-use Rattle.fx_order.specs.Order.{IsOneOrder, table_of}
-use Rattle.fx_language.specs.Script.{AreFiles}
-use Rattle.fx_lines.specs.Lines.{AreLinesInRange, IsCloseInRange, is_without, lines_of, named_close}
+use Rattle.fx_lines.specs.Lines.{AreLinesInRange, IsCloseInRange, is_without}
 use Rattle.fx_lines.proofs.Names.{name_without_end}
-use Rattle.fx_order.specs.declared.ring_slots.RingSlots.{RingSlots}
-use Rattle.fx_check.specs.Kept.{IsKept}
-use Rattle.fx_check.specs.Told.{MayClose}
 use Rattle.fx_check.proofs.InRange.{all_got, chains_so, permitted_inside}
 use Rattle.fx_check.proofs.OrderFiles.{closed_in_range, may_close_all, short_runs}
-use Rattle.fx_order.specs.Slots.{ring_with_slots}
-use Rattle.fx_print.specs.Text.{name_of}
 
 entry_at : (catalogue : List FileEntry) (i : ℕ) → i < length catalogue → (file : FileEntry) × (slice_get catalogue i ≡ Some file)
 entry_at [] i inside = absurd (omega arith)

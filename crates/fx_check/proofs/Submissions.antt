@@ -1,45 +1,18 @@
 -- An accepted submission whose lines a text goes on with.
-use Rattle.std.proofs.Common.{◌≡◌, ℕ, ◌+◌, ◌<◌, ◌≤◌, false, List, ◌++◌, length, map, filter, not, ◌==◌, take, sym, ap, subst, ◌∙◌, arith, Some, None, refl}
-use Rattle.std.specs.List.{flat_map}
-use Rattle.std.proofs.lemmas.Bool.{lt-leb}
+use Rattle.fx_check.proofs.Words.{◌≡◌, ℕ, ◌+◌, ◌<◌, ◌≤◌, false, List, ◌++◌, length, map, filter, not, ◌==◌, take, sym, ap, subst, ◌∙◌, arith, Some}
+use Rattle.fx_check.proofs.Words.{None, refl, flat_map, lt-leb, FileEntry, tags_of, all_completed, fault_of, Asked, runs_of, IsOneOrder, ChainAccess}
+use Rattle.fx_check.proofs.Words.{MOST_SLOTS, RingState, IsRing, ring_of, Reported, MOST_SUBMISSIONS, SubmitsAll, report_text, tag_completion, Closed}
+use Rattle.fx_check.proofs.Words.{TagCompletion, close_of, lines_in, ReportLines, Lines, lines_of, lines_text, named_closes, CameBy, told_report}
+use Rattle.fx_check.proofs.Words.{RingSlots, Told, IsKept, BeginsWith, MayPrintBy, ArePlaces, AreChainsDone, Order, ring_with_slots, name_of}
 use Rattle.std.proofs.lemmas.List.Folds.{flat_map-map}
-use Rattle.fx_base.specs.Catalogue.{FileEntry}
-use Rattle.fx_base.specs.Tags.{tags_of}
-use Rattle.fx_chain.specs.Completed.{all_completed}
-use Rattle.fx_chain.specs.Faults.{fault_of}
-use Rattle.fx_chain.specs.Operation.{Asked}
-use Rattle.fx_chain.specs.Runs.{runs_of}
 use Rattle.fx_table.specs.declared.limits.TheConstants.{MAX_CHAINS}
-use Rattle.fx_order.specs.Order.{IsOneOrder, IsOrderOf, ring_left}
-use Rattle.fx_order.specs.declared.access.ChainAccess.{ChainAccess}
+use Rattle.fx_order.specs.Order.{IsOrderOf, ring_left}
 use Rattle.fx_order.proofs.Histories.{each_order_is_a_history}
-use Rattle.fx_plain.specs.declared.table.TheConstants.{MOST_SLOTS}
-use Rattle.fx_ring.specs.Ring.{RingState, IsRing, ring_of}
-use Rattle.fx_ring.specs.Submission.{Reported}
-use Rattle.fx_ring.specs.declared.ring.TheConstants.{MOST_SUBMISSIONS}
-use Rattle.fx_language.specs.Instruction.{SubmitsAll}
-use Rattle.fx_script.specs.Text.{report_text}
 use Rattle.std.proofs.lemmas.Simd.{map-map}
-use Rattle.fx_base.specs.Tags.{tag_completion}
-use Rattle.fx_base.specs.declared.open_file.Closed.{Closed}
-use Rattle.fx_base.specs.declared.tag_completion.TagCompletion.{TagCompletion}
-use Rattle.fx_lines.specs.ClosedView.{close_of}
-use Rattle.fx_lines.specs.LinesView.{lines_in}
-use Rattle.fx_lines.specs.declared.report.ReportLines.{ReportLines}
-use Rattle.fx_lines.specs.Lines.{Lines, line_of_tag, lines_of, lines_text, named_closes, named_line}
-use Rattle.fx_judge.specs.Verdict.{CameBy, told_report}
-use Rattle.fx_order.specs.declared.ring_slots.RingSlots.{RingSlots}
-use Rattle.fx_judge.specs.declared.told.Told.{Told}
-use Rattle.fx_check.specs.Kept.{IsKept}
-use Rattle.fx_check.specs.Met.{BeginsWith}
-use Rattle.fx_check.specs.Ordered.{MayPrintBy}
-use Rattle.fx_check.specs.Places.{ArePlaces}
-use Rattle.fx_order.specs.Requests.{AreChainsDone}
-use Rattle.fx_order.specs.declared.listed_order.Order.{Order}
+use Rattle.fx_lines.specs.Lines.{line_of_tag, named_line}
 use Rattle.fx_check.proofs.OneAnswer.{submitted}
 use Rattle.fx_check.proofs.OrderFiles.{left_in_range}
-use Rattle.fx_order.specs.Slots.{ring_with_slots}
-use Rattle.fx_print.specs.Text.{closed_lines, completion_lines, name_of, tag_lines}
+use Rattle.fx_print.specs.Text.{closed_lines, completion_lines, tag_lines}
 
 -- the text of a report is that of its lines
 pub printed_lines : (catalogue : List FileEntry) (report : Reported) → report_text catalogue report ≡ lines_text (lines_of catalogue report)

@@ -1,25 +1,13 @@
 -- What lines tell is one list of files, or none.
-use Rattle.std.proofs.Common.{◌≡◌, false, ⊎_elim, ℕ, zero, suc, ◌+◌, ◌<◌, ◌≤◌, List, [], ◌∷◌, length, map, drop, refl, sym, ap, subst, ◌∙◌, arith, Some, slice_index_or}
-use Rattle.std.proofs.lemmas.List.{get_or-map, get_or_default, length-map}
-use Rattle.std.proofs.lemmas.Option.{slice_get-get_or}
-use Rattle.std.specs.Ordering.{is_lt}
-use Rattle.fx_base.specs.Catalogue.{FileEntry, name_at}
+use Rattle.fx_check.proofs.Words.{◌≡◌, false, ⊎_elim, ℕ, zero, suc, ◌+◌, ◌<◌, ◌≤◌, List, [], ◌∷◌, length, map, drop, refl, sym, ap, subst, ◌∙◌, arith}
+use Rattle.fx_check.proofs.Words.{Some, slice_index_or, length-map, slice_get-get_or, is_lt, FileEntry, name_at, Mark, Registered, Submitted, Closed}
+use Rattle.fx_check.proofs.Words.{all_completed, completed_of, all_asked, asked_of, Completion, Request, Slots, close_of, NamedClose, named_close}
+use Rattle.fx_check.proofs.Words.{named_closes, ClosedLine, AreApart, Installed, IsAtSlot, MayClose, OneInstalled, name_of}
+use Rattle.std.proofs.lemmas.List.{get_or-map, get_or_default}
 use Rattle.fx_base.specs.CloseList.{IsInOrderOfMark, mark_cmp}
 use Rattle.fx_base.specs.contracts.mark.MarkOrd.TheImpl.{ghosts}
-use Rattle.fx_base.specs.declared.mark.Mark.{Mark}
-use Rattle.fx_base.specs.declared.mark.Mark.TheVariants.{Registered, Submitted}
-use Rattle.fx_base.specs.declared.open_file.Closed.{Closed}
-use Rattle.fx_chain.specs.Completed.{all_completed, completed_of}
-use Rattle.fx_chain.specs.Operation.{all_asked, asked_of}
-use Rattle.fx_chain.specs.declared.completion.Completion.{Completion}
-use Rattle.fx_chain.specs.declared.request.Request.{Request}
-use Rattle.fx_order.specs.declared.slots.Slots.{Slots}
-use Rattle.fx_lines.specs.ClosedView.{close_of}
-use Rattle.fx_lines.specs.Lines.{NamedClose, named_close, named_closes}
-use Rattle.fx_lines.specs.declared.close.ClosedLine.{ClosedLine}
-use Rattle.fx_check.specs.Told.{AreApart, HasDistinctMarks, Installed, IsAtSlot, MayClose, OneInstalled}
+use Rattle.fx_check.specs.Told.{HasDistinctMarks}
 use Rattle.fx_calls.proofs.ClosesInOrder.{neither_below, same_cmp}
-use Rattle.fx_print.specs.Text.{name_of}
 
 -- an entry of the catalogue has its name
 name_at_entry : (catalogue : List FileEntry) (entry : ℕ) → entry < length catalogue → name_at catalogue entry ≡ Some (name_of catalogue entry)

@@ -1,37 +1,27 @@
 -- The calls between submissions, and refused submissions: where memory is found they leave one ring, and print one line.
-use Rattle.std.proofs.Common.{◌≡◌, ℕ, suc, ◌+◌, ◌≤◌, ℤ, pos, negsuc, Bool, true, false, ◌==◌, ◌||◌, nat_le, nat_lt, if◌then◌else◌, List, [], ◌++◌, codes, length, refl, sym, ap, subst, ◌∙◌, arith, inl, ⊎_elim, Option, Some, None}
-use Rattle.std.specs.Bool.{MatchBool}
-use Rattle.std.specs.List.{list_any}
-use Rattle.std.specs.Option.{MatchOption}
+use Rattle.fx_texts.proofs.Words.{◌≡◌, ℕ, suc, ◌+◌, ◌≤◌, Bool, true, false, ◌==◌, ◌||◌, nat_le, nat_lt, if◌then◌else◌, List, [], ◌++◌, codes, length}
+use Rattle.fx_texts.proofs.Words.{refl, sym, ap, subst, ◌∙◌, arith, inl, ⊎_elim, Option, Some, None, MatchBool, list_any, MatchOption, append-nil}
+use Rattle.fx_texts.proofs.Words.{All, FileEntry, Closed, Errno, ENXIO, EBADF, EAGAIN, EBUSY, EINVAL, EMFILE, fault_of, CutFault, MOST_SLOTS}
+use Rattle.fx_texts.proofs.Words.{range_refusal, register_refusal, registered, registered_sparse, sparse_refusal, is_bad_file, unregister_refusal}
+use Rattle.fx_texts.proofs.Words.{update_refusal, updated, is_bad_entry, IsRing, RingContents, RingState, files_of, ring_of, without_table}
+use Rattle.fx_texts.proofs.Words.{are_bad_tags, tags_given, Reported, MOST_REGISTRATIONS, MOST_SUBMISSIONS, Instruction, MakesSparse, RegistersList}
+use Rattle.fx_texts.proofs.Words.{SetsRange, SubmitsAll, Unregisters, UpdatesRing, Answers, IsRefused, Prints, PrintsReport, ring_with_slots}
+use Rattle.fx_texts.proofs.Words.{closes_text, refused_line, too_many_line, IsLineOf, Leads, MayLeadTo, Stage, after_call, count_after, count_behind}
+use Rattle.fx_texts.proofs.Words.{kept_text, stage, unless_refused, FoundMemory}
+use Rattle.std.proofs.Common.{ℤ, pos, negsuc}
 use Rattle.std.proofs.lemmas.Bool.{ltb-false}
-use Rattle.std.proofs.lemmas.List.{append-nil}
-use Rattle.std.specs.Prelude.{All}
-use Rattle.fx_base.specs.Catalogue.{FileEntry}
-use Rattle.fx_base.specs.declared.open_file.Closed.{Closed}
-use Rattle.fx_base.specs.declared.errno.Errno.{Errno}
-use Rattle.fx_base.specs.declared.errno.Errno.TheVariants.{ENOENT, ENXIO, EBADF, EAGAIN, ENOMEM, EBUSY, EINVAL, ENFILE, EMFILE, ECANCELED}
+use Rattle.fx_base.specs.declared.errno.Errno.TheVariants.{ENOENT, ENOMEM, ENFILE, ECANCELED}
 use Rattle.fx_chain.specs.Completed.{negated}
-use Rattle.fx_chain.specs.Faults.{fault_of}
-use Rattle.fx_chain.specs.declared.fault.CutFault.{CutFault}
-use Rattle.fx_plain.specs.declared.table.TheConstants.{MOST_SLOTS}
-use Rattle.fx_ring.specs.Registration.{range_refusal, register_refusal, registered, registered_sparse, removed_from, sparse_refusal}
-use Rattle.fx_ring.specs.Registration.{is_bad_file, unregister_refusal, update_refusal, updated}
-use Rattle.fx_chain.specs.Answers.{is_bad_entry}
-use Rattle.fx_ring.specs.Ring.{IsRing, RingContents, RingState, files_of, ring_of, without_table}
-use Rattle.fx_ring.specs.Tags.{are_bad_tags, tags_given}
-use Rattle.fx_ring.specs.Submission.{Reported}
-use Rattle.fx_ring.specs.declared.ring.TheConstants.{MOST_REGISTRATIONS, MOST_SUBMISSIONS}
+use Rattle.fx_ring.specs.Registration.{removed_from}
 use Rattle.fx_order.specs.declared.ring_slots.RingSlots.{RingSlots}
-use Rattle.fx_language.specs.Instruction.{Instruction, MakesSparse, RegistersList, SetsRange, SubmitsAll, Unregisters, UpdatesRing}
-use Rattle.fx_script.specs.Play.{Answers, IsRefused, Prints, PrintsClosed, PrintsReport}
+use Rattle.fx_script.specs.Play.{PrintsClosed}
 use Rattle.fx_lines.specs.Lines.{IsResultInRange}
 use Rattle.fx_lines.proofs.ResultLines.{one_result}
 use Rattle.fx_calls.proofs.FilesThere.{IsAtOne, all_in_order, all_removed, closes_printed}
 use Rattle.fx_calls.proofs.Shown.{shown}
-use Rattle.fx_order.specs.Slots.{ring_with_slots}
-use Rattle.fx_print.specs.Text.{closes_text, refused_line, result_line, too_many_line}
-use Rattle.fx_texts.specs.Rings.{AnswersFound, IsCall, IsLineOf, Leads, MayLeadTo, Stage, after_call, count_after, count_behind, kept_text, stage, unless_refused}
-use Rattle.fx_texts.specs.Texts.{FoundMemory, HasFound}
+use Rattle.fx_print.specs.Text.{result_line}
+use Rattle.fx_texts.specs.Rings.{AnswersFound, IsCall}
+use Rattle.fx_texts.specs.Texts.{HasFound}
 
 -- what a call leaves that found memory
 

@@ -1,23 +1,12 @@
 -- How many submissions a ring has counted behind commands.
-use Rattle.std.proofs.Common.{◌≡◌, ℕ, ◌+◌, ◌≤◌, Bool, true, false, nat_le, if◌then◌else◌, List, [], ◌∷◌, refl, sym, ap, ◌∙◌, arith, Option, Some, None}
-use Rattle.std.specs.Bool.{MatchBool}
-use Rattle.std.specs.Option.{MatchOption}
+use Rattle.fx_texts.proofs.Words.{◌≡◌, ℕ, ◌+◌, ◌≤◌, Bool, true, false, nat_le, if◌then◌else◌, List, [], ◌∷◌, refl, sym, ap, ◌∙◌, arith, Option, Some}
+use Rattle.fx_texts.proofs.Words.{None, MatchBool, MatchOption, Errno, fault_of, Asked, CutFault, range_refusal, register_refusal, registered}
+use Rattle.fx_texts.proofs.Words.{registered_sparse, sparse_refusal, unregister_refusal, update_refusal, updated, RingContents, RingState, ring_of}
+use Rattle.fx_texts.proofs.Words.{without_table, Reported, tags_given, MOST_SUBMISSIONS, Instruction, MakesSparse, RegistersList, SetsRange}
+use Rattle.fx_texts.proofs.Words.{SubmitsAll, Unregisters, UpdatesRing, refused_line, too_many_line, Prints, PrintsReport, LeadsAll, after_call}
+use Rattle.fx_texts.proofs.Words.{count_after, count_after_all, count_behind, unless_refused, FoundMemory, IsReportFound}
 use Rattle.std.proofs.lemmas.Bool.{le-leb}
-use Rattle.fx_base.specs.declared.errno.Errno.{Errno}
-use Rattle.fx_chain.specs.Faults.{fault_of}
-use Rattle.fx_chain.specs.Operation.{Asked}
-use Rattle.fx_chain.specs.declared.fault.CutFault.{CutFault}
-use Rattle.fx_ring.specs.Registration.{range_refusal, register_refusal, registered, registered_sparse, sparse_refusal}
-use Rattle.fx_ring.specs.Registration.{unregister_refusal, update_refusal, updated}
-use Rattle.fx_ring.specs.Ring.{RingContents, RingState, ring_of, without_table}
-use Rattle.fx_ring.specs.Submission.{IsOneHistory, Reported}
-use Rattle.fx_ring.specs.Tags.{tags_given}
-use Rattle.fx_ring.specs.declared.ring.TheConstants.{MOST_SUBMISSIONS}
-use Rattle.fx_language.specs.Instruction.{Instruction, MakesSparse, RegistersList, SetsRange, SubmitsAll, Unregisters, UpdatesRing}
-use Rattle.fx_print.specs.Text.{refused_line, too_many_line}
-use Rattle.fx_script.specs.Play.{Prints, PrintsReport}
-use Rattle.fx_texts.specs.Rings.{LeadsAll, after_call, count_after, count_after_all, count_behind, unless_refused}
-use Rattle.fx_texts.specs.Texts.{FoundMemory, IsReportFound}
+use Rattle.fx_ring.specs.Submission.{IsOneHistory}
 use Rattle.fx_texts.proofs.Calls.{call_leaves}
 
 abbrev submissions_in : RingState → ℕ

@@ -1,11 +1,9 @@
 -- Lists that others are put behind.
-use Rattle.std.proofs.Common.{◌≡◌, ℕ, zero, suc, ◌+◌, ◌<◌, ◌≤◌, List, [], ◌∷◌, ◌++◌, length, map, refl, sym, ap, subst, ◌∙◌, arith, inl, inr, ⊎_elim, slice_index_or, slice_get, Option, Some, None}
-use Rattle.std.specs.Prelude.{All, Contains, IfSome}
-use Rattle.std.specs.Option.{option_to_list}
-use Rattle.std.proofs.lemmas.List.{get_or_default, map-append}
+use Rattle.fx_texts.proofs.Words.{◌≡◌, ℕ, zero, suc, ◌+◌, ◌<◌, ◌≤◌, List, [], ◌∷◌, ◌++◌, length, map, refl, sym, ap, subst, ◌∙◌, arith, inl, inr}
+use Rattle.fx_texts.proofs.Words.{⊎_elim, slice_index_or, slice_get, Option, Some, None, All, Contains, IfSome, option_to_list, map-append, Grows}
+use Rattle.std.proofs.lemmas.List.{get_or_default}
 use Rattle.fx_order.proofs.Words.{cases_lt}
 use Rattle.std.proofs.lemmas.List.Elements.{Contains-append_left, Contains-push, Contains-push_cases}
-use Rattle.fx_texts.specs.Rings.{Grows}
 
 pub stays : {X : Type 0} (P : X → Type 0) (xs : List X) → Grows P xs xs
 stays P xs = record { kept = λ x inside. inside; from = λ x inside. inl inside }

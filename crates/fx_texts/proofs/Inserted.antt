@@ -1,11 +1,9 @@
 -- A text that is inserted into a set is there, and nothing else is new.
-use Rattle.std.proofs.Common.{Global, String, ◌≡◌, suc, Bool, true, false, ◌||◌, if◌then◌else◌, List, [], ◌∷◌, ◌++◌, map, refl, sym, subst, arith, string_bytes}
-use Rattle.std.specs.Prelude.{Contains, string_eq}
-use Rattle.std.specs.Cmp.Lexicographic.{bytes_decides}
-use Rattle.std.specs.List.{list_any}
-use Rattle.std.proofs.lemmas.Bool.{true≢false}
+use Rattle.fx_texts.proofs.Words.{◌≡◌, suc, Bool, true, false, ◌||◌, if◌then◌else◌, List, [], ◌∷◌, ◌++◌, map, refl, sym, subst, arith, string_bytes}
+use Rattle.fx_texts.proofs.Words.{Contains, bytes_decides, list_any, true≢false, Grows}
+use Rattle.std.proofs.Common.{Global, String}
+use Rattle.std.specs.Prelude.{string_eq}
 use Rattle.indexmap.specs.IndexSet.{insert_key}
-use Rattle.fx_texts.specs.Rings.{Grows}
 use Rattle.fx_texts.proofs.Growth.{has_pushed, pushed, stays}
 
 -- what a text is equal to is there

@@ -1,33 +1,16 @@
 -- A ring that commands lead to has what every ring has.
-use Rattle.std.proofs.Common.{◌≡◌, ℕ, ◌+◌, Bool, true, false, ◌==◌, ◌||◌, nat_le, nat_lt, if◌then◌else◌, List, [], ◌∷◌, codes, length, refl, sym, ap, subst, arith, ⊎_elim, Option, Some, None}
-use Rattle.std.specs.Bool.{MatchBool}
-use Rattle.std.specs.List.{list_any}
-use Rattle.std.specs.Option.{MatchOption}
-use Rattle.fx_base.specs.Catalogue.{FileEntry}
-use Rattle.fx_base.specs.declared.errno.Errno.{Errno}
-use Rattle.fx_base.specs.declared.errno.Errno.TheVariants.{ENXIO, EBADF, EAGAIN, EBUSY, EINVAL, EMFILE}
-use Rattle.fx_answers.specs.Outcomes.{IsAnswer, ring_behind}
-use Rattle.fx_answers.specs.declared.outcome.Answer.{Answer}
-use Rattle.fx_chain.specs.Answers.{is_bad_entry}
-use Rattle.fx_chain.specs.Faults.{fault_of}
-use Rattle.fx_chain.specs.Operation.{Asked}
-use Rattle.fx_chain.specs.declared.completion.Place.{Place}
-use Rattle.fx_chain.specs.declared.fault.CutFault.{CutFault}
-use Rattle.fx_plain.specs.declared.table.TheConstants.{MOST_SLOTS}
-use Rattle.fx_ring.specs.Registration.{is_bad_file, range_refusal, register_refusal, registered_sparse, sparse_refusal, unregister_refusal, update_refusal}
-use Rattle.fx_ring.specs.Ring.{IsRing, RingContents, RingState, new_ring, ring_of, without_table}
-use Rattle.fx_ring.specs.Tags.{are_bad_tags, tags_given}
-use Rattle.fx_ring.specs.declared.ring.TheConstants.{MOST_REGISTRATIONS, MOST_SUBMISSIONS}
+use Rattle.fx_texts.proofs.Words.{◌≡◌, ℕ, ◌+◌, Bool, true, false, ◌==◌, ◌||◌, nat_le, nat_lt, if◌then◌else◌, List, [], ◌∷◌, codes, length, refl, sym}
+use Rattle.fx_texts.proofs.Words.{ap, subst, arith, ⊎_elim, Option, Some, None, MatchBool, list_any, MatchOption, FileEntry, Errno, ENXIO, EBADF}
+use Rattle.fx_texts.proofs.Words.{EAGAIN, EBUSY, EINVAL, EMFILE, IsAnswer, ring_behind, Answer, is_bad_entry, fault_of, Asked, Place, CutFault}
+use Rattle.fx_texts.proofs.Words.{MOST_SLOTS, is_bad_file, range_refusal, register_refusal, registered_sparse, sparse_refusal, unregister_refusal}
+use Rattle.fx_texts.proofs.Words.{update_refusal, IsRing, RingContents, RingState, new_ring, ring_of, without_table, are_bad_tags, tags_given}
+use Rattle.fx_texts.proofs.Words.{MOST_REGISTRATIONS, MOST_SUBMISSIONS, Instruction, MakesSparse, RegistersList, SetsRange, SubmitsAll, Unregisters}
+use Rattle.fx_texts.proofs.Words.{UpdatesRing, ring_with_files, shows_ring, ring_with_slots, refused_line, too_many_line, Answers, IsRefused}
+use Rattle.fx_texts.proofs.Words.{PrintsReport, Leads, LeadsAll, MayLeadAllTo, MayLeadTo, Stage, stage_of, Reached}
 use Rattle.fx_ring.proofs.Origins.{registered_rings, updated_rings}
 use Rattle.fx_ring.proofs.Rings.{counted_still, none_rings}
 use Rattle.fx_ring.proofs.SubmittedRing.{submitted_rings}
-use Rattle.fx_language.specs.Instruction.{Instruction, MakesSparse, RegistersList, SetsRange, SubmitsAll, Unregisters, UpdatesRing}
-use Rattle.fx_order.proofs.Shown.{none_past, ring_with_files, shows_ring}
-use Rattle.fx_order.specs.Slots.{ring_with_slots}
-use Rattle.fx_print.specs.Text.{refused_line, too_many_line}
-use Rattle.fx_script.specs.Play.{Answers, IsRefused, PrintsReport}
-use Rattle.fx_texts.specs.Rings.{Leads, LeadsAll, MayLeadAllTo, MayLeadTo, Stage, stage_of}
-use Rattle.fx_texts.specs.declared.reached.Reached.{Reached}
+use Rattle.fx_order.proofs.Shown.{none_past}
 
 called : (x : Option Errno) (accepted : Type 0) (old new : RingState) (word line : List ℕ) → IsRing old → (x ≡ None → accepted → IsRing new)
     → Answers x accepted (IsRefused old new word line) → IsRing new

@@ -1,3 +1,4 @@
+pub mod Words
 pub mod Sorted
 pub mod Calls
 pub mod Counts

@@ -1,18 +1,10 @@
 -- Plays in which memory is found, cut at a submission and put together again.
-use Rattle.std.proofs.Common.{◌≡◌, ◌⊎◌, ℕ, zero, suc, ◌+◌, ◌≤◌, List, [], ◌∷◌, ◌++◌, length, refl, sym, ap, subst, ◌∙◌, arith, inl, inr, ⊎_elim, Option, Some, None}
-use Rattle.std.specs.Prelude.{Contains}
-use Rattle.std.specs.Option.{option_to_list}
-use Rattle.std.proofs.lemmas.List.{append_assoc}
+use Rattle.fx_texts.proofs.Words.{◌≡◌, ◌⊎◌, ℕ, zero, suc, ◌+◌, ◌≤◌, List, [], ◌∷◌, ◌++◌, length, refl, sym, ap, subst, ◌∙◌, arith, inl, inr, ⊎_elim}
+use Rattle.fx_texts.proofs.Words.{Option, Some, None, Contains, option_to_list, append_assoc, fault_of, Asked, RingContents, ring_of, Reported}
+use Rattle.fx_texts.proofs.Words.{Instruction, SubmitsAll, Meaning, Prints, PrintsEnd, LeadsAll, count_after_all, count_behind, FoundMemory}
+use Rattle.fx_texts.proofs.Words.{IsReportFound, IsTextFound, PrintsAllFound}
 use Rattle.std.proofs.lemmas.List.Elements.{Contains-append_cases, Contains-append_right}
-use Rattle.fx_chain.specs.Faults.{fault_of}
-use Rattle.fx_chain.specs.Operation.{Asked}
-use Rattle.fx_ring.specs.Ring.{RingContents, ring_of}
-use Rattle.fx_ring.specs.Submission.{Reported}
-use Rattle.fx_language.specs.Instruction.{Instruction, SubmitsAll}
-use Rattle.fx_language.specs.Script.{Meaning}
-use Rattle.fx_script.specs.Play.{IsText, Prints, PrintsAll, PrintsEnd}
-use Rattle.fx_texts.specs.Rings.{LeadsAll, count_after_all, count_behind}
-use Rattle.fx_texts.specs.Texts.{FoundMemory, IsReportFound, IsTextFound, PrintsAllFound}
+use Rattle.fx_script.specs.Play.{IsText, PrintsAll}
 use Rattle.fx_texts.proofs.Counts.{after_grows, all_grows, history_counts, leads_counts, own_report, report_number}
 
 -- a text found is a text

@@ -1,41 +1,24 @@
 -- What an accepted submission may come to at a ring that is kept as slots.
-use Rattle.std.proofs.Common.{slice_get, ◌≡◌, ℕ, ◌+◌, ◌<◌, Bool, true, false, nat_le, if◌then◌else◌, List, [], ◌++◌, length, refl, sym, ap, subst, ◌∙◌, arith, Option, Some, None, slice_index_or}
-use Rattle.std.specs.Prelude.{All, Contains}
+use Rattle.fx_texts.proofs.Words.{slice_get, ◌≡◌, ℕ, ◌+◌, ◌<◌, Bool, true, false, nat_le, if◌then◌else◌, List, [], ◌++◌, length, refl, sym, ap, subst}
+use Rattle.fx_texts.proofs.Words.{◌∙◌, arith, Option, Some, None, slice_index_or, All, Contains, FileEntry, Closed, ring_of_slots, MatchBool}
+use Rattle.fx_texts.proofs.Words.{MatchOption, completed_of, fault_of, Asked, Place, CutFault, HasEachEnd, HasEachReport, IsAnswer, IsEnd, IsPossible}
+use Rattle.fx_texts.proofs.Words.{ring_behind, End, Answer, PossibleReport, IsRing, RingContents, RingState, ring_of, Reported, reported}
+use Rattle.fx_texts.proofs.Words.{MOST_SUBMISSIONS, Instruction, SubmitsAll, Prints, PrintsReport, closes_text, refused_line, too_many_line}
+use Rattle.fx_texts.proofs.Words.{true≢false, IsPermutation-refl, HasEachNext, Leads, MayEnd, MayLeadTo, MaySay, Stage, count_behind, kept_text}
+use Rattle.fx_texts.proofs.Words.{stage_left, stage_reported, IsReportFound}
 use Rattle.std.specs.Global.{Vec}
-use Rattle.fx_base.specs.Catalogue.{FileEntry}
-use Rattle.fx_base.specs.declared.open_file.Closed.{Closed}
-use Rattle.fx_order.specs.Slots.{ring_of_slots}
-use Rattle.std.specs.Bool.{MatchBool}
-use Rattle.std.specs.Option.{MatchOption}
 use Rattle.std.proofs.lemmas.Bool.{lt-leb}
-use Rattle.fx_chain.specs.Completed.{completed_of}
-use Rattle.fx_chain.specs.Faults.{fault_of}
-use Rattle.fx_chain.specs.Operation.{Asked}
-use Rattle.fx_chain.specs.declared.completion.Place.{Place}
-use Rattle.fx_chain.specs.declared.fault.CutFault.{CutFault}
 use Rattle.fx_order.specs.declared.access.ChainAccess.{ChainAccess}
 use Rattle.fx_order.specs.declared.slots.Slots.{Slots}
-use Rattle.fx_answers.specs.Outcomes.{HasEachEnd, HasEachReport, IsAnswer, IsEnd, IsPossible, IsReportBy, MayReport, TellsOf, ring_behind}
-use Rattle.fx_answers.specs.declared.end.End.{End}
-use Rattle.fx_answers.specs.declared.outcome.Answer.{Answer}
-use Rattle.fx_answers.specs.declared.report.PossibleReport.{PossibleReport}
-use Rattle.fx_ring.specs.Ring.{IsRing, RingContents, RingState, ring_of}
-use Rattle.fx_ring.specs.Submission.{Reported, reported}
-use Rattle.fx_ring.specs.declared.ring.TheConstants.{MOST_SUBMISSIONS}
-use Rattle.fx_language.specs.Instruction.{Instruction, SubmitsAll}
-use Rattle.fx_script.specs.Play.{Prints, PrintsReport}
+use Rattle.fx_answers.specs.Outcomes.{IsReportBy, MayReport, TellsOf}
 use Rattle.fx_script.specs.Text.{report_text}
 use Rattle.fx_chain.specs.Accepted.{IsAccepted}
 use Rattle.fx_calls.proofs.ClosesInOrder.{one_close_list}
 use Rattle.fx_order.proofs.OneRing.{each_closed_file_is_known}
 use Rattle.fx_order.specs.Laws.{AreKnown}
 use Rattle.fx_order.specs.Order.{ring_left}
-use Rattle.fx_print.specs.Text.{closes_text, completion_lines, refused_line, too_many_line}
-use Rattle.std.proofs.lemmas.Bool.{true≢false}
-use Rattle.std.proofs.lemmas.List.Sorted.{IsPermutation-refl}
-use Rattle.fx_texts.specs.Rings.{HasEachNext, Leads, MayEnd, MayLeadTo, MaySay, Stage, count_behind, kept_text, stage_left, stage_reported}
+use Rattle.fx_print.specs.Text.{completion_lines}
 use Rattle.fx_texts.proofs.Growth.{all_contained, at_one, element, get_at}
-use Rattle.fx_texts.specs.Texts.{IsReportFound}
 use Rattle.fx_texts.proofs.Counts.{history_counts, submission_counts}
 
 -- a report that memory is found for is printed

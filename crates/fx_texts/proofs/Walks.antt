@@ -1,11 +1,9 @@
 -- Commands that lead on, one behind others.
-use Rattle.std.proofs.Common.{◌≡◌, ℕ, Bool, true, false, zero, suc, ◌+◌, ◌<◌, List, [], ◌∷◌, ◌++◌, length, take, drop, refl, sym, ap, subst, ◌∙◌, arith, slice_index_or}
-use Rattle.std.specs.Prelude.{Contains}
-use Rattle.std.proofs.lemmas.List.{append-nil, append_assoc, drop_more, map-append, take-append-drop}
-use Rattle.fx_ring.specs.Ring.{RingContents, RingState, ring_of}
-use Rattle.fx_language.specs.Instruction.{Instruction, instruction_of, instructions_of}
-use Rattle.fx_language.specs.declared.command.Command.{Command}
-use Rattle.fx_texts.specs.Rings.{AreFrom, HasEachFrom, HasEachLast, Leads, LeadsAll, MayLeadAllTo, Stage, count_after, count_after_all, kept_text, stage}
+use Rattle.fx_texts.proofs.Words.{◌≡◌, ℕ, Bool, true, false, zero, suc, ◌+◌, ◌<◌, List, [], ◌∷◌, ◌++◌, length, take, drop, refl, sym, ap, subst, ◌∙◌}
+use Rattle.fx_texts.proofs.Words.{arith, slice_index_or, Contains, append-nil, append_assoc, map-append, RingContents, RingState, ring_of}
+use Rattle.fx_texts.proofs.Words.{Instruction, instruction_of, instructions_of, Command, AreFrom, HasEachFrom, HasEachLast, Leads, LeadsAll}
+use Rattle.fx_texts.proofs.Words.{MayLeadAllTo, Stage, count_after, count_after_all, kept_text, stage}
+use Rattle.std.proofs.lemmas.List.{drop_more, take-append-drop}
 
 leads_behind : (ring mid last : RingContents) (front : List Instruction) (command : Instruction) (before line : List ℕ) → LeadsAll ring front mid before
     → Leads mid command last line → LeadsAll ring (front ++ command ∷ []) last (before ++ line)

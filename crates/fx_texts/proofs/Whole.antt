@@ -1,20 +1,10 @@
 -- What a whole play prints, and what a request may answer in it.
-use Rattle.std.proofs.Common.{Bool, true, ◌≡◌, ◌⊎◌, ℕ, ◌+◌, ◌<◌, List, [], ◌∷◌, ◌++◌, refl, sym, ap, subst, ◌∙◌, arith, ⊎_elim, Some}
-use Rattle.std.specs.Prelude.{Contains}
-use Rattle.std.specs.Option.{option_to_list}
-use Rattle.fx_chain.specs.Completed.{Completed}
-use Rattle.fx_chain.specs.Faults.{fault_of}
-use Rattle.fx_chain.specs.Operation.{Asked}
-use Rattle.fx_chain.specs.declared.completion.Place.{Place}
-use Rattle.fx_order.proofs.Shown.{ring_with_files, shows_ring}
-use Rattle.fx_ring.specs.Ring.{RingContents, RingState, files_of, new_ring, ring_of}
-use Rattle.fx_language.specs.Instruction.{Instruction, SubmitsAll}
-use Rattle.fx_language.specs.Script.{Meaning}
+use Rattle.fx_texts.proofs.Words.{Bool, true, ◌≡◌, ◌⊎◌, ℕ, ◌+◌, ◌<◌, List, [], ◌∷◌, ◌++◌, refl, sym, ap, subst, ◌∙◌, arith, ⊎_elim, Some, Contains}
+use Rattle.fx_texts.proofs.Words.{option_to_list, Completed, fault_of, Asked, Place, ring_with_files, shows_ring, RingContents, RingState, files_of}
+use Rattle.fx_texts.proofs.Words.{new_ring, ring_of, Instruction, SubmitsAll, Meaning, PrintsEnd, append-nil, HasEachLast, HasEachSaidFrom, MayEnd}
+use Rattle.fx_texts.proofs.Words.{MayLeadAllTo, MayLeadTo, MaySay, EndsAs, IsTextAt, Stage, count_after_all, count_behind, stage, IsTextFound}
+use Rattle.fx_texts.proofs.Words.{MayAnswerIn, PrintsAllFound}
 use Rattle.fx_print.specs.Text.{teardown_text}
-use Rattle.fx_script.specs.Play.{PrintsEnd}
-use Rattle.std.proofs.lemmas.List.{append-nil}
-use Rattle.fx_texts.specs.Rings.{HasEachLast, HasEachSaidFrom, MayEnd, MayLeadAllTo, MayLeadTo, MaySay, EndsAs, IsTextAt, Stage, count_after_all, count_behind, stage}
-use Rattle.fx_texts.specs.Texts.{IsTextFound, MayAnswerIn, PrintsAllFound}
 use Rattle.fx_texts.proofs.Counts.{all_counts, report_number}
 use Rattle.fx_texts.proofs.Plays.{led_to_end, numbers_behind, play_behind, report_at}
 use Rattle.fx_texts.proofs.Sorted.{closes_for, has_closed}

@@ -1,7 +1,4 @@
-use Rattle.std.proofs.Common.{drop}
-use Rattle.fx_chain.specs.Completed.{all_completed}
-use Rattle.fx_chain.specs.Operation.{all_asked}
-use Rattle.fx_check.specs.Told.{OneInstalled}
+use Rattle.fx_check.proofs.Words.{drop, all_completed, all_asked, OneInstalled}
 use Rattle.fx_check.proofs.known.is_installed.Given as goal
 
 -- one behind those that were looked at

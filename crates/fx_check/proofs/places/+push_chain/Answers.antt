@@ -1,10 +1,5 @@
-use Rattle.std.proofs.Common.{◌≡◌, ◌-◌, ◌∷◌, List, length, take, drop, sym, ap, subst, ◌∙◌}
-use Rattle.fx_chain.specs.Completed.{all_completed, completed_of}
-use Rattle.fx_chain.specs.Operation.{all_asked, asked_of}
-use Rattle.fx_chain.specs.declared.completion.Completion.{Completion}
-use Rattle.fx_chain.specs.declared.request.Request.{Request}
-use Rattle.fx_order.specs.Requests.{IsChainDone}
-use Rattle.fx_order.proofs.FirstAndRest.{first_and_rest}
+use Rattle.fx_check.proofs.Words.{◌≡◌, ◌-◌, ◌∷◌, List, length, take, drop, sym, ap, subst, ◌∙◌, all_completed, completed_of, all_asked, asked_of}
+use Rattle.fx_check.proofs.Words.{Completion, Request, IsChainDone, first_and_rest}
 use Rattle.fx_check.proofs.Listed.{IsPut, severed_put}
 use Rattle.fx_check.proofs.places.+push_chain.Goals as goal
 

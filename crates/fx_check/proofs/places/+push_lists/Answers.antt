@@ -1,15 +1,8 @@
-use Rattle.std.proofs.Common.{◌-◌, ◌+◌, List, length, map, take, drop, subst, rules}
+use Rattle.fx_check.proofs.Words.{◌-◌, ◌+◌, List, length, map, take, drop, subst, rules, Vec, IsChain, members_of, all_asked, Chain, AccessPlace}
+use Rattle.fx_check.proofs.Words.{all_completed, first_member, AreChainsDone, IsChainDone}
 use Rattle.std.proofs.lemmas.Result.{on_ok_weaker}
-use Rattle.std.specs.Global.{Vec}
-use Rattle.fx_chain.specs.Accepted.{IsChain, members_of}
-use Rattle.fx_chain.specs.Operation.{all_asked}
-use Rattle.fx_chain.specs.declared.chain.Chain.{Chain}
 use Rattle.fx_order.proofs.ChainsFront.{few_completions}
 use Rattle.fx_order.proofs.FirstAndRest.{all_of_rest}
-use Rattle.fx_order.specs.declared.listed_order.AccessPlace.{AccessPlace}
-use Rattle.fx_chain.specs.Completed.{all_completed}
-use Rattle.fx_chain.specs.Explains.{first_member}
-use Rattle.fx_order.specs.Requests.{AreChainsDone, IsChainDone}
 use Rattle.fx_check.proofs.Listed.{IsPut}
 use Rattle.fx_check.proofs.Lists.{ArePut, cut_lists_put}
 use Rattle.fx_check.proofs.places.+push_lists.Goals as goal

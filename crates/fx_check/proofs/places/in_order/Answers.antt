@@ -1,10 +1,7 @@
-use Rattle.std.proofs.Common.{◌≡◌, ◌-◌, ◌+◌, ◌++◌, ◌∷◌, [], ◌≤◌, ℕ, length, sym, ap, subst, ◌∙◌, arith, refl, None, map, take, slice_index_or, slice_set}
+use Rattle.fx_check.proofs.Words.{◌≡◌, ◌-◌, ◌+◌, ◌++◌, ◌∷◌, [], ◌≤◌, ℕ, length, sym, ap, subst, ◌∙◌, arith, refl, None, map, take, slice_index_or}
+use Rattle.fx_check.proofs.Words.{slice_set, Vec, ChainAccess, places_of_chain, AccessPlace}
 use Rattle.std.proofs.lemmas.List.{length-set}
-use Rattle.std.specs.Global.{Vec}
 use Rattle.fx_order.specs.declared.access.Access.TheVariants.{Looks}
-use Rattle.fx_order.specs.declared.access.ChainAccess.{ChainAccess}
-use Rattle.fx_check.specs.Places.{places_of_chain}
-use Rattle.fx_order.specs.declared.listed_order.AccessPlace.{AccessPlace}
 use Rattle.fx_check.proofs.Merged.{all_taken, chains_listed, count_of, count_read, counts_more, lists_more, next_inside}
 use Rattle.fx_check.proofs.places.in_order.Goals as goal
 

@@ -1,7 +1,4 @@
-use Rattle.std.proofs.Common.{◌≡◌, ◌+◌, ◌<◌, ℕ, Some, length, map, replicate, slice_get, slice_index_or, take}
-use Rattle.std.specs.Global.{Vec}
-use Rattle.fx_check.specs.Places.{places_of_chain}
-use Rattle.fx_order.specs.declared.listed_order.AccessPlace.{AccessPlace}
+use Rattle.fx_check.proofs.Words.{◌≡◌, ◌+◌, ◌<◌, ℕ, Some, length, map, replicate, slice_get, slice_index_or, take, Vec, places_of_chain, AccessPlace}
 use Rattle.fx_check.proofs.Merged.{count_of}
 use Rattle.fx_check.proofs.places.in_order.Given as goal
 

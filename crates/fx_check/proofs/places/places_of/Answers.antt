@@ -1,12 +1,5 @@
-use Rattle.std.proofs.Common.{◌≡◌, ◌≤◌, ◌++◌, ℕ, List, All, Result, Ok, Err, IfOk, length, map, sym, ap, subst, ◌∙◌}
-use Rattle.std.proofs.lemmas.List.{length-map}
-use Rattle.std.specs.Global.{Vec}
-use Rattle.fx_chain.specs.Accepted.{members_of}
-use Rattle.fx_chain.specs.Completed.{all_completed}
-use Rattle.fx_chain.specs.Operation.{Asked, all_asked}
-use Rattle.fx_order.specs.declared.access.ChainAccess.{ChainAccess}
-use Rattle.fx_check.specs.PlaceLists.{AreListsOf}
-use Rattle.fx_order.specs.declared.listed_order.AccessPlace.{AccessPlace}
+use Rattle.fx_check.proofs.Words.{◌≡◌, ◌≤◌, ◌++◌, ℕ, List, All, Result, Ok, Err, IfOk, length, map, sym, ap, subst, ◌∙◌, length-map, Vec, members_of}
+use Rattle.fx_check.proofs.Words.{all_completed, Asked, all_asked, ChainAccess, AreListsOf, AccessPlace}
 use Rattle.fx_check.proofs.Lists.{all_places, as_many_lists, first_lists}
 use Rattle.fx_check.proofs.places.places_of.Goals as goal
 

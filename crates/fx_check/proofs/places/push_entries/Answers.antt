@@ -1,6 +1,5 @@
-use Rattle.std.proofs.Common.{sym, ap, ◌∙◌, ◌≡◌, ℤ, pos, negsuc, int_le, rules, slice_index_or, to_z, of_z, w32}
-use Rattle.std.specs.Global.{Vec}
-use Rattle.fx_order.specs.declared.listed_order.AccessPlace.{AccessPlace}
+use Rattle.fx_check.proofs.Words.{sym, ap, ◌∙◌, ◌≡◌, ℤ, pos, negsuc, int_le, rules, slice_index_or, to_z, of_z, Vec, AccessPlace}
+use Rattle.std.proofs.Common.{w32}
 use Rattle.fx_check.proofs.Listed.{entry_put, entry_skipped}
 use Rattle.fx_check.proofs.places.push_entries.Goals.{then-number-geminus1+in_ok-push, else-number-geminus1}
 use Rattle.fx_check.proofs.places.push_entries.Goals as goal

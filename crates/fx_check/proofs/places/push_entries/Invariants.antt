@@ -1,5 +1,4 @@
-use Rattle.std.proofs.Common.{◌≡◌, ◌++◌, take}
-use Rattle.fx_check.specs.Places.{entry_places}
+use Rattle.fx_check.proofs.Words.{◌≡◌, ◌++◌, take, entry_places}
 use Rattle.fx_check.proofs.places.push_entries.Given as goal
 
 abbrev pub invariant-loop-entry : goal.invariant-loop-entry

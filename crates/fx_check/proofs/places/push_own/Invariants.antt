@@ -1,5 +1,4 @@
-use Rattle.std.proofs.Common.{◌≡◌, ◌++◌, None, replicate}
-use Rattle.fx_check.specs.Places.{place_at}
+use Rattle.fx_check.proofs.Words.{◌≡◌, ◌++◌, None, replicate, place_at}
 use Rattle.fx_check.proofs.places.push_own.Given as goal
 
 abbrev pub invariant-loop-access : goal.invariant-loop-access

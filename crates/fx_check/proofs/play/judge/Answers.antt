@@ -1,20 +1,12 @@
-use Rattle.std.proofs.Common.{◌≡◌, ◌+◌, ◌-◌, ◌∷◌, Option, List, [], ℕ, length, length-drop, drop, take, sym, ap, subst, append-nil, ◌++◌, ◌∙◌, arith}
-use Rattle.std.specs.Global.{Vec}
-use Rattle.std.specs.Option.{option_to_list}
-use Rattle.std.proofs.lemmas.List.{length-map}
-use Rattle.std.proofs.Math.Seq.{take-length}
-use Rattle.fx_ring.specs.Ring.{RingState, new_ring}
-use Rattle.fx_language.specs.Instruction.{Instruction, instruction_of, instructions_of}
-use Rattle.fx_script.specs.Play.{PrintsEnd}
+use Rattle.fx_check.proofs.Words.{◌≡◌, ◌+◌, ◌-◌, ◌∷◌, Option, List, [], ℕ, length, length-drop, drop, take, sym, ap, subst, append-nil, ◌++◌, ◌∙◌}
+use Rattle.fx_check.proofs.Words.{arith, Vec, option_to_list, length-map, take-length, RingState, new_ring, Instruction, instruction_of}
+use Rattle.fx_check.proofs.Words.{instructions_of, PrintsEnd, Order, ring_with_slots}
 use Rattle.fx_check.specs.Answer.{IsAnswer}
 use Rattle.fx_check.specs.declared.answer.Answer.{Answer}
 use Rattle.fx_check.specs.declared.answer.Answer.TheVariants.{Broken, Printed}
-use Rattle.fx_order.specs.declared.listed_order.Order.{Order}
 use Rattle.fx_check.proofs.Plays.{GoesWith, at_start, ended, goes_on, next_instruction, not_ended, stops}
-use Rattle.fx_check.proofs.play.judge.Goals.{in-Some+in_ok-push-in-Printed, in_default}
-use Rattle.fx_check.proofs.play.judge.Goals.{In_ok-count, In_ok-play_end}
+use Rattle.fx_check.proofs.play.judge.Goals.{in-Some+in_ok-push-in-Printed, in_default, In_ok-count, In_ok-play_end}
 use Rattle.fx_check.proofs.play.judge.Goals as goal
-use Rattle.fx_order.specs.Slots.{ring_with_slots}
 
 rest_so : (at : ℕ) (text : List ℕ) → take (length text - at) (drop at text) ≡ drop at text
 rest_so at text = ap (λ (n : ℕ). take n (drop at text)) (sym (length-drop at text)) ∙ take-length (drop at text)

@@ -1,8 +1,6 @@
-use Rattle.std.proofs.Common.{◌≤◌, length}
-use Rattle.fx_check.specs.Kept.{IsKept}
+use Rattle.fx_check.proofs.Words.{◌≤◌, length, IsKept, ring_with_slots}
 use Rattle.fx_check.proofs.Plays.{GoesWith}
 use Rattle.fx_check.proofs.play.judge.Given as goal
-use Rattle.fx_order.specs.Slots.{ring_with_slots}
 
 abbrev pub invariant-loop-done : goal.invariant-loop-done
 invariant-loop-done l = record {

@@ -1,12 +1,9 @@
-use Rattle.std.proofs.Common.{◌≡◌, ◌∙◌, sym}
+use Rattle.fx_check.proofs.Words.{◌≡◌, ◌∙◌, sym, Decides-eqb, all_closed, all_of_ring, few_of_ring, ring_with_slots}
 use Rattle.std.proofs.lemmas.Bool.{true≢false}
-use Rattle.std.proofs.lemmas.Bool.Decides.{Decides-eqb}
 use Rattle.std.proofs.lemmas.Slice.Eq.{slice_eq-Decides}
 use Rattle.fx_calls.proofs.FilesThere.{end_printed}
-use Rattle.fx_calls.proofs.Entries.{all_closed, all_of_ring, few_of_ring}
-use Rattle.fx_check.proofs.play.play_end.Goals as goal
-use Rattle.fx_order.specs.Slots.{ring_with_slots}
 use Rattle.fx_print.specs.Text.{teardown_text}
+use Rattle.fx_check.proofs.play.play_end.Goals as goal
 
 pub close_in_order-requires-clause-entries : goal.close_in_order-requires-clause-entries
 close_in_order-requires-clause-entries c =

@@ -1,17 +1,11 @@
-use Rattle.std.proofs.Common.{◌≡◌, ap, arith, codes, length, option_map, pos, refl, sym}
-use Rattle.fx_base.specs.declared.catalogue.TheConstants.{MOST_ENTRIES}
-use Rattle.fx_language.specs.Instruction.{RegistersList}
-use Rattle.fx_order.specs.Access.{Table}
-use Rattle.fx_order.specs.Slots.{ring_with_slots, table_of_slots}
-use Rattle.fx_ring.specs.Registration.{registered}
-use Rattle.fx_ring.specs.Tags.{tags_for}
+use Rattle.fx_check.proofs.Words.{◌≡◌, ap, arith, codes, length, option_map, pos, refl, sym, MOST_ENTRIES, RegistersList, Table, ring_with_slots}
+use Rattle.fx_check.proofs.Words.{table_of_slots, registered, tags_for, if_ok_then, result_line}
 use Rattle.fx_ring.proofs.Origins.{registered_rings}
 use Rattle.fx_check.proofs.Calls.{accepted, no_memory, refused}
-use Rattle.fx_calls.proofs.Entries.{good_registered, if_ok_then}
+use Rattle.fx_calls.proofs.Entries.{good_registered}
 use Rattle.fx_check.proofs.Registrations.{counted_keeps, counted_with, none_in_range, registered_now}
 use Rattle.fx_check.proofs.registration.play_register.Goals.{In_ok-_none-in-Here}
 use Rattle.fx_check.proofs.registration.play_register.Goals as goal
-use Rattle.fx_print.specs.Text.{result_line}
 
 pub returns-in-Some-clause-step : goal.returns-in-Some-clause-step
 returns-in-Some-clause-step c =

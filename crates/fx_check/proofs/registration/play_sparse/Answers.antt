@@ -1,9 +1,7 @@
-use Rattle.std.proofs.Common.{arith, codes, pos, refl, sym}
-use Rattle.fx_language.specs.Instruction.{MakesSparse}
+use Rattle.fx_check.proofs.Words.{arith, codes, pos, refl, sym, MakesSparse, result_line}
 use Rattle.fx_check.proofs.Calls.{accepted}
 use Rattle.fx_check.proofs.Registrations.{emptied, emptied_keeps, with_slots}
 use Rattle.fx_check.proofs.registration.play_sparse.Goals as goal
-use Rattle.fx_print.specs.Text.{result_line}
 
 pub returns-in_ok-ring-in-Here-clause-step : goal.returns-in_ok-ring-in-Here-clause-step
 returns-in_ok-ring-in-Here-clause-step c =

@@ -1,16 +1,9 @@
-use Rattle.std.proofs.Common.{◌∙◌, ◌++◌, List, ℕ, ap, arith, codes, pos, refl, string_bytes, subst, sym}
-use Rattle.fx_base.specs.declared.open_file.Closed.{Closed}
-use Rattle.fx_language.specs.Instruction.{Unregisters}
-use Rattle.fx_order.specs.declared.slots.Slots.{Slots}
-use Rattle.fx_ring.specs.Ring.{HasClosed, files_of}
-use Rattle.fx_script.specs.Play.{PrintsClosed}
+use Rattle.fx_check.proofs.Words.{◌∙◌, ◌++◌, List, ℕ, ap, arith, codes, pos, refl, string_bytes, subst, sym, Closed, Unregisters, Slots, HasClosed}
+use Rattle.fx_check.proofs.Words.{files_of, PrintsClosed, all_closed, all_of_ring, few_of_ring, if_ok_then, ring_with_slots, closes_text, result_line}
 use Rattle.fx_check.proofs.Calls.{accepted, no_memory, refused}
-use Rattle.fx_calls.proofs.Entries.{all_closed, all_of_ring, few_of_ring, if_ok_then}
 use Rattle.fx_check.proofs.Registrations.{emptied, none_left, with_slots}
 use Rattle.fx_check.proofs.registration.play_unregister.Goals.{After-meet-met}
 use Rattle.fx_check.proofs.registration.play_unregister.Goals as goal
-use Rattle.fx_order.specs.Slots.{ring_with_slots}
-use Rattle.fx_print.specs.Text.{closes_text, result_line}
 
 pub close_in_order-requires-clause-entries : goal.close_in_order-requires-clause-entries
 close_in_order-requires-clause-entries c =

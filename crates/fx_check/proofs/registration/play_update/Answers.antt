@@ -1,21 +1,14 @@
-use Rattle.std.proofs.Common.{◌≡◌, ◌+◌, ◌<◌, ◌^◌, ◌∙◌, ◌++◌, List, ℕ, ap, arith, codes, length, of_z, option_map, pos, rules, string_bytes, subst, sym, to_z, w64}
-use Rattle.fx_base.specs.declared.catalogue.TheConstants.{MOST_ENTRIES}
-use Rattle.fx_base.specs.declared.open_file.Closed.{Closed}
-use Rattle.fx_language.specs.Instruction.{Instruction, UpdatesRing}
-use Rattle.fx_order.specs.Access.{Table}
-use Rattle.fx_order.specs.Slots.{ring_with_slots, table_of_slots}
-use Rattle.fx_ring.specs.Registration.{files_after, removed_from, updated}
-use Rattle.fx_ring.specs.Ring.{HasClosed}
-use Rattle.fx_ring.specs.Tags.{tags_for}
+use Rattle.fx_check.proofs.Words.{◌≡◌, ◌+◌, ◌<◌, ◌^◌, ◌∙◌, ◌++◌, List, ℕ, ap, arith, codes, length, of_z, option_map, pos, rules, string_bytes, subst}
+use Rattle.fx_check.proofs.Words.{sym, to_z, MOST_ENTRIES, Closed, Instruction, UpdatesRing, Table, ring_with_slots, table_of_slots, files_after}
+use Rattle.fx_check.proofs.Words.{removed_from, updated, HasClosed, tags_for, PrintsClosed, all_closed, if_ok_then, AreInRange, closes_text}
+use Rattle.fx_check.proofs.Words.{result_line}
+use Rattle.std.proofs.Common.{w64}
 use Rattle.fx_ring.proofs.Origins.{updated_rings}
-use Rattle.fx_script.specs.Play.{PrintsClosed}
 use Rattle.fx_check.proofs.Calls.{accepted, no_memory, refused}
-use Rattle.fx_calls.proofs.Entries.{AreOf, all_closed, all_of_list, few_of_list, good_larger, if_ok_then}
-use Rattle.fx_calls.specs.InRange.{AreInRange}
+use Rattle.fx_calls.proofs.Entries.{AreOf, all_of_list, few_of_list, good_larger}
 use Rattle.fx_check.proofs.Registrations.{copied, counted_keeps, counted_with, updated_now}
 use Rattle.fx_check.proofs.registration.play_update.Goals.{After-deref-2, After-meet-met}
 use Rattle.fx_check.proofs.registration.play_update.Goals as goal
-use Rattle.fx_print.specs.Text.{closes_text, result_line}
 
 pub apply_list-requires-clause-good : goal.apply_list-requires-clause-good
 apply_list-requires-clause-good c =

@@ -1,28 +1,15 @@
-use Rattle.std.proofs.Common.{◌-◌, List, ℕ, Option, Some, None, Result, Ok, IfOk, length, option_map, subst, sym}
-use Rattle.std.proofs.lemmas.List.{length-map}
+use Rattle.fx_check.proofs.Words.{◌-◌, List, ℕ, Option, Some, None, Result, Ok, IfOk, length, option_map, subst, sym, length-map, Asked, all_asked}
+use Rattle.fx_check.proofs.Words.{asked_of, ReadsReport, lines_text, lines_in, ReportLines, Vec, ChainAccess, CameBy, Told, all_completed, runs_of}
+use Rattle.fx_check.proofs.Words.{BeginsWith, ArePlaces, AreApart, HasLines, TellsKnown, Fault, Order, ring_with_slots}
 use Rattle.std.specs.Borrow.{Bor}
-use Rattle.fx_chain.specs.Operation.{Asked, all_asked, asked_of}
-use Rattle.fx_lines.specs.Lines.{ReadsReport, lines_text}
-use Rattle.fx_lines.specs.LinesView.{front_of, lines_in}
-use Rattle.fx_lines.specs.declared.report.ReportLines.{ReportLines}
-use Rattle.std.specs.Global.{Vec}
-use Rattle.fx_order.specs.declared.access.ChainAccess.{ChainAccess}
-use Rattle.fx_judge.specs.Verdict.{CameBy, IsVerdict}
-use Rattle.fx_judge.specs.declared.told.Told.{Told}
+use Rattle.fx_lines.specs.LinesView.{front_of}
+use Rattle.fx_judge.specs.Verdict.{IsVerdict}
 use Rattle.fx_judge.specs.declared.verdict.Verdict.{Verdict}
-use Rattle.fx_chain.specs.Completed.{all_completed}
-use Rattle.fx_chain.specs.Runs.{runs_of}
-use Rattle.fx_check.specs.Met.{BeginsWith}
-use Rattle.fx_check.specs.Places.{ArePlaces}
-use Rattle.fx_check.specs.Told.{AreApart, HasLines, TellsKnown}
-use Rattle.fx_check.specs.declared.judgement.Fault.{Fault}
-use Rattle.fx_order.specs.declared.listed_order.Order.{Order}
 use Rattle.fx_check.proofs.OneText.{begins_with}
 use Rattle.fx_check.proofs.OnlyAccepted.{none_ordered, none_read, none_told, one_ordered}
 use Rattle.fx_check.proofs.Submissions.{IsOrdered, PlacesAt, accepted_goes, accepted_keeps, ordered_done, ordered_is, same_slots}
 use Rattle.fx_check.proofs.submission.play_accepted.Goals.{In-Some, In-Ok, In-Legal}
 use Rattle.fx_check.proofs.submission.play_accepted.Goals as goal
-use Rattle.fx_order.specs.Slots.{ring_with_slots}
 
 -- the lines that were read are those of a report
 module _ (c : In-Some) where

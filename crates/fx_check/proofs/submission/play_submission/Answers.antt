@@ -1,9 +1,4 @@
-use Rattle.std.proofs.Common.{List, ℕ, Err, length, refl, subst}
-use Rattle.fx_chain.specs.Faults.{fault_of}
-use Rattle.fx_chain.specs.Runs.{runs_of}
-use Rattle.fx_chain.specs.Operation.{all_asked}
-use Rattle.fx_language.specs.Instruction.{SubmitsAll}
-use Rattle.fx_check.specs.Met.{IsMet}
+use Rattle.fx_check.proofs.Words.{List, ℕ, Err, length, refl, subst, fault_of, runs_of, all_asked, SubmitsAll, IsMet}
 use Rattle.fx_check.proofs.OneAnswer.{fault_told, refused, too_many}
 use Rattle.fx_check.proofs.submission.play_submission.Goals as goal
 

@@ -1,10 +1,6 @@
-use Rattle.std.proofs.Common.{◌≡◌, ◌==◌, All, Result, IfOk, List, ℕ, filter, map, not, sym, ap, subst, ◌∙◌}
-use Rattle.std.specs.Global.{Vec}
-use Rattle.fx_base.specs.declared.open_file.Closed.{Closed}
-use Rattle.fx_lines.specs.ClosedView.{close_of}
-use Rattle.fx_lines.specs.declared.close.ClosedLine.{ClosedLine}
-use Rattle.fx_lines.specs.Lines.{Lines, named_closes}
-use Rattle.fx_check.specs.Told.{AreApart, MayClose, TellsFiles}
+use Rattle.fx_check.proofs.Words.{◌≡◌, ◌==◌, All, Result, IfOk, List, ℕ, filter, map, not, sym, ap, subst, ◌∙◌, Vec, Closed, close_of, ClosedLine}
+use Rattle.fx_check.proofs.Words.{Lines, named_closes, AreApart, MayClose}
+use Rattle.fx_check.specs.Told.{TellsFiles}
 use Rattle.fx_check.proofs.Submissions.{tags_again, told_lines}
 use Rattle.fx_check.proofs.submission.told_by.Goals as goal
 

@@ -1,11 +1,6 @@
-use Rattle.std.proofs.Common.{◌≡◌, ◌∙◌, List, Result, IfOk, ap, subst, sym}
-use Rattle.fx_base.specs.declared.open_file.Closed.{Closed}
-use Rattle.fx_chain.specs.Completed.{Completed, all_completed}
-use Rattle.fx_chain.specs.Operation.{all_asked}
-use Rattle.fx_lines.specs.Lines.{Lines}
-use Rattle.fx_judge.specs.declared.told.Told.{Told}
-use Rattle.fx_check.specs.Told.{AreApart, AreFrom, HasLines, TellsAll}
-use Rattle.fx_check.specs.declared.judgement.Fault.{Fault}
+use Rattle.fx_check.proofs.Words.{◌≡◌, ◌∙◌, List, Result, IfOk, ap, subst, sym, Closed, Completed, all_completed, all_asked, Lines, Told, AreApart}
+use Rattle.fx_check.proofs.Words.{AreFrom, HasLines, Fault}
+use Rattle.fx_check.specs.Told.{TellsAll}
 use Rattle.fx_check.proofs.submission.told_of.Goals as goal
 
 pub returns-in-Some-clause-only : goal.returns-in-Some-clause-only

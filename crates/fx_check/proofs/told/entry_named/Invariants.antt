@@ -1,5 +1,4 @@
-use Rattle.std.proofs.Common.{◌≡◌, ℕ, ◌<◌, Some}
-use Rattle.fx_base.specs.Catalogue.{name_at}
+use Rattle.fx_check.proofs.Words.{◌≡◌, ℕ, ◌<◌, Some, name_at}
 use Rattle.fx_check.proofs.told.entry_named.Given as goal
 
 abbrev pub invariant-loop-entry : goal.invariant-loop-entry

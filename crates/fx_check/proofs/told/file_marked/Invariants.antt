@@ -1,5 +1,4 @@
-use Rattle.std.proofs.Common.{◌≡◌, ℕ, ◌<◌, None, Some, slice_index_or}
-use Rattle.fx_base.specs.declared.open_file.Closed.{Closed}
+use Rattle.fx_check.proofs.Words.{◌≡◌, ℕ, ◌<◌, None, Some, slice_index_or, Closed}
 use Rattle.fx_check.proofs.told.file_marked.Given as goal
 
 abbrev pub invariant-loop-file : goal.invariant-loop-file

@@ -1,7 +1,4 @@
-use Rattle.std.proofs.Common.{◌≡◌, ◌∙◌, ℕ, List, Some, ap, arith}
-use Rattle.fx_base.specs.Catalogue.{name_at}
-use Rattle.fx_base.specs.declared.open_file.Closed.{Closed}
-use Rattle.fx_lines.specs.Lines.{NamedClose}
+use Rattle.fx_check.proofs.Words.{◌≡◌, ◌∙◌, ℕ, List, Some, ap, arith, name_at, Closed, NamedClose}
 use Rattle.fx_check.proofs.Tellings.{same_entry, same_file}
 use Rattle.fx_check.proofs.told.file_told.Goals as goal
 

@@ -1,9 +1,5 @@
-use Rattle.std.proofs.Common.{◌≡◌, ◌∙◌, ◌++◌, ◌∷◌, [], List, Option, Some, ap, sym, map, take, slice_index_or}
-use Rattle.std.proofs.lemmas.List.{map-append, take_more}
-use Rattle.fx_base.specs.declared.mark.Mark.TheVariants.{Registered}
-use Rattle.fx_base.specs.declared.open_file.Closed.{Closed}
-use Rattle.fx_lines.specs.ClosedView.{close_of}
-use Rattle.fx_lines.specs.Lines.{NamedClose, named_close, named_closes}
+use Rattle.fx_check.proofs.Words.{◌≡◌, ◌∙◌, ◌++◌, ◌∷◌, [], List, Option, Some, ap, sym, map, take, slice_index_or, map-append, take_more, Registered}
+use Rattle.fx_check.proofs.Words.{Closed, close_of, NamedClose, named_close, named_closes}
 use Rattle.fx_check.proofs.Tellings.{close_at}
 use Rattle.fx_check.proofs.told.files_told.Goals as goal
 

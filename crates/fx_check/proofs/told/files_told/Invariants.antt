@@ -1,8 +1,4 @@
-use Rattle.std.proofs.Common.{◌≡◌, All, List, map, take}
-use Rattle.fx_base.specs.declared.open_file.Closed.{Closed}
-use Rattle.fx_lines.specs.ClosedView.{close_of}
-use Rattle.fx_lines.specs.Lines.{named_closes}
-use Rattle.fx_check.specs.Told.{AreApart, MayClose}
+use Rattle.fx_check.proofs.Words.{◌≡◌, All, List, map, take, Closed, close_of, named_closes, AreApart, MayClose}
 use Rattle.fx_check.proofs.told.files_told.Given as goal
 
 abbrev pub invariant-loop-i : goal.invariant-loop-i

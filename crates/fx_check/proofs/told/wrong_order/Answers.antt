@@ -1,5 +1,4 @@
-use Rattle.std.proofs.Common.{◌∙◌, ◌-◌, ap, sym, arith}
-use Rattle.std.specs.Ordering.{is_lt}
+use Rattle.fx_check.proofs.Words.{◌∙◌, ◌-◌, ap, sym, arith, is_lt}
 use Rattle.fx_check.proofs.Tellings.{not_in_turn}
 use Rattle.fx_check.proofs.told.wrong_order.Goals as goal
 

@@ -1,5 +1,4 @@
-use Rattle.std.proofs.Common.{length}
-use Rattle.fx_base.specs.declared.catalogue.TheConstants.{MOST_ENTRIES}
+use Rattle.fx_texts.proofs.Words.{length, MOST_ENTRIES}
 use Rattle.fx_calls.proofs.Entries.{good_registered}
 use Rattle.fx_texts.proofs.call.register.Goals as goal
 

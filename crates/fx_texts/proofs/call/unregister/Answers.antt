@@ -1,5 +1,4 @@
-use Rattle.std.proofs.Common.{◌∙◌}
-use Rattle.fx_calls.proofs.Entries.{all_closed, all_of_ring, few_of_ring}
+use Rattle.fx_texts.proofs.Words.{◌∙◌, all_closed, all_of_ring, few_of_ring}
 use Rattle.fx_texts.proofs.call.unregister.Goals as goal
 
 pub close_in_order-requires-clause-entries : goal.close_in_order-requires-clause-entries

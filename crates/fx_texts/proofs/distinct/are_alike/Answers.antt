@@ -1,5 +1,4 @@
-use Rattle.std.proofs.Common.{◌≡◌, sym, string_bytes, ◌∙◌}
-use Rattle.std.specs.Cmp.Lexicographic.{bytes_decides}
+use Rattle.fx_texts.proofs.Words.{◌≡◌, sym, string_bytes, ◌∙◌, bytes_decides}
 use Rattle.fx_texts.proofs.distinct.are_alike.Goals as goal
 
 pub returns-then-eq : goal.returns-then-eq

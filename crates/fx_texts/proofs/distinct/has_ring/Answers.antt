@@ -1,6 +1,4 @@
-use Rattle.std.proofs.Common.{subst}
-use Rattle.std.specs.Prelude.{Contains}
-use Rattle.fx_texts.specs.Rings.{Stage, stage_of, stages_of}
+use Rattle.fx_texts.proofs.Words.{subst, Contains, Stage, stage_of, stages_of}
 use Rattle.fx_texts.proofs.Growth.{at_value}
 use Rattle.fx_texts.proofs.distinct.has_ring.Goals as goal
 

@@ -1,5 +1,4 @@
-use Rattle.std.proofs.Common.{◌≡◌, refl, sym}
-use Rattle.fx_texts.specs.Rings.{stage_of}
+use Rattle.fx_texts.proofs.Words.{◌≡◌, refl, sym, stage_of}
 use Rattle.fx_texts.proofs.Growth.{pushed}
 use Rattle.fx_texts.proofs.distinct.push_new.Goals as goal
 

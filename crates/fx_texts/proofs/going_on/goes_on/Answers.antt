@@ -1,11 +1,7 @@
-use Rattle.std.proofs.Common.{◌+◌, List, drop, sym, subst}
+use Rattle.fx_texts.proofs.Words.{◌+◌, List, drop, sym, subst, IfSome, instruction_of, instructions_of, Command, MayEnd, MayLeadTo, stage_of, Reached}
 use Rattle.fx_calls.proofs.NextCommand.{next_command}
 use Rattle.std.proofs.Math.ListN.{drop_of_length-le}
-use Rattle.std.specs.Prelude.{IfSome, Option}
-use Rattle.fx_language.specs.Instruction.{instruction_of, instructions_of}
-use Rattle.fx_language.specs.declared.command.Command.{Command}
-use Rattle.fx_texts.specs.Rings.{MayEnd, MayLeadTo, stage_of}
-use Rattle.fx_texts.specs.declared.reached.Reached.{Reached}
+use Rattle.std.specs.Prelude.{Option}
 use Rattle.fx_texts.proofs.LedRings.{next_ring}
 use Rattle.fx_texts.proofs.Whole.{may_end, may_end_behind}
 use Rattle.fx_texts.proofs.going_on.goes_on.Goals as goal

@@ -1,8 +1,4 @@
-use Rattle.std.proofs.Common.{drop}
-use Rattle.fx_language.specs.Instruction.{instructions_of}
-use Rattle.fx_order.specs.Slots.{ring_with_slots}
-use Rattle.fx_ring.specs.Ring.{IsRing}
-use Rattle.fx_texts.specs.Rings.{MayEnd}
+use Rattle.fx_texts.proofs.Words.{drop, instructions_of, ring_with_slots, IsRing, MayEnd}
 use Rattle.fx_texts.proofs.going_on.goes_on.Given as goal
 
 -- an end of the ring that is reached is one of the first ring

@@ -1,6 +1,4 @@
-use Rattle.std.proofs.Common.{⊎_elim}
-use Rattle.fx_language.specs.Instruction.{instruction_of}
-use Rattle.fx_texts.specs.Rings.{MayLeadTo, stage_of}
+use Rattle.fx_texts.proofs.Words.{⊎_elim, instruction_of, MayLeadTo, stage_of}
 use Rattle.fx_texts.proofs.Growth.{nothing, popped}
 use Rattle.fx_texts.proofs.going_on.one_next.Goals as goal
 

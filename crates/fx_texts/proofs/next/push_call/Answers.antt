@@ -1,9 +1,5 @@
-use Rattle.std.proofs.Common.{◌≡◌, ◌++◌, ap, sym, subst, string_bytes, ◌∙◌}
-use Rattle.std.specs.Prelude.{Contains}
-use Rattle.fx_ring.specs.Ring.{IsRing, RingState}
-use Rattle.fx_language.specs.Instruction.{instruction_of}
-use Rattle.fx_order.specs.Slots.{ring_with_slots}
-use Rattle.fx_texts.specs.Rings.{IsLineOf, MayLeadTo, Stage, after_call, kept_text, stages_of}
+use Rattle.fx_texts.proofs.Words.{◌≡◌, ◌++◌, ap, sym, subst, string_bytes, ◌∙◌, Contains, IsRing, RingState, instruction_of, ring_with_slots}
+use Rattle.fx_texts.proofs.Words.{IsLineOf, MayLeadTo, Stage, after_call, kept_text, stages_of}
 use Rattle.fx_texts.proofs.Calls.{behind, call_may_lead, call_only}
 use Rattle.fx_texts.proofs.Growth.{grows_by}
 use Rattle.fx_texts.proofs.next.push_call.Goals as goal

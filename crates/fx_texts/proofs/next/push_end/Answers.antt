@@ -1,7 +1,5 @@
-use Rattle.std.proofs.Common.{◌≡◌, ◌+◌, ◌++◌, List, ℕ, ap, subst, string_bytes, ◌∙◌}
-use Rattle.std.specs.Prelude.{Contains}
-use Rattle.fx_order.specs.Slots.{ring_of_slots}
-use Rattle.fx_texts.specs.Rings.{Stage, kept_text, stage_left, stage_of, stages_of}
+use Rattle.fx_texts.proofs.Words.{◌≡◌, ◌+◌, ◌++◌, List, ℕ, ap, subst, string_bytes, ◌∙◌, Contains, ring_of_slots, Stage, kept_text, stage_left}
+use Rattle.fx_texts.proofs.Words.{stage_of, stages_of}
 use Rattle.fx_texts.proofs.Growth.{grows_by}
 use Rattle.fx_texts.proofs.Submitted.{copied_ring}
 use Rattle.fx_texts.proofs.next.push_end.Goals as goal

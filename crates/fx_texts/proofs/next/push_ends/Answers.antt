@@ -1,10 +1,5 @@
-use Rattle.std.proofs.Common.{◌≡◌, List, [], length, arith, sym, subst, slice_index_or}
-use Rattle.std.specs.Prelude.{Contains}
-use Rattle.fx_answers.specs.Outcomes.{HasEachEnd, IsEnd}
-use Rattle.fx_answers.specs.declared.end.End.{End}
-use Rattle.fx_chain.specs.Operation.{all_asked}
-use Rattle.fx_language.specs.Instruction.{SubmitsAll}
-use Rattle.fx_texts.specs.Rings.{MayLeadTo, Stage, stage_left, stage_of, stages_of}
+use Rattle.fx_texts.proofs.Words.{◌≡◌, List, [], length, arith, sym, subst, slice_index_or, Contains, HasEachEnd, IsEnd, End, all_asked, SubmitsAll}
+use Rattle.fx_texts.proofs.Words.{MayLeadTo, Stage, stage_left, stage_of, stages_of}
 use Rattle.fx_texts.proofs.Growth.{grows_by, grows_on, holds_more, holds_of_each, read_at}
 use Rattle.fx_texts.proofs.Submitted.{as_many, counted_one, end_may_lead, ends_are_all}
 use Rattle.fx_texts.proofs.next.push_ends.Goals as goal

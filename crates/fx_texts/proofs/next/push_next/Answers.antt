@@ -1,7 +1,5 @@
-use Rattle.std.proofs.Common.{sym, subst}
+use Rattle.fx_texts.proofs.Words.{sym, subst, Instruction, HasEachNext, stage_of, stages_of}
 use Rattle.fx_calls.proofs.Entries.{if_ok_then}
-use Rattle.fx_language.specs.Instruction.{Instruction}
-use Rattle.fx_texts.specs.Rings.{HasEachNext, stage_of, stages_of}
 use Rattle.fx_texts.proofs.next.push_next.Goals as goal
 
 pub returns-then-setting-clause-all : goal.returns-then-setting-clause-all

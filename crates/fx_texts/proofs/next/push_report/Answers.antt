@@ -1,6 +1,4 @@
-use Rattle.std.proofs.Common.{◌≡◌, List, ℕ, subst, ◌∙◌}
-use Rattle.std.specs.Prelude.{Contains}
-use Rattle.fx_texts.specs.Rings.{Grows, stage_left, stage_of, stages_of}
+use Rattle.fx_texts.proofs.Words.{◌≡◌, List, ℕ, subst, ◌∙◌, Contains, Grows, stage_left, stage_of, stages_of}
 use Rattle.fx_texts.proofs.next.push_report.Goals as goal
 
 pub returns-clause-grows : goal.returns-clause-grows

@@ -1,11 +1,5 @@
-use Rattle.std.proofs.Common.{◌≡◌, List, length, arith, sym, subst, slice_index_or}
-use Rattle.std.specs.Prelude.{All, Contains}
-use Rattle.fx_answers.specs.Outcomes.{HasEachReport, IsPossible}
-use Rattle.fx_answers.specs.declared.report.PossibleReport.{PossibleReport}
-use Rattle.fx_chain.specs.Operation.{all_asked}
-use Rattle.fx_language.specs.Instruction.{SubmitsAll}
-use Rattle.fx_ring.specs.Submission.{reported}
-use Rattle.fx_texts.specs.Rings.{MayLeadTo, Stage, stage_of, stage_reported, stages_of}
+use Rattle.fx_texts.proofs.Words.{◌≡◌, List, length, arith, sym, subst, slice_index_or, All, Contains, HasEachReport, IsPossible, PossibleReport}
+use Rattle.fx_texts.proofs.Words.{all_asked, SubmitsAll, reported, MayLeadTo, Stage, stage_of, stage_reported, stages_of}
 use Rattle.fx_texts.proofs.Growth.{grows_by, grows_on, holds_more, holds_of_each, read_at}
 use Rattle.fx_texts.proofs.Submitted.{as_many, counted_one, possible_may_lead, reports_are_all}
 use Rattle.fx_texts.proofs.next.push_reports.Goals as goal

@@ -1,7 +1,4 @@
-use Rattle.std.specs.Prelude.{Contains}
-use Rattle.fx_chain.specs.Operation.{all_asked}
-use Rattle.fx_language.specs.Instruction.{SubmitsAll}
-use Rattle.fx_texts.specs.Rings.{Grows, MayLeadTo, stage_of, stage_reported, stages_of}
+use Rattle.fx_texts.proofs.Words.{Contains, all_asked, SubmitsAll, Grows, MayLeadTo, stage_of, stage_reported, stages_of}
 use Rattle.fx_texts.proofs.Growth.{HoldsBefore}
 use Rattle.fx_texts.proofs.next.push_reports.Given as goal
 

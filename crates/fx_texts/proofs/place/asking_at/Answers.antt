@@ -1,10 +1,6 @@
-use Rattle.std.proofs.Common.{◌≡◌, ◌+◌, ◌++◌, ◌∷◌, ℕ, List, arith, ap, refl, sym, ◌∙◌, take, drop}
+use Rattle.fx_texts.proofs.Words.{◌≡◌, ◌+◌, ◌++◌, ◌∷◌, ℕ, List, arith, ap, refl, sym, ◌∙◌, take, drop, fault_of, Command, all_asked, Instruction}
+use Rattle.fx_texts.proofs.Words.{SubmitsAll, instruction_of, instructions_of, count_after, count_behind}
 use Rattle.std.proofs.lemmas.List.{take_rest}
-use Rattle.fx_chain.specs.Faults.{fault_of}
-use Rattle.fx_language.specs.declared.command.Command.{Command}
-use Rattle.fx_chain.specs.Operation.{all_asked}
-use Rattle.fx_language.specs.Instruction.{Instruction, SubmitsAll, instruction_of, instructions_of}
-use Rattle.fx_texts.specs.Rings.{count_after, count_behind}
 use Rattle.fx_texts.proofs.Calls.{call_uncounted}
 use Rattle.fx_texts.proofs.Submitted.{counted_one}
 use Rattle.fx_texts.proofs.Walks.{around, count_one}

@@ -1,6 +1,4 @@
-use Rattle.std.proofs.Common.{◌≡◌, ◌<◌, take}
-use Rattle.fx_language.specs.Instruction.{instructions_of}
-use Rattle.fx_texts.specs.Rings.{count_after_all}
+use Rattle.fx_texts.proofs.Words.{◌≡◌, ◌<◌, take, instructions_of, count_after_all}
 use Rattle.fx_texts.proofs.place.asking_at.Given as goal
 
 abbrev pub invariant-loop-i : goal.invariant-loop-i

@@ -1,15 +1,7 @@
-use Rattle.std.proofs.Common.{false, ◌≡◌, ◌⊎◌, ◌<◌, List, sym, subst, ◌∙◌}
-use Rattle.std.specs.Prelude.{Contains}
-use Rattle.fx_base.specs.Catalogue.{FileEntry}
-use Rattle.fx_chain.specs.Completed.{completed_of}
-use Rattle.fx_chain.specs.Operation.{all_asked}
-use Rattle.fx_chain.specs.declared.completion.Place.{Place}
-use Rattle.fx_language.specs.Instruction.{Instruction, instructions_of}
-use Rattle.fx_ring.specs.Ring.{new_ring}
-use Rattle.fx_texts.specs.Rings.{AreRings, HasEachLast, HasEachSaidFrom, IsAskedIn, MayLeadAllTo, MaySay, count_after_all, said_in, stages_of}
-use Rattle.fx_texts.specs.Texts.{MayAnswerIn}
-use Rattle.fx_texts.specs.declared.reached.Reached.{Reached}
-use Rattle.fx_texts.specs.declared.saying.Said.{Said}
+use Rattle.fx_texts.proofs.Words.{false, ◌≡◌, ◌⊎◌, ◌<◌, List, sym, subst, ◌∙◌, Contains, FileEntry, completed_of, all_asked, Place, Instruction}
+use Rattle.fx_texts.proofs.Words.{instructions_of, new_ring, AreRings, HasEachLast, HasEachSaidFrom, MayLeadAllTo, MaySay, count_after_all, said_in}
+use Rattle.fx_texts.proofs.Words.{stages_of, MayAnswerIn, Reached, Said}
+use Rattle.fx_texts.specs.Rings.{IsAskedIn}
 use Rattle.fx_texts.proofs.Growth.{all_of_values}
 use Rattle.fx_texts.proofs.Whole.{answer_is_said, none_answered, said_is_answered}
 use Rattle.fx_texts.proofs.request.may.Goals as goal

@@ -1,6 +1,4 @@
-use Rattle.std.proofs.Common.{◌++◌, slice_index_or, ⊎_elim}
-use Rattle.fx_language.specs.Instruction.{instruction_of}
-use Rattle.fx_texts.specs.Rings.{HasEachNext, Stage, stage, stage_of, stages_of}
+use Rattle.fx_texts.proofs.Words.{◌++◌, slice_index_or, ⊎_elim, instruction_of, HasEachNext, Stage, stage, stage_of, stages_of}
 use Rattle.fx_texts.proofs.Growth.{at_value, holds_more, holds_of_all}
 use Rattle.fx_texts.proofs.rings.after.Goals as goal
 

@@ -1,6 +1,4 @@
-use Rattle.std.specs.Prelude.{IsTrue}
-use Rattle.fx_language.specs.Instruction.{instruction_of}
-use Rattle.fx_texts.specs.Rings.{AreFrom, HasEachNext, stage_of, stages_of}
+use Rattle.fx_texts.proofs.Words.{IsTrue, instruction_of, AreFrom, HasEachNext, stage_of, stages_of}
 use Rattle.fx_texts.proofs.Growth.{HoldsBefore}
 use Rattle.fx_texts.proofs.rings.after.Given as goal
 

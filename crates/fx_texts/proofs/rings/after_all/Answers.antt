@@ -1,10 +1,6 @@
-use Rattle.std.proofs.Common.{List, take, sym, subst}
+use Rattle.fx_texts.proofs.Words.{List, take, sym, subst, Instruction, instruction_of, instructions_of, Command, new_ring, AreFrom, AreRings}
+use Rattle.fx_texts.proofs.Words.{HasEachFrom, HasEachLast, MayLeadAllTo, stages_of, Reached}
 use Rattle.std.proofs.lemmas.List.{take_all}
-use Rattle.fx_language.specs.Instruction.{Instruction, instruction_of, instructions_of}
-use Rattle.fx_language.specs.declared.command.Command.{Command}
-use Rattle.fx_ring.specs.Ring.{new_ring}
-use Rattle.fx_texts.specs.Rings.{AreFrom, AreRings, HasEachFrom, HasEachLast, MayLeadAllTo, stages_of}
-use Rattle.fx_texts.specs.declared.reached.Reached.{Reached}
 use Rattle.fx_texts.proofs.LedRings.{stage_ring}
 use Rattle.fx_texts.proofs.Walks.{all_more, each_more, taken_one}
 use Rattle.fx_texts.proofs.rings.after_all.Goals as goal

@@ -1,8 +1,4 @@
-use Rattle.std.proofs.Common.{take}
-use Rattle.std.specs.Prelude.{Contains, IsTrue}
-use Rattle.fx_language.specs.Instruction.{instructions_of}
-use Rattle.fx_ring.specs.Ring.{new_ring}
-use Rattle.fx_texts.specs.Rings.{HasEachLast, MayLeadAllTo, Stage, stages_of}
+use Rattle.fx_texts.proofs.Words.{take, Contains, IsTrue, instructions_of, new_ring, HasEachLast, MayLeadAllTo, Stage, stages_of}
 use Rattle.fx_texts.proofs.rings.after_all.Given as goal
 
 abbrev pub invariant-loop-command : goal.invariant-loop-command

@@ -1,8 +1,4 @@
-use Rattle.std.proofs.Common.{◌≡◌, sym, subst, ⊎_elim}
-use Rattle.fx_chain.specs.Faults.{fault_of}
-use Rattle.fx_chain.specs.Operation.{all_asked}
-use Rattle.fx_ring.specs.Ring.{RingState}
-use Rattle.fx_texts.specs.Rings.{HasEachSaid, Stage, count_behind, said_in, stage_of}
+use Rattle.fx_texts.proofs.Words.{◌≡◌, sym, subst, ⊎_elim, fault_of, all_asked, RingState, HasEachSaid, Stage, count_behind, said_in, stage_of}
 use Rattle.fx_texts.proofs.Growth.{at_value, holds_more, holds_of_all}
 use Rattle.fx_texts.proofs.Submitted.{no_report}
 use Rattle.fx_texts.proofs.saying.answers_at.Goals as goal

@@ -1,7 +1,5 @@
-use Rattle.std.specs.Prelude.{IsTrue}
-use Rattle.fx_chain.specs.Operation.{all_asked}
-use Rattle.fx_language.specs.Instruction.{instructions_of}
-use Rattle.fx_texts.specs.Rings.{AreSaidFrom, HasEachSaid, said_in, stage_of, stages_of}
+use Rattle.fx_texts.proofs.Words.{IsTrue, all_asked, instructions_of, HasEachSaid, said_in, stage_of, stages_of}
+use Rattle.fx_texts.specs.Rings.{AreSaidFrom}
 use Rattle.fx_texts.proofs.Growth.{HoldsBefore}
 use Rattle.fx_texts.proofs.saying.answers_at.Given as goal
 

@@ -1,10 +1,4 @@
-use Rattle.std.proofs.Common.{◌≡◌, ◌+◌, sym, subst, ◌∙◌}
-use Rattle.fx_chain.specs.Completed.{Completed, completed_of}
-use Rattle.fx_language.specs.Instruction.{instructions_of}
-use Rattle.fx_order.specs.Slots.{ring_of_slots}
-use Rattle.fx_ring.specs.Ring.{IsRing, RingState}
-use Rattle.fx_texts.specs.Rings.{MayEnd}
-use Rattle.fx_texts.specs.declared.saying.Said.{Said}
+use Rattle.fx_texts.proofs.Words.{◌≡◌, ◌+◌, sym, subst, ◌∙◌, Completed, completed_of, instructions_of, ring_of_slots, IsRing, RingState, MayEnd, Said}
 use Rattle.fx_texts.proofs.Growth.{pushed}
 use Rattle.fx_texts.proofs.Submitted.{copied_ring}
 use Rattle.fx_texts.proofs.saying.push_answer.Goals as goal

@@ -1,11 +1,6 @@
-use Rattle.std.proofs.Common.{◌≡◌, List, length, arith, sym, subst, slice_index_or}
-use Rattle.std.specs.Prelude.{Contains}
-use Rattle.fx_answers.specs.Outcomes.{HasEachAnswer, IsAnswer, ring_behind}
-use Rattle.fx_answers.specs.declared.outcome.Answer.{Answer}
-use Rattle.fx_chain.specs.Completed.{Completed, completed_of}
-use Rattle.fx_chain.specs.Operation.{all_asked}
-use Rattle.fx_language.specs.Instruction.{instructions_of}
-use Rattle.fx_texts.specs.Rings.{MayEnd, MaySay, said_in, stage_of}
+use Rattle.fx_texts.proofs.Words.{◌≡◌, List, length, arith, sym, subst, slice_index_or, Contains, IsAnswer, ring_behind, Answer, Completed}
+use Rattle.fx_texts.proofs.Words.{completed_of, all_asked, instructions_of, MayEnd, MaySay, said_in, stage_of}
+use Rattle.fx_answers.specs.Outcomes.{HasEachAnswer}
 use Rattle.fx_texts.proofs.Growth.{grows_by, grows_on, holds_more, holds_of_all, read_at}
 use Rattle.fx_texts.proofs.LedRings.{answer_ring}
 use Rattle.fx_texts.proofs.Submitted.{answer_may_say, as_many}

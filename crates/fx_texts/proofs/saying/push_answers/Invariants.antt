@@ -1,8 +1,4 @@
-use Rattle.std.specs.Prelude.{Contains, IsTrue}
-use Rattle.fx_chain.specs.Completed.{completed_of}
-use Rattle.fx_chain.specs.Operation.{all_asked}
-use Rattle.fx_language.specs.Instruction.{instructions_of}
-use Rattle.fx_texts.specs.Rings.{Grows, MaySay, said_in, stage_of}
+use Rattle.fx_texts.proofs.Words.{Contains, IsTrue, completed_of, all_asked, instructions_of, Grows, MaySay, said_in, stage_of}
 use Rattle.fx_texts.proofs.Growth.{HoldsBefore}
 use Rattle.fx_texts.proofs.saying.push_answers.Given as goal
 

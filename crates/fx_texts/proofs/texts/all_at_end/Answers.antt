@@ -1,6 +1,4 @@
-use Rattle.std.proofs.Common.{List, ℕ, map, sym, subst, string_bytes, ⊎_elim}
-use Rattle.std.specs.Prelude.{Contains}
-use Rattle.fx_texts.specs.Rings.{EndsAs, Stage, stage_of}
+use Rattle.fx_texts.proofs.Words.{List, ℕ, map, sym, subst, string_bytes, ⊎_elim, Contains, EndsAs, Stage, stage_of}
 use Rattle.fx_texts.proofs.Growth.{at_value, holds_more, holds_of_all}
 use Rattle.fx_texts.proofs.texts.all_at_end.Goals as goal
 

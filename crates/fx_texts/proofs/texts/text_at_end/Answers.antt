@@ -1,8 +1,5 @@
-use Rattle.std.proofs.Common.{◌≡◌, ◌++◌, List, ℕ, sym, ap, string_bytes, ◌∙◌}
-use Rattle.fx_calls.proofs.Entries.{all_closed, all_of_ring, few_of_ring}
+use Rattle.fx_texts.proofs.Words.{◌≡◌, ◌++◌, List, ℕ, sym, ap, string_bytes, ◌∙◌, all_closed, all_of_ring, few_of_ring, ring_with_slots, kept_text}
 use Rattle.fx_calls.proofs.FilesThere.{end_printed}
-use Rattle.fx_order.specs.Slots.{ring_with_slots}
-use Rattle.fx_texts.specs.Rings.{kept_text}
 use Rattle.fx_texts.proofs.texts.text_at_end.Goals as goal
 
 pub close_in_order-requires-clause-entries : goal.close_in_order-requires-clause-entries

@@ -1,11 +1,5 @@
-use Rattle.std.proofs.Common.{true, List, sym, subst, string_bytes}
-use Rattle.std.specs.Prelude.{Contains}
-use Rattle.fx_base.specs.Catalogue.{FileEntry}
-use Rattle.fx_language.specs.Instruction.{Instruction, instructions_of}
-use Rattle.fx_ring.specs.Ring.{new_ring}
-use Rattle.fx_texts.specs.Rings.{AreRings, HasEachLast, MayLeadAllTo, stages_of}
-use Rattle.fx_texts.specs.Texts.{IsTextFound}
-use Rattle.fx_texts.specs.declared.reached.Reached.{Reached}
+use Rattle.fx_texts.proofs.Words.{true, List, sym, subst, string_bytes, Contains, FileEntry, Instruction, instructions_of, new_ring, AreRings}
+use Rattle.fx_texts.proofs.Words.{HasEachLast, MayLeadAllTo, stages_of, IsTextFound, Reached}
 use Rattle.fx_texts.proofs.Growth.{all_of_values}
 use Rattle.fx_texts.proofs.Whole.{stage_texts, text_at_stage}
 use Rattle.fx_texts.proofs.texts.texts_of.Goals as goal

@@ -1,0 +1,86 @@
+-- The names that most proofs of this crate use.
+pub use Rattle.fx_base.specs.AddFault.{has_name}
+pub use Rattle.fx_base.specs.Catalogue.{FileEntry, name_at}
+pub use Rattle.fx_base.specs.Tags.{tag_completion, tags_of}
+pub use Rattle.fx_base.specs.declared.catalogue.TheConstants.{MOST_ENTRIES}
+pub use Rattle.fx_base.specs.declared.errno.Errno.{Errno}
+pub use Rattle.fx_base.specs.declared.errno.Errno.TheVariants.{EBADF, EINVAL, ENFILE, ENOENT, ENOMEM, ENXIO}
+pub use Rattle.fx_base.specs.declared.mark.Mark.{Mark}
+pub use Rattle.fx_base.specs.declared.mark.Mark.TheVariants.{Registered, Submitted}
+pub use Rattle.fx_base.specs.declared.open_file.Closed.{Closed}
+pub use Rattle.fx_base.specs.declared.tag_completion.TagCompletion.{TagCompletion}
+pub use Rattle.fx_calls.proofs.Entries.{all_closed, all_of_ring, few_of_ring, if_ok_then}
+pub use Rattle.fx_calls.specs.InRange.{AreInRange, IsInRange}
+pub use Rattle.fx_chain.specs.Accepted.{IsAccepted, IsChain, members_of}
+pub use Rattle.fx_chain.specs.Answers.{installed, is_bad_entry}
+pub use Rattle.fx_chain.specs.Completed.{Completed, all_completed, completed, completed_of, next_member}
+pub use Rattle.fx_chain.specs.Explains.{canceled, first_member, severs}
+pub use Rattle.fx_chain.specs.Faults.{fault_of}
+pub use Rattle.fx_chain.specs.Operation.{Asked, Closes, Opens, Operation, Reads, Updates, all_asked, asked_of}
+pub use Rattle.fx_chain.specs.Runs.{runs_of}
+pub use Rattle.fx_chain.specs.declared.chain.Chain.{Chain}
+pub use Rattle.fx_chain.specs.declared.completion.Completion.{Completion}
+pub use Rattle.fx_chain.specs.declared.completion.Place.{Place}
+pub use Rattle.fx_chain.specs.declared.request.Request.{Request}
+pub use Rattle.fx_chain.specs.declared.request.Target.{Target}
+pub use Rattle.fx_chain.specs.declared.request.Target.TheVariants.{Any, Slot}
+pub use Rattle.fx_check.specs.Kept.{IsKept}
+pub use Rattle.fx_check.specs.Met.{BeginsWith, IsMet}
+pub use Rattle.fx_check.specs.Ordered.{MayPrintBy}
+pub use Rattle.fx_check.specs.PlaceLists.{AreListsOf, IsListFor}
+pub use Rattle.fx_check.specs.Places.{ArePlaces, IsChainListed, entry_places, place_at, places_of_chain}
+pub use Rattle.fx_check.specs.Step.{GoesOn, IsStep, LeadsNowhere, LeadsTo}
+pub use Rattle.fx_check.specs.Told.{AreApart, AreFrom, HasLines, Installed, IsAtSlot, MayClose, OneInstalled, TellsKnown}
+pub use Rattle.fx_check.specs.declared.judgement.Fault.{Fault}
+pub use Rattle.fx_check.specs.declared.met.Met.{Met}
+pub use Rattle.fx_check.specs.declared.met.Met.TheVariants.{Apart, Here}
+pub use Rattle.fx_judge.specs.Verdict.{CameBy, told_report}
+pub use Rattle.fx_judge.specs.declared.told.Told.{Told}
+pub use Rattle.fx_language.specs.Instruction.{Instruction, MakesSparse, RegistersList, SetsRange, SubmitsAll, Unregisters, UpdatesRing}
+pub use Rattle.fx_language.specs.Instruction.{instruction_of, instructions_of}
+pub use Rattle.fx_language.specs.Script.{AreFiles}
+pub use Rattle.fx_lines.specs.ClosedView.{close_of}
+pub use Rattle.fx_lines.specs.Lines.{Lines, NamedClose, ReadsReport, lines_of, lines_text, named_close, named_closes}
+pub use Rattle.fx_lines.specs.LinesView.{lines_in}
+pub use Rattle.fx_lines.specs.declared.close.ClosedLine.{ClosedLine}
+pub use Rattle.fx_lines.specs.declared.report.ReportLines.{ReportLines}
+pub use Rattle.fx_order.proofs.FirstAndRest.{first_and_rest}
+pub use Rattle.fx_order.proofs.Placed.{Has, placed}
+pub use Rattle.fx_order.proofs.PlacedNew.{either_way}
+pub use Rattle.fx_order.specs.Access.{Table, accesses_of, accesses_of_chain}
+pub use Rattle.fx_order.specs.Order.{IsOneOrder, table_of}
+pub use Rattle.fx_order.specs.Requests.{AreChainsDone, IsChainDone, IsCloseDone, IsOpenDone, IsReadDone, IsRefused, IsRequestDone, IsUpdateDone}
+pub use Rattle.fx_order.specs.Slots.{ring_with_slots, table_of_slots}
+pub use Rattle.fx_order.specs.declared.access.Access.{Access}
+pub use Rattle.fx_order.specs.declared.access.ChainAccess.{ChainAccess}
+pub use Rattle.fx_order.specs.declared.listed_order.AccessPlace.{AccessPlace}
+pub use Rattle.fx_order.specs.declared.listed_order.Order.{Order}
+pub use Rattle.fx_order.specs.declared.ring_slots.RingSlots.{RingSlots}
+pub use Rattle.fx_order.specs.declared.slots.Slots.{Slots}
+pub use Rattle.fx_plain.proofs.Cells.{by_equality}
+pub use Rattle.fx_plain.specs.declared.table.TheConstants.{MOST_SLOTS}
+pub use Rattle.fx_print.specs.Text.{closes_text, name_of, result_line}
+pub use Rattle.fx_ring.specs.Registration.{files_after, registered, registered_sparse, removed_from, updated}
+pub use Rattle.fx_ring.specs.Ring.{HasClosed, IsRing, RingContents, RingState, files_of, new_ring, ring_of}
+pub use Rattle.fx_ring.specs.Submission.{Reported}
+pub use Rattle.fx_ring.specs.Tags.{tags_for}
+pub use Rattle.fx_ring.specs.declared.ring.TheConstants.{MOST_SUBMISSIONS}
+pub use Rattle.fx_script.specs.Play.{Prints, PrintsClosed, PrintsEnd}
+pub use Rattle.fx_script.specs.Text.{report_text}
+pub use Rattle.fx_table.proofs.Members.{each_all}
+pub use Rattle.std.proofs.Common.{All, Bool, Contains, Err, IfOk, IfSome, List, None, Ok, Option, Result, Some, [], ap, append-nil, append_assoc}
+pub use Rattle.std.proofs.Common.{arith, codes, cond, drop, false, filter, if◌then◌else◌, inl, inr, int_le, length, length-append, length-drop, map}
+pub use Rattle.std.proofs.Common.{nat_le, nat_lt, negsuc, not, of_z, option_map, pos, refl, replicate, rules, slice_get, slice_index_or, slice_set}
+pub use Rattle.std.proofs.Common.{string_bytes, subst, suc, sym, take, to_z, true, zero, ℕ, ℤ, ⊎_elim, ◌++◌, ◌+◌, ◌-◌, ◌<◌, ◌==◌, ◌^◌, ◌||◌, ◌↔◌, ◌∙◌}
+pub use Rattle.std.proofs.Common.{◌∷◌, ◌≡◌, ◌≢◌, ◌≤◌}
+pub use Rattle.std.proofs.Math.Seq.{drop-append_seam, take-append_seam, take-length}
+pub use Rattle.std.proofs.lemmas.Bool.{lt-leb}
+pub use Rattle.std.proofs.lemmas.Bool.Decides.{Decides-eqb}
+pub use Rattle.std.proofs.lemmas.List.{drop-map, length-map, length-take-le, map-append, take-append-drop, take_all, take_more}
+pub use Rattle.std.proofs.lemmas.List.Elements.{All-append, All-cons, All-get_or, All-head, All-map, All-nil, All-tail}
+pub use Rattle.std.proofs.lemmas.Option.{get_or_from_slice_get, slice_get-get_or, slice_get_within}
+pub use Rattle.std.specs.Bool.{MatchBool}
+pub use Rattle.std.specs.Global.{Vec}
+pub use Rattle.std.specs.List.{flat_map, list_any}
+pub use Rattle.std.specs.Option.{option_to_list}
+pub use Rattle.std.specs.Ordering.{is_lt}

@@ -1,0 +1,50 @@
+-- The names that most proofs of this crate use.
+pub use Rattle.fx_answers.specs.Outcomes.{HasEachEnd, HasEachReport, IsAnswer, IsEnd, IsPossible, ring_behind}
+pub use Rattle.fx_answers.specs.declared.end.End.{End}
+pub use Rattle.fx_answers.specs.declared.outcome.Answer.{Answer}
+pub use Rattle.fx_answers.specs.declared.report.PossibleReport.{PossibleReport}
+pub use Rattle.fx_base.specs.Catalogue.{FileEntry}
+pub use Rattle.fx_base.specs.declared.catalogue.TheConstants.{MOST_ENTRIES}
+pub use Rattle.fx_base.specs.declared.errno.Errno.{Errno}
+pub use Rattle.fx_base.specs.declared.errno.Errno.TheVariants.{EAGAIN, EBADF, EBUSY, EINVAL, EMFILE, ENXIO}
+pub use Rattle.fx_base.specs.declared.open_file.Closed.{Closed}
+pub use Rattle.fx_calls.proofs.Entries.{all_closed, all_of_ring, few_of_ring}
+pub use Rattle.fx_chain.specs.Answers.{is_bad_entry}
+pub use Rattle.fx_chain.specs.Completed.{Completed, completed_of}
+pub use Rattle.fx_chain.specs.Faults.{fault_of}
+pub use Rattle.fx_chain.specs.Operation.{Asked, all_asked}
+pub use Rattle.fx_chain.specs.declared.completion.Place.{Place}
+pub use Rattle.fx_chain.specs.declared.fault.CutFault.{CutFault}
+pub use Rattle.fx_language.specs.Instruction.{Instruction, MakesSparse, RegistersList, SetsRange, SubmitsAll, Unregisters, UpdatesRing}
+pub use Rattle.fx_language.specs.Instruction.{instruction_of, instructions_of}
+pub use Rattle.fx_language.specs.Script.{Meaning}
+pub use Rattle.fx_language.specs.declared.command.Command.{Command}
+pub use Rattle.fx_order.proofs.Shown.{ring_with_files, shows_ring}
+pub use Rattle.fx_order.specs.Slots.{ring_of_slots, ring_with_slots}
+pub use Rattle.fx_plain.specs.declared.table.TheConstants.{MOST_SLOTS}
+pub use Rattle.fx_print.specs.Text.{closes_text, refused_line, too_many_line}
+pub use Rattle.fx_ring.specs.Registration.{is_bad_file, range_refusal, register_refusal, registered, registered_sparse, sparse_refusal}
+pub use Rattle.fx_ring.specs.Registration.{unregister_refusal, update_refusal, updated}
+pub use Rattle.fx_ring.specs.Ring.{IsRing, RingContents, RingState, files_of, new_ring, ring_of, without_table}
+pub use Rattle.fx_ring.specs.Submission.{Reported, reported}
+pub use Rattle.fx_ring.specs.Tags.{are_bad_tags, tags_given}
+pub use Rattle.fx_ring.specs.declared.ring.TheConstants.{MOST_REGISTRATIONS, MOST_SUBMISSIONS}
+pub use Rattle.fx_script.specs.Play.{Answers, IsRefused, Prints, PrintsEnd, PrintsReport}
+pub use Rattle.fx_texts.specs.Rings.{AreFrom, AreRings, EndsAs, Grows, HasEachFrom, HasEachLast, HasEachNext, HasEachSaid, HasEachSaidFrom, IsLineOf}
+pub use Rattle.fx_texts.specs.Rings.{IsTextAt, Leads, LeadsAll, MayEnd, MayLeadAllTo, MayLeadTo, MaySay, Stage, after_call, count_after}
+pub use Rattle.fx_texts.specs.Rings.{count_after_all, count_behind, kept_text, said_in, stage, stage_left, stage_of, stage_reported, stages_of}
+pub use Rattle.fx_texts.specs.Rings.{unless_refused}
+pub use Rattle.fx_texts.specs.Texts.{FoundMemory, IsReportFound, IsTextFound, MayAnswerIn, PrintsAllFound}
+pub use Rattle.fx_texts.specs.declared.reached.Reached.{Reached}
+pub use Rattle.fx_texts.specs.declared.saying.Said.{Said}
+pub use Rattle.std.proofs.Common.{Bool, List, None, Option, Some, [], ap, arith, codes, drop, false, if◌then◌else◌, inl, inr, length, map, nat_le}
+pub use Rattle.std.proofs.Common.{nat_lt, refl, slice_get, slice_index_or, string_bytes, subst, suc, sym, take, true, zero, ℕ, ⊎_elim, ◌++◌, ◌+◌, ◌<◌}
+pub use Rattle.std.proofs.Common.{◌==◌, ◌||◌, ◌∙◌, ◌∷◌, ◌≡◌, ◌≤◌, ◌⊎◌}
+pub use Rattle.std.proofs.lemmas.Bool.{true≢false}
+pub use Rattle.std.proofs.lemmas.List.{append-nil, append_assoc, map-append}
+pub use Rattle.std.proofs.lemmas.List.Sorted.{IsPermutation-refl}
+pub use Rattle.std.specs.Bool.{MatchBool}
+pub use Rattle.std.specs.Cmp.Lexicographic.{bytes_decides}
+pub use Rattle.std.specs.List.{list_any}
+pub use Rattle.std.specs.Option.{MatchOption, option_to_list}
+pub use Rattle.std.specs.Prelude.{All, Contains, IfSome, IsTrue}
