@@ -2,8 +2,8 @@
 use fx_base::{Mark, NoMemory};
 use fx_chain::check;
 use fx_check::Break;
-use fx_report::{behind, line_at, push_mark};
 use fx_lines::read_report;
+use fx_report::{behind, line_at, push_mark};
 use fx_script::{Command, Script};
 use std::alloc::{AllocError, Global};
 

@@ -3,9 +3,9 @@ use crate::submission::tell_submission;
 use crate::telling::Telling;
 use fx_base::{Catalogue, Closed, Mark, NoMemory};
 use fx_chain::Request;
-use fx_report::{behind, line_at, push_command, without_end};
 use fx_lines::read_report;
 use fx_order::{Access, Order};
+use fx_report::{behind, line_at, push_command, without_end};
 use fx_script::Command;
 use std::alloc::{AllocError, Global};
 

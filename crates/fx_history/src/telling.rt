@@ -2,8 +2,8 @@
 use crate::state::State;
 use fx_base::Catalogue;
 use fx_chain::{Completion, Request};
-use fx_report::{Event, events_of, push_event, push_request};
 use fx_order::Access;
+use fx_report::{Event, events_of, push_event, push_request};
 use std::alloc::{AllocError, Global};
 
 /// The column that the state stands in, behind what is shorter.

@@ -1,5 +1,5 @@
 -- A submission, and what is told of it.
-use Rattle.std.specs.Prelude.{◌≡◌, ℕ, ◌+◌}
+use Rattle.std.specs.Prelude.{ℕ, ◌+◌}
 use Rattle.fx_chain.specs.Completed.{all_completed}
 use Rattle.fx_ring.specs.Submission.{Reported}
 use Rattle.fx_order.specs.declared.submission_report.SubmissionReport.{SubmissionReport}

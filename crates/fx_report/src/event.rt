@@ -83,11 +83,7 @@ pub fn name_of(catalogue: &Catalogue, entry: u8) -> Option<&str> {
 ///
 /// # Errors
 /// Where memory is refused.
-pub fn push_file(
-    told: &mut String,
-    catalogue: &Catalogue,
-    file: Closed,
-) -> Result<(), AllocError> {
+pub fn push_file(told: &mut String, catalogue: &Catalogue, file: Closed) -> Result<(), AllocError> {
     push_mark(told, file.mark)?;
     if let Some(name) = name_of(catalogue, file.entry) {
         told.push(' ')?;
