@@ -1,16 +1,16 @@
 -- A table that is opened keeps the rule.
 use Rattle.fx_counted.proofs.Words.{◌≡◌, ℕ, zero, suc, ◌+◌, ◌*◌, ◌<◌, ◌≤◌, Bool, nat_lt, cond, List, [], ◌∷◌, map, sym, refl, ap, ◌∙◌, subst, arith}
 use Rattle.fx_counted.proofs.Words.{eqb, lt-ltb, le-ltb, inl, inr, ⊎_elim, Option, Some, None, slice_index, sum_by, count_by, sum_by-cons, dite, some}
-use Rattle.fx_counted.proofs.Words.{some-injective, some-ne-none, dec_le, get_elem?, Closed, state_of, State, file_numbered, numbered, File}
-use Rattle.fx_counted.proofs.Words.{numbers_for, range_of, born, takes_in, name_made, entry_made, takes_made, Names, SlotAgrees, NodeAgrees}
-use Rattle.fx_counted.proofs.Words.{OwnerAgrees, LogAgrees, ViewAgrees, Agrees, new_logs, word_of, place_of, slot_place, word_for, node_for, home_for}
-use Rattle.fx_counted.proofs.Words.{OpensWith, opening_of, slots_of, chain_numbers, IsNumber, state_after_all, new_log, Phase, unborn, seated, closed}
-use Rattle.fx_counted.proofs.Words.{Log, Start, View, Idle, ◌&&◌, length-map, at_map, first_view, first_file, OpeningKeeps, contains_map, sum_zero}
-use Rattle.fx_counted.proofs.Words.{Between}
+use Rattle.fx_counted.proofs.Words.{some-injective, some-ne-none, dec_le, get_elem?, Closed, state_of, State, numbered, File, numbers_for, range_of}
+use Rattle.fx_counted.proofs.Words.{born, takes_in, name_made, entry_made, takes_made, Names, SlotAgrees, NodeAgrees, OwnerAgrees, LogAgrees}
+use Rattle.fx_counted.proofs.Words.{ViewAgrees, Agrees, new_logs, word_of, place_of, slot_place, word_for, node_for, home_for, OpensWith, opening_of}
+use Rattle.fx_counted.proofs.Words.{slots_of, chain_numbers, IsNumber, state_after_all, new_log, Phase, unborn, seated, closed, Log, Start, View}
+use Rattle.fx_counted.proofs.Words.{Idle, ◌&&◌, length-map, at_map, first_view, first_file, OpeningKeeps, contains_map, sum_zero, Between}
 use Rattle.std.proofs.Common.{not}
 use Rattle.atomic_table.specs.Table.{opening}
 use Rattle.fx_counted.specs.Agrees.{IsSeated}
 use Rattle.fx_counted.proofs.FullSlots.{full_few}
+use Rattle.fx_plain.proofs.Prepared.{numbered_anew}
 use Rattle.fx_table.proofs.Ones.{one_if, once_is, counted_once}
 use Rattle.std.specs.List.{range_with_len}
 use Rattle.std.proofs.lemmas.List.FromFn.{length-map-range_with_len}
@@ -43,11 +43,7 @@ module _ (k : Start) (words : List ℕ) (homes : List (Option Closed)) (o : Open
 
   -- the file at a slot has the slot's number
   its_number : (slot : ℕ) (f : File) → first_file k slot ≡ Some f → f.number ≡ slot
-  its_number slot f is = go ((state_of (opening_of k).contents).at slot) is
-    where
-      go : (found : Option File) → file_numbered found slot ≡ Some f → f.number ≡ slot
-      go None e = absurd (cc e)
-      go (Some g) e = let z : record g { number = slot } ≡ f = cc e in sym (ap (λ (h : File). h.number) z)
+  its_number slot f is = numbered_anew ((state_of (opening_of k).contents).at slot) slot f is
 
   its_phase : (slot : ℕ) → slot < slots_of k → (f : File) → first_file k slot ≡ Some f → first_phase k f.number ≡ seated slot f.identity
   its_phase slot l f is = ap (first_phase k) (its_number slot f is) ∙ (low_phase slot l ∙ ap (phase_for slot) is)

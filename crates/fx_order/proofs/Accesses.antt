@@ -1,9 +1,10 @@
 -- The accesses among the steps of a history: all steps but releases and closes, without the numbers of files.
 use Rattle.fx_order.proofs.Words.{◌≡◌, ℕ, ◌==◌, List, [], ◌∷◌, ◌++◌, map, filter, refl, sym, ap, subst, ◌∙◌, append_assoc, Option, Some, None}
 use Rattle.fx_order.proofs.Words.{if◌then◌else◌, IsSome, cond, append-nil, map-append, filter-append, Closed, File, Event, Action, Look, Release, Put}
-use Rattle.fx_order.proofs.Words.{Clear, Take, Allocate, Full, Close, State, opening, file_numbered, Allows, after, changed_at, ◌▷▷◌, state_after}
-use Rattle.fx_order.proofs.Words.{AllowsAll, action_of, part_of_chain, identity_of, by_equality, Table, Looks, Puts, Clears, Takes, Allocates}
-use Rattle.fx_order.proofs.Words.{FindsFull, PermitsAll, table_with, table_after, Access, access_of, accesses_of, accesses_of_chain, ChainAccess}
+use Rattle.fx_order.proofs.Words.{Clear, Take, Allocate, Full, Close, State, opening, Allows, after, changed_at, ◌▷▷◌, state_after, AllowsAll}
+use Rattle.fx_order.proofs.Words.{action_of, part_of_chain, identity_of, by_equality, Table, Looks, Puts, Clears, Takes, Allocates, FindsFull}
+use Rattle.fx_order.proofs.Words.{PermitsAll, table_with, table_after, Access, access_of, accesses_of, accesses_of_chain, ChainAccess, ◌⊎◌, inl, inr}
+use Rattle.fx_plain.proofs.Prepared.{same_identity}
 
 -- a state without the numbers of its files, its holds and what it has given up
 abbrev pub shown : State → Table
@@ -85,6 +86,31 @@ accesses_of_chain-order_in chain (e ∷ h) =
     (λ _. refl)
     (λ _. append-nil (accesses_in (map action_of (part_of_chain chain h))))
 
+-- the accesses of a chain with one more in front
+pub of_chain : (x : ChainAccess) (order : List ChainAccess) (chain : ℕ)
+    → ((x.chain ≡ chain) × (accesses_of_chain chain (x ∷ order) ≡ x.access ∷ accesses_of_chain chain order))
+    ⊎ ((x.chain ≡ chain → ⊥) × (accesses_of_chain chain (x ∷ order) ≡ accesses_of_chain chain order))
+of_chain x order chain =
+    let own = filter (λ (y : ChainAccess). y.chain == chain) order in
+    by_equality x.chain chain
+    (λ b. ((x.chain ≡ chain) × (accesses_of (cond b (x ∷ own) own) ≡ x.access ∷ accesses_of_chain chain order))
+    ⊎ ((x.chain ≡ chain → ⊥) × (accesses_of (cond b (x ∷ own) own) ≡ accesses_of_chain chain order)))
+    (λ same. inl (same, refl))
+    (λ other. inr (other, refl))
+
+pub own_first : (x : ChainAccess) (order : List ChainAccess) → accesses_of_chain x.chain (x ∷ order) ≡ x.access ∷ accesses_of_chain x.chain order
+own_first x order = elim (of_chain x order x.chain) [
+  | inl same ↦ same.1
+  | inr other ↦ absurd (other.0 refl)
+]
+
+pub not_own : (x : ChainAccess) (order : List ChainAccess) (chain : ℕ) → (chain ≡ x.chain → ⊥)
+    → accesses_of_chain chain (x ∷ order) ≡ accesses_of_chain chain order
+not_own x order chain apart = elim (of_chain x order chain) [
+  | inl same ↦ absurd (apart (sym same.0))
+  | inr other ↦ other.1
+]
+
 -- accesses one after another
 
 pub table_after-append : (table : Table) (xs ys : List Access) → table_after table (xs ++ ys) ≡ table_after (table_after table xs) ys
@@ -143,10 +169,6 @@ permitted_along start (a ∷ h) may =
           ∙ (ap (λ (table : Table). table_after table (accesses_by a)) earlier.1
           ∙ sym (table_after-append (shown start) (accesses_in h) (accesses_by a))),
     )
-
-same_identity : (x : Option File) (slot : ℕ) → identity_of (file_numbered x slot) ≡ identity_of x
-same_identity None slot = refl
-same_identity (Some f) slot = refl
 
 -- passes begin with the files of the table
 pub shown-opening : (st : State) (numbers : ℕ) → shown (opening st numbers) ≡ shown st

@@ -1,6 +1,5 @@
 pub mod Words
 pub mod Cases
-pub mod Begins
 pub mod Accesses
 pub mod Requests
 pub mod Removed

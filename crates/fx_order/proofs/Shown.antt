@@ -1,80 +1,34 @@
 -- A ring with files at its slots, and none past them, is what a table shows.
-use Rattle.fx_order.proofs.Words.{◌≡◌, inl, inr, ℕ, zero, suc, ◌<◌, ◌≤◌, List, [], ◌∷◌, length, refl, sym, ap, ◌∙◌, arith, Option, Some, None, FileEntry}
-use Rattle.fx_order.proofs.Words.{slice_index_or, if◌then◌else◌, cases_lt, Closed, Contents, state_of, file_at, placed_at, node_at, moved_node}
-use Rattle.fx_order.proofs.Words.{changed_at, identity_of, by_equality, RingContents, RingState, ring_of, Table, Looks, Puts, Clears, Takes}
-use Rattle.fx_order.proofs.Words.{Allocates, FindsFull, PermitsAll, table_with, table_after, Access, get_or-eq_default, Node}
+use Rattle.fx_order.proofs.Words.{◌≡◌, ℕ, ◌<◌, ◌≤◌, List, [], ◌∷◌, refl, ap, ◌∙◌, arith, Option, Some, None, FileEntry, if◌then◌else◌, Closed, State}
+use Rattle.fx_order.proofs.Words.{file_at, changed_at, identity_of, by_equality, RingContents, RingState, ring_of, Table, Looks, Puts, Clears, Takes}
+use Rattle.fx_order.proofs.Words.{Allocates, FindsFull, PermitsAll, table_with, table_after, Access, get_or-eq_default}
+use Rattle.fx_plain.specs.State.{vacant}
+use Rattle.fx_plain.specs.Table.{numbered}
+use Rattle.fx_ring.proofs.TableOfState.{ring_so}
+use Rattle.fx_ring.specs.OpenRings.{table_with_files}
+use Rattle.fx_ring.specs.Ring.{ring_with}
+use Rattle.std.specs.Prelude.{option_map}
 use Rattle.fx_order.specs.Slots.{ring_with_slots}
 use Rattle.fx_order.specs.declared.ring_slots.RingSlots.{RingSlots}
-
--- the first so many values of a function
-pub listed : {X : Type 0} → (ℕ → X) → ℕ → List X
-listed f zero = []
-listed f (suc n) = f 0 ∷ listed (λ k. f (suc k)) n
-
-length-listed : {X : Type 0} (f : ℕ → X) (n : ℕ) → length (listed f n) ≡ n
-unfolding listed
-length-listed f zero = refl
-length-listed f (suc n) = ap suc (length-listed (λ k. f (suc k)) n)
-
-listed_at : {X : Type 0} (f : ℕ → X) (n k : ℕ) (d : X) → k < n → slice_index_or (listed f n) k d ≡ f k
-unfolding listed
-listed_at f zero k d lt = absurd (omega arith)
-listed_at f (suc n) zero d lt = refl
-listed_at f (suc n) (suc k) d lt = listed_at (λ j. f (suc j)) n k d (omega arith)
-
--- the slot's own number, where it has a file
-pub own_number : Option Closed → ℕ → Option ℕ
-own_number None slot = None
-own_number (Some file) slot = Some slot
-
-abbrev pub table_with_files : ℕ → ℕ × ℕ → (ℕ → Option Closed) → Contents
-table_with_files size range at = record {
-  slots = listed (λ k. own_number (at k) k) size;
-  range = range;
-  nodes = listed (λ k. moved_node (at k) k) size;
-  holds = [];
-  numbers = size;
-}
 
 abbrev pub NonePast : ℕ → (ℕ → Option Closed) → Type 0
 NonePast size at = (slot : ℕ) → size ≤ slot → at slot ≡ None
 
-shows_own : (nodes : List Node) (slot : ℕ) (x : Option Closed) → node_at nodes slot ≡ moved_node x slot
-    → identity_of (file_at nodes (own_number x slot)) ≡ x
-unfolding own_number
-shows_own nodes slot None is = refl
-shows_own nodes slot (Some file) is = ap (λ (node : Node). identity_of (placed_at slot node)) is
-
-shows_at : (size : ℕ) (range : ℕ × ℕ) (at : ℕ → Option Closed) → NonePast size at → (slot : ℕ)
-    → identity_of ((state_of (table_with_files size range at)).at slot) ≡ at slot
-shows_at size range at none slot = elim (cases_lt slot size) [
-  | inl lt ↦
-      ap (λ (number : Option ℕ). identity_of (file_at (listed (λ k. moved_node (at k) k) size) number)) (listed_at (λ k. own_number (at k) k) size slot None lt)
-      ∙ shows_own (listed (λ k. moved_node (at k) k) size) slot (at slot) (listed_at (λ k. moved_node (at k) k) size slot (moved_node None slot) lt)
-  | inr le ↦
-      let past : length (listed (λ k. own_number (at k) k) size) ≤ slot = let long = length-listed (λ k. own_number (at k) k) size in omega arith in
-      ap (λ (number : Option ℕ). identity_of (file_at (listed (λ k. moved_node (at k) k) size) number))
-      (get_or-eq_default (listed (λ k. own_number (at k) k) size) None past)
-      ∙ sym (none slot le)
-]
+-- the files of a ring, under their slots' numbers
+abbrev state_with_files : RingState → State
+state_with_files ring = record (vacant ring.size) { range = ring.range; at = λ slot. option_map (numbered slot) (ring.at slot) }
 
 abbrev pub ring_with_files : RingState → RingContents
-ring_with_files ring = record {
-  catalogue = ring.catalogue;
-  table = table_with_files ring.size ring.range ring.at;
-  submissions = ring.submissions;
-  registrations = ring.registrations;
-}
+ring_with_files ring = ring_with ring.catalogue (table_with_files (state_with_files ring)) ring.submissions ring.registrations
+
+same_file : (slot : ℕ) (x : Option Closed) → identity_of (option_map (numbered slot) x) ≡ x
+same_file slot None = refl
+same_file slot (Some file) = refl
 
 pub shows_ring : (ring : RingState) → NonePast ring.size ring.at → ring_of (ring_with_files ring) ≡ ring
-shows_ring ring none = λ i. record {
-  catalogue = ring.catalogue;
-  size = length-listed (λ k. own_number (ring.at k) k) ring.size i;
-  range = ring.range;
-  at = λ slot. shows_at ring.size ring.range ring.at none slot i;
-  submissions = ring.submissions;
-  registrations = ring.registrations;
-}
+shows_ring ring none =
+    ring_so (state_with_files ring) (λ slot past. ap (option_map (numbered slot)) (none slot past)) ring.catalogue ring.submissions ring.registrations
+    ∙ (λ i. record ring { at = λ slot. same_file slot (ring.at slot) i })
 
 -- no table has a file past its slots, and no accesses bring one there
 

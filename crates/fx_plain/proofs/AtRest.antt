@@ -2,11 +2,12 @@
 use Rattle.fx_plain.proofs.Words.{◌≡◌, ◌≢◌, ℕ, zero, suc, ◌+◌, ◌<◌, ◌≤◌, true, false, List, [], ◌∷◌, map, sym, ap, subst, ◌∙◌, Option, Some, None}
 use Rattle.fx_plain.proofs.Words.{refl, if◌then◌else◌, arith, get_or-eq_default, State, IsSettled, opening, file_numbered, Allows, AllowsAll, after}
 use Rattle.fx_plain.proofs.Words.{state_after, changed_at, action_of, File, Event, Action, Put, Clear, Take, Allocate, Look, IsLegal, Contents}
-use Rattle.fx_plain.proofs.Words.{state_of, slot_at, file_at}
+use Rattle.fx_plain.proofs.Words.{state_of, file_at}
 use Rattle.fx_plain.specs.Laws.{IsStart}
 use Rattle.fx_plain.specs.Reopening.{IsAtRest}
 use Rattle.fx_plain.proofs.Cells.{by_equality}
 use Rattle.fx_plain.proofs.Named.{named, named_same}
+use Rattle.fx_plain.proofs.Prepared.{opening_is_start}
 use Rattle.fx_plain.proofs.Sums.{sum_below, sum_grows}
 use Rattle.fx_plain.proofs.LawTallies.{bit, placed_one, tally, tally_start, tally_all}
 
@@ -64,13 +65,8 @@ stays_at_rest start end h rest legal settled = record {
   inside = subst HasNonePast (sym legal.leads.1) (inside_behind start (map action_of h) legal.leads.0 rest.inside);
 }
 
-no_file_there : (x : Option File) (slot : ℕ) → x ≡ None → file_numbered x slot ≡ None
-no_file_there None slot is = refl
-no_file_there (Some f) slot is = absurd (cc is)
-
 pub opens_inside : (plain : Contents) (numbers : ℕ) → HasNonePast (opening (state_of plain) numbers)
-opens_inside plain numbers slot le = no_file_there (file_at plain.nodes (slot_at plain.slots slot)) slot
-    (ap (file_at plain.nodes) (get_or-eq_default plain.slots None le))
+opens_inside plain numbers slot le = ap (λ (x : Option ℕ). file_numbered (file_at plain.nodes x) slot) (get_or-eq_default plain.slots None le)
 
-pub opening_is_at_rest : (plain : Contents) (numbers : ℕ) → IsStart (opening (state_of plain) numbers) → IsAtRest (opening (state_of plain) numbers)
-opening_is_at_rest plain numbers start = record { start = start; inside = opens_inside plain numbers }
+pub opening_is_at_rest : (plain : Contents) (numbers : ℕ) → IsAtRest (opening (state_of plain) numbers)
+opening_is_at_rest plain numbers = record { start = opening_is_start (state_of plain) numbers; inside = opens_inside plain numbers }

@@ -23,6 +23,7 @@ pub mod WorkersTogether
 pub mod NewCrew
 pub mod PlayedCrew
 pub mod SubmissionLaws
+pub mod TableOfState
 pub mod LoneHistories
 pub mod LonePlays
 pub mod LoneEnds

@@ -1,17 +1,13 @@
 -- What a pass alone did between two settled moments, as the history of one submission.
-use Rattle.fx_ring.proofs.Words.{◌≡◌, ◌≢◌, ℕ, zero, suc, ◌+◌, ◌-◌, ◌*◌, ◌<◌, ◌≤◌, ◌==◌, Bool, true, false, not, ◌&&◌, nat_lt, cond, List, [], ◌∷◌, ◌++◌, map, filter}
-use Rattle.fx_ring.proofs.Words.{length, length-append, refl, sym, ap, subst, ◌∙◌, arith, Option, Some, None, All, All-head, All-tail, All-weaker, Contains}
-use Rattle.fx_ring.proofs.Words.{slice_index_or, by_equality, cases_lt, lt-ltb, inl, inr, IsPermutation, IsNonDecreasingBy, FileEntry, CloseListView, Closed}
-use Rattle.fx_ring.proofs.Words.{State, IsSettled, IsStart, opening, file_numbered, Contents, state_of, IsLegal, action_of, closes_in, closed_by}
-use Rattle.fx_ring.proofs.Words.{part_of_chain, identity_of, File, Event, Action, Opening, size_of, state_at, PassView, numbers_for}
-use Rattle.fx_ring.proofs.Words.{Completed, Explains, first_member, Asked, runs_of, IsShortRun, HasClosed, ring_of, ring_with}
-use Rattle.fx_ring.proofs.Words.{with_table, IsOneHistory, HasWorked, worker_state, completions_of_chain, run_of_chain}
-use Rattle.fx_plain.specs.Contents.{file_at, placed_at, node_at, slot_at}
-use Rattle.fx_plain.specs.declared.node.Node.TheVariants.{Gone}
+use Rattle.fx_ring.proofs.Words.{◌≡◌, ◌≢◌, ℕ, zero, suc, ◌+◌, ◌-◌, ◌*◌, ◌<◌, ◌≤◌, ◌==◌, true, false, not, cond, List, [], ◌∷◌, ◌++◌, map, filter}
+use Rattle.fx_ring.proofs.Words.{length, refl, sym, ap, subst, ◌∙◌, arith, Option, None, All, All-head, All-tail, All-weaker, Contains, by_equality}
+use Rattle.fx_ring.proofs.Words.{IsPermutation, IsNonDecreasingBy, FileEntry, CloseListView, Closed, State, opening, state_of, IsLegal, action_of}
+use Rattle.fx_ring.proofs.Words.{closes_in, closed_by, part_of_chain, File, Event, Action, Opening, size_of, state_at, PassView, numbers_for}
+use Rattle.fx_ring.proofs.Words.{Completed, Explains, first_member, Asked, runs_of, IsShortRun, HasClosed, ring_of, ring_with, with_table}
+use Rattle.fx_ring.proofs.Words.{IsOneHistory, HasWorked, worker_state, completions_of_chain, run_of_chain}
 use Rattle.fx_plain.specs.declared.table.TheConstants.{MOST_SLOTS}
 use Rattle.fx_plain.specs.History.{held_by, ◌▷▷◌}
 use Rattle.fx_plain.specs.Reopening.{Renaming, renamed, renamed_event, numbers_given, IsAtRest, HasOtherNumbers}
-use Rattle.fx_plain.proofs.Cells.{read_default}
 use Rattle.fx_plain.proofs.AtRest.{opening_is_at_rest, stays_at_rest}
 use Rattle.fx_plain.proofs.Leading.{same_size}
 use Rattle.fx_plain.proofs.Behind.{legal_behind}
@@ -19,105 +15,16 @@ use Rattle.fx_plain.proofs.OpenedAnew.{opened_anew}
 use Rattle.fx_table.specs.Opening.{start_of}
 use Rattle.fx_table.specs.Settling.{IsSettledSoFar}
 use Rattle.fx_table.proofs.Members.{contains_map, contains_mapped, each_all}
-use Rattle.fx_table.proofs.Preparing.{same_identity}
 use Rattle.fx_chain.proofs.OtherNumbers.{explains, few_given, given_one}
-use Rattle.fx_ring.specs.OpenRings.{listed, number_if, node_if, table_with_files, chain_less, begun_behind}
+use Rattle.fx_ring.specs.OpenRings.{table_with_files, chain_less, begun_behind}
+use Rattle.fx_ring.proofs.TableOfState.{opened_so, ring_so, size_there}
 use Rattle.fx_ring.proofs.Parts.{has, lacks, kept_lacking, within_lacking, none_within}
 use Rattle.fx_ring.proofs.PartsExplained.{IsShort, in_order_explained}
-use Rattle.std.proofs.lemmas.List.{get_or_append_left, get_or_past}
-use Rattle.std.proofs.Math.Seq.{get_or-append_seam}
 
--- lists of what stands at places
-
-length_listed : {X : Type 0} (at : ℕ → X) (n : ℕ) → length (listed at n) ≡ n
-length_listed at zero = refl
-length_listed at (suc n) = let rest = length_listed at n in let both = length-append (listed at n) (at n ∷ []) in omega arith
-
-read_listed : {X : Type 0} (at : ℕ → X) (n i : ℕ) (d : X) → i < n → slice_index_or (listed at n) i d ≡ at i
-read_listed at zero i d lt = absurd (omega arith)
-read_listed at (suc n) i d lt = by_equality i n (λ _. slice_index_or (listed at n ++ at n ∷ []) i d ≡ at i)
-    (λ same. ap (λ (k : ℕ). slice_index_or (listed at n ++ at n ∷ []) k d) (same ∙ sym (length_listed at n))
-    ∙ get_or-append_seam (listed at n) (at n) [] d ∙ ap at (sym same))
-    (λ other. let below : i < length (listed at n) = let len = length_listed at n in omega arith in
-    get_or_append_left (listed at n) (at n ∷ []) d i below ∙ read_listed at n i d (omega arith))
-
--- the table with the files of a state
-
-module _ (st : State) (inside : (slot : ℕ) → st.size ≤ slot → st.at slot ≡ None) where
-  abbrev table : Contents
-  table = table_with_files st
-
-  placed_so : (slot : ℕ) (x : Option File) → st.at slot ≡ x → slot < st.size → file_at table.nodes (number_if slot x) ≡ file_numbered x slot
-  placed_so slot None is lt = refl
-  placed_so slot (Some f) is lt =
-      ap (placed_at slot) (read_listed (λ k. node_if k (st.at k)) st.size slot Gone lt ∙ ap (node_if slot) is)
-
-  at_slot : (slot : ℕ) → file_at table.nodes (slot_at table.slots slot) ≡ file_numbered (st.at slot) slot
-  at_slot slot = elim (cases_lt slot st.size) [
-    | inl lt ↦ ap (file_at table.nodes) (read_listed (λ k. number_if k (st.at k)) st.size slot None lt) ∙ placed_so slot (st.at slot) refl lt
-    | inr le ↦ ap (file_at table.nodes) (get_or_past table.slots slot None (let len = length_listed (λ k. number_if k (st.at k)) st.size in omega arith))
-        ∙ sym (ap (λ (x : Option File). file_numbered x slot) (inside slot le))
-  ]
-
-  again : (x : Option File) (slot : ℕ) → file_numbered (file_numbered x slot) slot ≡ file_numbered x slot
-  again None slot = refl
-  again (Some f) slot = refl
-
-  pub opened_so : (numbers : ℕ) → opening (state_of table) numbers ≡ opening st numbers
-  opened_so numbers = λ i. record (opening st numbers) {
-    size = length_listed (λ k. number_if k (st.at k)) st.size i;
-    at = λ slot. (ap (λ (x : Option File). file_numbered x slot) (at_slot slot) ∙ again (st.at slot) slot) i;
-    fresh = λ n. not (nat_lt n (length_listed (λ k. number_if k (st.at k)) st.size i)) && nat_lt n numbers;
-  }
-
-  pub told_at : (slot : ℕ) → identity_of (file_at table.nodes (slot_at table.slots slot)) ≡ identity_of (st.at slot)
-  told_at slot = ap identity_of (at_slot slot) ∙ same_identity (st.at slot) slot
-
-  pub ring_so : (catalogue : List FileEntry) (submissions registrations : ℕ)
-      → ring_of (ring_with catalogue table submissions registrations) ≡ record (with_table (ring_of (ring_with catalogue table submissions registrations)) st) { submissions = submissions }
-  ring_so catalogue submissions registrations = λ i. record (ring_of (ring_with catalogue table submissions registrations)) {
-    size = length_listed (λ k. number_if k (st.at k)) st.size i;
-    range = st.range;
-    at = λ slot. told_at slot i;
-  }
-
-pub size_there : (st : State) → (state_of (table_with_files st)).size ≡ st.size
-size_there st = length_listed (λ k. number_if k (st.at k)) st.size
-
--- a table that is opened
-
-number_there : (x : Option File) (slot : ℕ) (f : File) → file_numbered x slot ≡ Some f → f.number ≡ slot
-number_there None slot f is = cc
-number_there (Some g) slot f is = cc
-
-pub opening_starts : (st : State) (numbers : ℕ) → IsStart (opening st numbers)
-opening_starts st numbers = record {
-  settled = record { unheld = λ _. refl; closed = λ _. refl };
-  distinct = λ slot other f g below below_other is is_other same.
-      sym (number_there (st.at slot) slot f is) ∙ same ∙ number_there (st.at other) other g is_other;
-  used = λ slot f below is. ap (λ (b : Bool). not b && nat_lt f.number numbers)
-      (lt-ltb f.number st.size (let e = number_there (st.at slot) slot f is in omega arith));
-}
-
+-- a table is at rest wherever all is settled
 pub at_rest_of : (o : Opening) (v : PassView) → IsSettledSoFar o v → IsAtRest (state_at o v.own)
 at_rest_of o v settled = stays_at_rest (start_of o) (state_at o v.own) v.own
-    (opening_is_at_rest o.contents (numbers_for o.chains) (opening_starts (state_of o.contents) (numbers_for o.chains))) settled.legal settled.settled
-
--- a table with the files of a state is settled
-
-none_removed : (slot : ℕ) (x : Option File) → Rattle.fx_plain.specs.Contents.removed_at slot (node_if slot x) ≡ None
-none_removed slot None = refl
-none_removed slot (Some f) = refl
-
-pub table_settled : (st : State) → IsSettled (state_of (table_with_files st))
-table_settled st = record {
-  unheld = λ n. read_default st.size n 0;
-  closed = λ n. elim (cases_lt n st.size) [
-    | inl lt ↦ ap (Rattle.fx_plain.specs.Contents.removed_at n) (read_listed (λ k. node_if k (st.at k)) st.size n Gone lt) ∙ none_removed n (st.at n)
-    | inr le ↦ ap (Rattle.fx_plain.specs.Contents.removed_at n) (get_or_past (table_with_files st).nodes n Gone
-        (let len = length_listed (λ k. node_if k (st.at k)) st.size in omega arith))
-  ];
-}
+    (opening_is_at_rest o.contents (numbers_for o.chains)) settled.legal settled.settled
 
 -- what others than the pass hold
 

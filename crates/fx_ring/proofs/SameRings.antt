@@ -1,28 +1,12 @@
 -- Rings that show the same may do the same: which numbers their files have makes no difference.
-use Rattle.fx_ring.proofs.Words.{◌≡◌, ℕ, List, refl, sym, ap, subst, ◌∙◌, Option, Some, None, File, State, state_of, identity_of, file_numbered, opening, numbers_for}
-use Rattle.fx_ring.proofs.Words.{Asked, runs_of, length, Reported, IsOneHistory, RingContents, RingState, ring_of, with_table, IsLegal, ExplainsParts}
-use Rattle.fx_ring.proofs.Words.{◌+◌, ◌&&◌, not, nat_lt}
-use Rattle.fx_base.specs.Identity.{Identity}
-
-abbrev numbered : Option Identity → ℕ → Option File
-numbered None slot = None
-numbered (Some identity) slot = Some (record { number = slot; identity = identity })
-
-numbered_so : (x : Option File) (slot : ℕ) → file_numbered x slot ≡ numbered (identity_of x) slot
-numbered_so None slot = refl
-numbered_so (Some f) slot = refl
+use Rattle.fx_ring.proofs.Words.{◌≡◌, ℕ, List, sym, subst, State, state_of, opening, numbers_for, Asked, runs_of, length, Reported, IsOneHistory}
+use Rattle.fx_ring.proofs.Words.{RingContents, RingState, ring_of, with_table, IsLegal, ExplainsParts, ◌+◌}
+use Rattle.fx_plain.proofs.Prepared.{opens_alike}
 
 pub same_opened : (old same : RingContents) → ring_of same ≡ ring_of old → (numbers : ℕ)
     → opening (state_of old.table) numbers ≡ opening (state_of same.table) numbers
-same_opened old same is numbers = λ i. record {
-  size = (sym is i).size;
-  range = (sym is i).range;
-  at = λ slot. (numbered_so ((state_of old.table).at slot) slot ∙ ap (λ (r : RingState). numbered (r.at slot) slot) (sym is)
-      ∙ sym (numbered_so ((state_of same.table).at slot) slot)) i;
-  removed = λ _. None;
-  holds = λ _. 0;
-  fresh = λ number. not (nat_lt number (sym is i).size) && nat_lt number numbers;
-}
+same_opened old same is =
+    opens_alike (state_of old.table) (state_of same.table) (λ i. (sym is i).size) (λ i. (sym is i).range) (λ slot i. (sym is i).at slot)
 
 pub same_history : (old same new : RingContents) (requests : List Asked) (report : Reported) → ring_of same ≡ ring_of old
     → IsOneHistory old requests report new → IsOneHistory same requests report new

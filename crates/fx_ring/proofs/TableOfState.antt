@@ -1,0 +1,72 @@
+-- A table that is made with the files of a state.
+use Rattle.fx_ring.proofs.Words.{◌≡◌, ℕ, zero, suc, ◌<◌, ◌≤◌, List, [], ◌∷◌, ◌++◌, map, length, refl, sym, ap, ◌∙◌, arith, Option, Some, None}
+use Rattle.fx_ring.proofs.Words.{slice_index_or, cases_lt, inl, inr, FileEntry, State, IsSettled, opening, Contents, state_of, identity_of, File}
+use Rattle.fx_ring.proofs.Words.{ring_of, ring_with, with_table}
+use Rattle.fx_plain.specs.Contents.{file_at, placed_at, removed_at, slot_at}
+use Rattle.fx_plain.specs.declared.node.Node.{Node}
+use Rattle.fx_plain.specs.declared.node.Node.TheVariants.{Gone}
+use Rattle.fx_plain.proofs.Cells.{read_default}
+use Rattle.fx_plain.proofs.Prepared.{opens_alike}
+use Rattle.fx_ring.specs.OpenRings.{listed, number_if, node_if, table_with_files}
+use Rattle.std.specs.List.{range_with_len}
+use Rattle.std.proofs.Common.{add-one}
+use Rattle.std.proofs.lemmas.List.{get_or_past}
+use Rattle.std.proofs.lemmas.List.FromFn.{map-range_with_len_more, length-map-range_with_len, get_or-map-range_with_len}
+
+listed_is : {X : Type 0} (at : ℕ → X) (n : ℕ) → listed at n ≡ map at (range_with_len 0 n)
+listed_is at zero = refl
+listed_is at (suc n) = ap (λ l. l ++ at n ∷ []) (listed_is at n) ∙ sym (map-range_with_len_more at 0 n n (omega arith))
+    ∙ ap (λ (k : ℕ). map at (range_with_len 0 k)) (add-one n)
+
+length_listed : {X : Type 0} (at : ℕ → X) (n : ℕ) → length (listed at n) ≡ n
+length_listed at n = ap length (listed_is at n) ∙ length-map-range_with_len at 0 n
+
+read_listed : {X : Type 0} (at : ℕ → X) (n i : ℕ) (d : X) → i < n → slice_index_or (listed at n) i d ≡ at i
+read_listed at n i d lt = ap (λ l. slice_index_or l i d) (listed_is at n) ∙ get_or-map-range_with_len at 0 n i i d lt (omega arith)
+
+pub size_there : (st : State) → (state_of (table_with_files st)).size ≡ st.size
+size_there st = length_listed (λ k. number_if k (st.at k)) st.size
+
+module _ (st : State) (inside : (slot : ℕ) → st.size ≤ slot → st.at slot ≡ None) where
+  abbrev table : Contents
+  table = table_with_files st
+
+  placed_so : (slot : ℕ) (x : Option File) → st.at slot ≡ x → slot < st.size → identity_of (file_at table.nodes (number_if slot x)) ≡ identity_of x
+  placed_so slot None is lt = refl
+  placed_so slot (Some f) is lt =
+      ap (λ (node : Node). identity_of (placed_at slot node)) (read_listed (λ k. node_if k (st.at k)) st.size slot Gone lt ∙ ap (node_if slot) is)
+
+  pub told_at : (slot : ℕ) → identity_of (file_at table.nodes (slot_at table.slots slot)) ≡ identity_of (st.at slot)
+  told_at slot = elim (cases_lt slot st.size) [
+    | inl lt ↦ ap (λ (x : Option ℕ). identity_of (file_at table.nodes x)) (read_listed (λ k. number_if k (st.at k)) st.size slot None lt)
+        ∙ placed_so slot (st.at slot) refl lt
+    | inr le ↦ ap (λ (x : Option ℕ). identity_of (file_at table.nodes x)) (get_or_past table.slots slot None (let len = size_there st in omega arith))
+        ∙ sym (ap identity_of (inside slot le))
+  ]
+
+  pub opened_so : (numbers : ℕ) → opening (state_of table) numbers ≡ opening st numbers
+  opened_so = opens_alike (state_of table) st (size_there st) refl told_at
+
+  pub ring_so : (catalogue : List FileEntry) (submissions registrations : ℕ)
+      → ring_of (ring_with catalogue table submissions registrations)
+      ≡ record (with_table (ring_of (ring_with catalogue table submissions registrations)) st) { submissions = submissions }
+  ring_so catalogue submissions registrations = λ i. record (ring_of (ring_with catalogue table submissions registrations)) {
+    size = size_there st i;
+    range = st.range;
+    at = λ slot. told_at slot i;
+  }
+
+-- it is settled
+none_removed : (slot : ℕ) (x : Option File) → removed_at slot (node_if slot x) ≡ None
+none_removed slot None = refl
+none_removed slot (Some f) = refl
+
+pub table_settled : (st : State) → IsSettled (state_of (table_with_files st))
+table_settled st = record {
+  unheld = λ n. read_default st.size n 0;
+  closed = λ n. elim (cases_lt n st.size) [
+    | inl lt ↦ ap (removed_at n) (read_listed (λ k. node_if k (st.at k)) st.size n Gone lt) ∙ none_removed n (st.at n)
+    | inr le ↦ ap (removed_at n) (get_or_past (table_with_files st).nodes n Gone
+        (let len = length_listed (λ k. node_if k (st.at k)) st.size in omega arith))
+  ];
+}
