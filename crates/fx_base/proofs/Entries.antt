@@ -1,9 +1,10 @@
 -- The entries of a catalogue, by their places.
 use Rattle.std.proofs.Common.{rules, ◌≡◌, ◌⊎◌, inl, inr, ℕ, suc, zero, ◌<◌, ◌≤◌, Bool, true, false, List, [], ◌∷◌, ◌++◌, length, refl, sym, ap, ◌∙◌}
-use Rattle.std.proofs.Common.{Option, Some, All, slice_index_or, slice_get, subst, length-append, arith, option_map, string_bytes}
+use Rattle.std.proofs.Common.{Option, Some, None, All, slice_index_or, slice_get, subst, length-append, arith, option_map, string_bytes}
 use Rattle.std.proofs.lemmas.List.{get_or-map, length-map}
 use Rattle.std.proofs.lemmas.List.Elements.{All-append}
-use Rattle.std.proofs.lemmas.Option.{slice_get-map, slice_get_read}
+use Rattle.std.proofs.lemmas.Option.{slice_get-map, slice_get_past, slice_get_read}
+use Rattle.std.proofs.lemmas.Bool.{cases_lt}
 use Rattle.std.proofs.lemmas.Slice.Eq.{bytes_eq-Decides}
 use Rattle.std.proofs.lemmas.Grind.{common_steps}
 use Rattle.std.specs.Str.{bytes_eq}
@@ -31,6 +32,17 @@ or_left false b is = refl
 pub or_right : (a b : Bool) → a || b ≡ false → b ≡ false
 or_right true b is = cc
 or_right false b is = is
+
+pub both_false : (a b : Bool) → a ≡ false → b ≡ false → a || b ≡ false
+both_false true b left right = cc
+both_false false b left right = right
+
+-- an entry with a name is one of the catalogue
+pub entry_named : (catalogue : List FileEntry) (entry : ℕ) (name : List ℕ) → name_at catalogue entry ≡ Some name → entry < length catalogue
+entry_named catalogue entry name is = elim (cases_lt entry (length catalogue)) [
+  | inl inside ↦ inside
+  | inr past ↦ let e : None ≡ Some name = sym (ap (option_map (λ (file : FileEntry). file.name)) (slice_get_past catalogue entry past)) ∙ is in cc
+]
 
 -- a name that no entry has is at no place
 not_named : (catalogue : List FileEntry) (name : List ℕ) → has_name name catalogue ≡ false → (i : ℕ) → name_at catalogue i ≡ Some name → ⊥

@@ -1,6 +1,6 @@
 -- The files that are kept of a ring, and those that a list removes, are few and of the catalogue.
-use Rattle.std.proofs.Common.{◌≡◌, ℕ, zero, suc, ◌+◌, ◌<◌, ◌≤◌, ◌^◌, Bool, true, false, ◌||◌, ℤ, pos, negsuc, List, [], ◌∷◌, length, All}
-use Rattle.std.proofs.Common.{refl, sym, ap, subst, arith, Option, Some, None, Result, Ok, Err, IfOk, length-append}
+use Rattle.std.proofs.Common.{◌≡◌, ℕ, zero, suc, ◌+◌, ◌<◌, ◌≤◌, ◌^◌, false, ℤ, pos, negsuc, List, [], ◌∷◌, length, All, refl, sym, ap, subst, arith}
+use Rattle.std.proofs.Common.{Option, Some, None, Result, Ok, Err, IfOk, length-append}
 use Rattle.std.specs.List.{list_any}
 use Rattle.std.specs.Option.{option_to_list}
 use Rattle.std.proofs.lemmas.Bool.{leb-false, lt-leb}
@@ -13,7 +13,8 @@ use Rattle.fx_order.specs.Slots.{ring_with_slots, table_of_slots}
 use Rattle.fx_plain.specs.declared.table.TheConstants.{MOST_SLOTS}
 use Rattle.fx_ring.specs.Registration.{is_bad_file, removed_from}
 use Rattle.fx_ring.specs.Ring.{HasClosed, IsRing, files_in_order}
-use Rattle.fx_ring.proofs.Numbers.{good_files, or_left, or_right}
+use Rattle.fx_base.proofs.Entries.{both_false, or_left, or_right}
+use Rattle.fx_ring.proofs.Numbers.{good_files}
 use Rattle.fx_ring.proofs.Origins.{few_removed, removed_entries}
 use Rattle.fx_ring.proofs.Rings.{IsEntry, entries_of}
 use Rattle.fx_order.specs.declared.ring_slots.RingSlots.{RingSlots}
@@ -65,15 +66,11 @@ larger_entry : (m n : ℕ) (z : ℤ) → m ≤ n → is_bad_entry m z ≡ false 
 larger_entry m n (pos e) few good = let inside = leb-false m e good in lt-leb n e (omega arith)
 larger_entry m n (negsuc e) few good = good
 
-both_good : (a b : Bool) → a ≡ false → b ≡ false → a || b ≡ false
-both_good true b left right = cc
-both_good false b left right = right
-
 -- what a small catalogue has, a larger one has
 pub good_larger : (m n : ℕ) (list : List ℤ) → m ≤ n → list_any (is_bad_entry m) list ≡ false → list_any (is_bad_entry n) list ≡ false
 good_larger m n [] few good = refl
 good_larger m n (z ∷ list) few good =
-    both_good _ _ (larger_entry m n z few (or_left _ _ good)) (good_larger m n list few (or_right _ _ good))
+    both_false _ _ (larger_entry m n z few (or_left _ _ good)) (good_larger m n list few (or_right _ _ good))
 
 pub good_registered : (m n : ℕ) (list : List ℤ) → m ≤ n → list_any (is_bad_file m) list ≡ false → list_any (is_bad_entry n) list ≡ false
 good_registered m n list few good = good_larger m n list few (good_files m list good)

@@ -1,14 +1,13 @@
 -- What is kept of a ring is what some ring shows.
-use Rattle.std.proofs.Common.{◌≡◌, List, None}
-use Rattle.std.proofs.Math.ListN.{get_or-eq_default}
+use Rattle.std.proofs.Common.{◌≡◌, List}
 use Rattle.fx_base.specs.Catalogue.{FileEntry}
 use Rattle.fx_ring.specs.Ring.{RingContents, ring_of}
-use Rattle.fx_order.proofs.Shown.{ring_with_files, shows_ring}
+use Rattle.fx_order.proofs.Shown.{none_past, ring_with_files, shows_ring}
 use Rattle.fx_order.specs.declared.ring_slots.RingSlots.{RingSlots}
 use Rattle.fx_order.specs.Slots.{ring_with_slots}
 
 pub shown : (catalogue : List FileEntry) (ring : RingSlots) → (next : RingContents) × (ring_of next ≡ ring_with_slots catalogue ring)
 shown catalogue ring = (
   ring_with_files (ring_with_slots catalogue ring),
-  shows_ring (ring_with_slots catalogue ring) (λ slot past. get_or-eq_default ring.slots.at.items None past),
+  shows_ring (ring_with_slots catalogue ring) (none_past catalogue ring),
 )

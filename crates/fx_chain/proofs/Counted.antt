@@ -36,7 +36,8 @@ pub record IsFine (chains members installs : ℕ) (r : Asked) : Type 0 where
   pub room : installs + installs_of r.operation ≤ CHAIN_NUMBERS
   pub not_last : members ≡ 0 → chains ≢ MAX_CHAINS
 
-passed : {X : Type 0} (b : Bool) (x : X) (rest : Option X) → (if b then Some x else rest) ≡ None → (b ≡ false) × (rest ≡ None)
+-- where nothing is found, the first test doesn't hold, and those behind it find nothing
+pub passed : {X : Type 0} (b : Bool) (x : X) (rest : Option X) → (if b then Some x else rest) ≡ None → (b ≡ false) × (rest ≡ None)
 passed true x rest none = cc
 passed false x rest none = (refl, none)
 

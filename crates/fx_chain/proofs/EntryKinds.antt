@@ -1,8 +1,8 @@
 -- The entries of an update, by their sign, and how a list of them goes on.
-use Rattle.fx_chain.proofs.Words.{◌≡◌, ℕ, zero, suc, ◌+◌, ◌<◌, Bool, true, false, if◌then◌else◌, ◌||◌, ℤ, pos, negsuc, int_le, int_lt, List, [], ◌∷◌}
-use Rattle.fx_chain.proofs.Words.{◌++◌, length, filter, take, drop, add-one, refl, sym, ap, subst, ◌∙◌, slice_index_or, arith, nat_abs, ltb-true}
-use Rattle.fx_chain.proofs.Words.{le-leb, append-nil, length-take-le, take_more, filter-append, Action, ◌▷▷◌, AppliesEntry, AppliesList}
-use Rattle.fx_chain.proofs.Words.{is_bad_entry, Opening, PlayerView, ActsSo, entry_installs, list_installs, Place}
+use Rattle.fx_chain.proofs.Words.{◌≡◌, ℕ, zero, suc, ◌+◌, ◌<◌, Bool, true, false, if◌then◌else◌, ℤ, pos, negsuc, int_le, int_lt, List, [], ◌∷◌, ◌++◌}
+use Rattle.fx_chain.proofs.Words.{length, filter, take, drop, add-one, refl, sym, ap, subst, ◌∙◌, slice_index_or, arith, nat_abs, ltb-true, le-leb}
+use Rattle.fx_chain.proofs.Words.{append-nil, length-take-le, take_more, filter-append, Action, ◌▷▷◌, AppliesEntry, AppliesList, is_bad_entry}
+use Rattle.fx_chain.proofs.Words.{Opening, PlayerView, ActsSo, entry_installs, list_installs, Place}
 use Rattle.std.proofs.lemmas.List.{append_assoc, length-append}
 use Rattle.std.proofs.Math.Seq.{drop-cons}
 use Rattle.fx_chain.proofs.ActsInTurn.{so_said, so_then}
@@ -30,14 +30,6 @@ pub list_installs-push : (list : List ℤ) (z : ℤ) → list_installs (list ++ 
 list_installs-push list z =
     ap length (filter-append (λ entry. int_le (pos 0) entry) list (z ∷ [])) ∙ length-append (installing list) (installing (z ∷ []))
     ∙ ap (λ (n : ℕ). list_installs list + n) (list_installs-cons z []) ∙ omega arith
-
-or_left : (a b : Bool) → a || b ≡ false → a ≡ false
-or_left true b is = cc
-or_left false b is = refl
-
-or_right : (a b : Bool) → a || b ≡ false → b ≡ false
-or_right true b is = cc
-or_right false b is = is
 
 -- an entry that is neither installed nor emptied leaves its slot
 pub leaves_slot : (place : Place) (in_list slot entries : ℕ) (z : ℤ) → is_bad_entry entries z ≡ false → int_le (pos 0) z ≡ false

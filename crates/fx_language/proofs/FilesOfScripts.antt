@@ -2,7 +2,7 @@
 use Rattle.std.proofs.Common.{◌≡◌, ℕ, ◌+◌, ◌<◌, ◌≤◌, ◌==◌, nat_le, nat_lt, Bool, true, false, not, List, [], ◌∷◌, ◌++◌, length, refl, subst, arith}
 use Rattle.std.proofs.Common.{Option, option_and_then, Result, Ok, Err, ok_or, IfOk, if◌then◌else◌}
 use Rattle.std.specs.Str.{bytes_eq}
-use Rattle.std.proofs.lemmas.Bool.{leb-false, ltb-false}
+use Rattle.std.proofs.lemmas.Bool.{leb-false, ltb-false, not-false}
 use Rattle.std.proofs.lemmas.List.Elements.{All-append, All-nil, All-cons}
 use Rattle.std.specs.Prelude.{codes}
 use Rattle.std.specs.Result.{result_ok}
@@ -20,17 +20,13 @@ use Rattle.fx_language.specs.declared.fault.ScriptFault.TheVariants.{BadHex}
 use Rattle.fx_language.specs.declared.limits.TheConstants.{LONGEST_SCRIPT, LONGEST_LINE}
 use Rattle.fx_language.specs.Line.{Line, FileLine, CommandLine, RequestLine, SubmitLine, line_of, ◌>>=◌}
 use Rattle.fx_language.specs.Lines.{lines, words, is_printable, is_skipped}
-use Rattle.fx_language.specs.Script.{AreFiles, LineFault, Meaning, Progress, IsScript, after_file, after_line, after_text, after_texts, at_end, is_late, line_fault_of}
-use Rattle.fx_language.specs.Script.{nothing, on_line, reading_of, unless, with_file}
+use Rattle.fx_language.specs.Script.{AreFiles, LineFault, Meaning, Progress, IsScript, after_file, after_line, after_text, after_texts, at_end}
+use Rattle.fx_language.specs.Script.{is_late, line_fault_of, nothing, on_line, reading_of, unless, with_file}
 
 -- what holds of both branches of a test
 either_if : {A : Type 0} (P : A → Type 0) (b : Bool) (x y : A) → (b ≡ true → P x) → (b ≡ false → P y) → P (if b then x else y)
 either_if P true x y yes_so not_so = yes_so refl
 either_if P false x y yes_so not_so = not_so refl
-
-not_false : (b : Bool) → not b ≡ false → b ≡ true
-not_false true is = refl
-not_false false is = cc
 
 -- where lines are read, the files are those of a script
 abbrev Keeps : Result Progress ScriptFault → Type 0
@@ -57,7 +53,7 @@ module _ (p : Progress) (are : AreFiles p.catalogue) where
       (λ _. either_if Kept (not (is_name name)) _ _ (λ _. tt)
       (λ named. either_if Kept (has_name name p.catalogue) _ _ (λ _. tt)
       (λ new. either_if Kept (nat_lt LONGEST_ENTRY (length bytes)) _ _ (λ _. tt)
-      (λ small. grown name bytes (leb-false MOST_ENTRIES (length p.catalogue) few) (not_false (is_name name) named) new
+      (λ small. grown name bytes (leb-false MOST_ENTRIES (length p.catalogue) few) (not-false (is_name name) named) new
       (ltb-false LONGEST_ENTRY (length bytes) small) fits)))))
 
   decoded_keeps : (name hex : List ℕ) (r : Result (List ℕ) FromHexError) → decode_of hex ≡ r

@@ -6,7 +6,8 @@ use Rattle.std.specs.List.{list_all, onto_first}
 use Rattle.std.proofs.lemmas.Str.{IsUtf8-from_ascii}
 use Rattle.std.proofs.lemmas.Str.Ascii.{IsAscii-nil, IsAscii-cons}
 use Rattle.fx_language.specs.Lines.{is_printable, words}
-use Rattle.fx_language.proofs.Conditions.{and_left, and_right, and_true, le_of}
+use Rattle.fx_language.proofs.Conditions.{and_left, and_right, and_true}
+use Rattle.std.proofs.lemmas.Bool.{leb-true}
 
 -- one byte in front of the parts
 one_byte : (ends : Bool) (b : ℕ) (parts : List (List ℕ)) → nat_le 32 b && nat_le b 126 ≡ true → list_all is_printable parts ≡ true
@@ -35,7 +36,7 @@ printable_is_ascii : (word : List ℕ) → is_printable word ≡ true → IsAsci
 printable_is_ascii [] all = IsAscii-nil
 printable_is_ascii (b ∷ bs) all =
     let here : nat_le 32 b && nat_le b 126 ≡ true = and_left (nat_le 32 b && nat_le b 126) (is_printable bs) all in
-    let small : b ≤ 126 = le_of b 126 (and_right (nat_le 32 b) (nat_le b 126) here) in
+    let small : b ≤ 126 = leb-true b 126 (and_right (nat_le 32 b) (nat_le b 126) here) in
     IsAscii-cons b bs (omega arith) (printable_is_ascii bs (and_right (nat_le 32 b && nat_le b 126) (is_printable bs) all))
 
 pub printable_is_text : (word : List ℕ) → is_printable word ≡ true → IsUtf8 word

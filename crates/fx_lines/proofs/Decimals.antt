@@ -6,21 +6,18 @@ use Rattle.std.specs.Prelude.{◌&&◌, ◌||◌}
 use Rattle.std.specs.Str.Parse.{digits_value}
 use Rattle.std.proofs.lemmas.Fmt.{decimal_digit, decimal_nonempty, first_decimal, digits_decimal, digits_value-decimal, decimal-digits_value}
 use Rattle.std.proofs.lemmas.Str.Parse.{IsNumeralModel, IsDigitsTest, numerals_by_value}
-use Rattle.fx_language.proofs.Conditions.{le_of}
 use Rattle.fx_language.specs.Words.{is_decimal, number_up_to}
-
-le_is : (a b : ℕ) → a ≤ b → nat_le a b ≡ true
-le_is a b is = grind (arith, nat_tests)
+use Rattle.std.proofs.lemmas.Bool.{le-leb, leb-true}
 
 tells : IsDigitsTest (λ ds. list_all is_digit ds ≡ true)
 tells = record {
   empty = refl;
   parts = λ c cs all. let here = and_left (is_digit c) (list_all is_digit cs) all in (
-    (le_of 48 c (and_left (nat_le 48 c) (nat_le c 57) here), le_of c 57 (and_right (nat_le 48 c) (nat_le c 57) here)),
+    (leb-true 48 c (and_left (nat_le 48 c) (nat_le c 57) here), leb-true c 57 (and_right (nat_le 48 c) (nat_le c 57) here)),
     and_right (is_digit c) (list_all is_digit cs) all,
   );
   more = λ c cs within all. and_true (is_digit c) (list_all is_digit cs)
-      (and_true (nat_le 48 c) (nat_le c 57) (le_is 48 c within.0) (le_is c 57 within.1)) all;
+      (and_true (nat_le 48 c) (nat_le c 57) (le-leb 48 c within.0) (le-leb c 57 within.1)) all;
 }
 
 own : IsNumeralModel (λ ds. list_all is_digit ds ≡ true) (digits_value 10)
@@ -55,7 +52,7 @@ by_test : (largest bound : ℕ) (word : List ℕ) → largest + 1 ≡ bound → 
     → Reads decimal (λ n. n < bound) word (if test then Some (digits_value 10 word) else None)
 by_test largest bound word next small true is =
     let decimal_word = and_left (is_decimal word) (nat_le (digits_value 10 word) largest) is in
-    let below : digits_value 10 word ≤ largest = le_of _ _ (and_right (is_decimal word) _ is) in
+    let below : digits_value 10 word ≤ largest = leb-true _ _ (and_right (is_decimal word) _ is) in
     record {
       fits_value = omega arith;
       printed = sym (word_is word decimal_word (omega arith));
@@ -64,7 +61,7 @@ by_test largest bound word next small true is =
 by_test largest bound word next small false is = λ other inside same.
     let value : digits_value 10 word ≡ other = ap (digits_value 10) same ∙ digits_value-decimal own other (omega arith) in
     let decimal_word : is_decimal word ≡ true = ap is_decimal same ∙ decimal_is other (omega arith) in
-    let below : nat_le (digits_value 10 word) largest ≡ true = le_is _ _ (omega arith) in
+    let below : nat_le (digits_value 10 word) largest ≡ true = le-leb _ _ (omega arith) in
     let passes = and_true (is_decimal word) (nat_le (digits_value 10 word) largest) decimal_word below in
     true≢false (sym passes ∙ is)
 

@@ -1,14 +1,14 @@
 -- What a play prints begins with no line of a closed file, and with none of a tag.
 use Rattle.fx_lines.proofs.Words.{◌≡◌, ℕ, ◌<◌, ◌≤◌, ◌==◌, Bool, true, false, nat_le, List, [], ◌∷◌, ◌++◌, length, drop, map, refl, sym, ap, subst}
 use Rattle.fx_lines.proofs.Words.{◌∙◌, inl, inr, arith, All, Option, Some, None, if◌then◌else◌, ℤ, pos, codes, decimal, signed_decimal, MatchBool}
-use Rattle.fx_lines.proofs.Words.{append_assoc, All-head, FileEntry, state_of, Event, Completed, Asked, runs_of, are_runs, ExplainsParts, HasNoCloses}
-use Rattle.fx_lines.proofs.Words.{completion_lines, got_text, result_line}
+use Rattle.fx_lines.proofs.Words.{append_assoc, All-head, FileEntry, Closed, state_of, Event, Completed, Asked, runs_of, are_runs, ExplainsParts}
+use Rattle.fx_lines.proofs.Words.{Reported, HasNoCloses, completion_lines, got_text, result_line}
 use Rattle.std.specs.Prelude.{Contains}
 use Rattle.std.specs.Option.{MatchOption}
+use Rattle.std.proofs.lemmas.List.{nil_from_length}
 use Rattle.std.proofs.lemmas.List.Sorted.{length_permutation}
 use Rattle.fx_base.specs.declared.errno.Errno.{Errno}
 use Rattle.fx_base.specs.declared.errno.Errno.TheVariants.{ENOMEM}
-use Rattle.fx_base.specs.declared.open_file.Closed.{Closed}
 use Rattle.fx_plain.specs.History.{action_of, closes_in}
 use Rattle.fx_chain.specs.Completed.{negated}
 use Rattle.fx_chain.specs.Faults.{fault_of}
@@ -16,18 +16,13 @@ use Rattle.fx_chain.specs.declared.fault.CutFault.{CutFault}
 use Rattle.fx_ring.specs.Ring.{RingContents, RingState, files_of, ring_of}
 use Rattle.fx_ring.specs.Registration.{range_refusal, register_refusal, removed_from, sparse_refusal, unregister_refusal, update_refusal}
 use Rattle.fx_ring.specs.Tags.{tags_given}
-use Rattle.fx_ring.specs.Submission.{IsOneHistory, Reported}
+use Rattle.fx_ring.specs.Submission.{IsOneHistory}
 use Rattle.fx_ring.specs.declared.ring.TheConstants.{MOST_SUBMISSIONS}
 use Rattle.fx_language.specs.Instruction.{Instruction, MakesSparse, RegistersList, Unregisters, SetsRange, UpdatesRing, SubmitsAll}
 use Rattle.fx_script.specs.Play.{Answers, IsRefused, Prints, PrintsClosed, PrintsEnd, PrintsReport}
 use Rattle.fx_lines.specs.Laws.{PlaysBeginWithNoClose}
 use Rattle.fx_lines.proofs.FirstBytes.{begins_with_digit, by_first, by_nothing, by_teardown, no_letter}
 use Rattle.fx_print.specs.Text.{closes_text, kind_name, refused_line, too_many_line}
-
--- no files, no lines of them
-no_files : (files : List Closed) → length files ≡ 0 → files ≡ []
-no_files [] empty = refl
-no_files (file ∷ files) empty = absurd (omega arith)
 
 -- the lines of the end
 end_text : (test : Bool) (rest : List ℕ) → HasNoCloses (if test then [] else codes "teardown\n" ++ rest)
@@ -66,7 +61,7 @@ no_closes old asked report new one empty =
     let closed : closes_in (map action_of one.history) ≡ [] = ap (λ (h : List Event). closes_in (map action_of h)) nothing in
     let as_many : length report.closes.files ≡ length (closes_in (map action_of one.history)) =
     length_permutation (closes_in (map action_of one.history)) report.closes.files one.closed.same_files in
-    no_files report.closes.files (as_many ∙ ap length closed)
+    nil_from_length report.closes.files (as_many ∙ ap length closed)
 
 -- the lines of a report, and what stands behind them
 report_begins : (catalogue : List FileEntry) (completions : List Completed) (files : List Closed) (others : List ℕ)

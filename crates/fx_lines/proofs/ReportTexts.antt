@@ -2,11 +2,25 @@
 use Rattle.fx_lines.proofs.Words.{◌≡◌, ℕ, ◌<◌, ◌^◌, true, false, List, [], ◌∷◌, ◌++◌, length, get_or, take, refl, sym, ap, ◌∙◌, Option, Some, None}
 use Rattle.fx_lines.proofs.Words.{◌==◌, true≢false, codes, option_map, Bor, StartsWith, flat_map, append_assoc, take_at, Completed, AreAll, AreSoMany}
 use Rattle.fx_lines.proofs.Words.{IsFront, lines_before, HasNoCloses, IsCloseInRange, IsCompletionInRange, NamedClose, line_of_tag, named_line}
-use Rattle.fx_lines.proofs.Words.{IsPrintedFrom, Reads, completion_line}
+use Rattle.fx_lines.proofs.Words.{IsPrintedFrom, Reads, completion_line, completion_lines, FileEntry, Closed, Reported}
 use Rattle.std.specs.Prelude.{is_some}
-use Rattle.fx_lines.specs.Lines.{IsReportBefore, Lines, ReadsReport, lines_text}
+use Rattle.fx_lines.specs.Lines.{IsReportBefore, Lines, ReadsReport, lines_of, lines_text}
 use Rattle.fx_lines.proofs.LinesInTurn.{not_begun}
 use Rattle.fx_lines.proofs.Readings.{pair_is}
+use Rattle.fx_print.specs.Text.{name_of}
+use Rattle.std.proofs.lemmas.List.Folds.{flat_map-map}
+use Rattle.fx_base.specs.Tags.{tags_of}
+use Rattle.fx_base.specs.declared.tag_completion.TagCompletion.{TagCompletion}
+use Rattle.fx_script.specs.Text.{report_text}
+
+-- the text of a report is that of its lines
+pub printed_lines : (catalogue : List FileEntry) (report : Reported) → report_text catalogue report ≡ lines_text (lines_of catalogue report)
+printed_lines catalogue report =
+    let files = report.closes.files in
+    let named : Closed → NamedClose = λ file. record { mark = file.mark; name = name_of catalogue file.entry } in
+    let closed = flat_map-map named_line named files in
+    let tags = flat_map-map line_of_tag (λ (completion : TagCompletion). completion.user_data) (tags_of files) in
+    λ i. completion_lines report.completions ++ (sym closed i ++ sym tags i)
 
 lines_is : (lines : Lines) (cs : List Completed) (closed : List NamedClose) (tags : List ℕ)
     → lines.completions ≡ cs → lines.closed ≡ closed → lines.tags ≡ tags → lines ≡ record { completions = cs; closed = closed; tags = tags }

@@ -1,6 +1,7 @@
 -- The names that most proofs of this crate use.
 pub use Rattle.fx_base.specs.Catalogue.{FileEntry}
 pub use Rattle.fx_base.specs.declared.mark.Mark.{Mark}
+pub use Rattle.fx_base.specs.declared.open_file.Closed.{Closed}
 pub use Rattle.fx_chain.proofs.Runs.{are_runs}
 pub use Rattle.fx_chain.specs.Completed.{Completed, all_completed}
 pub use Rattle.fx_chain.specs.Operation.{Asked}
@@ -17,7 +18,7 @@ pub use Rattle.fx_lines.specs.Reads.{IsPrintedFrom, Reads}
 pub use Rattle.fx_plain.specs.Contents.{state_of}
 pub use Rattle.fx_plain.specs.declared.event.Event.{Event}
 pub use Rattle.fx_print.specs.Text.{completion_line, completion_lines, got_text, mark_text, result_line}
-pub use Rattle.fx_ring.specs.Submission.{ExplainsParts}
+pub use Rattle.fx_ring.specs.Submission.{ExplainsParts, Reported}
 pub use Rattle.hex.specs.Hex.{IsBytes, encode_lower}
 pub use Rattle.std.proofs.Common.{All, Bool, List, None, Option, Some, [], ap, arith, drop, false, get_or, if◌then◌else◌, inl, inr, length, map}
 pub use Rattle.std.proofs.Common.{nat_le, not, refl, rules, slice_index, subst, suc, sym, take, take-append-drop, true, w32, zero, ℕ, ◌%◌, ◌++◌, ◌+◌}

@@ -2,15 +2,16 @@
 use Rattle.fx_order.proofs.Words.{◌≡◌, inl, inr, ℕ, zero, suc, ◌+◌, ◌==◌, ◌||◌, nat_le, nat_lt, ℤ, pos, negsuc, List, [], ◌∷◌, ◌++◌, length, map}
 use Rattle.fx_order.proofs.Words.{refl, sym, ap, subst, ◌∙◌, append_assoc, Option, Some, None, list_any, append-nil, FileEntry, has_name, Errno}
 use Rattle.fx_order.proofs.Words.{ENOENT, ENXIO, EBADF, ENOMEM, EINVAL, ENFILE, Closed, File, Event, Action, Look, Put, Clear, Take, ◌▷◌, ◌▷▷◌}
-use Rattle.fx_order.proofs.Words.{action_of, part_of_chain, close_of, identity_of, Refuses, MayClose, OpensAt, ReadsAt, ReadsFrom, Empties}
-use Rattle.fx_order.proofs.Words.{AppliesEntry, AppliesList, UpdatesFrom, Answers, is_bad_entry, installed, Completed, refusal, next_member, Explains}
-use Rattle.fx_order.proofs.Words.{severs, first_member, Operation, Opens, Reads, Closes, Updates, Asked, Place, Target, Slot, Any, ExplainsParts}
-use Rattle.fx_order.proofs.Words.{Looks, Puts, Clears, Takes, Allocates, FindsFull, accesses_of_chain, Access, ChainAccess, Makes, IsRefused}
-use Rattle.fx_order.proofs.Words.{IsOpenDone, IsReadDone, IsCloseDone, IsEntryDone, AreEntriesDone, IsUpdateDone, IsRequestDone, IsChainDone}
-use Rattle.fx_order.proofs.Words.{AreChainsDone, gives}
+use Rattle.fx_order.proofs.Words.{action_of, part_of_chain, close_of, Refuses, MayClose, OpensAt, ReadsAt, ReadsFrom, Empties, AppliesEntry}
+use Rattle.fx_order.proofs.Words.{AppliesList, UpdatesFrom, Answers, is_bad_entry, installed, Completed, refusal, next_member, Explains, severs}
+use Rattle.fx_order.proofs.Words.{first_member, Operation, Opens, Reads, Closes, Updates, Asked, Place, Target, Slot, Any, ExplainsParts, Looks, Puts}
+use Rattle.fx_order.proofs.Words.{Clears, Takes, Allocates, FindsFull, accesses_of_chain, Access, ChainAccess, Makes, IsRefused, IsOpenDone}
+use Rattle.fx_order.proofs.Words.{IsReadDone, IsCloseDone, IsEntryDone, AreEntriesDone, IsUpdateDone, IsRequestDone, IsChainDone, AreChainsDone}
+use Rattle.fx_order.proofs.Words.{gives}
 use Rattle.fx_order.proofs.Cases.{same_cases}
 use Rattle.fx_order.proofs.AtOnce.{Does, release_of, no_file}
 use Rattle.fx_order.proofs.Made.{AllDo}
+use Rattle.fx_ring.proofs.Rings.{file_told}
 
 -- the actions of accesses in two parts
 record Parted (xs ys : List Access) (actions : List Action) : Type 0 where
@@ -46,10 +47,6 @@ closes_at_once : (steps : List Action) (x : Option File) (events : List Action) 
 closes_at_once steps None events is = is
 closes_at_once steps (Some f) events is = inr is
 
-a_file : (x : Option File) (file : Closed) → identity_of x ≡ Some file → (f : File) × (x ≡ Some f) × (f.identity ≡ file)
-a_file None file is = absurd (cc)
-a_file (Some f) file is = (f, refl, cc)
-
 module _ (accesses : List Access) (events : List Action) (all : AllDo accesses events) where
   refused : (place : Place) (errno : Errno) (c : Completed) → IsRefused place errno accesses c → Refuses place errno events c
   refused place errno c x = (none_done accesses events x.0 all, x.1)
@@ -81,7 +78,7 @@ module _ (accesses : List Access) (events : List Action) (all : AllDo accesses e
       → Makes (Looks slot (Some file)) (gives catalogue place file off len) accesses c → ReadsAt catalogue place slot off len events c
   found catalogue place slot off len file c x =
       let does = one_done (Looks slot (Some file)) accesses events x.0 all in
-      let there = a_file does.0 file does.1 in
+      let there = file_told does.0 file does.1 in
       inr (
         there.0,
         inl (does.2 ∙ ap (λ (o : Option File). [] ▷ Look slot o ▷▷ release_of o) there.1),
@@ -110,7 +107,7 @@ module _ (accesses : List Access) (events : List Action) (all : AllDo accesses e
             inl (does.2 ∙ ap (λ (o : Option File). [] ▷ Take slot o ▷▷ close_of o) (no_file does.0 (sym does.1)), y.1)
         | inr y ↦
             let does = one_done (Takes slot (Some y.0)) accesses events y.1.0 all in
-            let there = a_file does.0 y.0 does.1 in
+            let there = file_told does.0 y.0 does.1 in
             inr (there.0, inr (does.2 ∙ ap (λ (o : Option File). [] ▷ Take slot o ▷▷ close_of o) there.1), y.1.1)
       ]))
 

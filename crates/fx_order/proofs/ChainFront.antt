@@ -1,7 +1,8 @@
 -- What the first member of a chain made stands at the front of what the chain made.
-use Rattle.fx_order.proofs.Words.{◌≡◌, ◌↔◌, ℕ, ◌+◌, Bool, false, IsTrue, List, [], ◌∷◌, ◌++◌, length, take, drop, refl, sym, ap, subst, ◌∙◌}
-use Rattle.fx_order.proofs.Words.{arith, min, MatchBool, when_false, take-append-drop, length-append, take-append_seam, drop-append_seam, FileEntry}
+use Rattle.fx_order.proofs.Words.{◌≡◌, ◌↔◌, ℕ, ◌+◌, Bool, false, IsTrue, List, [], ◌∷◌, ◌++◌, length, take, drop, refl, sym, ap, subst, ◌∙◌, arith}
+use Rattle.fx_order.proofs.Words.{min, MatchBool, when_false, take-append-drop, length-append, take-append_seam, drop-append_seam, FileEntry}
 use Rattle.fx_order.proofs.Words.{Completed, next_member, canceled, severs, Asked, Place, Access, IsChainDone, IsRequestDone}
+use Rattle.fx_chain.proofs.ChainGoesOn.{canceled_count}
 use Rattle.fx_order.proofs.Cases.{either_way}
 
 -- the first part of a list of a known length
@@ -10,12 +11,6 @@ front_is xs ys zs n is count = (
   (λ i. take (sym count i) (is i)) ∙ take-append_seam xs ys,
   (λ i. drop (sym count i) (is i)) ∙ drop-append_seam xs ys,
 )
-
-first_of_both : (c d : Completed) (cs ds : List Completed) → c ∷ cs ≡ d ∷ ds → c ≡ d
-first_of_both c d cs ds is = cc
-
-rest_of_both : (c d : Completed) (cs ds : List Completed) → c ∷ cs ≡ d ∷ ds → cs ≡ ds
-rest_of_both c d cs ds is = cc
 
 module _ (catalogue : List FileEntry) (size : ℕ) (place : Place) (request : Asked) (requests : List Asked) (accesses : List Access)
     (c : Completed) (cs : List Completed) (made : ℕ) where
@@ -35,8 +30,8 @@ module _ (catalogue : List FileEntry) (size : ℕ) (place : Place) (request : As
       → IsRequestDone catalogue size place request.operation (take (min made (length accesses)) accesses) c
       × Behind (drop (min made (length accesses)) accesses)
   parts_of counts x =
-      let same : c ≡ x.2 = first_of_both c x.2 cs x.3 x.5 in
-      let rest : cs ≡ x.3 = rest_of_both c x.2 cs x.3 x.5 in
+      let same : c ≡ x.2 = cc (x.5) in
+      let rest : cs ≡ x.3 = cc (x.5) in
       let done : IsRequestDone catalogue size place request.operation x.0 c =
       subst (IsRequestDone catalogue size place request.operation x.0) (sym same) x.6 in
       let long : length accesses ≡ length x.0 + length x.1 = ap length x.4 ∙ length-append x.0 x.1 in
@@ -60,17 +55,12 @@ module _ (catalogue : List FileEntry) (size : ℕ) (place : Place) (request : As
   )
 
 -- a chain has as many completions as members
-
-length-canceled : (place : Place) (requests : List Asked) → length (canceled place requests) ≡ length requests
-length-canceled place [] = refl
-length-canceled place (request ∷ requests) = let rest = length-canceled (next_member place) requests in omega arith
-
 pub length-done : (catalogue : List FileEntry) (size : ℕ) (place : Place) (requests : List Asked) (accesses : List Access) (cs : List Completed)
     → IsChainDone catalogue size place requests accesses cs → length cs ≡ length requests
 length-done catalogue size place [] accesses cs x = ap length x.1
 length-done catalogue size place (request ∷ requests) accesses cs x =
     let rest : length x.3 ≡ length requests =
     either_way (severs request x.2) _ _ (length x.3 ≡ length requests)
-    (λ _ y. ap length y.1 ∙ length-canceled (next_member place) requests)
+    (λ _ y. ap length y.1 ∙ canceled_count (next_member place) requests)
     (λ _. length-done catalogue size (next_member place) requests x.1 x.3) x.7 in
     ap length x.5 ∙ omega arith

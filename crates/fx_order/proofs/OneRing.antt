@@ -2,19 +2,16 @@
 use Rattle.fx_order.proofs.Words.{◌≡◌, ◌≢◌, inl, inr, ⊎_elim, ℕ, zero, suc, ◌+◌, ◌≤◌, Bool, true, false, cond, List, [], ◌∷◌, ◌++◌, length, refl, sym}
 use Rattle.fx_order.proofs.Words.{ap, subst, ◌∙◌, arith, Option, Some, None, All, Contains, slice_get, slice_index_or, sum_by, All-map, All-weaker}
 use Rattle.fx_order.proofs.Words.{option_to_list, sum_by-cons, sum_by-IsPermutation, Contains-permutation, IsPermutation-sym, IsCatalogue, Mark}
-use Rattle.fx_order.proofs.Words.{Registered, Submitted, Closed, IsAccepted, IsChain, members_of, chains_of, first_member, Asked, runs_of, Chain}
-use Rattle.fx_order.proofs.Words.{accepted-chains, members-are-runs, RingState, IsRing, HasCounted, Reported, table_after, removed_by, removed_in}
-use Rattle.fx_order.proofs.Words.{accesses_of, accesses_of_chain, AreKnown, IsOfNext, IsOneOrder, IsOrderOf, table_of, Access, ChainAccess}
+use Rattle.fx_order.proofs.Words.{Submitted, Closed, IsAccepted, IsChain, members_of, chains_of, first_member, Asked, runs_of, Chain, accepted-chains}
+use Rattle.fx_order.proofs.Words.{members-are-runs, RingState, IsRing, HasCounted, Reported, table_after, removed_by, removed_in, accesses_of}
+use Rattle.fx_order.proofs.Words.{accesses_of_chain, AreKnown, IsOfNext, IsOneOrder, IsOrderOf, table_of, Access, ChainAccess}
 use Rattle.fx_order.proofs.Apart.{IsApart, RemovesOnce, removed_is_gone, removes_once}
 use Rattle.fx_order.proofs.Placed.{Has, Removes, contains_removed, left_from, left_or_removed, placed, removed_from, removes_contained}
-use Rattle.fx_order.proofs.PlacedNew.{AnyPlace, InLimits, IsOfMembers, OwnOf, ReachesAll, chain_places, has_in_chain, has_of_chain, order_places_once, reaches_all_any, reaches_all_limits}
+use Rattle.fx_order.proofs.PlacedNew.{AnyPlace, InLimits, IsOfMembers, OwnOf, ReachesAll, chain_places, has_in_chain, has_of_chain, order_places_once}
+use Rattle.fx_order.proofs.PlacedNew.{reaches_all_any, reaches_all_limits}
 use Rattle.fx_order.proofs.PlacedSame.{PlaceSame, chains_same}
+use Rattle.fx_ring.proofs.Rings.{not_yet}
 use Rattle.fx_order.proofs.SameFiles.{same_mark, decides_mark}
-
--- no counted mark is one of the next submission
-not_yet : (ring : RingState) (mark : Mark) (c m j : ℕ) → HasCounted ring mark → mark ≢ Submitted (ring.submissions + 1) c m j
-not_yet ring (Registered k i) c m j counted same = cc
-not_yet ring (Submitted s d n i) c m j counted same = let e : s ≡ ring.submissions + 1 = cc in omega arith
 
 module _ (old : RingState) (requests : List Asked) (report : Reported) (is : IsRing old) where
   abbrev chains : ℕ
@@ -169,7 +166,7 @@ places_apart (x ∷ files) few (suc i) (suc j) one other at too same =
     ap suc (places_apart files (λ mark. let all = sum_by-cons (one_if_marked mark) x files in let most = few mark in omega arith) i j one other at too same)
 
 -- the members of an accepted submission are within their limits
-in_limits : (requests : List Asked) → IsAccepted requests → All (ReachesAll InLimits 1) (runs_of requests)
+pub in_limits : (requests : List Asked) → IsAccepted requests → All (ReachesAll InLimits 1) (runs_of requests)
 in_limits requests accepted =
     subst (All (ReachesAll InLimits 1)) (members-are-runs requests)
     (All-map (ReachesAll InLimits 1) (members_of requests) (chains_of (runs_of requests))

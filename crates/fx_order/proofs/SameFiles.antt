@@ -4,6 +4,7 @@ use Rattle.fx_order.proofs.Words.{IsTrue, ◌↔◌, subst, refl, sym, ap, ◌�
 use Rattle.fx_order.proofs.Words.{Decides-eqb, Decides-and, Decides-like, append-nil, length-append, take_all, take_more, split_at}
 use Rattle.fx_order.proofs.Words.{sum_by-IsPermutation, length_permutation, IsPermutation-more, sum_by-append, sum_by-cons, Mark, Registered}
 use Rattle.fx_order.proofs.Words.{Submitted, Closed}
+use Rattle.std.proofs.lemmas.List.{nil_from_length}
 
 abbrev pub same_mark : Mark → Mark → Bool
 same_mark (Registered k i) (Registered l j) = (k == l) && (i == j)
@@ -89,10 +90,6 @@ module _ (files others left : List Closed) (i : ℕ) (so_far : IsPermutation fil
       let parts : length (others ++ left) ≡ length others + length left = length-append others left in (
         λ yes. let none : n ≡ 0 = (Decides-eqb n 0).0 yes in
             subst (IsPermutation files) (append-nil others)
-            (subst (λ (l : List Closed). IsPermutation files (others ++ l)) (empty left (omega arith)) now),
+            (subst (λ (l : List Closed). IsPermutation files (others ++ l)) (nil_from_length left (omega arith)) now),
         λ same. (Decides-eqb n 0).1 (let short : length others ≡ length files = length_permutation files others same in omega arith),
       )
-    where
-      empty : (l : List Closed) → length l ≡ 0 → l ≡ []
-      empty [] none = refl
-      empty (x ∷ l) none = absurd (omega arith)

@@ -18,7 +18,7 @@ files_more at m (suc n) le = elim (cases_lt m (suc n)) [
 pub files_next : (at : ℕ → Option File) (n : ℕ) → files_in_order at (n + 1) ≡ files_in_order at n ++ identities_of (at n)
 files_next at n = ap (files_in_order at) (add-one n)
 
-listed : (found : Option File) → option_to_list (identity_of found) ≡ identities_of found
+pub listed : (found : Option File) → option_to_list (identity_of found) ≡ identities_of found
 listed None = refl
 listed (Some f) = refl
 

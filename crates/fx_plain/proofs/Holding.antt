@@ -6,7 +6,8 @@ use Rattle.fx_plain.proofs.Words.{IsCounted, state_of, slot_at, node_at, file_at
 use Rattle.fx_plain.proofs.Words.{file_in, node_after_retirement, removed_count_of, itself, At, Leaving, Retired, Gone, numbered, identity_of}
 use Rattle.fx_plain.proofs.Words.{closed_by_retirement, EndsHold, Node, get_or-le-sum_by, sum_by-set, ◌▷◌, closed_by_release}
 use Rattle.fx_plain.proofs.Cells.{by_equality, each_set, unchanged, written, inside_of}
-use Rattle.fx_plain.proofs.SumLemmas.{sum_below_all}
+use Rattle.std.proofs.lemmas.List.Elements.{All-from_get_or}
+use Rattle.std.proofs.lemmas.List.Sums.{sum_by-le}
 use Rattle.fx_plain.proofs.Writes.{IsOff, inside_of-At, inside_told, leaving_is, retired_is, state_of-holds, state_of-nodes, leaving-nodes, same_file}
 
 -- the file at a slot
@@ -62,7 +63,8 @@ module _ (c : Contents) (slot n : ℕ) (file : Closed) (t : IsTable c) (inside :
   pub look_counted : (full held removed : ℕ) → IsCounted c full held removed → slice_index c.holds n + 1 < 2 ^ 32
       → (held + 1 < 2 ^ 64) × IsCounted (held_more c n) full (held + 1) removed
   look_counted full held removed k fits =
-      let all = sum_below_all 4294967295 itself c.holds (λ i. let one = k.small_holds i in omega arith) in
+      let all = sum_by-le itself 4294967295 c.holds
+      (All-from_get_or (λ x. itself x ≤ 4294967295) c.holds 0 (λ i lt. let one = k.small_holds i in omega arith)) in
       let len = t.same_numbers in let few = t.few_nodes in let h = k.all_holds in
       (omega arith, holds_counted c n _ look_inside full held removed (held + 1) k fits (omega arith))
 

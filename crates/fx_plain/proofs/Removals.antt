@@ -6,7 +6,7 @@ use Rattle.fx_plain.proofs.Words.{file_at, placed_at, leaving, removed_at, is_fr
 use Rattle.fx_plain.proofs.Words.{removed_count_of, At, Gone, numbered, LetsLeave, sum_by, Node, IsSettled, get_or-le-sum_by, sum_by-set, number_of}
 use Rattle.fx_plain.proofs.Words.{more_leaving}
 use Rattle.fx_plain.proofs.Cells.{each_set, written, unchanged}
-use Rattle.fx_plain.proofs.SumLemmas.{sum_le}
+use Rattle.std.proofs.lemmas.List.Sums.{sum_by-le}
 use Rattle.fx_plain.proofs.Settled.{not_removed, IsQuiet, quiet_is}
 use Rattle.fx_plain.proofs.Writes.{inside_of-At, inside_told, fresh_is, file_same}
 
@@ -157,8 +157,8 @@ module _ (c : Contents) (slot : ℕ) (y : Option ℕ) (nodes : List Node) (t : I
   changed_counted full held removed full' removed' k same full_is removed_is =
       let slots_total = sum_by-set file_count_of c.slots slot y None inside in
       let nodes_total = opened-gave_way nodes old_at slot (names old_at refl) in
-      let all = sum_le removed_count_of 1 opened_le changed.nodes in
-      let most = sum_le file_count_of 1 filled_le c.slots in
+      let all = sum_by-le removed_count_of 1 changed.nodes (λ k d lt. opened_le (slice_index_or changed.nodes k d)) in
+      let most = sum_by-le file_count_of 1 c.slots (λ k d lt. filled_le (slice_index_or c.slots k d)) in
       let size = length-gave_way nodes old_at in
       let few = t.few_nodes in
       let few_slots = t.few_slots in

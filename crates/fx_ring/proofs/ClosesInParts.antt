@@ -3,7 +3,8 @@ use Rattle.fx_ring.proofs.Words.{ℕ, zero, suc, ◌+◌, ◌<◌, ◌≤◌, �
 use Rattle.fx_ring.proofs.Words.{subst, arith, append_assoc, IsPermutation-refl, IsPermutation-trans, IsPermutation-append_left}
 use Rattle.fx_ring.proofs.Words.{IsPermutation-append_right, IsPermutation-append_comm, Closed, action_of, closed_by, closes_in, Event}
 use Rattle.std.specs.List.Sorted.{IsPermutation}
-use Rattle.fx_ring.proofs.NumberedParts.{numbers_from, number_within, same_parts}
+use Rattle.std.specs.List.{range_with_len}
+use Rattle.fx_ring.proofs.NumberedParts.{number_within, same_parts}
 use Rattle.fx_ring.proofs.Parts.{has, lacks, kept_lacking, within_lacking, none_within}
 
 abbrev pub closes_of : List Event → List Closed
@@ -38,15 +39,15 @@ module _ (key : Event → ℕ) where
 
   -- where each key is one of so many from the first on, the parts are all
   pub closes_by_key : (first n : ℕ) (h : List Event) → All (λ e. (first ≤ key e) × (key e < first + n)) h
-      → IsPermutation (closes_of h) (flat_map (closes_with h) (numbers_from first n))
+      → IsPermutation (closes_of h) (flat_map (closes_with h) (range_with_len first n))
   closes_by_key first zero h all =
       subst (λ (l : List Event). IsPermutation (closes_of l) []) (sym (none_within key first h all)) (IsPermutation-refl [])
   closes_by_key first (suc n) h all =
       let others : List Event = filter (lacks key first) h in
-      let behind : IsPermutation (closes_of others) (flat_map (closes_with h) (numbers_from (first + 1) n)) =
-      subst (IsPermutation (closes_of others)) (same_parts (closes_with others) (closes_with h) (numbers_from (first + 1) n)
+      let behind : IsPermutation (closes_of others) (flat_map (closes_with h) (range_with_len (first + 1) n)) =
+      subst (IsPermutation (closes_of others)) (same_parts (closes_with others) (closes_with h) (range_with_len (first + 1) n)
       (λ k i. let low = (number_within (first + 1) n k i).0 in ap closes_of (kept_lacking key first k h (λ same. omega arith))))
       (closes_by_key (first + 1) n others (within_lacking key first n h all)) in
-      IsPermutation-trans (closes_of h) (closes_with h first ++ closes_of others) (flat_map (closes_with h) (numbers_from first (suc n)))
+      IsPermutation-trans (closes_of h) (closes_with h first ++ closes_of others) (flat_map (closes_with h) (range_with_len first (suc n)))
       (closes_split first h)
-      (IsPermutation-append_right (closes_with h first) (closes_of others) (flat_map (closes_with h) (numbers_from (first + 1) n)) behind)
+      (IsPermutation-append_right (closes_with h first) (closes_of others) (flat_map (closes_with h) (range_with_len (first + 1) n)) behind)

@@ -1,12 +1,12 @@
 -- What the members of a chain install: files of the catalogue, each with a mark of its own.
-use Rattle.fx_ring.proofs.Words.{refl, installed_by, ◌≡◌, ◌≢◌, ℕ, zero, suc, ◌+◌, ◌<◌, ◌≤◌, ◌==◌, ◌||◌, nat_le, nat_lt, ℤ, pos, negsuc, false, List, [], ◌∷◌, length, sym}
-use Rattle.fx_ring.proofs.Words.{ap, subst, ◌∙◌, ⊎_elim, inl, inr, Option, Some, None, option_map, arith, list_any, cases_lt, leb-false}
-use Rattle.fx_ring.proofs.Words.{slice_get_past, has_name, FileEntry, name_at, Errno, ENOENT, ENXIO, EBADF, ENOMEM, EINVAL, ENFILE, Mark, Submitted}
-use Rattle.fx_ring.proofs.Words.{Closed, ◌▷◌, File, Action, Look, Release, Put, Clear, Take, Allocate, Full, Answers, OpensAt, ReadsFrom, Empties}
-use Rattle.fx_ring.proofs.Words.{UpdatesFrom, AppliesEntry, AppliesList, Refuses, installed, is_bad_entry, Completed, next_member, Explains, severs}
-use Rattle.fx_ring.proofs.Words.{Operation, Opens, Reads, Closes, Updates, Asked, Place, Target, Slot, Any, Bool, MatchBool, true}
+use Rattle.fx_ring.proofs.Words.{refl, installed_by, ◌≡◌, ◌≢◌, ℕ, zero, suc, ◌+◌, ◌<◌, ◌≤◌, ◌==◌, ◌||◌, nat_le, nat_lt, ℤ, pos, negsuc, false, List}
+use Rattle.fx_ring.proofs.Words.{[], ◌∷◌, length, sym, ap, subst, ◌∙◌, ⊎_elim, Option, Some, None, arith, list_any, leb-false, has_name, FileEntry}
+use Rattle.fx_ring.proofs.Words.{Errno, ENOENT, ENXIO, EBADF, ENOMEM, EINVAL, ENFILE, Mark, Submitted, Closed, ◌▷◌, File, Action, Look, Release, Put}
+use Rattle.fx_ring.proofs.Words.{Clear, Take, Allocate, Full, Answers, OpensAt, ReadsFrom, Empties, UpdatesFrom, AppliesEntry, AppliesList, Refuses}
+use Rattle.fx_ring.proofs.Words.{installed, is_bad_entry, Completed, next_member, Explains, severs, Operation, Opens, Reads, Closes, Updates, Asked}
+use Rattle.fx_ring.proofs.Words.{Place, Target, Slot, Any, Bool, MatchBool, true}
 use Rattle.fx_ring.proofs.NewMarks.{Puts, puts_then, puts_so, puts_none, puts_one, puts_may_close}
-use Rattle.fx_ring.proofs.Numbers.{or_left, or_right}
+use Rattle.fx_base.proofs.Entries.{entry_named, or_left, or_right}
 
 -- a file of the catalogue, by its mark
 abbrev pub IsMarked : ℕ → Mark → File → Type 0
@@ -19,13 +19,6 @@ IsListed entries place low f = (j : ℕ) × (low ≤ j) × IsMarked entries (Sub
 -- the file is of one of the members of a chain from this one on
 abbrev pub IsOfMembers : ℕ → Place → File → Type 0
 IsOfMembers entries place f = (m : ℕ) × (j : ℕ) × (place.member ≤ m) × IsMarked entries (Submitted place.submission place.chain m j) f
-
--- an entry with a name is one of the catalogue
-entry_named : (catalogue : List FileEntry) (entry : ℕ) (name : List ℕ) → name_at catalogue entry ≡ Some name → entry < length catalogue
-entry_named catalogue entry name is = elim (cases_lt entry (length catalogue)) [
-  | inl inside ↦ inside
-  | inr past ↦ let e : None ≡ Some name = sym (ap (option_map (λ (file : FileEntry). file.name)) (slice_get_past catalogue entry past)) ∙ is in cc
-]
 
 -- what follows from both cases
 pub either_way : (b : Bool) {P Q R : Type 0} → (b ≡ true → P → R) → (b ≡ false → Q → R) → MatchBool b P Q → R

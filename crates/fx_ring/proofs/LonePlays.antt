@@ -1,8 +1,8 @@
 -- A pass alone goes on by one chain of a submission.
 use Rattle.fx_ring.proofs.Words.{◌≡◌, ℕ, ◌+◌, ◌-◌, ◌<◌, ◌≤◌, List, [], ◌∷◌, ◌++◌, map, length, refl, sym, ap, subst, ◌∙◌, arith, Some, map-append}
-use Rattle.fx_ring.proofs.Words.{append_assoc, FileEntry, CloseListView, Event, Action, ◌▷◌, Opening, size_of, PassView, event_of, Completed, Asked, all_weights}
-use Rattle.fx_ring.proofs.Words.{worker_state, WorkerState, run_of_chain, HasWorked, HasRoom}
-use Rattle.fx_ring.proofs.Words.{All-nil, Contains, vec_capacity, runs_of, all_completed, Completion, HasRoomFor, Outcome}
+use Rattle.fx_ring.proofs.Words.{append_assoc, FileEntry, CloseListView, Event, Action, ◌▷◌, Opening, size_of, PassView, event_of, Completed, Asked}
+use Rattle.fx_ring.proofs.Words.{worker_state, run_of_chain, HasWorked, HasRoom, All-nil, Contains, vec_capacity, runs_of, all_completed, Completion}
+use Rattle.fx_ring.proofs.Words.{HasRoomFor, Outcome}
 use Rattle.std.proofs.Common.{add-one}
 use Rattle.fx_table.proofs.Members.{contains_none}
 use Rattle.fx_ring.proofs.NewCrew.{runs_have_all, runs_weigh_all}
@@ -12,16 +12,6 @@ use Rattle.fx_chain.specs.Performs.{PlaysChain, player}
 use Rattle.fx_ring.specs.Work.{requests_behind}
 use Rattle.fx_ring.specs.OpenRings.{chain_less, chains_to, begun_behind}
 use Rattle.fx_ring.proofs.ChainPlayed.{GoesOn, HasPlayed, drawing, worked_on, room_left, sum_behind}
-
--- there is room for the next chain
-pub enough_next : (runs : List (List Asked)) (w : WorkerState) (capacity chain : ℕ) → HasRoom runs w capacity → w.pass.chain < chain
-    → chain ≤ length runs → (length (run_of_chain runs chain) ≤ w.pass.looks_left)
-    × (length w.completions + length (run_of_chain runs chain) ≤ capacity) × (all_weights (run_of_chain runs chain) ≤ w.closes.room)
-enough_next runs w capacity chain room further inside =
-    let requests = sum_behind (λ (run : List Asked). length run) runs [] w.pass.chain chain further inside in
-    let weights = sum_behind all_weights runs [] w.pass.chain chain further inside in
-    let looks = room.looks in let completions = room.completions in let closes = room.closes in
-    (omega (arith, requests, looks), omega (arith, requests, completions), omega (arith, weights, closes))
 
 module _ (o : Opening) (catalogue : List FileEntry) (submission : ℕ) (runs : List (List Asked)) (base i : ℕ) (since : List Event)
     (v w x : PassView) (before now : List Completed) (closes files : CloseListView)

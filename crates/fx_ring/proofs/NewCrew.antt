@@ -1,14 +1,16 @@
 -- What a crew is before it plays: new passes, with room for all.
-use Rattle.fx_ring.proofs.Words.{◌≡◌, ℕ, zero, suc, ◌+◌, ◌≤◌, List, [], ◌∷◌, ◌++◌, map, flat_map, reverse, length, All, sum_by, refl, sym, ap, subst}
-use Rattle.fx_ring.proofs.Words.{◌∙◌, arith, vec_capacity, length-map, reverse-append, map-append, map-map, length-flat_map, All-nil, All-cons}
-use Rattle.fx_ring.proofs.Words.{All-contains, sum_by-cons, sum_by-append, FileEntry, CloseListView, PassView, new_pass}
-use Rattle.fx_ring.proofs.Words.{new_passes, new_passes_from, MOST_MEMBERS, IsAccepted, IsChain, members_of, Completed, all_completed, Asked, runs_of}
-use Rattle.fx_ring.proofs.Words.{all_weights, weight_of, Completion, Chain, HasRoomFor, HasWorked, HasRoom, worker_state, Outcome, Worker}
+use Rattle.fx_ring.proofs.Words.{◌≡◌, ℕ, ◌≤◌, List, [], ◌∷◌, ◌++◌, map, flat_map, reverse, length, All, sum_by, refl, sym, ap, subst, ◌∙◌, arith}
+use Rattle.fx_ring.proofs.Words.{vec_capacity, length-map, reverse-append, map-append, map-map, length-flat_map, All-nil, All-contains, sum_by-cons}
+use Rattle.fx_ring.proofs.Words.{sum_by-append, FileEntry, CloseListView, PassView, new_pass, new_passes, MOST_MEMBERS, IsAccepted, IsChain}
+use Rattle.fx_ring.proofs.Words.{members_of, Completed, all_completed, Asked, runs_of, all_weights, weight_of, Completion, Chain, HasRoomFor}
+use Rattle.fx_ring.proofs.Words.{HasWorked, HasRoom, worker_state, Outcome, Worker}
 use Rattle.std.specs.Prelude.{Contains}
 use Rattle.fx_table.proofs.Members.{contains_none, contains_map, contains_mapped, contains_reverse, each_all}
 use Rattle.fx_chain.proofs.Accepted.{accepted-length}
 use Rattle.fx_chain.proofs.Runs.{are_runs}
-use Rattle.fx_ring.proofs.NumberedParts.{numbers_from}
+use Rattle.std.specs.List.{range_with_len}
+use Rattle.std.proofs.lemmas.List.{map-id}
+use Rattle.std.proofs.lemmas.List.FromFn.{length-map-range_with_len}
 
 pub map_reversed : {X Y : Type 0} (f : X → Y) (xs : List X) → map f (reverse xs) ≡ reverse (map f xs)
 map_reversed f [] = refl
@@ -32,31 +34,22 @@ module _ {A W : Type 0} (P : A → Type 0) (f : W → A) (ws : List W) (xs : Lis
 abbrev pub IsNew : PassView → Type 0
 IsNew v = (m : ℕ) × (v ≡ new_pass m)
 
-new_from : (first n : ℕ) → All IsNew (new_passes_from first n)
-new_from first zero = All-nil IsNew
-new_from first (suc n) = All-cons IsNew (new_pass first) (new_passes_from (first + 1) n) (first, refl) (new_from (first + 1) n)
-
-length_from : (first n : ℕ) → length (new_passes_from first n) ≡ n
-length_from first zero = refl
-length_from first (suc n) = let r = length_from (first + 1) n in omega arith
-
-numbered_from : (first n : ℕ) → map (λ v. v.number) (new_passes_from first n) ≡ numbers_from first n
-numbered_from first zero = refl
-numbered_from first (suc n) = ap (λ (l : List ℕ). first ∷ l) (numbered_from (first + 1) n)
-
 module _ {P : Type 0} (V : P → PassView) (ps : List P) (n : ℕ) (new : map (λ p. V p) ps ≡ new_passes n) where
   pub as_many_passes : length ps ≡ n
-  as_many_passes = let a = length-map ps V in let b = ap length new in let c = length_from 1 n in omega arith
+  as_many_passes = let a = length-map ps V in let b = ap length new in let c = length-map-range_with_len new_pass 1 n in omega arith
 
   pub all_new : All (λ p. IsNew (V p)) ps
   all_new = each_all (λ p. IsNew (V p)) ps (λ p h.
-      All-contains IsNew (map (λ p. V p) ps) (V p) (subst (All IsNew) (sym new) (new_from 1 n)) (contains_mapped V ps p h))
+      let from = contains_map new_pass (range_with_len 1 n) (V p) (subst (λ (l : List PassView). Contains l (V p)) new (contains_mapped V ps p h)) in
+      (from.0, from.2))
 
-  pub numbers_are : (crew : List (Worker P)) → map (λ w. w.pass) crew ≡ reverse ps → map (λ w. (V w.pass).number) crew ≡ reverse (numbers_from 1 n)
+  pub numbers_are : (crew : List (Worker P)) → map (λ w. w.pass) crew ≡ reverse ps
+      → map (λ w. (V w.pass).number) crew ≡ reverse (range_with_len 1 n)
   numbers_are crew gathered =
       let number : P → ℕ = λ p. (V p).number in
       sym (map-map number (λ w. w.pass) crew) ∙ (ap (map number) gathered ∙ (map_reversed number ps
-      ∙ ap reverse (sym (map-map (λ v. v.number) V ps) ∙ (ap (map (λ v. v.number)) new ∙ numbered_from 1 n))))
+      ∙ ap reverse (sym (map-map (λ v. v.number) V ps) ∙ (ap (map (λ v. v.number)) new
+      ∙ (map-map (λ v. v.number) new_pass (range_with_len 1 n) ∙ map-id (range_with_len 1 n))))))
 
 weights_joined : (runs : List (List Asked)) → all_weights (flat_map (λ run. run) runs) ≡ sum_by all_weights runs
 weights_joined [] = refl

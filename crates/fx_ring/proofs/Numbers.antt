@@ -1,20 +1,16 @@
 -- The numbers of a list, by their sign.
-use Rattle.fx_ring.proofs.Words.{◌≡◌, ℕ, zero, suc, Bool, true, false, ◌||◌, ℤ, pos, negsuc, List, [], ◌∷◌, refl, sym, ap, Some, slice_get}
-use Rattle.fx_ring.proofs.Words.{◌∙◌, arith, ltb-false, le-ltb, list_any, is_bad_entry, is_bad_file}
-pub use Rattle.fx_base.proofs.Entries.{or_left, or_right}
+use Rattle.fx_ring.proofs.Words.{◌≡◌, ℕ, zero, suc, false, ℤ, pos, negsuc, List, [], ◌∷◌, refl, sym, ap, Some, slice_get, ◌∙◌, arith, ltb-false}
+use Rattle.fx_ring.proofs.Words.{le-ltb, list_any, is_bad_entry, is_bad_file}
+use Rattle.fx_base.proofs.Entries.{both_false, or_left, or_right}
 
 good_file : (entries : ℕ) (z : ℤ) → is_bad_file entries z ≡ false → is_bad_entry entries z ≡ false
 good_file entries (pos n) good = good
 good_file entries (negsuc n) good = let le = ltb-false 0 n good in le-ltb 1 n (omega arith)
 
-both_good : (a b : Bool) → a ≡ false → b ≡ false → a || b ≡ false
-both_good true b left right = cc
-both_good false b left right = right
-
 -- what a registration takes, an update takes
 pub good_files : (entries : ℕ) (list : List ℤ) → list_any (is_bad_file entries) list ≡ false → list_any (is_bad_entry entries) list ≡ false
 good_files entries [] good = refl
-good_files entries (z ∷ list) good = both_good _ _ (good_file entries z (or_left _ _ good)) (good_files entries list (or_right _ _ good))
+good_files entries (z ∷ list) good = both_false _ _ (good_file entries z (or_left _ _ good)) (good_files entries list (or_right _ _ good))
 
 -- a number of a good list is good
 pub good_get : (entries : ℕ) (list : List ℤ) (j : ℕ) (z : ℤ) → list_any (is_bad_entry entries) list ≡ false

@@ -42,10 +42,7 @@ module _ {X : Type 0} (key : X → ℕ) where
       by_equality (key x) first (λ b. All (Within (first + 1) n) (cond (not b) (x ∷ filter (lacks first) xs) (filter (lacks first) xs)))
       (λ _. rest)
       (λ apart. All-cons (Within (first + 1) n) x (filter (lacks first) xs)
-      (let low = one.0 in let high = one.1 in (above (key x) first low apart, omega arith)) rest)
-    where
-      above : (a b : ℕ) → b ≤ a → a ≢ b → b + 1 ≤ a
-      above a b low apart = by_equality (b + 1) (a + 1) (λ _. b + 1 ≤ a) (λ same. absurd (apart (omega arith))) (λ other. omega arith)
+      (let low = one.0 in let high = one.1 in (omega arith, omega arith)) rest)
 
   pub none_within : (first : ℕ) (xs : List X) → All (Within first 0) xs → xs ≡ []
   none_within first [] all = refl

@@ -1,11 +1,13 @@
 -- What a ring keeps, as its table changes.
 use Rattle.fx_ring.proofs.Words.{◌≡◌, ℕ, Bool, zero, suc, ◌<◌, List, [], ◌++◌, length, refl, sym, ap, subst, ◌∙◌, Option, Some, None, All, arith, not}
-use Rattle.fx_ring.proofs.Words.{◌&&◌, nat_lt, option_to_list, IsPermutation, All-append, All-cons, All-nil, All-permutation, lt-ltb, le-ltb}
-use Rattle.fx_ring.proofs.Words.{CloseListView, IsInOrderOfMark, Closed, State, IsSettled, opening, file_numbered, vacant, state_of, identity_of, File}
-use Rattle.fx_ring.proofs.Words.{Contents, IsGivenBack, RingContents, RingState, IsAtRest, IsRing, HasCounted, Mark, Registered, Submitted, ◌≤◌, HasClosed, AreEntries, ring_of, ring_with}
-use Rattle.fx_ring.proofs.Words.{with_table, AreFresh, files_at}
+use Rattle.fx_ring.proofs.Words.{◌+◌, ◌≢◌, ◌&&◌, nat_lt, option_to_list, IsPermutation, All-append, All-cons, All-nil, All-permutation, lt-ltb}
+use Rattle.fx_ring.proofs.Words.{le-ltb, CloseListView, IsInOrderOfMark, Closed, State, IsSettled, opening, vacant, state_of, identity_of, File}
+use Rattle.fx_ring.proofs.Words.{Contents, IsGivenBack, RingContents, RingState, IsAtRest, IsRing, HasCounted, Mark, Registered, Submitted, ◌≤◌}
+use Rattle.fx_ring.proofs.Words.{HasClosed, AreEntries, ring_of, ring_with, with_table, AreFresh, files_at}
+use Rattle.fx_plain.proofs.Emptying.{listed}
+use Rattle.fx_plain.proofs.Prepared.{same_identity}
 use Rattle.fx_table.specs.Opening.{HasSameFiles}
-use Rattle.fx_plain.specs.State.{identities_of, files_in_order as files_in_order_of_state, files_of as files_of_state}
+use Rattle.fx_plain.specs.State.{files_in_order as files_in_order_of_state, files_of as files_of_state}
 use Rattle.fx_ring.specs.Ring.{files_in_order, files_of}
 use Rattle.fx_ring.specs.declared.ring.Ring.TheInside.{Inside}
 
@@ -31,14 +33,20 @@ pub counted_still : (ring next : RingState) (mark : Mark) → ring.registrations
 counted_still ring next (Registered k i) lists submissions counted = omega arith
 counted_still ring next (Submitted s c m e) lists submissions counted = omega arith
 
-listed_is : (x : Option File) → option_to_list (identity_of x) ≡ identities_of x
-listed_is None = refl
-listed_is (Some f) = refl
+-- no counted mark is one of the next submission
+pub not_yet : (ring : RingState) (mark : Mark) (c m j : ℕ) → HasCounted ring mark → mark ≢ Submitted (ring.submissions + 1) c m j
+not_yet ring (Registered k i) c m j counted same = cc
+not_yet ring (Submitted s d n i) c m j counted same = let e : s ≡ ring.submissions + 1 = cc in omega arith
+
+-- the file that a slot has, by what is told of it
+pub file_told : (x : Option File) (told : Closed) → identity_of x ≡ Some told → (f : File) × (x ≡ Some f) × (f.identity ≡ told)
+file_told None told is = absurd (cc)
+file_told (Some f) told is = (f, refl, cc)
 
 -- the files of a table, its files' numbers aside
 pub files_of-state : (at : ℕ → Option File) (n : ℕ) → files_in_order (λ slot. identity_of (at slot)) n ≡ files_in_order_of_state at n
 files_of-state at zero = refl
-files_of-state at (suc n) = ap (λ (x : List Closed × List Closed). x.0 ++ x.1) (λ i. (files_of-state at n i, listed_is (at n) i))
+files_of-state at (suc n) = ap (λ (x : List Closed × List Closed). x.0 ++ x.1) (λ i. (files_of-state at n i, listed (at n) i))
 
 pub entry_listed : (entries : ℕ) (x : Option Closed) → ((file : Closed) → x ≡ Some file → IsEntry entries file)
     → All (IsEntry entries) (option_to_list x)
@@ -84,7 +92,7 @@ emptied_settled st n fresh is = subst IsSettled (sym is) (record { unheld = λ _
 
 pub opening_files : (st new : State) (numbers : ℕ) → new ≡ opening st numbers → files_at new ≡ files_at st
 opening_files st new numbers is = ap files_at is
-    ∙ (λ i slot. elim (st.at slot) as (λ x. identity_of (file_numbered x slot) ≡ identity_of x) [ None ↦ refl | Some f ↦ refl ] i)
+    ∙ (λ i slot. same_identity (st.at slot) slot i)
 
 pub opening_fresh : (st new : State) (numbers : ℕ) → new ≡ opening st numbers → AreFresh new st.size numbers
 opening_fresh st new numbers is = λ number low high. ap (λ (s : State). s.fresh number) is

@@ -1,11 +1,11 @@
 -- A ring behind a submission keeps what every ring keeps.
-use Rattle.fx_ring.proofs.Words.{◌≡◌, ◌≢◌, ℕ, ◌+◌, ◌<◌, ◌≤◌, List, [], ◌∷◌, length, map, Contains, refl, sym, ap, subst, ◌∙◌, ⊎_elim, inl, Option}
-use Rattle.fx_ring.proofs.Words.{Some, None, arith, FileEntry, Mark, Registered, Submitted, Closed, State, IsSettled, opening, state_of, action_of}
-use Rattle.fx_ring.proofs.Words.{closes_in, identity_of, File, Event, Action, by_equality, numbers_for, Completed, first_member, Asked, runs_of}
-use Rattle.fx_ring.proofs.Words.{RingContents, RingState, IsRing, IsAtRest, HasCounted, AreEntries, ring_of, with_table, ExplainsParts, Reported}
-use Rattle.fx_ring.proofs.Words.{IsOneHistory, MOST_SUBMISSIONS}
+use Rattle.fx_ring.proofs.Words.{◌≡◌, ℕ, ◌+◌, ◌<◌, ◌≤◌, List, [], ◌∷◌, length, map, Contains, refl, sym, ap, subst, ◌∙◌, ⊎_elim, inl, Option, Some}
+use Rattle.fx_ring.proofs.Words.{None, arith, FileEntry, Submitted, Closed, State, IsSettled, opening, state_of, action_of, closes_in, identity_of}
+use Rattle.fx_ring.proofs.Words.{File, Event, Action, by_equality, numbers_for, Completed, first_member, Asked, runs_of, RingContents, RingState}
+use Rattle.fx_ring.proofs.Words.{IsRing, IsAtRest, HasCounted, AreEntries, ring_of, with_table, ExplainsParts, Reported, IsOneHistory}
+use Rattle.fx_ring.proofs.Words.{MOST_SUBMISSIONS}
 use Rattle.fx_plain.proofs.FilesWereInstalled.{HoldsOfAll, holds_of_closes, all_closes_in}
-use Rattle.fx_ring.proofs.Rings.{counted_still, opening_files, entries_closed}
+use Rattle.fx_ring.proofs.Rings.{counted_still, file_told, not_yet, opening_files, entries_closed}
 use Rattle.fx_ring.proofs.NewMarks.{IsPut, HasNewMarks, Puts}
 use Rattle.fx_ring.proofs.Installs.{IsOfMembers, explained_puts}
 use Rattle.fx_ring.proofs.ChainsApart.{IsOfChain, part_actions, put_in_part, installed_put, whole_new}
@@ -21,16 +21,6 @@ part_puts catalogue size submission first (run ∷ runs) history completions (ow
     (λ same. subst (λ c. Puts (IsOfMembers (length catalogue) (first_member submission c)) (part_actions c history)) (sym same)
     (explained_puts catalogue size (first_member submission first) run (part_actions first history) own one))
     (λ apart. part_puts catalogue size submission (first + 1) runs history others more chain (omega arith) (omega arith))
-
--- the file that a slot has, by what is told of it
-file_told : (x : Option File) (told : Closed) → identity_of x ≡ Some told → (f : File) × (x ≡ Some f) × (f.identity ≡ told)
-file_told None told is = let e : None ≡ Some told = is in cc
-file_told (Some f) told is = let e : Some f.identity ≡ Some told = is in (f, refl, let same : f.identity ≡ told = cc in same)
-
--- no counted mark is one of the next submission
-not_yet : (ring : RingState) (mark : Mark) (c m j : ℕ) → HasCounted ring mark → mark ≢ Submitted (ring.submissions + 1) c m j
-not_yet ring (Registered k i) c m j counted same = cc
-not_yet ring (Submitted s d n i) c m j counted same = let e : s ≡ ring.submissions + 1 = cc in omega arith
 
 module _ (old new : RingContents) (requests : List Asked) (report : Reported) (is : IsRing (ring_of old))
     (one : IsOneHistory old requests report new) where

@@ -1,18 +1,17 @@
 -- What the workers of a submission did, taken together.
-use Rattle.fx_ring.proofs.Words.{◌≡◌, ℕ, ◌+◌, ◌-◌, ◌<◌, ◌≤◌, ◌==◌, true, List, [], map, flat_map, reverse, length, All, sum_by}
-use Rattle.fx_ring.proofs.Words.{count_by, slice_index_or, refl, sym, ap, subst, ◌∙◌, arith, eqb, IsNonDecreasingBy}
-use Rattle.fx_ring.proofs.Words.{All-contains, IsPermutation-trans, length_permutation, FileEntry, IsInOrderOfMark}
-use Rattle.fx_ring.proofs.Words.{CloseListView, Closed, opening, Contents, state_of, IsLegal, action_of, part_of_chain}
-use Rattle.fx_ring.proofs.Words.{Event, ClosesTable, times_drawn, numbers_for, Opening, size_of, state_at, PassView, IsOfDrawnChains, some_times}
-use Rattle.fx_ring.proofs.Words.{part_of_drawn, sum_reverse, sum_map, Completed, Explains, first_member, Asked, runs_of}
+use Rattle.fx_ring.proofs.Words.{◌≡◌, ℕ, ◌+◌, ◌-◌, ◌<◌, ◌≤◌, ◌==◌, true, List, [], map, flat_map, reverse, length, All, sum_by, count_by}
+use Rattle.fx_ring.proofs.Words.{slice_index_or, refl, sym, ap, subst, ◌∙◌, arith, eqb, IsNonDecreasingBy, All-contains, IsPermutation-trans}
+use Rattle.fx_ring.proofs.Words.{length_permutation, FileEntry, IsInOrderOfMark, CloseListView, Closed, opening, Contents, state_of, IsLegal}
+use Rattle.fx_ring.proofs.Words.{action_of, part_of_chain, Event, ClosesTable, times_drawn, numbers_for, Opening, size_of, state_at, PassView}
+use Rattle.fx_ring.proofs.Words.{IsOfDrawnChains, some_times, part_of_drawn, sum_reverse, sum_map, Completed, Explains, first_member, Asked, runs_of}
 use Rattle.fx_ring.proofs.Words.{all_weights, ring_with, IsOneHistory, WorkerState, HasWorked, run_of_chain, completions_of_chain}
 use Rattle.std.specs.Prelude.{Contains}
 use Rattle.std.specs.List.Sorted.{IsPermutation}
-use Rattle.fx_table.proofs.Members.{contains_map, contains_mapped, contains_reverse}
-use Rattle.fx_table.proofs.Members.{contains_reversed, each_all}
+use Rattle.fx_table.proofs.Members.{contains_map, contains_mapped, contains_reverse, contains_reversed, each_all}
 use Rattle.fx_ring.proofs.ClosesInParts.{closes_of, closes_with, closes_by_key}
 use Rattle.fx_table.proofs.Chains.{in_part}
-use Rattle.fx_ring.proofs.NumberedParts.{numbers_from, number_within, few_in_parts, one_part, all_parts, filter_parts, parts_reversed, same_parts}
+use Rattle.std.specs.List.{range_with_len}
+use Rattle.fx_ring.proofs.NumberedParts.{number_within, few_in_parts, one_part, all_parts, filter_parts, parts_reversed, same_parts}
 use Rattle.std.proofs.lemmas.List.Folds.{flat_map-map}
 use Rattle.fx_ring.proofs.CompletionPlaces.{place_key}
 use Rattle.fx_ring.proofs.Rings.{ring_as}
@@ -45,7 +44,7 @@ pub record HavePlayed (catalogue : List FileEntry) (submission : ℕ) (runs : Li
   pub chains : o.chains ≡ length runs
   pub short : All IsShort runs
   pub are : passes ≡ reverse (map pass_of crew)
-  pub numbers : map number_of crew ≡ reverse (numbers_from 1 o.passes)
+  pub numbers : map number_of crew ≡ reverse (range_with_len 1 o.passes)
   pub closing : ClosesTable o passes left
 
 module _ (catalogue : List FileEntry) (submission : ℕ) (runs : List (List Asked)) (o : Opening) (crew : List WorkerState)
@@ -132,9 +131,9 @@ module _ (catalogue : List FileEntry) (submission : ℕ) (runs : List (List Aske
   passes_inside : All (λ e. (1 ≤ e.pass) × (e.pass < 1 + o.passes)) closing.history
   passes_inside = each_all (λ e. (1 ≤ e.pass) × (e.pass < 1 + o.passes)) closing.history (λ e h.
       let a = author_of e h in
-      let mine : Contains (reverse (numbers_from 1 o.passes)) a.0.pass.number =
+      let mine : Contains (reverse (range_with_len 1 o.passes)) a.0.pass.number =
       subst (λ (l : List ℕ). Contains l a.0.pass.number) played.numbers (contains_mapped number_of crew a.0 a.1) in
-      let r = number_within 1 o.passes a.0.pass.number (contains_reverse (numbers_from 1 o.passes) a.0.pass.number mine) in
+      let r = number_within 1 o.passes a.0.pass.number (contains_reverse (range_with_len 1 o.passes) a.0.pass.number mine) in
       let is = a.2 in
       let low = r.0 in
       let high = r.1 in
@@ -145,8 +144,8 @@ module _ (catalogue : List FileEntry) (submission : ℕ) (runs : List (List Aske
   closes_joined =
       let part : ℕ → List Closed = closes_with (λ e. e.pass) closing.history in
       let by_pass = closes_by_key (λ e. e.pass) 1 o.passes closing.history passes_inside in
-      let back = parts_reversed part (numbers_from 1 o.passes) in
-      let of_crew : flat_map part (reverse (numbers_from 1 o.passes)) ≡ flat_map closed_by_worker crew =
+      let back = parts_reversed part (range_with_len 1 o.passes) in
+      let of_crew : flat_map part (reverse (range_with_len 1 o.passes)) ≡ flat_map closed_by_worker crew =
       ap (flat_map part) (sym played.numbers) ∙ flat_map-map part number_of crew
       ∙ same_parts (λ w. part w.pass.number) closed_by_worker crew
       (λ w h. ap closes_of (closing.own w.pass (view_of w h)) ∙ sym (works w h).closed) in
@@ -167,7 +166,7 @@ module _ (catalogue : List FileEntry) (submission : ℕ) (runs : List (List Aske
       let part : ℕ → List Closed = closes_with (λ e. e.chain) closing.history in
       let all = each_all (λ e. (1 ≤ e.chain) × (e.chain < 1 + length runs)) closing.history
       (λ e h. let r = events_inside e h in let low = r.0 in let high = r.1 in (omega arith, omega arith)) in
-      let a = length_permutation (closes_of closing.history) (flat_map part (numbers_from 1 (length runs)))
+      let a = length_permutation (closes_of closing.history) (flat_map part (range_with_len 1 (length runs)))
       (closes_by_key (λ e. e.chain) 1 (length runs) closing.history all) in
       let b = length_permutation (closes_of closing.history) (flat_map closed_by_worker crew) closes_joined in
       let few = few_in_parts all_weights [] part 1 runs weighed in

@@ -6,6 +6,7 @@ use Rattle.fx_search.proofs.Words.{allows, cell_at, cells_after, claim_at, Ends,
 use Rattle.fx_search.proofs.Words.{Leaves, Same, Empty, File, Resident, Wants, Strand}
 use Rattle.fx_search.specs.Machine.{HasNoEnd}
 use Rattle.fx_search.proofs.Reaching.{both_steps, chosen}
+use Rattle.std.proofs.lemmas.Bool.{not-true}
 
 -- what is at a slot once one was written: what was there, or what was written
 pub written : (cells : List Cell) (s : ℕ) (x : Option Resident) (slot : ℕ)
@@ -42,10 +43,6 @@ and_right : (a b : Bool) → (a && b) ≡ true → b ≡ true
 and_right true b is = is
 and_right false b is = absurd (cc)
 
-not_true : (b : Bool) → not b ≡ true → b ≡ false
-not_true true is = absurd (cc)
-not_true false is = refl
-
 -- what a claim made of a slot: it was left, or it could be removed, and what was brought doesn't help
 abbrev Unfit : List Cell → ℕ → Claim → Option Resident → Type 0
 Unfit cells slot claim now = (now ≡ cell_at cells slot) ⊎ ((may_find claim now ≡ false) × (may_leave (cell_at cells slot) ≡ true))
@@ -63,7 +60,7 @@ changed cells slot claim s x wanted may either (inr hit) =
       | inr helps ↦
           let none : not (may_find claim x) ≡ true =
           sym (ap (λ (b : Bool). not b || not (may_find claim x)) (eq-eqb s slot hit.0)) ∙ helps in
-          inr (ap (may_find claim) hit.1 ∙ not_true (may_find claim x) none, leave)
+          inr (ap (may_find claim) hit.1 ∙ not-true (may_find claim x) none, leave)
     ]
 
 stays_unfit : (cells : List Cell) (slot : ℕ) (claim step : Claim) → allows cells step ≡ true

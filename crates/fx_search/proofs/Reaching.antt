@@ -1,9 +1,11 @@
 -- A list of states that leaves none of their steps out, and has no end, shows that no order leads to one.
-use Rattle.fx_search.proofs.Words.{◌≡◌, ◌≢◌, inl, inr, ℕ, zero, suc, ◌+◌, Bool, true, false, List, [], ◌∷◌, length, Option, Some, None, refl}
-use Rattle.fx_search.proofs.Words.{sym, ap, subst, ◌∙◌, arith, Contains, All, slice_index, slice_set, if◌then◌else◌}
-use Rattle.fx_search.proofs.Words.{get_or-set_other, All-contains, All-map, slice_get, option_and_then, by_equality, Cell, Claim, At}
-use Rattle.fx_search.proofs.Words.{Empty, File, Packing, Strand, Standing, Vec, all_unpacked, allows, cells_after, next, made, claim_at, Ends, is_test, unpacked}
+use Rattle.fx_search.proofs.Words.{◌≡◌, ◌≢◌, inl, inr, ℕ, zero, suc, ◌+◌, Bool, true, false, List, [], ◌∷◌, length, Option, Some, None, refl, sym, ap}
+use Rattle.fx_search.proofs.Words.{subst, ◌∙◌, arith, Contains, All, slice_index, slice_set, if◌then◌else◌, get_or-set_other, All-contains, All-map}
+use Rattle.fx_search.proofs.Words.{slice_get, option_and_then, by_equality, Cell, Claim, At, Empty, File, Packing, Strand, Standing, Vec}
+use Rattle.fx_search.proofs.Words.{all_unpacked, allows, cells_after, next, made, claim_at, Ends, is_test, unpacked}
 use Rattle.fx_search.specs.Machine.{HasNoEnd, IsExplored, IsLookedThrough, LeadsInside}
+use Rattle.std.proofs.lemmas.List.{set_comm}
+use Rattle.std.proofs.lemmas.Option.{same_Some}
 
 -- an answer of two steps has one of the first, to which the second was applied
 pub both_steps : {A B : Type 0} (f : A → Option B) (o : Option A) (y : B) → option_and_then f o ≡ Some y → (x : A) × (o ≡ Some x) × (f x ≡ Some y)
@@ -23,17 +25,9 @@ test_keeps cells claim is = refl
 abbrev standing : List ℕ → List Cell → Standing
 standing places cells = record { places = places; cells = cells }
 
-same_some : (x y : Claim) → Some x ≡ Some y → x ≡ y
-same_some x y is = cc
-
 -- one more claim of a chain made, which changed nothing
 abbrev pub skipped : Standing → ℕ → Standing
 skipped at c = record { places = slice_set at.places c (slice_index at.places c + 1); cells = at.cells }
-
-writes_commute : (l : List ℕ) (c d x y : ℕ) → c ≢ d → slice_set (slice_set l c x) d y ≡ slice_set (slice_set l d y) c x
-writes_commute (a ∷ l) zero zero x y other = absurd (other refl)
-writes_commute (a ∷ l) (suc c) (suc d) x y other = ap (λ (m : List ℕ). a ∷ m) (writes_commute l c d x y (λ same. other (ap suc same)))
-writes_commute l c d x y other = refl
 
 claim_other : (strands : List Strand) (places : List ℕ) (c d x : ℕ) → d ≢ c → claim_at strands (slice_set places c x) d ≡ claim_at strands places d
 claim_other strands places c d x other =
@@ -49,7 +43,7 @@ test_first strands c claim (d ∷ order) at is test ends =
     let there = chosen (allows at.cells own.0) _ ends.0 own.2 in
     by_equality d c (λ b. d ≡ d → (less : List ℕ) × Ends strands (skipped at c) less × (suc (length order) ≡ suc (length less)))
     (λ same _.
-    let claim_is : own.0 ≡ claim = same_some own.0 claim (sym own.1 ∙ (ap (claim_at strands at.places) same ∙ is)) in
+    let claim_is : own.0 ≡ claim = same_Some own.0 claim (sym own.1 ∙ (ap (claim_at strands at.places) same ∙ is)) in
     let cells : cells_after at.cells own.0 ≡ at.cells = ap (cells_after at.cells) claim_is ∙ test_keeps at.cells claim test in
     let mid_is : ends.0 ≡ skipped at c =
     sym there.1 ∙ (ap (λ (l : List Cell). standing (slice_set at.places d (slice_index at.places d + 1)) l) cells ∙ ap (skipped at) same) in
@@ -74,7 +68,7 @@ test_first strands c claim (d ∷ order) at is test ends =
     let places : slice_set (slice_set at.places c (slice_index at.places c + 1)) d (slice_index (slice_set at.places c (slice_index at.places c + 1)) d + 1)
     ≡ slice_set (slice_set at.places d (slice_index at.places d + 1)) c (slice_index (slice_set at.places d (slice_index at.places d + 1)) c + 1) =
     ap (λ (n : ℕ). slice_set (slice_set at.places c (slice_index at.places c + 1)) d (n + 1)) at_d
-    ∙ (writes_commute at.places c d (slice_index at.places c + 1) (slice_index at.places d + 1) (λ e. other (sym e))
+    ∙ (set_comm at.places c d (slice_index at.places c + 1) (slice_index at.places d + 1) (λ e. other (sym e))
     ∙ sym (ap (λ (n : ℕ). slice_set (slice_set at.places d (slice_index at.places d + 1)) c (n + 1)) at_c)) in
     let joined : there_too ≡ skipped ends.0 c =
     ap (λ (l : List ℕ). standing l (cells_after at.cells own.0)) places ∙ ap (λ (x : Standing). skipped x c) there.1 in

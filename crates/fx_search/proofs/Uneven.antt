@@ -1,9 +1,9 @@
 -- From a state where the files of a slot don't come out even, no end is reached.
-use Rattle.fx_search.proofs.Words.{◌≡◌, ◌⊎◌, inl, inr, ℕ, zero, suc, ◌+◌, ◌<◌, ◌≤◌, ◌==◌, ◌&&◌, ◌||◌, not, Bool, true, false, List, [], ◌∷◌}
-use Rattle.fx_search.proofs.Words.{refl, sym, ap, subst, ◌∙◌, arith, cond, drop, drop-cons, get_or, length, length-set, slice_get, slice_index, slice_set, Option, Some, None}
-use Rattle.fx_search.proofs.Words.{is_some, eq-eqb, if◌then◌else◌, list_all, by_equality, Standing, allows, cell_at, cells_after}
-use Rattle.fx_search.proofs.Words.{claim_at, Ends, IsEnd, is_staying, made, may_leave, may_stay, suits, with_cell, has_slot, Cell, Claim, At, Full, Same}
-use Rattle.fx_search.proofs.Words.{Empty, File, Resident, Wants, Anything, Nothing, NothingToTake, Something, Bytes, Strand}
+use Rattle.fx_search.proofs.Words.{◌≡◌, ◌⊎◌, inl, inr, ℕ, zero, suc, ◌+◌, ◌≤◌, ◌==◌, ◌&&◌, ◌||◌, not, Bool, true, false, List, [], ◌∷◌, refl, sym, ap}
+use Rattle.fx_search.proofs.Words.{subst, ◌∙◌, arith, cond, drop, length, length-set, slice_get, slice_index, slice_set, Option, Some, None, is_some}
+use Rattle.fx_search.proofs.Words.{eq-eqb, if◌then◌else◌, list_all, by_equality, Standing, allows, cell_at, cells_after, claim_at, Ends, IsEnd}
+use Rattle.fx_search.proofs.Words.{is_staying, made, may_leave, may_stay, suits, with_cell, has_slot, Cell, Claim, At, Full, Same, Empty, File}
+use Rattle.fx_search.proofs.Words.{Resident, Wants, Anything, Nothing, NothingToTake, Something, Bytes, Strand}
 use Rattle.std.specs.List.{count_by}
 use Rattle.std.proofs.lemmas.List.Sums.{sum_by-cons}
 use Rattle.fx_search.specs.Machine.{HasNoEnd}
@@ -13,9 +13,8 @@ use Rattle.fx_search.specs.declared.counted.Change.TheVariants.{Takes, Empties, 
 use Rattle.fx_search.proofs.Hopeless.{written}
 use Rattle.fx_search.proofs.SlotsKept.{slots_after}
 use Rattle.fx_search.proofs.Reaching.{both_steps, chosen}
-
-unequal : (s slot : ℕ) → (s ≡ slot → ⊥) → (s == slot) ≡ false
-unequal s slot other = by_equality s slot (λ b. b ≡ false) (λ same. absurd (other same)) (λ _. refl)
+use Rattle.std.proofs.Common.{ne_eqb}
+use Rattle.std.proofs.lemmas.Bool.{and_parts}
 
 and_false : (b : Bool) → (b && false) ≡ false
 and_false true = refl
@@ -25,10 +24,6 @@ and_true : (b : Bool) → (b && true) ≡ b
 and_true true = refl
 and_true false = refl
 
-both : (a b : Bool) → (a && b) ≡ true → (a ≡ true) × (b ≡ true)
-both true b is = (refl, is)
-both false b is = absurd (cc)
-
 -- what was written to a slot is there
 written_here : (cells : List Cell) (slot : ℕ) (x : Option Resident) → has_slot cells (Some slot) ≡ true → cell_at (with_cell cells slot x) slot ≡ x
 written_here [] slot x has = absurd (cc)
@@ -36,7 +31,7 @@ written_here (cell ∷ cells) slot x has =
     by_equality cell.slot slot
     (λ b. (b || has_slot cells (Some slot)) ≡ true → cell_at ((if b then record cell { file = x } else cell) ∷ with_cell cells slot x) slot ≡ x)
     (λ same _. ap (λ (b : Bool). if b then x else cell_at (with_cell cells slot x) slot) (eq-eqb cell.slot slot same))
-    (λ other rest. ap (λ (b : Bool). if b then cell.file else cell_at (with_cell cells slot x) slot) (unequal cell.slot slot other)
+    (λ other rest. ap (λ (b : Bool). if b then cell.file else cell_at (with_cell cells slot x) slot) (ne_eqb cell.slot slot other)
     ∙ written_here cells slot x rest) has
 
 -- what a claim does to a slot: nothing, or it removes what is there, or it brings a file
@@ -86,7 +81,7 @@ does cells slot (At s wants Same) has may = inl (record { same = refl; none = λ
 does cells slot (At s wants Empty) has may =
     by_equality s slot (λ _. Does slot (At s wants Empty) (cell_at cells slot) (cell_at (with_cell cells s None) slot))
     (λ same.
-    let parts = both (suits wants (cell_at cells s)) (may_leave (cell_at cells s)) may in
+    let parts = and_parts (suits wants (cell_at cells s)) (may_leave (cell_at cells s)) may in
     let one : (s == slot) ≡ true = eq-eqb s slot same in
     inr (inl (record {
       may = ap (λ (n : ℕ). may_leave (cell_at cells n)) (sym same) ∙ parts.1;
@@ -94,17 +89,17 @@ does cells slot (At s wants Empty) has may =
       counts = one;
       no_leaving = refl;
       no_staying = refl;
-      takes = λ is. something wants (cell_at cells slot) (both (is_something wants) (s == slot) is).0
+      takes = λ is. something wants (cell_at cells slot) (and_parts (is_something wants) (s == slot) is).0
           (ap (λ (n : ℕ). suits wants (cell_at cells n)) (sym same) ∙ parts.0);
     })))
     (λ other. inl (record {
       same = elsewhere cells slot s wants None other;
-      none = λ change. ap (λ (b : Bool). is_change Empty wants change && b) (unequal s slot other) ∙ and_false (is_change Empty wants change);
+      none = λ change. ap (λ (b : Bool). is_change Empty wants change && b) (ne_eqb s slot other) ∙ and_false (is_change Empty wants change);
     }))
 does cells slot (At s wants (File r)) has may =
     by_equality s slot (λ _. Does slot (At s wants (File r)) (cell_at cells slot) (cell_at (with_cell cells s (Some r)) slot))
     (λ same.
-    let parts = both (suits wants (cell_at cells s)) (may_leave (cell_at cells s)) may in
+    let parts = and_parts (suits wants (cell_at cells s)) (may_leave (cell_at cells s)) may in
     let one : (s == slot) ≡ true = eq-eqb s slot same in
     inr (inr (record {
       file = r;
@@ -117,7 +112,7 @@ does cells slot (At s wants (File r)) has may =
     })))
     (λ other. inl (record {
       same = elsewhere cells slot s wants (Some r) other;
-      none = λ change. ap (λ (b : Bool). is_change (File r) wants change && b) (unequal s slot other) ∙ and_false (is_change (File r) wants change);
+      none = λ change. ap (λ (b : Bool). is_change (File r) wants change && b) (ne_eqb s slot other) ∙ and_false (is_change (File r) wants change);
     }))
 
 -- a claim that is made is one less to come
@@ -168,37 +163,6 @@ none_to_come change slot (strand ∷ strands) (p ∷ places) over long =
     no_more (count_by (changes change slot) (drop p strand.claims.items)) (to_come change slot strands places)
     (ap (count_by (changes change slot)) (past strand.claims.items p (over 0)))
     (none_to_come change slot strands places (λ c. over (suc c)) (omega arith))
-
--- the claims from a place on, and those from the next one on
-pub count_more : (p : Claim → Bool) (claims : List Claim) (k : ℕ) (x : Claim) → k < length claims → x ≡ get_or claims k x
-    → count_by p (drop k claims) ≡ cond (p x) 1 0 + count_by p (drop (k + 1) claims)
-count_more p claims k x lt is =
-    let next : suc k ≡ k + 1 = omega arith in
-    ap (count_by p) (drop-cons claims k x lt ∙ ap (λ (y : Claim). y ∷ drop (suc k) claims) (sym is))
-    ∙ (sum_by-cons (λ (y : Claim). cond (p y) 1 0) x (drop (suc k) claims) ∙ ap (λ (n : ℕ). cond (p x) 1 0 + count_by p (drop n claims)) next)
-
-first_of : (l : List ℕ) (c : ℕ) → slice_index (drop c l) 0 ≡ slice_index l c
-first_of [] zero = refl
-first_of [] (suc c) = refl
-first_of (x ∷ l) zero = refl
-first_of (x ∷ l) (suc c) = first_of l c
-
-rest_of : (l : List ℕ) (c : ℕ) → drop 1 (drop c l) ≡ drop (suc c) l
-rest_of [] zero = refl
-rest_of [] (suc c) = refl
-rest_of (x ∷ l) zero = refl
-rest_of (x ∷ l) (suc c) = rest_of l c
-
-pub to_come_more : (change : Change) (slot : ℕ) (strands : List Strand) (places : List ℕ) (c : ℕ) (strand : Strand) → c < length strands
-    → strand ≡ get_or strands c strand
-    → to_come change slot (drop c strands) (drop c places)
-    ≡ count_by (changes change slot) (drop (slice_index places c) strand.claims.items) + to_come change slot (drop (c + 1) strands) (drop (c + 1) places)
-to_come_more change slot strands places c strand lt is =
-    let next : suc c ≡ c + 1 = omega arith in
-    ap (λ (l : List Strand). to_come change slot l (drop c places)) (drop-cons strands c strand lt ∙ ap (λ (s : Strand). s ∷ drop (suc c) strands) (sym is))
-    ∙ (ap (λ (n : ℕ). count_by (changes change slot) (drop n strand.claims.items) + to_come change slot (drop (suc c) strands) (drop 1 (drop c places))) (first_of places c)
-    ∙ (ap (λ (l : List ℕ). count_by (changes change slot) (drop (slice_index places c) strand.claims.items) + to_come change slot (drop (suc c) strands) l) (rest_of places c)
-    ∙ ap (λ (n : ℕ). count_by (changes change slot) (drop (slice_index places c) strand.claims.items) + to_come change slot (drop n strands) (drop n places)) next))
 
 -- a file that may leave
 none_stays : (x : Option Resident) → may_leave x ≡ true → staying x ≡ 0
@@ -336,7 +300,7 @@ module _ (strands : List Strand) (slot : ℕ) (at : Standing) (d : ℕ) (step : 
 stays_there : (cells : List Cell) (slot : ℕ) → list_all is_staying cells ≡ true → leaving (cell_at cells slot) ≡ 0
 stays_there [] slot all = refl
 stays_there (cell ∷ cells) slot all =
-    let parts = both (is_staying cell) (list_all is_staying cells) all in
+    let parts = and_parts (is_staying cell) (list_all is_staying cells) all in
     by_equality cell.slot slot (λ b. leaving (if b then cell.file else cell_at cells slot) ≡ 0)
     (λ _. stays cell.file parts.0) (λ _. stays_there cells slot parts.1)
   where

@@ -1,11 +1,9 @@
 -- The names that most proofs of this crate use.
-pub use Rattle.fx_search.specs.AtSlots.{has_slot, keeps, slot_of}
-pub use Rattle.fx_search.specs.Residents.{IsResident}
+pub use Rattle.fx_search.specs.AtSlots.{has_slot, slot_of}
 pub use Rattle.fx_base.specs.declared.open_file.Closed.{Closed}
 pub use Rattle.fx_search.specs.Dead.{IsHopeless, NoneHelps, no_help}
-pub use Rattle.fx_search.specs.Machine.{Ends, HasNoEnd, IsEnd, IsExplored, IsLookedThrough, Standing, StepLeadsInside, allows, cell_at, cell_with, cells_after}
-pub use Rattle.fx_search.specs.Machine.{claim_at, is_same, is_staying, is_taken, is_test, made, may_find, may_leave, may_stay, next, suits, view}
-pub use Rattle.fx_search.specs.Machine.{with_cell}
+pub use Rattle.fx_search.specs.Machine.{Ends, HasNoEnd, IsEnd, IsLookedThrough, Standing, StepLeadsInside, allows, cell_at, cell_with, cells_after}
+pub use Rattle.fx_search.specs.Machine.{claim_at, is_staying, is_taken, is_test, made, may_find, may_leave, may_stay, next, suits, view, with_cell}
 pub use Rattle.fx_search.specs.Packed.{all_unpacked, file_at, numbered_cells, unpacked}
 pub use Rattle.fx_search.specs.Starts.{starting}
 pub use Rattle.fx_search.specs.declared.cell.Cell.{Cell}
@@ -16,27 +14,17 @@ pub use Rattle.fx_search.specs.declared.claim.Leaves.TheVariants.{Empty, File, S
 pub use Rattle.fx_search.specs.declared.claim.Resident.{Resident}
 pub use Rattle.fx_search.specs.declared.claim.Wants.{Wants}
 pub use Rattle.fx_search.specs.declared.claim.Wants.TheVariants.{Anything, Bytes, Nothing, NothingToTake, Something}
-pub use Rattle.fx_search.specs.declared.node.Node.{Node}
 pub use Rattle.fx_search.specs.declared.packed.Packing.{Packing}
 pub use Rattle.fx_search.specs.declared.strand.Strand.{Strand}
-pub use Rattle.fx_plain.proofs.Cells.{by_equality, unchanged}
-pub use Rattle.std.proofs.Common.{All, Bool, Contains, Err, IfOk, IsPermutation, IsSome, IsTrue, List, None, Ok, Option, Result, Some, [], ap}
-pub use Rattle.std.proofs.Common.{append_assoc, arith, cond, drop, drop-cons, eq-eqb, false, filter, get_or, if◌then◌else◌, inl, inr, int_le, int_lt}
-pub use Rattle.std.proofs.Common.{is_some, length, length-append, map, nat_abs, nat_lt, negsuc, not, of_z, option_copied, pos, refl, replicate, rules}
-pub use Rattle.std.proofs.Common.{slice_get, slice_index, slice_index_or, slice_set, subst, suc, sym, take, to_z, true, w32, zero, ℕ, ℤ, ⊎_elim, ◌&&◌}
-pub use Rattle.std.proofs.Common.{◌++◌, ◌+◌, ◌<◌, ◌==◌, ◌||◌, ◌∙◌, ◌∷◌, ◌≡◌, ◌≢◌, ◌≤◌, ◌⊎◌}
-pub use Rattle.std.proofs.Math.ListN.{get_or-eq_default}
-pub use Rattle.std.proofs.lemmas.Bool.{MatchBool-at_false, MatchBool-at_true, cases_lt, le-leb, le-ltb, lt-leb, lt-ltb}
-pub use Rattle.std.proofs.lemmas.Int.{to_z-of_z}
-pub use Rattle.std.proofs.lemmas.List.{same_lists, append-nil, get_or-map, get_or-replicate, get_or-set_other, get_or-set_same, get_or_default, length-map}
-pub use Rattle.std.proofs.lemmas.List.{length-replicate, length-set, take_all}
-pub use Rattle.std.proofs.lemmas.List.Elements.{All-contains, All-contains_itself, All-head, All-map, All-more, All-tail, All-weaker}
-pub use Rattle.std.proofs.lemmas.List.Elements.{Contains-append_right}
-pub use Rattle.std.proofs.lemmas.List.Sorted.{All-permutation, IsPermutation-sym}
-pub use Rattle.std.proofs.lemmas.Option.{slice_get_read, slice_get_within}
-pub use Rattle.std.specs.Bool.{MatchBool}
+pub use Rattle.fx_plain.proofs.Cells.{by_equality}
+pub use Rattle.std.proofs.Common.{All, Bool, Contains, IsTrue, List, None, Option, Some, [], ap, append_assoc, arith, cond, drop, drop-cons, eq-eqb}
+pub use Rattle.std.proofs.Common.{false, get_or, if◌then◌else◌, inl, inr, is_some, length, map, not, option_copied, refl, slice_get, slice_index}
+pub use Rattle.std.proofs.Common.{slice_index_or, slice_set, subst, suc, sym, take, true, zero, ℕ, ⊎_elim, ◌&&◌, ◌++◌, ◌+◌, ◌<◌, ◌==◌, ◌||◌, ◌∙◌, ◌∷◌}
+pub use Rattle.std.proofs.Common.{◌≡◌, ◌≢◌, ◌≤◌, ◌⊎◌}
+pub use Rattle.std.proofs.lemmas.Bool.{cases_lt}
+pub use Rattle.std.proofs.lemmas.List.{same_lists, get_or-map, get_or-set_other, get_or-set_same, get_or_default, length-map, length-set}
+pub use Rattle.std.proofs.lemmas.List.Elements.{All-contains, All-map}
 pub use Rattle.std.specs.Global.{Vec}
-pub use Rattle.std.specs.List.{AllByRecursion, AllZip, list_all, list_any}
-pub use Rattle.std.specs.Option.{option_to_list}
+pub use Rattle.std.specs.List.{list_all, list_any}
 pub use Rattle.std.specs.Prelude.{option_and_then}
 pub use Rattle.std.proofs.lemmas.Result.{IfOk-weaker}

@@ -1,9 +1,9 @@
 -- What a list contains, by its first element and the others.
 use Rattle.fx_table.proofs.Words.{ℕ, ◌<◌, length, get_elem?, some, some-ne-none, some-injective, ◌≡◌, List, [], ◌∷◌, map, reverse, sym, refl, subst}
-use Rattle.fx_table.proofs.Words.{suc, zero, arith, ◌⊎◌, inl, inr, ⊎_elim, Contains, All, reverse-append, Contains-append_left, Contains-append_right}
-use Rattle.fx_table.proofs.Words.{Contains-append_cases}
+use Rattle.fx_table.proofs.Words.{suc, zero, arith, ◌⊎◌, inl, inr, ⊎_elim, Contains, All}
 use Rattle.std.specs.Prelude.{slice_index_or}
 use Rattle.std.proofs.lemmas.List.Elements.{All-contains_itself}
+use Rattle.std.proofs.lemmas.List.Sorted.{Contains-permutation, IsPermutation-reverse, IsPermutation-sym}
 
 module _ {X : Type 0} where
   pub contains_none : (x : X) → Contains [] x → ⊥
@@ -33,18 +33,10 @@ module _ {X : Type 0} where
   each_all P xs f k d inside = f (slice_index_or xs k d) (All-contains_itself xs k d inside)
 
   pub contains_reverse : (xs : List X) (x : X) → Contains (reverse xs) x → Contains xs x
-  contains_reverse [] x h = h
-  contains_reverse (y ∷ xs) x h = ⊎_elim
-      (λ t. contains_tail y xs x (contains_reverse xs x t))
-      (λ t. subst (Contains (y ∷ xs)) (sym (contains_only y x t)) (contains_head y xs))
-      (Contains-append_cases (reverse xs) (y ∷ []) x (subst (λ (l : List X). Contains l x) (reverse-append (y ∷ []) xs) h))
+  contains_reverse xs x = Contains-permutation (reverse xs) xs x (IsPermutation-sym xs (reverse xs) (IsPermutation-reverse xs))
 
   pub contains_reversed : (xs : List X) (x : X) → Contains xs x → Contains (reverse xs) x
-  contains_reversed [] x h = h
-  contains_reversed (y ∷ xs) x h = subst (λ (l : List X). Contains l x) (sym (reverse-append (y ∷ []) xs)) (⊎_elim
-      (λ is. Contains-append_right (reverse xs) (y ∷ []) x (subst (Contains (y ∷ [])) (sym is) (contains_head y [])))
-      (λ t. Contains-append_left (reverse xs) (y ∷ []) x (contains_reversed xs x t))
-      (contains_cases y xs x h))
+  contains_reversed xs x = Contains-permutation xs (reverse xs) x (IsPermutation-reverse xs)
 
 pub contains_map : {X Y : Type 0} (f : X → Y) (xs : List X) (y : Y) → Contains (map f xs) y → (x : X) × Contains xs x × (y ≡ f x)
 contains_map f [] y h = absurd (contains_none y h)

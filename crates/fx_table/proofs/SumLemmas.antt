@@ -1,8 +1,10 @@
 -- Sums over lists, and what one changed element does to them.
 use Rattle.fx_table.proofs.Words.{◌≡◌, ◌≢◌, ℕ, zero, suc, ◌+◌, ◌≤◌, List, [], ◌∷◌, map, set, reverse, sym, refl, ap, ◌∙◌, arith, cond, eqb, sum_by}
-use Rattle.fx_table.proofs.Words.{count_by, Contains, reverse-append, sum_by-cons, sum_by-append, some, some-injective, some-ne-none, dite}
-use Rattle.fx_table.proofs.Words.{ℕ_discrete, get_elem?, by_equality}
-use Rattle.std.proofs.lemmas.List.Sums.{sum_by-set, get_or-le-sum_by}
+use Rattle.fx_table.proofs.Words.{count_by, Contains, sum_by-cons, some, some-injective, some-ne-none, dite, ℕ_discrete, get_elem?, by_equality}
+use Rattle.std.specs.List.{sum}
+use Rattle.std.proofs.lemmas.List.Sorted.{IsPermutation-reverse, sum_by-IsPermutation}
+use Rattle.std.proofs.lemmas.List.Sums.{sum-map, sum_by-set, get_or-le-sum_by}
+use Rattle.std.proofs.lemmas.Simd.{map-map}
 use Rattle.fx_table.proofs.Members.{stands_at, contains_head, contains_tail}
 
 module _ {X : Type 0} (f : X → ℕ) where
@@ -28,13 +30,7 @@ module _ {X : Type 0} (f : X → ℕ) where
   sum_of l v h = let a = get_or-le-sum_by f l h.0 v h.1 in let b = ap f h.2 in omega arith
 
   pub sum_reverse : (l : List X) → sum_by f (reverse l) ≡ sum_by f l
-  sum_reverse [] = refl
-  sum_reverse (x ∷ l) =
-      let r = sum_reverse l in
-      let a = sum_by-append f (reverse l) (x ∷ []) in
-      let b = sum_by-cons f x l in
-      let c = sum_by-cons f x [] in
-      ap (sum_by f) (reverse-append (x ∷ []) l) ∙ omega arith
+  sum_reverse l = sum_by-IsPermutation f l (reverse l) (IsPermutation-reverse l)
 
   pub sum_zero_at : (l : List X) → ((i : ℕ) (v : X) → get_elem? l i ≡ some v → f v ≡ 0) → sum_by f l ≡ 0
   sum_zero_at [] each = refl
@@ -77,21 +73,10 @@ sum_le_at f g (x ∷ xs) h =
     omega arith
 
 pub sum_le_of : {X : Type 0} (f g : X → ℕ) (l : List X) → ((x : X) → Contains l x → f x ≤ g x) → sum_by f l ≤ sum_by g l
-sum_le_of f g [] h = omega arith
-sum_le_of f g (x ∷ xs) h =
-    let a = h x (contains_head x xs) in
-    let b = sum_by-cons f x xs in
-    let c = sum_by-cons g x xs in
-    let r = sum_le_of f g xs (λ y i. h y (contains_tail x xs y i)) in
-    omega arith
+sum_le_of f g l h = sum_le_at f g l (λ i v e. let at = stands_at l i v e in h v (i, at.0, at.1))
 
 pub sum_map : {X Y : Type 0} (f : Y → ℕ) (g : X → Y) (l : List X) → sum_by f (map g l) ≡ sum_by (λ x. f (g x)) l
-sum_map f g [] = refl
-sum_map f g (x ∷ l) =
-    let a = sum_by-cons f (g x) (map g l) in
-    let b = sum_by-cons (λ z. f (g z)) x l in
-    let r = sum_map f g l in
-    omega arith
+sum_map f g l = sym (sum-map f (map g l)) ∙ ap sum (map-map f g l) ∙ sum-map (λ x. f (g x)) l
 
 -- an element that is counted for its number
 pub found_by : {X : Type 0} (f : X → ℕ) (n : ℕ) (l : List X) → 1 ≤ count_by (λ x. eqb (f x) n) l → (x : X) × Contains l x × (f x ≡ n)

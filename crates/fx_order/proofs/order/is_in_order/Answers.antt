@@ -1,13 +1,7 @@
 use Rattle.fx_order.proofs.Words.{◌≡◌, inl, inr, ℕ, zero, suc, ◌+◌, ◌-◌, ◌<◌, false, List, [], ◌∷◌, length, refl, sym, ap, ◌∙◌, arith, slice_index_or}
-use Rattle.fx_order.proofs.Words.{is_lt, cases_lt, mark_cmp, Mark, Registered, Submitted, Closed, ghosts}
+use Rattle.fx_order.proofs.Words.{is_lt, cases_lt, mark_cmp, Closed, ghosts}
+use Rattle.fx_base.proofs.Marks.{same_cmp}
 use Rattle.fx_order.proofs.order.is_in_order.Goals as goal
-
--- the derived comparison is the one by cases
-same_cmp : (a b : Mark) → ghosts.cmp a b ≡ mark_cmp a b
-same_cmp (Registered k i) (Registered l j) = refl
-same_cmp (Registered k i) b = refl
-same_cmp (Submitted s c m e) (Registered k i) = refl
-same_cmp a b = refl
 
 -- where there is an element, it doesn't matter what stands for none
 same_at : (files : List Closed) (k : ℕ) (d e : Closed) → k < length files → slice_index_or files k d ≡ slice_index_or files k e
