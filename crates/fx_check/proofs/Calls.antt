@@ -3,13 +3,13 @@ use Rattle.fx_check.proofs.Words.{◌≡◌, ◌↔◌, ◌<◌, ◌^◌, ℕ, p
 use Rattle.fx_check.proofs.Words.{arith, Option, Some, None, IfSome, append_assoc, drop, FileEntry, Errno, ENOMEM, Closed, registered}
 use Rattle.fx_check.proofs.Words.{registered_sparse, removed_from, updated, RingContents, RingState, IsRing, files_of, ring_of, Instruction}
 use Rattle.fx_check.proofs.Words.{MakesSparse, RegistersList, SetsRange, SubmitsAll, Unregisters, UpdatesRing, Prints, PrintsClosed, RingSlots, IsMet}
-use Rattle.fx_check.proofs.Words.{IsStep, Met, Here, Apart, ring_with_slots, closes_text, result_line}
+use Rattle.fx_check.proofs.Words.{IsStep, Met, Here, Apart, ring_with_slots, closes_text, result_line, IsRefused}
 use Rattle.std.proofs.Common.{Global, String}
 use Rattle.fx_chain.specs.Completed.{negated}
 use Rattle.fx_ring.specs.Registration.{register_refusal, sparse_refusal, unregister_refusal, update_refusal}
 use Rattle.fx_ring.specs.Ring.{without_table}
 use Rattle.fx_ring.specs.Tags.{tags_given}
-use Rattle.fx_script.specs.Play.{Answers, IsRefused}
+use Rattle.fx_script.specs.Play.{Answers}
 use Rattle.fx_lines.proofs.ResultLines.{one_result}
 use Rattle.fx_calls.proofs.FilesThere.{IsAtOne, all_in_order, all_removed, closes_printed}
 use Rattle.fx_check.proofs.OneText.{exactly, goes, whole}

@@ -1,12 +1,11 @@
 -- The lines of an accepted submission's report have numbers that their types have.
-use Rattle.fx_check.proofs.Words.{◌≡◌, inl, inr, ℕ, zero, suc, ◌+◌, ◌<◌, ◌≤◌, ◌^◌, ◌==◌, ◌||◌, nat_le, nat_lt, ℤ, pos, Bool, true, false, cond, List}
-use Rattle.fx_check.proofs.Words.{[], ◌∷◌, ◌++◌, filter, length, take, drop, All, refl, sym, subst, arith, Option, Some, None, slice_get, list_any}
-use Rattle.fx_check.proofs.Words.{get_or_from_slice_get, slice_get_within, All-append, All-cons, All-get_or, All-head, All-nil, All-tail}
-use Rattle.fx_check.proofs.Words.{drop-append_seam, take-append_seam, has_name, FileEntry, Errno, ENOENT, ENXIO, EBADF, ENOMEM, EINVAL, ENFILE}
-use Rattle.fx_check.proofs.Words.{installed, is_bad_entry, Completed, completed, next_member, canceled, first_member, severs, Asked, Operation, Opens}
-use Rattle.fx_check.proofs.Words.{Reads, Closes, Updates, Place, Target, Slot, Any, Table, accesses_of, accesses_of_chain, Access, ChainAccess}
-use Rattle.fx_check.proofs.Words.{IsRefused, IsOpenDone, IsReadDone, IsCloseDone, IsUpdateDone, IsRequestDone, IsChainDone, AreChainsDone, either_way}
-use Rattle.fx_check.proofs.Words.{AreFiles}
+use Rattle.fx_check.proofs.Words.{◌≡◌, inl, inr, ℕ, zero, suc, ◌+◌, ◌<◌, ◌≤◌, ◌^◌, ◌==◌, pos, Bool, true, false, cond, List, [], ◌∷◌, ◌++◌, filter}
+use Rattle.fx_check.proofs.Words.{length, take, drop, All, refl, sym, subst, arith, Option, Some, None, slice_get, get_or_from_slice_get}
+use Rattle.fx_check.proofs.Words.{slice_get_within, All-append, All-cons, All-get_or, All-head, All-nil, All-tail, drop-append_seam, take-append_seam}
+use Rattle.fx_check.proofs.Words.{has_name, FileEntry, Errno, ENOENT, EBADF, ENFILE, installed, Completed, completed, next_member, canceled}
+use Rattle.fx_check.proofs.Words.{first_member, severs, Asked, Operation, Opens, Reads, Closes, Updates, Place, Target, Slot, Any, Table, accesses_of}
+use Rattle.fx_check.proofs.Words.{accesses_of_chain, Access, Allocates, ChainAccess, IsOpenDone, IsRequestDone, IsChainDone, AreChainsDone}
+use Rattle.fx_check.proofs.Words.{either_way, AreFiles, allocates, puts, updates}
 use Rattle.std.proofs.lemmas.Bool.{cases_lt, ltb-false}
 use Rattle.std.proofs.lemmas.List.Elements.{All-drop, All-take}
 use Rattle.std.proofs.lemmas.List.{get_or-drop, get_or-take, get_or_past, length-drop, length-take}
@@ -16,8 +15,9 @@ use Rattle.fx_base.specs.declared.catalogue.TheConstants.{LONGEST_ENTRY}
 use Rattle.fx_base.specs.declared.errno.Errno.TheVariants.{ECANCELED}
 use Rattle.fx_chain.specs.Completed.{refusal}
 use Rattle.fx_order.specs.Access.{PermitsAll, table_with}
-use Rattle.fx_order.specs.declared.access.Access.TheVariants.{Allocates}
 use Rattle.fx_lines.specs.Lines.{IsCompletionInRange, IsPlaceInRange}
+use Rattle.fx_base.proofs.Entries.{or_right}
+use Rattle.fx_order.proofs.RequestCases.{closes, reads}
 
 -- an allocation is at a slot of a table of this size
 abbrev IsInside : ℕ → Access → Type 0
@@ -87,69 +87,35 @@ number_in_range n place is few = record { place = is; res = few; got = no_bytes 
 
 module _ (catalogue : List FileEntry) (are : AreFiles catalogue) (size : ℕ) (small : size ≤ 256) where
   module _ (place : Place) (is : IsPlaceInRange place) where
-    so : (c answer : Completed) → c ≡ answer → IsCompletionInRange answer → IsCompletionInRange c
-    so c answer same it = subst IsCompletionInRange (sym same) it
+    abbrev InRange : List Access → Completed → Type 0
+    InRange accesses c = IsCompletionInRange c
 
-    refused_so : (errno : Errno) (accesses : List Access) (c : Completed) → IsRefused place errno accesses c → IsCompletionInRange c
-    refused_so errno accesses c x = so c (refusal place errno) x.1 (error_in_range errno place is)
+    error : (errno : Errno) → IsCompletionInRange (refusal place errno)
+    error errno = error_in_range errno place is
 
     open_so : (entry : ℕ) (target : Target) (accesses : List Access) (c : Completed) → AreInside size accesses
         → IsOpenDone size place entry target accesses c → IsCompletionInRange c
-    open_so entry (Slot slot) accesses c inside =
-        either_way (size == 0) _ _ _ (λ _. refused_so ENXIO accesses c)
-        (λ _. either_way (nat_le size slot) _ _ _ (λ _. refused_so EINVAL accesses c)
-        (λ _ x. so c _ x.1.1 (number_in_range 0 place is (omega arith))))
-    open_so entry Any accesses c inside =
-        either_way (size == 0) _ _ _ (λ _. refused_so ENFILE accesses c)
-        (λ _ x. elim x [
-          | inl y ↦ (let within : AreInside size (Allocates y.0 (installed place 0 entry) ∷ []) = subst (AreInside size) y.1.0 inside in
-              let low = All-head (IsInside size) (Allocates y.0 (installed place 0 entry)) [] within in
-              so c _ y.1.1 (number_in_range y.0 place is (omega arith)))
-          | inr y ↦ so c _ y.1 (error_in_range ENFILE place is)
-        ])
-
-    read_so : (slot off len : ℕ) (accesses : List Access) (c : Completed) → IsReadDone catalogue size place slot off len accesses c
-        → IsCompletionInRange c
-    read_so slot off len accesses c =
-        either_way (nat_le size slot) _ _ _ (λ _. refused_so EBADF accesses c)
-        (λ _ x. elim x [
-          | inl y ↦ refused_so ENOMEM accesses c y.1
-          | inr y ↦ elim y [
-            | inl z ↦ so c _ z.1 (error_in_range EBADF place is)
-            | inr z ↦ (let g = given catalogue z.0.entry off len are in
-                so c _ z.1.1 (record { place = is; res = g.small; got = g.bytes }))
-          ]
-        ])
-
-    close_so : (slot : ℕ) (accesses : List Access) (c : Completed) → IsCloseDone size place slot accesses c → IsCompletionInRange c
-    close_so slot accesses c =
-        either_way (size == 0) _ _ _ (λ _. refused_so ENXIO accesses c)
-        (λ _. either_way (nat_le size slot) _ _ _ (λ _. refused_so EINVAL accesses c)
-        (λ _ x. elim x [
-          | inl y ↦ so c _ y.1 (error_in_range EBADF place is)
-          | inr y ↦ so c _ y.1.1 (number_in_range 0 place is (omega arith))
-        ]))
-
-    update_so : (entries off : ℕ) (list : List ℤ) (accesses : List Access) (c : Completed) → IsUpdateDone entries size place off list accesses c
-        → IsCompletionInRange c
-    update_so entries off list accesses c =
-        either_way (size == 0) _ _ _ (λ _. refused_so ENXIO accesses c)
-        (λ _. either_way (length list == 0 || nat_lt size (off + length list)) _ _ _ (λ _. refused_so EINVAL accesses c)
-        (λ fine. either_way (list_any (is_bad_entry entries) list) _ _ _ (λ _. refused_so EBADF accesses c)
-        (λ _ x. let inside : off + length list ≤ size = ltb-false size (off + length list) (second (length list == 0) (nat_lt size (off + length list)) fine) in
-        so c _ x.1 (number_in_range (length list) place is (omega arith)))))
-      where
-        second : (a b : Bool) → a || b ≡ false → b ≡ false
-        second true b is = cc
-        second false b is = is
+    open_so entry (Slot slot) accesses c inside done =
+        puts size place InRange error accesses c entry slot (λ _. number_in_range 0 place is (omega arith)) done
+    open_so entry Any accesses c inside done =
+        allocates size place (λ own d. AreInside size own → IsCompletionInRange d) (λ errno _. error errno) accesses c entry
+        (λ slot within. let low = All-head (IsInside size) (Allocates slot (installed place 0 entry)) [] within in
+        number_in_range slot place is (omega arith)) (λ _. error ENFILE) done inside
 
     request_so : (operation : Operation) (accesses : List Access) (c : Completed) → AreInside size accesses
         → IsRequestDone catalogue size place operation accesses c → IsCompletionInRange c
     request_so (Opens name target) accesses c inside =
-        either_way (has_name name catalogue) _ _ _ (λ _ x. open_so x.0 target accesses c inside x.2) (λ _. refused_so ENOENT accesses c)
-    request_so (Reads slot off len) accesses c inside = read_so slot off len accesses c
-    request_so (Closes slot) accesses c inside = close_so slot accesses c
-    request_so (Updates off list) accesses c inside = update_so (length catalogue) off list accesses c
+        either_way (has_name name catalogue) _ _ _ (λ _ x. open_so x.0 target accesses c inside x.2)
+        (λ _ x. subst IsCompletionInRange (sym x.1) (error ENOENT))
+    request_so (Reads slot off len) accesses c inside =
+        reads size place InRange error accesses c catalogue slot off len (error EBADF) (λ file.
+        let g = given catalogue file.entry off len are in record { place = is; res = g.small; got = g.bytes })
+    request_so (Closes slot) accesses c inside =
+        closes size place InRange error accesses c slot (error EBADF) (λ _. number_in_range 0 place is (omega arith))
+    request_so (Updates off list) accesses c inside =
+        updates size place InRange error accesses c (length catalogue) off list (λ fine _ _.
+        let within : off + length list ≤ size = ltb-false size (off + length list) (or_right (length list == 0) _ fine) in
+        number_in_range (length list) place is (omega arith))
 
   moved : (place : Place) (n : ℕ) → IsPlaceInRange place → place.member + suc n < 2 ^ 32 → IsPlaceInRange (next_member place)
   moved place n is few = record { submission = is.submission; chain = is.chain; member = omega arith }

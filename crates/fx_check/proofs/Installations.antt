@@ -1,12 +1,12 @@
 -- What an order places, a request installed that completed so.
-use Rattle.fx_check.proofs.Words.{◌≡◌, inl, inr, ⊎_elim, ℕ, zero, suc, ◌+◌, ◌<◌, ◌≤◌, ◌==◌, ◌||◌, nat_le, nat_lt, ℤ, pos, negsuc, List, [], ◌∷◌, ◌++◌}
-use Rattle.fx_check.proofs.Words.{length, refl, sym, ap, subst, ◌∙◌, arith, Some, slice_get, list_any, flat_map, has_name, FileEntry, Errno, ENOENT}
-use Rattle.fx_check.proofs.Words.{ENXIO, EBADF, EINVAL, ENFILE, Mark, Submitted, Closed, installed, is_bad_entry, Completed, completed, next_member}
-use Rattle.fx_check.proofs.Words.{canceled, first_member, severs, Asked, Operation, Opens, Reads, Closes, Updates, Place, Target, Slot, Any}
-use Rattle.fx_check.proofs.Words.{accesses_of_chain, Access, ChainAccess, IsRefused, IsOpenDone, IsReadDone, IsCloseDone, IsUpdateDone, IsRequestDone}
-use Rattle.fx_check.proofs.Words.{IsChainDone, AreChainsDone, Has, placed, either_way, by_equality, Installed, OneInstalled}
+use Rattle.fx_check.proofs.Words.{◌≡◌, inl, inr, ⊎_elim, ℕ, zero, suc, ◌+◌, ◌<◌, ◌≤◌, ℤ, pos, negsuc, List, [], ◌∷◌, ◌++◌, length, refl, sym, ap}
+use Rattle.fx_check.proofs.Words.{subst, ◌∙◌, arith, Some, slice_get, flat_map, has_name, FileEntry, Mark, Submitted, Closed, installed, Completed}
+use Rattle.fx_check.proofs.Words.{completed, next_member, first_member, severs, Asked, Operation, Opens, Reads, Closes, Updates, Place, Target, Slot}
+use Rattle.fx_check.proofs.Words.{Any, accesses_of_chain, Access, Allocates, ChainAccess, IsOpenDone, IsRequestDone, IsChainDone, AreChainsDone}
+use Rattle.fx_check.proofs.Words.{length-done, Has, placed, allocates, puts, updates, either_way, by_equality, Installed, OneInstalled}
+use Rattle.fx_order.specs.declared.access.Access.TheVariants.{Puts}
 use Rattle.fx_order.specs.Requests.{IsEntryDone, AreEntriesDone}
-use Rattle.fx_order.proofs.Placed.{has_either, placed-append}
+use Rattle.fx_order.proofs.Placed.{close_none, has_either, placed-append, read_none}
 use Rattle.fx_check.specs.Told.{InstallsAt}
 
 module _ (s : ℕ) (f : Closed) where
@@ -31,9 +31,8 @@ module _ (s : ℕ) (f : Closed) where
       res : ℕ
       answer : c ≡ completed place (pos res) []
 
-    refused_none : (operation : Operation) (errno : Errno) (accesses : List Access) (c : Completed) → Places accesses → IsRefused place errno accesses c
-        → Came operation c
-    refused_none operation errno accesses c has x = absurd (none_placed accesses [] x.0 refl has)
+    abbrev IfPlaced : Operation → List Access → Completed → Type 0
+    IfPlaced operation accesses c = Places accesses → Came operation c
 
     opened : (name : List ℕ) (target : Target) (entry res : ℕ) (c : Completed) → f ≡ installed place 0 entry → c ≡ completed place (pos res) []
         → Came (Opens name target) c
@@ -47,36 +46,14 @@ module _ (s : ℕ) (f : Closed) where
 
     open_came : (name : List ℕ) (entry : ℕ) (target : Target) (accesses : List Access) (c : Completed) → Places accesses
         → IsOpenDone size place entry target accesses c → Came (Opens name target) c
-    open_came name entry (Slot slot) accesses c has =
-        either_way (size == 0) _ _ _ (λ _. refused_none (Opens name (Slot slot)) ENXIO accesses c has)
-        (λ _. either_way (nat_le size slot) _ _ _ (λ _. refused_none (Opens name (Slot slot)) EINVAL accesses c has)
-        (λ _ x. opened name (Slot slot) entry 0 c (one_placed accesses slot (installed place 0 entry) (ap placed x.1.0) has) x.1.1))
-    open_came name entry Any accesses c has =
-        either_way (size == 0) _ _ _ (λ _. refused_none (Opens name Any) ENFILE accesses c has)
-        (λ _ x. elim x [
-          | inl y ↦ opened name Any entry y.0 c (one_placed accesses y.0 (installed place 0 entry) (ap placed y.1.0) has) y.1.1
-          | inr y ↦ absurd (none_placed accesses _ y.0 refl has)
-        ])
-
-    read_none : (slot off len : ℕ) (accesses : List Access) (c : Completed) → Places accesses → IsReadDone catalogue size place slot off len accesses c → ⊥
-    read_none slot off len accesses c has =
-        either_way (nat_le size slot) _ _ _ (λ _ x. none_placed accesses [] x.0 refl has)
-        (λ _ x. elim x [
-          | inl y ↦ none_placed accesses [] y.1.0 refl has
-          | inr y ↦ elim y [
-            | inl z ↦ none_placed accesses _ z.0 refl has
-            | inr z ↦ none_placed accesses _ z.1.0 refl has
-          ]
-        ])
-
-    close_none : (slot : ℕ) (accesses : List Access) (c : Completed) → Places accesses → IsCloseDone size place slot accesses c → ⊥
-    close_none slot accesses c has =
-        either_way (size == 0) _ _ _ (λ _ x. none_placed accesses [] x.0 refl has)
-        (λ _. either_way (nat_le size slot) _ _ _ (λ _ x. none_placed accesses [] x.0 refl has)
-        (λ _ x. elim x [
-          | inl y ↦ none_placed accesses _ y.0 refl has
-          | inr y ↦ none_placed accesses _ y.1.0 refl has
-        ]))
+    open_came name entry (Slot slot) accesses c has done =
+        puts size place (IfPlaced (Opens name (Slot slot))) (λ _ there. absurd there) accesses c entry slot (λ removed there.
+        opened name (Slot slot) entry 0 _ (one_placed (Puts slot (installed place 0 entry) removed ∷ []) slot (installed place 0 entry) refl there)
+        refl) done has
+    open_came name entry Any accesses c has done =
+        allocates size place (IfPlaced (Opens name Any)) (λ _ there. absurd there) accesses c entry (λ slot there.
+        opened name Any entry slot _ (one_placed (Allocates slot (installed place 0 entry) ∷ []) slot (installed place 0 entry) refl there) refl)
+        (λ there. absurd there) done has
 
     -- the place of the list's number that installed it
     record Listed (in_list : ℕ) (list : List ℤ) : Type 0 where
@@ -114,29 +91,24 @@ module _ (s : ℕ) (f : Closed) where
         (λ later. later_listed in_list z list (listed (in_list + 1) (slot + 1) list x.1 later x.4))
         (has_either (placed x.0) (placed x.1) s f (subst (λ (l : List (ℕ × Closed)). Has l s f) (ap placed x.2 ∙ placed-append x.0 x.1) has))
 
-    update_came : (entries off : ℕ) (list : List ℤ) (accesses : List Access) (c : Completed) → Places accesses
-        → IsUpdateDone entries size place off list accesses c → Came (Updates off list) c
-    update_came entries off list accesses c has =
-        either_way (size == 0) _ _ _ (λ _. refused_none (Updates off list) ENXIO accesses c has)
-        (λ _. either_way (length list == 0 || nat_lt size (off + length list)) _ _ _ (λ _. refused_none (Updates off list) EINVAL accesses c has)
-        (λ _. either_way (list_any (is_bad_entry entries) list) _ _ _ (λ _. refused_none (Updates off list) EBADF accesses c has)
-        (λ _ x. let l = listed 0 off list accesses has x.0 in record {
+    request_came : (operation : Operation) (accesses : List Access) (c : Completed) → Places accesses
+        → IsRequestDone catalogue size place operation accesses c → Came operation c
+    request_came (Opens name target) accesses c has =
+        either_way (has_name name catalogue) _ _ _ (λ _ x. open_came name x.0 target accesses c has x.2)
+        (λ _ x. absurd (none_placed accesses [] x.0 refl has))
+    request_came (Reads slot off len) accesses c has =
+        λ x. absurd (none_placed accesses accesses refl (read_none catalogue size place slot off len accesses c x) has)
+    request_came (Closes slot) accesses c has = λ x. absurd (none_placed accesses accesses refl (close_none size place slot accesses c x) has)
+    request_came (Updates off list) accesses c has =
+        λ done. updates size place (IfPlaced (Updates off list)) (λ _ there. absurd there) accesses c (length catalogue) off list (λ _ _ x there.
+        let l = listed 0 off list accesses there x in record {
           entry = l.at;
           is_mark = l.is_mark
               ∙ ap (λ (k : ℕ). Submitted place.submission place.chain place.member k) (let e : 0 + l.at ≡ l.at = omega arith in e);
           listed = (l.file, l.number);
           res = length list;
-          answer = x.1;
-        })))
-
-    request_came : (operation : Operation) (accesses : List Access) (c : Completed) → Places accesses
-        → IsRequestDone catalogue size place operation accesses c → Came operation c
-    request_came (Opens name target) accesses c has =
-        either_way (has_name name catalogue) _ _ _ (λ _ x. open_came name x.0 target accesses c has x.2)
-        (λ _. refused_none (Opens name target) ENOENT accesses c has)
-    request_came (Reads slot off len) accesses c has = λ x. absurd (read_none slot off len accesses c has x)
-    request_came (Closes slot) accesses c has = λ x. absurd (close_none slot accesses c has x)
-    request_came (Updates off list) accesses c has = update_came (length catalogue) off list accesses c has
+          answer = refl;
+        }) done has
 
     pub request_installed : (request : Asked) (accesses : List Access) (c : Completed) → Places accesses
         → IsRequestDone catalogue size place request.operation accesses c → Installed request c f.mark
@@ -163,21 +135,6 @@ module _ (s : ℕ) (f : Closed) where
         (λ _ y. chain_installed (next_member place) rs x.1 x.3 later y) x.7))
         (has_either (placed x.0) (placed x.1) s f (subst (λ (l : List (ℕ × Closed)). Has l s f) (ap placed x.4 ∙ placed-append x.0 x.1) has)))
 
--- as many completions as requests
-canceled_length : (place : Place) (requests : List Asked) → length (canceled place requests) ≡ length requests
-canceled_length place [] = refl
-canceled_length place (r ∷ rs) = let rest = canceled_length (next_member place) rs in omega arith
-
-chain_length : (catalogue : List FileEntry) (size : ℕ) (place : Place) (requests : List Asked) (accesses : List Access) (cs : List Completed)
-    → IsChainDone catalogue size place requests accesses cs → length cs ≡ length requests
-chain_length catalogue size place [] accesses cs x = ap length x.1
-chain_length catalogue size place (r ∷ rs) accesses cs x =
-    let whole = ap length x.5 in
-    let rest : length x.3 ≡ length rs = either_way (severs r x.2) _ _ (length x.3 ≡ length rs)
-    (λ _ y. ap length y.1 ∙ canceled_length (next_member place) rs)
-    (λ _ y. chain_length catalogue size (next_member place) rs x.1 x.3 y) x.7 in
-    omega arith
-
 front_installed : (requests more : List Asked) (cs others : List Completed) (mark : Mark) → OneInstalled requests cs mark
     → OneInstalled (requests ++ more) (cs ++ others) mark
 front_installed [] more cs others mark one = absurd one
@@ -203,5 +160,5 @@ chains_installed s f catalogue size submission first (run ∷ runs) order cs x c
     (chain_installed s f catalogue size (first_member submission first) run (accesses_of_chain first order) x.0
     (subst (λ (k : ℕ). Has (placed (accesses_of_chain k order)) s f) same has) x.3))
     (λ other. behind_installed run (flat_map (λ r. r) runs) x.0 x.1 f.mark
-    (chain_length catalogue size (first_member submission first) run (accesses_of_chain first order) x.0 x.3)
+    (length-done catalogue size (first_member submission first) run (accesses_of_chain first order) x.0 x.3)
     (chains_installed s f catalogue size submission (first + 1) runs order x.1 x.4 c (omega arith) (omega arith) has)))

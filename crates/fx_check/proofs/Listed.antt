@@ -1,17 +1,14 @@
 -- The places of a chain's accesses.
-use Rattle.fx_check.proofs.Words.{◌≡◌, ◌≢◌, ℕ, suc, ◌+◌, ◌<◌, ◌==◌, ◌||◌, nat_lt, Bool, true, false, if◌then◌else◌, ℤ, negsuc, int_le, List, [], ◌∷◌}
-use Rattle.fx_check.proofs.Words.{◌++◌, All, length, Some, None, refl, sym, ap, subst, ◌∙◌, arith, append-nil, append_assoc, length-append}
-use Rattle.fx_check.proofs.Words.{slice_index_or, take, MatchBool, list_any, length-take-le, take_more, All-append, FileEntry, Errno, EBADF, EINVAL}
-use Rattle.fx_check.proofs.Words.{ENXIO, is_bad_entry, Completed, next_member, canceled, severs, Asked, Operation, Updates, Place, IsChainDone}
-use Rattle.fx_check.proofs.Words.{IsRefused, IsRequestDone, IsUpdateDone, Access, by_equality, IsChainListed, entry_places, place_at, AccessPlace}
+use Rattle.fx_check.proofs.Words.{◌≡◌, ◌≢◌, ℕ, suc, ◌+◌, ◌<◌, ◌==◌, Bool, true, false, if◌then◌else◌, ℤ, negsuc, int_le, List, [], ◌∷◌, ◌++◌, All}
+use Rattle.fx_check.proofs.Words.{length, Some, None, refl, sym, ap, subst, ◌∙◌, arith, append-nil, append_assoc, length-append, slice_index_or, take}
+use Rattle.fx_check.proofs.Words.{MatchBool, length-take-le, take_more, All-append, FileEntry, Completed, next_member, canceled, severs, Asked}
+use Rattle.fx_check.proofs.Words.{Operation, Updates, Place, IsChainDone, IsRequestDone, IsUpdateDone, Access, by_equality, IsChainListed}
+use Rattle.fx_check.proofs.Words.{entry_places, place_at, AccessPlace, updates}
 use Rattle.std.proofs.lemmas.List.{length-replicate}
 use Rattle.std.proofs.lemmas.List.Elements.{All-replicate}
 use Rattle.fx_order.proofs.EntriesMade.{done_ones, entries_made}
 use Rattle.fx_check.specs.Places.{own_places}
-
-either_way : (b : Bool) (P Q R : Type 0) → (P → R) → (Q → R) → MatchBool b P Q → R
-either_way true P Q R yes_so not_so given = yes_so given
-either_way false P Q R yes_so not_so given = not_so given
+use Rattle.fx_order.proofs.Cases.{either_case}
 
 -- with one more entry behind the list
 abbrev pub last_place : Place → ℕ → ℤ → List AccessPlace
@@ -64,13 +61,9 @@ entries_listed place n (entry ∷ list) =
 
 update_made : (entries size : ℕ) (place : Place) (off : ℕ) (list : List ℤ) (own : List Access) (c : Completed) → length own ≢ 0
     → IsUpdateDone entries size place off list own c → length own ≡ length (done_ones list)
-update_made entries size place off list own c some =
-    either_way (size == 0) _ _ _ (refused ENXIO)
-    (either_way (length list == 0 || nat_lt size (off + length list)) _ _ _ (refused EINVAL)
-    (either_way (list_any (is_bad_entry entries) list) _ _ _ (refused EBADF) (λ x. entries_made place 0 off list own x.0)))
-  where
-    refused : (errno : Errno) → IsRefused place errno own c → length own ≡ length (done_ones list)
-    refused errno x = absurd (some (ap length x.0))
+update_made entries size place off list own c some done =
+    updates size place (λ l _. length l ≢ 0 → length l ≡ length (done_ones list)) (λ _ none. absurd (none refl)) own c entries off list
+    (λ _ _ x _. entries_made place 0 off list own x) done some
 
 -- as many places as accesses
 pub own_listed : (catalogue : List FileEntry) (size : ℕ) (place : Place) (operation : Operation) (own : List Access) (c : Completed)
@@ -112,7 +105,7 @@ pub chain_count : (catalogue : List FileEntry) (size : ℕ) (place : Place) (req
 chain_count catalogue size place [] accesses places completions x = ap length x.1 ∙ sym (ap length x.0)
 chain_count catalogue size place (request ∷ requests) accesses places completions x =
     let own = own_listed catalogue size place request.operation x.0 x.3 x.8 in
-    let behind : length x.2 ≡ length x.1 = either_way (severs request x.3) _ _ _ (λ y. ap length y.1 ∙ sym (ap length y.0))
+    let behind : length x.2 ≡ length x.1 = either_case (severs request x.3) _ _ _ (λ y. ap length y.1 ∙ sym (ap length y.0))
     (chain_count catalogue size (next_member place) requests x.1 x.2 x.4) x.9 in
     let one = ap length x.5 ∙ length-append x.0 x.1 in
     let two = ap length x.7 ∙ length-append (own_places place request.operation x.0) x.2 in
@@ -123,7 +116,7 @@ pub chain_same : (catalogue : List FileEntry) (size : ℕ) (place : Place) (requ
     (completions : List Completed) → IsChainListed catalogue size place requests accesses places completions → AreOfChain place.chain places
 chain_same catalogue size place [] accesses places completions x = subst (AreOfChain place.chain) (sym x.1) (none_of_chain place.chain)
 chain_same catalogue size place (request ∷ requests) accesses places completions x =
-    let behind : AreOfChain place.chain x.2 = either_way (severs request x.3) _ _ _
+    let behind : AreOfChain place.chain x.2 = either_case (severs request x.3) _ _ _
     (λ y. subst (AreOfChain place.chain) (sym y.1) (none_of_chain place.chain))
     (chain_same catalogue size (next_member place) requests x.1 x.2 x.4) x.9 in
     subst (AreOfChain place.chain) (sym x.7)

@@ -3,9 +3,9 @@ use Rattle.fx_check.proofs.Words.{◌≡◌, ◌-◌, map, take, drop, slice_ind
 use Rattle.fx_check.proofs.Words.{subst, ◌∙◌, arith, append_assoc, slice_get, get_or_from_slice_get, slice_get_within, drop-map, length-map}
 use Rattle.fx_check.proofs.Words.{take-append-drop, Vec, FileEntry, members_of, Completed, all_completed, completed_of, first_member, Asked}
 use Rattle.fx_check.proofs.Words.{all_asked, asked_of, Chain, Completion, Request, first_and_rest, accesses_of_chain, AreChainsDone, IsChainDone}
-use Rattle.fx_check.proofs.Words.{Access, ChainAccess, AreListsOf, IsListFor, ArePlaces, IsChainListed, places_of_chain, AccessPlace}
+use Rattle.fx_check.proofs.Words.{Access, ChainAccess, AreListsOf, IsListFor, ArePlaces, IsChainListed, places_of_chain, AccessPlace, length-done}
 use Rattle.std.proofs.lemmas.List.{take-map}
-use Rattle.fx_order.proofs.ChainFront.{front_is, length-done}
+use Rattle.fx_order.proofs.ChainFront.{front_is}
 use Rattle.fx_check.specs.Places.{AreChainsListed}
 use Rattle.fx_check.proofs.Listed.{IsPut, chain_count, chain_same}
 

@@ -4,7 +4,7 @@ pub use Rattle.fx_base.specs.Catalogue.{FileEntry, name_at}
 pub use Rattle.fx_base.specs.Tags.{tag_completion, tags_of}
 pub use Rattle.fx_base.specs.declared.catalogue.TheConstants.{MOST_ENTRIES}
 pub use Rattle.fx_base.specs.declared.errno.Errno.{Errno}
-pub use Rattle.fx_base.specs.declared.errno.Errno.TheVariants.{EBADF, EINVAL, ENFILE, ENOENT, ENOMEM, ENXIO}
+pub use Rattle.fx_base.specs.declared.errno.Errno.TheVariants.{EBADF, ENFILE, ENOENT, ENOMEM}
 pub use Rattle.fx_base.specs.declared.mark.Mark.{Mark}
 pub use Rattle.fx_base.specs.declared.mark.Mark.TheVariants.{Registered, Submitted}
 pub use Rattle.fx_base.specs.declared.open_file.Closed.{Closed}
@@ -12,7 +12,7 @@ pub use Rattle.fx_base.specs.declared.tag_completion.TagCompletion.{TagCompletio
 pub use Rattle.fx_calls.proofs.Entries.{all_closed, all_of_ring, few_of_ring, if_ok_then}
 pub use Rattle.fx_calls.specs.InRange.{AreInRange, IsInRange}
 pub use Rattle.fx_chain.specs.Accepted.{IsAccepted, IsChain, members_of}
-pub use Rattle.fx_chain.specs.Answers.{installed, is_bad_entry}
+pub use Rattle.fx_chain.specs.Answers.{installed}
 pub use Rattle.fx_chain.specs.Completed.{Completed, all_completed, completed, completed_of, next_member}
 pub use Rattle.fx_chain.specs.Explains.{canceled, first_member, severs}
 pub use Rattle.fx_chain.specs.Faults.{fault_of}
@@ -44,14 +44,17 @@ pub use Rattle.fx_lines.specs.Lines.{Lines, NamedClose, ReadsReport, lines_of, l
 pub use Rattle.fx_lines.specs.LinesView.{lines_in}
 pub use Rattle.fx_lines.specs.declared.close.ClosedLine.{ClosedLine}
 pub use Rattle.fx_lines.specs.declared.report.ReportLines.{ReportLines}
+pub use Rattle.fx_order.proofs.ChainFront.{length-done}
 pub use Rattle.fx_order.proofs.FirstAndRest.{first_and_rest}
 pub use Rattle.fx_order.proofs.Placed.{Has, placed}
 pub use Rattle.fx_order.proofs.PlacedNew.{either_way}
+pub use Rattle.fx_order.proofs.RequestCases.{allocates, puts, updates}
 pub use Rattle.fx_order.specs.Access.{Table, accesses_of, accesses_of_chain}
 pub use Rattle.fx_order.specs.Order.{IsOneOrder, table_of}
-pub use Rattle.fx_order.specs.Requests.{AreChainsDone, IsChainDone, IsCloseDone, IsOpenDone, IsReadDone, IsRefused, IsRequestDone, IsUpdateDone}
+pub use Rattle.fx_order.specs.Requests.{AreChainsDone, IsChainDone, IsOpenDone, IsRequestDone, IsUpdateDone}
 pub use Rattle.fx_order.specs.Slots.{ring_with_slots, table_of_slots}
 pub use Rattle.fx_order.specs.declared.access.Access.{Access}
+pub use Rattle.fx_order.specs.declared.access.Access.TheVariants.{Allocates}
 pub use Rattle.fx_order.specs.declared.access.ChainAccess.{ChainAccess}
 pub use Rattle.fx_order.specs.declared.listed_order.AccessPlace.{AccessPlace}
 pub use Rattle.fx_order.specs.declared.listed_order.Order.{Order}
@@ -65,14 +68,14 @@ pub use Rattle.fx_ring.specs.Ring.{HasClosed, IsRing, RingContents, RingState, f
 pub use Rattle.fx_ring.specs.Submission.{Reported}
 pub use Rattle.fx_ring.specs.Tags.{tags_for}
 pub use Rattle.fx_ring.specs.declared.ring.TheConstants.{MOST_SUBMISSIONS}
-pub use Rattle.fx_script.specs.Play.{Prints, PrintsClosed, PrintsEnd}
+pub use Rattle.fx_script.specs.Play.{IsRefused, Prints, PrintsClosed, PrintsEnd}
 pub use Rattle.fx_script.specs.Text.{report_text}
 pub use Rattle.fx_table.proofs.Members.{each_all}
 pub use Rattle.std.proofs.Common.{All, Bool, Contains, Err, IfOk, IfSome, List, None, Ok, Option, Result, Some, [], ap, append-nil, append_assoc}
 pub use Rattle.std.proofs.Common.{arith, codes, cond, drop, false, filter, if◌then◌else◌, inl, inr, int_le, length, length-append, length-drop, map}
-pub use Rattle.std.proofs.Common.{nat_le, nat_lt, negsuc, not, of_z, option_map, pos, refl, replicate, rules, slice_get, slice_index_or, slice_set}
-pub use Rattle.std.proofs.Common.{string_bytes, subst, suc, sym, take, to_z, true, zero, ℕ, ℤ, ⊎_elim, ◌++◌, ◌+◌, ◌-◌, ◌<◌, ◌==◌, ◌^◌, ◌||◌, ◌↔◌, ◌∙◌}
-pub use Rattle.std.proofs.Common.{◌∷◌, ◌≡◌, ◌≢◌, ◌≤◌}
+pub use Rattle.std.proofs.Common.{nat_le, negsuc, not, of_z, option_map, pos, refl, replicate, rules, slice_get, slice_index_or, slice_set}
+pub use Rattle.std.proofs.Common.{string_bytes, subst, suc, sym, take, to_z, true, zero, ℕ, ℤ, ⊎_elim, ◌++◌, ◌+◌, ◌-◌, ◌<◌, ◌==◌, ◌^◌, ◌↔◌, ◌∙◌, ◌∷◌}
+pub use Rattle.std.proofs.Common.{◌≡◌, ◌≢◌, ◌≤◌}
 pub use Rattle.std.proofs.Math.Seq.{drop-append_seam, take-append_seam, take-length}
 pub use Rattle.std.proofs.lemmas.Bool.{lt-leb}
 pub use Rattle.std.proofs.lemmas.Bool.Decides.{Decides-eqb}
@@ -81,6 +84,6 @@ pub use Rattle.std.proofs.lemmas.List.Elements.{All-append, All-cons, All-get_or
 pub use Rattle.std.proofs.lemmas.Option.{get_or_from_slice_get, slice_get-get_or, slice_get_within}
 pub use Rattle.std.specs.Bool.{MatchBool}
 pub use Rattle.std.specs.Global.{Vec}
-pub use Rattle.std.specs.List.{flat_map, list_any}
+pub use Rattle.std.specs.List.{flat_map}
 pub use Rattle.std.specs.Option.{option_to_list}
 pub use Rattle.std.specs.Ordering.{is_lt}

@@ -6,6 +6,9 @@ pub either_way : (b : Bool) (P Q R : Type 0) → (b ≡ true → P → R) → (b
 either_way true P Q R yes_so not_so given = yes_so refl given
 either_way false P Q R yes_so not_so given = not_so refl given
 
+pub either_case : (b : Bool) (P Q R : Type 0) → (P → R) → (Q → R) → MatchBool b P Q → R
+either_case b P Q R yes_so not_so = either_way b P Q R (λ _. yes_so) (λ _. not_so)
+
 pub same_cases : (b : Bool) (P Q R S : Type 0) → (P → R) → (Q → S) → MatchBool b P Q → MatchBool b R S
 same_cases true P Q R S yes_so not_so given = yes_so given
 same_cases false P Q R S yes_so not_so given = not_so given

@@ -1,9 +1,8 @@
 -- How many accesses an update made.
-use Rattle.fx_order.proofs.Words.{◌≡◌, ℕ, zero, suc, ◌+◌, ◌==◌, ◌||◌, nat_lt, ℤ, pos, negsuc, int_le, Bool, true, false, if◌then◌else◌, List, [], ◌∷◌}
-use Rattle.fx_order.proofs.Words.{length, filter, refl, sym, ap, ◌∙◌, arith, list_any, false≢true, nat_tests, length-append, Errno, ENOENT}
-use Rattle.fx_order.proofs.Words.{ENXIO, EBADF, EINVAL, is_bad_entry, Completed, negated, Place}
-use Rattle.fx_order.proofs.Words.{Access, IsRefused, IsEntryDone, AreEntriesDone, IsUpdateDone}
-use Rattle.fx_order.proofs.Cases.{either_way}
+use Rattle.fx_order.proofs.Words.{◌≡◌, ℕ, zero, suc, ◌+◌, ℤ, pos, negsuc, int_le, Bool, true, false, if◌then◌else◌, List, [], ◌∷◌, length, filter}
+use Rattle.fx_order.proofs.Words.{refl, sym, ap, ◌∙◌, arith, false≢true, nat_tests, length-append, Errno, ENOENT, Completed, negated, Place, Access}
+use Rattle.fx_order.proofs.Words.{IsEntryDone, AreEntriesDone, IsUpdateDone}
+use Rattle.fx_order.proofs.RequestCases.{updates}
 
 -- the entries that aren't skips
 abbrev pub done_ones : List ℤ → List ℤ
@@ -33,11 +32,7 @@ no_success errno = refl
 
 pub update_made : (entries size : ℕ) (place : Place) (off : ℕ) (list : List ℤ) (own : List Access) (c : Completed)
     → int_le (pos 0) c.res ≡ true → IsUpdateDone entries size place off list own c → length own ≡ length (done_ones list)
-update_made entries size place off list own c good =
-    either_way (size == 0) _ _ _ (λ _. refused ENXIO)
-    (λ _. either_way (length list == 0 || nat_lt size (off + length list)) _ _ _ (λ _. refused EINVAL)
-    (λ _. either_way (list_any (is_bad_entry entries) list) _ _ _ (λ _. refused EBADF) (λ _ x. entries_made place 0 off list own x.0)))
-  where
-    refused : (errno : Errno) → IsRefused place errno own c → length own ≡ length (done_ones list)
-    refused errno x =
-        absurd (false≢true (sym (no_success errno) ∙ (ap (λ (d : Completed). int_le (pos 0) d.res) (sym x.1) ∙ good)))
+update_made entries size place off list own c good done =
+    updates size place (λ l d. int_le (pos 0) d.res ≡ true → length l ≡ length (done_ones list))
+    (λ errno bad. absurd (false≢true (sym (no_success errno) ∙ bad))) own c entries off list
+    (λ _ _ x _. entries_made place 0 off list own x) done good

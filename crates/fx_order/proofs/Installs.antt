@@ -1,23 +1,19 @@
 -- An order of a submission without a fault installs no more files than its chains have numbers.
-use Rattle.fx_order.proofs.Words.{◌≡◌, ◌≢◌, inl, inr, ℕ, zero, suc, ◌+◌, ◌*◌, ◌<◌, ◌≤◌, ◌==◌, ◌||◌, nat_le, nat_lt, ℤ, pos, negsuc, Bool, true, false}
-use Rattle.fx_order.proofs.Words.{not, cond, List, [], ◌∷◌, ◌++◌, filter, length, sym, ap, subst, arith, All, MatchBool, list_any, All-head, All-tail}
-use Rattle.fx_order.proofs.Words.{All-map, All-weaker, sum_by-cons, FileEntry, has_name, Errno, ENOENT, ENXIO, EBADF, ENOMEM, EINVAL, ENFILE}
-use Rattle.fx_order.proofs.Words.{IsAccepted, IsChain, members_of, is_bad_entry, Completed, next_member, severs, first_member, Operation, Opens}
-use Rattle.fx_order.proofs.Words.{Reads, Closes, Updates, Asked, runs_of, Chain, Place, Target, Slot, Any, by_equality, accesses_of}
-use Rattle.fx_order.proofs.Words.{accesses_of_chain, Access, ChainAccess, IsRefused, IsOpenDone, IsReadDone, IsCloseDone, IsEntryDone, AreEntriesDone}
-use Rattle.fx_order.proofs.Words.{IsUpdateDone, IsRequestDone, IsChainDone, AreChainsDone, chains_of, entry_installs, list_installs, installs_of}
-use Rattle.fx_order.proofs.Words.{all_installs, accepted-chains, members-are-runs, list_installs-cons, has, lacks, kept_lacking, within_lacking}
-use Rattle.fx_order.proofs.Words.{none_within}
+use Rattle.fx_order.proofs.Words.{◌≡◌, ℕ, zero, suc, ◌+◌, ◌*◌, ◌<◌, ◌≤◌, ◌==◌, ℤ, pos, negsuc, true, false, not, cond, List, [], ◌∷◌, ◌++◌, filter}
+use Rattle.fx_order.proofs.Words.{length, sym, ap, subst, arith, All, All-head, All-tail, All-map, All-weaker, sum_by-cons, FileEntry, has_name}
+use Rattle.fx_order.proofs.Words.{IsAccepted, IsChain, members_of, Completed, next_member, severs, first_member, Operation, Opens, Reads, Closes}
+use Rattle.fx_order.proofs.Words.{Updates, Asked, runs_of, Chain, Place, Target, Slot, Any, by_equality, accesses_of, accesses_of_chain, Access}
+use Rattle.fx_order.proofs.Words.{ChainAccess, IsOpenDone, IsEntryDone, AreEntriesDone, IsRequestDone, IsChainDone, AreChainsDone, chains_of}
+use Rattle.fx_order.proofs.Words.{entry_installs, list_installs, installs_of, all_installs, accepted-chains, members-are-runs, list_installs-cons}
+use Rattle.fx_order.proofs.Words.{has, lacks, kept_lacking, within_lacking, none_within}
 use Rattle.fx_order.proofs.AtOnce.{installs}
 use Rattle.fx_order.proofs.Made.{installs_in}
+use Rattle.fx_order.proofs.Cases.{either_case}
+use Rattle.fx_order.proofs.RequestCases.{allocates, closes, puts, reads, updates}
 
 installs_in-append : (xs ys : List Access) → installs_in (xs ++ ys) ≡ installs_in xs + installs_in ys
 installs_in-append [] ys = omega arith
 installs_in-append (x ∷ xs) ys = let rest = installs_in-append xs ys in omega arith
-
-either_case : (b : Bool) (P Q R : Type 0) → (P → R) → (Q → R) → MatchBool b P Q → R
-either_case true P Q R yes_so not_so given = yes_so given
-either_case false P Q R yes_so not_so given = not_so given
 
 -- accesses that install so many files at most
 abbrev InstallAtMost : ℕ → List Access → Type 0
@@ -26,44 +22,12 @@ InstallAtMost most accesses = installs_in accesses ≤ most
 are_few : (most : ℕ) (accesses those : List Access) → accesses ≡ those → installs_in those ≤ most → InstallAtMost most accesses
 are_few most accesses those is few = let same = ap installs_in is in omega arith
 
-refused_few : (most : ℕ) (place : Place) (errno : Errno) (accesses : List Access) (c : Completed) → IsRefused place errno accesses c
-    → InstallAtMost most accesses
-refused_few most place errno accesses c refused = are_few most accesses [] refused.0 (omega arith)
-
 open_few : (size : ℕ) (place : Place) (entry : ℕ) (target : Target) (accesses : List Access) (c : Completed)
     → IsOpenDone size place entry target accesses c → InstallAtMost 1 accesses
 open_few size place entry (Slot slot) accesses c =
-    either_case (size == 0) _ _ _ (refused_few 1 place ENXIO accesses c)
-    (either_case (nat_le size slot) _ _ _ (refused_few 1 place EINVAL accesses c)
-    (λ x. are_few 1 accesses _ x.1.0 (omega arith)))
+    puts size place (λ l _. InstallAtMost 1 l) (λ _. omega arith) accesses c entry slot (λ _. omega arith)
 open_few size place entry Any accesses c =
-    either_case (size == 0) _ _ _ (refused_few 1 place ENFILE accesses c)
-    (λ x. elim x [
-      | inl y ↦ are_few 1 accesses _ y.1.0 (omega arith)
-      | inr y ↦ are_few 1 accesses _ y.0 (omega arith)
-    ])
-
-read_few : (catalogue : List FileEntry) (size : ℕ) (place : Place) (slot off len : ℕ) (accesses : List Access) (c : Completed)
-    → IsReadDone catalogue size place slot off len accesses c → InstallAtMost 0 accesses
-read_few catalogue size place slot off len accesses c =
-    either_case (nat_le size slot) _ _ _ (refused_few 0 place EBADF accesses c)
-    (λ x. elim x [
-      | inl y ↦ refused_few 0 place ENOMEM accesses c y.1
-      | inr y ↦ elim y [
-        | inl z ↦ are_few 0 accesses _ z.0 (omega arith)
-        | inr z ↦ are_few 0 accesses _ z.1.0 (omega arith)
-      ]
-    ])
-
-close_few : (size : ℕ) (place : Place) (slot : ℕ) (accesses : List Access) (c : Completed) → IsCloseDone size place slot accesses c
-    → InstallAtMost 0 accesses
-close_few size place slot accesses c =
-    either_case (size == 0) _ _ _ (refused_few 0 place ENXIO accesses c)
-    (either_case (nat_le size slot) _ _ _ (refused_few 0 place EINVAL accesses c)
-    (λ x. elim x [
-      | inl y ↦ are_few 0 accesses _ y.0 (omega arith)
-      | inr y ↦ are_few 0 accesses _ y.1.0 (omega arith)
-    ]))
+    allocates size place (λ l _. InstallAtMost 1 l) (λ _. omega arith) accesses c entry (λ _. omega arith) (omega arith)
 
 entry_few : (place : Place) (in_list slot : ℕ) (entry : ℤ) (accesses : List Access) → IsEntryDone place in_list slot entry accesses
     → InstallAtMost (entry_installs entry) accesses
@@ -81,21 +45,17 @@ list_few place in_list slot (entry ∷ list) accesses x =
     let all = list_installs-cons entry list in
     are_few (list_installs (entry ∷ list)) accesses (x.0 ++ x.1) x.2 (omega arith)
 
-update_few : (entries size : ℕ) (place : Place) (off : ℕ) (list : List ℤ) (accesses : List Access) (c : Completed)
-    → IsUpdateDone entries size place off list accesses c → InstallAtMost (list_installs list) accesses
-update_few entries size place off list accesses c =
-    either_case (size == 0) _ _ _ (refused_few (list_installs list) place ENXIO accesses c)
-    (either_case (length list == 0 || nat_lt size (off + length list)) _ _ _ (refused_few (list_installs list) place EINVAL accesses c)
-    (either_case (list_any (is_bad_entry entries) list) _ _ _ (refused_few (list_installs list) place EBADF accesses c)
-    (λ x. list_few place 0 off list accesses x.0)))
-
 request_few : (catalogue : List FileEntry) (size : ℕ) (place : Place) (operation : Operation) (accesses : List Access) (c : Completed)
     → IsRequestDone catalogue size place operation accesses c → InstallAtMost (installs_of operation) accesses
 request_few catalogue size place (Opens name target) accesses c =
-    either_case (has_name name catalogue) _ _ _ (λ x. open_few size place x.0 target accesses c x.2) (refused_few 1 place ENOENT accesses c)
-request_few catalogue size place (Reads slot off len) accesses c = read_few catalogue size place slot off len accesses c
-request_few catalogue size place (Closes slot) accesses c = close_few size place slot accesses c
-request_few catalogue size place (Updates off list) accesses c = update_few (length catalogue) size place off list accesses c
+    either_case (has_name name catalogue) _ _ _ (λ x. open_few size place x.0 target accesses c x.2) (λ x. are_few 1 accesses [] x.0 (omega arith))
+request_few catalogue size place (Reads slot off len) accesses c =
+    reads size place (λ l _. InstallAtMost 0 l) (λ _. omega arith) accesses c catalogue slot off len (omega arith) (λ _. omega arith)
+request_few catalogue size place (Closes slot) accesses c =
+    closes size place (λ l _. InstallAtMost 0 l) (λ _. omega arith) accesses c slot (omega arith) (λ _. omega arith)
+request_few catalogue size place (Updates off list) accesses c =
+    updates size place (λ l _. InstallAtMost (list_installs list) l) (λ _. omega arith) accesses c (length catalogue) off list
+    (λ _ _ x. list_few place 0 off list accesses x)
 
 chain_few : (catalogue : List FileEntry) (size : ℕ) (place : Place) (requests : List Asked) (accesses : List Access) (cs : List Completed)
     → IsChainDone catalogue size place requests accesses cs → InstallAtMost (all_installs requests) accesses
@@ -124,10 +84,7 @@ chains_few catalogue size submission first (run ∷ runs) order cs most few x ch
     let is = ap (λ (c : ℕ). installs_in (accesses_of_chain c order)) same in
     omega arith)
     (λ other. chains_few catalogue size submission (first + 1) runs order x.1 most (All-tail (λ (r : List Asked). all_installs r ≤ most) run runs few) x.4
-    chain (above chain first low other) (omega arith))
-  where
-    above : (a b : ℕ) → b ≤ a → a ≢ b → b + 1 ≤ a
-    above a b low apart = by_equality (b + 1) (a + 1) (λ _. b + 1 ≤ a) (λ same. absurd (apart (omega arith))) (λ other. omega arith)
+    chain (omega arith) (omega arith))
 
 abbrev chain_of : ChainAccess → ℕ
 chain_of x = x.chain

@@ -1,5 +1,6 @@
 pub mod Words
 pub mod Cases
+pub mod RequestCases
 pub mod Accesses
 pub mod Requests
 pub mod Removed

@@ -2,8 +2,9 @@
 use Rattle.fx_order.proofs.Words.{◌≡◌, ◌≢◌, ◌⊎◌, inl, inr, ⊎_elim, ℕ, ◌<◌, List, [], ◌∷◌, ◌++◌, Contains, refl, sym, ap, ◌∙◌, subst, append_assoc}
 use Rattle.fx_order.proofs.Words.{arith, Option, Some, None, if◌then◌else◌, option_to_list, Contains-append_right, Closed, by_equality, contains_none}
 use Rattle.fx_order.proofs.Words.{contains_head, contains_cases, Table, Looks, Puts, Clears, Takes, Allocates, FindsFull, Permits, PermitsAll}
-use Rattle.fx_order.proofs.Words.{table_with, table_after, removed_by, removed_in, Access}
+use Rattle.fx_order.proofs.Words.{table_with, table_after, removed_by, removed_in, Access, FileEntry, Place, Completed, IsReadDone, IsCloseDone}
 use Rattle.fx_order.specs.Access.{IsAt, with_file}
+use Rattle.fx_order.proofs.RequestCases.{closes, reads}
 
 -- the file that an access places, with its slot
 abbrev pub placed_by : Access → List (ℕ × Closed)
@@ -140,7 +141,7 @@ emptied t (Clears slot removed) g may is = emptied_at t (Clears slot removed) sl
 emptied t (Takes slot removed) g may is = emptied_at t (Takes slot removed) slot removed None g may is (λ s f now. now) (λ s f h. absurd (cc (h.1)))
 emptied t x g may is = cc
 
-same_size : (t : Table) (x : Access) → (table_with t x).size ≡ t.size
+pub same_size : (t : Table) (x : Access) → (table_with t x).size ≡ t.size
 same_size t (Looks slot found) = refl
 same_size t x = refl
 
@@ -184,3 +185,13 @@ removes_contained (x ∷ xs) g has = either (removed_by x) refl (λ later. remov
         → Contains (option_to_list found ++ removed_in xs) g → (removed_by x ≡ Some g) ⊎ Removes xs g
     either None is more h = inr (more h)
     either (Some f) is more h = ⊎_elim (λ here. inl (is ∙ ap (λ y. Some y) (sym here))) (λ later. inr (more later)) (contains_cases f (removed_in xs) g h)
+
+-- a read and a close place nothing
+pub read_none : (catalogue : List FileEntry) (size : ℕ) (place : Place) (slot off len : ℕ) (accesses : List Access) (c : Completed)
+    → IsReadDone catalogue size place slot off len accesses c → placed accesses ≡ []
+read_none catalogue size place slot off len accesses c =
+    reads size place (λ l _. placed l ≡ []) (λ _. refl) accesses c catalogue slot off len refl (λ _. refl)
+
+pub close_none : (size : ℕ) (place : Place) (slot : ℕ) (accesses : List Access) (c : Completed) → IsCloseDone size place slot accesses c
+    → placed accesses ≡ []
+close_none size place slot accesses c = closes size place (λ l _. placed l ≡ []) (λ _. refl) accesses c slot refl (λ _. refl)

@@ -1,15 +1,17 @@
 -- What a submission places: files of the catalogue without a tag, with marks of its own, and no mark twice.
-use Rattle.fx_order.proofs.Words.{◌≡◌, ◌≢◌, inl, inr, ⊎_elim, ℕ, zero, suc, ◌+◌, ◌<◌, ◌≤◌, ◌==◌, ◌||◌, nat_le, nat_lt, ℤ, pos, negsuc, Bool, true}
-use Rattle.fx_order.proofs.Words.{false, cond, List, [], ◌∷◌, ◌++◌, filter, length, refl, sym, ap, subst, ◌∙◌, arith, Some, None, option_map, All}
-use Rattle.fx_order.proofs.Words.{eq-eqb, list_any, cases_lt, leb-false, ltb-false, slice_get_past, All-head, All-tail, has_name}
-use Rattle.fx_order.proofs.Words.{FileEntry, name_at, Errno, ENOENT, ENXIO, EBADF, ENOMEM, EINVAL, ENFILE, Submitted, Closed, IsWithinLimits}
-use Rattle.fx_order.proofs.Words.{installed, is_bad_entry, Completed, next_member, severs, first_member, is_long_update, MOST_MEMBERS, LONGEST_UPDATE}
-use Rattle.fx_order.proofs.Words.{Operation, Opens, Reads, Closes, Updates, Asked, Place, Target, Slot, Any, by_equality, or_left, or_right}
-use Rattle.fx_order.proofs.Words.{accesses_of, accesses_of_chain, Access, ChainAccess, IsRefused, IsOpenDone, IsReadDone, IsCloseDone, IsEntryDone}
-use Rattle.fx_order.proofs.Words.{AreEntriesDone, IsUpdateDone, IsRequestDone, IsChainDone, AreChainsDone}
+use Rattle.fx_order.proofs.Words.{◌≡◌, ◌≢◌, inl, inr, ⊎_elim, ℕ, zero, suc, ◌+◌, ◌<◌, ◌≤◌, ◌==◌, ℤ, pos, negsuc, Bool, true, false, cond, List, []}
+use Rattle.fx_order.proofs.Words.{◌∷◌, ◌++◌, filter, length, refl, sym, ap, subst, ◌∙◌, arith, All, list_any, leb-false, ltb-false, All-head}
+use Rattle.fx_order.proofs.Words.{All-tail, has_name, FileEntry, Errno, Submitted, Closed, IsWithinLimits, installed, is_bad_entry, Completed}
+use Rattle.fx_order.proofs.Words.{next_member, severs, first_member, is_long_update, MOST_MEMBERS, LONGEST_UPDATE, Operation, Opens, Reads, Closes}
+use Rattle.fx_order.proofs.Words.{Updates, Asked, Place, Target, Slot, Any, by_equality, or_left, or_right, accesses_of, accesses_of_chain, Access}
+use Rattle.fx_order.proofs.Words.{ChainAccess, IsOpenDone, IsEntryDone, AreEntriesDone, IsRequestDone, IsChainDone, AreChainsDone, refusal, Puts}
+use Rattle.fx_order.proofs.Words.{Allocates, FindsFull}
+use Rattle.fx_base.proofs.Entries.{entry_named}
+use Rattle.fx_order.proofs.Accesses.{own_first}
 pub use Rattle.fx_order.proofs.Cases.{either_way}
 use Rattle.fx_order.proofs.Apart.{PlacesOnce, once_between}
-use Rattle.fx_order.proofs.Placed.{Has, has_either, has_left, has_right, placed, placed_by, placed-append}
+use Rattle.fx_order.proofs.Placed.{Has, has_either, has_left, has_right, placed, placed_by, placed-append, close_none, read_none}
+use Rattle.fx_order.proofs.RequestCases.{allocates, puts, updates}
 
 -- each file that was placed is such a one, and no mark was placed twice
 abbrev pub Own : (Closed → Type 0) → List (ℕ × Closed) → Type 0
@@ -104,53 +106,31 @@ reaches_all_limits member (r ∷ rs) limits few = (
   reaches_all_limits (member + 1) rs (All-tail IsWithinLimits r rs limits) (omega arith),
 )
 
--- an entry with a name is one of the catalogue
-entry_named : (catalogue : List FileEntry) (entry : ℕ) (name : List ℕ) → name_at catalogue entry ≡ Some name → entry < length catalogue
-entry_named catalogue entry name is = elim (cases_lt entry (length catalogue)) [
-  | inl inside ↦ inside
-  | inr past ↦ let e : None ≡ Some name = sym (ap (option_map (λ (file : FileEntry). file.name)) (slice_get_past catalogue entry past)) ∙ is in cc
-]
-
 module _ (entries : ℕ) (B : ℕ → Type 0) (place : Place) where
   marked : (j entry : ℕ) → entry < entries → IsMarked entries place j (installed place j entry)
   marked j entry inside = record { mark = refl; inside = inside; untagged = refl }
 
-  refused_none : (P : Closed → Type 0) (errno : Errno) (accesses : List Access) (c : Completed) → IsRefused place errno accesses c → OwnOf P accesses
-  refused_none P errno accesses c x = own_none P accesses (ap placed x.0)
+  abbrev Listed : List Access → Completed → Type 0
+  Listed accesses c = OwnOf (IsListed entries B place 0) accesses
+
+  none_listed : (errno : Errno) → Listed [] (refusal place errno)
+  none_listed errno = own_none (IsListed entries B place 0) [] refl
+
+  one_listed : (entry slot : ℕ) (access : Access) → placed_by access ≡ (slot, installed place 0 entry) ∷ [] → B 0 → entry < entries
+      → OwnOf (IsListed entries B place 0) (access ∷ [])
+  one_listed entry slot access is b inside =
+      own_one (IsListed entries B place 0) (access ∷ []) slot (installed place 0 entry) (ap (λ (l : List (ℕ × Closed)). l ++ []) is)
+      (0, omega arith, b, marked 0 entry inside)
 
   opens : (size entry : ℕ) (target : Target) (accesses : List Access) (c : Completed) → B 0 → entry < entries
       → IsOpenDone size place entry target accesses c → OwnOf (IsListed entries B place 0) accesses
   opens size entry (Slot slot) accesses c b inside =
-      either_way (size == 0) _ _ _ (λ _. refused_none (IsListed entries B place 0) ENXIO accesses c)
-      (λ _. either_way (nat_le size slot) _ _ _ (λ _. refused_none (IsListed entries B place 0) EINVAL accesses c)
-      (λ _ x. own_one (IsListed entries B place 0) accesses slot (installed place 0 entry) (ap placed x.1.0) (0, omega arith, b, marked 0 entry inside)))
+      puts size place Listed none_listed accesses c entry slot
+      (λ removed. one_listed entry slot (Puts slot (installed place 0 entry) removed) refl b inside)
   opens size entry Any accesses c b inside =
-      either_way (size == 0) _ _ _ (λ _. refused_none (IsListed entries B place 0) ENFILE accesses c)
-      (λ _ x. elim x [
-        | inl y ↦ own_one (IsListed entries B place 0) accesses y.0 (installed place 0 entry) (ap placed y.1.0) (0, omega arith, b, marked 0 entry inside)
-        | inr y ↦ own_none (IsListed entries B place 0) accesses (ap placed y.0)
-      ])
-
-  reads : (P : Closed → Type 0) (catalogue : List FileEntry) (size slot off len : ℕ) (accesses : List Access) (c : Completed)
-      → IsReadDone catalogue size place slot off len accesses c → OwnOf P accesses
-  reads P catalogue size slot off len accesses c =
-      either_way (nat_le size slot) _ _ _ (λ _. refused_none P EBADF accesses c)
-      (λ _ x. elim x [
-        | inl y ↦ refused_none P ENOMEM accesses c y.1
-        | inr y ↦ elim y [
-          | inl z ↦ own_none P accesses (ap placed z.0)
-          | inr z ↦ own_none P accesses (ap placed z.1.0)
-        ]
-      ])
-
-  closes : (P : Closed → Type 0) (size slot : ℕ) (accesses : List Access) (c : Completed) → IsCloseDone size place slot accesses c → OwnOf P accesses
-  closes P size slot accesses c =
-      either_way (size == 0) _ _ _ (λ _. refused_none P ENXIO accesses c)
-      (λ _. either_way (nat_le size slot) _ _ _ (λ _. refused_none P EINVAL accesses c)
-      (λ _ x. elim x [
-        | inl y ↦ own_none P accesses (ap placed y.0)
-        | inr y ↦ own_none P accesses (ap placed y.1.0)
-      ]))
+      allocates size place Listed none_listed accesses c entry
+      (λ slot. one_listed entry slot (Allocates slot (installed place 0 entry)) refl b inside)
+      (own_none (IsListed entries B place 0) (FindsFull ∷ []) refl)
 
   entry : (in_list slot : ℕ) (z : ℤ) (accesses : List Access) → is_bad_entry entries z ≡ false → IsEntryDone place in_list slot z accesses
       → OwnOf (IsMarked entries place in_list) accesses
@@ -175,14 +155,6 @@ module _ (entries : ℕ) (B : ℕ → Type 0) (place : Place) where
       (entry in_list slot z x.0 (or_left _ _ good) x.3)
       (list (in_list + 1) (slot + 1) zs x.1 (λ j low high. reach j (omega arith) (omega arith)) (or_right _ _ good) x.4)
 
-  updates : (size off : ℕ) (zs : List ℤ) (accesses : List Access) (c : Completed) → ((j : ℕ) → j < length zs → B j)
-      → IsUpdateDone entries size place off zs accesses c → OwnOf (IsListed entries B place 0) accesses
-  updates size off zs accesses c reach =
-      either_way (size == 0) _ _ _ (λ _. refused_none (IsListed entries B place 0) ENXIO accesses c)
-      (λ _. either_way (length zs == 0 || nat_lt size (off + length zs)) _ _ _ (λ _. refused_none (IsListed entries B place 0) EINVAL accesses c)
-      (λ _. either_way (list_any (is_bad_entry entries) zs) _ _ _ (λ _. refused_none (IsListed entries B place 0) EBADF accesses c)
-      (λ good x. list 0 off zs accesses (λ j low high. reach j (omega arith)) good x.0)))
-
 module _ (catalogue : List FileEntry) (size : ℕ) (B : ℕ → ℕ → Type 0) where
   abbrev entries : ℕ
   entries = length catalogue
@@ -192,12 +164,14 @@ module _ (catalogue : List FileEntry) (size : ℕ) (B : ℕ → ℕ → Type 0) 
   request place (Opens name target) accesses c reach =
       either_way (has_name name catalogue) _ _ _
       (λ _ x. opens entries (B place.member) place size x.0 target accesses c reach (entry_named catalogue x.0 name x.1) x.2)
-      (λ _. refused_none entries (B place.member) place (IsListed entries (B place.member) place 0) ENOENT accesses c)
+      (λ _ x. own_none (IsListed entries (B place.member) place 0) accesses (ap placed x.0))
   request place (Reads slot off len) accesses c reach =
-      reads entries (B place.member) place (IsListed entries (B place.member) place 0) catalogue size slot off len accesses c
+      λ done. own_none (IsListed entries (B place.member) place 0) accesses (read_none catalogue size place slot off len accesses c done)
   request place (Closes slot) accesses c reach =
-      closes entries (B place.member) place (IsListed entries (B place.member) place 0) size slot accesses c
-  request place (Updates off zs) accesses c reach = updates entries (B place.member) place size off zs accesses c reach
+      λ done. own_none (IsListed entries (B place.member) place 0) accesses (close_none size place slot accesses c done)
+  request place (Updates off zs) accesses c reach =
+      updates size place (Listed entries (B place.member) place) (none_listed entries (B place.member) place) accesses c entries off zs
+      (λ inside good x. list entries (B place.member) place 0 off zs accesses (λ j low high. reach j (omega arith)) good x)
 
   chain : (place : Place) (requests : List Asked) (accesses : List Access) (cs : List Completed) → ReachesAll B place.member requests
       → IsChainDone catalogue size place requests accesses cs → OwnOf (IsOfMembers entries B place) accesses
@@ -243,10 +217,6 @@ has_of_chain c (x ∷ order) s f has = either (x.chain == c) (λ more. has_of_ch
         (has_either (placed_by x.access) (placed (accesses_of_chain c order)) s f h)
     either false more h = has_right (placed_by x.access) (placed (accesses_of order)) s f (more h)
 
-own_front : (x : ChainAccess) (order : List ChainAccess) → accesses_of_chain x.chain (x ∷ order) ≡ x.access ∷ accesses_of_chain x.chain order
-own_front x order =
-    ap (λ b. accesses_of (cond b (x ∷ filter (λ y. y.chain == x.chain) order) (filter (λ y. y.chain == x.chain) order))) (eq-eqb x.chain x.chain refl)
-
 -- the order's chain accesses, and those behind the first one
 of_rest : (P : Closed → Type 0) (c : ℕ) (x : ChainAccess) (order : List ChainAccess) → OwnOf P (accesses_of_chain c (x ∷ order)) → OwnOf P (accesses_of_chain c order)
 of_rest P c x order = either (x.chain == c)
@@ -279,7 +249,8 @@ module _ (entries : ℕ) (B : ℕ → ℕ → Type 0) (submission chains : ℕ) 
   has_in_chain [] inside s f has = absurd has
   has_in_chain (x ∷ order) inside s f has = ⊎_elim
       (λ here. let at = All-head IsInside x order inside in
-      (x.chain, at.0, at.1, subst (λ l. Has (placed l) s f) (sym (own_front x order)) (has_left (placed_by x.access) (placed (accesses_of_chain x.chain order)) s f here)))
+      let mine = has_left (placed_by x.access) (placed (accesses_of_chain x.chain order)) s f here in
+      (x.chain, at.0, at.1, subst (λ l. Has (placed l) s f) (sym (own_first x order)) mine))
       (λ later. let r = has_in_chain order (All-tail IsInside x order inside) s f later in (r.0, r.1, r.2, more r.0 (x.chain == r.0) r.3))
       (has_either (placed_by x.access) (placed (accesses_of order)) s f has)
     where
@@ -294,7 +265,7 @@ module _ (entries : ℕ) (B : ℕ → ℕ → Type 0) (submission chains : ℕ) 
   order_places_once (x ∷ order) inside each =
       let at = All-head IsInside x order inside in
       let mine : OwnOf (IsOfChain x.chain) (x.access ∷ accesses_of_chain x.chain order) =
-      subst (OwnOf (IsOfChain x.chain)) (own_front x order) (each x.chain at.0 at.1) in
+      subst (OwnOf (IsOfChain x.chain)) (own_first x order) (each x.chain at.0 at.1) in
       once_then (placed_by x.access) (placed (accesses_of order))
       (first_once (placed_by x.access) (placed (accesses_of_chain x.chain order)) mine.1)
       (order_places_once order (All-tail IsInside x order inside) (rest_places x order each))

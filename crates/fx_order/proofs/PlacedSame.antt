@@ -3,11 +3,10 @@ use Rattle.fx_order.proofs.Words.{◌≡◌, inl, inr, ℕ, zero, suc, ◌+◌, 
 use Rattle.fx_order.proofs.Words.{◌∷◌, ◌++◌, length, refl, sym, ap, subst, ◌∙◌, arith, MatchBool, list_any, false≢true, has_name, FileEntry}
 use Rattle.fx_order.proofs.Words.{IsCatalogue, installed, is_bad_entry, Completed, next_member, severs, first_member, canceled, Operation, Opens}
 use Rattle.fx_order.proofs.Words.{Reads, Closes, Updates, Asked, Place, Target, Slot, Any, by_equality, accesses_of_chain, Access, ChainAccess}
-use Rattle.fx_order.proofs.Words.{IsOpenDone, IsReadDone, IsCloseDone, IsEntryDone, AreEntriesDone, IsUpdateDone, IsRequestDone, IsChainDone}
-use Rattle.fx_order.proofs.Words.{AreChainsDone}
-use Rattle.fx_order.proofs.Cases.{both_ways, either_way}
+use Rattle.fx_order.proofs.Words.{IsOpenDone, IsEntryDone, AreEntriesDone, IsUpdateDone, IsRequestDone, IsChainDone, AreChainsDone}
+use Rattle.fx_order.proofs.Cases.{both_ways}
 use Rattle.fx_order.proofs.ChainFront.{length-done}
-use Rattle.fx_order.proofs.Placed.{placed, placed-append}
+use Rattle.fx_order.proofs.Placed.{placed, placed-append, close_none, read_none}
 
 -- both place the same
 abbrev pub PlaceSame : List Access → List Access → Type 0
@@ -43,29 +42,6 @@ module _ (one other : List Access) (c : Completed) where
           | inr q ↦ both_none one other (ap placed p.0) (ap placed q.0)
         ]
       ])
-
--- what places nothing, whatever it answers
-read_none : (catalogue : List FileEntry) (size : ℕ) (place : Place) (slot off len : ℕ) (accesses : List Access) (c : Completed)
-    → IsReadDone catalogue size place slot off len accesses c → placed accesses ≡ []
-read_none catalogue size place slot off len accesses c =
-    either_way (nat_le size slot) _ _ _ (λ _ x. ap placed x.0)
-    (λ _ x. elim x [
-      | inl y ↦ ap placed y.1.0
-      | inr y ↦ elim y [
-        | inl z ↦ ap placed z.0
-        | inr z ↦ ap placed z.1.0
-      ]
-    ])
-
-close_none : (size : ℕ) (place : Place) (slot : ℕ) (accesses : List Access) (c : Completed) → IsCloseDone size place slot accesses c
-    → placed accesses ≡ []
-close_none size place slot accesses c =
-    either_way (size == 0) _ _ _ (λ _ x. ap placed x.0)
-    (λ _. either_way (nat_le size slot) _ _ _ (λ _ x. ap placed x.0)
-    (λ _ x. elim x [
-      | inl y ↦ ap placed y.0
-      | inr y ↦ ap placed y.1.0
-    ]))
 
 entry_same : (place : Place) (in_list slot : ℕ) (z : ℤ) (one other : List Access) → IsEntryDone place in_list slot z one
     → IsEntryDone place in_list slot z other → PlaceSame one other

@@ -1,18 +1,17 @@
 -- What a request may do next, case by case.
-use Rattle.fx_order.proofs.Words.{◌≡◌, inl, inr, ℕ, ◌+◌, ◌==◌, nat_le, true, false, List, [], ◌∷◌, ◌++◌, length, sym, ap, subst, ◌∙◌, arith}
-use Rattle.fx_order.proofs.Words.{Option, Some, None, FileEntry, Closed, Reads, Closes, Place, Table, Permits}
+use Rattle.fx_order.proofs.Words.{◌≡◌, ℕ, ◌+◌, ◌==◌, true, false, List, [], ◌∷◌, ◌++◌, length, sym, ap, subst, ◌∙◌, arith, Option, Some, None, refl}
+use Rattle.fx_order.proofs.Words.{FileEntry, Closed, Reads, Closes, Place, Table, Permits, Slot, Any, installed, ◌<◌, by_equality}
+use Rattle.fx_order.proofs.Words.{Contains-append_right, zero, suc, ◌-◌, ◌||◌, nat_lt, ℤ, pos, negsuc, int_le, list_any, is_bad_entry, nat_tests}
+use Rattle.fx_order.proofs.Words.{option_to_list, AreEntriesDone, IsEntryDone, IsOpenDone, Opens, Updates, Target, IsCatalogue, has_name, name_at}
+use Rattle.fx_order.proofs.Words.{Errno, refusal, Completed, IsUpdateDone}
 use Rattle.fx_order.proofs.Cases.{either_way}
 use Rattle.fx_order.specs.declared.access.Access.{Access}
-use Rattle.fx_order.specs.declared.access.Access.TheVariants.{Allocates, FindsFull, Looks, Puts, Takes}
+use Rattle.fx_order.specs.declared.access.Access.TheVariants.{Allocates, FindsFull, Looks, Puts, Takes, Clears}
 use Rattle.std.specs.Prelude.{Contains}
 use Rattle.fx_table.proofs.Members.{contains_head}
-use Rattle.fx_order.proofs.Words.{Slot, Any, installed, ◌<◌, by_equality, Contains-append_right}
 use Rattle.std.proofs.lemmas.List.Elements.{Contains-append_left}
 use Rattle.fx_outcomes.specs.Choices.{HasEach, HasEachOpen, IsEntryChoice}
-use Rattle.fx_order.proofs.Words.{zero, suc, ◌-◌, ◌||◌, nat_lt, ℤ, pos, negsuc, int_le, list_any, is_bad_entry, nat_tests, option_to_list}
-use Rattle.std.proofs.lemmas.Bool.{le-leb}
-use Rattle.fx_order.proofs.Words.{AreEntriesDone, IsEntryDone, IsOpenDone, Opens, Updates, Target, IsCatalogue, has_name, name_at}
-use Rattle.fx_order.specs.declared.access.Access.TheVariants.{Clears}
+use Rattle.fx_order.proofs.RequestCases.{allocates, closes, puts, reads, updates}
 
 never_empty : (front behind : List Access) (a : Access) → front ++ a ∷ behind ≡ [] → ⊥
 never_empty [] behind a is = cc
@@ -28,64 +27,57 @@ only_one (y ∷ front) behind a x is = absurd (never_empty front behind a (rest 
 listed : (a x : Access) → a ≡ x → Contains (x ∷ []) a
 listed a x is = subst (λ (y : Access). Contains (x ∷ []) y) (sym is) (contains_head x [])
 
+-- the choices have the access, if it is among those that were made
+abbrev HasOf : List Access → Access → List Access → List Access → List Access → Completed → Type 0
+HasOf choices a front behind own c = own ≡ front ++ a ∷ behind → Contains choices a
+
+none_of : (choices : List Access) (a : Access) (front behind : List Access) (place : Place) (errno : Errno)
+    → HasOf choices a front behind [] (refusal place errno)
+none_of choices a front behind place errno is = absurd (never_empty front behind a (sym is))
+
 module _ (catalogue : List FileEntry) (table : Table) (place : Place) (made : ℕ) where
   pub reads_each : (slot off len : ℕ) → HasEach catalogue table place (Reads slot off len) made (Looks slot (table.at slot) ∷ [])
   reads_each slot off len a (front, behind, c, long, done, may) =
-      either_way (nat_le table.size slot) _ _ (Contains (Looks slot (table.at slot) ∷ []) a)
-      (λ _ x. absurd (never_empty front behind a x.0))
-      (λ _ x. elim x [
-        | inl y ↦ absurd (never_empty front behind a y.1.0)
-        | inr y ↦ elim y [
-          | inl z ↦ looked None (only_one front behind a (Looks slot None) z.0)
-          | inr z ↦ looked (Some z.0) (only_one front behind a (Looks slot (Some z.0)) z.1.0)
-        ]
-      ]) done
+      let choices : List Access = Looks slot (table.at slot) ∷ [] in
+      reads table.size place (HasOf choices a front behind) (none_of choices a front behind place) (front ++ a ∷ behind) c catalogue slot off len
+      (looked None) (λ file. looked (Some file)) done refl
     where
-      looked : (found : Option Closed) → a ≡ Looks slot found → Contains (Looks slot (table.at slot) ∷ []) a
-      looked found is =
+      looked : (found : Option Closed) → Looks slot found ∷ [] ≡ front ++ a ∷ behind → Contains (Looks slot (table.at slot) ∷ []) a
+      looked found same =
+          let is = only_one front behind a (Looks slot found) (sym same) in
           let at : found ≡ table.at slot = (subst (Permits table) is may).1 in
           listed a (Looks slot (table.at slot)) (is ∙ ap (λ (f : Option Closed). Looks slot f) at)
 
   pub closes_each : (slot : ℕ) → HasEach catalogue table place (Closes slot) made (Takes slot (table.at slot) ∷ [])
   closes_each slot a (front, behind, c, long, done, may) =
-      either_way (table.size == 0) _ _ (Contains (Takes slot (table.at slot) ∷ []) a)
-      (λ _ x. absurd (never_empty front behind a x.0))
-      (λ _. either_way (nat_le table.size slot) _ _ (Contains (Takes slot (table.at slot) ∷ []) a)
-      (λ _ x. absurd (never_empty front behind a x.0))
-      (λ _ x. elim x [
-        | inl y ↦ took None (only_one front behind a (Takes slot None) y.0)
-        | inr y ↦ took (Some y.0) (only_one front behind a (Takes slot (Some y.0)) y.1.0)
-      ])) done
+      let choices : List Access = Takes slot (table.at slot) ∷ [] in
+      closes table.size place (HasOf choices a front behind) (none_of choices a front behind place) (front ++ a ∷ behind) c slot (took None)
+      (λ file. took (Some file)) done refl
     where
-      took : (found : Option Closed) → a ≡ Takes slot found → Contains (Takes slot (table.at slot) ∷ []) a
-      took found is =
+      took : (found : Option Closed) → Takes slot found ∷ [] ≡ front ++ a ∷ behind → Contains (Takes slot (table.at slot) ∷ []) a
+      took found same =
+          let is = only_one front behind a (Takes slot found) (sym same) in
           let at : found ≡ table.at slot = (subst (Permits table) is may).1 in
           listed a (Takes slot (table.at slot)) (is ∙ ap (λ (f : Option Closed). Takes slot f) at)
 
 module _ (table : Table) (place : Place) (entry : ℕ) where
   pub open_at_each : (slot : ℕ) → HasEachOpen table place entry (Slot slot) (Puts slot (installed place 0 entry) (table.at slot) ∷ [])
   open_at_each slot a front behind c done may =
-      either_way (table.size == 0) _ _ (Contains (Puts slot (installed place 0 entry) (table.at slot) ∷ []) a)
-      (λ _ x. absurd (never_empty front behind a x.0))
-      (λ _. either_way (nat_le table.size slot) _ _ (Contains (Puts slot (installed place 0 entry) (table.at slot) ∷ []) a)
-      (λ _ x. absurd (never_empty front behind a x.0))
-      (λ _ x.
-      let is : a ≡ Puts slot (installed place 0 entry) x.0 = only_one front behind a _ x.1.0 in
-      let at : x.0 ≡ table.at slot = (subst (Permits table) is may).1 in
-      listed a _ (is ∙ ap (λ (f : Option Closed). Puts slot (installed place 0 entry) f) at))) done
+      let choices : List Access = Puts slot (installed place 0 entry) (table.at slot) ∷ [] in
+      puts table.size place (HasOf choices a front behind) (none_of choices a front behind place) (front ++ a ∷ behind) c entry slot (λ removed same.
+      let is : a ≡ Puts slot (installed place 0 entry) removed = only_one front behind a _ (sym same) in
+      let at : removed ≡ table.at slot = (subst (Permits table) is may).1 in
+      listed a _ (is ∙ ap (λ (f : Option Closed). Puts slot (installed place 0 entry) f) at)) done refl
 
   pub open_any_each : (choices : List Access) → Contains choices FindsFull
       → ((slot : ℕ) → slot < table.size → Contains choices (Allocates slot (installed place 0 entry))) → HasEachOpen table place entry Any choices
   open_any_each choices full each a front behind c done may =
-      either_way (table.size == 0) _ _ (Contains choices a)
-      (λ _ x. absurd (never_empty front behind a x.0))
-      (λ _ x. elim x [
-        | inl y ↦
-            let is : a ≡ Allocates y.0 (installed place 0 entry) = only_one front behind a _ y.1.0 in
-            let inside : y.0 < table.size = (subst (Permits table) is may).0.0 in
-            subst (λ (b : Access). Contains choices b) (sym is) (each y.0 inside)
-        | inr y ↦ subst (λ (b : Access). Contains choices b) (sym (only_one front behind a FindsFull y.0)) full
-      ]) done
+      allocates table.size place (HasOf choices a front behind) (none_of choices a front behind place) (front ++ a ∷ behind) c entry
+      (λ slot same.
+      let is : a ≡ Allocates slot (installed place 0 entry) = only_one front behind a _ (sym same) in
+      let inside : slot < table.size = (subst (Permits table) is may).0.0 in
+      subst (λ (b : Access). Contains choices b) (sym is) (each slot inside))
+      (λ same. subst (λ (b : Access). Contains choices b) (sym (only_one front behind a FindsFull (sym same))) full) done refl
 
 -- one more slot in the list
 pub one_slot_more : (choices : List Access) (n : ℕ) (file : Closed) → Contains choices FindsFull
@@ -108,24 +100,10 @@ one_made place in_list slot (negsuc (suc n)) own is x =
     let skip : int_le (negsuc 0) (negsuc (suc n)) ≡ false = grind (arith, nat_tests) in
     let bad : true ≡ false = sym is ∙ skip in absurd (cc)
 
--- a skip makes none
-none_made : (place : Place) (in_list slot : ℕ) (entry : ℤ) (own : List Access) → int_le (negsuc 0) entry ≡ false → IsEntryDone place in_list slot entry own
-    → own ≡ []
-none_made place in_list slot (pos entry) own is x = absurd (cc)
-none_made place in_list slot (negsuc zero) own is x = absurd (cc)
-none_made place in_list slot (negsuc (suc n)) own is x = x
-
 pub entry_none : (table : Table) (place : Place) (in_list slot made : ℕ) (choice : Option Access) → IsEntryChoice table place in_list slot [] made choice
 entry_none table place in_list slot made choice a front behind few done may = absurd (never_empty front behind a done)
 
 module _ (table : Table) (place : Place) (in_list slot : ℕ) (entry : ℤ) (list : List ℤ) where
-  pub entry_skip : (made : ℕ) (choice : Option Access) → int_le (negsuc 0) entry ≡ false
-      → IsEntryChoice table place (in_list + 1) (slot + 1) list made choice → IsEntryChoice table place in_list slot (entry ∷ list) made choice
-  entry_skip made choice is rest a front behind few done may =
-      let none = none_made place in_list slot entry done.0 is done.3 in
-      let same : front ++ a ∷ behind ≡ done.1 = done.2 ∙ ap (λ (l : List Access). l ++ done.1) none in
-      rest a front behind few (subst (AreEntriesDone place (in_list + 1) (slot + 1) list) (sym same) done.4) may
-
   pub entry_past : (made : ℕ) (choice : Option Access) → int_le (negsuc 0) entry ≡ true → 0 < made
       → IsEntryChoice table place (in_list + 1) (slot + 1) list (made - 1) choice → IsEntryChoice table place in_list slot (entry ∷ list) made choice
   entry_past made choice is some rest a [] behind few done may = absurd (omega (arith, few, some))
@@ -134,16 +112,6 @@ module _ (table : Table) (place : Place) (in_list slot : ℕ) (entry : ℤ) (lis
       let whole : x ∷ (front ++ a ∷ behind) ≡ one.0 ∷ done.1 = done.2 ∙ ap (λ (l : List Access). l ++ done.1) one.1 in
       let same : front ++ a ∷ behind ≡ done.1 = cc in
       rest a front behind (omega (arith, few, some)) (subst (AreEntriesDone place (in_list + 1) (slot + 1) list) (sym same) done.4) may
-
-  pub entry_here : (made : ℕ) (choice : Access) → int_le (negsuc 0) entry ≡ true → (0 < made → ⊥)
-      → ((a : Access) → IsEntryDone place in_list slot entry (a ∷ []) → Permits table a → choice ≡ a)
-      → IsEntryChoice table place in_list slot (entry ∷ list) made (Some choice)
-  entry_here made choice is none each a (x ∷ front) behind few done may = absurd (none (omega (arith, few)))
-  entry_here made choice is none each a [] behind few done may =
-      let one = one_made place in_list slot entry done.0 is done.3 in
-      let whole : a ∷ behind ≡ one.0 ∷ done.1 = done.2 ∙ ap (λ (l : List Access). l ++ done.1) one.1 in
-      let same : one.0 ≡ a = cc in
-      ap (λ (x : Access). Some x) (each a (subst (IsEntryDone place in_list slot entry) (one.1 ∙ ap (λ (x : Access). x ∷ []) same) done.3) may)
 
 -- what an entry of a kind makes
 pub puts_one : (table : Table) (place : Place) (in_list slot entry : ℕ) (z : ℤ) → z ≡ pos entry
@@ -154,48 +122,33 @@ puts_one table place in_list slot entry z is a done may =
     let at : x.0 ≡ table.at slot = (subst (Permits table) made may).1 in
     ap (λ (f : Option Closed). Puts slot (installed place in_list entry) f) (sym at) ∙ sym made
 
-pub clears_one : (table : Table) (place : Place) (in_list slot : ℕ) (z : ℤ) → int_le (pos 0) z ≡ false
-    → (a : Access) → IsEntryDone place in_list slot z (a ∷ []) → Permits table a → Clears slot (table.at slot) ≡ a
-clears_one table place in_list slot (pos n) is a done may =
-    let e : true ≡ false = sym (le-leb 0 n (omega arith)) ∙ is in absurd (cc)
-clears_one table place in_list slot (negsuc zero) is a done may =
-    let made : a ≡ Clears slot done.0 = only_one [] [] a _ done.1 in
-    let at : done.0 ≡ table.at slot = (subst (Permits table) made may).1 in
-    ap (λ (f : Option Closed). Clears slot f) (sym at) ∙ sym made
-clears_one table place in_list slot (negsuc (suc n)) is a done may = absurd (never_empty [] [] a done)
-
 module _ (catalogue : List FileEntry) (table : Table) (place : Place) (made off : ℕ) (list : List ℤ) where
-  -- an update that is refused makes no access
+  -- an update with an access isn't refused
+  accepted : (front behind : List Access) (a : Access) (c : Completed)
+      → IsUpdateDone (length catalogue) table.size place off list (front ++ a ∷ behind) c
+      → ((length list == 0 || nat_lt table.size (off + length list)) ≡ false) × (list_any (is_bad_entry (length catalogue)) list ≡ false)
+      × AreEntriesDone place 0 off list (front ++ a ∷ behind)
+  accepted front behind a c done =
+      let own = front ++ a ∷ behind in
+      updates table.size place (λ l _. l ≡ own → ((length list == 0 || nat_lt table.size (off + length list)) ≡ false)
+      × (list_any (is_bad_entry (length catalogue)) list ≡ false) × AreEntriesDone place 0 off list own)
+      (λ _ is. absurd (never_empty front behind a (sym is))) own c (length catalogue) off list (λ inside good x _. (inside, good, x)) done refl
+
   pub update_past : (length list == 0 || nat_lt table.size (off + length list)) ≡ true → (choices : List Access)
       → HasEach catalogue table place (Updates off list) made choices
   update_past past choices a (front, behind, c, long, done, may) =
-      either_way (table.size == 0) _ _ (Contains choices a)
-      (λ _ x. absurd (never_empty front behind a x.0))
-      (λ _. either_way (length list == 0 || nat_lt table.size (off + length list)) _ _ (Contains choices a)
-      (λ _ x. absurd (never_empty front behind a x.0))
-      (λ inside _. let bad : true ≡ false = sym past ∙ inside in absurd (cc))) done
+      let bad : true ≡ false = sym past ∙ (accepted front behind a c done).0 in absurd (cc)
 
   pub update_bad : list_any (is_bad_entry (length catalogue)) list ≡ true → (choices : List Access)
       → HasEach catalogue table place (Updates off list) made choices
   update_bad wrong choices a (front, behind, c, long, done, may) =
-      either_way (table.size == 0) _ _ (Contains choices a)
-      (λ _ x. absurd (never_empty front behind a x.0))
-      (λ _. either_way (length list == 0 || nat_lt table.size (off + length list)) _ _ (Contains choices a)
-      (λ _ x. absurd (never_empty front behind a x.0))
-      (λ _. either_way (list_any (is_bad_entry (length catalogue)) list) _ _ (Contains choices a)
-      (λ _ x. absurd (never_empty front behind a x.0))
-      (λ good _. let bad : true ≡ false = sym wrong ∙ good in absurd (cc)))) done
+      let bad : true ≡ false = sym wrong ∙ (accepted front behind a c done).1 in absurd (cc)
 
   pub update_each : (choice : Option Access) → IsEntryChoice table place 0 off list made choice → (choices : List Access) → choices ≡ option_to_list choice
       → HasEach catalogue table place (Updates off list) made choices
   update_each choice is choices are a (front, behind, c, long, done, may) =
-      either_way (table.size == 0) _ _ (Contains choices a)
-      (λ _ x. absurd (never_empty front behind a x.0))
-      (λ _. either_way (length list == 0 || nat_lt table.size (off + length list)) _ _ (Contains choices a)
-      (λ _ x. absurd (never_empty front behind a x.0))
-      (λ _. either_way (list_any (is_bad_entry (length catalogue)) list) _ _ (Contains choices a)
-      (λ _ x. absurd (never_empty front behind a x.0))
-      (λ _ x. subst (λ (l : List Access). Contains l a) (ap option_to_list (sym (is a front behind long x.0 may)) ∙ sym are) (contains_head a [])))) done
+      subst (λ (l : List Access). Contains l a)
+      (ap option_to_list (sym (is a front behind long (accepted front behind a c done).2 may)) ∙ sym are) (contains_head a [])
 
 module _ (catalogue : List FileEntry) (table : Table) (place : Place) (made : ℕ) (name : List ℕ) (target : Target) where
   -- an open of a name that no entry has

@@ -1,7 +1,7 @@
 -- What is left of a chain with nothing but reads looks at slots alone, and answers at its places.
-use Rattle.fx_order.proofs.Words.{◌≡◌, inl, inr, ℕ, nat_le, true, List, [], ◌∷◌, refl, sym, ap, subst, arith, false≢true}
-use Rattle.fx_order.proofs.Words.{Option, Some, None, All, All-nil, All-cons, All-append, FileEntry, Completed, Operation, Opens, Reads, Closes, Updates, Asked, Place}
-use Rattle.fx_order.proofs.Words.{ECANCELED, refusal, next_member, canceled, severs, IsRequestDone, IsChainDone}
+use Rattle.fx_order.proofs.Words.{◌≡◌, ℕ, true, List, [], ◌∷◌, refl, sym, subst, arith, false≢true, Option, Some, None, All, All-nil, All-cons}
+use Rattle.fx_order.proofs.Words.{All-append, FileEntry, Completed, Operation, Opens, Reads, Closes, Updates, Asked, Place, ECANCELED, refusal}
+use Rattle.fx_order.proofs.Words.{next_member, canceled, severs, IsRequestDone, IsChainDone}
 use Rattle.fx_base.specs.Identity.{Identity}
 use Rattle.std.specs.List.{AllByRecursion, list_all}
 use Rattle.std.proofs.lemmas.Bool.{and_parts}
@@ -10,6 +10,7 @@ use Rattle.fx_order.specs.declared.access.Access.{Access}
 use Rattle.fx_order.specs.declared.access.Access.TheVariants.{Looks}
 use Rattle.fx_outcomes.specs.Idle.{IsLeft, is_read}
 use Rattle.fx_outcomes.specs.Rests.{rest_at}
+use Rattle.fx_order.proofs.RequestCases.{reads}
 
 abbrev pub IsLook : Access → Type 0
 IsLook a = (slot : ℕ) × (found : Option Identity) × (a ≡ Looks slot found)
@@ -17,8 +18,8 @@ IsLook a = (slot : ℕ) × (found : Option Identity) × (a ≡ Looks slot found)
 none : (own : List Access) → own ≡ [] → All IsLook own
 none own is = subst (All IsLook) (sym is) (All-nil IsLook)
 
-one : (own : List Access) (slot : ℕ) (found : Option Identity) → own ≡ Looks slot found ∷ [] → All IsLook own
-one own slot found is = subst (All IsLook) (sym is) (All-cons IsLook (Looks slot found) [] (slot, found, refl) (All-nil IsLook))
+look : (slot : ℕ) (found : Option Identity) → All IsLook (Looks slot found ∷ [])
+look slot found = All-cons IsLook (Looks slot found) [] (slot, found, refl) (All-nil IsLook)
 
 pub weaker : {X : Type 0} (P Q : X → Type 0) (xs : List X) → ((x : X) → P x → Q x) → AllByRecursion P xs → AllByRecursion Q xs
 weaker P Q [] so all = tt
@@ -51,14 +52,8 @@ module _ (made : ℕ) where
     read_done : (place : Place) (own : List Access) (c : Completed) (operation : Operation) → is_read operation ≡ true
         → IsRequestDone catalogue size place operation own c → All IsLook own × (c.place ≡ place)
     read_done place own c (Reads slot off len) is =
-        either_way (nat_le size slot) _ _ _ (λ _ x. (none own x.0, ap (λ (d : Completed). d.place) x.1))
-        (λ _ x. elim x [
-          | inl y ↦ (none own y.1.0, ap (λ (d : Completed). d.place) y.1.1)
-          | inr y ↦ elim y [
-            | inl z ↦ (one own slot None z.0, ap (λ (d : Completed). d.place) z.1)
-            | inr z ↦ (one own slot (Some z.0) z.1.0, ap (λ (d : Completed). d.place) z.1.1)
-          ]
-        ])
+        reads size place (λ l d. All IsLook l × (d.place ≡ place)) (λ _. (All-nil IsLook, refl)) own c catalogue slot off len (look slot None, refl)
+        (λ file. (look slot (Some file), refl))
     read_done place own c (Opens name target) isnt = absurd (false≢true isnt)
     read_done place own c (Closes slot) isnt = absurd (false≢true isnt)
     read_done place own c (Updates off list) isnt = absurd (false≢true isnt)
