@@ -2,8 +2,8 @@
 use Rattle.fx_answers.proofs.Words.{◌≡◌, ℕ, suc, ◌+◌, ◌-◌, ◌<◌, List, [], ◌∷◌, ◌++◌, length, sym, ap, subst, ◌∙◌, arith, slice_index_or, All, IsTrue}
 use Rattle.fx_answers.proofs.Words.{Asked, Closed, Completed, Vec, Completion, IsOneOrder, IsPermutation, RingState, Reported, all_asked}
 use Rattle.fx_answers.proofs.Words.{all_completed, length-map, ring_of, ring_of_slots, each_history_is_an_order, Slots, contains_map, All-contains}
-use Rattle.fx_answers.proofs.Words.{has_none, Rest, IsOver, IsPlayOf, IsPossibleIn, IsToldAt, told_by, told_states, IsReportBy, MayReport, ToldState}
-use Rattle.fx_answers.proofs.Words.{told_from, all_told, answers_of, runs_in, told_of, view_in, Claimed, PossibleReport, State, Submission}
+use Rattle.fx_answers.proofs.Words.{has_none, Rest, IsOver, told_from, IsPlayOf, IsPossibleIn, IsToldAt, told_by, told_states, IsReportBy, MayReport}
+use Rattle.fx_answers.proofs.Words.{ToldState, all_told, answers_of, runs_in, told_of, view_in, Claimed, PossibleReport, State, Submission}
 use Rattle.fx_base.specs.CloseListView.{CloseListView}
 use Rattle.fx_ring.specs.Submission.{reported}
 use Rattle.fx_answers.proofs.Idle.{none_for, over_idle}

@@ -65,9 +65,6 @@ none_left submission rest tells is = elim (idle_cases submission rest is) [
   | inr some ↦ absurd (false≢true (sym some.0 ∙ tells))
 ]
 
-pub has_none_for : (rest : Rest) → rest.requests ≡ [] → has_none rest ≡ true
-has_none_for rest none = ap (λ (l : List Asked). length l == 0) none
-
 pub none_for : (rest : Rest) → has_none rest ≡ true → rest.requests ≡ []
 none_for rest = by_equality (length rest.requests) 0 (λ b. b ≡ true → rest.requests ≡ [])
     (λ none _. nil_from_length rest.requests none) (λ _ isnt. absurd (false≢true isnt))
@@ -86,14 +83,3 @@ idle_some submission requests place some tells =
     ≡ (are_reads requests && not (asks_from submission.asked place)))
     (λ none. absurd (some none))
     (λ _. ap (λ (b : Bool). if b then false else (are_reads requests && not (asks_from submission.asked place))) tells)
-
-pub idle_told : (submission : Submission) (requests : List Asked) (place : Place) → (length requests ≡ 0 → ⊥) → submission.tells ≡ true
-    → idle_by submission requests place ≡ false
-idle_told submission requests place some tells =
-    by_equality (length requests) 0
-    (λ b. (if b then true else (if submission.tells then false else (are_reads requests && not (asks_from submission.asked place)))) ≡ false)
-    (λ none. absurd (some none))
-    (λ _. ap (λ (b : Bool). if b then false else (are_reads requests && not (asks_from submission.asked place))) tells)
-
-pub idle_none : (submission : Submission) (requests : List Asked) (place : Place) → length requests ≡ 0 → idle_by submission requests place ≡ true
-idle_none submission requests place none = ap (λ (l : List Asked). idle_by submission l place) (nil_from_length requests none)

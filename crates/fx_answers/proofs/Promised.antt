@@ -1,18 +1,18 @@
 -- What an order and a whole list of states show of a ring's histories.
 use Rattle.fx_answers.proofs.Words.{Bool, ◌≡◌, ℕ, ◌+◌, ◌≤◌, List, length, refl, sym, ap, subst, ◌∙◌, Contains, All, Some, Option, Completed, Asked}
 use Rattle.fx_answers.proofs.Words.{Place, table_of_slots, completed_of, ring_of_slots, all_asked, All-map, IsOneOrder, RingState, ring_of, Reported}
-use Rattle.fx_answers.proofs.Words.{runs_of, each_history_is_an_order, ChainAccess, Slots, contains_map, All-contains, HasMemory, Rest, AreAllStates}
-use Rattle.fx_answers.proofs.Words.{IsOver, StateView, AllByRecursion, IsReportBy, MayReport, AreAllBy, IsEndIn, IsEndListed, IsPlayOf, said_by, says}
-use Rattle.fx_answers.proofs.Words.{states_of, is_idle, view_in, Claimed, End, Answer}
+use Rattle.fx_answers.proofs.Words.{runs_of, each_history_is_an_order, ChainAccess, Slots, contains_map, All-contains, recursion_from_All, HasMemory}
+use Rattle.fx_answers.proofs.Words.{Rest, AreAllStates, IsOver, StateView, AllByRecursion, IsReportBy, MayReport, AreAllBy, IsEndIn, IsEndListed}
+use Rattle.fx_answers.proofs.Words.{IsPlayOf, said_by, says, states_of, is_idle, view_in, Claimed, End, Answer}
 use Rattle.fx_order.proofs.Words.{All-weaker, IsAccepted, IsOrderOf, RingContents, ring_left}
 use Rattle.fx_order.proofs.Histories.{each_order_is_a_history}
 use Rattle.fx_plain.specs.declared.table.TheConstants.{MOST_SLOTS}
 use Rattle.fx_table.proofs.Members.{contains_mapped}
+use Rattle.std.proofs.lemmas.List.Elements.{All-from_recursion}
 use Rattle.fx_outcomes.specs.Nodes.{HasEnd, ring_at}
 use Rattle.fx_outcomes.proofs.First.{all_said}
 use Rattle.fx_answers.specs.Outcomes.{IsAnswer, HasEachAnswer, HasEachEnd, IsEnd, ring_behind, rings_behind}
 use Rattle.fx_answers.specs.Listed.{AreAllEndsBy, tables_behind}
-use Rattle.fx_answers.proofs.Lists.{each_by_recursion, each_of}
 
 -- an order of accesses is one history
 pub may_of : (old : RingState) (asked : List Asked) (order : List ChainAccess) (report : Reported) (slots : Slots) → old.size ≤ MOST_SLOTS → IsAccepted asked
@@ -29,14 +29,15 @@ shown : (idle : Rest → Bool) (P : Completed → Type 0) (old : RingState) (ask
     → (ring left : RingContents) (report : Reported) → ring_of ring ≡ old → MayReport ring asked report left
     → AllByRecursion P report.completions × HasEnd old asked idle states (ring_of left)
 shown idle P old asked states all ring left report same may =
-    all_said idle P old asked states all report (ring_of left) (each_by_recursion HasMemory report.completions may.memory)
+    all_said idle P old asked states all report (ring_of left) (recursion_from_All HasMemory report.completions may.memory)
     (subst (λ (r : RingState). IsOneOrder r asked report (ring_of left)) same (each_history_is_an_order ring left asked report may.history))
 
 -- all states show all answers
 pub each_answer : (idle : Rest → Bool) (old : RingState) (asked : List Asked) (place : Place) (answers : List Answer) (states : List StateView)
     → AreAllStates idle (says (Some place) answers) old asked states → HasEachAnswer old asked place answers
 each_answer idle old asked place answers states all ring left c same may there =
-    each_of (says (Some place) answers) may.report.completions c (shown idle (says (Some place) answers) old asked states all ring left may.report same may.may).0
+    All-contains (says (Some place) answers) may.report.completions c (All-from_recursion (says (Some place) answers) may.report.completions
+    (shown idle (says (Some place) answers) old asked states all ring left may.report same may.may).0)
     may.inside (ap Some (sym there))
 
 pub ring_same : (old : RingState) (slots : Slots) (order : List ChainAccess) (state : StateView) → ring_behind old slots ≡ ring_left order old

@@ -1,12 +1,12 @@
 -- How a chain goes on, counted in members that are done.
-use Rattle.fx_order.proofs.Words.{◌≡◌, ℕ, suc, ◌+◌, ◌==◌, Bool, true, false, List, [], ◌∷◌, ◌++◌, drop, refl, sym, ap, ◌∙◌, arith}
-use Rattle.fx_order.proofs.Words.{Some, None, if◌then◌else◌, append-nil, append_assoc, Completed, next_member, canceled, severs, Asked, Place}
-use Rattle.fx_order.specs.declared.access.Access.{Access}
-use Rattle.fx_order.proofs.Words.{by_equality, Completion, all_completed, completed_of, map-append}
+use Rattle.fx_answers.proofs.Words.{◌≡◌, ℕ, suc, ◌+◌, ◌==◌, Bool, true, false, List, [], ◌∷◌, ◌++◌, drop, refl, sym, ap, ◌∙◌, arith, Some, None}
+use Rattle.fx_answers.proofs.Words.{if◌then◌else◌, append-nil, append_assoc, Completed, severs, Asked, Place, by_equality, Completion, all_completed}
+use Rattle.fx_answers.proofs.Words.{completed_of, map-append, Access, Rest, Rules, settled_at, step, Settles, moved, rest_for, rest_in, Progress}
+use Rattle.fx_order.proofs.Words.{next_member, canceled}
 use Rattle.std.proofs.lemmas.List.{drop-drop}
-use Rattle.fx_outcomes.specs.Rests.{Rest, Rules, behind, over, rest_at, settled_at, step}
-use Rattle.fx_answers.specs.Stands.{Settles, Steps, moved, rest_for, rest_in}
-use Rattle.fx_answers.specs.declared.chain.Progress.{Progress}
+use Rattle.fx_outcomes.specs.Rests.{behind, over, rest_at}
+use Rattle.fx_answers.specs.Stands.{Steps}
+use Rattle.std.proofs.Common.{ne_eqb}
 
 -- what was told, and one answer behind it
 pub pushed : (before after : List Completion) (c : Completion) (d : Completed) → after ≡ before ++ c ∷ [] → completed_of c ≡ d
@@ -53,9 +53,6 @@ module _ (rules : Rules) (place : Place) where
 pub tested : (n m : ℕ) → n ≡ m → (n == m) ≡ true
 tested n m same = by_equality n m (λ b. b ≡ true) (λ _. refl) (λ other. absurd (other same))
 
-pub untested : (n m : ℕ) → (n ≡ m → ⊥) → (n == m) ≡ false
-untested n m apart = by_equality n m (λ b. b ≡ false) (λ same. absurd (apart same)) (λ _. refl)
-
 module _ (rules : Rules) (place : Place) (run : List Asked) (progress : Progress) (a : Access) where
   abbrev here : Place
   here = moved place progress.done
@@ -82,7 +79,7 @@ module _ (rules : Rules) (place : Place) (run : List Asked) (progress : Progress
     steps_more before next more done made = by_step before before next ([], rest_at here (request ∷ requests) (progress.made + 1))
         (step_from (request ∷ requests) is
         ∙ ap (λ (b : Bool). if b then behind rules here request requests (rules.answer here request (Some a)) else ([], rest_at here (request ∷ requests) (progress.made + 1)))
-        (untested (rules.count request) (progress.made + 1) more))
+        (ne_eqb (rules.count request) (progress.made + 1) more))
         (sym (append-nil before))
         (ap (λ (n : ℕ). rest_for (moved place n) (drop n run) next.made) done
         ∙ (ap (λ (n : ℕ). rest_for here (drop progress.done run) n) made

@@ -1,85 +1,60 @@
 -- An order goes through the states of a closed list with what is told, up to one where no chain has an access left.
-use Rattle.fx_answers.proofs.Words.{◌≡◌, inl, inr, ℕ, ◌≤◌, List, [], ◌∷◌, ◌++◌, refl, sym, ap, subst, ◌∙◌, append_assoc, FileEntry, append-nil}
-use Rattle.fx_answers.proofs.Words.{by_equality, true, ◌==◌, length, Asked, All, All-head, All-tail, Completed, Table, PermitsAll, table_after}
-use Rattle.fx_answers.proofs.Words.{removed_in, removed_by, Closed, accesses_of, accesses_of_chain, IsPermutation, Access, ChainAccess}
-use Rattle.fx_answers.proofs.Words.{AllByRecursion, option_to_list, HasMemory, IsNext, Rest, rules_of, step, IsOver, are_right, has_none, Parts}
-use Rattle.fx_answers.proofs.Words.{AreToldClosed, LeadsOn, ToldState}
+use Rattle.fx_answers.proofs.Words.{◌≡◌, ℕ, ◌≤◌, List, [], ◌∷◌, ◌++◌, refl, sym, ap, subst, append_assoc, FileEntry, append-nil, by_equality, true}
+use Rattle.fx_answers.proofs.Words.{◌==◌, length, Asked, All, All-head, All-tail, Completed, Table, PermitsAll, table_after, removed_in, removed_by}
+use Rattle.fx_answers.proofs.Words.{Closed, accesses_of, accesses_of_chain, IsPermutation, ChainAccess, option_to_list, IsNext, Rest, rules_of, step}
+use Rattle.fx_answers.proofs.Words.{IsOver, has_none, Parts, OfChain, AreToldClosed, LeadsOn, ToldState}
 use Rattle.fx_order.proofs.Words.{IsPermutation-trans, IsPermutation-sym}
 use Rattle.std.proofs.lemmas.List.Sorted.{IsPermutation-append_left}
 use Rattle.std.specs.Prelude.{Contains}
-use Rattle.fx_outcomes.proofs.Chain.{IsRest, IsReady, ends, steps}
 use Rattle.fx_outcomes.proofs.ByPart.{IsByPart}
-use Rattle.fx_outcomes.proofs.Playing.{of_chain}
+use Rattle.fx_order.proofs.Accesses.{not_own, own_first}
+use Rattle.fx_outcomes.proofs.Playing.{steps_on, told_whole}
 use Rattle.fx_outcomes.proofs.Turns.{has_turn}
 
 module _ (catalogue : List FileEntry) (size chains : ℕ) (finals : ℕ → List Completed) (files : List Closed) where
-  -- a chain goes on from its place, where it was told this, by these accesses, to what it tells in the end
-  pub record OfChain (rest : Rest) (told final : List Completed) (accesses : List Access) : Type 0 where
-    pub later : List Completed
-    pub whole : final ≡ told ++ later
-    pub memory : AllByRecursion HasMemory later
-    pub ready : IsReady catalogue size (rules_of catalogue size) (are_right catalogue size) rest.place rest.requests rest.made
-    pub rest_is : IsRest catalogue size (rules_of catalogue size) (are_right catalogue size) rest accesses later
-
   -- an order goes on from a state
   pub record Comes (here : ToldState) (order : List ChainAccess) : Type 0 where
     pub permitted : PermitsAll here.state.table (accesses_of order)
     pub within : All (λ x. (1 ≤ x.chain) × (x.chain ≤ chains)) order
-    pub each : (chain : ℕ) → 1 ≤ chain → chain ≤ chains → OfChain (here.state.rests chain) (here.told chain) (finals chain) (accesses_of_chain chain order)
+    pub each : (chain : ℕ) → 1 ≤ chain → chain ≤ chains
+        → OfChain catalogue size (here.state.rests chain) (here.told chain) (finals chain) (accesses_of_chain chain order)
     pub closed : IsPermutation (here.removed ++ removed_in (accesses_of order)) files
 
   -- its first access is one that its chain may make next
   next_one : (here : ToldState) (x : ChainAccess) (order : List ChainAccess) → Comes here (x ∷ order)
       → IsNext catalogue size (here.state.rests x.chain) x.access
-      × OfChain (step (rules_of catalogue size) (here.state.rests x.chain) x.access).1
+      × OfChain catalogue size (step (rules_of catalogue size) (here.state.rests x.chain) x.access).1
       (here.told x.chain ++ (step (rules_of catalogue size) (here.state.rests x.chain) x.access).0) (finals x.chain) (accesses_of_chain x.chain order)
   next_one here x order comes =
       let own = All-head (λ (y : ChainAccess). (1 ≤ y.chain) × (y.chain ≤ chains)) x order comes.within in
-      let of = comes.each x.chain own.0 own.1 in
-      let mine : accesses_of_chain x.chain (x ∷ order) ≡ x.access ∷ accesses_of_chain x.chain order = elim (of_chain x order x.chain) [
-        | inl same ↦ same.1
-        | inr other ↦ absurd (other.0 refl)
-      ] in
-      let rest = here.state.rests x.chain in
-      let now = step (rules_of catalogue size) rest x.access in
-      let stepped = steps catalogue size (rules_of catalogue size) (are_right catalogue size) rest.place rest.requests rest.made x.access (accesses_of_chain x.chain order)
-      of.later of.memory of.ready (subst (λ (l : List Access). IsRest catalogue size (rules_of catalogue size) (are_right catalogue size) rest l of.later) mine of.rest_is) in
-      let g = stepped.1 in (
-        stepped.0,
-        record {
-          later = g.later;
-          whole = of.whole ∙ (ap (λ (l : List Completed). here.told x.chain ++ l) g.whole ∙ sym (append_assoc (here.told x.chain) now.0 g.later));
-          memory = g.memory;
-          ready = g.ready;
-          rest_is = g.rest;
-        },
-      )
+      steps_on catalogue size (here.state.rests x.chain) (here.told x.chain) (finals x.chain) x.access (accesses_of_chain x.chain order)
+      (subst (OfChain catalogue size (here.state.rests x.chain) (here.told x.chain) (finals x.chain)) (own_first x order)
+      (comes.each x.chain own.0 own.1))
 
   -- and the others go on from where it leads
   goes_on : (here next : ToldState) (x : ChainAccess) (order : List ChainAccess) → Comes here (x ∷ order)
       → LeadsOn (rules_of catalogue size) here x.chain x.access next → Comes next order
   goes_on here next x order comes to =
       let one = next_one here x order comes in
+      let now = (step (rules_of catalogue size) (here.state.rests x.chain) x.access).1 in
       let taken : List Closed = option_to_list (removed_by x.access) in
       let others : List Closed = removed_in (accesses_of order) in
       record {
         permitted = subst (λ (t : Table). PermitsAll t (accesses_of order)) (sym to.leads.table) comes.permitted.1;
         within = All-tail (λ (y : ChainAccess). (1 ≤ y.chain) × (y.chain ≤ chains)) x order comes.within;
         each = λ chain low high. by_equality chain x.chain
-            (λ _. OfChain (next.state.rests chain) (next.told chain) (finals chain) (accesses_of_chain chain order))
+            (λ _. OfChain catalogue size (next.state.rests chain) (next.told chain) (finals chain) (accesses_of_chain chain order))
             (λ same.
-            subst (λ (n : ℕ). OfChain (next.state.rests n) (next.told n) (finals n) (accesses_of_chain n order)) (sym same)
-            (subst (λ (r : Rest). OfChain r (next.told x.chain) (finals x.chain) (accesses_of_chain x.chain order)) (sym to.leads.own)
-            (subst (λ (l : List Completed). OfChain (step (rules_of catalogue size) (here.state.rests x.chain) x.access).1 l (finals x.chain) (accesses_of_chain x.chain order))
-            (sym to.own) one.1)))
+            subst (λ (n : ℕ). OfChain catalogue size (next.state.rests n) (next.told n) (finals n) (accesses_of_chain n order)) (sym same)
+            (subst (λ (r : Rest). OfChain catalogue size r (next.told x.chain) (finals x.chain) (accesses_of_chain x.chain order)) (sym to.leads.own)
+            (subst (λ (l : List Completed). OfChain catalogue size now l (finals x.chain) (accesses_of_chain x.chain order)) (sym to.own) one.1)))
             (λ apart.
-            let unlike : accesses_of_chain chain (x ∷ order) ≡ accesses_of_chain chain order = elim (of_chain x order chain) [
-              | inl same ↦ absurd (apart (sym same.0))
-              | inr other ↦ other.1
-            ] in
-            subst (λ (r : Rest). OfChain r (next.told chain) (finals chain) (accesses_of_chain chain order)) (sym (to.leads.others chain low apart))
-            (subst (λ (l : List Completed). OfChain (here.state.rests chain) l (finals chain) (accesses_of_chain chain order)) (sym (to.others chain low apart))
-            (subst (OfChain (here.state.rests chain) (here.told chain) (finals chain)) unlike (comes.each chain low high))));
+            subst (λ (r : Rest). OfChain catalogue size r (next.told chain) (finals chain) (accesses_of_chain chain order))
+            (sym (to.leads.others chain low apart))
+            (subst (λ (l : List Completed). OfChain catalogue size (here.state.rests chain) l (finals chain) (accesses_of_chain chain order))
+            (sym (to.others chain low apart))
+            (subst (OfChain catalogue size (here.state.rests chain) (here.told chain) (finals chain)) (not_own x order chain apart)
+            (comes.each chain low high))));
         closed = IsPermutation-trans _ _ _
             (IsPermutation-sym _ _ (IsPermutation-append_left others (here.removed ++ taken) next.removed to.removed))
             (subst (λ (l : List Closed). IsPermutation l files) (sym (append_assoc here.removed taken others)) comes.closed);
@@ -96,8 +71,8 @@ module _ (catalogue : List FileEntry) (size chains : ℕ) (finals : ℕ → List
   over_at : (here : ToldState) (order : List ChainAccess) → Comes here order → (chain : ℕ) → 1 ≤ chain → chain ≤ chains → accesses_of_chain chain order ≡ []
       → has_none (here.state.rests chain) ≡ true
   over_at here order comes chain low high none =
-      let of = subst (OfChain (here.state.rests chain) (here.told chain) (finals chain)) none (comes.each chain low high) in
-      ap (λ (l : List Asked). length l == 0) (ends catalogue size (rules_of catalogue size) (are_right catalogue size) (here.state.rests chain) of.later of.memory of.ready of.rest_is).0
+      let of = subst (OfChain catalogue size (here.state.rests chain) (here.told chain) (finals chain)) none (comes.each chain low high) in
+      ap (λ (l : List Asked). length l == 0) (told_whole catalogue size (here.state.rests chain) (here.told chain) (finals chain) of).0
 
   pub runs_on : (states : List ToldState) (parts : Parts) → AreToldClosed catalogue size parts chains states → (order : List ChainAccess) → IsByPart parts.of_chain order
       → (here : ToldState) → Contains states here
@@ -107,10 +82,7 @@ module _ (catalogue : List FileEntry) (size chains : ℕ) (finals : ℕ → List
     there,
     record {
       over = λ chain low high. over_at here [] comes chain low high refl;
-      told = λ chain low high.
-          let of = comes.each chain low high in
-          let none = ends catalogue size (rules_of catalogue size) (are_right catalogue size) (here.state.rests chain) of.later of.memory of.ready of.rest_is in
-          of.whole ∙ (ap (λ (l : List Completed). here.told chain ++ l) none.1 ∙ append-nil (here.told chain));
+      told = λ chain low high. (told_whole catalogue size (here.state.rests chain) (here.told chain) (finals chain) (comes.each chain low high)).1;
       closed = subst (λ (l : List Closed). IsPermutation l files) (append-nil here.removed) comes.closed;
       table_is = refl;
     },

@@ -1,17 +1,18 @@
 -- What the states of the program say, chain by chain.
 use Rattle.fx_answers.proofs.Words.{◌≡◌, ℕ, suc, ◌+◌, ◌-◌, ◌<◌, List, [], ◌∷◌, ◌++◌, length, map, sym, ap, subst, ◌∙◌, arith, slice_index_or, All}
 use Rattle.fx_answers.proofs.Words.{length-map, Bool, false, not, ◌&&◌, Contains, IsTrue, Vec, Completed, Asked, Place, table_of_slots, first_member}
-use Rattle.fx_answers.proofs.Words.{Access, get_or_from_slice_get, Request, Completion, all_asked, all_completed, asked_of, completed_of, drop}
-use Rattle.fx_answers.proofs.Words.{AllByRecursion, Rules, settled_at, AreAtStart, StateView, Settles, asks_from, moved, rest_for, rest_in, LeadsOn}
-use Rattle.fx_answers.proofs.Words.{answers_of, IsStepTo, is_idle, is_idle_at, not_begun, rules_in, runs_in, told_of, view_in, IsExploredBy, said_by}
-use Rattle.fx_answers.proofs.Words.{states_of, told_by, told_states, Submission, Claimed, Progress, State, list_all, is_read}
+use Rattle.fx_answers.proofs.Words.{Request, Completion, all_asked, all_completed, asked_of, completed_of, drop, Access, get_or_from_slice_get}
+use Rattle.fx_answers.proofs.Words.{AllByRecursion, list_all, Rules, settled_at, AreAtStart, StateView, Settles, asks_from, moved, rest_for, rest_in}
+use Rattle.fx_answers.proofs.Words.{LeadsOn, answers_of, IsStepTo, is_idle, is_idle_at, not_begun, rules_in, runs_in, told_of, view_in, IsExploredBy}
+use Rattle.fx_answers.proofs.Words.{said_by, states_of, told_by, told_states, Submission, Claimed, Progress, State, is_read, recursion_from_All}
 use Rattle.std.specs.Prelude.{Some, slice_get}
 use Rattle.std.proofs.lemmas.Option.{slice_get_within}
 use Rattle.fx_answers.specs.Tellings.{IsToldOn}
 use Rattle.fx_answers.specs.Views.{run_at, view_of}
 use Rattle.std.proofs.lemmas.List.{get_or-set_other, get_or-set_same}
-use Rattle.fx_answers.proofs.Lists.{by_recursion, inside_at}
+use Rattle.fx_answers.proofs.Lists.{inside_at}
 use Rattle.fx_answers.proofs.Idle.{all_reads, idle_by, idle_for, idle_some}
+use Rattle.std.proofs.lemmas.List.Elements.{All-map}
 
 less_one : (i : ℕ) → i + 1 - 1 ≡ i
 less_one i = omega arith
@@ -30,16 +31,6 @@ pub same_view : (submission : ℕ) (runs : List (List Asked)) (one other : State
 same_view submission runs one other table chains = λ i. record {
   table = table i;
   rests = λ chain. rest_in (first_member submission chain) (run_at runs chain) (slice_index_or (chains i) (chain - 1) not_begun);
-}
-
--- so is what was told on the way
-pub same_telling : (submission : ℕ) (runs : List (List Asked)) (one other : State) → table_of_slots one.slots ≡ table_of_slots other.slots
-    → one.chains.items ≡ other.chains.items → answers_of one.telling.answers.items ≡ answers_of other.telling.answers.items
-    → one.telling.removed.items ≡ other.telling.removed.items → told_of submission runs one ≡ told_of submission runs other
-same_telling submission runs one other table chains answers removed = λ i. record {
-  state = same_view submission runs one other table chains i;
-  told = λ chain. slice_index_or (answers i) (chain - 1) [];
-  removed = removed i;
 }
 
 -- each chain from one on, one after another
@@ -69,15 +60,6 @@ among submission runs states there state k is table chains =
     let within = slice_get_within states k there is in
     inside_at (view_of submission runs) states k there (view_of submission runs state) within
     (sym (get_or_from_slice_get states k there there is)) (same_view submission runs there state table chains)
-
-pub among_told : (submission : ℕ) (runs : List (List Asked)) (states : List State) (there state : State) (k : ℕ) → slice_get states k ≡ Some there
-    → table_of_slots there.slots ≡ table_of_slots state.slots → there.chains.items ≡ state.chains.items
-    → answers_of there.telling.answers.items ≡ answers_of state.telling.answers.items → there.telling.removed.items ≡ state.telling.removed.items
-    → Contains (map (told_of submission runs) states) (told_of submission runs state)
-among_told submission runs states there state k is table chains answers removed =
-    let within = slice_get_within states k there is in
-    inside_at (told_of submission runs) states k there (told_of submission runs state) within
-    (sym (get_or_from_slice_get states k there there is)) (same_telling submission runs there state table chains answers removed)
 
 -- whether a chain is idle, by its members that are left
 pub idle_here : (submission : Submission) (state : State) (i : ℕ) (own : List Request) (left : List Request) (progress : Progress)
@@ -111,7 +93,7 @@ pub at_start_by : (rules : Rules) (P : Completed → Type 0) (place : Place) (ru
 at_start_by rules P place run before after done progress settles none all at made =
     let told : all_completed after ≡ (settled_at rules place run).0 =
     settles.told ∙ ap (λ (l : List Completion). all_completed l ++ (settled_at rules place run).0) none in (
-      subst (AllByRecursion P) told (by_recursion P completed_of after all),
+      subst (AllByRecursion P) told (recursion_from_All P (map completed_of after) (All-map P completed_of after all)),
       (λ i. rest_for (moved place (at i)) (drop (at i) run) (made i)) ∙ sym settles.rest,
     )
 
@@ -146,7 +128,8 @@ pub explored : (claimed : Claimed) (state : State) (i : ℕ) (a : Access) (told 
     → IsExploredBy claimed state i a
 explored claimed state i a told next to said inside on among = record {
   is = record {
-    said = subst (AllByRecursion (said_by claimed)) to.told (by_recursion (said_by claimed) completed_of told said);
+    said = subst (AllByRecursion (said_by claimed)) to.told
+        (recursion_from_All (said_by claimed) (map completed_of told) (All-map (said_by claimed) completed_of told said));
     next = view_in claimed.submission.now next;
     inside = inside;
     leads = to.leads;

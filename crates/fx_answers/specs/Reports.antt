@@ -16,7 +16,7 @@ use Rattle.fx_order.specs.Order.{IsOneOrder, table_of}
 use Rattle.fx_outcomes.specs.Rests.{HasMemory, IsNext, Rules, rules_of, settled_at, step}
 use Rattle.fx_outcomes.specs.Idle.{has_none}
 use Rattle.fx_outcomes.specs.Parts.{AreParts, Parts}
-use Rattle.fx_outcomes.specs.Nodes.{HasTurn, IsOver, Leads, StateView, ring_at}
+use Rattle.fx_outcomes.specs.Nodes.{HasTurn, IsOver, Leads, StateView, ring_at, told_from}
 
 -- a state, with what was answered and which files were taken from their slots on the way to it
 pub record ToldState : Type 0 where
@@ -69,11 +69,6 @@ pub record AreAllTold (old : RingState) (requests : List Asked) (states : List T
   pub begins : IsToldFirst old requests first
   pub inside : Contains states first
   pub closed : AreToldClosed old.catalogue old.size parts (length (runs_of requests)) states
-
--- what the chains from this one on were told, one behind another
-abbrev pub told_from : (ℕ → List Completed) → ℕ → List (List Asked) → List Completed
-told_from told chain [] = []
-told_from told chain (run ∷ runs) = told chain ++ told_from told (chain + 1) runs
 
 -- one of them is over, tells of this report, and leaves this ring
 pub record HasReport (old : RingState) (requests : List Asked) (states : List ToldState)

@@ -1,13 +1,12 @@
 -- The claims of chains, one chain after another.
-use Rattle.fx_judge.proofs.Words.{◌≡◌, inl, inr, ℕ, suc, ◌+◌, ◌<◌, ◌≤◌, List, [], ◌∷◌, ◌++◌, length, map, take, drop, refl}
-use Rattle.fx_judge.proofs.Words.{sym, ap, subst, ◌∙◌, arith, Ok, Err, length-append, drop-cons, get_or, length-map, get_or-map, Vec}
-use Rattle.fx_judge.proofs.Words.{AllZip, AllByRecursion, FileEntry, Closed, members_of, Completed, all_completed, completed_of}
-use Rattle.fx_judge.proofs.Words.{Completion, Request, first_member, Asked, all_asked, asked_of, Chain, accesses_of}
-use Rattle.fx_judge.proofs.Words.{accesses_of_chain, IsChainDone, AreChainsDone, Access, ChainAccess, AreDone, TellsChains, AreClaims, Fits}
-use Rattle.fx_judge.proofs.Words.{IsPossible, Possibly, Tells, Claim, Stop, Refuted}
+use Rattle.fx_judge.proofs.Words.{◌≡◌, inl, inr, ℕ, suc, ◌+◌, ◌<◌, ◌≤◌, List, [], ◌∷◌, ◌++◌, length, map, take, drop, refl, sym, ap, subst, ◌∙◌}
+use Rattle.fx_judge.proofs.Words.{arith, Ok, Err, length-append, drop-cons, get_or, length-map, get_or-map, Vec, AllZip, AllByRecursion, FileEntry}
+use Rattle.fx_judge.proofs.Words.{Closed, members_of, Completed, all_completed, completed_of, Completion, Request, first_member, Asked, all_asked}
+use Rattle.fx_judge.proofs.Words.{asked_of, Chain, accesses_of, accesses_of_chain, IsChainDone, AreChainsDone, Access, ChainAccess, AreDone}
+use Rattle.fx_judge.proofs.Words.{TellsChains, AreClaims, Fits, IsPossible, Possibly, Tells, Claim, Stop, Refuted}
 use Rattle.std.proofs.lemmas.List.{drop_all}
 use Rattle.fx_order.proofs.ChainsFront.{others_completed, own_completed, parts_of, too_few}
-use Rattle.fx_judge.proofs.Projected.{of_chain}
+use Rattle.fx_order.proofs.Accesses.{of_chain}
 use Rattle.fx_judge.proofs.StrandSteps.{get_push}
 
 -- what is possible of an order is possible of its chains

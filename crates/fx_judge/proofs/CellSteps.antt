@@ -1,36 +1,35 @@
 -- A claim of an access may be made where the access may, and leaves the same files.
-use Rattle.fx_judge.proofs.Words.{◌≡◌, ℕ, ◌&&◌, ◌||◌, not, Bool, true, false, List, [], ◌∷◌, refl, sym, ap, subst, ◌∙◌, All, Contains}
-use Rattle.fx_judge.proofs.Words.{Option, Some, None, IsSome, IsTrue, if◌then◌else◌, is_some, slice_index_or, list_all, All-head, All-tail, All-map}
+use Rattle.fx_judge.proofs.Words.{◌≡◌, ℕ, ◌&&◌, ◌||◌, not, Bool, true, false, List, [], ◌∷◌, refl, sym, ap, subst, ◌∙◌, All, Contains, Option, Some}
+use Rattle.fx_judge.proofs.Words.{◌⊎◌, inl, inr, None, IsSome, IsTrue, if◌then◌else◌, is_some, slice_index_or, list_all, All-head, All-tail, All-map}
 use Rattle.fx_judge.proofs.Words.{All-weaker, Closed, changed_at, by_equality, unchanged, Table, IsInRange, Permits, table_with, removed_by, Access}
 use Rattle.fx_judge.proofs.Words.{Looks, Puts, Clears, Takes, Allocates, FindsFull, Fits, IsLeft, IsResident, Wanted, touched, found_by, left_by}
 use Rattle.fx_judge.proofs.Words.{allows, cell_at, cells_after, cell_with, suits, may_leave, is_same, is_taken, IsCell, ShowsFile, has_slot, Cell}
 use Rattle.fx_judge.proofs.Words.{Claim, At, Full, Wants, Anything, Nothing, NothingToTake, Something, Bytes, Leaves, Same, Empty, File, Resident}
-
-slot_is : (a b : ℕ) → Some a ≡ Some b → a ≡ b
-slot_is a b is = cc
+use Rattle.fx_order.proofs.Placed.{same_size}
+use Rattle.std.proofs.lemmas.Option.{same_Some}
 
 -- what a permitted access found is at its slot
 pub found_at : (table : Table) (a : Access) (slot : ℕ) → touched a ≡ Some slot → Permits table a → found_by a ≡ table.at slot
-found_at table (Looks s found) slot is may = may.1 ∙ ap table.at (slot_is s slot is)
-found_at table (Puts s file removed) slot is may = may.1 ∙ ap table.at (slot_is s slot is)
-found_at table (Clears s removed) slot is may = may.1 ∙ ap table.at (slot_is s slot is)
-found_at table (Takes s removed) slot is may = may.1 ∙ ap table.at (slot_is s slot is)
-found_at table (Allocates s file) slot is may = may.0.1 ∙ ap table.at (slot_is s slot is)
+found_at table (Looks s found) slot is may = may.1 ∙ ap table.at (same_Some s slot is)
+found_at table (Puts s file removed) slot is may = may.1 ∙ ap table.at (same_Some s slot is)
+found_at table (Clears s removed) slot is may = may.1 ∙ ap table.at (same_Some s slot is)
+found_at table (Takes s removed) slot is may = may.1 ∙ ap table.at (same_Some s slot is)
+found_at table (Allocates s file) slot is may = may.0.1 ∙ ap table.at (same_Some s slot is)
 found_at table FindsFull slot is may = absurd (cc)
+
+pub some_or_none : {X : Type 0} (x : Option X) → ((y : X) × (x ≡ Some y)) ⊎ (x ≡ None)
+some_or_none None = inr refl
+some_or_none (Some y) = inl (y, refl)
 
 -- the files behind an access
 pub at_after : (table : Table) (a : Access) (slot : ℕ) → touched a ≡ Some slot → Permits table a
     → (table_with table a).at ≡ changed_at table.at slot (left_by a)
 at_after table (Looks s found) slot is may = sym (unchanged table.at slot found (found_at table (Looks s found) slot is may))
-at_after table (Puts s file removed) slot is may = ap (λ (k : ℕ). changed_at table.at k (Some file)) (slot_is s slot is)
-at_after table (Clears s removed) slot is may = ap (λ (k : ℕ). changed_at table.at k None) (slot_is s slot is)
-at_after table (Takes s removed) slot is may = ap (λ (k : ℕ). changed_at table.at k None) (slot_is s slot is)
-at_after table (Allocates s file) slot is may = ap (λ (k : ℕ). changed_at table.at k (Some file)) (slot_is s slot is)
+at_after table (Puts s file removed) slot is may = ap (λ (k : ℕ). changed_at table.at k (Some file)) (same_Some s slot is)
+at_after table (Clears s removed) slot is may = ap (λ (k : ℕ). changed_at table.at k None) (same_Some s slot is)
+at_after table (Takes s removed) slot is may = ap (λ (k : ℕ). changed_at table.at k None) (same_Some s slot is)
+at_after table (Allocates s file) slot is may = ap (λ (k : ℕ). changed_at table.at k (Some file)) (same_Some s slot is)
 at_after table FindsFull slot is may = absurd (cc)
-
-pub same_size : (table : Table) (a : Access) → (table_with table a).size ≡ table.size
-same_size table (Looks s found) = refl
-same_size table a = refl
 
 pub same_range : (table : Table) (a : Access) → (table_with table a).range ≡ table.range
 same_range table (Looks s found) = refl

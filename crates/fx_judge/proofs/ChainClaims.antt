@@ -1,8 +1,8 @@
 -- The claims of a chain, from those of its first member and of the others.
-use Rattle.fx_judge.proofs.Words.{◌≡◌, ℕ, suc, ◌+◌, ◌≤◌, Bool, true, false, List, [], ◌∷◌, ◌++◌, length, drop, arith, append_assoc, refl, sym}
-use Rattle.fx_judge.proofs.Words.{ap, subst, ◌∙◌, Ok, Err, append-nil, MatchBool, Vec, AllZip, AllByRecursion, FileEntry, Closed, ECANCELED}
-use Rattle.fx_judge.proofs.Words.{Completed, next_member, refusal, canceled, severs, Asked, Place, IsRequestDone, IsChainDone, Access, Fits}
-use Rattle.fx_judge.proofs.Words.{IsPossible, Possibly, Tells, TellsMember, MemberClaims, Claim, Stop, Refuted}
+use Rattle.fx_judge.proofs.Words.{◌≡◌, ℕ, suc, ◌+◌, ◌≤◌, Bool, true, false, List, [], ◌∷◌, ◌++◌, length, drop, arith, append_assoc, refl, sym, ap}
+use Rattle.fx_judge.proofs.Words.{subst, ◌∙◌, Ok, Err, append-nil, MatchBool, Vec, AllZip, AllByRecursion, FileEntry, Closed, ECANCELED, Completed}
+use Rattle.fx_judge.proofs.Words.{next_member, refusal, canceled, severs, Asked, Place, IsRequestDone, IsChainDone, Access, Fits, IsPossible}
+use Rattle.fx_judge.proofs.Words.{Possibly, Tells, TellsMember, MemberClaims, Claim, Stop, Refuted}
 use Rattle.std.proofs.lemmas.List.{drop_all}
 use Rattle.fx_judge.proofs.Entries.{all_zip_append}
 
@@ -124,7 +124,7 @@ module _ (catalogue : List FileEntry) (size : ℕ) (range : ℕ × ℕ) (closes 
       each = λ accesses done.
           let b = t.each accesses done in
           let left = here true b.others b.left in
-          let tail : drop (suc i) cs ≡ canceled (next_member (member_at place i)) (drop (suc i) requests) = tail_of left.1 in
+          let tail : drop (suc i) cs ≡ canceled (next_member (member_at place i)) (drop (suc i) requests) = cc (left.1) in
           record {
             own = b.own;
             others = b.others;
@@ -134,19 +134,13 @@ module _ (catalogue : List FileEntry) (size : ℕ) (range : ℕ × ℕ) (closes 
             left = moved true b.others (left.0, tail);
           };
     }
-      where
-        tail_of : {x y : Completed} {xs ys : List Completed} → x ∷ xs ≡ y ∷ ys → xs ≡ ys
-        tail_of is = cc
 
     pub never_canceled : ChainTold catalogue size range closes place requests cs i true claims → (c ≡ refusal (member_at place i) ECANCELED → ⊥)
         → (accesses : List Access) → Possibly size range (λ own. IsChainDone catalogue size place requests own cs) accesses → ⊥
     never_canceled t other accesses done =
         let b = t.each accesses done in
         let left = here true b.others b.left in
-        other (head_of left.1)
-      where
-        head_of : {x y : Completed} {xs ys : List Completed} → x ∷ xs ≡ y ∷ ys → x ≡ y
-        head_of is = cc
+        other (cc (left.1))
 
     -- a member that was done
     pub done_one : ChainTold catalogue size range closes place requests cs i false claims → (own : Vec Claim)

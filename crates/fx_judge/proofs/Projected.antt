@@ -1,27 +1,17 @@
 -- An order whose accesses the claims tell of is, at some slots alone, an order of the claims of these slots.
-use Rattle.fx_judge.proofs.Words.{◌≡◌, ◌⊎◌, inl, inr, ℕ, zero, suc, ◌+◌, ◌<◌, ◌≤◌, ◌==◌, ◌&&◌, ◌||◌, not, Bool, true, false, List, [], ◌∷◌, ◌++◌}
-use Rattle.fx_judge.proofs.Words.{length, map, filter, drop, cond, refl, sym, ap, subst, ◌∙◌, arith, All, Contains, slice_get, slice_index}
-use Rattle.fx_judge.proofs.Words.{slice_index_or, slice_set, Option, Some, None, if◌then◌else◌, option_and_then, AllZip, list_all}
-use Rattle.fx_judge.proofs.Words.{option_to_list, length-map, length-set, get_or-set_same, get_or-set_other, All-contains, All-head, All-tail}
-use Rattle.fx_judge.proofs.Words.{Contains-append_right, slice_get_within, Closed, by_equality, contains_head, contains_tail, Table, Permits}
-use Rattle.fx_judge.proofs.Words.{PermitsAll, table_with, table_after, removed_by, removed_in, access_of, accesses_of, accesses_of_chain, Access}
-use Rattle.fx_judge.proofs.Words.{Looks, FindsFull, ChainAccess, Fits, left_by, touched, Standing, IsEnd, Ends}
-use Rattle.fx_judge.proofs.Words.{cells_after, is_staying, made, may_stay, next, IsCell, IsPlayed, ShowsFile, starting, AreStrands}
+use Rattle.fx_judge.proofs.Words.{◌≡◌, ◌⊎◌, inl, inr, ℕ, zero, suc, ◌+◌, ◌<◌, ◌≤◌, ◌&&◌, ◌||◌, not, Bool, true, false, List, [], ◌∷◌, ◌++◌, length}
+use Rattle.fx_judge.proofs.Words.{map, drop, cond, refl, sym, ap, subst, ◌∙◌, arith, All, Contains, slice_get, slice_index, slice_index_or, slice_set}
+use Rattle.fx_judge.proofs.Words.{Option, Some, None, if◌then◌else◌, option_and_then, AllZip, list_all, option_to_list, length-map, length-set}
+use Rattle.fx_judge.proofs.Words.{get_or-set_same, get_or-set_other, All-contains, All-head, All-tail, Contains-append_right, slice_get_within}
+use Rattle.fx_judge.proofs.Words.{Closed, by_equality, contains_head, contains_tail, Table, Permits, PermitsAll, table_with, table_after, removed_by}
+use Rattle.fx_judge.proofs.Words.{removed_in, accesses_of, accesses_of_chain, Access, Looks, FindsFull, ChainAccess, Fits, left_by, touched, Standing}
+use Rattle.fx_judge.proofs.Words.{IsEnd, Ends, cells_after, is_staying, made, may_stay, next, IsCell, IsPlayed, ShowsFile, starting, AreStrands}
 use Rattle.fx_judge.proofs.Words.{has_slot, seen, Cell, Claim, Resident, Strand}
 use Rattle.fx_search.specs.Machine.{HasNoEnd}
-use Rattle.fx_judge.proofs.CellSteps.{allowed, cells_follow, at_after, moved}
+use Rattle.fx_order.proofs.Accesses.{of_chain}
+use Rattle.fx_judge.proofs.CellSteps.{allowed, cells_follow, at_after, moved, some_or_none}
+use Rattle.std.proofs.lemmas.Bool.{cases_Bool}
 use Rattle.fx_search.proofs.SlotsKept.{slots_after}
-
--- the accesses of a chain with one more in front
-pub of_chain : (x : ChainAccess) (order : List ChainAccess) (chain : ℕ)
-    → ((x.chain ≡ chain) × (accesses_of_chain chain (x ∷ order) ≡ x.access ∷ accesses_of_chain chain order))
-    ⊎ ((x.chain ≡ chain → ⊥) × (accesses_of_chain chain (x ∷ order) ≡ accesses_of_chain chain order))
-of_chain x order chain =
-    by_equality x.chain chain
-    (λ b. ((x.chain ≡ chain) × (map access_of (cond b (x ∷ filter (λ y. y.chain == chain) order) (filter (λ y. y.chain == chain) order)) ≡ x.access ∷ accesses_of_chain chain order))
-    ⊎ ((x.chain ≡ chain → ⊥) × (map access_of (cond b (x ∷ filter (λ y. y.chain == chain) order) (filter (λ y. y.chain == chain) order)) ≡ accesses_of_chain chain order)))
-    (λ same. inl (same, refl))
-    (λ other. inr (other, refl))
 
 seen_one : (cells : List Cell) (a : Access) (rest : List Access) → has_slot cells (touched a) ≡ true → seen cells (a ∷ rest) ≡ a ∷ seen cells rest
 seen_one cells a rest is = ap (λ (b : Bool). cond b (a ∷ seen cells rest) (seen cells rest)) is
@@ -45,14 +35,6 @@ first_left closes [] zero a rest all = absurd all
 first_left closes [] (suc n) a rest all = absurd all
 first_left closes (x ∷ claims) zero a rest all = (x, refl, all.0, all.1)
 first_left closes (x ∷ claims) (suc n) a rest all = first_left closes claims n a rest all
-
-some_or_none : {X : Type 0} (x : Option X) → ((y : X) × (x ≡ Some y)) ⊎ (x ≡ None)
-some_or_none None = inr refl
-some_or_none (Some y) = inl (y, refl)
-
-decided : (b : Bool) → (b ≡ true) ⊎ (b ≡ false)
-decided true = inl refl
-decided false = inr refl
 
 module _ (closes : List Closed) (strands : List Strand) (first : List Cell)
     (once : (i j : ℕ) (one other : Strand) → slice_get strands i ≡ Some one → slice_get strands j ≡ Some other → one.chain ≡ other.chain → i ≡ j) where
@@ -224,7 +206,7 @@ module _ (closes : List Closed) (strands : List Strand) (first : List Cell)
       λ f is. removed f (subst (λ (o : Option Closed). Contains (option_to_list o ++ removed_in (accesses_of order)) f) (sym is) (contains_head f (removed_in (accesses_of order)))) in
       let later : (f : Closed) → Contains (removed_in (accesses_of order)) f → Contains closes f =
       λ f has. removed f (Contains-append_right (option_to_list (removed_by x.access)) (removed_in (accesses_of order)) f has) in
-      elim (decided (has_slot first (touched x.access))) [
+      elim (cases_Bool (has_slot first (touched x.access))) [
         | inl inside ↦ elim (left.each x (contains_head x order)) [
           | inl there ↦
               let rest = along order (table_with table x.access) (mid table at x order inside may.0 closed left there.0 there.1 there.2 there.3)
@@ -275,7 +257,7 @@ projected table closes chains order strands cells all are played none =
           | inl same ↦ same.1 ∙ ap (λ (z : ChainAccess). z.access ∷ accesses_of_chain x.chain l) is
           | inr other ↦ absurd (other.0 (ap (λ (z : ChainAccess). z.chain) is))
         ] in
-        elim (decided (has_slot cells (touched x.access))) [
+        elim (cases_Bool (has_slot cells (touched x.access))) [
           | inl inside ↦
               let bad : x.access ∷ seen cells (accesses_of_chain x.chain l) ≡ [] =
               sym (seen_one cells x.access (accesses_of_chain x.chain l) inside) ∙ (ap (seen cells) (sym here) ∙ none) in
@@ -290,7 +272,7 @@ projected table closes chains order strands cells all are played none =
         ])
       where
         nothing_left : (a : Access) (rest : List Access) → seen cells (a ∷ rest) ≡ [] → seen cells rest ≡ []
-        nothing_left a rest is = elim (decided (has_slot cells (touched a))) [
+        nothing_left a rest is = elim (cases_Bool (has_slot cells (touched a))) [
           | inl inside ↦ let bad : a ∷ seen cells rest ≡ [] = sym (seen_one cells a rest inside) ∙ is in absurd (cc)
           | inr out ↦ sym (unseen_one cells a rest out) ∙ is
         ]

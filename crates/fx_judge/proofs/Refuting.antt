@@ -1,12 +1,12 @@
 -- Where there is no order of a table's accesses, what was told comes of none.
 use Rattle.fx_judge.proofs.Words.{◌≡◌, ℕ, ◌+◌, ◌<◌, ◌≤◌, List, [], ◌∷◌, length, refl, sym, ap, subst, ◌∙◌, All, Contains, Vec, AllByRecursion}
-use Rattle.fx_judge.proofs.Words.{All-contains, All-contains_itself, All-permutation, IsPermutation-sym, all_completed, Asked}
-use Rattle.fx_judge.proofs.Words.{runs_of, RingState, IsRing, Table, Permits, PermitsAll, table_with, removed_in, accesses_of, Access}
-use Rattle.fx_judge.proofs.Words.{Allocates, ChainAccess, IsOneOrder, table_of, AreDone, AreClaims, IsPossible, HasNoOrder}
-use Rattle.fx_judge.proofs.Words.{IsOutcome, IsToldOutcome, IsRefuted, told_report, Claim, Outcome, Told}
-use Rattle.fx_judge.proofs.Words.{no_file_that_stays_is_closed}
+use Rattle.fx_judge.proofs.Words.{All-contains, All-contains_itself, All-permutation, IsPermutation-sym, all_completed, Asked, runs_of, RingState}
+use Rattle.fx_judge.proofs.Words.{IsRing, Table, Permits, PermitsAll, table_with, removed_in, accesses_of, Access, Allocates, ChainAccess, IsOneOrder}
+use Rattle.fx_judge.proofs.Words.{table_of, AreDone, AreClaims, IsPossible, HasNoOrder, IsOutcome, IsToldOutcome, IsRefuted, told_report, Claim}
+use Rattle.fx_judge.proofs.Words.{Outcome, Told, no_file_that_stays_is_closed}
 use Rattle.fx_judge.specs.declared.part.Outcome.TheVariants.{Refuted}
-use Rattle.fx_judge.proofs.CellSteps.{same_size, same_range}
+use Rattle.fx_order.proofs.Placed.{same_size}
+use Rattle.fx_judge.proofs.CellSteps.{same_range}
 
 possible_one : (table : Table) (size : ℕ) (range : ℕ × ℕ) (a : Access) → table.size ≡ size → table.range ≡ range → Permits table a → IsPossible size range a
 possible_one table size range (Allocates s file) is are may =

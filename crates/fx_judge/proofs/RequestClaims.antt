@@ -8,6 +8,7 @@ use Rattle.fx_judge.proofs.Words.{IsCloseDone, IsUpdateDone, IsRequestDone, AreE
 use Rattle.fx_judge.proofs.Words.{FindsFull, IsResident, Possibly, Tells, Claim, At, Full, Anything, Nothing, NothingToTake, Something, Bytes, Same}
 use Rattle.fx_judge.proofs.Words.{Empty, File, Resident, Stop}
 use Rattle.fx_judge.proofs.Telling.{tells_so, IsOne}
+use Rattle.std.proofs.Common.{ne_eqb}
 
 differ : (n : ℕ) (m : ℕ) → pos n ≡ negsuc m → ⊥
 differ n m is = absurd (cc)
@@ -34,9 +35,6 @@ two_failures : (place : Place) (c : Completed) → c ≡ refusal place ENOMEM �
 unfolding failed_with
 two_failures place c is too = let e : 11 ≡ 8 = ap (λ (x : Completed). failed_with x.res) (sym is ∙ too) in absurd (omega (arith, e))
 
-pub isnt : (n k : ℕ) → (n ≡ k → ⊥) → (n == k) ≡ false
-isnt n k other = by_equality n k (λ b. b ≡ false) (λ same. absurd (other same)) (λ _. refl)
-
 module _ (size : ℕ) (place : Place) (closes : List Closed) (c : Completed) (r : Result (Vec Claim) Stop) where
   -- opens at a slot
   module _ (entry slot : ℕ) where
@@ -47,14 +45,14 @@ module _ (size : ℕ) (place : Place) (closes : List Closed) (c : Completed) (r 
     pub open_past : (size ≡ 0 → ⊥) → size ≤ slot → Tells (λ own. IsRefused place EINVAL own c) closes r
         → Tells (λ own. IsOpenDone size place entry (Slot slot) own c) closes r
     open_past some past = tells_so (λ own. IsOpenDone size place entry (Slot slot) own c) (λ own. IsRefused place EINVAL own c) closes r
-        (λ own done. MatchBool-at_true _ _ (le-leb size slot past) (MatchBool-at_false _ _ (isnt size 0 some) done))
+        (λ own done. MatchBool-at_true _ _ (le-leb size slot past) (MatchBool-at_false _ _ (ne_eqb size 0 some) done))
 
     pub open_here : (resident : Resident) → (size ≡ 0 → ⊥) → slot < size → IsResident closes (installed place 0 entry) resident
         → Tells (IsOne closes (At slot Anything (File resident))) closes r → Tells (λ own. IsOpenDone size place entry (Slot slot) own c) closes r
     open_here resident some within is =
         tells_so (λ own. IsOpenDone size place entry (Slot slot) own c) (IsOne closes (At slot Anything (File resident))) closes r
         (λ own done.
-        let made = MatchBool-at_false _ _ (lt-leb size slot within) (MatchBool-at_false _ _ (isnt size 0 some) done) in
+        let made = MatchBool-at_false _ _ (lt-leb size slot within) (MatchBool-at_false _ _ (ne_eqb size 0 some) done) in
         (Puts slot (installed place 0 entry) made.0, made.1.0, (refl, tt, (refl, (installed place 0 entry, refl, is)))))
 
   -- opens at any slot
@@ -67,7 +65,7 @@ module _ (size : ℕ) (place : Place) (closes : List Closed) (c : Completed) (r 
     pub any_full : (size ≡ 0 → ⊥) → c ≡ refusal place ENFILE → Tells (IsOne closes Full) closes r
         → Tells (Possibly size range (λ own. IsOpenDone size place entry Any own c)) closes r
     any_full some failed = tells_so (Possibly size range (λ own. IsOpenDone size place entry Any own c)) (IsOne closes Full) closes r
-        (λ own done. elim (MatchBool-at_false _ _ (isnt size 0 some) done.1) [
+        (λ own done. elim (MatchBool-at_false _ _ (ne_eqb size 0 some) done.1) [
           | inl made ↦
               absurd (never_both place made.0 [] ENFILE c made.1.1 failed)
           | inr full ↦ (FindsFull, full.0, refl)
@@ -85,7 +83,7 @@ module _ (size : ℕ) (place : Place) (closes : List Closed) (c : Completed) (r 
         → Tells (Possibly size range (λ own. IsOpenDone size place entry Any own c)) closes r
     any_here slot resident some is file =
         tells_so (Possibly size range (λ own. IsOpenDone size place entry Any own c)) (IsOne closes (At slot Nothing (File resident))) closes r
-        (λ own done. elim (MatchBool-at_false _ _ (isnt size 0 some) done.1) [
+        (λ own done. elim (MatchBool-at_false _ _ (ne_eqb size 0 some) done.1) [
           | inl made ↦ (
             Allocates made.0 (installed place 0 entry),
             made.1.0,
@@ -104,12 +102,12 @@ module _ (size : ℕ) (place : Place) (closes : List Closed) (c : Completed) (r 
     pub close_past : (size ≡ 0 → ⊥) → size ≤ slot → Tells (λ own. IsRefused place EINVAL own c) closes r
         → Tells (λ own. IsCloseDone size place slot own c) closes r
     close_past some past = tells_so (λ own. IsCloseDone size place slot own c) (λ own. IsRefused place EINVAL own c) closes r
-        (λ own done. MatchBool-at_true _ _ (le-leb size slot past) (MatchBool-at_false _ _ (isnt size 0 some) done))
+        (λ own done. MatchBool-at_true _ _ (le-leb size slot past) (MatchBool-at_false _ _ (ne_eqb size 0 some) done))
 
     pub close_missed : (size ≡ 0 → ⊥) → slot < size → c ≡ refusal place EBADF → Tells (IsOne closes (At slot NothingToTake Same)) closes r
         → Tells (λ own. IsCloseDone size place slot own c) closes r
     close_missed some within is = tells_so (λ own. IsCloseDone size place slot own c) (IsOne closes (At slot NothingToTake Same)) closes r
-        (λ own done. elim (MatchBool-at_false _ _ (lt-leb size slot within) (MatchBool-at_false _ _ (isnt size 0 some) done)) [
+        (λ own done. elim (MatchBool-at_false _ _ (lt-leb size slot within) (MatchBool-at_false _ _ (ne_eqb size 0 some) done)) [
           | inl missed ↦ (Takes slot None, missed.0, (refl, refl, refl))
           | inr taken ↦
               absurd (never_both place 0 [] EBADF c taken.1.1 is)
@@ -118,7 +116,7 @@ module _ (size : ℕ) (place : Place) (closes : List Closed) (c : Completed) (r 
     pub close_here : (size ≡ 0 → ⊥) → slot < size → c ≡ completed place (pos 0) [] → Tells (IsOne closes (At slot Something Empty)) closes r
         → Tells (λ own. IsCloseDone size place slot own c) closes r
     close_here some within is = tells_so (λ own. IsCloseDone size place slot own c) (IsOne closes (At slot Something Empty)) closes r
-        (λ own done. elim (MatchBool-at_false _ _ (lt-leb size slot within) (MatchBool-at_false _ _ (isnt size 0 some) done)) [
+        (λ own done. elim (MatchBool-at_false _ _ (lt-leb size slot within) (MatchBool-at_false _ _ (ne_eqb size 0 some) done)) [
           | inl missed ↦
               absurd (never_both place 0 [] EBADF c is missed.1)
           | inr taken ↦ (Takes slot (Some taken.0), taken.1.0, (refl, (taken.0, refl), (refl, refl)))
@@ -207,11 +205,11 @@ module _ (entries size : ℕ) (place : Place) (off : ℕ) (list : List ℤ) (clo
   pub update_past : (size ≡ 0 → ⊥) → (length list == 0 || nat_lt size (off + length list)) ≡ true → Tells (λ own. IsRefused place EINVAL own c) closes r
       → Tells (λ own. IsUpdateDone entries size place off list own c) closes r
   update_past some past = tells_so (λ own. IsUpdateDone entries size place off list own c) (λ own. IsRefused place EINVAL own c) closes r
-      (λ own done. MatchBool-at_true _ _ past (MatchBool-at_false _ _ (isnt size 0 some) done))
+      (λ own done. MatchBool-at_true _ _ past (MatchBool-at_false _ _ (ne_eqb size 0 some) done))
 
   -- a list within the table
   pub inside : (length list ≡ 0 → ⊥) → off + length list ≤ size → (length list == 0 || nat_lt size (off + length list)) ≡ false
-  inside some within = ap (λ (b : Bool). b || nat_lt size (off + length list)) (isnt (length list) 0 some) ∙ le-ltb size (off + length list) within
+  inside some within = ap (λ (b : Bool). b || nat_lt size (off + length list)) (ne_eqb (length list) 0 some) ∙ le-ltb size (off + length list) within
 
   pub outside : size < off + length list → (length list == 0 || nat_lt size (off + length list)) ≡ true
   outside past = by_equality (length list) 0 (λ b. (b || nat_lt size (off + length list)) ≡ true) (λ _. refl) (λ _. lt-ltb size (off + length list) past)
@@ -219,9 +217,9 @@ module _ (entries size : ℕ) (place : Place) (off : ℕ) (list : List ℤ) (clo
   pub update_bad : (size ≡ 0 → ⊥) → (length list == 0 || nat_lt size (off + length list)) ≡ false → list_any (is_bad_entry entries) list ≡ true
       → Tells (λ own. IsRefused place EBADF own c) closes r → Tells (λ own. IsUpdateDone entries size place off list own c) closes r
   update_bad some within bad = tells_so (λ own. IsUpdateDone entries size place off list own c) (λ own. IsRefused place EBADF own c) closes r
-      (λ own done. MatchBool-at_true _ _ bad (MatchBool-at_false _ _ within (MatchBool-at_false _ _ (isnt size 0 some) done)))
+      (λ own done. MatchBool-at_true _ _ bad (MatchBool-at_false _ _ within (MatchBool-at_false _ _ (ne_eqb size 0 some) done)))
 
   pub update_here : (size ≡ 0 → ⊥) → (length list == 0 || nat_lt size (off + length list)) ≡ false → list_any (is_bad_entry entries) list ≡ false
       → Tells (λ own. AreEntriesDone place 0 off list own) closes r → Tells (λ own. IsUpdateDone entries size place off list own c) closes r
   update_here some within good = tells_so (λ own. IsUpdateDone entries size place off list own c) (λ own. AreEntriesDone place 0 off list own) closes r
-      (λ own done. (MatchBool-at_false _ _ good (MatchBool-at_false _ _ within (MatchBool-at_false _ _ (isnt size 0 some) done))).0)
+      (λ own done. (MatchBool-at_false _ _ good (MatchBool-at_false _ _ within (MatchBool-at_false _ _ (ne_eqb size 0 some) done))).0)

@@ -3,6 +3,7 @@ use Rattle.fx_judge.proofs.Words.{◌≡◌, ◌⊎◌, inl, inr, ℕ, zero, suc
 use Rattle.fx_judge.proofs.Words.{ap, subst, ◌∙◌, arith, slice_get, Some, if◌then◌else◌, Vec, AllZip, append-nil, cases_lt, Closed, by_equality}
 use Rattle.fx_judge.proofs.Words.{accesses_of_chain, Access, ChainAccess, AreClaims, Fits, touched, AreStrands, has_slot, keeps, seen, slot_of}
 use Rattle.fx_judge.proofs.Words.{strand_for, Cell, Claim, At, Full, Strand}
+use Rattle.std.proofs.lemmas.List.{nil_from_length}
 
 -- a claim is of the slot of its access
 same_slot : (closes : List Closed) (claim : Claim) (a : Access) → Fits closes claim a → touched a ≡ slot_of claim
@@ -62,10 +63,6 @@ none_zip : (closes : List Closed) (accesses : List Access) → AllZip (Fits clos
 none_zip closes [] all = refl
 none_zip closes (x ∷ accesses) all = absurd all
 
-is_empty : (l : List Claim) → length l ≡ 0 → l ≡ []
-is_empty [] is = refl
-is_empty (x ∷ l) is = absurd (omega arith)
-
 module _ (cells : List Cell) (chains : List (Vec Claim)) (i : ℕ) (strands : List Strand) (claims own : Vec Claim) (is : slice_get chains i ≡ Some claims)
     (kept : own.items ≡ filter (keeps cells) claims.items) (so : SoFar cells chains i strands) where
   mine : (closes : List Closed) (order : List ChainAccess) → AreClaims closes chains order
@@ -88,7 +85,8 @@ module _ (cells : List Cell) (chains : List (Vec Claim)) (i : ℕ) (strands : Li
         | inl old ↦ before.each chain low old
         | inr new ↦ inr (ap (λ (n : ℕ). seen cells (accesses_of_chain n order)) new
             ∙ none_zip closes (seen cells (accesses_of_chain (i + 1) order))
-            (subst (λ (l : List Claim). AllZip (Fits closes) l (seen cells (accesses_of_chain (i + 1) order))) (is_empty own.items none) (mine closes order told)))
+            (subst (λ (l : List Claim). AllZip (Fits closes) l (seen cells (accesses_of_chain (i + 1) order)))
+            (nil_from_length own.items none) (mine closes order told)))
       ];
       once = before.once;
     };

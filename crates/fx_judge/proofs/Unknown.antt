@@ -1,18 +1,14 @@
 -- A file that was at no slot, and that no chain's claim leaves, is in no order removed.
-use Rattle.fx_judge.proofs.Words.{◌≡◌, ◌⊎◌, inl, inr, ℕ, zero, suc, ◌+◌, ◌<◌, ◌≤◌, if◌then◌else◌, List, [], ◌∷◌, ◌++◌, length, refl, sym, ap, subst, ◌∙◌, arith}
-use Rattle.fx_judge.proofs.Words.{All-contains, Contains, Option, Some, None, slice_get, slice_index_or, Vec, AllZip, option_to_list, Closed, by_equality}
-use Rattle.fx_judge.proofs.Words.{changed_at, Table, Permits, PermitsAll, table_with, removed_by, removed_in, accesses_of, accesses_of_chain}
-use Rattle.fx_judge.proofs.Words.{contains_head, contains_tail, Access, Looks, Puts, Clears, Takes, Allocates, FindsFull, ChainAccess, Fits, found_by}
-use Rattle.fx_judge.proofs.Words.{left_by, touched, HasNoOrder, Claim, At, Full, Same, Empty, File}
+use Rattle.fx_judge.proofs.Words.{◌≡◌, inl, inr, ℕ, zero, suc, ◌+◌, ◌<◌, ◌≤◌, if◌then◌else◌, List, [], ◌∷◌, ◌++◌, length, refl, sym, ap, subst, ◌∙◌}
+use Rattle.fx_judge.proofs.Words.{arith, All-contains, Contains, Option, Some, None, slice_get, slice_index_or, Vec, AllZip, option_to_list, Closed}
+use Rattle.fx_judge.proofs.Words.{by_equality, changed_at, Table, Permits, PermitsAll, table_with, removed_by, removed_in, accesses_of}
+use Rattle.fx_judge.proofs.Words.{accesses_of_chain, contains_head, contains_tail, Access, Looks, Puts, Clears, Takes, Allocates, FindsFull}
+use Rattle.fx_judge.proofs.Words.{ChainAccess, Fits, found_by, left_by, touched, HasNoOrder, Claim, At, Full, Same, Empty, File}
 use Rattle.fx_order.specs.Slots.{table_of_slots}
 use Rattle.fx_order.specs.declared.slots.Slots.{Slots}
 use Rattle.fx_judge.specs.Known.{Brings, IsBrought, IsKnown}
-use Rattle.fx_judge.proofs.CellSteps.{at_after, found_at}
-use Rattle.fx_judge.proofs.Projected.{of_chain}
-
-there_or_none : {X : Type 0} (x : Option X) → ((y : X) × (x ≡ Some y)) ⊎ (x ≡ None)
-there_or_none None = inr refl
-there_or_none (Some y) = inl (y, refl)
+use Rattle.fx_judge.proofs.CellSteps.{at_after, found_at, some_or_none}
+use Rattle.fx_order.proofs.Accesses.{of_chain}
 
 module _ (closes : List Closed) (file : Closed) where
   -- an access that leaves the file found it
@@ -69,7 +65,7 @@ module _ (closes : List Closed) (file : Closed) where
   IsNowhere table = (slot : ℕ) → table.at slot ≡ Some file → ⊥
 
   nowhere_after : (table : Table) (a : Access) → Permits table a → FindsIt a → IsNowhere table → IsNowhere (table_with table a)
-  nowhere_after table a may found none = elim (there_or_none (touched a)) [
+  nowhere_after table a may found none = elim (some_or_none (touched a)) [
     | inl there ↦ λ slot is.
         let at : changed_at table.at there.0 (left_by a) slot ≡ Some file = ap (λ (f : ℕ → Option Closed). f slot) (sym (at_after table a there.0 there.1 may)) ∙ is in
         by_equality slot there.0 (λ b. (if b then left_by a else table.at slot) ≡ Some file → ⊥)
@@ -89,7 +85,7 @@ module _ (closes : List Closed) (file : Closed) where
   never_removed (x ∷ order) table may none found has =
       let later = never_removed order (table_with table x.access) may.1
       (nowhere_after table x.access may.0 (found x (contains_head x order)) none) (λ y inside. found y (contains_tail x order y inside)) in
-      elim (there_or_none (removed_by x.access)) [
+      elim (some_or_none (removed_by x.access)) [
         | inl there ↦ split there.0 there.1 (subst (λ (o : Option Closed). Contains (option_to_list o ++ removed_in (accesses_of order)) file) there.1 has) later
         | inr nothing ↦ later (subst (λ (o : Option Closed). Contains (option_to_list o ++ removed_in (accesses_of order)) file) nothing has)
       ]

@@ -20,11 +20,8 @@ pub use Rattle.fx_chain.specs.declared.request.Target.{Target}
 pub use Rattle.fx_chain.specs.declared.request.Target.TheVariants.{Any, Slot}
 pub use Rattle.fx_judge.specs.Chains.{AreDone, TellsChains, TellsMember}
 pub use Rattle.fx_judge.specs.Claims.{AreClaims, Fits, IsLeft, IsPossible, Possibly, Tells, Wanted, found_by, left_by, touched}
-pub use Rattle.fx_search.specs.Dead.{IsHopeless, NoneHelps, no_help}
-pub use Rattle.fx_search.specs.Machine.{Ends, HasNoEnd, IsEnd, IsExplored, IsLookedThrough, Standing, StepLeadsInside, allows, cell_at, cell_with, cells_after}
-pub use Rattle.fx_search.specs.Machine.{claim_at, is_same, is_staying, is_taken, is_test, made, may_leave, may_stay, next, suits, view}
-pub use Rattle.fx_search.specs.Machine.{with_cell}
-pub use Rattle.fx_search.specs.Packed.{all_unpacked, file_at, numbered_cells, unpacked}
+pub use Rattle.fx_search.specs.Machine.{Ends, HasNoEnd, IsEnd, Standing, allows, cell_at, cell_with, cells_after, is_same, is_staying, is_taken, made}
+pub use Rattle.fx_search.specs.Machine.{may_leave, may_stay, next, suits}
 pub use Rattle.fx_judge.specs.Played.{HasNoOrder, IsCell, IsOutcome, IsPlayed, ShowsFile}
 pub use Rattle.fx_search.specs.Starts.{starting}
 pub use Rattle.fx_judge.specs.Strands.{AreStrands, seen, strand_for}
@@ -38,12 +35,9 @@ pub use Rattle.fx_search.specs.declared.claim.Leaves.TheVariants.{Empty, File, S
 pub use Rattle.fx_search.specs.declared.claim.Resident.{Resident}
 pub use Rattle.fx_search.specs.declared.claim.Wants.{Wants}
 pub use Rattle.fx_search.specs.declared.claim.Wants.TheVariants.{Anything, Bytes, Nothing, NothingToTake, Something}
-pub use Rattle.fx_search.specs.declared.node.Node.{Node}
-pub use Rattle.fx_search.specs.declared.packed.Packing.{Packing}
 pub use Rattle.fx_judge.specs.declared.part.Outcome.{Outcome}
-pub use Rattle.fx_judge.specs.declared.part.Outcome.TheVariants.{Order, Unsettled}
 pub use Rattle.fx_judge.specs.declared.stop.Stop.{Stop}
-pub use Rattle.fx_judge.specs.declared.stop.Stop.TheVariants.{NoMemory, Refuted, Unknown}
+pub use Rattle.fx_judge.specs.declared.stop.Stop.TheVariants.{Refuted}
 pub use Rattle.fx_search.specs.declared.strand.Strand.{Strand}
 pub use Rattle.fx_order.specs.declared.ring_slots.RingSlots.{RingSlots}
 pub use Rattle.fx_judge.specs.declared.told.Told.{Told}
@@ -51,8 +45,8 @@ pub use Rattle.fx_order.proofs.Histories.{each_order_is_a_history}
 pub use Rattle.fx_order.proofs.OneRing.{no_file_that_stays_is_closed}
 pub use Rattle.fx_order.proofs.Ordered.{ring_after, same_outline}
 pub use Rattle.fx_order.proofs.Shown.{NonePast, ring_with_files, shows_ring}
-pub use Rattle.fx_order.specs.Access.{IsInRange, Permits, PermitsAll, Table, access_of, accesses_of, accesses_of_chain, removed_by, removed_in}
-pub use Rattle.fx_order.specs.Access.{table_after, table_with}
+pub use Rattle.fx_order.specs.Access.{IsInRange, Permits, PermitsAll, Table, accesses_of, accesses_of_chain, removed_by, removed_in, table_after}
+pub use Rattle.fx_order.specs.Access.{table_with}
 pub use Rattle.fx_order.specs.Order.{IsOneOrder, table_of}
 pub use Rattle.fx_order.specs.Requests.{AreChainsDone, AreEntriesDone, IsChainDone, IsCloseDone, IsEntryDone, IsOpenDone, IsReadDone, IsRefused}
 pub use Rattle.fx_order.specs.Requests.{IsRequestDone, IsUpdateDone, Makes, gives}
@@ -68,15 +62,15 @@ pub use Rattle.fx_ring.specs.Submission.{Reported}
 pub use Rattle.fx_search.specs.Residents.{IsResident}
 pub use Rattle.fx_search.specs.AtSlots.{has_slot, keeps, slot_of}
 pub use Rattle.fx_table.proofs.Members.{contains_head, contains_tail}
-pub use Rattle.std.proofs.Common.{All, Bool, Contains, Err, IfOk, IsPermutation, IsSome, IsTrue, List, None, Ok, Option, Result, Some, [], ap}
-pub use Rattle.std.proofs.Common.{append_assoc, arith, cond, drop, drop-cons, eq-eqb, false, filter, get_or, if◌then◌else◌, inl, inr, int_le, int_lt}
-pub use Rattle.std.proofs.Common.{is_some, length, length-append, map, nat_abs, nat_lt, negsuc, not, of_z, option_copied, pos, refl, replicate, rules}
-pub use Rattle.std.proofs.Common.{slice_get, slice_index, slice_index_or, slice_set, subst, suc, sym, take, to_z, true, w32, zero, ℕ, ℤ, ⊎_elim, ◌&&◌}
-pub use Rattle.std.proofs.Common.{◌++◌, ◌+◌, ◌<◌, ◌==◌, ◌||◌, ◌∙◌, ◌∷◌, ◌≡◌, ◌≢◌, ◌≤◌, ◌⊎◌}
+pub use Rattle.std.proofs.Common.{All, Bool, Contains, Err, IsPermutation, IsSome, IsTrue, List, None, Ok, Option, Result, Some, [], ap, append_assoc}
+pub use Rattle.std.proofs.Common.{arith, cond, drop, drop-cons, eq-eqb, false, filter, get_or, if◌then◌else◌, inl, inr, int_le, int_lt, is_some}
+pub use Rattle.std.proofs.Common.{length, length-append, map, nat_abs, nat_lt, negsuc, not, of_z, pos, refl, replicate, rules, slice_get, slice_index}
+pub use Rattle.std.proofs.Common.{slice_index_or, slice_set, subst, suc, sym, take, to_z, true, w32, zero, ℕ, ℤ, ◌&&◌, ◌++◌, ◌+◌, ◌<◌, ◌==◌, ◌||◌}
+pub use Rattle.std.proofs.Common.{◌∙◌, ◌∷◌, ◌≡◌, ◌≢◌, ◌≤◌, ◌⊎◌}
 pub use Rattle.std.proofs.Math.ListN.{get_or-eq_default}
 pub use Rattle.std.proofs.lemmas.Bool.{MatchBool-at_false, MatchBool-at_true, cases_lt, le-leb, le-ltb, lt-leb, lt-ltb}
 pub use Rattle.std.proofs.lemmas.Int.{to_z-of_z}
-pub use Rattle.std.proofs.lemmas.List.{same_lists, append-nil, get_or-map, get_or-replicate, get_or-set_other, get_or-set_same, get_or_default, length-map}
+pub use Rattle.std.proofs.lemmas.List.{append-nil, get_or-map, get_or-replicate, get_or-set_other, get_or-set_same, get_or_default, length-map}
 pub use Rattle.std.proofs.lemmas.List.{length-replicate, length-set, take_all}
 pub use Rattle.std.proofs.lemmas.List.Elements.{All-contains, All-contains_itself, All-head, All-map, All-more, All-tail, All-weaker}
 pub use Rattle.std.proofs.lemmas.List.Elements.{Contains-append_right}

@@ -1,13 +1,13 @@
 -- An order of a submission begins at its first state.
-use Rattle.fx_order.proofs.Words.{◌≡◌, ℕ, ◌+◌, ◌<◌, ◌≤◌, ◌==◌, List, [], ◌∷◌, ◌++◌, length, refl, sym, ap, subst, ◌∙◌, arith, if◌then◌else◌}
-use Rattle.fx_order.proofs.Words.{Bool, inr, FileEntry, by_equality, Completed, Asked, runs_of, first_member, Table, accesses_of, accesses_of_chain}
+use Rattle.fx_order.proofs.Words.{◌≡◌, ℕ, ◌+◌, ◌<◌, ◌≤◌, ◌==◌, List, [], ◌∷◌, ◌++◌, length, refl, sym, ap, subst, ◌∙◌, arith, if◌then◌else◌, Bool}
+use Rattle.fx_order.proofs.Words.{inr, FileEntry, by_equality, Completed, Asked, runs_of, first_member, Table, accesses_of, accesses_of_chain}
 use Rattle.fx_order.proofs.Words.{AreChainsDone, IsOneOrder, table_after, PermitsAll}
 use Rattle.fx_order.specs.declared.access.ChainAccess.{ChainAccess}
 use Rattle.fx_ring.specs.Ring.{RingState}
 use Rattle.fx_ring.specs.Submission.{Reported}
 use Rattle.std.specs.List.{AllByRecursion}
 use Rattle.fx_outcomes.specs.Rests.{HasMemory, Rest, rules_of, settled_at}
-use Rattle.fx_outcomes.specs.Nodes.{AreAllStates, AreAtStart, HasEnd, IsListed, StateView, EachOutcomeIsListed}
+use Rattle.fx_outcomes.specs.Nodes.{AreAllStates, AreAtStart, HasEnd, IsListed, StateView, EachOutcomeIsListed, told_from}
 use Rattle.fx_outcomes.proofs.Requests.{are_right}
 use Rattle.fx_outcomes.proofs.Chain.{settles}
 use Rattle.fx_outcomes.proofs.PartByPart.{order_by_part}
@@ -17,13 +17,8 @@ both_parts : {X : Type 0} (P : X → Type 0) (xs ys : List X) → AllByRecursion
 both_parts P [] ys all = (tt, all)
 both_parts P (x ∷ xs) ys all = let rest = both_parts P xs ys all.1 in ((all.0, rest.0), rest.1)
 
--- what the chains from one on told, one behind another
-abbrev told_from : (ℕ → List Completed) → ℕ → List (List Asked) → List Completed
-told_from told chain [] = []
-told_from told chain (run ∷ runs) = told chain ++ told_from told (chain + 1) runs
-
 -- the same of each chain, the same whole
-told_same : (f g : ℕ → List Completed) (chain : ℕ) (runs : List (List Asked)) → ((q : ℕ) → chain ≤ q → q < chain + length runs → f q ≡ g q)
+pub told_same : (f g : ℕ → List Completed) (chain : ℕ) (runs : List (List Asked)) → ((q : ℕ) → chain ≤ q → q < chain + length runs → f q ≡ g q)
     → told_from f chain runs ≡ told_from g chain runs
 told_same f g chain [] same = refl
 told_same f g chain (run ∷ runs) same =
@@ -37,54 +32,57 @@ all_told P told chain (run ∷ runs) each =
     both_said P (told chain) (told_from told (chain + 1) runs) (each chain (omega arith) (omega arith))
     (all_told P told (chain + 1) runs (λ q low high. each q (omega (arith, low)) (omega (arith, high))))
 
-module _ (catalogue : List FileEntry) (size submission : ℕ) (says : Completed → Type 0) (order : List ChainAccess) (state : StateView) (count : ℕ) where
+-- each chain is at its first request that comes to the table, and `Begins` has what it was told up to there
+module _ (catalogue : List FileEntry) (size submission : ℕ) (order : List ChainAccess) (rests : ℕ → Rest) (Begins : ℕ → List Completed → Type 0) where
+  abbrev settled : ℕ → List Asked → List Completed × Rest
+  settled chain run = settled_at (rules_of catalogue size) (first_member submission chain) run
+
+  -- how a chain goes on to this
+  abbrev Own : ℕ → List Completed → Type 0
+  Own q final = (told : List Completed) × Begins q told × OfChain catalogue size (rests q) told final (accesses_of_chain q order)
+
   -- the list of a chain in front of those of the others
   abbrev put : ℕ → List Completed → (ℕ → List Completed) → ℕ → List Completed
   put chain own others q = if q == chain then own else others q
 
-  record Found (chain : ℕ) (runs : List (List Asked)) (completions : List Completed) : Type 0 where
-    finals : ℕ → List Completed
-    whole : completions ≡ told_from finals chain runs
-    each : (q : ℕ) → chain ≤ q → q < chain + length runs
-        → (own : List Completed) × (own ≡ finals q) × OfChain catalogue size says (state.rests q) own (accesses_of_chain q order)
+  pub record Found (chain : ℕ) (runs : List (List Asked)) (completions : List Completed) : Type 0 where
+    pub finals : ℕ → List Completed
+    pub whole : completions ≡ told_from finals chain runs
+    pub each : (q : ℕ) → chain ≤ q → q < chain + length runs → Own q (finals q)
 
-  find : (chain : ℕ) (runs : List (List Asked)) (completions : List Completed) → AllByRecursion HasMemory completions
-      → AreChainsDone catalogue size submission chain runs order completions → AreAtStart (rules_of catalogue size) says submission chain runs state
-      → Found chain runs completions
-  find chain [] completions memory done start = record {
-    finals = λ q. [];
-    whole = done;
-    each = λ q low high. absurd (omega (arith, low, high));
-  }
-  find chain (run ∷ runs) completions memory done start =
-      let mem = both_parts HasMemory done.0 done.1 (subst (AllByRecursion HasMemory) done.2 memory) in
-      let f = find (chain + 1) runs done.1 mem.1 done.4 start.2 in
-      let g = settles catalogue size (rules_of catalogue size) (are_right catalogue size) (first_member submission chain) run (accesses_of_chain chain order) done.0 mem.0 done.3 in
-      record {
-        finals = put chain done.0 f.finals;
-        whole = done.2 ∙ (
-            ap (λ (l : List Completed). l ++ done.1) (by_equality chain chain (λ b. done.0 ≡ (if b then done.0 else f.finals chain)) (λ _. refl) (λ other. absurd (other refl)))
-            ∙ ap (λ (l : List Completed). put chain done.0 f.finals chain ++ l)
-            (f.whole ∙ told_same f.finals (put chain done.0 f.finals) (chain + 1) runs
-            (λ q low high. by_equality q chain (λ b. f.finals q ≡ (if b then done.0 else f.finals q)) (λ same. absurd (omega (arith, low, same))) (λ _. refl))));
-        each = λ q low high. by_equality q chain
-            (λ b. (own : List Completed) × (own ≡ (if b then done.0 else f.finals q)) × OfChain catalogue size says (state.rests q) own (accesses_of_chain q order))
-            (λ same. subst (λ (n : ℕ). (own : List Completed) × (own ≡ done.0) × OfChain catalogue size says (state.rests n) own (accesses_of_chain n order)) (sym same) (
-              done.0,
-              refl,
-              subst (λ (r : Rest). OfChain catalogue size says r done.0 (accesses_of_chain chain order)) (sym start.1)
-                  (record {
-                    told = (settled_at (rules_of catalogue size) (first_member submission chain) run).0;
-                    later = g.later;
-                    whole = g.whole;
-                    said = start.0;
-                    memory = g.memory;
-                    ready = g.ready;
-                    rest_is = g.rest;
-                  }),
-            ))
-            (λ other. f.each q (omega (arith, low, other)) (omega (arith, high)));
-      }
+  module _ (AreAt : ℕ → List (List Asked) → Type 0) (one_at : (chain : ℕ) (run : List Asked) (runs : List (List Asked)) → AreAt chain (run ∷ runs)
+      → Begins chain (settled chain run).0 × (rests chain ≡ (settled chain run).1) × AreAt (chain + 1) runs) where
+    pub find : (chain : ℕ) (runs : List (List Asked)) (completions : List Completed) → AllByRecursion HasMemory completions
+        → AreChainsDone catalogue size submission chain runs order completions → AreAt chain runs → Found chain runs completions
+    find chain [] completions memory done start = record {
+      finals = λ q. [];
+      whole = done;
+      each = λ q low high. absurd (omega (arith, low, high));
+    }
+    find chain (run ∷ runs) completions memory done start =
+        let mem = both_parts HasMemory done.0 done.1 (subst (AllByRecursion HasMemory) done.2 memory) in
+        let at = one_at chain run runs start in
+        let f = find (chain + 1) runs done.1 mem.1 done.4 at.2 in
+        let g = settles catalogue size (rules_of catalogue size) (are_right catalogue size) (first_member submission chain) run
+        (accesses_of_chain chain order) done.0 mem.0 done.3 in
+        record {
+          finals = put chain done.0 f.finals;
+          whole = done.2 ∙ (
+              ap (λ (l : List Completed). l ++ done.1)
+              (by_equality chain chain (λ b. done.0 ≡ (if b then done.0 else f.finals chain)) (λ _. refl) (λ other. absurd (other refl)))
+              ∙ ap (λ (l : List Completed). put chain done.0 f.finals chain ++ l)
+              (f.whole ∙ told_same f.finals (put chain done.0 f.finals) (chain + 1) runs (λ q low high.
+              by_equality q chain (λ b. f.finals q ≡ (if b then done.0 else f.finals q)) (λ same. absurd (omega (arith, low, same))) (λ _. refl))));
+          each = λ q low high. by_equality q chain
+              (λ b. Own q (if b then done.0 else f.finals q))
+              (λ same. subst (λ (n : ℕ). Own n done.0) (sym same) (
+                (settled chain run).0,
+                at.0,
+                subst (λ (r : Rest). OfChain catalogue size r (settled chain run).0 done.0 (accesses_of_chain chain order)) (sym at.1)
+                    (record { later = g.later; whole = g.whole; memory = g.memory; ready = g.ready; rest_is = g.rest }),
+              ))
+              (λ other. f.each q (omega (arith, low, other)) (omega (arith, high)));
+        }
 
 -- whatever is to be said of the answers
 pub all_said : (idle : Rest → Bool) (says : Completed → Type 0) (old : RingState) (requests : List Asked) (states : List StateView)
@@ -94,13 +92,13 @@ all_said idle says old requests states all report left memory any =
     let runs = runs_of requests in
     let one = order_by_part all.parts old requests report left all.apart any in
     let done = subst (λ (n : ℕ). AreChainsDone old.catalogue old.size n 1 runs one.order report.completions) one.is.submission one.is.done in
-    let f = find old.catalogue old.size (old.submissions + 1) says one.order all.first (length runs) 1 runs report.completions memory done all.begins.chains in
+    let f = find old.catalogue old.size (old.submissions + 1) one.order all.first.rests (λ q told. AllByRecursion says told)
+    (λ chain left. AreAtStart (rules_of old.catalogue old.size) says (old.submissions + 1) chain left all.first) (λ chain run left start. start)
+    1 runs report.completions memory done all.begins.chains in
     let comes : Comes old.catalogue old.size says idle all.idling (length runs) f.finals all.first one.order = record {
       permitted = subst (λ (t : Table). PermitsAll t (accesses_of one.order)) (sym all.begins.table) one.is.permitted;
       within = one.is.chains;
-      each = λ q low high.
-          let e = f.each q low (omega (arith, high)) in
-          inr (subst (λ (l : List Completed). OfChain old.catalogue old.size says (all.first.rests q) l (accesses_of_chain q one.order)) e.1 e.2);
+      each = λ q low high. inr (f.each q low (omega (arith, high)));
     } in
     let run = runs_on old.catalogue old.size says idle all.idling (length runs) f.finals states all.parts all.closed one.order one.by all.first all.inside comes in (
       subst (AllByRecursion says) (sym f.whole) (all_told says f.finals 1 runs (λ q low high. run.2.said q low (omega (arith, high)))),

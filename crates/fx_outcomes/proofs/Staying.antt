@@ -1,15 +1,16 @@
 -- The accesses of a chain that is in a part come to slots of that part.
-use Rattle.fx_order.proofs.Words.{◌≡◌, inl, inr, ℕ, zero, suc, ◌+◌, ◌<◌, ◌≤◌, ◌==◌, ◌||◌, nat_le, nat_lt, ℤ, pos, negsuc, List, [], ◌∷◌, length, sym, subst, arith}
-use Rattle.fx_order.proofs.Words.{All, All-nil, All-cons, All-head, All-tail, All-append, list_any, is_bad_entry, has_name, FileEntry}
-use Rattle.fx_order.proofs.Words.{Completed, Operation, Opens, Reads, Closes, Updates, Asked, Place, Target, Slot, Any, Table, next_member, severs, first_member}
-use Rattle.fx_order.proofs.Words.{IsOpenDone, IsEntryDone, AreEntriesDone, IsRequestDone, IsChainDone, AreChainsDone, accesses_of_chain, by_equality, refl}
+use Rattle.fx_order.proofs.Words.{◌≡◌, inl, inr, ℕ, zero, suc, ◌+◌, ◌<◌, ◌≤◌, ℤ, pos, negsuc, List, [], ◌∷◌, length, sym, subst, arith, All, All-nil}
+use Rattle.fx_order.proofs.Words.{All-cons, All-head, All-tail, All-append, has_name, FileEntry, Completed, Operation, Opens, Reads, Closes, Updates}
+use Rattle.fx_order.proofs.Words.{Asked, Place, Target, Slot, Any, Table, next_member, severs, first_member, IsOpenDone, IsEntryDone, AreEntriesDone}
+use Rattle.fx_order.proofs.Words.{IsRequestDone, IsChainDone, AreChainsDone, accesses_of_chain, by_equality, Errno, refusal, refl}
 use Rattle.fx_order.proofs.Cases.{either_way}
 use Rattle.fx_order.specs.declared.access.Access.{Access}
 use Rattle.fx_order.specs.declared.access.ChainAccess.{ChainAccess}
 use Rattle.fx_outcomes.specs.Parts.{AreParts, Parts, StaysIn}
 use Rattle.fx_outcomes.proofs.Commuting.{ComesTo}
 use Rattle.fx_outcomes.proofs.ByPart.{IsInPart}
-use Rattle.fx_outcomes.proofs.Playing.{of_chain}
+use Rattle.fx_order.proofs.Accesses.{of_chain, own_first}
+use Rattle.fx_order.proofs.RequestCases.{allocates, closes, puts, reads, updates}
 
 none : (P : Access → Type 0) (own : List Access) → own ≡ [] → All P own
 none P own is = subst (All P) (sym is) (All-nil P)
@@ -22,38 +23,20 @@ module _ (catalogue : List FileEntry) (table : Table) (of_slot : ℕ → ℕ) (p
   abbrev Stays : Access → Type 0
   Stays a = (slot : ℕ) → slot < table.size → ComesTo table.range a slot → of_slot slot ≡ part
 
+  abbrev AllStay : List Access → Completed → Type 0
+  AllStay own c = All Stays own
+
+  none_stay : (place : Place) (errno : Errno) → AllStay [] (refusal place errno)
+  none_stay place errno = All-nil Stays
+
   module _ (place : Place) (own : List Access) (c : Completed) where
-    opens : (name : List ℕ) (entry : ℕ) (target : Target) → StaysIn table of_slot part (Opens name target) → IsOpenDone table.size place entry target own c → All Stays own
+    opens : (name : List ℕ) (entry : ℕ) (target : Target) → StaysIn table of_slot part (Opens name target)
+        → IsOpenDone table.size place entry target own c → All Stays own
     opens name entry (Slot slot) stays =
-        either_way (table.size == 0) _ _ _ (λ _ x. none Stays own x.0)
-        (λ _. either_way (nat_le table.size slot) _ _ _ (λ _ x. none Stays own x.0)
-        (λ _ x. one Stays own _ x.1.0 (λ at few comes. stays at few comes)))
+        puts table.size place AllStay (none_stay place) own c entry slot (λ removed. one Stays _ _ refl (λ at few comes. stays at few comes))
     opens name entry Any stays =
-        either_way (table.size == 0) _ _ _ (λ _ x. none Stays own x.0)
-        (λ _ x. elim x [
-          | inl y ↦ one Stays own _ y.1.0 (λ at few comes. stays at few (comes.1, comes.2))
-          | inr y ↦ one Stays own _ y.0 (λ at few comes. stays at few comes)
-        ])
-
-    reads : (slot off len : ℕ) → StaysIn table of_slot part (Reads slot off len) → IsRequestDone catalogue table.size place (Reads slot off len) own c → All Stays own
-    reads slot off len stays =
-        either_way (nat_le table.size slot) _ _ _ (λ _ x. none Stays own x.0)
-        (λ _ x. elim x [
-          | inl y ↦ none Stays own y.1.0
-          | inr y ↦ elim y [
-            | inl z ↦ one Stays own _ z.0 (λ at few comes. stays at few comes)
-            | inr z ↦ one Stays own _ z.1.0 (λ at few comes. stays at few comes)
-          ]
-        ])
-
-    closes : (slot : ℕ) → StaysIn table of_slot part (Closes slot) → IsRequestDone catalogue table.size place (Closes slot) own c → All Stays own
-    closes slot stays =
-        either_way (table.size == 0) _ _ _ (λ _ x. none Stays own x.0)
-        (λ _. either_way (nat_le table.size slot) _ _ _ (λ _ x. none Stays own x.0)
-        (λ _ x. elim x [
-          | inl y ↦ one Stays own _ y.0 (λ at few comes. stays at few comes)
-          | inr y ↦ one Stays own _ y.1.0 (λ at few comes. stays at few comes)
-        ]))
+        allocates table.size place AllStay (none_stay place) own c entry
+        (λ slot. one Stays _ _ refl (λ at few comes. stays at few (comes.1, comes.2))) (one Stays _ _ refl (λ at few comes. stays at few comes))
 
   entry : (place : Place) (in_list slot : ℕ) (number : ℤ) (own : List Access) → (slot < table.size → of_slot slot ≡ part) → IsEntryDone place in_list slot number own → All Stays own
   entry place in_list slot (pos n) own stays x = one Stays own _ x.1 (λ at few comes. subst (λ (k : ℕ). of_slot k ≡ part) (sym comes) (stays (omega (arith, few, comes))))
@@ -72,13 +55,15 @@ module _ (catalogue : List FileEntry) (table : Table) (of_slot : ℕ → ℕ) (p
       → IsRequestDone catalogue table.size place operation own c → All Stays own
   request place own c (Opens name target) stays =
       either_way (has_name name catalogue) _ _ _ (λ _ x. opens place own c name x.0 target stays x.2) (λ _ x. none Stays own x.0)
-  request place own c (Reads slot off len) stays = reads place own c slot off len stays
-  request place own c (Closes slot) stays = closes place own c slot stays
+  request place own c (Reads slot off len) stays =
+      reads table.size place AllStay (none_stay place) own c catalogue slot off len (one Stays _ _ refl (λ at few comes. stays at few comes))
+      (λ file. one Stays _ _ refl (λ at few comes. stays at few comes))
+  request place own c (Closes slot) stays =
+      closes table.size place AllStay (none_stay place) own c slot (one Stays _ _ refl (λ at few comes. stays at few comes))
+      (λ file. one Stays _ _ refl (λ at few comes. stays at few comes))
   request place own c (Updates off list) stays =
-      either_way (table.size == 0) _ _ _ (λ _ x. none Stays own x.0)
-      (λ _. either_way (length list == 0 || nat_lt table.size (off + length list)) _ _ _ (λ _ x. none Stays own x.0)
-      (λ _. either_way (list_any (is_bad_entry (length catalogue)) list) _ _ _ (λ _ x. none Stays own x.0)
-      (λ _ x. entries place 0 off list own (λ at few low high. stays at few (low, high)) x.0)))
+      updates table.size place AllStay (none_stay place) own c (length catalogue) off list
+      (λ _ _ x. entries place 0 off list own (λ at few low high. stays at few (low, high)) x)
 
   chain : (place : Place) (run : List Asked) (accesses : List Access) (cs : List Completed) → All (λ r. StaysIn table of_slot part r.operation) run
       → IsChainDone catalogue table.size place run accesses cs → All Stays accesses
@@ -111,10 +96,8 @@ module _ (catalogue : List FileEntry) (table : Table) (parts : Parts) where
   of_each chains (x ∷ order) within each =
       let own = All-head (λ (y : ChainAccess). (1 ≤ y.chain) × (y.chain ≤ chains)) x order within in
       All-cons (λ (y : ChainAccess). Keeps y.chain y.access) x order
-      (elim (of_chain x order x.chain) [
-        | inl mine ↦ All-head (Keeps x.chain) x.access (accesses_of_chain x.chain order) (subst (All (Keeps x.chain)) mine.1 (each x.chain own.0 own.1))
-        | inr other ↦ absurd (other.0 refl)
-      ])
+      (All-head (Keeps x.chain) x.access (accesses_of_chain x.chain order)
+      (subst (All (Keeps x.chain)) (own_first x order) (each x.chain own.0 own.1)))
       (of_each chains order (All-tail (λ (y : ChainAccess). (1 ≤ y.chain) × (y.chain ≤ chains)) x order within)
       (λ q low high. elim (of_chain x order q) [
         | inl mine ↦ All-tail (Keeps q) x.access (accesses_of_chain q order) (subst (All (Keeps q)) mine.1 (each q low high))

@@ -1,5 +1,5 @@
 -- The states of a submission that is played by an order: the table, and where each chain is.
-use Rattle.std.specs.Prelude.{◌≡◌, ℕ, ◌+◌, ◌<◌, ◌≤◌, Bool, true, false, List, [], ◌∷◌, length}
+use Rattle.std.specs.Prelude.{◌≡◌, ℕ, ◌+◌, ◌<◌, ◌≤◌, Bool, true, false, List, [], ◌∷◌, ◌++◌, length}
 use Rattle.std.specs.Prelude.{Contains}
 use Rattle.std.specs.List.{AllByRecursion}
 use Rattle.fx_base.specs.Catalogue.{FileEntry}
@@ -93,6 +93,11 @@ pub record AreAllStates (idle : Rest → Bool) (says : Completed → Type 0) (ol
   pub begins : IsFirst says old requests first
   pub inside : Contains states first
   pub closed : AreClosed old.catalogue old.size idle parts says (length (runs_of requests)) states
+
+-- what the chains from this one on were told, one behind another
+abbrev pub told_from : (ℕ → List Completed) → ℕ → List (List Asked) → List Completed
+told_from told chain [] = []
+told_from told chain (run ∷ runs) = told chain ++ told_from told (chain + 1) runs
 
 -- the ring that a state leaves
 abbrev pub ring_at : RingState → StateView → RingState

@@ -1,8 +1,8 @@
 use Rattle.fx_answers.specs.Listed.{IsExploredInTurn}
-use Rattle.fx_answers.proofs.Lists.{one_more}
+use borrow.Author.Count.{below_more}
 use Rattle.fx_answers.proofs.closed.is_state_explored.Goals as goal
 
 pub loop-i-preserved : goal.loop-i-preserved
 loop-i-preserved c =
-    one_more (IsExploredInTurn c.args.claimed.now c.args.state.now) c.loop-i.i c.loop-i.invariant
+    below_more (IsExploredInTurn c.args.claimed.now c.args.state.now) c.loop-i.i c.loop-i.invariant
     (c.in_ok-is_explored_in_turn.ensures c.if-not-branch.false)

@@ -1,5 +1,5 @@
-use Rattle.std.proofs.Common.{◌≡◌, ◌↔◌, ◌-◌, All, IfOk, IfSome, IsSome, Option, Result, Ok, Err, Some, None, arith, length, refl, subst, sym}
 use Rattle.fx_answers.proofs.Words.{All-map, Completion, RingState, Slots, all_asked, completed_of, ring_of_slots, HasMemory, report_of, IsReportBy}
+use Rattle.std.proofs.Common.{◌≡◌, ◌↔◌, ◌-◌, All, IfOk, IfSome, IsSome, Option, Result, Ok, Err, Some, None, arith, length, refl, subst, sym}
 use Rattle.fx_answers.proofs.Promised.{may_of}
 use Rattle.fx_answers.proofs.confirm.confirm.Goals as goal
 
