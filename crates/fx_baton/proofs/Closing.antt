@@ -11,7 +11,7 @@ use Rattle.std.proofs.lemmas.List.{length-reverse, length-map}
 use Rattle.fx_table.proofs.Gathering.{logs_are as each_log, sum_gathered, each_seat, only_here}
 use Rattle.fx_table.proofs.Settling.{IsWhole, closes_table}
 use Rattle.fx_table.specs.Numbers.{once}
-use Rattle.fx_baton.proofs.StepsKeepRule.{none_some}
+use Rattle.std.proofs.lemmas.Option.{none-some}
 use Rattle.fx_baton.proofs.Passing.{ends_there}
 
 module _ (id : TableId) (k : Start) where
@@ -47,7 +47,7 @@ module _ (id : TableId) (k : Start) where
 
     pub at_home : IsHome r.contents s
     at_home = ⊎_elim (λ h. h)
-        (λ (away : IsAway r.contents r.history s). absurd (none_some r.contents (sym (all_free away.holder away.view away.at) ∙ away.loan)))
+        (λ (away : IsAway r.contents r.history s). absurd (none-some r.contents (sym (all_free away.holder away.view away.at) ∙ away.loan)))
         r.place
 
     no_holds : (n : ℕ) → (state_of r.contents).holds n ≡ 0

@@ -5,7 +5,8 @@ use Rattle.fx_baton.proofs.Words.{IsSeenBy, held_by, ◌▷▷◌, Event, Doing,
 use Rattle.fx_baton.proofs.Words.{HasFreshNumbers, IsLog, IsHome, IsAway, IsKept, log_behind, view_behind, Gives, IsTurn, part_mine, Allows}
 use Rattle.std.proofs.lemmas.List.{length-map}
 use Rattle.fx_baton.proofs.Counts.{logs_behind}
-use Rattle.fx_baton.proofs.StepsKeepRule.{none_some, Turns, keeps_rule}
+use Rattle.fx_baton.proofs.StepsKeepRule.{Turns, keeps_rule}
+use Rattle.std.proofs.lemmas.Option.{none-some}
 use Rattle.fx_baton.proofs.GrabKeepsRule.{only_log, has_one, not_empty, started}
 
 module _ (k : Start) (id : ℕ) (v : View) (x : Log) (one : v.logs ≡ x ∷ []) (c d : Contents) (has : v.loan ≡ Some c) (es : List Event)
@@ -18,7 +19,7 @@ module _ (k : Start) (id : ℕ) (v : View) (x : Log) (one : v.logs ≡ x ∷ [])
 
   module _ (s : Shared) (r : IsKept k s) (at : get_elem? s.views id ≡ some v) (away : IsAway r.contents r.history s) where
     held_it : id ≡ away.holder
-    held_it = dite (ℕ_discrete id away.holder) (λ e. e) (λ n. absurd (none_some c (sym (away.others id v n at) ∙ has)))
+    held_it = dite (ℕ_discrete id away.holder) (λ e. e) (λ n. absurd (none-some c (sym (away.others id v n at) ∙ has)))
 
     holder : (v.loan ≡ Some r.contents) × ((y : Log) → Contains v.logs y → y.front ≡ r.history)
     holder =
@@ -75,7 +76,7 @@ module _ (k : Start) (id : ℕ) (v : View) (x : Log) (one : v.logs ≡ x ∷ [])
 
   pub give_keeps : Allows (IsKept k) 1 id (v, (0, d) ∷ []) 0 (λ _. 1) (λ _. Gives es doing (step 1 0 1 0 none) (v, (0, d) ∷ []) 1)
   give_keeps s r wide at small = ⊎_elim
-      (λ (home : IsHome r.contents s). absurd (none_some c (sym (home.2 id v at) ∙ has)))
+      (λ (home : IsHome r.contents s). absurd (none-some c (sym (home.2 id v at) ∙ has)))
       (λ (away : IsAway r.contents r.history s). (
         w,
         gives,

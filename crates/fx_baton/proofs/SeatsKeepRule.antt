@@ -3,7 +3,7 @@ use Rattle.fx_baton.proofs.Words.{◌≡◌, ℕ, List, length, sym, refl, ap, �
 use Rattle.fx_baton.proofs.Words.{sum_by-append, Splits, Joins, Doing, Idle, Log, View, Start, Shared, logs_of, holds_by, removals_by, file_in_hand}
 use Rattle.fx_baton.proofs.Words.{IsLog, IsView, IsHome, IsAway, IsKept, view_without_first, view_of_first, joined_view, empty_view}
 use Rattle.fx_table.proofs.Seats.{IsAnew, AreReseated, split, joined}
-use Rattle.fx_baton.proofs.StepsKeepRule.{none_some}
+use Rattle.std.proofs.lemmas.Option.{none-some}
 
 -- a seat that does nothing, and lacks the table
 abbrev IsIdle : View → Type 0
@@ -43,7 +43,7 @@ module _ (k : Start) (s : Shared) (r : IsKept k s) (views : List View) (a : AreR
           homes = away.homes;
           holder = away.holder;
           view = away.view;
-          at = a.others away.holder away.view away.at (λ idle. none_some r.contents (sym idle.1 ∙ away.loan));
+          at = a.others away.holder away.view away.at (λ idle. none-some r.contents (sym idle.1 ∙ away.loan));
           loan = away.loan;
           whole = away.whole;
           others = λ i u n e. free i u e (away.others i u n);

@@ -3,11 +3,8 @@ use Rattle.fx_baton.proofs.Words.{◌≡◌, ◌≢◌, ℕ, ◌+◌, ◌<◌, �
 use Rattle.fx_baton.proofs.Words.{get_elem?, Some, Contains, sum_by, Contains-append_cases, at_set, set_else, Contents, state_of, leaving, IsTable}
 use Rattle.fx_baton.proofs.Words.{IsLegal, ◌▷▷◌, File, Event, pass_of_number, HasFile, seen_further, part_other, held_other, sum_set, sum_at, sum_two}
 use Rattle.fx_baton.proofs.Words.{Log, View, Start, Shared, begin_of, logs_of, file_in_hand, holds_by, removals_by, leaving_count, IsLog, IsView}
-use Rattle.fx_baton.proofs.Words.{IsHome, IsAway, IsKept, None, once_is}
+use Rattle.fx_baton.proofs.Words.{IsHome, IsAway, IsKept, once_is}
 use Rattle.fx_baton.proofs.Counts.{some_log, hand_is_counted, one_true}
-
-pub none_some : {A : Type 0} (a : A) → None ≡ Some a → ⊥
-none_some a e = cc
 
 module _ (k : Start) (s : Shared) (r : IsKept k s) (id : ℕ) (v : View) (at : get_elem? s.views id ≡ some v) (w : View)
     (c : Contents) (es : List Event) (words : List ℕ) (homes : List (mathlib.Core.Option.Option Contents)) where

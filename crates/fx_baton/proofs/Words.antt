@@ -12,14 +12,13 @@ pub use Rattle.fx_baton.specs.Rule.{begin_of, empty_view, file_held, file_in_han
 pub use Rattle.fx_baton.specs.Rule.{log_behind, logs_of, new_log, opening_of, removals_by, view_behind, view_of_first, view_without_first}
 pub use Rattle.fx_baton.specs.declared.pass.BatonPass.{BatonPass}
 pub use Rattle.fx_baton.specs.Tables.{IsPassOfTable}
-pub use Rattle.fx_baton.specs.declared.table.BatonTable.{BatonTable}
 pub use Rattle.fx_baton.specs.declared.view.Call.{Call}
 pub use Rattle.fx_baton.specs.declared.view.Log.{Log}
 pub use Rattle.fx_baton.specs.declared.view.Start.{Start}
 pub use Rattle.fx_baton.specs.declared.view.View.{View}
 pub use Rattle.fx_plain.specs.Contents.{Contents, IsTable, is_leaving, is_retired, leaving, node_at, removed_at, state_of}
 pub use Rattle.fx_plain.specs.History.{IsLegal, IsSeenBy, Leads, ReleasesItsOwn, action_of, close_of, held_after, held_by, part_of_pass, ◌▷▷◌, ◌▷◌}
-pub use Rattle.fx_plain.specs.State.{IsSettled, State, file_numbered, opening}
+pub use Rattle.fx_plain.specs.State.{IsSettled, State, opening}
 pub use Rattle.fx_plain.specs.Step.{Steps, changed_at, with_removed}
 pub use Rattle.fx_plain.specs.Table.{EndsHold, HasRoomForHold, LetsLeave, closed_by_release, closed_by_retirement, identity_of, more_leaving}
 pub use Rattle.fx_plain.specs.Table.{numbered}
@@ -37,15 +36,15 @@ pub use Rattle.fx_table.proofs.Turns.{all_are_drawn, drawn_few, drawn_inside, ne
 pub use Rattle.fx_table.specs.Closing.{ClosesTable, times_drawn}
 pub use Rattle.fx_table.specs.Files.{HasFile}
 pub use Rattle.fx_table.specs.Numbers.{chains_of_pass, number_behind, numbers_for, pass_of_chain, pass_of_number}
-pub use Rattle.fx_table.specs.Opening.{HasSameFiles, IsGivenBack, Opening, size_of, state_at}
-pub use Rattle.fx_table.specs.Pass.{IsFront, IsHoldOf, IsRetiredOf, PassView, hold_of, new_pass, retired_of}
+pub use Rattle.fx_table.specs.Opening.{HasSameFiles, Opening, size_of, state_at}
+pub use Rattle.fx_table.specs.Pass.{IsFront, IsHoldOf, IsRetiredOf, PassView, hold_of, new_pass}
 pub use Rattle.fx_table.specs.Turns.{HasDrawnInTurn}
 pub use Rattle.fx_table.specs.declared.values.Doing.{Doing}
 pub use Rattle.fx_table.specs.declared.values.Doing.TheVariants.{Holding, Idle, Retiring}
 pub use Rattle.std.proofs.Common.{All, Bool, List, [], ap, arith, cond, eq-eqb, eqb, false, get_or, inl, inr, is_none, length, length-append, map}
 pub use Rattle.std.proofs.Common.{refl, reverse, set, subst, suc, sym, true, vec_capacity, zero, ℕ, ⊎_elim, ◌*◌, ◌++◌, ◌+◌, ◌-◌, ◌<◌, ◌^◌, ◌∙◌, ◌∷◌}
 pub use Rattle.std.proofs.Common.{◌≡◌, ◌≢◌, ◌≤◌, ◌⊎◌}
-pub use Rattle.std.proofs.lemmas.List.Elements.{All-contains, Contains-append_cases, Contains-push}
+pub use Rattle.std.proofs.lemmas.List.Elements.{Contains-append_cases}
 pub use Rattle.std.proofs.lemmas.List.Sums.{sum_by-append}
 pub use Rattle.std.specs.Prelude.{Contains, IfSome, None, Option, Some, count_by, if◌then◌else◌, is_some, nat_lt, not, option_map, sum_by, ◌&&◌, ◌==◌}
 pub use lib.ListN.{get_elem?}
