@@ -13,9 +13,9 @@ use Rattle.fx_ring.specs.Ring.{HasCounted}
 use Rattle.fx_order.specs.Access.{removed_in}
 use Rattle.fx_order.specs.Laws.{AreKnown, IsOfNext, IsThere}
 use Rattle.fx_order.specs.Slots.{ring_of_slots}
-use Rattle.fx_order.proofs.OneRing.{each_closed_file_is_known}
+use Rattle.fx_order.proofs.OneRing.{each_closed_file_is_known, in_limits}
 use Rattle.fx_order.proofs.Placed.{left_from, removed_from, removes_contained}
-use Rattle.fx_order.proofs.PlacedNew.{AnyPlace, InLimits, ReachesAll, chain_places, has_in_chain, reaches_all_limits}
+use Rattle.fx_order.proofs.PlacedNew.{AnyPlace, InLimits, chain_places, has_in_chain}
 use Rattle.fx_check.proofs.Installations.{chains_installed}
 use Rattle.fx_check.specs.Told.{HasNone, MayCloseAll}
 use Rattle.fx_lines.specs.Lines.{IsMarkInRange}
@@ -26,15 +26,6 @@ short_runs asked accepted =
     subst (All (λ (run : List Asked). length run ≤ 16)) (members-are-runs asked)
     (All-map (λ (run : List Asked). length run ≤ 16) (members_of asked) (chains_of (runs_of asked))
     (All-weaker (IsChain asked) (λ (chain : Chain). length (members_of asked chain) ≤ 16) (λ chain of. of.run.members)
-    (chains_of (runs_of asked)) (accepted-chains asked accepted)))
-
--- and their members are within their limits
-in_limits : (asked : List Asked) → IsAccepted asked → All (ReachesAll InLimits 1) (runs_of asked)
-in_limits asked accepted =
-    subst (All (ReachesAll InLimits 1)) (members-are-runs asked)
-    (All-map (ReachesAll InLimits 1) (members_of asked) (chains_of (runs_of asked))
-    (All-weaker (IsChain asked) (λ (chain : Chain). ReachesAll InLimits 1 (members_of asked chain))
-    (λ chain of. let few = of.run.members in reaches_all_limits 1 (members_of asked chain) of.run.each (omega arith))
     (chains_of (runs_of asked)) (accepted-chains asked accepted)))
 
 -- a file of a member whose numbers are small

@@ -1,30 +1,15 @@
 -- An accepted submission whose lines a text goes on with.
-use Rattle.fx_check.proofs.Words.{◌≡◌, ℕ, ◌+◌, ◌<◌, ◌≤◌, false, List, ◌++◌, length, map, filter, not, ◌==◌, take, sym, ap, subst, ◌∙◌, arith, Some}
-use Rattle.fx_check.proofs.Words.{None, refl, flat_map, lt-leb, FileEntry, tags_of, all_completed, fault_of, Asked, runs_of, IsOneOrder, ChainAccess}
-use Rattle.fx_check.proofs.Words.{MOST_SLOTS, RingState, IsRing, ring_of, Reported, MOST_SUBMISSIONS, SubmitsAll, report_text, tag_completion, Closed}
-use Rattle.fx_check.proofs.Words.{TagCompletion, close_of, lines_in, ReportLines, Lines, lines_of, lines_text, named_closes, CameBy, told_report}
-use Rattle.fx_check.proofs.Words.{RingSlots, Told, IsKept, BeginsWith, MayPrintBy, ArePlaces, AreChainsDone, Order, ring_with_slots, name_of}
-use Rattle.std.proofs.lemmas.List.Folds.{flat_map-map}
+use Rattle.fx_check.proofs.Words.{◌≡◌, ℕ, ◌+◌, ◌<◌, ◌≤◌, false, List, length, map, filter, not, ◌==◌, take, sym, ap, subst, ◌∙◌, arith, Some, None}
+use Rattle.fx_check.proofs.Words.{refl, lt-leb, FileEntry, tags_of, tag_completion, all_completed, fault_of, Asked, runs_of, IsOneOrder, ChainAccess}
+use Rattle.fx_check.proofs.Words.{MOST_SLOTS, RingState, IsRing, ring_of, Reported, MOST_SUBMISSIONS, SubmitsAll, report_text, Closed, TagCompletion}
+use Rattle.fx_check.proofs.Words.{close_of, lines_in, ReportLines, Lines, lines_of, lines_text, named_closes, CameBy, told_report, RingSlots, Told}
+use Rattle.fx_check.proofs.Words.{IsKept, BeginsWith, MayPrintBy, ArePlaces, AreChainsDone, Order, ring_with_slots, printed_lines}
 use Rattle.fx_table.specs.declared.limits.TheConstants.{MAX_CHAINS}
 use Rattle.fx_order.specs.Order.{IsOrderOf, ring_left}
 use Rattle.fx_order.proofs.Histories.{each_order_is_a_history}
 use Rattle.std.proofs.lemmas.Simd.{map-map}
-use Rattle.fx_lines.specs.Lines.{line_of_tag, named_line}
 use Rattle.fx_check.proofs.OneAnswer.{submitted}
 use Rattle.fx_check.proofs.OrderFiles.{left_in_range}
-use Rattle.fx_print.specs.Text.{closed_lines, completion_lines, tag_lines}
-
--- the text of a report is that of its lines
-pub printed_lines : (catalogue : List FileEntry) (report : Reported) → report_text catalogue report ≡ lines_text (lines_of catalogue report)
-printed_lines catalogue report =
-    let files = report.closes.files in
-    let closed : flat_map named_line (map (λ file. record { mark = file.mark; name = name_of catalogue file.entry }) files) ≡ closed_lines catalogue files =
-    flat_map-map named_line (λ file. record { mark = file.mark; name = name_of catalogue file.entry }) files in
-    let tags : flat_map line_of_tag (map (λ completion. completion.user_data) (tags_of files)) ≡ tag_lines (tags_of files) =
-    flat_map-map line_of_tag (λ completion. completion.user_data) (tags_of files) in
-    sym (ap (λ (text : List ℕ). completion_lines report.completions ++ text)
-    (ap (λ (text : List ℕ). text ++ flat_map line_of_tag (map (λ completion. completion.user_data) (tags_of files))) closed
-    ∙ ap (λ (text : List ℕ). closed_lines catalogue files ++ text) tags))
 
 -- the lines of what is told are those that were read
 pub told_lines : (catalogue : List FileEntry) (lines : ReportLines) (files : List Closed)

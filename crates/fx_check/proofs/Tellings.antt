@@ -1,9 +1,10 @@
 -- What lines tell is one list of files, or none.
 use Rattle.fx_check.proofs.Words.{◌≡◌, false, ⊎_elim, ℕ, zero, suc, ◌+◌, ◌<◌, ◌≤◌, List, [], ◌∷◌, length, map, drop, refl, sym, ap, subst, ◌∙◌, arith}
-use Rattle.fx_check.proofs.Words.{Some, slice_index_or, length-map, slice_get-get_or, is_lt, FileEntry, name_at, Mark, Registered, Submitted, Closed}
-use Rattle.fx_check.proofs.Words.{all_completed, completed_of, all_asked, asked_of, Completion, Request, Slots, close_of, NamedClose, named_close}
-use Rattle.fx_check.proofs.Words.{named_closes, ClosedLine, AreApart, Installed, IsAtSlot, MayClose, OneInstalled, name_of}
+use Rattle.fx_check.proofs.Words.{Some, slice_index_or, length-map, slice_get-get_or, is_lt, FileEntry, name_at, Mark, Closed, all_completed}
+use Rattle.fx_check.proofs.Words.{completed_of, all_asked, asked_of, Completion, Request, Slots, close_of, NamedClose, named_close, named_closes}
+use Rattle.fx_check.proofs.Words.{ClosedLine, AreApart, Installed, IsAtSlot, MayClose, OneInstalled, name_of}
 use Rattle.std.proofs.lemmas.List.{get_or-map, get_or_default}
+use Rattle.fx_base.proofs.Marks.{same_cmp as derived_cmp}
 use Rattle.fx_base.specs.CloseList.{IsInOrderOfMark, mark_cmp}
 use Rattle.fx_base.specs.contracts.mark.MarkOrd.TheImpl.{ghosts}
 use Rattle.fx_check.specs.Told.{HasDistinctMarks}
@@ -58,19 +59,12 @@ in_turn files i j d up distinct next inside is =
     let one : j ≡ j + 1 = distinct j (j + 1) x y (slice_get-get_or files j d (omega arith)) (slice_get-get_or files (j + 1) d (omega arith)) marks in
     absurd (omega arith)
 
--- the derived comparison is the one by cases
-cmp_is : (a b : Mark) → ghosts.cmp a b ≡ mark_cmp a b
-cmp_is (Registered k i) (Registered l j) = refl
-cmp_is (Registered k i) (Submitted s c m e) = refl
-cmp_is (Submitted s c m e) (Registered k i) = refl
-cmp_is (Submitted s c m e) (Submitted t d n f) = refl
-
 pub not_in_turn : (files : List Closed) (i j : ℕ) (d e : Closed) → j + 1 ≡ i → i < length files
     → is_lt (ghosts.cmp (slice_index_or files j d).mark (slice_index_or files i e).mark) ≡ false → IsInOrderOfMark files → HasDistinctMarks files → ⊥
 not_in_turn files i j d e next inside is up distinct =
     in_turn files i j d up distinct next inside
     (ap (λ (f : Closed). is_lt (mark_cmp (slice_index_or files j d).mark f.mark)) (get_or_default files i d e inside)
-    ∙ ap is_lt (sym (cmp_is (slice_index_or files j d).mark (slice_index_or files i e).mark)) ∙ is)
+    ∙ ap is_lt (sym (derived_cmp (slice_index_or files j d).mark (slice_index_or files i e).mark)) ∙ is)
 
 -- one of the requests from a place on, where it isn't the one there
 behind_installed : (requests : List Request) (completions : List Completion) (mark : Mark) (i : ℕ) (r : Request) (c : Completion)

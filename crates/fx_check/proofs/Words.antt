@@ -39,6 +39,7 @@ pub use Rattle.fx_judge.specs.declared.told.Told.{Told}
 pub use Rattle.fx_language.specs.Instruction.{Instruction, MakesSparse, RegistersList, SetsRange, SubmitsAll, Unregisters, UpdatesRing}
 pub use Rattle.fx_language.specs.Instruction.{instruction_of, instructions_of}
 pub use Rattle.fx_language.specs.Script.{AreFiles}
+pub use Rattle.fx_lines.proofs.ReportTexts.{printed_lines}
 pub use Rattle.fx_lines.specs.ClosedView.{close_of}
 pub use Rattle.fx_lines.specs.Lines.{Lines, NamedClose, ReadsReport, lines_of, lines_text, named_close, named_closes}
 pub use Rattle.fx_lines.specs.LinesView.{lines_in}

@@ -1,11 +1,8 @@
 -- How many submissions a ring has counted behind commands.
 use Rattle.fx_texts.proofs.Words.{◌≡◌, ℕ, ◌+◌, ◌≤◌, Bool, true, false, nat_le, if◌then◌else◌, List, [], ◌∷◌, refl, sym, ap, ◌∙◌, arith, Option, Some}
-use Rattle.fx_texts.proofs.Words.{None, MatchBool, MatchOption, Errno, fault_of, Asked, CutFault, range_refusal, register_refusal, registered}
-use Rattle.fx_texts.proofs.Words.{registered_sparse, sparse_refusal, unregister_refusal, update_refusal, updated, RingContents, RingState, ring_of}
-use Rattle.fx_texts.proofs.Words.{without_table, Reported, tags_given, MOST_SUBMISSIONS, Instruction, MakesSparse, RegistersList, SetsRange}
-use Rattle.fx_texts.proofs.Words.{SubmitsAll, Unregisters, UpdatesRing, refused_line, too_many_line, Prints, PrintsReport, LeadsAll, after_call}
-use Rattle.fx_texts.proofs.Words.{count_after, count_after_all, count_behind, unless_refused, FoundMemory, IsReportFound}
-use Rattle.std.proofs.lemmas.Bool.{le-leb}
+use Rattle.fx_texts.proofs.Words.{None, MatchBool, MatchOption, Errno, fault_of, Asked, CutFault, RingContents, RingState, ring_of, Reported}
+use Rattle.fx_texts.proofs.Words.{MOST_SUBMISSIONS, Instruction, SetsRange, SubmitsAll, refused_line, too_many_line, Prints, PrintsReport, LeadsAll}
+use Rattle.fx_texts.proofs.Words.{after_call, count_after, count_after_all, count_behind, unless_refused, FoundMemory, IsReportFound, call_of}
 use Rattle.fx_ring.specs.Submission.{IsOneHistory}
 use Rattle.fx_texts.proofs.Calls.{call_leaves}
 
@@ -45,29 +42,16 @@ kept_count (Some errno) old done is = refl
 kept_count None old done is = is
 
 call_count : (ring : RingState) (command : Instruction) → (after_call ring command).submissions ≡ ring.submissions
-call_count ring (MakesSparse n) = kept_count (sparse_refusal ring n) ring (registered_sparse ring n) refl
-call_count ring (RegistersList list tags) =
-    kept_count (register_refusal ring list (tags_given list tags)) ring (registered ring list (tags_given list tags)) refl
-call_count ring Unregisters = kept_count (unregister_refusal ring) ring (without_table ring) refl
-call_count ring (SetsRange off len) = kept_count (range_refusal ring off len) ring (record ring { range = (off, len) }) refl
-call_count ring (UpdatesRing off list tags) =
-    kept_count (update_refusal ring off list (tags_given list tags)) ring (updated ring off list (tags_given list tags)) refl
 call_count ring (SubmitsAll asked) = refl
+call_count ring command = let call = call_of ring command in kept_count call.refusal ring call.left refl
 
 by_call : (old next : RingContents) (command : Instruction) → ring_of next ≡ after_call (ring_of old) command → next.submissions ≡ old.submissions
 by_call old next command is = ap submissions_in is ∙ call_count (ring_of old) command
 
 pub leads_counts : (old next : RingContents) (command : Instruction) (line : List ℕ) (own : Option Reported) → Prints old command next line
     → FoundMemory old command next line own → next.submissions ≡ count_after old.submissions command
-leads_counts old next (MakesSparse n) line own prints found = by_call old next (MakesSparse n) (call_leaves old next (MakesSparse n) line own tt prints found)
-leads_counts old next (RegistersList list tags) line own prints found =
-    by_call old next (RegistersList list tags) (call_leaves old next (RegistersList list tags) line own tt prints found)
-leads_counts old next Unregisters line own prints found = by_call old next Unregisters (call_leaves old next Unregisters line own tt prints found)
-leads_counts old next (SetsRange off len) line own prints found =
-    by_call old next (SetsRange off len) (call_leaves old next (SetsRange off len) line own tt prints found)
-leads_counts old next (UpdatesRing off list tags) line own prints found =
-    by_call old next (UpdatesRing off list tags) (call_leaves old next (UpdatesRing off list tags) line own tt prints found)
 leads_counts old next (SubmitsAll asked) line own prints found = submission_counts old next asked line prints
+leads_counts old next command line own prints found = by_call old next command (call_leaves old next command line own tt prints found)
 
 pub all_counts : (ring last : RingContents) (commands : List Instruction) (text : List ℕ) → LeadsAll ring commands last text
     → last.submissions ≡ count_after_all ring.submissions commands
@@ -87,12 +71,8 @@ behind_grows (Some fault) count = omega arith
 behind_grows None count = counted_bool (nat_le MOST_SUBMISSIONS count) count
 
 pub after_grows : (command : Instruction) (count : ℕ) → count ≤ count_after count command
-after_grows (MakesSparse n) count = omega arith
-after_grows (RegistersList list tags) count = omega arith
-after_grows Unregisters count = omega arith
-after_grows (SetsRange off len) count = omega arith
-after_grows (UpdatesRing off list tags) count = omega arith
 after_grows (SubmitsAll asked) count = behind_grows (fault_of asked) count
+after_grows _ count = omega arith
 
 pub all_grows : (commands : List Instruction) (count : ℕ) → count ≤ count_after_all count commands
 all_grows [] count = omega arith
@@ -102,14 +82,6 @@ all_grows (command ∷ commands) count =
 -- the report of a command is that of the next submission
 pub own_report : (old next : RingContents) (command : Instruction) (line : List ℕ) (report : Reported) → FoundMemory old command next line (Some report)
     → (asked : List Asked) × (command ≡ SubmitsAll asked) × IsReportFound old asked next line report
-own_report old next (MakesSparse n) line report found = absurd (let e : Some report ≡ None = found.0 in cc)
-own_report old next (RegistersList list tags) line report found = absurd (let e : Some report ≡ None = found.0 in cc)
-own_report old next Unregisters line report found = absurd (let e : Some report ≡ None = found.0 in cc)
-own_report old next (SetsRange off len) line report found = absurd (let e : Some report ≡ None = found in cc)
-own_report old next (UpdatesRing off list tags) line report found = absurd (let e : Some report ≡ None = found.0 in cc)
 own_report old next (SubmitsAll asked) line report found = (asked, refl, found)
-
--- a submission that is refused isn't counted
-pub refused_count : (x : Option CutFault) (count : ℕ) → (x ≡ None → MOST_SUBMISSIONS ≤ count) → count_behind count x ≡ count
-refused_count (Some fault) count full = refl
-refused_count None count full = ap (λ (b : Bool). if b then count else count + 1) (le-leb MOST_SUBMISSIONS count (full refl))
+own_report old next (SetsRange off len) line report found = absurd (let e : Some report ≡ None = found in cc)
+own_report old next _ line report found = absurd (let e : Some report ≡ None = found.0 in cc)

@@ -101,14 +101,6 @@ get_at [] k x inside is = absurd (omega (arith, inside))
 get_at (y ∷ xs) zero x inside is = ap Some is
 get_at (y ∷ xs) (suc k) x inside is = get_at xs k x (omega (arith, inside)) is
 
-pub all_contained : {X : Type 0} (xs : List X) → All (Contains xs) xs
-all_contained xs = λ k d inside.
-    (k, inside, get_or_default xs k (slice_index_or xs k d) d inside)
-
--- what all have, one that is among them has
-pub at_one : {X : Type 0} (P : X → Type 0) (xs : List X) (x : X) → All P xs → Contains xs x → P x
-at_one P xs x all (k, inside, is) = subst P is (all k x inside)
-
 pub holds_of_each : {X Y : Type 0} (f : Y → X) (ys : List Y) (Q : X → Type 0) (n : ℕ) → length ys ≤ n → HoldsBefore f ys Q n
     → (y : Y) → Contains ys y → Q (f y)
 holds_of_each {Y = Y} f ys Q n long all y (k, low, is) = subst (λ (e : Y). Q (f e)) is (all k y (omega (arith, low, long)))

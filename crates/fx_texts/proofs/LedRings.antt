@@ -1,26 +1,16 @@
 -- A ring that commands lead to has what every ring has.
-use Rattle.fx_texts.proofs.Words.{◌≡◌, ℕ, ◌+◌, Bool, true, false, ◌==◌, ◌||◌, nat_le, nat_lt, if◌then◌else◌, List, [], ◌∷◌, codes, length, refl, sym}
-use Rattle.fx_texts.proofs.Words.{ap, subst, arith, ⊎_elim, Option, Some, None, MatchBool, list_any, MatchOption, FileEntry, Errno, ENXIO, EBADF}
-use Rattle.fx_texts.proofs.Words.{EAGAIN, EBUSY, EINVAL, EMFILE, IsAnswer, ring_behind, Answer, is_bad_entry, fault_of, Asked, Place, CutFault}
-use Rattle.fx_texts.proofs.Words.{MOST_SLOTS, is_bad_file, range_refusal, register_refusal, registered_sparse, sparse_refusal, unregister_refusal}
-use Rattle.fx_texts.proofs.Words.{update_refusal, IsRing, RingContents, RingState, new_ring, ring_of, without_table, are_bad_tags, tags_given}
-use Rattle.fx_texts.proofs.Words.{MOST_REGISTRATIONS, MOST_SUBMISSIONS, Instruction, MakesSparse, RegistersList, SetsRange, SubmitsAll, Unregisters}
-use Rattle.fx_texts.proofs.Words.{UpdatesRing, ring_with_files, shows_ring, ring_with_slots, refused_line, too_many_line, Answers, IsRefused}
-use Rattle.fx_texts.proofs.Words.{PrintsReport, Leads, LeadsAll, MayLeadAllTo, MayLeadTo, Stage, stage_of, Reached}
+use Rattle.fx_texts.proofs.Words.{◌≡◌, ℕ, Bool, true, false, nat_le, List, [], ◌∷◌, refl, sym, ap, subst, arith, Option, Some, None, MatchBool}
+use Rattle.fx_texts.proofs.Words.{MatchOption, FileEntry, Errno, IsAnswer, ring_behind, Answer, fault_of, Asked, Place, CutFault, registered_sparse}
+use Rattle.fx_texts.proofs.Words.{IsRing, RingContents, RingState, new_ring, ring_of, without_table, tags_given, MOST_SUBMISSIONS, Instruction}
+use Rattle.fx_texts.proofs.Words.{MakesSparse, RegistersList, SetsRange, SubmitsAll, Unregisters, UpdatesRing, ring_with_files, shows_ring}
+use Rattle.fx_texts.proofs.Words.{ring_with_slots, refused_line, too_many_line, PrintsReport, call_of, Leads, LeadsAll, MayLeadAllTo, MayLeadTo}
+use Rattle.fx_texts.proofs.Words.{Stage, stage_of, unless_refused, Reached}
 use Rattle.fx_ring.proofs.Origins.{registered_rings, updated_rings}
 use Rattle.fx_ring.proofs.Rings.{counted_still, none_rings}
 use Rattle.fx_ring.proofs.SubmittedRing.{submitted_rings}
 use Rattle.fx_order.proofs.Shown.{none_past}
-
-called : (x : Option Errno) (accepted : Type 0) (old new : RingState) (word line : List ℕ) → IsRing old → (x ≡ None → accepted → IsRing new)
-    → Answers x accepted (IsRefused old new word line) → IsRing new
-called (Some errno) accepted old new word line is goes answers = subst IsRing (sym answers.0) is
-called None accepted old new word line is goes answers = ⊎_elim (goes refl) (λ refused. subst IsRing (sym refused.0) is) answers
-
-set_so : (x : Option Errno) (accepted : Type 0) (old new : RingState) (word line : List ℕ) → IsRing old → (accepted → IsRing new)
-    → MatchOption x accepted (IsRefused old new word line) → IsRing new
-set_so (Some errno) accepted old new word line is goes answers = subst IsRing (sym answers.0) is
-set_so None accepted old new word line is goes answers = goes answers
+use Rattle.fx_texts.proofs.Reasons.{none_holds}
+use Rattle.fx_texts.proofs.Calls.{call_leaves}
 
 submitted_bool : (b : Bool) (old new : RingState) (reports : Type 0) (line many : List ℕ) → IsRing old → (reports → IsRing new)
     → MatchBool b ((new ≡ old) × (line ≡ many)) reports → IsRing new
@@ -33,24 +23,6 @@ submitted : (x : Option CutFault) (full : Bool) (old new : RingState) (reports :
 submitted (Some fault) full old new reports line many text is goes prints = subst IsRing (sym prints.0) is
 submitted None full old new reports line many text is goes prints = submitted_bool full old new reports line many is goes prints
 
--- a list that isn't refused is good
-
-registers : (b0 b1 b2 b3 b4 : Bool)
-    → (if b0 then Some EBUSY else if b1 then Some EINVAL else if b2 then Some EMFILE else if b3 then Some EBADF else if b4 then Some EAGAIN else None) ≡ None
-    → b3 ≡ false
-registers true b1 b2 b3 b4 is = let e : Some EBUSY ≡ None = is in cc
-registers false true b2 b3 b4 is = let e : Some EINVAL ≡ None = is in cc
-registers false false true b3 b4 is = let e : Some EMFILE ≡ None = is in cc
-registers false false false true b4 is = let e : Some EBADF ≡ None = is in cc
-registers false false false false b4 is = refl
-
-updates : (b0 b1 b2 b3 : Bool)
-    → (if b0 then Some ENXIO else if b1 then Some EINVAL else if b2 then Some EBADF else if b3 then Some EAGAIN else None) ≡ None → b2 ≡ false
-updates true b1 b2 b3 is = let e : Some ENXIO ≡ None = is in cc
-updates false true b2 b3 is = let e : Some EINVAL ≡ None = is in cc
-updates false false true b3 is = let e : Some EBADF ≡ None = is in cc
-updates false false false b3 is = refl
-
 ranged : (ring : RingState) (range : ℕ × ℕ) → IsRing ring → IsRing (record ring { range = range })
 ranged ring range is = record {
   entries = is.entries;
@@ -58,31 +30,29 @@ ranged ring range is = record {
   distinct = is.distinct;
 }
 
+-- what a call leaves that isn't refused, and what it leaves whether or not
+left_ring : (ring : RingState) (command : Instruction) → IsRing ring → (call_of ring command).refusal ≡ None → IsRing (call_of ring command).left
+left_ring ring (MakesSparse n) is none = none_rings (registered_sparse ring n) refl
+left_ring ring (RegistersList list tags) is none =
+    registered_rings ring list (tags_given list tags) (none_holds ring (RegistersList list tags) none).1.1.1.0
+left_ring ring Unregisters is none = none_rings (without_table ring) refl
+left_ring ring (SetsRange off len) is none = ranged ring (off, len) is
+left_ring ring (UpdatesRing off list tags) is none =
+    updated_rings ring off list (tags_given list tags) is (none_holds ring (UpdatesRing off list tags) none).1.1.0
+left_ring ring (SubmitsAll asked) is none = is
+
+either_ring : (x : Option Errno) (old left : RingState) → IsRing old → (x ≡ None → IsRing left) → IsRing (unless_refused x old left)
+either_ring (Some errno) old left is goes = is
+either_ring None old left is goes = goes refl
+
 pub leads_ring : (old next : RingContents) (command : Instruction) (line : List ℕ) → IsRing (ring_of old) → Leads old command next line → IsRing (ring_of next)
-leads_ring old next (MakesSparse n) line is (own, prints, found) =
-    called (sparse_refusal (ring_of old) n) _ (ring_of old) (ring_of next) (codes "sparse") line is
-    (λ none a. subst IsRing (sym a.0) (none_rings (registered_sparse (ring_of old) n) refl)) prints
-leads_ring old next (RegistersList list tags) line is (own, prints, found) =
-    let given = tags_given list tags in
-    called (register_refusal (ring_of old) list given) _ (ring_of old) (ring_of next) (codes "register") line is
-    (λ none a. subst IsRing (sym a.0) (registered_rings (ring_of old) list given
-    (registers (nat_lt 0 (ring_of old).size) (length list == 0 || are_bad_tags list given) (nat_lt MOST_SLOTS (length list))
-    (list_any (is_bad_file (length (ring_of old).catalogue)) list) (nat_le MOST_REGISTRATIONS (ring_of old).registrations) none))) prints
-leads_ring old next Unregisters line is (own, prints, found) =
-    called (unregister_refusal (ring_of old)) _ (ring_of old) (ring_of next) (codes "unregister") line is
-    (λ none a. subst IsRing (sym a.0) (none_rings (without_table (ring_of old)) refl)) prints
-leads_ring old next (SetsRange off len) line is (own, prints, found) =
-    set_so (range_refusal (ring_of old) off len) _ (ring_of old) (ring_of next) (codes "range") line is
-    (λ a. subst IsRing (sym a.0) (ranged (ring_of old) (off, len) is)) prints
-leads_ring old next (UpdatesRing off list tags) line is (own, prints, found) =
-    let given = tags_given list tags in
-    called (update_refusal (ring_of old) off list given) _ (ring_of old) (ring_of next) (codes "regupdate") line is
-    (λ none a. subst IsRing (sym a.0) (updated_rings (ring_of old) off list given is
-    (updates ((ring_of old).size == 0) (length list == 0 || (nat_lt (ring_of old).size (off + length list) || are_bad_tags list given))
-    (list_any (is_bad_entry (length (ring_of old).catalogue)) list) (nat_le MOST_REGISTRATIONS (ring_of old).registrations) none))) prints
 leads_ring old next (SubmitsAll asked) line is (own, prints, found) =
     submitted (fault_of asked) (nat_le MOST_SUBMISSIONS old.submissions) (ring_of old) (ring_of next) (PrintsReport old asked next line) line too_many_line
     refused_line is (λ p. submitted_rings old next asked p.0 is p.1) prints
+leads_ring old next command line is (own, prints, found) =
+    let call = call_of (ring_of old) command in
+    subst IsRing (sym (call_leaves old next command line own tt prints found))
+    (either_ring call.refusal (ring_of old) call.left is (left_ring (ring_of old) command is))
 
 all_ring : (ring last : RingContents) (commands : List Instruction) (text : List ℕ) → IsRing (ring_of ring) → LeadsAll ring commands last text
     → IsRing (ring_of last)

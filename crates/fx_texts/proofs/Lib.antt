@@ -1,5 +1,6 @@
 pub mod Words
 pub mod Sorted
+pub mod Reasons
 pub mod Calls
 pub mod Counts
 pub mod Growth

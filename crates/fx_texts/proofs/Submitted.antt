@@ -1,11 +1,11 @@
 -- What an accepted submission may come to at a ring that is kept as slots.
 use Rattle.fx_texts.proofs.Words.{slice_get, ◌≡◌, ℕ, ◌+◌, ◌<◌, Bool, true, false, nat_le, if◌then◌else◌, List, [], ◌++◌, length, refl, sym, ap, subst}
 use Rattle.fx_texts.proofs.Words.{◌∙◌, arith, Option, Some, None, slice_index_or, All, Contains, FileEntry, Closed, ring_of_slots, MatchBool}
-use Rattle.fx_texts.proofs.Words.{MatchOption, completed_of, fault_of, Asked, Place, CutFault, HasEachEnd, HasEachReport, IsAnswer, IsEnd, IsPossible}
-use Rattle.fx_texts.proofs.Words.{ring_behind, End, Answer, PossibleReport, IsRing, RingContents, RingState, ring_of, Reported, reported}
+use Rattle.fx_texts.proofs.Words.{MatchOption, true≢false, completed_of, fault_of, Asked, Place, CutFault, HasEachEnd, HasEachReport, IsAnswer, IsEnd}
+use Rattle.fx_texts.proofs.Words.{IsPossible, ring_behind, End, Answer, PossibleReport, IsRing, RingContents, RingState, ring_of, Reported, reported}
 use Rattle.fx_texts.proofs.Words.{MOST_SUBMISSIONS, Instruction, SubmitsAll, Prints, PrintsReport, closes_text, refused_line, too_many_line}
-use Rattle.fx_texts.proofs.Words.{true≢false, IsPermutation-refl, HasEachNext, Leads, MayEnd, MayLeadTo, MaySay, Stage, count_behind, kept_text}
-use Rattle.fx_texts.proofs.Words.{stage_left, stage_reported, IsReportFound}
+use Rattle.fx_texts.proofs.Words.{IsPermutation-refl, HasEachNext, Leads, MayEnd, MayLeadTo, MaySay, Stage, count_behind, kept_text, stage_left}
+use Rattle.fx_texts.proofs.Words.{stage_reported, IsReportFound}
 use Rattle.std.specs.Global.{Vec}
 use Rattle.std.proofs.lemmas.Bool.{lt-leb}
 use Rattle.fx_order.specs.declared.access.ChainAccess.{ChainAccess}
@@ -18,8 +18,9 @@ use Rattle.fx_order.proofs.OneRing.{each_closed_file_is_known}
 use Rattle.fx_order.specs.Laws.{AreKnown}
 use Rattle.fx_order.specs.Order.{ring_left}
 use Rattle.fx_print.specs.Text.{completion_lines}
-use Rattle.fx_texts.proofs.Growth.{all_contained, at_one, element, get_at}
+use Rattle.fx_texts.proofs.Growth.{element, get_at}
 use Rattle.fx_texts.proofs.Counts.{history_counts, submission_counts}
+use Rattle.std.proofs.lemmas.List.Elements.{All-contains, All-contains_itself}
 
 -- a report that memory is found for is printed
 pub prints_report : (ring next : RingContents) (asked : List Asked) (line : List ℕ) → fault_of asked ≡ None → ring.submissions < MOST_SUBMISSIONS
@@ -135,7 +136,8 @@ module _ (old : RingState) (asked : List Asked) (is_ring : IsRing old) (accepted
       cc
 
   closes_same : told.closes.files ≡ report.closes.files
-  closes_same = one_close_list (Contains told.closes.files) one_file told.closes.files told.closes report.closes (all_contained told.closes.files)
+  closes_same =
+      one_close_list (Contains told.closes.files) one_file told.closes.files told.closes report.closes (All-contains_itself told.closes.files)
       (record { same_files = IsPermutation-refl told.closes.files; in_order = is.by.is.closed.in_order })
       (record { same_files = tells.closes; in_order = may.history.closed.in_order })
 
@@ -152,7 +154,7 @@ reports_are_all keeps old asked reports stages is_ring accepted each inside coun
     absurd (reports_once old.ring ring next asked line same counted prints stays)
 reports_are_all keeps old asked reports stages is_ring accepted each inside counted all ring next line same (Some report, prints, found) =
     let (possible, there, tells) = all ring next report same found.may in
-    let is : IsPossible old.ring asked possible = at_one (IsPossible old.ring asked) reports possible each there in
+    let is : IsPossible old.ring asked possible = All-contains (IsPossible old.ring asked) reports possible each there in
     let texts : line ≡ report_text old.ring.catalogue (reported possible.report) =
     found.printed ∙ texts_same old.ring asked is_ring accepted ring next same report found.may possible is tells in
     subst (λ (s : Stage). Contains stages s)

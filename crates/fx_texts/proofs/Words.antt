@@ -3,11 +3,13 @@ pub use Rattle.fx_answers.specs.Outcomes.{HasEachEnd, HasEachReport, IsAnswer, I
 pub use Rattle.fx_answers.specs.declared.end.End.{End}
 pub use Rattle.fx_answers.specs.declared.outcome.Answer.{Answer}
 pub use Rattle.fx_answers.specs.declared.report.PossibleReport.{PossibleReport}
+pub use Rattle.fx_base.proofs.Entries.{or_right}
 pub use Rattle.fx_base.specs.Catalogue.{FileEntry}
 pub use Rattle.fx_base.specs.declared.catalogue.TheConstants.{MOST_ENTRIES}
 pub use Rattle.fx_base.specs.declared.errno.Errno.{Errno}
-pub use Rattle.fx_base.specs.declared.errno.Errno.TheVariants.{EAGAIN, EBADF, EBUSY, EINVAL, EMFILE, ENXIO}
+pub use Rattle.fx_base.specs.declared.errno.Errno.TheVariants.{EAGAIN, EBADF, EBUSY, EINVAL, EMFILE, ENOMEM, ENXIO}
 pub use Rattle.fx_base.specs.declared.open_file.Closed.{Closed}
+pub use Rattle.fx_calls.proofs.Calls.{call_of}
 pub use Rattle.fx_calls.proofs.Entries.{all_closed, all_of_ring, few_of_ring}
 pub use Rattle.fx_chain.specs.Answers.{is_bad_entry}
 pub use Rattle.fx_chain.specs.Completed.{Completed, completed_of}
@@ -23,8 +25,7 @@ pub use Rattle.fx_order.proofs.Shown.{ring_with_files, shows_ring}
 pub use Rattle.fx_order.specs.Slots.{ring_of_slots, ring_with_slots}
 pub use Rattle.fx_plain.specs.declared.table.TheConstants.{MOST_SLOTS}
 pub use Rattle.fx_print.specs.Text.{closes_text, refused_line, too_many_line}
-pub use Rattle.fx_ring.specs.Registration.{is_bad_file, range_refusal, register_refusal, registered, registered_sparse, sparse_refusal}
-pub use Rattle.fx_ring.specs.Registration.{unregister_refusal, update_refusal, updated}
+pub use Rattle.fx_ring.specs.Registration.{is_bad_file, range_refusal, registered_sparse}
 pub use Rattle.fx_ring.specs.Ring.{IsRing, RingContents, RingState, files_of, new_ring, ring_of, without_table}
 pub use Rattle.fx_ring.specs.Submission.{Reported, reported}
 pub use Rattle.fx_ring.specs.Tags.{are_bad_tags, tags_given}
@@ -37,9 +38,9 @@ pub use Rattle.fx_texts.specs.Rings.{unless_refused}
 pub use Rattle.fx_texts.specs.Texts.{FoundMemory, IsReportFound, IsTextFound, MayAnswerIn, PrintsAllFound}
 pub use Rattle.fx_texts.specs.declared.reached.Reached.{Reached}
 pub use Rattle.fx_texts.specs.declared.saying.Said.{Said}
-pub use Rattle.std.proofs.Common.{Bool, List, None, Option, Some, [], ap, arith, codes, drop, false, if◌then◌else◌, inl, inr, length, map, nat_le}
-pub use Rattle.std.proofs.Common.{nat_lt, refl, slice_get, slice_index_or, string_bytes, subst, suc, sym, take, true, zero, ℕ, ⊎_elim, ◌++◌, ◌+◌, ◌<◌}
-pub use Rattle.std.proofs.Common.{◌==◌, ◌||◌, ◌∙◌, ◌∷◌, ◌≡◌, ◌≤◌, ◌⊎◌}
+pub use Rattle.std.proofs.Common.{Bool, List, None, Option, Some, [], ap, arith, drop, false, if◌then◌else◌, inl, inr, length, map, nat_le, nat_lt}
+pub use Rattle.std.proofs.Common.{refl, slice_get, slice_index_or, string_bytes, subst, suc, sym, take, true, zero, ℕ, ⊎_elim, ◌++◌, ◌+◌, ◌<◌, ◌==◌}
+pub use Rattle.std.proofs.Common.{◌||◌, ◌∙◌, ◌∷◌, ◌≡◌, ◌≤◌, ◌⊎◌}
 pub use Rattle.std.proofs.lemmas.Bool.{true≢false}
 pub use Rattle.std.proofs.lemmas.List.{append-nil, append_assoc, map-append}
 pub use Rattle.std.proofs.lemmas.List.Sorted.{IsPermutation-refl}
