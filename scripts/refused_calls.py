@@ -90,8 +90,8 @@ def told_tags(tagged):
 
 def submitted(table, workers):
     """A chain that reads and closes the file of slot 0, and one that opens another at the range, slot 1. A refused submission
-    isn't counted: the next one is the first."""
-    before, after, opened_file = ring(2, 1, 1, 0, 1), ring(2, 1, 1, 1, 1), "closed 1.2.1.0 1"
+    isn't counted: the next one is the first. None of its requests has started."""
+    before, after, opened_file = [*ring(2, 1, 1, 0, 1), "gate: 0 calls"], ring(2, 1, 1, 1, 1), "closed 1.2.1.0 1"
     whole = ["submit: done", "submission 1", "1.1.1 5 hello", "1.1.2 0 ", "1.2.1 1 ", "closed r1.0 0"]
     cut = ["submit: done", "submission 1", "1.1.1 -12 ", "1.1.2 -125 ", "1.2.1 1 "]
     others = {"a read answers -12": [*cut, *after, "closed r1.0 0", opened_file]}

@@ -2,13 +2,28 @@
 use crate::setting::{new_ring, requests, ring_with, tagged_ring};
 use crate::{ATTEMPTS, tell};
 use fx_base::NoMemory;
-use fx_chain::OpenGate;
+use fx_chain::{Gate, OpenGate, Place};
 use fx_ring::{OpenRing, Ring};
 use fx_table::FileTable;
 use std::alloc::Global;
 use std::fmt::Debug;
 use std::sync::Wait;
+use std::sync::atomic::{AtomicU32, Ordering};
 use std::thread::Threads;
+
+// A gate that counts its calls.
+#[derive(Drop)]
+struct Calls(AtomicU32);
+
+impl Gate for Calls {
+    fn before(&self, _place: Place) {
+        self.0.fetch_add(1, Ordering::SeqCst);
+    }
+
+    fn after(&self, _place: Place) {
+        self.0.fetch_add(1, Ordering::SeqCst);
+    }
+}
 
 // Memory was refused: tells what is left.
 fn refused<R: Print, F: Debug + Drop>(rt: &R, call: &str, fault: F, ring: &Ring) {
@@ -164,7 +179,8 @@ pub(crate) fn tear_down<R: Print>(rt: &R, alloc: Global) -> Option<()> {
     Some(())
 }
 
-/// Submits a chain that reads and closes a file, and one that opens another file, to so many workers.
+/// Submits a chain that reads and closes a file, and one that opens another file, to so many workers. Where that is refused no
+/// request has started.
 pub(crate) fn submit<T: FileTable, R: Threads + Wait + Print + Sync>(
     rt: &R,
     alloc: Global,
@@ -172,14 +188,18 @@ pub(crate) fn submit<T: FileTable, R: Threads + Wait + Print + Sync>(
 ) -> Option<()> {
     let requests = requests(alloc)?;
     let mut ring = ring_with(alloc, &[0, -1], 1, 1)?;
+    let calls = Calls(AtomicU32::new(0));
     for _ in 0..ATTEMPTS {
-        match ring.submit::<T, OpenGate>(rt, alloc, requests.as_slice(), workers, &OpenGate) {
+        match ring.submit::<T, Calls>(rt, alloc, requests.as_slice(), workers, &calls) {
             Ok(report) => {
                 tell::done(rt, "submit");
                 tell::report(rt, &report);
                 break;
             }
-            Err(fault) => refused(rt, "submit", fault, &ring),
+            Err(fault) => {
+                refused(rt, "submit", fault, &ring);
+                let _ = println!(rt; "gate: {} calls", calls.0.load(Ordering::SeqCst));
+            }
         }
     }
     end(rt, alloc, ring);
