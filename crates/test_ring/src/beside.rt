@@ -1,57 +1,62 @@
-//! Threads that really run at the same time: a gate holds a chain until other chains have come as far. No clause says
-//! that two threads ran, so that a player of all chains on one thread would be proved as well.
-use crate::setting::{TABLES, played};
+//! Threads that really run at the same time: a gate holds chains until others have come as far. No clause says that two
+//! threads ran, so that a player of all chains on one thread would be proved as well.
+use crate::setting::{Players, TABLES, Table, play, wait_for};
 use fx_chain::{Gate, Place};
+use std::alloc::Global;
+use std::process::Abort;
+use std::sync::Wait;
 use std::sync::atomic::{AtomicBool, AtomicU32, Ordering};
 use std::test::Fail;
-use std::thread;
+use std::thread::Threads;
 
-// How many turns a chain waits for the others.
-const MOST_TURNS: u32 = 50_000_000;
-
-// A gate at which chains wait for each other, in front of each member. Once a chain has waited in vain, no other one waits.
+// A gate in front of the only members of chains, at which the first so many of them wait until all have come.
 #[derive(Drop)]
 struct Meeting {
+    held: u32,
     chains: u32,
     came: AtomicU32,
-    is_off: AtomicBool,
-}
-
-impl Meeting {
-    fn new(chains: u32) -> Meeting {
-        Meeting {
-            chains,
-            came: AtomicU32::new(0),
-            is_off: AtomicBool::new(false),
-        }
-    }
-
-    // Whether the chains have met, and none waited in vain.
-    fn was_held(&self) -> bool {
-        self.came.load(Ordering::SeqCst) == self.chains && !self.is_off.load(Ordering::SeqCst)
-    }
+    left: AtomicU32,
+    is_late: AtomicBool,
 }
 
 impl Gate for Meeting {
-    fn before(&self, _place: Place) {
+    fn before(&self, place: Place) {
         self.came.fetch_add(1, Ordering::SeqCst);
-        for turn in 0..MOST_TURNS {
-            if self.came.load(Ordering::SeqCst) == self.chains
-                || self.is_off.load(Ordering::SeqCst)
-            {
-                return;
-            }
-            if turn % 1024 == 0 {
-                thread::yield_now();
-            }
+        if place.chain <= self.held {
+            wait_for(&self.came, self.chains, &self.is_late);
         }
-        self.is_off.store(true, Ordering::SeqCst);
     }
 
-    fn after(&self, _place: Place) {}
+    fn after(&self, _place: Place) {
+        self.left.fetch_add(1, Ordering::SeqCst);
+    }
 }
 
-// As many chains as there are workers meet in front of their only members.
+// Whether the chains of a script meet, of which the first so many wait, and the gate is called once in front of each and once
+// behind it.
+fn meet<R: Threads + Wait + Abort + Sync>(
+    rt: &R,
+    alloc: Global,
+    script: &str,
+    players: Players,
+    held: u32,
+    chains: u32,
+) -> bool {
+    let meeting = Meeting {
+        held,
+        chains,
+        came: AtomicU32::new(0),
+        left: AtomicU32::new(0),
+        is_late: AtomicBool::new(false),
+    };
+    play(rt, alloc, script, players, &meeting);
+    let (came, left) = (&meeting.came, &meeting.left);
+    came.load(Ordering::SeqCst) == chains
+        && left.load(Ordering::SeqCst) == chains
+        && !meeting.is_late.load(Ordering::SeqCst)
+}
+
+// As many chains as there are workers meet.
 #[test]
 fn each_number_of_workers_play_beside_each_other(rt: HostRuntime) -> Result<(), Fail> {
     let mut requests = String::new(rt.alloc());
@@ -59,10 +64,22 @@ fn each_number_of_workers_play_beside_each_other(rt: HostRuntime) -> Result<(), 
         requests.push_str("close 0\n")?;
         let script = format!(in rt.alloc(); "{requests}submit\n")?;
         for table in TABLES {
-            let meeting = Meeting::new(workers);
-            played(&rt, rt.alloc(), script.as_str(), (table, workers), &meeting);
-            assert!(rt; meeting.was_held(), "{workers} workers");
+            let players = (table, workers);
+            assert!(rt;
+                meet(&rt, rt.alloc(), script.as_str(), players, workers, workers),
+                "{workers} workers"
+            );
         }
     }
     Ok(())
+}
+
+// Of two workers one holds the first of three chains. Over words the other plays the next ones. Guarded by one word the passes
+// take turns, and the third chain is of the pass that waits.
+#[test]
+fn submit_shares_out_chains_itself(rt: HostRuntime) {
+    let script = "close 0\nclose 0\nclose 0\nsubmit\n";
+    for (table, is_free) in [(Table::Words, true), (Table::Baton, false)] {
+        assert!(rt; meet(&rt, rt.alloc(), script, (table, 2), 1, 3) == is_free);
+    }
 }

@@ -1,26 +1,18 @@
-//! The gate stands where it says: in front of each request that starts, and behind its completion, for each member of
-//! each chain of each submission. What a request did to the table is seen from another chain while the gate holds it.
+//! The gate stands where it says: in front of each request that starts, and behind its completion. What a request did to the
+//! table is seen from another chain while the gate holds it.
 use crate::setting::{
-    Calls, Players, TABLES, end, in_chain, open_at, ring_of_one_file, submit, update,
+    Calls, TABLES, end, in_chain, open_at, ring_of_one_file, submit, update, wait_for,
 };
 use fx_chain::{Gate, Place, Request};
-use fx_ring::Ring;
 use std::alloc::{AllocError, Global};
-use std::process::Abort;
-use std::sync::Wait;
 use std::sync::atomic::{AtomicBool, AtomicU32, Ordering};
 use std::test::Fail;
-use std::thread;
-use std::thread::Threads;
 
 // A submission has 20 chains of 16 members, in pairs. The first chain of a pair opens files at slots of its own, and the
 // second one removes them, all but the last.
 const PAIRS: u32 = 10;
 
 const MEMBERS: u32 = 16;
-
-// How many turns a chain waits for the other of its pair.
-const MOST_TURNS: u32 = 50_000_000;
 
 // A gate that notes its calls. It holds each removal until it was called behind the open of that file, and there it holds
 // the first chain until the second one has come past the removal. So that finds the file, and no other removal does.
@@ -37,30 +29,6 @@ fn pairs_before(place: Place) -> u32 {
     place.chain.wrapping_sub(1) / 2
 }
 
-impl Watch {
-    fn new(alloc: Global) -> Result<Watch, AllocError> {
-        Ok(Watch {
-            calls: Calls::new(alloc, 1, 20)?,
-            opened: AtomicU32::new(0),
-            removed: AtomicU32::new(0),
-            is_late: AtomicBool::new(false),
-        })
-    }
-
-    // Waits until a count has come so far. Once a chain has waited in vain, no other one waits.
-    fn wait_for(&self, count: &AtomicU32, least: u32) {
-        for turn in 0..MOST_TURNS {
-            if count.load(Ordering::SeqCst) >= least || self.is_late.load(Ordering::SeqCst) {
-                return;
-            }
-            if turn % 1024 == 0 {
-                thread::yield_now();
-            }
-        }
-        self.is_late.store(true, Ordering::SeqCst);
-    }
-}
-
 impl Gate for Watch {
     fn before(&self, place: Place) {
         self.calls.before(place);
@@ -72,7 +40,8 @@ impl Gate for Watch {
         }
         let members = pairs_before(place).wrapping_mul(MEMBERS);
         if place.member < MEMBERS {
-            self.wait_for(&self.opened, members.wrapping_add(place.member));
+            let least = members.wrapping_add(place.member);
+            wait_for(&self.opened, least, &self.is_late);
         }
     }
 
@@ -84,7 +53,8 @@ impl Gate for Watch {
         self.opened.fetch_add(1, Ordering::SeqCst);
         let members = pairs_before(place).wrapping_mul(MEMBERS - 1);
         if place.member < MEMBERS {
-            self.wait_for(&self.removed, members.wrapping_add(place.member));
+            let least = members.wrapping_add(place.member);
+            wait_for(&self.removed, least, &self.is_late);
         }
     }
 }
@@ -106,61 +76,29 @@ fn pairs_of_chains(alloc: Global) -> Result<Vec<Request>, AllocError> {
     Ok(requests)
 }
 
-fn ring_of_pairs<R: Abort>(rt: &R, alloc: Global) -> Result<Ring, Fail> {
-    let mut ring = ring_of_one_file(alloc)?;
-    assert!(rt; ring.register_sparse(alloc, PAIRS * MEMBERS).is_ok());
-    Ok(ring)
-}
-
-// Each removal finds the file of its open, so that the file is closed: all but the last of each pair.
+// Each removal finds the file of its open, so that the file is closed: all but the last of each pair. An earlier submission has
+// no requests.
 #[test]
 fn gate_stands_behind_each_effect(rt: HostRuntime) -> Result<(), Fail> {
     let alloc = rt.alloc();
     let requests = pairs_of_chains(alloc)?;
     for table in TABLES {
-        let watch = Watch::new(alloc)?;
-        let mut ring = ring_of_pairs(&rt, alloc)?;
-        let report = submit(
-            &rt,
-            alloc,
-            &mut ring,
-            requests.as_slice(),
-            (table, 2),
-            &watch,
-        );
-        assert!(rt; report.closes.files().len() == 150);
-        assert!(rt; watch.calls.were_started(&[MEMBERS; 20]));
-        assert!(rt; !watch.is_late.load(Ordering::SeqCst));
-        end(&rt, alloc, ring);
-    }
-    Ok(())
-}
-
-// A gate that holds nobody is called for each member of two submissions, once in front and once behind, in order.
-fn expect_called<R: Threads + Wait + Abort + Sync>(
-    rt: &R,
-    alloc: Global,
-    requests: &[Request],
-    players: Players,
-) -> Result<(), Fail> {
-    let (first, second) = (Calls::new(alloc, 1, 20)?, Calls::new(alloc, 2, 20)?);
-    let mut ring = ring_of_pairs(rt, alloc)?;
-    for calls in [&first, &second] {
-        submit(rt, alloc, &mut ring, requests, players, calls);
-        assert!(rt; calls.were_started(&[MEMBERS; 20]), "{} workers", players.1);
-    }
-    end(rt, alloc, ring);
-    Ok(())
-}
-
-#[test]
-fn gate_is_called_for_each_member(rt: HostRuntime) -> Result<(), Fail> {
-    let alloc = rt.alloc();
-    let requests = pairs_of_chains(alloc)?;
-    for table in TABLES {
-        for workers in 1..17 {
-            expect_called(&rt, alloc, requests.as_slice(), (table, workers))?;
+        let watch = Watch {
+            calls: Calls::new(alloc, 2, 20)?,
+            opened: AtomicU32::new(0),
+            removed: AtomicU32::new(0),
+            is_late: AtomicBool::new(false),
+        };
+        let mut ring = ring_of_one_file(alloc)?;
+        assert!(rt; ring.register_sparse(alloc, PAIRS * MEMBERS).is_ok());
+        let mut closed = 0;
+        for requests in [&[], requests.as_slice()] {
+            let report = submit(&rt, alloc, &mut ring, requests, (table, 2), &watch);
+            closed = report.closes.files().len();
         }
+        assert!(rt; closed == 150 && !watch.is_late.load(Ordering::SeqCst));
+        assert!(rt; watch.calls.were_started(&[MEMBERS; 20]));
+        end(&rt, alloc, ring);
     }
     Ok(())
 }

@@ -1,6 +1,6 @@
 //! Which members of a chain the gate is called for: each that is started, once in front and once behind, in their order, and
-//! no other. What is started and printed was worked out by hand.
-use crate::setting::{Calls, PLAYERS, played};
+//! no other. What is started was worked out by hand.
+use crate::setting::{Calls, PLAYERS, play};
 use std::test::Fail;
 
 // A script with one submission, or none that is accepted.
@@ -9,7 +9,6 @@ struct Row<'a> {
     script: &'a str,
     // how many members of each chain are started
     started: &'a [u32],
-    text: &'a str,
 }
 
 const ROWS: [Row<'static>; 10] = [
@@ -18,38 +17,32 @@ const ROWS: [Row<'static>; 10] = [
         script: "file a.txt 68656c6c6f\nsparse 2\nopen a.txt at 0 link\nread 0 0 5 link\nclose 0\n\
             submit\n",
         started: &[3],
-        text: "sparse 0\n1.1.1 0\n1.1.2 5 68656c6c6f\n1.1.3 0\nclosed 1.1.1.0 a.txt\n",
     },
     Row {
         name: "short_read_severs",
         script: "file a.txt 68656c6c6f\nregister 0\nread 0 0 6 link\nclose 0\nsubmit\nunregister\n",
         started: &[1],
-        text: "register 0\n1.1.1 5 68656c6c6f\n1.1.2 -125\nunregister 0\nclosed r1.0 a.txt\n",
     },
     Row {
         name: "canceled_tail",
         script: "file a.txt 68656c6c6f\nsparse 1\nopen a.txt at 0 link\nclose 0 link\nclose 0 link\n\
             read 0 0 1 link\nclose 0\nsubmit\n",
         started: &[3],
-        text: "sparse 0\n1.1.1 0\n1.1.2 0\n1.1.3 -9\n1.1.4 -125\n1.1.5 -125\nclosed 1.1.1.0 a.txt\n",
     },
     Row {
         name: "hard_link_goes_on",
         script: "file a.txt 68656c6c6f\nregister 0\nread 0 0 6 hardlink\nclose 0\nsubmit\n",
         started: &[2],
-        text: "register 0\n1.1.1 5 68656c6c6f\n1.1.2 0\nclosed r1.0 a.txt\n",
     },
     Row {
         name: "soft_link_behind_a_hard_one",
         script: "sparse 1\nclose 0 hardlink\nread 0 0 1 link\nclose 0\nsubmit\n",
         started: &[2],
-        text: "sparse 0\n1.1.1 -9\n1.1.2 -9\n1.1.3 -125\n",
     },
     Row {
         name: "hard_link_in_a_severed_chain",
         script: "sparse 1\nclose 0 link\nclose 0 hardlink\nclose 0\nsubmit\n",
         started: &[1],
-        text: "sparse 0\n1.1.1 -9\n1.1.2 -125\n1.1.3 -125\n",
     },
     Row {
         name: "other_chains_go_on",
@@ -57,28 +50,22 @@ const ROWS: [Row<'static>; 10] = [
             open a.txt at 1 link\nread 1 0 5 link\nclose 1\nopen c.txt at 2 link\nclose 2 link\n\
             close 2\nread 3 0 1\nsubmit\n",
         started: &[1, 3, 1, 1],
-        text: "register 0\n1.1.1 -9\n1.1.2 -125\n1.2.1 0\n1.2.2 5 68656c6c6f\n1.2.3 0\n1.3.1 -2\n\
-            1.3.2 -125\n1.3.3 -125\n1.4.1 1 68\nclosed 1.2.1.0 a.txt\nteardown\nclosed r1.0 a.txt\n\
-            closed r1.3 a.txt\n",
     },
     Row {
         name: "without_a_table",
         script: "file a.txt 68656c6c6f\nopen a.txt at 0\nopen a.txt any\nread 0 0 1\nclose 0\n\
             update 0 -1\nsubmit\n",
         started: &[1, 1, 1, 1, 1],
-        text: "1.1.1 -6\n1.2.1 -23\n1.3.1 -9\n1.4.1 -6\n1.5.1 -6\n",
     },
     Row {
         name: "empty_submission",
         script: "sparse 1\nsubmit\n",
         started: &[],
-        text: "sparse 0\n",
     },
     Row {
         name: "refused_submission",
         script: "close 0\nread 0 0 4097\nsubmit\n",
         started: &[],
-        text: "submit refused long-read 2\n",
     },
 ];
 
@@ -88,8 +75,7 @@ fn gate_is_called_for_what_is_started(rt: HostRuntime) -> Result<(), Fail> {
     for row in &ROWS {
         for players in PLAYERS {
             let calls = Calls::new(alloc, 1, row.started.len())?;
-            let text = played(&rt, alloc, row.script, players, &calls);
-            assert!(rt; text.as_slice() == row.text.as_bytes(), "{}", row.name);
+            play(&rt, alloc, row.script, players, &calls);
             assert!(rt; calls.were_started(row.started), "{}", row.name);
         }
     }

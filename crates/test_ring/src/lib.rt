@@ -1,10 +1,8 @@
 //! What no contract says of tables, rings and scripts: that threads run at the same time and come to their end, where the gate
-//! stands, with how many passes a table is opened, what memory a read takes, and that each read or write that fails ends a run.
-//! Some worked values stand here too. What a call answers is its contract, and what a script prints stands in examples/.
+//! stands, and what memory a read takes. Some worked values stand here too. What a call answers is its contract, and what a
+//! script prints stands in examples/.
 #![tactic(auto)]
 
-#[cfg(test)]
-mod answers;
 #[cfg(test)]
 mod beside;
 #[cfg(test)]
@@ -12,11 +10,9 @@ mod effects;
 #[cfg(test)]
 mod gates;
 #[cfg(test)]
+mod orders;
+#[cfg(test)]
 mod refused;
-#[cfg(test)]
-mod refusing;
-#[cfg(test)]
-mod scripts;
 #[cfg(test)]
 mod setting;
 #[cfg(test)]

@@ -1,7 +1,205 @@
-//! Both shared tables, the one guarded by one word and the one without a lock: a call that may wait comes to its end whatever another
-//! pass holds, and threads that meet make progress.
-mod passes;
-mod setting;
-mod stress;
-mod tally;
-mod turns;
+//! One slot of each shared table, a pass that uses it and one that replaces the file there, in every order in which the one can
+//! come between the calls of the other. Each call comes to its end, whatever the other pass holds or has yet to retire: no clause
+//! says that a call which may wait does. What it answers is its contract.
+ghost use Rattle.std.specs.Prelude.{◌≡◌, ◌+◌, length, All, IfSome};
+ghost use Rattle.fx_table.specs.Pass.{IsHoldOf, IsIdle, IsRetiredOf};
+
+use fx_base::{Catalogue, Mark, OpenFile};
+use fx_baton::BatonTable;
+use fx_counted::CountedTable;
+use fx_plain::PlainTable;
+use fx_table::{FileTable, Hold, Retired};
+use std::alloc::Global;
+use std::process::Abort;
+use std::sync::Wait;
+use std::test::Fail;
+
+// A table of one slot that two passes share, and the passes.
+fn open_table<T: FileTable, R: Abort>(rt: &R, alloc: Global) -> (T, Vec<T::Pass>)
+    ensures passes { (T.opening result.0).passes ≡ 2 }
+    ensures ready { All (λ p. T.fits result.0 p × IsIdle (T.view p)) result.1.items }
+{
+    let Ok(plain) = PlainTable::sparse(alloc, 1) else {
+        panic!(rt; "a table")
+    };
+    match T::open(alloc, plain, 1, 2) {
+        Ok(opened) => opened,
+        Err((plain, _)) => {
+            plain.abandon();
+            panic!(rt; "memory for a shared table")
+        }
+    }
+}
+
+// The pass that is the last of the list.
+fn last_pass<T: FileTable, R: Abort>(rt: &R, table: &T, passes: &mut Vec<T::Pass>) -> T::Pass
+    requires { All (λ p. T.fits table.now p × IsIdle (T.view p)) passes.old.items }
+    ensures pass { T.fits table.now result × IsIdle (T.view result) }
+    ensures others { All (λ p. T.fits table.now p × IsIdle (T.view p)) passes.new.items }
+{
+    let Some(pass) = passes.pop() else {
+        panic!(rt; "a pass")
+    };
+    pass
+}
+
+// Puts a pass back into the list. It is idle.
+fn give_back<T: FileTable, R: Abort>(rt: &R, table: &T, passes: &mut Vec<T::Pass>, pass: T::Pass)
+    requires list { All (λ p. T.fits table.now p × IsIdle (T.view p)) passes.old.items }
+    requires pass { T.fits table.now pass }
+    ensures list { All (λ p. T.fits table.now p × IsIdle (T.view p)) passes.new.items }
+    ensures count { length passes.new.items ≡ length passes.old.items + 1 }
+{
+    assert!(rt; table.is_idle(&pass));
+    match passes.push(pass) {
+        Ok(()) => {}
+        Err(_refused) => panic!(rt; "room for a pass"),
+    }
+}
+
+// A hold of the file at the slot.
+fn hold_of<T: FileTable, R: Wait + Abort>(rt: &R, table: &T, pass: &mut T::Pass) -> Hold
+    requires { T.fits table.now pass.old }
+    ensures fits { T.fits table.now pass.new }
+    ensures held { IsHoldOf (T.view pass.new) result }
+{
+    assert!(rt; table.is_idle(pass) && 0 < table.size());
+    let Ok(hold) = table.look(rt, pass, 0) else {
+        panic!(rt; "a file at the slot")
+    };
+    hold
+}
+
+// Puts a file into the slot. What it replaces is to be retired.
+fn put<T: FileTable, R: Wait + Abort>(
+    rt: &R,
+    table: &T,
+    pass: &mut T::Pass,
+    catalogue: &Catalogue,
+) -> Option<Retired>
+    requires { T.fits table.now pass.old }
+    ensures fits { T.fits table.now pass.new }
+    ensures removed { IfSome result (IsRetiredOf (T.view pass.new)) }
+{
+    assert!(rt; table.is_idle(pass) && 0 < table.size() && 0 < table.numbers_left(pass));
+    assert!(rt; !catalogue.is_empty());
+    let file = catalogue.open(0, Mark::Registered { k: 1, i: 0 }, 0);
+    table.put(rt, pass, 0, file)
+}
+
+// The second file is put into the slot, and the first one comes out of it.
+fn replace<T: FileTable, R: Wait + Abort>(
+    rt: &R,
+    table: &T,
+    pass: &mut T::Pass,
+    catalogue: &Catalogue,
+) -> Retired
+    requires { T.fits table.now pass.old }
+    ensures fits { T.fits table.now pass.new }
+    ensures removed { IsRetiredOf (T.view pass.new) result }
+{
+    let Some(retired) = put(rt, table, pass, catalogue) else {
+        panic!(rt; "a file that is replaced")
+    };
+    retired
+}
+
+// Closes a file that comes out.
+fn close(out: Option<OpenFile>) {
+    if let Some(file) = out {
+        file.discard();
+    }
+}
+
+// When the other pass looks the slot up and releases what it found.
+#[derive(Clone, Copy)]
+enum Use {
+    BeforeReplacement,
+    OverReplacement,
+    OverBoth,
+    BeforeRetirement,
+    OverRetirement,
+}
+
+// B replaces the first file and retires it, and A uses the slot.
+fn play_both<T: FileTable, R: Wait + Abort>(
+    rt: &R,
+    table: &T,
+    used: Use,
+    catalogue: &Catalogue,
+    b: &mut T::Pass,
+    a: &mut T::Pass,
+)
+    requires b { T.fits table.now b.old }
+    requires a { T.fits table.now a.old }
+    ensures b { T.fits table.now b.new }
+    ensures a { T.fits table.now a.new }
+{
+    match used {
+        Use::BeforeReplacement => {
+            let hold = hold_of(rt, table, a);
+            close(table.release(rt, a, hold));
+            let retired = replace(rt, table, b, catalogue);
+            close(table.retire(rt, b, retired));
+        }
+        Use::OverReplacement => {
+            let hold = hold_of(rt, table, a);
+            let retired = replace(rt, table, b, catalogue);
+            close(table.release(rt, a, hold));
+            close(table.retire(rt, b, retired));
+        }
+        Use::OverBoth => {
+            let hold = hold_of(rt, table, a);
+            let retired = replace(rt, table, b, catalogue);
+            close(table.retire(rt, b, retired));
+            close(table.release(rt, a, hold));
+        }
+        Use::BeforeRetirement => {
+            let retired = replace(rt, table, b, catalogue);
+            let hold = hold_of(rt, table, a);
+            close(table.release(rt, a, hold));
+            close(table.retire(rt, b, retired));
+        }
+        Use::OverRetirement => {
+            let retired = replace(rt, table, b, catalogue);
+            let hold = hold_of(rt, table, a);
+            close(table.retire(rt, b, retired));
+            close(table.release(rt, a, hold));
+        }
+    }
+}
+
+// The same from the table's opening to its end.
+fn play_on<T: FileTable, R: Wait + Abort>(rt: &R, alloc: Global, used: Use) -> Result<(), Fail> {
+    let mut catalogue = Catalogue::new(alloc);
+    catalogue.add(String::from_str(alloc, "a.txt")?, Vec::new(alloc))?;
+    let (table, mut passes) = open_table::<T, _>(rt, alloc);
+    let mut a = last_pass(rt, &table, &mut passes);
+    let mut b = last_pass(rt, &table, &mut passes);
+    assert!(rt; passes.is_empty());
+    assert!(rt; table.draw(&mut b) == Some(1));
+    match put(rt, &table, &mut b, &catalogue) {
+        None => {}
+        Some(_retired) => panic!(rt; "an empty slot"),
+    }
+    play_both(rt, &table, used, &catalogue, &mut b, &mut a);
+    give_back(rt, &table, &mut passes, b);
+    give_back(rt, &table, &mut passes, a);
+    table.close(passes).abandon();
+    Ok(())
+}
+
+#[test]
+fn retired_while_held(rt: HostRuntime) -> Result<(), Fail> {
+    for used in [
+        Use::BeforeReplacement,
+        Use::OverReplacement,
+        Use::OverBoth,
+        Use::BeforeRetirement,
+        Use::OverRetirement,
+    ] {
+        play_on::<BatonTable, _>(&rt, rt.alloc(), used)?;
+        play_on::<CountedTable, _>(&rt, rt.alloc(), used)?;
+    }
+    Ok(())
+}

@@ -1,13 +1,10 @@
 //! Values that were worked out by hand, of calls that no script shows.
-use crate::setting::{Table, end, ring_of_one_file, submit};
 use bitflags::Flags;
-use fx_base::{AddFault, Catalogue};
-use fx_chain::{Op, OpenGate, Request, SqeFlags, Target, target};
+use fx_chain::{Completion, Op, Place, Request, SqeFlags, Target, target};
 use fx_words::{
     begin_amount, control_word, end_amount, entry_of, node_of, retire_amount, says_full, slot_word,
     takes_of,
 };
-use std::test::Fail;
 
 #[test]
 fn file_index_names_the_slot_below_it(rt: HostRuntime) {
@@ -19,27 +16,6 @@ fn file_index_names_the_slot_below_it(rt: HostRuntime) {
     ] {
         assert!(rt; target(index) == want);
     }
-}
-
-#[test]
-fn names_and_bytes_have_their_limits(rt: HostRuntime) -> Result<(), Fail> {
-    let alloc = rt.alloc();
-    let mut catalogue = Catalogue::new(alloc);
-    for (name, size, answer) in [
-        ("", 0, Err(AddFault::EmptyName)),
-        (
-            "a_name_of_thirty_three_letters_aa",
-            0,
-            Err(AddFault::BadName),
-        ),
-        ("a b", 0, Err(AddFault::BadName)),
-        ("a.txt", 4097, Err(AddFault::TooLong)),
-        ("a_name_of_thirty_two_letters_aaa", 4096, Ok(())),
-    ] {
-        let bytes = vec![in alloc; 7; size]?;
-        assert!(rt; catalogue.add(String::from_str(alloc, name)?, bytes) == answer);
-    }
-    Ok(())
 }
 
 #[test]
@@ -65,33 +41,19 @@ fn words_of_the_table_without_a_lock(rt: HostRuntime) {
     assert!(rt; !says_full(8_590_000_130, 2));
 }
 
-// Of two closes of an empty slot the second one is started, since the first one has both flags.
+// Where it fails it severs its chain as little as a hard link alone.
 #[test]
-fn request_with_both_flags_is_a_hard_link(rt: HostRuntime) -> Result<(), Fail> {
-    let alloc = rt.alloc();
-    let mut ring = ring_of_one_file(alloc)?;
-    assert!(rt; ring.register_sparse(alloc, 1).is_ok());
-    let requests = [
-        Request {
-            op: Op::Close { slot: 0 },
-            flags: SqeFlags::IO_LINK.union(SqeFlags::IO_HARDLINK),
+fn request_with_both_flags_is_a_hard_link(rt: HostRuntime) {
+    let failed = Completion {
+        place: Place {
+            submission: 1,
+            chain: 1,
+            member: 1,
         },
-        Request {
-            op: Op::Close { slot: 0 },
-            flags: SqeFlags::from_bits_retain(0),
-        },
-    ];
-    let report = submit(
-        &rt,
-        alloc,
-        &mut ring,
-        &requests,
-        (Table::Baton, 1),
-        &OpenGate,
-    );
-    for completion in &report.completions {
-        assert!(rt; completion.res == -9);
-    }
-    end(&rt, alloc, ring);
-    Ok(())
+        res: -9,
+        got: Vec::new(rt.alloc()),
+    };
+    let flags = SqeFlags::IO_LINK.union(SqeFlags::IO_HARDLINK);
+    let op = Op::Close { slot: 0 };
+    assert!(rt; !Request { op, flags }.severs(&failed));
 }

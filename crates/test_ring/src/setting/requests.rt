@@ -37,12 +37,3 @@ pub fn in_chain(mut request: Request, at: u32) -> Request {
     }
     request
 }
-
-/// So many reads of five bytes of slot 0, each a chain of its own.
-pub fn reads(alloc: Global, count: u32) -> Result<Vec<Request>, AllocError> {
-    let mut requests = Vec::new(alloc);
-    for _ in 0..count {
-        requests.push(read(0, 0, 5))?;
-    }
-    Ok(requests)
-}

@@ -37,11 +37,16 @@ pub const PLAYERS: [Players; 8] = [
     (Table::Baton, 16),
 ];
 
-/// A ring without a table, whose catalogue has `a.txt` alone, a file of 4,096 bytes.
-pub fn ring_of_one_file(alloc: Global) -> Result<Ring, Fail> {
+/// A catalogue that has `a.txt` alone, a file of 4,096 bytes.
+pub fn one_file(alloc: Global) -> Result<Catalogue, Fail> {
     let mut catalogue = Catalogue::new(alloc);
     catalogue.add(String::from_str(alloc, "a.txt")?, vec![in alloc; 7; 4096]?)?;
-    Ok(Ring::new(alloc, catalogue))
+    Ok(catalogue)
+}
+
+/// A ring without a table, with this catalogue.
+pub fn ring_of_one_file(alloc: Global) -> Result<Ring, Fail> {
+    Ok(Ring::new(alloc, one_file(alloc)?))
 }
 
 /// The same with a table that has this file at its only slot.
