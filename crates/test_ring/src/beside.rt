@@ -83,3 +83,42 @@ fn submit_shares_out_chains_itself(rt: HostRuntime) {
         assert!(rt; meet(&rt, rt.alloc(), script, (table, 2), 1, 3) == is_free);
     }
 }
+
+// A gate that holds the second chain until the first one's first member has completed, and the first chain's second member until
+// the second chain has.
+#[derive(Drop)]
+struct Between {
+    done: AtomicU32,
+    is_late: AtomicBool,
+}
+
+impl Gate for Between {
+    fn before(&self, place: Place) {
+        match (place.chain, place.member) {
+            (2, 1) => wait_for(&self.done, 1, &self.is_late),
+            (1, 2) => wait_for(&self.done, 2, &self.is_late),
+            _ => {}
+        }
+    }
+
+    fn after(&self, _place: Place) {
+        self.done.fetch_add(1, Ordering::SeqCst);
+    }
+}
+
+#[test]
+fn an_update_between_an_open_and_its_read(rt: HostRuntime) {
+    let script =
+        "file a.txt 68656c6c6f\nfile b.txt 6869\nsparse 1\nopen a.txt at 0 link\nread 0 0 5\n\
+                  update 0 1\nsubmit\n";
+    let wanted = b"sparse 0\n1.1.1 0\n1.1.2 2 6869\n1.2.1 1\nclosed 1.1.1.0 a.txt\nteardown\n\
+                   closed 1.2.1.0 b.txt\n";
+    for table in TABLES {
+        let gate = Between {
+            done: AtomicU32::new(0),
+            is_late: AtomicBool::new(false),
+        };
+        let text = play(&rt, rt.alloc(), script, (table, 2), &gate);
+        assert!(rt; text.as_slice() == wanted.as_slice() && !gate.is_late.load(Ordering::SeqCst));
+    }
+}

@@ -3,7 +3,7 @@ use crate::setting::{Table, end, in_chain, one_file, open_at, read, ring_of_one_
 use bitflags::Flags;
 use fx_base::{Closed, Mark};
 use fx_chain::{Op, OpenGate, Request, SqeFlags, check};
-use fx_order::{Access, ChainAccess, Slots, is_one_order};
+use fx_order::{Access, ChainAccess, RingSlots, Slots, is_one_order};
 use std::test::Fail;
 
 const FILE: Closed = Closed {
@@ -56,12 +56,17 @@ fn order_of_a_report(rt: HostRuntime) -> Result<(), Fail> {
         let Ok(_) = check(&requests) else {
             panic!(rt; "the requests aren't accepted");
         };
-        let mut slots = Slots {
+        let slots = Slots {
             range: (0, 2),
             at: vec![in alloc; None; 2]?,
         };
+        let mut empty = RingSlots {
+            slots,
+            submissions: 0,
+            registrations: 0,
+        };
         let order = &ORDER[..count];
-        let said = is_one_order(alloc, &catalogue, &mut slots, 0, &requests, &report, order)?;
+        let said = is_one_order(alloc, &catalogue, &mut empty, &requests, &report, order)?;
         assert!(rt; said == is_order, "{count} accesses");
     }
     Ok(())

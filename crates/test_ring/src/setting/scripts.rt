@@ -9,14 +9,14 @@ use std::process::Abort;
 use std::sync::Wait;
 use std::thread::Threads;
 
-/// Plays a script to its end. What it prints is its contract.
+/// What a script prints, which is played to its end.
 pub fn play<R: Threads + Wait + Abort + Sync, G: Gate>(
     rt: &R,
     alloc: Global,
     script: &str,
     players: Players,
     gate: &G,
-) {
+) -> Vec<u8> {
     let (table, workers) = players;
     assert!(rt; 1 <= workers && workers <= 16);
     let mut reader = script.as_bytes();
@@ -27,4 +27,5 @@ pub fn play<R: Threads + Wait + Abort + Sync, G: Gate>(
         Table::Baton => run::<BatonTable, _, _, _>(rt, alloc, workers, gate, input, output),
     };
     assert!(rt; ended.is_ok());
+    text
 }
