@@ -40,7 +40,7 @@ help:
 	@echo 'make pictures     draws the histories of docs/MODEL.md again'
 	@echo 'make agree        compares the io_uring of this machine with the model, on examples, random and contending scripts'
 	@echo 'make workers      counts the threads and the writes of the program on 1 to 16 workers, and tells its tables apart'
-	@echo 'make meetings     plays random scripts by threads that go in turns of a few instructions, and judges the texts'
+	@echo 'make meetings     plays random scripts and crowds by threads that go in turns of a few instructions, and judges the texts'
 	@echo 'make refused-growths    plays scripts and makes calls with each allocation refused in its turn'
 	@echo 'make steps        takes the steps of the table without a lock in every order, for small programs'
 	@echo 'make mistakes     makes the mistakes that a user may make, and wants each answered'
