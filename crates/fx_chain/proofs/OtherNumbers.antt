@@ -14,13 +14,10 @@ use Rattle.fx_plain.specs.declared.event.Action.TheVariants.{Allocate, Full}
 use Rattle.fx_plain.specs.Laws.{installed_by}
 use Rattle.fx_plain.specs.Reopening.{Renaming, renamed, renamed_file, renamed_found, numbers_given, with_number_of}
 use Rattle.fx_chain.specs.Answers.{OpensAt, ReadsAt, TakesAt, installed}
+use Rattle.fx_chain.proofs.Cases.{same_cases}
 use Rattle.fx_chain.proofs.EntryKinds.{list_installs-cons}
 use Rattle.fx_chain.specs.declared.request.Target.{Target}
 use Rattle.fx_chain.specs.declared.request.Target.TheVariants.{Slot, Any}
-
-pub in_both : {P Q P' Q' : Type 0} (b : Bool) → (P → P') → (Q → Q') → MatchBool b P Q → MatchBool b P' Q'
-in_both true yes' no' is = yes' is
-in_both false yes' no' is = no' is
 
 module _ (r : Renaming) where
   abbrev other : List Action → List Action
@@ -53,9 +50,9 @@ module _ (r : Renaming) where
 
   opens : (size : ℕ) (place : Place) (entry : ℕ) (target : Target) (events : List Action) (c : Completed) → OpensAt size place entry target events c
       → OpensAt size place entry target (other events) c
-  opens size place entry (Slot slot) events c = in_both (size == 0) (refuses place ENXIO events c)
-      (in_both (nat_le size slot) (refuses place EINVAL events c) (puts place entry slot c events))
-  opens size place entry Any events c = in_both (size == 0) (refuses place ENFILE events c) (allocates place entry c events)
+  opens size place entry (Slot slot) events c = same_cases (size == 0) (refuses place ENXIO events c)
+      (same_cases (nat_le size slot) (refuses place EINVAL events c) (puts place entry slot c events))
+  opens size place entry Any events c = same_cases (size == 0) (refuses place ENFILE events c) (allocates place entry c events)
 
   reads : (catalogue : List FileEntry) (place : Place) (slot off len : ℕ) (events : List Action) (c : Completed)
       → ReadsAt catalogue place slot off len events c → ReadsAt catalogue place slot off len (other events) c
@@ -104,15 +101,15 @@ module _ (r : Renaming) where
 
   answers : (catalogue : List FileEntry) (size : ℕ) (place : Place) (operation : Operation) (events : List Action) (c : Completed)
       → Answers catalogue size place operation events c → Answers catalogue size place operation (other events) c
-  answers catalogue size place (Opens name target) events c = in_both (has_name name catalogue)
+  answers catalogue size place (Opens name target) events c = same_cases (has_name name catalogue)
       (names catalogue size place name target events c) (refuses place ENOENT events c)
-  answers catalogue size place (Reads slot off len) events c = in_both (nat_le size slot) (refuses place EBADF events c)
+  answers catalogue size place (Reads slot off len) events c = same_cases (nat_le size slot) (refuses place EBADF events c)
       (reads_from catalogue place slot off len events c)
-  answers catalogue size place (Closes slot) events c = in_both (size == 0) (refuses place ENXIO events c)
-      (in_both (nat_le size slot) (refuses place EINVAL events c) (takes place slot events c))
-  answers catalogue size place (Updates off list) events c = in_both (size == 0) (refuses place ENXIO events c)
-      (in_both (length list == 0 || nat_lt size (off + length list)) (refuses place EINVAL events c)
-      (in_both (list_any (is_bad_entry (length catalogue)) list) (refuses place EBADF events c) (updates place off list events c)))
+  answers catalogue size place (Closes slot) events c = same_cases (size == 0) (refuses place ENXIO events c)
+      (same_cases (nat_le size slot) (refuses place EINVAL events c) (takes place slot events c))
+  answers catalogue size place (Updates off list) events c = same_cases (size == 0) (refuses place ENXIO events c)
+      (same_cases (length list == 0 || nat_lt size (off + length list)) (refuses place EINVAL events c)
+      (same_cases (list_any (is_bad_entry (length catalogue)) list) (refuses place EBADF events c) (updates place off list events c)))
 
   severed_or_not : (others : List Action) (cs rest : List Completed) → (others ≡ []) × (cs ≡ rest) → (other others ≡ []) × (cs ≡ rest)
   severed_or_not others cs rest is = (ap other is.0, is.1)
@@ -128,7 +125,7 @@ module _ (r : Renaming) where
     both is.0 is.1 events is.4,
     is.5,
     answers catalogue size place request.operation is.0 is.2 is.6,
-    in_both (severs request is.2) (severed_or_not is.1 is.3 (canceled (next_member place) requests))
+    same_cases (severs request is.2) (severed_or_not is.1 is.3 (canceled (next_member place) requests))
         (explains catalogue size requests (next_member place) is.1 is.3) is.7,
   )
 

@@ -6,7 +6,7 @@ use Rattle.fx_check.proofs.Words.{has_name, FileEntry, Errno, ENOENT, EBADF, ENF
 use Rattle.fx_check.proofs.Words.{first_member, severs, Asked, Operation, Opens, Reads, Closes, Updates, Place, Target, Slot, Any, Table, accesses_of}
 use Rattle.fx_check.proofs.Words.{accesses_of_chain, Access, Allocates, ChainAccess, IsOpenDone, IsRequestDone, IsChainDone, AreChainsDone}
 use Rattle.fx_check.proofs.Words.{either_way, AreFiles, allocates, puts, updates}
-use Rattle.std.proofs.lemmas.Bool.{cases_lt, ltb-false}
+use Rattle.std.proofs.lemmas.Bool.{cases_lt, ltb-false, or_parts}
 use Rattle.std.proofs.lemmas.List.Elements.{All-drop, All-take}
 use Rattle.std.proofs.lemmas.List.{get_or-drop, get_or-take, get_or_past, length-drop, length-take}
 use Rattle.hex.specs.Hex.{IsBytes}
@@ -16,7 +16,6 @@ use Rattle.fx_base.specs.declared.errno.Errno.TheVariants.{ECANCELED}
 use Rattle.fx_chain.specs.Completed.{refusal}
 use Rattle.fx_order.specs.Access.{PermitsAll, table_with}
 use Rattle.fx_lines.specs.Lines.{IsCompletionInRange, IsPlaceInRange}
-use Rattle.fx_base.proofs.Entries.{or_right}
 use Rattle.fx_order.proofs.RequestCases.{closes, reads}
 
 -- an allocation is at a slot of a table of this size
@@ -105,7 +104,7 @@ module _ (catalogue : List FileEntry) (are : AreFiles catalogue) (size : ℕ) (s
     request_so : (operation : Operation) (accesses : List Access) (c : Completed) → AreInside size accesses
         → IsRequestDone catalogue size place operation accesses c → IsCompletionInRange c
     request_so (Opens name target) accesses c inside =
-        either_way (has_name name catalogue) _ _ _ (λ _ x. open_so x.0 target accesses c inside x.2)
+        either_way (has_name name catalogue) (λ _ x. open_so x.0 target accesses c inside x.2)
         (λ _ x. subst IsCompletionInRange (sym x.1) (error ENOENT))
     request_so (Reads slot off len) accesses c inside =
         reads size place InRange error accesses c catalogue slot off len (error EBADF) (λ file.
@@ -114,7 +113,7 @@ module _ (catalogue : List FileEntry) (are : AreFiles catalogue) (size : ℕ) (s
         closes size place InRange error accesses c slot (error EBADF) (λ _. number_in_range 0 place is (omega arith))
     request_so (Updates off list) accesses c inside =
         updates size place InRange error accesses c (length catalogue) off list (λ fine _ _.
-        let within : off + length list ≤ size = ltb-false size (off + length list) (or_right (length list == 0) _ fine) in
+        let within : off + length list ≤ size = ltb-false size (off + length list) (or_parts (length list == 0) _ fine).1 in
         number_in_range (length list) place is (omega arith))
 
   moved : (place : Place) (n : ℕ) → IsPlaceInRange place → place.member + suc n < 2 ^ 32 → IsPlaceInRange (next_member place)
@@ -138,7 +137,7 @@ module _ (catalogue : List FileEntry) (are : AreFiles catalogue) (size : ℕ) (s
       let next : IsPlaceInRange (next_member place) = moved place (length rs) is few in
       subst (All IsCompletionInRange) (sym x.5)
       (All-cons IsCompletionInRange x.2 x.3 (request_so place is r.operation x.0 x.2 front x.6)
-      (either_way (severs r x.2) _ _ (All IsCompletionInRange x.3)
+      (either_way {R = All IsCompletionInRange x.3} (severs r x.2)
       (λ _ y. subst (All IsCompletionInRange) (sym y.1) (canceled_so (next_member place) rs next (omega arith)))
       (λ _ y. chain_so (next_member place) rs x.1 x.3 next (omega arith) behind y) x.7))
 

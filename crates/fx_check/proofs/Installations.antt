@@ -94,7 +94,7 @@ module _ (s : ℕ) (f : Closed) where
     request_came : (operation : Operation) (accesses : List Access) (c : Completed) → Places accesses
         → IsRequestDone catalogue size place operation accesses c → Came operation c
     request_came (Opens name target) accesses c has =
-        either_way (has_name name catalogue) _ _ _ (λ _ x. open_came name x.0 target accesses c has x.2)
+        either_way (has_name name catalogue) (λ _ x. open_came name x.0 target accesses c has x.2)
         (λ _ x. absurd (none_placed accesses [] x.0 refl has))
     request_came (Reads slot off len) accesses c has =
         λ x. absurd (none_placed accesses accesses refl (read_none catalogue size place slot off len accesses c x) has)
@@ -130,7 +130,7 @@ module _ (s : ℕ) (f : Closed) where
         subst (λ (l : List Completed). OneInstalled (r ∷ rs) l f.mark) (sym x.5)
         (⊎_elim
         (λ here. inl (request_installed catalogue size place r x.0 x.2 here x.6))
-        (λ later. inr (either_way (severs r x.2) _ _ (OneInstalled rs x.3 f.mark)
+        (λ later. inr (either_way {R = OneInstalled rs x.3 f.mark} (severs r x.2)
         (λ _ y. absurd (none_placed x.1 [] y.0 refl later))
         (λ _ y. chain_installed (next_member place) rs x.1 x.3 later y) x.7))
         (has_either (placed x.0) (placed x.1) s f (subst (λ (l : List (ℕ × Closed)). Has l s f) (ap placed x.4 ∙ placed-append x.0 x.1) has)))

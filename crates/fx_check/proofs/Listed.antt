@@ -8,7 +8,7 @@ use Rattle.std.proofs.lemmas.List.{length-replicate}
 use Rattle.std.proofs.lemmas.List.Elements.{All-replicate}
 use Rattle.fx_order.proofs.EntriesMade.{done_ones, entries_made}
 use Rattle.fx_check.specs.Places.{own_places}
-use Rattle.fx_order.proofs.Cases.{either_case}
+use Rattle.fx_chain.proofs.Cases.{either_case}
 
 -- with one more entry behind the list
 abbrev pub last_place : Place → ℕ → ℤ → List AccessPlace
@@ -105,7 +105,7 @@ pub chain_count : (catalogue : List FileEntry) (size : ℕ) (place : Place) (req
 chain_count catalogue size place [] accesses places completions x = ap length x.1 ∙ sym (ap length x.0)
 chain_count catalogue size place (request ∷ requests) accesses places completions x =
     let own = own_listed catalogue size place request.operation x.0 x.3 x.8 in
-    let behind : length x.2 ≡ length x.1 = either_case (severs request x.3) _ _ _ (λ y. ap length y.1 ∙ sym (ap length y.0))
+    let behind : length x.2 ≡ length x.1 = either_case (severs request x.3) (λ y. ap length y.1 ∙ sym (ap length y.0))
     (chain_count catalogue size (next_member place) requests x.1 x.2 x.4) x.9 in
     let one = ap length x.5 ∙ length-append x.0 x.1 in
     let two = ap length x.7 ∙ length-append (own_places place request.operation x.0) x.2 in
@@ -116,7 +116,7 @@ pub chain_same : (catalogue : List FileEntry) (size : ℕ) (place : Place) (requ
     (completions : List Completed) → IsChainListed catalogue size place requests accesses places completions → AreOfChain place.chain places
 chain_same catalogue size place [] accesses places completions x = subst (AreOfChain place.chain) (sym x.1) (none_of_chain place.chain)
 chain_same catalogue size place (request ∷ requests) accesses places completions x =
-    let behind : AreOfChain place.chain x.2 = either_case (severs request x.3) _ _ _
+    let behind : AreOfChain place.chain x.2 = either_case (severs request x.3)
     (λ y. subst (AreOfChain place.chain) (sym y.1) (none_of_chain place.chain))
     (chain_same catalogue size (next_member place) requests x.1 x.2 x.4) x.9 in
     subst (AreOfChain place.chain) (sym x.7)

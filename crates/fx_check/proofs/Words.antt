@@ -11,6 +11,7 @@ pub use Rattle.fx_base.specs.declared.open_file.Closed.{Closed}
 pub use Rattle.fx_base.specs.declared.tag_completion.TagCompletion.{TagCompletion}
 pub use Rattle.fx_calls.proofs.Entries.{all_closed, all_of_ring, few_of_ring, if_ok_then}
 pub use Rattle.fx_calls.specs.InRange.{AreInRange, IsInRange}
+pub use Rattle.fx_chain.proofs.Cases.{either_way}
 pub use Rattle.fx_chain.specs.Accepted.{IsAccepted, IsChain, members_of}
 pub use Rattle.fx_chain.specs.Answers.{installed}
 pub use Rattle.fx_chain.specs.Completed.{Completed, all_completed, completed, completed_of, next_member}
@@ -48,7 +49,6 @@ pub use Rattle.fx_lines.specs.declared.report.ReportLines.{ReportLines}
 pub use Rattle.fx_order.proofs.ChainFront.{length-done}
 pub use Rattle.fx_order.proofs.FirstAndRest.{first_and_rest}
 pub use Rattle.fx_order.proofs.Placed.{Has, placed}
-pub use Rattle.fx_order.proofs.PlacedNew.{either_way}
 pub use Rattle.fx_order.proofs.RequestCases.{allocates, puts, updates}
 pub use Rattle.fx_order.specs.Access.{Table, accesses_of, accesses_of_chain}
 pub use Rattle.fx_order.specs.Order.{IsOneOrder, table_of}

@@ -4,11 +4,8 @@ use Rattle.fx_judge.proofs.Words.{subst, ◌∙◌, Ok, Err, append-nil, MatchBo
 use Rattle.fx_judge.proofs.Words.{next_member, refusal, canceled, severs, Asked, Place, IsRequestDone, IsChainDone, Access, Fits, IsPossible}
 use Rattle.fx_judge.proofs.Words.{Possibly, Tells, TellsMember, MemberClaims, Claim, Stop, Refuted}
 use Rattle.std.proofs.lemmas.List.{drop_all}
+use Rattle.fx_order.proofs.ChainFront.{both_parts}
 use Rattle.fx_judge.proofs.Entries.{all_zip_append}
-
-pub both_parts : {X : Type 0} (P : X → Type 0) (xs ys : List X) → AllByRecursion P (xs ++ ys) → AllByRecursion P xs × AllByRecursion P ys
-both_parts P [] ys all = (tt, all)
-both_parts P (x ∷ xs) ys all = let rest = both_parts P xs ys all.1 in ((all.0, rest.0), rest.1)
 
 module _ (catalogue : List FileEntry) (size : ℕ) (range : ℕ × ℕ) (closes : List Closed) (place : Place) (request : Asked) (requests : List Asked)
     (c : Completed) (cs : List Completed) where

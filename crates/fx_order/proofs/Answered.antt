@@ -8,7 +8,7 @@ use Rattle.fx_order.proofs.Words.{first_member, Operation, Opens, Reads, Closes,
 use Rattle.fx_order.proofs.Words.{Clears, Takes, Allocates, FindsFull, accesses_of_chain, Access, ChainAccess, Makes, IsRefused, IsOpenDone}
 use Rattle.fx_order.proofs.Words.{IsReadDone, IsCloseDone, IsEntryDone, AreEntriesDone, IsUpdateDone, IsRequestDone, IsChainDone, AreChainsDone}
 use Rattle.fx_order.proofs.Words.{gives}
-use Rattle.fx_order.proofs.Cases.{same_cases}
+use Rattle.fx_chain.proofs.Cases.{same_cases}
 use Rattle.fx_order.proofs.AtOnce.{Does, release_of, no_file}
 use Rattle.fx_order.proofs.Made.{AllDo}
 use Rattle.fx_ring.proofs.Rings.{file_told}
@@ -54,13 +54,13 @@ module _ (accesses : List Access) (events : List Action) (all : AllDo accesses e
   opened : (size : ℕ) (place : Place) (entry : ℕ) (target : Target) (c : Completed)
       → IsOpenDone size place entry target accesses c → OpensAt size place entry target events c
   opened size place entry (Slot slot) c =
-      same_cases (size == 0) _ _ _ _ (refused place ENXIO c)
-      (same_cases (nat_le size slot) _ _ _ _ (refused place EINVAL c)
+      same_cases (size == 0) (refused place ENXIO c)
+      (same_cases (nat_le size slot) (refused place EINVAL c)
       (λ x.
       let does = one_done (Puts slot (installed place 0 entry) x.0) accesses events x.1.0 all in
       (does.0, does.1, does.2, closes_at_once ([] ▷ Put slot does.0 does.1) does.1 events does.4, x.1.1)))
   opened size place entry Any c =
-      same_cases (size == 0) _ _ _ _ (refused place ENFILE c)
+      same_cases (size == 0) (refused place ENFILE c)
       (λ x. elim x [
         | inl y ↦
             let does = one_done (Allocates y.0 (installed place 0 entry)) accesses events y.1.0 all in
@@ -88,7 +88,7 @@ module _ (accesses : List Access) (events : List Action) (all : AllDo accesses e
   read : (catalogue : List FileEntry) (size : ℕ) (place : Place) (slot off len : ℕ) (c : Completed)
       → IsReadDone catalogue size place slot off len accesses c → ReadsFrom catalogue size place slot off len events c
   read catalogue size place slot off len c =
-      same_cases (nat_le size slot) _ _ _ _ (refused place EBADF c)
+      same_cases (nat_le size slot) (refused place EBADF c)
       (λ x. elim x [
         | inl y ↦ inl (y.0, refused place ENOMEM c y.1)
         | inr y ↦ inr (elim y [
@@ -99,8 +99,8 @@ module _ (accesses : List Access) (events : List Action) (all : AllDo accesses e
 
   emptied : (size : ℕ) (place : Place) (slot : ℕ) (c : Completed) → IsCloseDone size place slot accesses c → Empties size place slot events c
   emptied size place slot c =
-      same_cases (size == 0) _ _ _ _ (refused place ENXIO c)
-      (same_cases (nat_le size slot) _ _ _ _ (refused place EINVAL c)
+      same_cases (size == 0) (refused place ENXIO c)
+      (same_cases (nat_le size slot) (refused place EINVAL c)
       (λ x. elim x [
         | inl y ↦
             let does = one_done (Takes slot None) accesses events y.0 all in
@@ -137,16 +137,16 @@ updated : (accesses : List Access) (events : List Action) → AllDo accesses eve
     → (entries size : ℕ) (place : Place) (off : ℕ) (list : List ℤ) (c : Completed)
     → IsUpdateDone entries size place off list accesses c → UpdatesFrom entries size place off list events c
 updated accesses events all entries size place off list c =
-    same_cases (size == 0) _ _ _ _ (refused accesses events all place ENXIO c)
-    (same_cases (length list == 0 || nat_lt size (off + length list)) _ _ _ _ (refused accesses events all place EINVAL c)
-    (same_cases (list_any (is_bad_entry entries) list) _ _ _ _ (refused accesses events all place EBADF c)
+    same_cases (size == 0) (refused accesses events all place ENXIO c)
+    (same_cases (length list == 0 || nat_lt size (off + length list)) (refused accesses events all place EINVAL c)
+    (same_cases (list_any (is_bad_entry entries) list) (refused accesses events all place EBADF c)
     (λ x. (list_applied accesses events all place 0 off list x.0, x.1))))
 
 answered : (accesses : List Access) (events : List Action) → AllDo accesses events
     → (catalogue : List FileEntry) (size : ℕ) (place : Place) (operation : Operation) (c : Completed)
     → IsRequestDone catalogue size place operation accesses c → Answers catalogue size place operation events c
 answered accesses events all catalogue size place (Opens name target) c =
-    same_cases (has_name name catalogue) _ _ _ _ (λ x. (x.0, x.1, opened accesses events all size place x.0 target c x.2))
+    same_cases (has_name name catalogue) (λ x. (x.0, x.1, opened accesses events all size place x.0 target c x.2))
     (refused accesses events all place ENOENT c)
 answered accesses events all catalogue size place (Reads slot off len) c = read accesses events all catalogue size place slot off len c
 answered accesses events all catalogue size place (Closes slot) c = emptied accesses events all size place slot c
@@ -166,7 +166,7 @@ chain_explained accesses events all catalogue size place (request ∷ requests) 
       two.whole,
       x.5,
       answered x.0 two.first two.do_first catalogue size place request.operation x.2 x.6,
-      same_cases (severs request x.2) _ _ _ _ (λ y. (none_done x.1 two.last y.0 two.do_last, y.1))
+      same_cases (severs request x.2) (λ y. (none_done x.1 two.last y.0 two.do_last, y.1))
           (chain_explained x.1 two.last two.do_last catalogue size (next_member place) requests x.3) x.7,
     )
 

@@ -2,8 +2,9 @@
 use Rattle.fx_order.proofs.Words.{◌≡◌, ◌↔◌, ℕ, ◌+◌, Bool, false, IsTrue, List, [], ◌∷◌, ◌++◌, length, take, drop, refl, sym, ap, subst, ◌∙◌, arith}
 use Rattle.fx_order.proofs.Words.{min, MatchBool, when_false, take-append-drop, length-append, take-append_seam, drop-append_seam, FileEntry}
 use Rattle.fx_order.proofs.Words.{Completed, next_member, canceled, severs, Asked, Place, Access, IsChainDone, IsRequestDone}
+use Rattle.std.specs.List.{AllByRecursion}
 use Rattle.fx_chain.proofs.ChainGoesOn.{canceled_count}
-use Rattle.fx_order.proofs.Cases.{either_way}
+use Rattle.fx_chain.proofs.Cases.{either_way}
 
 -- the first part of a list of a known length
 pub front_is : {X : Type 0} (xs ys zs : List X) (n : ℕ) → zs ≡ xs ++ ys → length xs ≡ n → (take n zs ≡ xs) × (drop n zs ≡ ys)
@@ -11,6 +12,11 @@ front_is xs ys zs n is count = (
   (λ i. take (sym count i) (is i)) ∙ take-append_seam xs ys,
   (λ i. drop (sym count i) (is i)) ∙ drop-append_seam xs ys,
 )
+
+-- what holds of each of both parts
+pub both_parts : {X : Type 0} (P : X → Type 0) (xs ys : List X) → AllByRecursion P (xs ++ ys) → AllByRecursion P xs × AllByRecursion P ys
+both_parts P [] ys all = (tt, all)
+both_parts P (x ∷ xs) ys all = let rest = both_parts P xs ys all.1 in ((all.0, rest.0), rest.1)
 
 module _ (catalogue : List FileEntry) (size : ℕ) (place : Place) (request : Asked) (requests : List Asked) (accesses : List Access)
     (c : Completed) (cs : List Completed) (made : ℕ) where
@@ -60,7 +66,7 @@ pub length-done : (catalogue : List FileEntry) (size : ℕ) (place : Place) (req
 length-done catalogue size place [] accesses cs x = ap length x.1
 length-done catalogue size place (request ∷ requests) accesses cs x =
     let rest : length x.3 ≡ length requests =
-    either_way (severs request x.2) _ _ (length x.3 ≡ length requests)
+    either_way {R = length x.3 ≡ length requests} (severs request x.2)
     (λ _ y. ap length y.1 ∙ canceled_count (next_member place) requests)
     (λ _. length-done catalogue size (next_member place) requests x.1 x.3) x.7 in
     ap length x.5 ∙ omega arith

@@ -8,7 +8,7 @@ use Rattle.fx_order.proofs.Words.{entry_installs, list_installs, installs_of, al
 use Rattle.fx_order.proofs.Words.{has, lacks, kept_lacking, within_lacking, none_within}
 use Rattle.fx_order.proofs.AtOnce.{installs}
 use Rattle.fx_order.proofs.Made.{installs_in}
-use Rattle.fx_order.proofs.Cases.{either_case}
+use Rattle.fx_chain.proofs.Cases.{either_case}
 use Rattle.fx_order.proofs.RequestCases.{allocates, closes, puts, reads, updates}
 
 installs_in-append : (xs ys : List Access) → installs_in (xs ++ ys) ≡ installs_in xs + installs_in ys
@@ -48,7 +48,7 @@ list_few place in_list slot (entry ∷ list) accesses x =
 request_few : (catalogue : List FileEntry) (size : ℕ) (place : Place) (operation : Operation) (accesses : List Access) (c : Completed)
     → IsRequestDone catalogue size place operation accesses c → InstallAtMost (installs_of operation) accesses
 request_few catalogue size place (Opens name target) accesses c =
-    either_case (has_name name catalogue) _ _ _ (λ x. open_few size place x.0 target accesses c x.2) (λ x. are_few 1 accesses [] x.0 (omega arith))
+    either_case (has_name name catalogue) (λ x. open_few size place x.0 target accesses c x.2) (λ x. are_few 1 accesses [] x.0 (omega arith))
 request_few catalogue size place (Reads slot off len) accesses c =
     reads size place (λ l _. InstallAtMost 0 l) (λ _. omega arith) accesses c catalogue slot off len (omega arith) (λ _. omega arith)
 request_few catalogue size place (Closes slot) accesses c =
@@ -63,7 +63,7 @@ chain_few catalogue size place [] accesses cs x = are_few (all_installs []) acce
 chain_few catalogue size place (request ∷ requests) accesses cs x =
     let one : installs_in x.0 ≤ installs_of request.operation = request_few catalogue size place request.operation x.0 x.2 x.6 in
     let more : installs_in x.1 ≤ all_installs requests =
-    either_case (severs request x.2) _ _ (InstallAtMost (all_installs requests) x.1)
+    either_case {R = InstallAtMost (all_installs requests) x.1} (severs request x.2)
     (λ y. are_few (all_installs requests) x.1 [] y.0 (omega arith))
     (chain_few catalogue size (next_member place) requests x.1 x.3) x.7 in
     let both = installs_in-append x.0 x.1 in

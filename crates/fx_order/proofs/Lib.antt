@@ -1,5 +1,4 @@
 pub mod Words
-pub mod Cases
 pub mod RequestCases
 pub mod Accesses
 pub mod Requests

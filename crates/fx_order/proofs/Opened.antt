@@ -2,7 +2,7 @@
 use Rattle.fx_order.proofs.Words.{◌≡◌, ◌↔◌, inl, inr, ℕ, ◌==◌, nat_le, Bool, true, IsTrue, List, [], ◌∷◌, sym, subst, Option, Some, pos, MatchBool}
 use Rattle.fx_order.proofs.Words.{when_true, has_name, FileEntry, name_at, ENOENT, Closed, installed, Completed, completed, Place, Target, Slot, Any}
 use Rattle.fx_order.proofs.Words.{Puts, Allocates, Access, Makes, IsOpenDone, IsRefused}
-use Rattle.fx_order.proofs.Cases.{same_cases}
+use Rattle.fx_chain.proofs.Cases.{same_cases}
 
 module _ (catalogue : List FileEntry) (name : List ℕ) (size : ℕ) (place : Place) (entry : ℕ) (own : List Access) (c : Completed)
     (at_a_slot : (slot : ℕ) (file : Closed) (removed : Option Closed) → name_at catalogue file.entry ≡ Some name
@@ -13,12 +13,12 @@ module _ (catalogue : List FileEntry) (name : List ℕ) (size : ℕ) (place : Pl
 
   same_open : (target : Target) (x : ℕ) → name_at catalogue x ≡ Some name → IsOpenDone size place x target own c → IsOpenDone size place entry target own c
   same_open (Slot slot) x named =
-      same_cases (size == 0) _ _ _ _ (λ r. r)
-      (same_cases (nat_le size slot) _ _ _ _ (λ r. r)
+      same_cases (size == 0) (λ r. r)
+      (same_cases (nat_le size slot) (λ r. r)
       (λ y. subst (λ (n : ℕ). (removed : Option Closed) × Makes (Puts slot (installed place 0 n) removed) (completed place (pos 0) []) own c)
       (same_entry x (at_a_slot slot (installed place 0 x) y.0 named y.1.0)) y))
   same_open Any x named =
-      same_cases (size == 0) _ _ _ _ (λ r. r)
+      same_cases (size == 0) (λ r. r)
       (λ y. elim y [
         | inl z ↦ inl (subst (λ (n : ℕ). (slot : ℕ) × Makes (Allocates slot (installed place 0 n)) (completed place (pos slot) []) own c)
             (same_entry x (at_any_slot z.0 (installed place 0 x) named z.1.0)) z)

@@ -3,15 +3,16 @@ use Rattle.fx_order.proofs.Words.{◌≡◌, ◌≢◌, inl, inr, ⊎_elim, ℕ,
 use Rattle.fx_order.proofs.Words.{◌∷◌, ◌++◌, filter, length, refl, sym, ap, subst, ◌∙◌, arith, All, list_any, leb-false, ltb-false, All-head}
 use Rattle.fx_order.proofs.Words.{All-tail, has_name, FileEntry, Errno, Submitted, Closed, IsWithinLimits, installed, is_bad_entry, Completed}
 use Rattle.fx_order.proofs.Words.{next_member, severs, first_member, is_long_update, MOST_MEMBERS, LONGEST_UPDATE, Operation, Opens, Reads, Closes}
-use Rattle.fx_order.proofs.Words.{Updates, Asked, Place, Target, Slot, Any, by_equality, or_left, or_right, accesses_of, accesses_of_chain, Access}
-use Rattle.fx_order.proofs.Words.{ChainAccess, IsOpenDone, IsEntryDone, AreEntriesDone, IsRequestDone, IsChainDone, AreChainsDone, refusal, Puts}
-use Rattle.fx_order.proofs.Words.{Allocates, FindsFull}
+use Rattle.fx_order.proofs.Words.{Updates, Asked, Place, Target, Slot, Any, by_equality, accesses_of, accesses_of_chain, Access, ChainAccess}
+use Rattle.fx_order.proofs.Words.{IsOpenDone, IsEntryDone, AreEntriesDone, IsRequestDone, IsChainDone, AreChainsDone, refusal, Puts, Allocates}
+use Rattle.fx_order.proofs.Words.{FindsFull}
 use Rattle.fx_base.proofs.Entries.{entry_named}
 use Rattle.fx_order.proofs.Accesses.{own_first}
-pub use Rattle.fx_order.proofs.Cases.{either_way}
+use Rattle.fx_chain.proofs.Cases.{either_way}
 use Rattle.fx_order.proofs.Apart.{PlacesOnce, once_between}
 use Rattle.fx_order.proofs.Placed.{Has, has_either, has_left, has_right, placed, placed_by, placed-append, close_none, read_none}
 use Rattle.fx_order.proofs.RequestCases.{allocates, puts, updates}
+use Rattle.std.proofs.lemmas.Bool.{or_parts}
 
 -- each file that was placed is such a one, and no mark was placed twice
 abbrev pub Own : (Closed → Type 0) → List (ℕ × Closed) → Type 0
@@ -152,8 +153,8 @@ module _ (entries : ℕ) (B : ℕ → Type 0) (place : Place) where
       let at : in_list ≡ later.0 = cc in
       let le = later.1 in
       omega arith)
-      (entry in_list slot z x.0 (or_left _ _ good) x.3)
-      (list (in_list + 1) (slot + 1) zs x.1 (λ j low high. reach j (omega arith) (omega arith)) (or_right _ _ good) x.4)
+      (entry in_list slot z x.0 (or_parts _ _ good).0 x.3)
+      (list (in_list + 1) (slot + 1) zs x.1 (λ j low high. reach j (omega arith) (omega arith)) (or_parts _ _ good).1 x.4)
 
 module _ (catalogue : List FileEntry) (size : ℕ) (B : ℕ → ℕ → Type 0) where
   abbrev entries : ℕ
@@ -162,7 +163,7 @@ module _ (catalogue : List FileEntry) (size : ℕ) (B : ℕ → ℕ → Type 0) 
   request : (place : Place) (operation : Operation) (accesses : List Access) (c : Completed) → Reaches (B place.member) operation
       → IsRequestDone catalogue size place operation accesses c → OwnOf (IsListed entries (B place.member) place 0) accesses
   request place (Opens name target) accesses c reach =
-      either_way (has_name name catalogue) _ _ _
+      either_way (has_name name catalogue)
       (λ _ x. opens entries (B place.member) place size x.0 target accesses c reach (entry_named catalogue x.0 name x.1) x.2)
       (λ _ x. own_none (IsListed entries (B place.member) place 0) accesses (ap placed x.0))
   request place (Reads slot off len) accesses c reach =
@@ -188,7 +189,7 @@ module _ (catalogue : List FileEntry) (size : ℕ) (B : ℕ → ℕ → Type 0) 
       let le = later.2 in
       omega arith)
       (request place r.operation x.0 x.2 reach.0 x.6)
-      (either_way (severs r x.2) _ _ _
+      (either_way (severs r x.2)
       (λ _ y. own_none (IsOfMembers entries B (next_member place)) x.1 (ap placed y.0))
       (λ _ y. chain (next_member place) rs x.1 x.3 reach.1 y) x.7)
 

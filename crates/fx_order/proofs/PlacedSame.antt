@@ -4,7 +4,7 @@ use Rattle.fx_order.proofs.Words.{◌∷◌, ◌++◌, length, refl, sym, ap, su
 use Rattle.fx_order.proofs.Words.{IsCatalogue, installed, is_bad_entry, Completed, next_member, severs, first_member, canceled, Operation, Opens}
 use Rattle.fx_order.proofs.Words.{Reads, Closes, Updates, Asked, Place, Target, Slot, Any, by_equality, accesses_of_chain, Access, ChainAccess}
 use Rattle.fx_order.proofs.Words.{IsOpenDone, IsEntryDone, AreEntriesDone, IsUpdateDone, IsRequestDone, IsChainDone, AreChainsDone}
-use Rattle.fx_order.proofs.Cases.{both_ways}
+use Rattle.fx_chain.proofs.Cases.{both_ways}
 use Rattle.fx_order.proofs.ChainFront.{length-done}
 use Rattle.fx_order.proofs.Placed.{placed, placed-append, close_none, read_none}
 
@@ -23,11 +23,11 @@ module _ (one other : List Access) (c : Completed) where
   opens : (size : ℕ) (place : Place) (entry : ℕ) (target : Target) → IsOpenDone size place entry target one c
       → IsOpenDone size place entry target other c → PlaceSame one other
   opens size place entry (Slot slot) =
-      both_ways (size == 0) _ _ _ _ _ (λ x y. both_none one other (ap placed x.0) (ap placed y.0))
-      (both_ways (nat_le size slot) _ _ _ _ _ (λ x y. both_none one other (ap placed x.0) (ap placed y.0))
+      both_ways (size == 0) (λ x y. both_none one other (ap placed x.0) (ap placed y.0))
+      (both_ways (nat_le size slot) (λ x y. both_none one other (ap placed x.0) (ap placed y.0))
       (λ x y. ap placed x.1.0 ∙ sym (ap placed y.1.0)))
   opens size place entry Any =
-      both_ways (size == 0) _ _ _ _ _ (λ x y. both_none one other (ap placed x.0) (ap placed y.0))
+      both_ways (size == 0) (λ x y. both_none one other (ap placed x.0) (ap placed y.0))
       (λ x y. elim x [
         | inl p ↦ elim y [
           | inl q ↦ let same : pos p.0 ≡ pos q.0 = (λ i. (sym p.1.1 i).res) ∙ (λ i. (q.1.1 i).res) in
@@ -64,16 +64,16 @@ list_same place in_list slot (z ∷ zs) one other x y =
 update_same : (entries size : ℕ) (place : Place) (off : ℕ) (zs : List ℤ) (one other : List Access) (c : Completed)
     → IsUpdateDone entries size place off zs one c → IsUpdateDone entries size place off zs other c → PlaceSame one other
 update_same entries size place off zs one other c =
-    both_ways (size == 0) _ _ _ _ _ (λ x y. both_none one other (ap placed x.0) (ap placed y.0))
-    (both_ways (length zs == 0 || nat_lt size (off + length zs)) _ _ _ _ _ (λ x y. both_none one other (ap placed x.0) (ap placed y.0))
-    (both_ways (list_any (is_bad_entry entries) zs) _ _ _ _ _ (λ x y. both_none one other (ap placed x.0) (ap placed y.0))
+    both_ways (size == 0) (λ x y. both_none one other (ap placed x.0) (ap placed y.0))
+    (both_ways (length zs == 0 || nat_lt size (off + length zs)) (λ x y. both_none one other (ap placed x.0) (ap placed y.0))
+    (both_ways (list_any (is_bad_entry entries) zs) (λ x y. both_none one other (ap placed x.0) (ap placed y.0))
     (λ x y. list_same place 0 off zs one other x.0 y.0)))
 
 module _ (catalogue : List FileEntry) (is : IsCatalogue catalogue) (size : ℕ) where
   request_same : (place : Place) (operation : Operation) (one other : List Access) (c : Completed)
       → IsRequestDone catalogue size place operation one c → IsRequestDone catalogue size place operation other c → PlaceSame one other
   request_same place (Opens name target) one other c =
-      both_ways (has_name name catalogue) _ _ _ _ _
+      both_ways (has_name name catalogue)
       (λ x y. opens one other c size place x.0 target x.2
       (subst (λ n. IsOpenDone size place n target other c) (is.distinct y.0 x.0 name y.1 x.1) y.2))
       (λ x y. both_none one other (ap placed x.0) (ap placed y.0))
@@ -93,7 +93,7 @@ module _ (catalogue : List FileEntry) (is : IsCatalogue catalogue) (size : ℕ) 
       let same = heads x.2 y.2 x.3 y.3 (sym x.5 ∙ y.5) in
       same_parts one other x.0 x.1 y.0 y.1 x.4 y.4
       (request_same place r.operation x.0 y.0 x.2 x.6 (subst (IsRequestDone catalogue size place r.operation y.0) same.0 y.6))
-      (both_ways (severs r x.2) _ _ _ _ _
+      (both_ways (severs r x.2)
       (λ p q. ap placed p.0 ∙ sym (ap placed q.0))
       (λ p q. chain_same (next_member place) rs x.1 y.1 x.3 p (subst (IsChainDone catalogue size (next_member place) rs y.1) same.1 q))
       x.7 (subst (λ d. MatchBool (severs r d) ((y.1 ≡ []) × (y.3 ≡ canceled (next_member place) rs)) (IsChainDone catalogue size (next_member place) rs y.1 y.3)) same.0 y.7))

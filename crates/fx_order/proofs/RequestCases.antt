@@ -3,7 +3,7 @@ use Rattle.fx_order.proofs.Words.{◌≡◌, inl, inr, ℕ, ◌+◌, ◌==◌, �
 use Rattle.fx_order.proofs.Words.{Some, None, list_any, FileEntry, Errno, EBADF, EINVAL, ENFILE, ENOMEM, ENXIO, Closed, installed, is_bad_entry}
 use Rattle.fx_order.proofs.Words.{Completed, completed, refusal, Place, Any, Slot, Looks, Puts, Takes, Allocates, FindsFull, Access, IsRefused, gives}
 use Rattle.fx_order.proofs.Words.{IsOpenDone, IsReadDone, IsCloseDone, IsUpdateDone, AreEntriesDone}
-use Rattle.fx_order.proofs.Cases.{either_way}
+use Rattle.fx_chain.proofs.Cases.{either_way}
 
 module _ (size : ℕ) (place : Place) (P : List Access → Completed → Type 0) (refused : (errno : Errno) → P [] (refusal place errno))
     (own : List Access) (c : Completed) where
@@ -16,17 +16,17 @@ module _ (size : ℕ) (place : Place) (P : List Access → Completed → Type 0)
   pub puts : (entry slot : ℕ) → ((removed : Option Closed) → P (Puts slot (installed place 0 entry) removed ∷ []) (completed place (pos 0) []))
       → IsOpenDone size place entry (Slot slot) own c → P own c
   puts entry slot put =
-      either_way (size == 0) _ _ _ (λ _. none ENXIO) (λ _. either_way (nat_le size slot) _ _ _ (λ _. none EINVAL) (λ _ x. same _ _ (put x.0) x.1))
+      either_way (size == 0) (λ _. none ENXIO) (λ _. either_way (nat_le size slot) (λ _. none EINVAL) (λ _ x. same _ _ (put x.0) x.1))
 
   pub allocates : (entry : ℕ) → ((slot : ℕ) → P (Allocates slot (installed place 0 entry) ∷ []) (completed place (pos slot) []))
       → P (FindsFull ∷ []) (refusal place ENFILE) → IsOpenDone size place entry Any own c → P own c
   allocates entry free full =
-      either_way (size == 0) _ _ _ (λ _. none ENFILE) (λ _ x. elim x [ inl y ↦ same _ _ (free y.0) y.1 | inr y ↦ same _ _ full y ])
+      either_way (size == 0) (λ _. none ENFILE) (λ _ x. elim x [ inl y ↦ same _ _ (free y.0) y.1 | inr y ↦ same _ _ full y ])
 
   pub reads : (catalogue : List FileEntry) (slot off len : ℕ) → P (Looks slot None ∷ []) (refusal place EBADF)
       → ((file : Closed) → P (Looks slot (Some file) ∷ []) (gives catalogue place file off len))
       → IsReadDone catalogue size place slot off len own c → P own c
-  reads catalogue slot off len missed found = either_way (nat_le size slot) _ _ _ (λ _. none EBADF) (λ _ x. elim x [
+  reads catalogue slot off len missed found = either_way (nat_le size slot) (λ _. none EBADF) (λ _ x. elim x [
     | inl y ↦ none ENOMEM y.1
     | inr y ↦ elim y [ inl z ↦ same _ _ missed z | inr z ↦ same _ _ (found z.0) z.1 ]
   ])
@@ -34,7 +34,7 @@ module _ (size : ℕ) (place : Place) (P : List Access → Completed → Type 0)
   pub closes : (slot : ℕ) → P (Takes slot None ∷ []) (refusal place EBADF)
       → ((file : Closed) → P (Takes slot (Some file) ∷ []) (completed place (pos 0) [])) → IsCloseDone size place slot own c → P own c
   closes slot missed found =
-      either_way (size == 0) _ _ _ (λ _. none ENXIO) (λ _. either_way (nat_le size slot) _ _ _ (λ _. none EINVAL)
+      either_way (size == 0) (λ _. none ENXIO) (λ _. either_way (nat_le size slot) (λ _. none EINVAL)
       (λ _ x. elim x [ inl y ↦ same _ _ missed y | inr y ↦ same _ _ (found y.0) y.1 ]))
 
   pub updates : (entries off : ℕ) (list : List ℤ)
@@ -42,7 +42,7 @@ module _ (size : ℕ) (place : Place) (P : List Access → Completed → Type 0)
       → AreEntriesDone place 0 off list own → P own (completed place (pos (length list)) []))
       → IsUpdateDone entries size place off list own c → P own c
   updates entries off list applied =
-      either_way (size == 0) _ _ _ (λ _. none ENXIO)
-      (λ _. either_way (length list == 0 || nat_lt size (off + length list)) _ _ _ (λ _. none EINVAL)
-      (λ inside. either_way (list_any (is_bad_entry entries) list) _ _ _ (λ _. none EBADF)
+      either_way (size == 0) (λ _. none ENXIO)
+      (λ _. either_way (length list == 0 || nat_lt size (off + length list)) (λ _. none EINVAL)
+      (λ inside. either_way (list_any (is_bad_entry entries) list) (λ _. none EBADF)
       (λ good x. same own _ (applied inside good x.0) (refl, x.1))))

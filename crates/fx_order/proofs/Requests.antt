@@ -1,12 +1,12 @@
 -- What explains an answer by steps explains it by their accesses.
-use Rattle.fx_order.proofs.Words.{◌≡◌, inl, inr, ℕ, zero, suc, ◌+◌, ◌==◌, ◌||◌, nat_le, nat_lt, ℤ, pos, negsuc, List, [], ◌∷◌}
-use Rattle.fx_order.proofs.Words.{length, map, sym, ap, subst, ◌∙◌, Option, Some, None, list_any, append-nil, FileEntry, has_name, Errno}
-use Rattle.fx_order.proofs.Words.{ENOENT, ENXIO, EBADF, ENOMEM, EINVAL, ENFILE, Closed, File, Event, Action, Look, Release, Put, Clear, Take, ◌▷◌}
-use Rattle.fx_order.proofs.Words.{action_of, part_of_chain, identity_of, Refuses, MayClose, OpensAt, ReadsFrom, Empties, AppliesEntry, AppliesList}
-use Rattle.fx_order.proofs.Words.{UpdatesFrom, Answers, is_bad_entry, Completed, next_member, Explains, severs, first_member, Operation, Opens, Reads}
-use Rattle.fx_order.proofs.Words.{Closes, Updates, Asked, Place, Target, Slot, Any, ExplainsParts, Puts, Allocates, Access, IsRefused, IsOpenDone}
-use Rattle.fx_order.proofs.Words.{IsReadDone, IsCloseDone, IsEntryDone, AreEntriesDone, IsUpdateDone, IsRequestDone, IsChainDone, AreChainsDone}
-use Rattle.fx_order.proofs.Cases.{same_cases}
+use Rattle.fx_order.proofs.Words.{◌≡◌, inl, inr, ℕ, zero, suc, ◌+◌, ◌==◌, ◌||◌, nat_le, nat_lt, ℤ, pos, negsuc, List, [], ◌∷◌, length, map, sym, ap}
+use Rattle.fx_order.proofs.Words.{subst, ◌∙◌, Option, Some, None, list_any, append-nil, FileEntry, has_name, Errno, ENOENT, ENXIO, EBADF, ENOMEM}
+use Rattle.fx_order.proofs.Words.{EINVAL, ENFILE, Closed, File, Event, Action, Look, Release, Put, Clear, Take, ◌▷◌, action_of, part_of_chain}
+use Rattle.fx_order.proofs.Words.{identity_of, Refuses, MayClose, OpensAt, ReadsFrom, Empties, AppliesEntry, AppliesList, UpdatesFrom, Answers}
+use Rattle.fx_order.proofs.Words.{is_bad_entry, Completed, next_member, Explains, severs, first_member, Operation, Opens, Reads, Closes, Updates}
+use Rattle.fx_order.proofs.Words.{Asked, Place, Target, Slot, Any, ExplainsParts, Puts, Allocates, Access, IsRefused, IsOpenDone, IsReadDone}
+use Rattle.fx_order.proofs.Words.{IsCloseDone, IsEntryDone, AreEntriesDone, IsUpdateDone, IsRequestDone, IsChainDone, AreChainsDone}
+use Rattle.fx_chain.proofs.Cases.{same_cases}
 use Rattle.fx_order.proofs.Accesses.{accesses_in, accesses_in-then, order_in, accesses_of_chain-order_in}
 
 accesses_may_close : (steps : List Action) (removed : Option File) (events : List Action) → MayClose steps removed events
@@ -24,8 +24,8 @@ refused place errno events c refuses = (ap accesses_in refuses.0, refuses.1)
 opened : (size : ℕ) (place : Place) (entry : ℕ) (target : Target) (events : List Action) (c : Completed)
     → OpensAt size place entry target events c → IsOpenDone size place entry target (accesses_in events) c
 opened size place entry (Slot slot) events c =
-    same_cases (size == 0) _ _ _ _ (refused place ENXIO events c)
-    (same_cases (nat_le size slot) _ _ _ _ (refused place EINVAL events c)
+    same_cases (size == 0) (refused place ENXIO events c)
+    (same_cases (nat_le size slot) (refused place EINVAL events c)
     (λ x. (
       identity_of x.1,
       (
@@ -35,7 +35,7 @@ opened size place entry (Slot slot) events c =
       ),
     )))
 opened size place entry Any events c =
-    same_cases (size == 0) _ _ _ _ (refused place ENFILE events c)
+    same_cases (size == 0) (refused place ENFILE events c)
     (λ x. elim x [
       | inl y ↦ inl (y.0, (ap accesses_in y.3 ∙ ap (λ (file : Closed). Allocates y.0 file ∷ []) y.2, y.4))
       | inr y ↦ inr (ap accesses_in y.0, y.1)
@@ -44,7 +44,7 @@ opened size place entry Any events c =
 read : (catalogue : List FileEntry) (size : ℕ) (place : Place) (slot off len : ℕ) (events : List Action) (c : Completed)
     → ReadsFrom catalogue size place slot off len events c → IsReadDone catalogue size place slot off len (accesses_in events) c
 read catalogue size place slot off len events c =
-    same_cases (nat_le size slot) _ _ _ _ (refused place EBADF events c)
+    same_cases (nat_le size slot) (refused place EBADF events c)
     (λ x. elim x [
       | inl y ↦ inl (y.0, refused place ENOMEM events c y.1)
       | inr y ↦ elim y [
@@ -59,8 +59,8 @@ read catalogue size place slot off len events c =
 emptied : (size : ℕ) (place : Place) (slot : ℕ) (events : List Action) (c : Completed) → Empties size place slot events c
     → IsCloseDone size place slot (accesses_in events) c
 emptied size place slot events c =
-    same_cases (size == 0) _ _ _ _ (refused place ENXIO events c)
-    (same_cases (nat_le size slot) _ _ _ _ (refused place EINVAL events c)
+    same_cases (size == 0) (refused place ENXIO events c)
+    (same_cases (nat_le size slot) (refused place EINVAL events c)
     (λ x. elim x [
       | inl y ↦ inl (ap accesses_in y.0, y.1)
       | inr y ↦ inr (y.0.identity, (accesses_may_close ([] ▷ Take slot (Some y.0)) (Some y.0) events y.1, y.2))
@@ -91,15 +91,15 @@ list_applied place in_list slot (entry ∷ list) events x = (
 updated : (entries size : ℕ) (place : Place) (off : ℕ) (list : List ℤ) (events : List Action) (c : Completed)
     → UpdatesFrom entries size place off list events c → IsUpdateDone entries size place off list (accesses_in events) c
 updated entries size place off list events c =
-    same_cases (size == 0) _ _ _ _ (refused place ENXIO events c)
-    (same_cases (length list == 0 || nat_lt size (off + length list)) _ _ _ _ (refused place EINVAL events c)
-    (same_cases (list_any (is_bad_entry entries) list) _ _ _ _ (refused place EBADF events c)
+    same_cases (size == 0) (refused place ENXIO events c)
+    (same_cases (length list == 0 || nat_lt size (off + length list)) (refused place EINVAL events c)
+    (same_cases (list_any (is_bad_entry entries) list) (refused place EBADF events c)
     (λ x. (list_applied place 0 off list events x.0, x.1))))
 
 answered : (catalogue : List FileEntry) (size : ℕ) (place : Place) (operation : Operation) (events : List Action) (c : Completed)
     → Answers catalogue size place operation events c → IsRequestDone catalogue size place operation (accesses_in events) c
 answered catalogue size place (Opens name target) events c =
-    same_cases (has_name name catalogue) _ _ _ _ (λ x. (x.0, x.1, opened size place x.0 target events c x.2)) (refused place ENOENT events c)
+    same_cases (has_name name catalogue) (λ x. (x.0, x.1, opened size place x.0 target events c x.2)) (refused place ENOENT events c)
 answered catalogue size place (Reads slot off len) events c = read catalogue size place slot off len events c
 answered catalogue size place (Closes slot) events c = emptied size place slot events c
 answered catalogue size place (Updates off list) events c = updated (length catalogue) size place off list events c
@@ -117,7 +117,7 @@ explained catalogue size place (request ∷ requests) events completions x = (
   ap accesses_in x.4 ∙ accesses_in-then x.0 x.1,
   x.5,
   answered catalogue size place request.operation x.0 x.2 x.6,
-  same_cases (severs request x.2) _ _ _ _ (λ y. (ap accesses_in y.0, y.1))
+  same_cases (severs request x.2) (λ y. (ap accesses_in y.0, y.1))
       (explained catalogue size (next_member place) requests x.1 x.3) x.7,
 )
 

@@ -1,10 +1,10 @@
 -- What a request may do next, case by case.
-use Rattle.fx_order.proofs.Words.{◌≡◌, ℕ, ◌+◌, ◌==◌, true, false, List, [], ◌∷◌, ◌++◌, length, sym, ap, subst, ◌∙◌, arith, Option, Some, None, refl}
+use Rattle.fx_order.proofs.Words.{◌≡◌, ℕ, ◌+◌, true, false, List, [], ◌∷◌, ◌++◌, length, sym, ap, subst, ◌∙◌, arith, Option, Some, None, refl}
 use Rattle.fx_order.proofs.Words.{FileEntry, Closed, Reads, Closes, Place, Table, Permits, Slot, Any, installed, ◌<◌, by_equality}
-use Rattle.fx_order.proofs.Words.{Contains-append_right, zero, suc, ◌-◌, ◌||◌, nat_lt, ℤ, pos, negsuc, int_le, list_any, is_bad_entry, nat_tests}
-use Rattle.fx_order.proofs.Words.{option_to_list, AreEntriesDone, IsEntryDone, IsOpenDone, Opens, Updates, Target, IsCatalogue, has_name, name_at}
-use Rattle.fx_order.proofs.Words.{Errno, refusal, Completed, IsUpdateDone}
-use Rattle.fx_order.proofs.Cases.{either_way}
+use Rattle.fx_order.proofs.Words.{Contains-append_right, zero, suc, ◌-◌, ℤ, pos, negsuc, int_le, list_any, is_bad_entry, nat_tests, option_to_list}
+use Rattle.fx_order.proofs.Words.{AreEntriesDone, IsEntryDone, IsOpenDone, Opens, Updates, Target, IsCatalogue, has_name, name_at, Errno, refusal}
+use Rattle.fx_order.proofs.Words.{Completed, IsUpdateDone}
+use Rattle.fx_chain.proofs.Cases.{either_way}
 use Rattle.fx_order.specs.declared.access.Access.{Access}
 use Rattle.fx_order.specs.declared.access.Access.TheVariants.{Allocates, FindsFull, Looks, Puts, Takes, Clears}
 use Rattle.std.specs.Prelude.{Contains}
@@ -113,55 +113,32 @@ module _ (table : Table) (place : Place) (in_list slot : ℕ) (entry : ℤ) (lis
       let same : front ++ a ∷ behind ≡ done.1 = cc in
       rest a front behind (omega (arith, few, some)) (subst (AreEntriesDone place (in_list + 1) (slot + 1) list) (sym same) done.4) may
 
--- what an entry of a kind makes
-pub puts_one : (table : Table) (place : Place) (in_list slot entry : ℕ) (z : ℤ) → z ≡ pos entry
-    → (a : Access) → IsEntryDone place in_list slot z (a ∷ []) → Permits table a → Puts slot (installed place in_list entry) (table.at slot) ≡ a
-puts_one table place in_list slot entry z is a done may =
-    let x = subst (λ (y : ℤ). IsEntryDone place in_list slot y (a ∷ [])) is done in
-    let made : a ≡ Puts slot (installed place in_list entry) x.0 = only_one [] [] a _ x.1 in
-    let at : x.0 ≡ table.at slot = (subst (Permits table) made may).1 in
-    ap (λ (f : Option Closed). Puts slot (installed place in_list entry) f) (sym at) ∙ sym made
-
 module _ (catalogue : List FileEntry) (table : Table) (place : Place) (made off : ℕ) (list : List ℤ) where
   -- an update with an access isn't refused
   accepted : (front behind : List Access) (a : Access) (c : Completed)
       → IsUpdateDone (length catalogue) table.size place off list (front ++ a ∷ behind) c
-      → ((length list == 0 || nat_lt table.size (off + length list)) ≡ false) × (list_any (is_bad_entry (length catalogue)) list ≡ false)
-      × AreEntriesDone place 0 off list (front ++ a ∷ behind)
+      → (list_any (is_bad_entry (length catalogue)) list ≡ false) × AreEntriesDone place 0 off list (front ++ a ∷ behind)
   accepted front behind a c done =
       let own = front ++ a ∷ behind in
-      updates table.size place (λ l _. l ≡ own → ((length list == 0 || nat_lt table.size (off + length list)) ≡ false)
-      × (list_any (is_bad_entry (length catalogue)) list ≡ false) × AreEntriesDone place 0 off list own)
-      (λ _ is. absurd (never_empty front behind a (sym is))) own c (length catalogue) off list (λ inside good x _. (inside, good, x)) done refl
-
-  pub update_past : (length list == 0 || nat_lt table.size (off + length list)) ≡ true → (choices : List Access)
-      → HasEach catalogue table place (Updates off list) made choices
-  update_past past choices a (front, behind, c, long, done, may) =
-      let bad : true ≡ false = sym past ∙ (accepted front behind a c done).0 in absurd (cc)
+      updates table.size place (λ l _. l ≡ own → (list_any (is_bad_entry (length catalogue)) list ≡ false) × AreEntriesDone place 0 off list own)
+      (λ _ is. absurd (never_empty front behind a (sym is))) own c (length catalogue) off list (λ _ good x _. (good, x)) done refl
 
   pub update_bad : list_any (is_bad_entry (length catalogue)) list ≡ true → (choices : List Access)
       → HasEach catalogue table place (Updates off list) made choices
   update_bad wrong choices a (front, behind, c, long, done, may) =
-      let bad : true ≡ false = sym wrong ∙ (accepted front behind a c done).1 in absurd (cc)
+      let bad : true ≡ false = sym wrong ∙ (accepted front behind a c done).0 in absurd (cc)
 
   pub update_each : (choice : Option Access) → IsEntryChoice table place 0 off list made choice → (choices : List Access) → choices ≡ option_to_list choice
       → HasEach catalogue table place (Updates off list) made choices
   update_each choice is choices are a (front, behind, c, long, done, may) =
       subst (λ (l : List Access). Contains l a)
-      (ap option_to_list (sym (is a front behind long (accepted front behind a c done).2 may)) ∙ sym are) (contains_head a [])
+      (ap option_to_list (sym (is a front behind long (accepted front behind a c done).1 may)) ∙ sym are) (contains_head a [])
 
 module _ (catalogue : List FileEntry) (table : Table) (place : Place) (made : ℕ) (name : List ℕ) (target : Target) where
-  -- an open of a name that no entry has
-  pub open_none : has_name name catalogue ≡ false → (choices : List Access) → HasEach catalogue table place (Opens name target) made choices
-  open_none unknown choices a (front, behind, c, long, done, may) =
-      either_way (has_name name catalogue) _ _ (Contains choices a)
-      (λ known _. let bad : true ≡ false = sym known ∙ unknown in absurd (cc))
-      (λ _ x. absurd (never_empty front behind a x.0)) done
-
   -- an open of the entry that has the name
   pub open_each : IsCatalogue catalogue → (entry : ℕ) → name_at catalogue entry ≡ Some name → (choices : List Access)
       → HasEachOpen table place entry target choices → HasEach catalogue table place (Opens name target) made choices
   open_each catalogued entry named choices each a (front, behind, c, long, done, may) =
-      either_way (has_name name catalogue) _ _ (Contains choices a)
+      either_way {R = Contains choices a} (has_name name catalogue)
       (λ _ x. each a front behind c (subst (λ (n : ℕ). IsOpenDone table.size place n target (front ++ a ∷ behind) c) (catalogued.distinct x.0 entry name x.1 named) x.2) may)
       (λ _ x. absurd (never_empty front behind a x.0)) done

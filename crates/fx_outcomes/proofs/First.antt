@@ -11,11 +11,8 @@ use Rattle.fx_outcomes.specs.Nodes.{AreAllStates, AreAtStart, HasEnd, IsListed, 
 use Rattle.fx_outcomes.proofs.Requests.{are_right}
 use Rattle.fx_outcomes.proofs.Chain.{settles}
 use Rattle.fx_outcomes.proofs.PartByPart.{order_by_part}
+use Rattle.fx_order.proofs.ChainFront.{both_parts}
 use Rattle.fx_outcomes.proofs.Playing.{OfChain, Comes, both_said, runs_on}
-
-both_parts : {X : Type 0} (P : X → Type 0) (xs ys : List X) → AllByRecursion P (xs ++ ys) → AllByRecursion P xs × AllByRecursion P ys
-both_parts P [] ys all = (tt, all)
-both_parts P (x ∷ xs) ys all = let rest = both_parts P xs ys all.1 in ((all.0, rest.0), rest.1)
 
 -- the same of each chain, the same whole
 pub told_same : (f g : ℕ → List Completed) (chain : ℕ) (runs : List (List Asked)) → ((q : ℕ) → chain ≤ q → q < chain + length runs → f q ≡ g q)

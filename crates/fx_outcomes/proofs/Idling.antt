@@ -5,7 +5,7 @@ use Rattle.fx_order.proofs.Words.{next_member, canceled, severs, IsRequestDone, 
 use Rattle.fx_base.specs.Identity.{Identity}
 use Rattle.std.specs.List.{AllByRecursion, list_all}
 use Rattle.std.proofs.lemmas.Bool.{and_parts}
-use Rattle.fx_order.proofs.Cases.{either_way}
+use Rattle.fx_chain.proofs.Cases.{either_way}
 use Rattle.fx_order.specs.declared.access.Access.{Access}
 use Rattle.fx_order.specs.declared.access.Access.TheVariants.{Looks}
 use Rattle.fx_outcomes.specs.Idle.{IsLeft, is_read}
@@ -67,7 +67,7 @@ module _ (made : ℕ) where
         let mine = read_done place x.0 x.2 request.operation both.0 x.6 in
         let L : Completed → Type 0 = Left place (request ∷ requests) in
         let on : Completed → Type 0 = Left (next_member place) requests in
-        let rest : All IsLook x.1 × AllByRecursion L x.3 = either_way (severs request x.2) _ _ (All IsLook x.1 × AllByRecursion L x.3)
+        let rest : All IsLook x.1 × AllByRecursion L x.3 = either_way {R = All IsLook x.1 × AllByRecursion L x.3} (severs request x.2)
         (λ _ y. (
           none x.1 y.0,
           subst (AllByRecursion L) (sym y.1) (weaker on L (canceled (next_member place) requests) (later place request requests) (canceled_left (next_member place) requests)),

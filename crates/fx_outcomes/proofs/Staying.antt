@@ -3,7 +3,7 @@ use Rattle.fx_order.proofs.Words.{◌≡◌, inl, inr, ℕ, zero, suc, ◌+◌, 
 use Rattle.fx_order.proofs.Words.{All-cons, All-head, All-tail, All-append, has_name, FileEntry, Completed, Operation, Opens, Reads, Closes, Updates}
 use Rattle.fx_order.proofs.Words.{Asked, Place, Target, Slot, Any, Table, next_member, severs, first_member, IsOpenDone, IsEntryDone, AreEntriesDone}
 use Rattle.fx_order.proofs.Words.{IsRequestDone, IsChainDone, AreChainsDone, accesses_of_chain, by_equality, Errno, refusal, refl}
-use Rattle.fx_order.proofs.Cases.{either_way}
+use Rattle.fx_chain.proofs.Cases.{either_way}
 use Rattle.fx_order.specs.declared.access.Access.{Access}
 use Rattle.fx_order.specs.declared.access.ChainAccess.{ChainAccess}
 use Rattle.fx_outcomes.specs.Parts.{AreParts, Parts, StaysIn}
@@ -54,7 +54,7 @@ module _ (catalogue : List FileEntry) (table : Table) (of_slot : ℕ → ℕ) (p
   request : (place : Place) (own : List Access) (c : Completed) (operation : Operation) → StaysIn table of_slot part operation
       → IsRequestDone catalogue table.size place operation own c → All Stays own
   request place own c (Opens name target) stays =
-      either_way (has_name name catalogue) _ _ _ (λ _ x. opens place own c name x.0 target stays x.2) (λ _ x. none Stays own x.0)
+      either_way (has_name name catalogue) (λ _ x. opens place own c name x.0 target stays x.2) (λ _ x. none Stays own x.0)
   request place own c (Reads slot off len) stays =
       reads table.size place AllStay (none_stay place) own c catalogue slot off len (one Stays _ _ refl (λ at few comes. stays at few comes))
       (λ file. one Stays _ _ refl (λ at few comes. stays at few comes))
@@ -70,7 +70,7 @@ module _ (catalogue : List FileEntry) (table : Table) (of_slot : ℕ → ℕ) (p
   chain place [] accesses cs stay x = none Stays accesses x.0
   chain place (r ∷ run) accesses cs stay x =
       let first = request place x.0 x.2 r.operation (All-head (λ (q : Asked). StaysIn table of_slot part q.operation) r run stay) x.6 in
-      let rest : All Stays x.1 = either_way (severs r x.2) _ _ _ (λ _ y. none Stays x.1 y.0)
+      let rest : All Stays x.1 = either_way (severs r x.2) (λ _ y. none Stays x.1 y.0)
       (λ _ y. chain (next_member place) run x.1 x.3 (All-tail (λ (q : Asked). StaysIn table of_slot part q.operation) r run stay) y) x.7 in
       subst (All Stays) (sym x.4) (All-append Stays x.0 x.1 first rest)
 

@@ -4,9 +4,11 @@ use Rattle.fx_ring.proofs.Words.{[], ◌∷◌, length, sym, ap, subst, ◌∙�
 use Rattle.fx_ring.proofs.Words.{Errno, ENOENT, ENXIO, EBADF, ENOMEM, EINVAL, ENFILE, Mark, Submitted, Closed, ◌▷◌, File, Action, Look, Release, Put}
 use Rattle.fx_ring.proofs.Words.{Clear, Take, Allocate, Full, Answers, OpensAt, ReadsFrom, Empties, UpdatesFrom, AppliesEntry, AppliesList, Refuses}
 use Rattle.fx_ring.proofs.Words.{installed, is_bad_entry, Completed, next_member, Explains, severs, Operation, Opens, Reads, Closes, Updates, Asked}
-use Rattle.fx_ring.proofs.Words.{Place, Target, Slot, Any, Bool, MatchBool, true}
+use Rattle.fx_ring.proofs.Words.{Place, Target, Slot, Any}
 use Rattle.fx_ring.proofs.NewMarks.{Puts, puts_then, puts_so, puts_none, puts_one, puts_may_close}
-use Rattle.fx_base.proofs.Entries.{entry_named, or_left, or_right}
+use Rattle.fx_base.proofs.Entries.{entry_named}
+use Rattle.fx_chain.proofs.Cases.{either_way}
+use Rattle.std.proofs.lemmas.Bool.{or_parts}
 
 -- a file of the catalogue, by its mark
 abbrev pub IsMarked : ℕ → Mark → File → Type 0
@@ -19,11 +21,6 @@ IsListed entries place low f = (j : ℕ) × (low ≤ j) × IsMarked entries (Sub
 -- the file is of one of the members of a chain from this one on
 abbrev pub IsOfMembers : ℕ → Place → File → Type 0
 IsOfMembers entries place f = (m : ℕ) × (j : ℕ) × (place.member ≤ m) × IsMarked entries (Submitted place.submission place.chain m j) f
-
--- what follows from both cases
-pub either_way : (b : Bool) {P Q R : Type 0} → (b ≡ true → P → R) → (b ≡ false → Q → R) → MatchBool b P Q → R
-either_way true here there it = here refl it
-either_way false here there it = there refl it
 
 no_file : (P : File → Type 0) (f : File) → ◌≡◌ {A = Option File} None (Some f) → P f
 no_file P f is = cc
@@ -117,8 +114,8 @@ module _ (entries : ℕ) (place : Place) where
       (λ f at. (j, omega arith, at))
       (λ f at. (at.0, let le = at.1 in omega arith, at.2))
       (later_place j)
-      (applies_entry j slot z own (or_left _ _ good) one)
-      (applies_list (j + 1) (slot + 1) list others (or_right _ _ good) more))
+      (applies_entry j slot z own (or_parts _ _ good).0 one)
+      (applies_list (j + 1) (slot + 1) list others (or_parts _ _ good).1 more))
 
   updates : (size off : ℕ) (list : List ℤ) (events : List Action) (c : Completed) → UpdatesFrom entries size place off list events c
       → Gives place (IsListed entries place 0) events c
