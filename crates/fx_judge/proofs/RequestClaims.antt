@@ -1,12 +1,12 @@
 -- The claims of requests, case by case.
 use Rattle.fx_judge.proofs.Words.{◌≡◌, ◌⊎◌, inl, inr, ℕ, ◌+◌, ◌<◌, ◌≤◌, ◌==◌, ◌||◌, nat_lt, nat_abs, int_lt, Bool, true, false, ℤ, pos, negsuc, List}
 use Rattle.fx_judge.proofs.Words.{[], length, refl, sym, ap, subst, ◌∙◌, arith, eq-eqb, Some, None, Result, slice_index_or, MatchBool-at_true}
-use Rattle.fx_judge.proofs.Words.{MatchBool-at_false, le-leb, lt-leb, lt-ltb, le-ltb, Vec, list_any, has_name, FileEntry, name_at, Errno, ENOENT}
-use Rattle.fx_judge.proofs.Words.{ENXIO, EBADF, EAGAIN, ENOMEM, EBUSY, EINVAL, ENFILE, EMFILE, ECANCELED, Closed, by_equality, installed}
-use Rattle.fx_judge.proofs.Words.{is_bad_entry, Completed, completed, refusal, Place, Opens, Target, Slot, Any, IsRefused, IsOpenDone, IsReadDone}
-use Rattle.fx_judge.proofs.Words.{IsCloseDone, IsUpdateDone, IsRequestDone, AreEntriesDone, Makes, gives, Access, Looks, Puts, Takes, Allocates}
-use Rattle.fx_judge.proofs.Words.{FindsFull, IsResident, Possibly, Tells, Claim, At, Full, Anything, Nothing, NothingToTake, Something, Bytes, Same}
-use Rattle.fx_judge.proofs.Words.{Empty, File, Resident, Stop}
+use Rattle.fx_judge.proofs.Words.{MatchBool-at_false, le-leb, lt-leb, lt-ltb, Vec, list_any, has_name, FileEntry, name_at, Errno, ENOENT, ENXIO}
+use Rattle.fx_judge.proofs.Words.{EBADF, EAGAIN, ENOMEM, EBUSY, EINVAL, ENFILE, EMFILE, ECANCELED, Closed, by_equality, installed, is_bad_entry}
+use Rattle.fx_judge.proofs.Words.{Completed, completed, refusal, Place, Opens, Target, Slot, Any, IsRefused, IsOpenDone, IsReadDone, IsCloseDone}
+use Rattle.fx_judge.proofs.Words.{IsUpdateDone, IsRequestDone, AreEntriesDone, Makes, gives, Access, Looks, Puts, Takes, Allocates, FindsFull}
+use Rattle.fx_judge.proofs.Words.{IsResident, Possibly, Tells, Claim, At, Full, Anything, Nothing, NothingToTake, Something, Bytes, Same, Empty, File}
+use Rattle.fx_judge.proofs.Words.{Resident, Stop}
 use Rattle.fx_judge.proofs.Telling.{tells_so, IsOne}
 use Rattle.std.proofs.Common.{ne_eqb}
 
@@ -207,10 +207,7 @@ module _ (entries size : ℕ) (place : Place) (off : ℕ) (list : List ℤ) (clo
   update_past some past = tells_so (λ own. IsUpdateDone entries size place off list own c) (λ own. IsRefused place EINVAL own c) closes r
       (λ own done. MatchBool-at_true _ _ past (MatchBool-at_false _ _ (ne_eqb size 0 some) done))
 
-  -- a list within the table
-  pub inside : (length list ≡ 0 → ⊥) → off + length list ≤ size → (length list == 0 || nat_lt size (off + length list)) ≡ false
-  inside some within = ap (λ (b : Bool). b || nat_lt size (off + length list)) (ne_eqb (length list) 0 some) ∙ le-ltb size (off + length list) within
-
+  -- a list past the table
   pub outside : size < off + length list → (length list == 0 || nat_lt size (off + length list)) ≡ true
   outside past = by_equality (length list) 0 (λ b. (b || nat_lt size (off + length list)) ≡ true) (λ _. refl) (λ _. lt-ltb size (off + length list) past)
 

@@ -3,7 +3,7 @@ use Rattle.fx_lines.proofs.Words.{◌≡◌, ℕ, true, List, [], ◌∷◌, ◌
 use Rattle.fx_lines.proofs.Words.{StartsWith, flat_map, append_assoc, append-nil, append_cancel_left, take_at, All-head, IsCutPart, IsFront, cut_text}
 use Rattle.fx_lines.proofs.Words.{lines_before, is_without, Reads, IsPrintedFrom}
 use Rattle.std.proofs.lemmas.List.{flat_map_more}
-use Rattle.std.proofs.lemmas.List.Elements.{All-push, All-tail, All-nil}
+use Rattle.std.proofs.lemmas.List.Elements.{All-push, All-tail}
 use Rattle.fx_lines.proofs.Readings.{pair_is}
 
 -- the first lines of a text, and the rest: whatever lines the text has, these are the first of them
@@ -13,14 +13,6 @@ pub record HasFirst {A : Type 0} (print : A → List ℕ) (fits : A → Type 0) 
   pub fit : All fits items
   pub only : (others : List A) (behind : List ℕ) → All fits others → may others behind → text ≡ flat_map print others ++ behind
       → (later : List A) × (others ≡ items ++ later) × All fits later × (rest ≡ flat_map print later ++ behind)
-
-pub none_yet : {A : Type 0} (print : A → List ℕ) (fits : A → Type 0) (may : List A → List ℕ → Type 0) (text : List ℕ)
-    → HasFirst print fits may text [] text
-none_yet print fits may text = record {
-  printed = refl;
-  fit = All-nil fits;
-  only = λ others behind fit ends same. (others, refl, fit, same);
-}
 
 next_of : {A : Type 0} (print : A → List ℕ) (fits : A → Type 0) (may : List A → List ℕ → Type 0)
     (items : List A) (rest : List ℕ) (x : A) (next : List ℕ) → ((behind : List ℕ) → may items behind → rest ≡ behind → ⊥)

@@ -1,8 +1,8 @@
 -- Each file moves to the node of its slot's number, one slot after another.
 use Rattle.fx_plain.proofs.Words.{◌≡◌, ◌≢◌, ℕ, ◌+◌, ◌<◌, ◌≤◌, List, [], ◌∷◌, ◌++◌, length, refl, sym, ap, ◌∙◌, slice_set, Option, Some, None, IfSome}
 use Rattle.fx_plain.proofs.Words.{IsSome, arith, set-set, length-set, get_or-set_same, get_or-set_other, get_or_append_left, Closed, AllPlaced}
-use Rattle.fx_plain.proofs.Words.{AreFiled, IsFiled, IsVacant, IsRenumbered, KeepsFirst, subst, slot_at, node_at, file_named, file_in, opening_slot, moved_node, nodes_without, file_count_of, At}
-use Rattle.fx_plain.proofs.Words.{Gone, sum_by, Node, sum_by-set, set-get_or, HaveOwnNumbers}
+use Rattle.fx_plain.proofs.Words.{IsFiled, IsVacant, subst, slot_at, node_at, file_named, file_in, opening_slot, moved_node, nodes_without}
+use Rattle.fx_plain.proofs.Words.{file_count_of, At, Gone, sum_by, Node, sum_by-set, set-get_or, HaveOwnNumbers}
 use Rattle.std.proofs.Math.Seq.{get_or-append_seam}
 use Rattle.fx_plain.proofs.Cells.{by_equality, each_set}
 use Rattle.fx_plain.proofs.Writes.{has_file-At, inside_of-At}
@@ -135,17 +135,3 @@ module _ (slots : List (Option ℕ)) (old new : List Node) (placed : AllPlaced s
 
   pub still_placed : AllPlaced slots new
   still_placed u n at = let there = placed u n at in (there.0, named_before u n at ∙ there.1)
-
--- and so many nodes are kept and made
-pub renumbered : (slots : List (Option ℕ)) (nodes : List Node) (changed : List (Option ℕ)) (moved last : List Node) (numbers : ℕ)
-    → AreFiled slots nodes changed moved → KeepsFirst moved (length slots) numbers last → IsRenumbered slots nodes changed last numbers
-renumbered slots nodes changed moved last numbers r first = record {
-  files = record {
-    same_size = r.same_size;
-    named = r.named;
-    filed = λ u lt. subst (IsFiled slots nodes u) (sym (first.same u lt)) (r.filed u lt);
-    same_full = r.same_full;
-  };
-  size = first.size;
-  fresh = first.fresh;
-}

@@ -1,6 +1,6 @@
 -- A play goes on by some commands.
-use Rattle.std.proofs.Common.{◌≡◌, ℕ, ◌+◌, ◌<◌, ◌≤◌, List, [], ◌∷◌, ◌++◌, length, refl, sym, ap, subst, ◌∙◌, Option}
-use Rattle.std.proofs.Common.{Some, None, append_assoc, drop, take, slice_index_or, inl, inr, arith}
+use Rattle.std.proofs.Common.{◌≡◌, ℕ, ◌+◌, ◌<◌, ◌≤◌, List, [], ◌∷◌, ◌++◌, length, refl, sym, ap, subst, ◌∙◌, Option, Some, None, append_assoc, drop}
+use Rattle.std.proofs.Common.{take, slice_index_or, inl, inr, arith}
 use Rattle.std.proofs.lemmas.List.{append-nil, map-append, take-append-drop, take_all, take_more}
 use Rattle.std.proofs.lemmas.List.Sorted.{IsPermutation-refl}
 use Rattle.std.proofs.Math.Seq.{take-add}
@@ -38,44 +38,33 @@ fault_maps NoMemory one other f known = f known
 -- what some commands print, with what those behind them print
 
 module _ (next : RingContents) (others : List ℕ) where
+  behind : (P : RingContents → List Instruction → List ℕ → Type 0)
+      → ((ring : RingContents) (back : List Instruction) → ring_of ring ≡ ring_of next → P next back others → P ring back others)
+      → ((ring then : RingContents) (command : Instruction) (commands : List Instruction) (line rest : List ℕ) → Prints ring command then line
+      → P then commands rest → P ring (command ∷ commands) (line ++ rest))
+      → (front back : List Instruction) (ring : RingContents) (text : List ℕ) → PrintsUpTo ring front next text → P next back others
+      → P ring (front ++ back) (text ++ others)
+  behind P same step [] back ring text (end, none) more = subst (λ (t : List ℕ). P ring back (t ++ others)) (sym none) (same ring back (sym end) more)
+  behind P same step (command ∷ front) back ring text (then, line, rest, prints, parts, goes_on) more =
+      subst (P ring (command ∷ (front ++ back))) (sym (ap (λ (t : List ℕ). t ++ others) parts ∙ append_assoc line rest others))
+      (step ring then command (front ++ back) line (rest ++ others) prints (behind P same step front back then rest goes_on more))
+
   up_to_more : (front back : List Instruction) (ring last : RingContents) (text : List ℕ) → PrintsUpTo ring front next text
       → PrintsUpTo next back last others → PrintsUpTo ring (front ++ back) last (text ++ others)
-  up_to_more [] back ring last text (end, none) more =
-      subst (λ (t : List ℕ). PrintsUpTo ring back last (t ++ others)) (sym none) (up_to_same next ring (sym end) back last others more)
-  up_to_more (command ∷ front) back ring last text (then, line, rest, prints, parts, goes_on) more = (
-    then,
-    line,
-    rest ++ others,
-    prints,
-    ap (λ (t : List ℕ). t ++ others) parts ∙ append_assoc line rest others,
-    up_to_more front back then last rest goes_on more,
-  )
+  up_to_more front back ring last =
+      behind (λ r l t. PrintsUpTo r l last t) (λ r l is. up_to_same next r is l last others)
+      (λ r then command l line rest prints more. (then, line, rest, prints, refl, more)) front back ring
 
   all_more : (front back : List Instruction) (ring : RingContents) (text : List ℕ) → PrintsUpTo ring front next text
       → PrintsAll next back others → PrintsAll ring (front ++ back) (text ++ others)
-  all_more [] back ring text (end, none) more =
-      subst (λ (t : List ℕ). PrintsAll ring back (t ++ others)) (sym none) (all_same next ring (sym end) back others more)
-  all_more (command ∷ front) back ring text (then, line, rest, prints, parts, goes_on) more = (
-    then,
-    line,
-    rest ++ others,
-    prints,
-    ap (λ (t : List ℕ). t ++ others) parts ∙ append_assoc line rest others,
-    all_more front back then rest goes_on more,
-  )
+  all_more =
+      behind PrintsAll (λ r l is. all_same next r is l others) (λ r then command l line rest prints more. (then, line, rest, prints, refl, more))
 
   first_more : (front back : List Instruction) (ring : RingContents) (text : List ℕ) → PrintsUpTo ring front next text
       → PrintsFirst next back others → PrintsFirst ring (front ++ back) (text ++ others)
-  first_more [] back ring text (end, none) more =
-      subst (λ (t : List ℕ). PrintsFirst ring back (t ++ others)) (sym none) (first_same next ring (sym end) back others more)
-  first_more (command ∷ front) back ring text (then, line, rest, prints, parts, goes_on) more = inr (
-    then,
-    line,
-    rest ++ others,
-    prints,
-    ap (λ (t : List ℕ). t ++ others) parts ∙ append_assoc line rest others,
-    first_more front back then rest goes_on more,
-  )
+  first_more =
+      behind PrintsFirst (λ r l is. first_same next r is l others)
+      (λ r then command l line rest prints more. inr (then, line, rest, prints, refl, more))
 
 prints_nothing : (now : RingContents) (left : List Instruction) → PrintsFirst now left []
 prints_nothing now [] = refl
@@ -88,10 +77,6 @@ nothing_written fault ring commands before written = fault_maps fault _ _ (λ sa
     ([], prints_nothing ring commands, subst (λ (w : Option (List ℕ)). Appends before w []) (sym same) (Appends-nothing before)))
 
 -- the first so many commands were played: what was written is the text of these
-
-pub begins : (ring : RingContents) (commands : List Command) (known : Option (List ℕ))
-    → Writes (PrintsUpTo ring (instructions_of (take 0 commands)) ring) known known
-begins ring commands known = ([], (refl, refl), Appends-nothing known)
 
 pub one_alone : (ring next : RingContents) (command : Instruction) (before written : Option (List ℕ)) → Writes (Prints ring command next) before written
     → Writes (PrintsUpTo ring (command ∷ []) next) before written
