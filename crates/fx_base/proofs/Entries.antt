@@ -1,14 +1,14 @@
 -- The entries of a catalogue, by their places.
-use Rattle.std.proofs.Common.{rules, ◌≡◌, ◌⊎◌, inl, inr, ℕ, suc, zero, ◌<◌, ◌≤◌, Bool, true, false, List, [], ◌∷◌, ◌++◌, length, refl, sym, ap, ◌∙◌}
-use Rattle.std.proofs.Common.{Option, Some, None, All, slice_index_or, slice_get, subst, length-append, arith, option_map, string_bytes}
+use Rattle.std.proofs.Common.{rules, ◌≡◌, ◌⊎◌, inl, inr, ℕ, suc, zero, ◌<◌, ◌≤◌, true, false, List, [], ◌∷◌, ◌++◌, length, refl, sym, ap, ◌∙◌, Option}
+use Rattle.std.proofs.Common.{Some, None, All, slice_index_or, slice_get, subst, length-append, arith, option_map, string_bytes}
 use Rattle.std.proofs.lemmas.List.{get_or-map, length-map}
 use Rattle.std.proofs.lemmas.List.Elements.{All-append}
 use Rattle.std.proofs.lemmas.Option.{slice_get-map, slice_get_past, slice_get_read}
-use Rattle.std.proofs.lemmas.Bool.{cases_lt}
+use Rattle.std.proofs.lemmas.Bool.{cases_lt, or_parts}
 use Rattle.std.proofs.lemmas.Slice.Eq.{bytes_eq-Decides}
 use Rattle.std.proofs.lemmas.Grind.{common_steps}
 use Rattle.std.specs.Str.{bytes_eq}
-use Rattle.std.specs.Prelude.{◌||◌, IsTrue}
+use Rattle.std.specs.Prelude.{IsTrue}
 use Rattle.fx_base.specs.Name.{is_name}
 use Rattle.fx_base.specs.Catalogue.{FileEntry, IsCatalogue, name_at, size_at}
 use Rattle.fx_base.specs.AddFault.{has_name}
@@ -25,18 +25,6 @@ either_place [] y (suc i) name is = cc
 either_place (x ∷ xs) y zero name is = inl is
 either_place (x ∷ xs) y (suc i) name is = elim (either_place xs y i name is) [ inl old ↦ inl old | inr new ↦ inr (ap suc new.0, new.1) ]
 
-pub or_left : (a b : Bool) → a || b ≡ false → a ≡ false
-or_left true b is = cc
-or_left false b is = refl
-
-pub or_right : (a b : Bool) → a || b ≡ false → b ≡ false
-or_right true b is = cc
-or_right false b is = is
-
-pub both_false : (a b : Bool) → a ≡ false → b ≡ false → a || b ≡ false
-both_false true b left right = cc
-both_false false b left right = right
-
 -- an entry with a name is one of the catalogue
 pub entry_named : (catalogue : List FileEntry) (entry : ℕ) (name : List ℕ) → name_at catalogue entry ≡ Some name → entry < length catalogue
 entry_named catalogue entry name is = elim (cases_lt entry (length catalogue)) [
@@ -50,8 +38,8 @@ not_named [] name new i is = cc
 not_named (x ∷ xs) name new zero is =
     let same : x.name ≡ name = cc in
     let true_is : bytes_eq x.name name ≡ true = (bytes_eq-Decides x.name name).1 same in
-    let false_is : bytes_eq x.name name ≡ false = or_left _ _ new in cc
-not_named (x ∷ xs) name new (suc i) is = not_named xs name (or_right _ _ new) i is
+    let false_is : bytes_eq x.name name ≡ false = (or_parts _ _ new).0 in cc
+not_named (x ∷ xs) name new (suc i) is = not_named xs name (or_parts _ _ new).1 i is
 
 -- a new name keeps the names distinct
 pub still_distinct : (catalogue : List FileEntry) (y : FileEntry)

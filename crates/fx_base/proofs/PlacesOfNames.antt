@@ -7,7 +7,7 @@ use Rattle.std.specs.List.{position_from}
 use Rattle.std.specs.Str.{bytes_eq}
 use Rattle.fx_base.specs.Catalogue.{FileEntry, name_at}
 use Rattle.fx_base.specs.AddFault.{has_name}
-use Rattle.fx_base.proofs.Entries.{or_left, or_right}
+use Rattle.std.proofs.lemmas.Bool.{or_parts}
 
 -- the place of a name, counted from i
 abbrev pub place_from : List ℕ → ℕ → List FileEntry → Option ℕ
@@ -61,12 +61,12 @@ pub place_from-push : (name : List ℕ) (i : ℕ) (catalogue : List FileEntry) (
 place_from-push name i [] y new = let e : i ≡ i + 0 = omega arith in ap (λ (k : ℕ). cond (bytes_eq y.name name) (Some k) None) e
 place_from-push name i (x ∷ xs) y new =
     let count : i + 1 + length xs ≡ i + length (x ∷ xs) = omega arith in
-    let same = place_from-push name (i + 1) xs y (or_right _ _ new)
+    let same = place_from-push name (i + 1) xs y (or_parts _ _ new).1
     ∙ ap (λ (k : ℕ). cond (bytes_eq y.name name) (Some k) (place_from name (i + 1) xs)) count in
     elim (bytes_eq x.name name) as (λ b. bytes_eq x.name name ≡ b
     → cond b (Some i) (place_from name (i + 1) (xs ++ y ∷ []))
     ≡ cond (bytes_eq y.name name) (Some (i + length (x ∷ xs))) (cond b (Some i) (place_from name (i + 1) xs))) [
       | true ↦ λ here. ap (λ (b : Bool). cond b (Some (i + length (x ∷ xs))) (Some i))
-          (sym (apart name x y (bytes_eq y.name name) (or_left _ _ new) here refl))
+          (sym (apart name x y (bytes_eq y.name name) (or_parts _ _ new).0 here refl))
       | false ↦ λ _. same
     ] refl

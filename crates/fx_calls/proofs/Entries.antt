@@ -1,9 +1,9 @@
 -- The files that are kept of a ring, and those that a list removes, are few and of the catalogue.
 use Rattle.std.proofs.Common.{◌≡◌, ℕ, zero, suc, ◌+◌, ◌<◌, ◌≤◌, ◌^◌, false, ℤ, pos, negsuc, List, [], ◌∷◌, length, All, refl, sym, ap, subst, arith}
-use Rattle.std.proofs.Common.{Option, Some, None, Result, Ok, Err, IfOk, length-append}
+use Rattle.std.proofs.Common.{Option, Some, None, length-append}
 use Rattle.std.specs.List.{list_any}
 use Rattle.std.specs.Option.{option_to_list}
-use Rattle.std.proofs.lemmas.Bool.{leb-false, lt-leb}
+use Rattle.std.proofs.lemmas.Bool.{leb-false, lt-leb, or_from, or_parts}
 use Rattle.std.proofs.lemmas.List.Sorted.{All-permutation}
 use Rattle.fx_base.specs.Catalogue.{FileEntry}
 use Rattle.fx_base.specs.CloseListView.{CloseListView}
@@ -13,7 +13,6 @@ use Rattle.fx_order.specs.Slots.{ring_with_slots, table_of_slots}
 use Rattle.fx_plain.specs.declared.table.TheConstants.{MOST_SLOTS}
 use Rattle.fx_ring.specs.Registration.{is_bad_file, removed_from}
 use Rattle.fx_ring.specs.Ring.{HasClosed, IsRing, files_in_order}
-use Rattle.fx_base.proofs.Entries.{both_false, or_left, or_right}
 use Rattle.fx_ring.proofs.Numbers.{good_files}
 use Rattle.fx_ring.proofs.Origins.{few_removed, removed_entries}
 use Rattle.fx_ring.proofs.Rings.{IsEntry, entries_of}
@@ -70,11 +69,7 @@ larger_entry m n (negsuc e) few good = good
 pub good_larger : (m n : ℕ) (list : List ℤ) → m ≤ n → list_any (is_bad_entry m) list ≡ false → list_any (is_bad_entry n) list ≡ false
 good_larger m n [] few good = refl
 good_larger m n (z ∷ list) few good =
-    both_false _ _ (larger_entry m n z few (or_left _ _ good)) (good_larger m n list few (or_right _ _ good))
+    or_from _ _ (larger_entry m n z few (or_parts _ _ good).0) (good_larger m n list few (or_parts _ _ good).1)
 
 pub good_registered : (m n : ℕ) (list : List ℤ) → m ≤ n → list_any (is_bad_file m) list ≡ false → list_any (is_bad_entry n) list ≡ false
 good_registered m n list few good = good_larger m n list few (good_files m list good)
-
-pub if_ok_then : {A E : Type 0} {P Q : A → Type 0} (r : Result A E) → ((x : A) → P x → Q x) → IfOk r P → IfOk r Q
-if_ok_then (Ok x) f p = f x p
-if_ok_then (Err e) f p = tt

@@ -10,6 +10,7 @@ use Rattle.fx_chain.proofs.ActsInTurn.{so_said, so_then}
 use Rattle.fx_chain.proofs.Asking.{asked_rest}
 use Rattle.fx_chain.proofs.Counted.{all_installs-push}
 use Rattle.fx_chain.proofs.Known.{known_true, known_false}
+use Rattle.std.proofs.Math.Bool.{or-false, or_assoc}
 
 -- the place so many members on
 abbrev pub member_at : Place → ℕ → Place
@@ -98,20 +99,12 @@ module _ (catalogue : List FileEntry) (size : ℕ) where
             (subst (λ (b : Bool). AnswersBehind catalogue size at b r own c) (ap (λ b. b || any_severs requests rest) on) here))),
       )
 
-or_false : (a : Bool) → (a || false) ≡ (false || a)
-or_false true = refl
-or_false false = refl
-
-or_assoc : (a b c : Bool) → ((a || b) || c) ≡ (a || (b || c))
-or_assoc true b c = refl
-or_assoc false b c = refl
-
 all_weights-push : (xs : List Asked) (r : Asked) → all_weights (xs ++ r ∷ []) ≡ all_weights xs + weight_of r.operation
 all_weights-push xs r = sum_by-append (λ request. weight_of request.operation) xs (r ∷ []) ∙ omega arith
 
 any_severs-push : (requests : List Asked) (cs : List Completed) (r : Asked) (c : Completed) → length cs ≡ length requests
     → any_severs (requests ++ r ∷ []) (cs ++ c ∷ []) ≡ (any_severs requests cs || severs r c)
-any_severs-push [] [] r c count = or_false (severs r c)
+any_severs-push [] [] r c count = or-false (severs r c)
 any_severs-push [] (d ∷ cs) r c count = absurd (omega arith)
 any_severs-push (x ∷ requests) [] r c count = absurd (omega arith)
 any_severs-push (x ∷ requests) (d ∷ cs) r c count =

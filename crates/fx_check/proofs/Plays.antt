@@ -1,10 +1,11 @@
 -- The plays of a script go along with the text, command by command.
-use Rattle.fx_check.proofs.Words.{◌≡◌, ℕ, zero, suc, ◌+◌, ◌<◌, ◌≤◌, List, [], ◌∷◌, ◌++◌, length, take, drop, refl, sym, ap, subst, ◌∙◌, arith}
+use Rattle.fx_check.proofs.Words.{◌≡◌, ℕ, suc, ◌+◌, ◌<◌, ◌≤◌, List, [], ◌∷◌, ◌++◌, length, take, drop, refl, sym, ap, subst, ◌∙◌, arith}
 use Rattle.fx_check.proofs.Words.{slice_index_or, Option, append-nil, append_assoc, length-drop, option_to_list, drop-map, take-append-drop, take_all}
 use Rattle.fx_check.proofs.Words.{RingContents, RingState, new_ring, ring_of, Instruction, instruction_of, instructions_of, Prints, PrintsEnd}
 use Rattle.fx_check.proofs.Words.{RingSlots, MayPrintBy, GoesOn, LeadsNowhere, LeadsTo, Fault, Order}
 use Rattle.fx_calls.proofs.NextCommand.{next_command}
 use Rattle.std.proofs.lemmas.List.{drop-drop}
+use Rattle.std.proofs.Math.Seq.{take-add}
 use Rattle.fx_order.proofs.Shown.{ring_with_files, shows_ring}
 use Rattle.fx_language.specs.Script.{Meaning}
 use Rattle.fx_language.specs.declared.command.Command.{Command}
@@ -71,17 +72,6 @@ one_before Whole old new command commands line text own later may rest = λ ring
     let next = may ring same in (next.0, line, text, own, later, next.2, next.3, refl, refl, rest next.0 next.1)
 one_before (Leaves left) old new command commands line text own later may rest = λ ring same.
     let next = may ring same in (next.0, line, text, next.2, refl, rest next.0 next.1)
-
-nothing_taken : {A : Type 0} (n : ℕ) → ◌≡◌ {A = List A} (take n []) []
-nothing_taken zero = refl
-nothing_taken (suc n) = refl
-
-taken_further : {A : Type 0} (at count : ℕ) (text : List A) → take at text ++ take count (drop at text) ≡ take (at + count) text
-taken_further zero count text = ap (λ (n : ℕ). take n text) (let e : count ≡ 0 + count = omega arith in e)
-taken_further (suc at) count [] = nothing_taken count ∙ sym (nothing_taken (suc at + count))
-taken_further {A = A} (suc at) count (b ∷ text) =
-    ap (λ (l : List A). b ∷ l) (taken_further at count text)
-    ∙ ap (λ (n : ℕ). take n (b ∷ text)) (let e : suc (at + count) ≡ suc at + count = omega arith in e)
 
 -- without the orders
 all_printed : (ring : RingContents) (commands : List Instruction) (text : List ℕ) (orders : List Order) → PrintsAllBy ring commands text orders
@@ -201,9 +191,9 @@ module _ (script : Meaning) (text : List ℕ) where
             let line = take count (drop at text) in
             let cs : take done script.commands ++ command ∷ commands ≡ take (done + 1) script.commands ++ commands =
             sym (append_assoc (take done script.commands) (command ∷ []) commands) ∙ ap (λ (l : List Instruction). l ++ commands)
-            (ap (λ (l : List Instruction). take done script.commands ++ take 1 l) (sym is) ∙ taken_further done 1 script.commands) in
+            (ap (λ (l : List Instruction). take done script.commands ++ take 1 l) (sym is) ∙ sym (take-add done 1 script.commands)) in
             let t : take at text ++ (line ++ others) ≡ take (at + count) text ++ others =
-            sym (append_assoc (take at text) line others) ∙ ap (λ (l : List ℕ). l ++ others) (taken_further at count text) in
+            sym (append_assoc (take at text) line others) ∙ ap (λ (l : List ℕ). l ++ others) (sym (take-add at count text)) in
             let all : orders ++ (option_to_list own ++ later) ≡ grown ++ later =
             sym (append_assoc orders (option_to_list own) later) ∙ ap (λ (l : List Order). l ++ later) (sym grows) in
             subst (λ (l : List Order). MayPrintTo aim first (take (done + 1) script.commands ++ commands) (take (at + count) text ++ others) l) all

@@ -9,7 +9,7 @@ pub use Rattle.fx_base.specs.declared.mark.Mark.{Mark}
 pub use Rattle.fx_base.specs.declared.mark.Mark.TheVariants.{Registered, Submitted}
 pub use Rattle.fx_base.specs.declared.open_file.Closed.{Closed}
 pub use Rattle.fx_base.specs.declared.tag_completion.TagCompletion.{TagCompletion}
-pub use Rattle.fx_calls.proofs.Entries.{all_closed, all_of_ring, few_of_ring, if_ok_then}
+pub use Rattle.fx_calls.proofs.Entries.{all_closed, all_of_ring, few_of_ring}
 pub use Rattle.fx_calls.specs.InRange.{AreInRange, IsInRange}
 pub use Rattle.fx_chain.proofs.Cases.{either_way}
 pub use Rattle.fx_chain.specs.Accepted.{IsAccepted, IsChain, members_of}
@@ -83,6 +83,7 @@ pub use Rattle.std.proofs.lemmas.Bool.Decides.{Decides-eqb}
 pub use Rattle.std.proofs.lemmas.List.{drop-map, length-map, length-take-le, map-append, take-append-drop, take_all, take_more}
 pub use Rattle.std.proofs.lemmas.List.Elements.{All-append, All-cons, All-get_or, All-head, All-map, All-nil, All-tail}
 pub use Rattle.std.proofs.lemmas.Option.{get_or_from_slice_get, slice_get-get_or, slice_get_within}
+pub use Rattle.std.proofs.lemmas.Result.{IfOk-weaker}
 pub use Rattle.std.specs.Bool.{MatchBool}
 pub use Rattle.std.specs.Global.{Vec}
 pub use Rattle.std.specs.List.{flat_map}

@@ -1,4 +1,3 @@
-pub mod Conditions
 pub mod Cuts
 pub mod Numbers
 pub mod Printable

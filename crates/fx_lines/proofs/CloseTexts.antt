@@ -1,7 +1,7 @@
 -- The lines of closed files and of tags, part by part.
 use Rattle.fx_lines.proofs.Words.{◌≡◌, ℕ, ◌<◌, ◌^◌, true, List, ◌∷◌, ◌++◌, refl, sym, ap, ◌∙◌, codes, decimal, append_assoc, Mark, IsCutPart}
 use Rattle.fx_lines.proofs.Words.{close_text, cut_text, IsCloseInRange, IsMarkInRange, NamedClose, is_without, line_of_tag, named_line, IsPrintedFrom}
-use Rattle.fx_lines.proofs.Words.{and_right, mark_text}
+use Rattle.fx_lines.proofs.Words.{and_parts, mark_text}
 use Rattle.std.specs.Prelude.{not, ◌==◌}
 use Rattle.fx_lines.proofs.Cuts.{without_between, without_right}
 use Rattle.fx_lines.proofs.Decimals.{decimal_without}
@@ -55,5 +55,5 @@ close_fits line close none is =
     let whole : is_without 10 (close_text close) ≡ true = ap (is_without 10) (sym is.printed) ∙ none in
     record {
       mark = is.fits_value;
-      name = and_right (not (32 == 10)) (is_without 10 close.name) (without_right 10 (mark_text close.mark) (32 ∷ close.name) whole);
+      name = (and_parts (not (32 == 10)) (is_without 10 close.name) (without_right 10 (mark_text close.mark) (32 ∷ close.name) whole)).1;
     }

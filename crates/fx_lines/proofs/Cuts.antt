@@ -1,7 +1,7 @@
 -- A text without a byte, and a text that is cut at one.
 use Rattle.fx_lines.proofs.Words.{◌≡◌, ℕ, ◌+◌, ◌<◌, ◌==◌, true, false, not, List, [], ◌∷◌, ◌++◌, length, get_or, take, drop, refl, sym, ap, ◌∙◌}
-use Rattle.fx_lines.proofs.Words.{take-append-drop, Option, Some, None, option_map, Bor, append_cancel_left, nat_tests, arith, and_left, and_right}
-use Rattle.fx_lines.proofs.Words.{and_true, IsCutPart, cut_text, is_without, IsPrintedFrom, Reads}
+use Rattle.fx_lines.proofs.Words.{take-append-drop, Option, Some, None, arith, option_map, Bor, append_cancel_left, nat_tests, and_from, and_parts}
+use Rattle.fx_lines.proofs.Words.{IsCutPart, cut_text, is_without, IsPrintedFrom, Reads}
 use Rattle.std.proofs.Common.{◌≢◌}
 use Rattle.std.specs.Prelude.{MatchOption}
 use Rattle.std.proofs.lemmas.List.{drop_more}
@@ -14,27 +14,27 @@ not_self at x same other = grind (arith, nat_tests)
 
 -- two texts, one behind the other
 pub without_both : (at : ℕ) (xs ys : List ℕ) → is_without at xs ≡ true → is_without at ys ≡ true → is_without at (xs ++ ys) ≡ true
-without_both at xs ys left right = list_all-append (λ b. not (b == at)) xs ys ∙ and_true _ _ left right
+without_both at xs ys left right = list_all-append (λ b. not (b == at)) xs ys ∙ and_from _ _ left right
 
 -- the second of them
 pub without_right : (at : ℕ) (xs ys : List ℕ) → is_without at (xs ++ ys) ≡ true → is_without at ys ≡ true
-without_right at xs ys all = and_right _ _ (sym (list_all-append (λ b. not (b == at)) xs ys) ∙ all)
+without_right at xs ys all = (and_parts _ _ (sym (list_all-append (λ b. not (b == at)) xs ys) ∙ all)).1
 
 -- a text that is cut at a byte has it
 pub cut_has : (at : ℕ) (before after : List ℕ) → is_without at (before ++ at ∷ after) ≡ true → ⊥
-cut_has at [] after all = not_self at at refl (and_left _ _ all)
-cut_has at (x ∷ before) after all = cut_has at before after (and_right _ _ all)
+cut_has at [] after all = not_self at at refl (and_parts _ _ all).0
+cut_has at (x ∷ before) after all = cut_has at before after (and_parts _ _ all).1
 
 -- a text is cut at the first such byte in one way
 pub cut_once : (at : ℕ) (before after front behind : List ℕ) → is_without at before ≡ true → is_without at front ≡ true
     → before ++ at ∷ after ≡ front ++ at ∷ behind → (before ≡ front) × (after ≡ behind)
 cut_once at [] after [] behind own other same = (refl, cc)
-cut_once at [] after (x ∷ front) behind own other same = let here : at ≡ x = cc in absurd (not_self at x here (and_left _ _ other))
-cut_once at (x ∷ before) after [] behind own other same = let here : at ≡ x = cc in absurd (not_self at x here (and_left _ _ own))
+cut_once at [] after (x ∷ front) behind own other same = let here : at ≡ x = cc in absurd (not_self at x here (and_parts _ _ other).0)
+cut_once at (x ∷ before) after [] behind own other same = let here : at ≡ x = cc in absurd (not_self at x here (and_parts _ _ own).0)
 cut_once at (x ∷ before) after (y ∷ front) behind own other same =
     let first : x ≡ y = cc in
     let others : before ++ at ∷ after ≡ front ++ at ∷ behind = cc in
-    let more = cut_once at before after front behind (and_right _ _ own) (and_right _ _ other) others in
+    let more = cut_once at before after front behind (and_parts _ _ own).1 (and_parts _ _ other).1 others in
     let same_front : before ≡ front = more.0 in
     (cc, more.1)
 
@@ -66,15 +66,15 @@ behind_is text front (Some x) is = record {
 -- the text of a number goes on behind its full stop: no letter stands in front of one
 pub other_first : (at : ℕ) (front rest more : List ℕ) (b : ℕ) → is_without b front ≡ true → at ≢ b → front ++ at ∷ rest ≡ b ∷ more → ⊥
 other_first at [] rest more b none differ same = differ cc
-other_first at (x ∷ front) rest more b none differ same = let first : b ≡ x = cc in not_self b x first (and_left _ _ none)
+other_first at (x ∷ front) rest more b none differ same = let first : b ≡ x = cc in not_self b x first (and_parts _ _ none).0
 
 -- a text without a byte doesn't begin with it
 pub not_first : (at : ℕ) (text rest : List ℕ) → is_without at text ≡ true → text ≡ at ∷ rest → ⊥
 not_first at [] rest none same = cc same
-not_first at (x ∷ text) rest none same = let first : at ≡ x = cc in not_self at x first (and_left _ _ none)
+not_first at (x ∷ text) rest none same = let first : at ≡ x = cc in not_self at x first (and_parts _ _ none).0
 
 -- a text in two parts, neither of which has the byte, with another byte between them
 pub without_between : (at b : ℕ) (front behind : List ℕ) → is_without at front ≡ true → (b == at) ≡ false → is_without at behind ≡ true
     → is_without at (front ++ b ∷ behind) ≡ true
 without_between at b front behind left other right =
-    without_both at front (b ∷ behind) left (and_true (not (b == at)) (is_without at behind) (ap not other) right)
+    without_both at front (b ∷ behind) left (and_from (not (b == at)) (is_without at behind) (ap not other) right)

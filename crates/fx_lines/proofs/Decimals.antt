@@ -1,23 +1,23 @@
 -- Decimal numbers as they are printed.
 use Rattle.fx_lines.proofs.Words.{◌≡◌, ℕ, ◌+◌, ◌<◌, ◌≤◌, ◌^◌, ◌==◌, zero, suc, Bool, true, false, not, nat_le, List, [], ◌∷◌, length, get_or}
-use Rattle.fx_lines.proofs.Words.{slice_index, refl, sym, ap, ◌∙◌, arith, Some, None, if◌then◌else◌, decimal, list_all, nat_tests, and_left}
-use Rattle.fx_lines.proofs.Words.{and_right, and_true, is_digit, is_without, true≢false, Reads}
+use Rattle.fx_lines.proofs.Words.{slice_index, refl, sym, ap, ◌∙◌, arith, Some, None, if◌then◌else◌, decimal, list_all, nat_tests, and_from}
+use Rattle.fx_lines.proofs.Words.{and_parts, true≢false, is_digit, is_without, Reads}
 use Rattle.std.specs.Prelude.{◌&&◌, ◌||◌}
 use Rattle.std.specs.Str.Parse.{digits_value}
 use Rattle.std.proofs.lemmas.Fmt.{decimal_digit, decimal_nonempty, first_decimal, digits_decimal, digits_value-decimal, decimal-digits_value}
 use Rattle.std.proofs.lemmas.Str.Parse.{IsNumeralModel, IsDigitsTest, numerals_by_value}
-use Rattle.fx_language.specs.Words.{is_decimal, number_up_to}
 use Rattle.std.proofs.lemmas.Bool.{le-leb, leb-true}
+use Rattle.fx_language.specs.Words.{is_decimal, number_up_to}
 
 tells : IsDigitsTest (λ ds. list_all is_digit ds ≡ true)
 tells = record {
   empty = refl;
-  parts = λ c cs all. let here = and_left (is_digit c) (list_all is_digit cs) all in (
-    (leb-true 48 c (and_left (nat_le 48 c) (nat_le c 57) here), leb-true c 57 (and_right (nat_le 48 c) (nat_le c 57) here)),
-    and_right (is_digit c) (list_all is_digit cs) all,
+  parts = λ c cs all. let here = (and_parts (is_digit c) (list_all is_digit cs) all).0 in (
+    (leb-true 48 c (and_parts (nat_le 48 c) (nat_le c 57) here).0, leb-true c 57 (and_parts (nat_le 48 c) (nat_le c 57) here).1),
+    (and_parts (is_digit c) (list_all is_digit cs) all).1,
   );
-  more = λ c cs within all. and_true (is_digit c) (list_all is_digit cs)
-      (and_true (nat_le 48 c) (nat_le c 57) (le-leb 48 c within.0) (le-leb c 57 within.1)) all;
+  more = λ c cs within all. and_from (is_digit c) (list_all is_digit cs)
+      (and_from (nat_le 48 c) (nat_le c 57) (le-leb 48 c within.0) (le-leb c 57 within.1)) all;
 }
 
 own : IsNumeralModel (λ ds. list_all is_digit ds ≡ true) (digits_value 10)
@@ -37,22 +37,22 @@ one_zero (suc n) small is = let above = first_decimal (suc n) (omega arith) smal
 -- a printed number is decimal
 decimal_is : (n : ℕ) → n < 2 ^ 64 → is_decimal (decimal n) ≡ true
 decimal_is n small =
-    and_true (list_all is_digit (decimal n)) _ (digits_decimal own n small)
+    and_from (list_all is_digit (decimal n)) _ (digits_decimal own n small)
     (from_shape (length (decimal n)) (slice_index (decimal n) 0) (decimal_nonempty n small) (one_zero n small))
 
 -- a decimal word is the text of its number
 word_is : (word : List ℕ) → is_decimal word ≡ true → digits_value 10 word < 2 ^ 64 → decimal (digits_value 10 word) ≡ word
 word_is word is small =
-    let digits = and_left (list_all is_digit word) _ is in
-    let shape = to_shape (length word) (slice_index word 0) (and_right (list_all is_digit word) _ is) in
+    let digits = (and_parts (list_all is_digit word) _ is).0 in
+    let shape = to_shape (length word) (slice_index word 0) (and_parts (list_all is_digit word) _ is).1 in
     decimal-digits_value own word digits shape.0 shape.1 small
 
 by_test : (largest bound : ℕ) (word : List ℕ) → largest + 1 ≡ bound → bound ≤ 2 ^ 64
     → (test : Bool) → is_decimal word && nat_le (digits_value 10 word) largest ≡ test
     → Reads decimal (λ n. n < bound) word (if test then Some (digits_value 10 word) else None)
 by_test largest bound word next small true is =
-    let decimal_word = and_left (is_decimal word) (nat_le (digits_value 10 word) largest) is in
-    let below : digits_value 10 word ≤ largest = leb-true _ _ (and_right (is_decimal word) _ is) in
+    let decimal_word = (and_parts (is_decimal word) (nat_le (digits_value 10 word) largest) is).0 in
+    let below : digits_value 10 word ≤ largest = leb-true _ _ (and_parts (is_decimal word) _ is).1 in
     record {
       fits_value = omega arith;
       printed = sym (word_is word decimal_word (omega arith));
@@ -62,7 +62,7 @@ by_test largest bound word next small false is = λ other inside same.
     let value : digits_value 10 word ≡ other = ap (digits_value 10) same ∙ digits_value-decimal own other (omega arith) in
     let decimal_word : is_decimal word ≡ true = ap is_decimal same ∙ decimal_is other (omega arith) in
     let below : nat_le (digits_value 10 word) largest ≡ true = le-leb _ _ (omega arith) in
-    let passes = and_true (is_decimal word) (nat_le (digits_value 10 word) largest) decimal_word below in
+    let passes = and_from (is_decimal word) (nat_le (digits_value 10 word) largest) decimal_word below in
     true≢false (sym passes ∙ is)
 
 -- the number that a word writes is the one that it is the text of
@@ -77,8 +77,8 @@ differs d at is none = grind (arith, nat_tests)
 digits_without : (at : ℕ) (ds : List ℕ) → is_digit at ≡ false → list_all is_digit ds ≡ true → is_without at ds ≡ true
 digits_without at [] none all = refl
 digits_without at (d ∷ ds) none all =
-    let other : not (d == at) ≡ true = differs d at (and_left (is_digit d) (list_all is_digit ds) all) none in
-    and_true (not (d == at)) (is_without at ds) other (digits_without at ds none (and_right (is_digit d) (list_all is_digit ds) all))
+    let other : not (d == at) ≡ true = differs d at (and_parts (is_digit d) (list_all is_digit ds) all).0 none in
+    and_from (not (d == at)) (is_without at ds) other (digits_without at ds none (and_parts (is_digit d) (list_all is_digit ds) all).1)
 
 pub decimal_without : (at n : ℕ) → is_digit at ≡ false → n < 2 ^ 64 → is_without at (decimal n) ≡ true
 decimal_without at n none small = digits_without at (decimal n) none (digits_decimal own n small)

@@ -1,7 +1,7 @@
 -- The bytes of a read, as they are printed.
 use Rattle.fx_lines.proofs.Words.{◌≡◌, ℕ, zero, suc, ◌/◌, ◌%◌, ◌<◌, ◌==◌, Bool, true, false, not, List, [], ◌∷◌, ◌++◌, length, slice_index, refl, ap}
-use Rattle.fx_lines.proofs.Words.{◌∙◌, arith, None, if◌then◌else◌, eqb-true, list_all, IsBytes, encode_lower, and_left, and_right, and_true}
-use Rattle.fx_lines.proofs.Words.{is_without, IsPrintedFrom, Reads, got_text}
+use Rattle.fx_lines.proofs.Words.{◌∙◌, arith, None, if◌then◌else◌, eqb-true, and_from, and_parts, list_all, IsBytes, encode_lower, is_without}
+use Rattle.fx_lines.proofs.Words.{IsPrintedFrom, Reads, got_text}
 use Rattle.std.proofs.Common.{Ok, Err}
 use Rattle.hex.specs.Hex.{decode_of, encode_with, lower_digits}
 use Rattle.hex.specs.declared.error.FromHexError.{FromHexError}
@@ -43,16 +43,16 @@ printed_otherwise word bytes decodes differs other fits same =
 -- an element of a list, or 0
 at_any : (p : ℕ → Bool) (xs : List ℕ) (i : ℕ) → list_all p xs ≡ true → p 0 ≡ true → p (slice_index xs i) ≡ true
 at_any p [] i all nought = nought
-at_any p (x ∷ xs) zero all nought = and_left (p x) (list_all p xs) all
-at_any p (x ∷ xs) (suc i) all nought = at_any p xs i (and_right (p x) (list_all p xs) all) nought
+at_any p (x ∷ xs) zero all nought = (and_parts (p x) (list_all p xs) all).0
+at_any p (x ∷ xs) (suc i) all nought = at_any p xs i (and_parts (p x) (list_all p xs) all).1 nought
 
 digits_without : (at : ℕ) (got : List ℕ) → list_all (λ b. not (b == at)) lower_digits ≡ true → not (0 == at) ≡ true
     → is_without at (encode_lower got) ≡ true
 unfolding encode_with
 digits_without at [] none nought = refl
 digits_without at (b ∷ got) none nought =
-    and_true (not (slice_index lower_digits (b / 16) == at)) _ (at_any (λ d. not (d == at)) lower_digits (b / 16) none nought)
-    (and_true (not (slice_index lower_digits (b % 16) == at)) _ (at_any (λ d. not (d == at)) lower_digits (b % 16) none nought)
+    and_from (not (slice_index lower_digits (b / 16) == at)) _ (at_any (λ d. not (d == at)) lower_digits (b / 16) none nought)
+    (and_from (not (slice_index lower_digits (b % 16) == at)) _ (at_any (λ d. not (d == at)) lower_digits (b % 16) none nought)
     (digits_without at got none nought))
 
 -- hexadecimal digits have no line end

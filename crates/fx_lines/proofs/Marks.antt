@@ -1,6 +1,6 @@
 -- Places and marks by their numbers.
 use Rattle.fx_lines.proofs.Words.{◌≡◌, ℕ, ◌<◌, ◌^◌, List, [], ◌∷◌, ◌++◌, refl, sym, ap, ◌∙◌, arith, Option, Some, None, decimal, append_assoc}
-use Rattle.fx_lines.proofs.Words.{and_true, is_digit, Mark, Place, number_text, place_text, IsMarkInRange, IsPlaceInRange, is_without, IsPrintedFrom}
+use Rattle.fx_lines.proofs.Words.{and_from, is_digit, Mark, Place, number_text, place_text, IsMarkInRange, IsPlaceInRange, is_without, IsPrintedFrom}
 use Rattle.fx_lines.proofs.Words.{Reads, mark_text}
 use Rattle.std.proofs.Common.{option_map}
 use Rattle.std.specs.Prelude.{not, true, false, ◌==◌}
@@ -81,7 +81,7 @@ pub mark_without : (at : ℕ) (mark : Mark) → is_digit at ≡ false → (46 ==
 mark_without at (Registered k i) none other letter fits =
     let one = fits.0 in
     let two = fits.1 in
-    and_true (not (114 == at)) (is_without at (number_text (k, decimal i))) (ap not letter)
+    and_from (not (114 == at)) (is_without at (number_text (k, decimal i))) (ap not letter)
     (without_between at 46 (decimal k) (decimal i) (decimal_without at k none (omega arith)) other (decimal_without at i none (omega arith)))
 mark_without at (Submitted s c m e) none other letter fits =
     let one : s < 2 ^ 32 = fits.0.submission in

@@ -1,6 +1,6 @@
 -- Results as they are printed: 0 or more, or a sign and a number.
 use Rattle.fx_lines.proofs.Words.{◌≡◌, ℕ, ◌-◌, ◌<◌, ◌^◌, suc, ◌==◌, not, true, false, List, [], ◌∷◌, ◌++◌, refl, sym, ap, ◌∙◌, arith, None, ℤ, pos}
-use Rattle.fx_lines.proofs.Words.{negsuc, decimal, signed_decimal, and_true, is_digit, IsResultInRange, is_without, IsPrintedFrom, Reads}
+use Rattle.fx_lines.proofs.Words.{negsuc, decimal, signed_decimal, and_from, is_digit, IsResultInRange, is_without, IsPrintedFrom, Reads}
 use Rattle.fx_lines.proofs.Cuts.{not_first}
 use Rattle.fx_lines.proofs.Decimals.{decimal_without}
 
@@ -64,4 +64,4 @@ pub result_without : (at : ℕ) (res : ℤ) → is_digit at ≡ false → (45 ==
     → is_without at (signed_decimal res) ≡ true
 result_without at (pos n) none other fits = decimal_without at n none (omega arith)
 result_without at (negsuc n) none other fits =
-    and_true (not (45 == at)) (is_without at (decimal (suc n))) (ap not other) (decimal_without at (suc n) none (omega arith))
+    and_from (not (45 == at)) (is_without at (decimal (suc n))) (ap not other) (decimal_without at (suc n) none (omega arith))

@@ -7,7 +7,6 @@ pub use Rattle.fx_chain.specs.Completed.{Completed, all_completed}
 pub use Rattle.fx_chain.specs.Operation.{Asked}
 pub use Rattle.fx_chain.specs.Runs.{runs_of}
 pub use Rattle.fx_chain.specs.declared.completion.Place.{Place}
-pub use Rattle.fx_language.proofs.Conditions.{and_left, and_right, and_true}
 pub use Rattle.fx_language.specs.Words.{is_digit}
 pub use Rattle.fx_lines.specs.ClosedView.{close_of}
 pub use Rattle.fx_lines.specs.Front.{AreAll, AreSoMany, IsCutPart, IsFront, answer_text, close_text, completion_text, cut_text, lines_before}
@@ -23,7 +22,7 @@ pub use Rattle.hex.specs.Hex.{IsBytes, encode_lower}
 pub use Rattle.std.proofs.Common.{All, Bool, List, None, Option, Some, [], ap, arith, drop, false, get_or, if◌then◌else◌, inl, inr, length, map}
 pub use Rattle.std.proofs.Common.{nat_le, not, refl, rules, slice_index, subst, suc, sym, take, take-append-drop, true, w32, zero, ℕ, ◌%◌, ◌++◌, ◌+◌}
 pub use Rattle.std.proofs.Common.{◌-◌, ◌/◌, ◌<◌, ◌==◌, ◌^◌, ◌∙◌, ◌∷◌, ◌≡◌, ◌≤◌}
-pub use Rattle.std.proofs.lemmas.Bool.{eqb-true, true≢false}
+pub use Rattle.std.proofs.lemmas.Bool.{and_from, and_parts, eqb-true, true≢false}
 pub use Rattle.std.proofs.lemmas.Bool.Decides.{Decides-eqb, nat_tests}
 pub use Rattle.std.proofs.lemmas.Int.{to_z-of_z}
 pub use Rattle.std.proofs.lemmas.List.{append-nil, append_assoc, append_cancel_left, length-append, map-append, take_at}

@@ -56,7 +56,6 @@ pub use Rattle.fx_plain.specs.declared.event.Action.TheVariants.{Allocate, Clear
 pub use Rattle.fx_plain.specs.declared.event.Event.{Event}
 pub use Rattle.fx_plain.specs.declared.event.File.{File}
 pub use Rattle.fx_plain.specs.declared.node.Node.{Node}
-pub use Rattle.fx_base.proofs.Entries.{or_left, or_right}
 pub use Rattle.fx_ring.proofs.Parts.{has, kept_lacking, lacks, none_within, within_lacking}
 pub use Rattle.fx_ring.specs.Ring.{HasClosed, HasCounted, IsRing, RingContents, RingState, ring_of}
 pub use Rattle.fx_ring.specs.Submission.{ExplainsParts, IsOneHistory, Reported}

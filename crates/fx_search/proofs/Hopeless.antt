@@ -6,7 +6,8 @@ use Rattle.fx_search.proofs.Words.{allows, cell_at, cells_after, claim_at, Ends,
 use Rattle.fx_search.proofs.Words.{Leaves, Same, Empty, File, Resident, Wants, Strand}
 use Rattle.fx_search.specs.Machine.{HasNoEnd}
 use Rattle.fx_search.proofs.Reaching.{both_steps, chosen}
-use Rattle.std.proofs.lemmas.Bool.{not-true}
+use Rattle.std.proofs.lemmas.Bool.{and_parts, not-true}
+use Rattle.std.proofs.lemmas.Option.{slice_get-get_or}
 
 -- what is at a slot once one was written: what was there, or what was written
 pub written : (cells : List Cell) (s : ℕ) (x : Option Resident) (slot : ℕ)
@@ -39,10 +40,6 @@ past_none (y ∷ xs) zero k x le is none = cc
 past_none (y ∷ xs) (suc i) zero x le is none = absurd (omega arith)
 past_none (y ∷ xs) (suc i) (suc k) x le is none = past_none xs i k x (omega arith) is none
 
-and_right : (a b : Bool) → (a && b) ≡ true → b ≡ true
-and_right true b is = is
-and_right false b is = absurd (cc)
-
 -- what a claim made of a slot: it was left, or it could be removed, and what was brought doesn't help
 abbrev Unfit : List Cell → ℕ → Claim → Option Resident → Type 0
 Unfit cells slot claim now = (now ≡ cell_at cells slot) ⊎ ((may_find claim now ≡ false) × (may_leave (cell_at cells slot) ≡ true))
@@ -54,7 +51,7 @@ changed : (cells : List Cell) (slot : ℕ) (claim : Claim) (s : ℕ) (x : Option
 changed cells slot claim s x wanted may either (inl same) = inl same
 changed cells slot claim s x wanted may either (inr hit) =
     let leave : may_leave (cell_at cells slot) ≡ true =
-    sym (ap (λ (n : ℕ). may_leave (cell_at cells n)) hit.0) ∙ and_right wanted (may_leave (cell_at cells s)) may in
+    sym (ap (λ (n : ℕ). may_leave (cell_at cells n)) hit.0) ∙ (and_parts wanted (may_leave (cell_at cells s)) may).1 in
     elim either [
       | inl stays ↦ let bad : true ≡ false = sym leave ∙ stays in absurd (cc)
       | inr helps ↦
@@ -145,9 +142,7 @@ module _ (strands : List Strand) (c k slot : ℕ) (strand : Strand) (wants : Wan
 
 -- the element that was read at a place
 pub get_at : {X : Type 0} (xs : List X) (k : ℕ) (x : X) → k < length xs → x ≡ slice_index_or xs k x → slice_get xs k ≡ Some x
-get_at [] k x lt is = absurd (omega arith)
-get_at (y ∷ xs) zero x lt is = ap (λ z. Some z) (sym is)
-get_at (y ∷ xs) (suc k) x lt is = get_at xs k x (omega arith) is
+get_at {X} xs k x lt is = slice_get-get_or xs k x lt ∙ ap (λ (z : X). Some z) (sym is)
 
 -- a claim of a slot that is still to be made, and hopeless
 pub vain : (strands : List Strand) (at : Standing) (c k slot : ℕ) (strand : Strand) (claim : Claim) → slot_of claim ≡ Some slot → slice_get strands c ≡ Some strand

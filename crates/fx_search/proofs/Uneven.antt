@@ -15,14 +15,7 @@ use Rattle.fx_search.proofs.SlotsKept.{slots_after}
 use Rattle.fx_search.proofs.Reaching.{both_steps, chosen}
 use Rattle.std.proofs.Common.{ne_eqb}
 use Rattle.std.proofs.lemmas.Bool.{and_parts}
-
-and_false : (b : Bool) → (b && false) ≡ false
-and_false true = refl
-and_false false = refl
-
-and_true : (b : Bool) → (b && true) ≡ b
-and_true true = refl
-and_true false = refl
+use Rattle.std.proofs.Math.Bool.{and-false, and-true}
 
 -- what was written to a slot is there
 written_here : (cells : List Cell) (slot : ℕ) (x : Option Resident) → has_slot cells (Some slot) ≡ true → cell_at (with_cell cells slot x) slot ≡ x
@@ -94,7 +87,7 @@ does cells slot (At s wants Empty) has may =
     })))
     (λ other. inl (record {
       same = elsewhere cells slot s wants None other;
-      none = λ change. ap (λ (b : Bool). is_change Empty wants change && b) (ne_eqb s slot other) ∙ and_false (is_change Empty wants change);
+      none = λ change. ap (λ (b : Bool). is_change Empty wants change && b) (ne_eqb s slot other) ∙ and-false (is_change Empty wants change);
     }))
 does cells slot (At s wants (File r)) has may =
     by_equality s slot (λ _. Does slot (At s wants (File r)) (cell_at cells slot) (cell_at (with_cell cells s (Some r)) slot))
@@ -107,12 +100,12 @@ does cells slot (At s wants (File r)) has may =
       there = ap (λ (n : ℕ). cell_at (with_cell cells n (Some r)) slot) same ∙ written_here cells slot (Some r) has;
       no_empties = refl;
       no_takes = refl;
-      leaves = ap (λ (b : Bool). r.leaves && b) one ∙ and_true r.leaves;
-      stays = ap (λ (b : Bool). not r.leaves && b) one ∙ and_true (not r.leaves);
+      leaves = ap (λ (b : Bool). r.leaves && b) one ∙ and-true r.leaves;
+      stays = ap (λ (b : Bool). not r.leaves && b) one ∙ and-true (not r.leaves);
     })))
     (λ other. inl (record {
       same = elsewhere cells slot s wants (Some r) other;
-      none = λ change. ap (λ (b : Bool). is_change (File r) wants change && b) (ne_eqb s slot other) ∙ and_false (is_change (File r) wants change);
+      none = λ change. ap (λ (b : Bool). is_change (File r) wants change && b) (ne_eqb s slot other) ∙ and-false (is_change (File r) wants change);
     }))
 
 -- a claim that is made is one less to come

@@ -1,10 +1,10 @@
 -- The calls between submissions, and refused submissions: where memory is found they leave one ring, and print one line.
 use Rattle.fx_texts.proofs.Words.{◌≡◌, ℕ, suc, ◌+◌, ◌≤◌, Bool, true, false, nat_le, nat_lt, ◌==◌, List, [], ◌++◌, length, refl, sym, ◌<◌, ap, subst}
-use Rattle.fx_texts.proofs.Words.{◌∙◌, arith, inl, ⊎_elim, Option, Some, None, if◌then◌else◌, MatchBool, MatchOption, FileEntry, Errno, ENOMEM}
-use Rattle.fx_texts.proofs.Words.{fault_of, CutFault, MOST_SLOTS, range_refusal, IsRing, RingContents, RingState, ring_of, Reported, MOST_SUBMISSIONS}
-use Rattle.fx_texts.proofs.Words.{Instruction, SetsRange, SubmitsAll, UpdatesRing, Answers, IsRefused, Prints, PrintsReport, call_of, ring_with_slots}
-use Rattle.fx_texts.proofs.Words.{refused_line, too_many_line, IsLineOf, Leads, MayLeadTo, Stage, after_call, count_after, count_behind, kept_text}
-use Rattle.fx_texts.proofs.Words.{stage, unless_refused, FoundMemory, or_right}
+use Rattle.fx_texts.proofs.Words.{◌∙◌, arith, inl, ⊎_elim, Option, Some, None, if◌then◌else◌, MatchBool, MatchOption, or_parts, FileEntry, Errno}
+use Rattle.fx_texts.proofs.Words.{ENOMEM, fault_of, CutFault, MOST_SLOTS, range_refusal, IsRing, RingContents, RingState, ring_of, Reported}
+use Rattle.fx_texts.proofs.Words.{MOST_SUBMISSIONS, Instruction, SetsRange, SubmitsAll, UpdatesRing, Answers, IsRefused, Prints, PrintsReport}
+use Rattle.fx_texts.proofs.Words.{call_of, ring_with_slots, refused_line, too_many_line, IsLineOf, Leads, MayLeadTo, Stage, after_call, count_after}
+use Rattle.fx_texts.proofs.Words.{count_behind, kept_text, stage, unless_refused, FoundMemory}
 use Rattle.std.proofs.Common.{◌↔◌, ℤ, pos, negsuc, ◌^◌}
 use Rattle.std.proofs.lemmas.Bool.{ltb-false}
 use Rattle.fx_chain.specs.Completed.{negated}
@@ -15,7 +15,6 @@ use Rattle.fx_calls.proofs.Calls.{Call, Tells, not_refused, one_line}
 use Rattle.fx_calls.proofs.Shown.{shown}
 use Rattle.fx_texts.specs.Rings.{AnswersFound, IsCall}
 use Rattle.fx_texts.specs.Texts.{HasFound}
-use Rattle.fx_base.proofs.Entries.{or_left}
 use Rattle.fx_texts.proofs.Reasons.{none_holds, refusal_other}
 
 -- what a call leaves that found memory, and what it prints
@@ -105,7 +104,7 @@ few_told : (ring : RingState) (command : Instruction) → ring.size ≤ MOST_SLO
 few_told ring (UpdatesRing off list tags) few none =
     let (good, rest) = (none_holds ring (UpdatesRing off list tags) none).1 in
     let within : off + length list ≤ ring.size =
-    ltb-false ring.size (off + length list) (or_left (nat_lt ring.size (off + length list)) _ (or_right (length list == 0) _ good)) in
+    ltb-false ring.size (off + length list) (or_parts (nat_lt ring.size (off + length list)) _ (or_parts (length list == 0) _ good).1).0 in
     omega (arith, within, few)
 few_told ring _ few none = omega arith
 

@@ -1,9 +1,10 @@
 -- Lists that others are put behind.
-use Rattle.fx_texts.proofs.Words.{◌≡◌, ℕ, zero, suc, ◌+◌, ◌<◌, ◌≤◌, List, [], ◌∷◌, ◌++◌, length, map, refl, sym, ap, subst, ◌∙◌, arith, inl, inr}
-use Rattle.fx_texts.proofs.Words.{⊎_elim, slice_index_or, slice_get, Option, Some, None, All, Contains, IfSome, option_to_list, map-append, Grows}
+use Rattle.fx_texts.proofs.Words.{◌≡◌, ℕ, ◌+◌, ◌<◌, ◌≤◌, List, [], ◌∷◌, ◌++◌, length, map, sym, ap, subst, ◌∙◌, arith, inl, inr, ⊎_elim}
+use Rattle.fx_texts.proofs.Words.{slice_index_or, Option, Some, None, All, Contains, IfSome, option_to_list, map-append, contains_map, Grows}
 use Rattle.std.proofs.lemmas.List.{get_or_default}
 use Rattle.fx_order.proofs.Words.{cases_lt}
 use Rattle.std.proofs.lemmas.List.Elements.{Contains-append_left, Contains-push, Contains-push_cases}
+use Rattle.fx_table.proofs.Members.{contains_mapped, contains_none}
 
 pub stays : {X : Type 0} (P : X → Type 0) (xs : List X) → Grows P xs xs
 stays P xs = record { kept = λ x inside. inside; from = λ x inside. inl inside }
@@ -35,20 +36,8 @@ module _ {X Y : Type 0} (f : Y → X) (xs ys : List Y) (y : Y) (are : ys ≡ xs 
   pub has_pushed : Contains (map f ys) (f y)
   has_pushed = subst (λ (l : List X). Contains l (f y)) (sym grown) (Contains-push (map f xs) (f y))
 
--- what is in the values has an element
-pub element : {X Y : Type 0} (f : Y → X) (ys : List Y) (x : X) → Contains (map f ys) x → (y : Y) × Contains ys y × (f y ≡ x)
-element f [] x (k, inside, is) = absurd (omega (arith, inside))
-element f (y ∷ ys) x (zero, inside, is) = (y, (0, omega arith, refl), is)
-element f (y ∷ ys) x (suc k, inside, is) =
-    let e = element f ys x (k, omega (arith, inside), is) in
-    (e.0, (suc e.1.0, let low = e.1.1 in omega (arith, low), e.1.2), e.2)
-
 pub at_value : {X Y : Type 0} (f : Y → X) (ys : List Y) (k : ℕ) (y : Y) → k < length ys → y ≡ slice_index_or ys k y → Contains (map f ys) (f y)
-at_value f [] k y inside is = absurd (omega (arith, inside))
-at_value f (x ∷ ys) zero y inside is = (0, omega arith, ap f (sym is))
-at_value f (x ∷ ys) (suc k) y inside is =
-    let e = at_value f ys k y (omega (arith, inside)) is in
-    (suc e.0, let low = e.1 in omega (arith, low), e.2)
+at_value f ys k y inside is = contains_mapped f ys y (k, inside, sym is)
 
 by_order : {P : Type 0} (i k : ℕ) → (i < k → P) → (i ≡ k → P) → i < k + 1 → P
 by_order i k less same low = ⊎_elim less (λ le. same (omega (arith, le, low))) (cases_lt i k)
@@ -71,8 +60,8 @@ module _ {X Y : Type 0} (f : Y → X) (ys : List Y) (Q : X → Type 0) where
 
   pub holds_of_all : (n : ℕ) → length ys ≤ n → HoldsBefore n → (x : X) → Contains (map f ys) x → Q x
   holds_of_all n long all x inside =
-      let (y, (k, low, at), is) = element f ys x inside in
-      subst Q (ap f at ∙ is) (all k y (omega (arith, low, long)))
+      let (y, (k, low, at), is) = contains_map f ys x inside in
+      subst Q (ap f at ∙ sym is) (all k y (omega (arith, low, long)))
 
 -- an element that is read has what all have
 pub read_at : {X : Type 0} (P : X → Type 0) (xs items : List X) (k : ℕ) (x : X) → items ≡ xs → k < length items → x ≡ slice_index_or items k x
@@ -82,8 +71,7 @@ read_at P xs items k x same inside is all =
     subst P (sym is) (each k x inside)
 
 pub nothing : {X Y : Type 0} (f : Y → X) (ys : List Y) (x : X) → ys ≡ [] → Contains (map f ys) x → ⊥
-nothing f [] x none (k, inside, is) = absurd (omega (arith, inside))
-nothing f (y ∷ ys) x none inside = let e : y ∷ ys ≡ [] = none in cc
+nothing {Y = Y} f ys x none inside = contains_none x (subst (λ (l : List Y). Contains (map f l) x) none inside)
 
 -- the one that is taken off the end
 pub popped : {X Y : Type 0} (f : Y → X) (xs ys : List Y) (last : Option Y) (P : X → Type 0) → xs ≡ ys ++ option_to_list last
@@ -94,12 +82,6 @@ popped f xs ys (Some y) P are all = all (f y) (has_pushed f ys xs y are)
 pub all_of_values : {X Y : Type 0} (f : Y → X) (ys : List Y) (P : X → Type 0) → ((x : X) → Contains (map f ys) x → P x) → All (λ y. P (f y)) ys
 all_of_values f ys P each = λ k d inside.
     each (f (slice_index_or ys k d)) (at_value f ys k (slice_index_or ys k d) inside (get_or_default ys k d (slice_index_or ys k d) inside))
-
--- an element that is in a list stands at a place of it
-pub get_at : {X : Type 0} (xs : List X) (k : ℕ) (x : X) → k < length xs → slice_index_or xs k x ≡ x → slice_get xs k ≡ Some x
-get_at [] k x inside is = absurd (omega (arith, inside))
-get_at (y ∷ xs) zero x inside is = ap Some is
-get_at (y ∷ xs) (suc k) x inside is = get_at xs k x (omega (arith, inside)) is
 
 pub holds_of_each : {X Y : Type 0} (f : Y → X) (ys : List Y) (Q : X → Type 0) (n : ℕ) → length ys ≤ n → HoldsBefore f ys Q n
     → (y : Y) → Contains ys y → Q (f y)

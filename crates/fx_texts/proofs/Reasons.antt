@@ -1,8 +1,8 @@
 -- Why a call is refused: the first that holds of its reasons, none of which is a want of memory.
 use Rattle.fx_texts.proofs.Words.{◌≡◌, ◌+◌, Bool, true, false, ◌==◌, ◌||◌, nat_le, nat_lt, if◌then◌else◌, List, [], ◌∷◌, length, refl, sym, subst}
-use Rattle.fx_texts.proofs.Words.{◌∙◌, Option, Some, None, list_any, Errno, EAGAIN, EBADF, EBUSY, EINVAL, EMFILE, ENOMEM, ENXIO, or_right}
-use Rattle.fx_texts.proofs.Words.{is_bad_entry, MOST_SLOTS, is_bad_file, RingState, are_bad_tags, tags_given, MOST_REGISTRATIONS, Instruction}
-use Rattle.fx_texts.proofs.Words.{MakesSparse, RegistersList, SetsRange, SubmitsAll, Unregisters, UpdatesRing, call_of}
+use Rattle.fx_texts.proofs.Words.{◌∙◌, Option, Some, None, list_any, Errno, EAGAIN, EBADF, EBUSY, EINVAL, EMFILE, ENOMEM, ENXIO, is_bad_entry}
+use Rattle.fx_texts.proofs.Words.{MOST_SLOTS, is_bad_file, RingState, are_bad_tags, tags_given, MOST_REGISTRATIONS, Instruction, MakesSparse}
+use Rattle.fx_texts.proofs.Words.{RegistersList, SetsRange, SubmitsAll, Unregisters, UpdatesRing, call_of, or_parts}
 use Rattle.std.specs.List.{AllByRecursion}
 use Rattle.fx_chain.proofs.Counted.{passed}
 
@@ -45,7 +45,7 @@ first_other : (reasons : List (Bool × Errno)) → list_any is_memory reasons �
 first_other [] none is = cc
 first_other ((true, ENOMEM) ∷ reasons) none is = cc
 first_other ((true, _) ∷ reasons) none is = cc
-first_other ((false, errno) ∷ reasons) none is = first_other reasons (or_right (is_memory (false, errno)) _ none) is
+first_other ((false, errno) ∷ reasons) none is = first_other reasons (or_parts (is_memory (false, errno)) _ none).1 is
 
 none_memory : (ring : RingState) (command : Instruction) → list_any is_memory (reasons_of ring command) ≡ false
 none_memory ring (SubmitsAll asked) = refl

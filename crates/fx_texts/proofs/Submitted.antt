@@ -5,7 +5,7 @@ use Rattle.fx_texts.proofs.Words.{MatchOption, true≢false, completed_of, fault
 use Rattle.fx_texts.proofs.Words.{IsPossible, ring_behind, End, Answer, PossibleReport, IsRing, RingContents, RingState, ring_of, Reported, reported}
 use Rattle.fx_texts.proofs.Words.{MOST_SUBMISSIONS, Instruction, SubmitsAll, Prints, PrintsReport, closes_text, refused_line, too_many_line}
 use Rattle.fx_texts.proofs.Words.{IsPermutation-refl, HasEachNext, Leads, MayEnd, MayLeadTo, MaySay, Stage, count_behind, kept_text, stage_left}
-use Rattle.fx_texts.proofs.Words.{stage_reported, IsReportFound}
+use Rattle.fx_texts.proofs.Words.{stage_reported, contains_map, IsReportFound}
 use Rattle.std.specs.Global.{Vec}
 use Rattle.std.proofs.lemmas.Bool.{lt-leb}
 use Rattle.fx_order.specs.declared.access.ChainAccess.{ChainAccess}
@@ -18,7 +18,7 @@ use Rattle.fx_order.proofs.OneRing.{each_closed_file_is_known}
 use Rattle.fx_order.specs.Laws.{AreKnown}
 use Rattle.fx_order.specs.Order.{ring_left}
 use Rattle.fx_print.specs.Text.{completion_lines}
-use Rattle.fx_texts.proofs.Growth.{element, get_at}
+use Rattle.fx_search.proofs.Hopeless.{get_at}
 use Rattle.fx_texts.proofs.Counts.{history_counts, submission_counts}
 use Rattle.std.proofs.lemmas.List.Elements.{All-contains, All-contains_itself}
 
@@ -112,10 +112,10 @@ pub ends_are_all : (keeps : Bool) (old : Stage) (asked : List Asked) (ends : Lis
 ends_are_all keeps old asked ends stages silent inside counted all ring next line same (None, prints, stays) =
     absurd (reports_once old.ring ring next asked line same counted prints stays)
 ends_are_all keeps old asked ends stages silent inside counted all ring next line same (Some report, prints, found) =
-    let (end, there, is) = element (λ (e : End). ring_behind old.ring e.slots) ends (ring_of next)
+    let (end, there, is) = contains_map (λ (e : End). ring_behind old.ring e.slots) ends (ring_of next)
     (all ring next same (record { report = report; may = found.may })) in
     let texts = kept_none keeps (old.printed ++ []) (old.printed ++ line) silent in
-    subst (λ (s : Stage). Contains stages s) (λ i. record { ring = is i; printed = texts i }) (inside end there)
+    subst (λ (s : Stage). Contains stages s) (λ i. record { ring = sym is i; printed = texts i }) (inside end there)
 
 -- where a report tells of another one, both print the same
 module _ (old : RingState) (asked : List Asked) (is_ring : IsRing old) (accepted : IsAccepted asked) (ring next : RingContents) (same : ring_of ring ≡ old)
@@ -130,9 +130,9 @@ module _ (old : RingState) (asked : List Asked) (is_ring : IsRing old) (accepted
 
   one_file : (x y : Closed) → Contains told.closes.files x → Contains told.closes.files y → x.mark ≡ y.mark → x ≡ y
   one_file x y (i, low, at) (j, high, there) marks =
-      let places : i ≡ j = known.distinct i j x y (get_at told.closes.files i x low at) (get_at told.closes.files j y high there) marks in
+      let places : i ≡ j = known.distinct i j x y (get_at told.closes.files i x low (sym at)) (get_at told.closes.files j y high (sym there)) marks in
       let found : Some x ≡ Some y =
-      sym (get_at told.closes.files i x low at) ∙ ap (slice_get told.closes.files) places ∙ get_at told.closes.files j y high there in
+      sym (get_at told.closes.files i x low (sym at)) ∙ ap (slice_get told.closes.files) places ∙ get_at told.closes.files j y high (sym there) in
       cc
 
   closes_same : told.closes.files ≡ report.closes.files

@@ -3,7 +3,6 @@ pub use Rattle.fx_answers.specs.Outcomes.{HasEachEnd, HasEachReport, IsAnswer, I
 pub use Rattle.fx_answers.specs.declared.end.End.{End}
 pub use Rattle.fx_answers.specs.declared.outcome.Answer.{Answer}
 pub use Rattle.fx_answers.specs.declared.report.PossibleReport.{PossibleReport}
-pub use Rattle.fx_base.proofs.Entries.{or_right}
 pub use Rattle.fx_base.specs.Catalogue.{FileEntry}
 pub use Rattle.fx_base.specs.declared.catalogue.TheConstants.{MOST_ENTRIES}
 pub use Rattle.fx_base.specs.declared.errno.Errno.{Errno}
@@ -31,6 +30,7 @@ pub use Rattle.fx_ring.specs.Submission.{Reported, reported}
 pub use Rattle.fx_ring.specs.Tags.{are_bad_tags, tags_given}
 pub use Rattle.fx_ring.specs.declared.ring.TheConstants.{MOST_REGISTRATIONS, MOST_SUBMISSIONS}
 pub use Rattle.fx_script.specs.Play.{Answers, IsRefused, Prints, PrintsEnd, PrintsReport}
+pub use Rattle.fx_table.proofs.Members.{contains_map}
 pub use Rattle.fx_texts.specs.Rings.{AreFrom, AreRings, EndsAs, Grows, HasEachFrom, HasEachLast, HasEachNext, HasEachSaid, HasEachSaidFrom, IsLineOf}
 pub use Rattle.fx_texts.specs.Rings.{IsTextAt, Leads, LeadsAll, MayEnd, MayLeadAllTo, MayLeadTo, MaySay, Stage, after_call, count_after}
 pub use Rattle.fx_texts.specs.Rings.{count_after_all, count_behind, kept_text, said_in, stage, stage_left, stage_of, stage_reported, stages_of}
@@ -41,7 +41,7 @@ pub use Rattle.fx_texts.specs.declared.saying.Said.{Said}
 pub use Rattle.std.proofs.Common.{Bool, List, None, Option, Some, [], ap, arith, drop, false, if◌then◌else◌, inl, inr, length, map, nat_le, nat_lt}
 pub use Rattle.std.proofs.Common.{refl, slice_get, slice_index_or, string_bytes, subst, suc, sym, take, true, zero, ℕ, ⊎_elim, ◌++◌, ◌+◌, ◌<◌, ◌==◌}
 pub use Rattle.std.proofs.Common.{◌||◌, ◌∙◌, ◌∷◌, ◌≡◌, ◌≤◌, ◌⊎◌}
-pub use Rattle.std.proofs.lemmas.Bool.{true≢false}
+pub use Rattle.std.proofs.lemmas.Bool.{or_parts, true≢false}
 pub use Rattle.std.proofs.lemmas.List.{append-nil, append_assoc, map-append}
 pub use Rattle.std.proofs.lemmas.List.Sorted.{IsPermutation-refl}
 pub use Rattle.std.specs.Bool.{MatchBool}

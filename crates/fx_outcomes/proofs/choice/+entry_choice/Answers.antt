@@ -1,17 +1,15 @@
-use Rattle.fx_order.proofs.Words.{◌≡◌, ◌-◌, ◌∙◌, ℤ, pos, negsuc, int_le, true, List, [], ◌∷◌, length, take, drop, None, sym, subst, rules, arith, to_z, of_z, w32, slice_index_or, table_of_slots}
+use Rattle.fx_order.proofs.Words.{◌≡◌, ◌-◌, ◌∙◌, ℤ, pos, negsuc, int_le, true, List, length, take, drop, None, sym, subst, rules, arith, to_z, of_z}
+use Rattle.fx_order.proofs.Words.{w32, slice_index_or, table_of_slots}
+use Rattle.std.proofs.lemmas.List.{nil_from_length}
 use Rattle.fx_order.proofs.FirstAndRest.{first_and_rest}
 use Rattle.fx_outcomes.specs.Choices.{IsEntryChoice}
 use Rattle.fx_outcomes.proofs.Choices.{entry_none, entry_past}
 use Rattle.fx_outcomes.proofs.choice.+entry_choice.Goals as goal
 
-nothing : (list : List ℤ) → length list ≡ 0 → list ≡ []
-nothing [] none = λ _. []
-nothing (z ∷ list) none = absurd (omega (arith, none))
-
 pub returns-in_default : goal.returns-in_default
 returns-in_default t c =
     subst (λ (l : List ℤ). IsEntryChoice (table_of_slots c.args.slots.now) c.args.place c.args.at.0 c.args.at.1 l c.args.made None)
-    (sym (nothing c.args.list.now (omega (arith, c.in_default.len_below))))
+    (sym (nil_from_length c.args.list.now (omega (arith, c.in_default.len_below))))
     (entry_none (table_of_slots c.args.slots.now) c.args.place c.args.at.0 c.args.at.1 c.args.made None)
 
 pub returns-then-made-gt0 : goal.returns-then-made-gt0
