@@ -55,7 +55,7 @@ fn confirm(case: &Case<'_>, ring: &mut RingSlots, order: &[ChainAccess]) -> Resu
         return Ok(false);
     };
     ring.slots = left;
-    ring.submissions = ring.submissions + 1;
+    ring.submissions += 1;
     Ok(true)
 }
 

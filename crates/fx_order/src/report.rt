@@ -43,7 +43,8 @@ fn copy_of(alloc: Global, slots: &Slots) -> Result<Slots, NoMemory>
 }
 
 /// The slots that an order of a submission's requests leaves, which are done one at a time at a table with these files, if
-/// it gives what is told of the submission.
+/// it gives what is told of the submission. The caller has seen that no request has a fault ([`fx_chain::check`]), and that
+/// the submission's number and the number of slots have 32 bits.
 ///
 /// # Errors
 /// `NoMemory` where there is no memory for lists as long as the submission, the order and the table, or the bytes of a
