@@ -131,10 +131,11 @@ class Lanes:
         return expected({it: self.seconds[it] * scale for it in self.left}, running, self.below, self.lanes)
 
     def words(self, name, jobs):
-        """What proves it by so many jobs. The program is built by a run on no script, which prints nothing, or for its help where
-        it needs arguments."""
+        """What proves it by so many jobs. Of a library it keeps the statements and not the proofs, as the gate does, so that the
+        crates above have less to read. The program is built by a run on no script, which prints nothing, or for its help where it
+        needs arguments."""
         if name != self.root:
-            return ["rt", "lib", "--jobs", str(jobs)]
+            return ["rt", "lib", "--jobs", str(jobs), "--statements"]
         return ["rt", "run", "--jobs", str(jobs), *(["--", "--help"] if os.path.exists(f"crates/{name}/args") else [])]
 
     def start(self):
