@@ -14,126 +14,94 @@ pub record HasFirst {A : Type 0} (print : A → List ℕ) (fits : A → Type 0) 
   pub only : (others : List A) (behind : List ℕ) → All fits others → may others behind → text ≡ flat_map print others ++ behind
       → (later : List A) × (others ≡ items ++ later) × All fits later × (rest ≡ flat_map print later ++ behind)
 
-next_of : {A : Type 0} (print : A → List ℕ) (fits : A → Type 0) (may : List A → List ℕ → Type 0)
-    (items : List A) (rest : List ℕ) (x : A) (next : List ℕ) → ((behind : List ℕ) → may items behind → rest ≡ behind → ⊥)
-    → ((y : A) (more : List ℕ) → fits y → rest ≡ print y ++ more → (y ≡ x) × (more ≡ next))
-    → (others : List A) (behind : List ℕ) → may others behind → (later : List A) → others ≡ items ++ later → All fits later
-    → rest ≡ flat_map print later ++ behind
-    → (after : List A) × (others ≡ (items ++ x ∷ []) ++ after) × All fits after × (next ≡ flat_map print after ++ behind)
-next_of print fits may items rest x next goes_on only_x others behind ends [] whole fit left =
-    let same : others ≡ items = whole ∙ append-nil items in
-    absurd (goes_on behind (subst (λ l. may l behind) same ends) left)
-next_of {A} print fits may items rest x next goes_on only_x others behind ends (y ∷ later) whole fit left =
-    let first = only_x y (flat_map print later ++ behind) (All-head fits y later fit)
-    (left ∙ append_assoc (print y) (flat_map print later) behind) in
-    let moved : others ≡ items ++ x ∷ later = whole ∙ ap (λ (z : A). items ++ z ∷ later) first.0 in
-    (later, moved ∙ sym (append_assoc items (x ∷ []) later), All-tail fits y later fit, sym first.1)
+module _ {A : Type 0} {print : A → List ℕ} {fits : A → Type 0} {may : List A → List ℕ → Type 0} {text : List ℕ} {items : List A} {rest : List ℕ}
+    (before : HasFirst print fits may text items rest) where
+  -- the text may not end here
+  abbrev GoesOn : Type 0
+  GoesOn = (behind : List ℕ) → may items behind → rest ≡ behind → ⊥
 
--- one line more
-pub one_more : {A : Type 0} (print : A → List ℕ) (fits : A → Type 0) (may : List A → List ℕ → Type 0) (text : List ℕ)
-    (items : List A) (rest : List ℕ) (x : A) (next : List ℕ)
-    → HasFirst print fits may text items rest → fits x → rest ≡ print x ++ next
-    → ((behind : List ℕ) → may items behind → rest ≡ behind → ⊥)
-    → ((y : A) (more : List ℕ) → fits y → rest ≡ print y ++ more → (y ≡ x) × (more ≡ next))
-    → HasFirst print fits may text (items ++ x ∷ []) next
-one_more {A} print fits may text items rest x next before fits_x is goes_on only_x = record {
-  printed = before.printed ∙ ap (λ (t : List ℕ). flat_map print items ++ t) is
-      ∙ sym (append_assoc (flat_map print items) (print x) next)
-      ∙ ap (λ (t : List ℕ). t ++ next) (flat_map_more print [] items x);
-  fit = All-push fits items x before.fit fits_x;
-  only = λ others behind fit ends same.
-      let known = before.only others behind fit ends same in
-      next_of print fits may items rest x next goes_on only_x others behind ends known.0 known.1 known.2 known.3;
-}
+  -- whatever lines a text has that may not end here, one stands next
+  at_next : {C : Type 0} → GoesOn → (others : List A) (behind : List ℕ) → All fits others → may others behind → text ≡ flat_map print others ++ behind
+      → ((y : A) (later : List A) → others ≡ items ++ y ∷ later → fits y → All fits later → rest ≡ print y ++ (flat_map print later ++ behind) → C) → C
+  at_next {C} goes_on others behind fit ends same next =
+      let known = before.only others behind fit ends same in by_later known.0 known.1 known.2 known.3
+    where
+      by_later : (later : List A) → others ≡ items ++ later → All fits later → rest ≡ flat_map print later ++ behind → C
+      by_later [] whole fits_later left = absurd (goes_on behind (subst (λ l. may l behind) (whole ∙ append-nil items) ends) left)
+      by_later (y ∷ later) whole fits_later left =
+          next y later whole (All-head fits y later fits_later) (All-tail fits y later fits_later)
+          (left ∙ append_assoc (print y) (flat_map print later) behind)
 
-none_next : {A : Type 0} (print : A → List ℕ) (fits : A → Type 0) (may : List A → List ℕ → Type 0)
-    (items : List A) (rest : List ℕ) → ((behind : List ℕ) → may items behind → rest ≡ behind → ⊥)
-    → ((y : A) (more : List ℕ) → fits y → rest ≡ print y ++ more → ⊥)
-    → (others : List A) (behind : List ℕ) → may others behind → (later : List A) → others ≡ items ++ later → All fits later
-    → rest ≡ flat_map print later ++ behind → ⊥
-none_next print fits may items rest goes_on none others behind ends [] whole fit left =
-    let same : others ≡ items = whole ∙ append-nil items in
-    goes_on behind (subst (λ l. may l behind) same ends) left
-none_next print fits may items rest goes_on none others behind ends (y ∷ later) whole fit left =
-    none y (flat_map print later ++ behind) (All-head fits y later fit) (left ∙ append_assoc (print y) (flat_map print later) behind)
+  -- one line more
+  pub one_more : {x : A} {next : List ℕ} → fits x → rest ≡ print x ++ next → GoesOn
+      → ((y : A) (more : List ℕ) → fits y → rest ≡ print y ++ more → (y ≡ x) × (more ≡ next))
+      → HasFirst print fits may text (items ++ x ∷ []) next
+  one_more {x} {next} fits_x is goes_on only_x = record {
+    printed = before.printed ∙ ap (λ (t : List ℕ). flat_map print items ++ t) is
+        ∙ sym (append_assoc (flat_map print items) (print x) next)
+        ∙ ap (λ (t : List ℕ). t ++ next) (flat_map_more print [] items x);
+    fit = All-push fits items x before.fit fits_x;
+    only = λ others behind fit ends same.
+        at_next goes_on others behind fit ends same (λ y later whole fits_y fits_later left.
+        let first = only_x y (flat_map print later ++ behind) fits_y left in
+        let moved : others ≡ items ++ x ∷ later = whole ∙ ap (λ (z : A). items ++ z ∷ later) first.0 in
+        (later, moved ∙ sym (append_assoc items (x ∷ []) later), fits_later, sym first.1));
+  }
 
--- where the rest goes on and begins with no line, the text has no such lines
-pub stops : {A : Type 0} (print : A → List ℕ) (fits : A → Type 0) (may : List A → List ℕ → Type 0) (text : List ℕ)
-    (items : List A) (rest : List ℕ) → HasFirst print fits may text items rest
-    → ((behind : List ℕ) → may items behind → rest ≡ behind → ⊥)
-    → ((y : A) (more : List ℕ) → fits y → rest ≡ print y ++ more → ⊥)
-    → Reads (lines_before print) (IsFront fits may) text None
-stops print fits may text items rest before goes_on none other fit same =
-    let known = before.only other.0 other.1 fit.0 fit.1 same in
-    none_next print fits may items rest goes_on none other.0 other.1 fit.1 known.0 known.1 known.2 known.3
+  -- where the rest goes on and begins with no line, the text has no such lines
+  pub stops : GoesOn → ((y : A) (more : List ℕ) → fits y → rest ≡ print y ++ more → ⊥) → Reads (lines_before print) (IsFront fits may) text None
+  stops goes_on none other fit same =
+      at_next goes_on other.0 other.1 fit.0 fit.1 same (λ y later whole fits_y fits_later left. none y (flat_map print later ++ other.1) fits_y left)
 
-one_end : {A : Type 0} (print : A → List ℕ) (fits : A → Type 0) (may : List A → List ℕ → Type 0) (items : List A) (rest : List ℕ)
-    → ((y : A) (later : List A) (behind : List ℕ) → may (items ++ y ∷ later) behind → rest ≡ flat_map print (y ∷ later) ++ behind → ⊥)
-    → (others : List A) (behind : List ℕ) → may others behind → (later : List A) → others ≡ items ++ later
-    → rest ≡ flat_map print later ++ behind → (others ≡ items) × (behind ≡ rest)
-one_end print fits may items rest over others behind ends [] whole left = (whole ∙ append-nil items, sym left)
-one_end print fits may items rest over others behind ends (y ∷ later) whole left =
-    absurd (over y later behind (subst (λ l. may l behind) whole ends) left)
-
--- where the lines are over, these are all
-pub ends_here : {A : Type 0} (print : A → List ℕ) (fits : A → Type 0) (may : List A → List ℕ → Type 0) (text : List ℕ)
-    (items : List A) (rest : List ℕ) → HasFirst print fits may text items rest → may items rest
-    → ((y : A) (later : List A) (behind : List ℕ) → may (items ++ y ∷ later) behind → rest ≡ flat_map print (y ∷ later) ++ behind → ⊥)
-    → IsPrintedFrom (lines_before print) (IsFront fits may) text (items, rest)
-ends_here print fits may text items rest before ends over = record {
-  fits_value = (before.fit, ends);
-  printed = before.printed;
-  only = λ other fit same.
-      let known = before.only other.0 other.1 fit.0 fit.1 same in
-      let both = one_end print fits may items rest over other.0 other.1 fit.1 known.0 known.1 known.3 in
-      pair_is other items rest both.0 both.1;
-}
+  -- where the lines are over, these are all
+  pub ends_here : may items rest
+      → ((y : A) (later : List A) (behind : List ℕ) → may (items ++ y ∷ later) behind → rest ≡ flat_map print (y ∷ later) ++ behind → ⊥)
+      → IsPrintedFrom (lines_before print) (IsFront fits may) text (items, rest)
+  ends_here ends over = record {
+    fits_value = (before.fit, ends);
+    printed = before.printed;
+    only = λ other fit same.
+        let known = before.only other.0 other.1 fit.0 fit.1 same in
+        let both = by_later other fit.1 known.0 known.1 known.3 in
+        pair_is other items rest both.0 both.1;
+  }
+    where
+      by_later : (other : List A × List ℕ) → may other.0 other.1 → (later : List A) → other.0 ≡ items ++ later
+          → rest ≡ flat_map print later ++ other.1 → (other.0 ≡ items) × (other.1 ≡ rest)
+      by_later other all [] whole left = (whole ∙ append-nil items, sym left)
+      by_later other all (y ∷ later) whole left = absurd (over y later other.1 (subst (λ l. may l other.1) whole all) left)
 
 -- what is printed is one line: a word, a body without a line end, and the line end
 pub record IsOneLine {A : Type 0} (print body : A → List ℕ) (fits : A → Type 0) (word : List ℕ) : Type 0 where
   pub line : (x : A) (more : List ℕ) → print x ++ more ≡ word ++ cut_text 10 (body x, more)
   pub no_end : (x : A) → fits x → is_without 10 (body x) ≡ true
 
-tail_of : (word rest tail front : List ℕ) → rest ≡ word ++ tail → rest ≡ word ++ front → tail ≡ front
-tail_of word rest tail front one two = append_cancel_left word tail front (sym one ∙ two)
+module _ {A : Type 0} {print body : A → List ℕ} {fits : A → Type 0} {word : List ℕ} (lines : IsOneLine print body fits word)
+    (rest tail : List ℕ) (begins : rest ≡ word ++ tail) where
+  tail_of : (y : A) (more : List ℕ) → rest ≡ print y ++ more → tail ≡ cut_text 10 (body y, more)
+  tail_of y more same = append_cancel_left word tail _ (sym begins ∙ same ∙ lines.line y more)
 
--- without a line end there is no line
-pub no_line : {A : Type 0} (print body : A → List ℕ) (fits : A → Type 0) (word rest tail : List ℕ) → IsOneLine print body fits word
-    → rest ≡ word ++ tail → Reads (cut_text 10) (IsCutPart 10) tail None
-    → (y : A) (more : List ℕ) → fits y → rest ≡ print y ++ more → ⊥
-no_line print body fits word rest tail lines begins none y more fit same =
-    none (body y, more) (lines.no_end y fit) (tail_of word rest tail (cut_text 10 (body y, more)) begins (same ∙ lines.line y more))
+  -- without a line end there is no line
+  pub no_line : Reads (cut_text 10) (IsCutPart 10) tail None → (y : A) (more : List ℕ) → fits y → rest ≡ print y ++ more → ⊥
+  no_line none y more fit same = none (body y, more) (lines.no_end y fit) (tail_of y more same)
 
-parts_of_line : {A : Type 0} (print body : A → List ℕ) (fits : A → Type 0) (word rest tail line behind : List ℕ) → IsOneLine print body fits word
-    → rest ≡ word ++ tail → IsPrintedFrom (cut_text 10) (IsCutPart 10) tail (line, behind)
-    → (y : A) (more : List ℕ) → fits y → rest ≡ print y ++ more → (line ≡ body y) × (more ≡ behind)
-parts_of_line print body fits word rest tail line behind lines begins cuts y more fit same =
-    let parts = cuts.only (body y, more) (lines.no_end y fit)
-    (tail_of word rest tail (cut_text 10 (body y, more)) begins (same ∙ lines.line y more)) in
-    (sym (ap (λ p. p.0) parts), ap (λ p. p.1) parts)
+  module _ {line behind : List ℕ} (cuts : IsPrintedFrom (cut_text 10) (IsCutPart 10) tail (line, behind)) (wide : A → Type 0) where
+    parts_of_line : (y : A) (more : List ℕ) → fits y → rest ≡ print y ++ more → (line ≡ body y) × (more ≡ behind)
+    parts_of_line y more fit same =
+        let parts = cuts.only (body y, more) (lines.no_end y fit) (tail_of y more same) in
+        (sym (ap (λ p. p.0) parts), ap (λ p. p.1) parts)
 
--- a line of another form is none of these
-pub other_line : {A : Type 0} (print body : A → List ℕ) (fits wide : A → Type 0) (word rest tail line behind : List ℕ)
-    → IsOneLine print body fits word → rest ≡ word ++ tail → IsPrintedFrom (cut_text 10) (IsCutPart 10) tail (line, behind)
-    → ((y : A) → fits y → wide y) → Reads body wide line None
-    → (y : A) (more : List ℕ) → fits y → rest ≡ print y ++ more → ⊥
-other_line print body fits wide word rest tail line behind lines begins cuts wider none y more fit same =
-    none y (wider y fit) (parts_of_line print body fits word rest tail line behind lines begins cuts y more fit same).0
+    -- a line of another form is none of these
+    pub other_line : ((y : A) → fits y → wide y) → Reads body wide line None → (y : A) (more : List ℕ) → fits y → rest ≡ print y ++ more → ⊥
+    other_line wider none y more fit same = none y (wider y fit) (parts_of_line y more fit same).0
 
--- the line is that of one value
-pub first_line : {A : Type 0} (print body : A → List ℕ) (fits wide : A → Type 0) (word rest tail line behind : List ℕ) (x : A)
-    → IsOneLine print body fits word → rest ≡ word ++ tail → IsPrintedFrom (cut_text 10) (IsCutPart 10) tail (line, behind)
-    → ((y : A) → fits y → wide y) → IsPrintedFrom body wide line x
-    → (y : A) (more : List ℕ) → fits y → rest ≡ print y ++ more → (y ≡ x) × (more ≡ behind)
-first_line print body fits wide word rest tail line behind x lines begins cuts wider is y more fit same =
-    let parts = parts_of_line print body fits word rest tail line behind lines begins cuts y more fit same in
-    (is.only y (wider y fit) parts.0, parts.1)
+    -- the line is that of one value
+    pub first_line : {x : A} → IsPrintedFrom body wide line x → ((y : A) → fits y → wide y)
+        → (y : A) (more : List ℕ) → fits y → rest ≡ print y ++ more → (y ≡ x) × (more ≡ behind)
+    first_line is wider y more fit same = let parts = parts_of_line y more fit same in (is.only y (wider y fit) parts.0, parts.1)
 
-pub line_printed : {A : Type 0} (print body : A → List ℕ) (fits wide : A → Type 0) (word rest tail line behind : List ℕ) (x : A)
-    → IsOneLine print body fits word → rest ≡ word ++ tail → IsPrintedFrom (cut_text 10) (IsCutPart 10) tail (line, behind)
-    → IsPrintedFrom body wide line x → rest ≡ print x ++ behind
-line_printed print body fits wide word rest tail line behind x lines begins cuts is =
-    begins ∙ ap (λ (t : List ℕ). word ++ t) (cuts.printed ∙ ap (λ (t : List ℕ). t ++ 10 ∷ behind) is.printed) ∙ sym (lines.line x behind)
+    pub line_printed : {x : A} → IsPrintedFrom body wide line x → rest ≡ print x ++ behind
+    line_printed {x} is = begins ∙ ap (λ (t : List ℕ). word ++ t) (cuts.printed ∙ ap (λ (t : List ℕ). t ++ 10 ∷ behind) is.printed) ∙ sym (lines.line x behind)
 
 -- a text that begins with a word, and what stands behind no more lines of that word
 pub goes_on : (word rest tail : List ℕ) → rest ≡ word ++ tail → (behind : List ℕ) → ¬ (StartsWith behind word) → rest ≡ behind → ⊥
@@ -147,9 +115,9 @@ not_begun word rest none = λ starts.
     (sym (take-append-drop (length word) rest) ∙ ap (λ (t : List ℕ). t ++ drop (length word) rest) starts)
 
 -- a line begins with its word
-pub line_begins : {A : Type 0} (print body : A → List ℕ) (fits : A → Type 0) (word rest : List ℕ) → IsOneLine print body fits word
+pub line_begins : {A : Type 0} {print body : A → List ℕ} {fits : A → Type 0} {word : List ℕ} (rest : List ℕ) → IsOneLine print body fits word
     → ((other : List ℕ) → Unit {0} → rest ≡ word ++ other → ⊥)
     → (y : A) (later : List A) (behind : List ℕ) → rest ≡ flat_map print (y ∷ later) ++ behind → ⊥
-line_begins print body fits word rest lines none y later behind same =
+line_begins {A} {print} {body} rest lines none y later behind same =
     none (cut_text 10 (body y, flat_map print later ++ behind)) tt
     (same ∙ append_assoc (print y) (flat_map print later) behind ∙ lines.line y (flat_map print later ++ behind))

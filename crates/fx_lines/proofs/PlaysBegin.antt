@@ -85,95 +85,80 @@ submission_begins old asked new line others (report, one, is) behind =
     (report_begins old.catalogue report.completions report.closes.files others (no_closes old asked report new one) behind)
 
 -- the line of a command
-IsWord : List ℕ → Type 0
+abbrev IsWord : List ℕ → Type 0
 IsWord word = (rest : List ℕ) → HasNoCloses (word ++ rest)
 
-result_begins : (word : List ℕ) (res : ℤ) (line others : List ℕ) → IsWord word → line ≡ result_line word res → HasNoCloses (line ++ others)
-unfolding IsWord
-result_begins word res line others is_word is =
+word_with : (b : ℕ) (more : List ℕ) → (b == 99) ≡ false → (b == 116) ≡ false → IsWord (b ∷ more)
+word_with b more no_c no_t rest = by_first b (more ++ rest) no_c no_t
+
+line_begins : (word : List ℕ) (res : ℤ) (rest : List ℕ) → IsWord word → HasNoCloses (result_line word res ++ rest)
+line_begins word res rest is_word =
     let tail : List ℕ = codes " " ++ (signed_decimal res ++ codes "\n") in
-    subst (λ (t : List ℕ). HasNoCloses (t ++ others)) (sym is) (subst HasNoCloses (sym (append_assoc word tail others)) (is_word (tail ++ others)))
+    subst HasNoCloses (sym (append_assoc word tail rest)) (is_word (tail ++ rest))
 
-closes_begin : (ring : RingState) (files : List Closed) (word : List ℕ) (res : ℤ) (line others : List ℕ) → IsWord word
-    → PrintsClosed ring files (result_line word res) line → HasNoCloses (line ++ others)
-closes_begin ring files word res line others is_word (closes, are, is) =
-    let tail : List ℕ = closes_text ring.catalogue closes.files in
-    subst (λ (t : List ℕ). HasNoCloses (t ++ others)) (sym is)
-    (subst HasNoCloses (sym (append_assoc (result_line word res) tail others))
-    (result_begins word res (result_line word res) (tail ++ others) is_word refl))
+module _ (old new : RingState) (line others : List ℕ) where
+  abbrev Begins : Type 0
+  Begins = HasNoCloses (line ++ others)
 
-answer_begins : (refusal : Option Errno) (same : Type 0) (old new : RingState) (word : List ℕ) (res : ℤ) (line others : List ℕ) → IsWord word
-    → Answers refusal (same × (line ≡ result_line word res)) (IsRefused old new word line) → HasNoCloses (line ++ others)
-answer_begins (Some errno) same old new word res line others is_word refused = result_begins word (negated errno) line others is_word refused.1
-answer_begins None same old new word res line others is_word (inl ok) = result_begins word res line others is_word ok.1
-answer_begins None same old new word res line others is_word (inr refused) =
-    result_begins word (negated ENOMEM) line others is_word refused.1
+  result_begins : (word : List ℕ) (res : ℤ) → IsWord word → line ≡ result_line word res → Begins
+  result_begins word res is_word is =
+      subst (λ (t : List ℕ). HasNoCloses (t ++ others)) (sym is) (line_begins word res others is_word)
 
-closing_begins : (refusal : Option Errno) (same : Type 0) (old new : RingState) (files : List Closed) (word : List ℕ) (res : ℤ)
-    (line others : List ℕ) → IsWord word
-    → Answers refusal (same × PrintsClosed old files (result_line word res) line) (IsRefused old new word line) → HasNoCloses (line ++ others)
-closing_begins (Some errno) same old new files word res line others is_word refused =
-    result_begins word (negated errno) line others is_word refused.1
-closing_begins None same old new files word res line others is_word (inl ok) = closes_begin old files word res line others is_word ok.1
-closing_begins None same old new files word res line others is_word (inr refused) =
-    result_begins word (negated ENOMEM) line others is_word refused.1
+  closes_begin : (files : List Closed) (word : List ℕ) (res : ℤ) → IsWord word → PrintsClosed old files (result_line word res) line → Begins
+  closes_begin files word res is_word (closes, are, is) =
+      let tail : List ℕ = closes_text old.catalogue closes.files in
+      subst (λ (t : List ℕ). HasNoCloses (t ++ others)) (sym is)
+      (subst HasNoCloses (sym (append_assoc (result_line word res) tail others)) (line_begins word res (tail ++ others) is_word))
 
-range_begins : (refusal : Option Errno) (same : Type 0) (old new : RingState) (word : List ℕ) (res : ℤ) (line others : List ℕ) → IsWord word
-    → MatchOption refusal (same × (line ≡ result_line word res)) (IsRefused old new word line) → HasNoCloses (line ++ others)
-range_begins (Some errno) same old new word res line others is_word refused = result_begins word (negated errno) line others is_word refused.1
-range_begins None same old new word res line others is_word ok = result_begins word res line others is_word ok.1
+  -- it is refused, or printed as one that is accepted
+  answer_begins : (refusal : Option Errno) (same printed : Type 0) (word : List ℕ) → IsWord word → (printed → Begins)
+      → Answers refusal (same × printed) (IsRefused old new word line) → Begins
+  answer_begins (Some errno) same printed word is_word accepted refused = result_begins word (negated errno) is_word refused.1
+  answer_begins None same printed word is_word accepted (inl ok) = accepted ok.1
+  answer_begins None same printed word is_word accepted (inr refused) = result_begins word (negated ENOMEM) is_word refused.1
 
-too_many_begins : (over : Bool) (same reported : Type 0) (line others : List ℕ)
-    → MatchBool over (same × (line ≡ too_many_line)) reported → (reported → HasNoCloses (line ++ others)) → HasNoCloses (line ++ others)
-too_many_begins true same reported line others is ok =
-    subst (λ (t : List ℕ). HasNoCloses (t ++ others)) (sym is.1) (by_first 115 (drop 1 too_many_line ++ others) refl refl)
-too_many_begins false same reported line others it ok = ok it
+  range_begins : (refusal : Option Errno) (same printed : Type 0) (word : List ℕ) → IsWord word → (printed → Begins)
+      → MatchOption refusal (same × printed) (IsRefused old new word line) → Begins
+  range_begins (Some errno) same printed word is_word accepted refused = result_begins word (negated errno) is_word refused.1
+  range_begins None same printed word is_word accepted ok = accepted ok.1
 
-refusal_begins : (fault : Option CutFault) (same played : Type 0) (line others : List ℕ)
-    → MatchOption fault played (λ cut. same × (line ≡ refused_line cut)) → (played → HasNoCloses (line ++ others)) → HasNoCloses (line ++ others)
-refusal_begins (Some cut) same played line others is ok =
-    subst (λ (t : List ℕ). HasNoCloses (t ++ others)) (sym is.1)
-    (by_first 115 ((drop 1 (codes "submit refused ") ++ (kind_name cut.kind ++ (codes " " ++ (decimal cut.at ++ codes "\n")))) ++ others) refl refl)
-refusal_begins None same played line others it ok = ok it
+  too_many_begins : (over : Bool) (same reported : Type 0) → MatchBool over (same × (line ≡ too_many_line)) reported → (reported → Begins) → Begins
+  too_many_begins true same reported is ok =
+      subst (λ (t : List ℕ). HasNoCloses (t ++ others)) (sym is.1) (word_with 115 (drop 1 too_many_line) refl refl others)
+  too_many_begins false same reported it ok = ok it
 
-sparse_word : IsWord (codes "sparse")
-unfolding IsWord
-sparse_word rest = by_first 115 (drop 1 (codes "sparse") ++ rest) refl refl
-
-register_word : IsWord (codes "register")
-unfolding IsWord
-register_word rest = by_first 114 (drop 1 (codes "register") ++ rest) refl refl
-
-unregister_word : IsWord (codes "unregister")
-unfolding IsWord
-unregister_word rest = by_first 117 (drop 1 (codes "unregister") ++ rest) refl refl
-
-range_word : IsWord (codes "range")
-unfolding IsWord
-range_word rest = by_first 114 (drop 1 (codes "range") ++ rest) refl refl
-
-update_word : IsWord (codes "regupdate")
-unfolding IsWord
-update_word rest = by_first 114 (drop 1 (codes "regupdate") ++ rest) refl refl
+  refusal_begins : (fault : Option CutFault) (same played : Type 0) → MatchOption fault played (λ cut. same × (line ≡ refused_line cut))
+      → (played → Begins) → Begins
+  refusal_begins (Some cut) same played is ok =
+      subst (λ (t : List ℕ). HasNoCloses (t ++ others)) (sym is.1)
+      (word_with 115 (drop 1 (codes "submit refused ") ++ (kind_name cut.kind ++ (codes " " ++ (decimal cut.at ++ codes "\n")))) refl refl others)
+  refusal_begins None same played it ok = ok it
 
 pub command_begins : (old : RingContents) (command : Instruction) (new : RingContents) (line others : List ℕ) → Prints old command new line
     → HasNoCloses others → HasNoCloses (line ++ others)
 command_begins old (MakesSparse n) new line others prints behind =
-    answer_begins (sparse_refusal (ring_of old) n) _ (ring_of old) (ring_of new) (codes "sparse") (pos 0) line others sparse_word prints
+    let word = word_with 115 (drop 1 (codes "sparse")) refl refl in
+    answer_begins (ring_of old) (ring_of new) line others (sparse_refusal (ring_of old) n) _ _ (codes "sparse") word
+    (result_begins (ring_of old) (ring_of new) line others (codes "sparse") (pos 0) word) prints
 command_begins old (RegistersList list tags) new line others prints behind =
-    answer_begins (register_refusal (ring_of old) list (tags_given list tags)) _ (ring_of old) (ring_of new) (codes "register") (pos 0) line others
-    register_word prints
+    let word = word_with 114 (drop 1 (codes "register")) refl refl in
+    answer_begins (ring_of old) (ring_of new) line others (register_refusal (ring_of old) list (tags_given list tags)) _ _ (codes "register") word
+    (result_begins (ring_of old) (ring_of new) line others (codes "register") (pos 0) word) prints
 command_begins old Unregisters new line others prints behind =
-    closing_begins (unregister_refusal (ring_of old)) _ (ring_of old) (ring_of new) (files_of (ring_of old)) (codes "unregister") (pos 0) line others
-    unregister_word prints
+    let word = word_with 117 (drop 1 (codes "unregister")) refl refl in
+    answer_begins (ring_of old) (ring_of new) line others (unregister_refusal (ring_of old)) _ _ (codes "unregister") word
+    (closes_begin (ring_of old) (ring_of new) line others (files_of (ring_of old)) (codes "unregister") (pos 0) word) prints
 command_begins old (SetsRange off len) new line others prints behind =
-    range_begins (range_refusal (ring_of old) off len) _ (ring_of old) (ring_of new) (codes "range") (pos 0) line others range_word prints
+    let word = word_with 114 (drop 1 (codes "range")) refl refl in
+    range_begins (ring_of old) (ring_of new) line others (range_refusal (ring_of old) off len) _ _ (codes "range") word
+    (result_begins (ring_of old) (ring_of new) line others (codes "range") (pos 0) word) prints
 command_begins old (UpdatesRing off list tags) new line others prints behind =
-    closing_begins (update_refusal (ring_of old) off list (tags_given list tags)) _ (ring_of old) (ring_of new)
-    (removed_from (ring_of old).at off list) (codes "regupdate") (pos (length list)) line others update_word prints
+    let word = word_with 114 (drop 1 (codes "regupdate")) refl refl in
+    answer_begins (ring_of old) (ring_of new) line others (update_refusal (ring_of old) off list (tags_given list tags)) _ _ (codes "regupdate") word
+    (closes_begin (ring_of old) (ring_of new) line others (removed_from (ring_of old).at off list) (codes "regupdate") (pos (length list)) word) prints
 command_begins old (SubmitsAll asked) new line others prints behind =
-    refusal_begins (fault_of asked) _ _ line others prints
-    (λ played. too_many_begins (nat_le MOST_SUBMISSIONS old.submissions) _ _ line others played
+    refusal_begins (ring_of old) (ring_of new) line others (fault_of asked) _ _ prints
+    (λ played. too_many_begins (ring_of old) (ring_of new) line others (nat_le MOST_SUBMISSIONS old.submissions) _ _ played
     (λ it. submission_begins old asked new line others it behind))
 
 pub plays_begin : PlaysBeginWithNoClose
