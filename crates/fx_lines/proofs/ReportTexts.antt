@@ -60,69 +60,56 @@ pub no_first : (count : ℕ) (text : List ℕ)
 no_first count text none other fits same =
     none (other.0.completions, behind_completions other) (fits.in_range.completions, fits.each) (same ∙ regroup other)
 
-first_of_report : (count : ℕ) (text : List ℕ) (cs : List Completed) (rest : List ℕ) → FirstPart count text (cs, rest)
-    → (other : Lines × List ℕ) → IsReportBefore count other → text ≡ lines_text other.0 ++ other.1
-    → (other.0.completions ≡ cs) × (rest ≡ behind_completions other)
-first_of_report count text cs rest is other fits same =
-    let told = is.only (other.0.completions, behind_completions other) (fits.in_range.completions, fits.each) (same ∙ regroup other) in
-    (ap (λ p. p.0) told, sym (ap (λ p. p.1) told))
+module _ {count : ℕ} {text : List ℕ} {cs : List Completed} {rest : List ℕ} (is : FirstPart count text (cs, rest)) where
+  first_of_report : (other : Lines × List ℕ) → IsReportBefore count other → text ≡ lines_text other.0 ++ other.1
+      → (other.0.completions ≡ cs) × (rest ≡ behind_completions other)
+  first_of_report other fits same =
+      let told = is.only (other.0.completions, behind_completions other) (fits.in_range.completions, fits.each) (same ∙ regroup other) in
+      (ap (λ p. p.0) told, sym (ap (λ p. p.1) told))
 
-pub no_second : (count : ℕ) (text : List ℕ) (cs : List Completed) (rest : List ℕ) → FirstPart count text (cs, rest)
-    → Reads (lines_before named_line) (IsFront IsCloseInRange (AreAll (codes "closed "))) rest None → ReadsReport count text None
-no_second count text cs rest is none other fits same =
-    none (other.0.closed, behind_closed other) (fits.in_range.closed, no_closed_behind other.0.tags other.1 fits.behind)
-    (first_of_report count text cs rest is other fits same).1
+  pub no_second : Reads (lines_before named_line) (IsFront IsCloseInRange (AreAll (codes "closed "))) rest None → ReadsReport count text None
+  no_second none other fits same =
+      none (other.0.closed, behind_closed other) (fits.in_range.closed, no_closed_behind other.0.tags other.1 fits.behind)
+      (first_of_report other fits same).1
 
-second_of_report : (count : ℕ) (text : List ℕ) (cs : List Completed) (rest : List ℕ) (closed : List NamedClose) (left : List ℕ)
-    → FirstPart count text (cs, rest) → SecondPart rest (closed, left)
-    → (other : Lines × List ℕ) → IsReportBefore count other → text ≡ lines_text other.0 ++ other.1
-    → (other.0.closed ≡ closed) × (left ≡ behind_closed other)
-second_of_report count text cs rest closed left is next other fits same =
-    let told = next.only (other.0.closed, behind_closed other) (fits.in_range.closed, no_closed_behind other.0.tags other.1 fits.behind)
-    (first_of_report count text cs rest is other fits same).1 in
-    (ap (λ p. p.0) told, sym (ap (λ p. p.1) told))
+  module _ {closed : List NamedClose} {left : List ℕ} (next : SecondPart rest (closed, left)) where
+    second_of_report : (other : Lines × List ℕ) → IsReportBefore count other → text ≡ lines_text other.0 ++ other.1
+        → (other.0.closed ≡ closed) × (left ≡ behind_closed other)
+    second_of_report other fits same =
+        let told = next.only (other.0.closed, behind_closed other) (fits.in_range.closed, no_closed_behind other.0.tags other.1 fits.behind)
+        (first_of_report other fits same).1 in
+        (ap (λ p. p.0) told, sym (ap (λ p. p.1) told))
 
-pub no_third : (count : ℕ) (text : List ℕ) (cs : List Completed) (rest : List ℕ) (closed : List NamedClose) (left : List ℕ)
-    → FirstPart count text (cs, rest) → SecondPart rest (closed, left)
-    → Reads (lines_before line_of_tag) (IsFront (λ tag. tag < 2 ^ 64) (AreAll (codes "tag "))) left None → ReadsReport count text None
-no_third count text cs rest closed left is next none other fits same =
-    none (other.0.tags, other.1) (fits.in_range.tags, fits.behind.no_tag) (second_of_report count text cs rest closed left is next other fits same).1
+    pub no_third : Reads (lines_before line_of_tag) (IsFront (λ tag. tag < 2 ^ 64) (AreAll (codes "tag "))) left None → ReadsReport count text None
+    no_third none other fits same =
+        none (other.0.tags, other.1) (fits.in_range.tags, fits.behind.no_tag) (second_of_report other fits same).1
 
-third_of_report : (count : ℕ) (text : List ℕ) (cs : List Completed) (rest : List ℕ) (closed : List NamedClose) (left tags last : List ℕ)
-    → FirstPart count text (cs, rest) → SecondPart rest (closed, left) → ThirdPart left (tags, last)
-    → (other : Lines × List ℕ) → IsReportBefore count other → text ≡ lines_text other.0 ++ other.1
-    → (other.0.tags ≡ tags) × (other.1 ≡ last)
-third_of_report count text cs rest closed left tags last is next third other fits same =
-    let told = third.only (other.0.tags, other.1) (fits.in_range.tags, fits.behind.no_tag)
-    (second_of_report count text cs rest closed left is next other fits same).1 in
-    (ap (λ p. p.0) told, ap (λ p. p.1) told)
+    module _ {tags last : List ℕ} (third : ThirdPart left (tags, last)) where
+      third_of_report : (other : Lines × List ℕ) → IsReportBefore count other → text ≡ lines_text other.0 ++ other.1
+          → (other.0.tags ≡ tags) × (other.1 ≡ last)
+      third_of_report other fits same =
+          let told = third.only (other.0.tags, other.1) (fits.in_range.tags, fits.behind.no_tag) (second_of_report other fits same).1 in
+          (ap (λ p. p.0) told, ap (λ p. p.1) told)
 
--- a line of a closed file behind those of the tags: the text begins with no report
-pub closed_behind_tags : (count : ℕ) (text : List ℕ) (cs : List Completed) (rest : List ℕ) (closed : List NamedClose) (left tags last : List ℕ)
-    → FirstPart count text (cs, rest) → SecondPart rest (closed, left) → ThirdPart left (tags, last)
-    → StartsWith last (codes "closed ") → ReadsReport count text None
-closed_behind_tags count text cs rest closed left tags last is next third starts other fits same =
-    let told = third_of_report count text cs rest closed left tags last is next third other fits same in
-    fits.behind.no_closed (ap (take 7) told.1 ∙ starts)
+      -- a line of a closed file behind those of the tags: the text begins with no report
+      pub closed_behind_tags : StartsWith last (codes "closed ") → ReadsReport count text None
+      closed_behind_tags starts other fits same = fits.behind.no_closed (ap (take 7) (third_of_report other fits same).1 ∙ starts)
 
-pub all_parts : (count : ℕ) (text : List ℕ) (cs : List Completed) (rest : List ℕ) (closed : List NamedClose) (left tags last : List ℕ)
-    → FirstPart count text (cs, rest) → SecondPart rest (closed, left) → ThirdPart left (tags, last)
-    → ¬ (StartsWith last (codes "closed ")) → ReadsReport count text (Some (record { completions = cs; closed = closed; tags = tags }, last))
-all_parts count text cs rest closed left tags last is next third none = record {
-  fits_value = record {
-    each = is.fits_value.1;
-    in_range = record { completions = is.fits_value.0; closed = next.fits_value.0; tags = third.fits_value.0 };
-    behind = record { no_closed = none; no_tag = third.fits_value.1 };
-  };
-  printed = is.printed ∙ ap (λ (t : List ℕ). flat_map completion_line cs ++ t)
-      (next.printed ∙ ap (λ (t : List ℕ). flat_map named_line closed ++ t) third.printed)
-      ∙ sym (regroup (record { completions = cs; closed = closed; tags = tags }, last));
-  only = λ other fits same.
-      let one = first_of_report count text cs rest is other fits same in
-      let two = second_of_report count text cs rest closed left is next other fits same in
-      let three = third_of_report count text cs rest closed left tags last is next third other fits same in
-      pair_is other (record { completions = cs; closed = closed; tags = tags }) last (lines_is other.0 cs closed tags one.0 two.0 three.0) three.1;
-}
+      pub all_parts : ¬ (StartsWith last (codes "closed ")) → ReadsReport count text (Some (record { completions = cs; closed = closed; tags = tags }, last))
+      all_parts none = record {
+        fits_value = record {
+          each = is.fits_value.1;
+          in_range = record { completions = is.fits_value.0; closed = next.fits_value.0; tags = third.fits_value.0 };
+          behind = record { no_closed = none; no_tag = third.fits_value.1 };
+        };
+        printed = is.printed ∙ ap (λ (t : List ℕ). flat_map completion_line cs ++ t)
+            (next.printed ∙ ap (λ (t : List ℕ). flat_map named_line closed ++ t) third.printed)
+            ∙ sym (regroup (record { completions = cs; closed = closed; tags = tags }, last));
+        only = λ other fits same.
+            let three = third_of_report other fits same in
+            pair_is other (record { completions = cs; closed = closed; tags = tags }) last
+            (lines_is other.0 cs closed tags (first_of_report other fits same).0 (second_of_report other fits same).0 three.0) three.1;
+      }
 
 -- whether a text begins with a word
 pub begun : (word text : List ℕ) (r : Option (Bor (List ℕ)))

@@ -1,4 +1,4 @@
-use Rattle.fx_lines.proofs.Words.{◌∙◌, map, sym, codes, all_completed, close_of}
+use Rattle.fx_lines.proofs.Words.{◌∙◌, sym, codes}
 use Rattle.fx_lines.proofs.ReportTexts.{all_parts, begun, closed_behind_tags, no_first, no_second, no_third, unbegun}
 use Rattle.fx_lines.proofs.report.read_report.Goals as goal
 
@@ -6,26 +6,21 @@ pub returns-in_default : goal.returns-in_default
 returns-in_default c = no_first c.args.count c.args.text.now (rw c.in_default.is at c.in_ok-completions.ensures)
 
 pub returns-in_default-2 : goal.returns-in_default-2
-returns-in_default-2 c =
-    no_second c.args.count c.args.text.now (all_completed c.in-Some.completions.items) c.in-Some.rest.now
-    (rw c.in-Some.is at c.in_ok-completions.ensures) (rw c.in_default-2.is at c.in_ok-closed.ensures)
+returns-in_default-2 c = no_second (rw c.in-Some.is at c.in_ok-completions.ensures) (rw c.in_default-2.is at c.in_ok-closed.ensures)
 
 pub returns-in_default-3 : goal.returns-in_default-3
 returns-in_default-3 c =
-    no_third c.args.count c.args.text.now (all_completed c.in-Some.completions.items) c.in-Some.rest.now
-    (map close_of c.in-Some-2.closed.items) c.in-Some-2.rest.now
-    (rw c.in-Some.is at c.in_ok-completions.ensures) (rw c.in-Some-2.is at c.in_ok-closed.ensures) (rw c.in_default-3.is at c.in_ok-tags.ensures)
+    no_third (rw c.in-Some.is at c.in_ok-completions.ensures) (rw c.in-Some-2.is at c.in_ok-closed.ensures) (rw c.in_default-3.is at c.in_ok-tags.ensures)
 
 pub returns-then-is_some : goal.returns-then-is_some
 returns-then-is_some c =
-    closed_behind_tags c.args.count c.args.text.now (all_completed c.in-Some.completions.items) c.in-Some.rest.now
-    (map close_of c.in-Some-2.closed.items) c.in-Some-2.rest.now c.in-Some-3.tags.items c.in-Some-3.rest.now
-    (rw c.in-Some.is at c.in_ok-completions.ensures) (rw c.in-Some-2.is at c.in_ok-closed.ensures) (rw c.in-Some-3.is at c.in_ok-tags.ensures)
+    closed_behind_tags (rw c.in-Some.is at c.in_ok-completions.ensures) (rw c.in-Some-2.is at c.in_ok-closed.ensures)
+    (rw c.in-Some-3.is at c.in_ok-tags.ensures)
     (begun (codes "closed ") c.in-Some-3.rest.now c.rest_behind.result c.rest_behind.ensures (sym c.is_some.ensures ∙ c.if-is_some.true))
 
 pub returns : goal.returns
 returns c =
-    all_parts c.args.count c.args.text.now (all_completed c.in-Some.completions.items) c.in-Some.rest.now
-    (map close_of c.in-Some-2.closed.items) c.in-Some-2.rest.now c.in-Some-3.tags.items c.in-Some-3.rest.now
-    (rw c.in-Some.is at c.in_ok-completions.ensures) (rw c.in-Some-2.is at c.in_ok-closed.ensures) (rw c.in-Some-3.is at c.in_ok-tags.ensures)
+    all_parts (rw c.in-Some.is at c.in_ok-completions.ensures)
+    (rw c.in-Some-2.is at c.in_ok-closed.ensures)
+    (rw c.in-Some-3.is at c.in_ok-tags.ensures)
     (unbegun (codes "closed ") c.in-Some-3.rest.now c.rest_behind.result c.rest_behind.ensures (sym c.is_some.ensures ∙ c.if-is_some.false))
