@@ -14,36 +14,36 @@ abbrev pub AreGiven : List ℕ → Type 0
 AreGiven got = (0 < length got) × IsBytes got
 
 -- an answer is its result alone, or has a space in it
-pub alone_or_cut : (got : List ℕ) (res : ℤ) (text : List ℕ) → text ≡ answer_text (res, got)
+pub alone_or_cut : (got : List ℕ) (res : ℤ) {text : List ℕ} → text ≡ answer_text (res, got)
     → ((got ≡ []) × (text ≡ signed_decimal res)) ⊎ ((0 < length got) × (text ≡ cut_text 32 (signed_decimal res, encode_lower got)))
-alone_or_cut [] res text same = inl (refl, same ∙ append-nil (signed_decimal res))
-alone_or_cut (b ∷ got) res text same =
+alone_or_cut [] res same = inl (refl, same ∙ append-nil (signed_decimal res))
+alone_or_cut (b ∷ got) res same =
     let some : 0 < length (b ∷ got) = omega arith in
     inr (some, same ∙ ap (λ (t : List ℕ). signed_decimal res ++ t) (some_got (b ∷ got) some))
 
 -- the result alone
-alone_only : (text : List ℕ) → Reads (cut_text 32) (IsCutPart 32) text None → (other : ℤ × List ℕ) → FitsAnswer other
+alone_only : {text : List ℕ} → Reads (cut_text 32) (IsCutPart 32) text None → (other : ℤ × List ℕ) → FitsAnswer other
     → text ≡ answer_text other → (other.1 ≡ []) × (text ≡ signed_decimal other.0)
-alone_only text whole other fits same =
-    elim (alone_or_cut other.1 other.0 text same) [
+alone_only {text} whole other fits same =
+    elim (alone_or_cut other.1 other.0 same) [
       | inl alone ↦ alone
       | inr both ↦ absurd (whole (signed_decimal other.0, encode_lower other.1) (result_without 32 other.0 refl refl fits.0) both.1)
     ]
 
-pub none_alone : (text : List ℕ) → Reads (cut_text 32) (IsCutPart 32) text None → Reads signed_decimal IsResultInRange text None
+pub none_alone : {text : List ℕ} → Reads (cut_text 32) (IsCutPart 32) text None → Reads signed_decimal IsResultInRange text None
     → Reads answer_text FitsAnswer text None
-none_alone text whole none other fits same = none other.0 fits.0 (alone_only text whole other fits same).1
+none_alone {text} whole none other fits same = none other.0 fits.0 (alone_only whole other fits same).1
 
 no_bytes : IsBytes []
 no_bytes i = omega arith
 
-pub one_alone : (text : List ℕ) (res : ℤ) → Reads (cut_text 32) (IsCutPart 32) text None
+pub one_alone : {text : List ℕ} {res : ℤ} → Reads (cut_text 32) (IsCutPart 32) text None
     → IsPrintedFrom signed_decimal IsResultInRange text res → IsPrintedFrom answer_text FitsAnswer text (res, [])
-one_alone text res whole is = record {
+one_alone {text} {res} whole is = record {
   fits_value = (is.fits_value, no_bytes);
   printed = is.printed ∙ sym (append-nil (signed_decimal res));
   only = λ other fits same.
-      let alone = alone_only text whole other fits same in
+      let alone = alone_only whole other fits same in
       pair_is other res [] (is.only other.0 fits.0 alone.1) alone.0;
 }
 
@@ -52,35 +52,35 @@ not_cut : (word hex : List ℕ) (res : ℤ) → IsResultInRange res → word ++ 
 not_cut word hex res fits same = cut_has 32 word hex (ap (is_without 32) same ∙ result_without 32 res refl refl fits)
 
 -- the result and the bytes
-both_only : (text word hex : List ℕ) → IsPrintedFrom (cut_text 32) (IsCutPart 32) text (word, hex) → (other : ℤ × List ℕ)
+both_only : {text word hex : List ℕ} → IsPrintedFrom (cut_text 32) (IsCutPart 32) text (word, hex) → (other : ℤ × List ℕ)
     → FitsAnswer other → text ≡ answer_text other
     → (0 < length other.1) × (word ≡ signed_decimal other.0) × (hex ≡ encode_lower other.1)
-both_only text word hex cuts other fits same =
-    elim (alone_or_cut other.1 other.0 text same) [
+both_only {text} {word} {hex} cuts other fits same =
+    elim (alone_or_cut other.1 other.0 same) [
       | inl alone ↦ absurd (not_cut word hex other.0 fits.0 (sym cuts.printed ∙ alone.1))
       | inr both ↦
           let parts = cuts.only (signed_decimal other.0, encode_lower other.1) (result_without 32 other.0 refl refl fits.0) both.1 in
           (both.0, sym (ap (λ p. p.0) parts), sym (ap (λ p. p.1) parts))
     ]
 
-pub none_word : (text word hex : List ℕ) → IsPrintedFrom (cut_text 32) (IsCutPart 32) text (word, hex)
+pub none_word : {text word hex : List ℕ} → IsPrintedFrom (cut_text 32) (IsCutPart 32) text (word, hex)
     → Reads signed_decimal IsResultInRange word None → Reads answer_text FitsAnswer text None
-none_word text word hex cuts none other fits same = none other.0 fits.0 (both_only text word hex cuts other fits same).1
+none_word {text} {word} {hex} cuts none other fits same = none other.0 fits.0 (both_only cuts other fits same).1
 
-pub none_bytes : (text word hex : List ℕ) → IsPrintedFrom (cut_text 32) (IsCutPart 32) text (word, hex)
+pub none_bytes : {text word hex : List ℕ} → IsPrintedFrom (cut_text 32) (IsCutPart 32) text (word, hex)
     → Reads encode_lower AreGiven hex None → Reads answer_text FitsAnswer text None
-none_bytes text word hex cuts none other fits same =
-    let parts = both_only text word hex cuts other fits same in
+none_bytes {text} {word} {hex} cuts none other fits same =
+    let parts = both_only cuts other fits same in
     none other.1 (parts.0, fits.1) parts.2
 
-pub one_both : (text word hex : List ℕ) (res : ℤ) (got : List ℕ) → IsPrintedFrom (cut_text 32) (IsCutPart 32) text (word, hex)
+pub one_both : {text word hex : List ℕ} {res : ℤ} {got : List ℕ} → IsPrintedFrom (cut_text 32) (IsCutPart 32) text (word, hex)
     → IsPrintedFrom signed_decimal IsResultInRange word res → IsPrintedFrom encode_lower AreGiven hex got
     → IsPrintedFrom answer_text FitsAnswer text (res, got)
-one_both text word hex res got cuts first last = record {
+one_both {text} {word} {hex} {res} {got} cuts first last = record {
   fits_value = (first.fits_value, last.fits_value.1);
   printed = cuts.printed ∙ ap (λ (t : List ℕ). t ++ 32 ∷ hex) first.printed
       ∙ ap (λ (t : List ℕ). signed_decimal res ++ t) (ap (λ (t : List ℕ). 32 ∷ t) last.printed ∙ sym (some_got got last.fits_value.0));
   only = λ other fits same.
-      let parts = both_only text word hex cuts other fits same in
+      let parts = both_only cuts other fits same in
       pair_is other res got (first.only other.0 fits.0 parts.1) (last.only other.1 (parts.0, fits.1) parts.2);
 }

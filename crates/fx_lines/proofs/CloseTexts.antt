@@ -8,30 +8,30 @@ use Rattle.fx_lines.proofs.Decimals.{decimal_without}
 use Rattle.fx_lines.proofs.LinesInTurn.{IsOneLine}
 use Rattle.fx_lines.proofs.Marks.{mark_without}
 
-close_is : (close : NamedClose) (mark : Mark) (name : List ℕ) → close.mark ≡ mark → close.name ≡ name
+close_is : {close : NamedClose} {mark : Mark} {name : List ℕ} → close.mark ≡ mark → close.name ≡ name
     → close ≡ record { mark = mark; name = name }
-close_is close mark name one two =
+close_is {close} {mark} {name} one two =
     let p : NamedClose = record { mark = close.mark; name = close.name } in
     let q : NamedClose = record { mark = mark; name = name } in
     let parts : p ≡ q = cc in
     parts
 
 -- the mark and the name of a text that is a closed file's
-pub parts_of_close : (text word name : List ℕ) → IsPrintedFrom (cut_text 32) (IsCutPart 32) text (word, name)
+pub parts_of_close : {text word name : List ℕ} → IsPrintedFrom (cut_text 32) (IsCutPart 32) text (word, name)
     → (other : NamedClose) → IsMarkInRange other.mark → text ≡ close_text other → (word ≡ mark_text other.mark) × (name ≡ other.name)
-parts_of_close text word name cuts other fits same =
+parts_of_close cuts other fits same =
     let parts = cuts.only (mark_text other.mark, other.name) (mark_without 32 other.mark refl refl refl fits) same in
     (sym (ap (λ p. p.0) parts), sym (ap (λ p. p.1) parts))
 
-pub one_close : (text word name : List ℕ) (mark : Mark) → IsPrintedFrom (cut_text 32) (IsCutPart 32) text (word, name)
+pub one_close : {text word name : List ℕ} {mark : Mark} → IsPrintedFrom (cut_text 32) (IsCutPart 32) text (word, name)
     → IsPrintedFrom mark_text IsMarkInRange word mark
     → IsPrintedFrom close_text (λ close. IsMarkInRange close.mark) text (record { mark = mark; name = name })
-one_close text word name mark cuts is = record {
+one_close {text} {word} {name} {mark} cuts is = record {
   fits_value = is.fits_value;
   printed = cuts.printed ∙ ap (λ (t : List ℕ). t ++ 32 ∷ name) is.printed;
   only = λ other fits same.
-      let parts = parts_of_close text word name cuts other fits same in
-      close_is other mark name (is.only other.mark fits parts.0) (sym parts.1);
+      let parts = parts_of_close cuts other fits same in
+      close_is (is.only other.mark fits parts.0) (sym parts.1);
 }
 
 -- a closed file is one line
@@ -49,9 +49,9 @@ tags_are_lines = record {
 }
 
 -- the name of a line has no line end
-pub close_fits : (line : List ℕ) (close : NamedClose) → is_without 10 line ≡ true
+pub close_fits : {line : List ℕ} {close : NamedClose} → is_without 10 line ≡ true
     → IsPrintedFrom close_text (λ close. IsMarkInRange close.mark) line close → IsCloseInRange close
-close_fits line close none is =
+close_fits {close} none is =
     let whole : is_without 10 (close_text close) ≡ true = ap (is_without 10) (sym is.printed) ∙ none in
     record {
       mark = is.fits_value;

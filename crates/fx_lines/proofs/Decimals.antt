@@ -23,11 +23,11 @@ tells = record {
 own : IsNumeralModel (λ ds. list_all is_digit ds ≡ true) (digits_value 10)
 own = numerals_by_value _ tells
 
-to_shape : (n first : ℕ) → (n == 1 || (nat_le 2 n && not (first == 48))) ≡ true → (0 < n) × (first ≡ 48 → n ≡ 1)
-to_shape n first is = grind (arith, nat_tests)
+to_shape : {n first : ℕ} → (n == 1 || (nat_le 2 n && not (first == 48))) ≡ true → (0 < n) × (first ≡ 48 → n ≡ 1)
+to_shape is = grind (arith, nat_tests)
 
-from_shape : (n first : ℕ) → 0 < n → (first ≡ 48 → n ≡ 1) → (n == 1 || (nat_le 2 n && not (first == 48))) ≡ true
-from_shape n first some one = grind (arith, nat_tests)
+from_shape : {n first : ℕ} → 0 < n → (first ≡ 48 → n ≡ 1) → (n == 1 || (nat_le 2 n && not (first == 48))) ≡ true
+from_shape some one = grind (arith, nat_tests)
 
 -- only 0 begins with the digit 0
 one_zero : (n : ℕ) → n < 2 ^ 64 → get_or (decimal n) 0 0 ≡ 48 → length (decimal n) ≡ 1
@@ -35,40 +35,39 @@ one_zero zero small is = ap length (decimal_digit 0 (omega arith))
 one_zero (suc n) small is = let above = first_decimal (suc n) (omega arith) small in absurd (omega arith)
 
 -- a printed number is decimal
-decimal_is : (n : ℕ) → n < 2 ^ 64 → is_decimal (decimal n) ≡ true
-decimal_is n small =
-    and_from (list_all is_digit (decimal n)) _ (digits_decimal own n small)
-    (from_shape (length (decimal n)) (slice_index (decimal n) 0) (decimal_nonempty n small) (one_zero n small))
+decimal_is : {n : ℕ} → n < 2 ^ 64 → is_decimal (decimal n) ≡ true
+decimal_is {n} small =
+    and_from (list_all is_digit (decimal n)) _ (digits_decimal own n small) (from_shape (decimal_nonempty n small) (one_zero n small))
 
 -- a decimal word is the text of its number
-word_is : (word : List ℕ) → is_decimal word ≡ true → digits_value 10 word < 2 ^ 64 → decimal (digits_value 10 word) ≡ word
-word_is word is small =
+word_is : {word : List ℕ} → is_decimal word ≡ true → digits_value 10 word < 2 ^ 64 → decimal (digits_value 10 word) ≡ word
+word_is {word} is small =
     let digits = (and_parts (list_all is_digit word) _ is).0 in
-    let shape = to_shape (length word) (slice_index word 0) (and_parts (list_all is_digit word) _ is).1 in
+    let shape = to_shape (and_parts (list_all is_digit word) _ is).1 in
     decimal-digits_value own word digits shape.0 shape.1 small
 
-by_test : (largest bound : ℕ) (word : List ℕ) → largest + 1 ≡ bound → bound ≤ 2 ^ 64
+by_test : (largest : ℕ) {bound : ℕ} (word : List ℕ) → largest + 1 ≡ bound → bound ≤ 2 ^ 64
     → (test : Bool) → is_decimal word && nat_le (digits_value 10 word) largest ≡ test
     → Reads decimal (λ n. n < bound) word (if test then Some (digits_value 10 word) else None)
-by_test largest bound word next small true is =
+by_test largest word next small true is =
     let decimal_word = (and_parts (is_decimal word) (nat_le (digits_value 10 word) largest) is).0 in
     let below : digits_value 10 word ≤ largest = leb-true _ _ (and_parts (is_decimal word) _ is).1 in
     record {
       fits_value = omega arith;
-      printed = sym (word_is word decimal_word (omega arith));
+      printed = sym (word_is decimal_word (omega arith));
       only = λ other inside same. sym (digits_value-decimal own other (omega arith)) ∙ ap (digits_value 10) (sym same);
     }
-by_test largest bound word next small false is = λ other inside same.
+by_test largest word next small false is = λ other inside same.
     let value : digits_value 10 word ≡ other = ap (digits_value 10) same ∙ digits_value-decimal own other (omega arith) in
-    let decimal_word : is_decimal word ≡ true = ap is_decimal same ∙ decimal_is other (omega arith) in
+    let decimal_word : is_decimal word ≡ true = ap is_decimal same ∙ decimal_is (omega arith) in
     let below : nat_le (digits_value 10 word) largest ≡ true = le-leb _ _ (omega arith) in
     let passes = and_from (is_decimal word) (nat_le (digits_value 10 word) largest) decimal_word below in
     true≢false (sym passes ∙ is)
 
 -- the number that a word writes is the one that it is the text of
-pub number_reads : (largest bound : ℕ) (word : List ℕ) → largest + 1 ≡ bound → bound ≤ 2 ^ 64
+pub number_reads : (largest : ℕ) {bound : ℕ} (word : List ℕ) → largest + 1 ≡ bound → bound ≤ 2 ^ 64
     → Reads decimal (λ n. n < bound) word (number_up_to largest word)
-number_reads largest bound word next small = by_test largest bound word next small _ refl
+number_reads largest {bound} word next small = by_test largest word next small _ refl
 
 differs : (d at : ℕ) → is_digit d ≡ true → is_digit at ≡ false → not (d == at) ≡ true
 differs d at is none = grind (arith, nat_tests)

@@ -109,9 +109,8 @@ goes_on word rest tail begins behind over same =
     over (ap (take (length word)) (sym same ∙ begins) ∙ take_at word tail (length word) refl)
 
 -- a text that doesn't begin with a word
-pub not_begun : (word rest : List ℕ) → ((other : List ℕ) → Unit {0} → rest ≡ word ++ other → ⊥) → ¬ (StartsWith rest word)
-not_begun word rest none = λ starts.
-    none (drop (length word) rest) tt
+pub not_begun : {word rest : List ℕ} → ((other : List ℕ) → Unit {0} → rest ≡ word ++ other → ⊥) → ¬ (StartsWith rest word)
+not_begun {word} {rest} none = λ starts. none (drop (length word) rest) tt
     (sym (take-append-drop (length word) rest) ∙ ap (λ (t : List ℕ). t ++ drop (length word) rest) starts)
 
 -- a line begins with its word

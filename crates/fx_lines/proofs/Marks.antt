@@ -10,9 +10,9 @@ use Rattle.fx_lines.proofs.Cuts.{other_first, without_between}
 use Rattle.fx_lines.proofs.Decimals.{decimal_without}
 
 -- a place is that of its numbers
-pub place_is : (place : Place) (s c m : ℕ) → place.submission ≡ s → place.chain ≡ c → place.member ≡ m
+pub place_is : {place : Place} {s c m : ℕ} → place.submission ≡ s → place.chain ≡ c → place.member ≡ m
     → place ≡ record { submission = s; chain = c; member = m }
-place_is place s c m one two three =
+place_is {place} {s} {c} {m} one two three =
     let p : Place = record { submission = place.submission; chain = place.chain; member = place.member } in
     let q : Place = record { submission = s; chain = c; member = m } in
     let numbers : p ≡ q = cc in
@@ -33,34 +33,33 @@ submitted_text s c m e =
     append_assoc (decimal s) (46 ∷ number_text (c, decimal m)) (46 ∷ decimal e)
     ∙ ap (λ (t : List ℕ). decimal s ++ 46 ∷ t) (append_assoc (decimal c) (46 ∷ decimal m) (46 ∷ decimal e))
 
-no_submitted : (word : List ℕ) → ((rest : List ℕ) → Unit {0} → word ≡ 114 ∷ [] ++ rest → ⊥)
+no_submitted : {word : List ℕ} → ((rest : List ℕ) → Unit {0} → word ≡ 114 ∷ [] ++ rest → ⊥)
     → ((other : Place × ℕ) → IsPlaceInRange other.0 × (other.1 < 2 ^ 32) → word ≡ entry_text other → ⊥)
     → (other : Mark) → IsMarkInRange other → word ≡ mark_text other → ⊥
-no_submitted word no_r none (Registered k i) fits same = no_r (number_text (k, decimal i)) tt same
-no_submitted word no_r none (Submitted s c m e) fits same =
-    none (record { submission = s; chain = c; member = m }, e) fits (same ∙ submitted_text s c m e)
+no_submitted no_r none (Registered k i) fits same = no_r (number_text (k, decimal i)) tt same
+no_submitted no_r none (Submitted s c m e) fits same = none (record { submission = s; chain = c; member = m }, e) fits (same ∙ submitted_text s c m e)
 
-one_submitted : (word : List ℕ) (found : Place × ℕ) → ((rest : List ℕ) → Unit {0} → word ≡ 114 ∷ [] ++ rest → ⊥)
+one_submitted : {word : List ℕ} {found : Place × ℕ} → ((rest : List ℕ) → Unit {0} → word ≡ 114 ∷ [] ++ rest → ⊥)
     → IsPrintedFrom entry_text (λ found. IsPlaceInRange found.0 × (found.1 < 2 ^ 32)) word found
     → (other : Mark) → IsMarkInRange other → word ≡ mark_text other → other ≡ submitted_of found
-one_submitted word found no_r is (Registered k i) fits same = absurd (no_r (number_text (k, decimal i)) tt same)
-one_submitted word found no_r is (Submitted s c m e) fits same =
+one_submitted no_r is (Registered k i) fits same = absurd (no_r (number_text (k, decimal i)) tt same)
+one_submitted no_r is (Submitted s c m e) fits same =
     ap submitted_of (is.only (record { submission = s; chain = c; member = m }, e) fits (same ∙ submitted_text s c m e))
 
 -- a word without the letter is that of a submitted mark
-pub submitted_only : (word : List ℕ) (r : Option (Place × ℕ)) → ((rest : List ℕ) → Unit {0} → word ≡ 114 ∷ [] ++ rest → ⊥)
+pub submitted_only : {word : List ℕ} (r : Option (Place × ℕ)) → ((rest : List ℕ) → Unit {0} → word ≡ 114 ∷ [] ++ rest → ⊥)
     → Reads entry_text (λ found. IsPlaceInRange found.0 × (found.1 < 2 ^ 32)) word r
     → Reads mark_text IsMarkInRange word (option_map submitted_of r)
-submitted_only word None no_r reads = no_submitted word no_r reads
-submitted_only word (Some found) no_r reads = record {
+submitted_only {word} None no_r reads = no_submitted no_r reads
+submitted_only {word} (Some found) no_r reads = record {
   fits_value = reads.fits_value;
   printed = reads.printed ∙ sym (submitted_text found.0.submission found.0.chain found.0.member found.1);
-  only = one_submitted word found no_r reads;
+  only = one_submitted no_r reads;
 }
 
 -- a word with the letter is that of a registered mark
-pub not_submitted : (word rest : List ℕ) (s c m e : ℕ) → s < 2 ^ 32 → word ≡ 114 ∷ [] ++ rest → word ≡ mark_text (Submitted s c m e) → ⊥
-not_submitted word rest s c m e small begins same =
+pub not_submitted : {word rest : List ℕ} {s : ℕ} (c m e : ℕ) → s < 2 ^ 32 → word ≡ 114 ∷ [] ++ rest → word ≡ mark_text (Submitted s c m e) → ⊥
+not_submitted {rest} {s} c m e small begins same =
     no_letter s (number_text (c, number_text (m, decimal e))) rest small (sym (same ∙ submitted_text s c m e) ∙ begins)
 
 -- the text of a place has no byte but digits and full stops
@@ -94,22 +93,22 @@ mark_without at (Submitted s c m e) none other letter fits =
     (without_between at 46 (decimal m) (decimal e) (decimal_without at m none (omega arith)) other (decimal_without at e none (omega arith))))
 
 -- a word that is that of a registered mark
-pub registered_only : (word rest : List ℕ) (k i : ℕ) → word ≡ 114 ∷ [] ++ rest
+pub registered_only : {word rest : List ℕ} {k i : ℕ} → word ≡ 114 ∷ [] ++ rest
     → ((other : ℕ × ℕ) → (other.0 < 2 ^ 32) × (other.1 < 2 ^ 32) → rest ≡ number_text (other.0, decimal other.1) → (other.0 ≡ k) × (other.1 ≡ i))
     → (other : Mark) → IsMarkInRange other → word ≡ mark_text other → other ≡ Registered k i
-registered_only word rest k i begins only (Registered l j) fits same =
+registered_only {rest} {k} {i} begins only (Registered l j) fits same =
     let both : 114 ∷ rest ≡ 114 ∷ number_text (l, decimal j) = sym begins ∙ same in
     let numbers = only (l, j) fits cc in
     let first : l ≡ k = numbers.0 in
     let second : j ≡ i = numbers.1 in
     cc
-registered_only word rest k i begins only (Submitted s c m e) fits same = absurd (not_submitted word rest s c m e fits.0.submission begins same)
+registered_only {word} {rest} begins only (Submitted s c m e) fits same = absurd (not_submitted c m e fits.0.submission begins same)
 
 -- a word that is that of no registered mark
-pub no_registered : (word rest : List ℕ) → word ≡ 114 ∷ [] ++ rest
+pub no_registered : {word rest : List ℕ} → word ≡ 114 ∷ [] ++ rest
     → ((other : ℕ × ℕ) → (other.0 < 2 ^ 32) × (other.1 < 2 ^ 32) → rest ≡ number_text (other.0, decimal other.1) → ⊥)
     → (other : Mark) → IsMarkInRange other → word ≡ mark_text other → ⊥
-no_registered word rest begins none (Registered l j) fits same =
+no_registered {rest} begins none (Registered l j) fits same =
     let both : 114 ∷ rest ≡ 114 ∷ number_text (l, decimal j) = sym begins ∙ same in
     none (l, j) fits cc
-no_registered word rest begins none (Submitted s c m e) fits same = not_submitted word rest s c m e fits.0.submission begins same
+no_registered {word} {rest} begins none (Submitted s c m e) fits same = not_submitted c m e fits.0.submission begins same

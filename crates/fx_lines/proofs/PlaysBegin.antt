@@ -29,19 +29,18 @@ end_text : (test : Bool) (rest : List ℕ) → HasNoCloses (if test then [] else
 end_text true rest = by_nothing
 end_text false rest = by_teardown rest
 
-end_begins : (ring : RingState) (text : List ℕ) → PrintsEnd ring text → HasNoCloses text
-end_begins ring text (closes, are, is) =
-    subst HasNoCloses (sym is) (end_text (length closes.files == 0) (closes_text ring.catalogue closes.files))
+end_begins : (ring : RingState) {text : List ℕ} → PrintsEnd ring text → HasNoCloses text
+end_begins ring (closes, are, is) = subst HasNoCloses (sym is) (end_text (length closes.files == 0) (closes_text ring.catalogue closes.files))
 
 -- a submission whose runs are all played has a completion, or had no run
-some_completion : (catalogue : List FileEntry) (size submission chain : ℕ) (runs : List (List Asked)) (history : List Event) (completions : List Completed)
+some_completion : (catalogue : List FileEntry) (size submission chain : ℕ) (runs : List (List Asked)) (history : List Event) {completions : List Completed}
     → All (λ run. 0 < length run) runs → ExplainsParts catalogue size submission chain runs history completions → completions ≡ [] → runs ≡ []
-some_completion catalogue size submission chain [] history completions some are empty = refl
-some_completion catalogue size submission chain ([] ∷ runs) history completions some are empty =
+some_completion catalogue size submission chain [] history some are empty = refl
+some_completion catalogue size submission chain ([] ∷ runs) history some are empty =
     let none : List Asked = [] in
     let long : 0 < length none = All-head (λ run. 0 < length run) none runs some in
     absurd (omega arith)
-some_completion catalogue size submission chain ((request ∷ run) ∷ runs) history completions some (own, others, whole, explained, more) empty =
+some_completion catalogue size submission chain ((request ∷ run) ∷ runs) history some (own, others, whole, explained, more) empty =
     let (events, rest, c, cs, split, is, answers, goes) = explained in
     cc (is, whole, empty)
 
@@ -51,10 +50,10 @@ no_events [] of_chains = refl
 no_events (e ∷ history) of_chains = let (low, high) = of_chains e (0, omega arith, refl) in absurd (omega arith)
 
 -- a report that has no completions closed no files
-no_closes : (old : RingContents) (asked : List Asked) (report : Reported) (new : RingContents) → IsOneHistory old asked report new
+no_closes : {old : RingContents} {asked : List Asked} {report : Reported} {new : RingContents} → IsOneHistory old asked report new
     → report.completions ≡ [] → report.closes.files ≡ []
-no_closes old asked report new one empty =
-    let none : runs_of asked ≡ [] = some_completion old.catalogue (state_of old.table).size report.submission 1 (runs_of asked) one.history report.completions
+no_closes {old} {asked} {report} one empty =
+    let none : runs_of asked ≡ [] = some_completion old.catalogue (state_of old.table).size report.submission 1 (runs_of asked) one.history
     (are_runs asked).not_empty one.explained empty in
     let nothing : one.history ≡ [] = no_events one.history
     (λ e has. let (low, high) = one.chains e has in (low, subst (λ n. e.chain ≤ n) (ap length none) high)) in
@@ -64,32 +63,30 @@ no_closes old asked report new one empty =
     nil_from_length report.closes.files (as_many ∙ ap length closed)
 
 -- the lines of a report, and what stands behind them
-report_begins : (catalogue : List FileEntry) (completions : List Completed) (files : List Closed) (others : List ℕ)
+report_begins : (catalogue : List FileEntry) (completions : List Completed) {files : List Closed} {others : List ℕ}
     → (completions ≡ [] → files ≡ []) → HasNoCloses others
     → HasNoCloses ((completion_lines completions ++ closes_text catalogue files) ++ others)
-report_begins catalogue [] files others none behind =
+report_begins catalogue [] {others} none behind =
     subst (λ (fs : List Closed). HasNoCloses (closes_text catalogue fs ++ others)) (sym (none refl)) behind
-report_begins catalogue (c ∷ cs) files others none behind =
+report_begins catalogue (c ∷ cs) {files} {others} none behind =
     let place : List ℕ = codes "." ++ (decimal c.place.chain ++ (codes "." ++ decimal c.place.member)) in
     let tail : List ℕ = codes " " ++ (signed_decimal c.res ++ (got_text c.got ++ codes "\n")) in
     let (d, more, is, digit) = begins_with_digit c.place.submission in
     let letters = no_letter d digit in
     let P : List ℕ → Type 0 = λ t. HasNoCloses (((((t ++ place) ++ tail) ++ completion_lines cs) ++ closes_text catalogue files) ++ others) in
-    subst P (sym is)
-    (by_first d (((((more ++ place) ++ tail) ++ completion_lines cs) ++ closes_text catalogue files) ++ others) letters.0 letters.1)
+    subst P (sym is) (by_first (((((more ++ place) ++ tail) ++ completion_lines cs) ++ closes_text catalogue files) ++ others) letters.0 letters.1)
 
-submission_begins : (old : RingContents) (asked : List Asked) (new : RingContents) (line others : List ℕ) → PrintsReport old asked new line
+submission_begins : {old : RingContents} {asked : List Asked} {new : RingContents} {line others : List ℕ} → PrintsReport old asked new line
     → HasNoCloses others → HasNoCloses (line ++ others)
-submission_begins old asked new line others (report, one, is) behind =
-    subst (λ (t : List ℕ). HasNoCloses (t ++ others)) (sym is)
-    (report_begins old.catalogue report.completions report.closes.files others (no_closes old asked report new one) behind)
+submission_begins {old} {asked} {new} {others} (report, one, is) behind =
+    subst (λ (t : List ℕ). HasNoCloses (t ++ others)) (sym is) (report_begins old.catalogue report.completions (no_closes one) behind)
 
 -- the line of a command
 abbrev IsWord : List ℕ → Type 0
 IsWord word = (rest : List ℕ) → HasNoCloses (word ++ rest)
 
-word_with : (b : ℕ) (more : List ℕ) → (b == 99) ≡ false → (b == 116) ≡ false → IsWord (b ∷ more)
-word_with b more no_c no_t rest = by_first b (more ++ rest) no_c no_t
+word_with : {b : ℕ} (more : List ℕ) → (b == 99) ≡ false → (b == 116) ≡ false → IsWord (b ∷ more)
+word_with {b} more no_c no_t rest = by_first (more ++ rest) no_c no_t
 
 line_begins : (word : List ℕ) (res : ℤ) (rest : List ℕ) → IsWord word → HasNoCloses (result_line word res ++ rest)
 line_begins word res rest is_word =
@@ -124,44 +121,44 @@ module _ (old new : RingState) (line others : List ℕ) where
 
   too_many_begins : (over : Bool) (same reported : Type 0) → MatchBool over (same × (line ≡ too_many_line)) reported → (reported → Begins) → Begins
   too_many_begins true same reported is ok =
-      subst (λ (t : List ℕ). HasNoCloses (t ++ others)) (sym is.1) (word_with 115 (drop 1 too_many_line) refl refl others)
+      subst (λ (t : List ℕ). HasNoCloses (t ++ others)) (sym is.1) (word_with (drop 1 too_many_line) refl refl others)
   too_many_begins false same reported it ok = ok it
 
   refusal_begins : (fault : Option CutFault) (same played : Type 0) → MatchOption fault played (λ cut. same × (line ≡ refused_line cut))
       → (played → Begins) → Begins
   refusal_begins (Some cut) same played is ok =
       subst (λ (t : List ℕ). HasNoCloses (t ++ others)) (sym is.1)
-      (word_with 115 (drop 1 (codes "submit refused ") ++ (kind_name cut.kind ++ (codes " " ++ (decimal cut.at ++ codes "\n")))) refl refl others)
+      (word_with (drop 1 (codes "submit refused ") ++ (kind_name cut.kind ++ (codes " " ++ (decimal cut.at ++ codes "\n")))) refl refl others)
   refusal_begins None same played it ok = ok it
 
-pub command_begins : (old : RingContents) (command : Instruction) (new : RingContents) (line others : List ℕ) → Prints old command new line
+pub command_begins : (old : RingContents) (command : Instruction) (new : RingContents) (line : List ℕ) {others : List ℕ} → Prints old command new line
     → HasNoCloses others → HasNoCloses (line ++ others)
-command_begins old (MakesSparse n) new line others prints behind =
-    let word = word_with 115 (drop 1 (codes "sparse")) refl refl in
+command_begins old (MakesSparse n) new line {others} prints behind =
+    let word = word_with (drop 1 (codes "sparse")) refl refl in
     answer_begins (ring_of old) (ring_of new) line others (sparse_refusal (ring_of old) n) _ _ (codes "sparse") word
     (result_begins (ring_of old) (ring_of new) line others (codes "sparse") (pos 0) word) prints
-command_begins old (RegistersList list tags) new line others prints behind =
-    let word = word_with 114 (drop 1 (codes "register")) refl refl in
+command_begins old (RegistersList list tags) new line {others} prints behind =
+    let word = word_with (drop 1 (codes "register")) refl refl in
     answer_begins (ring_of old) (ring_of new) line others (register_refusal (ring_of old) list (tags_given list tags)) _ _ (codes "register") word
     (result_begins (ring_of old) (ring_of new) line others (codes "register") (pos 0) word) prints
-command_begins old Unregisters new line others prints behind =
-    let word = word_with 117 (drop 1 (codes "unregister")) refl refl in
+command_begins old Unregisters new line {others} prints behind =
+    let word = word_with (drop 1 (codes "unregister")) refl refl in
     answer_begins (ring_of old) (ring_of new) line others (unregister_refusal (ring_of old)) _ _ (codes "unregister") word
     (closes_begin (ring_of old) (ring_of new) line others (files_of (ring_of old)) (codes "unregister") (pos 0) word) prints
-command_begins old (SetsRange off len) new line others prints behind =
-    let word = word_with 114 (drop 1 (codes "range")) refl refl in
+command_begins old (SetsRange off len) new line {others} prints behind =
+    let word = word_with (drop 1 (codes "range")) refl refl in
     range_begins (ring_of old) (ring_of new) line others (range_refusal (ring_of old) off len) _ _ (codes "range") word
     (result_begins (ring_of old) (ring_of new) line others (codes "range") (pos 0) word) prints
-command_begins old (UpdatesRing off list tags) new line others prints behind =
-    let word = word_with 114 (drop 1 (codes "regupdate")) refl refl in
+command_begins old (UpdatesRing off list tags) new line {others} prints behind =
+    let word = word_with (drop 1 (codes "regupdate")) refl refl in
     answer_begins (ring_of old) (ring_of new) line others (update_refusal (ring_of old) off list (tags_given list tags)) _ _ (codes "regupdate") word
     (closes_begin (ring_of old) (ring_of new) line others (removed_from (ring_of old).at off list) (codes "regupdate") (pos (length list)) word) prints
-command_begins old (SubmitsAll asked) new line others prints behind =
+command_begins old (SubmitsAll asked) new line {others} prints behind =
     refusal_begins (ring_of old) (ring_of new) line others (fault_of asked) _ _ prints
     (λ played. too_many_begins (ring_of old) (ring_of new) line others (nat_le MOST_SUBMISSIONS old.submissions) _ _ played
-    (λ it. submission_begins old asked new line others it behind))
+    (λ it. submission_begins it behind))
 
 pub plays_begin : PlaysBeginWithNoClose
-plays_begin ring [] text ends = end_begins (ring_of ring) text ends
+plays_begin ring [] text ends = end_begins (ring_of ring) ends
 plays_begin ring (command ∷ commands) text (next, line, others, prints, is, more) =
-    subst HasNoCloses (sym is) (command_begins ring command next line others prints (plays_begin next commands others more))
+    subst HasNoCloses (sym is) (command_begins ring command next line prints (plays_begin next commands others more))

@@ -22,9 +22,9 @@ printed_lines catalogue report =
     let tags = flat_map-map line_of_tag (λ (completion : TagCompletion). completion.user_data) (tags_of files) in
     λ i. completion_lines report.completions ++ (sym closed i ++ sym tags i)
 
-lines_is : (lines : Lines) (cs : List Completed) (closed : List NamedClose) (tags : List ℕ)
+lines_is : {lines : Lines} {cs : List Completed} (closed : List NamedClose) {tags : List ℕ}
     → lines.completions ≡ cs → lines.closed ≡ closed → lines.tags ≡ tags → lines ≡ record { completions = cs; closed = closed; tags = tags }
-lines_is lines cs closed tags one two three =
+lines_is {lines} {cs} closed {tags} one two three =
     let p : Lines = record { completions = lines.completions; closed = lines.closed; tags = lines.tags } in
     let q : Lines = record { completions = cs; closed = closed; tags = tags } in
     let parts : p ≡ q = cc in
@@ -40,9 +40,9 @@ regroup : (front : Lines × List ℕ) → lines_text front.0 ++ front.1 ≡ flat
 regroup front = simp append_assoc
 
 -- no line of a closed file stands behind them
-no_closed_behind : (tags rest : List ℕ) → HasNoCloses rest → ¬ (StartsWith (flat_map line_of_tag tags ++ rest) (codes "closed "))
-no_closed_behind [] rest none = none.no_closed
-no_closed_behind (tag ∷ tags) rest none = λ starts.
+no_closed_behind : (tags : List ℕ) {rest : List ℕ} → HasNoCloses rest → ¬ (StartsWith (flat_map line_of_tag tags ++ rest) (codes "closed "))
+no_closed_behind [] none = none.no_closed
+no_closed_behind (tag ∷ tags) none = λ starts.
     let first : 116 ≡ 99 = ap (λ (t : List ℕ). get_or t 0 0) starts in
     true≢false (ap (λ n. n == 116) first)
 
@@ -55,10 +55,9 @@ SecondPart text front = IsPrintedFrom (lines_before named_line) (IsFront IsClose
 abbrev pub ThirdPart : List ℕ → List ℕ × List ℕ → Type 0
 ThirdPart text front = IsPrintedFrom (lines_before line_of_tag) (IsFront (λ tag. tag < 2 ^ 64) (AreAll (codes "tag "))) text front
 
-pub no_first : (count : ℕ) (text : List ℕ)
+pub no_first : {count : ℕ} {text : List ℕ}
     → Reads (lines_before completion_line) (IsFront IsCompletionInRange (AreSoMany count)) text None → ReadsReport count text None
-no_first count text none other fits same =
-    none (other.0.completions, behind_completions other) (fits.in_range.completions, fits.each) (same ∙ regroup other)
+no_first none other fits same = none (other.0.completions, behind_completions other) (fits.in_range.completions, fits.each) (same ∙ regroup other)
 
 module _ {count : ℕ} {text : List ℕ} {cs : List Completed} {rest : List ℕ} (is : FirstPart count text (cs, rest)) where
   first_of_report : (other : Lines × List ℕ) → IsReportBefore count other → text ≡ lines_text other.0 ++ other.1
@@ -69,14 +68,13 @@ module _ {count : ℕ} {text : List ℕ} {cs : List Completed} {rest : List ℕ}
 
   pub no_second : Reads (lines_before named_line) (IsFront IsCloseInRange (AreAll (codes "closed "))) rest None → ReadsReport count text None
   no_second none other fits same =
-      none (other.0.closed, behind_closed other) (fits.in_range.closed, no_closed_behind other.0.tags other.1 fits.behind)
-      (first_of_report other fits same).1
+      none (other.0.closed, behind_closed other) (fits.in_range.closed, no_closed_behind other.0.tags fits.behind) (first_of_report other fits same).1
 
   module _ {closed : List NamedClose} {left : List ℕ} (next : SecondPart rest (closed, left)) where
     second_of_report : (other : Lines × List ℕ) → IsReportBefore count other → text ≡ lines_text other.0 ++ other.1
         → (other.0.closed ≡ closed) × (left ≡ behind_closed other)
     second_of_report other fits same =
-        let told = next.only (other.0.closed, behind_closed other) (fits.in_range.closed, no_closed_behind other.0.tags other.1 fits.behind)
+        let told = next.only (other.0.closed, behind_closed other) (fits.in_range.closed, no_closed_behind other.0.tags fits.behind)
         (first_of_report other fits same).1 in
         (ap (λ p. p.0) told, sym (ap (λ p. p.1) told))
 
@@ -108,16 +106,16 @@ module _ {count : ℕ} {text : List ℕ} {cs : List Completed} {rest : List ℕ}
         only = λ other fits same.
             let three = third_of_report other fits same in
             pair_is other (record { completions = cs; closed = closed; tags = tags }) last
-            (lines_is other.0 cs closed tags (first_of_report other fits same).0 (second_of_report other fits same).0 three.0) three.1;
+            (lines_is closed (first_of_report other fits same).0 (second_of_report other fits same).0 three.0) three.1;
       }
 
 -- whether a text begins with a word
-pub begun : (word text : List ℕ) (r : Option (Bor (List ℕ)))
+pub begun : {word : List ℕ} (text : List ℕ) (r : Option (Bor (List ℕ)))
     → Reads (λ (rest : List ℕ). word ++ rest) (λ _. Unit {0}) text (option_map (λ rest. rest.now) r) → is_some r ≡ true → StartsWith text word
-begun word text None reads some = cc some
-begun word text (Some rest) reads some = ap (take (length word)) reads.printed ∙ take_at word rest.now (length word) refl
+begun text None reads some = cc some
+begun {word} text (Some rest) reads some = ap (take (length word)) reads.printed ∙ take_at word rest.now (length word) refl
 
-pub unbegun : (word text : List ℕ) (r : Option (Bor (List ℕ)))
+pub unbegun : {word : List ℕ} (text : List ℕ) (r : Option (Bor (List ℕ)))
     → Reads (λ (rest : List ℕ). word ++ rest) (λ _. Unit {0}) text (option_map (λ rest. rest.now) r) → is_some r ≡ false → ¬ (StartsWith text word)
-unbegun word text None reads none = not_begun word text reads
-unbegun word text (Some rest) reads none = cc none
+unbegun {word} text None reads none = not_begun reads
+unbegun text (Some rest) reads none = cc none

@@ -9,10 +9,9 @@ returns-in_default c = λ other fits same.
 
 pub returns-in_default-mark_of : goal.returns-in_default-mark_of
 returns-in_default-mark_of c = λ other fits same.
-    c.in_default-mark_of.ensures other.mark fits
-    (parts_of_close c.args.text.now c.in-Some.word.now c.in-Some.name.now c.in-Some.ensures other fits same).0
+    c.in_default-mark_of.ensures other.mark fits (parts_of_close c.in-Some.ensures other fits same).0
 
 pub returns : goal.returns
 returns c =
     let copied : c.in_ok-name.name.items ≡ c.in-Some.name.now = search rules in
-    rw copied (one_close c.args.text.now c.in-Some.word.now c.in-Some.name.now c.in-Some-mark_of.mark c.in-Some.ensures c.in-Some-mark_of.ensures)
+    rw copied (one_close c.in-Some.ensures c.in-Some-mark_of.ensures)

@@ -55,6 +55,6 @@ returns c =
           fits.0.submission same in
           let two = second.only (other.0.chain, number_text (other.0.member, decimal other.1)) fits.0.chain (sym (ap (λ p. p.1) one)) in
           let three = third.only (other.0.member, decimal other.1) fits.0.member (sym (ap (λ p. p.1) two)) in
-          pair_is other _ _ (place_is other.0 _ _ _ (ap (λ p. p.0) one) (ap (λ p. p.0) two) (ap (λ p. p.0) three))
+          pair_is other _ _ (place_is (ap (λ p. p.0) one) (ap (λ p. p.0) two) (ap (λ p. p.0) three))
           (last.only other.1 fits.1 (sym (ap (λ p. p.1) three)));
     }

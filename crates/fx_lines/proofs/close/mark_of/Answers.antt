@@ -5,23 +5,21 @@ use Rattle.fx_lines.proofs.close.mark_of.Goals as goal
 pub returns-in_err-place : goal.returns-in_err-place
 returns-in_err-place c =
     let none : c.from_residual.result ≡ None = search rules in
-    rw none (submitted_only c.args.word.now None c.in_default.ensures c.in_err-place.ensures)
+    rw none (submitted_only None c.in_default.ensures c.in_err-place.ensures)
 
 pub returns-in_default : goal.returns-in_default
 returns-in_default c =
-    rw c.mark.ensures (submitted_only c.args.word.now (Some (c.in_ok-place.place, c.in_ok-place.in_list)) c.in_default.ensures c.in_ok-place.ensures)
+    rw c.mark.ensures (submitted_only (Some (c.in_ok-place.place, c.in_ok-place.in_list)) c.in_default.ensures c.in_ok-place.ensures)
 
 pub returns-in_err-k : goal.returns-in_err-k
 returns-in_err-k c =
     let none : c.from_residual-in_err-k.result ≡ None = search rules in
-    rw none (no_registered c.args.word.now c.in-Some.rest.now c.in-Some.ensures.printed
-    (λ other fits same. c.in_err-k.ensures (other.0, decimal other.1) fits.0 same))
+    rw none (no_registered c.in-Some.ensures.printed (λ other fits same. c.in_err-k.ensures (other.0, decimal other.1) fits.0 same))
 
 pub returns-in_err-number : goal.returns-in_err-number
 returns-in_err-number c =
     let none : c.from_residual-in_err-number.result ≡ None = search rules in
-    rw none (no_registered c.args.word.now c.in-Some.rest.now c.in-Some.ensures.printed
-    (λ other fits same.
+    rw none (no_registered c.in-Some.ensures.printed (λ other fits same.
     let one = c.in_ok-k.ensures.only (other.0, decimal other.1) fits.0 same in
     c.in_err-number.ensures other.1 fits.1 (sym (ap (λ p. p.1) one))))
 
@@ -33,8 +31,7 @@ returns c =
       fits_value = (first.fits_value, last.fits_value);
       printed = c.in-Some.ensures.printed ∙ ap (λ (t : List ℕ). 114 ∷ [] ++ t)
           (first.printed ∙ ap (λ (t : List ℕ). number_text (c.in_ok-k.k, t)) last.printed);
-      only = registered_only c.args.word.now c.in-Some.rest.now c.in_ok-k.k c.in_ok-number.field-0 c.in-Some.ensures.printed
-          (λ other fits same.
+      only = registered_only c.in-Some.ensures.printed (λ other fits same.
           let one = first.only (other.0, decimal other.1) fits.0 same in
           (ap (λ p. p.0) one, last.only other.1 fits.1 (sym (ap (λ p. p.1) one))));
     }

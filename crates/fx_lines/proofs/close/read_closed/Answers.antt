@@ -18,7 +18,7 @@ pub loop-behind-preserved : goal.loop-behind-preserved
 loop-behind-preserved c =
     let is = rw c.in-Some-2.is at c.in_ok-close.ensures in
     rw (c.in_ok-push.ensures.items, map-append close_of c.loop-behind.closed.items (c.in-Some-2.close ∷ []))
-    (one_more c.loop-behind.invariant (close_fits c.in-Some-cut.line.now (close_of c.in-Some-2.close) c.in-Some-cut.ensures.fits_value is)
+    (one_more c.loop-behind.invariant (close_fits c.in-Some-cut.ensures.fits_value is)
     (line_printed closes_are_lines c.loop-behind.rest.now c.in-Some.behind.now c.in-Some.ensures.printed c.in-Some-cut.ensures
     (λ close. IsMarkInRange close.mark) is)
     (goes_on (codes "closed ") c.loop-behind.rest.now c.in-Some.behind.now c.in-Some.ensures.printed)
@@ -27,5 +27,5 @@ loop-behind-preserved c =
 
 pub returns : goal.returns
 returns c =
-    ends_here c.loop-behind.invariant (not_begun (codes "closed ") c.loop-behind.rest.now c.in_default.ensures)
+    ends_here c.loop-behind.invariant (not_begun c.in_default.ensures)
     (λ y later behind ends. line_begins c.loop-behind.rest.now closes_are_lines c.in_default.ensures y later behind)

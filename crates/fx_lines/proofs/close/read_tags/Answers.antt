@@ -26,5 +26,5 @@ loop-behind-preserved c =
 
 pub returns : goal.returns
 returns c =
-    ends_here c.loop-behind.invariant (not_begun (codes "tag ") c.loop-behind.rest.now c.in_default.ensures)
+    ends_here c.loop-behind.invariant (not_begun c.in_default.ensures)
     (λ y later behind ends. line_begins c.loop-behind.rest.now tags_are_lines c.in_default.ensures y later behind)

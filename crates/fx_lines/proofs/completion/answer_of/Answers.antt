@@ -3,24 +3,20 @@ use Rattle.fx_lines.proofs.AnswerTexts.{none_alone, none_bytes, none_word, one_a
 use Rattle.fx_lines.proofs.completion.answer_of.Goals as goal
 
 pub returns-in_default-res_of : goal.returns-in_default-res_of
-returns-in_default-res_of c = none_alone c.args.text.now c.in_default.ensures c.in_default-res_of.ensures
+returns-in_default-res_of c = none_alone c.in_default.ensures c.in_default-res_of.ensures
 
 pub returns-in_default : goal.returns-in_default
 returns-in_default c =
     let fits : FitsSigned w32 c.in-Some-res_of.res = search rules in
-    rw (to_z-of_z w32 c.in-Some-res_of.res fits, c.new.ensures.items)
-    (one_alone c.args.text.now c.in-Some-res_of.res c.in_default.ensures c.in-Some-res_of.ensures)
+    rw (to_z-of_z w32 c.in-Some-res_of.res fits, c.new.ensures.items) (one_alone c.in_default.ensures c.in-Some-res_of.ensures)
 
 pub returns-in_default-res_of-2 : goal.returns-in_default-res_of-2
-returns-in_default-res_of-2 c = none_word c.args.text.now c.in-Some.word.now c.in-Some.hex.now c.in-Some.ensures c.in_default-res_of-2.ensures
+returns-in_default-res_of-2 c = none_word c.in-Some.ensures c.in_default-res_of-2.ensures
 
 pub returns-in_default-2 : goal.returns-in_default-2
-returns-in_default-2 c =
-    none_bytes c.args.text.now c.in-Some.word.now c.in-Some.hex.now c.in-Some.ensures (rw c.in_default-2.is at c.in_ok-got.ensures)
+returns-in_default-2 c = none_bytes c.in-Some.ensures (rw c.in_default-2.is at c.in_ok-got.ensures)
 
 pub returns : goal.returns
 returns c =
     let fits : FitsSigned w32 c.in-Some-res_of-2.res = search rules in
-    rw (to_z-of_z w32 c.in-Some-res_of-2.res fits)
-    (one_both c.args.text.now c.in-Some.word.now c.in-Some.hex.now c.in-Some-res_of-2.res c.in-Some-2.got.items c.in-Some.ensures
-    c.in-Some-res_of-2.ensures (rw c.in-Some-2.is at c.in_ok-got.ensures))
+    rw (to_z-of_z w32 c.in-Some-res_of-2.res fits) (one_both c.in-Some.ensures c.in-Some-res_of-2.ensures (rw c.in-Some-2.is at c.in_ok-got.ensures))

@@ -9,18 +9,14 @@ returns-in_default c = λ other fits same.
 
 pub returns-in_default-place_of : goal.returns-in_default-place_of
 returns-in_default-place_of c = λ other fits same.
-    c.in_default-place_of.ensures other.place fits.place
-    (parts_of_completion c.args.line.now c.in-Some.word.now c.in-Some.answer.now c.in-Some.ensures other fits same).0
+    c.in_default-place_of.ensures other.place fits.place (parts_of_completion c.in-Some.ensures fits same).0
 
 pub returns-in_default-2 : goal.returns-in_default-2
 returns-in_default-2 c = λ other fits same.
     let none = rw c.in_default-2.is at c.in_ok-res.ensures in
-    none (other.res, other.got) (fits.res, fits.got)
-    (parts_of_completion c.args.line.now c.in-Some.word.now c.in-Some.answer.now c.in-Some.ensures other fits same).1
+    none (other.res, other.got) (fits.res, fits.got) (parts_of_completion c.in-Some.ensures fits same).1
 
 pub returns : goal.returns
 returns c =
     let fits : FitsSigned w32 c.in-Some-2.res = search rules in
-    rw (to_z-of_z w32 c.in-Some-2.res fits)
-    (one_completion c.args.line.now c.in-Some.word.now c.in-Some.answer.now c.in-Some-place_of.place c.in-Some-2.res c.in-Some-2.got.items
-    c.in-Some.ensures c.in-Some-place_of.ensures (rw c.in-Some-2.is at c.in_ok-res.ensures))
+    rw (to_z-of_z w32 c.in-Some-2.res fits) (one_completion c.in-Some.ensures c.in-Some-place_of.ensures (rw c.in-Some-2.is at c.in_ok-res.ensures))

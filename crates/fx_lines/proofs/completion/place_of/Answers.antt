@@ -35,5 +35,5 @@ returns c =
       only = λ other fits same.
           let one = first.only (other.submission, number_text (other.chain, decimal other.member)) fits.submission same in
           let two = second.only (other.chain, decimal other.member) fits.chain (sym (ap (λ p. p.1) one)) in
-          place_is other _ _ _ (ap (λ p. p.0) one) (ap (λ p. p.0) two) (third.only other.member fits.member (sym (ap (λ p. p.1) two)));
+          place_is (ap (λ p. p.0) one) (ap (λ p. p.0) two) (third.only other.member fits.member (sym (ap (λ p. p.1) two)));
     }

@@ -6,11 +6,9 @@ use Rattle.fx_lines.proofs.number.number.Goals as goal
 pub returns-in_err-number_up_to : goal.returns-in_err-number_up_to
 returns-in_err-number_up_to c =
     let none : c.from_residual.result ≡ None = search rules in
-    from_none decimal _ c.args.word.now c.from_residual.result none
-    (at_none decimal _ c.args.word.now _ (sym c.number_up_to.ensures ∙ c.in_err-number_up_to.was)
-    (number_reads 4294967295 (2 ^ 32) c.args.word.now (omega arith) (omega arith)))
+    from_none none (at_none decimal _ (sym c.number_up_to.ensures ∙ c.in_err-number_up_to.was)
+    (number_reads 4294967295 c.args.word.now (omega arith) (omega arith)))
 
 pub returns : goal.returns
 returns c =
-    at_some decimal _ c.args.word.now _ _ (sym c.number_up_to.ensures ∙ c.in_ok-number_up_to.was)
-    (number_reads 4294967295 (2 ^ 32) c.args.word.now (omega arith) (omega arith))
+    at_some (sym c.number_up_to.ensures ∙ c.in_ok-number_up_to.was) (number_reads 4294967295 c.args.word.now (omega arith) (omega arith))

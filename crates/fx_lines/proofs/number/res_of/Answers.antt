@@ -9,36 +9,31 @@ use Rattle.fx_lines.proofs.number.res_of.Goals as goal
 pub returns-in_err-number_up_to : goal.returns-in_err-number_up_to
 returns-in_err-number_up_to c =
     let none : c.from_residual.result ≡ None = search rules in
-    rw none (no_positive c.args.word.now c.in_default.ensures
-    (at_none decimal _ c.args.word.now _ (sym c.number_up_to.ensures ∙ c.in_err-number_up_to.was)
-    (number_reads 2147483647 (2 ^ 31) c.args.word.now (omega arith) (omega arith))))
+    rw none (no_positive c.in_default.ensures (at_none decimal _ (sym c.number_up_to.ensures ∙ c.in_err-number_up_to.was)
+    (number_reads 2147483647 c.args.word.now (omega arith) (omega arith))))
 
 pub returns-in_default : goal.returns-in_default
 returns-in_default c =
-    let is = at_some decimal _ c.args.word.now _ _ (sym c.number_up_to.ensures ∙ c.in_ok-number_up_to.was)
-    (number_reads 2147483647 (2 ^ 31) c.args.word.now (omega arith) (omega arith)) in
+    let is = at_some (sym c.number_up_to.ensures ∙ c.in_ok-number_up_to.was) (number_reads 2147483647 c.args.word.now (omega arith) (omega arith)) in
     let small : c.in_ok-number_up_to.field-0 < 2 ^ 31 = is.fits_value in
     let value : to_z w32 c.in_ok-number_up_to.field-0 ≡ pos c.in_ok-number_up_to.field-0 = omega (arith, ints) in
-    rw value (positive c.args.word.now c.in_ok-number_up_to.field-0 c.in_default.ensures is)
+    rw value (positive c.in_default.ensures is)
 
 pub returns-in_err-n : goal.returns-in_err-n
 returns-in_err-n c =
     let none : c.from_residual-in_err-n.result ≡ None = search rules in
-    rw none (no_negative c.args.word.now c.in-Some.digits.now c.in-Some.ensures.printed
-    (at_none decimal _ c.in-Some.digits.now _ (sym c.number_up_to-2.ensures ∙ c.in_err-n.was)
-    (number_reads 2147483648 2147483649 c.in-Some.digits.now (omega arith) (omega arith))))
+    rw none (no_negative c.in-Some.ensures.printed (at_none decimal _ (sym c.number_up_to-2.ensures ∙ c.in_err-n.was)
+    (number_reads 2147483648 c.in-Some.digits.now (omega arith) (omega arith))))
 
 pub returns-then-n-eq0 : goal.returns-then-n-eq0
 returns-then-n-eq0 c =
-    no_zero c.args.word.now c.in-Some.digits.now c.in_ok-n.n c.in-Some.ensures.printed c.if-n-eq0.true
-    (at_some decimal _ c.in-Some.digits.now _ _ (sym c.number_up_to-2.ensures ∙ c.in_ok-n.was)
-    (number_reads 2147483648 2147483649 c.in-Some.digits.now (omega arith) (omega arith)))
+    no_zero c.in-Some.ensures.printed c.if-n-eq0.true (at_some (sym c.number_up_to-2.ensures ∙ c.in_ok-n.was)
+    (number_reads 2147483648 c.in-Some.digits.now (omega arith) (omega arith)))
 
 pub returns : goal.returns
 returns c =
-    let is = at_some decimal _ c.in-Some.digits.now _ _ (sym c.number_up_to-2.ensures ∙ c.in_ok-n.was)
-    (number_reads 2147483648 2147483649 c.in-Some.digits.now (omega arith) (omega arith)) in
+    let is = at_some (sym c.number_up_to-2.ensures ∙ c.in_ok-n.was) (number_reads 2147483648 c.in-Some.digits.now (omega arith) (omega arith)) in
     let small : c.in_ok-n.n < 2147483649 = is.fits_value in
     let some : 0 < c.in_ok-n.n = omega arith in
     let value : to_z w32 (of_z w32 (negsuc 0 -ℤ to_z w32 (c.in_ok-n.n - 1))) ≡ negsuc (c.in_ok-n.n - 1) = omega (arith, ints) in
-    rw value (negative c.args.word.now c.in-Some.digits.now c.in_ok-n.n c.in-Some.ensures.printed some is)
+    rw value (negative c.in-Some.ensures.printed some is)

@@ -3,7 +3,7 @@ use Rattle.fx_lines.proofs.ReportTexts.{all_parts, begun, closed_behind_tags, no
 use Rattle.fx_lines.proofs.report.read_report.Goals as goal
 
 pub returns-in_default : goal.returns-in_default
-returns-in_default c = no_first c.args.count c.args.text.now (rw c.in_default.is at c.in_ok-completions.ensures)
+returns-in_default c = no_first (rw c.in_default.is at c.in_ok-completions.ensures)
 
 pub returns-in_default-2 : goal.returns-in_default-2
 returns-in_default-2 c = no_second (rw c.in-Some.is at c.in_ok-completions.ensures) (rw c.in_default-2.is at c.in_ok-closed.ensures)
@@ -16,11 +16,11 @@ pub returns-then-is_some : goal.returns-then-is_some
 returns-then-is_some c =
     closed_behind_tags (rw c.in-Some.is at c.in_ok-completions.ensures) (rw c.in-Some-2.is at c.in_ok-closed.ensures)
     (rw c.in-Some-3.is at c.in_ok-tags.ensures)
-    (begun (codes "closed ") c.in-Some-3.rest.now c.rest_behind.result c.rest_behind.ensures (sym c.is_some.ensures ∙ c.if-is_some.true))
+    (begun c.in-Some-3.rest.now c.rest_behind.result c.rest_behind.ensures (sym c.is_some.ensures ∙ c.if-is_some.true))
 
 pub returns : goal.returns
 returns c =
     all_parts (rw c.in-Some.is at c.in_ok-completions.ensures)
     (rw c.in-Some-2.is at c.in_ok-closed.ensures)
     (rw c.in-Some-3.is at c.in_ok-tags.ensures)
-    (unbegun (codes "closed ") c.in-Some-3.rest.now c.rest_behind.result c.rest_behind.ensures (sym c.is_some.ensures ∙ c.if-is_some.false))
+    (unbegun c.in-Some-3.rest.now c.rest_behind.result c.rest_behind.ensures (sym c.is_some.ensures ∙ c.if-is_some.false))
